@@ -1,0 +1,97 @@
+-- Walks of one tree of asks after another.
+use Rattle.std.specs.Prelude.{◌≡◌, ℕ, List, [], ◌∷◌, ◌++◌, Option, Some, None, Result, Ok, Err, option_map, refl, IsErrAnd}
+use Rattle.std.specs.declared.alloc.AllocError.{AllocError}
+use Rattle.std.proofs.Common.{append-nil, append_assoc, ap, sym, subst, ◌∙◌}
+use Rattle.wasi_world.specs.declared.call.Entry.{Entry}
+use Rattle.wasi_world.specs.declared.ids.OpId.{OpId}
+use Rattle.wasi_world.specs.declared.call.Call.{Call}
+use Rattle.wasi_world.specs.declared.call.Told.{Told}
+use Rattle.wasi_world.specs.Seen.{Seen, CountsAll, Passes}
+use Rattle.wasi_world.specs.Asks.{Asks, Give, Ask, AskWrite, bind, one, one_write, Left, Reaches, Started, AsksFor}
+
+-- of walks
+left_then : {A : Type 0} (asks mid rest : Asks A) (es fs : List Entry) → Left asks es mid → Left mid fs rest → Left asks (es ++ fs) rest
+left_then asks mid rest [] fs h k = let P : Asks _ → Type 0 = λ t. Left t fs rest in subst P (sym h) k
+left_then (Give x) mid rest (e ∷ es) fs h k = absurd h
+left_then (Ask op call next) mid rest (e ∷ es) fs h k = (h.0, left_then (next e.answer) mid rest es fs h.1 k)
+left_then (AskWrite op sock bytes next) mid rest (e ∷ es) fs h k = (h.0, h.1, left_then (next e.answer) mid rest es fs h.2 k)
+
+left_in : {A B : Type 0} (f : A → Asks B) (asks rest : Asks A) (es : List Entry) → Left asks es rest → Left (bind asks f) es (bind rest f)
+unfolding bind
+left_in f asks rest [] h = ap (λ t. bind t f) h
+left_in f (Give x) rest (e ∷ es) h = absurd h
+left_in f (Ask op call next) rest (e ∷ es) h = (h.0, left_in f (next e.answer) rest es h.1)
+left_in f (AskWrite op sock bytes next) rest (e ∷ es) h = (h.0, h.1, left_in f (next e.answer) rest es h.2)
+
+-- of what is known
+log_again : (old mid new : Option (List Entry)) (es fs : List Entry) → mid ≡ option_map (λ log. log ++ es) old → new ≡ option_map (λ log. log ++ fs) mid → new ≡ option_map (λ log. log ++ (es ++ fs)) old
+log_again None mid new es fs h k = k ∙ ap (option_map (λ log. log ++ fs)) h
+log_again (Some log) mid new es fs h k = k ∙ (ap (option_map (λ log. log ++ fs)) h ∙ ap Some (append_assoc log es fs))
+
+log_none : (old : Option (List Entry)) → old ≡ option_map (λ log. log ++ []) old
+log_none None = refl
+log_none (Some log) = ap Some (sym (append-nil log))
+
+counts_again : (es fs : List Entry) (n k m : ℕ) → CountsAll es n k → CountsAll fs k m → CountsAll (es ++ fs) n m
+counts_again [] fs n k m h t = rw h at t
+counts_again (e ∷ es) fs n k m h t = (h.0, h.1, counts_again es fs h.0 k m h.2 t)
+
+passes_again : {old mid new : Seen} {es fs : List Entry} → Passes old es mid → Passes mid fs new → Passes old (es ++ fs) new
+passes_again {old} {mid} {new} {es} {fs} h k = record {
+  log = log_again old.log mid.log new.log es fs h.log k.log;
+  faults = counts_again es fs old.faults mid.faults new.faults h.faults k.faults;
+  ended = k.ended ∙ h.ended;
+  closings = k.closings ∙ h.closings;
+  plan = k.plan ∙ h.plan;
+}
+
+-- nothing was asked yet
+pub reaches_all : {A : Type 0} (asks : Asks A) (old : Seen) → Reaches asks asks old old
+reaches_all asks old = record { entries = []; passed = record { log = log_none old.log; faults = refl; ended = refl; closings = refl; plan = refl }; left = refl }
+
+-- one after the other
+pub reaches_then : {A : Type 0} {asks mid rest : Asks A} {s t u : Seen} → Reaches asks mid s t → Reaches mid rest t u → Reaches asks rest s u
+reaches_then {asks} {mid} {rest} h k = record { entries = h.entries ++ k.entries; passed = passes_again h.passed k.passed; left = left_then asks mid rest h.entries k.entries h.left k.left }
+
+-- under what follows
+pub reaches_in : {A B : Type 0} {asks rest : Asks A} (f : A → Asks B) {s t : Seen} → Reaches asks rest s t → Reaches (bind asks f) (bind rest f) s t
+reaches_in {asks} {rest} f h = record { entries = h.entries; passed = h.passed; left = left_in f asks rest h.entries h.left }
+
+-- to what follows
+pub reaches_on : {A B : Type 0} {asks : Asks A} {a : A} (f : A → Asks B) {s t : Seen} → Reaches asks (Give a) s t → Reaches (bind asks f) (f a) s t
+unfolding bind
+reaches_on f h = reaches_in f h
+
+-- one call, whose answer is seen as another type
+left_typed : {B : Type 0} (f : Told → B) (op : OpId) (call : Call) (es : List Entry) (told : Told) → Left (one op call) es (Give told) → Left (Ask op call (λ t. Give (f t))) es (Give (f told))
+unfolding bind
+left_typed f op call es told h = left_in (λ t. Give (f t)) (one op call) (Give told) es h
+
+left_typed_write : {B : Type 0} (f : Told → B) (op sock : OpId) (bytes : List ℕ) (es : List Entry) (told : Told) → Left (one_write op sock bytes) es (Give told) → Left (AskWrite op sock bytes (λ t. Give (f t))) es (Give (f told))
+unfolding bind
+left_typed_write f op sock bytes es told h = left_in (λ t. Give (f t)) (one_write op sock bytes) (Give told) es h
+
+pub asks_typed : {B : Type 0} (f : Told → B) {op : OpId} {call : Call} {s t : Seen} {told : Told} {b : B} → Reaches (one op call) (Give told) s t → b ≡ f told → AsksFor (Ask op call (λ x. Give (f x))) s t (λ x. x) (Ok b)
+asks_typed f {op} {call} {told} h e = record { ok = record { entries = h.entries; passed = h.passed; left = rw e (left_typed f op call h.entries told h.left) }; err = tt }
+
+pub asks_typed_write : {B : Type 0} (f : Told → B) {op sock : OpId} {bytes : List ℕ} {s t : Seen} {told : Told} {b : B} → Reaches (one_write op sock bytes) (Give told) s t → b ≡ f told → AsksFor (AskWrite op sock bytes (λ x. Give (f x))) s t (λ x. x) (Ok b)
+asks_typed_write f {op} {sock} {bytes} {told} h e = record { ok = record { entries = h.entries; passed = h.passed; left = rw e (left_typed_write f op sock bytes h.entries told h.left) }; err = tt }
+
+-- want of memory before the first ask
+pub asks_none : {A T : Type 0} (Q : AllocError → Type 0) (asks : Asks A) {s t : Seen} {view : T → A} {r : Result T AllocError} → IsErrAnd r Q → t ≡ s → AsksFor asks s t view r
+asks_none Q asks {s} {t} {r = Ok x} h e = absurd h
+asks_none Q asks {s} {t} {r = Err d} h e = record { ok = tt; err = record { rest = asks; reached = rw e (reaches_all asks s) } }
+
+-- after the first the others, whose result is the call's
+pub asks_then : {A B T : Type 0} {asks : Asks A} (f : A → Asks B) {s t u : Seen} {view : T → B} {r : Result T AllocError} {a : A} → Reaches asks (Give a) s t → AsksFor (f a) t u view r → AsksFor (bind asks f) s u view r
+asks_then f {r = Ok x} h k = record { ok = reaches_then (reaches_on f h) k.ok; err = tt }
+asks_then f {r = Err d} h k = record { ok = tt; err = record { rest = k.err.rest; reached = reaches_then (reaches_on f h) k.err.reached } }
+
+-- the exit of a `?`
+pub asks_exit : {A B T : Type 0} (Q : AllocError → Type 0) {asks : Asks A} (f : A → Asks B) {s t : Seen} {view : T → B} {r : Result T AllocError} → IsErrAnd r Q → Started asks s t → AsksFor (bind asks f) s t view r
+asks_exit Q f {r = Ok x} e h = absurd e
+asks_exit Q f {r = Err d} e h = record { ok = tt; err = record { rest = bind h.rest f; reached = reaches_in f h.reached } }
+
+-- after the first no others, and this is the result
+pub asks_end : {A B T : Type 0} {asks : Asks A} (f : A → Asks B) {s t : Seen} {view : T → B} {x : T} {a : A} → Reaches asks (Give a) s t → f a ≡ Give (view x) → AsksFor (bind asks f) s t view (Ok x)
+asks_end {asks} f {s} {t} h e = record { ok = let P : Asks _ → Type 0 = λ rest. Reaches (bind asks f) rest s t in subst P e (reaches_on f h); err = tt }

@@ -1,0 +1,6 @@
+pub mod Fits
+pub mod Seen
+pub mod Asks
+pub mod Typed
+pub mod Operation
+pub mod Io

@@ -1,0 +1,21 @@
+//! The network, the address check and name lookup behind one trait, and the sources and sinks of bytes.
+//!
+//! What a call asks of a [`World`] is stated once, as a tree over the answers (specs/Asks), and the operations that
+//! are polled are lists of asks under one rule (specs/Operation).
+#![tactic(auto)]
+
+pub mod asks;
+pub mod call;
+pub mod ids;
+pub mod io;
+pub mod octets;
+pub mod outcome;
+pub mod plan;
+pub mod world;
+
+pub use call::{Call, Entry, HandleKind, Opt, Told};
+pub use ids::{Handle, Ids, OpId, Sock};
+pub use io::{Failed, Sink, Source};
+pub use octets::{IpList, NameText, Octets};
+pub use outcome::{Answer, Refusal, TrapKind, WasiSocketsCtx};
+pub use world::World;

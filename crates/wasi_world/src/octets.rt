@@ -1,0 +1,145 @@
+//! Small types over vectors, which contracts see as lists.
+
+ghost use Rattle.std.specs.Prelude.{◌≡◌, IfOk, IsTrue, ◌↔◌, [], length};
+
+use std::alloc::{AllocError, Global};
+use std::marker::Model;
+use wasi_addr::IpAddress;
+
+/// Bytes, which contracts see as a list.
+#[derive(Drop)]
+pub struct Octets {
+    bytes: Vec<u8>,
+}
+
+impl Model for Octets {
+    ghost use Rattle.std.specs.Prelude.{List, ℕ};
+
+    ghost Value = { List ℕ };
+
+    ghost view = { λ o. o.bytes.items };
+}
+
+impl Octets {
+    pub fn from_vec(bytes: Vec<u8>) -> Octets
+        ensures { result ≡ bytes.items }
+    {
+        Octets { bytes }
+    }
+
+    /// A copy of the bytes; takes memory for them.
+    pub fn copy_of(alloc: Global, bytes: &[u8]) -> Result<Octets, AllocError>
+        ensures { IfOk result (λ o. o ≡ bytes.now) }
+    {
+        let mut copy = Vec::new(alloc);
+        copy.extend_from_slice(bytes)?;
+        Ok(Octets { bytes: copy })
+    }
+
+    pub fn try_clone(&self) -> Result<Octets, AllocError>
+        ensures { IfOk result (λ o. o ≡ self.now) }
+    {
+        let bytes = self.bytes.clone()?;
+        Ok(Octets { bytes })
+    }
+
+    pub fn into_vec(self) -> Vec<u8>
+        ensures { result.items ≡ self }
+    {
+        self.bytes
+    }
+
+    pub fn as_slice(&self) -> &[u8]
+        ensures { result.now ≡ self.now }
+    {
+        self.bytes.as_slice()
+    }
+
+    pub fn len(&self) -> usize
+        ensures { result ≡ length self.now }
+    {
+        self.bytes.len()
+    }
+
+    pub fn is_empty(&self) -> bool
+        ensures { IsTrue result ↔ (self.now ≡ []) }
+    {
+        self.bytes.is_empty()
+    }
+}
+
+/// The text of a name, as bytes.
+#[derive(Drop)]
+pub struct NameText {
+    bytes: Vec<u8>,
+}
+
+impl Model for NameText {
+    ghost use Rattle.std.specs.Prelude.{List, ℕ};
+
+    ghost Value = { List ℕ };
+
+    ghost view = { λ name. name.bytes.items };
+}
+
+impl NameText {
+    pub fn from_vec(bytes: Vec<u8>) -> NameText
+        ensures { result ≡ bytes.items }
+    {
+        NameText { bytes }
+    }
+
+    pub fn into_vec(self) -> Vec<u8>
+        ensures { result.items ≡ self }
+    {
+        self.bytes
+    }
+
+    pub fn as_slice(&self) -> &[u8]
+        ensures { result.now ≡ self.now }
+    {
+        self.bytes.as_slice()
+    }
+}
+
+/// IP addresses, in order.
+#[derive(Drop)]
+pub struct IpList {
+    addresses: Vec<IpAddress>,
+}
+
+impl Model for IpList {
+    ghost use Rattle.std.specs.Prelude.{List};
+    ghost use Rattle.wasi_addr.specs.declared.address.IpAddress.{IpAddress};
+
+    ghost Value = { List IpAddress };
+
+    ghost view = { λ list. list.addresses.items };
+}
+
+impl IpList {
+    pub fn from_vec(addresses: Vec<IpAddress>) -> IpList
+        ensures { result ≡ addresses.items }
+    {
+        IpList { addresses }
+    }
+
+    pub fn try_clone(&self) -> Result<IpList, AllocError>
+        ensures { IfOk result (λ list. list ≡ self.now) }
+    {
+        let addresses = self.addresses.clone()?;
+        Ok(IpList { addresses })
+    }
+
+    pub fn into_vec(self) -> Vec<IpAddress>
+        ensures { result.items ≡ self }
+    {
+        self.addresses
+    }
+
+    pub fn as_slice(&self) -> &[IpAddress]
+        ensures { result.now ≡ self.now }
+    {
+        self.addresses.as_slice()
+    }
+}

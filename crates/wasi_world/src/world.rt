@@ -1,0 +1,63 @@
+//! The check, the network and name lookup as one trait.
+
+use crate::call::{Call, Told};
+use crate::ids::{OpId, Sock};
+use std::alloc::AllocError;
+use wasi_addr::IpSocketAddress;
+
+/// What the host asks: an address check, a network and name lookup.
+///
+/// Each call that is answered appends one entry to the log, with an answer that fits, and raises the count of faults
+/// exactly where a code is told. Where a call wants memory it wasn't made. The log need not be told: what is known of a
+/// world is its ghost `seen`.
+pub trait World {
+    ghost use Rattle.std.specs.Prelude.{◌≡◌, ◌<◌, ◌≤◌, ◌^◌, IfOk, OnErr, length, true, false};
+    ghost use Rattle.wasi_world.specs.Fits.{Fits, IsPlain, IsWritten};
+    ghost use Rattle.wasi_world.specs.Seen.{Seen, Ends, Closes};
+    ghost use Rattle.wasi_world.specs.Asks.{one, one_write, AsksFor};
+
+    /// What is known of it.
+    ghost seen: { Self → Seen };
+
+    /// Any call but a write and a send.
+    fn call(&mut self, op: OpId, call: Call) -> Result<Told, AllocError>
+        requires open { (seen self.old).ended ≡ false }
+        requires plain { IsPlain call }
+        ensures asked { AsksFor (one op call) (seen self.old) (seen self.new) (λ told. told) result }
+        ensures fits { IfOk result (λ told. Fits call told) }
+        ensures err { OnErr result (seen self.new ≡ seen self.old) }
+        ensures open { (seen self.new).ended ≡ false };
+
+    /// Offers bytes to a connection, of which the front may be taken.
+    fn write(&mut self, op: OpId, sock: Sock, bytes: &[u8]) -> Result<Told, AllocError>
+        requires open { (seen self.old).ended ≡ false }
+        requires some { 1 ≤ length bytes.now }
+        requires short { length bytes.now < 2 ^ 32 }
+        ensures asked { AsksFor (one_write op sock bytes.now) (seen self.old) (seen self.new) (λ told. told) result }
+        ensures fits { IfOk result (λ told. IsWritten (length bytes.now) told) }
+        ensures err { OnErr result (seen self.new ≡ seen self.old) }
+        ensures open { (seen self.new).ended ≡ false };
+
+    /// Sends one datagram.
+    fn send(
+        &mut self,
+        op: OpId,
+        sock: Sock,
+        addr: IpSocketAddress,
+        bytes: &[u8],
+    ) -> Result<Told, AllocError>
+        requires open { (seen self.old).ended ≡ false }
+        ensures asked { AsksFor (one op (Call.Send sock addr bytes.now)) (seen self.old) (seen self.new) (λ told. told) result }
+        ensures err { OnErr result (seen self.new ≡ seen self.old) }
+        ensures open { (seen self.new).ended ≡ false };
+
+    /// Sets the end mark; can't be refused.
+    fn end(&mut self)
+        requires open { (seen self.old).ended ≡ false }
+        ensures { Ends (seen self.old) (seen self.new) };
+
+    /// Closes a side after the end mark. It is counted and not logged, and can't be refused.
+    fn close_after_end(&mut self, sock: Sock)
+        requires ended { (seen self.old).ended ≡ true }
+        ensures { Closes (seen self.old) (seen self.new) };
+}
