@@ -1,3 +1,4 @@
 pub mod Walks
 pub mod Allowed
 pub mod Answers
+pub mod Polls
