@@ -14,7 +14,6 @@ use Rattle.wasi_tcp.specs.Socket.{new_asks, side_of}
 use Rattle.wasi_run.specs.declared.machine.Machine.{Machine}
 use Rattle.wasi_run.specs.declared.reply.Reply.{Reply}
 use Rattle.wasi_run.specs.declared.reply.Reply.TheVariants as reply
-use Rattle.wasi_run.specs.declared.socket.Tcp2Socket.{Tcp2Socket}
 use Rattle.wasi_run.specs.declared.step.Step.{Step}
 use Rattle.wasi_run.specs.declared.step.Step.TheVariants as step
 use Rattle.wasi_run.specs.declared.store.StandingBind.{StandingBind}
@@ -23,7 +22,7 @@ use Rattle.wasi_run.specs.declared.table.Kind.TheVariants.{Network, Tcp2}
 use Rattle.wasi_run.specs.Reply.{word_of_p2, is_trap, no_fields, number_fields}
 use Rattle.wasi_run.specs.Host.{Stop, Code, Trap, code_stop}
 use Rattle.wasi_run.specs.Table.{Shown, empty_table, kind_at, make_asks}
-use Rattle.wasi_run.specs.Store.{Records, no_records, new_record, start_bind_by, finish_bind_by}
+use Rattle.wasi_run.specs.Store.{Records, no_records, with_record, start_bind_at, finish_bind_at}
 
 -- no handle, no record, no call that stands
 abbrev pub first_state : Machine
@@ -36,20 +35,13 @@ abbrev pub with_store : {A : Type 0} → Machine → A × Records → A × Machi
 with_store m done = (done.0, record m { store = done.1 })
 
 -- == the handles of a step, or a trap
-pub record Found : Type 0 where
-  pub place : ℕ
-  pub record_ : Tcp2Socket
+-- the number of a socket's record
+abbrev pub place_of : Option Kind → Option ℕ
+place_of (Some (Tcp2 place)) = Some place
+place_of _ = None
 
-abbrev pub found_at : ℕ → Option Tcp2Socket → Option Found
-found_at place None = None
-found_at place (Some r) = Some (record { place = place; record_ = r })
-
-abbrev pub socket_of : Machine → Option Kind → Option Found
-socket_of m (Some (Tcp2 place)) = found_at place (slice_get m.store.sockets place)
-socket_of m _ = None
-
-abbrev pub socket_at : Machine → ℕ → Option Found
-socket_at m h = socket_of m (kind_at m.table h)
+abbrev pub socket_at : Machine → ℕ → Option ℕ
+socket_at m h = place_of (kind_at m.table h)
 
 abbrev pub is_network : Option Kind → Bool
 is_network (Some Network) = true
@@ -62,12 +54,9 @@ no_such_handle m = Give (Err (Trap NoSuchHandle), m)
 abbrev pub network_asks : Machine → OpId → Asks (Result ℕ Stop × Machine)
 network_asks m own = bind (make_asks m.table own Network None None) (λ made. Give (with_table m made))
 
--- a side that was made has its record, whether or not a handle is made for it
-abbrev pub with_record : Machine → Socket → Machine
-with_record m socket = record m { store = record m.store { sockets = m.store.sockets ++ new_record socket ∷ [] } }
-
 abbrev pub create_handle : Machine → OpId → Socket → Asks (Result ℕ Stop × Machine)
-create_handle m own socket = bind (make_asks m.table own (Tcp2 (length m.store.sockets)) None (side_of socket)) (λ made. Give (with_table (with_record m socket) made))
+create_handle m own socket =
+    bind (make_asks m.table own (Tcp2 (length m.store.sockets)) None (side_of socket)) (λ made. Give (with_table (record m { store = with_record m.store socket }) made))
 
 abbrev pub created_asks : Machine → OpId → Result Socket ErrorCode → Asks (Result ℕ Stop × Machine)
 created_asks m own (Err c) = Give (Err (code_stop c), m)
@@ -76,18 +65,18 @@ created_asks m own (Ok socket) = create_handle m own socket
 abbrev pub create_asks : Machine → OpId → WasiSocketsCtx → SocketAddressFamily → Asks (Result ℕ Stop × Machine)
 create_asks m own ctx family = bind (new_asks own ctx family) (created_asks m own)
 
-abbrev pub start_bind_found : Machine → OpId → IpSocketAddress → Option Found → Asks (Result (Answer (Unit {0})) Stop × Machine)
-start_bind_found m own a None = no_such_handle m
-start_bind_found m own a (Some f) = bind (start_bind_by m.store own f.place a f.record_ f.record_.in_progress) (λ done. Give (with_store m done))
+abbrev pub start_bind_on : Machine → OpId → IpSocketAddress → Option ℕ → Asks (Result (Answer (Unit {0})) Stop × Machine)
+start_bind_on m own a None = no_such_handle m
+start_bind_on m own a (Some place) = bind (start_bind_at m.store own place a (slice_get m.store.sockets place)) (λ done. Give (with_store m done))
 
 -- the network's handle is tested first
 abbrev pub start_bind_asks : Machine → OpId → ℕ → ℕ → IpSocketAddress → Asks (Result (Answer (Unit {0})) Stop × Machine)
 start_bind_asks m own socket network a =
-    if is_network (kind_at m.table network) then start_bind_found m own a (socket_at m socket) else no_such_handle m
+    if is_network (kind_at m.table network) then start_bind_on m own a (socket_at m socket) else no_such_handle m
 
-abbrev pub finish_bind_found : Machine → Option Found → Result (Unit {0}) Stop × Machine
-finish_bind_found m None = (Err (Trap NoSuchHandle), m)
-finish_bind_found m (Some f) = with_store m (finish_bind_by m.store f.place f.record_ f.record_.in_progress)
+abbrev pub finish_bind_on : Machine → Option ℕ → Result (Unit {0}) Stop × Machine
+finish_bind_on m None = (Err (Trap NoSuchHandle), m)
+finish_bind_on m (Some place) = with_store m (finish_bind_at m.store place (slice_get m.store.sockets place))
 
 -- == replies
 abbrev pub stop_reply : Stop → Reply
@@ -125,7 +114,7 @@ abbrev pub step_asks : List WasiSocketsCtx → Machine → ℕ → Step → Asks
 step_asks contexts m line (step.Network ctx) = bind (network_asks m (own_of line)) (λ done. Give (handle_reply done.0, done.1))
 step_asks contexts m line (step.TcpCreate ctx family) = bind (create_asks m (own_of line) (context_at contexts ctx) family) (λ done. Give (handle_reply done.0, done.1))
 step_asks contexts m line (step.TcpStartBind ctx s n a) = bind (start_bind_asks m (own_of line) s n a) (λ done. Give (answer_reply line done.0, done.1))
-step_asks contexts m line (step.TcpFinishBind ctx s) = let done = finish_bind_found m (socket_at m s) in Give (done_reply done.0, done.1)
+step_asks contexts m line (step.TcpFinishBind ctx s) = let done = finish_bind_on m (socket_at m s) in Give (done_reply done.0, done.1)
 
 -- while a call stands every guest call is busy
 abbrev pub machine_asks : List WasiSocketsCtx → Machine → ℕ → Step → Option StandingBind → Asks (Reply × Machine)

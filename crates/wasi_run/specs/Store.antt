@@ -7,6 +7,7 @@ use Rattle.wasi_addr.specs.declared.p2.ErrorCode.TheVariants.{ConcurrencyConflic
 use Rattle.wasi_world.specs.declared.ids.OpId.{OpId}
 use Rattle.wasi_world.specs.declared.outcome.Answer.{Answer}
 use Rattle.wasi_world.specs.declared.outcome.Answer.TheVariants.{Ready, Pending}
+use Rattle.wasi_world.specs.declared.outcome.TrapKind.TheVariants.{NoSuchHandle}
 use Rattle.wasi_world.specs.Asks.{Asks, Give, bind}
 use Rattle.wasi_world.specs.Operation.{Operation, Item, End, Waits, Done, Refused, poll_asks}
 use Rattle.wasi_tcp.specs.Shape.{Socket}
@@ -15,7 +16,7 @@ use Rattle.wasi_run.specs.declared.socket.InProgress.{InProgress}
 use Rattle.wasi_run.specs.declared.socket.InProgress.TheVariants as doing
 use Rattle.wasi_run.specs.declared.socket.Tcp2Socket.{Tcp2Socket}
 use Rattle.wasi_run.specs.declared.store.StandingBind.{StandingBind}
-use Rattle.wasi_run.specs.Host.{Stop, Code, code_stop}
+use Rattle.wasi_run.specs.Host.{Stop, Code, Trap, code_stop}
 
 pub record Records : Type 0 where
   pub sockets : List Tcp2Socket  -- by number
@@ -68,7 +69,19 @@ abbrev pub start_bind_by : Records → OpId → ℕ → IpSocketAddress → Tcp2
 start_bind_by store op place a r doing.Nothing = bind (begin_bind_asks op r a) (λ begun. Give (bind_answered store op.step place begun))
 start_bind_by store op place a r doing.Bind = Give (Err (Code ConcurrencyConflict), store)
 
+abbrev pub start_bind_at : Records → OpId → ℕ → IpSocketAddress → Option Tcp2Socket → Asks (Result (Answer (Unit {0})) Stop × Records)
+start_bind_at store op place a None = Give (Err (Trap NoSuchHandle), store)
+start_bind_at store op place a (Some r) = start_bind_by store op place a r r.in_progress
+
 -- only what is in progress is finished
 abbrev pub finish_bind_by : Records → ℕ → Tcp2Socket → InProgress → Result (Unit {0}) Stop × Records
 finish_bind_by store place r doing.Nothing = (Err (Code NotInProgress), store)
 finish_bind_by store place r doing.Bind = (Ok tt, with_socket store place (record r { in_progress = doing.Nothing }))
+
+abbrev pub finish_bind_at : Records → ℕ → Option Tcp2Socket → Result (Unit {0}) Stop × Records
+finish_bind_at store place None = (Err (Trap NoSuchHandle), store)
+finish_bind_at store place (Some r) = finish_bind_by store place r r.in_progress
+
+-- a side that was made has its record, whether or not a handle is made for it
+abbrev pub with_record : Records → Socket → Records
+with_record store socket = record store { sockets = store.sockets ++ new_record socket ∷ [] }
