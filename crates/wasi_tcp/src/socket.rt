@@ -1,7 +1,8 @@
 //! A TCP socket and its states.
 
-ghost use Rattle.std.specs.Prelude.{◌≡◌, false, OnErr};
+ghost use Rattle.std.specs.Prelude.{◌≡◌, false, OnErr, IfOk, Ok, Some};
 ghost use Rattle.wasi_world.specs.Asks.{AsksFor, outcome};
+ghost use Rattle.wasi_tcp.specs.Bind.{IsOf};
 
 use crate::bind::BindOp;
 use std::alloc::AllocError;
@@ -54,6 +55,8 @@ impl TcpSocket {
     ) -> Result<TcpSocket, Refusal>
         requires { (W.seen world.old).ended ≡ false }
         ensures asked { AsksFor (new_asks op ctx.now family) (W.seen world.old) (W.seen world.new) (λ made. made) (outcome result) }
+        ensures side { IfOk result (λ socket. side_of socket ≡ Some op) }
+        ensures unasked { OnErr (outcome result) (W.seen world.new ≡ W.seen world.old) }
         ensures open { (W.seen world.new).ended ≡ false }
     {
         if !ctx.tcp {
@@ -102,6 +105,7 @@ impl TcpSocket {
         requires { (W.seen world.old).ended ≡ false }
         ensures asked { AsksFor (bound_asks op self.old) (W.seen world.old) (W.seen world.new) (λ bound. (bound, self.new)) result }
         ensures err { OnErr result (self.new ≡ self.old) }
+        ensures side { side_of self.new ≡ side_of self.old }
         ensures open { (W.seen world.new).ended ≡ false }
     {
         if self.bound {
@@ -121,7 +125,8 @@ impl TcpSocket {
 
     /// What the local address tells; a yes is kept.
     fn learn_bound(&mut self, told: Result<IpSocketAddress, ErrorCode>) -> bool
-        ensures { (result, self.new) ≡ after_local self.old told }
+        ensures learned { (result, self.new) ≡ after_local self.old told }
+        ensures side { side_of self.new ≡ side_of self.old }
     {
         match told {
             Ok(addr) => {
@@ -145,6 +150,8 @@ impl TcpSocket {
     ) -> Result<BindOp, Refusal>
         requires { (W.seen world.old).ended ≡ false }
         ensures asked { AsksFor (bind_asks op self.old addr) (W.seen world.old) (W.seen world.new) (λ begun. (begun, self.new)) (outcome result) }
+        ensures its_socket { IfOk result (λ begun. IsOf begun self.new) }
+        ensures side { side_of self.new ≡ side_of self.old }
         ensures open { (W.seen world.new).ended ≡ false }
     {
         let bound = self.is_bound(world, op)?;
@@ -153,7 +160,8 @@ impl TcpSocket {
 
     /// The tests of a bind.
     fn begin_bind(&self, op: OpId, addr: IpSocketAddress, bound: bool) -> Result<BindOp, Refusal>
-        ensures { outcome result ≡ Ok (bind_start op self.now addr bound) }
+        ensures begun { outcome result ≡ Ok (bind_start op self.now addr bound) }
+        ensures its_socket { IfOk result (λ begun. IsOf begun self.now) }
     {
         if bound {
             return Err(Refusal::Code(ErrorCode::InvalidState));
