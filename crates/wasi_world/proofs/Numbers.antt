@@ -1,5 +1,5 @@
 -- Laws of the numbers that fields are.
-use Rattle.std.proofs.Common.{◌≡◌, ℕ, zero, suc, ◌+◌, ◌^◌, ◌<◌, ◌≤◌, Bool, true, false, cond, ◌&&◌, nat_le, List, [], ◌∷◌, Option, Some, None, length, get_or, bytes_eq, decimal, arith, ap, sym, ◌∙◌, refl, inl, inr, Result, Ok, Err, IsUtf8, ◌↔◌, IfSome}
+use Rattle.std.proofs.Common.{◌≡◌, ℕ, zero, suc, ◌^◌, ◌<◌, ◌≤◌, Bool, true, false, cond, ◌&&◌, nat_le, List, Option, Some, None, length, get_or, bytes_eq, decimal, arith, ap, sym, ◌∙◌, refl, inl, inr, Err, IsUtf8, ◌↔◌, IfSome}
 use Rattle.std.specs.Bool.{then_some}
 use Rattle.std.specs.Str.Parse.{AllDigits, IsNumeral, digits_value, ParsesUnsigned, without_leading_plus}
 use Rattle.std.proofs.lemmas.Str.{IsUtf8-from_ascii}
@@ -91,8 +91,8 @@ within : (field : List ℕ) (most n : ℕ) → most < 2 ^ 64 → n < 2 ^ 64 → 
 within field most n room small e true h = sym (number_in_decimal field most n room e (leb-true _ _ h))
 within field most n room small e false h =
     sym (number_in_none field most (λ m fits k.
-        let same = decimal_injective m n (omega arith) small (sym k ∙ e) in
-        cc (le-leb m most fits)))
+    let same = decimal_injective m n (omega arith) small (sym k ∙ e) in
+    cc (le-leb m most fits)))
 
 pub parsed_within : (field : List ℕ) (most n : ℕ) → most < 2 ^ 64 → BeginsPlain field → IsNumeral 10 (without_leading_plus field) × (digits_value 10 (without_leading_plus field) < 2 ^ 64) → n ≡ digits_value 10 (without_leading_plus field) → then_some (nat_le n most) n ≡ number_in field most
 parsed_within field most n room begins parsed value =

@@ -1,8 +1,8 @@
 -- Laws of what reads from the front of the fields.
-use Rattle.std.proofs.Common.{◌≡◌, ℕ, Bool, true, false, cond, List, [], ◌∷◌, ◌++◌, Option, Some, None, IsUtf8, ap, sym, ◌∙◌, refl}
+use Rattle.std.proofs.Common.{◌≡◌, ℕ, Bool, true, false, List, ◌∷◌, Some, None, IsUtf8, refl}
 use Rattle.std.specs.Str.{is_utf8}
 use Rattle.std.proofs.lemmas.Str.{IsUtf8-from_is_utf8, is_utf8-from_IsUtf8}
-use Rattle.wasi_world.specs.Fields.{Reader, read_then, give, give_some, field_at, word_at}
+use Rattle.wasi_world.specs.Fields.{read_then, give_some, field_at, word_at}
 
 -- a field that is text is a word
 pub word_found : (fields rest : List (List ℕ)) (field text : List ℕ) → fields ≡ field ∷ rest → text ≡ field → IsUtf8 field → word_at fields ≡ Some (text, rest)

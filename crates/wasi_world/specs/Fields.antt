@@ -1,9 +1,11 @@
 -- The fields of a line, and what stands at the front of them.
-use Rattle.std.specs.Prelude.{◌≡◌, ℕ, ◌≤◌, Bool, ◌==◌, ◌&&◌, nat_le, if◌then◌else◌, List, [], ◌∷◌, map, bytes_eq, ◌⊎◌, slice_index, codes, decimal, find, Option, Some, None, option_and_then, option_copied, MatchOption}
+use Rattle.std.specs.Prelude.{◌≡◌, ℕ, Bool, ◌==◌, ◌&&◌, nat_le, if◌then◌else◌, List, [], ◌∷◌, bytes_eq, ◌⊎◌, slice_index, codes, decimal, find, not, length, ◌||◌, Option, Some, None, option_and_then, option_copied, MatchOption}
 use Rattle.std.specs.Option.{option_map_or}
 use Rattle.std.specs.Str.{is_utf8}
 use Rattle.std.specs.Str.Parse.{digits_value}
-use Rattle.std.specs.List.{slice_split, join_with_byte}
+use Rattle.std.specs.List.{slice_split, join_with_byte, list_all}
+use Rattle.std.specs.Result.{result_ok}
+use Rattle.hex.specs.Hex.{encode_lower, decode_of}
 use Rattle.std.specs.Int.{IsInRange}
 use Rattle.std.specs.Borrow.{Bor}
 use Rattle.wasi_world.specs.declared.fields.TheConstants.{CODES}
@@ -56,6 +58,12 @@ read >>= next = read_then read next
 -- A call took from the old fields what this reads, left the new ones, and answers the value.
 abbrev pub Reads : {A : Type 0} → Reader A → List (List ℕ) → Option A → List (List ℕ) → Type 0
 Reads read old result new = MatchOption result (read old ≡ None) (λ value. read old ≡ Some (value, new))
+
+-- the value, if no field is left
+abbrev pub whole : {A : Type 0} → Option (A × List (List ℕ)) → Option A
+whole None = None
+whole (Some (value, [])) = Some value
+whole (Some (value, field ∷ rest)) = None
 
 -- one field
 unfoldable pub field_at : Reader (List ℕ)
@@ -165,3 +173,31 @@ code_text base.Other = codes "other"
 -- the code whose word a field is
 unfoldable pub code_in : List ℕ → Option ErrorCode
 code_in field = find (λ code. bytes_eq (code_text code) field) CODES
+
+unfoldable pub code_at : Reader ErrorCode
+code_at = do
+  field ← field_at
+  give_some (code_in field)
+
+-- `0` to `9` and `a` to `f`
+abbrev pub is_lower_digit : ℕ → Bool
+is_lower_digit b = (nat_le 48 b && nat_le b 57) || (nat_le 97 b && nat_le b 102)
+
+abbrev pub is_lower_hex : List ℕ → Bool
+is_lower_hex field = not (length field == 0) && list_all is_lower_digit field
+
+-- the text of bytes: `-` for none, else two digits for each
+abbrev pub bytes_text : List ℕ → List ℕ
+bytes_text [] = codes "-"
+bytes_text (byte ∷ bytes) = encode_lower (byte ∷ bytes)
+
+-- the bytes that a field says
+unfoldable pub bytes_in : List ℕ → Option (List ℕ)
+bytes_in field =
+    if bytes_eq field (codes "-") then Some []
+    else (if is_lower_hex field then result_ok (decode_of field) else None)
+
+unfoldable pub bytes_at : Reader (List ℕ)
+bytes_at = do
+  field ← field_at
+  give_some (bytes_in field)

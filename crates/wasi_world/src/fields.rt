@@ -1,11 +1,16 @@
 //! The fields of a line, which scripts and scenarios share.
 
-ghost use Rattle.std.specs.Prelude.{option_copied, ◌≡◌, ◌≤◌, ℕ, ◌∷◌, [], decimal, Some, IsTrue, ◌↔◌, IfSome, IfNone, position};
-ghost use Rattle.wasi_world.specs.Fields.{fields_of, is_space, Reads, code_text, code_in, BeginsPlain, word_at, number_in, number_at, family_of, family_at, ipv4_at, ipv6_at, ip_at, address_at};
+ghost use Rattle.std.specs.Prelude.{option_copied, IfOk, ◌≡◌, ◌≤◌, ℕ, ◌∷◌, [], decimal, Some, IsTrue, ◌↔◌, IfSome, IfNone, position};
+ghost use Rattle.std.specs.List.{list_all};
+ghost use Rattle.wasi_world.specs.Fields.{fields_of, is_space, Reads, is_lower_digit, is_lower_hex, bytes_in, code_text, code_in, code_at, bytes_at, BeginsPlain, word_at, number_in, number_at, family_of, family_at, ipv4_at, ipv6_at, ip_at, address_at};
 
+use crate::octets::Octets;
+use hex::FromHexError;
+use std::alloc::{AllocError, Global};
 use std::marker::Model;
 use wasi_addr::{
-    ErrorCode, IpAddress, IpSocketAddress, Ipv4SocketAddress, Ipv6SocketAddress, SocketAddressFamily,
+    ErrorCode, IpAddress, IpSocketAddress, Ipv4SocketAddress, Ipv6SocketAddress,
+    SocketAddressFamily,
 };
 
 /// The fields of a line that are left to read, which contracts see as a list. Fields are separated by exactly one
@@ -167,6 +172,25 @@ impl<'a> Fields<'a> {
             })),
         }
     }
+
+    /// Takes the word of a code.
+    #[tactic(auto, unfolding(crate::specs::Fields::code_at, crate::specs::Fields::field_at, crate::specs::Fields::read_then, crate::specs::Fields::give_some))]
+    pub fn code(&mut self) -> Option<ErrorCode>
+        ensures { Reads code_at self.old result self.new }
+    {
+        code_word(self.next()?)
+    }
+
+    /// Takes bytes, for which it takes memory.
+    #[tactic(auto, unfolding(crate::specs::Fields::bytes_at, crate::specs::Fields::field_at, crate::specs::Fields::read_then, crate::specs::Fields::give_some))]
+    pub fn octets(&mut self, alloc: Global) -> Result<Option<Octets>, AllocError>
+        ensures { IfOk result (λ bytes. Reads bytes_at self.old bytes self.new) }
+    {
+        match self.next() {
+            Some(field) => octets(alloc, field),
+            None => Ok(None),
+        }
+    }
 }
 
 /// Whether it is `0`, or begins with one of `1` to `9`.
@@ -243,4 +267,41 @@ pub fn code_word(field: &[u8]) -> Option<ErrorCode>
         .iter()
         .copied()
         .find(|code| code_text(*code).as_bytes() == field)
+}
+
+fn is_lower_digit(byte: &u8) -> bool
+    ensures { result ≡ is_lower_digit byte.now }
+{
+    matches!(byte, b'0'..=b'9' | b'a'..=b'f')
+}
+
+fn are_lower_digits(field: &[u8]) -> bool
+    ensures { result ≡ list_all is_lower_digit field.now }
+{
+    field.iter().all(is_lower_digit)
+}
+
+fn is_lower_hex(field: &[u8]) -> bool
+    ensures { result ≡ is_lower_hex field.now }
+{
+    !field.is_empty() && are_lower_digits(field)
+}
+
+/// The bytes that the field says: `-` for none, else pairs of digits of `0` to `9` and `a` to `f`, so an empty field
+/// says none. Takes memory for the bytes.
+#[tactic(auto, unfolding(crate::specs::Fields::bytes_in))]
+pub fn octets(alloc: Global, field: &[u8]) -> Result<Option<Octets>, AllocError>
+    ensures { IfOk result (λ bytes. bytes ≡ bytes_in field.now) }
+{
+    if field == b"-".as_slice() {
+        return Ok(Some(Octets::from_vec(Vec::new(alloc))));
+    }
+    if !is_lower_hex(field) {
+        return Ok(None);
+    }
+    match hex::decode(alloc, field) {
+        Ok(bytes) => Ok(Some(Octets::from_vec(bytes))),
+        Err(FromHexError::OutOfMemory) => Err(AllocError),
+        Err(_) => Ok(None),
+    }
 }

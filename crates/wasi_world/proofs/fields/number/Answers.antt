@@ -1,4 +1,4 @@
-use Rattle.std.proofs.Common.{◌≡◌, sym, ◌∙◌}
+use Rattle.std.proofs.Common.{sym, ◌∙◌}
 use Rattle.wasi_world.proofs.Numbers.{begins_otherwise, no_text, not_parsed, parsed_within, number_exact}
 use Rattle.wasi_world.proofs.fields.number.Goals as goal
 

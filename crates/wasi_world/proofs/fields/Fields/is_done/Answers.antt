@@ -1,4 +1,4 @@
-use Rattle.std.proofs.Common.{rules, ◌≡◌, ◌∷◌, [], IsTrue, ◌↔◌, ℕ, List, Bool, true, false, not, is_some, Option, Some, None, refl, sym, ◌∙◌}
+use Rattle.std.proofs.Common.{◌≡◌, [], IsTrue, ℕ, List, Bool, true, false, not, is_some, Option, Some, None, refl}
 use denote.Ref.{Bor}
 use Rattle.wasi_world.specs.Fields.{fields_left}
 use Rattle.wasi_world.proofs.FieldsOf.{fields_of_some}

@@ -1,4 +1,4 @@
-use Rattle.std.proofs.Common.{rules, ◌≡◌, ◌∷◌, [], ◌+◌, sym, ◌∙◌}
+use Rattle.std.proofs.Common.{sym, ◌∙◌}
 use Rattle.std.proofs.lemmas.List.{take_rest}
 use Rattle.wasi_world.proofs.FieldsOf.{fields_of_at, fields_of_whole}
 use Rattle.wasi_world.proofs.fields.Fields.next.Goals as goal

@@ -1,4 +1,3 @@
-use Rattle.std.proofs.Common.{◌≡◌}
 use Rattle.wasi_world.proofs.Numbers.{number_bound}
 use Rattle.wasi_world.proofs.fields.Fields.number.Goals as goal
 
