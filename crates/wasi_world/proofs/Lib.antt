@@ -4,3 +4,8 @@ pub mod Answers
 pub mod FieldsOf
 pub mod Numbers
 pub mod Reading
+pub mod Exactly
+pub mod BytesBack
+pub mod BytesText
+pub mod ReadBack
+pub mod Visible

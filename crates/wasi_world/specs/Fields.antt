@@ -65,6 +65,10 @@ whole None = None
 whole (Some (value, [])) = Some value
 whole (Some (value, field ∷ rest)) = None
 
+-- the first of these that has this name
+abbrev pub named : {A : Type 0} → (A → List ℕ) → List A → List ℕ → Option A
+named name_of all name = find (λ a. bytes_eq (name_of a) name) all
+
 -- one field
 unfoldable pub field_at : Reader (List ℕ)
 field_at [] = None
@@ -172,7 +176,7 @@ code_text base.Other = codes "other"
 
 -- the code whose word a field is
 unfoldable pub code_in : List ℕ → Option ErrorCode
-code_in field = find (λ code. bytes_eq (code_text code) field) CODES
+code_in field = named code_text CODES field
 
 unfoldable pub code_at : Reader ErrorCode
 code_at = do

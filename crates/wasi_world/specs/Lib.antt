@@ -5,3 +5,4 @@ pub mod Typed
 pub mod Operation
 pub mod Io
 pub mod Fields
+pub mod Written

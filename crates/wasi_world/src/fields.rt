@@ -1,12 +1,18 @@
 //! The fields of a line, which scripts and scenarios share.
 
-ghost use Rattle.std.specs.Prelude.{option_copied, IfOk, ◌≡◌, ◌≤◌, ℕ, ◌∷◌, [], decimal, Some, IsTrue, ◌↔◌, IfSome, IfNone, position};
+#[cfg(test)]
+mod tests;
+
+ghost use Rattle.std.specs.Prelude.{OnOk, string_bytes, ◌++◌, ◌<◌, ◌^◌, option_copied, IfOk, ◌≡◌, ◌≤◌, ℕ, List, ◌∷◌, [], decimal, Some, IsTrue, ◌↔◌, IfSome, IfNone, position};
 ghost use Rattle.std.specs.List.{list_all};
-ghost use Rattle.wasi_world.specs.Fields.{fields_of, is_space, Reads, is_lower_digit, is_lower_hex, bytes_in, code_text, code_in, code_at, bytes_at, BeginsPlain, word_at, number_in, number_at, family_of, family_at, ipv4_at, ipv6_at, ip_at, address_at};
+ghost use Rattle.hex.specs.Hex.{IsBytes, encode_lower};
+ghost use Rattle.wasi_world.specs.Written.{ReadsExactly, AreVisible, number_fields, family_fields, ip_fields, address_fields, code_fields, bytes_fields, FitsIp, FitsAddress};
+ghost use Rattle.wasi_world.specs.Fields.{fields_of, line_with, is_space, Reads, is_lower_digit, is_lower_hex, bytes_in, bytes_text, code_text, code_in, code_at, bytes_at, BeginsPlain, word_at, number_in, number_at, family_of, family_at, ipv4_at, ipv6_at, ip_at, address_at};
 
 use crate::octets::Octets;
 use hex::FromHexError;
 use std::alloc::{AllocError, Global};
+use std::fmt::Write;
 use std::marker::Model;
 use wasi_addr::{
     ErrorCode, IpAddress, IpSocketAddress, Ipv4SocketAddress, Ipv6SocketAddress,
@@ -304,4 +310,43 @@ pub fn octets(alloc: Global, field: &[u8]) -> Result<Option<Octets>, AllocError>
         Err(FromHexError::OutOfMemory) => Err(AllocError),
         Err(_) => Ok(None),
     }
+}
+
+/// Appends the two digits of a byte.
+#[tactic(auto, unfolding(hex::specs::Hex::encode_with))]
+fn push_byte(text: &mut String, byte: u8) -> Result<(), AllocError>
+    ensures { OnOk result (string_bytes text.new ≡ string_bytes text.old ++ encode_lower (byte ∷ [])) }
+{
+    write!(text, "{byte:02x}")
+}
+
+/// Appends the text of the bytes; takes memory for it. After want of memory a part of it may stand there.
+pub fn push_octets(text: &mut String, bytes: &[u8]) -> Result<(), AllocError>
+    ensures { OnOk result (string_bytes text.new ≡ string_bytes text.old ++ bytes_text bytes.now) }
+{
+    if bytes.is_empty() {
+        return text.push_str("-");
+    }
+    for byte in bytes {
+        push_byte(text, *byte)?;
+    }
+    Ok(())
+}
+
+/// What is read is written so, and what is written so is read, whatever follows it.
+pub fn fields_are_read_exactly()
+    ensures numbers { (most : ℕ) → most < 2 ^ 64 → ReadsExactly (number_at most) number_fields (λ n. n ≤ most) }
+    ensures families { ReadsExactly family_at family_fields (λ f. Unit {0}) }
+    ensures ips { ReadsExactly ip_at ip_fields FitsIp }
+    ensures addresses { ReadsExactly address_at address_fields FitsAddress }
+    ensures code_words { ReadsExactly code_at code_fields (λ code. Unit {0}) }
+    ensures bytes { ReadsExactly bytes_at bytes_fields IsBytes }
+{
+}
+
+/// A line of visible fields has these fields, and no other line has.
+pub fn lines_have_their_fields()
+    ensures fields { (field : List ℕ) (more : List (List ℕ)) → AreVisible (field ∷ more) → fields_of (line_with (field ∷ more)) ≡ field ∷ more }
+    ensures only { (line : List ℕ) → line ≡ line_with (fields_of line) }
+{
 }
