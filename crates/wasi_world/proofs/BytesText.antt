@@ -1,5 +1,5 @@
 -- The text of bytes, a byte at a time.
-use Rattle.std.proofs.Common.{◌≡◌, ℕ, zero, suc, ◌+◌, ◌/◌, ◌%◌, ◌≤◌, ◌<◌, Bool, true, false, cond, eqb, ltb, not, ◌&&◌, ◌||◌, List, [], ◌∷◌, ◌++◌, length, take, slice_index, append_assoc, arith, ap, sym, ◌∙◌, refl, ◌==◌, ◌^◌, ◌-◌, Option, Some}
+use Rattle.std.proofs.Common.{◌≡◌, ℕ, ◌+◌, ◌/◌, ◌%◌, ◌≤◌, ◌<◌, false, eqb, List, [], ◌∷◌, ◌++◌, length, take, slice_index, append_assoc, arith, ap, ◌∙◌, refl, ◌==◌, ◌^◌, ◌-◌, Option, Some}
 use Rattle.std.specs.Fmt.{digit_glyph, digits, padded_integral, format_spec, AppendsText}
 use Rattle.std.proofs.lemmas.Bool.{eqb-true}
 use Rattle.std.proofs.lemmas.List.{take_more, take_all}

@@ -1,6 +1,6 @@
 -- How readers are put together so that they read exactly what is written.
-use Rattle.std.proofs.Common.{◌≡◌, ℕ, ◌≤◌, ◌<◌, ◌^◌, Bool, true, false, cond, List, [], ◌∷◌, ◌++◌, Option, Some, None, decimal, append_assoc, arith, ap, sym, ◌∙◌, refl, subst, option_and_then}
-use Rattle.wasi_world.specs.Fields.{Reader, read_then, give, give_some, field_at, number_in, number_at}
+use Rattle.std.proofs.Common.{◌≡◌, ℕ, ◌≤◌, ◌<◌, ◌^◌, List, [], ◌∷◌, ◌++◌, Option, Some, None, append_assoc, ap, sym, ◌∙◌, refl, subst, option_and_then}
+use Rattle.wasi_world.specs.Fields.{Reader, read_then, give, give_some, field_at, number_at}
 use Rattle.wasi_world.specs.Written.{ReadsExactly, number_fields}
 use Rattle.wasi_world.proofs.Numbers.{number_in_is, number_in_decimal}
 
@@ -62,10 +62,10 @@ pub only_then : {A B : Type 0} {read : Reader A} {written : A → List (List ℕ
 unfolding read_then
 only_then {read = read} {written} next {Q} first second = record {
   holds = λ result fields rest h.
-    let found = then_found (read fields) next result rest h in
-    let one = first.only found.0 fields found.1 found.2 in
-    let two = (second found.0 one.0).holds result found.1 rest found.3 in
-    (written found.0 ++ two.0, one.1 ∙ (ap (λ mid. written found.0 ++ mid) two.1 ∙ sym (append_assoc (written found.0) two.0 rest)), two.2);
+      let found = then_found (read fields) next result rest h in
+      let one = first.only found.0 fields found.1 found.2 in
+      let two = (second found.0 one.0).holds result found.1 rest found.3 in
+      (written found.0 ++ two.0, one.1 ∙ (ap (λ mid. written found.0 ++ mid) two.1 ∙ sym (append_assoc (written found.0) two.0 rest)), two.2);
 }
 
 -- one field

@@ -1,5 +1,5 @@
 -- What fields can be is read exactly.
-use Rattle.std.proofs.Common.{◌≡◌, ℕ, ◌+◌, ◌≤◌, ◌<◌, ◌^◌, Bool, true, false, cond, eqb, List, [], ◌∷◌, ◌++◌, map, bytes_eq, Option, Some, None, decimal, arith, ap, sym, ◌∙◌, refl, inl, inr, IsUtf8, find}
+use Rattle.std.proofs.Common.{◌≡◌, ℕ, ◌≤◌, Bool, true, false, cond, List, [], ◌∷◌, ◌++◌, map, bytes_eq, Option, Some, None, decimal, arith, ap, sym, refl, inl, inr, IsUtf8, find}
 use Rattle.std.specs.Str.{is_utf8}
 use Rattle.std.proofs.lemmas.Str.{IsUtf8-from_is_utf8, is_utf8-from_IsUtf8}
 use Rattle.std.proofs.lemmas.Slice.Eq.{bytes_eq-Decides}
@@ -16,8 +16,8 @@ use Rattle.wasi_addr.specs.declared.address.IpAddress.{IpAddress}
 use Rattle.wasi_addr.specs.declared.address.IpAddress.TheVariants as ip
 use Rattle.wasi_addr.specs.declared.address.IpSocketAddress.{IpSocketAddress}
 use Rattle.wasi_addr.specs.declared.address.IpSocketAddress.TheVariants as socket
-use Rattle.wasi_world.specs.Fields.{Reader, read_then, give, give_some, field_at, word_at, number_at, family_of, family_at, ipv4_at, ipv6_at, ip_of_family, ip_at, address_of_family, address_at, named, code_text, code_in, code_at, bytes_in, bytes_at}
-use Rattle.wasi_world.specs.Written.{ReadsExactly, number_fields, family_number, family_fields, code_fields, bytes_fields, ipv4_numbers, ipv6_numbers, ip_numbers, ip_fields, address_numbers, address_fields, FitsIpv4, FitsIpv6, FitsIp, FitsAddress}
+use Rattle.wasi_world.specs.Fields.{read_then, give_some, word_at, number_at, family_of, family_at, ipv4_at, ipv6_at, ip_of_family, ip_at, address_of_family, address_at, named, code_text, code_in, code_at, bytes_at}
+use Rattle.wasi_world.specs.Written.{ReadsExactly, number_fields, family_number, family_fields, code_fields, bytes_fields, ipv4_numbers, ipv6_numbers, ip_fields, address_fields, FitsIpv4, FitsIpv6, FitsIp, FitsAddress}
 use Rattle.wasi_world.proofs.Exactly.{All, Only, exactly, all_give, only_give, all_some, only_some, all_then, only_then, field_exactly, number_exactly}
 
 byte_exactly : ReadsExactly (number_at 255) number_fields (λ n. n ≤ 255)
@@ -65,17 +65,17 @@ ipv4_exactly : ReadsExactly ipv4_at (λ a. map decimal (ipv4_numbers a)) FitsIpv
 unfolding ipv4_at
 ipv4_exactly = exactly
     (only_then _ byte_exactly (λ a fa. only_then _ byte_exactly (λ b fb. only_then _ byte_exactly (λ c fc. only_then _ byte_exactly (λ d fd.
-      only_give _ ((fa, fb, fc, fd), refl))))))
+    only_give _ ((fa, fb, fc, fd), refl))))))
     (λ v fits. all_then _ byte_exactly fits.0 (all_then _ byte_exactly fits.1 (all_then _ byte_exactly fits.2 (all_then _ byte_exactly fits.3 all_give))))
 
 ipv6_exactly : ReadsExactly ipv6_at (λ a. map decimal (ipv6_numbers a)) FitsIpv6
 unfolding ipv6_at
 ipv6_exactly = exactly
     (only_then _ segment_exactly (λ a fa. only_then _ segment_exactly (λ b fb. only_then _ segment_exactly (λ c fc. only_then _ segment_exactly (λ d fd.
-      only_then _ segment_exactly (λ e fe. only_then _ segment_exactly (λ f ff. only_then _ segment_exactly (λ g fg. only_then _ segment_exactly (λ h fh.
-      only_give _ ((fa, fb, fc, fd, fe, ff, fg, fh), refl))))))))))
+    only_then _ segment_exactly (λ e fe. only_then _ segment_exactly (λ f ff. only_then _ segment_exactly (λ g fg. only_then _ segment_exactly (λ h fh.
+    only_give _ ((fa, fb, fc, fd, fe, ff, fg, fh), refl))))))))))
     (λ v fits. all_then _ segment_exactly fits.0 (all_then _ segment_exactly fits.1 (all_then _ segment_exactly fits.2 (all_then _ segment_exactly fits.3
-      (all_then _ segment_exactly fits.4 (all_then _ segment_exactly fits.5 (all_then _ segment_exactly fits.6 (all_then _ segment_exactly fits.7 all_give))))))))
+    (all_then _ segment_exactly fits.4 (all_then _ segment_exactly fits.5 (all_then _ segment_exactly fits.6 (all_then _ segment_exactly fits.7 all_give))))))))
 
 ip_only : (f : SocketAddressFamily) → Only (ip_of_family f) (λ taken v. FitsIp v × (family_fields f ++ taken ≡ ip_fields v))
 ip_only family.Ipv4 = only_then _ ipv4_exactly (λ a fits. only_give _ (fits, refl))
@@ -94,14 +94,14 @@ address_only family.Ipv4 =
     only_then _ ipv4_exactly (λ a fa. only_then _ segment_exactly (λ port fp. only_give _ ((fa, fp), refl)))
 address_only family.Ipv6 =
     only_then _ ipv6_exactly (λ a fa. only_then _ segment_exactly (λ port fp. only_then _ u32_exactly (λ flow ff. only_then _ u32_exactly (λ scope fs.
-      only_give _ ((fa, fp, ff, fs), refl)))))
+    only_give _ ((fa, fp, ff, fs), refl)))))
 
 address_all : (v : IpSocketAddress) → FitsAddress v → All (read_then family_at address_of_family) v (address_fields v)
 address_all (socket.Ipv4 a) fits =
     all_then _ {value = family.Ipv4} family_exactly tt (all_then _ ipv4_exactly fits.0 (all_then _ segment_exactly fits.1 all_give))
 address_all (socket.Ipv6 a) fits =
     all_then _ {value = family.Ipv6} family_exactly tt (all_then _ ipv6_exactly fits.0 (all_then _ segment_exactly fits.1
-      (all_then _ u32_exactly fits.2 (all_then _ u32_exactly fits.3 all_give))))
+    (all_then _ u32_exactly fits.2 (all_then _ u32_exactly fits.3 all_give))))
 
 pub address_exactly : ReadsExactly address_at address_fields FitsAddress
 unfolding address_at
@@ -161,6 +161,6 @@ pub word_exactly : ReadsExactly word_at (λ word. word ∷ []) IsUtf8
 unfolding word_at
 word_exactly = exactly
     (only_then _ field_exactly (λ field u. only_some _ (λ word h.
-      let is = text_of_utf8 (is_utf8 field) field word h in
-      (rw is.1 at (IsUtf8-from_is_utf8 field is.0), ap (λ f. f ∷ []) is.1))))
+    let is = text_of_utf8 (is_utf8 field) field word h in
+    (rw is.1 at (IsUtf8-from_is_utf8 field is.0), ap (λ f. f ∷ []) is.1))))
     (λ word utf8. all_then _ field_exactly tt (all_some _ (rw (is_utf8-from_IsUtf8 word utf8))))

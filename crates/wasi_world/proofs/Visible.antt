@@ -1,7 +1,6 @@
 -- Laws of lines whose fields are visible ASCII characters.
-use Rattle.std.proofs.Common.{◌≡◌, ℕ, suc, ◌+◌, ◌^◌, ◌<◌, ◌≤◌, Bool, true, false, cond, ◌&&◌, ◌||◌, List, [], ◌∷◌, ◌++◌, map, length, get_or, slice_index, decimal, codes, arith, ap, sym, ◌∙◌, refl, IsUtf8, IsTrue, append-nil, zero}
-use Rattle.std.specs.List.{slice_split, onto_first, join_with_byte, list_all, AllByRecursion}
-use Rattle.std.specs.Str.{IsAscii}
+use Rattle.std.proofs.Common.{◌≡◌, ℕ, suc, ◌^◌, ◌<◌, ◌≤◌, true, false, List, [], ◌∷◌, ◌++◌, map, slice_index, decimal, arith, ap, sym, ◌∙◌, refl, IsUtf8, IsTrue, append-nil, zero}
+use Rattle.std.specs.List.{list_all, AllByRecursion}
 use Rattle.std.specs.Str.Parse.{AllDigits}
 use Rattle.std.proofs.lemmas.Bool.{and_parts}
 use Rattle.std.proofs.lemmas.Bool.Decides.{nat_tests}
@@ -13,8 +12,8 @@ use Rattle.wasi_addr.specs.declared.code.ErrorCode.{ErrorCode}
 use Rattle.wasi_addr.specs.declared.code.ErrorCode.TheVariants as base
 use Rattle.wasi_addr.specs.declared.address.IpSocketAddress.{IpSocketAddress}
 use Rattle.wasi_addr.specs.declared.address.IpSocketAddress.TheVariants as socket
-use Rattle.hex.specs.Hex.{IsBytes, lower_digits, encode_with, encode_lower}
-use Rattle.wasi_world.specs.Fields.{is_space, fields_of, line_with, code_text, bytes_text, is_lower_digit}
+use Rattle.hex.specs.Hex.{IsBytes, encode_lower}
+use Rattle.wasi_world.specs.Fields.{is_space, fields_of, line_with, is_lower_digit}
 use Rattle.wasi_world.proofs.BytesBack.{lower_encoded}
 use Rattle.wasi_world.specs.Written.{is_visible, AreVisible, IsVisible, address_numbers, address_fields, code_fields, bytes_fields, FitsAddress}
 

@@ -1,5 +1,5 @@
 use Rattle.std.proofs.Common.{refl}
-use Rattle.wasi_world.proofs.Visible.{fields_of_line, line_of_fields, visible_line, address_visible}
+use Rattle.wasi_world.proofs.Visible.{fields_of_line, line_of_fields}
 use Rattle.wasi_world.proofs.fields.lines_have_their_fields.Goals as goal
 
 pub returns : goal.returns

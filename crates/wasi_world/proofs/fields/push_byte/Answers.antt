@@ -1,4 +1,4 @@
-use Rattle.std.proofs.Common.{OnOk, string_bytes, ◌++◌, ◌<◌, ◌≡◌, Some, [], false, ◌^◌, ◌-◌}
+use Rattle.std.proofs.Common.{◌≡◌, Some, [], false, ◌^◌, ◌-◌}
 use Rattle.std.specs.Fmt.{styled_digits_output, padded_integral, format_spec, digits}
 use Rattle.std.proofs.lemmas.Result.{on_ok_weaker}
 use Rattle.wasi_world.proofs.BytesText.{byte_written}

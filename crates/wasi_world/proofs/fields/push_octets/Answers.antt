@@ -1,5 +1,5 @@
-use Rattle.std.proofs.Common.{string_bytes, ◌++◌, ◌<◌, ◌≡◌, append-nil, sym}
-use Rattle.hex.specs.Hex.{encode_lower, encode_with}
+use Rattle.std.proofs.Common.{append-nil, sym}
+use Rattle.hex.specs.Hex.{encode_with}
 use Rattle.wasi_world.proofs.BytesText.{encode_more, encode_all}
 use Rattle.wasi_world.proofs.fields.push_octets.Goals as goal
 
