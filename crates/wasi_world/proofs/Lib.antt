@@ -2,3 +2,11 @@ pub mod Walks
 pub mod Allowed
 pub mod Answers
 pub mod Polls
+pub mod FieldsOf
+pub mod Numbers
+pub mod Reading
+pub mod Exactly
+pub mod BytesBack
+pub mod BytesText
+pub mod ReadBack
+pub mod Visible

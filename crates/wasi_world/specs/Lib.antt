@@ -4,3 +4,5 @@ pub mod Asks
 pub mod Typed
 pub mod Operation
 pub mod Io
+pub mod Fields
+pub mod Written

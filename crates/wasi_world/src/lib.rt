@@ -6,6 +6,7 @@
 
 pub mod asks;
 pub mod call;
+pub mod fields;
 pub mod ids;
 pub mod io;
 pub mod octets;
@@ -14,6 +15,7 @@ pub mod plan;
 pub mod world;
 
 pub use call::{Call, Entry, HandleKind, Opt, Told};
+pub use fields::Fields;
 pub use ids::{Handle, Ids, OpId, Sock};
 pub use io::{Failed, Sink, Source};
 pub use octets::{IpList, NameText, Octets};
