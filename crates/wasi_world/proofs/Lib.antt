@@ -2,3 +2,8 @@ pub mod Walks
 pub mod Allowed
 pub mod Answers
 pub mod Polls
+pub mod Queues
+pub mod Fitting
+pub mod Listing
+pub mod Logs
+pub mod Made

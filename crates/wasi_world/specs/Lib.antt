@@ -4,3 +4,9 @@ pub mod Asks
 pub mod Typed
 pub mod Operation
 pub mod Io
+pub mod Kinds
+pub mod Sides
+pub mod Known
+pub mod Script
+pub mod Queued
+pub mod Scripted
