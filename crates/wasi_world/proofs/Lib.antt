@@ -10,3 +10,8 @@ pub mod BytesBack
 pub mod BytesText
 pub mod ReadBack
 pub mod Visible
+pub mod Queues
+pub mod Fitting
+pub mod Listing
+pub mod Logs
+pub mod Made

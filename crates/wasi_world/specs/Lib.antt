@@ -6,3 +6,9 @@ pub mod Operation
 pub mod Io
 pub mod Fields
 pub mod Written
+pub mod Kinds
+pub mod Sides
+pub mod Known
+pub mod Script
+pub mod Queued
+pub mod Scripted
