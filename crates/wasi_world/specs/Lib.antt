@@ -12,3 +12,4 @@ pub mod Known
 pub mod Script
 pub mod Queued
 pub mod Scripted
+pub mod Memory
