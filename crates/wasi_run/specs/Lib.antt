@@ -4,3 +4,5 @@ pub mod Table
 pub mod Store
 pub mod Machine
 pub mod Sides
+pub mod Steps
+pub mod Replies

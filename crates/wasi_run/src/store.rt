@@ -1,6 +1,9 @@
 //! The records that handles name, and the call that stands.
 
+ghost use Rattle.std.specs.Prelude.{◌≡◌};
+
 use crate::socket::Tcp2Socket;
+use std::alloc::Global;
 use std::marker::Model;
 use wasi_tcp::BindOp;
 
@@ -27,4 +30,17 @@ impl Model for Store {
     ghost Value = { Records };
 
     ghost view = { λ s. record { sockets = s.sockets.items; standing = s.standing } };
+}
+
+impl Store {
+    ghost use Rattle.wasi_run.specs.Store.{no_records};
+
+    pub fn new(alloc: Global) -> Store
+        ensures { result ≡ no_records }
+    {
+        Store {
+            sockets: Vec::new(alloc),
+            standing: None,
+        }
+    }
 }

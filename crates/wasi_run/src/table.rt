@@ -1,11 +1,10 @@
 //! The table of handles: a vector of live slots that is scanned.
 
-ghost use Rattle.std.specs.Prelude.{◌≡◌, ◌∷◌, ◌++◌, ◌+◌, IfOk, OnErr, OnOk, false, true};
-ghost use Rattle.wasi_run.specs.Table.{is_full, kind_at};
+ghost use Rattle.std.specs.Prelude.{◌≡◌};
 
-use std::alloc::{AllocError, Global};
+use std::alloc::Global;
 use std::marker::Model;
-use wasi_world::{Handle, HandleKind, OpId, Sock, World, asks};
+use wasi_world::{Handle, HandleKind};
 
 /// At most so many handles are live at a time.
 const MAX_LIVE: usize = 65536;
@@ -51,4 +50,17 @@ impl Model for Table {
     ghost Value = { Shown };
 
     ghost view = { λ t. record { next = t.next; live = t.slots.items } };
+}
+
+impl Table {
+    ghost use Rattle.wasi_run.specs.Table.{empty_table};
+
+    pub fn new(alloc: Global) -> Table
+        ensures { result ≡ empty_table }
+    {
+        Table {
+            slots: Vec::new(alloc),
+            next: 1,
+        }
+    }
 }
