@@ -1,0 +1,11 @@
+pub mod Takes
+pub mod LinesOf
+pub mod Stretches
+pub mod OneLine
+pub mod ManyLines
+pub mod Pieces
+pub mod Streaming
+pub mod Closings
+pub mod Completes
+pub mod CauseLaws
+pub mod Headline

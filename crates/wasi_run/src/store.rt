@@ -1,11 +1,15 @@
 //! The records that handles name, and the call that stands.
 
-ghost use Rattle.std.specs.Prelude.{◌≡◌};
+ghost use Rattle.std.specs.Prelude.{◌≡◌, true};
+ghost use Rattle.wasi_run.specs.Sides.{held_in};
+ghost use Rattle.wasi_run.specs.Closing.{ClosesSides};
 
+use crate::closing::close_sides;
 use crate::socket::Tcp2Socket;
 use std::alloc::Global;
 use std::marker::Model;
 use wasi_tcp::BindOp;
+use wasi_world::World;
 
 /// A bind that stands pending: while it does, every other guest call is busy.
 #[derive(Drop)]
@@ -42,5 +46,13 @@ impl Store {
             sockets: Vec::new(alloc),
             standing: None,
         }
+    }
+
+    /// Closes the network sides that the records hold, after the end mark; takes no memory.
+    pub fn close_all<W: World>(self, world: &mut W)
+        requires { (W.seen world.old).ended ≡ true }
+        ensures { ClosesSides (W.seen world.old) (W.seen world.new) (held_in self.sockets) }
+    {
+        close_sides(world, self.sockets.as_slice());
     }
 }
