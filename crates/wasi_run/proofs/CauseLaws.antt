@@ -1,5 +1,5 @@
 -- What a script's record says of each end.
-use Rattle.std.proofs.Common.{◌≡◌, ◌≢◌, ◌∙◌, ap, sym, refl, subst, ℕ, ◌+◌, ◌≤◌, List, [], ◌∷◌, ◌++◌, length, take, Result, Ok, Err, append-nil, inl, inr, arith}
+use Rattle.std.proofs.Common.{◌≡◌, ◌∙◌, ap, sym, refl, ℕ, ◌+◌, ◌≤◌, List, [], length, take, Result, Ok, Err, append-nil, inl, inr, arith}
 use Rattle.std.proofs.lemmas.List.{take_all}
 use Rattle.wasi_world.specs.declared.outcome.WasiSocketsCtx.{WasiSocketsCtx}
 use Rattle.wasi_world.specs.Seen.{Seen, Rose}
@@ -15,11 +15,11 @@ use Rattle.wasi_run.specs.declared.run.RunEnd.TheVariants as end
 use Rattle.wasi_run.specs.declared.run.RunError.{RunError}
 use Rattle.wasi_run.specs.declared.run.RunError.TheVariants.{Memory, BadStep, TooLong, ReadFault, WriteFault}
 use Rattle.wasi_run.specs.Machine.{first_state, run}
-use Rattle.wasi_run.specs.Lines.{lines_of, rest_of, after_lines, StartWith}
+use Rattle.wasi_run.specs.Lines.{lines_of, after_lines, StartWith}
 use Rattle.wasi_run.specs.Closing.{AsksNothing}
 use Rattle.wasi_run.specs.Ran.{LinesRan, Beyond, Wrote, texts}
 use Rattle.wasi_run.specs.Script.{Answers, RanScript}
-use Rattle.wasi_run.specs.Causes.{BeginsRun, DoneLines, ReadsAll, Traps, StopsAtBadStep, StopsTooLong}
+use Rattle.wasi_run.specs.Causes.{DoneLines, ReadsAll, Traps, StopsAtBadStep, StopsTooLong}
 
 -- every reply was written, and nothing was asked beyond
 abbrev IsWhole : Result LinesEnd RunError → Type 0

@@ -9,11 +9,7 @@ use Rattle.wasi_tcp.specs.Socket.{side_of}
 use Rattle.wasi_run.specs.declared.socket.Tcp2Socket.{Tcp2Socket}
 use Rattle.wasi_run.specs.Store.{Records}
 use Rattle.wasi_run.specs.Sides.{made_in, closed_in, held_in, one_if_some, KnowsSides, ClosesAll}
-use Rattle.wasi_run.specs.Closing.{AsksNothing, ClosesSides, IsFresh, HasClosedAll}
-
--- == nothing was asked
-pub quiet_none : (seen : Seen) → AsksNothing seen seen
-quiet_none seen = record { log = refl; faults = refl; plan = refl }
+use Rattle.wasi_run.specs.Closing.{AsksNothing, ClosesSides}
 
 pub quiet_again : {old mid new : Seen} → AsksNothing old mid → AsksNothing mid new → AsksNothing old new
 quiet_again h k = record { log = k.log ∙ h.log; faults = k.faults ∙ h.faults; plan = k.plan ∙ h.plan }
@@ -52,21 +48,6 @@ pub closes_none : {old mid : Seen} (xs : List Tcp2Socket) (i : ℕ) (x : Tcp2Soc
 closes_none {old} {mid} xs i x h e k c =
     let n : held_in (take (i + 1) xs) ≡ held_in (take i xs) = held_more xs i x None h e k ∙ omega arith in
     let P : ℕ → Type 0 = λ n. ClosesSides old mid n in subst P (sym n) c
-
--- == the end
-held_all : (log : Option (List Entry)) (held closings : ℕ) → closings ≡ held → IfSome log (λ log. closed_in log + held ≡ made_in log) → IfSome log (λ log. closed_in log + closings ≡ made_in log)
-held_all None held closings e h = tt
-held_all (Some log) held closings e h = omega (arith, e, h)
-
--- the end mark, and then the sides that the records hold
-pub closes_all : {old mid new : Seen} {store : Records} → Ends old mid → ClosesSides mid new (held_in store.sockets) → KnowsSides old store → ClosesAll old new
-closes_all {old} {mid} {new} {store} e c k = record {
-  log = c.quiet.log ∙ e.log;
-  count = λ z. held_all new.log (held_in store.sockets) new.closings (c.counted (e.closings ∙ z)) (let P : Option (List Entry) → Type 0 = λ log. IfSome log (λ log. closed_in log + held_in store.sockets ≡ made_in log) in subst P (sym (c.quiet.log ∙ e.log)) k.count);
-}
-
-pub ends_quiet : {old mid new : Seen} {n : ℕ} → Ends old mid → ClosesSides mid new n → AsksNothing old new
-ends_quiet e c = quiet_again (record { log = e.log; faults = e.faults; plan = e.plan }) c.quiet
 
 pub empty_known : (log : Option (List Entry)) (held : ℕ) → IfSome log (λ log. log ≡ []) → held ≡ 0 → IfSome log (λ log. closed_in log + held ≡ made_in log)
 empty_known None held h z = tt

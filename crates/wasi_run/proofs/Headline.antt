@@ -9,7 +9,7 @@ use Rattle.wasi_run.specs.declared.run.RunEnd.{RunEnd}
 use Rattle.wasi_run.specs.declared.run.RunError.{RunError}
 use Rattle.wasi_run.specs.Machine.{first_state}
 use Rattle.wasi_run.specs.Sides.{KnowsSides, ClosesAll}
-use Rattle.wasi_run.specs.Closing.{AsksNothing, IsFresh, HasClosedAll}
+use Rattle.wasi_run.specs.Closing.{IsFresh, HasClosedAll}
 use Rattle.wasi_run.specs.Script.{RanOver, RanScript}
 use Rattle.wasi_run.specs.Causes.{BeginsRun, DoneLines}
 use Rattle.wasi_run.proofs.Stretches.{stays_open}

@@ -17,7 +17,7 @@ use Rattle.wasi_run.specs.Replies.{text_of}
 use Rattle.wasi_run.specs.Machine.{machine_asks, run}
 use Rattle.wasi_run.specs.Sides.{KnowsSides}
 use Rattle.wasi_run.specs.Lines.{StartWith, BadAfter}
-use Rattle.wasi_run.specs.Ran.{texts, NoTrap, OneTrap, CutLast, Stretch, Beyond, Wrote, Counted, Cause, LinesRan}
+use Rattle.wasi_run.specs.Ran.{texts, NoTrap, OneTrap, CutLast, Stretch, Wrote, Counted, Cause, LinesRan}
 use Rattle.wasi_run.proofs.Takes.{took_again, took_none, same_again, same_none, rose_again}
 
 -- == stretches

@@ -61,26 +61,11 @@ front_is at count bytes = ap (λ w. take at bytes ++ take count w) (rest_is at b
 count_fits : (at count : ℕ) (bytes : List ℕ) → at < length bytes → count ≤ length (take (length bytes - at) (drop at bytes)) → at + count ≤ length bytes
 count_fits at count bytes h k = let e = ap length (rest_is at bytes) ∙ length-drop at bytes in omega (arith, k, e)
 
-not_empty : (at : ℕ) (bytes : List ℕ) → at < length bytes → 0 < length (take (length bytes - at) (drop at bytes))
-not_empty at bytes h = let e = ap length (rest_is at bytes) ∙ length-drop at bytes in omega (arith, h, e)
-
 pub write_more : {old mid new : Writing} (bytes : List ℕ) (at : ℕ) {count : ℕ} → Took old (take at bytes) mid → TookSome mid new (take (length bytes - at) (drop at bytes)) count → Took old (take (at + count) bytes) new
 write_more bytes at {count} h k = rw (front_is at count bytes) at (took_again h k.took)
 
 pub write_within : {mid new : Writing} (bytes : List ℕ) (at : ℕ) {count : ℕ} → at < length bytes → TookSome mid new (take (length bytes - at) (drop at bytes)) count → at + count ≤ length bytes
 write_within bytes at {count} h k = count_fits at count bytes h k.fits
-
-nothing_more : {old mid new : Writing} (bytes : List ℕ) (at : ℕ) {count : ℕ} → Took old (take at bytes) mid → TookSome mid new (take (length bytes - at) (drop at bytes)) count → count ≡ 0 → Took old (take at bytes) new
-nothing_more bytes at {count} t k e = rw (e, add-zero) at (write_more bytes at t k)
-
-pub write_refused : {old mid new : Writing} (bytes : List ℕ) (at : ℕ) {count : ℕ} → at < length bytes → Took old (take at bytes) mid → SameCounts old mid → TookSome mid new (take (length bytes - at) (drop at bytes)) count → count ≡ 0 → TookFront old new bytes
-write_refused {old} {mid} {new} bytes at {count} h t s k e = record { cut = at; short = h; took = nothing_more bytes at t k e; counts = rose_again {old = old} {mid = mid} {new = new} s (record { rose = inr (k.refused (not_empty at bytes h) e) }) }
-
-pub write_failed : {old mid new : Writing} (bytes : List ℕ) (at : ℕ) → at < length bytes → Took old (take at bytes) mid → SameCounts old mid → TookNone mid new → TookFront old new bytes
-write_failed {old} {mid} {new} bytes at h t s k = record { cut = at; short = h; took = record { written = k.written ∙ t.written }; counts = rose_again {old = old} {mid = mid} {new = new} s (record { rose = inl k.rose }) }
-
-pub write_all_taken : {old mid : Writing} (bytes : List ℕ) (at : ℕ) → length bytes ≤ at → Took old (take at bytes) mid → SameCounts old mid → TookAll old mid bytes
-write_all_taken bytes at h t s = record { took = rw (take_all at bytes h) at t; counts = s }
 
 -- a read more
 pub gave_more : {old mid new : Reading} {xs : List ℕ} {size count : ℕ} {buffer : List ℕ} → Gave old xs mid → GaveSome mid new size buffer count → Gave old (xs ++ take count buffer) new

@@ -11,7 +11,11 @@ ghost use Rattle.wasi_run.specs.Causes.{BeginsRun, DoneLines, ReadsAll, Traps, S
 use crate::lines::{LinesEnd, do_piece};
 use crate::session::Session;
 use std::alloc::{AllocError, Global};
+use thiserror::Error;
 use wasi_world::{Sink, Source, WasiSocketsCtx, World};
+
+/// How many bytes are read at a time.
+const PIECE_SIZE: usize = 4096;
 
 /// How a script ended.
 #[derive(Clone, Copy, Debug, PartialEq, Eq)]
@@ -23,17 +27,22 @@ pub enum RunEnd {
 }
 
 /// Why a script was left. The whole lines before were done and answered.
-#[derive(Clone, Copy, Debug, PartialEq, Eq)]
+#[derive(Clone, Copy, Debug, PartialEq, Eq, Error)]
 pub enum RunError {
-    /// Memory ran out; the step that it met has no reply.
+    /// The step that it met has no reply.
+    #[error("memory ran out")]
     Memory,
-    /// This line, counted from 1, isn't a step or names no context, or the input ended inside it.
+    /// That line, counted from 1, isn't a step or names no context, or the input ended inside it.
+    #[error("line {0} is not a step")]
     BadStep(u32),
     /// The reader gave a byte past the limit.
+    #[error("the script is longer than its limit")]
     TooLong,
     /// The reader counted a fault.
+    #[error("a read failed")]
     ReadFault,
     /// The writer counted a fault or a refused piece; the last reply may be cut.
+    #[error("a write failed")]
     WriteFault,
 }
 
@@ -74,9 +83,9 @@ fn run_lines<W: World, S: Source, K: Sink>(
 {
     let mut line = Vec::new(alloc);
     let mut taken = 0;
-    let mut piece = [0u8; 4096];
+    let mut piece = [0u8; PIECE_SIZE];
     'reading: while taken <= limit as usize {
-        let room = (limit as usize + 1 - taken).min(4096);
+        let room = (limit as usize + 1 - taken).min(PIECE_SIZE);
         let Ok(count) = reader.read(&mut piece[..room]) else {
             return Err(RunError::ReadFault);
         };
