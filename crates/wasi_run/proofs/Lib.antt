@@ -1,3 +1,14 @@
 pub mod Hosts
 pub mod Lookups
 pub mod SideCounts
+pub mod Takes
+pub mod LinesOf
+pub mod Stretches
+pub mod OneLine
+pub mod ManyLines
+pub mod Pieces
+pub mod Streaming
+pub mod Closings
+pub mod Completes
+pub mod CauseLaws
+pub mod Headline

