@@ -1,3 +1,12 @@
 pub mod Hosts
 pub mod Lookups
 pub mod SideCounts
+pub mod Lists
+pub mod Fine
+pub mod Frames
+pub mod Binds
+pub mod FineSteps
+pub mod Licences
+pub mod Meanings
+pub mod Rows
+pub mod Refused

@@ -2,6 +2,7 @@
 #![tactic(auto)]
 
 pub mod host;
+pub mod laws;
 pub mod machine;
 pub mod reply;
 pub mod socket;
