@@ -12,3 +12,12 @@ pub mod Closings
 pub mod Completes
 pub mod CauseLaws
 pub mod Headline
+pub mod Lists
+pub mod Fine
+pub mod Frames
+pub mod Binds
+pub mod FineSteps
+pub mod Licences
+pub mod Meanings
+pub mod Rows
+pub mod Refused

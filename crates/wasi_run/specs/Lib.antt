@@ -12,3 +12,4 @@ pub mod Ran
 pub mod Closing
 pub mod Script
 pub mod Causes
+pub mod Licence

@@ -4,6 +4,7 @@
 mod closing;
 pub mod host;
 mod lines;
+pub mod laws;
 pub mod machine;
 pub mod parse;
 pub mod reply;
