@@ -13,3 +13,6 @@ pub mod Closing
 pub mod Script
 pub mod Causes
 pub mod Licence
+pub mod Headline
+pub mod Program
+pub mod Parsed
