@@ -15,3 +15,4 @@ pub mod Fitting
 pub mod Listing
 pub mod Logs
 pub mod Made
+pub mod ScriptChecks
