@@ -9,3 +9,4 @@ pub mod BytesBack
 pub mod BytesText
 pub mod ReadBack
 pub mod Visible
+pub mod Polls

@@ -6,8 +6,11 @@ use Rattle.wasi_world.specs.declared.call.Entry.{Entry}
 use Rattle.wasi_world.specs.declared.ids.OpId.{OpId}
 use Rattle.wasi_world.specs.declared.call.Call.{Call}
 use Rattle.wasi_world.specs.declared.call.Told.{Told}
+use Rattle.wasi_addr.specs.declared.code.ErrorCode.{ErrorCode}
+use Rattle.wasi_world.specs.declared.outcome.Refusal.{Refusal}
+use Rattle.wasi_world.specs.declared.outcome.Refusal.TheVariants.{Memory}
 use Rattle.wasi_world.specs.Seen.{Seen, CountsAll, Passes}
-use Rattle.wasi_world.specs.Asks.{Asks, Give, Ask, AskWrite, bind, one, one_write, Left, Reaches, Started, AsksFor}
+use Rattle.wasi_world.specs.Asks.{Asks, Give, Ask, AskWrite, bind, one, one_write, Left, Reaches, Started, AsksFor, outcome}
 
 -- of walks
 left_then : {A : Type 0} (asks mid rest : Asks A) (es fs : List Entry) → Left asks es mid → Left mid fs rest → Left asks (es ++ fs) rest
@@ -95,3 +98,20 @@ asks_exit Q f {r = Err d} e h = record { ok = tt; err = record { rest = bind h.r
 -- after the first no others, and this is the result
 pub asks_end : {A B T : Type 0} {asks : Asks A} (f : A → Asks B) {s t : Seen} {view : T → B} {x : T} {a : A} → Reaches asks (Give a) s t → f a ≡ Give (view x) → AsksFor (bind asks f) s t view (Ok x)
 asks_end {asks} f {s} {t} h e = record { ok = let P : Asks _ → Type 0 = λ rest. Reaches (bind asks f) rest s t in subst P e (reaches_on f h); err = tt }
+
+-- == of calls that may be refused: a code is an answer, want of memory isn't
+outcome_memory : {T : Type 0} {d : AllocError} (r : Result T Refusal) → IsErrAnd r (λ x. x ≡ Memory d) → outcome r ≡ Err d
+outcome_memory (Ok x) h = absurd h
+outcome_memory (Err x) h = ap (λ (y : Refusal). outcome (Err y)) h
+
+-- want of memory before the first ask
+pub refused_none : {A T : Type 0} {asks : Asks A} {s t : Seen} {view : Result T ErrorCode → A} {d : AllocError} (r : Result T Refusal) → IsErrAnd r (λ x. x ≡ Memory d) → t ≡ s → AsksFor asks s t view (outcome r)
+refused_none {asks} {s} {t} r h e = rw (outcome_memory r h) (record { ok = tt; err = record { rest = asks; reached = rw e (reaches_all asks s) } })
+
+-- the exit of a `?`
+pub refused_exit : {A B T : Type 0} {asks : Asks A} (f : A → Asks B) {s t : Seen} {view : Result T ErrorCode → B} {d : AllocError} (r : Result T Refusal) → IsErrAnd r (λ x. x ≡ Memory d) → Started asks s t → AsksFor (bind asks f) s t view (outcome r)
+refused_exit {asks} f r h k = rw (outcome_memory r h) (record { ok = tt; err = record { rest = bind k.rest f; reached = reaches_in f k.reached } })
+
+-- after the first ask no others, and this is the result
+pub refused_end : {A B T : Type 0} {asks : Asks A} (f : A → Asks B) {s t : Seen} {view : Result T ErrorCode → B} {x : Result T ErrorCode} (r : Result T Refusal) {a : A} → Reaches asks (Give a) s t → outcome r ≡ Ok x → f a ≡ Give (view x) → AsksFor (bind asks f) s t view (outcome r)
+refused_end f r h e k = rw e (asks_end f h k)

@@ -1,12 +1,15 @@
 -- What a call asks of the network, in order, as a tree over the answers.
-use Rattle.std.specs.Prelude.{◌≡◌, ℕ, List, [], ◌∷◌, length, take, Result, IfOk, OnErr}
+use Rattle.std.specs.Prelude.{◌≡◌, ℕ, List, [], ◌∷◌, length, take, Result, Ok, Err, IfOk, OnErr}
 use Rattle.std.specs.declared.alloc.AllocError.{AllocError}
+use Rattle.wasi_addr.specs.declared.code.ErrorCode.{ErrorCode}
 use Rattle.wasi_world.specs.declared.ids.OpId.{OpId}
 use Rattle.wasi_world.specs.declared.call.Call.{Call}
 use Rattle.wasi_world.specs.declared.call.Call.TheVariants.{Write}
 use Rattle.wasi_world.specs.declared.call.Told.{Told}
 use Rattle.wasi_world.specs.declared.call.Told.TheVariants.{Took}
 use Rattle.wasi_world.specs.declared.call.Entry.{Entry}
+use Rattle.wasi_world.specs.declared.outcome.Refusal.{Refusal}
+use Rattle.wasi_world.specs.declared.outcome.Refusal.TheVariants as refusal
 use Rattle.wasi_world.specs.Fits.{Fits}
 use Rattle.wasi_world.specs.Seen.{Seen, Passes}
 
@@ -59,3 +62,9 @@ pub record Started {A : Type 0} (asks : Asks A) (old now : Seen) : Type 0 where
 pub record AsksFor {A T : Type 0} (asks : Asks A) (old new : Seen) (view : T → A) (result : Result T AllocError) : Type 0 where
   pub ok : IfOk result (λ t. Reaches asks (Give (view t)) old new)
   pub err : OnErr result (Started asks old new)
+
+-- a refusal with a code is an answer; only want of memory isn't
+abbrev pub outcome : {T : Type 0} → Result T Refusal → Result (Result T ErrorCode) AllocError
+outcome (Ok t) = Ok (Ok t)
+outcome (Err (refusal.Code c)) = Ok (Err c)
+outcome (Err (refusal.Memory e)) = Err e

@@ -1,0 +1,6 @@
+pub mod Reply
+pub mod Host
+pub mod Table
+pub mod Store
+pub mod Machine
+pub mod Sides

@@ -1,0 +1,131 @@
+-- The machine: its state, what each step asks, answers and leaves, and the run of a script's steps.
+use Rattle.std.specs.Prelude.{◌≡◌, ℕ, ◌+◌, Bool, true, false, if◌then◌else◌, List, [], ◌∷◌, ◌++◌, length, Option, Some, None, Result, Ok, Err, slice_get}
+use Rattle.wasi_addr.specs.declared.address.IpSocketAddress.{IpSocketAddress}
+use Rattle.wasi_addr.specs.declared.address.SocketAddressFamily.{SocketAddressFamily}
+use Rattle.wasi_addr.specs.declared.code.ErrorCode.{ErrorCode}
+use Rattle.wasi_world.specs.declared.ids.OpId.{OpId}
+use Rattle.wasi_world.specs.declared.outcome.Answer.{Answer}
+use Rattle.wasi_world.specs.declared.outcome.Answer.TheVariants.{Ready, Pending}
+use Rattle.wasi_world.specs.declared.outcome.TrapKind.TheVariants.{NoSuchHandle}
+use Rattle.wasi_world.specs.declared.outcome.WasiSocketsCtx.{WasiSocketsCtx}
+use Rattle.wasi_world.specs.Asks.{Asks, Give, bind}
+use Rattle.wasi_tcp.specs.Shape.{Socket}
+use Rattle.wasi_tcp.specs.Socket.{new_asks, side_of}
+use Rattle.wasi_run.specs.declared.machine.Machine.{Machine}
+use Rattle.wasi_run.specs.declared.reply.Reply.{Reply}
+use Rattle.wasi_run.specs.declared.reply.Reply.TheVariants as reply
+use Rattle.wasi_run.specs.declared.step.Step.{Step}
+use Rattle.wasi_run.specs.declared.step.Step.TheVariants as step
+use Rattle.wasi_run.specs.declared.store.StandingBind.{StandingBind}
+use Rattle.wasi_run.specs.declared.table.Kind.{Kind}
+use Rattle.wasi_run.specs.declared.table.Kind.TheVariants.{Network, Tcp2}
+use Rattle.wasi_run.specs.Reply.{word_of_p2, is_trap, no_fields, number_fields}
+use Rattle.wasi_run.specs.Host.{Stop, Code, Trap, code_stop}
+use Rattle.wasi_run.specs.Table.{Shown, empty_table, kind_at, make_asks}
+use Rattle.wasi_run.specs.Store.{Records, no_records, with_record, start_bind_at, finish_bind_at}
+
+-- no handle, no record, no call that stands
+abbrev pub first_state : Machine
+first_state = record { table = empty_table; store = no_records }
+
+abbrev pub with_table : Machine → Result ℕ Stop × Shown → Result ℕ Stop × Machine
+with_table m made = (made.0, record m { table = made.1 })
+
+abbrev pub with_store : {A : Type 0} → Machine → A × Records → A × Machine
+with_store m done = (done.0, record m { store = done.1 })
+
+-- == the handles of a step, or a trap
+-- the number of a socket's record
+abbrev pub place_of : Option Kind → Option ℕ
+place_of (Some (Tcp2 place)) = Some place
+place_of _ = None
+
+abbrev pub socket_at : Machine → ℕ → Option ℕ
+socket_at m h = place_of (kind_at m.table h)
+
+abbrev pub is_network : Option Kind → Bool
+is_network (Some Network) = true
+is_network _ = false
+
+abbrev pub no_such_handle : {A : Type 0} → Machine → Asks (Result A Stop × Machine)
+no_such_handle m = Give (Err (Trap NoSuchHandle), m)
+
+-- == the calls of a guest
+abbrev pub network_asks : Machine → OpId → Asks (Result ℕ Stop × Machine)
+network_asks m own = bind (make_asks m.table own Network None None) (λ made. Give (with_table m made))
+
+abbrev pub create_handle : Machine → OpId → Socket → Asks (Result ℕ Stop × Machine)
+create_handle m own socket =
+    bind (make_asks m.table own (Tcp2 (length m.store.sockets)) None (side_of socket)) (λ made. Give (with_table (record m { store = with_record m.store socket }) made))
+
+abbrev pub created_asks : Machine → OpId → Result Socket ErrorCode → Asks (Result ℕ Stop × Machine)
+created_asks m own (Err c) = Give (Err (code_stop c), m)
+created_asks m own (Ok socket) = create_handle m own socket
+
+abbrev pub create_asks : Machine → OpId → WasiSocketsCtx → SocketAddressFamily → Asks (Result ℕ Stop × Machine)
+create_asks m own ctx family = bind (new_asks own ctx family) (created_asks m own)
+
+abbrev pub start_bind_on : Machine → OpId → IpSocketAddress → Option ℕ → Asks (Result (Answer (Unit {0})) Stop × Machine)
+start_bind_on m own a None = no_such_handle m
+start_bind_on m own a (Some place) = bind (start_bind_at m.store own place a (slice_get m.store.sockets place)) (λ done. Give (with_store m done))
+
+-- the network's handle is tested first
+abbrev pub start_bind_asks : Machine → OpId → ℕ → ℕ → IpSocketAddress → Asks (Result (Answer (Unit {0})) Stop × Machine)
+start_bind_asks m own socket network a =
+    if is_network (kind_at m.table network) then start_bind_on m own a (socket_at m socket) else no_such_handle m
+
+abbrev pub finish_bind_on : Machine → Option ℕ → Result (Unit {0}) Stop × Machine
+finish_bind_on m None = (Err (Trap NoSuchHandle), m)
+finish_bind_on m (Some place) = with_store m (finish_bind_at m.store place (slice_get m.store.sockets place))
+
+-- == replies
+abbrev pub stop_reply : Stop → Reply
+stop_reply (Code c) = reply.Err (word_of_p2 c)
+stop_reply (Trap kind) = reply.Trap kind
+
+abbrev pub handle_reply : Result ℕ Stop → Reply
+handle_reply (Ok h) = reply.Ok (number_fields h)
+handle_reply (Err stop) = stop_reply stop
+
+abbrev pub done_reply : Result (Unit {0}) Stop → Reply
+done_reply (Ok done) = reply.Ok no_fields
+done_reply (Err stop) = stop_reply stop
+
+-- a call that is pending stands under its line's number
+abbrev pub answer_reply : ℕ → Result (Answer (Unit {0})) Stop → Reply
+answer_reply line (Ok (Ready done)) = reply.Ok no_fields
+answer_reply line (Ok Pending) = reply.Pending line
+answer_reply line (Err stop) = stop_reply stop
+
+-- == steps
+-- the line's own operation
+abbrev pub own_of : ℕ → OpId
+own_of line = record { step = line; part = 0 }
+
+-- a context that isn't there is allowed nothing
+abbrev pub context_in : Option WasiSocketsCtx → WasiSocketsCtx
+context_in (Some ctx) = ctx
+context_in None = record { name = 0; ip_name_lookup = false; udp = false; tcp = false }
+
+abbrev pub context_at : List WasiSocketsCtx → ℕ → WasiSocketsCtx
+context_at contexts n = context_in (slice_get contexts n)
+
+abbrev pub step_asks : List WasiSocketsCtx → Machine → ℕ → Step → Asks (Reply × Machine)
+step_asks contexts m line (step.Network ctx) = bind (network_asks m (own_of line)) (λ done. Give (handle_reply done.0, done.1))
+step_asks contexts m line (step.TcpCreate ctx family) = bind (create_asks m (own_of line) (context_at contexts ctx) family) (λ done. Give (handle_reply done.0, done.1))
+step_asks contexts m line (step.TcpStartBind ctx s n a) = bind (start_bind_asks m (own_of line) s n a) (λ done. Give (answer_reply line done.0, done.1))
+step_asks contexts m line (step.TcpFinishBind ctx s) = let done = finish_bind_on m (socket_at m s) in Give (done_reply done.0, done.1)
+
+-- while a call stands every guest call is busy
+abbrev pub machine_asks : List WasiSocketsCtx → Machine → ℕ → Step → Option StandingBind → Asks (Reply × Machine)
+machine_asks contexts m line s None = step_asks contexts m line s
+machine_asks contexts m line s (Some standing) = Give (reply.Busy, m)
+
+-- the lines from this one on, up to a trap; the replies so far come first
+abbrev pub run : List WasiSocketsCtx → List Reply → Machine → ℕ → List Step → Asks (List Reply × Machine)
+run contexts replies m line [] = Give (replies, m)
+run contexts replies m line (s ∷ steps) =
+    bind (machine_asks contexts m line s m.store.standing) (λ done.
+    if is_trap done.0
+    then Give (replies ++ done.0 ∷ [], done.1)
+    else run contexts (replies ++ done.0 ∷ []) done.1 (line + 1) steps)

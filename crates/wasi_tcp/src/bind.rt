@@ -1,0 +1,119 @@
+//! A bind that is polled.
+
+ghost use Rattle.std.specs.Prelude.{◌≡◌, false};
+ghost use Rattle.wasi_world.specs.Operation.{PollsFor, Nothing};
+ghost use Rattle.wasi_tcp.specs.Bind.{bind_operation, IsOf};
+
+use crate::socket::TcpSocket;
+use std::marker::Model;
+use wasi_addr::{ErrorCode, IpSocketAddress, SocketAddrUse};
+use wasi_world::asks::Verdict;
+use wasi_world::{Answer, OpId, Refusal, Sock, World, asks};
+
+/// Who asks: an operation's name, the side that it works on, and the side's maker.
+#[derive(Clone, Copy, Debug, PartialEq, Eq)]
+pub struct Asker {
+    pub op: OpId,
+    pub side: Sock,
+    pub maker: u32,
+}
+
+/// The ask that comes next.
+#[derive(Clone, Copy, Debug, PartialEq, Eq)]
+pub enum BindStage {
+    Check,
+    Bind,
+    Over,
+}
+
+/// A bind that has begun: a check of the address, and then the bind.
+#[derive(Drop)]
+pub struct BindOp {
+    asker: Asker,
+    addr: IpSocketAddress,
+    stage: BindStage,
+}
+
+impl Model for BindOp {
+    ghost use Rattle.wasi_world.specs.Operation.{Operation};
+    ghost use Rattle.wasi_tcp.specs.Bind.{bind_operation};
+
+    ghost Value = { Operation };
+
+    ghost view = { λ o. bind_operation o.asker o.addr o.stage };
+}
+
+impl BindOp {
+    pub(crate) fn new(op: OpId, side: Sock, maker: u32, addr: IpSocketAddress) -> BindOp
+        ensures { result ≡ bind_operation (record { op = op; side = side; maker = maker }) addr BindStage.Check }
+    {
+        BindOp {
+            asker: Asker { op, side, maker },
+            addr,
+            stage: BindStage::Check,
+        }
+    }
+
+    /// Asks what comes next: a no is `AccessDenied`, and a code is answered. After want of memory it may be polled again.
+    /// The socket that began it stays in the state Default.
+    pub fn poll<W: World>(
+        &mut self,
+        world: &mut W,
+        _socket: &mut TcpSocket,
+    ) -> Result<Answer<()>, Refusal>
+        requires open { (W.seen world.old).ended ≡ false }
+        requires its_socket { IsOf self.old _socket.old }
+        ensures polled { PollsFor (λ done. Nothing) Nothing self.old self.new (W.seen world.old) (W.seen world.new) result }
+        ensures same { _socket.new ≡ _socket.old }
+        ensures open { (W.seen world.new).ended ≡ false }
+    {
+        match self.stage {
+            BindStage::Check => poll_check(world, self.asker, self.addr, &mut self.stage),
+            BindStage::Bind => poll_bind(world, self.asker, self.addr, &mut self.stage),
+            BindStage::Over => Ok(Answer::Ready(())),
+        }
+    }
+}
+
+fn poll_check<W: World>(
+    world: &mut W,
+    asker: Asker,
+    addr: IpSocketAddress,
+    stage: &mut BindStage,
+) -> Result<Answer<()>, Refusal>
+    requires open { (W.seen world.old).ended ≡ false }
+    requires stage { stage.old ≡ BindStage.Check }
+    ensures polled { PollsFor (λ done. Nothing) Nothing (bind_operation asker addr stage.old) (bind_operation asker addr stage.new) (W.seen world.old) (W.seen world.new) result }
+    ensures open { (W.seen world.new).ended ≡ false }
+{
+    let verdict = asks::check(world, asker.op, asker.maker, addr, SocketAddrUse::TcpBind)?;
+    match verdict {
+        Verdict::Pending => return Ok(Answer::Pending),
+        Verdict::No => {
+            *stage = BindStage::Over;
+            return Err(Refusal::Code(ErrorCode::AccessDenied));
+        }
+        Verdict::Yes => {}
+    }
+    *stage = BindStage::Bind;
+    poll_bind(world, asker, addr, stage)
+}
+
+fn poll_bind<W: World>(
+    world: &mut W,
+    asker: Asker,
+    addr: IpSocketAddress,
+    stage: &mut BindStage,
+) -> Result<Answer<()>, Refusal>
+    requires open { (W.seen world.old).ended ≡ false }
+    requires stage { stage.old ≡ BindStage.Bind }
+    ensures polled { PollsFor (λ done. Nothing) Nothing (bind_operation asker addr stage.old) (bind_operation asker addr stage.new) (W.seen world.old) (W.seen world.new) result }
+    ensures open { (W.seen world.new).ended ≡ false }
+{
+    let told = asks::bind(world, asker.op, asker.side, addr)?;
+    *stage = BindStage::Over;
+    match told {
+        Ok(()) => Ok(Answer::Ready(())),
+        Err(code) => Err(Refusal::Code(code)),
+    }
+}
