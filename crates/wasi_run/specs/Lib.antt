@@ -4,3 +4,4 @@ pub mod Table
 pub mod Store
 pub mod Machine
 pub mod Sides
+pub mod Steps

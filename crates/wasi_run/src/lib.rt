@@ -3,6 +3,7 @@
 
 pub mod host;
 pub mod machine;
+pub mod parse;
 pub mod reply;
 pub mod socket;
 pub mod step;

@@ -9,4 +9,5 @@ pub mod BytesBack
 pub mod BytesText
 pub mod ReadBack
 pub mod Visible
+pub mod Words
 pub mod Polls
