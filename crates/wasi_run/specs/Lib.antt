@@ -5,3 +5,4 @@ pub mod Store
 pub mod Machine
 pub mod Sides
 pub mod Steps
+pub mod Replies

@@ -3,7 +3,6 @@ use Rattle.std.proofs.Common.{◌≡◌, ℕ, ◌≤◌, Bool, true, false, cond
 use Rattle.std.specs.Str.{is_utf8}
 use Rattle.std.proofs.lemmas.Str.{IsUtf8-from_is_utf8, is_utf8-from_IsUtf8}
 use Rattle.std.proofs.lemmas.Slice.Eq.{bytes_eq-Decides}
-use Rattle.hex.specs.Hex.{IsBytes}
 use Rattle.wasi_world.specs.declared.fields.TheConstants.{CODES}
 use Rattle.wasi_world.proofs.BytesBack.{bytes_in_is, bytes_in_text}
 use Rattle.std.proofs.lemmas.Bool.{cases_eq}
@@ -17,7 +16,7 @@ use Rattle.wasi_addr.specs.declared.address.IpAddress.TheVariants as ip
 use Rattle.wasi_addr.specs.declared.address.IpSocketAddress.{IpSocketAddress}
 use Rattle.wasi_addr.specs.declared.address.IpSocketAddress.TheVariants as socket
 use Rattle.wasi_world.specs.Fields.{read_then, give_some, word_at, number_at, family_of, family_at, ipv4_at, ipv6_at, ip_of_family, ip_at, address_of_family, address_at, named, code_text, code_in, code_at, bytes_at}
-use Rattle.wasi_world.specs.Written.{ReadsExactly, number_fields, family_number, family_fields, code_fields, bytes_fields, ipv4_numbers, ipv6_numbers, ip_fields, address_fields, FitsIpv4, FitsIpv6, FitsIp, FitsAddress}
+use Rattle.wasi_world.specs.Written.{ReadsExactly, AreBytes, number_fields, family_number, family_fields, code_fields, bytes_fields, ipv4_numbers, ipv6_numbers, ip_fields, address_fields, FitsIpv4, FitsIpv6, FitsIp, FitsAddress}
 use Rattle.wasi_world.proofs.Exactly.{All, Only, exactly, all_give, only_give, all_some, only_some, all_then, only_then, field_exactly, number_exactly}
 
 byte_exactly : ReadsExactly (number_at 255) number_fields (λ n. n ≤ 255)
@@ -147,7 +146,7 @@ code_exactly = exactly
     (only_then _ field_exactly (λ field u. only_some _ (λ code h. (tt, ap (λ f. f ∷ []) (sym (code_in_is field code h))))))
     (λ code fits. all_then _ field_exactly tt (all_some _ (code_in_text code)))
 
-pub bytes_exactly : ReadsExactly bytes_at bytes_fields IsBytes
+pub bytes_exactly : ReadsExactly bytes_at bytes_fields AreBytes
 unfolding bytes_at
 bytes_exactly = exactly
     (only_then _ field_exactly (λ field u. only_some _ (λ bytes h. let is = bytes_in_is field bytes h in (is.0, ap (λ f. f ∷ []) is.1))))

@@ -14,10 +14,10 @@ use Rattle.wasi_addr.specs.declared.address.SocketAddressFamily.{SocketAddressFa
 use Rattle.wasi_addr.specs.declared.address.SocketAddressFamily.TheVariants as family
 use Rattle.wasi_addr.specs.declared.address.IpSocketAddress.{IpSocketAddress}
 use Rattle.wasi_addr.specs.declared.address.IpSocketAddress.TheVariants as socket
-use Rattle.hex.specs.Hex.{IsBytes, encode_lower}
+use Rattle.hex.specs.Hex.{encode_lower}
 use Rattle.wasi_world.specs.Fields.{is_space, fields_of, line_with, is_lower_digit}
 use Rattle.wasi_world.proofs.BytesBack.{lower_encoded}
-use Rattle.wasi_world.specs.Written.{is_visible, AreVisible, IsVisible, address_numbers, family_fields, address_fields, code_fields, bytes_fields, FitsAddress}
+use Rattle.wasi_world.specs.Written.{AreBytes, is_visible, AreVisible, IsVisible, address_numbers, family_fields, address_fields, code_fields, bytes_fields, FitsAddress}
 
 no_space : (b : ℕ) → is_visible b ≡ true → is_space b ≡ false
 no_space b h = grind (arith, nat_tests)
@@ -123,6 +123,6 @@ hex_visible (b ∷ field) h =
     let both = and_parts (is_lower_digit b) _ h in
     rw (lower_visible b both.0) (hex_visible field both.1)
 
-pub bytes_visible : (bytes : List ℕ) → IsBytes bytes → AreVisible (bytes_fields bytes)
+pub bytes_visible : (bytes : List ℕ) → AreBytes bytes → AreVisible (bytes_fields bytes)
 bytes_visible [] are = (refl, tt)
 bytes_visible (byte ∷ bytes) are = (hex_visible (encode_lower (byte ∷ bytes)) (lower_encoded (byte ∷ bytes) are), tt)
