@@ -2,7 +2,9 @@
 
 ghost use Rattle.std.specs.Prelude.{◌≡◌, IfOk, OnOk, [], ◌∷◌, ◌++◌, map, codes, string_bytes};
 ghost use Rattle.wasi_world.specs.Fields.{line_with};
-ghost use Rattle.wasi_run.specs.Replies.{code_text, trap_text, field_text, fields_of_reply, text_of};
+ghost use Rattle.wasi_run.specs.declared.reply.Reply.{Reply};
+ghost use Rattle.wasi_run.specs.declared.step.Step.{Step};
+ghost use Rattle.wasi_run.specs.Replies.{Gives, code_text, trap_text, field_text, fields_of_reply, text_of};
 ghost use Rattle.wasi_run.specs.Reply.{word_of_p2, is_trap, no_fields, number_fields};
 
 use std::alloc::{AllocError, Global};
@@ -268,3 +270,8 @@ pub fn reply_text(alloc: Global, reply: &Reply) -> Result<Octets, AllocError>
     text.push_str("\n")?;
     Ok(Octets::from_vec(text.into_bytes()))
 }
+
+/// For one step two different replies have different texts.
+pub fn replies_are_told_apart()
+    ensures { (s : Step) (r q : Reply) → Gives s r → Gives s q → text_of r ≡ text_of q → r ≡ q }
+{}
