@@ -17,3 +17,4 @@ pub mod Made
 pub mod ScriptChecks
 pub mod Words
 pub mod Polls
+pub mod Pieces
