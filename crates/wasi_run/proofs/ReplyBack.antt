@@ -21,9 +21,9 @@ use Rattle.wasi_run.specs.Replies.{code_text, trap_text, field_text, fields_of_r
 code_words : List CodeWord
 code_words =
     word.Unknown ∷ word.AccessDenied ∷ word.NotSupported ∷ word.InvalidArgument ∷ word.OutOfMemory ∷ word.Timeout ∷ word.ConcurrencyConflict
-  ∷ word.NotInProgress ∷ word.WouldBlock ∷ word.InvalidState ∷ word.NewSocketLimit ∷ word.AddressNotBindable ∷ word.AddressInUse
-  ∷ word.RemoteUnreachable ∷ word.ConnectionRefused ∷ word.ConnectionBroken ∷ word.ConnectionReset ∷ word.ConnectionAborted
-  ∷ word.DatagramTooLarge ∷ word.NameUnresolvable ∷ word.TemporaryResolverFailure ∷ word.PermanentResolverFailure ∷ word.Other ∷ []
+    ∷ word.NotInProgress ∷ word.WouldBlock ∷ word.InvalidState ∷ word.NewSocketLimit ∷ word.AddressNotBindable ∷ word.AddressInUse
+    ∷ word.RemoteUnreachable ∷ word.ConnectionRefused ∷ word.ConnectionBroken ∷ word.ConnectionReset ∷ word.ConnectionAborted
+    ∷ word.DatagramTooLarge ∷ word.NameUnresolvable ∷ word.TemporaryResolverFailure ∷ word.PermanentResolverFailure ∷ word.Other ∷ []
 
 code_at : Reader CodeWord
 code_at = field_at >>= λ f. give_some (named code_text code_words f)
@@ -57,7 +57,7 @@ code_back word.Other = refl
 traps : List TrapKind
 traps =
     trap.NoSuchHandle ∷ trap.HasChildren ∷ trap.Full ∷ trap.EmptyList ∷ trap.NotPermitted ∷ trap.Capacity ∷ trap.TooLong ∷ trap.StreamsAlive
-  ∷ trap.Budget ∷ trap.FlushPending ∷ []
+    ∷ trap.Budget ∷ trap.FlushPending ∷ []
 
 trap_at : Reader TrapKind
 trap_at = field_at >>= λ f. give_some (named trap_text traps f)
@@ -88,17 +88,17 @@ of_kinds (kind ∷ kinds) = of_kind kind >>= λ f. of_kinds kinds >>= λ fields.
 rows : List FieldKind → List (Row Reply)
 rows kinds =
     row (codes "ok") (of_kinds kinds >>= λ fields. give (reply.Ok fields))
-  ∷ row (codes "err") (code_at >>= λ code. give (reply.Err code))
-  ∷ row (codes "closed") (give reply.Closed)
-  ∷ row (codes "failed") (code_at >>= λ code. number_at 4294967295 >>= λ handle. give (reply.Failed code handle))
-  ∷ row (codes "trap") (trap_at >>= λ kind. give (reply.Trap kind))
-  ∷ row (codes "pending") (number_at 4294967295 >>= λ n. give (reply.Pending n))
-  ∷ row (codes "busy") (give reply.Busy)
-  ∷ row (codes "no-such-call") (give reply.NoSuchCall)
-  ∷ row (codes "cancelled") (give reply.Cancelled)
-  ∷ row (codes "dropped") (give reply.Dropped)
-  ∷ row (codes "unfilled") (give reply.Unfilled)
-  ∷ []
+    ∷ row (codes "err") (code_at >>= λ code. give (reply.Err code))
+    ∷ row (codes "closed") (give reply.Closed)
+    ∷ row (codes "failed") (code_at >>= λ code. number_at 4294967295 >>= λ handle. give (reply.Failed code handle))
+    ∷ row (codes "trap") (trap_at >>= λ kind. give (reply.Trap kind))
+    ∷ row (codes "pending") (number_at 4294967295 >>= λ n. give (reply.Pending n))
+    ∷ row (codes "busy") (give reply.Busy)
+    ∷ row (codes "no-such-call") (give reply.NoSuchCall)
+    ∷ row (codes "cancelled") (give reply.Cancelled)
+    ∷ row (codes "dropped") (give reply.Dropped)
+    ∷ row (codes "unfilled") (give reply.Unfilled)
+    ∷ []
 
 -- what reads a reply whose fields are of these kinds
 reply_at : List FieldKind → Reader Reply

@@ -21,8 +21,8 @@ context_exactly : (contexts : ℕ) → ReadsExactly (context_at contexts) number
 unfolding context_at
 context_exactly contexts = exactly
     (only_then _ u32_exactly (λ c fits. only_some _ (λ d h.
-      let is = below (nat_lt c contexts) c d h in
-      rw (← is.1) ((ltb-true _ _ is.0, fits), refl))))
+    let is = below (nat_lt c contexts) c d h in
+    rw (← is.1) ((ltb-true _ _ is.0, fits), refl))))
     (λ c fits. all_last _ u32_exactly fits.1 (all_some _ (rw (lt-ltb c contexts fits.0))))
 
 -- a row reads the steps of a context that are written with its word
@@ -31,12 +31,19 @@ ReadsStep contexts c word taken s = IsStep contexts s × (decimal c ∷ word ∷
 
 rows_only : (contexts c : ℕ) → c < contexts → c ≤ 4294967295 → AllByRecursion (λ r. Only r.reads (ReadsStep contexts c r.word)) (steps c)
 rows_only contexts c context width = (
-    only_give _ (record { context = context; width = width; arguments = tt }, refl),
-    (only_last _ family_exactly (λ family u. (record { context = context; width = width; arguments = tt }, refl)),
-    (only_then _ u32_exactly (λ socket fs. only_then _ u32_exactly (λ network fn. only_last _ address_exactly (λ a fa.
-      (record { context = context; width = width; arguments = (fs, fn, fa) }, refl)))),
-    (only_last _ u32_exactly (λ socket fits. (record { context = context; width = width; arguments = fits }, refl)),
-    tt))))
+  only_give _ (record { context = context; width = width; arguments = tt }, refl),
+  (
+    only_last _ family_exactly (λ family u. (record { context = context; width = width; arguments = tt }, refl)),
+    (
+      only_then _ u32_exactly (λ socket fs. only_then _ u32_exactly (λ network fn. only_last _ address_exactly (λ a fa.
+          (record { context = context; width = width; arguments = (fs, fn, fa) }, refl)))),
+      (
+        only_last _ u32_exactly (λ socket fits. (record { context = context; width = width; arguments = fits }, refl)),
+        tt,
+      ),
+    ),
+  ),
+)
 
 -- what follows a context and a word is read after them
 with_word : (contexts c : ℕ) → (c < contexts) × (c ≤ 4294967295) → (word : List ℕ) → IsTrue (list_all is_visible word) → {s : Step} {taken : List (List ℕ)} → All (after_word (steps c) word) s taken → All (read_then (context_at contexts) (λ c. read_then word_at (λ word. after_word (steps c) word))) s (decimal c ∷ word ∷ taken)
@@ -54,7 +61,7 @@ pub step_exactly : (contexts : ℕ) → ReadsExactly (step_at contexts) fields_o
 unfolding step_at
 step_exactly contexts = exactly
     (only_then _ (context_exactly contexts) (λ c fits. only_then _ word_exactly (λ word utf8.
-      only_word (ReadsStep contexts c) (steps c) word (rows_only contexts c fits.0 fits.1))))
+    only_word (ReadsStep contexts c) (steps c) word (rows_only contexts c fits.0 fits.1))))
     (step_all contexts)
 
 -- a line has a step's fields exactly where it is that step's line

@@ -43,10 +43,10 @@ handle_at = number_at 4294967295
 abbrev pub steps : ℕ → List (Row Step)
 steps c =
     row (codes "network") (give (Network c))
-  ∷ row (codes "tcp-create") (family_at >>= λ family. give (TcpCreate c family))
-  ∷ row (codes "tcp-start-bind") (handle_at >>= λ socket. handle_at >>= λ network. address_at >>= λ a. give (TcpStartBind c socket network a))
-  ∷ row (codes "tcp-finish-bind") (handle_at >>= λ socket. give (TcpFinishBind c socket))
-  ∷ []
+    ∷ row (codes "tcp-create") (family_at >>= λ family. give (TcpCreate c family))
+    ∷ row (codes "tcp-start-bind") (handle_at >>= λ socket. handle_at >>= λ network. address_at >>= λ a. give (TcpStartBind c socket network a))
+    ∷ row (codes "tcp-finish-bind") (handle_at >>= λ socket. give (TcpFinishBind c socket))
+    ∷ []
 
 -- the number of one of so many contexts
 unfoldable pub context_at : ℕ → Reader ℕ

@@ -1,5 +1,8 @@
 //! Reads a line of a script.
 
+#[cfg(test)]
+mod tests;
+
 ghost use Rattle.std.specs.Prelude.{◌≡◌, ◌↔◌, ℕ, List, Some, IfOk};
 ghost use Rattle.wasi_world.specs.Fields.{Reads, after_word};
 ghost use Rattle.wasi_world.specs.Written.{IsVisible};
@@ -61,11 +64,7 @@ pub fn parse_step(line: &[u8], contexts: u32) -> Result<Option<Step>, AllocError
 {
     let mut fields = Fields::of(line);
     let step = step(&mut fields, contexts);
-    if fields.is_done() {
-        Ok(step)
-    } else {
-        Ok(None)
-    }
+    Ok(if fields.is_done() { step } else { None })
 }
 
 /// A line is a step exactly where it is that step's line, and its context is one of so many. Nothing but visible ASCII

@@ -1,5 +1,8 @@
 //! The replies to steps.
 
+#[cfg(test)]
+mod tests;
+
 ghost use Rattle.std.specs.Prelude.{◌≡◌, IfOk, OnOk, [], ◌∷◌, ◌++◌, map, codes, string_bytes};
 ghost use Rattle.wasi_world.specs.Fields.{line_with};
 ghost use Rattle.wasi_run.specs.declared.reply.Reply.{Reply};
