@@ -1,8 +1,5 @@
 //! Reads a line of a script.
 
-#[cfg(test)]
-mod tests;
-
 ghost use Rattle.std.specs.Prelude.{◌≡◌, ◌↔◌, ℕ, List, Some, IfOk};
 ghost use Rattle.wasi_world.specs.Fields.{Reads, after_word};
 ghost use Rattle.wasi_world.specs.Written.{IsVisible};

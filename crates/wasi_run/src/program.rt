@@ -1,8 +1,5 @@
 //! What the program does with its words.
 
-#[cfg(test)]
-mod tests;
-
 ghost use Rattle.std.specs.Prelude.{◌≡◌, ◌↔◌, ◌+◌, ◌≤◌, ◌<◌, ◌^◌, ℕ, None, Some, IfOk, IfErr, map, string_bytes, length, [], false, List};
 ghost use Rattle.wasi_world.specs.Io.{Gave};
 ghost use Rattle.wasi_world.specs.Scripted.{seen_by};

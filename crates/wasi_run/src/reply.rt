@@ -1,8 +1,5 @@
 //! The replies to steps.
 
-#[cfg(test)]
-mod tests;
-
 ghost use Rattle.std.specs.Prelude.{◌≡◌, IfOk, OnOk, [], ◌∷◌, ◌++◌, map, codes, string_bytes};
 ghost use Rattle.wasi_world.specs.Fields.{line_with};
 ghost use Rattle.wasi_run.specs.declared.reply.Reply.{Reply};

@@ -1,5 +1,9 @@
-use super::*;
+//! The text of each kind of reply.
+
 use std::test::Fail;
+use wasi_run::reply::reply_text;
+use wasi_run::{CodeWord, Field, Reply, ReplyFields};
+use wasi_world::{Octets, TrapKind};
 
 #[test]
 fn each_reply_has_its_text(rt: HostRuntime) -> Result<(), Fail> {

@@ -1,6 +1,9 @@
-use super::*;
+//! Lines that are steps, and lines that are none.
+
 use std::test::Fail;
 use wasi_addr::{IpSocketAddress, Ipv4SocketAddress, Ipv6SocketAddress, SocketAddressFamily};
+use wasi_run::Step;
+use wasi_run::parse::parse_step;
 
 #[test]
 fn each_step_has_its_line(rt: HostRuntime) -> Result<(), Fail> {

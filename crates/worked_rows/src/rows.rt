@@ -1,8 +1,9 @@
 //! The program from its words to its log. The rows are worked by hand from the rules in docs/MODEL.md.
 
-use super::*;
+use std::alloc::Global;
 use std::test::Fail;
 use wasi_addr::{Ipv4SocketAddress, IpSocketAddress, SocketAddrUse, SocketAddressFamily};
+use wasi_run::{Done, run_main};
 use wasi_world::{Call, HandleKind, MemorySink, MemorySource, OpId, Told};
 
 const BIND: &[u8] =

@@ -1,5 +1,4 @@
 //! A world that tells no log. It shows that the trait is met without one, and that a script runs over it.
-#![tactic(auto)]
 
 #[cfg(test)]
 mod tests;
@@ -9,7 +8,7 @@ ghost use Rattle.wasi_world.specs.declared.call.Call.{Call};
 ghost use Rattle.wasi_world.specs.declared.ids.OpId.{OpId};
 ghost use Rattle.wasi_world.specs.Fits.{Fits, IsPlain};
 ghost use Rattle.wasi_world.specs.Seen.{Counts, Passes};
-ghost use Rattle.quiet_world.specs.Quiet.{quiet};
+ghost use Rattle.worked_rows.specs.Quiet.{quiet};
 
 use std::alloc::AllocError;
 use wasi_addr::{ErrorCode, IpSocketAddress};
@@ -83,7 +82,7 @@ impl QuietWorld {
 
 impl World for QuietWorld {
     ghost use Rattle.wasi_world.specs.Script.{without_plan};
-    ghost use Rattle.quiet_world.specs.Quiet.{quiet};
+    ghost use Rattle.worked_rows.specs.Quiet.{quiet};
 
     ghost seen = { quiet };
 
