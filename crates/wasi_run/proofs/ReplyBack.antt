@@ -1,5 +1,5 @@
 -- Each reply that a step may give is read back from its text, so no two of them have one text.
-use Rattle.std.proofs.Common.{◌≡◌, ℕ, ◌<◌, ◌≤◌, ◌^◌, List, [], ◌∷◌, ◌++◌, map, codes, decimal, Option, Some, None, IsTrue, append-nil, ap, sym, ◌∙◌, refl, arith}
+use Rattle.std.proofs.Common.{◌≡◌, ℕ, List, [], ◌∷◌, map, codes, Option, Some, None, IsTrue, append-nil, ap, sym, ◌∙◌, refl, arith}
 use Rattle.std.specs.List.{list_all}
 use Rattle.std.proofs.lemmas.List.{append_cancel_right}
 use Rattle.wasi_world.specs.declared.outcome.TrapKind.{TrapKind}

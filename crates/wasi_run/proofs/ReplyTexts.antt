@@ -1,5 +1,5 @@
 -- The texts of replies, a field at a time, and that a step's replies are told apart by them.
-use Rattle.std.proofs.Common.{◌≡◌, ℕ, ◌+◌, ◌<◌, List, [], ◌∷◌, ◌++◌, map, take, get_or, length, codes, append_assoc, ap, sym, ◌∙◌, refl}
+use Rattle.std.proofs.Common.{◌≡◌, ℕ, ◌+◌, ◌<◌, List, ◌∷◌, ◌++◌, map, take, get_or, length, codes, append_assoc}
 use Rattle.std.proofs.lemmas.List.{map_more}
 use Rattle.wasi_world.specs.Fields.{line_with}
 use Rattle.wasi_world.proofs.FieldsOf.{line_with-push}

@@ -1,6 +1,6 @@
 -- Each step is read from exactly its line.
-use Rattle.std.proofs.Common.{◌≡◌, ℕ, ◌<◌, ◌≤◌, List, [], ◌∷◌, ◌++◌, codes, decimal, Option, Some, None, refl, arith, Bool, true, false, cond, nat_lt, IsTrue, append-nil, ap, ◌∙◌}
-use Rattle.wasi_world.specs.Fields.{Row, read_then, after_word, whole, fields_of, field_at, number_at, word_at}
+use Rattle.std.proofs.Common.{◌≡◌, ℕ, ◌<◌, ◌≤◌, List, [], ◌∷◌, decimal, Option, Some, None, refl, arith, Bool, true, false, cond, nat_lt, IsTrue, append-nil, ap, ◌∙◌}
+use Rattle.wasi_world.specs.Fields.{read_then, after_word, whole, fields_of, field_at, number_at, word_at}
 use Rattle.std.specs.List.{AllByRecursion, list_all}
 use Rattle.std.proofs.lemmas.Bool.{ltb-true, lt-ltb}
 use Rattle.wasi_world.specs.Written.{ReadsExactly, AreVisible, IsVisible, is_visible, number_fields}
@@ -10,7 +10,7 @@ use Rattle.wasi_world.proofs.Exactly.{All, Only, exactly, all_give, only_give, a
 use Rattle.wasi_world.proofs.Words.{only_word}
 use Rattle.wasi_run.specs.declared.step.Step.{Step}
 use Rattle.wasi_run.specs.declared.step.Step.TheVariants.{Network, TcpCreate, TcpStartBind, TcpFinishBind}
-use Rattle.wasi_run.specs.Steps.{fields_of_step, line_of, context_of, FitsArguments, IsStep, steps, context_at, step_at, step_of}
+use Rattle.wasi_run.specs.Steps.{fields_of_step, line_of, IsStep, steps, context_at, step_at, step_of}
 
 below : (below : Bool) (c d : ℕ) → cond below (Some c) None ≡ Some d → (below ≡ true) × (c ≡ d)
 below true c d h = (refl, cc)

@@ -1,5 +1,5 @@
 -- How steps are written, and which step a line is.
-use Rattle.std.specs.Prelude.{◌≡◌, ℕ, ◌<◌, ◌≤◌, nat_lt, if◌then◌else◌, List, [], ◌∷◌, codes, decimal, Option, Some, None}
+use Rattle.std.specs.Prelude.{ℕ, ◌<◌, ◌≤◌, nat_lt, if◌then◌else◌, List, [], ◌∷◌, codes, decimal, Option, Some, None}
 use Rattle.wasi_world.specs.Fields.{Reader, Row, row, after_word, ◌>>=◌, give, give_some, whole, fields_of, line_with, number_at, word_at, family_at, address_at}
 use Rattle.wasi_world.specs.Written.{family_fields, address_fields, FitsAddress}
 use Rattle.wasi_run.specs.declared.step.Step.{Step}

@@ -1,9 +1,9 @@
 -- Laws of tables of words.
-use Rattle.std.proofs.Common.{◌≡◌, ℕ, Bool, true, false, cond, List, [], ◌∷◌, ◌++◌, bytes_eq, Option, Some, None, sym, refl, ap, ◌∙◌, subst}
+use Rattle.std.proofs.Common.{◌≡◌, ℕ, Bool, true, false, cond, List, [], ◌∷◌, bytes_eq, None, sym, refl}
 use Rattle.std.specs.List.{AllByRecursion}
 use Rattle.std.proofs.lemmas.Bool.{false_from_ne_true}
 use Rattle.std.proofs.lemmas.Slice.Eq.{bytes_eq-Decides}
-use Rattle.wasi_world.specs.Fields.{Reader, Row, after_word, give_some}
+use Rattle.wasi_world.specs.Fields.{Row, after_word, give_some}
 use Rattle.wasi_world.proofs.Exactly.{Only, only_some}
 
 other_word : (text word : List ℕ) → (word ≡ text → ⊥) → bytes_eq text word ≡ false

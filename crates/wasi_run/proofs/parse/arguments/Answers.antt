@@ -1,4 +1,3 @@
-use Rattle.std.proofs.Common.{rules}
 use Rattle.wasi_run.specs.Steps.{steps}
 use Rattle.wasi_world.proofs.Words.{no_word}
 use Rattle.wasi_run.proofs.parse.arguments.Goals as goal
