@@ -2,7 +2,7 @@
 
 use std::alloc::Global;
 use std::test::Fail;
-use wasi_addr::{Ipv4SocketAddress, IpSocketAddress, SocketAddrUse, SocketAddressFamily};
+use wasi_addr::{IpSocketAddress, Ipv4SocketAddress, SocketAddrUse, SocketAddressFamily};
 use wasi_run::{Done, run_main};
 use wasi_world::{Call, HandleKind, MemorySink, MemorySource, OpId, Told};
 
@@ -71,31 +71,88 @@ fn a_bind_is_logged_in_order(rt: HostRuntime) -> Result<(), Fail> {
     let [network, create, socket, local, check, bind] = done.log.as_slice() else {
         panic!(rt; "six entries");
     };
-    assert_eq!(rt; [network.op, create.op, socket.op, local.op, check.op, bind.op], [op(1), op(2), op(2), op(3), op(3), op(3)]);
-    assert!(rt; matches!(
-        (&network.call, &network.answer),
-        (Call::Made { handle: 1, kind: HandleKind::Network, parent: None, sock: None }, Told::Done)
-    ));
-    assert!(rt; matches!(
-        (&create.call, &create.answer),
-        (Call::TcpCreate { ctx: 0, family: SocketAddressFamily::Ipv4 }, Told::Done)
-    ));
-    assert!(rt; matches!(
-        (&socket.call, &socket.answer),
-        (Call::Made { handle: 2, kind: HandleKind::Tcp2, parent: None, sock: Some(OpId { step: 2, part: 0 }) }, Told::Done)
-    ));
-    assert!(rt; matches!(
-        (&local.call, &local.answer),
-        (Call::Local { sock: OpId { step: 2, part: 0 } }, Told::Addr(_))
-    ));
-    assert!(rt; matches!(
-        (&check.call, &check.answer),
-        (Call::Check { ctx: 0, addr: LOCAL, usage: SocketAddrUse::TcpBind }, Told::Yes)
-    ));
-    assert!(rt; matches!(
-        (&bind.call, &bind.answer),
-        (Call::Bind { sock: OpId { step: 2, part: 0 }, addr: LOCAL }, Told::Done)
-    ));
+    assert_eq!(rt;
+        [
+            network.op, create.op, socket.op, local.op, check.op, bind.op
+        ],
+        [op(1), op(2), op(2), op(3), op(3), op(3)]
+    );
+    assert!(rt;
+        matches!(
+            (&network.call, &network.answer),
+            (
+                Call::Made {
+                    handle: 1,
+                    kind: HandleKind::Network,
+                    parent: None,
+                    sock: None
+                },
+                Told::Done
+            )
+        )
+    );
+    assert!(rt;
+        matches!(
+            (&create.call, &create.answer),
+            (
+                Call::TcpCreate {
+                    ctx: 0,
+                    family: SocketAddressFamily::Ipv4
+                },
+                Told::Done
+            )
+        )
+    );
+    assert!(rt;
+        matches!(
+            (&socket.call, &socket.answer),
+            (
+                Call::Made {
+                    handle: 2,
+                    kind: HandleKind::Tcp2,
+                    parent: None,
+                    sock: Some(OpId { step: 2, part: 0 })
+                },
+                Told::Done
+            )
+        )
+    );
+    assert!(rt;
+        matches!(
+            (&local.call, &local.answer),
+            (
+                Call::Local {
+                    sock: OpId { step: 2, part: 0 }
+                },
+                Told::Addr(_)
+            )
+        )
+    );
+    assert!(rt;
+        matches!(
+            (&check.call, &check.answer),
+            (
+                Call::Check {
+                    ctx: 0,
+                    addr: LOCAL,
+                    usage: SocketAddrUse::TcpBind
+                },
+                Told::Yes
+            )
+        )
+    );
+    assert!(rt;
+        matches!(
+            (&bind.call, &bind.answer),
+            (
+                Call::Bind {
+                    sock: OpId { step: 2, part: 0 },
+                    addr: LOCAL
+                },
+                Told::Done
+            )
+        )
+    );
     Ok(())
 }
 
@@ -112,7 +169,14 @@ fn rows_with_their_status_line_and_replies(rt: HostRuntime) -> Result<(), Fail> 
         (&["run", "1000"], b"", &[255, 10], 3, 1, ""),
         (&["run", "1000"], b"", b"1 network\n", 3, 1, ""),
         (&["run", "1000"], b"", b"0 network\n\n", 3, 2, "ok 1\n"),
-        (&["run", "1000"], b"", b"0 tcp-start-bind 2 1 4 127 0 0 1 80\n0 network\n", 0, 0, "trap no-such-handle\n"),
+        (
+            &["run", "1000"],
+            b"",
+            b"0 tcp-start-bind 2 1 4 127 0 0 1 80\n0 network\n",
+            0,
+            0,
+            "trap no-such-handle\n",
+        ),
         (&["run"], b"", BIND, 1, 0, ""),
         (&["run", "4294967296"], b"", BIND, 1, 0, ""),
         (&["run", "01"], b"", BIND, 1, 0, ""),
@@ -150,7 +214,13 @@ fn a_failed_read_is_status_5(rt: HostRuntime) -> Result<(), Fail> {
 // Each reply is written at once, and then the sink is flushed.
 #[test]
 fn a_failed_write_is_status_6(rt: HostRuntime) -> Result<(), Fail> {
-    let taken = ["", "ok 1\n", "ok 1\nok 2\n", "ok 1\nok 2\nok\n", "ok 1\nok 2\nok\nok\n"];
+    let taken = [
+        "",
+        "ok 1\n",
+        "ok 1\nok 2\n",
+        "ok 1\nok 2\nok\n",
+        "ok 1\nok 2\nok\nok\n",
+    ];
     for (failing, replies) in (1..6u32).zip(taken) {
         let fails = [failing];
         let mut given = Given::script(&["run", "1000"], BIND);
