@@ -18,7 +18,7 @@ use Rattle.wasi_world.specs.Typed.{told_verdict, told_done, told_addr}
 use Rattle.wasi_world.specs.Operation.{Given, Nothing, Item, Check, Bind, LastAsk, NothingLast, Who, Operation, End, Waits, Done, Refused, front, last_ask, poll_asks, verdict_front, done_front}
 use Rattle.wasi_world.proofs.Allowed.{Allows, allows_then, allows_if, allows_keep, FrontKeeps, allows_polls}
 use Rattle.wasi_tcp.specs.declared.socket.TcpState.{TcpState}
-use Rattle.wasi_tcp.specs.declared.socket.TcpState.TheVariants.{Default, Closed}
+use Rattle.wasi_tcp.specs.declared.socket.TcpState.TheVariants.{Default}
 use Rattle.wasi_tcp.specs.Shape.{Socket}
 use Rattle.wasi_tcp.specs.Socket.{side_in, side_of, after_local, ask_bound, bound_asks, bind_allowed, bind_start, bind_asks}
 use Rattle.wasi_run.specs.declared.socket.Tcp2Socket.{Tcp2Socket}
@@ -105,7 +105,7 @@ module _ (contexts : List WasiSocketsCtx) (steps : List Step) where
   fine_ask_bound : (op : OpId) (socket : Socket) (es : List Entry) (state : TcpState) → socket.state ≡ state → MayWork es op socket → Allows May (λ fs b. KeepsSide socket b.1) es (ask_bound op socket state)
   unfolding bind
   fine_ask_bound op socket es (Default side) e h = ((inl (h.works side (ap side_in e)).named, tt), λ t fits. after_local_keeps socket (told_addr t))
-  fine_ask_bound op socket es (Closed c) e h = learns_bound socket
+  fine_ask_bound op socket es _ e h = learns_bound socket
 
   fine_bound : (op : OpId) (socket : Socket) (es : List Entry) → MayWork es op socket → Allows May (λ fs b. MayWork fs op socket × KeepsSide socket b.1) es (bound_asks op socket)
   fine_bound op socket es h =
@@ -125,7 +125,7 @@ module _ (contexts : List WasiSocketsCtx) (steps : List Step) where
   fine_allowed : (es : List Entry) (op : OpId) (socket : Socket) (a : IpSocketAddress) (state : TcpState) → socket.state ≡ state → BeganBy steps op (IsBindTo a) → MayWork es op socket → StartIsFine es (bind_allowed op socket a state)
   fine_allowed es op socket a (Default side) e to h =
       start_if es (is_unicast (ip_of a) && is_of_family (ip_of a) socket.family) _ _ (record { addr = a; to = to; works = h.works side (ap side_in e); last = refl; left = Whole }) tt
-  fine_allowed es op socket a (Closed c) e to h = tt
+  fine_allowed es op socket a _ e to h = tt
 
   fine_started : (es : List Entry) (op : OpId) (socket : Socket) (a : IpSocketAddress) (b : Bool) → BeganBy steps op (IsBindTo a) → MayWork es op socket → StartIsFine es (bind_start op socket a b)
   fine_started es op socket a b to h = start_if es b _ _ tt (fine_allowed es op socket a socket.state refl to h)
