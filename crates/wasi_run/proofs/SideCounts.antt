@@ -162,7 +162,7 @@ calm_bound op s = by_kept s.bound
   where
     by_state : (st : TcpState) → Calm Any (ask_bound op s st)
     by_state (state.Default side) = ((λ t. refl, refl), λ t. tt)
-    by_state (state.Closed c) = tt
+    by_state _ = tt
 
     by_kept : (b : Bool) → Calm Any (if b then Give (true, s) else ask_bound op s s.state)
     by_kept true = tt
@@ -178,7 +178,7 @@ calm_allowed op s c false h = tt
 
 calm_state : (op : OpId) (s : Socket) (a : IpSocketAddress) (st : TcpState) → IsCalmStart (bind_allowed op s a st, s)
 calm_state op s a (state.Default side) = calm_allowed _ s _ _ (record { items = (tt, (tt, tt)); last = refl })
-calm_state op s a (state.Closed c) = tt
+calm_state op s a _ = tt
 
 calm_start : (op : OpId) (s : Socket) (a : IpSocketAddress) (b : Bool) → IsCalmStart (bind_start op s a b, s)
 calm_start op s a true = tt

@@ -4,3 +4,15 @@ pub mod Table
 pub mod Store
 pub mod Machine
 pub mod Sides
+pub mod Steps
+pub mod Replies
+pub mod Lines
+pub mod Written
+pub mod Ran
+pub mod Closing
+pub mod Script
+pub mod Causes
+pub mod Licence
+pub mod Headline
+pub mod Program
+pub mod Parsed

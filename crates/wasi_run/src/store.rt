@@ -1,11 +1,12 @@
 //! The records that handles name, and the call that stands.
 
-ghost use Rattle.std.specs.Prelude.{◌≡◌, is_some, ◌<◌, false, IfOk, Ok, OnErr, slice_get, length};
+ghost use Rattle.std.specs.Prelude.{◌≡◌, true, is_some, ◌<◌, false, IfOk, Ok, OnErr, slice_get, length};
 ghost use Rattle.wasi_world.specs.Asks.{AsksFor};
 ghost use Rattle.wasi_world.specs.Seen.{Seen};
 ghost use Rattle.wasi_run.specs.Host.{host_outcome};
 ghost use Rattle.wasi_run.specs.Store.{no_records, start_bind_at, finish_bind_at, with_record, stood};
 
+use crate::closing::close_sides;
 use crate::host::SocketError;
 use crate::socket::{InProgress, Tcp2Socket};
 use crate::table::{Kind, Table};
@@ -42,7 +43,8 @@ impl Model for Store {
 
 impl Store {
     ghost use Rattle.wasi_run.specs.Machine.{create_asks};
-    ghost use Rattle.wasi_run.specs.Sides.{KnowsSides};
+    ghost use Rattle.wasi_run.specs.Closing.{ClosesSides};
+    ghost use Rattle.wasi_run.specs.Sides.{KnowsSides, held_in};
 
     pub fn new(alloc: Global) -> Store
         ensures { result ≡ no_records }
@@ -116,6 +118,14 @@ impl Store {
         }
         record.in_progress = InProgress::Nothing;
         Ok(())
+    }
+
+    /// Closes the network sides that the records hold, after the end mark; takes no memory.
+    pub fn close_all<W: World>(self, world: &mut W)
+        requires { (W.seen world.old).ended ≡ true }
+        ensures { ClosesSides (W.seen world.old) (W.seen world.new) (held_in self.sockets) }
+    {
+        close_sides(world, self.sockets.as_slice());
     }
 
     /// Whether a call stands.

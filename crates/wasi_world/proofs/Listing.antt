@@ -15,7 +15,7 @@ use Rattle.wasi_world.specs.declared.plan.Planned.{Planned}
 use Rattle.wasi_world.specs.declared.plan.Planned.TheVariants.{Bytes}
 use Rattle.wasi_world.specs.Fits.{Fits}
 use Rattle.wasi_world.specs.Seen.{Plan}
-use Rattle.wasi_world.specs.Kinds.{place, kind_of, kind_count, list_of, takes, IsSorted}
+use Rattle.wasi_world.specs.Kinds.{place, kind_of, kind_count, list_of, takes, IsByKind}
 use Rattle.wasi_world.specs.Queued.{Queued, Listed, listed, IsListed, with_answer}
 use Rattle.wasi_world.specs.Script.{asked, Offers, given, as_planned, left_after, waiting, with_waiting, plan_after}
 use Rattle.wasi_world.proofs.Fitting.{any_bytes, planned_fits}
@@ -40,11 +40,11 @@ within_plan : (plan : Plan) (k : Kind) → length plan ≡ kind_count → place 
 within_plan plan k count = rw count (place_within k)
 
 -- one list takes the place of another of its kind
-sorted_set : (plan : Plan) (k : Kind) (answers : List Planned) → length plan ≡ kind_count → IsSorted plan → list_all (takes k) answers ≡ true → IsSorted (set plan (place k) answers)
-sorted_set plan k answers count sorted h j =
+by_kind_set : (plan : Plan) (k : Kind) (answers : List Planned) → length plan ≡ kind_count → IsByKind plan → list_all (takes k) answers ≡ true → IsByKind (set plan (place k) answers)
+by_kind_set plan k answers count by_kind h j =
     ⊎_elim
     (λ (e : place j ≡ place k). subst (λ (x : Kind). list_all (takes x) (get_or (set plan (place k) answers) (place x) []) ≡ true) (sym (place_is j k e)) (let within = within_plan plan k count in rw get_or-set_same h))
-    (λ (e : place j ≡ place k → ⊥). rw get_or-set_other (sorted j))
+    (λ (e : place j ≡ place k → ⊥). rw get_or-set_other (by_kind j))
     (cases_eq (place j) (place k))
 
 and_left : (a b : Bool) → (a && b) ≡ true → a ≡ true
@@ -60,14 +60,14 @@ if_left : (k : Kind) (used : Bool) (first : Planned) (answers : List Planned) �
 if_left k true first answers h = and_right (takes k first) _ h
 if_left k false first answers h = h
 
-left_sorted : (k : Kind) (c : Call) (answers : List Planned) → list_all (takes k) answers ≡ true → list_all (takes k) (left_after c answers) ≡ true
-left_sorted k c [] h = h
-left_sorted k c (Bytes bytes ∷ answers) h =
+left_by_kind : (k : Kind) (c : Call) (answers : List Planned) → list_all (takes k) answers ≡ true → list_all (takes k) (left_after c answers) ≡ true
+left_by_kind k c [] h = h
+left_by_kind k c (Bytes bytes ∷ answers) h =
     if_left k _ (Bytes (drop (asked c) bytes)) answers (ap (λ b. b && list_all (takes k) answers) (any_bytes k (drop (asked c) bytes) bytes) ∙ h)
-left_sorted k c (first ∷ answers) h = and_right (takes k first) _ h
+left_by_kind k c (first ∷ answers) h = and_right (takes k first) _ h
 
-push_sorted : (k : Kind) (answers : List Planned) (answer : Planned) → list_all (takes k) answers ≡ true → takes k answer ≡ true → list_all (takes k) (answers ++ answer ∷ []) ≡ true
-push_sorted k answers answer h t = rw (list_all-append, h, t) refl
+push_by_kind : (k : Kind) (answers : List Planned) (answer : Planned) → list_all (takes k) answers ≡ true → takes k answer ≡ true → list_all (takes k) (answers ++ answer ∷ []) ≡ true
+push_by_kind k answers answer h t = rw (list_all-append, h, t) refl
 
 same_listed : {a b c d : Plan} → a ≡ b → c ≡ d → (let x : Listed = record { all = a; left = c } in x) ≡ record { all = b; left = d }
 same_listed {b} {c} e f = ap (λ a. let x : Listed = record { all = a; left = c } in x) e ∙ ap (λ c. let x : Listed = record { all = b; left = c } in x) f
@@ -80,18 +80,18 @@ module _ (queues : List Queued) (i : ℕ) (k : Kind) (here : i ≡ place k) (was
   part_is : (f : Queued → List Planned) → list_of (map f queues) k ≡ f was
   part_is f = get_or-map f queues (place k) was [] (rw good.count (place_within k)) ∙ ap f (rw (← here) (sym stood))
 
-  was_sorted : list_all (takes k) was.left ≡ true
-  was_sorted = subst (λ (l : List Planned). list_all (takes k) l ≡ true) (part_is (λ q. q.left)) (good.sorted k)
+  was_by_kind : list_all (takes k) was.left ≡ true
+  was_by_kind = subst (λ (l : List Planned). list_all (takes k) l ≡ true) (part_is (λ q. q.left)) (good.by_kind k)
 
   still_listed : (now : Queued) → list_all (takes k) now.left ≡ true → IsListed (set queues i now)
   still_listed now h = record {
     count = length-set queues i now ∙ good.count;
-    sorted = rw (map-set, here) (sorted_set (map (λ q. q.left) queues) k now.left (simp length-map good.count) good.sorted h);
+    by_kind = rw (map-set, here) (by_kind_set (map (λ q. q.left) queues) k now.left (simp length-map good.count) good.by_kind h);
   }
 
   -- one answer more
   pub push_listed : (now : Queued) (answer : Planned) → takes k answer ≡ true → now ≡ record { all = was.all ++ answer ∷ []; left = was.left ++ answer ∷ [] } → IsListed (set queues i now)
-  push_listed now answer h e = still_listed now (rw e (push_sorted k was.left answer was_sorted h))
+  push_listed now answer h e = still_listed now (rw e (push_by_kind k was.left answer was_by_kind h))
 
   pub listed_push : (now : Queued) (answer : Planned) → now ≡ record { all = was.all ++ answer ∷ []; left = was.left ++ answer ∷ [] } → listed (set queues i now) ≡ record { all = with_answer (listed queues).all k answer; left = with_answer (listed queues).left k answer }
   listed_push now answer e =
@@ -101,7 +101,7 @@ module _ (queues : List Queued) (i : ℕ) (k : Kind) (here : i ≡ place k) (was
 
   -- on to what is left after a call
   pub advance_listed : (now : Queued) (c : Call) → now ≡ record { all = was.all; left = left_after c was.left } → IsListed (set queues i now)
-  advance_listed now c e = still_listed now (rw e (left_sorted k c was.left was_sorted))
+  advance_listed now c e = still_listed now (rw e (left_by_kind k c was.left was_by_kind))
 
   pub listed_advance : (now : Queued) (c : Call) → Some k ≡ kind_of c → now ≡ record { all = was.all; left = left_after c was.left } → listed (set queues i now) ≡ record { all = (listed queues).all; left = plan_after (listed queues).left c }
   listed_advance now c o e =
@@ -117,4 +117,4 @@ module _ (queues : List Queued) (i : ℕ) (k : Kind) (here : i ≡ place k) (was
   pub told_fits : (c : Call) (r : Result (Option Told) AllocError) → Some k ≡ kind_of c → Offers c → IfOk r (λ o. option_map as_planned o ≡ option_map (given c) (slice_get was.left 0)) → IfOk r (λ o. IfSome o (λ t. Fits c t))
   told_fits c (Err e) o some h = tt
   told_fits c (Ok None) o some h = tt
-  told_fits c (Ok (Some t)) o some h = first_fits c t was.left o some was_sorted h
+  told_fits c (Ok (Some t)) o some h = first_fits c t was.left o some was_by_kind h

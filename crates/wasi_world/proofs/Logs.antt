@@ -1,6 +1,6 @@
 -- Logs that are answered by a plan, with one entry more.
-use Rattle.std.proofs.Common.{◌≡◌, List, [], ◌∷◌, ◌++◌, map, None, refl, sym, ap, ◌∙◌}
-use Rattle.std.specs.Prelude.{fold, if◌then◌else◌}
+use Rattle.std.proofs.Common.{◌≡◌, List, [], ◌∷◌, ◌++◌, map, refl, sym, ap, ◌∙◌}
+use Rattle.std.specs.Prelude.{fold}
 use Rattle.std.proofs.lemmas.List.{map-append}
 use Rattle.std.proofs.lemmas.List.Sums.{fold_push}
 use mathlib.Core.Path.{fun_ext}
@@ -11,7 +11,7 @@ use Rattle.wasi_world.specs.declared.call.Entry.{Entry}
 use Rattle.wasi_world.specs.declared.sides.Side.{Side}
 use Rattle.wasi_world.specs.Seen.{Plan}
 use Rattle.wasi_world.specs.Kinds.{kind_of}
-use Rattle.wasi_world.specs.Sides.{is_done, change, changed}
+use Rattle.wasi_world.specs.Sides.{sides_after}
 use Rattle.wasi_world.specs.Script.{Progress, start, after, answer, answers, as_planned, next_answer, waiting, plan_after, progress, IsScripted}
 
 answers_push : (now : Progress) (log : List Entry) (e : Entry) → answers now (log ++ e ∷ []) ≡ answers now log ++ answer (fold after now log) e.call ∷ []
@@ -34,7 +34,7 @@ module _ (plan left : Plan) (known : OpId → Side) (log now : List Entry) (op :
   pub left_push : plan_after left call ≡ (progress plan now).left
   left_push = ap (λ p. p.left) there
 
-  pub sides_push : (sock : OpId) → changed known (if is_done told then change known op call else None) sock ≡ (progress plan now).sides sock
+  pub sides_push : (sock : OpId) → sides_after known op call told sock ≡ (progress plan now).sides sock
   sides_push sock = ap (λ p. p.sides sock) there
 
   answered : IsScripted plan log → as_planned told ≡ next_answer (waiting left (kind_of call)) known call → map (λ e. as_planned e.answer) log ++ as_planned told ∷ [] ≡ answers (start plan) (log ++ record { op = op; call = call; answer = told } ∷ [])

@@ -1,5 +1,5 @@
 -- Walks of one tree of asks after another.
-use Rattle.std.specs.Prelude.{◌≡◌, ℕ, List, [], ◌∷◌, ◌++◌, Option, Some, None, Result, Ok, Err, option_map, refl, IsErrAnd, IsOkAnd, IfOk}
+use Rattle.std.specs.Prelude.{◌≡◌, ℕ, List, [], ◌∷◌, ◌++◌, Option, Some, None, Result, Ok, Err, option_map, refl, IsErrAnd, IsOkAnd, IfOk, OnErr}
 use Rattle.std.specs.declared.alloc.AllocError.{AllocError}
 use Rattle.std.proofs.Common.{append-nil, append_assoc, ap, sym, subst, ◌∙◌}
 use Rattle.wasi_world.specs.declared.call.Entry.{Entry}
@@ -64,6 +64,11 @@ reaches_in {asks} {rest} f h = record { entries = h.entries; passed = h.passed; 
 pub reaches_on : {A B : Type 0} {asks : Asks A} {a : A} (f : A → Asks B) {s t : Seen} → Reaches asks (Give a) s t → Reaches (bind asks f) (f a) s t
 unfolding bind
 reaches_on f h = reaches_in f h
+
+-- the same, where it is said of a want of memory
+pub err_in : {A B T : Type 0} (asks rest : Asks A) (f : A → Asks B) (s t : Seen) (r : Result T AllocError) → OnErr r (Reaches asks rest s t) → OnErr r (Reaches (bind asks f) (bind rest f) s t)
+err_in asks rest f s t (Ok x) h = tt
+err_in asks rest f s t (Err d) h = reaches_in f h
 
 -- one call, whose answer is seen as another type
 left_typed : {B : Type 0} (f : Told → B) (op : OpId) (call : Call) (es : List Entry) (told : Told) → Left (one op call) es (Give told) → Left (Ask op call (λ t. Give (f t))) es (Give (f told))

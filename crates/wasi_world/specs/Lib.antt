@@ -8,7 +8,6 @@ pub mod Fields
 pub mod Written
 pub mod Kinds
 pub mod Sides
-pub mod Known
 pub mod Script
 pub mod Queued
 pub mod Scripted

@@ -4,7 +4,7 @@ use Rattle.wasi_world.specs.declared.plan.Kind.{Kind}
 use Rattle.wasi_world.specs.declared.plan.Planned.{Planned}
 use Rattle.wasi_world.specs.declared.plan.Planned.TheVariants.{Bytes}
 use Rattle.wasi_world.specs.Seen.{Plan}
-use Rattle.wasi_world.specs.Kinds.{place, list_of, kind_count, IsSorted}
+use Rattle.wasi_world.specs.Kinds.{place, list_of, kind_count, IsByKind}
 
 -- The answers of one kind: all of them, and those that are left.
 pub record Queued : Type 0 where
@@ -36,7 +36,7 @@ listed queues = record { all = map (λ queue. queue.all) queues; left = map (λ 
 -- there is a list for each kind, with answers of that kind alone
 pub record IsListed (queues : List Queued) : Type 0 where
   pub count : length queues ≡ kind_count
-  pub sorted : IsSorted (map (λ queue. queue.left) queues)
+  pub by_kind : IsByKind (map (λ queue. queue.left) queues)
 
 -- no answers are planned
 abbrev pub no_answers : Plan

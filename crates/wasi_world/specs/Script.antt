@@ -113,7 +113,7 @@ answer now c = next_answer (waiting now.left (kind_of c)) now.sides c
 
 -- after an entry of the log
 abbrev pub after : Progress → Entry → Progress
-after now e = record { left = plan_after now.left e.call; sides = sides_after now.sides e }
+after now e = record { left = plan_after now.left e.call; sides = sides_after now.sides e.op e.call e.answer }
 
 abbrev pub progress : Plan → List Entry → Progress
 progress plan log = fold after (start plan) log

@@ -1,5 +1,8 @@
 -- What is known of each side from the calls that were told done: what the defaults of `local`, `peer` and `get-option` go by.
 use Rattle.std.specs.Prelude.{ℕ, ◌==◌, Bool, true, false, ◌&&◌, if◌then◌else◌, Option, Some, None, unwrap_or}
+use Rattle.std.specs.declared.cmp.Ordering.{Ordering}
+use Rattle.std.specs.Ordering.{nat_cmp, ordering_then}
+use Rattle.std.specs.BTreeMap.{BTreeMap, get}
 use Rattle.wasi_addr.specs.declared.address.IpSocketAddress.{IpSocketAddress}
 use Rattle.wasi_addr.specs.declared.address.IpSocketAddress.TheVariants as socket
 use Rattle.wasi_addr.specs.declared.address.SocketAddressFamily.{SocketAddressFamily}
@@ -12,7 +15,6 @@ use Rattle.wasi_world.specs.declared.call.Told.{Told}
 use Rattle.wasi_world.specs.declared.call.Told.TheVariants as told
 use Rattle.wasi_world.specs.declared.call.Opt.{Opt}
 use Rattle.wasi_world.specs.declared.call.Opt.TheVariants.{KeepAliveEnabled, KeepAliveIdleTime, KeepAliveInterval, KeepAliveCount, HopLimit, ReceiveBufferSize, SendBufferSize}
-use Rattle.wasi_world.specs.declared.call.Entry.{Entry}
 use Rattle.wasi_world.specs.declared.sides.Options.{Options}
 use Rattle.wasi_world.specs.declared.sides.Side.{Side}
 
@@ -81,17 +83,17 @@ with_option side option value = record side { options = with_value side.options 
 
 -- the side that a call changes once it is told done, and what is known of that side then
 abbrev pub change : (OpId → Side) → OpId → Call → Option (OpId × Side)
-change known op (call.TcpCreate _ family) = Some (op, new_side family)
-change known op (call.UdpCreate _ family) = Some (op, new_side family)
-change known op (call.Bind sock addr) = Some (sock, bound (known sock) addr)
-change known op (call.UdpBind sock addr) = Some (sock, bound (known sock) addr)
-change known op (call.Connect sock addr) = Some (sock, connected (known sock) addr)
-change known op (call.UdpConnect sock addr) = Some (sock, connected (known sock) addr)
-change known op (call.Send sock _ _) = Some (sock, bound_anyway (known sock))
-change known op (call.Hand listener peer) = Some (op, handed (known listener) peer)
-change known op (call.UdpDisconnect sock) = Some (sock, disconnected (known sock))
-change known op (call.SetOption sock option value) = Some (sock, with_option (known sock) option value)
-change known op _ = None
+change sides op (call.TcpCreate _ family) = Some (op, new_side family)
+change sides op (call.UdpCreate _ family) = Some (op, new_side family)
+change sides op (call.Bind sock addr) = Some (sock, bound (sides sock) addr)
+change sides op (call.UdpBind sock addr) = Some (sock, bound (sides sock) addr)
+change sides op (call.Connect sock addr) = Some (sock, connected (sides sock) addr)
+change sides op (call.UdpConnect sock addr) = Some (sock, connected (sides sock) addr)
+change sides op (call.Send sock _ _) = Some (sock, bound_anyway (sides sock))
+change sides op (call.Hand listener peer) = Some (op, handed (sides listener) peer)
+change sides op (call.UdpDisconnect sock) = Some (sock, disconnected (sides sock))
+change sides op (call.SetOption sock option value) = Some (sock, with_option (sides sock) option value)
+change sides op _ = None
 
 abbrev pub is_done : Told → Bool
 is_done told.Done = true
@@ -102,9 +104,17 @@ is_same a b = (a.step == b.step) && (a.part == b.part)
 
 -- what is known of each side after such a change
 abbrev pub changed : (OpId → Side) → Option (OpId × Side) → OpId → Side
-changed known None sock = known sock
-changed known (Some change) sock = if is_same change.0 sock then change.1 else known sock
+changed sides None sock = sides sock
+changed sides (Some change) sock = if is_same change.0 sock then change.1 else sides sock
 
--- what is known of each side after an entry of the log
-abbrev pub sides_after : (OpId → Side) → Entry → OpId → Side
-sides_after known e = changed known (if is_done e.answer then change known e.op e.call else None)
+-- what is known of each side after a call was answered; only done changes any
+abbrev pub sides_after : (OpId → Side) → OpId → Call → Told → OpId → Side
+sides_after sides op c answer = changed sides (if is_done answer then change sides op c else None)
+
+-- names in order: by step, then by part
+abbrev pub name_cmp : OpId → OpId → Ordering
+name_cmp a b = ordering_then (nat_cmp a.step b.step) (nat_cmp a.part b.part)
+
+-- what a map of sides knows of each
+abbrev pub known : BTreeMap OpId Side → OpId → Side
+known sides sock = unwrap_or (get name_cmp sides sock) unmade

@@ -6,7 +6,7 @@ ghost use Rattle.wasi_world.specs.Asks.{IsFront};
 ghost use Rattle.wasi_world.specs.Fits.{Fits};
 ghost use Rattle.wasi_world.specs.Seen.{Counts, Passes};
 ghost use Rattle.wasi_world.specs.Kinds.{kind_of};
-ghost use Rattle.wasi_world.specs.Known.{known};
+ghost use Rattle.wasi_world.specs.Sides.{known};
 ghost use Rattle.wasi_world.specs.Script.{Offers, offered, default, as_planned, waiting, next_answer, progress, IsScripted};
 
 use crate::call::{Call, Entry, Told};

@@ -1,10 +1,9 @@
 //! What a scripted world knows of its network sides: what the defaults of `local`, `peer` and `get-option` go by.
 
-ghost use Rattle.std.specs.Prelude.{◌≡◌, OnOk, OnErr, if◌then◌else◌, None};
+ghost use Rattle.std.specs.Prelude.{◌≡◌, OnOk, OnErr, None};
 ghost use Rattle.std.specs.BTreeMap.{IsUnchanged};
 ghost use Rattle.wasi_addr.specs.Address.{wildcard};
-ghost use Rattle.wasi_world.specs.Sides.{unset, value_of, with_value, new_side, unmade, chosen_port, with_port, bound, bound_anyway, default_local, connected, disconnected, handed, with_option, change, is_done, changed, sides_after};
-ghost use Rattle.wasi_world.specs.Known.{known};
+ghost use Rattle.wasi_world.specs.Sides.{unset, value_of, with_value, new_side, unmade, chosen_port, with_port, bound, bound_anyway, default_local, connected, disconnected, handed, with_option, change, sides_after, known};
 
 use crate::call::{Call, Opt, Told};
 use crate::ids::{OpId, Sock};
@@ -214,7 +213,7 @@ fn change(sides: &Sides, op: OpId, call: &Call) -> Option<(Sock, Side)>
 
 /// Keeps what an answered call changed; takes memory where its side is new.
 pub fn keep(sides: &mut Sides, op: OpId, call: &Call, told: &Told) -> Result<(), AllocError>
-    ensures ok { OnOk result ((sock : OpId) → known sides.new sock ≡ changed (known sides.old) (if is_done told.now then change (known sides.old) op call.now else None) sock) }
+    ensures ok { OnOk result ((sock : OpId) → known sides.new sock ≡ sides_after (known sides.old) op call.now told.now sock) }
     ensures err { OnErr result (IsUnchanged sides.old sides.new) }
 {
     let Told::Done = told else {

@@ -1,5 +1,5 @@
 use Rattle.std.proofs.Common.{◌≡◌, ◌++◌, ◌∷◌, [], refl, ◌∙◌}
-use Rattle.wasi_world.specs.Known.{known}
+use Rattle.wasi_world.specs.Sides.{known}
 use Rattle.wasi_world.proofs.Logs.{left_push, sides_push, scripted_push}
 use Rattle.wasi_world.proofs.scripted.ScriptedWorld.answer.Goals as goal
 

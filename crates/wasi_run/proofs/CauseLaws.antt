@@ -1,0 +1,167 @@
+-- What a script's record says of each end.
+use Rattle.std.proofs.Common.{◌≡◌, ◌∙◌, ap, sym, refl, ℕ, ◌+◌, ◌≤◌, List, [], length, take, Result, Ok, Err, append-nil, inl, inr, arith}
+use Rattle.std.proofs.lemmas.List.{take_all}
+use Rattle.wasi_world.specs.declared.outcome.WasiSocketsCtx.{WasiSocketsCtx}
+use Rattle.wasi_world.specs.Seen.{Seen, Rose}
+use Rattle.wasi_world.specs.Asks.{Give, Reaches}
+use Rattle.wasi_world.specs.Io.{Reading, Writing, Gave, Took, CountRose}
+use Rattle.wasi_run.specs.declared.machine.Machine.{Machine}
+use Rattle.wasi_run.specs.declared.step.Step.{Step}
+use Rattle.wasi_run.specs.declared.reply.Reply.{Reply}
+use Rattle.wasi_run.specs.declared.lines.LinesEnd.{LinesEnd}
+use Rattle.wasi_run.specs.declared.lines.LinesEnd.TheVariants as lines
+use Rattle.wasi_run.specs.declared.run.RunEnd.{RunEnd}
+use Rattle.wasi_run.specs.declared.run.RunEnd.TheVariants as end
+use Rattle.wasi_run.specs.declared.run.RunError.{RunError}
+use Rattle.wasi_run.specs.declared.run.RunError.TheVariants.{Memory, BadStep, TooLong, ReadFault, WriteFault}
+use Rattle.wasi_run.specs.Machine.{first_state, run}
+use Rattle.wasi_run.specs.Lines.{lines_of, after_lines, StartWith}
+use Rattle.wasi_run.specs.Closing.{AsksNothing}
+use Rattle.wasi_run.specs.Ran.{LinesRan, Beyond, Wrote, texts}
+use Rattle.wasi_run.specs.Script.{Answers, RanScript}
+use Rattle.wasi_run.specs.Causes.{DoneLines, ReadsAll, StopsAtTrap, StopsAtBadStep, StopsTooLong}
+
+-- every reply was written, and nothing was asked beyond
+abbrev IsWhole : Result LinesEnd RunError → Type 0
+IsWhole (Err Memory) = ⊥
+IsWhole (Err WriteFault) = ⊥
+IsWhole _ = Unit {0}
+
+whole_asked : (contexts : List WasiSocketsCtx) (outcome : Result LinesEnd RunError) (state : Machine) (line : ℕ) (met : List Step) (seen now : Seen) → IsWhole outcome → Beyond contexts outcome state line met seen now → (met ≡ []) × (now ≡ seen)
+whole_asked contexts (Ok lines.AllDone) state line met seen now h b = b
+whole_asked contexts (Ok lines.Trapped) state line met seen now h b = b
+whole_asked contexts (Err Memory) state line met seen now h b = absurd h
+whole_asked contexts (Err (BadStep n)) state line met seen now h b = b
+whole_asked contexts (Err TooLong) state line met seen now h b = b
+whole_asked contexts (Err ReadFault) state line met seen now h b = b
+whole_asked contexts (Err WriteFault) state line met seen now h b = absurd h
+
+whole_written : (outcome : Result LinesEnd RunError) (replies : List Reply) (written : List ℕ) → IsWhole outcome → Wrote outcome replies written → written ≡ texts replies
+whole_written (Ok lines.AllDone) replies written h w = w.1
+whole_written (Ok lines.Trapped) replies written h w = w.1
+whole_written (Err Memory) replies written h w = w.1
+whole_written (Err (BadStep n)) replies written h w = w.1
+whole_written (Err TooLong) replies written h w = w.1
+whole_written (Err ReadFault) replies written h w = w.1
+whole_written (Err WriteFault) replies written h w = absurd h
+
+module _ {contexts : List WasiSocketsCtx} {w_old stopped : Seen} {k_old k_new : Writing} {all : List (List ℕ)} {outcome : Result LinesEnd RunError} {last : Machine} where
+  spelled : (r : LinesRan contexts w_old stopped k_old k_new first_state 1 all outcome last) → IsWhole outcome → StartWith (length contexts) all r.steps
+  spelled r h = let b = whole_asked contexts outcome r.state (1 + length r.steps) r.met r.seen stopped h r.beyond in rw (b.0, append-nil) at r.first_lines
+
+  reached : (r : LinesRan contexts w_old stopped k_old k_new first_state 1 all outcome last) → IsWhole outcome → Reaches (run contexts [] first_state 1 r.steps) (Give (r.replies, r.state)) w_old stopped
+  reached r h = let b = whole_asked contexts outcome r.state (1 + length r.steps) r.met r.seen stopped h r.beyond in rw b.1 (r.ran [])
+
+  written : (r : LinesRan contexts w_old stopped k_old k_new first_state 1 all outcome last) → IsWhole outcome → Took k_old (texts r.replies) k_new
+  written r h = rw (whole_written outcome r.replies r.written h r.wrote) at r.took
+
+module _ {contexts : List WasiSocketsCtx} {limit : ℕ} {before after : Reading} {w_old stopped w_new : Seen} {k_old k_new : Writing} {last : Machine} {outcome : Result LinesEnd RunError} where
+  abbrev done_lines : (text : List ℕ) → Gave before text after → (r : LinesRan contexts w_old stopped k_old k_new first_state 1 (lines_of (take limit text)) outcome last) → IsWhole outcome → AsksNothing stopped w_new → DoneLines contexts limit before after k_old k_new w_old w_new
+  done_lines text gave r h quiet = record {
+    text = text;
+    gave = gave;
+    steps = r.steps;
+    first_lines = spelled r h;
+    replies = r.replies;
+    state = r.state;
+    stopped = stopped;
+    ran = reached r h;
+    quiet = quiet;
+    answered = r.answered;
+    took = written r h;
+  }
+
+-- the lines of a text that lies within the limit
+lines_within : (limit count : ℕ) (text : List ℕ) → length text ≤ limit → count ≡ length (lines_of (take limit text)) → count ≡ length (lines_of text)
+lines_within limit count text h e = e ∙ ap (λ t. length (lines_of t)) (take_all limit text h)
+
+module _ {contexts : List WasiSocketsCtx} {limit : ℕ} {before after : Reading} {w_old stopped w_new : Seen} {k_old k_new : Writing} {last : Machine} where
+  pub whole_by : (text : List ℕ) (a : RunEnd) → Gave before text after → (outcome : Result LinesEnd RunError) → LinesRan contexts w_old stopped k_old k_new first_state 1 (lines_of (take limit text)) outcome last → Answers limit text before after outcome (Ok a) → AsksNothing stopped w_new → DoneLines contexts limit before after k_old k_new w_old w_new
+  whole_by text a gave (Ok lines.AllDone) r h quiet = done_lines text gave r tt quiet
+  whole_by text a gave (Ok lines.Trapped) r h quiet = done_lines text gave r tt quiet
+  whole_by text a gave (Err e) r h quiet = absurd h
+
+  read_by : (text : List ℕ) → Gave before text after → (outcome : Result LinesEnd RunError) → LinesRan contexts w_old stopped k_old k_new first_state 1 (lines_of (take limit text)) outcome last → Answers limit text before after outcome (Ok end.AllRead) → AsksNothing stopped w_new → ReadsAll contexts limit before after k_old k_new w_old w_new
+  read_by text gave (Ok lines.AllDone) r h quiet = record {
+    done = done_lines text gave r tt quiet;
+    within = h.1;
+    all = lines_within limit (length r.steps) text h.1 r.cause.count;
+    whole = h.2;
+    no_trap = r.wrote.0;
+    ended = h.0;
+  }
+  read_by text gave (Ok lines.Trapped) r h quiet = absurd h
+  read_by text gave (Err e) r h quiet = absurd h
+
+  trap_by : (text : List ℕ) → Gave before text after → (outcome : Result LinesEnd RunError) → (r : LinesRan contexts w_old stopped k_old k_new first_state 1 (lines_of (take limit text)) outcome last) → Answers limit text before after outcome (Ok end.Trapped) → length (after_lines (length r.steps) text) ≤ 4095 → AsksNothing stopped w_new → StopsAtTrap 4095 contexts limit before after k_old k_new w_old w_new
+  trap_by text gave (Ok lines.AllDone) r h f quiet = absurd h
+  trap_by text gave (Ok lines.Trapped) r h f quiet = record { done = done_lines text gave r tt quiet; trap = r.wrote.0; ahead = f }
+  trap_by text gave (Err e) r h f quiet = absurd h
+
+  bad_by : (text : List ℕ) (n : ℕ) → Gave before text after → (outcome : Result LinesEnd RunError) → LinesRan contexts w_old stopped k_old k_new first_state 1 (lines_of (take limit text)) outcome last → Answers limit text before after outcome (Err (BadStep n)) → AsksNothing stopped w_new → StopsAtBadStep contexts limit before after k_old k_new w_old w_new n
+  bad_by text n gave (Ok lines.AllDone) r h quiet = record {
+    done = done_lines text gave r tt quiet;
+    number = h.3 ∙ ap (λ k. k + 1) (sym (lines_within limit (length r.steps) text h.1 r.cause.count));
+    bad = inr (record { within = h.1; all = lines_within limit (length r.steps) text h.1 r.cause.count; rest = h.2; ended = h.0 });
+    no_trap = r.wrote.0;
+  }
+  bad_by text n gave (Ok lines.Trapped) r h quiet = absurd h
+  bad_by text n gave (Err Memory) r h quiet = cc
+  bad_by text n gave (Err (BadStep m)) r h quiet =
+      let e : m ≡ n = cc in
+      record {
+        done = done_lines text gave r tt quiet;
+        number = omega (arith, e, r.cause.0);
+        bad = inl r.cause.1;
+        no_trap = r.wrote.0;
+      }
+  bad_by text n gave (Err TooLong) r h quiet = cc
+  bad_by text n gave (Err ReadFault) r h quiet = cc
+  bad_by text n gave (Err WriteFault) r h quiet = cc
+
+  long_by : (text : List ℕ) → Gave before text after → (outcome : Result LinesEnd RunError) → LinesRan contexts w_old stopped k_old k_new first_state 1 (lines_of (take limit text)) outcome last → Answers limit text before after outcome (Err TooLong) → AsksNothing stopped w_new → StopsTooLong contexts limit before after k_old k_new w_old w_new
+  long_by text gave (Ok lines.AllDone) r h quiet = record { done = done_lines text gave r tt quiet; past = h; all = r.cause.count; no_trap = r.wrote.0 }
+  long_by text gave (Ok lines.Trapped) r h quiet = absurd h
+  long_by text gave (Err Memory) r h quiet = cc
+  long_by text gave (Err (BadStep m)) r h quiet = cc
+  long_by text gave (Err TooLong) r h quiet = absurd r.cause
+  long_by text gave (Err ReadFault) r h quiet = cc
+  long_by text gave (Err WriteFault) r h quiet = cc
+
+module _ {contexts : List WasiSocketsCtx} {w_old stopped : Seen} {k_old k_new : Writing} {all : List (List ℕ)} {last : Machine} (limit : ℕ) (text : List ℕ) (before after : Reading) where
+  fault_by : (outcome : Result LinesEnd RunError) → LinesRan contexts w_old stopped k_old k_new first_state 1 all outcome last → Answers limit text before after outcome (Err ReadFault) → Rose before.faults after.faults
+  fault_by (Ok lines.AllDone) r h = h
+  fault_by (Ok lines.Trapped) r h = absurd h
+  fault_by (Err Memory) r h = cc
+  fault_by (Err (BadStep m)) r h = cc
+  fault_by (Err TooLong) r h = cc
+  fault_by (Err ReadFault) r h = absurd r.cause
+  fault_by (Err WriteFault) r h = cc
+
+  cut_by : (outcome : Result LinesEnd RunError) → LinesRan contexts w_old stopped k_old k_new first_state 1 all outcome last → Answers limit text before after outcome (Err WriteFault) → CountRose k_old k_new
+  cut_by (Ok lines.AllDone) r h = absurd h
+  cut_by (Ok lines.Trapped) r h = absurd h
+  cut_by (Err Memory) r h = cc
+  cut_by (Err (BadStep m)) r h = cc
+  cut_by (Err TooLong) r h = cc
+  cut_by (Err ReadFault) r h = cc
+  cut_by (Err WriteFault) r h = r.counted
+
+module _ {contexts : List WasiSocketsCtx} {limit : ℕ} {before after : Reading} {w_old w_new : Seen} {k_old k_new : Writing} where
+  pub reads_all : RanScript contexts limit before after k_old k_new w_old w_new (Ok end.AllRead) → ReadsAll contexts limit before after k_old k_new w_old w_new
+  reads_all h = read_by h.over.text h.over.gave h.over.outcome h.over.ran h.over.answer h.quiet
+
+  pub stops_at_trap : RanScript contexts limit before after k_old k_new w_old w_new (Ok end.Trapped) → StopsAtTrap 4095 contexts limit before after k_old k_new w_old w_new
+  stops_at_trap h = trap_by h.over.text h.over.gave h.over.outcome h.over.ran h.over.answer (h.over.ahead refl) h.quiet
+
+  pub stops_at_bad_step : {n : ℕ} → RanScript contexts limit before after k_old k_new w_old w_new (Err (BadStep n)) → StopsAtBadStep contexts limit before after k_old k_new w_old w_new n
+  stops_at_bad_step {n} h = bad_by h.over.text n h.over.gave h.over.outcome h.over.ran h.over.answer h.quiet
+
+  pub stops_too_long : RanScript contexts limit before after k_old k_new w_old w_new (Err TooLong) → StopsTooLong contexts limit before after k_old k_new w_old w_new
+  stops_too_long h = long_by h.over.text h.over.gave h.over.outcome h.over.ran h.over.answer h.quiet
+
+  pub read_rose : RanScript contexts limit before after k_old k_new w_old w_new (Err ReadFault) → Rose before.faults after.faults
+  read_rose h = fault_by limit h.over.text before after h.over.outcome h.over.ran h.over.answer
+
+  pub write_rose : RanScript contexts limit before after k_old k_new w_old w_new (Err WriteFault) → CountRose k_old k_new
+  write_rose h = cut_by limit h.over.text before after h.over.outcome h.over.ran h.over.answer

@@ -1,0 +1,73 @@
+-- What each end of a script says of what was read, asked and written.
+use Rattle.std.specs.Prelude.{◌≡◌, ◌≢◌, ℕ, List, [], ◌+◌, ◌≤◌, ◌⊎◌, take, length}
+use Rattle.wasi_world.specs.declared.outcome.WasiSocketsCtx.{WasiSocketsCtx}
+use Rattle.wasi_world.specs.Seen.{Seen}
+use Rattle.wasi_world.specs.Asks.{Give, Reaches, Started}
+use Rattle.wasi_world.specs.Io.{Reading, Writing, Gave, HasEnded, Took}
+use Rattle.wasi_run.specs.declared.machine.Machine.{Machine}
+use Rattle.wasi_run.specs.declared.step.Step.{Step}
+use Rattle.wasi_run.specs.declared.reply.Reply.{Reply}
+use Rattle.wasi_run.specs.Machine.{first_state, run}
+use Rattle.wasi_run.specs.Lines.{lines_of, rest_of, after_lines, StartWith, BadAfter}
+use Rattle.wasi_run.specs.Closing.{AsksNothing}
+use Rattle.wasi_run.specs.Ran.{texts, NoTrap, OneTrap}
+
+-- What was asked is a beginning of the run of the first lines that the reader gave.
+pub record BeginsRun (contexts : List WasiSocketsCtx) (limit : ℕ) (before after : Reading) (w_old w_new : Seen) : Type 0 where
+  pub text : List ℕ
+  pub gave : Gave before text after
+  pub steps : List Step
+  pub first_lines : StartWith (length contexts) (lines_of (take limit text)) steps
+  pub stopped : Seen
+  pub began : Started (run contexts [] first_state 1 steps) w_old stopped
+  pub quiet : AsksNothing stopped w_new
+
+-- The first lines that the reader gave were done and answered, and nothing else was asked or written.
+pub record DoneLines (contexts : List WasiSocketsCtx) (limit : ℕ) (before after : Reading) (k_old k_new : Writing) (w_old w_new : Seen) : Type 0 where
+  pub text : List ℕ
+  pub gave : Gave before text after
+  pub steps : List Step
+  pub first_lines : StartWith (length contexts) (lines_of (take limit text)) steps
+  pub replies : List Reply
+  pub state : Machine
+  pub stopped : Seen
+  pub ran : Reaches (run contexts [] first_state 1 steps) (Give (replies, state)) w_old stopped
+  pub quiet : AsksNothing stopped w_new
+  pub answered : length replies ≡ length steps
+  pub took : Took k_old (texts replies) k_new
+
+-- All lines were done, none of them a trap, and the reader gave its end after the last.
+pub record ReadsAll (contexts : List WasiSocketsCtx) (limit : ℕ) (before after : Reading) (k_old k_new : Writing) (w_old w_new : Seen) : Type 0 where
+  pub done : DoneLines contexts limit before after k_old k_new w_old w_new
+  pub within : length done.text ≤ limit
+  pub all : length done.steps ≡ length (lines_of done.text)
+  pub whole : rest_of done.text ≡ []
+  pub no_trap : NoTrap done.replies
+  pub ended : HasEnded after
+
+-- The last line that was done trapped, and at most so many bytes past its newline were read.
+pub record StopsAtTrap (most : ℕ) (contexts : List WasiSocketsCtx) (limit : ℕ) (before after : Reading) (k_old k_new : Writing) (w_old w_new : Seen) : Type 0 where
+  pub done : DoneLines contexts limit before after k_old k_new w_old w_new
+  pub trap : OneTrap done.replies
+  pub ahead : length (after_lines (length done.steps) done.text) ≤ most
+
+-- The lines are as many as the steps, and the text ends inside the next.
+pub record EndsInside (limit : ℕ) (text : List ℕ) (count : ℕ) (after : Reading) : Type 0 where
+  pub within : length text ≤ limit
+  pub all : count ≡ length (lines_of text)
+  pub rest : rest_of text ≢ []
+  pub ended : HasEnded after
+
+-- The line of this number isn't a step, or the input ended inside it; those before were done, none of them a trap.
+pub record StopsAtBadStep (contexts : List WasiSocketsCtx) (limit : ℕ) (before after : Reading) (k_old k_new : Writing) (w_old w_new : Seen) (line : ℕ) : Type 0 where
+  pub done : DoneLines contexts limit before after k_old k_new w_old w_new
+  pub number : line ≡ length done.steps + 1
+  pub bad : BadAfter (length contexts) (lines_of (take limit done.text)) done.steps ⊎ EndsInside limit done.text (length done.steps) after
+  pub no_trap : NoTrap done.replies
+
+-- The reader gave one byte past the limit, and all lines within were done, none of them a trap.
+pub record StopsTooLong (contexts : List WasiSocketsCtx) (limit : ℕ) (before after : Reading) (k_old k_new : Writing) (w_old w_new : Seen) : Type 0 where
+  pub done : DoneLines contexts limit before after k_old k_new w_old w_new
+  pub past : length done.text ≡ limit + 1
+  pub all : length done.steps ≡ length (lines_of (take limit done.text))
+  pub no_trap : NoTrap done.replies

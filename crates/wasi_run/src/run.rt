@@ -1,0 +1,191 @@
+//! Runs a script: reads its lines, does them in order, and writes one reply per line.
+
+ghost use Rattle.std.specs.Prelude.{◌≡◌, ℕ, ◌<◌, ◌^◌, OnOk, length, take, false, true};
+ghost use Rattle.wasi_world.specs.Seen.{Rose};
+ghost use Rattle.wasi_world.specs.Io.{CountRose};
+ghost use Rattle.wasi_run.specs.Machine.{first_state};
+ghost use Rattle.wasi_run.specs.Closing.{IsFresh, HasClosedAll};
+ghost use Rattle.wasi_run.specs.Script.{AreNumbered, RanOver, RanScript, Completes};
+ghost use Rattle.wasi_run.specs.Headline.{RunsLicensed};
+ghost use Rattle.wasi_run.specs.Causes.{BeginsRun, DoneLines, ReadsAll, StopsAtTrap, StopsAtBadStep, StopsTooLong};
+
+use crate::lines::{LinesEnd, do_piece};
+use crate::session::Session;
+use std::alloc::{AllocError, Global};
+use thiserror::Error;
+use wasi_world::{Sink, Source, WasiSocketsCtx, World};
+
+/// How many bytes are read at a time.
+const PIECE_SIZE: usize = 4096;
+
+/// How a script ended.
+#[derive(Clone, Copy, Debug, PartialEq, Eq)]
+pub enum RunEnd {
+    /// The reader gave its end after the last whole line.
+    AllRead,
+    /// The last reply is a trap.
+    Trapped,
+}
+
+/// Why a script was left. The whole lines before were done and answered.
+#[derive(Clone, Copy, Debug, PartialEq, Eq, Error)]
+pub enum RunError {
+    /// The step that it met has no reply.
+    #[error("memory ran out")]
+    Memory,
+    /// That line, counted from 1, isn't a step or names no context, or the input ended inside it.
+    #[error("line {0} is not a step")]
+    BadStep(u32),
+    /// The reader gave a byte past the limit.
+    #[error("the script is longer than its limit")]
+    TooLong,
+    /// The reader counted a fault.
+    #[error("a read failed")]
+    ReadFault,
+    /// The writer counted a fault or a refused piece; the last reply may be cut.
+    #[error("a write failed")]
+    WriteFault,
+}
+
+impl From<AllocError> for RunError {
+    ghost use Rattle.std.specs.Prelude.{◌≡◌};
+    ghost use Rattle.wasi_run.specs.declared.run.RunError.TheVariants.{Memory};
+
+    ghost from_gives = { λ _ e. e ≡ Memory };
+
+    fn from(_: AllocError) -> RunError {
+        RunError::Memory
+    }
+}
+
+/// As many of the bytes as lie within the limit.
+#[tactic(auto, using(std::proofs::lemmas::List::take_min))]
+fn first_bytes(bytes: &[u8], limit: usize) -> &[u8]
+    ensures { result.now ≡ take limit bytes.now }
+{
+    &bytes[..bytes.len().min(limit)]
+}
+
+/// Reads pieces until the run stops, and does each line as soon as it is whole.
+fn run_lines<W: World, S: Source, K: Sink>(
+    alloc: Global,
+    session: &mut Session,
+    world: &mut W,
+    contexts: &[WasiSocketsCtx],
+    limit: u32,
+    reader: &mut S,
+    writer: &mut K,
+) -> Result<RunEnd, RunError>
+    requires open { (W.seen world.old).ended ≡ false }
+    requires few { length contexts.now < 2 ^ 32 }
+    requires machine { session.old.machine ≡ first_state }
+    requires lines { session.old.lines ≡ 0 }
+    ensures { RanOver contexts.now limit
+        (S.reading reader.old) (S.reading reader.new)
+        (K.writing writer.old) (K.writing writer.new)
+        (W.seen world.old) (W.seen world.new) session.new.machine result }
+{
+    let mut line = Vec::new(alloc);
+    let mut taken = 0;
+    let mut piece = [0u8; PIECE_SIZE];
+    'reading: while taken <= limit as usize {
+        let room = (limit as usize + 1 - taken).min(PIECE_SIZE);
+        let Ok(count) = reader.read(&mut piece[..room]) else {
+            return Err(RunError::ReadFault);
+        };
+        if count == 0 {
+            if line.is_empty() {
+                return Ok(RunEnd::AllRead);
+            }
+            return Err(RunError::BadStep(session.lines + 1));
+        }
+        let within = first_bytes(&piece[..count], limit as usize - taken);
+        taken += count;
+        let LinesEnd::AllDone = do_piece(
+            alloc, session, world, contexts, writer, &mut line, within,
+        )?
+        else {
+            return Ok(RunEnd::Trapped);
+        };
+    }
+    Err(RunError::TooLong)
+}
+
+/// Runs the script that the reader gives, and writes one reply per line.
+///
+/// Lines are done in order, each as soon as it is whole, and its reply is written before the next is done. A trap's reply
+/// ends the run. The writer isn't flushed. At every return the end mark is set, and the open network sides are closed.
+/// Takes memory for the line that isn't whole yet, besides what the steps take.
+pub fn run_script<W: World, S: Source, K: Sink>(
+    alloc: Global,
+    world: &mut W,
+    contexts: &mut Vec<WasiSocketsCtx>,
+    limit: u32,
+    reader: &mut S,
+    writer: &mut K,
+) -> Result<RunEnd, RunError>
+    requires open { (W.seen world.old).ended ≡ false }
+    requires few { length contexts.old.items < 2 ^ 32 }
+    requires numbered { AreNumbered contexts.old.items }
+    // What was read, done, asked and written.
+    ensures ran { RanScript contexts.old.items limit
+        (S.reading reader.old) (S.reading reader.new)
+        (K.writing writer.old) (K.writing writer.new)
+        (W.seen world.old) (W.seen world.new) result }
+    ensures began { BeginsRun contexts.old.items limit
+        (S.reading reader.old) (S.reading reader.new)
+        (W.seen world.old) (W.seen world.new) }
+    ensures whole { OnOk result (DoneLines contexts.old.items limit
+        (S.reading reader.old) (S.reading reader.new)
+        (K.writing writer.old) (K.writing writer.new)
+        (W.seen world.old) (W.seen world.new)) }
+    // Whatever it answers, the log is licensed.
+    ensures licensed { RunsLicensed contexts.old.items limit
+        (S.reading reader.old) (S.reading reader.new)
+        (W.seen world.old) (W.seen world.new) }
+    ensures complete { Completes (length contexts.old.items) limit
+        (S.reading reader.old) (S.reading reader.new)
+        (K.writing writer.old) (K.writing writer.new) result }
+
+    // Why it ended so.
+    ensures all_read { result ≡ Ok RunEnd.AllRead →
+        ReadsAll contexts.old.items limit
+        (S.reading reader.old) (S.reading reader.new)
+        (K.writing writer.old) (K.writing writer.new)
+        (W.seen world.old) (W.seen world.new) }
+    ensures ahead { result ≡ Ok RunEnd.Trapped →
+        StopsAtTrap 4095 contexts.old.items limit
+        (S.reading reader.old) (S.reading reader.new)
+        (K.writing writer.old) (K.writing writer.new)
+        (W.seen world.old) (W.seen world.new) }
+    ensures bad_step { (line : ℕ) → result ≡ Err (RunError.BadStep line) →
+        StopsAtBadStep contexts.old.items limit
+        (S.reading reader.old) (S.reading reader.new)
+        (K.writing writer.old) (K.writing writer.new)
+        (W.seen world.old) (W.seen world.new) line }
+    ensures too_long { result ≡ Err RunError.TooLong →
+        StopsTooLong contexts.old.items limit
+        (S.reading reader.old) (S.reading reader.new)
+        (K.writing writer.old) (K.writing writer.new)
+        (W.seen world.old) (W.seen world.new) }
+    ensures read_fault { result ≡ Err RunError.ReadFault → Rose (S.reading reader.old).faults (S.reading reader.new).faults }
+    ensures write_fault { result ≡ Err RunError.WriteFault → CountRose (K.writing writer.old) (K.writing writer.new) }
+
+    // What is left.
+    ensures ended { (W.seen world.new).ended ≡ true }
+    ensures closed { IsFresh (W.seen world.old) → HasClosedAll (W.seen world.new) }
+    ensures contexts { contexts.new.items ≡ contexts.old.items }
+{
+    let mut session = Session::new(alloc);
+    let result = run_lines(
+        alloc,
+        &mut session,
+        world,
+        contexts.as_slice(),
+        limit,
+        reader,
+        writer,
+    );
+    session.finish(world);
+    result
+}

@@ -1,0 +1,62 @@
+//! A run, step by step.
+
+ghost use Rattle.std.specs.Prelude.{◌≡◌, ◌+◌, ◌<◌, ◌^◌, false, true};
+ghost use Rattle.wasi_world.specs.Asks.{AsksFor};
+ghost use Rattle.wasi_run.specs.Machine.{first_state, machine_asks};
+ghost use Rattle.wasi_run.specs.Sides.{KnowsSides, ClosesAll};
+ghost use Rattle.wasi_run.specs.Closing.{AsksNothing};
+
+use crate::machine::Machine;
+use crate::reply::Reply;
+use crate::step::Step;
+use std::alloc::{AllocError, Global};
+use wasi_world::{WasiSocketsCtx, World};
+
+/// The machine, and how many lines it has done.
+#[derive(Drop)]
+pub struct Session {
+    pub machine: Machine,
+    pub lines: u32,
+}
+
+impl Session {
+    /// Takes no memory.
+    pub fn new(alloc: Global) -> Session
+        ensures machine { result.machine ≡ first_state }
+        ensures lines { result.lines ≡ 0 }
+    {
+        Session {
+            machine: Machine::new(alloc),
+            lines: 0,
+        }
+    }
+
+    /// Does a step, which is the next line.
+    pub fn step<W: World>(
+        &mut self,
+        alloc: Global,
+        world: &mut W,
+        contexts: &[WasiSocketsCtx],
+        step: &Step,
+    ) -> Result<Reply, AllocError>
+        requires open { (W.seen world.old).ended ≡ false }
+        requires numbers { self.old.lines + 1 < 2 ^ 32 }
+        ensures asked { AsksFor (machine_asks contexts.now self.old.machine (self.old.lines + 1) step.now self.old.machine.store.standing) (W.seen world.old) (W.seen world.new) (λ reply. (reply, self.new.machine)) result }
+        ensures lines { self.new.lines ≡ self.old.lines + 1 }
+        ensures sides { KnowsSides (W.seen world.old) self.old.machine.store → KnowsSides (W.seen world.new) self.new.machine.store }
+    {
+        self.lines += 1;
+        self.machine.step(alloc, world, contexts, self.lines, step)
+    }
+
+    /// Sets the end mark, and then closes the open network sides.
+    pub fn finish<W: World>(self, world: &mut W)
+        requires { (W.seen world.old).ended ≡ false }
+        ensures quiet { AsksNothing (W.seen world.old) (W.seen world.new) }
+        ensures ended { (W.seen world.new).ended ≡ true }
+        ensures closed { KnowsSides (W.seen world.old) self.machine.store → ClosesAll (W.seen world.old) (W.seen world.new) }
+    {
+        world.end();
+        self.machine.store.close_all(world);
+    }
+}
