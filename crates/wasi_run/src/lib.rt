@@ -15,5 +15,5 @@ pub mod store;
 pub mod table;
 
 pub use reply::{CodeWord, Field, Reply, ReplyFields};
-pub use run::{RunEnd, RunError};
+pub use run::{RunEnd, RunError, run_script};
 pub use step::Step;
