@@ -1,7 +1,9 @@
-//! Tests on addresses (`util` of the crate's `sockets` module), and the wildcard.
+//! Tests on addresses (functions of `wasmtime-wasi`'s `sockets` module), and the wildcard.
 
-ghost use Rattle.std.specs.Prelude.{◌≡◌, ◌/◌, ◌%◌};
-ghost use Rattle.wasi_addr.specs.Address.{canonical, ip_of, port_of, is_deprecated, is_ipv6, is_of_family, is_unspecified, is_remote, is_unicast, is_wildcard, wildcard};
+ghost use Rattle.std.specs.Prelude.{◌≡◌, ◌↔◌, ◌/◌, ◌%◌, true};
+ghost use Rattle.wasi_addr.specs.Address.{canonical, ip_of, port_of, is_deprecated, is_ipv6, is_of_family, is_unspecified, is_remote, is_unicast, is_wildcard, wildcard, same_address};
+ghost use Rattle.wasi_addr.specs.declared.address.SocketAddressFamily.{SocketAddressFamily};
+ghost use Rattle.wasi_addr.specs.declared.address.IpSocketAddress.{IpSocketAddress};
 
 use crate::address::{
     IpAddress, IpSocketAddress, Ipv4SocketAddress, Ipv6SocketAddress, SocketAddressFamily,
@@ -34,6 +36,7 @@ impl IpSocketAddress {
         }
     }
 
+    /// The port.
     pub fn port(self) -> u16
         ensures { result ≡ port_of self }
     {
@@ -129,6 +132,16 @@ pub fn is_unspecified_addr(addr: IpSocketAddress, family: SocketAddressFamily) -
         _ => false,
     }
 }
+
+/// The test for a wildcard is true of that family's wildcard alone, and two addresses are taken for the same exactly
+/// where they are equal.
+///
+/// It runs no code: its contract is a law about the definitions that contracts cite.
+pub fn address_tests_are_exact()
+    ensures wildcard { (f : SocketAddressFamily) (a : IpSocketAddress) →
+        (is_wildcard f a ≡ true) ↔ (a ≡ wildcard f) }
+    ensures same { (a b : IpSocketAddress) → (same_address a b ≡ true) ↔ (a ≡ b) }
+{}
 
 fn is_ipv6(addr: IpAddress) -> bool
     ensures { result ≡ is_ipv6 addr }

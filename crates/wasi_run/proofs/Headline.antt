@@ -12,6 +12,8 @@ use Rattle.wasi_run.specs.Sides.{KnowsSides, ClosesAll}
 use Rattle.wasi_run.specs.Closing.{IsFresh, HasClosedAll}
 use Rattle.wasi_run.specs.Script.{RanOver, RanScript}
 use Rattle.wasi_run.specs.Causes.{BeginsRun, DoneLines}
+use Rattle.wasi_run.specs.Headline.{RunsLicensed}
+use Rattle.wasi_run.proofs.Licences.{started_is_licensed}
 use Rattle.wasi_run.proofs.Stretches.{stays_open}
 use Rattle.wasi_run.proofs.Closings.{empty_known}
 use Rattle.wasi_run.proofs.CauseLaws.{whole_by}
@@ -26,6 +28,16 @@ begins_run h = record {
   stopped = h.stopped;
   began = h.over.ran.began [];
   quiet = h.quiet;
+}
+
+-- at every return the log is licensed
+pub runs_licensed : {contexts : List WasiSocketsCtx} {limit : ℕ} {before after : Reading} {w_old w_new : Seen} → BeginsRun contexts limit before after w_old w_new → RunsLicensed contexts limit before after w_old w_new
+runs_licensed {contexts} h = record {
+  text = h.text;
+  gave = h.gave;
+  steps = h.steps;
+  first_lines = h.first_lines;
+  licensed = λ empty. rw h.quiet.log (started_is_licensed contexts h.steps empty h.began);
 }
 
 -- whole at Ok, and so are the replies

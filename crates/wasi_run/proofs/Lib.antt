@@ -1,3 +1,6 @@
+pub mod Hosts
+pub mod Lookups
+pub mod SideCounts
 pub mod Takes
 pub mod LinesOf
 pub mod Stretches
@@ -9,3 +12,15 @@ pub mod Closings
 pub mod Completes
 pub mod CauseLaws
 pub mod Headline
+pub mod Lists
+pub mod Fine
+pub mod Frames
+pub mod Binds
+pub mod FineSteps
+pub mod Licences
+pub mod Meanings
+pub mod Rows
+pub mod Refused
+pub mod StepLaws
+pub mod ReplyTexts
+pub mod ReplyBack

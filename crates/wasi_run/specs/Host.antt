@@ -28,3 +28,9 @@ host_outcome (Ok t) = Ok (Ok t)
 host_outcome (Err (error.Code c)) = Ok (Err (Code c))
 host_outcome (Err (error.Trap k)) = Ok (Err (Trap k))
 host_outcome (Err (error.Memory e)) = Err e
+
+-- it is a code or a trap, of which this holds
+abbrev pub IsStop : SocketError → (Stop → Type 0) → Type 0
+IsStop (error.Code c) P = P (Code c)
+IsStop (error.Trap k) P = P (Trap k)
+IsStop (error.Memory e) P = ⊥

@@ -12,3 +12,7 @@ pub mod Ran
 pub mod Closing
 pub mod Script
 pub mod Causes
+pub mod Licence
+pub mod Headline
+pub mod Program
+pub mod Parsed

@@ -58,10 +58,17 @@ with_socket store place r = record store { sockets = slice_set store.sockets pla
 abbrev pub standing_bind : ℕ → ℕ → Operation → StandingBind
 standing_bind line place op = record { line = line; socket = place; bind = op }
 
+-- a bind that is pending stands under its line's number
+abbrev pub stood : Records → ℕ → ℕ → Option Operation → Answer (Unit {0}) × Records
+stood store line place None = (Ready tt, store)
+stood store line place (Some op) = (Pending, record store { standing = Some (standing_bind line place op) })
+
+abbrev pub allowed_answer : Answer (Unit {0}) × Records → Result (Answer (Unit {0})) Stop × Records
+allowed_answer done = (Ok done.0, done.1)
+
 -- the answer to the guest
 abbrev pub bind_answered : Records → ℕ → ℕ → Result (Option Operation) ErrorCode × Tcp2Socket → Result (Answer (Unit {0})) Stop × Records
-bind_answered store line place (Ok None, r) = (Ok (Ready tt), with_socket store place r)
-bind_answered store line place (Ok (Some op), r) = (Ok Pending, record (with_socket store place r) { standing = Some (standing_bind line place op) })
+bind_answered store line place (Ok begun, r) = allowed_answer (stood (with_socket store place r) line place begun)
 bind_answered store line place (Err c, r) = (Err (code_stop c), with_socket store place r)
 
 -- with an operation in progress a start is refused

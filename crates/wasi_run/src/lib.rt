@@ -3,9 +3,11 @@
 
 mod closing;
 pub mod host;
+pub mod laws;
 mod lines;
 pub mod machine;
 pub mod parse;
+pub mod program;
 pub mod reply;
 pub mod run;
 mod session;
@@ -14,6 +16,7 @@ pub mod step;
 pub mod store;
 pub mod table;
 
+pub use program::{Done, Status, run_main};
 pub use reply::{CodeWord, Field, Reply, ReplyFields};
 pub use run::{RunEnd, RunError, run_script};
 pub use step::Step;

@@ -1,16 +1,19 @@
-//! The machine that does a guest's calls.
+//! The machine that does a guest's calls, over one table of handles.
 
-ghost use Rattle.std.specs.Prelude.{◌≡◌, false};
+ghost use Rattle.std.specs.Prelude.{◌≡◌, false, IfOk, IsOkAnd, Ok};
 ghost use Rattle.wasi_world.specs.Asks.{AsksFor};
-ghost use Rattle.wasi_run.specs.Machine.{first_state, machine_asks};
-ghost use Rattle.wasi_run.specs.Sides.{KnowsSides};
+ghost use Rattle.wasi_run.specs.Host.{host_outcome, IsStop};
+ghost use Rattle.wasi_run.specs.Machine.{first_state, network_asks, create_asks, start_bind_asks, finish_bind_on, socket_at, is_network, machine_asks, step_asks, context_at, handle_reply, done_reply, answer_reply, stop_reply};
+ghost use Rattle.wasi_run.specs.Table.{kind_at};
 
-use crate::reply::Reply;
+use crate::host::SocketError;
+use crate::reply::{CodeWord, Reply};
 use crate::step::Step;
 use crate::store::Store;
-use crate::table::Table;
+use crate::table::{Kind, Table};
 use std::alloc::{AllocError, Global};
-use wasi_world::{WasiSocketsCtx, World};
+use wasi_addr::{IpSocketAddress, SocketAddressFamily};
+use wasi_world::{Answer, Handle, OpId, TrapKind, WasiSocketsCtx, World};
 
 /// The table of handles, and the records that they name.
 #[derive(Drop)]
@@ -20,6 +23,10 @@ pub struct Machine {
 }
 
 impl Machine {
+    ghost use Rattle.wasi_world.specs.Seen.{Seen};
+    ghost use Rattle.wasi_run.specs.Sides.{KnowsSides};
+
+    /// No handle, no record, no call that stands.
     pub fn new(alloc: Global) -> Machine
         ensures { result ≡ first_state }
     {
@@ -29,9 +36,91 @@ impl Machine {
         }
     }
 
+    /// Makes a network (`instance-network`).
+    fn instance_network<W: World>(
+        &mut self,
+        world: &mut W,
+        own: OpId,
+    ) -> Result<Handle, SocketError>
+        requires { (W.seen world.old).ended ≡ false }
+        ensures asked { AsksFor (network_asks self.old own) (W.seen world.old) (W.seen world.new) (λ made. (made, self.new)) (host_outcome result) }
+        ensures sides { KnowsSides (W.seen world.old) self.old.store → KnowsSides (W.seen world.new) self.new.store }
+        ensures open { (W.seen world.new).ended ≡ false }
+    {
+        self.table.make(world, own, Kind::Network, None, None)
+    }
+
+    /// Makes a TCP socket (`create-tcp-socket`). Where the context forbids TCP: `AccessDenied`.
+    fn create_tcp_socket<W: World>(
+        &mut self,
+        world: &mut W,
+        own: OpId,
+        ctx: &WasiSocketsCtx,
+        family: SocketAddressFamily,
+    ) -> Result<Handle, SocketError>
+        requires { (W.seen world.old).ended ≡ false }
+        ensures asked { AsksFor (create_asks self.old own ctx.now family) (W.seen world.old) (W.seen world.new) (λ made. (made, self.new)) (host_outcome result) }
+        ensures sides { KnowsSides (W.seen world.old) self.old.store → KnowsSides (W.seen world.new) self.new.store }
+        ensures open { (W.seen world.new).ended ≡ false }
+    {
+        self.store
+            .create_socket(&mut self.table, world, own, ctx, family)
+    }
+
+    /// The handle of the network is tested first, then that of the socket.
+    fn start_bind<W: World>(
+        &mut self,
+        world: &mut W,
+        own: OpId,
+        socket: Handle,
+        network: Handle,
+        addr: IpSocketAddress,
+    ) -> Result<Answer<()>, SocketError>
+        requires { (W.seen world.old).ended ≡ false }
+        ensures asked { AsksFor (start_bind_asks self.old own socket network addr) (W.seen world.old) (W.seen world.new) (λ answer. (answer, self.new)) (host_outcome result) }
+        ensures sides { KnowsSides (W.seen world.old) self.old.store → KnowsSides (W.seen world.new) self.new.store }
+        ensures open { (W.seen world.new).ended ≡ false }
+    {
+        if !self.is_network(network) {
+            return Err(SocketError::Trap(TrapKind::NoSuchHandle));
+        }
+        let Some(place) = self.socket(socket) else {
+            return Err(SocketError::Trap(TrapKind::NoSuchHandle));
+        };
+        self.store.start_bind(world, own, place, addr)
+    }
+
+    fn finish_bind(&mut self, socket: Handle) -> Result<(), SocketError>
+        ensures sides { (s : Seen) → KnowsSides s self.old.store → KnowsSides s self.new.store }
+        ensures answer { host_outcome result ≡ Ok (finish_bind_on self.old (socket_at self.old socket)).0 }
+        ensures state { self.new ≡ (finish_bind_on self.old (socket_at self.old socket)).1 }
+    {
+        let Some(place) = self.socket(socket) else {
+            return Err(SocketError::Trap(TrapKind::NoSuchHandle));
+        };
+        self.store.finish_bind(place)
+    }
+
+    /// The number of a socket's record.
+    fn socket(&self, handle: Handle) -> Option<usize>
+        ensures { result ≡ socket_at self.now handle }
+    {
+        match self.table.kind(handle) {
+            Some(Kind::Tcp2(place)) => Some(place),
+            _ => None,
+        }
+    }
+
+    fn is_network(&self, handle: Handle) -> bool
+        ensures { result ≡ is_network (kind_at self.now.table handle) }
+    {
+        matches!(self.table.kind(handle), Some(Kind::Network))
+    }
+
+    /// Does one step. While a call stands every guest call is busy.
     pub fn step<W: World>(
         &mut self,
-        _alloc: Global,
+        alloc: Global,
         world: &mut W,
         contexts: &[WasiSocketsCtx],
         line: u32,
@@ -42,6 +131,105 @@ impl Machine {
         ensures sides { KnowsSides (W.seen world.old) self.old.store → KnowsSides (W.seen world.new) self.new.store }
         ensures open { (W.seen world.new).ended ≡ false }
     {
-        Err(AllocError)
+        if self.store.stands() {
+            return Ok(Reply::Busy);
+        }
+        self.guest_call(alloc, world, contexts, line, step)
+    }
+
+    fn guest_call<W: World>(
+        &mut self,
+        alloc: Global,
+        world: &mut W,
+        contexts: &[WasiSocketsCtx],
+        line: u32,
+        step: &Step,
+    ) -> Result<Reply, AllocError>
+        requires { (W.seen world.old).ended ≡ false }
+        ensures asked { AsksFor (step_asks contexts.now self.old line step.now) (W.seen world.old) (W.seen world.new) (λ reply. (reply, self.new)) result }
+        ensures sides { KnowsSides (W.seen world.old) self.old.store → KnowsSides (W.seen world.new) self.new.store }
+        ensures open { (W.seen world.new).ended ≡ false }
+    {
+        let own = OpId {
+            step: line,
+            part: 0,
+        };
+        match step {
+            Step::Network { .. } => {
+                let made = self.instance_network(world, own);
+                handle_reply(alloc, made)
+            }
+            Step::TcpCreate { context, family } => {
+                let ctx = context_at(contexts, *context);
+                let made = self.create_tcp_socket(world, own, &ctx, *family);
+                handle_reply(alloc, made)
+            }
+            Step::TcpStartBind {
+                socket,
+                network,
+                addr,
+                ..
+            } => {
+                let answer = self.start_bind(world, own, *socket, *network, *addr);
+                answer_reply(alloc, line, answer)
+            }
+            Step::TcpFinishBind { socket, .. } => done_reply(alloc, self.finish_bind(*socket)),
+        }
+    }
+}
+
+/// The context of this number; one that isn't there is allowed nothing.
+fn context_at(contexts: &[WasiSocketsCtx], context: u32) -> WasiSocketsCtx
+    ensures { result ≡ context_at contexts.now context }
+{
+    match contexts.get(context as usize) {
+        Some(ctx) => *ctx,
+        None => WasiSocketsCtx::default(),
+    }
+}
+
+/// The reply of a call that makes a handle.
+fn handle_reply(alloc: Global, made: Result<Handle, SocketError>) -> Result<Reply, AllocError>
+    ensures { IfOk result (λ reply. IsOkAnd (host_outcome made) (λ x. reply ≡ handle_reply x)) }
+{
+    match made {
+        Ok(handle) => Reply::number(alloc, u64::from(handle)),
+        Err(error) => stop_reply(error),
+    }
+}
+
+/// The reply of a call that gives nothing.
+fn done_reply(alloc: Global, done: Result<(), SocketError>) -> Result<Reply, AllocError>
+    ensures { IfOk result (λ reply. IsOkAnd (host_outcome done) (λ x. reply ≡ done_reply x)) }
+{
+    match done {
+        Ok(()) => Ok(Reply::done(alloc)),
+        Err(error) => stop_reply(error),
+    }
+}
+
+/// The reply of a call that may be pending; it then stands under its line's number.
+fn answer_reply(
+    alloc: Global,
+    line: u32,
+    answer: Result<Answer<()>, SocketError>,
+) -> Result<Reply, AllocError>
+    ensures { IfOk result (λ reply. IsOkAnd (host_outcome answer) (λ x. reply ≡ answer_reply line x)) }
+{
+    match answer {
+        Ok(Answer::Ready(())) => Ok(Reply::done(alloc)),
+        Ok(Answer::Pending) => Ok(Reply::Pending(line)),
+        Err(error) => stop_reply(error),
+    }
+}
+
+/// The reply of a call that gives no value; want of memory has none.
+fn stop_reply(error: SocketError) -> Result<Reply, AllocError>
+    ensures { IfOk result (λ reply. IsStop error (λ stop. reply ≡ stop_reply stop)) }
+{
+    match error {
+        SocketError::Code(code) => Ok(Reply::Err(CodeWord::from_p2(code))),
+        SocketError::Trap(kind) => Ok(Reply::Trap(kind)),
+        SocketError::Memory(e) => Err(e),
     }
 }

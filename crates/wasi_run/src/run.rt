@@ -6,6 +6,7 @@ ghost use Rattle.wasi_world.specs.Io.{CountRose};
 ghost use Rattle.wasi_run.specs.Machine.{first_state};
 ghost use Rattle.wasi_run.specs.Closing.{IsFresh, HasClosedAll};
 ghost use Rattle.wasi_run.specs.Script.{AreNumbered, RanOver, RanScript, Completes};
+ghost use Rattle.wasi_run.specs.Headline.{RunsLicensed};
 ghost use Rattle.wasi_run.specs.Causes.{BeginsRun, DoneLines, ReadsAll, StopsAtTrap, StopsAtBadStep, StopsTooLong};
 
 use crate::lines::{LinesEnd, do_piece};
@@ -138,6 +139,10 @@ pub fn run_script<W: World, S: Source, K: Sink>(
         (S.reading reader.old) (S.reading reader.new)
         (K.writing writer.old) (K.writing writer.new)
         (W.seen world.old) (W.seen world.new)) }
+    // Whatever it answers, the log is licensed.
+    ensures licensed { RunsLicensed contexts.old.items limit
+        (S.reading reader.old) (S.reading reader.new)
+        (W.seen world.old) (W.seen world.new) }
     ensures complete { Completes (length contexts.old.items) limit
         (S.reading reader.old) (S.reading reader.new)
         (K.writing writer.old) (K.writing writer.new) result }

@@ -1,15 +1,20 @@
 //! The records that handles name, and the call that stands.
 
-ghost use Rattle.std.specs.Prelude.{◌≡◌, true};
-ghost use Rattle.wasi_run.specs.Sides.{held_in};
-ghost use Rattle.wasi_run.specs.Closing.{ClosesSides};
+ghost use Rattle.std.specs.Prelude.{◌≡◌, true, is_some, ◌<◌, false, IfOk, Ok, OnErr, slice_get, length};
+ghost use Rattle.wasi_world.specs.Asks.{AsksFor};
+ghost use Rattle.wasi_world.specs.Seen.{Seen};
+ghost use Rattle.wasi_run.specs.Host.{host_outcome};
+ghost use Rattle.wasi_run.specs.Store.{no_records, start_bind_at, finish_bind_at, with_record, stood};
 
 use crate::closing::close_sides;
-use crate::socket::Tcp2Socket;
-use std::alloc::Global;
+use crate::host::SocketError;
+use crate::socket::{InProgress, Tcp2Socket};
+use crate::table::{Kind, Table};
+use std::alloc::{AllocError, Global};
 use std::marker::Model;
-use wasi_tcp::BindOp;
-use wasi_world::World;
+use wasi_addr::{IpSocketAddress, SocketAddressFamily, p2};
+use wasi_tcp::{BindOp, TcpSocket};
+use wasi_world::{Answer, Handle, OpId, TrapKind, WasiSocketsCtx, World};
 
 /// A bind that stands pending: while it does, every other guest call is busy.
 #[derive(Drop)]
@@ -37,7 +42,9 @@ impl Model for Store {
 }
 
 impl Store {
-    ghost use Rattle.wasi_run.specs.Store.{no_records};
+    ghost use Rattle.wasi_run.specs.Machine.{create_asks};
+    ghost use Rattle.wasi_run.specs.Closing.{ClosesSides};
+    ghost use Rattle.wasi_run.specs.Sides.{KnowsSides, held_in};
 
     pub fn new(alloc: Global) -> Store
         ensures { result ≡ no_records }
@@ -48,11 +55,100 @@ impl Store {
         }
     }
 
+    /// Makes a TCP socket, its record and its handle. Room for the record is taken before the side is made, so that a side
+    /// that was made is always known, also where no handle can be made for it.
+    pub fn create_socket<W: World>(
+        &mut self,
+        table: &mut Table,
+        world: &mut W,
+        own: OpId,
+        ctx: &WasiSocketsCtx,
+        family: SocketAddressFamily,
+    ) -> Result<Handle, SocketError>
+        requires { (W.seen world.old).ended ≡ false }
+        ensures asked { AsksFor (create_asks (record { table = table.old; store = self.old }) own ctx.now family) (W.seen world.old) (W.seen world.new) (λ made. (made, record { table = table.new; store = self.new })) (host_outcome result) }
+        ensures sides { KnowsSides (W.seen world.old) self.old → KnowsSides (W.seen world.new) self.new }
+        ensures open { (W.seen world.new).ended ≡ false }
+    {
+        self.sockets.reserve(1)?;
+        let socket = TcpSocket::new(world, own, ctx, family)?;
+        let place = self.sockets.len();
+        let side = socket.side();
+        self.sockets.push_reserved(Tcp2Socket::new(socket));
+        table.make(world, own, Kind::Tcp2(place), None, side)
+    }
+
+    /// Begins a bind of the socket of this number. An operation in progress: `ConcurrencyConflict`. A bind that is
+    /// pending stands.
+    pub fn start_bind<W: World>(
+        &mut self,
+        world: &mut W,
+        op: OpId,
+        place: usize,
+        addr: IpSocketAddress,
+    ) -> Result<Answer<()>, SocketError>
+        requires { (W.seen world.old).ended ≡ false }
+        ensures asked { AsksFor (start_bind_at self.old op place addr (slice_get self.old.sockets place)) (W.seen world.old) (W.seen world.new) (λ answer. (answer, self.new)) (host_outcome result) }
+        ensures sides { KnowsSides (W.seen world.old) self.old → KnowsSides (W.seen world.new) self.new }
+        ensures open { (W.seen world.new).ended ≡ false }
+    {
+        let Some(record) = self.sockets.get_mut(place) else {
+            return Err(SocketError::Trap(TrapKind::NoSuchHandle));
+        };
+        match record.in_progress {
+            InProgress::Bind => return Err(SocketError::Code(p2::ErrorCode::ConcurrencyConflict)),
+            InProgress::Nothing => {}
+        }
+        let begun = record.begin_bind(world, op, addr)?;
+        Ok(self.stand(op.step, place, begun))
+    }
+
+    /// Ends the bind in progress. None is: `NotInProgress`.
+    pub fn finish_bind(&mut self, place: usize) -> Result<(), SocketError>
+        ensures sides { (s : Seen) → KnowsSides s self.old → KnowsSides s self.new }
+        ensures answer { host_outcome result ≡ Ok (finish_bind_at self.old place (slice_get self.old.sockets place)).0 }
+        ensures state { self.new ≡ (finish_bind_at self.old place (slice_get self.old.sockets place)).1 }
+    {
+        let Some(record) = self.sockets.get_mut(place) else {
+            return Err(SocketError::Trap(TrapKind::NoSuchHandle));
+        };
+        match record.in_progress {
+            InProgress::Nothing => return Err(SocketError::Code(p2::ErrorCode::NotInProgress)),
+            InProgress::Bind => {}
+        }
+        record.in_progress = InProgress::Nothing;
+        Ok(())
+    }
+
     /// Closes the network sides that the records hold, after the end mark; takes no memory.
     pub fn close_all<W: World>(self, world: &mut W)
         requires { (W.seen world.old).ended ≡ true }
         ensures { ClosesSides (W.seen world.old) (W.seen world.new) (held_in self.sockets) }
     {
         close_sides(world, self.sockets.as_slice());
+    }
+
+    /// Whether a call stands.
+    pub fn stands(&self) -> bool
+        ensures { result ≡ is_some self.now.standing }
+    {
+        self.standing.is_some()
+    }
+
+    /// A bind that is pending stands.
+    fn stand(&mut self, line: u32, place: usize, begun: Option<BindOp>) -> Answer<()>
+        ensures { (result, self.new) ≡ stood self.old line place begun }
+    {
+        match begun {
+            None => Answer::Ready(()),
+            Some(bind) => {
+                self.standing = Some(StandingBind {
+                    line,
+                    socket: place,
+                    bind,
+                });
+                Answer::Pending
+            }
+        }
     }
 }

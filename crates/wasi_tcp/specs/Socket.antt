@@ -18,6 +18,8 @@ use Rattle.wasi_tcp.specs.Bind.{bind_operation}
 
 abbrev pub side_in : TcpState → Option OpId
 side_in (state.Default side) = Some side
+side_in (state.Connecting op) = Some op.who.side
+side_in (state.Connected connection) = Some connection.side
 side_in (state.Closed c) = None
 
 abbrev pub side_of : Socket → Option OpId
@@ -43,7 +45,7 @@ after_local socket (Err c) = (false, socket)
 
 abbrev pub ask_bound : OpId → Socket → TcpState → Asks (Bool × Socket)
 ask_bound op socket (state.Default side) = bind (ask_local op side) (λ told. Give (after_local socket told))
-ask_bound op socket (state.Closed c) = Give (true, record socket { bound = true })
+ask_bound op socket _ = Give (true, record socket { bound = true })
 
 -- whether it is bound: kept, or asked for in the state Default; in any other it is
 abbrev pub bound_asks : OpId → Socket → Asks (Bool × Socket)
@@ -54,7 +56,7 @@ bind_allowed op socket a (state.Default side) =
     if is_unicast (ip_of a) && is_of_family (ip_of a) socket.family
     then Ok (bind_operation (record { op = op; side = side; maker = socket.maker }) a Check)
     else Err InvalidArgument
-bind_allowed op socket a (state.Closed c) = Err InvalidState
+bind_allowed op socket a _ = Err InvalidState
 
 -- the tests of a bind, where it is known whether the socket is bound
 abbrev pub bind_start : OpId → Socket → IpSocketAddress → Bool → Result Operation ErrorCode

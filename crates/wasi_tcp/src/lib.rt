@@ -4,7 +4,10 @@
 #![tactic(auto)]
 
 mod bind;
+mod connect;
+pub mod laws;
 mod socket;
 
 pub use bind::{BindOp, BindStage};
-pub use socket::{TcpSocket, TcpState};
+pub use connect::{ConnectOp, ConnectStage};
+pub use socket::{Connection, TcpSocket, TcpState};

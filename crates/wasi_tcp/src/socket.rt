@@ -1,26 +1,141 @@
 //! A TCP socket and its states.
 
-ghost use Rattle.std.specs.Prelude.{◌≡◌, false, OnErr};
-ghost use Rattle.wasi_world.specs.Asks.{AsksFor, outcome};
+ghost use Rattle.std.specs.Prelude.{◌≡◌, true, false, OnErr, IfOk, Ok, Some};
+ghost use Rattle.wasi_world.specs.Asks.{AsksFor, Reaches, outcome};
+ghost use Rattle.wasi_world.specs.Typed.{ask_local};
+ghost use Rattle.wasi_tcp.specs.Bind.{IsOf};
 
-use crate::bind::BindOp;
+use crate::bind::{Asker, BindOp};
+use crate::connect::ConnectOp;
 use std::alloc::AllocError;
 use std::marker::Model;
 use wasi_addr::{
     ErrorCode, IpSocketAddress, SocketAddressFamily, is_unspecified_addr, is_valid_address_family,
-    is_valid_unicast_address,
+    is_valid_remote_address, is_valid_unicast_address, unspecified_addr,
 };
-use wasi_world::{OpId, Refusal, Sock, WasiSocketsCtx, World, asks};
+use wasi_world::{Answer, OpId, Refusal, Sock, WasiSocketsCtx, World, asks};
 
 /// How many connections may wait at a listener, unless it is set.
 const DEFAULT_BACKLOG: u32 = 128;
 
-/// The state of a socket, with its network side where it has one.
+/// A connection: its network side, the remote address once it was told, and which of its two halves were taken.
 #[derive(Clone, Copy, Debug, PartialEq, Eq)]
+pub struct Connection {
+    pub side: Sock,
+    pub peer: Option<IpSocketAddress>,
+    pub receive_taken: bool,
+    pub send_taken: bool,
+}
+
+impl Connection {
+    ghost use Rattle.wasi_tcp.specs.Connecting.{new_connection};
+    ghost use Rattle.wasi_tcp.specs.Addresses.{peer_asks};
+
+    fn new(side: Sock) -> Connection
+        ensures { result ≡ new_connection side }
+    {
+        Connection {
+            side,
+            peer: None,
+            receive_taken: false,
+            send_taken: false,
+        }
+    }
+
+    /// The remote address, which is kept once it is told.
+    fn remote_address<W: World>(
+        &mut self,
+        world: &mut W,
+        op: OpId,
+    ) -> Result<IpSocketAddress, Refusal>
+        requires { (W.seen world.old).ended ≡ false }
+        ensures asked { AsksFor (peer_asks op self.old) (W.seen world.old) (W.seen world.new) (λ answer. (answer, self.new)) (outcome result) }
+        ensures err { OnErr (outcome result) (self.new ≡ self.old) }
+        ensures side { self.new.side ≡ self.old.side }
+        ensures open { (W.seen world.new).ended ≡ false }
+    {
+        if let Some(peer) = self.peer {
+            return Ok(peer);
+        }
+        let told = asks::peer(world, op, self.side)?;
+        match told {
+            Ok(peer) => {
+                self.peer = Some(peer);
+                Ok(peer)
+            }
+            Err(code) => Err(Refusal::Code(code)),
+        }
+    }
+}
+
+/// The state of a socket, with its network side where it has one.
+#[derive(Drop)]
 pub enum TcpState {
     Default(Sock),
+    /// A connect was started; it is polled until it ends.
+    Connecting(ConnectOp),
+    Connected(Connection),
     /// Closed, and why.
     Closed(ErrorCode),
+}
+
+impl TcpState {
+    ghost use Rattle.wasi_tcp.specs.Socket.{side_in};
+    ghost use Rattle.wasi_tcp.specs.Connecting.{finish_in, settled};
+    ghost use Rattle.wasi_tcp.specs.Addresses.{remote_in};
+
+    /// Polls the connect, where there is one.
+    fn poll_finish_connect<W: World>(&mut self, world: &mut W) -> Result<Answer<()>, Refusal>
+        requires { (W.seen world.old).ended ≡ false }
+        ensures asked { AsksFor (finish_in self.old) (W.seen world.old) (W.seen world.new) (λ answer. (answer, self.new)) (outcome result) }
+        ensures err { OnErr (outcome result) (Reaches (finish_in self.old) (finish_in self.new) (W.seen world.old) (W.seen world.new)) }
+        ensures side { OnErr (outcome result) (side_in self.new ≡ side_in self.old) }
+        ensures open { (W.seen world.new).ended ≡ false }
+    {
+        match self {
+            TcpState::Default(_) => Err(Refusal::Code(ErrorCode::InvalidState)),
+            TcpState::Connecting(connect) => {
+                let side = connect.side();
+                let polled = connect.poll(world);
+                self.settle(side, &polled);
+                polled
+            }
+            TcpState::Connected(_) => Ok(Answer::Ready(())),
+            TcpState::Closed(code) => Err(Refusal::Code(*code)),
+        }
+    }
+
+    /// What a poll of the connect makes of the state.
+    fn settle(&mut self, side: Sock, polled: &Result<Answer<()>, Refusal>)
+        ensures { self.new ≡ settled side self.old polled.now }
+    {
+        match polled {
+            Ok(Answer::Ready(())) => *self = TcpState::Connected(Connection::new(side)),
+            Err(Refusal::Code(code)) => *self = TcpState::Closed(*code),
+            Ok(Answer::Pending) | Err(Refusal::Memory(_)) => {}
+        }
+    }
+
+    /// The remote address of a connection.
+    fn remote_address<W: World>(
+        &mut self,
+        world: &mut W,
+        op: OpId,
+    ) -> Result<IpSocketAddress, Refusal>
+        requires { (W.seen world.old).ended ≡ false }
+        ensures asked { AsksFor (remote_in op self.old) (W.seen world.old) (W.seen world.new) (λ answer. (answer, self.new)) (outcome result) }
+        ensures err { OnErr (outcome result) (self.new ≡ self.old) }
+        ensures side { side_in self.new ≡ side_in self.old }
+        ensures open { (W.seen world.new).ended ≡ false }
+    {
+        match self {
+            TcpState::Connected(connection) => connection.remote_address(world, op),
+            TcpState::Closed(code) => Err(Refusal::Code(*code)),
+            TcpState::Default(_) | TcpState::Connecting(_) => {
+                Err(Refusal::Code(ErrorCode::InvalidState))
+            }
+        }
+    }
 }
 
 /// A TCP socket. It keeps whether it is bound once that is known, and the context that made it, which its checks name.
@@ -43,6 +158,8 @@ impl Model for TcpSocket {
 
 impl TcpSocket {
     ghost use Rattle.wasi_tcp.specs.Socket.{side_of, new_asks, bound_asks, bind_asks, after_local, bind_start};
+    ghost use Rattle.wasi_tcp.specs.Connecting.{start_connect_asks, connect_start, finish_connect_asks};
+    ghost use Rattle.wasi_tcp.specs.Addresses.{state_text, local_side, local_asks, local_where, remote_asks};
 
     /// Makes a socket in the state Default, where the context may use TCP; else `AccessDenied` without a call.
     /// A code that the create tells is answered.
@@ -54,6 +171,8 @@ impl TcpSocket {
     ) -> Result<TcpSocket, Refusal>
         requires { (W.seen world.old).ended ≡ false }
         ensures asked { AsksFor (new_asks op ctx.now family) (W.seen world.old) (W.seen world.new) (λ made. made) (outcome result) }
+        ensures side { IfOk result (λ socket. side_of socket ≡ Some op) }
+        ensures unasked { OnErr (outcome result) (W.seen world.new ≡ W.seen world.old) }
         ensures open { (W.seen world.new).ended ≡ false }
     {
         if !ctx.tcp {
@@ -73,9 +192,13 @@ impl TcpSocket {
     }
 
     /// The state's name, as the crate's `Debug` has it.
-    pub fn state_name(&self) -> &'static str {
+    pub fn state_name(&self) -> &'static str
+        ensures { result.now ≡ state_text self.now.state }
+    {
         match self.state {
             TcpState::Default(_) => "Default",
+            TcpState::Connecting(_) => "Connecting",
+            TcpState::Connected(_) => "Connected",
             TcpState::Closed(_) => "Closed",
         }
     }
@@ -84,8 +207,10 @@ impl TcpSocket {
     pub fn side(&self) -> Option<Sock>
         ensures { result ≡ side_of self.now }
     {
-        match self.state {
-            TcpState::Default(side) => Some(side),
+        match &self.state {
+            TcpState::Default(side) => Some(*side),
+            TcpState::Connecting(connect) => Some(connect.side()),
+            TcpState::Connected(connection) => Some(connection.side),
             TcpState::Closed(_) => None,
         }
     }
@@ -101,7 +226,10 @@ impl TcpSocket {
     pub fn is_bound<W: World>(&mut self, world: &mut W, op: OpId) -> Result<bool, AllocError>
         requires { (W.seen world.old).ended ≡ false }
         ensures asked { AsksFor (bound_asks op self.old) (W.seen world.old) (W.seen world.new) (λ bound. (bound, self.new)) result }
+        ensures kept { IfOk result (λ bound. self.new.bound ≡ bound) }
         ensures err { OnErr result (self.new ≡ self.old) }
+        ensures unasked { OnErr result (W.seen world.new ≡ W.seen world.old) }
+        ensures side { side_of self.new ≡ side_of self.old }
         ensures open { (W.seen world.new).ended ≡ false }
     {
         if self.bound {
@@ -112,7 +240,7 @@ impl TcpSocket {
                 let told = asks::local(world, op, side)?;
                 Ok(self.learn_bound(told))
             }
-            TcpState::Closed(_) => {
+            _ => {
                 self.bound = true;
                 Ok(true)
             }
@@ -121,7 +249,8 @@ impl TcpSocket {
 
     /// What the local address tells; a yes is kept.
     fn learn_bound(&mut self, told: Result<IpSocketAddress, ErrorCode>) -> bool
-        ensures { (result, self.new) ≡ after_local self.old told }
+        ensures learned { (result, self.new) ≡ after_local self.old told }
+        ensures side { side_of self.new ≡ side_of self.old }
     {
         match told {
             Ok(addr) => {
@@ -145,6 +274,8 @@ impl TcpSocket {
     ) -> Result<BindOp, Refusal>
         requires { (W.seen world.old).ended ≡ false }
         ensures asked { AsksFor (bind_asks op self.old addr) (W.seen world.old) (W.seen world.new) (λ begun. (begun, self.new)) (outcome result) }
+        ensures its_socket { IfOk result (λ begun. IsOf begun self.new) }
+        ensures side { side_of self.new ≡ side_of self.old }
         ensures open { (W.seen world.new).ended ≡ false }
     {
         let bound = self.is_bound(world, op)?;
@@ -153,7 +284,8 @@ impl TcpSocket {
 
     /// The tests of a bind.
     fn begin_bind(&self, op: OpId, addr: IpSocketAddress, bound: bool) -> Result<BindOp, Refusal>
-        ensures { outcome result ≡ Ok (bind_start op self.now addr bound) }
+        ensures begun { outcome result ≡ Ok (bind_start op self.now addr bound) }
+        ensures its_socket { IfOk result (λ begun. IsOf begun self.now) }
     {
         if bound {
             return Err(Refusal::Code(ErrorCode::InvalidState));
@@ -167,7 +299,158 @@ impl TcpSocket {
                 }
                 Ok(BindOp::new(op, side, self.maker, addr))
             }
-            TcpState::Closed(_) => Err(Refusal::Code(ErrorCode::InvalidState)),
+            _ => Err(Refusal::Code(ErrorCode::InvalidState)),
         }
+    }
+
+    /// Begins a connect to the address, which `poll_finish_connect` polls; nothing is checked yet. Not in the state
+    /// Default: `InvalidState`, without an ask. Not unicast, not remote, or not of the socket's family:
+    /// `InvalidArgument`, and the socket stays in the state Default.
+    pub fn start_connect<W: World>(
+        &mut self,
+        world: &mut W,
+        op: OpId,
+        addr: IpSocketAddress,
+    ) -> Result<(), Refusal>
+        requires { (W.seen world.old).ended ≡ false }
+        ensures asked { AsksFor (start_connect_asks op self.old addr) (W.seen world.old) (W.seen world.new) (λ answer. (answer, self.new)) (outcome result) }
+        ensures err { OnErr (outcome result) (self.new ≡ self.old) }
+        ensures side { side_of self.new ≡ side_of self.old }
+        ensures open { (W.seen world.new).ended ≡ false }
+    {
+        let TcpState::Default(side) = self.state else {
+            return Err(Refusal::Code(ErrorCode::InvalidState));
+        };
+        let bound = self.is_bound(world, op)?;
+        self.begin_connect(op, side, addr, bound)
+    }
+
+    /// The tests of a connect.
+    fn begin_connect(
+        &mut self,
+        op: OpId,
+        side: Sock,
+        addr: IpSocketAddress,
+        bound: bool,
+    ) -> Result<(), Refusal>
+        requires { side_of self.old ≡ Some side }
+        ensures answer { outcome result ≡ Ok (connect_start op side self.old addr bound).0 }
+        ensures socket { self.new ≡ (connect_start op side self.old addr bound).1 }
+        ensures side { side_of self.new ≡ side_of self.old }
+    {
+        if !is_valid_unicast_address(addr.ip())
+            || !is_valid_remote_address(addr)
+            || !is_valid_address_family(addr.ip(), self.family)
+        {
+            return Err(Refusal::Code(ErrorCode::InvalidArgument));
+        }
+        let asker = Asker {
+            op,
+            side,
+            maker: self.maker,
+        };
+        let wildcard = unspecified_addr(self.family);
+        self.state = TcpState::Connecting(ConnectOp::new(asker, wildcard, addr, bound));
+        Ok(())
+    }
+
+    /// Polls the connect that was started: done, the socket is Connected; refused, its side is closed, and it is
+    /// Closed with the code that is answered. Connected already: ready. Closed: its code. Default: `InvalidState`.
+    /// After want of memory the connect stands as after its last answered ask, and may be polled again.
+    pub fn poll_finish_connect<W: World>(&mut self, world: &mut W) -> Result<Answer<()>, Refusal>
+        requires { (W.seen world.old).ended ≡ false }
+        ensures asked { AsksFor (finish_connect_asks self.old) (W.seen world.old) (W.seen world.new) (λ answer. (answer, self.new)) (outcome result) }
+        ensures err { OnErr (outcome result) (Reaches (finish_connect_asks self.old) (finish_connect_asks self.new) (W.seen world.old) (W.seen world.new)) }
+        ensures side { OnErr (outcome result) (side_of self.new ≡ side_of self.old) }
+        ensures open { (W.seen world.new).ended ≡ false }
+    {
+        self.state.poll_finish_connect(world)
+    }
+
+    /// The local address. Not bound, or connecting: `InvalidState`. Closed: its code. A code that is told is answered.
+    pub fn local_address<W: World>(
+        &mut self,
+        world: &mut W,
+        op: OpId,
+    ) -> Result<IpSocketAddress, Refusal>
+        requires { (W.seen world.old).ended ≡ false }
+        ensures asked { AsksFor (local_asks op self.old) (W.seen world.old) (W.seen world.new) (λ answer. (answer, self.new)) (outcome result) }
+        ensures err { OnErr (outcome result) (Reaches (local_asks op self.old) (local_asks op self.new) (W.seen world.old) (W.seen world.new)) }
+        ensures side { side_of self.new ≡ side_of self.old }
+        ensures open { (W.seen world.new).ended ≡ false }
+    {
+        let bound = self.is_bound(world, op)?;
+        self.local_where(world, op, bound)
+    }
+
+    /// Asks for the local address of a socket that is bound.
+    fn local_where<W: World>(
+        &self,
+        world: &mut W,
+        op: OpId,
+        bound: bool,
+    ) -> Result<IpSocketAddress, Refusal>
+        requires { (W.seen world.old).ended ≡ false }
+        ensures asked { AsksFor (local_where op self.now bound) (W.seen world.old) (W.seen world.new) (λ answer. (answer, self.now)) (outcome result) }
+        ensures err { OnErr (outcome result) (W.seen world.new ≡ W.seen world.old) }
+        ensures bound { OnErr (outcome result) (bound ≡ true) }
+        ensures open { (W.seen world.new).ended ≡ false }
+    {
+        match self.local_side(bound) {
+            Ok(side) => told_address(world, op, side),
+            Err(code) => Err(Refusal::Code(code)),
+        }
+    }
+
+    /// The side whose local address may be asked for.
+    fn local_side(&self, bound: bool) -> Result<Sock, ErrorCode>
+        ensures { result ≡ local_side self.now bound }
+    {
+        if !bound {
+            return Err(ErrorCode::InvalidState);
+        }
+        match &self.state {
+            TcpState::Default(side) => Ok(*side),
+            TcpState::Connecting(_) => Err(ErrorCode::InvalidState),
+            TcpState::Connected(connection) => Ok(connection.side),
+            TcpState::Closed(code) => Err(*code),
+        }
+    }
+
+    /// The remote address of a connection, which is kept once it is told. Closed: its code. Not Connected:
+    /// `InvalidState`. A code that is told is answered.
+    pub fn remote_address<W: World>(
+        &mut self,
+        world: &mut W,
+        op: OpId,
+    ) -> Result<IpSocketAddress, Refusal>
+        requires { (W.seen world.old).ended ≡ false }
+        ensures asked { AsksFor (remote_asks op self.old) (W.seen world.old) (W.seen world.new) (λ answer. (answer, self.new)) (outcome result) }
+        ensures err { OnErr (outcome result) (self.new ≡ self.old) }
+        ensures side { side_of self.new ≡ side_of self.old }
+        ensures open { (W.seen world.new).ended ≡ false }
+    {
+        self.state.remote_address(world, op)
+    }
+
+    /// Whether it listens: not in the states that exist.
+    pub fn is_listening(&self) -> bool
+        ensures { result ≡ false }
+    {
+        false
+    }
+}
+
+/// The local address of a side.
+fn told_address<W: World>(world: &mut W, op: OpId, side: Sock) -> Result<IpSocketAddress, Refusal>
+    requires { (W.seen world.old).ended ≡ false }
+    ensures asked { AsksFor (ask_local op side) (W.seen world.old) (W.seen world.new) (λ told. told) (outcome result) }
+    ensures err { OnErr (outcome result) (W.seen world.new ≡ W.seen world.old) }
+    ensures open { (W.seen world.new).ended ≡ false }
+{
+    let told = asks::local(world, op, side)?;
+    match told {
+        Ok(addr) => Ok(addr),
+        Err(code) => Err(Refusal::Code(code)),
     }
 }

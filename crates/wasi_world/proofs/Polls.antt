@@ -9,8 +9,8 @@ use Rattle.wasi_world.specs.declared.outcome.Answer.TheVariants as answer
 use Rattle.wasi_world.specs.declared.outcome.Refusal.{Refusal}
 use Rattle.wasi_world.specs.declared.outcome.Refusal.TheVariants as refusal
 use Rattle.wasi_world.specs.Seen.{Seen}
-use Rattle.wasi_world.specs.Asks.{Give, bind, Reaches}
-use Rattle.wasi_world.specs.Operation.{Given, Nothing, Item, Last, Who, Operation, Goes, Stays, Again, Ends, NothingLast, CloseLast, ShutdownLast, Waits, Done, Refused, front, polls, poll_asks, end_of, Ended, PollsFor}
+use Rattle.wasi_world.specs.Asks.{Give, bind, Reaches, AsksFor, outcome}
+use Rattle.wasi_world.specs.Operation.{Given, Nothing, Item, Last, Who, Operation, Goes, Stays, Again, Ends, NothingLast, CloseLast, ShutdownLast, End, Waits, Done, Refused, front, polls, poll_asks, end_of, Ended, PollsFor}
 use Rattle.wasi_world.specs.Typed.{ask_close, ask_shutdown}
 use Rattle.wasi_world.proofs.Walks.{reaches_all, reaches_then, reaches_in, reaches_on}
 
@@ -88,3 +88,13 @@ polls_on {r = Err (refusal.Memory e)} w h k = record { who = rw (← w) k.who; e
 pub polls_over : {T : Type 0} (who : Who) {s : Seen} {gives : T → Given} {kept : Given} {x : T} → gives x ≡ Nothing → PollsFor gives kept (record { who = who; left = [] }) (record { who = who; left = [] }) s s (Ok (answer.Ready x))
 unfolding polls
 polls_over who {s} h = polls_end refl (rw h (reaches_all (Give (Done Nothing, [])) s))
+
+-- == as a part of a call
+abbrev pub end_told : {T : Type 0} → (T → Given) → Given → Result (Answer T) ErrorCode → End
+end_told gives kept (Ok a) = end_of gives a
+end_told gives kept (Err c) = Refused c kept
+
+pub polls_asks : {T : Type 0} {gives : T → Given} {kept : Given} {old new : Operation} {s t : Seen} {r : Result (Answer T) Refusal} → PollsFor gives kept old new s t r → AsksFor (poll_asks old) s t (λ e. (end_told gives kept e, new.left)) (outcome r)
+polls_asks {r = Ok a} h = record { ok = h.ended; err = tt }
+polls_asks {r = Err (refusal.Code c)} h = record { ok = h.ended; err = tt }
+polls_asks {new} {r = Err (refusal.Memory e)} h = record { ok = tt; err = record { rest = poll_asks new; reached = h.ended } }

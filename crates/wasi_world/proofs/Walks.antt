@@ -1,5 +1,5 @@
 -- Walks of one tree of asks after another.
-use Rattle.std.specs.Prelude.{◌≡◌, ℕ, List, [], ◌∷◌, ◌++◌, Option, Some, None, Result, Ok, Err, option_map, refl, IsErrAnd}
+use Rattle.std.specs.Prelude.{◌≡◌, ℕ, List, [], ◌∷◌, ◌++◌, Option, Some, None, Result, Ok, Err, option_map, refl, IsErrAnd, IsOkAnd, IfOk, OnErr}
 use Rattle.std.specs.declared.alloc.AllocError.{AllocError}
 use Rattle.std.proofs.Common.{append-nil, append_assoc, ap, sym, subst, ◌∙◌}
 use Rattle.wasi_world.specs.declared.call.Entry.{Entry}
@@ -8,7 +8,7 @@ use Rattle.wasi_world.specs.declared.call.Call.{Call}
 use Rattle.wasi_world.specs.declared.call.Told.{Told}
 use Rattle.wasi_addr.specs.declared.code.ErrorCode.{ErrorCode}
 use Rattle.wasi_world.specs.declared.outcome.Refusal.{Refusal}
-use Rattle.wasi_world.specs.declared.outcome.Refusal.TheVariants.{Memory}
+use Rattle.wasi_world.specs.declared.outcome.Refusal.TheVariants.{Code, Memory}
 use Rattle.wasi_world.specs.Seen.{Seen, CountsAll, Passes}
 use Rattle.wasi_world.specs.Asks.{Asks, Give, Ask, AskWrite, bind, one, one_write, Left, Reaches, Started, AsksFor, outcome}
 
@@ -65,6 +65,11 @@ pub reaches_on : {A B : Type 0} {asks : Asks A} {a : A} (f : A → Asks B) {s t 
 unfolding bind
 reaches_on f h = reaches_in f h
 
+-- the same, where it is said of a want of memory
+pub err_in : {A B T : Type 0} (asks rest : Asks A) (f : A → Asks B) (s t : Seen) (r : Result T AllocError) → OnErr r (Reaches asks rest s t) → OnErr r (Reaches (bind asks f) (bind rest f) s t)
+err_in asks rest f s t (Ok x) h = tt
+err_in asks rest f s t (Err d) h = reaches_in f h
+
 -- one call, whose answer is seen as another type
 left_typed : {B : Type 0} (f : Told → B) (op : OpId) (call : Call) (es : List Entry) (told : Told) → Left (one op call) es (Give told) → Left (Ask op call (λ t. Give (f t))) es (Give (f told))
 unfolding bind
@@ -115,3 +120,40 @@ refused_exit {asks} f r h k = rw (outcome_memory r h) (record { ok = tt; err = r
 -- after the first ask no others, and this is the result
 pub refused_end : {A B T : Type 0} {asks : Asks A} (f : A → Asks B) {s t : Seen} {view : Result T ErrorCode → B} {x : Result T ErrorCode} (r : Result T Refusal) {a : A} → Reaches asks (Give a) s t → outcome r ≡ Ok x → f a ≡ Give (view x) → AsksFor (bind asks f) s t view (outcome r)
 refused_end f r h e k = rw e (asks_end f h k)
+
+-- a refusal that is passed on by a `?`
+pub refused_on : {A B T U : Type 0} {asks : Asks A} (f : A → Asks B) {s t : Seen} {view : Result T ErrorCode → A} {shown : Result U ErrorCode → B} (x : Refusal) (r : Result U Refusal) → IsErrAnd r (λ y. y ≡ x) → AsksFor asks s t view (outcome {T = T} (Err x)) → ((c : ErrorCode) → f (view (Err c)) ≡ Give (shown (Err c))) → AsksFor (bind asks f) s t shown (outcome r)
+refused_on f x (Ok y) h k e = absurd h
+refused_on {asks} f {s} {t} {view} {shown} (Code c) (Err y) h k e =
+    let P : Refusal → Type 0 = λ z. AsksFor (bind asks f) s t shown (outcome (Err z)) in subst P (sym h) (asks_end f k.ok (e c))
+refused_on {asks} f {s} {t} {view} {shown} (Memory d) (Err y) h k e =
+    let P : Refusal → Type 0 = λ z. AsksFor (bind asks f) s t shown (outcome (Err z)) in
+    subst P (sym h) (record { ok = tt; err = record { rest = bind k.err.rest f; reached = reaches_in f k.err.reached } })
+
+-- nothing is asked, and this is the result
+pub asks_given : {A T : Type 0} {asks : Asks A} {s : Seen} {view : T → A} (x : T) (r : Result T AllocError) → r ≡ Ok x → asks ≡ Give (view x) → AsksFor asks s s view r
+asks_given {A} {asks} {s} {view} x r h e = rw (h, e) (record { ok = reaches_all (Give (view x)) s; err = tt })
+
+-- a tree that is chosen by a value
+pub asks_at : {A T D : Type 0} (f : D → Asks A) {d e : D} {s t : Seen} {view : T → A} {r : Result T AllocError} → d ≡ e → AsksFor (f e) s t view r → AsksFor (f d) s t view r
+asks_at f h k = rw h k
+
+-- what a call gives is made into something else
+pub asks_gives : {A B T : Type 0} {asks : Asks A} (g : A → B) {s t : Seen} {view : T → A} {r : Result T AllocError} → AsksFor asks s t view r → AsksFor (bind asks (λ a. Give (g a))) s t (λ x. g (view x)) r
+asks_gives g {r = Ok x} h = record { ok = reaches_on _ h.ok; err = tt }
+asks_gives g {r = Err d} h = record { ok = tt; err = record { rest = bind h.err.rest (λ a. Give (g a)); reached = reaches_in _ h.err.reached } }
+
+-- an answer is made of what a call gave, which may want memory
+pub asks_answered : {M T R : Type 0} {asks : Asks (T × M)} (g : T → R) {s t : Seen} {m : M} (o : Result T AllocError) (r : Result R AllocError) → AsksFor {A = T × M} asks s t (λ x. (x, m)) o → IfOk r (λ reply. IsOkAnd o (λ x. reply ≡ g x)) → AsksFor {A = R × M} (bind asks (λ done. Give (g done.0, done.1))) s t (λ reply. (reply, m)) r
+asks_answered g {m} (Ok x) (Ok reply) h e = asks_end _ h.ok (ap (λ (y : _). Give (y, m)) (sym e))
+asks_answered g (Err d) (Ok reply) h e = absurd e
+asks_answered g {m} (Ok x) (Err d) h e = record { ok = tt; err = record { rest = Give (g x, m); reached = reaches_on _ h.ok } }
+asks_answered g (Err d) (Err f) h e = record { ok = tt; err = record { rest = bind h.err.rest (λ done. Give (g done.0, done.1)); reached = reaches_in _ h.err.reached } }
+
+-- the same where nothing is asked
+pub given_answered : {M X R : Type 0} (g : X → R) {s : Seen} {m : M} (x : X) (o : Result X AllocError) (r : Result R AllocError) → o ≡ Ok x → IfOk r (λ reply. IsOkAnd o (λ y. reply ≡ g y)) → AsksFor {A = R × M} (Give (g x, m)) s s (λ reply. (reply, m)) r
+given_answered {X = X} g {s} {m} x o (Ok reply) e h =
+    let P : Result X AllocError → Type 0 = λ z. IsOkAnd z (λ (y : X). reply ≡ g y) in
+    let k : reply ≡ g x = subst P e h in
+    record { ok = rw k (reaches_all (Give (g x, m)) s); err = tt }
+given_answered g {s} {m} x o (Err d) e h = record { ok = tt; err = record { rest = Give (g x, m); reached = reaches_all (Give (g x, m)) s } }

@@ -4,3 +4,11 @@ pub mod Asks
 pub mod Typed
 pub mod Operation
 pub mod Io
+pub mod Fields
+pub mod Written
+pub mod Kinds
+pub mod Sides
+pub mod Script
+pub mod Queued
+pub mod Scripted
+pub mod Memory

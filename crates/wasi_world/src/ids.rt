@@ -4,7 +4,7 @@ ghost use Rattle.std.specs.Prelude.{◌≡◌, ◌+◌, ◌<◌, ◌^◌};
 
 /// The name of an operation: the number of the line that began it, counted from 1, and its part of that line.
 /// Part 0 is the line's own operation; what begins besides takes 1, 2, .. in order.
-#[derive(Clone, Copy, Debug, PartialEq, Eq)]
+#[derive(Clone, Copy, Debug, PartialEq, Eq, PartialOrd, Ord)]
 pub struct OpId {
     pub step: u32,
     pub part: u64,

@@ -6,16 +6,29 @@
 
 pub mod asks;
 pub mod call;
+pub mod fields;
 pub mod ids;
 pub mod io;
+pub mod lists;
+pub mod memory;
 pub mod octets;
 pub mod outcome;
 pub mod plan;
+mod queue;
+pub mod scripted;
+mod sides;
+pub mod standard;
 pub mod world;
 
 pub use call::{Call, Entry, HandleKind, Opt, Told};
+pub use fields::Fields;
 pub use ids::{Handle, Ids, OpId, Sock};
 pub use io::{Failed, Sink, Source};
+pub use lists::Lists;
+pub use memory::{MemorySink, MemorySource};
 pub use octets::{IpList, NameText, Octets};
 pub use outcome::{Answer, Refusal, TrapKind, WasiSocketsCtx};
+pub use plan::{Kind, Planned};
+pub use scripted::ScriptedWorld;
+pub use standard::{StdSink, StdSource};
 pub use world::World;

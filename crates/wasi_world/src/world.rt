@@ -15,6 +15,7 @@ pub trait World {
     ghost use Rattle.wasi_world.specs.Fits.{Fits, IsPlain, IsWritten};
     ghost use Rattle.wasi_world.specs.Seen.{Seen, Ends, Closes};
     ghost use Rattle.wasi_world.specs.Asks.{one, one_write, AsksFor};
+    ghost use Rattle.wasi_world.specs.Script.{GoesByPlan};
 
     /// What is known of it.
     ghost seen: { Self → Seen };
@@ -60,4 +61,7 @@ pub trait World {
     fn close_after_end(&mut self, sock: Sock)
         requires ended { (seen self.old).ended ≡ true }
         ensures { Closes (seen self.old) (seen self.new) };
+
+    /// A world that tells both its log and a plan answers by the plan.
+    ghost scripted: { (world : Self) → GoesByPlan (seen world) };
 }

@@ -1,6 +1,6 @@
 use Rattle.wasi_run.proofs.Completes.{completes}
 use Rattle.wasi_run.proofs.CauseLaws.{reads_all, stops_at_trap, stops_at_bad_step, stops_too_long, read_rose, write_rose}
-use Rattle.wasi_run.proofs.Headline.{begins_run, whole_at_ok, over_open, has_closed}
+use Rattle.wasi_run.proofs.Headline.{begins_run, runs_licensed, whole_at_ok, over_open, has_closed}
 use Rattle.wasi_run.proofs.run.run_script.Goals as goal
 
 pub finish-requires : goal.finish-requires
@@ -11,6 +11,9 @@ returns-clause-ran g c = record { stopped = _; last = _; over = rw c.as_slice.en
 
 pub returns-clause-began : goal.returns-clause-began
 returns-clause-began g c = begins_run (returns-clause-ran g c)
+
+pub returns-clause-licensed : goal.returns-clause-licensed
+returns-clause-licensed g c = runs_licensed (returns-clause-began g c)
 
 pub returns-clause-whole : goal.returns-clause-whole
 returns-clause-whole g c = whole_at_ok c.run_lines-result.result (returns-clause-ran g c)

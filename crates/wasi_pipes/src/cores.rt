@@ -1,0 +1,9 @@
+//! The pure cores of the worker streams.
+
+pub mod fault;
+pub mod read;
+pub mod write;
+
+pub use fault::Fault;
+pub use read::{ReadCore, ReadFault};
+pub use write::{Work, WriteCore};

@@ -1,0 +1,41 @@
+//! A worker's fault, which its owner is told once.
+
+ghost use Rattle.std.specs.Prelude.{◌≡◌};
+ghost use Rattle.wasi_pipes.specs.Fault.{kept_cause, after_telling, is_met};
+
+/// What became of a stream's fault and its cause.
+#[derive(Clone, Copy, Debug, PartialEq, Eq)]
+pub enum Fault<C> {
+    /// None was met.
+    Unmet,
+    /// It is kept for the owner.
+    Kept(C),
+    /// The owner was told.
+    Told(C),
+}
+
+impl<C: Copy> Fault<C> {
+    /// The cause of a kept fault, which is told by this.
+    pub fn tell(&mut self) -> Option<C>
+        ensures cause { result ≡ kept_cause self.old }
+        ensures told { self.new ≡ after_telling self.old }
+    {
+        match *self {
+            Fault::Kept(cause) => {
+                *self = Fault::Told(cause);
+                Some(cause)
+            }
+            Fault::Unmet | Fault::Told(_) => None,
+        }
+    }
+
+    /// Whether there was a fault, kept or told.
+    pub fn is_met(&self) -> bool
+        ensures { result ≡ is_met self.now }
+    {
+        match self {
+            Fault::Unmet => false,
+            Fault::Kept(_) | Fault::Told(_) => true,
+        }
+    }
+}

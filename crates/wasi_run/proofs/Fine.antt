@@ -1,0 +1,66 @@
+-- What the log says of the machine's state: the invariant that makes its next call a licensed one.
+use Rattle.std.specs.Prelude.{⊤}
+use Rattle.std.proofs.Common.{◌≡◌, ℕ, ◌+◌, List, [], ◌∷◌, Some, slice_get}
+use Rattle.wasi_addr.specs.declared.address.IpSocketAddress.{IpSocketAddress}
+use Rattle.wasi_addr.specs.declared.address.SocketAddressFamily.{SocketAddressFamily}
+use Rattle.wasi_addr.specs.declared.address.SocketAddrUse.TheVariants.{TcpBind}
+use Rattle.wasi_world.specs.declared.ids.OpId.{OpId}
+use Rattle.wasi_world.specs.declared.call.Call.TheVariants as call
+use Rattle.wasi_world.specs.declared.call.Told.TheVariants.{Yes}
+use Rattle.wasi_world.specs.declared.call.Entry.{Entry}
+use Rattle.wasi_world.specs.Operation.{Item, Check, Bind, NothingLast, Operation}
+use Rattle.wasi_tcp.specs.Shape.{Socket}
+use Rattle.wasi_tcp.specs.Socket.{side_of}
+use Rattle.wasi_run.specs.declared.machine.Machine.{Machine}
+use Rattle.wasi_run.specs.declared.socket.Tcp2Socket.{Tcp2Socket}
+use Rattle.wasi_run.specs.declared.step.Step.{Step}
+use Rattle.wasi_run.specs.declared.store.StandingBind.{StandingBind}
+use Rattle.wasi_run.specs.declared.table.Kind.{Kind}
+use Rattle.wasi_run.specs.declared.table.Kind.TheVariants.{Network, Tcp2}
+use Rattle.wasi_run.specs.Table.{kind_at}
+use Rattle.wasi_run.specs.Licence.{Has, entry, marks_in, BeganBy, NamesSide, IsSide, IsMaker, IsBindTo}
+
+-- The log has the mark of the handle: it is of the side of the socket that the handle stands for, as long as that has one.
+pub record OfSide (es : List Entry) (handle : ℕ) (socket : Socket) : Type 0 where
+  pub side : (side : OpId) → side_of socket ≡ Some side → IsSide es handle side
+
+-- The handle stands for the record at this place.
+pub record NamesRecord (es : List Entry) (sockets : List Tcp2Socket) (handle place : ℕ) : Type 0 where
+  pub found : Tcp2Socket
+  pub at : slice_get sockets place ≡ Some found
+  pub of : OfSide es handle found.inner
+
+abbrev pub HandleIsFine : List Entry → List Tcp2Socket → ℕ → Kind → Type 0
+HandleIsFine es sockets handle Network = ⊤
+HandleIsFine es sockets handle (Tcp2 place) = NamesRecord es sockets handle place
+
+-- The socket knows the maker of its side, and the side's family.
+pub record KnowsMaker (es : List Entry) (socket : Socket) : Type 0 where
+  pub maker : (side : OpId) → side_of socket ≡ Some side → IsMaker es socket.maker socket.family side
+
+-- what is left of a bind to the address, and the yes that it was told
+pub data BindLeft (es : List Entry) (op : OpId) (maker : ℕ) (addr : IpSocketAddress) : List Item → Type 0 where
+  Whole : BindLeft es op maker addr (Check addr TcpBind ∷ Bind addr ∷ [])
+  Checked : Has es (entry op (call.Check maker addr TcpBind) Yes) → BindLeft es op maker addr (Bind addr ∷ [])
+  Over : BindLeft es op maker addr []
+
+module _ (steps : List Step) where
+  -- The operation is on a side that its step names, and knows the side's maker.
+  pub record WorksOn (es : List Entry) (op side : OpId) (maker : ℕ) : Type 0 where
+    pub family : SocketAddressFamily
+    pub made : IsMaker es maker family side
+    pub named : BeganBy steps op (NamesSide es side)
+
+  -- A bind that may be polled: where it came from, and what it has asked so far.
+  pub record BindIsFine (es : List Entry) (op : Operation) : Type 0 where
+    pub addr : IpSocketAddress
+    pub to : BeganBy steps op.who.id (IsBindTo addr)
+    pub works : WorksOn es op.who.id op.who.side op.who.context
+    pub last : op.who.last ≡ NothingLast
+    pub left : BindLeft es op.who.id op.who.context addr op.left
+
+  pub record StateIsFine (es : List Entry) (m : Machine) : Type 0 where
+    pub count : m.table.next ≡ marks_in es + 1
+    pub handles : (handle : ℕ) (kind : Kind) → kind_at m.table handle ≡ Some kind → HandleIsFine es m.store.sockets handle kind
+    pub sockets : (place : ℕ) (r : Tcp2Socket) → slice_get m.store.sockets place ≡ Some r → KnowsMaker es r.inner
+    pub standing : (c : StandingBind) → m.store.standing ≡ Some c → BindIsFine es c.bind

@@ -1,0 +1,71 @@
+-- Lists of entries, and of records by place.
+use Rattle.std.proofs.Common.{◌≡◌, ℕ, zero, suc, ◌+◌, ◌⊎◌, inl, inr, List, [], ◌∷◌, ◌++◌, Some, slice_get, slice_set, length, refl, ap, arith}
+use Rattle.wasi_world.specs.declared.call.Entry.{Entry}
+use Rattle.wasi_run.specs.Licence.{Has, marked_by, marks_in}
+
+-- == entries
+pub entry_op : (a b : Entry) → a ≡ b → a.op ≡ b.op
+entry_op a b h = ap (λ (e : Entry). e.op) h
+
+pub entry_call : (a b : Entry) → a ≡ b → a.call ≡ b.call
+entry_call a b h = ap (λ (e : Entry). e.call) h
+
+pub has_front : {A : Type 0} (es fs : List A) (e : A) → Has es e → Has (es ++ fs) e
+has_front [] fs e h = absurd h
+has_front (x ∷ es) fs e (inl h) = inl h
+has_front (x ∷ es) fs e (inr h) = inr (has_front es fs e h)
+
+pub has_back : {A : Type 0} (es fs : List A) (e : A) → Has fs e → Has (es ++ fs) e
+has_back [] fs e h = h
+has_back (x ∷ es) fs e h = inr (has_back es fs e h)
+
+pub has_last : {A : Type 0} (es : List A) (e : A) → Has (es ++ e ∷ []) e
+has_last es e = has_back es (e ∷ []) e (inl refl)
+
+-- an entry of a list, with what stands before it and after it
+pub record Cut (es : List Entry) (e : Entry) : Type 0 where
+  pub front : List Entry
+  pub back : List Entry
+  pub is : es ≡ front ++ e ∷ back
+
+pub cut_of : (es : List Entry) (e : Entry) → Has es e → Cut es e
+cut_of [] e h = absurd h
+cut_of (x ∷ es) e (inl h) = record { front = []; back = es; is = ap (λ (y : Entry). y ∷ es) h }
+cut_of (x ∷ es) e (inr h) = let c = cut_of es e h in record { front = x ∷ c.front; back = c.back; is = ap (λ (ys : List Entry). x ∷ ys) c.is }
+
+pub marks_in-push : (es : List Entry) (e : Entry) → marks_in (es ++ e ∷ []) ≡ marks_in es + marked_by e.call
+marks_in-push [] e = omega arith
+marks_in-push (x ∷ es) e = let k = marks_in-push es e in omega arith
+
+-- == records by place
+pub get_front : {A : Type 0} (xs ys : List A) (k : ℕ) (y : A) → slice_get xs k ≡ Some y → slice_get (xs ++ ys) k ≡ Some y
+get_front [] ys k y h = absurd (cc)
+get_front (x ∷ xs) ys zero y h = h
+get_front (x ∷ xs) ys (suc k) y h = get_front xs ys k y h
+
+pub get_seam : {A : Type 0} (xs : List A) (y : A) → slice_get (xs ++ y ∷ []) (length xs) ≡ Some y
+get_seam [] y = refl
+get_seam (x ∷ xs) y = get_seam xs y
+
+-- the record at a place of a list that grew by one
+pub get_split : {A : Type 0} (xs : List A) (y : A) (k : ℕ) (x : A) → slice_get (xs ++ y ∷ []) k ≡ Some x → (slice_get xs k ≡ Some x) ⊎ (y ≡ x)
+get_split [] y zero x h = inr (cc)
+get_split [] y (suc k) x h = absurd (cc)
+get_split (z ∷ xs) y zero x h = inl h
+get_split (z ∷ xs) y (suc k) x h = get_split xs y k x h
+
+-- the record at a place of a list of which one was replaced
+pub get_set : {A : Type 0} (xs : List A) (i : ℕ) (y : A) (k : ℕ) (x : A) → slice_get (slice_set xs i y) k ≡ Some x → ((k ≡ i) × (y ≡ x)) ⊎ (slice_get xs k ≡ Some x)
+get_set [] i y k x h = absurd (cc)
+get_set (z ∷ xs) zero y zero x h = inl (refl, cc)
+get_set (z ∷ xs) zero y (suc k) x h = inr h
+get_set (z ∷ xs) (suc i) y zero x h = inr h
+get_set (z ∷ xs) (suc i) y (suc k) x h = elim (get_set xs i y k x h) [ inl e ↦ inl (ap suc e.0, e.1) | inr e ↦ inr e ]
+
+-- what stands at a place after one was replaced
+pub set_get : {A : Type 0} (xs : List A) (i : ℕ) (y : A) (k : ℕ) (x : A) → slice_get xs k ≡ Some x → (slice_get (slice_set xs i y) k ≡ Some x) ⊎ ((k ≡ i) × (slice_get (slice_set xs i y) k ≡ Some y))
+set_get [] i y k x h = absurd (cc)
+set_get (z ∷ xs) zero y zero x h = inr (refl, refl)
+set_get (z ∷ xs) zero y (suc k) x h = inl h
+set_get (z ∷ xs) (suc i) y zero x h = inl h
+set_get (z ∷ xs) (suc i) y (suc k) x h = elim (set_get xs i y k x h) [ inl e ↦ inl e | inr e ↦ inr (ap suc e.0, e.1) ]

@@ -1,0 +1,5 @@
+use Rattle.wasi_run.proofs.Licences.{prefix_is_licensed}
+use Rattle.wasi_run.proofs.laws.beginnings_are_licensed.Goals as goal
+
+pub returns : goal.returns
+returns c = prefix_is_licensed

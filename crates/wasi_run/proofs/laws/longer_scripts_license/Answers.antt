@@ -1,0 +1,5 @@
+use Rattle.wasi_run.proofs.Licences.{longer_script}
+use Rattle.wasi_run.proofs.laws.longer_scripts_license.Goals as goal
+
+pub returns : goal.returns
+returns c = longer_script

@@ -1,0 +1,25 @@
+use Rattle.std.proofs.Common.{List, ap, sym, ◌∙◌, refl}
+use Rattle.wasi_run.specs.declared.socket.InProgress.{InProgress}
+use Rattle.wasi_run.specs.declared.socket.InProgress.TheVariants.{Nothing}
+use Rattle.wasi_run.specs.declared.socket.Tcp2Socket.{Tcp2Socket}
+use Rattle.wasi_run.specs.Store.{Records, finish_bind_by}
+use Rattle.wasi_run.proofs.Lookups.{found_at, set_back}
+use Rattle.wasi_run.proofs.SideCounts.{held_in-set, knows_same}
+use Rattle.wasi_run.proofs.store.Store.finish_bind.Goals as goal
+
+pub returns-in-Nothing-clause-state : goal.returns-in-Nothing-clause-state
+returns-in-Nothing-clause-state c =
+    let store : Records = record { sockets = c.self.inside.sockets.items; standing = c.self.inside.standing } in
+    rw (← c.self.view_is, found_at c.self.inside.sockets.items c.args.place c.in-Some.record c.in-Some.ensures.item)
+    (ap (λ (l : List Tcp2Socket). let r : Records = record store { sockets = l } in r) (set_back c.self.inside.sockets.items c.args.place c.in-Some.record c.in-Some.ensures.item)
+    ∙ sym (ap (λ (d : InProgress). (finish_bind_by store c.args.place c.in-Some.record.now d).1) c.in-Nothing.is))
+
+pub returns-clause-answer : goal.returns-clause-answer
+returns-clause-answer c = rw (← c.self.view_is, found_at c.self.inside.sockets.items c.args.place c.in-Some.record c.in-Some.ensures.item, c.in-Bind.is) refl
+
+pub returns-clause-state : goal.returns-clause-state
+returns-clause-state c = rw (← c.self.view_is, found_at c.self.inside.sockets.items c.args.place c.in-Some.record c.in-Some.ensures.item, c.in-Bind.is) refl
+
+pub returns-clause-sides : goal.returns-clause-sides
+returns-clause-sides c = λ s k.
+    knows_same _ _ (held_in-set c.self.inside.sockets.items c.args.place c.in-Some.record.now (record c.in-Some.record.now { in_progress = Nothing }) (found_at c.self.inside.sockets.items c.args.place c.in-Some.record c.in-Some.ensures.item) refl) (rw (← c.self.view_is) at k)

@@ -1,0 +1,161 @@
+-- Which calls a log may hold: a relation of the contexts, the script's steps and the log's entries, and of nothing else.
+-- It knows no state of a socket, an operation or a table. Each entry is judged by those before it.
+use Rattle.std.specs.Prelude.{◌≡◌, ℕ, zero, suc, ◌+◌, ◌⊎◌, ⊤, true, List, [], ◌∷◌, ◌++◌, Option, Some, None, slice_get}
+use Rattle.wasi_addr.specs.declared.address.IpSocketAddress.{IpSocketAddress}
+use Rattle.wasi_addr.specs.declared.address.SocketAddressFamily.{SocketAddressFamily}
+use Rattle.wasi_addr.specs.declared.address.SocketAddrUse.{SocketAddrUse}
+use Rattle.wasi_addr.specs.declared.address.SocketAddrUse.TheVariants.{TcpBind, TcpAccept}
+use Rattle.wasi_world.specs.declared.ids.OpId.{OpId}
+use Rattle.wasi_world.specs.declared.call.Call.{Call}
+use Rattle.wasi_world.specs.declared.call.Call.TheVariants.{Check, Lookup, TcpCreate, UdpCreate, UdpWritable, Local, Peer, Bind, UdpBind, UdpConnect, Listen, SetBacklog, Connect, Accept, Hand, Refuse, Read, ReadReady, WriteReady, Write, Shutdown, UdpDisconnect, Send, Recv, GetOption, SetOption, Close, Made}
+use Rattle.wasi_world.specs.declared.call.HandleKind.{HandleKind}
+use Rattle.wasi_world.specs.declared.call.HandleKind.TheVariants.{Network, Tcp2}
+use Rattle.wasi_world.specs.declared.call.Told.{Told}
+use Rattle.wasi_world.specs.declared.call.Told.TheVariants.{Done, Yes, Arrived}
+use Rattle.wasi_world.specs.declared.call.Entry.{Entry}
+use Rattle.wasi_world.specs.declared.outcome.WasiSocketsCtx.{WasiSocketsCtx}
+use Rattle.wasi_run.specs.declared.step.Step.{Step}
+use Rattle.wasi_run.specs.declared.step.Step.TheVariants as step
+
+-- == entries
+-- one of them is this
+abbrev pub Has : {A : Type 0} → List A → A → Type 0
+Has [] x = ⊥
+Has (y ∷ ys) x = (y ≡ x) ⊎ Has ys x
+
+abbrev pub entry : OpId → Call → Told → Entry
+entry op call told = record { op = op; call = call; answer = told }
+
+-- how many handles the entries mark
+abbrev pub marked_by : Call → ℕ
+marked_by (Made handle kind parent sock) = 1
+marked_by _ = 0
+
+abbrev pub marks_in : List Entry → ℕ
+marks_in [] = 0
+marks_in (e ∷ es) = marked_by e.call + marks_in es
+
+-- == steps
+-- the step of this line, counted from 1
+abbrev pub step_at : List Step → ℕ → Option Step
+step_at steps zero = None
+step_at steps (suc n) = slice_get steps n
+
+-- The step whose line began the operation is one of which this holds.
+pub record BeganBy (steps : List Step) (op : OpId) (P : Step → Type 0) : Type 0 where
+  pub origin : Step
+  pub at : step_at steps op.step ≡ Some origin
+  pub holds : P origin
+
+-- the handles that a step names
+abbrev pub handles_of : Step → List ℕ
+handles_of (step.Network ctx) = []
+handles_of (step.TcpCreate ctx family) = []
+handles_of (step.TcpStartBind ctx socket network addr) = socket ∷ network ∷ []
+handles_of (step.TcpFinishBind ctx socket) = socket ∷ []
+
+-- == sides
+-- The side of a handle is the one in its mark.
+pub record IsSide (before : List Entry) (handle : ℕ) (side : OpId) : Type 0 where
+  pub op : OpId
+  pub kind : HandleKind
+  pub parent : Option ℕ
+  pub told : Told
+  pub mark : Has before (entry op (Made handle kind parent (Some side)) told)
+
+-- The step names a handle of this side.
+pub record NamesSide (before : List Entry) (side : OpId) (origin : Step) : Type 0 where
+  pub handle : ℕ
+  pub named : Has (handles_of origin) handle
+  pub is : IsSide before handle side
+
+-- an operation reaches the sides that its step names, and the side that it makes itself
+abbrev pub ReachesSide : List Step → List Entry → OpId → OpId → Type 0
+ReachesSide steps before op side = BeganBy steps op (NamesSide before side) ⊎ (op ≡ side)
+
+-- The maker of a side and its family are those in its create, or where it was handed over those of the listener.
+pub data IsMaker (before : List Entry) (ctx : ℕ) (family : SocketAddressFamily) : OpId → Type 0 where
+  Created : (side : OpId) (told : Told) → Has before (entry side (TcpCreate ctx family) told) → IsMaker before ctx family side
+  Handed : (side listener : OpId) (peer : IpSocketAddress) (told : Told) → Has before (entry side (Hand listener peer) told) → IsMaker before ctx family listener → IsMaker before ctx family side
+
+-- Among these entries the operation asked the side's maker about the address and its use, and was told yes.
+pub record HasYes (before among : List Entry) (op side : OpId) (addr : IpSocketAddress) (usage : SocketAddrUse) : Type 0 where
+  pub ctx : ℕ
+  pub family : SocketAddressFamily
+  pub maker : IsMaker before ctx family side
+  pub checked : Has among (entry op (Check ctx addr usage) Yes)
+
+-- The operation's last `accept` on the listener told this peer, and after it came a yes for the peer.
+pub record IsAdmitted (before : List Entry) (op listener : OpId) (peer : IpSocketAddress) : Type 0 where
+  pub front : List Entry
+  pub back : List Entry
+  pub cut : before ≡ front ++ entry op (Accept listener) (Arrived peer) ∷ back
+  pub last : (told : Told) → Has back (entry op (Accept listener) told) → ⊥
+  pub yes : HasYes before back op listener peer TcpAccept
+
+-- the operation has handed nothing over
+abbrev pub HandedNone : List Entry → OpId → Type 0
+HandedNone before op = (listener : OpId) (peer : IpSocketAddress) (told : Told) → Has before (entry op (Hand listener peer) told) → ⊥
+
+-- == which step a call begins by
+-- The context of this number has this name, and may use TCP.
+pub record MayUseTcp (contexts : List WasiSocketsCtx) (number name : ℕ) : Type 0 where
+  pub ctx : WasiSocketsCtx
+  pub at : slice_get contexts number ≡ Some ctx
+  pub named : ctx.name ≡ name
+  pub tcp : ctx.tcp ≡ true
+
+-- a create of this family, by the context of this name
+abbrev pub IsTcpCreate : List WasiSocketsCtx → ℕ → SocketAddressFamily → Step → Type 0
+IsTcpCreate contexts name family (step.TcpCreate ctx f) = MayUseTcp contexts ctx name × (f ≡ family)
+IsTcpCreate contexts name family _ = ⊥
+
+-- a bind to this address
+abbrev pub IsBindTo : IpSocketAddress → Step → Type 0
+IsBindTo addr (step.TcpStartBind ctx socket network a) = a ≡ addr
+IsBindTo addr _ = ⊥
+
+-- what a mark says, by the step that makes the handle: a network has no side, and a socket that was created has its own
+abbrev pub IsMarkOf : List Entry → OpId → HandleKind → Option ℕ → Option OpId → Step → Type 0
+IsMarkOf before op kind parent sock (step.Network ctx) = (kind ≡ Network) × (parent ≡ None) × (sock ≡ None)
+IsMarkOf before op kind parent sock (step.TcpCreate ctx family) =
+    (kind ≡ Tcp2) × (parent ≡ None) × (sock ≡ Some op) × ((name : ℕ) × (f : SocketAddressFamily) × Has before (entry op (TcpCreate name f) Done))
+IsMarkOf before op kind parent sock (step.TcpStartBind ctx socket network addr) = ⊥
+IsMarkOf before op kind parent sock (step.TcpFinishBind ctx socket) = ⊥
+
+-- == the table
+-- What an operation may ask after these entries. Of a call whose row needs a step that isn't there yet it says that it may not
+-- be asked at all: the row comes with the step.
+abbrev pub MayAsk : List WasiSocketsCtx → List Step → List Entry → OpId → Call → Type 0
+MayAsk contexts steps before op (Check ctx addr usage) = ⊤
+MayAsk contexts steps before op (Lookup host) = ⊥
+MayAsk contexts steps before op (TcpCreate ctx family) = BeganBy steps op (IsTcpCreate contexts ctx family)
+MayAsk contexts steps before op (UdpCreate ctx family) = ⊥
+MayAsk contexts steps before op (UdpWritable sock) = ReachesSide steps before op sock
+MayAsk contexts steps before op (Local sock) = ReachesSide steps before op sock
+MayAsk contexts steps before op (Peer sock) = ReachesSide steps before op sock
+MayAsk contexts steps before op (Bind sock addr) = ReachesSide steps before op sock × BeganBy steps op (IsBindTo addr) × HasYes before before op sock addr TcpBind
+MayAsk contexts steps before op (UdpBind sock addr) = ⊥
+MayAsk contexts steps before op (UdpConnect sock addr) = ⊥
+MayAsk contexts steps before op (Listen sock backlog) = ⊥
+MayAsk contexts steps before op (SetBacklog sock backlog) = ⊥
+MayAsk contexts steps before op (Connect sock addr) = ⊥
+MayAsk contexts steps before op (Accept sock) = ReachesSide steps before op sock
+MayAsk contexts steps before op (Hand sock peer) = ReachesSide steps before op sock × IsAdmitted before op sock peer × HandedNone before op
+MayAsk contexts steps before op (Refuse sock peer) = ReachesSide steps before op sock
+MayAsk contexts steps before op (Read sock size) = ReachesSide steps before op sock
+MayAsk contexts steps before op (ReadReady sock) = ReachesSide steps before op sock
+MayAsk contexts steps before op (WriteReady sock) = ReachesSide steps before op sock
+MayAsk contexts steps before op (Write sock offered) = ReachesSide steps before op sock
+MayAsk contexts steps before op (Shutdown sock how) = ReachesSide steps before op sock
+MayAsk contexts steps before op (UdpDisconnect sock) = ReachesSide steps before op sock
+MayAsk contexts steps before op (Send sock addr bytes) = ⊥
+MayAsk contexts steps before op (Recv sock) = ReachesSide steps before op sock
+MayAsk contexts steps before op (GetOption sock option) = ReachesSide steps before op sock
+MayAsk contexts steps before op (SetOption sock option value) = ReachesSide steps before op sock
+MayAsk contexts steps before op (Close sock) = ⊤
+MayAsk contexts steps before op (Made handle kind parent sock) = (handle ≡ marks_in before + 1) × BeganBy steps op (IsMarkOf before op kind parent sock)
+
+-- Each entry may come after those before it.
+pub record IsLicensed (contexts : List WasiSocketsCtx) (steps : List Step) (log : List Entry) : Type 0 where
+  pub each : (before : List Entry) (e : Entry) (after : List Entry) → log ≡ before ++ e ∷ after → MayAsk contexts steps before e.op e.call

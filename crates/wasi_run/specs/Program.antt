@@ -1,0 +1,133 @@
+-- What the program makes of its words, its scenario and its script.
+use Rattle.std.specs.Prelude.{◌≡◌, ℕ, ◌+◌, ◌≤◌, ◌⊎◌, Bool, true, false, if◌then◌else◌, bytes_eq, codes, List, [], ◌∷◌, Option, Some, None, Result, Ok, Err, length}
+use Rattle.wasi_world.specs.declared.call.Entry.{Entry}
+use Rattle.wasi_world.specs.declared.outcome.WasiSocketsCtx.{WasiSocketsCtx}
+use Rattle.wasi_world.specs.Seen.{Plan, Seen, Rose}
+use Rattle.wasi_world.specs.Io.{Reading, Writing, Gave, HasEnded, Took}
+use Rattle.wasi_world.specs.Fields.{number_in}
+use Rattle.wasi_world.specs.Script.{IsScripted}
+use Rattle.wasi_world.specs.Queued.{no_answers}
+use Rattle.wasi_run.specs.declared.run.RunEnd.{RunEnd}
+use Rattle.wasi_run.specs.declared.run.RunError.{RunError}
+use Rattle.wasi_run.specs.declared.run.RunError.TheVariants as error
+use Rattle.wasi_run.specs.declared.program.Status.{Status}
+use Rattle.wasi_run.specs.declared.program.Status.TheVariants as status
+use Rattle.wasi_run.specs.Script.{RanScript}
+use Rattle.wasi_run.specs.Closing.{HasClosedAll}
+use Rattle.wasi_run.specs.Headline.{RunsLicensed}
+
+-- the words are `run LIMIT`
+abbrev pub limit_in : List (List ℕ) → Option ℕ
+limit_in (word ∷ limit ∷ []) = if bytes_eq word (codes "run") then number_in limit 4294967295 else None
+limit_in _ = None
+
+abbrev pub number_of : Status → ℕ
+number_of status.Ok = 0
+number_of status.BadWords = 1
+number_of status.BadScenario = 2
+number_of status.BadStep = 3
+number_of status.TooLong = 4
+number_of status.ReadFault = 5
+number_of status.WriteFault = 6
+number_of status.Memory = 7
+number_of status.ScenarioFault = 8
+
+-- how a run's end is told
+abbrev pub status_of : Result RunEnd RunError → Status
+status_of (Ok end) = status.Ok
+status_of (Err error.Memory) = status.Memory
+status_of (Err (error.BadStep n)) = status.BadStep
+status_of (Err error.TooLong) = status.TooLong
+status_of (Err error.ReadFault) = status.ReadFault
+status_of (Err error.WriteFault) = status.WriteFault
+
+abbrev pub bad_line_of : Result RunEnd RunError → ℕ
+bad_line_of (Err (error.BadStep n)) = n
+bad_line_of _ = 0
+
+-- a scenario has at most so many bytes
+abbrev pub most_scenario : ℕ
+most_scenario = 1048576
+
+-- The scenario was read to its end, or to one byte past the most.
+pub record ReadScenario (before after : Reading) (text : List ℕ) : Type 0 where
+  pub gave : Gave before text after
+  pub whole : (HasEnded after × (length text ≤ most_scenario)) ⊎ (length text ≡ most_scenario + 1)
+
+-- what a scenario plans, and its contexts, or the first line that isn't in its grammar
+abbrev pub scenario_of : List ℕ → Result (Plan × List WasiSocketsCtx) ℕ
+scenario_of [] = Ok (no_answers, record { name = 0; ip_name_lookup = true; udp = true; tcp = true } ∷ [])
+scenario_of (b ∷ text) = Err 1
+
+-- a world that goes by a plan, before its first call
+abbrev pub fresh : Plan → Seen
+fresh plan = record { log = Some []; ended = false; closings = 0; faults = 0; plan = Some plan }
+
+-- No run began: nothing was read from the source or written to the sink, and there is no log.
+pub record NothingRan (s_old s_new : Reading) (k_old k_new : Writing) (log : List Entry) : Type 0 where
+  pub source : s_new ≡ s_old
+  pub sink : k_new ≡ k_old
+  pub log_is : log ≡ []
+
+-- The script was run over the plan, and ended so.
+pub record RanPlan (plan : Plan) (contexts : List WasiSocketsCtx) (limit : ℕ) (s_old s_new : Reading) (k_old k_new : Writing) (log : List Entry) (result : Result RunEnd RunError) : Type 0 where
+  pub seen : Seen  -- the world after it
+  pub logged : seen.log ≡ Some log
+  pub ended : seen.ended ≡ true
+  pub ran : RanScript contexts limit s_old s_new k_old k_new (fresh plan) seen result
+  pub licensed : RunsLicensed contexts limit s_old s_new (fresh plan) seen
+  pub closed : HasClosedAll seen
+  pub scripted : IsScripted plan log
+
+-- The scenario is in its grammar, the script was run over its plan, and so the program ends so.
+pub record RanText (limit : ℕ) (text : List ℕ) (s_old s_new : Reading) (k_old k_new : Writing) (log : List Entry) (line : ℕ) (end : Status) : Type 0 where
+  pub plan : Plan
+  pub contexts : List WasiSocketsCtx
+  pub scenario : scenario_of text ≡ Ok (plan, contexts)
+  pub result : Result RunEnd RunError
+  pub status_is : end ≡ status_of result
+  pub line_is : line ≡ bad_line_of result
+  pub ran : RanPlan plan contexts limit s_old s_new k_old k_new log result
+
+-- The scenario was read whole, and this is its first line that isn't in its grammar.
+pub record HasBadLine (c_old c_new : Reading) (line : ℕ) : Type 0 where
+  pub text : List ℕ
+  pub read : ReadScenario c_old c_new text
+  pub bad : scenario_of text ≡ Err line
+
+-- the words aren't in order
+pub record WordsAreBad (words : List (List ℕ)) (c_old c_new s_old s_new : Reading) (k_old k_new : Writing) (log : List Entry) (line : ℕ) : Type 0 where
+  pub words_are : limit_in words ≡ None
+  pub scenario : c_new ≡ c_old
+  pub nothing : NothingRan s_old s_new k_old k_new log
+  pub line_is : line ≡ 0
+
+-- The scenario was read whole, and a run over it ended so.
+pub record ScriptRan (words : List (List ℕ)) (c_old c_new s_old s_new : Reading) (k_old k_new : Writing) (log : List Entry) (line : ℕ) (end : Status) : Type 0 where
+  pub limit : ℕ
+  pub words_are : limit_in words ≡ Some limit
+  pub text : List ℕ
+  pub read : ReadScenario c_old c_new text
+  pub ran : RanText limit text s_old s_new k_old k_new log line end
+
+-- No run began, though the words are in order, for this reason.
+pub record NoRun (words : List (List ℕ)) (s_old s_new : Reading) (k_old k_new : Writing) (log : List Entry) (P : Type 0) : Type 0 where
+  pub limit : ℕ
+  pub words_are : limit_in words ≡ Some limit
+  pub nothing : NothingRan s_old s_new k_old k_new log
+  pub because : P
+
+-- the cause of each status
+abbrev pub EndsBy : List (List ℕ) → Reading → Reading → Reading → Reading → Writing → Writing → List Entry → ℕ → Status → Type 0
+EndsBy words c_old c_new s_old s_new k_old k_new log line status.BadWords = WordsAreBad words c_old c_new s_old s_new k_old k_new log line
+EndsBy words c_old c_new s_old s_new k_old k_new log line status.BadScenario = NoRun words s_old s_new k_old k_new log (HasBadLine c_old c_new line)
+EndsBy words c_old c_new s_old s_new k_old k_new log line status.ScenarioFault = NoRun words s_old s_new k_old k_new log (Rose c_old.faults c_new.faults × (line ≡ 0))
+EndsBy words c_old c_new s_old s_new k_old k_new log line status.Memory =
+    NoRun words s_old s_new k_old k_new log (line ≡ 0) ⊎ ScriptRan words c_old c_new s_old s_new k_old k_new log line status.Memory
+EndsBy words c_old c_new s_old s_new k_old k_new log line end = ScriptRan words c_old c_new s_old s_new k_old k_new log line end
+
+-- The program ended with this status and line, and with its cause.
+pub record RanMain (words : List (List ℕ)) (c_old c_new s_old s_new : Reading) (k_old k_new : Writing) (log : List Entry) (number line : ℕ) : Type 0 where
+  pub end : Status
+  pub number_is : number ≡ number_of end
+  pub cause : EndsBy words c_old c_new s_old s_new k_old k_new log line end

@@ -1,0 +1,270 @@
+//! What the program does with its words.
+
+ghost use Rattle.std.specs.Prelude.{◌≡◌, ◌↔◌, ◌+◌, ◌≤◌, ◌<◌, ◌^◌, ℕ, None, Some, IfOk, IfErr, map, string_bytes, length, [], false, List};
+ghost use Rattle.wasi_world.specs.Io.{Gave};
+ghost use Rattle.wasi_world.specs.Scripted.{seen_by};
+ghost use Rattle.wasi_world.specs.Seen.{Rose};
+ghost use Rattle.wasi_run.specs.Program.{limit_in, number_of, status_of, bad_line_of, ReadScenario, RanText, RanMain, EndsBy};
+ghost use Rattle.wasi_run.specs.Parsed.{IsPlanned, IsParsed, TextEnds};
+ghost use Rattle.wasi_run.specs.Script.{AreNumbered};
+
+use crate::run::{RunEnd, RunError, run_script};
+use std::alloc::{AllocError, Global};
+use wasi_world::fields::number;
+use wasi_world::{Entry, Lists, ScriptedWorld, Sink, Source, WasiSocketsCtx};
+
+/// A scenario has at most so many bytes.
+const MOST_SCENARIO: usize = 1_048_576;
+
+/// How many bytes are read at a time.
+const PIECE_SIZE: usize = 4096;
+
+/// How the program ended.
+#[derive(Clone, Copy, Debug, PartialEq, Eq)]
+pub enum Status {
+    Ok,
+    /// The words aren't one of the forms.
+    BadWords,
+    BadScenario,
+    BadStep,
+    TooLong,
+    ReadFault,
+    WriteFault,
+    Memory,
+    /// A read of the scenario failed.
+    ScenarioFault,
+}
+
+impl Status {
+    /// The number that the program ends with.
+    pub fn number(self) -> u8
+        ensures { result ≡ number_of self }
+    {
+        match self {
+            Status::Ok => 0,
+            Status::BadWords => 1,
+            Status::BadScenario => 2,
+            Status::BadStep => 3,
+            Status::TooLong => 4,
+            Status::ReadFault => 5,
+            Status::WriteFault => 6,
+            Status::Memory => 7,
+            Status::ScenarioFault => 8,
+        }
+    }
+
+    fn of_run(outcome: Result<RunEnd, RunError>) -> Status
+        ensures { result ≡ status_of outcome }
+    {
+        match outcome {
+            Ok(_) => Status::Ok,
+            Err(RunError::Memory) => Status::Memory,
+            Err(RunError::BadStep(_)) => Status::BadStep,
+            Err(RunError::TooLong) => Status::TooLong,
+            Err(RunError::ReadFault) => Status::ReadFault,
+            Err(RunError::WriteFault) => Status::WriteFault,
+        }
+    }
+}
+
+/// The line of a step that is none, counted from 1, else 0.
+fn bad_line(outcome: Result<RunEnd, RunError>) -> u32
+    ensures { result ≡ bad_line_of outcome }
+{
+    match outcome {
+        Err(RunError::BadStep(line)) => line,
+        _ => 0,
+    }
+}
+
+/// What the program gives back. `line` is the bad line of statuses 2 and 3, else 0; `log` is the log of the run, and empty
+/// where none began.
+#[derive(Drop)]
+pub struct Done<S, K> {
+    pub status: u8,
+    pub line: u32,
+    pub log: Vec<Entry>,
+    pub source: S,
+    pub sink: K,
+}
+
+/// How it ended, before the source and the sink are given back.
+#[derive(Drop)]
+struct Ended {
+    status: Status,
+    line: u32,
+    log: Vec<Entry>,
+}
+
+impl Ended {
+    /// No run began.
+    fn without_run(alloc: Global, status: Status, line: u32) -> Ended
+        ensures status { result.status ≡ status }
+        ensures line { result.line ≡ line }
+        ensures log { result.log.items ≡ [] }
+    {
+        Ended {
+            status,
+            line,
+            log: Vec::new(alloc),
+        }
+    }
+}
+
+/// The limit in the words `run LIMIT`.
+fn limit_in(words: &[String]) -> Option<u32>
+    ensures { result ≡ limit_in (map (λ w. string_bytes w) words.now) }
+{
+    match words {
+        [word, limit] => {
+            if word.as_str() != "run" {
+                return None;
+            }
+            let limit = number(limit.as_str().as_bytes(), u64::from(u32::MAX))?;
+            Some(limit as u32)
+        }
+        _ => None,
+    }
+}
+
+/// Why a scenario wasn't read.
+enum Unread {
+    Fault,
+    Memory(AllocError),
+}
+
+/// Reads a scenario to its end, or to one byte past the most.
+fn read_scenario<C: Source>(alloc: Global, scenario: &mut C) -> Result<Vec<u8>, Unread>
+    ensures read { IfOk result (λ text. ReadScenario (C.reading scenario.old) (C.reading scenario.new) text.items) }
+    ensures fault { result ≡ Err Unread.Fault → Rose (C.reading scenario.old).faults (C.reading scenario.new).faults }
+{
+    let mut text = Vec::new(alloc);
+    let mut piece = [0u8; PIECE_SIZE];
+    'reading: while text.len() <= MOST_SCENARIO {
+        let room = (MOST_SCENARIO + 1 - text.len()).min(PIECE_SIZE);
+        let Ok(count) = scenario.read(&mut piece[..room]) else {
+            return Err(Unread::Fault);
+        };
+        if count == 0 {
+            return Ok(text);
+        }
+        let Ok(()) = text.extend_from_slice(&piece[..count]) else {
+            return Err(Unread::Memory(AllocError));
+        };
+    }
+    Ok(text)
+}
+
+/// What a scenario plans and its contexts, or the first line that isn't in its grammar.
+enum Scenario {
+    Planned(ScriptedWorld, Vec<WasiSocketsCtx>),
+    BadLine(u32),
+}
+
+/// Reads the grammar of scenarios.
+fn parse_scenario(alloc: Global, text: &[u8]) -> Result<Scenario, AllocError>
+    ensures { IfOk result (λ scenario. IsParsed text.now scenario) }
+{
+    if !text.is_empty() {
+        return Ok(Scenario::BadLine(1));
+    }
+    let lists = Lists::new(alloc)?;
+    let all = WasiSocketsCtx {
+        name: 0,
+        ip_name_lookup: true,
+        udp: true,
+        tcp: true,
+    };
+    let contexts = vec![in alloc; all]?;
+    Ok(Scenario::Planned(ScriptedWorld::new(alloc, lists), contexts))
+}
+
+/// Runs the script over a world that goes by a scenario's plan.
+fn run_plan<S: Source, K: Sink>(
+    alloc: Global,
+    mut world: ScriptedWorld,
+    mut contexts: Vec<WasiSocketsCtx>,
+    limit: u32,
+    source: &mut S,
+    sink: &mut K,
+) -> Ended
+    requires open { (seen_by world).ended ≡ false }
+    requires numbered { AreNumbered contexts.items }
+    requires few { length contexts.items < 2 ^ 32 }
+    ensures { (text : List ℕ) → IsPlanned text world contexts.items → RanText limit text (S.reading source.old) (S.reading source.new) (K.writing sink.old) (K.writing sink.new) result.log.items result.line result.status }
+{
+    let outcome = run_script(alloc, &mut world, &mut contexts, limit, source, sink);
+    Ended {
+        status: Status::of_run(outcome),
+        line: bad_line(outcome),
+        log: world.into_entries(),
+    }
+}
+
+/// Runs the script over the scenario that the text spells.
+fn run_text<S: Source, K: Sink>(
+    alloc: Global,
+    limit: u32,
+    text: &[u8],
+    source: &mut S,
+    sink: &mut K,
+) -> Ended
+    ensures { TextEnds limit text.now (S.reading source.old) (S.reading source.new) (K.writing sink.old) (K.writing sink.new) result.log.items result.line result.status }
+{
+    let Ok(scenario) = parse_scenario(alloc, text) else {
+        return Ended::without_run(alloc, Status::Memory, 0);
+    };
+    match scenario {
+        Scenario::Planned(world, contexts) => {
+            return run_plan(alloc, world, contexts, limit, source, sink);
+        }
+        Scenario::BadLine(line) => {
+            return Ended::without_run(alloc, Status::BadScenario, line);
+        }
+    }
+}
+
+/// Does what the words say.
+fn run_words<C: Source, S: Source, K: Sink>(
+    alloc: Global,
+    words: &[String],
+    scenario: &mut C,
+    source: &mut S,
+    sink: &mut K,
+) -> Ended
+    ensures { EndsBy (map (λ w. string_bytes w) words.now) (C.reading scenario.old) (C.reading scenario.new) (S.reading source.old) (S.reading source.new) (K.writing sink.old) (K.writing sink.new) result.log.items result.line result.status }
+{
+    let Some(limit) = limit_in(words) else {
+        return Ended::without_run(alloc, Status::BadWords, 0);
+    };
+    let text = match read_scenario(alloc, scenario) {
+        Ok(text) => text,
+        Err(Unread::Fault) => return Ended::without_run(alloc, Status::ScenarioFault, 0),
+        Err(Unread::Memory(_)) => return Ended::without_run(alloc, Status::Memory, 0),
+    };
+    run_text(alloc, limit, text.as_slice(), source, sink)
+}
+
+/// Does what the program's words say. `run LIMIT` reads the scenario, and then runs the script that the source gives, of at
+/// most LIMIT bytes, over the scenario's world; replies go to the sink. Other words are status 1.
+///
+/// The words are tested first, then the scenario is read whole (a failed read is status 8), then it is parsed (status 2).
+pub fn run_main<C: Source, S: Source, K: Sink>(
+    alloc: Global,
+    words: &[String],
+    scenario: &mut C,
+    mut source: S,
+    mut sink: K,
+) -> Done<S, K>
+    ensures ran { RanMain (map (λ w. string_bytes w) words.now) (C.reading scenario.old) (C.reading scenario.new) (S.reading source) (S.reading result.source) (K.writing sink) (K.writing result.sink) result.log.items result.status result.line }
+    ensures words { (result.status ≡ 1) ↔ (limit_in (map (λ w. string_bytes w) words.now) ≡ None) }
+{
+    let ended = run_words(alloc, words, scenario, &mut source, &mut sink);
+    Done {
+        status: ended.status.number(),
+        line: ended.line,
+        log: ended.log,
+        source,
+        sink,
+    }
+}

@@ -1,0 +1,3 @@
+pub mod Connects
+pub mod LocalAddresses
+pub mod RemoteAddresses

@@ -1,0 +1,8 @@
+use Rattle.wasi_tcp.proofs.Connects.{connect_asked, connect_left_over}
+use Rattle.wasi_tcp.proofs.socket.TcpState.poll_finish_connect.Goals as goal
+
+pub returns-in-Connecting-clause-asked : goal.returns-in-Connecting-clause-asked
+returns-in-Connecting-clause-asked g c = rw (c.in-Connecting.is, c.settle.ensures, c.side-side.ensures) (connect_asked _ c.poll-polled.result c.poll-polled.ensures.polled)
+
+pub returns-in-Connecting-clause-err : goal.returns-in-Connecting-clause-err
+returns-in-Connecting-clause-err g c = rw (c.in-Connecting.is, c.settle.ensures, c.side-side.ensures) (connect_left_over _ c.poll-polled.result c.poll-polled.ensures.polled)

@@ -1,0 +1,44 @@
+-- One call after another on one socket, and what they keep.
+use Rattle.std.specs.Prelude.{◌≡◌, List, [], ◌∷◌, Option, Some}
+use Rattle.wasi_addr.specs.declared.address.IpSocketAddress.{IpSocketAddress}
+use Rattle.wasi_world.specs.declared.ids.OpId.{OpId}
+use Rattle.wasi_world.specs.Asks.{Asks, Give, bind}
+use Rattle.wasi_tcp.specs.declared.socket.Connection.{Connection}
+use Rattle.wasi_tcp.specs.declared.socket.TcpState.TheVariants.{Connected}
+use Rattle.wasi_tcp.specs.Shape.{Socket}
+use Rattle.wasi_tcp.specs.Socket.{bound_asks, bind_asks}
+use Rattle.wasi_tcp.specs.Connecting.{start_connect_asks, finish_connect_asks}
+use Rattle.wasi_tcp.specs.Addresses.{local_asks, remote_asks}
+
+-- the calls that may change a socket
+pub data SocketCall : Type 0 where
+  IsBound : OpId → SocketCall
+  BindTo : OpId → IpSocketAddress → SocketCall
+  StartConnect : OpId → IpSocketAddress → SocketCall
+  FinishConnect : SocketCall
+  LocalAddress : OpId → SocketCall
+  RemoteAddress : OpId → SocketCall
+
+-- what is kept of what a call gives
+abbrev pub socket_left : {T : Type 0} → Asks (T × Socket) → Asks Socket
+socket_left asks = bind asks (λ done. Give done.1)
+
+-- the socket after a call
+abbrev pub after_call : SocketCall → Socket → Asks Socket
+after_call (IsBound op) socket = socket_left (bound_asks op socket)
+after_call (BindTo op a) socket = socket_left (bind_asks op socket a)
+after_call (StartConnect op a) socket = socket_left (start_connect_asks op socket a)
+after_call FinishConnect socket = socket_left (finish_connect_asks socket)
+after_call (LocalAddress op) socket = socket_left (local_asks op socket)
+after_call (RemoteAddress op) socket = socket_left (remote_asks op socket)
+
+-- the socket after one call and another
+abbrev pub after_calls : List SocketCall → Socket → Asks Socket
+after_calls [] socket = Give socket
+after_calls (call ∷ calls) socket = bind (after_call call socket) (λ s. after_calls calls s)
+
+-- The socket is connected, and this remote address is kept.
+pub record KnowsPeer (a : IpSocketAddress) (socket : Socket) : Type 0 where
+  pub connection : Connection
+  pub connected : socket.state ≡ Connected connection
+  pub peer : connection.peer ≡ Some a
