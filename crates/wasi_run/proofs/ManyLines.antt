@@ -90,7 +90,6 @@ module _ {contexts : List WasiSocketsCtx} {w_old w_mid : Seen} {k_old k_mid : Wr
   going_left h none = record {
     within = h.within;
     left = sym (h.rest ∙ none.rest);
-    few = omega (arith, h.count, h.few);
     count = h.count ∙ ap (λ ls. number_old + length ls) (sym (h.all ∙ (ap (λ ls. h.done ++ ls) none.lines ∙ append-nil h.done)));
   }
 

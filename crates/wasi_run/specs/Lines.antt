@@ -47,7 +47,6 @@ pub record LeftAt (number_old at_old : ℕ) (bytes : List ℕ) (number_new at_ne
   pub within : at_new ≤ length bytes
   pub left : drop at_new bytes ≡ rest_of (drop at_old bytes)
   pub count : number_new ≡ number_old + length (lines_of (drop at_old bytes))
-  pub few : number_new ≤ number_old + at_new
 
 -- All whole lines of the bytes were counted, and the unfinished one is kept.
 pub record KeptOf (number_old : ℕ) (front bytes : List ℕ) (number_new : ℕ) (kept : List ℕ) : Type 0 where
