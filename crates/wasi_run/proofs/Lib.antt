@@ -24,3 +24,4 @@ pub mod Refused
 pub mod StepLaws
 pub mod ReplyTexts
 pub mod ReplyBack
+pub mod StepCauses
