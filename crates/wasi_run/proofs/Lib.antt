@@ -25,3 +25,4 @@ pub mod StepLaws
 pub mod ReplyTexts
 pub mod ReplyBack
 pub mod StepCauses
+pub mod CreateCauses

@@ -41,7 +41,7 @@ pub given : {A : Type 0} (Q : List Entry → A → Type 0) (asks : Asks A) (entr
 given Q asks entries a g w = reached (λ es op call. ⊤) Q [] asks entries (Give a) g w
 
 -- == a call that stands
-abbrev IsQuiet : Machine → List Entry → Reply × Machine → Type 0
+abbrev pub IsQuiet : Machine → List Entry → Reply × Machine → Type 0
 IsQuiet m entries done = (entries ≡ []) × (done.0 ≡ reply.Busy) × (done.1 ≡ m)
 
 abbrev NotBusy : List Entry → Reply × Machine → Type 0

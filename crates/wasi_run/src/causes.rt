@@ -1,14 +1,23 @@
 //! Laws over the definitions of specs/ that say where each answer of a step comes from, and what stands after a refusal:
 //! each is a function that does nothing, whose contract is the law.
 
-ghost use Rattle.std.specs.Prelude.{◌≡◌, ◌↔◌, ℕ, List, [], IsSome, None};
+ghost use Rattle.std.specs.Prelude.{◌≡◌, ◌↔◌, ℕ, true, List, [], ◌∷◌, IsSome, None};
+ghost use Rattle.wasi_addr.specs.declared.address.SocketAddressFamily.{SocketAddressFamily};
+ghost use Rattle.wasi_world.specs.declared.call.Call.{Call};
 ghost use Rattle.wasi_world.specs.declared.call.Entry.{Entry};
+ghost use Rattle.wasi_world.specs.declared.call.Told.{Told};
+ghost use Rattle.wasi_world.specs.declared.outcome.TrapKind.{TrapKind};
 ghost use Rattle.wasi_world.specs.declared.outcome.WasiSocketsCtx.{WasiSocketsCtx};
+ghost use Rattle.wasi_tcp.specs.Socket.{new_socket};
 ghost use Rattle.wasi_run.specs.declared.machine.Machine.{Machine};
 ghost use Rattle.wasi_run.specs.declared.reply.CodeWord.{CodeWord};
 ghost use Rattle.wasi_run.specs.declared.reply.Reply.{Reply};
 ghost use Rattle.wasi_run.specs.declared.step.Step.{Step};
-ghost use Rattle.wasi_run.specs.Answered.{Answered, HasNothingInProgress, record_at};
+ghost use Rattle.wasi_run.specs.Answered.{Answered, CreateRefusal, HasNothingInProgress, record_at};
+ghost use Rattle.wasi_run.specs.Licence.{entry};
+ghost use Rattle.wasi_run.specs.Machine.{context_at, own_of};
+ghost use Rattle.wasi_run.specs.Store.{with_record};
+ghost use Rattle.wasi_run.specs.Table.{is_full};
 
 /// A step is busy exactly where a call stands. It asks nothing then, and the machine stays as it was.
 pub fn busy_while_a_call_stands()
@@ -30,4 +39,26 @@ pub fn finish_bind_refusals()
         → Answered contexts m line (Step.TcpFinishBind ctx handle) entries (Reply.Err word) after → word ≡ CodeWord.NotInProgress }
     ensures stays { (contexts : List WasiSocketsCtx) (m : Machine) (line ctx handle : ℕ) (entries : List Entry) (word : CodeWord) (after : Machine)
         → Answered contexts m line (Step.TcpFinishBind ctx handle) entries (Reply.Err word) after → after ≡ m }
+{}
+
+/// A create is refused with `access-denied` where the context may not use TCP, and it asks nothing then; or with the word of
+/// the code that its one ask was told. No handle, no record and no side stands then.
+pub fn create_refusals()
+    ensures cause { (contexts : List WasiSocketsCtx) (m : Machine) (line ctx : ℕ) (family : SocketAddressFamily) (entries : List Entry) (word : CodeWord) (after : Machine)
+        → Answered contexts m line (Step.TcpCreate ctx family) entries (Reply.Err word) after
+        → CreateRefusal (own_of line) (context_at contexts ctx) family entries word }
+    ensures stays { (contexts : List WasiSocketsCtx) (m : Machine) (line ctx : ℕ) (family : SocketAddressFamily) (entries : List Entry) (word : CodeWord) (after : Machine)
+        → Answered contexts m line (Step.TcpCreate ctx family) entries (Reply.Err word) after → after ≡ m }
+{}
+
+/// A create that traps with `Full` has made its side, which stands in a record that no handle names.
+pub fn create_full()
+    ensures full { (contexts : List WasiSocketsCtx) (m : Machine) (line ctx : ℕ) (family : SocketAddressFamily) (entries : List Entry) (after : Machine)
+        → Answered contexts m line (Step.TcpCreate ctx family) entries (Reply.Trap TrapKind.Full) after → is_full m.table ≡ true }
+    ensures asked { (contexts : List WasiSocketsCtx) (m : Machine) (line ctx : ℕ) (family : SocketAddressFamily) (entries : List Entry) (after : Machine)
+        → Answered contexts m line (Step.TcpCreate ctx family) entries (Reply.Trap TrapKind.Full) after
+        → entries ≡ entry (own_of line) (Call.TcpCreate (context_at contexts ctx).name family) Told.Done ∷ [] }
+    ensures left { (contexts : List WasiSocketsCtx) (m : Machine) (line ctx : ℕ) (family : SocketAddressFamily) (entries : List Entry) (after : Machine)
+        → Answered contexts m line (Step.TcpCreate ctx family) entries (Reply.Trap TrapKind.Full) after
+        → after ≡ record m { store = with_record m.store (new_socket (own_of line) (context_at contexts ctx).name family) } }
 {}
