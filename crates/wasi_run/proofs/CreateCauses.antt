@@ -21,7 +21,6 @@ use Rattle.wasi_run.specs.declared.reply.CodeWord.{CodeWord}
 use Rattle.wasi_run.specs.declared.reply.Reply.{Reply}
 use Rattle.wasi_run.specs.declared.reply.Reply.TheVariants as reply
 use Rattle.wasi_run.specs.declared.step.Step.TheVariants as step
-use Rattle.wasi_run.specs.declared.store.StandingBind.{StandingBind}
 use Rattle.wasi_run.specs.declared.table.Kind.{Kind}
 use Rattle.wasi_run.specs.declared.table.Kind.TheVariants.{Network, Tcp2}
 use Rattle.wasi_run.specs.Host.{Stop, Trap}
@@ -30,7 +29,7 @@ use Rattle.wasi_run.specs.Store.{with_record}
 use Rattle.wasi_run.specs.Machine.{network_asks, create_handle, created_asks, create_asks, handle_reply, own_of, context_at, step_asks, machine_asks}
 use Rattle.wasi_run.specs.Licence.{entry}
 use Rattle.wasi_run.specs.Answered.{word_of_code, CreateRefusal, NotAllowed, ToldCode}
-use Rattle.wasi_run.proofs.StepCauses.{Gives, gives_then, given, IsQuiet}
+use Rattle.wasi_run.proofs.StepCauses.{Gives, gives_then, settled}
 
 -- == making a handle
 make_gives : (Q : List Entry → Result ℕ Stop × Shown → Type 0) (es : List Entry) (t : Shown) (op : OpId) (kind : Kind) (parent : Option ℕ) (side : Option OpId)
@@ -106,18 +105,10 @@ module _ (m : Machine) (line : ℕ) where
         (λ es done k. k)
 
   module _ (contexts : List WasiSocketsCtx) (ctx : ℕ) (family : SocketAddressFamily) where
-    abbrev The : List Entry → Reply × Machine → Type 0
-    The es done = CreateSays (context_at contexts ctx) family es done
-
-    -- unless a call stands it says so
-    create_by : (standing : Option StandingBind) (entries : List Entry) (done : Reply × Machine) → Left (machine_asks contexts m line (step.TcpCreate ctx family) standing) entries (Give done) → (done.0 ≡ reply.Busy → ⊥) → The entries done
-    create_by None entries done w n = given The _ entries done (create_says (context_at contexts ctx) family) w
-    create_by (Some c) entries done w n = absurd (n (given (IsQuiet m) (Give (reply.Busy, m)) entries done (refl, refl, refl) w).1)
-
     pub create_refused : (entries : List Entry) (w : CodeWord) (after : Machine) → Left (machine_asks contexts m line (step.TcpCreate ctx family) m.store.standing) entries (Give (reply.Err w, after))
         → CreateRefusal (own_of line) (context_at contexts ctx) family entries w × (after ≡ m)
-    create_refused entries w after h = create_by m.store.standing entries (reply.Err w, after) h (λ e. cc)
+    create_refused entries w after h = settled contexts m line _ (step.TcpCreate ctx family) m.store.standing entries (reply.Err w, after) (create_says (context_at contexts ctx) family) h (λ e. cc)
 
     pub create_is_full : (entries : List Entry) (after : Machine) → Left (machine_asks contexts m line (step.TcpCreate ctx family) m.store.standing) entries (Give (reply.Trap Full, after))
         → (is_full m.table ≡ true) × (entries ≡ is_made (context_at contexts ctx) family) × (after ≡ record m { store = with_record m.store (new_one (context_at contexts ctx) family) })
-    create_is_full entries after h = create_by m.store.standing entries (reply.Trap Full, after) h (λ e. cc)
+    create_is_full entries after h = settled contexts m line _ (step.TcpCreate ctx family) m.store.standing entries (reply.Trap Full, after) (create_says (context_at contexts ctx) family) h (λ e. cc)

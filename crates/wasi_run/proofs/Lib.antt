@@ -26,3 +26,5 @@ pub mod ReplyTexts
 pub mod ReplyBack
 pub mod StepCauses
 pub mod CreateCauses
+pub mod BindCauses
+pub mod TrapCauses

@@ -6,7 +6,7 @@ use Rattle.wasi_world.specs.declared.outcome.Answer.{Answer}
 use Rattle.wasi_world.specs.declared.outcome.Answer.TheVariants.{Ready, Pending}
 use Rattle.wasi_world.specs.declared.outcome.WasiSocketsCtx.{WasiSocketsCtx}
 use Rattle.wasi_world.specs.Asks.{Asks, Give, Ask, AskWrite, bind, Left}
-use Rattle.wasi_world.proofs.Allowed.{Allows, allows_then, reached}
+use Rattle.wasi_world.proofs.Allowed.{Allows, allows_then, allows_weaker, reached}
 use Rattle.wasi_run.specs.declared.machine.Machine.{Machine}
 use Rattle.wasi_run.specs.declared.reply.CodeWord.{CodeWord}
 use Rattle.wasi_run.specs.declared.reply.CodeWord.TheVariants as word
@@ -36,12 +36,16 @@ gives_any Q any before (Give a) = any before a
 gives_any Q any before (Ask op call next) = (tt, λ told fits. gives_any Q any _ (next told))
 gives_any Q any before (AskWrite op sock bytes next) = (tt, λ told fits front. gives_any Q any _ (next told))
 
+-- what is weaker
+pub gives_more : {A : Type 0} (Q R : List Entry → A → Type 0) (more : (es : List Entry) (a : A) → Q es a → R es a) (before : List Entry) (asks : Asks A) → Gives Q before asks → Gives R before asks
+gives_more Q R more before asks h = allows_weaker (λ es op call. ⊤) Q R more before asks h
+
 -- of what was asked and told
 pub given : {A : Type 0} (Q : List Entry → A → Type 0) (asks : Asks A) (entries : List Entry) (a : A) → Gives Q [] asks → Left asks entries (Give a) → Q entries a
 given Q asks entries a g w = reached (λ es op call. ⊤) Q [] asks entries (Give a) g w
 
 -- == a call that stands
-abbrev pub IsQuiet : Machine → List Entry → Reply × Machine → Type 0
+abbrev IsQuiet : Machine → List Entry → Reply × Machine → Type 0
 IsQuiet m entries done = (entries ≡ []) × (done.0 ≡ reply.Busy) × (done.1 ≡ m)
 
 abbrev NotBusy : List Entry → Reply × Machine → Type 0
@@ -86,6 +90,12 @@ module _ (contexts : List WasiSocketsCtx) (m : Machine) (line : ℕ) where
 
   pub busy_is_quiet : (s : Step) (entries : List Entry) (after : Machine) → Answered contexts m line s entries reply.Busy after → (entries ≡ []) × (after ≡ m)
   busy_is_quiet s entries after w = quiet_by s m.store.standing entries after w
+
+  -- an answer that isn't busy is the step's own
+  pub settled : (Q : List Entry → Reply × Machine → Type 0) (s : Step) (standing : Option StandingBind) (entries : List Entry) (done : Reply × Machine)
+      → Gives Q [] (step_asks contexts m line s) → Left (machine_asks contexts m line s standing) entries (Give done) → done.0 ≢ reply.Busy → Q entries done
+  settled Q s None entries done g w n = given Q (step_asks contexts m line s) entries done g w
+  settled Q s (Some c) entries done g w n = absurd (n (given (IsQuiet m) (Give (reply.Busy, m)) entries done (refl, refl, refl) w).1)
 
   -- == the finish of a bind
   -- it asks nothing and gives this

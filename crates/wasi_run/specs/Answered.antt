@@ -133,3 +133,11 @@ pub record RefusedStart (m : Machine) (own : OpId) (handle : ℕ) (a : IpSocketA
   pub names : socket_at m handle ≡ Some place
   pub at : slice_get m.store.sockets place ≡ Some found
   pub cause : StartRefusal m own place found a entries reply after
+
+-- The machine is as it was, but that the handle's socket is known to be bound.
+pub record KnowsBound (m : Machine) (handle : ℕ) (after : Machine) : Type 0 where
+  pub place : ℕ
+  pub found : Tcp2Socket
+  pub names : socket_at m handle ≡ Some place
+  pub at : slice_get m.store.sockets place ≡ Some found
+  pub is : after ≡ knowing_bound m place found
