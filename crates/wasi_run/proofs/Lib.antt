@@ -24,3 +24,7 @@ pub mod Refused
 pub mod StepLaws
 pub mod ReplyTexts
 pub mod ReplyBack
+pub mod StepCauses
+pub mod CreateCauses
+pub mod BindCauses
+pub mod TrapCauses

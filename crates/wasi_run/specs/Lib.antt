@@ -16,3 +16,4 @@ pub mod Licence
 pub mod Headline
 pub mod Program
 pub mod Parsed
+pub mod Answered

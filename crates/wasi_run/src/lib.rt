@@ -1,6 +1,7 @@
 //! Runs a script of guest calls over one table of handles, and writes one reply per line.
 #![tactic(auto)]
 
+pub mod causes;
 mod closing;
 pub mod host;
 pub mod laws;

@@ -1,0 +1,150 @@
+-- Where the answers of a step come from: of a call that stands, and of the finish of a bind.
+use Rattle.std.specs.Prelude.{⊤, IsSome}
+use Rattle.std.proofs.Common.{◌≡◌, ◌≢◌, ◌↔◌, ℕ, List, [], Option, Some, None, Result, Ok, Err, slice_get, refl, sym, ap}
+use Rattle.wasi_world.specs.declared.call.Entry.{Entry}
+use Rattle.wasi_world.specs.declared.outcome.Answer.{Answer}
+use Rattle.wasi_world.specs.declared.outcome.Answer.TheVariants.{Ready, Pending}
+use Rattle.wasi_world.specs.declared.outcome.WasiSocketsCtx.{WasiSocketsCtx}
+use Rattle.wasi_world.specs.Asks.{Asks, Give, Ask, AskWrite, bind, Left}
+use Rattle.wasi_world.proofs.Allowed.{Allows, allows_then, allows_weaker, reached}
+use Rattle.wasi_run.specs.declared.machine.Machine.{Machine}
+use Rattle.wasi_run.specs.declared.reply.CodeWord.{CodeWord}
+use Rattle.wasi_run.specs.declared.reply.CodeWord.TheVariants as word
+use Rattle.wasi_run.specs.declared.reply.Reply.{Reply}
+use Rattle.wasi_run.specs.declared.reply.Reply.TheVariants as reply
+use Rattle.wasi_run.specs.declared.socket.InProgress.{InProgress}
+use Rattle.wasi_run.specs.declared.socket.InProgress.TheVariants as doing
+use Rattle.wasi_run.specs.declared.socket.Tcp2Socket.{Tcp2Socket}
+use Rattle.wasi_run.specs.declared.step.Step.{Step}
+use Rattle.wasi_run.specs.declared.step.Step.TheVariants as step
+use Rattle.wasi_run.specs.declared.store.StandingBind.{StandingBind}
+use Rattle.wasi_run.specs.Host.{Stop, Code, Trap}
+use Rattle.wasi_run.specs.Store.{finish_bind_by, finish_bind_at}
+use Rattle.wasi_run.specs.Machine.{socket_at, network_asks, create_asks, start_bind_asks, finish_bind_on, handle_reply, done_reply, answer_reply, own_of, context_at, step_asks, machine_asks}
+use Rattle.wasi_run.specs.Answered.{Answered, record_in, HasNothingInProgress}
+
+-- == what a tree gives, whatever is told
+abbrev pub Gives : {A : Type 0} → (List Entry → A → Type 0) → List Entry → Asks A → Type 0
+Gives Q before asks = Allows (λ es op call. ⊤) Q before asks
+
+pub gives_then : {A B : Type 0} (R : List Entry → A → Type 0) (Q : List Entry → B → Type 0) (before : List Entry) (asks : Asks A) (f : A → Asks B) → Gives R before asks → ((es : List Entry) (a : A) → R es a → Gives Q es (f a)) → Gives Q before (bind asks f)
+gives_then R Q before asks f h k = allows_then (λ es op call. ⊤) R Q before asks f h k
+
+-- what holds of everything
+pub gives_any : {A : Type 0} (Q : List Entry → A → Type 0) (any : (es : List Entry) (a : A) → Q es a) (before : List Entry) (asks : Asks A) → Gives Q before asks
+gives_any Q any before (Give a) = any before a
+gives_any Q any before (Ask op call next) = (tt, λ told fits. gives_any Q any _ (next told))
+gives_any Q any before (AskWrite op sock bytes next) = (tt, λ told fits front. gives_any Q any _ (next told))
+
+-- what is weaker
+pub gives_more : {A : Type 0} (Q R : List Entry → A → Type 0) (more : (es : List Entry) (a : A) → Q es a → R es a) (before : List Entry) (asks : Asks A) → Gives Q before asks → Gives R before asks
+gives_more Q R more before asks h = allows_weaker (λ es op call. ⊤) Q R more before asks h
+
+-- of what was asked and told
+pub given : {A : Type 0} (Q : List Entry → A → Type 0) (asks : Asks A) (entries : List Entry) (a : A) → Gives Q [] asks → Left asks entries (Give a) → Q entries a
+given Q asks entries a g w = reached (λ es op call. ⊤) Q [] asks entries (Give a) g w
+
+-- == a call that stands
+abbrev IsQuiet : Machine → List Entry → Reply × Machine → Type 0
+IsQuiet m entries done = (entries ≡ []) × (done.0 ≡ reply.Busy) × (done.1 ≡ m)
+
+abbrev NotBusy : List Entry → Reply × Machine → Type 0
+NotBusy entries done = done.0 ≢ reply.Busy
+
+handle_not_busy : (r : Result ℕ Stop) → handle_reply r ≢ reply.Busy
+handle_not_busy (Ok h) e = cc
+handle_not_busy (Err (Code c)) e = cc
+handle_not_busy (Err (Trap kind)) e = cc
+
+answer_not_busy : (line : ℕ) (r : Result (Answer (Unit {0})) Stop) → answer_reply line r ≢ reply.Busy
+answer_not_busy line (Ok (Ready done)) e = cc
+answer_not_busy line (Ok Pending) e = cc
+answer_not_busy line (Err (Code c)) e = cc
+answer_not_busy line (Err (Trap kind)) e = cc
+
+done_not_busy : (r : Result (Unit {0}) Stop) → done_reply r ≢ reply.Busy
+done_not_busy (Ok done) e = cc
+done_not_busy (Err (Code c)) e = cc
+done_not_busy (Err (Trap kind)) e = cc
+
+module _ (contexts : List WasiSocketsCtx) (m : Machine) (line : ℕ) where
+  not_busy : {A : Type 0} (asks : Asks (A × Machine)) (says : A → Reply) → ((a : A) → says a ≢ reply.Busy) → Gives NotBusy [] (bind asks (λ done. Give (says done.0, done.1)))
+  not_busy asks says h = gives_then (λ es done. ⊤) NotBusy [] asks _ (gives_any _ (λ es done. tt) [] asks) (λ es done k. h done.0)
+
+  step_not_busy : (s : Step) → Gives NotBusy [] (step_asks contexts m line s)
+  step_not_busy (step.Network ctx) = not_busy (network_asks m (own_of line)) handle_reply handle_not_busy
+  step_not_busy (step.TcpCreate ctx family) = not_busy (create_asks m (own_of line) (context_at contexts ctx) family) handle_reply handle_not_busy
+  step_not_busy (step.TcpStartBind ctx s n a) = not_busy (start_bind_asks m (own_of line) s n a) (answer_reply line) (answer_not_busy line)
+  step_not_busy (step.TcpFinishBind ctx s) = done_not_busy (finish_bind_on m (socket_at m s)).0
+
+  busy_by : (s : Step) (standing : Option StandingBind) (entries : List Entry) (r : Reply) (after : Machine) → Left (machine_asks contexts m line s standing) entries (Give (r, after)) → (r ≡ reply.Busy) ↔ IsSome standing
+  busy_by s None entries r after w = (λ e. absurd (given NotBusy _ entries (r, after) (step_not_busy s) w e), λ e. absurd (cc))
+  busy_by s (Some c) entries r after w = (λ e. refl, λ e. (given (IsQuiet m) (Give (reply.Busy, m)) entries (r, after) (refl, refl, refl) w).1)
+
+  pub busy_exactly : (s : Step) (entries : List Entry) (r : Reply) (after : Machine) → Answered contexts m line s entries r after → (r ≡ reply.Busy) ↔ IsSome m.store.standing
+  busy_exactly s entries r after w = busy_by s m.store.standing entries r after w
+
+  quiet_by : (s : Step) (standing : Option StandingBind) (entries : List Entry) (after : Machine) → Left (machine_asks contexts m line s standing) entries (Give (reply.Busy, after)) → (entries ≡ []) × (after ≡ m)
+  quiet_by s None entries after w = absurd (given NotBusy _ entries (reply.Busy, after) (step_not_busy s) w refl)
+  quiet_by s (Some c) entries after w = let q = given (IsQuiet m) (Give (reply.Busy, m)) entries (reply.Busy, after) (refl, refl, refl) w in (q.0, q.2)
+
+  pub busy_is_quiet : (s : Step) (entries : List Entry) (after : Machine) → Answered contexts m line s entries reply.Busy after → (entries ≡ []) × (after ≡ m)
+  busy_is_quiet s entries after w = quiet_by s m.store.standing entries after w
+
+  -- an answer that isn't busy is the step's own
+  pub settled : (Q : List Entry → Reply × Machine → Type 0) (s : Step) (standing : Option StandingBind) (entries : List Entry) (done : Reply × Machine)
+      → Gives Q [] (step_asks contexts m line s) → Left (machine_asks contexts m line s standing) entries (Give done) → done.0 ≢ reply.Busy → Q entries done
+  settled Q s None entries done g w n = given Q (step_asks contexts m line s) entries done g w
+  settled Q s (Some c) entries done g w n = absurd (n (given (IsQuiet m) (Give (reply.Busy, m)) entries done (refl, refl, refl) w).1)
+
+  -- == the finish of a bind
+  -- it asks nothing and gives this
+  abbrev IsGiven : Reply × Machine → List Entry → Reply × Machine → Type 0
+  IsGiven done entries now = (entries ≡ []) × (now ≡ done)
+
+  abbrev finished : Option ℕ → Reply × Machine
+  finished o = let done = finish_bind_on m o in (done_reply done.0, done.1)
+
+  -- with nothing in progress it is refused, and else it is not
+  abbrev Says : Option Tcp2Socket → Reply × Machine → Type 0
+  Says found done =
+      (HasNothingInProgress found → done.0 ≡ reply.Err word.NotInProgress)
+      × ((w : CodeWord) → done.0 ≡ reply.Err w → (w ≡ word.NotInProgress) × HasNothingInProgress found × (done.1 ≡ m))
+
+  says_by : (place : ℕ) (r : Tcp2Socket) (now : InProgress) → r.in_progress ≡ now → let done = finish_bind_by m.store place r now in Says (Some r) (done_reply done.0, record m { store = done.1 })
+  says_by place r doing.Nothing e = (λ h. refl, λ w h. (cc, e, refl))
+  says_by place r doing.Bind e = (λ h. absurd (cc), λ w h. absurd (cc))
+
+  says_at : (place : ℕ) (found : Option Tcp2Socket) → let done = finish_bind_at m.store place found in Says found (done_reply done.0, record m { store = done.1 })
+  says_at place None = (λ h. absurd h, λ w h. absurd (cc))
+  says_at place (Some r) = says_by place r r.in_progress refl
+
+  says_on : (o : Option ℕ) → Says (record_in m o) (finished o)
+  says_on None = (λ h. absurd h, λ w h. absurd (cc))
+  says_on (Some place) = says_at place (slice_get m.store.sockets place)
+
+  pub finish_asks_nothing : (ctx s : ℕ) (standing : Option StandingBind) (entries : List Entry) (done : Reply × Machine) → Left (machine_asks contexts m line (step.TcpFinishBind ctx s) standing) entries (Give done) → entries ≡ []
+  finish_asks_nothing ctx s None entries done w = (given (IsGiven (finished (socket_at m s))) _ entries done (refl, refl) w).0
+  finish_asks_nothing ctx s (Some c) entries done w = (given (IsQuiet m) _ entries done (refl, refl, refl) w).0
+
+  pub finish_exactly : (ctx s : ℕ) (standing : Option StandingBind) (entries : List Entry) (r : Reply) (after : Machine) → standing ≡ None → Left (machine_asks contexts m line (step.TcpFinishBind ctx s) standing) entries (Give (r, after))
+      → (r ≡ reply.Err word.NotInProgress) ↔ HasNothingInProgress (record_in m (socket_at m s))
+  finish_exactly ctx s None entries r after e w =
+      let g = given (IsGiven (finished (socket_at m s))) _ entries (r, after) (refl, refl) w in
+      let same : r ≡ (finished (socket_at m s)).0 = ap (λ (p : Reply × Machine). p.0) g.1 in
+      let says = says_on (socket_at m s) in
+      rw same (λ h. (says.1 word.NotInProgress h).1, says.0)
+  finish_exactly ctx s (Some c) entries r after e w = absurd (cc)
+
+  pub finish_refused : (ctx s : ℕ) (standing : Option StandingBind) (entries : List Entry) (w : CodeWord) (after : Machine) → Left (machine_asks contexts m line (step.TcpFinishBind ctx s) standing) entries (Give (reply.Err w, after))
+      → (w ≡ word.NotInProgress) × (after ≡ m)
+  finish_refused ctx s None entries w after h =
+      let g = given (IsGiven (finished (socket_at m s))) _ entries (reply.Err w, after) (refl, refl) h in
+      let said : reply.Err w ≡ (finished (socket_at m s)).0 = ap (λ (p : Reply × Machine). p.0) g.1 in
+      let left : after ≡ (finished (socket_at m s)).1 = ap (λ (p : Reply × Machine). p.1) g.1 in
+      let says = (says_on (socket_at m s)).1 w (sym said) in
+      (says.0, rw left says.2)
+  finish_refused ctx s (Some c) entries w after h =
+      let q = given (IsQuiet m) _ entries (reply.Err w, after) (refl, refl, refl) h in
+      let e : reply.Err w ≡ reply.Busy = q.1 in
+      absurd (cc)
