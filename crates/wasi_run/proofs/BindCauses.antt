@@ -1,10 +1,10 @@
 -- Where the answers of the start of a bind come from.
-use Rattle.std.specs.Prelude.{⊤, ◌⊎◌, IsSomeAnd}
+use Rattle.std.specs.Prelude.{◌⊎◌, IsSomeAnd}
 use Rattle.std.proofs.Common.{◌≡◌, ◌≢◌, ◌↔◌, ℕ, zero, suc, Bool, true, false, not, if◌then◌else◌, inl, inr, List, [], ◌∷◌, ◌++◌, Option, Some, None, Result, Ok, Err, slice_get, slice_set, refl, sym, ap, subst, ◌∙◌}
 use Rattle.wasi_addr.specs.declared.address.IpSocketAddress.{IpSocketAddress}
 use Rattle.wasi_addr.specs.declared.address.SocketAddrUse.TheVariants.{TcpBind}
 use Rattle.wasi_addr.specs.declared.code.ErrorCode.{ErrorCode}
-use Rattle.wasi_addr.specs.declared.code.ErrorCode.TheVariants.{AccessDenied, InvalidArgument, InvalidState}
+use Rattle.wasi_addr.specs.declared.code.ErrorCode.TheVariants.{AccessDenied, InvalidArgument}
 use Rattle.wasi_addr.specs.Address.{is_wildcard}
 use Rattle.wasi_world.specs.declared.ids.OpId.{OpId}
 use Rattle.wasi_world.specs.declared.call.Call.TheVariants as call
@@ -15,9 +15,9 @@ use Rattle.wasi_world.specs.declared.outcome.Answer.{Answer}
 use Rattle.wasi_world.specs.declared.outcome.TrapKind.TheVariants.{NoSuchHandle}
 use Rattle.wasi_world.specs.declared.outcome.WasiSocketsCtx.{WasiSocketsCtx}
 use Rattle.wasi_world.specs.Fits.{IsVerdict, IsDoneOrCode, IsAddr}
-use Rattle.wasi_world.specs.Asks.{Asks, Give, bind}
+use Rattle.wasi_world.specs.Asks.{Give, bind}
 use Rattle.wasi_world.specs.Typed.{told_verdict, told_done, told_addr}
-use Rattle.wasi_world.specs.Operation.{Given, Nothing, Item, Check, Bind, Who, Operation, End, Waits, Done, Refused, after, round, polls, poll_asks, verdict_front, done_front}
+use Rattle.wasi_world.specs.Operation.{Nothing, Item, Check, Bind, Operation, End, Waits, Done, Refused, after, round, polls, poll_asks, verdict_front, done_front}
 use Rattle.wasi_world.proofs.Allowed.{allows_if}
 use Rattle.wasi_tcp.specs.declared.bind.Asker.{Asker}
 use Rattle.wasi_tcp.specs.declared.bind.BindStage.TheVariants as stage

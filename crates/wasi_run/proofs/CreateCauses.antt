@@ -1,6 +1,6 @@
 -- Where the answers of a step come from that makes a handle.
 use Rattle.std.specs.Prelude.{⊤}
-use Rattle.std.proofs.Common.{◌≡◌, ℕ, true, false, List, [], ◌∷◌, ◌++◌, Option, Some, None, Result, Ok, Err, length, refl, ap}
+use Rattle.std.proofs.Common.{◌≡◌, ℕ, true, List, [], ◌∷◌, ◌++◌, Option, None, Result, Ok, Err, length, refl, ap}
 use Rattle.wasi_addr.specs.declared.address.SocketAddressFamily.{SocketAddressFamily}
 use Rattle.wasi_addr.specs.declared.code.ErrorCode.{ErrorCode}
 use Rattle.wasi_world.specs.declared.ids.OpId.{OpId}
@@ -11,7 +11,7 @@ use Rattle.wasi_world.specs.declared.call.Told.TheVariants as told
 use Rattle.wasi_world.specs.declared.outcome.TrapKind.TheVariants.{Full}
 use Rattle.wasi_world.specs.declared.outcome.WasiSocketsCtx.{WasiSocketsCtx}
 use Rattle.wasi_world.specs.Fits.{IsDoneOrCode}
-use Rattle.wasi_world.specs.Asks.{Asks, Give, bind, Left}
+use Rattle.wasi_world.specs.Asks.{Give, bind}
 use Rattle.wasi_world.specs.Typed.{told_done}
 use Rattle.wasi_world.proofs.Allowed.{allows_if}
 use Rattle.wasi_tcp.specs.Shape.{Socket}
@@ -26,9 +26,9 @@ use Rattle.wasi_run.specs.declared.table.Kind.TheVariants.{Network, Tcp2}
 use Rattle.wasi_run.specs.Host.{Stop, Trap}
 use Rattle.wasi_run.specs.Table.{Shown, name_of, is_full, with_handle, make_asks}
 use Rattle.wasi_run.specs.Store.{with_record}
-use Rattle.wasi_run.specs.Machine.{network_asks, create_handle, created_asks, create_asks, handle_reply, own_of, context_at, step_asks, machine_asks}
+use Rattle.wasi_run.specs.Machine.{network_asks, created_asks, create_asks, handle_reply, own_of, context_at}
 use Rattle.wasi_run.specs.Licence.{entry}
-use Rattle.wasi_run.specs.Answered.{word_of_code, CreateRefusal, NotAllowed, ToldCode}
+use Rattle.wasi_run.specs.Answered.{Answered, word_of_code, CreateRefusal, NotAllowed, ToldCode}
 use Rattle.wasi_run.proofs.StepCauses.{Gives, gives_then, settled}
 
 -- == making a handle
@@ -105,10 +105,10 @@ module _ (m : Machine) (line : ℕ) where
         (λ es done k. k)
 
   module _ (contexts : List WasiSocketsCtx) (ctx : ℕ) (family : SocketAddressFamily) where
-    pub create_refused : (entries : List Entry) (w : CodeWord) (after : Machine) → Left (machine_asks contexts m line (step.TcpCreate ctx family) m.store.standing) entries (Give (reply.Err w, after))
+    pub create_refused : (entries : List Entry) (w : CodeWord) (after : Machine) → Answered contexts m line (step.TcpCreate ctx family) entries (reply.Err w) after
         → CreateRefusal (own_of line) (context_at contexts ctx) family entries w × (after ≡ m)
     create_refused entries w after h = settled contexts m line _ (step.TcpCreate ctx family) m.store.standing entries (reply.Err w, after) (create_says (context_at contexts ctx) family) h (λ e. cc)
 
-    pub create_is_full : (entries : List Entry) (after : Machine) → Left (machine_asks contexts m line (step.TcpCreate ctx family) m.store.standing) entries (Give (reply.Trap Full, after))
+    pub create_is_full : (entries : List Entry) (after : Machine) → Answered contexts m line (step.TcpCreate ctx family) entries (reply.Trap Full) after
         → (is_full m.table ≡ true) × (entries ≡ is_made (context_at contexts ctx) family) × (after ≡ record m { store = with_record m.store (new_one (context_at contexts ctx) family) })
     create_is_full entries after h = settled contexts m line _ (step.TcpCreate ctx family) m.store.standing entries (reply.Trap Full, after) (create_says (context_at contexts ctx) family) h (λ e. cc)

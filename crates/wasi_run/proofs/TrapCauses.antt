@@ -1,18 +1,13 @@
 -- Which steps trap and which stand, and why.
 use Rattle.std.specs.Prelude.{⊤, ◌⊎◌, IsSomeAnd}
-use Rattle.std.proofs.Common.{◌≡◌, ◌↔◌, ◌≢◌, ℕ, inl, inr, true, List, [], ◌∷◌, Option, Some, None, slice_get, refl, ap, subst}
+use Rattle.std.proofs.Common.{◌≡◌, ◌≢◌, ℕ, inl, inr, true, List, [], Option, Some, None, slice_get, refl, ap}
 use Rattle.wasi_addr.specs.declared.address.IpSocketAddress.{IpSocketAddress}
 use Rattle.wasi_addr.specs.declared.address.SocketAddressFamily.{SocketAddressFamily}
-use Rattle.wasi_addr.specs.declared.code.ErrorCode.{ErrorCode}
-use Rattle.wasi_addr.specs.declared.code.ErrorCode.TheVariants as base
 use Rattle.wasi_world.specs.declared.call.Entry.{Entry}
 use Rattle.wasi_world.specs.declared.outcome.TrapKind.{TrapKind}
 use Rattle.wasi_world.specs.declared.outcome.TrapKind.TheVariants.{NoSuchHandle, Full}
 use Rattle.wasi_world.specs.declared.outcome.WasiSocketsCtx.{WasiSocketsCtx}
-use Rattle.wasi_world.specs.Asks.{Asks, Give, bind, Left}
 use Rattle.wasi_run.specs.declared.machine.Machine.{Machine}
-use Rattle.wasi_run.specs.declared.reply.CodeWord.{CodeWord}
-use Rattle.wasi_run.specs.declared.reply.CodeWord.TheVariants as word
 use Rattle.wasi_run.specs.declared.reply.Reply.{Reply}
 use Rattle.wasi_run.specs.declared.reply.Reply.TheVariants as reply
 use Rattle.wasi_run.specs.declared.socket.InProgress.{InProgress}
@@ -22,10 +17,10 @@ use Rattle.wasi_run.specs.declared.step.Step.{Step}
 use Rattle.wasi_run.specs.declared.step.Step.TheVariants as step
 use Rattle.wasi_run.specs.Table.{is_full}
 use Rattle.wasi_run.specs.Store.{finish_bind_by, finish_bind_at}
-use Rattle.wasi_run.specs.Machine.{socket_at, network_asks, create_asks, start_bind_asks, finish_bind_on, handle_reply, answer_reply, done_reply, own_of, context_at, step_asks}
+use Rattle.wasi_run.specs.Machine.{socket_at, finish_bind_on, done_reply, own_of, context_at, step_asks}
 use Rattle.wasi_run.specs.Licence.{marks_in}
-use Rattle.wasi_run.specs.Answered.{Answered, record_in, record_at, MissesHandle, MakesHandle, IsStartBind, EndsPending}
-use Rattle.wasi_run.proofs.StepCauses.{Gives, gives_then, gives_more, settled}
+use Rattle.wasi_run.specs.Answered.{Answered, record_in, MissesHandle, MakesHandle, IsStartBind, EndsPending}
+use Rattle.wasi_run.proofs.StepCauses.{Gives, gives_more, settled}
 use Rattle.wasi_run.proofs.CreateCauses.{NetworkSays, network_says, CreateSays, create_says}
 use Rattle.wasi_run.proofs.BindCauses.{StartSays, start_says}
 
