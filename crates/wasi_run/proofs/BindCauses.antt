@@ -22,7 +22,7 @@ use Rattle.wasi_world.proofs.Allowed.{allows_if}
 use Rattle.wasi_tcp.specs.declared.bind.Asker.{Asker}
 use Rattle.wasi_tcp.specs.declared.bind.BindStage.TheVariants as stage
 use Rattle.wasi_tcp.specs.declared.socket.TcpState.{TcpState}
-use Rattle.wasi_tcp.specs.declared.socket.TcpState.TheVariants.{Default, Closed}
+use Rattle.wasi_tcp.specs.declared.socket.TcpState.TheVariants.{Default}
 use Rattle.wasi_tcp.specs.Bind.{bind_operation}
 use Rattle.wasi_tcp.specs.Shape.{Socket}
 use Rattle.wasi_tcp.specs.Socket.{after_local, ask_bound, bound_asks, bind_allowed, bind_start, bind_asks}
@@ -169,7 +169,7 @@ module _ (m : Machine) (line handle network : ℕ) (a : IpSocketAddress) where
       asked_gives : (st : TcpState) → r.inner.state ≡ st → r.inner.bound ≡ false → Gives BoundGives [] (ask_bound own r.inner st)
       unfolding bind
       asked_gives (Default side) e unknown = (tt, λ t fits. told_local side t fits unknown e)
-      asked_gives (Closed c) e unknown = bound_gives [] (answered.Closed c e)
+      asked_gives _ e unknown = bound_gives [] (answered.PastDefault (rw e tt))
 
       begin_gives : Gives BegunGives [] (begin_bind_asks own r a)
       begin_gives =

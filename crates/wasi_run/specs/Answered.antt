@@ -13,6 +13,7 @@ use Rattle.wasi_world.specs.declared.call.Told.{Told}
 use Rattle.wasi_world.specs.declared.call.Told.TheVariants as told
 use Rattle.wasi_world.specs.declared.outcome.WasiSocketsCtx.{WasiSocketsCtx}
 use Rattle.wasi_world.specs.Asks.{Give, Left}
+use Rattle.wasi_tcp.specs.declared.socket.TcpState.{TcpState}
 use Rattle.wasi_tcp.specs.declared.socket.TcpState.TheVariants as state
 use Rattle.wasi_tcp.specs.Shape.{Socket}
 use Rattle.wasi_run.specs.declared.machine.Machine.{Machine}
@@ -91,10 +92,15 @@ abbrev pub says_bound : SocketAddressFamily → Told → Bool
 says_bound family (told.Addr a) = not (is_wildcard family a)
 says_bound family _ = false
 
--- A socket is bound: it is known to be, or it is closed, or its side's local address says so.
+-- a state other than Default
+abbrev pub IsPastDefault : TcpState → Type 0
+IsPastDefault (state.Default side) = ⊥
+IsPastDefault _ = ⊤
+
+-- A socket is bound: it is known to be, or its state isn't Default, or its side's local address says so.
 pub data IsBound (own : OpId) (socket : Socket) : List Entry → Type 0 where
   Known : socket.bound ≡ true → IsBound own socket []
-  Closed : (c : ErrorCode) → socket.state ≡ state.Closed c → IsBound own socket []
+  PastDefault : IsPastDefault socket.state → IsBound own socket []
   ToldBound : (side : OpId) (told : Told) → socket.state ≡ state.Default side → says_bound socket.family told ≡ true → IsBound own socket (entry own (call.Local side) told ∷ [])
 
 -- A socket isn't bound: it isn't known to be, and what its side told of its local address doesn't say so.
