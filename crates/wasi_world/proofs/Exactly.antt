@@ -1,5 +1,5 @@
 -- How readers are put together so that they read exactly what is written.
-use Rattle.std.proofs.Common.{◌≡◌, ℕ, ◌≤◌, ◌<◌, ◌^◌, List, [], ◌∷◌, ◌++◌, Option, Some, None, append_assoc, ap, sym, ◌∙◌, refl, subst, option_and_then}
+use Rattle.std.proofs.Common.{◌≡◌, ℕ, ◌≤◌, ◌<◌, ◌^◌, List, [], ◌∷◌, ◌++◌, Option, Some, None, append-nil, append_assoc, ap, sym, ◌∙◌, refl, subst, option_and_then}
 use Rattle.wasi_world.specs.Fields.{Reader, read_then, give, give_some, field_at, number_at}
 use Rattle.wasi_world.specs.Written.{ReadsExactly, number_fields}
 use Rattle.wasi_world.proofs.Numbers.{number_in_is, number_in_decimal}
@@ -67,6 +67,14 @@ only_then {read = read} {written} next {Q} first second = record {
       let two = (second found.0 one.0).holds result found.1 rest found.3 in
       (written found.0 ++ two.0, one.1 ∙ (ap (λ mid. written found.0 ++ mid) two.1 ∙ sym (append_assoc (written found.0) two.0 rest)), two.2);
 }
+
+-- the last, and then a value
+pub all_last : {A B : Type 0} {read : Reader A} {written : A → List (List ℕ)} {Fits : A → Type 0} (next : A → Reader B) {value : A} {result : B} → ReadsExactly read written Fits → Fits value → All (next value) result [] → All (read_then read next) result (written value)
+all_last {written = written} next {value} first fits second = rw append-nil at (all_then next first fits second)
+
+pub only_last : {A B : Type 0} {read : Reader A} {written : A → List (List ℕ)} {Fits : A → Type 0} (make : A → B) {Q : List (List ℕ) → B → Type 0} → ReadsExactly read written Fits → ((value : A) → Fits value → Q (written value) (make value)) → Only (read_then read (λ value. give (make value))) Q
+only_last {written = written} make {Q} first q =
+    only_then (λ value. give (make value)) first (λ value fits. only_give (make value) (rw append-nil (q value fits)))
 
 -- one field
 one_field : (fields : List (List ℕ)) (field : List ℕ) (rest : List (List ℕ)) → field_at fields ≡ Some (field, rest) → fields ≡ field ∷ rest

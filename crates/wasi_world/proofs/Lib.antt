@@ -16,3 +16,7 @@ pub mod Listing
 pub mod Logs
 pub mod Made
 pub mod ScriptChecks
+pub mod Words
+pub mod UpTo
+pub mod ScenarioLines
+pub mod LinesOf

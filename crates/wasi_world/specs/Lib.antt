@@ -11,3 +11,5 @@ pub mod Sides
 pub mod Script
 pub mod Queued
 pub mod Scripted
+pub mod Lines
+pub mod Scenario

@@ -3,7 +3,7 @@
 #[cfg(test)]
 mod tests;
 
-ghost use Rattle.std.specs.Prelude.{IsUtf8, OnOk, string_bytes, ◌++◌, ◌<◌, ◌^◌, option_copied, IfOk, ◌≡◌, ◌≤◌, ℕ, List, ◌∷◌, [], decimal, Some, IsTrue, ◌↔◌, IfSome, IfNone, position};
+ghost use Rattle.std.specs.Prelude.{IsUtf8, ◌≢◌, OnOk, string_bytes, ◌++◌, ◌<◌, ◌^◌, option_copied, IfOk, ◌≡◌, ◌≤◌, ℕ, List, ◌∷◌, [], decimal, Some, IsTrue, ◌↔◌, IfSome, IfNone, position};
 ghost use Rattle.std.specs.List.{list_all};
 ghost use Rattle.hex.specs.Hex.{IsBytes, encode_lower};
 ghost use Rattle.wasi_world.specs.Written.{ReadsExactly, AreVisible, number_fields, family_fields, ip_fields, address_fields, code_fields, bytes_fields, FitsIp, FitsAddress};
@@ -346,6 +346,6 @@ pub fn fields_are_read_exactly()
 
 /// A line of visible fields has these fields, and no other line has.
 pub fn lines_have_their_fields()
-    ensures fields { (field : List ℕ) (more : List (List ℕ)) → AreVisible (field ∷ more) → fields_of (line_with (field ∷ more)) ≡ field ∷ more }
+    ensures fields { (fields : List (List ℕ)) → fields ≢ [] → AreVisible fields → fields_of (line_with fields) ≡ fields }
     ensures only { (line : List ℕ) → line ≡ line_with (fields_of line) }
 {}

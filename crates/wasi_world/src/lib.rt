@@ -14,8 +14,11 @@ pub mod octets;
 pub mod outcome;
 pub mod plan;
 mod queue;
+pub mod scenario;
 pub mod scripted;
 mod sides;
+#[cfg(test)]
+mod tests;
 pub mod world;
 
 pub use call::{Call, Entry, HandleKind, Opt, Told};
@@ -26,5 +29,6 @@ pub use lists::Lists;
 pub use octets::{IpList, NameText, Octets};
 pub use outcome::{Answer, Refusal, TrapKind, WasiSocketsCtx};
 pub use plan::{Kind, Planned};
+pub use scenario::ScenarioError;
 pub use scripted::ScriptedWorld;
 pub use world::World;
