@@ -15,7 +15,8 @@ use Rattle.wasi_run.specs.declared.run.RunEnd.TheVariants as end
 use Rattle.wasi_run.specs.declared.run.RunError.{RunError}
 use Rattle.wasi_run.specs.declared.run.RunError.TheVariants.{Memory, BadStep, TooLong, ReadFault, WriteFault}
 use Rattle.wasi_run.specs.Machine.{first_state, run}
-use Rattle.wasi_run.specs.Lines.{lines_of, after_lines, StartWith}
+use Rattle.wasi_world.specs.Lines.{lines_of}
+use Rattle.wasi_run.specs.Lines.{after_lines, StartWith}
 use Rattle.wasi_run.specs.Closing.{AsksNothing}
 use Rattle.wasi_run.specs.Ran.{LinesRan, Beyond, Wrote, texts}
 use Rattle.wasi_run.specs.Script.{Answers, RanScript}

@@ -14,10 +14,11 @@ use Rattle.wasi_run.specs.declared.run.RunError.{RunError}
 use Rattle.wasi_run.specs.declared.run.RunError.TheVariants.{Memory, BadStep, TooLong, ReadFault, WriteFault}
 use Rattle.wasi_run.specs.Steps.{step_of}
 use Rattle.wasi_run.specs.Machine.{first_state}
-use Rattle.wasi_run.specs.Lines.{lines_of, lines_from, rest_of, BadAfter, AllSteps}
+use Rattle.wasi_world.specs.Lines.{lines_of, lines_from, rest_of}
+use Rattle.wasi_run.specs.Lines.{BadAfter, AllSteps}
 use Rattle.wasi_run.specs.Ran.{LinesRan}
 use Rattle.wasi_run.specs.Script.{Answers, RanScript, IsValid, IsOkOrMemory, Completes}
-use Rattle.wasi_run.proofs.LinesOf.{lines-append}
+use Rattle.wasi_world.proofs.LinesOf.{lines-append}
 
 never : (script : List ℕ) → Some script ≡ None → ⊥
 never script h = cc

@@ -2,7 +2,6 @@ pub mod Hosts
 pub mod Lookups
 pub mod SideCounts
 pub mod Takes
-pub mod LinesOf
 pub mod Stretches
 pub mod OneLine
 pub mod ManyLines
@@ -28,3 +27,4 @@ pub mod StepCauses
 pub mod CreateCauses
 pub mod BindCauses
 pub mod TrapCauses
+pub mod Scenarios

@@ -9,10 +9,11 @@ use Rattle.wasi_run.specs.declared.machine.Machine.{Machine}
 use Rattle.wasi_run.specs.declared.lines.LinesEnd.{LinesEnd}
 use Rattle.wasi_run.specs.declared.lines.LinesEnd.TheVariants as lines
 use Rattle.wasi_run.specs.declared.run.RunError.{RunError}
-use Rattle.wasi_run.specs.Lines.{lines_of, rest_of, LeftAt}
+use Rattle.wasi_world.specs.Lines.{lines_of, rest_of}
+use Rattle.wasi_run.specs.Lines.{LeftAt}
 use Rattle.wasi_run.specs.Ran.{LinesRan}
 use Rattle.wasi_run.proofs.Stretches.{lines_then, lines_none, lines_ahead, IsOver}
-use Rattle.wasi_run.proofs.LinesOf.{Cut, NoCut, cut_at, no_cut, cut_line, cut_after, cut_within}
+use Rattle.wasi_world.proofs.LinesOf.{Cut, NoCut, cut_at, no_cut, cut_line, cut_after, cut_within}
 
 -- Of the bytes from start on, the lines up to a place were done.
 pub record Going (contexts : List WasiSocketsCtx) (w_old w_new : Seen) (k_old k_new : Writing) (first now : Machine) (start : ℕ) (bytes : List ℕ) (number_old number at : ℕ) : Type 0 where

@@ -10,11 +10,12 @@ use Rattle.wasi_run.specs.declared.lines.LinesEnd.{LinesEnd}
 use Rattle.wasi_run.specs.declared.lines.LinesEnd.TheVariants as lines
 use Rattle.wasi_run.specs.declared.run.RunError.{RunError}
 use Rattle.wasi_run.specs.declared.run.RunError.TheVariants.{Memory}
-use Rattle.wasi_run.specs.Lines.{lines_of, rest_of, lines_from, rest_from, LeftAt, KeptOf}
+use Rattle.wasi_world.specs.Lines.{lines_of, rest_of, lines_from, rest_from}
+use Rattle.wasi_run.specs.Lines.{LeftAt, KeptOf}
 use Rattle.wasi_run.specs.Ran.{LinesRan}
 use Rattle.wasi_run.proofs.Stretches.{lines_then, lines_none, lines_ahead, IsOver}
 use Rattle.wasi_run.proofs.OneLine.{none_done}
-use Rattle.wasi_run.proofs.LinesOf.{Cut, NoCut, cut_at, no_cut, cut_line, cut_after, cut_within}
+use Rattle.wasi_world.proofs.LinesOf.{Cut, NoCut, cut_at, no_cut, cut_line, cut_after, cut_within}
 
 pub piece_cut : (front piece : List ℕ) (end : ℕ) → Some end ≡ position (λ b. b == 10) piece → Cut front piece end
 piece_cut front piece end h = cut_at front piece end (sym h)

@@ -14,12 +14,13 @@ use Rattle.wasi_run.specs.declared.run.RunEnd.TheVariants as end
 use Rattle.wasi_run.specs.declared.run.RunError.{RunError}
 use Rattle.wasi_run.specs.declared.run.RunError.TheVariants.{BadStep, TooLong, ReadFault}
 use Rattle.wasi_run.specs.Machine.{first_state}
-use Rattle.wasi_run.specs.Lines.{lines_of, rest_of, lines_from, rest_from, after_lines, KeptOf}
+use Rattle.wasi_world.specs.Lines.{lines_of, rest_of, lines_from, rest_from}
+use Rattle.wasi_run.specs.Lines.{after_lines, KeptOf}
 use Rattle.wasi_run.specs.Ran.{LinesRan}
 use Rattle.wasi_run.specs.Script.{RanOver}
 use Rattle.wasi_run.proofs.Takes.{gave_again, gave_none, gave_end, gave_fault, fault_rose, has_room, more_fits}
 use Rattle.wasi_run.proofs.Stretches.{lines_then, lines_none, trap_then}
-use Rattle.wasi_run.proofs.LinesOf.{lines-append, rest-append, count_lines}
+use Rattle.wasi_world.proofs.LinesOf.{lines-append, rest-append, count_lines}
 
 -- All whole lines of what was read were done, and the unfinished one is kept.
 pub record Streaming (contexts : List WasiSocketsCtx) (limit : ℕ) (before now : Reading) (k_old k_now : Writing) (w_old w_now : Seen) (machine : Machine) (number taken : ℕ) (kept : List ℕ) : Type 0 where

@@ -8,7 +8,8 @@ use Rattle.wasi_run.specs.declared.machine.Machine.{Machine}
 use Rattle.wasi_run.specs.declared.step.Step.{Step}
 use Rattle.wasi_run.specs.declared.reply.Reply.{Reply}
 use Rattle.wasi_run.specs.Machine.{first_state, run}
-use Rattle.wasi_run.specs.Lines.{lines_of, rest_of, after_lines, StartWith, BadAfter}
+use Rattle.wasi_world.specs.Lines.{lines_of, rest_of}
+use Rattle.wasi_run.specs.Lines.{after_lines, StartWith, BadAfter}
 use Rattle.wasi_run.specs.Closing.{AsksNothing}
 use Rattle.wasi_run.specs.Ran.{texts, NoTrap, OneTrap}
 

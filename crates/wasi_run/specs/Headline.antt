@@ -4,7 +4,8 @@ use Rattle.wasi_world.specs.declared.outcome.WasiSocketsCtx.{WasiSocketsCtx}
 use Rattle.wasi_world.specs.Seen.{Seen}
 use Rattle.wasi_world.specs.Io.{Reading, Gave}
 use Rattle.wasi_run.specs.declared.step.Step.{Step}
-use Rattle.wasi_run.specs.Lines.{lines_of, StartWith}
+use Rattle.wasi_world.specs.Lines.{lines_of}
+use Rattle.wasi_run.specs.Lines.{StartWith}
 use Rattle.wasi_run.specs.Licence.{IsLicensed}
 
 -- The log is licensed by the first lines that the reader gave.

@@ -1,23 +1,8 @@
--- Lines of a text, and the steps that they spell where so many contexts are there.
+-- The steps that the lines of a text spell where so many contexts are there.
 use Rattle.std.specs.Prelude.{◌≡◌, ℕ, zero, suc, List, [], ◌∷◌, ◌++◌, if◌then◌else◌, ◌==◌, ◌+◌, ◌≤◌, Some, None, length, drop}
+use Rattle.wasi_world.specs.Lines.{lines_of, rest_of, lines_from, rest_from}
 use Rattle.wasi_run.specs.declared.step.Step.{Step}
 use Rattle.wasi_run.specs.Steps.{step_of}
-
--- the lines that newlines end; front is what the first has so far
-abbrev pub lines_from : List ℕ → List ℕ → List (List ℕ)
-lines_from front [] = []
-lines_from front (b ∷ bytes) = if b == 10 then front ∷ lines_from [] bytes else lines_from (front ++ b ∷ []) bytes
-
--- what follows the last newline
-abbrev pub rest_from : List ℕ → List ℕ → List ℕ
-rest_from front [] = front
-rest_from front (b ∷ bytes) = if b == 10 then rest_from [] bytes else rest_from (front ++ b ∷ []) bytes
-
-abbrev pub lines_of : List ℕ → List (List ℕ)
-lines_of text = lines_from [] text
-
-abbrev pub rest_of : List ℕ → List ℕ
-rest_of text = rest_from [] text
 
 -- what follows so many newlines
 abbrev pub after_lines : ℕ → List ℕ → List ℕ

@@ -6,7 +6,8 @@ use Rattle.wasi_world.specs.Seen.{Plan, Seen, Rose}
 use Rattle.wasi_world.specs.Io.{Reading, Writing, Gave, HasEnded, Took}
 use Rattle.wasi_world.specs.Fields.{number_in}
 use Rattle.wasi_world.specs.Script.{IsScripted}
-use Rattle.wasi_world.specs.Queued.{no_answers}
+use Rattle.wasi_world.specs.Scenario.{plan_of, free_context}
+use Rattle.wasi_world.specs.Scripted.{at_start}
 use Rattle.wasi_run.specs.declared.run.RunEnd.{RunEnd}
 use Rattle.wasi_run.specs.declared.run.RunError.{RunError}
 use Rattle.wasi_run.specs.declared.run.RunError.TheVariants as error
@@ -55,13 +56,12 @@ pub record ReadScenario (before after : Reading) (text : List ℕ) : Type 0 wher
   pub whole : (HasEnded after × (length text ≤ most_scenario)) ⊎ (length text ≡ most_scenario + 1)
 
 -- what a scenario plans, and its contexts, or the first line that isn't in its grammar
-abbrev pub scenario_of : List ℕ → Result (Plan × List WasiSocketsCtx) ℕ
-scenario_of [] = Ok (no_answers, record { name = 0; ip_name_lookup = true; udp = true; tcp = true } ∷ [])
-scenario_of (b ∷ text) = Err 1
+abbrev pub with_contexts : Result Plan ℕ → Result (Plan × List WasiSocketsCtx) ℕ
+with_contexts (Ok plan) = Ok (plan, free_context ∷ [])
+with_contexts (Err line) = Err line
 
--- a world that goes by a plan, before its first call
-abbrev pub fresh : Plan → Seen
-fresh plan = record { log = Some []; ended = false; closings = 0; faults = 0; plan = Some plan }
+abbrev pub scenario_of : List ℕ → Result (Plan × List WasiSocketsCtx) ℕ
+scenario_of text = with_contexts (plan_of text)
 
 -- No run began: nothing was read from the source or written to the sink, and there is no log.
 pub record NothingRan (s_old s_new : Reading) (k_old k_new : Writing) (log : List Entry) : Type 0 where
@@ -74,8 +74,8 @@ pub record RanPlan (plan : Plan) (contexts : List WasiSocketsCtx) (limit : ℕ) 
   pub seen : Seen  -- the world after it
   pub logged : seen.log ≡ Some log
   pub ended : seen.ended ≡ true
-  pub ran : RanScript contexts limit s_old s_new k_old k_new (fresh plan) seen result
-  pub licensed : RunsLicensed contexts limit s_old s_new (fresh plan) seen
+  pub ran : RanScript contexts limit s_old s_new k_old k_new (at_start plan) seen result
+  pub licensed : RunsLicensed contexts limit s_old s_new (at_start plan) seen
   pub closed : HasClosedAll seen
   pub scripted : IsScripted plan log
 

@@ -11,7 +11,8 @@ use Rattle.wasi_run.specs.declared.run.RunEnd.TheVariants as end
 use Rattle.wasi_run.specs.declared.run.RunError.{RunError}
 use Rattle.wasi_run.specs.declared.run.RunError.TheVariants.{Memory, BadStep, TooLong, ReadFault}
 use Rattle.wasi_run.specs.Machine.{first_state}
-use Rattle.wasi_run.specs.Lines.{lines_of, rest_of, after_lines, AllSteps}
+use Rattle.wasi_world.specs.Lines.{lines_of, rest_of}
+use Rattle.wasi_run.specs.Lines.{after_lines, AllSteps}
 use Rattle.wasi_run.specs.Closing.{AsksNothing}
 use Rattle.wasi_run.specs.Ran.{LinesRan}
 

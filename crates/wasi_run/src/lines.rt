@@ -1,7 +1,8 @@
 //! Does the lines of a script, and writes their replies.
 
 ghost use Rattle.std.specs.Prelude.{◌≡◌, ◌==◌, ◌∷◌, ◌+◌, ◌<◌, ◌≤◌, ◌^◌, [], Ok, OnOk, OnErr, length, take, drop, position, false};
-ghost use Rattle.wasi_run.specs.Lines.{lines_of, lines_from, LeftAt, KeptOf};
+ghost use Rattle.wasi_world.specs.Lines.{lines_of, lines_from};
+ghost use Rattle.wasi_run.specs.Lines.{LeftAt, KeptOf};
 ghost use Rattle.wasi_run.specs.Written.{TookAll, TookFront};
 ghost use Rattle.wasi_run.specs.Ran.{LinesRan};
 

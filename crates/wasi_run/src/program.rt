@@ -11,7 +11,7 @@ ghost use Rattle.wasi_run.specs.Script.{AreNumbered};
 use crate::run::{RunEnd, RunError, run_script};
 use std::alloc::{AllocError, Global};
 use wasi_world::fields::number;
-use wasi_world::{Entry, Lists, ScriptedWorld, Sink, Source, WasiSocketsCtx};
+use wasi_world::{Entry, ScenarioError, ScriptedWorld, Sink, Source, WasiSocketsCtx};
 
 /// A scenario has at most so many bytes.
 const MOST_SCENARIO: usize = 1_048_576;
@@ -165,18 +165,11 @@ enum Scenario {
 fn parse_scenario(alloc: Global, text: &[u8]) -> Result<Scenario, AllocError>
     ensures { IfOk result (λ scenario. IsParsed text.now scenario) }
 {
-    if !text.is_empty() {
-        return Ok(Scenario::BadLine(1));
+    match ScriptedWorld::parse(alloc, text) {
+        Ok((world, contexts)) => Ok(Scenario::Planned(world, contexts)),
+        Err(ScenarioError::BadScenario(line)) => Ok(Scenario::BadLine(line)),
+        Err(ScenarioError::Memory(e)) => Err(e),
     }
-    let lists = Lists::new(alloc)?;
-    let all = WasiSocketsCtx {
-        name: 0,
-        ip_name_lookup: true,
-        udp: true,
-        tcp: true,
-    };
-    let contexts = vec![in alloc; all]?;
-    Ok(Scenario::Planned(ScriptedWorld::new(alloc, lists), contexts))
 }
 
 /// Runs the script over a world that goes by a scenario's plan.

@@ -5,7 +5,7 @@ use Rattle.wasi_world.specs.Io.{Writing}
 use Rattle.wasi_run.specs.declared.machine.Machine.{Machine}
 use Rattle.wasi_run.specs.declared.lines.LinesEnd.{LinesEnd}
 use Rattle.wasi_run.specs.declared.run.RunError.{RunError}
-use Rattle.wasi_run.specs.Lines.{lines_of, lines_from}
+use Rattle.wasi_world.specs.Lines.{lines_of, lines_from}
 use Rattle.wasi_run.specs.Ran.{LinesRan}
 use Rattle.wasi_run.proofs.Stretches.{stays_open}
 use Rattle.wasi_run.proofs.OneLine.{none_done}
