@@ -3,7 +3,7 @@
 #[cfg(test)]
 mod tests;
 
-ghost use Rattle.std.specs.Prelude.{◌≡◌, ◌∷◌, []};
+ghost use Rattle.std.specs.Prelude.{◌≡◌, ◌∷◌, [], None, false};
 ghost use Rattle.wasi_world.specs.declared.call.Call.{Call};
 ghost use Rattle.wasi_world.specs.declared.ids.OpId.{OpId};
 ghost use Rattle.wasi_world.specs.Fits.{Fits, IsPlain};
@@ -74,6 +74,7 @@ impl QuietWorld {
     fn tell(&mut self, told: Told) -> Told
         ensures passed { (op : OpId) (call : Call) → Passes (quiet self.old) ((record { op = op; call = call; answer = result }) ∷ []) (quiet self.new) }
         ensures told { result ≡ told }
+        ensures open { self.new.ended ≡ self.old.ended }
     {
         self.faults = count_after(self.faults, &told);
         told

@@ -17,6 +17,7 @@ const LOCAL: IpSocketAddress = IpSocketAddress::Ipv4(Ipv4SocketAddress {
 const WHOLE: &[u8] = b"ok 1\nok 2\nok\nok\n";
 
 /// What is handed to the program, and how its streams behave.
+#[derive(Clone, Copy)]
 struct Given<'a> {
     words: &'a [&'a str],
     scenario: &'a [u8],
