@@ -27,4 +27,3 @@ pub mod StepCauses
 pub mod CreateCauses
 pub mod BindCauses
 pub mod TrapCauses
-pub mod Scenarios

@@ -3,11 +3,20 @@
 use std::alloc::Global;
 use std::test::Fail;
 use wasi_addr::{IpSocketAddress, Ipv4SocketAddress, SocketAddrUse, SocketAddressFamily};
-use wasi_run::{Done, run_main};
-use wasi_world::{Call, HandleKind, MemorySink, MemorySource, OpId, Told};
+use wasi_run::{Done, RunEnd, run_main, run_script};
+use wasi_world::{Call, HandleKind, MemorySink, MemorySource, OpId, ScriptedWorld, Told};
 
 const BIND: &[u8] =
     b"0 network\n0 tcp-create 4\n0 tcp-start-bind 2 1 4 127 0 0 1 80\n0 tcp-finish-bind 2\n";
+
+// The third line twice.
+const REFUSED: &[u8] =
+    b"0 network\n0 tcp-create 4\n0 tcp-start-bind 2 1 4 127 0 0 1 80\n0 tcp-start-bind 2 1 4 127 0 0 1 80\n";
+
+const WILDCARD: IpSocketAddress = IpSocketAddress::Ipv4(Ipv4SocketAddress {
+    port: 0,
+    address: (0, 0, 0, 0),
+});
 
 const LOCAL: IpSocketAddress = IpSocketAddress::Ipv4(Ipv4SocketAddress {
     port: 80,
@@ -125,7 +134,7 @@ fn a_bind_is_logged_in_order(rt: HostRuntime) -> Result<(), Fail> {
                 Call::Local {
                     sock: OpId { step: 2, part: 0 }
                 },
-                Told::Addr(_)
+                Told::Addr(WILDCARD)
             )
         )
     );
@@ -157,9 +166,68 @@ fn a_bind_is_logged_in_order(rt: HostRuntime) -> Result<(), Fail> {
     Ok(())
 }
 
+// A bind that was refused asks for the local address and the check again.
+#[test]
+fn a_refused_bind_asks_again(rt: HostRuntime) -> Result<(), Fail> {
+    let mut given = Given::script(&["run", "1000"], REFUSED);
+    given.scenario = b"check no\n";
+    let done = given.run(rt.alloc())?;
+    let [_, _, _, local, no, again, yes, bind] = done.log.as_slice() else {
+        panic!(rt; "eight entries");
+    };
+    assert_eq!(rt;
+        [local.op, no.op, again.op, yes.op, bind.op],
+        [op(3), op(3), op(4), op(4), op(4)]
+    );
+    assert!(rt;
+        matches!(
+            (&no.call, &no.answer),
+            (Call::Check { addr: LOCAL, .. }, Told::No)
+        )
+    );
+    assert!(rt;
+        matches!(
+            (&yes.call, &yes.answer),
+            (Call::Check { addr: LOCAL, .. }, Told::Yes)
+        )
+    );
+    assert!(rt;
+        matches!(
+            (&local.call, &again.call),
+            (Call::Local { .. }, Call::Local { .. })
+        )
+    );
+    assert!(rt; matches!(&bind.call, Call::Bind { addr: LOCAL, .. }));
+    Ok(())
+}
+
+// The end mark is set, and what was made is closed after it.
+#[test]
+fn a_run_ends_its_world(rt: HostRuntime) -> Result<(), Fail> {
+    let alloc = rt.alloc();
+    for (script, entries, closings) in [(b"".as_slice(), 0, 0), (BIND, 6, 1)] {
+        let (mut world, mut contexts) = ScriptedWorld::parse(alloc, b"")?;
+        let mut source = MemorySource::new(script.to_vec(alloc)?, 9, Vec::new(alloc));
+        let mut sink = MemorySink::new(alloc, 9, 100, Vec::new(alloc))?;
+        let end = run_script(
+            alloc,
+            &mut world,
+            &mut contexts,
+            100,
+            &mut source,
+            &mut sink,
+        )?;
+        assert_eq!(rt; end, RunEnd::AllRead);
+        assert_eq!(rt; world.entries().len(), entries);
+        assert!(rt; world.ended());
+        assert_eq!(rt; world.closed_after_end(), closings);
+    }
+    Ok(())
+}
+
 #[test]
 fn rows_with_their_status_line_and_replies(rt: HostRuntime) -> Result<(), Fail> {
-    let rows: [(&[&str], &[u8], &[u8], u8, u32, &str); 16] = [
+    let rows: [(&[&str], &[u8], &[u8], u8, u32, &str); 21] = [
         (&["run", "1000"], b"", b"", 0, 0, ""),
         (&["run", "0"], b"", b"", 0, 0, ""),
         (&["run", "81"], b"", BIND, 0, 0, "ok 1\nok 2\nok\nok\n"),
@@ -182,7 +250,26 @@ fn rows_with_their_status_line_and_replies(rt: HostRuntime) -> Result<(), Fail> 
         (&["run", "4294967296"], b"", BIND, 1, 0, ""),
         (&["run", "01"], b"", BIND, 1, 0, ""),
         (&["walk", "1000"], b"", BIND, 1, 0, ""),
+        (&["run", "1000"], b"", b"0 tcp-accept 1\n", 3, 1, ""),
         (&["run", "1000"], b"check maybe\n", BIND, 2, 1, ""),
+        (&["run", "1000"], b"check no\n\n", BIND, 2, 2, ""),
+        (&["run", "1000"], b"check no\nbind done", BIND, 2, 2, ""),
+        (
+            &["run", "1000"],
+            b"check no\n",
+            REFUSED,
+            0,
+            0,
+            "ok 1\nok 2\nerr access-denied\nok\n",
+        ),
+        (
+            &["run", "1000"],
+            b"bind code address-in-use\n",
+            REFUSED,
+            0,
+            0,
+            "ok 1\nok 2\nerr address-in-use\nok\n",
+        ),
     ];
     for (words, scenario, script, status, line, replies) in rows {
         for most in [1, 3, 4096] {
