@@ -18,29 +18,29 @@ use Rattle.wasi_world.specs.Queued.{no_answers, with_answer}
 abbrev pub kinds : List (Row Kind)
 kinds =
     row (codes "check") (give kind.Check)
-  ∷ row (codes "lookup") (give kind.Lookup)
-  ∷ row (codes "tcp-create") (give kind.TcpCreate)
-  ∷ row (codes "udp-create") (give kind.UdpCreate)
-  ∷ row (codes "udp-writable") (give kind.UdpWritable)
-  ∷ row (codes "local") (give kind.Local)
-  ∷ row (codes "peer") (give kind.Peer)
-  ∷ row (codes "bind") (give kind.Bind)
-  ∷ row (codes "listen") (give kind.Listen)
-  ∷ row (codes "set-backlog") (give kind.SetBacklog)
-  ∷ row (codes "udp-bind") (give kind.UdpBind)
-  ∷ row (codes "udp-connect") (give kind.UdpConnect)
-  ∷ row (codes "udp-disconnect") (give kind.UdpDisconnect)
-  ∷ row (codes "set-option") (give kind.SetOption)
-  ∷ row (codes "connect") (give kind.Connect)
-  ∷ row (codes "send") (give kind.Send)
-  ∷ row (codes "accept") (give kind.Accept)
-  ∷ row (codes "read") (give kind.Read)
-  ∷ row (codes "read-ready") (give kind.ReadReady)
-  ∷ row (codes "write") (give kind.Write)
-  ∷ row (codes "write-ready") (give kind.WriteReady)
-  ∷ row (codes "recv") (give kind.Recv)
-  ∷ row (codes "get-option") (give kind.GetOption)
-  ∷ []
+    ∷ row (codes "lookup") (give kind.Lookup)
+    ∷ row (codes "tcp-create") (give kind.TcpCreate)
+    ∷ row (codes "udp-create") (give kind.UdpCreate)
+    ∷ row (codes "udp-writable") (give kind.UdpWritable)
+    ∷ row (codes "local") (give kind.Local)
+    ∷ row (codes "peer") (give kind.Peer)
+    ∷ row (codes "bind") (give kind.Bind)
+    ∷ row (codes "listen") (give kind.Listen)
+    ∷ row (codes "set-backlog") (give kind.SetBacklog)
+    ∷ row (codes "udp-bind") (give kind.UdpBind)
+    ∷ row (codes "udp-connect") (give kind.UdpConnect)
+    ∷ row (codes "udp-disconnect") (give kind.UdpDisconnect)
+    ∷ row (codes "set-option") (give kind.SetOption)
+    ∷ row (codes "connect") (give kind.Connect)
+    ∷ row (codes "send") (give kind.Send)
+    ∷ row (codes "accept") (give kind.Accept)
+    ∷ row (codes "read") (give kind.Read)
+    ∷ row (codes "read-ready") (give kind.ReadReady)
+    ∷ row (codes "write") (give kind.Write)
+    ∷ row (codes "write-ready") (give kind.WriteReady)
+    ∷ row (codes "recv") (give kind.Recv)
+    ∷ row (codes "get-option") (give kind.GetOption)
+    ∷ []
 
 unfoldable pub kind_at : Reader Kind
 kind_at = do
@@ -61,23 +61,23 @@ names_at fields = up_to ip_at (length fields) fields
 abbrev pub long_answers : List (Row Planned)
 long_answers =
     row (codes "bytes") (bytes_at >>= λ bytes. give (Bytes bytes))
-  ∷ row (codes "datagram") (address_at >>= λ addr. bytes_at >>= λ bytes. give (Datagram bytes addr))
-  ∷ row (codes "names") (names_at >>= λ names. give (Names names))
-  ∷ []
+    ∷ row (codes "datagram") (address_at >>= λ addr. bytes_at >>= λ bytes. give (Datagram bytes addr))
+    ∷ row (codes "names") (names_at >>= λ names. give (Names names))
+    ∷ []
 
 -- the words of the other answers
 abbrev pub short_answers : List (Row Planned)
 short_answers =
     row (codes "pending") (give Pending)
-  ∷ row (codes "done") (give Done)
-  ∷ row (codes "yes") (give Yes)
-  ∷ row (codes "no") (give No)
-  ∷ row (codes "code") (code_at >>= λ code. give (Code code))
-  ∷ row (codes "addr") (address_at >>= λ addr. give (Addr addr))
-  ∷ row (codes "arrived") (address_at >>= λ addr. give (Arrived addr))
-  ∷ row (codes "took") (number_at 18446744073709551615 >>= λ count. give (Took count))
-  ∷ row (codes "value") (number_at 18446744073709551615 >>= λ value. give (Value value))
-  ∷ []
+    ∷ row (codes "done") (give Done)
+    ∷ row (codes "yes") (give Yes)
+    ∷ row (codes "no") (give No)
+    ∷ row (codes "code") (code_at >>= λ code. give (Code code))
+    ∷ row (codes "addr") (address_at >>= λ addr. give (Addr addr))
+    ∷ row (codes "arrived") (address_at >>= λ addr. give (Arrived addr))
+    ∷ row (codes "took") (number_at 18446744073709551615 >>= λ count. give (Took count))
+    ∷ row (codes "value") (number_at 18446744073709551615 >>= λ value. give (Value value))
+    ∷ []
 
 unfoldable pub answer_at : Reader Planned
 answer_at = do

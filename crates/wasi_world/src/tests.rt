@@ -85,7 +85,14 @@ fn ask(alloc: Global, world: &mut ScriptedWorld, op: OpId, kind: Kind) -> Result
     match kind {
         Kind::Check => {
             let usage = SocketAddrUse::TcpBind;
-            world.call(op, Call::Check { ctx: 0, addr, usage })
+            world.call(
+                op,
+                Call::Check {
+                    ctx: 0,
+                    addr,
+                    usage,
+                },
+            )
         }
         Kind::Lookup => {
             let host = NameText::from_vec(Vec::new(alloc));
@@ -102,7 +109,14 @@ fn ask(alloc: Global, world: &mut ScriptedWorld, op: OpId, kind: Kind) -> Result
         Kind::UdpBind => world.call(op, Call::UdpBind { sock, addr }),
         Kind::UdpConnect => world.call(op, Call::UdpConnect { sock, addr }),
         Kind::UdpDisconnect => world.call(op, Call::UdpDisconnect { sock }),
-        Kind::SetOption => world.call(op, Call::SetOption { sock, option, value: 9 }),
+        Kind::SetOption => world.call(
+            op,
+            Call::SetOption {
+                sock,
+                option,
+                value: 9,
+            },
+        ),
         Kind::Connect => world.call(op, Call::Connect { sock, addr }),
         Kind::Send => world.send(op, sock, addr, b"hi"),
         Kind::Accept => world.call(op, Call::Accept { sock }),
@@ -138,7 +152,11 @@ fn expect_answers(
 #[test]
 fn lists_are_used_in_order(rt: HostRuntime) -> Result<(), Fail> {
     let cases: [(&str, Kind, &[&str]); 23] = [
-        ("check no\ncheck yes\ncheck no\n", Kind::Check, &["no", "yes", "no", "yes", "yes"]),
+        (
+            "check no\ncheck yes\ncheck no\n",
+            Kind::Check,
+            &["no", "yes", "no", "yes", "yes"],
+        ),
         (
             "lookup pending\nlookup names 4 192 0 2 1\nlookup code timeout\n",
             Kind::Lookup,
@@ -222,7 +240,14 @@ fn lists_are_used_in_order(rt: HostRuntime) -> Result<(), Fail> {
         (
             "read bytes 616263646566\nread pending\nread bytes -\nread code connection-reset\n",
             Kind::Read,
-            &["bytes abcd", "bytes ef", "pending", "bytes ", "code ConnectionReset", "pending"],
+            &[
+                "bytes abcd",
+                "bytes ef",
+                "pending",
+                "bytes ",
+                "code ConnectionReset",
+                "pending",
+            ],
         ),
         (
             "read-ready done\nread-ready pending\n",
@@ -232,7 +257,13 @@ fn lists_are_used_in_order(rt: HostRuntime) -> Result<(), Fail> {
         (
             "write pending\nwrite took 2\nwrite took 9\nwrite code connection-broken\n",
             Kind::Write,
-            &["pending", "took ab", "took abcde", "code ConnectionBroken", "took abcde"],
+            &[
+                "pending",
+                "took ab",
+                "took abcde",
+                "code ConnectionBroken",
+                "took abcde",
+            ],
         ),
         (
             "write-ready pending\nwrite-ready done\n",
@@ -300,7 +331,14 @@ fn make(world: &mut ScriptedWorld, op: OpId, change: Change) -> Result<Told, All
             world.call(op, Call::Hand { sock, peer })
         }
         Change::Disconnect => world.call(op, Call::UdpDisconnect { sock }),
-        Change::Set(option, value) => world.call(op, Call::SetOption { sock, option, value }),
+        Change::Set(option, value) => world.call(
+            op,
+            Call::SetOption {
+                sock,
+                option,
+                value,
+            },
+        ),
     }
 }
 
@@ -340,26 +378,121 @@ fn defaults_follow_the_calls(rt: HostRuntime) -> Result<(), Fail> {
     let hop = |value: u64| Change::Set(Opt::HopLimit, value);
     let cases: [(&str, &[Change], u32, &str); 21] = [
         ("", &[created], 1, "0.0.0.0 0, code InvalidState, 64"),
-        ("", &[created6], 1, "0:0:0:0:0:0:0:0 0, code InvalidState, 64"),
-        ("", &[created, Change::Bind(80)], 1, "127.0.0.1 80, code InvalidState, 64"),
-        ("", &[created, Change::Bind(0)], 1, "127.0.0.1 50000, code InvalidState, 64"),
-        ("", &[created, Change::UdpBind(0)], 1, "127.0.0.1 50000, code InvalidState, 64"),
-        ("bind code other\n", &[created, Change::Bind(80)], 1, "0.0.0.0 0, code InvalidState, 64"),
-        ("", &[created, Change::Connect(9)], 1, "0.0.0.0 50000, 127.0.0.1 9, 64"),
-        ("", &[created6, Change::Connect(9)], 1, "0:0:0:0:0:0:0:0 50000, 127.0.0.1 9, 64"),
-        ("", &[created, Change::UdpConnect(9)], 1, "0.0.0.0 50000, 127.0.0.1 9, 64"),
-        ("", &[created, Change::Send], 1, "0.0.0.0 50000, code InvalidState, 64"),
-        ("connect pending\n", &[created, Change::Connect(9)], 1, "0.0.0.0 0, code InvalidState, 64"),
-        ("", &[created, Change::Bind(7), Change::Connect(9)], 1, "127.0.0.1 7, 127.0.0.1 9, 64"),
-        ("", &[created, Change::Send, Change::Bind(7)], 1, "127.0.0.1 7, code InvalidState, 64"),
-        ("", &[created, Change::UdpConnect(8), Change::UdpConnect(9)], 1, "0.0.0.0 50000, 127.0.0.1 9, 64"),
-        ("", &[created, Change::UdpConnect(9), Change::Disconnect], 1, "0.0.0.0 50000, code InvalidState, 64"),
-        ("", &[created, Change::Bind(80), Change::Hand(9)], 3, "127.0.0.1 80, 127.0.0.1 9, 64"),
-        ("", &[created6, Change::Hand(9)], 2, "0:0:0:0:0:0:0:0 0, 127.0.0.1 9, 64"),
+        (
+            "",
+            &[created6],
+            1,
+            "0:0:0:0:0:0:0:0 0, code InvalidState, 64",
+        ),
+        (
+            "",
+            &[created, Change::Bind(80)],
+            1,
+            "127.0.0.1 80, code InvalidState, 64",
+        ),
+        (
+            "",
+            &[created, Change::Bind(0)],
+            1,
+            "127.0.0.1 50000, code InvalidState, 64",
+        ),
+        (
+            "",
+            &[created, Change::UdpBind(0)],
+            1,
+            "127.0.0.1 50000, code InvalidState, 64",
+        ),
+        (
+            "bind code other\n",
+            &[created, Change::Bind(80)],
+            1,
+            "0.0.0.0 0, code InvalidState, 64",
+        ),
+        (
+            "",
+            &[created, Change::Connect(9)],
+            1,
+            "0.0.0.0 50000, 127.0.0.1 9, 64",
+        ),
+        (
+            "",
+            &[created6, Change::Connect(9)],
+            1,
+            "0:0:0:0:0:0:0:0 50000, 127.0.0.1 9, 64",
+        ),
+        (
+            "",
+            &[created, Change::UdpConnect(9)],
+            1,
+            "0.0.0.0 50000, 127.0.0.1 9, 64",
+        ),
+        (
+            "",
+            &[created, Change::Send],
+            1,
+            "0.0.0.0 50000, code InvalidState, 64",
+        ),
+        (
+            "connect pending\n",
+            &[created, Change::Connect(9)],
+            1,
+            "0.0.0.0 0, code InvalidState, 64",
+        ),
+        (
+            "",
+            &[created, Change::Bind(7), Change::Connect(9)],
+            1,
+            "127.0.0.1 7, 127.0.0.1 9, 64",
+        ),
+        (
+            "",
+            &[created, Change::Send, Change::Bind(7)],
+            1,
+            "127.0.0.1 7, code InvalidState, 64",
+        ),
+        (
+            "",
+            &[created, Change::UdpConnect(8), Change::UdpConnect(9)],
+            1,
+            "0.0.0.0 50000, 127.0.0.1 9, 64",
+        ),
+        (
+            "",
+            &[created, Change::UdpConnect(9), Change::Disconnect],
+            1,
+            "0.0.0.0 50000, code InvalidState, 64",
+        ),
+        (
+            "",
+            &[created, Change::Bind(80), Change::Hand(9)],
+            3,
+            "127.0.0.1 80, 127.0.0.1 9, 64",
+        ),
+        (
+            "",
+            &[created6, Change::Hand(9)],
+            2,
+            "0:0:0:0:0:0:0:0 0, 127.0.0.1 9, 64",
+        ),
         ("", &[created, hop(9)], 1, "0.0.0.0 0, code InvalidState, 9"),
-        ("", &[created, hop(9), hop(10)], 1, "0.0.0.0 0, code InvalidState, 10"),
-        ("set-option code other\n", &[created, hop(9)], 1, "0.0.0.0 0, code InvalidState, 64"),
-        ("", &[created, Change::Set(Opt::KeepAliveCount, 9)], 1, "0.0.0.0 0, code InvalidState, 64"),
+        (
+            "",
+            &[created, hop(9), hop(10)],
+            1,
+            "0.0.0.0 0, code InvalidState, 10",
+        ),
+        (
+            "set-option code other\n",
+            &[created, hop(9)],
+            1,
+            "0.0.0.0 0, code InvalidState, 64",
+        ),
+        (
+            "",
+            &[created, Change::Set(Opt::KeepAliveCount, 9)],
+            1,
+            "0.0.0.0 0, code InvalidState, 64",
+        ),
     ];
     for (scenario, changes, side, text) in cases {
         let told = defaults_text(rt.alloc(), scenario, changes, side)?;
@@ -430,7 +563,13 @@ fn a_world_keeps_its_log(rt: HostRuntime) -> Result<(), Fail> {
     let mut lists = Lists::new(rt.alloc())?;
     lists.push(Kind::Check, Planned::Pending)?;
     let mut world = ScriptedWorld::new(rt.alloc(), lists);
-    expect_answers(&rt, rt.alloc(), &mut world, Kind::Check, &["pending", "yes"])?;
+    expect_answers(
+        &rt,
+        rt.alloc(),
+        &mut world,
+        Kind::Check,
+        &["pending", "yes"],
+    )?;
     expect_answers(&rt, rt.alloc(), &mut world, Kind::Lookup, &["code Other"])?;
     assert_eq!(rt; world.faults(), 1);
     assert!(rt; !world.ended());
