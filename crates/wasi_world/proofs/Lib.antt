@@ -18,3 +18,6 @@ pub mod ScriptChecks
 pub mod Words
 pub mod Polls
 pub mod Pieces
+pub mod UpTo
+pub mod ScenarioLines
+pub mod LinesOf

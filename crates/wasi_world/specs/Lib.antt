@@ -12,3 +12,5 @@ pub mod Script
 pub mod Queued
 pub mod Scripted
 pub mod Memory
+pub mod Lines
+pub mod Scenario

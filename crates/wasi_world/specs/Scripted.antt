@@ -1,7 +1,16 @@
 -- What is known of a scripted world: all of it.
-use Rattle.std.specs.Prelude.{Some}
+use Rattle.std.specs.Prelude.{ℕ, List, [], Some, false, Result, Ok, Err}
 use Rattle.wasi_world.specs.declared.scripted.ScriptedWorld.{ScriptedWorld}
-use Rattle.wasi_world.specs.Seen.{Seen}
+use Rattle.wasi_world.specs.Seen.{Plan, Seen}
 
 abbrev pub seen_by : ScriptedWorld → Seen
 seen_by world = record { log = Some world.log.items; ended = world.ended; closings = world.closings; faults = world.faults; plan = Some world.lists.all }
+
+-- a world that was told nothing yet
+abbrev pub at_start : Plan → Seen
+at_start plan = record { log = Some []; ended = false; closings = 0; faults = 0; plan = Some plan }
+
+-- the world of a plan, where there is one
+abbrev pub started : Result Plan ℕ → Result Seen ℕ
+started (Ok plan) = Ok (at_start plan)
+started (Err number) = Err number

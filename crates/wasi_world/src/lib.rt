@@ -15,9 +15,12 @@ pub mod octets;
 pub mod outcome;
 pub mod plan;
 mod queue;
+pub mod scenario;
 pub mod scripted;
 mod sides;
 pub mod standard;
+#[cfg(test)]
+mod tests;
 pub mod world;
 
 pub use call::{Call, Entry, HandleKind, Opt, Told};
@@ -29,6 +32,7 @@ pub use memory::{MemorySink, MemorySource};
 pub use octets::{IpList, NameText, Octets};
 pub use outcome::{Answer, Refusal, TrapKind, WasiSocketsCtx};
 pub use plan::{Kind, Planned};
+pub use scenario::ScenarioError;
 pub use scripted::ScriptedWorld;
 pub use standard::{StdSink, StdSource};
 pub use world::World;

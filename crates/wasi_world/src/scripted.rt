@@ -93,12 +93,12 @@ pub struct ScriptedWorld {
 }
 
 impl ScriptedWorld {
-    ghost use Rattle.wasi_world.specs.Scripted.{seen_by};
+    ghost use Rattle.wasi_world.specs.Scripted.{seen_by, at_start};
 
     /// A world that goes by these lists, from their start: with an empty log, no end mark and no faults. Takes no memory.
     pub fn new(alloc: Global, lists: Lists) -> ScriptedWorld
         requires { lists.left ≡ lists.all }
-        ensures { seen_by result ≡ record { log = Some []; ended = false; closings = 0; faults = 0; plan = Some lists.all } }
+        ensures { seen_by result ≡ at_start lists.all }
     {
         ScriptedWorld {
             lists,

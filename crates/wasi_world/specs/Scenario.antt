@@ -1,0 +1,142 @@
+-- What a scenario plans: a line for each answer, with the word of its kind and the fields of the answer.
+use Rattle.std.specs.Prelude.{◌≡◌, ℕ, zero, suc, ◌+◌, ◌==◌, ◌&&◌, nat_le, Bool, true, false, if◌then◌else◌, List, [], ◌∷◌, ◌++◌, length, take, codes, Option, Some, None, option_map, Result, Ok, Err}
+use Rattle.wasi_addr.specs.declared.address.IpAddress.{IpAddress}
+use Rattle.wasi_world.specs.declared.outcome.WasiSocketsCtx.{WasiSocketsCtx}
+use Rattle.wasi_world.specs.declared.scenario.ScenarioError.{ScenarioError}
+use Rattle.wasi_world.specs.declared.scenario.ScenarioError.TheVariants.{BadScenario, Memory}
+use Rattle.wasi_world.specs.declared.plan.Kind.{Kind}
+use Rattle.wasi_world.specs.declared.plan.Kind.TheVariants as kind
+use Rattle.wasi_world.specs.declared.plan.Planned.{Planned}
+use Rattle.wasi_world.specs.declared.plan.Planned.TheVariants.{Pending, Done, Yes, No, Code, Addr, Arrived, Bytes, Took, Datagram, Value, Names}
+use Rattle.wasi_world.specs.Seen.{Plan, Seen}
+use Rattle.wasi_world.specs.Fields.{Reader, Row, row, after_word, read_then, ◌>>=◌, give, give_some, whole, fields_of, word_at, number_at, ip_at, address_at, code_at, bytes_at}
+use Rattle.wasi_world.specs.Lines.{lines_of, rest_of}
+use Rattle.wasi_world.specs.Kinds.{takes}
+use Rattle.wasi_world.specs.Queued.{no_answers, with_answer}
+
+-- the words of the kinds
+abbrev pub kinds : List (Row Kind)
+kinds =
+    row (codes "check") (give kind.Check)
+    ∷ row (codes "lookup") (give kind.Lookup)
+    ∷ row (codes "tcp-create") (give kind.TcpCreate)
+    ∷ row (codes "udp-create") (give kind.UdpCreate)
+    ∷ row (codes "udp-writable") (give kind.UdpWritable)
+    ∷ row (codes "local") (give kind.Local)
+    ∷ row (codes "peer") (give kind.Peer)
+    ∷ row (codes "bind") (give kind.Bind)
+    ∷ row (codes "listen") (give kind.Listen)
+    ∷ row (codes "set-backlog") (give kind.SetBacklog)
+    ∷ row (codes "udp-bind") (give kind.UdpBind)
+    ∷ row (codes "udp-connect") (give kind.UdpConnect)
+    ∷ row (codes "udp-disconnect") (give kind.UdpDisconnect)
+    ∷ row (codes "set-option") (give kind.SetOption)
+    ∷ row (codes "connect") (give kind.Connect)
+    ∷ row (codes "send") (give kind.Send)
+    ∷ row (codes "accept") (give kind.Accept)
+    ∷ row (codes "read") (give kind.Read)
+    ∷ row (codes "read-ready") (give kind.ReadReady)
+    ∷ row (codes "write") (give kind.Write)
+    ∷ row (codes "write-ready") (give kind.WriteReady)
+    ∷ row (codes "recv") (give kind.Recv)
+    ∷ row (codes "get-option") (give kind.GetOption)
+    ∷ []
+
+unfoldable pub kind_at : Reader Kind
+kind_at = do
+  word ← word_at
+  after_word kinds word
+
+-- values up to the end of the line, at most so many
+abbrev pub up_to : {A : Type 0} → Reader A → ℕ → Reader (List A)
+up_to read n [] = Some ([], [])
+up_to read zero (field ∷ fields) = None
+up_to read (suc n) (field ∷ fields) = (read >>= λ value. up_to read n >>= λ values. give (value ∷ values)) (field ∷ fields)
+
+-- addresses up to the end of the line; each has a field at least
+abbrev pub names_at : Reader (List IpAddress)
+names_at fields = up_to ip_at (length fields) fields
+
+-- the words of the answers that hold bytes or names, and what follows them
+abbrev pub long_answers : List (Row Planned)
+long_answers =
+    row (codes "bytes") (bytes_at >>= λ bytes. give (Bytes bytes))
+    ∷ row (codes "datagram") (address_at >>= λ addr. bytes_at >>= λ bytes. give (Datagram bytes addr))
+    ∷ row (codes "names") (names_at >>= λ names. give (Names names))
+    ∷ []
+
+-- the words of the other answers
+abbrev pub short_answers : List (Row Planned)
+short_answers =
+    row (codes "pending") (give Pending)
+    ∷ row (codes "done") (give Done)
+    ∷ row (codes "yes") (give Yes)
+    ∷ row (codes "no") (give No)
+    ∷ row (codes "code") (code_at >>= λ code. give (Code code))
+    ∷ row (codes "addr") (address_at >>= λ addr. give (Addr addr))
+    ∷ row (codes "arrived") (address_at >>= λ addr. give (Arrived addr))
+    ∷ row (codes "took") (number_at 18446744073709551615 >>= λ count. give (Took count))
+    ∷ row (codes "value") (number_at 18446744073709551615 >>= λ value. give (Value value))
+    ∷ []
+
+unfoldable pub answer_at : Reader Planned
+answer_at = do
+  word ← word_at
+  after_word (long_answers ++ short_answers) word
+
+-- an answer that a line may plan: one that its kind's list may hold, but no check waits
+abbrev pub may_plan : Kind → Planned → Bool
+may_plan kind.Check Pending = false
+may_plan k answer = takes k answer
+
+-- a kind, and an answer that it may plan
+unfoldable pub planned_at : Reader (Kind × Planned)
+planned_at = do
+  k ← kind_at
+  answer ← answer_at
+  give_some (if may_plan k answer then Some (k, answer) else None)
+
+-- what a line plans, without its newline
+unfoldable pub planned_in : List ℕ → Option (Kind × Planned)
+planned_in line = whole (planned_at (fields_of line))
+
+-- the plan with what a line plans
+abbrev pub with_line : Plan → List ℕ → Option Plan
+with_line plan line = option_map (λ planned. with_answer plan planned.0 planned.1) (planned_in line)
+
+-- the plan with these lines, the first of which has this number; or the number of the first that isn't in the grammar
+abbrev pub next_lines : ℕ → Option Plan → (Plan → Result Plan ℕ) → Result Plan ℕ
+next_lines number None more = Err number
+next_lines number (Some plan) more = more plan
+
+abbrev pub with_lines : ℕ → Plan → List (List ℕ) → Result Plan ℕ
+with_lines number plan [] = Ok plan
+with_lines number plan (line ∷ lines) = next_lines number (with_line plan line) (λ next. with_lines (number + 1) next lines)
+
+-- nothing follows the last newline of a text, and it has at most so many bytes
+abbrev pub is_whole : ℕ → List ℕ → Bool
+is_whole most text = (length (rest_of (take most text)) == 0) && nat_le (length text) most
+
+-- a plan of so many lines, if they are the whole text; else the number of the line after them
+abbrev pub if_whole : Bool → ℕ → Result Plan ℕ → Result Plan ℕ
+if_whole whole lines (Err number) = Err number
+if_whole whole lines (Ok plan) = if whole then Ok plan else Err (lines + 1)
+
+-- the plan that a text of at most so many bytes spells, or the number of the first line that isn't in the grammar
+unfoldable pub plan_within : ℕ → List ℕ → Result Plan ℕ
+plan_within most text =
+    let lines = lines_of (take most text) in
+    if_whole (is_whole most text) (length lines) (with_lines 1 no_answers lines)
+
+-- a scenario has at most 1,048,576 bytes
+abbrev pub plan_of : List ℕ → Result Plan ℕ
+plan_of text = plan_within 1048576 text
+
+-- the line that an error names
+abbrev pub bad_line : ScenarioError → Option ℕ
+bad_line (BadScenario number) = Some number
+bad_line (Memory e) = None
+
+-- the context that a scenario has: it allows all three
+abbrev pub free_context : WasiSocketsCtx
+free_context = record { name = 0; ip_name_lookup = true; udp = true; tcp = true }

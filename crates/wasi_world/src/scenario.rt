@@ -1,0 +1,259 @@
+//! Reads a scenario: a line for each planned answer.
+
+ghost use Rattle.std.specs.Prelude.{◌≡◌, ◌==◌, ◌≤◌, ◌<◌, ◌+◌, ◌^◌, ℕ, IfOk, OnOk, [], ◌∷◌, Some, None, true, IfErr, IfSome, Ok, Err, length, take, drop, position};
+ghost use Rattle.wasi_world.specs.Fields.{Reads, after_word};
+ghost use Rattle.wasi_world.specs.Kinds.{takes};
+ghost use Rattle.wasi_world.specs.Scenario.{kind_at, names_at, short_answers, answer_at, may_plan, planned_in, with_line, plan_within, plan_of, bad_line, free_context};
+
+use crate::fields::Fields;
+use crate::lists::Lists;
+use crate::octets::IpList;
+use crate::outcome::WasiSocketsCtx;
+use crate::plan::{Kind, Planned};
+use crate::scripted::ScriptedWorld;
+use std::alloc::{AllocError, Global};
+use thiserror::Error;
+
+/// How many bytes a scenario has at most.
+const MOST_BYTES: usize = 1_048_576;
+
+/// Why a scenario wasn't read.
+#[derive(Clone, Copy, Debug, PartialEq, Eq, Error)]
+pub enum ScenarioError {
+    /// The first line that isn't in the grammar, counted from 1: also a last line without its newline, and the line
+    /// that holds byte 1,048,577.
+    #[error("line {0} of the scenario is not in its grammar")]
+    BadScenario(u32),
+    #[error("memory ran out")]
+    Memory(AllocError),
+}
+
+impl From<AllocError> for ScenarioError {
+    ghost use Rattle.std.specs.Prelude.{◌≡◌};
+    ghost use Rattle.wasi_world.specs.declared.scenario.ScenarioError.TheVariants.{Memory};
+
+    ghost from_gives = { λ e error. error ≡ Memory e };
+
+    fn from(e: AllocError) -> ScenarioError {
+        ScenarioError::Memory(e)
+    }
+}
+
+/// Takes the word of a kind.
+#[tactic(auto, unfolding(crate::specs::Scenario::kind_at, crate::specs::Fields::read_then, crate::specs::Fields::give))]
+fn kind(fields: &mut Fields<'_>) -> Option<Kind>
+    ensures { Reads kind_at fields.old result fields.new }
+{
+    match fields.word()? {
+        "check" => Some(Kind::Check),
+        "lookup" => Some(Kind::Lookup),
+        "tcp-create" => Some(Kind::TcpCreate),
+        "udp-create" => Some(Kind::UdpCreate),
+        "udp-writable" => Some(Kind::UdpWritable),
+        "local" => Some(Kind::Local),
+        "peer" => Some(Kind::Peer),
+        "bind" => Some(Kind::Bind),
+        "listen" => Some(Kind::Listen),
+        "set-backlog" => Some(Kind::SetBacklog),
+        "udp-bind" => Some(Kind::UdpBind),
+        "udp-connect" => Some(Kind::UdpConnect),
+        "udp-disconnect" => Some(Kind::UdpDisconnect),
+        "set-option" => Some(Kind::SetOption),
+        "connect" => Some(Kind::Connect),
+        "send" => Some(Kind::Send),
+        "accept" => Some(Kind::Accept),
+        "read" => Some(Kind::Read),
+        "read-ready" => Some(Kind::ReadReady),
+        "write" => Some(Kind::Write),
+        "write-ready" => Some(Kind::WriteReady),
+        "recv" => Some(Kind::Recv),
+        "get-option" => Some(Kind::GetOption),
+        _ => None,
+    }
+}
+
+/// Takes what follows the word of a short answer.
+#[tactic(auto, unfolding(crate::specs::Fields::read_then, crate::specs::Fields::give))]
+fn short_answer(fields: &mut Fields<'_>, word: &str) -> Option<Planned>
+    ensures { Reads (after_word short_answers word.now) fields.old result fields.new }
+{
+    match word {
+        "pending" => Some(Planned::Pending),
+        "done" => Some(Planned::Done),
+        "yes" => Some(Planned::Yes),
+        "no" => Some(Planned::No),
+        "code" => Some(Planned::Code(fields.code()?)),
+        "addr" => Some(Planned::Addr(fields.socket_address()?)),
+        "arrived" => Some(Planned::Arrived(fields.socket_address()?)),
+        "took" => Some(Planned::Took(fields.number(u64::MAX)?)),
+        "value" => Some(Planned::Value(fields.number(u64::MAX)?)),
+        _ => None,
+    }
+}
+
+/// Takes addresses up to the end of the line.
+fn names(alloc: Global, fields: &mut Fields<'_>) -> Result<Option<IpList>, AllocError>
+    ensures { IfOk result (λ names. Reads names_at fields.old names fields.new) }
+{
+    let mut names = Vec::new(alloc);
+    while !fields.is_done() {
+        let Some(name) = fields.ip_address() else {
+            return Ok(None);
+        };
+        names.push(name)?;
+    }
+    Ok(Some(IpList::from_vec(names)))
+}
+
+/// Takes an answer.
+#[tactic(auto, unfolding(crate::specs::Scenario::answer_at, crate::specs::Fields::read_then, crate::specs::Fields::give))]
+fn answer(alloc: Global, fields: &mut Fields<'_>) -> Result<Option<Planned>, AllocError>
+    ensures { IfOk result (λ answer. Reads answer_at fields.old answer fields.new) }
+{
+    let Some(word) = fields.word() else {
+        return Ok(None);
+    };
+    match word {
+        "bytes" => {
+            let Some(bytes) = fields.octets(alloc)? else {
+                return Ok(None);
+            };
+            Ok(Some(Planned::Bytes(bytes)))
+        }
+        "datagram" => {
+            let Some(addr) = fields.socket_address() else {
+                return Ok(None);
+            };
+            let Some(bytes) = fields.octets(alloc)? else {
+                return Ok(None);
+            };
+            Ok(Some(Planned::Datagram(bytes, addr)))
+        }
+        "names" => {
+            let Some(names) = names(alloc, fields)? else {
+                return Ok(None);
+            };
+            Ok(Some(Planned::Names(names)))
+        }
+        _ => Ok(short_answer(fields, word)),
+    }
+}
+
+/// Whether a line may plan the answer: its kind's list may hold it, and it is no check that waits.
+fn may_plan(kind: Kind, answer: &Planned) -> bool
+    ensures plan { result ≡ may_plan kind answer.now }
+    ensures takes { result ≡ true → takes kind answer.now ≡ true }
+{
+    match (kind, answer) {
+        (Kind::Check, Planned::Pending) => false,
+        _ => kind.takes(answer),
+    }
+}
+
+/// What a line plans, without its newline; none exactly where it isn't in the grammar.
+#[tactic(auto, unfolding(crate::specs::Scenario::planned_in, crate::specs::Scenario::planned_at, crate::specs::Fields::read_then, crate::specs::Fields::give_some))]
+fn planned(alloc: Global, line: &[u8]) -> Result<Option<(Kind, Planned)>, AllocError>
+    ensures planned { IfOk result (λ planned. planned ≡ planned_in line.now) }
+    ensures takes { IfOk result (λ planned. IfSome planned (λ p. takes p.0 p.1 ≡ true)) }
+{
+    let mut fields = Fields::of(line);
+    let Some(kind) = kind(&mut fields) else {
+        return Ok(None);
+    };
+    let Some(answer) = answer(alloc, &mut fields)? else {
+        return Ok(None);
+    };
+    if may_plan(kind, &answer) && fields.is_done() {
+        Ok(Some((kind, answer)))
+    } else {
+        Ok(None)
+    }
+}
+
+/// Plans what a line says. The line has this number.
+fn plan_line(
+    alloc: Global,
+    lists: &mut Lists,
+    number: u32,
+    line: &[u8],
+) -> Result<(), ScenarioError>
+    ensures ok { OnOk result (with_line lists.old.all line.now ≡ Some lists.new.all) }
+    ensures fresh { lists.old.left ≡ lists.old.all → lists.new.left ≡ lists.new.all }
+    ensures bad { IfErr result (λ e. IfSome (bad_line e) (λ n. (n ≡ number) × (with_line lists.old.all line.now ≡ None))) }
+{
+    let Some((kind, answer)) = planned(alloc, line)? else {
+        return Err(ScenarioError::BadScenario(number));
+    };
+    lists.push(kind, answer)?;
+    Ok(())
+}
+
+/// Where the first newline stands.
+fn newline_at(bytes: &[u8]) -> Option<usize>
+    ensures { result ≡ position (λ b. b == 10) bytes.now }
+{
+    bytes.iter().position(|b| *b == b'\n')
+}
+
+/// As many of the bytes as lie within the limit.
+#[tactic(auto, using(std::proofs::lemmas::List::take_min))]
+fn first_bytes(bytes: &[u8], limit: usize) -> &[u8]
+    ensures { result.now ≡ take limit bytes.now }
+{
+    &bytes[..bytes.len().min(limit)]
+}
+
+/// The answers that a text of at most so many bytes plans.
+fn read_lists(alloc: Global, bytes: &[u8], most: usize) -> Result<Lists, ScenarioError>
+    requires { most + 1 < 2 ^ 32 }
+    ensures ok { IfOk result (λ lists. plan_within most bytes.now ≡ Ok lists.all) }
+    ensures fresh { IfOk result (λ lists. lists.left ≡ lists.all) }
+    ensures bad { IfErr result (λ e. IfSome (bad_line e) (λ n. plan_within most bytes.now ≡ Err n)) }
+{
+    let text = first_bytes(bytes, most);
+    let mut lists = Lists::new(alloc)?;
+    let mut number = 1;
+    let mut at = 0;
+    while let Some(end) = newline_at(&text[at..]) {
+        plan_line(alloc, &mut lists, number, &text[at..at + end])?;
+        number += 1;
+        at += end + 1;
+    }
+    if at < bytes.len() {
+        return Err(ScenarioError::BadScenario(number));
+    }
+    Ok(lists)
+}
+
+/// The contexts of a scenario: one, numbered 0, that allows all three.
+fn contexts(alloc: Global) -> Result<Vec<WasiSocketsCtx>, AllocError>
+    ensures { IfOk result (λ contexts. contexts.items ≡ free_context ∷ []) }
+{
+    let mut contexts = Vec::new(alloc);
+    contexts.push(WasiSocketsCtx {
+        name: 0,
+        ip_name_lookup: true,
+        udp: true,
+        tcp: true,
+    })?;
+    Ok(contexts)
+}
+
+impl ScriptedWorld {
+    ghost use Rattle.wasi_world.specs.Scripted.{seen_by, started};
+
+    /// The world that a scenario plans, and its contexts: one, numbered 0, that allows all three. Takes memory for the
+    /// answers.
+    pub fn parse(
+        alloc: Global,
+        bytes: &[u8],
+    ) -> Result<(ScriptedWorld, Vec<WasiSocketsCtx>), ScenarioError>
+        ensures world { IfOk result (λ parsed. started (plan_of bytes.now) ≡ Ok (seen_by parsed.0)) }
+        ensures contexts { IfOk result (λ parsed. parsed.1.items ≡ free_context ∷ []) }
+        ensures bad { IfErr result (λ e. IfSome (bad_line e) (λ n. plan_of bytes.now ≡ Err n)) }
+    {
+        let lists = read_lists(alloc, bytes, MOST_BYTES)?;
+        let contexts = contexts(alloc)?;
+        Ok((ScriptedWorld::new(alloc, lists), contexts))
+    }
+}
