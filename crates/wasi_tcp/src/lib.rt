@@ -11,3 +11,6 @@ mod socket;
 pub use bind::{BindOp, BindStage};
 pub use connect::{ConnectOp, ConnectStage};
 pub use socket::{Connection, TcpSocket, TcpState};
+
+#[cfg(test)]
+mod tests;
