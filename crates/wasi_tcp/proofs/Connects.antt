@@ -1,6 +1,5 @@
 -- A poll of a connect, as a part of a call.
-use Rattle.std.specs.Prelude.{◌≡◌, Result, Ok, Err, OnErr, refl}
-use Rattle.std.specs.declared.alloc.AllocError.{AllocError}
+use Rattle.std.specs.Prelude.{Result, Ok, Err, OnErr, refl}
 use Rattle.std.proofs.Common.{sym, subst}
 use Rattle.wasi_world.specs.declared.outcome.Answer.{Answer}
 use Rattle.wasi_world.specs.declared.outcome.Answer.TheVariants.{Ready, Pending}

@@ -16,7 +16,8 @@ use Rattle.wasi_tcp.specs.Shape.{Socket}
 use Rattle.wasi_tcp.specs.Socket.{bound_asks, bind_asks}
 use Rattle.wasi_tcp.specs.Connecting.{in_socket}
 use Rattle.wasi_tcp.specs.Addresses.{after_peer, still_connected, peer_known, local_from, local_side, local_where, remote_in, remote_asks}
-use Rattle.wasi_tcp.specs.Calls.{SocketCall, IsBound, BindTo, StartConnect, FinishConnect, LocalAddress, RemoteAddress, socket_left, after_call, after_calls, KnowsPeer}
+use Rattle.wasi_tcp.specs.Halves.{taken_receive, taken_send}
+use Rattle.wasi_tcp.specs.Calls.{SocketCall, IsBound, BindTo, StartConnect, FinishConnect, LocalAddress, RemoteAddress, TakeReceive, TakeSend, socket_left, after_call, after_calls, KnowsPeer}
 
 -- any ask
 abbrev Free : List Entry → OpId → Call → Type 0
@@ -66,6 +67,16 @@ call_keeps_here FinishConnect socket c a before = knows socket c a
 call_keeps_here (LocalAddress op) socket c a before =
     left_keeps a before _ (allows_then Free (Keeps a) (Keeps a) before (bound_asks op (connected socket c a)) (λ b. local_where op b.1 b.0) (bound_keeps op socket c a before) (λ es b k. local_keeps op a b.1 es (local_side b.1 b.0) k))
 call_keeps_here (RemoteAddress op) socket c a before = knows socket c a
+call_keeps_here TakeReceive socket c a before = by_taken c.receive_taken
+  where
+    by_taken : (b : Bool) → KnowsPeer a (in_socket (connected socket c a) (still_connected (taken_receive (record c { peer = Some a }) b))).1
+    by_taken true = knows socket c a
+    by_taken false = record { connection = record c { peer = Some a; receive_taken = true }; connected = refl; peer = refl }
+call_keeps_here TakeSend socket c a before = by_taken c.send_taken
+  where
+    by_taken : (b : Bool) → KnowsPeer a (in_socket (connected socket c a) (still_connected (taken_send (record c { peer = Some a }) b))).1
+    by_taken true = knows socket c a
+    by_taken false = record { connection = record c { peer = Some a; send_taken = true }; connected = refl; peer = refl }
 
 call_keeps : (call : SocketCall) (a : IpSocketAddress) (socket : Socket) (before : List Entry) → KnowsPeer a socket → Allows Free (Knows a) before (after_call call socket)
 call_keeps call a socket before k = subst (λ (s : Socket). Allows Free (Knows a) before (after_call call s)) (sym (is_connected a socket k)) (call_keeps_here call socket k.connection a before)

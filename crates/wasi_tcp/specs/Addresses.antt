@@ -1,5 +1,5 @@
 -- The calls on a socket's addresses: what each asks, what it answers and what the socket is then.
-use Rattle.std.specs.Prelude.{◌≡◌, ℕ, Bool, if◌then◌else◌, List, Option, Some, None, Result, Ok, Err, codes}
+use Rattle.std.specs.Prelude.{ℕ, Bool, if◌then◌else◌, List, Option, Some, None, Result, Ok, Err, codes}
 use Rattle.wasi_addr.specs.declared.address.IpSocketAddress.{IpSocketAddress}
 use Rattle.wasi_addr.specs.declared.code.ErrorCode.{ErrorCode}
 use Rattle.wasi_addr.specs.declared.code.ErrorCode.TheVariants.{InvalidState}
@@ -56,7 +56,7 @@ peer_known op connection None = bind (ask_peer op connection.side) (λ told. Giv
 abbrev pub peer_asks : OpId → Connection → Asks (Result IpSocketAddress ErrorCode × Connection)
 peer_asks op connection = peer_known op connection connection.peer
 
-abbrev pub still_connected : Result IpSocketAddress ErrorCode × Connection → Result IpSocketAddress ErrorCode × TcpState
+abbrev pub still_connected : {T : Type 0} → T × Connection → T × TcpState
 still_connected (answer, connection) = (answer, state.Connected connection)
 
 abbrev pub remote_in : OpId → TcpState → Asks (Result IpSocketAddress ErrorCode × TcpState)

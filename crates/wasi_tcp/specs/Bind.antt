@@ -1,5 +1,5 @@
 -- A bind, as the list of asks that each of its stages leaves.
-use Rattle.std.specs.Prelude.{◌≡◌, ℕ, List, [], ◌∷◌, None}
+use Rattle.std.specs.Prelude.{◌≡◌, List, [], ◌∷◌, None}
 use Rattle.wasi_addr.specs.declared.address.IpSocketAddress.{IpSocketAddress}
 use Rattle.wasi_addr.specs.declared.address.SocketAddrUse.TheVariants.{TcpBind}
 use Rattle.wasi_world.specs.Operation.{Item, Check, Bind, LastAsk, NothingLast, Who, Operation}

@@ -1,5 +1,5 @@
 -- One call after another on one socket, and what they keep.
-use Rattle.std.specs.Prelude.{◌≡◌, List, [], ◌∷◌, Option, Some}
+use Rattle.std.specs.Prelude.{◌≡◌, List, [], ◌∷◌, Some}
 use Rattle.wasi_addr.specs.declared.address.IpSocketAddress.{IpSocketAddress}
 use Rattle.wasi_world.specs.declared.ids.OpId.{OpId}
 use Rattle.wasi_world.specs.Asks.{Asks, Give, bind}
@@ -7,8 +7,9 @@ use Rattle.wasi_tcp.specs.declared.socket.Connection.{Connection}
 use Rattle.wasi_tcp.specs.declared.socket.TcpState.TheVariants.{Connected}
 use Rattle.wasi_tcp.specs.Shape.{Socket}
 use Rattle.wasi_tcp.specs.Socket.{bound_asks, bind_asks}
-use Rattle.wasi_tcp.specs.Connecting.{start_connect_asks, finish_connect_asks}
+use Rattle.wasi_tcp.specs.Connecting.{start_connect_asks, finish_connect_asks, in_socket}
 use Rattle.wasi_tcp.specs.Addresses.{local_asks, remote_asks}
+use Rattle.wasi_tcp.specs.Halves.{take_receive, take_send}
 
 -- the calls that may change a socket
 pub data SocketCall : Type 0 where
@@ -18,6 +19,8 @@ pub data SocketCall : Type 0 where
   FinishConnect : SocketCall
   LocalAddress : OpId → SocketCall
   RemoteAddress : OpId → SocketCall
+  TakeReceive : SocketCall
+  TakeSend : SocketCall
 
 -- what is kept of what a call gives
 abbrev pub socket_left : {T : Type 0} → Asks (T × Socket) → Asks Socket
@@ -31,6 +34,8 @@ after_call (StartConnect op a) socket = socket_left (start_connect_asks op socke
 after_call FinishConnect socket = socket_left (finish_connect_asks socket)
 after_call (LocalAddress op) socket = socket_left (local_asks op socket)
 after_call (RemoteAddress op) socket = socket_left (remote_asks op socket)
+after_call TakeReceive socket = Give (in_socket socket (take_receive socket.state)).1
+after_call TakeSend socket = Give (in_socket socket (take_send socket.state)).1
 
 -- the socket after one call and another
 abbrev pub after_calls : List SocketCall → Socket → Asks Socket

@@ -1,5 +1,5 @@
 -- A connect, as the list of asks that each of its stages leaves.
-use Rattle.std.specs.Prelude.{ℕ, Bool, true, false, List, [], ◌∷◌}
+use Rattle.std.specs.Prelude.{Bool, true, false, List, [], ◌∷◌}
 use Rattle.wasi_addr.specs.declared.address.IpSocketAddress.{IpSocketAddress}
 use Rattle.wasi_addr.specs.declared.address.SocketAddrUse.TheVariants.{TcpBind, TcpConnect}
 use Rattle.wasi_world.specs.Operation.{Item, Check, Connect, Last, Nothing, CloseLast, Operation}

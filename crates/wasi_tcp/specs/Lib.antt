@@ -4,4 +4,5 @@ pub mod Socket
 pub mod Connect
 pub mod Connecting
 pub mod Addresses
+pub mod Halves
 pub mod Calls

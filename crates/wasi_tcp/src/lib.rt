@@ -5,9 +5,14 @@
 
 mod bind;
 mod connect;
+mod halves;
 pub mod laws;
 mod socket;
 
 pub use bind::{BindOp, BindStage};
 pub use connect::{ConnectOp, ConnectStage};
+pub use halves::{TcpReceiveStream, TcpSendStream};
 pub use socket::{Connection, TcpSocket, TcpState};
+
+#[cfg(test)]
+mod tests;

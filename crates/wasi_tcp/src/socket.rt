@@ -7,6 +7,7 @@ ghost use Rattle.wasi_tcp.specs.Bind.{IsOf};
 
 use crate::bind::{Asker, BindOp};
 use crate::connect::ConnectOp;
+use crate::halves::{TcpReceiveStream, TcpSendStream};
 use std::alloc::AllocError;
 use std::marker::Model;
 use wasi_addr::{
@@ -30,6 +31,7 @@ pub struct Connection {
 impl Connection {
     ghost use Rattle.wasi_tcp.specs.Connecting.{new_connection};
     ghost use Rattle.wasi_tcp.specs.Addresses.{peer_asks};
+    ghost use Rattle.wasi_tcp.specs.Halves.{taken_receive, taken_send};
 
     fn new(side: Sock) -> Connection
         ensures { result ≡ new_connection side }
@@ -40,6 +42,26 @@ impl Connection {
             receive_taken: false,
             send_taken: false,
         }
+    }
+
+    fn take_receive(&mut self) -> Result<TcpReceiveStream, ErrorCode>
+        ensures { (result, self.new) ≡ taken_receive self.old self.old.receive_taken }
+    {
+        if self.receive_taken {
+            return Err(ErrorCode::InvalidState);
+        }
+        self.receive_taken = true;
+        Ok(TcpReceiveStream { side: self.side })
+    }
+
+    fn take_send(&mut self) -> Result<TcpSendStream, ErrorCode>
+        ensures { (result, self.new) ≡ taken_send self.old self.old.send_taken }
+    {
+        if self.send_taken {
+            return Err(ErrorCode::InvalidState);
+        }
+        self.send_taken = true;
+        Ok(TcpSendStream { side: self.side })
     }
 
     /// The remote address, which is kept once it is told.
@@ -158,7 +180,8 @@ impl Model for TcpSocket {
 
 impl TcpSocket {
     ghost use Rattle.wasi_tcp.specs.Socket.{side_of, new_asks, bound_asks, bind_asks, after_local, bind_start};
-    ghost use Rattle.wasi_tcp.specs.Connecting.{start_connect_asks, connect_start, finish_connect_asks};
+    ghost use Rattle.wasi_tcp.specs.Connecting.{start_connect_asks, connect_start, finish_connect_asks, in_socket};
+    ghost use Rattle.wasi_tcp.specs.Halves.{take_receive, take_send};
     ghost use Rattle.wasi_tcp.specs.Addresses.{state_text, local_side, local_asks, local_where, remote_asks};
 
     /// Makes a socket in the state Default, where the context may use TCP; else `AccessDenied` without a call.
@@ -431,6 +454,32 @@ impl TcpSocket {
         ensures open { (W.seen world.new).ended ≡ false }
     {
         self.state.remote_address(world, op)
+    }
+
+    /// The receiving half, which is taken once. Taken already, or not Connected: `InvalidState`. Closed: its code.
+    /// Takes no memory.
+    pub fn take_receive_stream(&mut self) -> Result<TcpReceiveStream, ErrorCode>
+        ensures taken { (result, self.new) ≡ in_socket self.old (take_receive self.old.state) }
+        ensures side { side_of self.new ≡ side_of self.old }
+    {
+        match &mut self.state {
+            TcpState::Connected(connection) => connection.take_receive(),
+            TcpState::Closed(code) => Err(*code),
+            TcpState::Default(_) | TcpState::Connecting(_) => Err(ErrorCode::InvalidState),
+        }
+    }
+
+    /// The sending half, which is taken once. Taken already, or not Connected: `InvalidState`. Closed: its code.
+    /// Takes no memory.
+    pub fn take_send_stream(&mut self) -> Result<TcpSendStream, ErrorCode>
+        ensures taken { (result, self.new) ≡ in_socket self.old (take_send self.old.state) }
+        ensures side { side_of self.new ≡ side_of self.old }
+    {
+        match &mut self.state {
+            TcpState::Connected(connection) => connection.take_send(),
+            TcpState::Closed(code) => Err(*code),
+            TcpState::Default(_) | TcpState::Connecting(_) => Err(ErrorCode::InvalidState),
+        }
     }
 
     /// Whether it listens: not in the states that exist.
