@@ -77,7 +77,6 @@ fn a_bind_is_logged_in_order(rt: HostRuntime) -> Result<(), Fail> {
     let done = Given::script(&["run", "1000"], BIND).run(rt.alloc())?;
     assert_eq!(rt; (done.status, done.line), (0, 0));
     assert_eq!(rt; done.sink.bytes(), WHOLE);
-    assert!(rt; done.sink.is_flushed());
     let [network, create, socket, local, check, bind] = done.log.as_slice() else {
         panic!(rt; "six entries");
     };
@@ -299,17 +298,11 @@ fn a_failed_read_is_status_5(rt: HostRuntime) -> Result<(), Fail> {
     Ok(())
 }
 
-// Each reply is written at once, and then the sink is flushed.
+// Each reply is written at once.
 #[test]
 fn a_failed_write_is_status_6(rt: HostRuntime) -> Result<(), Fail> {
-    let taken = [
-        "",
-        "ok 1\n",
-        "ok 1\nok 2\n",
-        "ok 1\nok 2\nok\n",
-        "ok 1\nok 2\nok\nok\n",
-    ];
-    for (failing, replies) in (1..6u32).zip(taken) {
+    let taken = ["", "ok 1\n", "ok 1\nok 2\n", "ok 1\nok 2\nok\n"];
+    for (failing, replies) in (1..5u32).zip(taken) {
         let fails = [failing];
         let mut given = Given::script(&["run", "1000"], BIND);
         given.failing_writes = &fails;
