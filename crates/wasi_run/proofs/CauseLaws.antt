@@ -19,7 +19,7 @@ use Rattle.wasi_run.specs.Lines.{lines_of, after_lines, StartWith}
 use Rattle.wasi_run.specs.Closing.{AsksNothing}
 use Rattle.wasi_run.specs.Ran.{LinesRan, Beyond, Wrote, texts}
 use Rattle.wasi_run.specs.Script.{Answers, RanScript}
-use Rattle.wasi_run.specs.Causes.{DoneLines, ReadsAll, Traps, StopsAtBadStep, StopsTooLong}
+use Rattle.wasi_run.specs.Causes.{DoneLines, ReadsAll, StopsAtTrap, StopsAtBadStep, StopsTooLong}
 
 -- every reply was written, and nothing was asked beyond
 abbrev IsWhole : Result LinesEnd RunError → Type 0
@@ -93,7 +93,7 @@ module _ {contexts : List WasiSocketsCtx} {limit : ℕ} {before after : Reading}
   read_by text gave (Ok lines.Trapped) r h quiet = absurd h
   read_by text gave (Err e) r h quiet = absurd h
 
-  trap_by : (text : List ℕ) → Gave before text after → (outcome : Result LinesEnd RunError) → (r : LinesRan contexts w_old stopped k_old k_new first_state 1 (lines_of (take limit text)) outcome last) → Answers limit text before after outcome (Ok end.Trapped) → length (after_lines (length r.steps) text) ≤ 4095 → AsksNothing stopped w_new → Traps 4095 contexts limit before after k_old k_new w_old w_new
+  trap_by : (text : List ℕ) → Gave before text after → (outcome : Result LinesEnd RunError) → (r : LinesRan contexts w_old stopped k_old k_new first_state 1 (lines_of (take limit text)) outcome last) → Answers limit text before after outcome (Ok end.Trapped) → length (after_lines (length r.steps) text) ≤ 4095 → AsksNothing stopped w_new → StopsAtTrap 4095 contexts limit before after k_old k_new w_old w_new
   trap_by text gave (Ok lines.AllDone) r h f quiet = absurd h
   trap_by text gave (Ok lines.Trapped) r h f quiet = record { done = done_lines text gave r tt quiet; trap = r.wrote.0; ahead = f }
   trap_by text gave (Err e) r h f quiet = absurd h
@@ -151,8 +151,8 @@ module _ {contexts : List WasiSocketsCtx} {limit : ℕ} {before after : Reading}
   pub reads_all : RanScript contexts limit before after k_old k_new w_old w_new (Ok end.AllRead) → ReadsAll contexts limit before after k_old k_new w_old w_new
   reads_all h = read_by h.over.text h.over.gave h.over.outcome h.over.ran h.over.answer h.quiet
 
-  pub traps : RanScript contexts limit before after k_old k_new w_old w_new (Ok end.Trapped) → Traps 4095 contexts limit before after k_old k_new w_old w_new
-  traps h = trap_by h.over.text h.over.gave h.over.outcome h.over.ran h.over.answer (h.over.ahead refl) h.quiet
+  pub stops_at_trap : RanScript contexts limit before after k_old k_new w_old w_new (Ok end.Trapped) → StopsAtTrap 4095 contexts limit before after k_old k_new w_old w_new
+  stops_at_trap h = trap_by h.over.text h.over.gave h.over.outcome h.over.ran h.over.answer (h.over.ahead refl) h.quiet
 
   pub stops_at_bad_step : {n : ℕ} → RanScript contexts limit before after k_old k_new w_old w_new (Err (BadStep n)) → StopsAtBadStep contexts limit before after k_old k_new w_old w_new n
   stops_at_bad_step {n} h = bad_by h.over.text n h.over.gave h.over.outcome h.over.ran h.over.answer h.quiet

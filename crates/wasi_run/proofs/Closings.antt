@@ -1,14 +1,13 @@
 -- The closings after the end mark.
-use Rattle.std.proofs.Common.{◌≡◌, ◌∙◌, ap, sym, refl, subst, ℕ, ◌+◌, ◌<◌, ◌≤◌, ◌^◌, List, [], ◌∷◌, ◌++◌, length, take, get_or, Option, Some, None, length-take, arith}
+use Rattle.std.proofs.Common.{◌≡◌, ◌∙◌, ap, sym, subst, ℕ, ◌+◌, ◌<◌, ◌≤◌, ◌^◌, List, [], ◌∷◌, ◌++◌, length, take, get_or, Option, Some, None, length-take, arith}
 use Rattle.std.specs.Prelude.{IfSome}
 use Rattle.std.proofs.lemmas.List.{take_more}
 use Rattle.wasi_world.specs.declared.ids.OpId.{OpId}
 use Rattle.wasi_world.specs.declared.call.Entry.{Entry}
-use Rattle.wasi_world.specs.Seen.{Seen, Ends, Closes}
+use Rattle.wasi_world.specs.Seen.{Seen, Closes}
 use Rattle.wasi_tcp.specs.Socket.{side_of}
 use Rattle.wasi_run.specs.declared.socket.Tcp2Socket.{Tcp2Socket}
-use Rattle.wasi_run.specs.Store.{Records}
-use Rattle.wasi_run.specs.Sides.{made_in, closed_in, held_in, one_if_some, KnowsSides, ClosesAll}
+use Rattle.wasi_run.specs.Sides.{made_in, closed_in, held_in, one_if_some}
 use Rattle.wasi_run.specs.Closing.{AsksNothing, ClosesSides}
 
 pub quiet_again : {old mid new : Seen} → AsksNothing old mid → AsksNothing mid new → AsksNothing old new

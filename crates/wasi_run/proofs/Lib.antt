@@ -21,3 +21,6 @@ pub mod Licences
 pub mod Meanings
 pub mod Rows
 pub mod Refused
+pub mod StepLaws
+pub mod ReplyTexts
+pub mod ReplyBack

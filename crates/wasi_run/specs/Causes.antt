@@ -46,7 +46,7 @@ pub record ReadsAll (contexts : List WasiSocketsCtx) (limit : ℕ) (before after
   pub ended : HasEnded after
 
 -- The last line that was done trapped, and at most so many bytes past its newline were read.
-pub record Traps (most : ℕ) (contexts : List WasiSocketsCtx) (limit : ℕ) (before after : Reading) (k_old k_new : Writing) (w_old w_new : Seen) : Type 0 where
+pub record StopsAtTrap (most : ℕ) (contexts : List WasiSocketsCtx) (limit : ℕ) (before after : Reading) (k_old k_new : Writing) (w_old w_new : Seen) : Type 0 where
   pub done : DoneLines contexts limit before after k_old k_new w_old w_new
   pub trap : OneTrap done.replies
   pub ahead : length (after_lines (length done.steps) done.text) ≤ most

@@ -47,13 +47,13 @@ pub record CutLast (replies : List Reply) (written : List ℕ) : Type 0 where
 pub record Stretch (contexts : List WasiSocketsCtx) (first : Machine) (line : ℕ) (steps : List Step) (replies : List Reply) (state : Machine) (old now : Seen) : Type 0 where
   pub reached : (so_far : List Reply) (more : List Step) → Reaches (run contexts so_far first line (steps ++ more)) (run contexts (so_far ++ replies) state (line + length steps) more) old now
 
--- the line in which memory ran out: there is none, or the first of its asks were made
+-- where memory ran out: between two lines, or in a line of which the first asks were made
 abbrev pub Met : List WasiSocketsCtx → Machine → ℕ → List Step → Seen → Seen → Type 0
 Met contexts state line [] old now = now ≡ old
 Met contexts state line (s ∷ []) old now = Started (machine_asks contexts state line s state.store.standing) old now
 Met contexts state line _ old now = ⊥
 
--- what was asked after the lines done: nothing, but at want of memory of the line met
+-- what was asked after the lines done: nothing, but at want of memory the first asks of the line met
 abbrev pub Beyond : List WasiSocketsCtx → Result LinesEnd RunError → Machine → ℕ → List Step → Seen → Seen → Type 0
 Beyond contexts (Err Memory) state line met old now = Met contexts state line met old now
 Beyond contexts _ state line met old now = (met ≡ []) × (now ≡ old)
@@ -75,7 +75,7 @@ pub record AllDone (contexts : List WasiSocketsCtx) (first : Machine) (line : �
   pub stands : state ≡ last
   pub on : Stretch contexts first line steps replies state old now
 
--- why it ended so
+-- why it ended so: at a bad step the line after those done isn't one; a text that is too long and a read that fails end no line
 abbrev pub Cause : List WasiSocketsCtx → Machine → ℕ → List (List ℕ) → Result LinesEnd RunError → List Step → List Reply → Machine → Machine → Seen → Seen → Type 0
 Cause contexts first line all (Ok lines.AllDone) steps replies state last old now = AllDone contexts first line all steps replies state last old now
 Cause contexts first line all (Ok lines.Trapped) steps replies state last old now = Unit {0}
@@ -94,10 +94,10 @@ pub record LinesRan (contexts : List WasiSocketsCtx) (w_old w_new : Seen) (k_old
   pub written : List ℕ
   -- The first lines spell the steps that were done, and the one met.
   pub first_lines : StartWith (length contexts) all (steps ++ met)
-  -- The lines done ran whole, and each has its reply.
+  -- The lines done ran whole, whatever was replied before, and each has its reply.
   pub ran : (so_far : List Reply) → Reaches (run contexts so_far first line steps) (Give (so_far ++ replies, state)) w_old seen
   pub answered : length replies ≡ length steps
-  -- All that was asked is a beginning of their run.
+  -- All that was asked is a beginning of the run of them and the line met, and nothing else was asked.
   pub began : (so_far : List Reply) → Started (run contexts so_far first line (steps ++ met)) w_old w_new
   pub beyond : Beyond contexts outcome state (line + length steps) met seen w_new
   -- The replies' texts were written.
@@ -105,5 +105,5 @@ pub record LinesRan (contexts : List WasiSocketsCtx) (w_old w_new : Seen) (k_old
   pub wrote : Wrote outcome replies written
   pub counted : Counted outcome k_old k_new
   pub cause : Cause contexts first line all outcome steps replies state last w_old w_new
-  -- Each side that the records held, they hold.
+  -- If the records held each side that was made and not closed, they still do.
   pub sides : KnowsSides w_old first.store → KnowsSides w_new last.store

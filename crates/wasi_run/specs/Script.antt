@@ -19,20 +19,19 @@ use Rattle.wasi_run.specs.Ran.{LinesRan}
 abbrev pub AreNumbered : List WasiSocketsCtx → Type 0
 AreNumbered contexts = (i : ℕ) → IfSome (slice_get contexts i) (λ ctx. ctx.name ≡ i)
 
--- why a script ends so, where its whole lines within the limit ended so
+-- what it answers, and why, where the whole lines within the limit ended so
 abbrev pub Answers : ℕ → List ℕ → Reading → Reading → Result LinesEnd RunError → Result RunEnd RunError → Type 0
 Answers limit text before after (Ok lines.AllDone) (Ok end.AllRead) = HasEnded after × (length text ≤ limit) × (rest_of text ≡ [])
 Answers limit text before after (Ok lines.AllDone) (Err (BadStep n)) = HasEnded after × (length text ≤ limit) × (rest_of text ≢ []) × (n ≡ length (lines_of text) + 1)
 Answers limit text before after (Ok lines.AllDone) (Err TooLong) = length text ≡ limit + 1
 Answers limit text before after (Ok lines.AllDone) (Err ReadFault) = Rose before.faults after.faults
-Answers limit text before after (Ok lines.AllDone) (Err Memory) = Unit {0}
 Answers limit text before after (Ok lines.AllDone) _ = ⊥
 Answers limit text before after (Ok lines.Trapped) (Ok end.Trapped) = Unit {0}
 Answers limit text before after (Ok lines.Trapped) _ = ⊥
 Answers limit text before after (Err e) (Err f) = e ≡ f
 Answers limit text before after (Err e) (Ok a) = ⊥
 
--- What a run made of what the reader gave, under a limit.
+-- What a run made of the text that the reader gave, under a limit; the machine then stands so.
 pub record RanOver (contexts : List WasiSocketsCtx) (limit : ℕ) (before after : Reading) (k_old k_new : Writing) (w_old w_new : Seen) (last : Machine) (result : Result RunEnd RunError) : Type 0 where
   pub text : List ℕ
   pub gave : Gave before text after
@@ -41,19 +40,19 @@ pub record RanOver (contexts : List WasiSocketsCtx) (limit : ℕ) (before after 
   -- The whole lines within the limit were done from line 1 on, and ended so.
   pub outcome : Result LinesEnd RunError
   pub ran : LinesRan contexts w_old w_new k_old k_new first_state 1 (lines_of (take limit text)) outcome last
-  -- So the run ends so.
+  -- So it answers this.
   pub answer : Answers limit text before after outcome result
   -- At a trap at most 4095 bytes past the newline of its line were read.
   pub ahead : result ≡ Ok end.Trapped → length (after_lines (length ran.steps) text) ≤ 4095
 
--- The script ran until it stopped, and then the end mark was set.
+-- The script ran until it stopped, and then nothing was asked.
 pub record RanScript (contexts : List WasiSocketsCtx) (limit : ℕ) (before after : Reading) (k_old k_new : Writing) (w_old w_new : Seen) (result : Result RunEnd RunError) : Type 0 where
   pub stopped : Seen  -- the world where the run stopped
   pub last : Machine
   pub over : RanOver contexts limit before after k_old k_new w_old stopped last result
   pub quiet : AsksNothing stopped w_new
 
--- It lies within the limit, is empty or ends with a newline, and each line is a step.
+-- The script lies within the limit, is empty or ends with a newline, and each line is a step.
 pub record IsValid (contexts limit : ℕ) (script : List ℕ) : Type 0 where
   pub within : length script ≤ limit
   pub ended : rest_of script ≡ []

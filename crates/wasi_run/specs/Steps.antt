@@ -1,7 +1,65 @@
--- Stub: the grammar of steps.
-use Rattle.std.specs.Prelude.{ℕ, List, Option, None}
+-- How steps are written, and which step a line is.
+use Rattle.std.specs.Prelude.{ℕ, ◌<◌, ◌≤◌, nat_lt, if◌then◌else◌, List, [], ◌∷◌, codes, decimal, Option, Some, None}
+use Rattle.wasi_world.specs.Fields.{Reader, Row, row, after_word, ◌>>=◌, give, give_some, whole, fields_of, line_with, number_at, word_at, family_at, address_at}
+use Rattle.wasi_world.specs.Written.{family_fields, address_fields, FitsAddress}
 use Rattle.wasi_run.specs.declared.step.Step.{Step}
+use Rattle.wasi_run.specs.declared.step.Step.TheVariants.{Network, TcpCreate, TcpStartBind, TcpFinishBind}
 
--- the step that a line spells, where so many contexts are there
+-- the fields of a step: its context, its word and its arguments
+abbrev pub fields_of_step : Step → List (List ℕ)
+fields_of_step (Network c) = decimal c ∷ codes "network" ∷ []
+fields_of_step (TcpCreate c family) = decimal c ∷ codes "tcp-create" ∷ family_fields family
+fields_of_step (TcpStartBind c socket network a) = decimal c ∷ codes "tcp-start-bind" ∷ decimal socket ∷ decimal network ∷ address_fields a
+fields_of_step (TcpFinishBind c socket) = decimal c ∷ codes "tcp-finish-bind" ∷ decimal socket ∷ []
+
+-- the line of a step, without its newline
+abbrev pub line_of : Step → List ℕ
+line_of s = line_with (fields_of_step s)
+
+-- the context that makes the call
+abbrev pub context_of : Step → ℕ
+context_of (Network c) = c
+context_of (TcpCreate c family) = c
+context_of (TcpStartBind c socket network a) = c
+context_of (TcpFinishBind c socket) = c
+
+-- the numbers of the arguments are within their widths
+abbrev pub FitsArguments : Step → Type 0
+FitsArguments (Network c) = Unit {0}
+FitsArguments (TcpCreate c family) = Unit {0}
+FitsArguments (TcpStartBind c socket network a) = (socket ≤ 4294967295) × (network ≤ 4294967295) × FitsAddress a
+FitsArguments (TcpFinishBind c socket) = socket ≤ 4294967295
+
+-- A step of one of so many contexts.
+pub record IsStep (contexts : ℕ) (s : Step) : Type 0 where
+  pub context : context_of s < contexts
+  pub width : context_of s ≤ 4294967295
+  pub arguments : FitsArguments s
+
+abbrev pub handle_at : Reader ℕ
+handle_at = number_at 4294967295
+
+-- the steps of a context
+abbrev pub steps : ℕ → List (Row Step)
+steps c =
+    row (codes "network") (give (Network c))
+    ∷ row (codes "tcp-create") (family_at >>= λ family. give (TcpCreate c family))
+    ∷ row (codes "tcp-start-bind") (handle_at >>= λ socket. handle_at >>= λ network. address_at >>= λ a. give (TcpStartBind c socket network a))
+    ∷ row (codes "tcp-finish-bind") (handle_at >>= λ socket. give (TcpFinishBind c socket))
+    ∷ []
+
+-- the number of one of so many contexts
+unfoldable pub context_at : ℕ → Reader ℕ
+context_at contexts = do
+  c ← number_at 4294967295
+  give_some (if nat_lt c contexts then Some c else None)
+
+unfoldable pub step_at : ℕ → Reader Step
+step_at contexts = do
+  c ← context_at contexts
+  word ← word_at
+  after_word (steps c) word
+
+-- the step that a line is, where there are so many contexts
 unfoldable pub step_of : ℕ → List ℕ → Option Step
-step_of contexts line = None
+step_of contexts line = whole (step_at contexts (fields_of line))

@@ -47,10 +47,11 @@ fn do_line<W: World, K: Sink>(
     requires open { (W.seen world.old).ended ≡ false }
     requires few { length contexts.now < 2 ^ 32 }
     requires numbers { session.old.lines + 1 < 2 ^ 32 }
-    ensures ran { LinesRan contexts.now (W.seen world.old) (W.seen world.new) (K.writing writer.old) (K.writing writer.new) session.old.machine (session.old.lines + 1) (line.now ∷ []) result session.new.machine }
+    ensures ran { LinesRan contexts.now (W.seen world.old) (W.seen world.new) (K.writing writer.old) (K.writing writer.new)
+        session.old.machine (session.old.lines + 1) (line.now ∷ []) result session.new.machine }
     ensures count { result ≡ Ok LinesEnd.AllDone → session.new.lines ≡ session.old.lines + 1 }
 {
-    let Some(step) = parse_step(alloc, line, contexts.len() as u32)? else {
+    let Some(step) = parse_step(line, contexts.len() as u32)? else {
         return Err(RunError::BadStep(session.lines + 1));
     };
     let reply = session.step(alloc, world, contexts, &step)?;
@@ -85,7 +86,8 @@ fn do_lines<W: World, K: Sink>(
     requires few { length contexts.now < 2 ^ 32 }
     requires within { at.old ≤ length bytes.now }
     requires numbers { session.old.lines + length bytes.now < 2 ^ 32 + at.old }
-    ensures ran { LinesRan contexts.now (W.seen world.old) (W.seen world.new) (K.writing writer.old) (K.writing writer.new) session.old.machine (session.old.lines + 1) (lines_of (drop at.old bytes.now)) result session.new.machine }
+    ensures ran { LinesRan contexts.now (W.seen world.old) (W.seen world.new) (K.writing writer.old) (K.writing writer.new)
+        session.old.machine (session.old.lines + 1) (lines_of (drop at.old bytes.now)) result session.new.machine }
     ensures place { result ≡ Ok LinesEnd.AllDone → LeftAt session.old.lines at.old bytes.now session.new.lines at.new }
 {
     while let Some(end) = newline_at(&bytes[*at..]) {
@@ -111,7 +113,8 @@ pub fn do_piece<W: World, K: Sink>(
     requires open { (W.seen world.old).ended ≡ false }
     requires few { length contexts.now < 2 ^ 32 }
     requires numbers { session.old.lines + length piece.now < 2 ^ 32 }
-    ensures ran { LinesRan contexts.now (W.seen world.old) (W.seen world.new) (K.writing writer.old) (K.writing writer.new) session.old.machine (session.old.lines + 1) (lines_from line.old.items piece.now) result session.new.machine }
+    ensures ran { LinesRan contexts.now (W.seen world.old) (W.seen world.new) (K.writing writer.old) (K.writing writer.new)
+        session.old.machine (session.old.lines + 1) (lines_from line.old.items piece.now) result session.new.machine }
     ensures kept { result ≡ Ok LinesEnd.AllDone → KeptOf session.old.lines line.old.items piece.now session.new.lines line.new.items }
 {
     let Some(end) = newline_at(piece) else {

@@ -1,12 +1,18 @@
 //! The replies to steps.
 
-ghost use Rattle.std.specs.Prelude.{◌≡◌, IfOk, [], ◌∷◌};
+ghost use Rattle.std.specs.Prelude.{◌≡◌, IfOk, OnOk, [], ◌∷◌, ◌++◌, map, codes, string_bytes};
+ghost use Rattle.wasi_world.specs.Fields.{line_with};
+ghost use Rattle.wasi_run.specs.declared.reply.Reply.{Reply};
+ghost use Rattle.wasi_run.specs.declared.step.Step.{Step};
+ghost use Rattle.wasi_run.specs.Replies.{Gives, code_text, trap_text, field_text, fields_of_reply, text_of};
 ghost use Rattle.wasi_run.specs.Reply.{word_of_p2, is_trap, no_fields, number_fields};
-ghost use Rattle.wasi_run.specs.Replies.{text_of};
 
 use std::alloc::{AllocError, Global};
+use std::fmt;
+use std::fmt::Write;
 use std::marker::Model;
 use wasi_addr::p2;
+use wasi_world::fields::push_octets;
 use wasi_world::{Handle, Octets, TrapKind};
 
 /// One field of an `ok` reply.
@@ -107,6 +113,17 @@ impl CodeWord {
     }
 }
 
+impl fmt::Display for CodeWord {
+    ghost use Rattle.std.specs.Prelude.{Some};
+    ghost use Rattle.wasi_run.specs.Replies.{code_text};
+
+    ghost output = { λ code. Some (code_text code) };
+
+    fn fmt<W: fmt::Write>(&self, f: &mut fmt::Formatter<W>) -> fmt::Result {
+        write!(f, "{}", code_word(*self))
+    }
+}
+
 /// What a step answers; each reply is one line.
 #[derive(Drop)]
 pub enum Reply {
@@ -151,9 +168,110 @@ impl Reply {
     }
 }
 
-/// The line that is written for a reply.
-pub fn reply_text(_alloc: Global, _reply: &Reply) -> Result<Octets, AllocError>
-    ensures { IfOk result (λ text. text ≡ text_of _reply.now) }
+/// The word of a code: its name, in lower case and with dashes.
+fn code_word(code: CodeWord) -> &'static str
+    ensures { result.now ≡ code_text code }
 {
-    Err(AllocError)
+    match code {
+        CodeWord::Unknown => "unknown",
+        CodeWord::AccessDenied => "access-denied",
+        CodeWord::NotSupported => "not-supported",
+        CodeWord::InvalidArgument => "invalid-argument",
+        CodeWord::OutOfMemory => "out-of-memory",
+        CodeWord::Timeout => "timeout",
+        CodeWord::ConcurrencyConflict => "concurrency-conflict",
+        CodeWord::NotInProgress => "not-in-progress",
+        CodeWord::WouldBlock => "would-block",
+        CodeWord::InvalidState => "invalid-state",
+        CodeWord::NewSocketLimit => "new-socket-limit",
+        CodeWord::AddressNotBindable => "address-not-bindable",
+        CodeWord::AddressInUse => "address-in-use",
+        CodeWord::RemoteUnreachable => "remote-unreachable",
+        CodeWord::ConnectionRefused => "connection-refused",
+        CodeWord::ConnectionBroken => "connection-broken",
+        CodeWord::ConnectionReset => "connection-reset",
+        CodeWord::ConnectionAborted => "connection-aborted",
+        CodeWord::DatagramTooLarge => "datagram-too-large",
+        CodeWord::NameUnresolvable => "name-unresolvable",
+        CodeWord::TemporaryResolverFailure => "temporary-resolver-failure",
+        CodeWord::PermanentResolverFailure => "permanent-resolver-failure",
+        CodeWord::Other => "other",
+    }
 }
+
+/// The word of a trap: its name, in lower case and with dashes.
+fn trap_word(kind: TrapKind) -> &'static str
+    ensures { result.now ≡ trap_text kind }
+{
+    match kind {
+        TrapKind::NoSuchHandle => "no-such-handle",
+        TrapKind::HasChildren => "has-children",
+        TrapKind::Full => "full",
+        TrapKind::EmptyList => "empty-list",
+        TrapKind::NotPermitted => "not-permitted",
+        TrapKind::Capacity => "capacity",
+        TrapKind::TooLong => "too-long",
+        TrapKind::StreamsAlive => "streams-alive",
+        TrapKind::Budget => "budget",
+        TrapKind::FlushPending => "flush-pending",
+    }
+}
+
+fn push_field(text: &mut String, field: &Field) -> Result<(), AllocError>
+    ensures { OnOk result (string_bytes text.new ≡ string_bytes text.old ++ field_text field.now) }
+{
+    match field {
+        Field::Number(number) => write!(text, "{number}"),
+        Field::Bytes(bytes) => push_octets(text, bytes.as_slice()),
+        Field::True => text.push_str("true"),
+        Field::False => text.push_str("false"),
+        Field::Absent => text.push_str("none"),
+    }
+}
+
+/// Appends `ok` and the fields.
+fn push_ok(text: &mut String, fields: &[Field]) -> Result<(), AllocError>
+    ensures { OnOk result (string_bytes text.new ≡ string_bytes text.old ++ line_with (codes "ok" ∷ map field_text fields.now)) }
+{
+    text.push_str("ok")?;
+    for field in fields {
+        text.push_str(" ")?;
+        push_field(text, field)?;
+    }
+    Ok(())
+}
+
+/// Appends the reply's line, without its newline.
+fn push_reply(text: &mut String, reply: &Reply) -> Result<(), AllocError>
+    ensures { OnOk result (string_bytes text.new ≡ string_bytes text.old ++ line_with (fields_of_reply reply.now)) }
+{
+    match reply {
+        Reply::Ok(fields) => push_ok(text, fields.as_slice()),
+        Reply::Err(code) => write!(text, "err {code}"),
+        Reply::Closed => text.push_str("closed"),
+        Reply::Failed(code, handle) => write!(text, "failed {code} {handle}"),
+        Reply::Trap(kind) => write!(text, "trap {}", trap_word(*kind)),
+        Reply::Pending(line) => write!(text, "pending {line}"),
+        Reply::Busy => text.push_str("busy"),
+        Reply::NoSuchCall => text.push_str("no-such-call"),
+        Reply::Cancelled => text.push_str("cancelled"),
+        Reply::Dropped => text.push_str("dropped"),
+        Reply::Unfilled => text.push_str("unfilled"),
+    }
+}
+
+/// The text of a reply: its line, with its newline. Takes memory for it.
+#[tactic(auto, unfolding(crate::specs::Replies::text_of))]
+pub fn reply_text(alloc: Global, reply: &Reply) -> Result<Octets, AllocError>
+    ensures { IfOk result (λ text. text ≡ text_of reply.now) }
+{
+    let mut text = String::new(alloc);
+    push_reply(&mut text, reply)?;
+    text.push_str("\n")?;
+    Ok(Octets::from_vec(text.into_bytes()))
+}
+
+/// For one step two different replies have different texts.
+pub fn replies_are_told_apart()
+    ensures { (s : Step) (r q : Reply) → Gives s r → Gives s q → text_of r ≡ text_of q → r ≡ q }
+{}

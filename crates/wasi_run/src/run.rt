@@ -7,7 +7,7 @@ ghost use Rattle.wasi_run.specs.Machine.{first_state};
 ghost use Rattle.wasi_run.specs.Closing.{IsFresh, HasClosedAll};
 ghost use Rattle.wasi_run.specs.Script.{AreNumbered, RanOver, RanScript, Completes};
 ghost use Rattle.wasi_run.specs.Headline.{RunsLicensed};
-ghost use Rattle.wasi_run.specs.Causes.{BeginsRun, DoneLines, ReadsAll, Traps, StopsAtBadStep, StopsTooLong};
+ghost use Rattle.wasi_run.specs.Causes.{BeginsRun, DoneLines, ReadsAll, StopsAtTrap, StopsAtBadStep, StopsTooLong};
 
 use crate::lines::{LinesEnd, do_piece};
 use crate::session::Session;
@@ -80,7 +80,10 @@ fn run_lines<W: World, S: Source, K: Sink>(
     requires few { length contexts.now < 2 ^ 32 }
     requires machine { session.old.machine ≡ first_state }
     requires lines { session.old.lines ≡ 0 }
-    ensures { RanOver contexts.now limit (S.reading reader.old) (S.reading reader.new) (K.writing writer.old) (K.writing writer.new) (W.seen world.old) (W.seen world.new) session.new.machine result }
+    ensures { RanOver contexts.now limit
+        (S.reading reader.old) (S.reading reader.new)
+        (K.writing writer.old) (K.writing writer.new)
+        (W.seen world.old) (W.seen world.new) session.new.machine result }
 {
     let mut line = Vec::new(alloc);
     let mut taken = 0;
@@ -125,18 +128,46 @@ pub fn run_script<W: World, S: Source, K: Sink>(
     requires few { length contexts.old.items < 2 ^ 32 }
     requires numbered { AreNumbered contexts.old.items }
     // What was read, done, asked and written.
-    ensures ran { RanScript contexts.old.items limit (S.reading reader.old) (S.reading reader.new) (K.writing writer.old) (K.writing writer.new) (W.seen world.old) (W.seen world.new) result }
-    ensures began { BeginsRun contexts.old.items limit (S.reading reader.old) (S.reading reader.new) (W.seen world.old) (W.seen world.new) }
-    ensures whole { OnOk result (DoneLines contexts.old.items limit (S.reading reader.old) (S.reading reader.new) (K.writing writer.old) (K.writing writer.new) (W.seen world.old) (W.seen world.new)) }
+    ensures ran { RanScript contexts.old.items limit
+        (S.reading reader.old) (S.reading reader.new)
+        (K.writing writer.old) (K.writing writer.new)
+        (W.seen world.old) (W.seen world.new) result }
+    ensures began { BeginsRun contexts.old.items limit
+        (S.reading reader.old) (S.reading reader.new)
+        (W.seen world.old) (W.seen world.new) }
+    ensures whole { OnOk result (DoneLines contexts.old.items limit
+        (S.reading reader.old) (S.reading reader.new)
+        (K.writing writer.old) (K.writing writer.new)
+        (W.seen world.old) (W.seen world.new)) }
     // Whatever it answers, the log is licensed.
-    ensures licensed { RunsLicensed contexts.old.items limit (S.reading reader.old) (S.reading reader.new) (W.seen world.old) (W.seen world.new) }
-    ensures complete { Completes (length contexts.old.items) limit (S.reading reader.old) (S.reading reader.new) (K.writing writer.old) (K.writing writer.new) result }
+    ensures licensed { RunsLicensed contexts.old.items limit
+        (S.reading reader.old) (S.reading reader.new)
+        (W.seen world.old) (W.seen world.new) }
+    ensures complete { Completes (length contexts.old.items) limit
+        (S.reading reader.old) (S.reading reader.new)
+        (K.writing writer.old) (K.writing writer.new) result }
 
     // Why it ended so.
-    ensures all_read { result ≡ Ok RunEnd.AllRead → ReadsAll contexts.old.items limit (S.reading reader.old) (S.reading reader.new) (K.writing writer.old) (K.writing writer.new) (W.seen world.old) (W.seen world.new) }
-    ensures ahead { result ≡ Ok RunEnd.Trapped → Traps 4095 contexts.old.items limit (S.reading reader.old) (S.reading reader.new) (K.writing writer.old) (K.writing writer.new) (W.seen world.old) (W.seen world.new) }
-    ensures bad_step { (line : ℕ) → result ≡ Err (RunError.BadStep line) → StopsAtBadStep contexts.old.items limit (S.reading reader.old) (S.reading reader.new) (K.writing writer.old) (K.writing writer.new) (W.seen world.old) (W.seen world.new) line }
-    ensures too_long { result ≡ Err RunError.TooLong → StopsTooLong contexts.old.items limit (S.reading reader.old) (S.reading reader.new) (K.writing writer.old) (K.writing writer.new) (W.seen world.old) (W.seen world.new) }
+    ensures all_read { result ≡ Ok RunEnd.AllRead →
+        ReadsAll contexts.old.items limit
+        (S.reading reader.old) (S.reading reader.new)
+        (K.writing writer.old) (K.writing writer.new)
+        (W.seen world.old) (W.seen world.new) }
+    ensures ahead { result ≡ Ok RunEnd.Trapped →
+        StopsAtTrap 4095 contexts.old.items limit
+        (S.reading reader.old) (S.reading reader.new)
+        (K.writing writer.old) (K.writing writer.new)
+        (W.seen world.old) (W.seen world.new) }
+    ensures bad_step { (line : ℕ) → result ≡ Err (RunError.BadStep line) →
+        StopsAtBadStep contexts.old.items limit
+        (S.reading reader.old) (S.reading reader.new)
+        (K.writing writer.old) (K.writing writer.new)
+        (W.seen world.old) (W.seen world.new) line }
+    ensures too_long { result ≡ Err RunError.TooLong →
+        StopsTooLong contexts.old.items limit
+        (S.reading reader.old) (S.reading reader.new)
+        (K.writing writer.old) (K.writing writer.new)
+        (W.seen world.old) (W.seen world.new) }
     ensures read_fault { result ≡ Err RunError.ReadFault → Rose (S.reading reader.old).faults (S.reading reader.new).faults }
     ensures write_fault { result ≡ Err RunError.WriteFault → CountRose (K.writing writer.old) (K.writing writer.new) }
 

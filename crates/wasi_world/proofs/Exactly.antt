@@ -1,5 +1,5 @@
 -- How readers are put together so that they read exactly what is written.
-use Rattle.std.proofs.Common.{◌≡◌, ℕ, ◌≤◌, ◌<◌, ◌^◌, List, [], ◌∷◌, ◌++◌, Option, Some, None, append_assoc, ap, sym, ◌∙◌, refl, subst, option_and_then}
+use Rattle.std.proofs.Common.{◌≡◌, ℕ, ◌≤◌, ◌<◌, ◌^◌, List, [], ◌∷◌, ◌++◌, Option, Some, None, append-nil, append_assoc, ap, sym, ◌∙◌, refl, subst, option_and_then}
 use Rattle.wasi_world.specs.Fields.{Reader, read_then, give, give_some, field_at, number_at}
 use Rattle.wasi_world.specs.Written.{ReadsExactly, number_fields}
 use Rattle.wasi_world.proofs.Numbers.{number_in_is, number_in_decimal}
@@ -19,7 +19,7 @@ exactly only all = record {
 }
 
 -- one result of reading has one value and leaves one list
-same_found : {A : Type 0} (value other : A) (fields rest : List (List ℕ)) → ◌≡◌ {A = Option (A × List (List ℕ))} (Some (value, fields)) (Some (other, rest)) → (value ≡ other) × (fields ≡ rest)
+pub same_found : {A : Type 0} (value other : A) (fields rest : List (List ℕ)) → ◌≡◌ {A = Option (A × List (List ℕ))} (Some (value, fields)) (Some (other, rest)) → (value ≡ other) × (fields ≡ rest)
 same_found {A} value other fields rest h =
     let same : ◌≡◌ {A = A × List (List ℕ)} (value, fields) (other, rest) = cc in
     (ap (λ (p : A × List (List ℕ)). p.0) same, ap (λ (p : A × List (List ℕ)). p.1) same)
@@ -52,11 +52,14 @@ then_found : {A B : Type 0} (found : Option (A × List (List ℕ))) (next : A �
 then_found None next result rest h = cc
 then_found (Some found) next result rest h = (found.0, found.1, refl, h)
 
-pub all_then : {A B : Type 0} {read : Reader A} {written : A → List (List ℕ)} {Fits : A → Type 0} (next : A → Reader B) {value : A} {result : B} {more : List (List ℕ)} → ReadsExactly read written Fits → Fits value → All (next value) result more → All (read_then read next) result (written value ++ more)
+pub all_both : {A B : Type 0} {read : Reader A} (next : A → Reader B) {value : A} {result : B} {first more : List (List ℕ)} → All read value first → All (next value) result more → All (read_then read next) result (first ++ more)
 unfolding read_then
-all_then {read = read} {written} next {value} {result} {more} first fits second = record {
-  given = λ rest. rw (append_assoc (written value) more rest, first.all value (more ++ rest) fits) (second.given rest);
+all_both next {value} {result} {first} {more} one two = record {
+  given = λ rest. rw (append_assoc first more rest, one.given (more ++ rest)) (two.given rest);
 }
+
+pub all_then : {A B : Type 0} {read : Reader A} {written : A → List (List ℕ)} {Fits : A → Type 0} (next : A → Reader B) {value : A} {result : B} {more : List (List ℕ)} → ReadsExactly read written Fits → Fits value → All (next value) result more → All (read_then read next) result (written value ++ more)
+all_then next {value} first fits second = all_both next (record { given = λ rest. first.all value rest fits }) second
 
 pub only_then : {A B : Type 0} {read : Reader A} {written : A → List (List ℕ)} {Fits : A → Type 0} (next : A → Reader B) {Q : List (List ℕ) → B → Type 0} → ReadsExactly read written Fits → ((value : A) → Fits value → Only (next value) (λ taken result. Q (written value ++ taken) result)) → Only (read_then read next) Q
 unfolding read_then
@@ -67,6 +70,17 @@ only_then {read = read} {written} next {Q} first second = record {
       let two = (second found.0 one.0).holds result found.1 rest found.3 in
       (written found.0 ++ two.0, one.1 ∙ (ap (λ mid. written found.0 ++ mid) two.1 ∙ sym (append_assoc (written found.0) two.0 rest)), two.2);
 }
+
+-- the last, and then a value
+pub all_end : {A B : Type 0} {read : Reader A} (next : A → Reader B) {value : A} {result : B} {last : List (List ℕ)} → All read value last → All (next value) result [] → All (read_then read next) result last
+all_end next one two = rw append-nil at (all_both next one two)
+
+pub all_last : {A B : Type 0} {read : Reader A} {written : A → List (List ℕ)} {Fits : A → Type 0} (next : A → Reader B) {value : A} {result : B} → ReadsExactly read written Fits → Fits value → All (next value) result [] → All (read_then read next) result (written value)
+all_last next {value} first fits second = all_end next (record { given = λ rest. first.all value rest fits }) second
+
+pub only_last : {A B : Type 0} {read : Reader A} {written : A → List (List ℕ)} {Fits : A → Type 0} (make : A → B) {Q : List (List ℕ) → B → Type 0} → ReadsExactly read written Fits → ((value : A) → Fits value → Q (written value) (make value)) → Only (read_then read (λ value. give (make value))) Q
+only_last {written = written} make {Q} first q =
+    only_then (λ value. give (make value)) first (λ value fits. only_give (make value) (rw append-nil (q value fits)))
 
 -- one field
 one_field : (fields : List (List ℕ)) (field : List ℕ) (rest : List (List ℕ)) → field_at fields ≡ Some (field, rest) → fields ≡ field ∷ rest

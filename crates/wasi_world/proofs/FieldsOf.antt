@@ -1,9 +1,9 @@
 -- Laws of the fields of a line.
-use Rattle.std.proofs.Common.{◌≡◌, ℕ, suc, ◌+◌, ◌≤◌, Bool, true, false, not, cond, List, [], ◌∷◌, Some, None, length, take, drop, position, arith, ap, refl}
+use Rattle.std.proofs.Common.{◌≡◌, ℕ, suc, ◌+◌, ◌≤◌, Bool, true, false, not, cond, List, [], ◌∷◌, Some, None, length, take, drop, position, arith, ap, refl, ◌++◌, append_assoc, sym, ◌∙◌}
 use Rattle.std.specs.List.{onto_first, position_or_len}
 use Rattle.std.proofs.lemmas.List.Splits.{length-slice_split, slice_split_first}
 use borrow.Author.Tests.{ltb-true, ltb-false}
-use Rattle.wasi_world.specs.Fields.{is_space, fields_of}
+use Rattle.wasi_world.specs.Fields.{is_space, fields_of, line_with}
 
 -- a line has a field, even if it is empty
 pub fields_of_some : (line : List ℕ) → fields_of line ≡ [] → ⊥
@@ -35,3 +35,9 @@ whole (x ∷ xs) h = one_more (is_space x) x xs h (whole xs)
 -- a line with no space is one field
 pub fields_of_whole : (line : List ℕ) → position is_space line ≡ None → fields_of line ≡ line ∷ []
 fields_of_whole line none = whole line (ltb-false _ _ (not_chosen _ _ none))
+
+-- the line with one field more
+pub line_with-push : (first : List ℕ) (fields : List (List ℕ)) (last : List ℕ) → line_with (first ∷ (fields ++ last ∷ [])) ≡ line_with (first ∷ fields) ++ (32 ∷ last)
+line_with-push first [] last = refl
+line_with-push first (field ∷ fields) last =
+    ap (λ rest. first ++ (32 ∷ rest)) (line_with-push field fields last) ∙ sym (append_assoc first (32 ∷ line_with (field ∷ fields)) (32 ∷ last))

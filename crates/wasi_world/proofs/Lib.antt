@@ -1,7 +1,6 @@
 pub mod Walks
 pub mod Allowed
 pub mod Answers
-pub mod Polls
 pub mod FieldsOf
 pub mod Numbers
 pub mod Reading
@@ -16,3 +15,6 @@ pub mod Listing
 pub mod Logs
 pub mod Made
 pub mod ScriptChecks
+pub mod Words
+pub mod Polls
+pub mod Pieces

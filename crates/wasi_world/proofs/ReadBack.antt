@@ -3,10 +3,10 @@ use Rattle.std.proofs.Common.{◌≡◌, ℕ, ◌≤◌, Bool, true, false, cond
 use Rattle.std.specs.Str.{is_utf8}
 use Rattle.std.proofs.lemmas.Str.{IsUtf8-from_is_utf8, is_utf8-from_IsUtf8}
 use Rattle.std.proofs.lemmas.Slice.Eq.{bytes_eq-Decides}
-use Rattle.hex.specs.Hex.{IsBytes}
 use Rattle.wasi_world.specs.declared.fields.TheConstants.{CODES}
 use Rattle.wasi_world.proofs.BytesBack.{bytes_in_is, bytes_in_text}
-use Rattle.std.proofs.lemmas.Bool.{cases_eq}
+use Rattle.std.specs.List.{list_all}
+use Rattle.std.proofs.lemmas.Bool.{cases_eq, and_parts}
 use Rattle.std.proofs.lemmas.Bool.Decides.{nat_tests}
 use Rattle.wasi_addr.specs.declared.code.ErrorCode.{ErrorCode}
 use Rattle.wasi_addr.specs.declared.code.ErrorCode.TheVariants as base
@@ -17,7 +17,7 @@ use Rattle.wasi_addr.specs.declared.address.IpAddress.TheVariants as ip
 use Rattle.wasi_addr.specs.declared.address.IpSocketAddress.{IpSocketAddress}
 use Rattle.wasi_addr.specs.declared.address.IpSocketAddress.TheVariants as socket
 use Rattle.wasi_world.specs.Fields.{read_then, give_some, word_at, number_at, family_of, family_at, ipv4_at, ipv6_at, ip_of_family, ip_at, address_of_family, address_at, named, code_text, code_in, code_at, bytes_at}
-use Rattle.wasi_world.specs.Written.{ReadsExactly, number_fields, family_number, family_fields, code_fields, bytes_fields, ipv4_numbers, ipv6_numbers, ip_fields, address_fields, FitsIpv4, FitsIpv6, FitsIp, FitsAddress}
+use Rattle.wasi_world.specs.Written.{ReadsExactly, AreBytes, number_fields, family_number, family_fields, code_fields, bytes_fields, ipv4_numbers, ipv6_numbers, ip_fields, address_fields, FitsIpv4, FitsIpv6, FitsIp, FitsAddress}
 use Rattle.wasi_world.proofs.Exactly.{All, Only, exactly, all_give, only_give, all_some, only_some, all_then, only_then, field_exactly, number_exactly}
 
 byte_exactly : ReadsExactly (number_at 255) number_fields (λ n. n ≤ 255)
@@ -111,6 +111,10 @@ first_passes : {A : Type 0} (test : A → Bool) (passed : Bool) (b a : A) (rest 
 first_passes test true b a rest e more h = let same : b ≡ a = cc in rw (← same) e
 first_passes test false b a rest e more h = more h
 
+first_of_all : {A : Type 0} (test passes : A → Bool) (passed : Bool) (b a : A) (rest : Option A) → passes b ≡ true → (rest ≡ Some a → passes a ≡ true) → cond passed (Some b) rest ≡ Some a → passes a ≡ true
+first_of_all test passes true b a rest e more h = let same : b ≡ a = cc in rw (← same) e
+first_of_all test passes false b a rest e more h = more h
+
 found_passes : {A : Type 0} (test : A → Bool) (all : List A) (a : A) → find test all ≡ Some a → test a ≡ true
 found_passes test [] a h = cc
 found_passes test (b ∷ all) a h = first_passes test (test b) b a (find test all) refl (found_passes test all a) h
@@ -118,6 +122,16 @@ found_passes test (b ∷ all) a h = first_passes test (test b) b a (find test al
 -- what has a name is found by it alone
 pub named_is : {A : Type 0} (name_of : A → List ℕ) (all : List A) (name : List ℕ) (a : A) → named name_of all name ≡ Some a → name_of a ≡ name
 named_is name_of all name a h = (bytes_eq-Decides _ _).0 (found_passes (λ a. bytes_eq (name_of a) name) all a h)
+
+found_of_all : {A : Type 0} (test passes : A → Bool) (all : List A) (a : A) → find test all ≡ Some a → list_all passes all ≡ true → passes a ≡ true
+found_of_all test passes [] a h k = cc
+found_of_all test passes (b ∷ all) a h k =
+    let both = and_parts (passes b) _ k in
+    first_of_all test passes (test b) b a (find test all) both.0 (λ e. found_of_all test passes all a e both.1) h
+
+-- and passes what all of them pass
+pub named_passes : {A : Type 0} (name_of : A → List ℕ) (passes : A → Bool) (all : List A) (name : List ℕ) (a : A) → named name_of all name ≡ Some a → list_all passes all ≡ true → passes a ≡ true
+named_passes name_of passes all name a h k = found_of_all (λ a. bytes_eq (name_of a) name) passes all a h k
 
 code_in_text : (code : ErrorCode) → code_in (code_text code) ≡ Some code
 unfolding code_in
@@ -147,7 +161,7 @@ code_exactly = exactly
     (only_then _ field_exactly (λ field u. only_some _ (λ code h. (tt, ap (λ f. f ∷ []) (sym (code_in_is field code h))))))
     (λ code fits. all_then _ field_exactly tt (all_some _ (code_in_text code)))
 
-pub bytes_exactly : ReadsExactly bytes_at bytes_fields IsBytes
+pub bytes_exactly : ReadsExactly bytes_at bytes_fields AreBytes
 unfolding bytes_at
 bytes_exactly = exactly
     (only_then _ field_exactly (λ field u. only_some _ (λ bytes h. let is = bytes_in_is field bytes h in (is.0, ap (λ f. f ∷ []) is.1))))

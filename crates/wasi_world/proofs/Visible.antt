@@ -10,12 +10,14 @@ use Rattle.std.proofs.lemmas.Str.Parse.{digit_from_value}
 use Rattle.std.proofs.lemmas.Fmt.{decimal_is_IsNumeral}
 use Rattle.wasi_addr.specs.declared.code.ErrorCode.{ErrorCode}
 use Rattle.wasi_addr.specs.declared.code.ErrorCode.TheVariants as base
+use Rattle.wasi_addr.specs.declared.address.SocketAddressFamily.{SocketAddressFamily}
+use Rattle.wasi_addr.specs.declared.address.SocketAddressFamily.TheVariants as family
 use Rattle.wasi_addr.specs.declared.address.IpSocketAddress.{IpSocketAddress}
 use Rattle.wasi_addr.specs.declared.address.IpSocketAddress.TheVariants as socket
-use Rattle.hex.specs.Hex.{IsBytes, encode_lower}
+use Rattle.hex.specs.Hex.{encode_lower}
 use Rattle.wasi_world.specs.Fields.{is_space, fields_of, line_with, is_lower_digit}
 use Rattle.wasi_world.proofs.BytesBack.{lower_encoded}
-use Rattle.wasi_world.specs.Written.{is_visible, AreVisible, IsVisible, address_numbers, address_fields, code_fields, bytes_fields, FitsAddress}
+use Rattle.wasi_world.specs.Written.{AreBytes, is_visible, AreVisible, IsVisible, address_numbers, family_fields, address_fields, code_fields, bytes_fields, FitsAddress}
 
 no_space : (b : ℕ) → is_visible b ≡ true → is_space b ≡ false
 no_space b h = grind (arith, nat_tests)
@@ -32,10 +34,14 @@ split_last (b ∷ field) h =
     let both = and_parts (is_visible b) _ h in
     rw (no_space b both.0, split_last field both.1)
 
+some_fields : (field : List ℕ) (more : List (List ℕ)) → AreVisible (field ∷ more) → fields_of (line_with (field ∷ more)) ≡ field ∷ more
+some_fields field [] h = split_last field h.0
+some_fields field (next ∷ more) h = split_first field (line_with (next ∷ more)) h.0 ∙ ap (λ fs. field ∷ fs) (some_fields next more h.1)
+
 -- a line of visible fields has these fields
-pub fields_of_line : (field : List ℕ) (more : List (List ℕ)) → AreVisible (field ∷ more) → fields_of (line_with (field ∷ more)) ≡ field ∷ more
-fields_of_line field [] h = split_last field h.0
-fields_of_line field (next ∷ more) h = split_first field (line_with (next ∷ more)) h.0 ∙ ap (λ fs. field ∷ fs) (fields_of_line next more h.1)
+pub fields_of_line : (fields : List (List ℕ)) → (fields ≡ [] → ⊥) → AreVisible fields → fields_of (line_with fields) ≡ fields
+fields_of_line [] some h = absurd (some refl)
+fields_of_line (field ∷ more) some h = some_fields field more h
 
 -- and a line with these fields is that line
 pub line_of_fields : (line : List ℕ) (fields : List (List ℕ)) → fields_of line ≡ fields → line ≡ line_with fields
@@ -79,6 +85,10 @@ numbers_visible : (ns : List ℕ) → AllByRecursion (λ n. n < 2 ^ 64) ns → A
 numbers_visible [] small = tt
 numbers_visible (n ∷ ns) small = (number_visible n small.0, numbers_visible ns small.1)
 
+pub family_visible : (f : SocketAddressFamily) → AreVisible (family_fields f)
+family_visible family.Ipv4 = (number_visible 4 (omega arith), tt)
+family_visible family.Ipv6 = (number_visible 6 (omega arith), tt)
+
 pub address_visible : (a : IpSocketAddress) → FitsAddress a → AreVisible (address_fields a)
 address_visible (socket.Ipv4 a) fits =
     numbers_visible (address_numbers (socket.Ipv4 a))
@@ -113,6 +123,6 @@ hex_visible (b ∷ field) h =
     let both = and_parts (is_lower_digit b) _ h in
     rw (lower_visible b both.0) (hex_visible field both.1)
 
-pub bytes_visible : (bytes : List ℕ) → IsBytes bytes → AreVisible (bytes_fields bytes)
+pub bytes_visible : (bytes : List ℕ) → AreBytes bytes → AreVisible (bytes_fields bytes)
 bytes_visible [] are = (refl, tt)
 bytes_visible (byte ∷ bytes) are = (hex_visible (encode_lower (byte ∷ bytes)) (lower_encoded (byte ∷ bytes) are), tt)

@@ -205,3 +205,16 @@ unfoldable pub bytes_at : Reader (List ℕ)
 bytes_at = do
   field ← field_at
   give_some (bytes_in field)
+
+-- A row of a table of words: a word, and what reads the fields that follow it.
+pub record Row (A : Type 0) : Type 0 where
+  pub word : List ℕ
+  pub reads : Reader A
+
+abbrev pub row : {A : Type 0} → List ℕ → Reader A → Row A
+row word reads = record { word = word; reads = reads }
+
+-- what reads the fields that follow a word: its first row's, and nothing does where it has none
+abbrev pub after_word : {A : Type 0} → List (Row A) → List ℕ → Reader A
+after_word [] word = give_some None
+after_word (r ∷ rows) word = if bytes_eq r.word word then r.reads else after_word rows word

@@ -11,3 +11,4 @@ pub mod Sides
 pub mod Script
 pub mod Queued
 pub mod Scripted
+pub mod Memory

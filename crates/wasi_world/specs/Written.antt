@@ -1,5 +1,5 @@
 -- How values are written as fields, and that exactly these are read.
-use Rattle.std.specs.Prelude.{◌≡◌, ℕ, ◌≤◌, Bool, ◌&&◌, ◌||◌, nat_le, List, [], ◌∷◌, ◌++◌, map, decimal, Some, IsTrue}
+use Rattle.std.specs.Prelude.{◌≡◌, ℕ, ◌<◌, ◌≤◌, Bool, ◌&&◌, ◌||◌, nat_le, List, [], ◌∷◌, ◌++◌, map, decimal, slice_index, Some, IsTrue}
 use Rattle.std.specs.List.{list_all, AllByRecursion}
 use Rattle.wasi_addr.specs.declared.code.ErrorCode.{ErrorCode}
 use Rattle.wasi_addr.specs.declared.address.SocketAddressFamily.{SocketAddressFamily}
@@ -54,6 +54,9 @@ abbrev pub bytes_fields : List ℕ → List (List ℕ)
 bytes_fields bytes = bytes_text bytes ∷ []
 
 -- what values of these types are
+abbrev pub AreBytes : List ℕ → Type 0
+AreBytes bytes = (i : ℕ) → slice_index bytes i < 256
+
 abbrev pub FitsIpv4 : ℕ × ℕ × ℕ × ℕ → Type 0
 FitsIpv4 (a, b, c, d) = (a ≤ 255) × (b ≤ 255) × (c ≤ 255) × (d ≤ 255)
 

@@ -3,10 +3,10 @@
 #[cfg(test)]
 mod tests;
 
-ghost use Rattle.std.specs.Prelude.{IsUtf8, OnOk, string_bytes, ◌++◌, ◌<◌, ◌^◌, option_copied, IfOk, ◌≡◌, ◌≤◌, ℕ, List, ◌∷◌, [], decimal, Some, IsTrue, ◌↔◌, IfSome, IfNone, position};
+ghost use Rattle.std.specs.Prelude.{IsUtf8, ◌≢◌, OnOk, string_bytes, ◌++◌, ◌<◌, ◌^◌, option_copied, IfOk, ◌≡◌, ◌≤◌, ℕ, List, ◌∷◌, [], decimal, Some, IsTrue, ◌↔◌, IfSome, IfNone, position};
 ghost use Rattle.std.specs.List.{list_all};
-ghost use Rattle.hex.specs.Hex.{IsBytes, encode_lower};
-ghost use Rattle.wasi_world.specs.Written.{ReadsExactly, AreVisible, number_fields, family_fields, ip_fields, address_fields, code_fields, bytes_fields, FitsIp, FitsAddress};
+ghost use Rattle.hex.specs.Hex.{encode_lower};
+ghost use Rattle.wasi_world.specs.Written.{ReadsExactly, AreVisible, AreBytes, number_fields, family_fields, ip_fields, address_fields, code_fields, bytes_fields, FitsIp, FitsAddress};
 ghost use Rattle.wasi_world.specs.Fields.{fields_of, line_with, is_space, Reads, is_lower_digit, is_lower_hex, bytes_in, bytes_text, code_text, code_in, code_at, bytes_at, BeginsPlain, word_at, number_in, number_at, family_of, family_at, ipv4_at, ipv6_at, ip_at, address_at};
 
 use crate::octets::Octets;
@@ -340,12 +340,12 @@ pub fn fields_are_read_exactly()
     ensures ips { ReadsExactly ip_at ip_fields FitsIp }
     ensures addresses { ReadsExactly address_at address_fields FitsAddress }
     ensures code_words { ReadsExactly code_at code_fields (λ code. Unit {0}) }
-    ensures bytes { ReadsExactly bytes_at bytes_fields IsBytes }
+    ensures bytes { ReadsExactly bytes_at bytes_fields AreBytes }
     ensures words { ReadsExactly word_at (λ word. word ∷ []) IsUtf8 }
 {}
 
 /// A line of visible fields has these fields, and no other line has.
 pub fn lines_have_their_fields()
-    ensures fields { (field : List ℕ) (more : List (List ℕ)) → AreVisible (field ∷ more) → fields_of (line_with (field ∷ more)) ≡ field ∷ more }
+    ensures fields { (fields : List (List ℕ)) → fields ≢ [] → AreVisible fields → fields_of (line_with fields) ≡ fields }
     ensures only { (line : List ℕ) → line ≡ line_with (fields_of line) }
 {}

@@ -1,5 +1,5 @@
 use Rattle.wasi_run.proofs.Completes.{completes}
-use Rattle.wasi_run.proofs.CauseLaws.{reads_all, traps, stops_at_bad_step, stops_too_long, read_rose, write_rose}
+use Rattle.wasi_run.proofs.CauseLaws.{reads_all, stops_at_trap, stops_at_bad_step, stops_too_long, read_rose, write_rose}
 use Rattle.wasi_run.proofs.Headline.{begins_run, runs_licensed, whole_at_ok, over_open, has_closed}
 use Rattle.wasi_run.proofs.run.run_script.Goals as goal
 
@@ -25,7 +25,7 @@ pub returns-clause-all_read : goal.returns-clause-all_read
 returns-clause-all_read g c = λ e. reads_all (rw e at (returns-clause-ran g c))
 
 pub returns-clause-ahead : goal.returns-clause-ahead
-returns-clause-ahead g c = λ e. traps (rw e at (returns-clause-ran g c))
+returns-clause-ahead g c = λ e. stops_at_trap (rw e at (returns-clause-ran g c))
 
 pub returns-clause-bad_step : goal.returns-clause-bad_step
 returns-clause-bad_step g c = λ line e. stops_at_bad_step (rw e at (returns-clause-ran g c))
