@@ -116,6 +116,32 @@ fn a_connect_ends_as_the_network_says(rt: HostRuntime) -> Result<(), Fail> {
 }
 
 #[test]
+fn a_half_is_taken_once(rt: HostRuntime) -> Result<(), Fail> {
+    let mut world = world(rt.alloc(), true, None)?;
+    let made = TcpSocket::new(&mut world, line(1), &CONTEXT, SocketAddressFamily::Ipv4);
+    let mut socket = told(made)??;
+    let started = socket.start_connect(&mut world, line(2), ADDRESS);
+    told(started)??;
+    let polled = socket.poll_finish_connect(&mut world);
+    told(polled)??;
+    let mut send = socket.take_send_stream()?;
+    let mut receive = socket.take_receive_stream()?;
+    assert!(rt; socket.take_send_stream().is_err());
+    assert!(rt; socket.take_receive_stream().is_err());
+    let ready = send.poll_ready(&mut world, line(3))?;
+    assert_eq!(rt; ready, Answer::Ready(()));
+    let written = send.poll_write(&mut world, line(4), b"abc");
+    assert_eq!(rt; told(written)?, Ok(Answer::Ready(3)));
+    let ready = receive.poll_ready(&mut world, line(5))?;
+    assert_eq!(rt; ready, Answer::Pending);
+    let read = receive.poll_read(rt.alloc(), &mut world, line(6), 10);
+    assert!(rt; matches!(told(read)?, Ok(Answer::Pending)));
+    send.give_up(&mut world, line(7))?;
+    receive.give_up(&mut world, line(8))?;
+    Ok(())
+}
+
+#[test]
 fn a_bind_gives_the_local_address(rt: HostRuntime) -> Result<(), Fail> {
     let mut world = world(rt.alloc(), true, None)?;
     let made = TcpSocket::new(&mut world, line(1), &CONTEXT, SocketAddressFamily::Ipv4);
