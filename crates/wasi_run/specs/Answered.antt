@@ -58,6 +58,7 @@ MissesHandle m (step.Network ctx) = ⊥
 MissesHandle m (step.TcpCreate ctx family) = ⊥
 MissesHandle m (step.TcpStartBind ctx socket network a) = (is_network (kind_at m.table network) ≡ false) ⊎ (record_at m socket ≡ None)
 MissesHandle m (step.TcpFinishBind ctx socket) = record_at m socket ≡ None
+MissesHandle m _ = ⊥
 
 abbrev pub MakesHandle : Step → Type 0
 MakesHandle (step.Network ctx) = ⊤

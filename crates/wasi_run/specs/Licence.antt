@@ -53,6 +53,16 @@ handles_of (step.Network ctx) = []
 handles_of (step.TcpCreate ctx family) = []
 handles_of (step.TcpStartBind ctx socket network addr) = socket ∷ network ∷ []
 handles_of (step.TcpFinishBind ctx socket) = socket ∷ []
+handles_of (step.TcpStartConnect ctx socket network addr) = socket ∷ network ∷ []
+handles_of (step.TcpFinishConnect ctx socket) = socket ∷ []
+handles_of (step.TcpLocalAddress ctx socket) = socket ∷ []
+handles_of (step.TcpRemoteAddress ctx socket) = socket ∷ []
+handles_of (step.TcpIsListening ctx socket) = socket ∷ []
+handles_of (step.TcpAddressFamily ctx socket) = socket ∷ []
+handles_of (step.Read ctx input len) = input ∷ []
+handles_of (step.CheckWrite ctx output) = output ∷ []
+handles_of (step.Write ctx output bytes) = output ∷ []
+handles_of (step.Flush ctx output) = output ∷ []
 
 -- == sides
 -- The side of a handle is the one in its mark.
@@ -122,6 +132,7 @@ IsMarkOf before op kind parent sock (step.TcpCreate ctx family) =
     (kind ≡ Tcp2) × (parent ≡ None) × (sock ≡ Some op) × ((name : ℕ) × (f : SocketAddressFamily) × Has before (entry op (TcpCreate name f) Done))
 IsMarkOf before op kind parent sock (step.TcpStartBind ctx socket network addr) = ⊥
 IsMarkOf before op kind parent sock (step.TcpFinishBind ctx socket) = ⊥
+IsMarkOf before op kind parent sock _ = ⊥
 
 -- == the table
 -- What an operation may ask after these entries. Of a call whose row needs a step that isn't there yet it says that it may not

@@ -115,6 +115,7 @@ step_asks contexts m line (step.Network ctx) = bind (network_asks m (own_of line
 step_asks contexts m line (step.TcpCreate ctx family) = bind (create_asks m (own_of line) (context_at contexts ctx) family) (λ done. Give (handle_reply done.0, done.1))
 step_asks contexts m line (step.TcpStartBind ctx s n a) = bind (start_bind_asks m (own_of line) s n a) (λ done. Give (answer_reply line done.0, done.1))
 step_asks contexts m line (step.TcpFinishBind ctx s) = let done = finish_bind_on m (socket_at m s) in Give (done_reply done.0, done.1)
+step_asks contexts m line _ = Give (reply.Busy, m)
 
 -- while a call stands every guest call is busy
 abbrev pub machine_asks : List WasiSocketsCtx → Machine → ℕ → Step → Option StandingBind → Asks (Reply × Machine)

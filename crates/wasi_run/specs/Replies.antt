@@ -1,15 +1,17 @@
 -- The texts of replies, and which replies a step may give.
-use Rattle.std.specs.Prelude.{ℕ, ◌<◌, ◌≤◌, ◌^◌, List, [], ◌∷◌, ◌++◌, map, codes, decimal}
+use Rattle.std.specs.Prelude.{◌≡◌, ℕ, ◌<◌, ◌≤◌, ◌^◌, List, [], ◌∷◌, ◌++◌, map, codes, decimal}
 use Rattle.wasi_world.specs.declared.outcome.TrapKind.{TrapKind}
 use Rattle.wasi_world.specs.declared.outcome.TrapKind.TheVariants as trap
 use Rattle.wasi_world.specs.Fields.{line_with, bytes_text}
-use Rattle.wasi_world.specs.Written.{AreBytes}
+use Rattle.wasi_addr.specs.declared.address.IpSocketAddress.{IpSocketAddress}
+use Rattle.wasi_world.specs.Written.{AreBytes, FitsAddress}
 use Rattle.wasi_run.specs.declared.reply.CodeWord.{CodeWord}
 use Rattle.wasi_run.specs.declared.reply.CodeWord.TheVariants as word
 use Rattle.wasi_run.specs.declared.reply.Field.{Field}
 use Rattle.wasi_run.specs.declared.reply.Field.TheVariants as field
 use Rattle.wasi_run.specs.declared.reply.Reply.{Reply}
 use Rattle.wasi_run.specs.declared.reply.Reply.TheVariants as reply
+use Rattle.wasi_run.specs.Reply.{address_values}
 use Rattle.wasi_run.specs.declared.step.Step.{Step}
 use Rattle.wasi_run.specs.declared.step.Step.TheVariants as step
 
@@ -83,12 +85,27 @@ pub data FieldKind : Type 0 where
   SomeBytes : FieldKind
   Truth : FieldKind
 
+-- what the fields of a reply are: one of each of these kinds, or those of an address
+pub data FieldKinds : Type 0 where
+  Each : List FieldKind → FieldKinds
+  AnAddress : FieldKinds
+
 -- the fields of a step's reply when it succeeds
-abbrev pub kinds_of : Step → List FieldKind
-kinds_of (step.Network c) = ANumber ∷ []
-kinds_of (step.TcpCreate c family) = ANumber ∷ []
-kinds_of (step.TcpStartBind c socket network a) = []
-kinds_of (step.TcpFinishBind c socket) = []
+abbrev pub kinds_of : Step → FieldKinds
+kinds_of (step.Network c) = Each (ANumber ∷ [])
+kinds_of (step.TcpCreate c family) = Each (ANumber ∷ [])
+kinds_of (step.TcpStartBind c socket network a) = Each []
+kinds_of (step.TcpFinishBind c socket) = Each []
+kinds_of (step.TcpStartConnect c socket network a) = Each []
+kinds_of (step.TcpFinishConnect c socket) = Each (ANumber ∷ ANumber ∷ [])
+kinds_of (step.TcpLocalAddress c socket) = AnAddress
+kinds_of (step.TcpRemoteAddress c socket) = AnAddress
+kinds_of (step.TcpIsListening c socket) = Each (Truth ∷ [])
+kinds_of (step.TcpAddressFamily c socket) = Each (ANumber ∷ [])
+kinds_of (step.Read c input len) = Each (SomeBytes ∷ [])
+kinds_of (step.CheckWrite c output) = Each (ANumber ∷ [])
+kinds_of (step.Write c output bytes) = Each []
+kinds_of (step.Flush c output) = Each []
 
 abbrev pub IsOfKind : FieldKind → Field → Type 0
 IsOfKind ANumber (field.Number n) = n < 2 ^ 64
@@ -97,11 +114,21 @@ IsOfKind Truth field.True = Unit {0}
 IsOfKind Truth field.False = Unit {0}
 IsOfKind _ _ = ⊥
 
-abbrev pub AreOfKinds : List FieldKind → List Field → Type 0
-AreOfKinds [] [] = Unit {0}
-AreOfKinds (kind ∷ kinds) (f ∷ fields) = IsOfKind kind f × AreOfKinds kinds fields
-AreOfKinds [] (f ∷ fields) = ⊥
-AreOfKinds (kind ∷ kinds) [] = ⊥
+abbrev pub EachOfKind : List FieldKind → List Field → Type 0
+EachOfKind [] [] = Unit {0}
+EachOfKind (kind ∷ kinds) (f ∷ fields) = IsOfKind kind f × EachOfKind kinds fields
+EachOfKind [] (f ∷ fields) = ⊥
+EachOfKind (kind ∷ kinds) [] = ⊥
+
+-- These are the numbers that an address is written as.
+pub record AreAnAddress (fields : List Field) : Type 0 where
+  pub address : IpSocketAddress
+  pub fits : FitsAddress address
+  pub numbers : fields ≡ address_values address
+
+abbrev pub AreOfKinds : FieldKinds → List Field → Type 0
+AreOfKinds (Each kinds) fields = EachOfKind kinds fields
+AreOfKinds AnAddress fields = AreAnAddress fields
 
 -- a reply that the step may give: its numbers are within their widths, and its fields are of the step's kinds
 abbrev pub Gives : Step → Reply → Type 0

@@ -1,11 +1,14 @@
 -- What replies say.
-use Rattle.std.specs.Prelude.{ℕ, Bool, true, false, List, [], ◌∷◌}
+use Rattle.std.specs.Prelude.{ℕ, Bool, true, false, if◌then◌else◌, List, [], ◌∷◌, map}
+use Rattle.wasi_addr.specs.declared.address.IpSocketAddress.{IpSocketAddress}
+use Rattle.wasi_addr.specs.declared.address.SocketAddressFamily.{SocketAddressFamily}
 use Rattle.wasi_addr.specs.declared.p2.ErrorCode.{ErrorCode}
 use Rattle.wasi_addr.specs.declared.p2.ErrorCode.TheVariants as p2
+use Rattle.wasi_world.specs.Written.{address_numbers, family_number}
 use Rattle.wasi_run.specs.declared.reply.CodeWord.{CodeWord}
 use Rattle.wasi_run.specs.declared.reply.CodeWord.TheVariants as word
 use Rattle.wasi_run.specs.declared.reply.Field.{Field}
-use Rattle.wasi_run.specs.declared.reply.Field.TheVariants.{Number}
+use Rattle.wasi_run.specs.declared.reply.Field.TheVariants.{Number, Bytes, True, False}
 use Rattle.wasi_run.specs.declared.reply.Reply.{Reply}
 use Rattle.wasi_run.specs.declared.reply.Reply.TheVariants.{Trap}
 
@@ -43,3 +46,20 @@ no_fields = []
 
 abbrev pub number_fields : ℕ → List Field
 number_fields n = Number n ∷ []
+
+-- the two streams of a connection
+abbrev pub pair_fields : ℕ → ℕ → List Field
+pair_fields a b = Number a ∷ Number b ∷ []
+
+abbrev pub bytes_fields : List ℕ → List Field
+bytes_fields bytes = Bytes bytes ∷ []
+
+abbrev pub truth_fields : Bool → List Field
+truth_fields b = (if b then True else False) ∷ []
+
+abbrev pub family_fields : SocketAddressFamily → List Field
+family_fields family = number_fields (family_number family)
+
+-- an address as it is written: its family, its parts, its port
+abbrev pub address_values : IpSocketAddress → List Field
+address_values a = map Number (address_numbers a)

@@ -52,7 +52,7 @@ fn do_line<W: World, K: Sink>(
         session.old.machine (session.old.lines + 1) (line.now ∷ []) result session.new.machine }
     ensures count { result ≡ Ok LinesEnd.AllDone → session.new.lines ≡ session.old.lines + 1 }
 {
-    let Some(step) = parse_step(line, contexts.len() as u32)? else {
+    let Some(step) = parse_step(alloc, line, contexts.len() as u32)? else {
         return Err(RunError::BadStep(session.lines + 1));
     };
     let reply = session.step(alloc, world, contexts, &step)?;

@@ -174,6 +174,7 @@ impl Machine {
                 answer_reply(alloc, line, answer)
             }
             Step::TcpFinishBind { socket, .. } => done_reply(alloc, self.finish_bind(*socket)),
+            _ => Ok(Reply::Busy),
         }
     }
 }

@@ -1,7 +1,7 @@
 //! The steps of a script.
 
 use wasi_addr::{IpSocketAddress, SocketAddressFamily};
-use wasi_world::Handle;
+use wasi_world::{Handle, Octets};
 
 /// One guest call of a script, with the number of the context that makes it.
 #[derive(Drop)]
@@ -26,5 +26,59 @@ pub enum Step {
     TcpFinishBind {
         context: u32,
         socket: Handle,
+    },
+    /// Begins to connect the socket to the address (`start-connect`).
+    TcpStartConnect {
+        context: u32,
+        socket: Handle,
+        network: Handle,
+        addr: IpSocketAddress,
+    },
+    /// Polls a connect that was begun, and makes the two streams of the connection (`finish-connect`).
+    TcpFinishConnect {
+        context: u32,
+        socket: Handle,
+    },
+    /// The address that the socket is bound to (`local-address`).
+    TcpLocalAddress {
+        context: u32,
+        socket: Handle,
+    },
+    /// The address of the other end of the connection (`remote-address`).
+    TcpRemoteAddress {
+        context: u32,
+        socket: Handle,
+    },
+    /// Whether the socket is listening (`is-listening`).
+    TcpIsListening {
+        context: u32,
+        socket: Handle,
+    },
+    /// The socket's family (`address-family`).
+    TcpAddressFamily {
+        context: u32,
+        socket: Handle,
+    },
+    /// Reads at most so many bytes (`input-stream.read`).
+    Read {
+        context: u32,
+        input: Handle,
+        len: u64,
+    },
+    /// How many bytes may be written (`output-stream.check-write`).
+    CheckWrite {
+        context: u32,
+        output: Handle,
+    },
+    /// Writes the bytes, of which there are no more than was permitted (`output-stream.write`).
+    Write {
+        context: u32,
+        output: Handle,
+        bytes: Octets,
+    },
+    /// Asks that what was written goes out (`output-stream.flush`).
+    Flush {
+        context: u32,
+        output: Handle,
     },
 }
