@@ -1,14 +1,17 @@
 -- What the log says of the machine's state: the invariant that makes its next call a licensed one.
 use Rattle.std.specs.Prelude.{⊤}
-use Rattle.std.proofs.Common.{◌≡◌, ℕ, ◌+◌, List, [], ◌∷◌, Some, slice_get}
+use Rattle.std.proofs.Common.{◌≡◌, ℕ, ◌+◌, true, List, [], ◌∷◌, Some, slice_get}
 use Rattle.wasi_addr.specs.declared.address.IpSocketAddress.{IpSocketAddress}
 use Rattle.wasi_addr.specs.declared.address.SocketAddressFamily.{SocketAddressFamily}
-use Rattle.wasi_addr.specs.declared.address.SocketAddrUse.TheVariants.{TcpBind}
+use Rattle.wasi_addr.specs.declared.address.SocketAddrUse.TheVariants.{TcpBind, TcpConnect}
+use Rattle.wasi_addr.specs.declared.code.ErrorCode.{ErrorCode}
+use Rattle.wasi_addr.specs.Address.{wildcard}
 use Rattle.wasi_world.specs.declared.ids.OpId.{OpId}
 use Rattle.wasi_world.specs.declared.call.Call.TheVariants as call
 use Rattle.wasi_world.specs.declared.call.Told.TheVariants.{Yes}
 use Rattle.wasi_world.specs.declared.call.Entry.{Entry}
-use Rattle.wasi_world.specs.Operation.{Item, Check, Bind, NothingLast, Operation}
+use Rattle.wasi_world.specs.Operation.{Nothing, Item, Check, Bind, Connect, Last, NothingLast, CloseLast, Operation}
+use Rattle.wasi_tcp.specs.declared.socket.TcpState.TheVariants.{Default, Connecting}
 use Rattle.wasi_tcp.specs.Shape.{Socket}
 use Rattle.wasi_tcp.specs.Socket.{side_of}
 use Rattle.wasi_run.specs.declared.machine.Machine.{Machine}
@@ -16,9 +19,9 @@ use Rattle.wasi_run.specs.declared.socket.Tcp2Socket.{Tcp2Socket}
 use Rattle.wasi_run.specs.declared.step.Step.{Step}
 use Rattle.wasi_run.specs.declared.store.StandingBind.{StandingBind}
 use Rattle.wasi_run.specs.declared.table.Kind.{Kind}
-use Rattle.wasi_run.specs.declared.table.Kind.TheVariants.{Network, Tcp2}
+use Rattle.wasi_run.specs.declared.table.Kind.TheVariants.{Network, Tcp2, Input, Output}
 use Rattle.wasi_run.specs.Table.{kind_at}
-use Rattle.wasi_run.specs.Licence.{Has, entry, marks_in, BeganBy, NamesSide, IsSide, IsMaker, IsBindTo}
+use Rattle.wasi_run.specs.Licence.{Has, entry, marks_in, BeganBy, NamesSide, IsSide, IsMaker, IsBoundSide, MayGoOut, IsBindTo, IsConnectTo}
 
 -- The log has the mark of the handle: it is of the side of the socket that the handle stands for, as long as that has one.
 pub record OfSide (es : List Entry) (handle : ℕ) (socket : Socket) : Type 0 where
@@ -33,6 +36,8 @@ pub record NamesRecord (es : List Entry) (sockets : List Tcp2Socket) (handle pla
 abbrev pub HandleIsFine : List Entry → List Tcp2Socket → ℕ → Kind → Type 0
 HandleIsFine es sockets handle Network = ⊤
 HandleIsFine es sockets handle (Tcp2 place) = NamesRecord es sockets handle place
+HandleIsFine es sockets handle (Input place) = NamesRecord es sockets handle place
+HandleIsFine es sockets handle (Output place) = NamesRecord es sockets handle place
 
 -- The socket knows the maker of its side, and the side's family.
 pub record KnowsMaker (es : List Entry) (socket : Socket) : Type 0 where
@@ -43,6 +48,14 @@ pub data BindLeft (es : List Entry) (op : OpId) (maker : ℕ) (addr : IpSocketAd
   Whole : BindLeft es op maker addr (Check addr TcpBind ∷ Bind addr ∷ [])
   Checked : Has es (entry op (call.Check maker addr TcpBind) Yes) → BindLeft es op maker addr (Bind addr ∷ [])
   Over : BindLeft es op maker addr []
+
+-- what is left of a connect to the address, and what it was told so far
+pub data ConnectLeft (es : List Entry) (op side : OpId) (maker : ℕ) (addr : IpSocketAddress) : List Item → Type 0 where
+  Unbound : (family : SocketAddressFamily) → IsMaker es maker family side → ConnectLeft es op side maker addr (Check (wildcard family) TcpBind ∷ Check addr TcpConnect ∷ Connect addr ∷ [])
+  Unchecked : MayGoOut es op side → ConnectLeft es op side maker addr (Check addr TcpConnect ∷ Connect addr ∷ [])
+  Allowed : MayGoOut es op side → Has es (entry op (call.Check maker addr TcpConnect) Yes) → ConnectLeft es op side maker addr (Connect addr ∷ [])
+  ToClose : (c : ErrorCode) → ConnectLeft es op side maker addr (Last c Nothing ∷ [])
+  Ended : ConnectLeft es op side maker addr []
 
 module _ (steps : List Step) where
   -- The operation is on a side that its step names, and knows the side's maker.
@@ -59,8 +72,22 @@ module _ (steps : List Step) where
     pub last : op.who.last ≡ NothingLast
     pub left : BindLeft es op.who.id op.who.context addr op.left
 
+  -- A connect that may be polled: where it came from, and what it has asked so far.
+  pub record ConnectIsFine (es : List Entry) (op : Operation) : Type 0 where
+    pub addr : IpSocketAddress
+    pub to : BeganBy steps op.who.id (IsConnectTo addr)
+    pub works : WorksOn es op.who.id op.who.side op.who.context
+    pub last : op.who.last ≡ CloseLast
+    pub left : ConnectLeft es op.who.id op.who.side op.who.context addr op.left
+
+  -- A socket knows its maker; it is bound only where the log says so; and its connect may be polled.
+  pub record SocketIsFine (es : List Entry) (socket : Socket) : Type 0 where
+    pub knows : KnowsMaker es socket
+    pub bound : (side : OpId) → socket.state ≡ Default side → socket.bound ≡ true → IsBoundSide es side
+    pub connect : (op : Operation) → socket.state ≡ Connecting op → ConnectIsFine es op
+
   pub record StateIsFine (es : List Entry) (m : Machine) : Type 0 where
     pub count : m.table.next ≡ marks_in es + 1
     pub handles : (handle : ℕ) (kind : Kind) → kind_at m.table handle ≡ Some kind → HandleIsFine es m.store.sockets handle kind
-    pub sockets : (place : ℕ) (r : Tcp2Socket) → slice_get m.store.sockets place ≡ Some r → KnowsMaker es r.inner
+    pub sockets : (place : ℕ) (r : Tcp2Socket) → slice_get m.store.sockets place ≡ Some r → SocketIsFine es r.inner
     pub standing : (c : StandingBind) → m.store.standing ≡ Some c → BindIsFine es c.bind

@@ -1,15 +1,18 @@
 -- Each step asks what is allowed, and leaves a state that fits the log.
 use Rattle.std.specs.Prelude.{⊤}
-use Rattle.std.proofs.Common.{◌≡◌, ℕ, suc, ◌+◌, inl, true, List, [], ◌∷◌, ◌++◌, Option, Some, None, Result, Ok, Err, slice_get, length, refl, sym, subst, ◌∙◌, arith, add-zero}
+use Rattle.std.proofs.Common.{◌≡◌, ◌⊎◌, ℕ, suc, ◌+◌, inl, inr, true, List, [], ◌∷◌, ◌++◌, Option, Some, None, Result, Ok, Err, slice_get, length, refl, sym, ap, subst, ◌∙◌, arith, add-zero}
 use Rattle.wasi_addr.specs.declared.address.IpSocketAddress.{IpSocketAddress}
 use Rattle.wasi_addr.specs.declared.address.SocketAddressFamily.{SocketAddressFamily}
 use Rattle.wasi_addr.specs.declared.code.ErrorCode.{ErrorCode}
 use Rattle.wasi_world.specs.declared.ids.OpId.{OpId}
 use Rattle.wasi_world.specs.declared.call.Call.TheVariants as call
+use Rattle.wasi_world.specs.declared.call.HandleKind.{HandleKind}
 use Rattle.wasi_world.specs.declared.call.HandleKind.TheVariants as name
 use Rattle.wasi_world.specs.declared.call.Told.{Told}
 use Rattle.wasi_world.specs.declared.call.Told.TheVariants as told
 use Rattle.wasi_world.specs.declared.call.Entry.{Entry}
+use Rattle.wasi_world.specs.declared.outcome.Answer.{Answer}
+use Rattle.wasi_world.specs.declared.outcome.Answer.TheVariants.{Ready, Pending}
 use Rattle.wasi_world.specs.declared.outcome.WasiSocketsCtx.{WasiSocketsCtx}
 use Rattle.wasi_world.specs.Fits.{IsDoneOrCode}
 use Rattle.wasi_world.specs.Asks.{Asks, Give, bind}
@@ -17,26 +20,31 @@ use Rattle.wasi_world.specs.Typed.{told_done}
 use Rattle.wasi_world.specs.Operation.{Operation}
 use Rattle.wasi_world.proofs.Allowed.{Allows, allows_then, allows_if, allows_keep}
 use Rattle.wasi_tcp.specs.Shape.{Socket}
-use Rattle.wasi_tcp.specs.Socket.{new_socket, after_create, new_asks}
+use Rattle.wasi_tcp.specs.Socket.{side_of, new_socket, after_create, new_asks}
+use Rattle.wasi_tcp.specs.Connecting.{start_connect_asks as tcp_start_connect, finish_connect_asks as tcp_finish_connect}
+use Rattle.wasi_tcp.specs.Addresses.{local_asks, remote_asks}
 use Rattle.wasi_run.specs.declared.machine.Machine.{Machine}
 use Rattle.wasi_run.specs.declared.reply.Reply.{Reply}
-use Rattle.wasi_run.specs.declared.socket.InProgress.{InProgress}
 use Rattle.wasi_run.specs.declared.socket.InProgress.TheVariants as doing
 use Rattle.wasi_run.specs.declared.socket.Tcp2Socket.{Tcp2Socket}
 use Rattle.wasi_run.specs.declared.step.Step.{Step}
 use Rattle.wasi_run.specs.declared.step.Step.TheVariants as step
 use Rattle.wasi_run.specs.declared.store.StandingBind.{StandingBind}
 use Rattle.wasi_run.specs.declared.table.Kind.{Kind}
-use Rattle.wasi_run.specs.declared.table.Kind.TheVariants.{Network, Tcp2}
+use Rattle.wasi_run.specs.declared.table.Kind.TheVariants.{Network, Tcp2, Input, Output}
+use Rattle.wasi_run.specs.Host.{Stop}
 use Rattle.wasi_run.specs.Reply.{is_trap}
 use Rattle.wasi_run.specs.Table.{Shown, name_of, is_full, kind_at, make_asks}
-use Rattle.wasi_run.specs.Store.{Records, new_record, with_record, with_socket, standing_bind, begin_bind_asks, bind_answered, start_bind_by, start_bind_at, finish_bind_by, finish_bind_at}
-use Rattle.wasi_run.specs.Machine.{first_state, place_of, socket_at, is_network, network_asks, create_handle, created_asks, create_asks, start_bind_on, start_bind_asks, finish_bind_on, own_of, handle_reply, answer_reply, context_in, context_at, step_asks, machine_asks, run}
-use Rattle.wasi_run.specs.Licence.{Has, entry, step_at, handles_of, BeganBy, IsMaker, Created, MayUseTcp, IsTcpCreate, IsBindTo, IsMarkOf, MayAsk}
-use Rattle.wasi_run.proofs.Lists.{has_last, get_seam}
-use Rattle.wasi_run.proofs.Fine.{OfSide, HandleIsFine, KnowsMaker, StateIsFine}
-use Rattle.wasi_run.proofs.Frames.{keeps_side, state_asked, state_made, state_put, state_push, state_stands}
-use Rattle.wasi_run.proofs.Binds.{May, MayWork, BegunIsFine, fine_begin}
+use Rattle.wasi_run.specs.Store.{Records, new_record, with_record, with_socket, standing_bind, begin_bind_asks, bind_answered, start_bind_by, start_bind_at, finish_bind_by, finish_bind_at, is_nothing, is_bind, is_connect, connect_begun, begin_connect_asks, start_connect_by, start_connect_at, connect_polled, poll_connect_asks, put_back, with_record_put, finish_connect_by, finish_connect_at, inner_answered, local_address_at, remote_address_at}
+use Rattle.wasi_run.specs.Machine.{first_state, place_of, socket_at, is_network, network_asks, create_handle, created_asks, create_asks, start_bind_on, start_bind_asks, finish_bind_on, with_table, with_store, start_connect_on, start_connect_asks, side_at, with_output, output_asks, streams_asks, connected_asks, finish_connect_on, finish_connect_asks, local_address_on, remote_address_on, own_of, handle_reply, done_reply, answer_reply, pair_reply, address_reply, context_in, context_at, step_asks, machine_asks, run}
+use Rattle.wasi_run.specs.Licence.{Has, entry, step_at, handles_of, BeganBy, IsMaker, Created, MayUseTcp, IsTcpCreate, IsBindTo, IsConnectTo, IsMarkedWith, IsMarkOf, MayAsk}
+use Rattle.wasi_run.proofs.Lists.{has_last, get_seam, set_there}
+use Rattle.wasi_run.proofs.Bounds.{May, MayWork, Learned, fine_bound, keeps_socket}
+use Rattle.wasi_run.proofs.Connects.{StartedFine, FinishedFine, fine_start_connect, fine_finish_connect}
+use Rattle.wasi_run.proofs.Tells.{ToldFine, fine_local, fine_remote}
+use Rattle.wasi_run.proofs.Fine.{OfSide, NamesRecord, HandleIsFine, KnowsMaker, SocketIsFine, StateIsFine}
+use Rattle.wasi_run.proofs.Frames.{KeepsSide, keeps_side, kind_front, state_asked, state_made, state_put, state_push, state_stands}
+use Rattle.wasi_run.proofs.Binds.{BegunIsFine, fine_begin}
 
 module _ (contexts : List WasiSocketsCtx) (steps : List Step) where
   abbrev Fine : List Entry → Machine → Type 0
@@ -124,7 +132,11 @@ module _ (contexts : List WasiSocketsCtx) (steps : List Step) where
       let own = own_of line in
       let now = new_socket own maker family in
       let next : Machine = record m { store = with_record m.store now } in
-      let made_it : KnowsMaker es now = record { maker = λ side e. maker_is own side e (Created own told.Done k.0) } in
+      let made_it : SocketIsFine steps es now = record {
+        knows = record { maker = λ side e. maker_is own side e (Created own told.Done k.0) };
+        bound = λ side e b. absurd (cc);
+        connect = λ op e. absurd (cc);
+      } in
       subst (λ (s : Socket). Meets Leaves es (create_handle m own s)) (sym k.1)
       (and_then (Tables next) Leaves es (make_asks m.table own (Tcp2 (length m.store.sockets)) None (Some own)) _
       (fine_make es next own (Tcp2 (length m.store.sockets)) None (Some own) (record { origin = step.TcpCreate ctx family; at = l; holds = (refl, refl, refl, (maker, family, k.0)) })
@@ -145,23 +157,23 @@ module _ (contexts : List WasiSocketsCtx) (steps : List Step) where
   -- == tcp-start-bind
   fine_answered : (es : List Entry) (m : Machine) (line place : ℕ) (r : Tcp2Socket) (begun : Result (Option Operation) ErrorCode × Tcp2Socket) → slice_get m.store.sockets place ≡ Some r → BegunIsFine contexts steps r es begun → Fine es m
       → Fine es (record m { store = (bind_answered m.store line place begun).1 })
-  fine_answered es m line place r (Ok None, now) g k h = state_put steps es m place r now g k.0 h
+  fine_answered es m line place r (Ok None, now) g k h = state_put steps es m place r now g k.keeps k.fine h
   fine_answered es m line place r (Ok (Some op), now) g k h =
-      state_stands steps es (record m { store = with_socket m.store place now }) (standing_bind line place op) k.1 (state_put steps es m place r now g k.0 h)
-  fine_answered es m line place r (Err c, now) g k h = state_put steps es m place r now g k.0 h
+      state_stands steps es (record m { store = with_socket m.store place now }) (standing_bind line place op) k.stands (state_put steps es m place r now g k.keeps k.fine h)
+  fine_answered es m line place r (Err c, now) g k h = state_put steps es m place r now g k.keeps k.fine h
 
-  fine_start_by : (es : List Entry) (m : Machine) (op : OpId) (place : ℕ) (a : IpSocketAddress) (r : Tcp2Socket) (doing : InProgress) → slice_get m.store.sockets place ≡ Some r → BeganBy steps op (IsBindTo a) → MayWork contexts steps es op r.inner → Fine es m
-      → Meets (Stores m) es (start_bind_by m.store op place a r doing)
-  fine_start_by es m op place a r doing.Nothing g to w h =
+  fine_start_by : (es : List Entry) (m : Machine) (op : OpId) (place : ℕ) (a : IpSocketAddress) (r : Tcp2Socket) (idle : Bool) → slice_get m.store.sockets place ≡ Some r → BeganBy steps op (IsBindTo a) → MayWork contexts steps es op r.inner → Fine es m
+      → Meets (Stores m) es (start_bind_by m.store op place a r idle)
+  fine_start_by es m op place a r true g to w h =
       and_then (λ fs begun. Fine fs m × BegunIsFine contexts steps r fs begun) (Stores m) es (begin_bind_asks op r a) _
-      (allows_state m (BegunIsFine contexts steps r) es (begin_bind_asks op r a) h (fine_begin contexts steps es op r a to w))
+      (allows_state m (BegunIsFine contexts steps r) es (begin_bind_asks op r a) h (fine_begin contexts steps es op r a to w (h.sockets place r g)))
       (λ fs begun k. fine_answered fs m op.step place r begun g k.1 k.0)
-  fine_start_by es m op place a r doing.Bind g to w h = h
+  fine_start_by es m op place a r false g to w h = h
 
   fine_start_at : (es : List Entry) (m : Machine) (op : OpId) (place : ℕ) (a : IpSocketAddress) (o : Option Tcp2Socket) → slice_get m.store.sockets place ≡ o → BeganBy steps op (IsBindTo a)
       → ((r : Tcp2Socket) → slice_get m.store.sockets place ≡ Some r → MayWork contexts steps es op r.inner) → Fine es m → Meets (Stores m) es (start_bind_at m.store op place a o)
   fine_start_at es m op place a None g to w h = h
-  fine_start_at es m op place a (Some r) g to w h = fine_start_by es m op place a r r.in_progress g to (w r g) h
+  fine_start_at es m op place a (Some r) g to w h = fine_start_by es m op place a r (is_nothing r.in_progress) g to (w r g) h
 
   -- the record of a handle that the line names
   names_record : (es : List Entry) (m : Machine) (line handle place : ℕ) (s : Step) → IsLine line s → Has (handles_of s) handle → kind_at m.table handle ≡ Some (Tcp2 place) → Fine es m
@@ -169,7 +181,7 @@ module _ (contexts : List WasiSocketsCtx) (steps : List Step) where
   names_record es m line handle place s l named e h r g =
       let n = h.handles handle (Tcp2 place) e in
       let of = subst (λ (x : Tcp2Socket). OfSide es handle x.inner) (same n.found r (sym n.at ∙ g)) n.of in
-      let knows = h.sockets place r g in
+      let knows = (h.sockets place r g).knows in
       record {
         works = λ side i. record {
           family = r.inner.family;
@@ -183,8 +195,8 @@ module _ (contexts : List WasiSocketsCtx) (steps : List Step) where
 
   place_in : (k : Option Kind) (place : ℕ) → place_of k ≡ Some place → k ≡ Some (Tcp2 place)
   place_in None place e = absurd (cc)
-  place_in (Some Network) place e = absurd (cc)
   place_in (Some (Tcp2 n)) place e = cc
+  place_in (Some _) place e = absurd (cc)
 
   fine_start_on : (es : List Entry) (m : Machine) (line ctx s n : ℕ) (a : IpSocketAddress) (o : Option ℕ) → socket_at m s ≡ o → IsLine line (step.TcpStartBind ctx s n a) → Fine es m
       → Meets Leaves es (start_bind_on m (own_of line) a o)
@@ -200,17 +212,209 @@ module _ (contexts : List WasiSocketsCtx) (steps : List Step) where
   fine_start_bind es m line ctx s n a l h = allows_if (MayAsk contexts steps) Leaves es (is_network (kind_at m.table n)) _ _ (λ yes. fine_start_on es m line ctx s n a (socket_at m s) refl l h) (λ no. h)
 
   -- == tcp-finish-bind
-  fine_finish_by : (es : List Entry) (m : Machine) (place : ℕ) (r : Tcp2Socket) (doing : InProgress) → slice_get m.store.sockets place ≡ Some r → Fine es m → Stores m es (finish_bind_by m.store place r doing)
-  fine_finish_by es m place r doing.Nothing g h = h
-  fine_finish_by es m place r doing.Bind g h = state_put steps es m place r (record r { in_progress = doing.Nothing }) g (keeps_side r.inner) h
+  fine_finish_by : (es : List Entry) (m : Machine) (place : ℕ) (r : Tcp2Socket) (idle : Bool) → slice_get m.store.sockets place ≡ Some r → Fine es m → Stores m es (finish_bind_by m.store place r idle)
+  fine_finish_by es m place r true g h = state_put steps es m place r (record r { in_progress = doing.Nothing }) g (keeps_side r.inner) (h.sockets place r g) h
+  fine_finish_by es m place r false g h = h
 
   fine_finish_at : (es : List Entry) (m : Machine) (place : ℕ) (o : Option Tcp2Socket) → slice_get m.store.sockets place ≡ o → Fine es m → Stores m es (finish_bind_at m.store place o)
   fine_finish_at es m place None g h = h
-  fine_finish_at es m place (Some r) g h = fine_finish_by es m place r r.in_progress g h
+  fine_finish_at es m place (Some r) g h = fine_finish_by es m place r (is_bind r.in_progress) g h
 
   fine_finish_on : (es : List Entry) (m : Machine) (o : Option ℕ) → Fine es m → Leaves es (finish_bind_on m o)
   fine_finish_on es m None h = h
   fine_finish_on es m (Some place) h = fine_finish_at es m place (slice_get m.store.sockets place) refl h
+
+  -- == tcp-start-connect
+  fine_put : {T : Type 0} (es : List Entry) (m : Machine) (place : ℕ) (r : Tcp2Socket) (done : Result T ErrorCode × Tcp2Socket) → slice_get m.store.sockets place ≡ Some r → KeepsSide r.inner done.1.inner → SocketIsFine steps es done.1.inner → Fine es m → Stores m es (put_back m.store place done)
+  fine_put es m place r (Ok value, now) g k f h = state_put steps es m place r now g k f h
+  fine_put es m place r (Err c, now) g k f h = state_put steps es m place r now g k f h
+
+  abbrev BegunRecord : Tcp2Socket → List Entry → Result (Unit {0}) ErrorCode × Tcp2Socket → Type 0
+  BegunRecord r es done = KeepsSide r.inner done.1.inner × SocketIsFine steps es done.1.inner
+
+  begun_record : (es : List Entry) (r : Tcp2Socket) (done : Result (Unit {0}) ErrorCode × Socket) → StartedFine contexts steps r.inner es done → BegunRecord r es (connect_begun r done)
+  begun_record es r (Ok done, socket) k = (k.keeps, k.fine)
+  begun_record es r (Err c, socket) k = (k.keeps, k.fine)
+
+  fine_begin_connect : (es : List Entry) (op : OpId) (r : Tcp2Socket) (a : IpSocketAddress) → BeganBy steps op (IsConnectTo a) → MayWork contexts steps es op r.inner → SocketIsFine steps es r.inner → Allows (May contexts steps) (BegunRecord r) es (begin_connect_asks op r a)
+  fine_begin_connect es op r a to w f =
+      allows_then (May contexts steps) (StartedFine contexts steps r.inner) (BegunRecord r) es (tcp_start_connect op r.inner a) _ (fine_start_connect contexts steps es op r.inner a to w f) (λ fs done k. begun_record fs r done k)
+
+  fine_connect_by : (es : List Entry) (m : Machine) (op : OpId) (place : ℕ) (a : IpSocketAddress) (r : Tcp2Socket) (idle : Bool) → slice_get m.store.sockets place ≡ Some r → BeganBy steps op (IsConnectTo a) → MayWork contexts steps es op r.inner → Fine es m
+      → Meets (Stores m) es (start_connect_by m.store op place a r idle)
+  fine_connect_by es m op place a r true g to w h =
+      and_then (λ fs done. Fine fs m × BegunRecord r fs done) (Stores m) es (begin_connect_asks op r a) _
+      (allows_state m (BegunRecord r) es (begin_connect_asks op r a) h (fine_begin_connect es op r a to w (h.sockets place r g)))
+      (λ fs done k. fine_put fs m place r done g k.1.0 k.1.1 k.0)
+  fine_connect_by es m op place a r false g to w h = h
+
+  fine_connect_at : (es : List Entry) (m : Machine) (op : OpId) (place : ℕ) (a : IpSocketAddress) (o : Option Tcp2Socket) → slice_get m.store.sockets place ≡ o → BeganBy steps op (IsConnectTo a)
+      → ((r : Tcp2Socket) → slice_get m.store.sockets place ≡ Some r → MayWork contexts steps es op r.inner) → Fine es m → Meets (Stores m) es (start_connect_at m.store op place a o)
+  fine_connect_at es m op place a None g to w h = h
+  fine_connect_at es m op place a (Some r) g to w h = fine_connect_by es m op place a r (is_nothing r.in_progress) g to (w r g) h
+
+  fine_connect_on : (es : List Entry) (m : Machine) (line ctx s n : ℕ) (a : IpSocketAddress) (o : Option ℕ) → socket_at m s ≡ o → IsLine line (step.TcpStartConnect ctx s n a) → Fine es m
+      → Meets Leaves es (start_connect_on m (own_of line) a o)
+  fine_connect_on es m line ctx s n a None e l h = h
+  fine_connect_on es m line ctx s n a (Some place) e l h =
+      and_then (Stores m) Leaves es (start_connect_at m.store (own_of line) place a (slice_get m.store.sockets place)) _
+      (fine_connect_at es m (own_of line) place a (slice_get m.store.sockets place) refl (record { origin = step.TcpStartConnect ctx s n a; at = l; holds = refl })
+      (names_record es m line s place (step.TcpStartConnect ctx s n a) l (inl refl) (place_in (kind_at m.table s) place e) h) h)
+      (λ fs done k. k)
+
+  -- == tcp-finish-connect
+  -- where it is done the record has its side
+  abbrev HasItsSide : {A : Type 0} → ℕ → Result A Stop × Records → Type 0
+  HasItsSide place (Ok done, store) = (side : OpId) × (side_at (slice_get store.sockets place) ≡ Some side)
+  HasItsSide place (Err stop, store) = ⊤
+
+  abbrev Polled : Machine → ℕ → List Entry → Result (Unit {0}) Stop × Records → Type 0
+  Polled m place es done = Stores m es done × HasItsSide place done
+
+  -- what is left of a record whose connect was polled
+  abbrev PolledRecord : Tcp2Socket → List Entry → Result (Unit {0}) Stop × Tcp2Socket → Type 0
+  PolledRecord r es (Ok done, now) = KeepsSide r.inner now.inner × SocketIsFine steps es now.inner × ((side : OpId) × (side_of now.inner ≡ Some side))
+  PolledRecord r es (Err stop, now) = KeepsSide r.inner now.inner × SocketIsFine steps es now.inner × ⊤
+
+  polled_record : (es : List Entry) (r : Tcp2Socket) (done : Result (Answer (Unit {0})) ErrorCode × Socket) → FinishedFine contexts steps r.inner es done → PolledRecord r es (connect_polled r done)
+  polled_record es r (Ok Pending, socket) k = (k.keeps, k.fine, tt)
+  polled_record es r (Ok (Ready done), socket) k = (k.keeps, k.fine, k.side)
+  polled_record es r (Err c, socket) k = (k.keeps, k.fine, tt)
+
+  fine_poll_record : (es : List Entry) (r : Tcp2Socket) → SocketIsFine steps es r.inner → Allows (May contexts steps) (PolledRecord r) es (poll_connect_asks r)
+  fine_poll_record es r f =
+      allows_then (May contexts steps) (FinishedFine contexts steps r.inner) (PolledRecord r) es (tcp_finish_connect r.inner) _ (fine_finish_connect contexts steps es r.inner f) (λ fs done k. polled_record fs r done k)
+
+  fine_polled : (es : List Entry) (m : Machine) (place : ℕ) (r : Tcp2Socket) (done : Result (Unit {0}) Stop × Tcp2Socket) → slice_get m.store.sockets place ≡ Some r → PolledRecord r es done → Fine es m
+      → Polled m place es (with_record_put m.store place done)
+  fine_polled es m place r (Ok done, now) g k h = (state_put steps es m place r now g k.0 k.1 h, (k.2.0, ap side_at (set_there m.store.sockets place r now g) ∙ k.2.1))
+  fine_polled es m place r (Err stop, now) g k h = (state_put steps es m place r now g k.0 k.1 h, tt)
+
+  fine_poll_by : (es : List Entry) (m : Machine) (place : ℕ) (r : Tcp2Socket) (idle : Bool) → slice_get m.store.sockets place ≡ Some r → Fine es m → Meets (Polled m place) es (finish_connect_by m.store place r idle)
+  fine_poll_by es m place r true g h =
+      and_then (λ fs done. Fine fs m × PolledRecord r fs done) (Polled m place) es (poll_connect_asks r) _
+      (allows_state m (PolledRecord r) es (poll_connect_asks r) h (fine_poll_record es r (h.sockets place r g)))
+      (λ fs done k. fine_polled fs m place r done g k.1 k.0)
+  fine_poll_by es m place r false g h = (h, tt)
+
+  fine_poll_at : (es : List Entry) (m : Machine) (place : ℕ) (o : Option Tcp2Socket) → slice_get m.store.sockets place ≡ o → Fine es m → Meets (Polled m place) es (finish_connect_at m.store place o)
+  fine_poll_at es m place None g h = (h, tt)
+  fine_poll_at es m place (Some r) g h = fine_poll_by es m place r (is_connect r.in_progress) g h
+
+  -- a stream of the record's side, under its socket's handle
+  module _ (line ctx s place : ℕ) (l : IsLine line (step.TcpFinishConnect ctx s)) where
+    -- the socket's handle, whose record has this side
+    abbrev Under : OpId → List Entry → Machine → Type 0
+    Under side es m = Fine es m × (kind_at m.table s ≡ Some (Tcp2 place)) × (side_at (slice_get m.store.sockets place) ≡ Some side)
+
+    stream_record : (es : List Entry) (m : Machine) (side : OpId) → Under side es m → NamesRecord es m.store.sockets s place
+    stream_record es m side u = (u.0).handles s (Tcp2 place) u.1
+
+    side_found : (es : List Entry) (m : Machine) (side : OpId) (u : Under side es m) → side_of (stream_record es m side u).found.inner ≡ Some side
+    side_found es m side u = sym (ap side_at (stream_record es m side u).at) ∙ u.2
+
+    marked : (es : List Entry) (m : Machine) (side : OpId) (u : Under side es m) → IsMarkedWith es s (Some side)
+    marked es m side u = let i = (stream_record es m side u).of.side side (side_found es m side u) in record { op = i.op; kind = i.kind; parent = i.parent; told = i.told; mark = i.mark }
+
+    stream_of : (es : List Entry) (m : Machine) (side : OpId) (kind : HandleKind) (u : Under side es m) (t : Told) → NamesRecord (es ++ entry (own_of line) (call.Made m.table.next kind (Some s) (Some side)) t ∷ []) m.store.sockets m.table.next place
+    stream_of es m side kind u t =
+        let n = stream_record es m side u in
+        record {
+          found = n.found;
+          at = n.at;
+          of = record {
+            side = λ other e. record {
+              op = own_of line;
+              kind = kind;
+              parent = Some s;
+              told = t;
+              mark = subst (λ (o : Option OpId). Has (es ++ entry (own_of line) (call.Made m.table.next kind (Some s) (Some side)) t ∷ []) (entry (own_of line) (call.Made m.table.next kind (Some s) o) t)) (sym (side_found es m side u) ∙ e) (has_last es _);
+            };
+          };
+        }
+
+    -- the handle that was made is another than the socket's
+    abbrev StillUnder : {A : Type 0} → OpId → List Entry → Result A Stop × Machine → Type 0
+    StillUnder side es (Ok made, m) = Under side es m
+    StillUnder side es (Err stop, m) = Fine es m
+
+    fine_stream : (es : List Entry) (m : Machine) (side : OpId) (kind : Kind) → ((name_of kind ≡ name.Input) ⊎ (name_of kind ≡ name.Output))
+        → ((fs : List Entry) (handle : ℕ) → NamesRecord fs m.store.sockets handle place → HandleIsFine fs m.store.sockets handle kind) → Under side es m
+        → Meets (λ fs made. StillUnder side fs (with_table m made)) es (make_asks m.table (own_of line) kind (Some s) (Some side))
+    unfolding bind
+    fine_stream es m side kind is f u =
+        allows_if (MayAsk contexts steps) _ es (is_full m.table) _ _ (λ full. u.0) (λ room. (
+          (u.0.count, record { origin = step.TcpFinishConnect ctx s; at = l; holds = (is, refl, marked es m side u) }),
+          λ t fits. (
+            state_made steps es m (own_of line) (name_of kind) (Some s) (Some side) t kind (f _ _ (stream_of es m side (name_of kind) u t)) u.0,
+            kind_front m.table.live _ s (Tcp2 place) u.1,
+            u.2,
+          ),
+        ))
+
+    left_output : (es : List Entry) (side : OpId) (input : ℕ) (done : Result ℕ Stop × Machine) → StillUnder side es done → Leaves es (with_output input done)
+    left_output es side input (Ok output, m) u = u.0
+    left_output es side input (Err stop, m) u = u
+
+    fine_output : (es : List Entry) (side : OpId) (done : Result ℕ Stop × Machine) → StillUnder side es done → Meets Leaves es (output_asks (own_of line) s place (Some side) done)
+    fine_output es side (Ok input, m) u =
+        and_then (λ fs made. StillUnder side fs (with_table m made)) Leaves es (make_asks m.table (own_of line) (Output place) (Some s) (Some side)) _
+        (fine_stream es m side (Output place) (inr refl) (λ fs handle n. n) u) (λ fs made k. left_output fs side input (with_table m made) k)
+    fine_output es side (Err stop, m) u = u
+
+    fine_streams : (es : List Entry) (m : Machine) (side : OpId) → Under side es m → Meets Leaves es (streams_asks m (own_of line) s place (Some side))
+    fine_streams es m side u =
+        and_then (λ fs made. StillUnder side fs (with_table m made)) Leaves es (make_asks m.table (own_of line) (Input place) (Some s) (Some side)) _
+        (fine_stream es m side (Input place) (inl refl) (λ fs handle n. n) u) (λ fs made k. fine_output fs side (with_table m made) k)
+
+    fine_connected : (es : List Entry) (m : Machine) (done : Result (Unit {0}) Stop × Records) → kind_at m.table s ≡ Some (Tcp2 place) → Polled m place es done → Meets Leaves es (connected_asks (own_of line) s place (with_store m done))
+    fine_connected es m (Ok done, store) e p =
+        let next : Machine = record m { store = store } in
+        subst (λ (o : Option OpId). Meets Leaves es (streams_asks next (own_of line) s place o)) (sym p.1.1) (fine_streams es next p.1.0 (p.0, e, p.1.1))
+    fine_connected es m (Err stop, store) e p = p.0
+
+  fine_finish_connect_on : (es : List Entry) (m : Machine) (line ctx s : ℕ) (o : Option ℕ) → socket_at m s ≡ o → IsLine line (step.TcpFinishConnect ctx s) → Fine es m → Meets Leaves es (finish_connect_on m (own_of line) s o)
+  fine_finish_connect_on es m line ctx s None e l h = h
+  fine_finish_connect_on es m line ctx s (Some place) e l h =
+      and_then (Polled m place) Leaves es (finish_connect_at m.store place (slice_get m.store.sockets place)) _
+      (fine_poll_at es m place (slice_get m.store.sockets place) refl h)
+      (λ fs done k. fine_connected line ctx s place l fs m done (place_in (kind_at m.table s) place e) k)
+
+  -- == what a socket says of its addresses
+  abbrev ToldRecord : Tcp2Socket → List Entry → Result IpSocketAddress ErrorCode × Tcp2Socket → Type 0
+  ToldRecord r es done = KeepsSide r.inner done.1.inner × SocketIsFine steps es done.1.inner
+
+  fine_address : (es : List Entry) (m : Machine) (place : ℕ) (r : Tcp2Socket) (asks : Asks (Result IpSocketAddress ErrorCode × Socket)) → slice_get m.store.sockets place ≡ Some r → Allows (May contexts steps) (ToldFine contexts steps r.inner) es asks → Fine es m
+      → Meets (Stores m) es (bind (bind asks (λ done. Give (inner_answered r done))) (λ done. Give (put_back m.store place done)))
+  fine_address es m place r asks g a h =
+      and_then (λ fs done. Fine fs m × ToldRecord r fs done) (Stores m) es (bind asks (λ done. Give (inner_answered r done))) _
+      (allows_state m (ToldRecord r) es (bind asks (λ done. Give (inner_answered r done))) h
+      (allows_then (May contexts steps) (ToldFine contexts steps r.inner) (ToldRecord r) es asks _ a (λ fs done k. (k.keeps, k.fine))))
+      (λ fs done k. fine_put fs m place r done g k.1.0 k.1.1 k.0)
+
+  fine_local_at : (es : List Entry) (m : Machine) (op : OpId) (place : ℕ) (o : Option Tcp2Socket) → slice_get m.store.sockets place ≡ o → ((r : Tcp2Socket) → slice_get m.store.sockets place ≡ Some r → MayWork contexts steps es op r.inner) → Fine es m
+      → Meets (Stores m) es (local_address_at m.store op place o)
+  fine_local_at es m op place None g w h = h
+  fine_local_at es m op place (Some r) g w h = fine_address es m place r (local_asks op r.inner) g (fine_local contexts steps es op r.inner (w r g) (h.sockets place r g)) h
+
+  fine_remote_at : (es : List Entry) (m : Machine) (op : OpId) (place : ℕ) (o : Option Tcp2Socket) → slice_get m.store.sockets place ≡ o → ((r : Tcp2Socket) → slice_get m.store.sockets place ≡ Some r → MayWork contexts steps es op r.inner) → Fine es m
+      → Meets (Stores m) es (remote_address_at m.store op place o)
+  fine_remote_at es m op place None g w h = h
+  fine_remote_at es m op place (Some r) g w h = fine_address es m place r (remote_asks op r.inner) g (fine_remote contexts steps es op r.inner (w r g) (h.sockets place r g)) h
+
+  fine_local_on : (es : List Entry) (m : Machine) (line ctx s : ℕ) (o : Option ℕ) → socket_at m s ≡ o → IsLine line (step.TcpLocalAddress ctx s) → Fine es m → Meets Leaves es (local_address_on m (own_of line) o)
+  fine_local_on es m line ctx s None e l h = h
+  fine_local_on es m line ctx s (Some place) e l h =
+      and_then (Stores m) Leaves es (local_address_at m.store (own_of line) place (slice_get m.store.sockets place)) _
+      (fine_local_at es m (own_of line) place (slice_get m.store.sockets place) refl (names_record es m line s place (step.TcpLocalAddress ctx s) l (inl refl) (place_in (kind_at m.table s) place e) h) h)
+      (λ fs done k. k)
+
+  fine_remote_on : (es : List Entry) (m : Machine) (line ctx s : ℕ) (o : Option ℕ) → socket_at m s ≡ o → IsLine line (step.TcpRemoteAddress ctx s) → Fine es m → Meets Leaves es (remote_address_on m (own_of line) o)
+  fine_remote_on es m line ctx s None e l h = h
+  fine_remote_on es m line ctx s (Some place) e l h =
+      and_then (Stores m) Leaves es (remote_address_at m.store (own_of line) place (slice_get m.store.sockets place)) _
+      (fine_remote_at es m (own_of line) place (slice_get m.store.sockets place) refl (names_record es m line s place (step.TcpRemoteAddress ctx s) l (inl refl) (place_in (kind_at m.table s) place e) h) h)
+      (λ fs done k. k)
 
   -- == a line
   replied : {A : Type 0} (es : List Entry) (asks : Asks (A × Machine)) (reply : A → Reply) → Meets Leaves es asks → Meets Leaves es (bind asks (λ done. Give (reply done.0, done.1)))
@@ -221,6 +425,18 @@ module _ (contexts : List WasiSocketsCtx) (steps : List Step) where
   fine_step es m line (step.TcpCreate ctx family) l h = replied es (create_asks m (own_of line) (context_at contexts ctx) family) handle_reply (fine_create es m line ctx family l h)
   fine_step es m line (step.TcpStartBind ctx s n a) l h = replied es (start_bind_asks m (own_of line) s n a) (answer_reply line) (fine_start_bind es m line ctx s n a l h)
   fine_step es m line (step.TcpFinishBind ctx s) l h = fine_finish_on es m (socket_at m s) h
+  fine_step es m line (step.TcpStartConnect ctx s n a) l h =
+      replied es (start_connect_asks m (own_of line) s n a) done_reply
+      (allows_if (MayAsk contexts steps) Leaves es (is_network (kind_at m.table n)) _ _ (λ yes. fine_connect_on es m line ctx s n a (socket_at m s) refl l h) (λ no. h))
+  fine_step es m line (step.TcpFinishConnect ctx s) l h = replied es (finish_connect_asks m (own_of line) s) pair_reply (fine_finish_connect_on es m line ctx s (socket_at m s) refl l h)
+  fine_step es m line (step.TcpLocalAddress ctx s) l h = replied es (local_address_on m (own_of line) (socket_at m s)) address_reply (fine_local_on es m line ctx s (socket_at m s) refl l h)
+  fine_step es m line (step.TcpRemoteAddress ctx s) l h = replied es (remote_address_on m (own_of line) (socket_at m s)) address_reply (fine_remote_on es m line ctx s (socket_at m s) refl l h)
+  fine_step es m line (step.TcpIsListening ctx s) l h = h
+  fine_step es m line (step.TcpAddressFamily ctx s) l h = h
+  fine_step es m line (step.Read ctx input len) l h = h
+  fine_step es m line (step.CheckWrite ctx output) l h = h
+  fine_step es m line (step.Write ctx output bytes) l h = h
+  fine_step es m line (step.Flush ctx output) l h = h
 
   -- while a call stands nothing is asked
   fine_machine : (es : List Entry) (m : Machine) (line : ℕ) (s : Step) (standing : Option StandingBind) → IsLine line s → Fine es m → Meets Leaves es (machine_asks contexts m line s standing)

@@ -4,6 +4,7 @@ use Rattle.std.proofs.Common.{◌≡◌, ℕ, ◌⊎◌, inl, inr, Bool, true, f
 use Rattle.std.proofs.lemmas.Bool.{eqb-true}
 use Rattle.wasi_addr.specs.declared.address.IpSocketAddress.{IpSocketAddress}
 use Rattle.wasi_addr.specs.declared.address.SocketAddressFamily.{SocketAddressFamily}
+use Rattle.wasi_addr.specs.declared.address.SocketAddrUse.{SocketAddrUse}
 use Rattle.wasi_world.specs.declared.ids.OpId.{OpId}
 use Rattle.wasi_world.specs.declared.call.Call.{Call}
 use Rattle.wasi_world.specs.declared.call.Call.TheVariants.{Made}
@@ -18,13 +19,13 @@ use Rattle.wasi_run.specs.declared.socket.Tcp2Socket.{Tcp2Socket}
 use Rattle.wasi_run.specs.declared.step.Step.{Step}
 use Rattle.wasi_run.specs.declared.store.StandingBind.{StandingBind}
 use Rattle.wasi_run.specs.declared.table.Kind.{Kind}
-use Rattle.wasi_run.specs.declared.table.Kind.TheVariants.{Network, Tcp2}
+use Rattle.wasi_run.specs.declared.table.Kind.TheVariants.{Network, Tcp2, Input, Output}
 use Rattle.wasi_run.specs.declared.table.Slot.{Slot}
 use Rattle.wasi_run.specs.Table.{kind_in, with_handle}
 use Rattle.wasi_run.specs.Store.{with_socket, with_record}
-use Rattle.wasi_run.specs.Licence.{entry, marked_by, NamesSide, IsSide, IsMaker, Created, Handed}
+use Rattle.wasi_run.specs.Licence.{entry, marked_by, NamesSide, IsSide, IsMaker, Created, Handed, HasWildcardYes, IsBoundSide, MayGoOut}
 use Rattle.wasi_run.proofs.Lists.{has_front, marks_in-push, get_front, get_split, get_set, set_get}
-use Rattle.wasi_run.proofs.Fine.{OfSide, NamesRecord, HandleIsFine, KnowsMaker, BindLeft, Whole, Checked, Over, WorksOn, BindIsFine, StateIsFine}
+use Rattle.wasi_run.proofs.Fine.{OfSide, NamesRecord, HandleIsFine, KnowsMaker, BindLeft, Whole, Checked, Over, ConnectLeft, Unbound, Unchecked, Allowed, ToClose, Ended, WorksOn, BindIsFine, ConnectIsFine, SocketIsFine, StateIsFine}
 
 -- == what more entries keep
 pub side_more : (es fs : List Entry) (handle : ℕ) (side : OpId) → IsSide es handle side → IsSide (es ++ fs) handle side
@@ -40,9 +41,14 @@ maker_more es fs ctx family side (Handed s l p t h m) = Handed s l p t (has_fron
 pub of_side_more : (es fs : List Entry) (handle : ℕ) (socket : Socket) → OfSide es handle socket → OfSide (es ++ fs) handle socket
 of_side_more es fs handle socket h = record { side = λ s e. side_more es fs handle s (h.side s e) }
 
+names_record_more : (es fs : List Entry) (sockets : List Tcp2Socket) (handle place : ℕ) → NamesRecord es sockets handle place → NamesRecord (es ++ fs) sockets handle place
+names_record_more es fs sockets handle place h = record { found = h.found; at = h.at; of = of_side_more es fs handle h.found.inner h.of }
+
 pub handle_more : (es fs : List Entry) (sockets : List Tcp2Socket) (handle : ℕ) (kind : Kind) → HandleIsFine es sockets handle kind → HandleIsFine (es ++ fs) sockets handle kind
 handle_more es fs sockets handle Network h = tt
-handle_more es fs sockets handle (Tcp2 place) h = record { found = h.found; at = h.at; of = of_side_more es fs handle h.found.inner h.of }
+handle_more es fs sockets handle (Tcp2 place) h = names_record_more es fs sockets handle place h
+handle_more es fs sockets handle (Input place) h = names_record_more es fs sockets handle place h
+handle_more es fs sockets handle (Output place) h = names_record_more es fs sockets handle place h
 
 pub knows_more : (es fs : List Entry) (socket : Socket) → KnowsMaker es socket → KnowsMaker (es ++ fs) socket
 knows_more es fs socket h = record { maker = λ s e. maker_more es fs socket.maker socket.family s (h.maker s e) }
@@ -51,6 +57,23 @@ pub left_more : (es fs : List Entry) (op : OpId) (maker : ℕ) (addr : IpSocketA
 left_more es fs op maker addr items Whole = Whole
 left_more es fs op maker addr items (Checked h) = Checked (has_front es fs _ h)
 left_more es fs op maker addr items Over = Over
+
+wildcard_more : (es fs : List Entry) (op side : OpId) (usage : SocketAddrUse) → HasWildcardYes es op side usage → HasWildcardYes (es ++ fs) op side usage
+wildcard_more es fs op side usage h = record { ctx = h.ctx; family = h.family; maker = maker_more es fs h.ctx h.family side h.maker; checked = has_front es fs _ h.checked }
+
+pub bound_more : (es fs : List Entry) (side : OpId) → IsBoundSide es side → IsBoundSide (es ++ fs) side
+bound_more es fs side h = record { ctx = h.ctx; family = h.family; maker = maker_more es fs h.ctx h.family side h.maker; op = h.op; addr = h.addr; told = has_front es fs _ h.told; other = h.other }
+
+pub out_more : (es fs : List Entry) (op side : OpId) → MayGoOut es op side → MayGoOut (es ++ fs) op side
+out_more es fs op side (inl h) = inl (bound_more es fs side h)
+out_more es fs op side (inr h) = inr (wildcard_more es fs op side _ h)
+
+pub connect_left_more : (es fs : List Entry) (op side : OpId) (maker : ℕ) (addr : IpSocketAddress) (items : List Item) → ConnectLeft es op side maker addr items → ConnectLeft (es ++ fs) op side maker addr items
+connect_left_more es fs op side maker addr items (Unbound family h) = Unbound family (maker_more es fs maker family side h)
+connect_left_more es fs op side maker addr items (Unchecked h) = Unchecked (out_more es fs op side h)
+connect_left_more es fs op side maker addr items (Allowed h y) = Allowed (out_more es fs op side h) (has_front es fs _ y)
+connect_left_more es fs op side maker addr items (ToClose c) = ToClose c
+connect_left_more es fs op side maker addr items Ended = Ended
 
 -- == a mark is a call of its own
 -- any call but a mark
@@ -91,10 +114,17 @@ names_put es sockets i old now handle place g k h = elim (set_get sockets i now 
 handle_put : (es : List Entry) (sockets : List Tcp2Socket) (i : ℕ) (old now : Tcp2Socket) (handle : ℕ) (kind : Kind) → slice_get sockets i ≡ Some old → KeepsSide old.inner now.inner → HandleIsFine es sockets handle kind → HandleIsFine es (slice_set sockets i now) handle kind
 handle_put es sockets i old now handle Network g k h = tt
 handle_put es sockets i old now handle (Tcp2 place) g k h = names_put es sockets i old now handle place g k h
+handle_put es sockets i old now handle (Input place) g k h = names_put es sockets i old now handle place g k h
+handle_put es sockets i old now handle (Output place) g k h = names_put es sockets i old now handle place g k h
+
+names_push : (es : List Entry) (sockets : List Tcp2Socket) (r : Tcp2Socket) (handle place : ℕ) → NamesRecord es sockets handle place → NamesRecord es (sockets ++ r ∷ []) handle place
+names_push es sockets r handle place h = record { found = h.found; at = get_front sockets (r ∷ []) place h.found h.at; of = h.of }
 
 handle_push : (es : List Entry) (sockets : List Tcp2Socket) (r : Tcp2Socket) (handle : ℕ) (kind : Kind) → HandleIsFine es sockets handle kind → HandleIsFine es (sockets ++ r ∷ []) handle kind
 handle_push es sockets r handle Network h = tt
-handle_push es sockets r handle (Tcp2 place) h = record { found = h.found; at = get_front sockets (r ∷ []) place h.found h.at; of = h.of }
+handle_push es sockets r handle (Tcp2 place) h = names_push es sockets r handle place h
+handle_push es sockets r handle (Input place) h = names_push es sockets r handle place h
+handle_push es sockets r handle (Output place) h = names_push es sockets r handle place h
 
 -- == the live handles
 -- what a handle stands for among those of which the last was just made
@@ -110,6 +140,15 @@ kind_split (x ∷ live) s handle kind h = past_if (x.handle == handle) (kind_in 
     past_if true o p f e = inl e
     past_if false o p f e = f e
 
+-- a handle that was live before the last was made stands for what it did
+pub kind_front : (live : List Slot) (s : Slot) (handle : ℕ) (kind : Kind) → kind_in live handle ≡ Some kind → kind_in (live ++ s ∷ []) handle ≡ Some kind
+kind_front [] s handle kind e = absurd (cc)
+kind_front (x ∷ live) s handle kind e = by_test (x.handle == handle) (kind_in live handle) (kind_in (live ++ s ∷ []) handle) (kind_front live s handle kind) e
+  where
+    by_test : (b : Bool) (o p : Option Kind) → (o ≡ Some kind → p ≡ Some kind) → (if b then Some x.kind else o) ≡ Some kind → (if b then Some x.kind else p) ≡ Some kind
+    by_test true o p f e = e
+    by_test false o p f e = f e
+
 module _ (steps : List Step) where
   pub works_more : (es fs : List Entry) (op side : OpId) (maker : ℕ) → WorksOn steps es op side maker → WorksOn steps (es ++ fs) op side maker
   works_more es fs op side maker h = record {
@@ -121,12 +160,28 @@ module _ (steps : List Step) where
   pub bind_more : (es fs : List Entry) (op : Operation) → BindIsFine steps es op → BindIsFine steps (es ++ fs) op
   bind_more es fs op h = record { addr = h.addr; to = h.to; works = works_more es fs op.who.id op.who.side op.who.context h.works; last = h.last; left = left_more es fs op.who.id op.who.context h.addr op.left h.left }
 
+  pub connect_more : (es fs : List Entry) (op : Operation) → ConnectIsFine steps es op → ConnectIsFine steps (es ++ fs) op
+  connect_more es fs op h = record {
+    addr = h.addr;
+    to = h.to;
+    works = works_more es fs op.who.id op.who.side op.who.context h.works;
+    last = h.last;
+    left = connect_left_more es fs op.who.id op.who.side op.who.context h.addr op.left h.left;
+  }
+
+  pub socket_more : (es fs : List Entry) (socket : Socket) → SocketIsFine steps es socket → SocketIsFine steps (es ++ fs) socket
+  socket_more es fs socket h = record {
+    knows = knows_more es fs socket h.knows;
+    bound = λ side s b. bound_more es fs side (h.bound side s b);
+    connect = λ op s. connect_more es fs op (h.connect op s);
+  }
+
   -- any ask but a mark keeps the state
   pub state_asked : (es : List Entry) (m : Machine) (op : OpId) (c : Call) (told : Told) → NoMark c → StateIsFine steps es m → StateIsFine steps (es ++ entry op c told ∷ []) m
   state_asked es m op c told q h = record {
     count = let p = marks_in-push es (entry op c told) in let z = no_mark c q in let k = h.count in omega arith;
     handles = λ handle kind e. handle_more es _ m.store.sockets handle kind (h.handles handle kind e);
-    sockets = λ place r e. knows_more es _ r.inner (h.sockets place r e);
+    sockets = λ place r e. socket_more es _ r.inner (h.sockets place r e);
     standing = λ b e. bind_more es _ b.bind (h.standing b e);
   }
 
@@ -140,28 +195,28 @@ module _ (steps : List Step) where
       | inl g ↦ handle_more es _ m.store.sockets handle x (h.handles handle x g)
       | inr g ↦ (let fs = es ++ entry op (Made m.table.next name parent sock) told ∷ [] in subst (HandleIsFine fs m.store.sockets handle) g.1 (subst (λ (n : ℕ). HandleIsFine fs m.store.sockets n kind) g.0 f))
     ];
-    sockets = λ place r e. knows_more es _ r.inner (h.sockets place r e);
+    sockets = λ place r e. socket_more es _ r.inner (h.sockets place r e);
     standing = λ b e. bind_more es _ b.bind (h.standing b e);
   }
 
   -- one record changes
-  pub state_put : (es : List Entry) (m : Machine) (place : ℕ) (old now : Tcp2Socket) → slice_get m.store.sockets place ≡ Some old → KeepsSide old.inner now.inner → StateIsFine steps es m → StateIsFine steps es (record m { store = with_socket m.store place now })
-  state_put es m place old now g k h = record {
+  pub state_put : (es : List Entry) (m : Machine) (place : ℕ) (old now : Tcp2Socket) → slice_get m.store.sockets place ≡ Some old → KeepsSide old.inner now.inner → SocketIsFine steps es now.inner → StateIsFine steps es m → StateIsFine steps es (record m { store = with_socket m.store place now })
+  state_put es m place old now g k f h = record {
     count = h.count;
     handles = λ handle x e. handle_put es m.store.sockets place old now handle x g k (h.handles handle x e);
     sockets = λ i r e. elim (get_set m.store.sockets place now i r e) [
-      | inl q ↦ subst (λ (x : Tcp2Socket). KnowsMaker es x.inner) q.1 (knows_kept es old.inner now.inner k (h.sockets place old g))
+      | inl q ↦ subst (λ (x : Tcp2Socket). SocketIsFine steps es x.inner) q.1 f
       | inr q ↦ h.sockets i r q
     ];
     standing = h.standing;
   }
 
   -- a record more
-  pub state_push : (es : List Entry) (m : Machine) (socket : Socket) → KnowsMaker es socket → StateIsFine steps es m → StateIsFine steps es (record m { store = with_record m.store socket })
+  pub state_push : (es : List Entry) (m : Machine) (socket : Socket) → SocketIsFine steps es socket → StateIsFine steps es m → StateIsFine steps es (record m { store = with_record m.store socket })
   state_push es m socket f h = record {
     count = h.count;
     handles = λ handle x e. handle_push es m.store.sockets _ handle x (h.handles handle x e);
-    sockets = λ i r e. elim (get_split m.store.sockets _ i r e) [ inl q ↦ h.sockets i r q | inr q ↦ subst (λ (x : Tcp2Socket). KnowsMaker es x.inner) q f ];
+    sockets = λ i r e. elim (get_split m.store.sockets _ i r e) [ inl q ↦ h.sockets i r q | inr q ↦ subst (λ (x : Tcp2Socket). SocketIsFine steps es x.inner) q f ];
     standing = h.standing;
   }
 

@@ -15,11 +15,12 @@ use Rattle.wasi_run.specs.declared.machine.Machine.{Machine}
 use Rattle.wasi_run.specs.declared.socket.Tcp2Socket.{Tcp2Socket}
 use Rattle.wasi_run.specs.declared.table.Kind.TheVariants.{Tcp2}
 use Rattle.wasi_run.specs.declared.host.SocketError.{SocketError}
-use Rattle.wasi_run.specs.declared.host.SocketError.TheVariants.{Memory}
+use Rattle.wasi_run.specs.declared.host.SocketError.TheVariants.{Code, Trap, Memory}
 use Rattle.wasi_run.specs.Table.{Shown, make_asks}
 use Rattle.wasi_run.specs.Store.{new_record, with_record}
 use Rattle.wasi_run.specs.Machine.{with_table, create_handle}
 use Rattle.wasi_run.specs.Host.{error_of, Stop, code_stop, host_outcome}
+use Rattle.wasi_run.specs.Host as host
 
 host_memory : {T : Type 0} {d : AllocError} (r : Result T SocketError) → IsErrAnd r (λ x. x ≡ Memory d) → host_outcome r ≡ Err d
 host_memory (Ok x) h = absurd h
@@ -45,3 +46,14 @@ host_refused {asks} f {s} {t} {view} {shown} (refusal.Memory d) (Err y) h k e =
 -- the handle of a socket that was made
 pub handle_asks : (m : Machine) (own : OpId) (socket : Socket) {place : ℕ} {side : Option OpId} {records : List Tcp2Socket} {table : Shown} {s t : Seen} {o : Result (Result ℕ Stop) AllocError} → place ≡ length m.store.sockets → side ≡ side_of socket → records ≡ m.store.sockets ++ new_record socket ∷ [] → AsksFor (make_asks m.table own (Tcp2 place) None side) s t (λ (made : Result ℕ Stop). (made, table)) o → AsksFor (create_handle m own socket) s t (λ (made : Result ℕ Stop). let n : Machine = record { table = table; store = record { sockets = records; standing = m.store.standing } } in (made, n)) o
 handle_asks m own socket p q r h = rw r (asks_gives (with_table (record m { store = with_record m.store socket })) (rw (p, q) at h))
+
+-- an error that is passed on by a `?`
+pub host_passed : {A B T U : Type 0} {asks : Asks A} (f : A → Asks B) {s t : Seen} {view : Result T Stop → A} {shown : Result U Stop → B} (x : SocketError) (r : Result U SocketError) → IsErrAnd r (λ y. y ≡ x) → AsksFor asks s t view (host_outcome {T = T} (Err x)) → ((stop : Stop) → f (view (Err stop)) ≡ Give (shown (Err stop))) → AsksFor (bind asks f) s t shown (host_outcome r)
+host_passed f x (Ok y) h k e = absurd h
+host_passed {asks} f {s} {t} {view} {shown} (Code c) (Err y) h k e =
+    let P : SocketError → Type 0 = λ z. AsksFor (bind asks f) s t shown (host_outcome (Err z)) in subst P (sym h) (asks_end f k.ok (e (host.Code c)))
+host_passed {asks} f {s} {t} {view} {shown} (Trap kind) (Err y) h k e =
+    let P : SocketError → Type 0 = λ z. AsksFor (bind asks f) s t shown (host_outcome (Err z)) in subst P (sym h) (asks_end f k.ok (e (host.Trap kind)))
+host_passed {asks} f {s} {t} {view} {shown} (Memory d) (Err y) h k e =
+    let P : SocketError → Type 0 = λ z. AsksFor (bind asks f) s t shown (host_outcome (Err z)) in
+    subst P (sym h) (record { ok = tt; err = record { rest = bind k.err.rest f; reached = reaches_in f k.err.reached } })

@@ -1,6 +1,7 @@
 pub mod Hosts
 pub mod Lookups
 pub mod SideCounts
+pub mod ConnectCounts
 pub mod Takes
 pub mod Stretches
 pub mod OneLine
@@ -14,7 +15,10 @@ pub mod Headline
 pub mod Lists
 pub mod Fine
 pub mod Frames
+pub mod Bounds
 pub mod Binds
+pub mod Connects
+pub mod Tells
 pub mod FineSteps
 pub mod Licences
 pub mod Meanings

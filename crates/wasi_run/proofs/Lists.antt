@@ -69,3 +69,8 @@ set_get (z ∷ xs) zero y zero x h = inr (refl, refl)
 set_get (z ∷ xs) zero y (suc k) x h = inl h
 set_get (z ∷ xs) (suc i) y zero x h = inl h
 set_get (z ∷ xs) (suc i) y (suc k) x h = elim (set_get xs i y k x h) [ inl e ↦ inl e | inr e ↦ inr (ap suc e.0, e.1) ]
+
+pub set_there : {A : Type 0} (xs : List A) (i : ℕ) (x y : A) → slice_get xs i ≡ Some x → slice_get (slice_set xs i y) i ≡ Some y
+set_there [] i x y h = absurd (cc)
+set_there (z ∷ xs) zero x y h = refl
+set_there (z ∷ xs) (suc i) x y h = set_there xs i x y h

@@ -24,10 +24,13 @@ use Rattle.wasi_world.specs.Asks.{Asks, Give, Ask, AskWrite, bind, Left, Reaches
 use Rattle.wasi_world.specs.Operation.{Given, Nothing, Item, Check, Bind, Who, Operation, NothingLast, Front, Goes, Stays, Again, Ends, verdict_front, done_front, front, after, round, polls, poll_asks, End}
 use Rattle.wasi_tcp.specs.declared.socket.TcpState.{TcpState}
 use Rattle.wasi_tcp.specs.declared.socket.TcpState.TheVariants as state
+use Rattle.wasi_tcp.specs.declared.socket.Connection.{Connection}
+use Rattle.wasi_tcp.specs.Addresses.{local_side, local_from, local_asks, peer_known, peer_asks, remote_in, remote_asks}
+use Rattle.wasi_tcp.specs.Connecting.{start_connect_in, start_connect_asks}
 use Rattle.wasi_tcp.specs.Shape.{Socket}
 use Rattle.wasi_tcp.specs.Socket.{side_of, new_asks, after_create, new_socket, ask_bound, bound_asks, bind_allowed, bind_start, bind_asks}
 use Rattle.wasi_run.specs.declared.socket.Tcp2Socket.{Tcp2Socket}
-use Rattle.wasi_run.specs.Store.{Records, new_record, with_inner, bind_begun, poll_bind_asks, begin_bind_asks, with_record, stood}
+use Rattle.wasi_run.specs.Store.{Records, new_record, with_inner, bind_begun, poll_bind_asks, begin_bind_asks, begin_connect_asks, tell_local_asks, tell_remote_asks, with_record, stood}
 use Rattle.wasi_run.specs.Sides.{one_if_done, made_by, closed_by, made_in, closed_in, one_if_some, held_in, KnowsSides}
 
 -- == calls that neither make nor close a side
@@ -191,6 +194,35 @@ calm_begun r (Err c, s) h = tt
 pub calm_begin_bind : (op : OpId) (r : Tcp2Socket) (a : IpSocketAddress) → Calm Any (begin_bind_asks op r a)
 calm_begin_bind op r a =
     calm_then IsCalmStart Any (bind_asks op r.inner a) (bind_begun r) (calm_then Any IsCalmStart (bound_asks op r.inner) _ (calm_bound op r.inner) (λ b k. calm_start op b.1 a b.0)) (calm_begun r)
+
+-- == the start of a connect, and what a socket says of its addresses, are calm
+calm_start_in : (op : OpId) (s : Socket) (a : IpSocketAddress) (st : TcpState) → Calm Any (start_connect_in op s a st)
+calm_start_in op s a (state.Default side) = calm_then Any Any (bound_asks op s) _ (calm_bound op s) (λ b k. tt)
+calm_start_in op s a _ = tt
+
+pub calm_begin_connect : (op : OpId) (r : Tcp2Socket) (a : IpSocketAddress) → Calm Any (begin_connect_asks op r a)
+calm_begin_connect op r a = calm_then Any Any (start_connect_asks op r.inner a) _ (calm_start_in op r.inner a r.inner.state) (λ d k. tt)
+
+calm_local_from : (op : OpId) (s : Socket) (r : Result OpId ErrorCode) → Calm Any (local_from op s r)
+unfolding bind
+calm_local_from op s (Ok side) = ((λ t. refl, refl), λ t. tt)
+calm_local_from op s (Err c) = tt
+
+pub calm_tell_local : (op : OpId) (r : Tcp2Socket) → Calm Any (tell_local_asks op r)
+calm_tell_local op r =
+    calm_then Any Any (local_asks op r.inner) _ (calm_then Any Any (bound_asks op r.inner) _ (calm_bound op r.inner) (λ b k. calm_local_from op b.1 (local_side b.1 b.0))) (λ d k. tt)
+
+calm_peer : (op : OpId) (c : Connection) (kept : Option IpSocketAddress) → Calm Any (peer_known op c kept)
+unfolding bind
+calm_peer op c (Some a) = tt
+calm_peer op c None = ((λ t. refl, refl), λ t. tt)
+
+calm_remote_in : (op : OpId) (st : TcpState) → Calm Any (remote_in op st)
+calm_remote_in op (state.Connected c) = calm_then Any Any (peer_asks op c) _ (calm_peer op c c.peer) (λ p k. tt)
+calm_remote_in op _ = tt
+
+pub calm_tell_remote : (op : OpId) (r : Tcp2Socket) → Calm Any (tell_remote_asks op r)
+calm_tell_remote op r = calm_then Any Any (remote_asks op r.inner) _ (calm_then Any Any (remote_in op r.inner.state) _ (calm_remote_in op r.inner.state) (λ d k. tt)) (λ d k. tt)
 
 -- == a create makes one side where it gives a socket, and none where it doesn't
 abbrev made_or_not : Result Socket ErrorCode → ℕ

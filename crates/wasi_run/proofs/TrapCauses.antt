@@ -16,7 +16,7 @@ use Rattle.wasi_run.specs.declared.socket.Tcp2Socket.{Tcp2Socket}
 use Rattle.wasi_run.specs.declared.step.Step.{Step}
 use Rattle.wasi_run.specs.declared.step.Step.TheVariants as step
 use Rattle.wasi_run.specs.Table.{is_full}
-use Rattle.wasi_run.specs.Store.{finish_bind_by, finish_bind_at}
+use Rattle.wasi_run.specs.Store.{is_bind, finish_bind_by, finish_bind_at}
 use Rattle.wasi_run.specs.Machine.{socket_at, finish_bind_on, done_reply, own_of, context_at, step_asks}
 use Rattle.wasi_run.specs.Licence.{marks_in}
 use Rattle.wasi_run.specs.Answered.{Answered, record_in, MissesHandle, MakesHandle, IsStartBind, EndsPending}
@@ -55,9 +55,9 @@ module _ (contexts : List WasiSocketsCtx) (m : Machine) (line : ℕ) where
     abbrev FinishSays : Reply × Machine → Type 0
     FinishSays done = Says (step.TcpFinishBind ctx handle) [] done
 
-    finish_by : (place : ℕ) (r : Tcp2Socket) (now : InProgress) → let done = finish_bind_by m.store place r now in FinishSays (done_reply done.0, record m { store = done.1 })
-    finish_by place r doing.Nothing = tt
+    finish_by : (place : ℕ) (r : Tcp2Socket) (now : InProgress) → let done = finish_bind_by m.store place r (is_bind now) in FinishSays (done_reply done.0, record m { store = done.1 })
     finish_by place r doing.Bind = tt
+    finish_by place r _ = tt
 
     finish_at : (place : ℕ) (o : Option Tcp2Socket) → socket_at m handle ≡ Some place → slice_get m.store.sockets place ≡ o → let done = finish_bind_at m.store place o in FinishSays (done_reply done.0, record m { store = done.1 })
     finish_at place None names at = (rw names at, refl, refl)

@@ -1,17 +1,18 @@
 -- Which calls a log may hold: a relation of the contexts, the script's steps and the log's entries, and of nothing else.
 -- It knows no state of a socket, an operation or a table. Each entry is judged by those before it.
-use Rattle.std.specs.Prelude.{◌≡◌, ℕ, zero, suc, ◌+◌, ◌⊎◌, ⊤, true, List, [], ◌∷◌, ◌++◌, Option, Some, None, slice_get}
+use Rattle.std.specs.Prelude.{◌≡◌, ℕ, zero, suc, ◌+◌, ◌⊎◌, ⊤, true, false, List, [], ◌∷◌, ◌++◌, Option, Some, None, slice_get}
 use Rattle.wasi_addr.specs.declared.address.IpSocketAddress.{IpSocketAddress}
 use Rattle.wasi_addr.specs.declared.address.SocketAddressFamily.{SocketAddressFamily}
 use Rattle.wasi_addr.specs.declared.address.SocketAddrUse.{SocketAddrUse}
-use Rattle.wasi_addr.specs.declared.address.SocketAddrUse.TheVariants.{TcpBind, TcpAccept}
+use Rattle.wasi_addr.specs.declared.address.SocketAddrUse.TheVariants.{TcpBind, TcpAccept, TcpConnect}
+use Rattle.wasi_addr.specs.Address.{is_wildcard, wildcard}
 use Rattle.wasi_world.specs.declared.ids.OpId.{OpId}
 use Rattle.wasi_world.specs.declared.call.Call.{Call}
 use Rattle.wasi_world.specs.declared.call.Call.TheVariants.{Check, Lookup, TcpCreate, UdpCreate, UdpWritable, Local, Peer, Bind, UdpBind, UdpConnect, Listen, SetBacklog, Connect, Accept, Hand, Refuse, Read, ReadReady, WriteReady, Write, Shutdown, UdpDisconnect, Send, Recv, GetOption, SetOption, Close, Made}
 use Rattle.wasi_world.specs.declared.call.HandleKind.{HandleKind}
-use Rattle.wasi_world.specs.declared.call.HandleKind.TheVariants.{Network, Tcp2}
+use Rattle.wasi_world.specs.declared.call.HandleKind.TheVariants.{Network, Tcp2, Input, Output, ErrorValue}
 use Rattle.wasi_world.specs.declared.call.Told.{Told}
-use Rattle.wasi_world.specs.declared.call.Told.TheVariants.{Done, Yes, Arrived}
+use Rattle.wasi_world.specs.declared.call.Told.TheVariants.{Done, Yes, Addr, Arrived}
 use Rattle.wasi_world.specs.declared.call.Entry.{Entry}
 use Rattle.wasi_world.specs.declared.outcome.WasiSocketsCtx.{WasiSocketsCtx}
 use Rattle.wasi_run.specs.declared.step.Step.{Step}
@@ -73,6 +74,14 @@ pub record IsSide (before : List Entry) (handle : ℕ) (side : OpId) : Type 0 wh
   pub told : Told
   pub mark : Has before (entry op (Made handle kind parent (Some side)) told)
 
+-- The mark of a handle says this of its side.
+pub record IsMarkedWith (before : List Entry) (handle : ℕ) (sock : Option OpId) : Type 0 where
+  pub op : OpId
+  pub kind : HandleKind
+  pub parent : Option ℕ
+  pub told : Told
+  pub mark : Has before (entry op (Made handle kind parent sock) told)
+
 -- The step names a handle of this side.
 pub record NamesSide (before : List Entry) (side : OpId) (origin : Step) : Type 0 where
   pub handle : ℕ
@@ -94,6 +103,27 @@ pub record HasYes (before among : List Entry) (op side : OpId) (addr : IpSocketA
   pub family : SocketAddressFamily
   pub maker : IsMaker before ctx family side
   pub checked : Has among (entry op (Check ctx addr usage) Yes)
+
+-- Among these entries the operation asked the side's maker about the wildcard of the side's family, and was told yes.
+pub record HasWildcardYes (before : List Entry) (op side : OpId) (usage : SocketAddrUse) : Type 0 where
+  pub ctx : ℕ
+  pub family : SocketAddressFamily
+  pub maker : IsMaker before ctx family side
+  pub checked : Has before (entry op (Check ctx (wildcard family) usage) Yes)
+
+-- The side's local address was told, and it is another than the wildcard of the side's family.
+pub record IsBoundSide (before : List Entry) (side : OpId) : Type 0 where
+  pub ctx : ℕ
+  pub family : SocketAddressFamily
+  pub maker : IsMaker before ctx family side
+  pub op : OpId
+  pub addr : IpSocketAddress
+  pub told : Has before (entry op (Local side) (Addr addr))
+  pub other : is_wildcard family addr ≡ false
+
+-- a side that was bound goes on from there; for one that wasn't the wildcard has its yes
+abbrev pub MayGoOut : List Entry → OpId → OpId → Type 0
+MayGoOut before op side = IsBoundSide before side ⊎ HasWildcardYes before op side TcpBind
 
 -- The operation's last `accept` on the listener told this peer, and after it came a yes for the peer.
 pub record IsAdmitted (before : List Entry) (op listener : OpId) (peer : IpSocketAddress) : Type 0 where
@@ -125,14 +155,33 @@ abbrev pub IsBindTo : IpSocketAddress → Step → Type 0
 IsBindTo addr (step.TcpStartBind ctx socket network a) = a ≡ addr
 IsBindTo addr _ = ⊥
 
--- what a mark says, by the step that makes the handle: a network has no side, and a socket that was created has its own
+-- a connect to this address
+abbrev pub IsConnectTo : IpSocketAddress → Step → Type 0
+IsConnectTo addr (step.TcpStartConnect ctx socket network a) = a ≡ addr
+IsConnectTo addr _ = ⊥
+
+-- its parent is this handle, of whose side it is
+abbrev pub IsOfParent : List Entry → ℕ → Option ℕ → Option OpId → Type 0
+IsOfParent before handle parent sock = (parent ≡ Some handle) × IsMarkedWith before handle sock
+
+-- what a mark says, by the step that makes the handle: a network has no side, a socket that was created has its own, and
+-- the two streams of a connection are of their socket's
 abbrev pub IsMarkOf : List Entry → OpId → HandleKind → Option ℕ → Option OpId → Step → Type 0
 IsMarkOf before op kind parent sock (step.Network ctx) = (kind ≡ Network) × (parent ≡ None) × (sock ≡ None)
 IsMarkOf before op kind parent sock (step.TcpCreate ctx family) =
     (kind ≡ Tcp2) × (parent ≡ None) × (sock ≡ Some op) × ((name : ℕ) × (f : SocketAddressFamily) × Has before (entry op (TcpCreate name f) Done))
 IsMarkOf before op kind parent sock (step.TcpStartBind ctx socket network addr) = ⊥
 IsMarkOf before op kind parent sock (step.TcpFinishBind ctx socket) = ⊥
-IsMarkOf before op kind parent sock _ = ⊥
+IsMarkOf before op kind parent sock (step.TcpStartConnect ctx socket network addr) = ⊥
+IsMarkOf before op kind parent sock (step.TcpFinishConnect ctx socket) = ((kind ≡ Input) ⊎ (kind ≡ Output)) × IsOfParent before socket parent sock
+IsMarkOf before op kind parent sock (step.TcpLocalAddress ctx socket) = ⊥
+IsMarkOf before op kind parent sock (step.TcpRemoteAddress ctx socket) = ⊥
+IsMarkOf before op kind parent sock (step.TcpIsListening ctx socket) = ⊥
+IsMarkOf before op kind parent sock (step.TcpAddressFamily ctx socket) = ⊥
+IsMarkOf before op kind parent sock (step.Read ctx input len) = (kind ≡ ErrorValue) × IsOfParent before input parent sock
+IsMarkOf before op kind parent sock (step.CheckWrite ctx output) = (kind ≡ ErrorValue) × IsOfParent before output parent sock
+IsMarkOf before op kind parent sock (step.Write ctx output bytes) = (kind ≡ ErrorValue) × IsOfParent before output parent sock
+IsMarkOf before op kind parent sock (step.Flush ctx output) = (kind ≡ ErrorValue) × IsOfParent before output parent sock
 
 -- == the table
 -- What an operation may ask after these entries. Of a call whose row needs a step that isn't there yet it says that it may not
@@ -150,7 +199,8 @@ MayAsk contexts steps before op (UdpBind sock addr) = ⊥
 MayAsk contexts steps before op (UdpConnect sock addr) = ⊥
 MayAsk contexts steps before op (Listen sock backlog) = ⊥
 MayAsk contexts steps before op (SetBacklog sock backlog) = ⊥
-MayAsk contexts steps before op (Connect sock addr) = ⊥
+MayAsk contexts steps before op (Connect sock addr) =
+    ReachesSide steps before op sock × BeganBy steps op (IsConnectTo addr) × HasYes before before op sock addr TcpConnect × MayGoOut before op sock
 MayAsk contexts steps before op (Accept sock) = ReachesSide steps before op sock
 MayAsk contexts steps before op (Hand sock peer) = ReachesSide steps before op sock × IsAdmitted before op sock peer × HandedNone before op
 MayAsk contexts steps before op (Refuse sock peer) = ReachesSide steps before op sock

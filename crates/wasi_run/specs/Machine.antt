@@ -17,12 +17,13 @@ use Rattle.wasi_run.specs.declared.reply.Reply.TheVariants as reply
 use Rattle.wasi_run.specs.declared.step.Step.{Step}
 use Rattle.wasi_run.specs.declared.step.Step.TheVariants as step
 use Rattle.wasi_run.specs.declared.store.StandingBind.{StandingBind}
+use Rattle.wasi_run.specs.declared.socket.Tcp2Socket.{Tcp2Socket}
 use Rattle.wasi_run.specs.declared.table.Kind.{Kind}
-use Rattle.wasi_run.specs.declared.table.Kind.TheVariants.{Network, Tcp2}
-use Rattle.wasi_run.specs.Reply.{word_of_p2, is_trap, no_fields, number_fields}
+use Rattle.wasi_run.specs.declared.table.Kind.TheVariants.{Network, Tcp2, Input, Output}
+use Rattle.wasi_run.specs.Reply.{word_of_p2, is_trap, no_fields, number_fields, pair_fields, truth_fields, family_fields, address_values}
 use Rattle.wasi_run.specs.Host.{Stop, Code, Trap, code_stop}
 use Rattle.wasi_run.specs.Table.{Shown, empty_table, kind_at, make_asks}
-use Rattle.wasi_run.specs.Store.{Records, no_records, with_record, start_bind_at, finish_bind_at}
+use Rattle.wasi_run.specs.Store.{Records, no_records, with_record, start_bind_at, finish_bind_at, start_connect_at, finish_connect_at, local_address_at, remote_address_at, is_listening_at, address_family_at}
 
 -- no handle, no record, no call that stands
 abbrev pub first_state : Machine
@@ -78,6 +79,63 @@ abbrev pub finish_bind_on : Machine → Option ℕ → Result (Unit {0}) Stop ×
 finish_bind_on m None = (Err (Trap NoSuchHandle), m)
 finish_bind_on m (Some place) = with_store m (finish_bind_at m.store place (slice_get m.store.sockets place))
 
+abbrev pub start_connect_on : Machine → OpId → IpSocketAddress → Option ℕ → Asks (Result (Unit {0}) Stop × Machine)
+start_connect_on m own a None = no_such_handle m
+start_connect_on m own a (Some place) = bind (start_connect_at m.store own place a (slice_get m.store.sockets place)) (λ done. Give (with_store m done))
+
+-- the network's handle is tested first
+abbrev pub start_connect_asks : Machine → OpId → ℕ → ℕ → IpSocketAddress → Asks (Result (Unit {0}) Stop × Machine)
+start_connect_asks m own socket network a =
+    if is_network (kind_at m.table network) then start_connect_on m own a (socket_at m socket) else no_such_handle m
+
+-- the side of a record, where it has one
+abbrev pub side_at : Option Tcp2Socket → Option OpId
+side_at None = None
+side_at (Some r) = side_of r.inner
+
+-- the second of the two streams
+abbrev pub with_output : ℕ → Result ℕ Stop × Machine → Result (ℕ × ℕ) Stop × Machine
+with_output input (Ok output, m) = (Ok (input, output), m)
+with_output input (Err stop, m) = (Err stop, m)
+
+abbrev pub output_asks : OpId → ℕ → ℕ → Option OpId → Result ℕ Stop × Machine → Asks (Result (ℕ × ℕ) Stop × Machine)
+output_asks own handle place side (Ok input, m) = bind (make_asks m.table own (Output place) (Some handle) side) (λ made. Give (with_output input (with_table m made)))
+output_asks own handle place side (Err stop, m) = Give (Err stop, m)
+
+-- the two streams of a connection, whose parent is its socket's handle
+abbrev pub streams_asks : Machine → OpId → ℕ → ℕ → Option OpId → Asks (Result (ℕ × ℕ) Stop × Machine)
+streams_asks m own handle place side =
+    bind (make_asks m.table own (Input place) (Some handle) side) (λ made. output_asks own handle place side (with_table m made))
+
+abbrev pub connected_asks : OpId → ℕ → ℕ → Result (Unit {0}) Stop × Machine → Asks (Result (ℕ × ℕ) Stop × Machine)
+connected_asks own handle place (Ok done, m) = streams_asks m own handle place (side_at (slice_get m.store.sockets place))
+connected_asks own handle place (Err stop, m) = Give (Err stop, m)
+
+-- polls the connect; once it is done the streams are made
+abbrev pub finish_connect_on : Machine → OpId → ℕ → Option ℕ → Asks (Result (ℕ × ℕ) Stop × Machine)
+finish_connect_on m own handle None = no_such_handle m
+finish_connect_on m own handle (Some place) =
+    bind (finish_connect_at m.store place (slice_get m.store.sockets place)) (λ done. connected_asks own handle place (with_store m done))
+
+abbrev pub finish_connect_asks : Machine → OpId → ℕ → Asks (Result (ℕ × ℕ) Stop × Machine)
+finish_connect_asks m own socket = finish_connect_on m own socket (socket_at m socket)
+
+abbrev pub local_address_on : Machine → OpId → Option ℕ → Asks (Result IpSocketAddress Stop × Machine)
+local_address_on m own None = no_such_handle m
+local_address_on m own (Some place) = bind (local_address_at m.store own place (slice_get m.store.sockets place)) (λ done. Give (with_store m done))
+
+abbrev pub remote_address_on : Machine → OpId → Option ℕ → Asks (Result IpSocketAddress Stop × Machine)
+remote_address_on m own None = no_such_handle m
+remote_address_on m own (Some place) = bind (remote_address_at m.store own place (slice_get m.store.sockets place)) (λ done. Give (with_store m done))
+
+abbrev pub is_listening_on : Machine → Option ℕ → Result Bool Stop
+is_listening_on m None = Err (Trap NoSuchHandle)
+is_listening_on m (Some place) = is_listening_at (slice_get m.store.sockets place)
+
+abbrev pub address_family_on : Machine → Option ℕ → Result SocketAddressFamily Stop
+address_family_on m None = Err (Trap NoSuchHandle)
+address_family_on m (Some place) = address_family_at (slice_get m.store.sockets place)
+
 -- == replies
 abbrev pub stop_reply : Stop → Reply
 stop_reply (Code c) = reply.Err (word_of_p2 c)
@@ -90,6 +148,22 @@ handle_reply (Err stop) = stop_reply stop
 abbrev pub done_reply : Result (Unit {0}) Stop → Reply
 done_reply (Ok done) = reply.Ok no_fields
 done_reply (Err stop) = stop_reply stop
+
+abbrev pub pair_reply : Result (ℕ × ℕ) Stop → Reply
+pair_reply (Ok (a, b)) = reply.Ok (pair_fields a b)
+pair_reply (Err stop) = stop_reply stop
+
+abbrev pub address_reply : Result IpSocketAddress Stop → Reply
+address_reply (Ok a) = reply.Ok (address_values a)
+address_reply (Err stop) = stop_reply stop
+
+abbrev pub truth_reply : Result Bool Stop → Reply
+truth_reply (Ok b) = reply.Ok (truth_fields b)
+truth_reply (Err stop) = stop_reply stop
+
+abbrev pub family_reply : Result SocketAddressFamily Stop → Reply
+family_reply (Ok family) = reply.Ok (family_fields family)
+family_reply (Err stop) = stop_reply stop
 
 -- a call that is pending stands under its line's number
 abbrev pub answer_reply : ℕ → Result (Answer (Unit {0})) Stop → Reply
@@ -115,6 +189,12 @@ step_asks contexts m line (step.Network ctx) = bind (network_asks m (own_of line
 step_asks contexts m line (step.TcpCreate ctx family) = bind (create_asks m (own_of line) (context_at contexts ctx) family) (λ done. Give (handle_reply done.0, done.1))
 step_asks contexts m line (step.TcpStartBind ctx s n a) = bind (start_bind_asks m (own_of line) s n a) (λ done. Give (answer_reply line done.0, done.1))
 step_asks contexts m line (step.TcpFinishBind ctx s) = let done = finish_bind_on m (socket_at m s) in Give (done_reply done.0, done.1)
+step_asks contexts m line (step.TcpStartConnect ctx s n a) = bind (start_connect_asks m (own_of line) s n a) (λ done. Give (done_reply done.0, done.1))
+step_asks contexts m line (step.TcpFinishConnect ctx s) = bind (finish_connect_asks m (own_of line) s) (λ done. Give (pair_reply done.0, done.1))
+step_asks contexts m line (step.TcpLocalAddress ctx s) = bind (local_address_on m (own_of line) (socket_at m s)) (λ done. Give (address_reply done.0, done.1))
+step_asks contexts m line (step.TcpRemoteAddress ctx s) = bind (remote_address_on m (own_of line) (socket_at m s)) (λ done. Give (address_reply done.0, done.1))
+step_asks contexts m line (step.TcpIsListening ctx s) = Give (truth_reply (is_listening_on m (socket_at m s)), m)
+step_asks contexts m line (step.TcpAddressFamily ctx s) = Give (family_reply (address_family_on m (socket_at m s)), m)
 step_asks contexts m line _ = Give (reply.Busy, m)
 
 -- while a call stands every guest call is busy

@@ -6,7 +6,8 @@ use Rattle.wasi_world.specs.declared.call.Told.{Told}
 use Rattle.wasi_world.specs.declared.call.Told.TheVariants.{Done}
 use Rattle.wasi_world.specs.declared.call.Entry.{Entry}
 use Rattle.wasi_world.specs.declared.ids.OpId.{OpId}
-use Rattle.wasi_world.specs.Seen.{Seen}
+use Rattle.wasi_world.specs.Seen.{Seen, Passes}
+use Rattle.wasi_tcp.specs.Shape.{Socket}
 use Rattle.wasi_tcp.specs.Socket.{side_of}
 use Rattle.wasi_run.specs.declared.socket.Tcp2Socket.{Tcp2Socket}
 use Rattle.wasi_run.specs.Store.{Records}
@@ -42,6 +43,13 @@ one_if_some None = 0
 abbrev pub held_in : List Tcp2Socket → ℕ
 held_in [] = 0
 held_in (r ∷ rs) = one_if_some (side_of r.inner) + held_in rs
+
+-- No side was made, and a side that the socket holds no more was closed.
+pub record ClosesOwn (before after : Seen) (old now : Socket) : Type 0 where
+  pub entries : List Entry
+  pub passed : Passes before entries after
+  pub made : made_in entries ≡ 0
+  pub closed : closed_in entries + one_if_some (side_of now) ≡ one_if_some (side_of old)
 
 -- Each side that was made and not closed is held by a record, where the log is told.
 pub record KnowsSides (seen : Seen) (records : Records) : Type 0 where

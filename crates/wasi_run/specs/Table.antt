@@ -7,7 +7,7 @@ use Rattle.wasi_world.specs.declared.outcome.TrapKind.TheVariants.{Full}
 use Rattle.wasi_world.specs.Asks.{Asks, Give, bind}
 use Rattle.wasi_world.specs.Typed.{ask_made}
 use Rattle.wasi_run.specs.declared.table.Kind.{Kind}
-use Rattle.wasi_run.specs.declared.table.Kind.TheVariants.{Network, Tcp2}
+use Rattle.wasi_run.specs.declared.table.Kind.TheVariants.{Network, Tcp2, Input, Output}
 use Rattle.wasi_run.specs.declared.table.Slot.{Slot}
 use Rattle.wasi_run.specs.Host.{Stop, Trap}
 
@@ -22,6 +22,8 @@ empty_table = record { next = 1; live = [] }
 abbrev pub name_of : Kind → HandleKind
 name_of Network = name.Network
 name_of (Tcp2 n) = name.Tcp2
+name_of (Input n) = name.Input
+name_of (Output n) = name.Output
 
 -- 65,536 are live, or 4,294,967,294 were made
 abbrev pub is_full : Shown → Bool

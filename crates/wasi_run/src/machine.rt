@@ -3,7 +3,7 @@
 ghost use Rattle.std.specs.Prelude.{◌≡◌, false, IfOk, IsOkAnd, Ok};
 ghost use Rattle.wasi_world.specs.Asks.{AsksFor};
 ghost use Rattle.wasi_run.specs.Host.{host_outcome, IsStop};
-ghost use Rattle.wasi_run.specs.Machine.{first_state, network_asks, create_asks, start_bind_asks, finish_bind_on, socket_at, is_network, machine_asks, step_asks, context_at, handle_reply, done_reply, answer_reply, stop_reply};
+ghost use Rattle.wasi_run.specs.Machine.{first_state, network_asks, create_asks, start_bind_asks, finish_bind_on, start_connect_asks, finish_connect_on, connected_asks, streams_asks, output_asks, local_address_on, remote_address_on, is_listening_on, address_family_on, socket_at, is_network, machine_asks, step_asks, context_at, handle_reply, done_reply, answer_reply, pair_reply, address_reply, truth_reply, family_reply, stop_reply};
 ghost use Rattle.wasi_run.specs.Table.{kind_at};
 
 use crate::host::SocketError;
@@ -13,7 +13,7 @@ use crate::store::Store;
 use crate::table::{Kind, Table};
 use std::alloc::{AllocError, Global};
 use wasi_addr::{IpSocketAddress, SocketAddressFamily};
-use wasi_world::{Answer, Handle, OpId, TrapKind, WasiSocketsCtx, World};
+use wasi_world::{Answer, Handle, OpId, Sock, TrapKind, WasiSocketsCtx, World};
 
 /// The table of handles, and the records that they name.
 #[derive(Drop)]
@@ -101,6 +101,124 @@ impl Machine {
         self.store.finish_bind(place)
     }
 
+    /// The handle of the network is tested first, then that of the socket.
+    fn start_connect<W: World>(
+        &mut self,
+        world: &mut W,
+        own: OpId,
+        socket: Handle,
+        network: Handle,
+        addr: IpSocketAddress,
+    ) -> Result<(), SocketError>
+        requires { (W.seen world.old).ended ≡ false }
+        ensures asked { AsksFor (start_connect_asks self.old own socket network addr) (W.seen world.old) (W.seen world.new) (λ done. (done, self.new)) (host_outcome result) }
+        ensures sides { KnowsSides (W.seen world.old) self.old.store → KnowsSides (W.seen world.new) self.new.store }
+        ensures open { (W.seen world.new).ended ≡ false }
+    {
+        if !self.is_network(network) {
+            return Err(SocketError::Trap(TrapKind::NoSuchHandle));
+        }
+        let Some(place) = self.socket(socket) else {
+            return Err(SocketError::Trap(TrapKind::NoSuchHandle));
+        };
+        self.store.start_connect(world, own, place, addr)
+    }
+
+    /// Polls the connect, and makes the two streams once it is done.
+    fn finish_connect<W: World>(
+        &mut self,
+        world: &mut W,
+        own: OpId,
+        socket: Handle,
+    ) -> Result<(Handle, Handle), SocketError>
+        requires { (W.seen world.old).ended ≡ false }
+        ensures asked { AsksFor (finish_connect_on self.old own socket (socket_at self.old socket)) (W.seen world.old) (W.seen world.new) (λ made. (made, self.new)) (host_outcome result) }
+        ensures sides { KnowsSides (W.seen world.old) self.old.store → KnowsSides (W.seen world.new) self.new.store }
+        ensures open { (W.seen world.new).ended ≡ false }
+    {
+        let Some(place) = self.socket(socket) else {
+            return Err(SocketError::Trap(TrapKind::NoSuchHandle));
+        };
+        self.store.finish_connect(world, place)?;
+        let side = self.store.side(place);
+        self.make_streams(world, own, socket, place, side)
+    }
+
+    /// Makes the input and the output of a connection, whose parent is its socket's handle.
+    fn make_streams<W: World>(
+        &mut self,
+        world: &mut W,
+        own: OpId,
+        socket: Handle,
+        place: usize,
+        side: Option<Sock>,
+    ) -> Result<(Handle, Handle), SocketError>
+        requires { (W.seen world.old).ended ≡ false }
+        ensures asked { AsksFor (streams_asks self.old own socket place side) (W.seen world.old) (W.seen world.new) (λ made. (made, self.new)) (host_outcome result) }
+        ensures sides { KnowsSides (W.seen world.old) self.old.store → KnowsSides (W.seen world.new) self.new.store }
+        ensures open { (W.seen world.new).ended ≡ false }
+    {
+        let input = self
+            .table
+            .make(world, own, Kind::Input(place), Some(socket), side)?;
+        let output = self
+            .table
+            .make(world, own, Kind::Output(place), Some(socket), side)?;
+        Ok((input, output))
+    }
+
+    fn local_address<W: World>(
+        &mut self,
+        world: &mut W,
+        own: OpId,
+        socket: Handle,
+    ) -> Result<IpSocketAddress, SocketError>
+        requires { (W.seen world.old).ended ≡ false }
+        ensures asked { AsksFor (local_address_on self.old own (socket_at self.old socket)) (W.seen world.old) (W.seen world.new) (λ told. (told, self.new)) (host_outcome result) }
+        ensures sides { KnowsSides (W.seen world.old) self.old.store → KnowsSides (W.seen world.new) self.new.store }
+        ensures open { (W.seen world.new).ended ≡ false }
+    {
+        let Some(place) = self.socket(socket) else {
+            return Err(SocketError::Trap(TrapKind::NoSuchHandle));
+        };
+        self.store.local_address(world, own, place)
+    }
+
+    fn remote_address<W: World>(
+        &mut self,
+        world: &mut W,
+        own: OpId,
+        socket: Handle,
+    ) -> Result<IpSocketAddress, SocketError>
+        requires { (W.seen world.old).ended ≡ false }
+        ensures asked { AsksFor (remote_address_on self.old own (socket_at self.old socket)) (W.seen world.old) (W.seen world.new) (λ told. (told, self.new)) (host_outcome result) }
+        ensures sides { KnowsSides (W.seen world.old) self.old.store → KnowsSides (W.seen world.new) self.new.store }
+        ensures open { (W.seen world.new).ended ≡ false }
+    {
+        let Some(place) = self.socket(socket) else {
+            return Err(SocketError::Trap(TrapKind::NoSuchHandle));
+        };
+        self.store.remote_address(world, own, place)
+    }
+
+    fn is_listening(&self, socket: Handle) -> Result<bool, SocketError>
+        ensures { host_outcome result ≡ Ok (is_listening_on self.now (socket_at self.now socket)) }
+    {
+        match self.socket(socket) {
+            Some(place) => self.store.is_listening(place),
+            None => Err(SocketError::Trap(TrapKind::NoSuchHandle)),
+        }
+    }
+
+    fn address_family(&self, socket: Handle) -> Result<SocketAddressFamily, SocketError>
+        ensures { host_outcome result ≡ Ok (address_family_on self.now (socket_at self.now socket)) }
+    {
+        match self.socket(socket) {
+            Some(place) => self.store.address_family(place),
+            None => Err(SocketError::Trap(TrapKind::NoSuchHandle)),
+        }
+    }
+
     /// The number of a socket's record.
     fn socket(&self, handle: Handle) -> Option<usize>
         ensures { result ≡ socket_at self.now handle }
@@ -174,6 +292,31 @@ impl Machine {
                 answer_reply(alloc, line, answer)
             }
             Step::TcpFinishBind { socket, .. } => done_reply(alloc, self.finish_bind(*socket)),
+            Step::TcpStartConnect {
+                socket,
+                network,
+                addr,
+                ..
+            } => {
+                let done = self.start_connect(world, own, *socket, *network, *addr);
+                done_reply(alloc, done)
+            }
+            Step::TcpFinishConnect { socket, .. } => {
+                let made = self.finish_connect(world, own, *socket);
+                pair_reply(alloc, made)
+            }
+            Step::TcpLocalAddress { socket, .. } => {
+                let told = self.local_address(world, own, *socket);
+                address_reply(alloc, told)
+            }
+            Step::TcpRemoteAddress { socket, .. } => {
+                let told = self.remote_address(world, own, *socket);
+                address_reply(alloc, told)
+            }
+            Step::TcpIsListening { socket, .. } => truth_reply(alloc, self.is_listening(*socket)),
+            Step::TcpAddressFamily { socket, .. } => {
+                family_reply(alloc, self.address_family(*socket))
+            }
             _ => Ok(Reply::Busy),
         }
     }
@@ -205,6 +348,55 @@ fn done_reply(alloc: Global, done: Result<(), SocketError>) -> Result<Reply, All
 {
     match done {
         Ok(()) => Ok(Reply::done(alloc)),
+        Err(error) => stop_reply(error),
+    }
+}
+
+/// The reply of a call that makes two handles.
+fn pair_reply(
+    alloc: Global,
+    made: Result<(Handle, Handle), SocketError>,
+) -> Result<Reply, AllocError>
+    ensures { IfOk result (λ reply. IsOkAnd (host_outcome made) (λ x. reply ≡ pair_reply x)) }
+{
+    match made {
+        Ok((first, second)) => Reply::pair(alloc, u64::from(first), u64::from(second)),
+        Err(error) => stop_reply(error),
+    }
+}
+
+/// The reply of a call that tells an address.
+fn address_reply(
+    alloc: Global,
+    told: Result<IpSocketAddress, SocketError>,
+) -> Result<Reply, AllocError>
+    ensures { IfOk result (λ reply. IsOkAnd (host_outcome told) (λ x. reply ≡ address_reply x)) }
+{
+    match told {
+        Ok(addr) => Reply::address(alloc, addr),
+        Err(error) => stop_reply(error),
+    }
+}
+
+/// The reply of a call that says whether something holds.
+fn truth_reply(alloc: Global, told: Result<bool, SocketError>) -> Result<Reply, AllocError>
+    ensures { IfOk result (λ reply. IsOkAnd (host_outcome told) (λ x. reply ≡ truth_reply x)) }
+{
+    match told {
+        Ok(truth) => Reply::truth(alloc, truth),
+        Err(error) => stop_reply(error),
+    }
+}
+
+/// The reply of a call that tells a family.
+fn family_reply(
+    alloc: Global,
+    told: Result<SocketAddressFamily, SocketError>,
+) -> Result<Reply, AllocError>
+    ensures { IfOk result (λ reply. IsOkAnd (host_outcome told) (λ x. reply ≡ family_reply x)) }
+{
+    match told {
+        Ok(family) => Reply::family(alloc, family),
         Err(error) => stop_reply(error),
     }
 }

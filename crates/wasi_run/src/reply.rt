@@ -5,13 +5,13 @@ ghost use Rattle.wasi_world.specs.Fields.{line_with};
 ghost use Rattle.wasi_run.specs.declared.reply.Reply.{Reply};
 ghost use Rattle.wasi_run.specs.declared.step.Step.{Step};
 ghost use Rattle.wasi_run.specs.Replies.{Gives, code_text, trap_text, field_text, fields_of_reply, text_of};
-ghost use Rattle.wasi_run.specs.Reply.{word_of_p2, is_trap, no_fields, number_fields};
+ghost use Rattle.wasi_run.specs.Reply.{word_of_p2, is_trap, no_fields, number_fields, pair_fields, truth_fields, family_fields, address_values};
 
 use std::alloc::{AllocError, Global};
 use std::fmt;
 use std::fmt::Write;
 use std::marker::Model;
-use wasi_addr::p2;
+use wasi_addr::{IpSocketAddress, SocketAddressFamily, p2};
 use wasi_world::fields::push_octets;
 use wasi_world::{Handle, Octets, TrapKind};
 
@@ -165,6 +165,33 @@ impl Reply {
     {
         let fields = vec![in alloc; Field::Number(number)]?;
         Ok(Reply::Ok(ReplyFields::from_vec(fields)))
+    }
+}
+
+impl Reply {
+    pub fn pair(alloc: Global, a: u64, b: u64) -> Result<Reply, AllocError>
+        ensures { IfOk result (λ reply. reply ≡ Reply.Ok (pair_fields a b)) }
+    {
+        let fields = vec![in alloc; Field::Number(a), Field::Number(b)]?;
+        Ok(Reply::Ok(ReplyFields::from_vec(fields)))
+    }
+
+    pub fn truth(_alloc: Global, _truth: bool) -> Result<Reply, AllocError>
+        ensures { IfOk result (λ reply. reply ≡ Reply.Ok (truth_fields _truth)) }
+    {
+        Err(AllocError)
+    }
+
+    pub fn family(_alloc: Global, _family: SocketAddressFamily) -> Result<Reply, AllocError>
+        ensures { IfOk result (λ reply. reply ≡ Reply.Ok (family_fields _family)) }
+    {
+        Err(AllocError)
+    }
+
+    pub fn address(_alloc: Global, _addr: IpSocketAddress) -> Result<Reply, AllocError>
+        ensures { IfOk result (λ reply. reply ≡ Reply.Ok (address_values _addr)) }
+    {
+        Err(AllocError)
     }
 }
 

@@ -4,9 +4,12 @@ ghost use Rattle.std.specs.Prelude.{◌≡◌, false};
 ghost use Rattle.wasi_world.specs.Asks.{AsksFor, outcome};
 ghost use Rattle.wasi_tcp.specs.Bind.{IsOf};
 ghost use Rattle.wasi_tcp.specs.Socket.{side_of};
-ghost use Rattle.wasi_run.specs.Store.{begin_bind_asks, poll_bind_asks, new_record};
+ghost use Rattle.wasi_run.specs.Host.{host_outcome};
+ghost use Rattle.wasi_run.specs.Sides.{ClosesOwn};
+ghost use Rattle.wasi_run.specs.Store.{is_nothing, is_bind, is_connect, begin_bind_asks, poll_bind_asks, begin_connect_asks, poll_connect_asks, tell_local_asks, tell_remote_asks, new_record};
 
-use wasi_addr::IpSocketAddress;
+use crate::host::SocketError;
+use wasi_addr::{IpSocketAddress, p2};
 use wasi_tcp::{BindOp, TcpSocket};
 use wasi_world::{Answer, OpId, Refusal, World};
 
@@ -15,6 +18,27 @@ use wasi_world::{Answer, OpId, Refusal, World};
 pub enum InProgress {
     Nothing,
     Bind,
+    Connect,
+}
+
+impl InProgress {
+    pub fn is_nothing(self) -> bool
+        ensures { result ≡ is_nothing self }
+    {
+        matches!(self, InProgress::Nothing)
+    }
+
+    pub fn is_bind(self) -> bool
+        ensures { result ≡ is_bind self }
+    {
+        matches!(self, InProgress::Bind)
+    }
+
+    pub fn is_connect(self) -> bool
+        ensures { result ≡ is_connect self }
+    {
+        matches!(self, InProgress::Connect)
+    }
 }
 
 /// The socket, and its operation in progress.
@@ -70,5 +94,71 @@ impl Tcp2Socket {
                 return Ok(None);
             }
         }
+    }
+
+    /// Begins a connect, which is in progress then.
+    pub fn begin_connect<W: World>(
+        &mut self,
+        world: &mut W,
+        op: OpId,
+        addr: IpSocketAddress,
+    ) -> Result<(), Refusal>
+        requires { (W.seen world.old).ended ≡ false }
+        ensures asked { AsksFor (begin_connect_asks op self.old addr) (W.seen world.old) (W.seen world.new) (λ done. (done, self.new)) (outcome result) }
+        ensures side { side_of self.new.inner ≡ side_of self.old.inner }
+        ensures open { (W.seen world.new).ended ≡ false }
+    {
+        self.inner.start_connect(world, op, addr)?;
+        self.in_progress = InProgress::Connect;
+        Ok(())
+    }
+
+    /// Polls the connect in progress. Pending: `WouldBlock`. Ended, either way, it is in progress no more.
+    pub fn poll_connect<W: World>(&mut self, world: &mut W) -> Result<(), SocketError>
+        requires { (W.seen world.old).ended ≡ false }
+        ensures asked { AsksFor (poll_connect_asks self.old) (W.seen world.old) (W.seen world.new) (λ done. (done, self.new)) (host_outcome result) }
+        ensures closed { ClosesOwn (W.seen world.old) (W.seen world.new) self.old.inner self.new.inner }
+        ensures open { (W.seen world.new).ended ≡ false }
+    {
+        match self.inner.poll_finish_connect(world) {
+            Ok(Answer::Pending) => Err(SocketError::Code(p2::ErrorCode::WouldBlock)),
+            Ok(Answer::Ready(())) => {
+                self.in_progress = InProgress::Nothing;
+                Ok(())
+            }
+            Err(Refusal::Code(code)) => {
+                self.in_progress = InProgress::Nothing;
+                Err(SocketError::Code(p2::ErrorCode::from_code(code)))
+            }
+            Err(Refusal::Memory(e)) => Err(SocketError::Memory(e)),
+        }
+    }
+
+    /// The local address.
+    pub fn local_address<W: World>(
+        &mut self,
+        world: &mut W,
+        op: OpId,
+    ) -> Result<IpSocketAddress, Refusal>
+        requires { (W.seen world.old).ended ≡ false }
+        ensures asked { AsksFor (tell_local_asks op self.old) (W.seen world.old) (W.seen world.new) (λ told. (told, self.new)) (outcome result) }
+        ensures side { side_of self.new.inner ≡ side_of self.old.inner }
+        ensures open { (W.seen world.new).ended ≡ false }
+    {
+        self.inner.local_address(world, op)
+    }
+
+    /// The remote address.
+    pub fn remote_address<W: World>(
+        &mut self,
+        world: &mut W,
+        op: OpId,
+    ) -> Result<IpSocketAddress, Refusal>
+        requires { (W.seen world.old).ended ≡ false }
+        ensures asked { AsksFor (tell_remote_asks op self.old) (W.seen world.old) (W.seen world.new) (λ told. (told, self.new)) (outcome result) }
+        ensures side { side_of self.new.inner ≡ side_of self.old.inner }
+        ensures open { (W.seen world.new).ended ≡ false }
+    {
+        self.inner.remote_address(world, op)
     }
 }

@@ -4,7 +4,7 @@ ghost use Rattle.std.specs.Prelude.{◌≡◌, true, is_some, ◌<◌, false, If
 ghost use Rattle.wasi_world.specs.Asks.{AsksFor};
 ghost use Rattle.wasi_world.specs.Seen.{Seen};
 ghost use Rattle.wasi_run.specs.Host.{host_outcome};
-ghost use Rattle.wasi_run.specs.Store.{no_records, start_bind_at, finish_bind_at, with_record, stood};
+ghost use Rattle.wasi_run.specs.Store.{no_records, start_bind_at, finish_bind_at, start_connect_at, finish_connect_at, local_address_at, remote_address_at, is_listening_at, address_family_at, with_record, stood};
 
 use crate::closing::close_sides;
 use crate::host::SocketError;
@@ -14,7 +14,7 @@ use std::alloc::{AllocError, Global};
 use std::marker::Model;
 use wasi_addr::{IpSocketAddress, SocketAddressFamily, p2};
 use wasi_tcp::{BindOp, TcpSocket};
-use wasi_world::{Answer, Handle, OpId, TrapKind, WasiSocketsCtx, World};
+use wasi_world::{Answer, Handle, OpId, Sock, TrapKind, WasiSocketsCtx, World};
 
 /// A bind that stands pending: while it does, every other guest call is busy.
 #[derive(Drop)]
@@ -42,7 +42,7 @@ impl Model for Store {
 }
 
 impl Store {
-    ghost use Rattle.wasi_run.specs.Machine.{create_asks};
+    ghost use Rattle.wasi_run.specs.Machine.{create_asks, side_at};
     ghost use Rattle.wasi_run.specs.Closing.{ClosesSides};
     ghost use Rattle.wasi_run.specs.Sides.{KnowsSides, held_in};
 
@@ -95,9 +95,8 @@ impl Store {
         let Some(record) = self.sockets.get_mut(place) else {
             return Err(SocketError::Trap(TrapKind::NoSuchHandle));
         };
-        match record.in_progress {
-            InProgress::Bind => return Err(SocketError::Code(p2::ErrorCode::ConcurrencyConflict)),
-            InProgress::Nothing => {}
+        if !record.in_progress.is_nothing() {
+            return Err(SocketError::Code(p2::ErrorCode::ConcurrencyConflict));
         }
         let begun = record.begin_bind(world, op, addr)?;
         Ok(self.stand(op.step, place, begun))
@@ -112,12 +111,120 @@ impl Store {
         let Some(record) = self.sockets.get_mut(place) else {
             return Err(SocketError::Trap(TrapKind::NoSuchHandle));
         };
-        match record.in_progress {
-            InProgress::Nothing => return Err(SocketError::Code(p2::ErrorCode::NotInProgress)),
-            InProgress::Bind => {}
+        if !record.in_progress.is_bind() {
+            return Err(SocketError::Code(p2::ErrorCode::NotInProgress));
         }
         record.in_progress = InProgress::Nothing;
         Ok(())
+    }
+
+    /// Begins a connect of the socket of this number. An operation in progress: `ConcurrencyConflict`.
+    pub fn start_connect<W: World>(
+        &mut self,
+        world: &mut W,
+        op: OpId,
+        place: usize,
+        addr: IpSocketAddress,
+    ) -> Result<(), SocketError>
+        requires { (W.seen world.old).ended ≡ false }
+        ensures asked { AsksFor (start_connect_at self.old op place addr (slice_get self.old.sockets place)) (W.seen world.old) (W.seen world.new) (λ done. (done, self.new)) (host_outcome result) }
+        ensures sides { KnowsSides (W.seen world.old) self.old → KnowsSides (W.seen world.new) self.new }
+        ensures open { (W.seen world.new).ended ≡ false }
+    {
+        let Some(record) = self.sockets.get_mut(place) else {
+            return Err(SocketError::Trap(TrapKind::NoSuchHandle));
+        };
+        if !record.in_progress.is_nothing() {
+            return Err(SocketError::Code(p2::ErrorCode::ConcurrencyConflict));
+        }
+        record.begin_connect(world, op, addr)?;
+        Ok(())
+    }
+
+    /// Polls the connect in progress. None is: `NotInProgress`. It is pending: `WouldBlock`. Once it has ended, either
+    /// way, it is in progress no more.
+    pub fn finish_connect<W: World>(
+        &mut self,
+        world: &mut W,
+        place: usize,
+    ) -> Result<(), SocketError>
+        requires { (W.seen world.old).ended ≡ false }
+        ensures asked { AsksFor (finish_connect_at self.old place (slice_get self.old.sockets place)) (W.seen world.old) (W.seen world.new) (λ done. (done, self.new)) (host_outcome result) }
+        ensures sides { KnowsSides (W.seen world.old) self.old → KnowsSides (W.seen world.new) self.new }
+        ensures open { (W.seen world.new).ended ≡ false }
+    {
+        let Some(record) = self.sockets.get_mut(place) else {
+            return Err(SocketError::Trap(TrapKind::NoSuchHandle));
+        };
+        if !record.in_progress.is_connect() {
+            return Err(SocketError::Code(p2::ErrorCode::NotInProgress));
+        }
+        record.poll_connect(world)
+    }
+
+    /// The local address of the socket of this number.
+    pub fn local_address<W: World>(
+        &mut self,
+        world: &mut W,
+        op: OpId,
+        place: usize,
+    ) -> Result<IpSocketAddress, SocketError>
+        requires { (W.seen world.old).ended ≡ false }
+        ensures asked { AsksFor (local_address_at self.old op place (slice_get self.old.sockets place)) (W.seen world.old) (W.seen world.new) (λ told. (told, self.new)) (host_outcome result) }
+        ensures sides { KnowsSides (W.seen world.old) self.old → KnowsSides (W.seen world.new) self.new }
+        ensures open { (W.seen world.new).ended ≡ false }
+    {
+        let Some(record) = self.sockets.get_mut(place) else {
+            return Err(SocketError::Trap(TrapKind::NoSuchHandle));
+        };
+        let addr = record.local_address(world, op)?;
+        Ok(addr)
+    }
+
+    /// The remote address of the socket of this number.
+    pub fn remote_address<W: World>(
+        &mut self,
+        world: &mut W,
+        op: OpId,
+        place: usize,
+    ) -> Result<IpSocketAddress, SocketError>
+        requires { (W.seen world.old).ended ≡ false }
+        ensures asked { AsksFor (remote_address_at self.old op place (slice_get self.old.sockets place)) (W.seen world.old) (W.seen world.new) (λ told. (told, self.new)) (host_outcome result) }
+        ensures sides { KnowsSides (W.seen world.old) self.old → KnowsSides (W.seen world.new) self.new }
+        ensures open { (W.seen world.new).ended ≡ false }
+    {
+        let Some(record) = self.sockets.get_mut(place) else {
+            return Err(SocketError::Trap(TrapKind::NoSuchHandle));
+        };
+        let addr = record.remote_address(world, op)?;
+        Ok(addr)
+    }
+
+    /// Whether the socket of this number is listening.
+    pub fn is_listening(&self, place: usize) -> Result<bool, SocketError>
+        ensures { host_outcome result ≡ Ok (is_listening_at (slice_get self.now.sockets place)) }
+    {
+        match self.sockets.get(place) {
+            Some(record) => Ok(record.inner.is_listening()),
+            None => Err(SocketError::Trap(TrapKind::NoSuchHandle)),
+        }
+    }
+
+    /// The family of the socket of this number.
+    pub fn address_family(&self, place: usize) -> Result<SocketAddressFamily, SocketError>
+        ensures { host_outcome result ≡ Ok (address_family_at (slice_get self.now.sockets place)) }
+    {
+        match self.sockets.get(place) {
+            Some(record) => Ok(record.inner.address_family()),
+            None => Err(SocketError::Trap(TrapKind::NoSuchHandle)),
+        }
+    }
+
+    /// The network side of the socket of this number, where it has one.
+    pub fn side(&self, place: usize) -> Option<Sock>
+        ensures { result ≡ side_at (slice_get self.now.sockets place) }
+    {
+        self.sockets.get(place)?.inner.side()
     }
 
     /// Closes the network sides that the records hold, after the end mark; takes no memory.

@@ -21,6 +21,10 @@ const MOST_LIVE: usize = 65536;
 pub enum Kind {
     Network,
     Tcp2(usize),
+    /// The input of a connection, with the number of its socket's record.
+    Input(usize),
+    /// The output of a connection, with the number of its socket's record.
+    Output(usize),
 }
 
 impl Kind {
@@ -31,6 +35,8 @@ impl Kind {
         match self {
             Kind::Network => HandleKind::Network,
             Kind::Tcp2(_) => HandleKind::Tcp2,
+            Kind::Input(_) => HandleKind::Input,
+            Kind::Output(_) => HandleKind::Output,
         }
     }
 }

@@ -1,7 +1,8 @@
 -- A connect, as the list of asks that each of its stages leaves.
-use Rattle.std.specs.Prelude.{Bool, true, false, List, [], ◌∷◌}
+use Rattle.std.specs.Prelude.{◌≡◌, Bool, true, false, List, [], ◌∷◌}
 use Rattle.wasi_addr.specs.declared.address.IpSocketAddress.{IpSocketAddress}
 use Rattle.wasi_addr.specs.declared.address.SocketAddrUse.TheVariants.{TcpBind, TcpConnect}
+use Rattle.wasi_addr.specs.declared.code.ErrorCode.{ErrorCode}
 use Rattle.wasi_world.specs.Operation.{Item, Check, Connect, Last, Nothing, CloseLast, Operation}
 use Rattle.wasi_tcp.specs.declared.bind.Asker.{Asker}
 use Rattle.wasi_tcp.specs.declared.connect.ConnectStage.{ConnectStage}
@@ -24,3 +25,16 @@ connect_first false = stage.CheckWildcard
 -- one that is refused closes its side last
 abbrev pub connect_operation : Asker → IpSocketAddress → IpSocketAddress → ConnectStage → Operation
 connect_operation asker wildcard a stage = record { who = who_of asker CloseLast; left = connect_left wildcard a stage }
+
+-- what may be left of a connect
+pub data IsLeftOfConnect : List Item → Type 0 where
+  Unbound : (wildcard a : IpSocketAddress) → IsLeftOfConnect (Check wildcard TcpBind ∷ Check a TcpConnect ∷ Connect a ∷ [])
+  Unchecked : (a : IpSocketAddress) → IsLeftOfConnect (Check a TcpConnect ∷ Connect a ∷ [])
+  Checked : (a : IpSocketAddress) → IsLeftOfConnect (Connect a ∷ [])
+  ToClose : (c : ErrorCode) → IsLeftOfConnect (Last c Nothing ∷ [])
+  Ended : IsLeftOfConnect []
+
+-- The operation is a connect, at one of its stages.
+pub record IsConnect (op : Operation) : Type 0 where
+  pub last : op.who.last ≡ CloseLast
+  pub left : IsLeftOfConnect op.left

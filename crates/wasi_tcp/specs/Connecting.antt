@@ -16,7 +16,7 @@ use Rattle.wasi_tcp.specs.declared.socket.TcpState.{TcpState}
 use Rattle.wasi_tcp.specs.declared.socket.TcpState.TheVariants as state
 use Rattle.wasi_tcp.specs.Shape.{Socket}
 use Rattle.wasi_tcp.specs.Socket.{bound_asks}
-use Rattle.wasi_tcp.specs.Connect.{connect_operation, connect_first}
+use Rattle.wasi_tcp.specs.Connect.{connect_operation, connect_first, IsConnect}
 
 abbrev pub with_state : Socket → TcpState → Socket
 with_state socket s = record socket { state = s }
@@ -70,3 +70,8 @@ in_socket socket (answer, s) = (answer, with_state socket s)
 
 abbrev pub finish_connect_asks : Socket → Asks (Result (Answer (Unit {0})) ErrorCode × Socket)
 finish_connect_asks socket = bind (finish_in socket.state) (λ done. Give (in_socket socket done))
+
+-- the operation of a state that is connecting is a connect
+abbrev pub HoldsConnect : TcpState → Type 0
+HoldsConnect (state.Connecting op) = IsConnect op
+HoldsConnect _ = Unit {0}

@@ -2,7 +2,7 @@
 
 ghost use Rattle.std.specs.Prelude.{◌≡◌, Some, false};
 ghost use Rattle.wasi_world.specs.Operation.{PollsFor, Nothing};
-ghost use Rattle.wasi_tcp.specs.Connect.{connect_operation, connect_first};
+ghost use Rattle.wasi_tcp.specs.Connect.{connect_operation, connect_first, IsConnect};
 
 use crate::bind::Asker;
 use std::marker::Model;
@@ -75,6 +75,8 @@ impl ConnectOp {
     pub(crate) fn poll<W: World>(&mut self, world: &mut W) -> Result<Answer<()>, Refusal>
         requires { (W.seen world.old).ended ≡ false }
         ensures polled { PollsFor (λ done. Nothing) Nothing self.old self.new (W.seen world.old) (W.seen world.new) result }
+        ensures before { IsConnect self.old }
+        ensures after { IsConnect self.new }
         ensures open { (W.seen world.new).ended ≡ false }
     {
         let (asker, wildcard, addr) = (self.asker, self.wildcard, self.addr);

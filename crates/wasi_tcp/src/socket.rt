@@ -103,7 +103,7 @@ pub enum TcpState {
 
 impl TcpState {
     ghost use Rattle.wasi_tcp.specs.Socket.{side_in};
-    ghost use Rattle.wasi_tcp.specs.Connecting.{finish_in, settled};
+    ghost use Rattle.wasi_tcp.specs.Connecting.{finish_in, settled, HoldsConnect};
     ghost use Rattle.wasi_tcp.specs.Addresses.{remote_in};
 
     /// Polls the connect, where there is one.
@@ -112,6 +112,8 @@ impl TcpState {
         ensures asked { AsksFor (finish_in self.old) (W.seen world.old) (W.seen world.new) (λ answer. (answer, self.new)) (outcome result) }
         ensures err { OnErr (outcome result) (Reaches (finish_in self.old) (finish_in self.new) (W.seen world.old) (W.seen world.new)) }
         ensures side { OnErr (outcome result) (side_in self.new ≡ side_in self.old) }
+        ensures before { HoldsConnect self.old }
+        ensures after { HoldsConnect self.new }
         ensures open { (W.seen world.new).ended ≡ false }
     {
         match self {
@@ -180,7 +182,7 @@ impl Model for TcpSocket {
 
 impl TcpSocket {
     ghost use Rattle.wasi_tcp.specs.Socket.{side_of, new_asks, bound_asks, bind_asks, after_local, bind_start};
-    ghost use Rattle.wasi_tcp.specs.Connecting.{start_connect_asks, connect_start, finish_connect_asks, in_socket};
+    ghost use Rattle.wasi_tcp.specs.Connecting.{start_connect_asks, connect_start, finish_connect_asks, in_socket, HoldsConnect};
     ghost use Rattle.wasi_tcp.specs.Halves.{take_receive, take_send};
     ghost use Rattle.wasi_tcp.specs.Addresses.{state_text, local_side, local_asks, local_where, remote_asks};
 
@@ -385,6 +387,8 @@ impl TcpSocket {
         ensures asked { AsksFor (finish_connect_asks self.old) (W.seen world.old) (W.seen world.new) (λ answer. (answer, self.new)) (outcome result) }
         ensures err { OnErr (outcome result) (Reaches (finish_connect_asks self.old) (finish_connect_asks self.new) (W.seen world.old) (W.seen world.new)) }
         ensures side { OnErr (outcome result) (side_of self.new ≡ side_of self.old) }
+        ensures before { HoldsConnect self.old.state }
+        ensures after { HoldsConnect self.new.state }
         ensures open { (W.seen world.new).ended ≡ false }
     {
         self.state.poll_finish_connect(world)
