@@ -4,13 +4,13 @@ use Rattle.wasi_world.specs.Fields.{read_then, after_word, whole, fields_of, fie
 use Rattle.std.specs.List.{AllByRecursion, list_all}
 use Rattle.std.proofs.lemmas.Bool.{ltb-true, lt-ltb}
 use Rattle.wasi_world.specs.Written.{ReadsExactly, AreVisible, IsVisible, is_visible, number_fields}
-use Rattle.wasi_world.proofs.ReadBack.{u32_exactly, family_exactly, address_exactly, word_exactly}
-use Rattle.wasi_world.proofs.Visible.{visible_utf8, visible_line, number_visible, family_visible, address_visible, fields_of_line, line_of_fields}
-use Rattle.wasi_world.proofs.Exactly.{All, Only, exactly, all_give, only_give, all_some, only_some, all_then, only_then, all_last, only_last}
+use Rattle.wasi_world.proofs.ReadBack.{u32_exactly, family_exactly, address_exactly, bytes_exactly, word_exactly}
+use Rattle.wasi_world.proofs.Visible.{visible_utf8, visible_line, number_visible, family_visible, address_visible, bytes_visible, fields_of_line, line_of_fields}
+use Rattle.wasi_world.proofs.Exactly.{All, Only, exactly, all_give, only_give, all_some, only_some, all_then, only_then, all_last, only_last, number_exactly}
 use Rattle.wasi_world.proofs.Words.{only_word}
 use Rattle.wasi_run.specs.declared.step.Step.{Step}
-use Rattle.wasi_run.specs.declared.step.Step.TheVariants.{Network, TcpCreate, TcpStartBind, TcpFinishBind}
-use Rattle.wasi_run.specs.Steps.{fields_of_step, line_of, IsStep, steps, context_at, step_at, step_of}
+use Rattle.wasi_run.specs.declared.step.Step.TheVariants.{Network, TcpCreate, TcpStartBind, TcpFinishBind, TcpStartConnect, TcpFinishConnect, TcpLocalAddress, TcpRemoteAddress, TcpIsListening, TcpAddressFamily, Read, CheckWrite, Write, Flush}
+use Rattle.wasi_run.specs.Steps.{fields_of_step, line_of, context_of, FitsArguments, IsStep, steps, context_at, step_at, step_of}
 
 below : (below : Bool) (c d : ℕ) → cond below (Some c) None ≡ Some d → (below ≡ true) × (c ≡ d)
 below true c d h = (refl, cc)
@@ -29,21 +29,34 @@ context_exactly contexts = exactly
 abbrev ReadsStep : ℕ → ℕ → List ℕ → List (List ℕ) → Step → Type 0
 ReadsStep contexts c word taken s = IsStep contexts s × (decimal c ∷ word ∷ taken ≡ fields_of_step s)
 
+-- what holds of the first row, and what holds of the rows after it
+infixr 5 ◌and◌
+abbrev ◌and◌ : {A B : Type 0} → A → B → A × B
+first and more = (first, more)
+
+is_step : {contexts : ℕ} (s : Step) → context_of s < contexts → context_of s ≤ 4294967295 → FitsArguments s → IsStep contexts s
+is_step s context width arguments = record { context = context; width = width; arguments = arguments }
+
+length_exactly : ReadsExactly (number_at 18446744073709551615) number_fields (λ n. n ≤ 18446744073709551615)
+length_exactly = number_exactly 18446744073709551615 (omega arith)
+
 rows_only : (contexts c : ℕ) → c < contexts → c ≤ 4294967295 → AllByRecursion (λ r. Only r.reads (ReadsStep contexts c r.word)) (steps c)
-rows_only contexts c context width = (
-  only_give _ (record { context = context; width = width; arguments = tt }, refl),
-  (
-    only_last _ family_exactly (λ family u. (record { context = context; width = width; arguments = tt }, refl)),
-    (
-      only_then _ u32_exactly (λ socket fs. only_then _ u32_exactly (λ network fn. only_last _ address_exactly (λ a fa.
-          (record { context = context; width = width; arguments = (fs, fn, fa) }, refl)))),
-      (
-        only_last _ u32_exactly (λ socket fits. (record { context = context; width = width; arguments = fits }, refl)),
-        tt,
-      ),
-    ),
-  ),
-)
+rows_only contexts c context width =
+    only_then _ u32_exactly (λ output fo. only_last _ bytes_exactly (λ bytes are. (is_step _ context width (fo, are), refl)))
+    and only_give _ (is_step _ context width tt, refl)
+    and only_last _ family_exactly (λ family u. (is_step _ context width tt, refl))
+    and only_then _ u32_exactly (λ socket fs. only_then _ u32_exactly (λ network fn. only_last _ address_exactly (λ a fa. (is_step _ context width (fs, fn, fa), refl))))
+    and only_last _ u32_exactly (λ socket fits. (is_step _ context width fits, refl))
+    and only_then _ u32_exactly (λ socket fs. only_then _ u32_exactly (λ network fn. only_last _ address_exactly (λ a fa. (is_step _ context width (fs, fn, fa), refl))))
+    and only_last _ u32_exactly (λ socket fits. (is_step _ context width fits, refl))
+    and only_last _ u32_exactly (λ socket fits. (is_step _ context width fits, refl))
+    and only_last _ u32_exactly (λ socket fits. (is_step _ context width fits, refl))
+    and only_last _ u32_exactly (λ socket fits. (is_step _ context width fits, refl))
+    and only_last _ u32_exactly (λ socket fits. (is_step _ context width fits, refl))
+    and only_then _ u32_exactly (λ input fi. only_last _ length_exactly (λ len fl. (is_step _ context width (fi, fl), refl)))
+    and only_last _ u32_exactly (λ output fits. (is_step _ context width fits, refl))
+    and only_last _ u32_exactly (λ output fits. (is_step _ context width fits, refl))
+    and tt
 
 -- what follows a context and a word is read after them
 with_word : (contexts c : ℕ) → (c < contexts) × (c ≤ 4294967295) → (word : List ℕ) → IsTrue (list_all is_visible word) → {s : Step} {taken : List (List ℕ)} → All (after_word (steps c) word) s taken → All (read_then (context_at contexts) (λ c. read_then word_at (λ word. after_word (steps c) word))) s (decimal c ∷ word ∷ taken)
@@ -56,6 +69,16 @@ step_all n (TcpCreate c family) is = with_word n c (is.context, is.width) _ refl
 step_all n (TcpStartBind c socket network a) is =
     with_word n c (is.context, is.width) _ refl (all_then _ u32_exactly is.arguments.0 (all_then _ u32_exactly is.arguments.1 (all_last _ address_exactly is.arguments.2 all_give)))
 step_all n (TcpFinishBind c socket) is = with_word n c (is.context, is.width) _ refl (all_last _ u32_exactly is.arguments all_give)
+step_all n (TcpStartConnect c socket network a) is = with_word n c (is.context, is.width) _ refl (all_then _ u32_exactly is.arguments.0 (all_then _ u32_exactly is.arguments.1 (all_last _ address_exactly is.arguments.2 all_give)))
+step_all n (TcpFinishConnect c socket) is = with_word n c (is.context, is.width) _ refl (all_last _ u32_exactly is.arguments all_give)
+step_all n (TcpLocalAddress c socket) is = with_word n c (is.context, is.width) _ refl (all_last _ u32_exactly is.arguments all_give)
+step_all n (TcpRemoteAddress c socket) is = with_word n c (is.context, is.width) _ refl (all_last _ u32_exactly is.arguments all_give)
+step_all n (TcpIsListening c socket) is = with_word n c (is.context, is.width) _ refl (all_last _ u32_exactly is.arguments all_give)
+step_all n (TcpAddressFamily c socket) is = with_word n c (is.context, is.width) _ refl (all_last _ u32_exactly is.arguments all_give)
+step_all n (Read c input len) is = with_word n c (is.context, is.width) _ refl (all_then _ u32_exactly is.arguments.0 (all_last _ length_exactly is.arguments.1 all_give))
+step_all n (CheckWrite c output) is = with_word n c (is.context, is.width) _ refl (all_last _ u32_exactly is.arguments all_give)
+step_all n (Write c output bytes) is = with_word n c (is.context, is.width) _ refl (all_then _ u32_exactly is.arguments.0 (all_last _ bytes_exactly is.arguments.1 all_give))
+step_all n (Flush c output) is = with_word n c (is.context, is.width) _ refl (all_last _ u32_exactly is.arguments all_give)
 
 pub step_exactly : (contexts : ℕ) → ReadsExactly (step_at contexts) fields_of_step (IsStep contexts)
 unfolding step_at
@@ -74,6 +97,16 @@ step_visible (TcpCreate c family) is = (small c is.width, (refl, family_visible 
 step_visible (TcpStartBind c socket network a) is =
     (small c is.width, (refl, (small socket is.arguments.0, (small network is.arguments.1, address_visible a is.arguments.2))))
 step_visible (TcpFinishBind c socket) is = (small c is.width, (refl, (small socket is.arguments, tt)))
+step_visible (TcpStartConnect c socket network a) is = (small c is.width, (refl, (small socket is.arguments.0, (small network is.arguments.1, address_visible a is.arguments.2))))
+step_visible (TcpFinishConnect c socket) is = (small c is.width, (refl, (small socket is.arguments, tt)))
+step_visible (TcpLocalAddress c socket) is = (small c is.width, (refl, (small socket is.arguments, tt)))
+step_visible (TcpRemoteAddress c socket) is = (small c is.width, (refl, (small socket is.arguments, tt)))
+step_visible (TcpIsListening c socket) is = (small c is.width, (refl, (small socket is.arguments, tt)))
+step_visible (TcpAddressFamily c socket) is = (small c is.width, (refl, (small socket is.arguments, tt)))
+step_visible (Read c input len) is = (small c is.width, (refl, (small input is.arguments.0, (number_visible len (omega arith), tt))))
+step_visible (CheckWrite c output) is = (small c is.width, (refl, (small output is.arguments, tt)))
+step_visible (Write c output bytes) is = (small c is.width, (refl, (small output is.arguments.0, bytes_visible bytes is.arguments.1)))
+step_visible (Flush c output) is = (small c is.width, (refl, (small output is.arguments, tt)))
 
 no_step : (contexts : ℕ) → step_at contexts [] ≡ None
 unfolding step_at context_at read_then number_at field_at
