@@ -128,7 +128,6 @@ module _ (contexts : List WasiSocketsCtx) (steps : List Step) where
       connecting = with_state socket (state.Connecting begun)
 
       may_connect : ConnectIsFine steps es begun
-      unfolding begun asker
       may_connect = record {
         addr = a;
         to = to;
@@ -141,7 +140,6 @@ module _ (contexts : List WasiSocketsCtx) (steps : List Step) where
       side_is s p = k.side s (ap side_in e ∙ p)
 
       it_is : StartedFine old es (Ok tt, connecting)
-      unfolding begun asker connecting
       it_is = record {
         keeps = record { maker = k.maker; family = k.family; side = side_is };
         fine = record {
@@ -208,13 +206,13 @@ module _ (contexts : List WasiSocketsCtx) (steps : List Step) where
   stays es socket s answer e f h = subst (λ (t : TcpState). HasSide (with_state socket t) answer → FinishedFine socket es (answer, with_state socket t)) e (λ side. record { keeps = keeps_side socket; fine = f; side = side }) h
 
   finish : (es : List Entry) (socket : Socket) (s : TcpState) → socket.state ≡ s → SocketIsFine steps es socket → Allows (May contexts steps) (λ fs done. FinishedFine socket fs (in_socket socket done)) es (finish_in s)
-  finish es socket (state.Default side) e f = stays es socket (state.Default side) e (Err InvalidState) f tt
+  finish es socket (state.Default side) e f = stays es socket (state.Default side) (Err InvalidState) e f tt
   finish es socket (state.Connecting op) e f =
       allows_then (May contexts steps) (λ fs end. SocketIsFine steps fs socket × ConnectIsFine steps fs (left_of op end.1)) (λ fs done. FinishedFine socket fs (in_socket socket done)) es (poll_asks op) _
       (keeps_socket contexts steps socket (λ fs end. ConnectIsFine steps fs (left_of op end.1)) es (poll_asks op) f (fine_poll_connect op es (f.connect op e)))
       (λ fs end k. ended fs socket op end e k.0 k.1)
-  finish es socket (state.Connected c) e f = stays es socket (state.Connected c) e (Ok (Ready tt)) f (c.side, refl)
-  finish es socket (state.Closed c) e f = stays es socket (state.Closed c) e (Err c) f tt
+  finish es socket (state.Connected c) e f = stays es socket (state.Connected c) (Ok (Ready tt)) e f (c.side, refl)
+  finish es socket (state.Closed c) e f = stays es socket (state.Closed c) (Err c) e f tt
 
   pub fine_finish_connect : (es : List Entry) (socket : Socket) → SocketIsFine steps es socket → Allows (May contexts steps) (FinishedFine socket) es (finish_connect_asks socket)
   fine_finish_connect es socket f =

@@ -1,6 +1,6 @@
 -- Each step asks what is allowed, and leaves a state that fits the log.
 use Rattle.std.specs.Prelude.{⊤}
-use Rattle.std.proofs.Common.{◌≡◌, ◌⊎◌, ℕ, suc, ◌+◌, inl, inr, true, List, [], ◌∷◌, ◌++◌, Option, Some, None, Result, Ok, Err, slice_get, length, refl, sym, ap, subst, ◌∙◌, arith, add-zero}
+use Rattle.std.proofs.Common.{◌≡◌, ◌⊎◌, Bool, false, ℕ, suc, ◌+◌, inl, inr, true, List, [], ◌∷◌, ◌++◌, Option, Some, None, Result, Ok, Err, slice_get, length, refl, sym, ap, subst, ◌∙◌, arith, add-zero}
 use Rattle.wasi_addr.specs.declared.address.IpSocketAddress.{IpSocketAddress}
 use Rattle.wasi_addr.specs.declared.address.SocketAddressFamily.{SocketAddressFamily}
 use Rattle.wasi_addr.specs.declared.code.ErrorCode.{ErrorCode}
@@ -344,7 +344,7 @@ module _ (contexts : List WasiSocketsCtx) (steps : List Step) where
     unfolding bind
     fine_stream es m side kind is f u =
         allows_if (MayAsk contexts steps) _ es (is_full m.table) _ _ (λ full. u.0) (λ room. (
-          (u.0.count, record { origin = step.TcpFinishConnect ctx s; at = l; holds = (is, refl, marked es m side u) }),
+          (u.0.count, record { origin = step.TcpFinishConnect ctx s; at = l; holds = (is, (refl, marked es m side u)) }),
           λ t fits. (
             state_made steps es m (own_of line) (name_of kind) (Some s) (Some side) t kind (f _ _ (stream_of es m side (name_of kind) u t)) u.0,
             kind_front m.table.live _ s (Tcp2 place) u.1,

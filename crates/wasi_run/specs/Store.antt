@@ -1,5 +1,6 @@
 -- The records that handles name, and the call that stands.
 use Rattle.std.specs.Prelude.{◌≡◌, ℕ, Bool, true, false, List, [], ◌∷◌, ◌++◌, Option, Some, None, Result, Ok, Err, slice_get, slice_set, length}
+use Rattle.std.specs.declared.alloc.AllocError.{AllocError}
 use Rattle.wasi_addr.specs.declared.address.IpSocketAddress.{IpSocketAddress}
 use Rattle.wasi_addr.specs.declared.address.SocketAddressFamily.{SocketAddressFamily}
 use Rattle.wasi_addr.specs.declared.code.ErrorCode.{ErrorCode}
@@ -7,6 +8,8 @@ use Rattle.wasi_addr.specs.declared.p2.ErrorCode.TheVariants.{ConcurrencyConflic
 use Rattle.wasi_world.specs.declared.ids.OpId.{OpId}
 use Rattle.wasi_world.specs.declared.outcome.Answer.{Answer}
 use Rattle.wasi_world.specs.declared.outcome.Answer.TheVariants.{Ready, Pending}
+use Rattle.wasi_world.specs.declared.outcome.Refusal.{Refusal}
+use Rattle.wasi_world.specs.declared.outcome.Refusal.TheVariants as refusal
 use Rattle.wasi_world.specs.declared.outcome.TrapKind.TheVariants.{NoSuchHandle}
 use Rattle.wasi_world.specs.Asks.{Asks, Give, bind}
 use Rattle.wasi_world.specs.Operation.{Operation, Item, End, Waits, Done, Refused, poll_asks}
@@ -126,6 +129,19 @@ abbrev pub connect_polled : Tcp2Socket → Result (Answer (Unit {0})) ErrorCode 
 connect_polled r (Ok Pending, socket) = (Err (Code WouldBlock), with_inner r socket)
 connect_polled r (Ok (Ready done), socket) = (Ok done, record { inner = socket; in_progress = doing.Nothing })
 connect_polled r (Err c, socket) = (Err (code_stop c), record { inner = socket; in_progress = doing.Nothing })
+
+-- the same of what the code answers: out of memory, it stays in progress
+abbrev pub connect_settled : Tcp2Socket → Result (Answer (Unit {0})) Refusal → Tcp2Socket
+connect_settled r (Ok Pending) = r
+connect_settled r (Ok (Ready done)) = record r { in_progress = doing.Nothing }
+connect_settled r (Err (refusal.Code c)) = record r { in_progress = doing.Nothing }
+connect_settled r (Err (refusal.Memory e)) = r
+
+abbrev pub connect_told : Result (Answer (Unit {0})) Refusal → Result (Result (Unit {0}) Stop) AllocError
+connect_told (Ok Pending) = Ok (Err (Code WouldBlock))
+connect_told (Ok (Ready done)) = Ok (Ok done)
+connect_told (Err (refusal.Code c)) = Ok (Err (code_stop c))
+connect_told (Err (refusal.Memory e)) = Err e
 
 abbrev pub poll_connect_asks : Tcp2Socket → Asks (Result (Unit {0}) Stop × Tcp2Socket)
 poll_connect_asks r = bind (finish_connect_asks r.inner) (λ done. Give (connect_polled r done))

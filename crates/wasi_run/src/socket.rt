@@ -6,7 +6,7 @@ ghost use Rattle.wasi_tcp.specs.Bind.{IsOf};
 ghost use Rattle.wasi_tcp.specs.Socket.{side_of};
 ghost use Rattle.wasi_run.specs.Host.{host_outcome};
 ghost use Rattle.wasi_run.specs.Sides.{ClosesOwn};
-ghost use Rattle.wasi_run.specs.Store.{is_nothing, is_bind, is_connect, begin_bind_asks, poll_bind_asks, begin_connect_asks, poll_connect_asks, tell_local_asks, tell_remote_asks, new_record};
+ghost use Rattle.wasi_run.specs.Store.{is_nothing, is_bind, is_connect, begin_bind_asks, poll_bind_asks, begin_connect_asks, poll_connect_asks, connect_told, connect_settled, tell_local_asks, tell_remote_asks, new_record};
 
 use crate::host::SocketError;
 use wasi_addr::{IpSocketAddress, p2};
@@ -120,7 +120,16 @@ impl Tcp2Socket {
         ensures closed { ClosesOwn (W.seen world.old) (W.seen world.new) self.old.inner self.new.inner }
         ensures open { (W.seen world.new).ended ≡ false }
     {
-        match self.inner.poll_finish_connect(world) {
+        let polled = self.inner.poll_finish_connect(world);
+        self.settle_connect(polled)
+    }
+
+    /// What a poll of the connect makes of the record, and of the answer.
+    fn settle_connect(&mut self, polled: Result<Answer<()>, Refusal>) -> Result<(), SocketError>
+        ensures told { host_outcome result ≡ connect_told polled }
+        ensures settled { self.new ≡ connect_settled self.old polled }
+    {
+        match polled {
             Ok(Answer::Pending) => Err(SocketError::Code(p2::ErrorCode::WouldBlock)),
             Ok(Answer::Ready(())) => {
                 self.in_progress = InProgress::Nothing;
