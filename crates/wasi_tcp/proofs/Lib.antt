@@ -1,3 +1,4 @@
 pub mod Connects
 pub mod LocalAddresses
 pub mod RemoteAddresses
+pub mod Readers

@@ -5,4 +5,5 @@ pub mod Connect
 pub mod Connecting
 pub mod Addresses
 pub mod Halves
+pub mod Reader
 pub mod Calls

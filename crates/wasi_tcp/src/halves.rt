@@ -75,10 +75,20 @@ impl TcpReceiveStream {
         answer(told)
     }
 
-    /// Shuts this half down.
+    /// Gives this half up: shuts it down.
     pub fn give_up<W: World>(self, world: &mut W, op: OpId) -> Result<(), AllocError>
         requires { (W.seen world.old).ended ≡ false }
         ensures asked { AsksFor (ask_shutdown op self.side ShutdownType.Receive) (W.seen world.old) (W.seen world.new) (λ done. done) result }
+        ensures err { OnErr result (W.seen world.new ≡ W.seen world.old) }
+        ensures open { (W.seen world.new).ended ≡ false }
+    {
+        self.shut_down(world, op)
+    }
+
+    /// Shuts this half down. Whoever keeps it lets it go then.
+    pub(crate) fn shut_down<W: World>(&self, world: &mut W, op: OpId) -> Result<(), AllocError>
+        requires { (W.seen world.old).ended ≡ false }
+        ensures asked { AsksFor (ask_shutdown op self.now.side ShutdownType.Receive) (W.seen world.old) (W.seen world.new) (λ done. done) result }
         ensures err { OnErr result (W.seen world.new ≡ W.seen world.old) }
         ensures open { (W.seen world.new).ended ≡ false }
     {
@@ -121,10 +131,20 @@ impl TcpSendStream {
         answer(told)
     }
 
-    /// Shuts this half down.
+    /// Gives this half up: shuts it down.
     pub fn give_up<W: World>(self, world: &mut W, op: OpId) -> Result<(), AllocError>
         requires { (W.seen world.old).ended ≡ false }
         ensures asked { AsksFor (ask_shutdown op self.side ShutdownType.Send) (W.seen world.old) (W.seen world.new) (λ done. done) result }
+        ensures err { OnErr result (W.seen world.new ≡ W.seen world.old) }
+        ensures open { (W.seen world.new).ended ≡ false }
+    {
+        self.shut_down(world, op)
+    }
+
+    /// Shuts this half down. Whoever keeps it lets it go then.
+    pub(crate) fn shut_down<W: World>(&self, world: &mut W, op: OpId) -> Result<(), AllocError>
+        requires { (W.seen world.old).ended ≡ false }
+        ensures asked { AsksFor (ask_shutdown op self.now.side ShutdownType.Send) (W.seen world.old) (W.seen world.new) (λ done. done) result }
         ensures err { OnErr result (W.seen world.new ≡ W.seen world.old) }
         ensures open { (W.seen world.new).ended ≡ false }
     {

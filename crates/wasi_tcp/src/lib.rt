@@ -7,11 +7,13 @@ mod bind;
 mod connect;
 mod halves;
 pub mod laws;
+mod reader;
 mod socket;
 
 pub use bind::{BindOp, BindStage};
 pub use connect::{ConnectOp, ConnectStage};
 pub use halves::{TcpReceiveStream, TcpSendStream};
+pub use reader::ReadState;
 pub use socket::{Connection, TcpSocket, TcpState};
 
 #[cfg(test)]
