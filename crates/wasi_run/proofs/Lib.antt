@@ -2,6 +2,8 @@ pub mod Hosts
 pub mod Lookups
 pub mod SideCounts
 pub mod ConnectCounts
+pub mod StreamCounts
+pub mod StreamCalls
 pub mod Takes
 pub mod Stretches
 pub mod OneLine
