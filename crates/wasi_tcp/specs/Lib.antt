@@ -6,4 +6,6 @@ pub mod Connecting
 pub mod Addresses
 pub mod Halves
 pub mod Reader
+pub mod Job
+pub mod Writer
 pub mod Calls

@@ -6,7 +6,7 @@ ghost use Rattle.wasi_world.specs.Typed.{ask_read_ready, ask_write_ready, ask_sh
 ghost use Rattle.wasi_tcp.specs.Halves.{polled_answer, read_asks, write_asks};
 
 use std::alloc::{AllocError, Global};
-use wasi_addr::ShutdownType;
+use wasi_addr::{ErrorCode, ShutdownType};
 use wasi_world::asks::Polled;
 use wasi_world::{Answer, Octets, OpId, Refusal, Sock, World, asks};
 
@@ -33,6 +33,19 @@ fn answer<T: Drop>(told: Polled<T>) -> Result<Answer<T>, Refusal>
         Polled::Ready(value) => Ok(Answer::Ready(value)),
         Polled::Pending => Ok(Answer::Pending),
         Polled::Code(code) => Err(Refusal::Code(code)),
+    }
+}
+
+/// An answer that may be a code, apart from want of memory.
+pub(crate) fn answered<T: Drop>(
+    told: Result<T, Refusal>,
+) -> Result<Result<T, ErrorCode>, AllocError>
+    ensures { result ≡ outcome told }
+{
+    match told {
+        Ok(value) => Ok(Ok(value)),
+        Err(Refusal::Code(code)) => Ok(Err(code)),
+        Err(Refusal::Memory(e)) => Err(e),
     }
 }
 

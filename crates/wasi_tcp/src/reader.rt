@@ -1,15 +1,15 @@
 //! The reading end of a connection as a stream.
 
 ghost use Rattle.std.specs.Prelude.{◌≡◌, false, [], OnErr};
-ghost use Rattle.wasi_world.specs.Asks.{AsksFor, outcome};
+ghost use Rattle.wasi_world.specs.Asks.{AsksFor};
 ghost use Rattle.wasi_streams.specs.StreamStop.{stream_outcome};
 ghost use Rattle.wasi_tcp.specs.Reader.{reader_side, reader_ready_asks, reader_shutdown_asks, read_state_asks, after_read};
 
-use crate::halves::TcpReceiveStream;
+use crate::halves::{TcpReceiveStream, answered};
 use std::alloc::{AllocError, Global};
 use wasi_addr::ErrorCode;
 use wasi_streams::StreamError;
-use wasi_world::{Answer, Octets, OpId, Refusal, Sock, World};
+use wasi_world::{Answer, Octets, OpId, Sock, World};
 
 /// What a guest reads from: the receiving half of a connection, until it is given up.
 #[derive(Debug, Drop)]
@@ -17,17 +17,6 @@ pub enum ReadState {
     Open(TcpReceiveStream),
     /// The half was given up: at its end, after a code, or because it was asked for.
     Closed,
-}
-
-/// An answer that may be a code, apart from want of memory.
-fn answered<T: Drop>(told: Result<T, Refusal>) -> Result<Result<T, ErrorCode>, AllocError>
-    ensures { result ≡ outcome told }
-{
-    match told {
-        Ok(value) => Ok(Ok(value)),
-        Err(Refusal::Code(code)) => Ok(Err(code)),
-        Err(Refusal::Memory(e)) => Err(e),
-    }
 }
 
 /// No bytes.
