@@ -21,6 +21,8 @@ pub mod Bounds
 pub mod Binds
 pub mod Connects
 pub mod Tells
+pub mod Openings
+pub mod Flows
 pub mod FineSteps
 pub mod Licences
 pub mod Meanings
