@@ -517,6 +517,7 @@ module _ (contexts : List WasiSocketsCtx) (steps : List Step) where
         (λ fs made k. k))
 
     fine_converted : {T : Type 0} (es : List Entry) (m : Machine) (done : Result T StreamStop × Records) → kind_at m.table handle ≡ Some kind → FlowedAt m place es done → Meets Leaves es (converted (own_of line) handle place (with_store m done))
+    unfolding bind
     fine_converted es m (Ok value, store) e k = k.0
     fine_converted es m (Err (stop.Failed c), store) e k =
         and_then Leaves Leaves es (convert_asks (record m { store = store }) (own_of line) handle place (stop.Failed c)) _ (fine_failed es (record m { store = store }) c k.1.0 e k.1.1 k.0) (λ fs made q. q)

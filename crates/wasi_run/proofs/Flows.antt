@@ -128,17 +128,23 @@ module _ (contexts : List WasiSocketsCtx) (steps : List Step) where
     GoesOn es (Again item) = ⊥
     GoesOn es f = Names es op side
 
+    fine_taken : (es : List Entry) (who : Who) (bytes : List ℕ) (item : Item) (p : Polled ℕ) → Names es op side → ((skip : ℕ) → Allows (May contexts steps) GoesOn es (write_front who bytes skip))
+        → Allows (May contexts steps) GoesOn es (taken_front (λ skip. write_front who bytes skip) item p)
+    fine_taken es who bytes item (polled.Ready k) n h = h (less_one k)
+    fine_taken es who bytes item polled.Pending n h = n
+    fine_taken es who bytes item (polled.Code c) n h = n
+
     fine_front : (es : List Entry) (who : Who) (bytes : List ℕ) (skip : ℕ) → who.id ≡ op → who.side ≡ side → Names es op side → Allows (May contexts steps) GoesOn es (write_front who bytes skip)
-    fine_taken : (es : List Entry) (who : Who) (bytes : List ℕ) (item : Item) (p : Polled ℕ) → who.id ≡ op → who.side ≡ side → Names es op side → Allows (May contexts steps) GoesOn es (taken_front (λ skip. write_front who bytes skip) item p)
+    unfolding bind
     fine_front es who [] skip i s n = n
     fine_front es who (b ∷ bytes) (suc skip) i s n = fine_front es who bytes skip i s n
     fine_front es who (b ∷ bytes) zero i s n = (
       (rw i (inl (named es who.side s n)), tt),
-      λ t fits front. fine_taken _ who bytes (Write (b ∷ bytes)) _ i s (names_on es _ op side n),
+      λ t fits front.
+          let fs = es ++ entry who.id (call.Write who.side (length (b ∷ bytes))) t ∷ [] in
+          let more = names_on es _ op side n in
+          fine_taken fs who bytes (Write (b ∷ bytes)) _ more (λ skip. fine_front fs who bytes skip i s more),
     )
-    fine_taken es who bytes item (polled.Ready k) i s n = fine_front es who bytes (less_one k) i s n
-    fine_taken es who bytes item polled.Pending i s n = n
-    fine_taken es who bytes item (polled.Code c) i s n = n
 
     abbrev KeepsName : List Entry → End × List Item → Type 0
     KeepsName es ended = Names es op side

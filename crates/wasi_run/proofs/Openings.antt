@@ -2,6 +2,7 @@
 use Rattle.std.specs.Prelude.{⊤}
 use Rattle.std.proofs.Common.{◌≡◌, Bool, true, false, List, Option, Some, None, Ok, Err, Result, refl, sym, ap, subst, ◌∙◌}
 use Rattle.wasi_addr.specs.declared.code.ErrorCode.{ErrorCode}
+use Rattle.wasi_addr.specs.declared.code.ErrorCode.TheVariants.{InvalidState}
 use Rattle.wasi_world.specs.declared.ids.OpId.{OpId}
 use Rattle.wasi_world.specs.declared.call.Entry.{Entry}
 use Rattle.wasi_world.specs.declared.outcome.WasiSocketsCtx.{WasiSocketsCtx}
@@ -18,7 +19,7 @@ use Rattle.wasi_tcp.specs.Halves.{taken_receive, taken_send, take_receive, take_
 use Rattle.wasi_run.specs.declared.socket.Streams.{Streams}
 use Rattle.wasi_run.specs.declared.socket.Tcp2Socket.{Tcp2Socket}
 use Rattle.wasi_run.specs.declared.step.Step.{Step}
-use Rattle.wasi_run.specs.Host.{Stop}
+use Rattle.wasi_run.specs.Host.{Stop, code_stop}
 use Rattle.wasi_run.specs.Store.{idle, new_streams, opened_send, opened_receive, opened}
 use Rattle.wasi_run.proofs.Fine.{IsConnectedOn, StreamsAreFine, SocketIsFine, RecordIsFine}
 use Rattle.wasi_run.proofs.Frames.{KeepsSide, keeps_then, record_kept}
@@ -31,8 +32,8 @@ module _ (contexts : List WasiSocketsCtx) (steps : List Step) where
   Opened r es (Err stop, now) = KeepsSide r.inner now.inner × RecordIsFine steps es now × ⊤
 
   module _ (es : List Entry) (r : Tcp2Socket) (side : OpId) (h : RecordIsFine steps es r) where
-    refused : (c : ErrorCode) (socket : Socket) (stop : Stop) → KeepsSide r.inner socket → SocketIsFine steps es socket → Opened r es (Err stop, idle r socket)
-    refused c socket stop k f = (k, record_kept steps es r (idle r socket) (record { keeps = k; streams = refl }) f h, tt)
+    refused : (socket : Socket) (stop : Stop) → KeepsSide r.inner socket → SocketIsFine steps es socket → Opened r es (Err stop, idle r socket)
+    refused socket stop k f = (k, record_kept steps es r (idle r socket) (record { keeps = k; streams = refl }) f h, tt)
 
     both : (receive : TcpReceiveStream) (send : TcpSendStream) (socket : Socket) → receive.side ≡ side → send.side ≡ side → IsConnectedOn socket side → KeepsSide r.inner socket → SocketIsFine steps es socket
         → Opened r es (Ok tt, record (idle r socket) { streams = Some (new_streams receive send) })
@@ -54,20 +55,20 @@ module _ (contexts : List WasiSocketsCtx) (steps : List Step) where
     take_both : (receive : TcpReceiveStream) (socket : Socket) (c : Connection) (taken : Bool) → receive.side ≡ side → socket.state ≡ state.Connected c → c.side ≡ side → KeepsSide r.inner socket → SocketIsFine steps es socket
         → Opened r es (opened_send r receive (in_socket socket (still_connected (taken_send c taken))))
     take_both receive socket c true a e s k f =
-        refused _ (with_state socket (state.Connected c)) _ (keeps_then r.inner socket _ k (connected_keeps contexts steps socket c c e refl)) (connected_fine contexts steps es socket c c e refl f)
+        refused (with_state socket (state.Connected c)) (code_stop InvalidState) (keeps_then r.inner socket (with_state socket (state.Connected c)) k (connected_keeps contexts steps socket c c e refl)) (connected_fine contexts steps es socket c c e refl f)
     take_both receive socket c false a e s k f =
         let now = record c { send_taken = true } in
         both receive (record { side = c.side }) (with_state socket (state.Connected now)) a s (record { connection = now; state = refl; same = s })
-        (keeps_then r.inner socket _ k (connected_keeps contexts steps socket c now e refl)) (connected_fine contexts steps es socket c now e refl f)
+        (keeps_then r.inner socket (with_state socket (state.Connected now)) k (connected_keeps contexts steps socket c now e refl)) (connected_fine contexts steps es socket c now e refl f)
 
     take_first : (socket : Socket) (c : Connection) (taken : Bool) → socket.state ≡ state.Connected c → c.side ≡ side → KeepsSide r.inner socket → SocketIsFine steps es socket
         → Opened r es (opened_receive r (in_socket socket (still_connected (taken_receive c taken))))
     take_first socket c true e s k f =
-        refused _ (with_state socket (state.Connected c)) _ (keeps_then r.inner socket _ k (connected_keeps contexts steps socket c c e refl)) (connected_fine contexts steps es socket c c e refl f)
+        refused (with_state socket (state.Connected c)) (code_stop InvalidState) (keeps_then r.inner socket (with_state socket (state.Connected c)) k (connected_keeps contexts steps socket c c e refl)) (connected_fine contexts steps es socket c c e refl f)
     take_first socket c false e s k f =
         let now : Connection = record c { receive_taken = true } in
         take_both (record { side = c.side }) (with_state socket (state.Connected now)) now c.send_taken s refl s
-        (keeps_then r.inner socket _ k (connected_keeps contexts steps socket c now e refl)) (connected_fine contexts steps es socket c now e refl f)
+        (keeps_then r.inner socket (with_state socket (state.Connected now)) k (connected_keeps contexts steps socket c now e refl)) (connected_fine contexts steps es socket c now e refl f)
 
   pub opened_record : (es : List Entry) (r : Tcp2Socket) (socket : Socket) (side : OpId) → IsConnectedOn socket side → KeepsSide r.inner socket → SocketIsFine steps es socket → RecordIsFine steps es r → Opened r es (opened r socket)
   opened_record es r socket side c k f h =

@@ -40,19 +40,19 @@ module _ (m : Machine) (own : OpId) (handle place : ℕ) where
   stopped_by (call.Trap k) h = asks_end _ h.ok refl
   stopped_by (call.Memory e) h = record { ok = tt; err = record { rest = bind h.err.rest _; reached = reaches_in _ h.err.reached } }
 
-  module _ {T : Type 0} {tree : Asks (Result T StreamStop × Records)} {store : Records} {s t u : Seen} where
-    abbrev After : Machine
-    After = record m { store = store }
+  abbrev After : Records → Machine
+  After store = record m { store = store }
 
+  module _ {T : Type 0} {tree : Asks (Result T StreamStop × Records)} {store : Records} {s t : Seen} where
     -- the call gave a value
     pub converted_ok : (value : T) → AsksFor tree s t (λ a. (a, store)) (stream_outcome {T = T} (Ok value))
-        → AsksFor (bind tree (λ done. converted own handle place (with_store m done))) s t (λ x. (x, After)) (call_outcome {T = T} (Ok value))
+        → AsksFor (bind tree (λ done. converted own handle place (with_store m done))) s t (λ x. (x, After store)) (call_outcome {T = T} (Ok value))
     converted_ok value h = asks_end _ h.ok refl
 
     -- or an error, which was converted
-    pub converted_err : {after : Machine} (x : StreamError) (r : CallError) → AsksFor tree s t (λ a. (a, store)) (stream_outcome {T = T} (Err x))
-        → IsStreamStop x (λ why. AsksFor (convert_asks After own handle place why) t u (λ c. (c, after)) (error_outcome r))
-        → IfStreamMemory x (λ e. (r ≡ call.Memory e) × (after ≡ After) × (u ≡ t))
+    pub converted_err : {u : Seen} {after : Machine} (x : StreamError) (r : CallError) → AsksFor tree s t (λ a. (a, store)) (stream_outcome {T = T} (Err x))
+        → IsStreamStop x (λ why. AsksFor (convert_asks (After store) own handle place why) t u (λ c. (c, after)) (error_outcome r))
+        → IfStreamMemory x (λ e. (r ≡ call.Memory e) × (after ≡ After store) × (u ≡ t))
         → AsksFor (bind tree (λ done. converted own handle place (with_store m done))) s u (λ y. (y, after)) (call_outcome {T = T} (Err r))
     converted_err (told.LastOperationFailed c) r h k z = asks_then _ h.ok (stopped_by r k)
     converted_err told.Closed r h k z = asks_then _ h.ok (stopped_by r k)

@@ -66,14 +66,16 @@ abbrev IsCalmFront : Front → Type 0
 IsCalmFront (Again i) = ⊥
 IsCalmFront _ = Unit {0}
 
+calm_taken : (who : Who) (bytes : List ℕ) (item : Item) (p : Polled ℕ) → ((skip : ℕ) → Calm IsCalmFront (write_front who bytes skip)) → Calm IsCalmFront (taken_front (λ skip. write_front who bytes skip) item p)
+calm_taken who bytes item (polled.Ready n) h = h (less_one n)
+calm_taken who bytes item polled.Pending h = tt
+calm_taken who bytes item (polled.Code c) h = tt
+
 calm_front : (who : Who) (bytes : List ℕ) (skip : ℕ) → Calm IsCalmFront (write_front who bytes skip)
-calm_taken : (who : Who) (bytes : List ℕ) (item : Item) (p : Polled ℕ) → Calm IsCalmFront (taken_front (λ skip. write_front who bytes skip) item p)
+unfolding bind
 calm_front who [] skip = tt
 calm_front who (b ∷ bytes) (suc skip) = calm_front who bytes skip
-calm_front who (b ∷ bytes) zero = λ t. calm_taken who bytes (Write (b ∷ bytes)) _
-calm_taken who bytes item (polled.Ready n) = calm_front who bytes (less_one n)
-calm_taken who bytes item polled.Pending = tt
-calm_taken who bytes item (polled.Code c) = tt
+calm_front who (b ∷ bytes) zero = λ t. calm_taken who bytes (Write (b ∷ bytes)) _ (calm_front who bytes)
 
 calm_last : (who : Who) (c : ErrorCode) (g : Given) → who.last ≡ ShutdownLast → Calm Any (last_ask who who.last c g)
 unfolding bind

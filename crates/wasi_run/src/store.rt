@@ -245,10 +245,10 @@ impl Store {
         ensures sides { KnowsSides (W.seen world.old) self.old → KnowsSides (W.seen world.new) self.new }
         ensures open { (W.seen world.new).ended ≡ false }
     {
-        match self.sockets.get_mut(place) {
-            Some(record) => record.read(alloc, world, op, len),
-            None => Err(StreamError::Trap(TrapKind::NoSuchHandle)),
-        }
+        let Some(record) = self.sockets.get_mut(place) else {
+            return Err(StreamError::Trap(TrapKind::NoSuchHandle));
+        };
+        record.read(alloc, world, op, len)
     }
 
     /// How much may be written to the connection of the socket of this number.
@@ -263,10 +263,10 @@ impl Store {
         ensures sides { KnowsSides (W.seen world.old) self.old → KnowsSides (W.seen world.new) self.new }
         ensures open { (W.seen world.new).ended ≡ false }
     {
-        match self.sockets.get_mut(place) {
-            Some(record) => record.check_write(world, op),
-            None => Err(StreamError::Trap(TrapKind::NoSuchHandle)),
-        }
+        let Some(record) = self.sockets.get_mut(place) else {
+            return Err(StreamError::Trap(TrapKind::NoSuchHandle));
+        };
+        record.check_write(world, op)
     }
 
     /// Writes to the connection of the socket of this number.
@@ -282,10 +282,10 @@ impl Store {
         ensures sides { KnowsSides (W.seen world.old) self.old → KnowsSides (W.seen world.new) self.new }
         ensures open { (W.seen world.new).ended ≡ false }
     {
-        match self.sockets.get_mut(place) {
-            Some(record) => record.write(world, op, bytes),
-            None => Err(StreamError::Trap(TrapKind::NoSuchHandle)),
-        }
+        let Some(record) = self.sockets.get_mut(place) else {
+            return Err(StreamError::Trap(TrapKind::NoSuchHandle));
+        };
+        record.write(world, op, bytes)
     }
 
     /// Tells a kept error of the writer of the socket of this number.
@@ -295,10 +295,10 @@ impl Store {
         ensures sides { KnowsSides (W.seen world.old) self.old → KnowsSides (W.seen world.new) self.new }
         ensures open { (W.seen world.new).ended ≡ false }
     {
-        match self.sockets.get_mut(place) {
-            Some(record) => record.flush(world),
-            None => Err(StreamError::Trap(TrapKind::NoSuchHandle)),
-        }
+        let Some(record) = self.sockets.get_mut(place) else {
+            return Err(StreamError::Trap(TrapKind::NoSuchHandle));
+        };
+        record.flush(world)
     }
 
     /// Closes the network sides that the records hold, after the end mark; takes no memory.

@@ -2,6 +2,12 @@
 //! log.
 #![tactic(auto)]
 
+#[cfg(test)]
+mod connections;
+#[cfg(test)]
+mod given;
+#[cfg(test)]
+mod logs;
 pub mod quiet;
 #[cfg(test)]
 mod replies;

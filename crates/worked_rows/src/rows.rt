@@ -1,9 +1,9 @@
 //! The program from its words to its log. The rows are worked by hand from the rules in docs/MODEL.md.
 
-use std::alloc::Global;
+use crate::given::Given;
 use std::test::Fail;
 use wasi_addr::{IpSocketAddress, Ipv4SocketAddress, SocketAddrUse, SocketAddressFamily};
-use wasi_run::{Done, RunEnd, run_main, run_script};
+use wasi_run::{RunEnd, run_main, run_script};
 use wasi_world::{Call, HandleKind, MemorySink, MemorySource, OpId, ScriptedWorld, Told};
 
 const BIND: &[u8] =
@@ -24,49 +24,6 @@ const LOCAL: IpSocketAddress = IpSocketAddress::Ipv4(Ipv4SocketAddress {
 });
 
 const WHOLE: &[u8] = b"ok 1\nok 2\nok\nok\n";
-
-/// What is handed to the program, and how its streams behave.
-#[derive(Clone, Copy)]
-struct Given<'a> {
-    words: &'a [&'a str],
-    scenario: &'a [u8],
-    script: &'a [u8],
-    // Reads and writes give or take at most so many bytes.
-    most: usize,
-    room: usize,
-    failing_reads: &'a [u32],
-    failing_writes: &'a [u32],
-}
-
-impl<'a> Given<'a> {
-    /// The words `run limit`, an empty scenario and streams without faults.
-    fn script(words: &'a [&'a str], script: &'a [u8]) -> Given<'a> {
-        Given {
-            words,
-            scenario: b"",
-            script,
-            most: 4096,
-            room: 4096,
-            failing_reads: &[],
-            failing_writes: &[],
-        }
-    }
-
-    fn run(&self, alloc: Global) -> Result<Done<MemorySource, MemorySink>, Fail> {
-        let mut words = Vec::new(alloc);
-        for word in self.words {
-            words.push(word.to_string(alloc)?)?;
-        }
-        let most = self.most.max(1);
-        let scenario = self.scenario.to_vec(alloc)?;
-        let mut scenario = MemorySource::new(scenario, most, Vec::new(alloc));
-        let fails = self.failing_reads.to_vec(alloc)?;
-        let source = MemorySource::new(self.script.to_vec(alloc)?, most, fails);
-        let fails = self.failing_writes.to_vec(alloc)?;
-        let sink = MemorySink::new(alloc, most, self.room, fails)?;
-        Ok(run_main(alloc, words.as_slice(), &mut scenario, source, sink))
-    }
-}
 
 fn op(step: u32) -> OpId {
     OpId { step, part: 0 }

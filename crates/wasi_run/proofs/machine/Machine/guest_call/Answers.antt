@@ -1,5 +1,5 @@
 use Rattle.wasi_world.proofs.Walks.{asks_answered, given_answered}
-use Rattle.wasi_run.specs.Machine.{handle_reply, answer_reply, done_reply, pair_reply, address_reply, truth_reply, family_reply}
+use Rattle.wasi_run.specs.Machine.{handle_reply, answer_reply, done_reply, pair_reply, address_reply, truth_reply, family_reply, bytes_reply, permit_reply, taken_reply}
 use Rattle.wasi_run.proofs.machine.Machine.guest_call.Goals as goal
 
 pub returns-in-Network-clause-asked : goal.returns-in-Network-clause-asked
@@ -31,3 +31,15 @@ returns-in-TcpIsListening-clause-asked g c = rw c.in-TcpIsListening.is (given_an
 
 pub returns-in-TcpAddressFamily-clause-asked : goal.returns-in-TcpAddressFamily-clause-asked
 returns-in-TcpAddressFamily-clause-asked g c = rw c.in-TcpAddressFamily.is (given_answered family_reply _ _ _ c.address_family.ensures c.family_reply.ensures)
+
+pub returns-in-Read-clause-asked : goal.returns-in-Read-clause-asked
+returns-in-Read-clause-asked g c = rw c.in-Read.is (asks_answered bytes_reply _ _ c.read-read.ensures.asked c.bytes_reply.ensures)
+
+pub returns-in-CheckWrite-clause-asked : goal.returns-in-CheckWrite-clause-asked
+returns-in-CheckWrite-clause-asked g c = rw c.in-CheckWrite.is (asks_answered permit_reply _ _ c.check_write-permit.ensures.asked c.permit_reply.ensures)
+
+pub returns-in-Write-clause-asked : goal.returns-in-Write-clause-asked
+returns-in-Write-clause-asked g c = rw c.in-Write.is (asks_answered taken_reply _ _ c.write-written.ensures.asked c.taken_reply.ensures)
+
+pub returns-in-Flush-clause-asked : goal.returns-in-Flush-clause-asked
+returns-in-Flush-clause-asked g c = rw c.in-Flush.is (asks_answered taken_reply _ _ c.flush-flushed.ensures.asked c.taken_reply-in-Flush.ensures)
