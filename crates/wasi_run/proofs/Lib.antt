@@ -28,6 +28,9 @@ pub mod StepLaws
 pub mod ReplyTexts
 pub mod ReplyBack
 pub mod StepCauses
+pub mod RecordCauses
+pub mod BoundCauses
+pub mod StartCauses
 pub mod CreateCauses
 pub mod BindCauses
 pub mod TrapCauses
