@@ -33,4 +33,5 @@ pub mod BoundCauses
 pub mod StartCauses
 pub mod CreateCauses
 pub mod BindCauses
+pub mod ConnectCauses
 pub mod TrapCauses

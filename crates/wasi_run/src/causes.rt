@@ -14,7 +14,7 @@ ghost use Rattle.wasi_run.specs.declared.machine.Machine.{Machine};
 ghost use Rattle.wasi_run.specs.declared.reply.CodeWord.{CodeWord};
 ghost use Rattle.wasi_run.specs.declared.reply.Reply.{Reply};
 ghost use Rattle.wasi_run.specs.declared.step.Step.{Step};
-ghost use Rattle.wasi_run.specs.Answered.{Answered, CreateRefusal, EndsPending, HasNoBindInProgress, HasOperationInProgress, IsStartBind, KnowsBound, MakesHandle, MissesHandle, RefusedBind, record_at};
+ghost use Rattle.wasi_run.specs.Answered.{Answered, CreateRefusal, EndsPending, HasNoBindInProgress, HasOperationInProgress, IsStartBind, KnowsBound, MakesHandle, MissesHandle, RefusedBind, RefusedConnect, record_at};
 ghost use Rattle.wasi_run.specs.Licence.{entry, marks_in};
 ghost use Rattle.wasi_run.specs.Machine.{context_at, is_network, own_of};
 ghost use Rattle.wasi_run.specs.Store.{with_record};
@@ -103,4 +103,19 @@ pub fn bind_refusals()
     ensures stays { (contexts : List WasiSocketsCtx) (m : Machine) (line ctx handle network : ℕ) (a : IpSocketAddress) (entries : List Entry) (word : CodeWord) (after : Machine)
         → Answered contexts m line (Step.TcpStartBind ctx handle network a) entries (Reply.Err word) after
         → (after ≡ m) ⊎ ((word ≡ CodeWord.InvalidState) × KnowsBound m handle after) }
+{}
+
+/// The start of a connect is refused with `concurrency-conflict` exactly where an operation is in progress, whichever, and else
+/// by its own tests. The machine is as it was then, but that a socket that was found bound is known to be.
+pub fn start_connect_refusals()
+    ensures exactly { (contexts : List WasiSocketsCtx) (m : Machine) (line ctx handle network : ℕ) (a : IpSocketAddress) (entries : List Entry) (reply : Reply) (after : Machine)
+        → m.store.standing ≡ None → is_network (kind_at m.table network) ≡ true
+        → Answered contexts m line (Step.TcpStartConnect ctx handle network a) entries reply after
+        → (reply ≡ Reply.Err CodeWord.ConcurrencyConflict) ↔ HasOperationInProgress (record_at m handle) }
+    ensures cause { (contexts : List WasiSocketsCtx) (m : Machine) (line ctx handle network : ℕ) (a : IpSocketAddress) (entries : List Entry) (word : CodeWord) (after : Machine)
+        → Answered contexts m line (Step.TcpStartConnect ctx handle network a) entries (Reply.Err word) after
+        → RefusedConnect m (own_of line) handle a entries word after }
+    ensures stays { (contexts : List WasiSocketsCtx) (m : Machine) (line ctx handle network : ℕ) (a : IpSocketAddress) (entries : List Entry) (word : CodeWord) (after : Machine)
+        → Answered contexts m line (Step.TcpStartConnect ctx handle network a) entries (Reply.Err word) after
+        → (after ≡ m) ⊎ ((word ≡ CodeWord.InvalidArgument) × KnowsBound m handle after) }
 {}
