@@ -31,6 +31,9 @@ pub mod StepCauses
 pub mod RecordCauses
 pub mod BoundCauses
 pub mod StartCauses
+pub mod PollMarks
+pub mod ConnectPolls
+pub mod FinishCauses
 pub mod CreateCauses
 pub mod BindCauses
 pub mod ConnectCauses

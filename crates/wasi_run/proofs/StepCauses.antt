@@ -40,6 +40,18 @@ gives_any Q any before (AskWrite op sock bytes next) = (tt, λ told fits front. 
 pub gives_more : {A : Type 0} (Q R : List Entry → A → Type 0) (more : (es : List Entry) (a : A) → Q es a → R es a) (before : List Entry) (asks : Asks A) → Gives Q before asks → Gives R before asks
 gives_more Q R more before asks h = allows_weaker (λ es op call. ⊤) Q R more before asks h
 
+-- two at once
+pub gives_both : {A : Type 0} (Q R : List Entry → A → Type 0) (before : List Entry) (asks : Asks A) → Gives Q before asks → Gives R before asks → Gives (λ es a. Q es a × R es a) before asks
+gives_both Q R before (Give a) h k = (h, k)
+gives_both Q R before (Ask op call next) h k = (tt, λ told fits. gives_both Q R _ (next told) (h.1 told fits) (k.1 told fits))
+gives_both Q R before (AskWrite op sock bytes next) h k = (tt, λ told fits front. gives_both Q R _ (next told) (h.1 told fits front) (k.1 told fits front))
+
+-- what holds under a premise
+pub gives_where : {A : Type 0} (P : Type 0) (Q : List Entry → A → Type 0) (before : List Entry) (asks : Asks A) → (P → Gives Q before asks) → Gives (λ es a. P → Q es a) before asks
+gives_where P Q before (Give a) h = h
+gives_where P Q before (Ask op call next) h = (tt, λ told fits. gives_where P Q _ (next told) (λ p. (h p).1 told fits))
+gives_where P Q before (AskWrite op sock bytes next) h = (tt, λ told fits front. gives_where P Q _ (next told) (λ p. (h p).1 told fits front))
+
 -- of what was asked and told
 pub given : {A : Type 0} (Q : List Entry → A → Type 0) (asks : Asks A) (entries : List Entry) (a : A) → Gives Q [] asks → Left asks entries (Give a) → Q entries a
 given Q asks entries a g w = reached (λ es op call. ⊤) Q [] asks entries (Give a) g w

@@ -14,7 +14,7 @@ ghost use Rattle.wasi_run.specs.declared.machine.Machine.{Machine};
 ghost use Rattle.wasi_run.specs.declared.reply.CodeWord.{CodeWord};
 ghost use Rattle.wasi_run.specs.declared.reply.Reply.{Reply};
 ghost use Rattle.wasi_run.specs.declared.step.Step.{Step};
-ghost use Rattle.wasi_run.specs.Answered.{Answered, CreateRefusal, EndsPending, HasNoBindInProgress, HasOperationInProgress, IsStartBind, KnowsBound, MakesHandle, MissesHandle, RefusedBind, RefusedConnect, record_at};
+ghost use Rattle.wasi_run.specs.Answered.{Answered, ConnectsAt, CreateRefusal, FinishRefusal, HasNoConnectInProgress, RefusedOf, EndsPending, HasNoBindInProgress, HasOperationInProgress, IsStartBind, KnowsBound, MakesHandle, MissesHandle, RefusedBind, RefusedConnect, record_at};
 ghost use Rattle.wasi_run.specs.Licence.{entry, marks_in};
 ghost use Rattle.wasi_run.specs.Machine.{context_at, is_network, own_of};
 ghost use Rattle.wasi_run.specs.Store.{with_record};
@@ -118,4 +118,18 @@ pub fn start_connect_refusals()
     ensures stays { (contexts : List WasiSocketsCtx) (m : Machine) (line ctx handle network : ℕ) (a : IpSocketAddress) (entries : List Entry) (word : CodeWord) (after : Machine)
         → Answered contexts m line (Step.TcpStartConnect ctx handle network a) entries (Reply.Err word) after
         → (after ≡ m) ⊎ ((word ≡ CodeWord.InvalidArgument) × KnowsBound m handle after) }
+{}
+
+/// The finish of a connect is refused with `not-in-progress` exactly where the socket is there and has no connect in progress,
+/// and it asks nothing then and leaves the machine as it was. With `would-block` the connect was told to wait and goes on; with
+/// any other word the socket is closed with that word's code, and nothing is in progress.
+pub fn finish_connect_refusals()
+    ensures exactly { (contexts : List WasiSocketsCtx) (m : Machine) (line ctx handle : ℕ) (entries : List Entry) (reply : Reply) (after : Machine)
+        → m.store.standing ≡ None → Answered contexts m line (Step.TcpFinishConnect ctx handle) entries reply after
+        → (reply ≡ Reply.Err CodeWord.NotInProgress) ↔ HasNoConnectInProgress (record_at m handle) }
+    ensures not_in_progress { (contexts : List WasiSocketsCtx) (m : Machine) (line ctx handle : ℕ) (entries : List Entry) (after : Machine)
+        → Answered contexts m line (Step.TcpFinishConnect ctx handle) entries (Reply.Err CodeWord.NotInProgress) after → (entries ≡ []) × (after ≡ m) }
+    ensures cause { (contexts : List WasiSocketsCtx) (m : Machine) (line ctx handle : ℕ) (entries : List Entry) (word : CodeWord) (after : Machine)
+        → ConnectsAt m handle → Answered contexts m line (Step.TcpFinishConnect ctx handle) entries (Reply.Err word) after
+        → RefusedOf m handle (FinishRefusal m) entries word after }
 {}
