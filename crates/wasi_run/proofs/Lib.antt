@@ -34,6 +34,7 @@ pub mod StartCauses
 pub mod PollMarks
 pub mod ConnectPolls
 pub mod FinishCauses
+pub mod AddressCauses
 pub mod CreateCauses
 pub mod BindCauses
 pub mod ConnectCauses

@@ -232,10 +232,16 @@ pub data LocalRefusal (m : Machine) (own : OpId) (place : ℕ) (r : Tcp2Socket) 
   LocalTold : (asked : List Entry) (side : OpId) (c : ErrorCode) → IsBound own r.inner asked → usable_side r.inner.state ≡ Ok side
       → LocalRefusal m own place r (asked ++ entry own (call.Local side) (told.Code c) ∷ []) (word_of_code c) (knowing_bound m place r)
 
--- The remote address is refused: the socket isn't connected yet, or is closed with a code, or its side told a code.
-pub data RemoteRefusal (own : OpId) (r : Tcp2Socket) : List Entry → CodeWord → Type 0 where
-  RemoteDefault : (side : OpId) → r.inner.state ≡ state.Default side → RemoteRefusal own r [] word.InvalidState
-  RemoteConnecting : (op : Operation) → r.inner.state ≡ state.Connecting op → RemoteRefusal own r [] word.InvalidState
-  RemoteClosed : (c : ErrorCode) → r.inner.state ≡ state.Closed c → RemoteRefusal own r [] (word_of_code c)
+-- The remote address is refused, and the machine stays: the socket isn't connected yet, or is closed with a code, or its side told a code.
+pub data RemoteRefusal (m : Machine) (own : OpId) (place : ℕ) (r : Tcp2Socket) : List Entry → CodeWord → Machine → Type 0 where
+  RemoteDefault : (side : OpId) → r.inner.state ≡ state.Default side → RemoteRefusal m own place r [] word.InvalidState m
+  RemoteConnecting : (op : Operation) → r.inner.state ≡ state.Connecting op → RemoteRefusal m own place r [] word.InvalidState m
+  RemoteClosed : (c : ErrorCode) → r.inner.state ≡ state.Closed c → RemoteRefusal m own place r [] (word_of_code c) m
   RemoteTold : (connection : Connection) (c : ErrorCode) → r.inner.state ≡ state.Connected connection → connection.peer ≡ None
-      → RemoteRefusal own r (entry own (call.Peer connection.side) (told.Code c) ∷ []) (word_of_code c)
+      → RemoteRefusal m own place r (entry own (call.Peer connection.side) (told.Code c) ∷ []) (word_of_code c) m
+
+-- the step asks a socket for what it says without asking the network
+abbrev pub IsQuiet : Step → Type 0
+IsQuiet (step.TcpIsListening ctx socket) = ⊤
+IsQuiet (step.TcpAddressFamily ctx socket) = ⊤
+IsQuiet _ = ⊥

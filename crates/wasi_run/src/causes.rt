@@ -14,7 +14,7 @@ ghost use Rattle.wasi_run.specs.declared.machine.Machine.{Machine};
 ghost use Rattle.wasi_run.specs.declared.reply.CodeWord.{CodeWord};
 ghost use Rattle.wasi_run.specs.declared.reply.Reply.{Reply};
 ghost use Rattle.wasi_run.specs.declared.step.Step.{Step};
-ghost use Rattle.wasi_run.specs.Answered.{Answered, ConnectsAt, CreateRefusal, FinishRefusal, HasNoConnectInProgress, RefusedOf, EndsPending, HasNoBindInProgress, HasOperationInProgress, IsStartBind, KnowsBound, MakesHandle, MissesHandle, RefusedBind, RefusedConnect, record_at};
+ghost use Rattle.wasi_run.specs.Answered.{Answered, ConnectsAt, CreateRefusal, FinishRefusal, HasNoConnectInProgress, RefusedOf, EndsPending, HasNoBindInProgress, HasOperationInProgress, IsQuiet, IsStartBind, KnowsBound, LocalRefusal, MakesHandle, MissesHandle, RefusedBind, RefusedConnect, RemoteRefusal, record_at};
 ghost use Rattle.wasi_run.specs.Licence.{entry, marks_in};
 ghost use Rattle.wasi_run.specs.Machine.{context_at, is_network, own_of};
 ghost use Rattle.wasi_run.specs.Store.{with_record};
@@ -132,4 +132,32 @@ pub fn finish_connect_refusals()
     ensures cause { (contexts : List WasiSocketsCtx) (m : Machine) (line ctx handle : ℕ) (entries : List Entry) (word : CodeWord) (after : Machine)
         → ConnectsAt m handle → Answered contexts m line (Step.TcpFinishConnect ctx handle) entries (Reply.Err word) after
         → RefusedOf m handle (FinishRefusal m) entries word after }
+{}
+
+/// The local address is refused where the socket isn't bound or is connecting, with the code with which it is closed, or with
+/// the code that was told of it. The machine is as it was then, but that a socket that was found bound is known to be.
+pub fn local_address_refusals()
+    ensures cause { (contexts : List WasiSocketsCtx) (m : Machine) (line ctx handle : ℕ) (entries : List Entry) (word : CodeWord) (after : Machine)
+        → Answered contexts m line (Step.TcpLocalAddress ctx handle) entries (Reply.Err word) after
+        → RefusedOf m handle (LocalRefusal m (own_of line)) entries word after }
+    ensures stays { (contexts : List WasiSocketsCtx) (m : Machine) (line ctx handle : ℕ) (entries : List Entry) (word : CodeWord) (after : Machine)
+        → Answered contexts m line (Step.TcpLocalAddress ctx handle) entries (Reply.Err word) after → (after ≡ m) ⊎ KnowsBound m handle after }
+{}
+
+/// The remote address is refused where the socket isn't connected, with the code with which it is closed, or with the code that
+/// was told of it. The machine stays as it was.
+pub fn remote_address_refusals()
+    ensures cause { (contexts : List WasiSocketsCtx) (m : Machine) (line ctx handle : ℕ) (entries : List Entry) (word : CodeWord) (after : Machine)
+        → Answered contexts m line (Step.TcpRemoteAddress ctx handle) entries (Reply.Err word) after
+        → RefusedOf m handle (RemoteRefusal m (own_of line)) entries word after }
+    ensures stays { (contexts : List WasiSocketsCtx) (m : Machine) (line ctx handle : ℕ) (entries : List Entry) (word : CodeWord) (after : Machine)
+        → Answered contexts m line (Step.TcpRemoteAddress ctx handle) entries (Reply.Err word) after → after ≡ m }
+{}
+
+/// Whether it listens and of which family it is, is never refused. It asks nothing, and the machine stays as it was.
+pub fn listening_and_family_are_never_refused()
+    ensures never { (contexts : List WasiSocketsCtx) (m : Machine) (line : ℕ) (s : Step) (entries : List Entry) (word : CodeWord) (after : Machine)
+        → IsQuiet s → Answered contexts m line s entries (Reply.Err word) after → ⊥ }
+    ensures quiet { (contexts : List WasiSocketsCtx) (m : Machine) (line : ℕ) (s : Step) (entries : List Entry) (reply : Reply) (after : Machine)
+        → IsQuiet s → Answered contexts m line s entries reply after → (entries ≡ []) × (after ≡ m) }
 {}
