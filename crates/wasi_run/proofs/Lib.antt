@@ -35,6 +35,7 @@ pub mod PollMarks
 pub mod ConnectPolls
 pub mod FinishCauses
 pub mod AddressCauses
+pub mod QuietCauses
 pub mod CreateCauses
 pub mod BindCauses
 pub mod ConnectCauses
