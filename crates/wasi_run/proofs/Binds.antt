@@ -28,7 +28,7 @@ use Rattle.wasi_run.specs.Licence.{entry, BeganBy, IsBindTo, MayAsk}
 use Rattle.wasi_run.proofs.Lists.{has_last}
 use Rattle.wasi_run.proofs.Bounds.{May, MayWork, work_kept, Learned, fine_bound, keeps_socket}
 use Rattle.wasi_run.proofs.Fine.{BindLeft, Whole, Checked, Over, WorksOn, BindIsFine, SocketIsFine}
-use Rattle.wasi_run.proofs.Frames.{KeepsSide, works_more}
+use Rattle.wasi_run.proofs.Frames.{KeepsSide, KeepsRecord, works_more}
 
 module _ (contexts : List WasiSocketsCtx) (steps : List Step) where
   -- == a poll
@@ -103,21 +103,21 @@ module _ (contexts : List WasiSocketsCtx) (steps : List Step) where
   StandsFine es _ = ⊤
 
   pub record BegunIsFine (old : Tcp2Socket) (es : List Entry) (begun : Result (Option Operation) ErrorCode × Tcp2Socket) : Type 0 where
-    pub keeps : KeepsSide old.inner begun.1.inner
+    pub keeps : KeepsRecord old begun.1
     pub fine : SocketIsFine steps es begun.1.inner
     pub stands : StandsFine es begun.0
 
-  fine_ended : (es : List Entry) (op : Operation) (old r : Tcp2Socket) (ended : End × List Item) → KeepsSide old.inner r.inner → SocketIsFine steps es r.inner → BindIsFine steps es (left_of op ended.1) → BegunIsFine old es (bind_ended op r ended)
+  fine_ended : (es : List Entry) (op : Operation) (old r : Tcp2Socket) (ended : End × List Item) → KeepsRecord old r → SocketIsFine steps es r.inner → BindIsFine steps es (left_of op ended.1) → BegunIsFine old es (bind_ended op r ended)
   fine_ended es op old r (Waits, items) k f b = record { keeps = k; fine = f; stands = b }
-  fine_ended es op old r (Done given, items) k f b = record { keeps = k; fine = f; stands = tt }
+  fine_ended es op old r (Done given, items) k f b = record { keeps = record { keeps = k.keeps; streams = k.streams }; fine = f; stands = tt }
   fine_ended es op old r (Refused c given, items) k f b = record { keeps = k; fine = f; stands = tt }
 
   fine_begun : (es : List Entry) (r : Tcp2Socket) (start : Result Operation ErrorCode × Socket) → KeepsSide r.inner start.1 → SocketIsFine steps es start.1 → StartIsFine es start.0 → Allows (May contexts steps) (BegunIsFine r) es (bind_begun r start)
-  fine_begun es r (Err c, socket) k f h = record { keeps = k; fine = f; stands = tt }
+  fine_begun es r (Err c, socket) k f h = record { keeps = record { keeps = k; streams = refl }; fine = f; stands = tt }
   fine_begun es r (Ok op, socket) k f h =
       allows_then (May contexts steps) (λ fs ended. SocketIsFine steps fs socket × BindIsFine steps fs (left_of op ended.1)) (BegunIsFine r) es (poll_asks op) _
       (keeps_socket contexts steps socket (λ fs ended. BindIsFine steps fs (left_of op ended.1)) es (poll_asks op) f (fine_poll op es h))
-      (λ fs ended b. fine_ended fs op r (with_inner r socket) ended k b.0 b.1)
+      (λ fs ended b. fine_ended fs op r (with_inner r socket) ended (record { keeps = k; streams = refl }) b.0 b.1)
 
   pub fine_begin : (es : List Entry) (op : OpId) (r : Tcp2Socket) (a : IpSocketAddress) → BeganBy steps op (IsBindTo a) → MayWork contexts steps es op r.inner → SocketIsFine steps es r.inner → Allows (May contexts steps) (BegunIsFine r) es (begin_bind_asks op r a)
   fine_begin es op r a to h f =

@@ -52,7 +52,7 @@ module _ (contexts : List WasiSocketsCtx) (steps : List Step) where
 
   learned_bound : (socket : Socket) (es : List Entry) → SocketIsFine steps es socket → ((side : OpId) → socket.state ≡ state.Default side → IsBoundSide es side) → Learned socket es (true, record socket { bound = true })
   learned_bound socket es f w = record {
-    keeps = record { maker = refl; family = refl; side = λ s e. e };
+    keeps = record { maker = refl; family = refl; side = λ s e. e; connected = λ c e. record { connection = c; state = e; same = refl } };
     state = refl;
     told = λ e. refl;
     fine = record { knows = record { maker = f.knows.maker }; bound = λ side s e. w side s; connect = f.connect };

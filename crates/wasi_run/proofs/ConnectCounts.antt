@@ -1,26 +1,35 @@
 -- What a connect makes of the sides that are held: one that is refused closes its side.
-use Rattle.std.proofs.Common.{◌≡◌, ℕ, zero, suc, ◌+◌, List, [], ◌∷◌, Some, length, refl, sym, ap, subst, ◌∙◌, arith, slice_get, slice_set}
+use Rattle.std.proofs.Common.{◌≡◌, Bool, true, false, ℕ, zero, suc, ◌+◌, List, [], ◌∷◌, Some, length, refl, sym, ap, subst, ◌∙◌, arith, slice_get, slice_set}
 use Rattle.wasi_addr.specs.declared.address.IpSocketAddress.{IpSocketAddress}
 use Rattle.wasi_addr.specs.declared.address.SocketAddrUse.TheVariants.{TcpBind, TcpConnect}
 use Rattle.wasi_addr.specs.declared.code.ErrorCode.{ErrorCode}
 use Rattle.wasi_addr.specs.declared.code.ErrorCode.TheVariants.{AccessDenied}
-use Rattle.std.specs.Prelude.{Result, Ok, Err}
+use Rattle.std.specs.Prelude.{Result, Ok, Err, OnErr}
 use Rattle.wasi_world.specs.declared.call.Told.{Told}
 use Rattle.wasi_world.specs.declared.call.Told.TheVariants as told
 use Rattle.wasi_world.specs.declared.call.Entry.{Entry}
 use Rattle.wasi_world.specs.declared.outcome.Answer.{Answer}
+use Rattle.wasi_world.specs.declared.outcome.Answer.TheVariants.{Ready, Pending}
+use Rattle.wasi_world.specs.declared.outcome.Refusal.{Refusal}
+use Rattle.wasi_world.specs.declared.outcome.Refusal.TheVariants as refusal
 use Rattle.wasi_world.specs.Seen.{Seen}
-use Rattle.wasi_world.specs.Asks.{Asks, Give, Ask, AskWrite, bind, Left, Reaches}
+use Rattle.wasi_world.specs.Asks.{Asks, Give, Ask, AskWrite, bind, Left, Reaches, AsksFor, outcome}
 use Rattle.wasi_world.specs.Typed.{told_verdict, told_polled}
 use Rattle.wasi_world.specs.Operation.{Given, Nothing, Item, Check, Connect, Last, LastAsk, CloseLast, Who, Operation, End, Waits, Done, Refused, last_ask, after, round, polls, poll_asks, verdict_front, polled_front}
+use Rattle.wasi_tcp.specs.declared.halves.TcpReceiveStream.{TcpReceiveStream}
+use Rattle.wasi_tcp.specs.declared.halves.TcpSendStream.{TcpSendStream}
+use Rattle.wasi_tcp.specs.declared.socket.Connection.{Connection}
 use Rattle.wasi_tcp.specs.declared.socket.TcpState.{TcpState}
 use Rattle.wasi_tcp.specs.declared.socket.TcpState.TheVariants as state
 use Rattle.wasi_tcp.specs.Shape.{Socket}
 use Rattle.wasi_tcp.specs.Socket.{side_in, side_of}
+use Rattle.wasi_tcp.specs.Addresses.{still_connected}
+use Rattle.wasi_tcp.specs.Halves.{taken_receive, taken_send, take_receive, take_send}
 use Rattle.wasi_tcp.specs.Connect.{IsConnect, IsLeftOfConnect, Unbound, Unchecked, Checked, ToClose, Ended}
 use Rattle.wasi_tcp.specs.Connecting.{HoldsConnect, connect_ended, finish_in, in_socket, finish_connect_asks}
 use Rattle.wasi_run.specs.declared.socket.Tcp2Socket.{Tcp2Socket}
-use Rattle.wasi_run.specs.Store.{Records, with_socket}
+use Rattle.wasi_world.proofs.Walks.{asks_end, reaches_in}
+use Rattle.wasi_run.specs.Store.{Records, with_socket, with_inner, opened_send, opened_receive, opened, connect_polled, connect_settled, connect_told, poll_connect_asks}
 use Rattle.wasi_run.specs.Sides.{made_by, closed_by, made_in, closed_in, one_if_some, held_in, ClosesOwn, KnowsSides}
 use Rattle.wasi_run.proofs.SideCounts.{knows_then}
 
@@ -138,7 +147,8 @@ count_socket socket h =
 pub closes_done : (socket : Socket) {answer : Result (Answer (Unit {0})) ErrorCode} {now : Socket} {s t : Seen} → HoldsConnect socket.state → Reaches (finish_connect_asks socket) (Give (answer, now)) s t → ClosesOwn s t socket now
 closes_done socket h r =
     let w = counted_left (Balanced (held socket.state)) 0 (finish_connect_asks socket) r.entries _ (count_socket socket h) r.left in
-    record { entries = r.entries; passed = r.passed; made = w.made; closed = w.left }
+    let balance = w.left in
+    record { entries = r.entries; passed = r.passed; made = w.made; closed = omega arith }
 
 -- or memory was wanted
 pub closes_memory : (socket now : Socket) {s t : Seen} → HoldsConnect socket.state → HoldsConnect now.state → side_of now ≡ side_of socket → Reaches (finish_connect_asks socket) (finish_connect_asks now) s t → ClosesOwn s t socket now
@@ -148,6 +158,66 @@ closes_memory socket now h k e r =
     let own = subst (λ (b : ℕ). Counted (Balanced b) 0 (finish_connect_asks now)) same (count_socket now k) in
     let none = counted_once (Balanced (held socket.state)) (λ n m done p q. omega arith) (0 + closed_in r.entries) 0 (finish_connect_asks now) w.left own in
     record { entries = r.entries; passed = r.passed; made = w.made; closed = omega arith }
+
+-- == a record whose connect was polled
+pub poll_asked : (r : Tcp2Socket) (now : Socket) (p : Result (Answer (Unit {0})) Refusal) {s t : Seen} → AsksFor (finish_connect_asks r.inner) s t (λ answer. (answer, now)) (outcome p)
+    → AsksFor (poll_connect_asks r) s t (λ done. (done, connect_settled (with_inner r now) p)) (connect_told (with_inner r now) p)
+poll_asked r now (Ok Pending) h = asks_end _ h.ok refl
+poll_asked r now (Ok (Ready done)) h = asks_end _ h.ok refl
+poll_asked r now (Err (refusal.Code c)) h = asks_end _ h.ok refl
+poll_asked r now (Err (refusal.Memory e)) h = record { ok = tt; err = record { rest = bind h.err.rest (λ done. Give (connect_polled r done)); reached = reaches_in _ h.err.reached } }
+
+-- taking a half leaves the side
+receive_keeps : (s : TcpState) → side_in (take_receive s).1 ≡ side_in s
+receive_keeps (state.Default side) = refl
+receive_keeps (state.Connecting op) = refl
+receive_keeps (state.Connected c) = by_taken c c.receive_taken
+  where
+    by_taken : (c : Connection) (taken : Bool) → side_in (still_connected (taken_receive c taken)).1 ≡ Some c.side
+    by_taken c true = refl
+    by_taken c false = refl
+receive_keeps (state.Closed c) = refl
+
+send_keeps : (s : TcpState) → side_in (take_send s).1 ≡ side_in s
+send_keeps (state.Default side) = refl
+send_keeps (state.Connecting op) = refl
+send_keeps (state.Connected c) = by_taken c c.send_taken
+  where
+    by_taken : (c : Connection) (taken : Bool) → side_in (still_connected (taken_send c taken)).1 ≡ Some c.side
+    by_taken c true = refl
+    by_taken c false = refl
+send_keeps (state.Closed c) = refl
+
+opened_send_side : (r : Tcp2Socket) (receive : TcpReceiveStream) (done : Result TcpSendStream ErrorCode × Socket) → side_of (opened_send r receive done).1.inner ≡ side_of done.1
+opened_send_side r receive (Ok send, socket) = refl
+opened_send_side r receive (Err c, socket) = refl
+
+opened_receive_side : (r : Tcp2Socket) (done : Result TcpReceiveStream ErrorCode × Socket) → side_of (opened_receive r done).1.inner ≡ side_of done.1
+opened_receive_side r (Ok receive, socket) = opened_send_side r receive (in_socket socket (take_send socket.state)) ∙ send_keeps socket.state
+opened_receive_side r (Err c, socket) = refl
+
+pub opened_side : (r : Tcp2Socket) (socket : Socket) → side_of (opened r socket).1.inner ≡ side_of socket
+opened_side r socket = opened_receive_side r (in_socket socket (take_receive socket.state)) ∙ receive_keeps socket.state
+
+settled_side : (r : Tcp2Socket) (p : Result (Answer (Unit {0})) Refusal) → side_of (connect_settled r p).inner ≡ side_of r.inner
+settled_side r (Ok Pending) = refl
+settled_side r (Ok (Ready done)) = opened_side r r.inner
+settled_side r (Err (refusal.Code c)) = refl
+settled_side r (Err (refusal.Memory e)) = refl
+
+-- another socket that holds the same side
+closes_same : {s t : Seen} {old now : Socket} (other : Socket) → side_of other ≡ side_of now → ClosesOwn s t old now → ClosesOwn s t old other
+closes_same other e c = let k = c.closed in let p = ap one_if_some e in record { entries = c.entries; passed = c.passed; made = c.made; closed = omega arith }
+
+closed_by_poll : (socket now : Socket) (p : Result (Answer (Unit {0})) Refusal) {s t : Seen} → HoldsConnect socket.state → HoldsConnect now.state → AsksFor (finish_connect_asks socket) s t (λ answer. (answer, now)) (outcome p)
+    → OnErr (outcome p) (Reaches (finish_connect_asks socket) (finish_connect_asks now) s t) → OnErr (outcome p) (side_of now ≡ side_of socket) → ClosesOwn s t socket now
+closed_by_poll socket now (Ok a) h k asked e side = closes_done socket h asked.ok
+closed_by_poll socket now (Err (refusal.Code c)) h k asked e side = closes_done socket h asked.ok
+closed_by_poll socket now (Err (refusal.Memory d)) h k asked e side = closes_memory socket now h k side e
+
+pub poll_closes : (r : Tcp2Socket) (now : Socket) (p : Result (Answer (Unit {0})) Refusal) {s t : Seen} → HoldsConnect r.inner.state → HoldsConnect now.state → AsksFor (finish_connect_asks r.inner) s t (λ answer. (answer, now)) (outcome p)
+    → OnErr (outcome p) (Reaches (finish_connect_asks r.inner) (finish_connect_asks now) s t) → OnErr (outcome p) (side_of now ≡ side_of r.inner) → ClosesOwn s t r.inner (connect_settled (with_inner r now) p).inner
+poll_closes r now p h k asked e side = closes_same (connect_settled (with_inner r now) p).inner (settled_side (with_inner r now) p) (closed_by_poll r.inner now p h k asked e side)
 
 -- == the records, where one of them was polled
 held_in-swap : (rs : List Tcp2Socket) (i : ℕ) (old now : Tcp2Socket) → slice_get rs i ≡ Some old → held_in (slice_set rs i now) + one_if_some (side_of old.inner) ≡ held_in rs + one_if_some (side_of now.inner)

@@ -26,13 +26,13 @@ use Rattle.wasi_tcp.specs.declared.socket.TcpState.TheVariants as state
 use Rattle.wasi_tcp.specs.Shape.{Socket}
 use Rattle.wasi_tcp.specs.Socket.{side_in, side_of, bound_asks}
 use Rattle.wasi_tcp.specs.Connect.{connect_operation, connect_first}
-use Rattle.wasi_tcp.specs.Connecting.{with_state, is_connectable, connect_start, start_connect_in, start_connect_asks, connect_ended, finish_in, in_socket, finish_connect_asks}
+use Rattle.wasi_tcp.specs.Connecting.{with_state, is_connectable, connect_start, start_connect_in, start_connect_asks, new_connection, connect_ended, finish_in, in_socket, finish_connect_asks}
 use Rattle.wasi_run.specs.declared.step.Step.{Step}
 use Rattle.wasi_run.specs.Store.{left_of}
 use Rattle.wasi_run.specs.Licence.{Has, entry, BeganBy, IsMaker, IsConnectTo, HasWildcardYes, MayGoOut, MayAsk}
 use Rattle.wasi_run.proofs.Bounds.{May, MayWork, Learned, fine_bound, keeps_socket}
 use Rattle.wasi_run.proofs.Lists.{has_last, has_front}
-use Rattle.wasi_run.proofs.Fine.{ConnectLeft, Unbound, Unchecked, Allowed, ToClose, Ended, WorksOn, ConnectIsFine, KnowsMaker, SocketIsFine}
+use Rattle.wasi_run.proofs.Fine.{ConnectLeft, Unbound, Unchecked, Allowed, ToClose, Ended, WorksOn, ConnectIsFine, IsConnectedOn, KnowsMaker, SocketIsFine}
 use Rattle.wasi_run.proofs.Frames.{KeepsSide, keeps_side, works_more, out_more, maker_more, knows_more}
 
 module _ (contexts : List WasiSocketsCtx) (steps : List Step) where
@@ -128,7 +128,6 @@ module _ (contexts : List WasiSocketsCtx) (steps : List Step) where
       connecting = with_state socket (state.Connecting begun)
 
       may_connect : ConnectIsFine steps es begun
-      unfolding begun asker
       may_connect = record {
         addr = a;
         to = to;
@@ -141,9 +140,8 @@ module _ (contexts : List WasiSocketsCtx) (steps : List Step) where
       side_is s p = k.side s (ap side_in e ∙ p)
 
       it_is : StartedFine old es (Ok tt, connecting)
-      unfolding begun asker connecting
       it_is = record {
-        keeps = record { maker = k.maker; family = k.family; side = side_is };
+        keeps = record { maker = k.maker; family = k.family; side = side_is; connected = λ c p. let q = (k.connected c p).state in absurd (cc) };
         fine = record {
           knows = record { maker = λ s p. f.knows.maker s (ap side_in e ∙ p) };
           bound = λ s p q. absurd (cc);
@@ -169,9 +167,9 @@ module _ (contexts : List WasiSocketsCtx) (steps : List Step) where
   fine_start_connect es op socket a to h f = start_in es op socket a socket.state refl to h f
 
   -- == the poll of a socket's connect
-  -- one that is ready has its side
+  -- one that is ready is connected
   abbrev HasSide : Socket → Result (Answer (Unit {0})) ErrorCode → Type 0
-  HasSide socket (Ok (Ready done)) = (side : OpId) × (side_of socket ≡ Some side)
+  HasSide socket (Ok (Ready done)) = (side : OpId) × IsConnectedOn socket side
   HasSide socket _ = ⊤
 
   pub record FinishedFine (old : Socket) (es : List Entry) (done : Result (Answer (Unit {0})) ErrorCode × Socket) : Type 0 where
@@ -188,17 +186,17 @@ module _ (contexts : List WasiSocketsCtx) (steps : List Step) where
 
   ended : (es : List Entry) (socket : Socket) (op : Operation) (end : End × List Item) → socket.state ≡ state.Connecting op → SocketIsFine steps es socket → ConnectIsFine steps es (left_of op end.1) → FinishedFine socket es (in_socket socket (connect_ended op.who end))
   ended es socket op (Waits, items) e f c = record {
-    keeps = record { maker = refl; family = refl; side = λ s p. ap side_in e ∙ p };
+    keeps = record { maker = refl; family = refl; side = λ s p. ap side_in e ∙ p; connected = λ d p. absurd (cc) };
     fine = plain es socket _ (λ s p. ap side_in e ∙ p) f.knows (λ s p. absurd (cc)) (λ o p. let same : left_of op items ≡ o = cc in subst (ConnectIsFine steps es) same c) f;
     side = tt;
   }
   ended es socket op (Done given, items) e f c = record {
-    keeps = record { maker = refl; family = refl; side = λ s p. ap side_in e ∙ p };
+    keeps = record { maker = refl; family = refl; side = λ s p. ap side_in e ∙ p; connected = λ d p. absurd (cc) };
     fine = plain es socket _ (λ s p. ap side_in e ∙ p) f.knows (λ s p. absurd (cc)) (λ o p. absurd (cc)) f;
-    side = (op.who.side, refl);
+    side = (op.who.side, record { connection = new_connection op.who.side; state = refl; same = refl });
   }
   ended es socket op (Refused code given, items) e f c = record {
-    keeps = record { maker = refl; family = refl; side = λ s p. absurd (cc) };
+    keeps = record { maker = refl; family = refl; side = λ s p. absurd (cc); connected = λ d p. absurd (cc) };
     fine = plain es socket _ (λ s p. absurd (cc)) f.knows (λ s p. absurd (cc)) (λ o p. absurd (cc)) f;
     side = tt;
   }
@@ -208,13 +206,13 @@ module _ (contexts : List WasiSocketsCtx) (steps : List Step) where
   stays es socket s answer e f h = subst (λ (t : TcpState). HasSide (with_state socket t) answer → FinishedFine socket es (answer, with_state socket t)) e (λ side. record { keeps = keeps_side socket; fine = f; side = side }) h
 
   finish : (es : List Entry) (socket : Socket) (s : TcpState) → socket.state ≡ s → SocketIsFine steps es socket → Allows (May contexts steps) (λ fs done. FinishedFine socket fs (in_socket socket done)) es (finish_in s)
-  finish es socket (state.Default side) e f = stays es socket (state.Default side) e (Err InvalidState) f tt
+  finish es socket (state.Default side) e f = stays es socket (state.Default side) (Err InvalidState) e f tt
   finish es socket (state.Connecting op) e f =
       allows_then (May contexts steps) (λ fs end. SocketIsFine steps fs socket × ConnectIsFine steps fs (left_of op end.1)) (λ fs done. FinishedFine socket fs (in_socket socket done)) es (poll_asks op) _
       (keeps_socket contexts steps socket (λ fs end. ConnectIsFine steps fs (left_of op end.1)) es (poll_asks op) f (fine_poll_connect op es (f.connect op e)))
       (λ fs end k. ended fs socket op end e k.0 k.1)
-  finish es socket (state.Connected c) e f = stays es socket (state.Connected c) e (Ok (Ready tt)) f (c.side, refl)
-  finish es socket (state.Closed c) e f = stays es socket (state.Closed c) e (Err c) f tt
+  finish es socket (state.Connected c) e f = stays es socket (state.Connected c) (Ok (Ready tt)) e f (c.side, record { connection = c; state = refl; same = refl })
+  finish es socket (state.Closed c) e f = stays es socket (state.Closed c) (Err c) e f tt
 
   pub fine_finish_connect : (es : List Entry) (socket : Socket) → SocketIsFine steps es socket → Allows (May contexts steps) (FinishedFine socket) es (finish_connect_asks socket)
   fine_finish_connect es socket f =

@@ -11,15 +11,21 @@ use Rattle.wasi_world.specs.declared.call.Call.TheVariants as call
 use Rattle.wasi_world.specs.declared.call.Told.TheVariants.{Yes}
 use Rattle.wasi_world.specs.declared.call.Entry.{Entry}
 use Rattle.wasi_world.specs.Operation.{Nothing, Item, Check, Bind, Connect, Last, NothingLast, CloseLast, Operation}
-use Rattle.wasi_tcp.specs.declared.socket.TcpState.TheVariants.{Default, Connecting}
+use Rattle.wasi_tcp.specs.declared.socket.Connection.{Connection}
+use Rattle.wasi_tcp.specs.declared.socket.TcpState.TheVariants.{Default, Connecting, Connected}
+use Rattle.wasi_tcp.specs.declared.reader.ReadState.{ReadState}
+use Rattle.wasi_tcp.specs.declared.writer.WriteState.{WriteState}
+use Rattle.wasi_tcp.specs.Reader.{reader_side}
+use Rattle.wasi_tcp.specs.Writer.{writer_side}
 use Rattle.wasi_tcp.specs.Shape.{Socket}
 use Rattle.wasi_tcp.specs.Socket.{side_of}
 use Rattle.wasi_run.specs.declared.machine.Machine.{Machine}
+use Rattle.wasi_run.specs.declared.socket.Streams.{Streams}
 use Rattle.wasi_run.specs.declared.socket.Tcp2Socket.{Tcp2Socket}
 use Rattle.wasi_run.specs.declared.step.Step.{Step}
 use Rattle.wasi_run.specs.declared.store.StandingBind.{StandingBind}
 use Rattle.wasi_run.specs.declared.table.Kind.{Kind}
-use Rattle.wasi_run.specs.declared.table.Kind.TheVariants.{Network, Tcp2, Input, Output}
+use Rattle.wasi_run.specs.declared.table.Kind.TheVariants.{Network, Tcp2, Input, Output, ErrorValue}
 use Rattle.wasi_run.specs.Table.{kind_at}
 use Rattle.wasi_run.specs.Licence.{Has, entry, marks_in, BeganBy, NamesSide, IsSide, IsMaker, IsBoundSide, MayGoOut, IsBindTo, IsConnectTo}
 
@@ -38,10 +44,31 @@ HandleIsFine es sockets handle Network = ⊤
 HandleIsFine es sockets handle (Tcp2 place) = NamesRecord es sockets handle place
 HandleIsFine es sockets handle (Input place) = NamesRecord es sockets handle place
 HandleIsFine es sockets handle (Output place) = NamesRecord es sockets handle place
+HandleIsFine es sockets handle ErrorValue = ⊤
 
 -- The socket knows the maker of its side, and the side's family.
 pub record KnowsMaker (es : List Entry) (socket : Socket) : Type 0 where
   pub maker : (side : OpId) → side_of socket ≡ Some side → IsMaker es socket.maker socket.family side
+
+-- The socket is connected, on this side.
+pub record IsConnectedOn (socket : Socket) (side : OpId) : Type 0 where
+  pub connection : Connection
+  pub state : socket.state ≡ Connected connection
+  pub same : connection.side ≡ side
+
+-- the half, while there is one, is of this side
+abbrev pub ReadsOn : OpId → ReadState → Type 0
+ReadsOn side s = (other : OpId) → reader_side s ≡ Some other → other ≡ side
+
+abbrev pub WritesOn : OpId → WriteState → Type 0
+WritesOn side s = (other : OpId) → writer_side s ≡ Some other → other ≡ side
+
+-- The streams are of the socket's connection.
+pub record StreamsAreFine (socket : Socket) (streams : Streams) : Type 0 where
+  pub side : OpId
+  pub connected : IsConnectedOn socket side
+  pub reads : ReadsOn side streams.reader
+  pub writes : WritesOn side streams.writer
 
 -- what is left of a bind to the address, and the yes that it was told
 pub data BindLeft (es : List Entry) (op : OpId) (maker : ℕ) (addr : IpSocketAddress) : List Item → Type 0 where
@@ -86,8 +113,12 @@ module _ (steps : List Step) where
     pub bound : (side : OpId) → socket.state ≡ Default side → socket.bound ≡ true → IsBoundSide es side
     pub connect : (op : Operation) → socket.state ≡ Connecting op → ConnectIsFine es op
 
+  pub record RecordIsFine (es : List Entry) (r : Tcp2Socket) : Type 0 where
+    pub socket : SocketIsFine es r.inner
+    pub streams : (streams : Streams) → r.streams ≡ Some streams → StreamsAreFine r.inner streams
+
   pub record StateIsFine (es : List Entry) (m : Machine) : Type 0 where
     pub count : m.table.next ≡ marks_in es + 1
     pub handles : (handle : ℕ) (kind : Kind) → kind_at m.table handle ≡ Some kind → HandleIsFine es m.store.sockets handle kind
-    pub sockets : (place : ℕ) (r : Tcp2Socket) → slice_get m.store.sockets place ≡ Some r → SocketIsFine es r.inner
+    pub sockets : (place : ℕ) (r : Tcp2Socket) → slice_get m.store.sockets place ≡ Some r → RecordIsFine es r
     pub standing : (c : StandingBind) → m.store.standing ≡ Some c → BindIsFine es c.bind

@@ -1,6 +1,6 @@
 -- Each step asks what is allowed, and leaves a state that fits the log.
 use Rattle.std.specs.Prelude.{⊤}
-use Rattle.std.proofs.Common.{◌≡◌, ◌⊎◌, ℕ, suc, ◌+◌, inl, inr, true, List, [], ◌∷◌, ◌++◌, Option, Some, None, Result, Ok, Err, slice_get, length, refl, sym, ap, subst, ◌∙◌, arith, add-zero}
+use Rattle.std.proofs.Common.{◌≡◌, ◌⊎◌, Bool, false, ℕ, suc, ◌+◌, inl, inr, true, List, [], ◌∷◌, ◌++◌, Option, Some, None, Result, Ok, Err, slice_get, length, refl, sym, ap, subst, ◌∙◌, arith, add-zero}
 use Rattle.wasi_addr.specs.declared.address.IpSocketAddress.{IpSocketAddress}
 use Rattle.wasi_addr.specs.declared.address.SocketAddressFamily.{SocketAddressFamily}
 use Rattle.wasi_addr.specs.declared.code.ErrorCode.{ErrorCode}
@@ -20,30 +20,38 @@ use Rattle.wasi_world.specs.Typed.{told_done}
 use Rattle.wasi_world.specs.Operation.{Operation}
 use Rattle.wasi_world.proofs.Allowed.{Allows, allows_then, allows_if, allows_keep}
 use Rattle.wasi_tcp.specs.Shape.{Socket}
-use Rattle.wasi_tcp.specs.Socket.{side_of, new_socket, after_create, new_asks}
+use Rattle.wasi_streams.specs.StreamStop.{StreamStop}
+use Rattle.wasi_streams.specs.StreamStop as stop
+use Rattle.wasi_tcp.specs.declared.reader.ReadState.{ReadState}
+use Rattle.wasi_tcp.specs.declared.writer.WriteState.{WriteState}
+use Rattle.wasi_tcp.specs.Reader.{read_state_asks}
+use Rattle.wasi_tcp.specs.Socket.{side_in, side_of, new_socket, after_create, new_asks}
 use Rattle.wasi_tcp.specs.Connecting.{start_connect_asks as tcp_start_connect, finish_connect_asks as tcp_finish_connect}
 use Rattle.wasi_tcp.specs.Addresses.{local_asks, remote_asks}
 use Rattle.wasi_run.specs.declared.machine.Machine.{Machine}
 use Rattle.wasi_run.specs.declared.reply.Reply.{Reply}
 use Rattle.wasi_run.specs.declared.socket.InProgress.TheVariants as doing
+use Rattle.wasi_run.specs.declared.socket.Streams.{Streams}
 use Rattle.wasi_run.specs.declared.socket.Tcp2Socket.{Tcp2Socket}
 use Rattle.wasi_run.specs.declared.step.Step.{Step}
 use Rattle.wasi_run.specs.declared.step.Step.TheVariants as step
 use Rattle.wasi_run.specs.declared.store.StandingBind.{StandingBind}
 use Rattle.wasi_run.specs.declared.table.Kind.{Kind}
-use Rattle.wasi_run.specs.declared.table.Kind.TheVariants.{Network, Tcp2, Input, Output}
+use Rattle.wasi_run.specs.declared.table.Kind.TheVariants.{Network, Tcp2, Input, Output, ErrorValue}
 use Rattle.wasi_run.specs.Host.{Stop}
 use Rattle.wasi_run.specs.Reply.{is_trap}
 use Rattle.wasi_run.specs.Table.{Shown, name_of, is_full, kind_at, make_asks}
-use Rattle.wasi_run.specs.Store.{Records, new_record, with_record, with_socket, standing_bind, begin_bind_asks, bind_answered, start_bind_by, start_bind_at, finish_bind_by, finish_bind_at, is_nothing, is_bind, is_connect, connect_begun, begin_connect_asks, start_connect_by, start_connect_at, connect_polled, poll_connect_asks, put_back, with_record_put, finish_connect_by, finish_connect_at, inner_answered, local_address_at, remote_address_at}
-use Rattle.wasi_run.specs.Machine.{first_state, place_of, socket_at, is_network, network_asks, create_handle, created_asks, create_asks, start_bind_on, start_bind_asks, finish_bind_on, with_table, with_store, start_connect_on, start_connect_asks, side_at, with_output, output_asks, streams_asks, connected_asks, finish_connect_on, finish_connect_asks, local_address_on, remote_address_on, own_of, handle_reply, done_reply, answer_reply, pair_reply, address_reply, context_in, context_at, step_asks, machine_asks, run}
+use Rattle.wasi_run.specs.Store.{Records, new_record, with_record, with_socket, standing_bind, begin_bind_asks, bind_answered, start_bind_by, start_bind_at, finish_bind_by, finish_bind_at, is_nothing, is_bind, is_connect, connect_begun, begin_connect_asks, start_connect_by, start_connect_at, connect_polled, poll_connect_asks, put_back, with_record_put, idle, opened, reader_of, reader_asks, writer_of, writer_asks, flush_asks, stream_at, with_inner, finish_connect_by, finish_connect_at, inner_answered, local_address_at, remote_address_at}
+use Rattle.wasi_run.specs.Machine.{first_state, place_of, socket_at, is_network, network_asks, create_handle, created_asks, create_asks, start_bind_on, start_bind_asks, finish_bind_on, with_table, with_store, start_connect_on, start_connect_asks, side_at, with_output, output_asks, streams_asks, connected_asks, finish_connect_on, finish_connect_asks, input_of, output_of, input_at, output_at, failed_made, convert_asks, converted, stream_on, read_asks, check_asks, write_asks, flushed_asks, bytes_reply, permit_reply, taken_reply, local_address_on, remote_address_on, own_of, handle_reply, done_reply, answer_reply, pair_reply, address_reply, context_in, context_at, step_asks, machine_asks, run}
 use Rattle.wasi_run.specs.Licence.{Has, entry, step_at, handles_of, BeganBy, IsMaker, Created, MayUseTcp, IsTcpCreate, IsBindTo, IsConnectTo, IsMarkedWith, IsMarkOf, MayAsk}
 use Rattle.wasi_run.proofs.Lists.{has_last, get_seam, set_there}
 use Rattle.wasi_run.proofs.Bounds.{May, MayWork, Learned, fine_bound, keeps_socket}
 use Rattle.wasi_run.proofs.Connects.{StartedFine, FinishedFine, fine_start_connect, fine_finish_connect}
 use Rattle.wasi_run.proofs.Tells.{ToldFine, fine_local, fine_remote}
-use Rattle.wasi_run.proofs.Fine.{OfSide, NamesRecord, HandleIsFine, KnowsMaker, SocketIsFine, StateIsFine}
-use Rattle.wasi_run.proofs.Frames.{KeepsSide, keeps_side, kind_front, state_asked, state_made, state_put, state_push, state_stands}
+use Rattle.wasi_run.proofs.Openings.{opened_record}
+use Rattle.wasi_run.proofs.Flows.{Names, names_on, LeavesReader, LeavesWriter, fine_read, fine_check, fine_write}
+use Rattle.wasi_run.proofs.Fine.{OfSide, NamesRecord, HandleIsFine, KnowsMaker, ReadsOn, WritesOn, IsConnectedOn, StreamsAreFine, SocketIsFine, RecordIsFine, StateIsFine}
+use Rattle.wasi_run.proofs.Frames.{KeepsSide, keeps_side, KeepsRecord, record_more, record_kept, kind_front, state_asked, state_made, state_put, state_push, state_stands}
 use Rattle.wasi_run.proofs.Binds.{BegunIsFine, fine_begin}
 
 module _ (contexts : List WasiSocketsCtx) (steps : List Step) where
@@ -157,16 +165,16 @@ module _ (contexts : List WasiSocketsCtx) (steps : List Step) where
   -- == tcp-start-bind
   fine_answered : (es : List Entry) (m : Machine) (line place : ℕ) (r : Tcp2Socket) (begun : Result (Option Operation) ErrorCode × Tcp2Socket) → slice_get m.store.sockets place ≡ Some r → BegunIsFine contexts steps r es begun → Fine es m
       → Fine es (record m { store = (bind_answered m.store line place begun).1 })
-  fine_answered es m line place r (Ok None, now) g k h = state_put steps es m place r now g k.keeps k.fine h
+  fine_answered es m line place r (Ok None, now) g k h = state_put steps es m place r now g k.keeps.keeps (record_kept steps es r now k.keeps k.fine (h.sockets place r g)) h
   fine_answered es m line place r (Ok (Some op), now) g k h =
-      state_stands steps es (record m { store = with_socket m.store place now }) (standing_bind line place op) k.stands (state_put steps es m place r now g k.keeps k.fine h)
-  fine_answered es m line place r (Err c, now) g k h = state_put steps es m place r now g k.keeps k.fine h
+      state_stands steps es (record m { store = with_socket m.store place now }) (standing_bind line place op) k.stands (state_put steps es m place r now g k.keeps.keeps (record_kept steps es r now k.keeps k.fine (h.sockets place r g)) h)
+  fine_answered es m line place r (Err c, now) g k h = state_put steps es m place r now g k.keeps.keeps (record_kept steps es r now k.keeps k.fine (h.sockets place r g)) h
 
   fine_start_by : (es : List Entry) (m : Machine) (op : OpId) (place : ℕ) (a : IpSocketAddress) (r : Tcp2Socket) (idle : Bool) → slice_get m.store.sockets place ≡ Some r → BeganBy steps op (IsBindTo a) → MayWork contexts steps es op r.inner → Fine es m
       → Meets (Stores m) es (start_bind_by m.store op place a r idle)
   fine_start_by es m op place a r true g to w h =
       and_then (λ fs begun. Fine fs m × BegunIsFine contexts steps r fs begun) (Stores m) es (begin_bind_asks op r a) _
-      (allows_state m (BegunIsFine contexts steps r) es (begin_bind_asks op r a) h (fine_begin contexts steps es op r a to w (h.sockets place r g)))
+      (allows_state m (BegunIsFine contexts steps r) es (begin_bind_asks op r a) h (fine_begin contexts steps es op r a to w (h.sockets place r g).socket))
       (λ fs begun k. fine_answered fs m op.step place r begun g k.1 k.0)
   fine_start_by es m op place a r false g to w h = h
 
@@ -176,12 +184,11 @@ module _ (contexts : List WasiSocketsCtx) (steps : List Step) where
   fine_start_at es m op place a (Some r) g to w h = fine_start_by es m op place a r (is_nothing r.in_progress) g to (w r g) h
 
   -- the record of a handle that the line names
-  names_record : (es : List Entry) (m : Machine) (line handle place : ℕ) (s : Step) → IsLine line s → Has (handles_of s) handle → kind_at m.table handle ≡ Some (Tcp2 place) → Fine es m
+  works_by : (es : List Entry) (m : Machine) (line handle place : ℕ) (s : Step) → IsLine line s → Has (handles_of s) handle → NamesRecord es m.store.sockets handle place → Fine es m
       → (r : Tcp2Socket) → slice_get m.store.sockets place ≡ Some r → MayWork contexts steps es (own_of line) r.inner
-  names_record es m line handle place s l named e h r g =
-      let n = h.handles handle (Tcp2 place) e in
+  works_by es m line handle place s l named n h r g =
       let of = subst (λ (x : Tcp2Socket). OfSide es handle x.inner) (same n.found r (sym n.at ∙ g)) n.of in
-      let knows = (h.sockets place r g).knows in
+      let knows = (h.sockets place r g).socket.knows in
       record {
         works = λ side i. record {
           family = r.inner.family;
@@ -192,6 +199,10 @@ module _ (contexts : List WasiSocketsCtx) (steps : List Step) where
     where
       same : (a b : Tcp2Socket) → Some a ≡ Some b → a ≡ b
       same a b p = cc
+
+  names_record : (es : List Entry) (m : Machine) (line handle place : ℕ) (s : Step) → IsLine line s → Has (handles_of s) handle → kind_at m.table handle ≡ Some (Tcp2 place) → Fine es m
+      → (r : Tcp2Socket) → slice_get m.store.sockets place ≡ Some r → MayWork contexts steps es (own_of line) r.inner
+  names_record es m line handle place s l named e h = works_by es m line handle place s l named (h.handles handle (Tcp2 place) e) h
 
   place_in : (k : Option Kind) (place : ℕ) → place_of k ≡ Some place → k ≡ Some (Tcp2 place)
   place_in None place e = absurd (cc)
@@ -213,7 +224,7 @@ module _ (contexts : List WasiSocketsCtx) (steps : List Step) where
 
   -- == tcp-finish-bind
   fine_finish_by : (es : List Entry) (m : Machine) (place : ℕ) (r : Tcp2Socket) (idle : Bool) → slice_get m.store.sockets place ≡ Some r → Fine es m → Stores m es (finish_bind_by m.store place r idle)
-  fine_finish_by es m place r true g h = state_put steps es m place r (record r { in_progress = doing.Nothing }) g (keeps_side r.inner) (h.sockets place r g) h
+  fine_finish_by es m place r true g h = state_put steps es m place r (record r { in_progress = doing.Nothing }) g (keeps_side r.inner) (record { socket = (h.sockets place r g).socket; streams = (h.sockets place r g).streams }) h
   fine_finish_by es m place r false g h = h
 
   fine_finish_at : (es : List Entry) (m : Machine) (place : ℕ) (o : Option Tcp2Socket) → slice_get m.store.sockets place ≡ o → Fine es m → Stores m es (finish_bind_at m.store place o)
@@ -225,16 +236,16 @@ module _ (contexts : List WasiSocketsCtx) (steps : List Step) where
   fine_finish_on es m (Some place) h = fine_finish_at es m place (slice_get m.store.sockets place) refl h
 
   -- == tcp-start-connect
-  fine_put : {T : Type 0} (es : List Entry) (m : Machine) (place : ℕ) (r : Tcp2Socket) (done : Result T ErrorCode × Tcp2Socket) → slice_get m.store.sockets place ≡ Some r → KeepsSide r.inner done.1.inner → SocketIsFine steps es done.1.inner → Fine es m → Stores m es (put_back m.store place done)
-  fine_put es m place r (Ok value, now) g k f h = state_put steps es m place r now g k f h
-  fine_put es m place r (Err c, now) g k f h = state_put steps es m place r now g k f h
+  fine_put : {T : Type 0} (es : List Entry) (m : Machine) (place : ℕ) (r : Tcp2Socket) (done : Result T ErrorCode × Tcp2Socket) → slice_get m.store.sockets place ≡ Some r → KeepsRecord r done.1 → SocketIsFine steps es done.1.inner → Fine es m → Stores m es (put_back m.store place done)
+  fine_put es m place r (Ok value, now) g k f h = state_put steps es m place r now g k.keeps (record_kept steps es r now k f (h.sockets place r g)) h
+  fine_put es m place r (Err c, now) g k f h = state_put steps es m place r now g k.keeps (record_kept steps es r now k f (h.sockets place r g)) h
 
   abbrev BegunRecord : Tcp2Socket → List Entry → Result (Unit {0}) ErrorCode × Tcp2Socket → Type 0
-  BegunRecord r es done = KeepsSide r.inner done.1.inner × SocketIsFine steps es done.1.inner
+  BegunRecord r es done = KeepsRecord r done.1 × SocketIsFine steps es done.1.inner
 
   begun_record : (es : List Entry) (r : Tcp2Socket) (done : Result (Unit {0}) ErrorCode × Socket) → StartedFine contexts steps r.inner es done → BegunRecord r es (connect_begun r done)
-  begun_record es r (Ok done, socket) k = (k.keeps, k.fine)
-  begun_record es r (Err c, socket) k = (k.keeps, k.fine)
+  begun_record es r (Ok done, socket) k = (record { keeps = k.keeps; streams = refl }, k.fine)
+  begun_record es r (Err c, socket) k = (record { keeps = k.keeps; streams = refl }, k.fine)
 
   fine_begin_connect : (es : List Entry) (op : OpId) (r : Tcp2Socket) (a : IpSocketAddress) → BeganBy steps op (IsConnectTo a) → MayWork contexts steps es op r.inner → SocketIsFine steps es r.inner → Allows (May contexts steps) (BegunRecord r) es (begin_connect_asks op r a)
   fine_begin_connect es op r a to w f =
@@ -244,7 +255,7 @@ module _ (contexts : List WasiSocketsCtx) (steps : List Step) where
       → Meets (Stores m) es (start_connect_by m.store op place a r idle)
   fine_connect_by es m op place a r true g to w h =
       and_then (λ fs done. Fine fs m × BegunRecord r fs done) (Stores m) es (begin_connect_asks op r a) _
-      (allows_state m (BegunRecord r) es (begin_connect_asks op r a) h (fine_begin_connect es op r a to w (h.sockets place r g)))
+      (allows_state m (BegunRecord r) es (begin_connect_asks op r a) h (fine_begin_connect es op r a to w (h.sockets place r g).socket))
       (λ fs done k. fine_put fs m place r done g k.1.0 k.1.1 k.0)
   fine_connect_by es m op place a r false g to w h = h
 
@@ -271,19 +282,25 @@ module _ (contexts : List WasiSocketsCtx) (steps : List Step) where
   abbrev Polled : Machine → ℕ → List Entry → Result (Unit {0}) Stop × Records → Type 0
   Polled m place es done = Stores m es done × HasItsSide place done
 
+  -- a record stays as it is while an operation asks
+  keeps_record : {A : Type 0} (r : Tcp2Socket) (Q : List Entry → A → Type 0) (es : List Entry) (asks : Asks A) → RecordIsFine steps es r → Allows (May contexts steps) Q es asks → Allows (May contexts steps) (λ fs a. RecordIsFine steps fs r × Q fs a) es asks
+  keeps_record r Q es asks f h =
+      allows_keep (May contexts steps) (May contexts steps) (λ fs. RecordIsFine steps fs r) Q (λ fs o c t fits k m. record_more steps fs _ r k) (λ fs o c m. m) es asks f h
+
   -- what is left of a record whose connect was polled
   abbrev PolledRecord : Tcp2Socket → List Entry → Result (Unit {0}) Stop × Tcp2Socket → Type 0
-  PolledRecord r es (Ok done, now) = KeepsSide r.inner now.inner × SocketIsFine steps es now.inner × ((side : OpId) × (side_of now.inner ≡ Some side))
-  PolledRecord r es (Err stop, now) = KeepsSide r.inner now.inner × SocketIsFine steps es now.inner × ⊤
+  PolledRecord r es (Ok done, now) = KeepsSide r.inner now.inner × RecordIsFine steps es now × ((side : OpId) × (side_of now.inner ≡ Some side))
+  PolledRecord r es (Err stop, now) = KeepsSide r.inner now.inner × RecordIsFine steps es now × ⊤
 
-  polled_record : (es : List Entry) (r : Tcp2Socket) (done : Result (Answer (Unit {0})) ErrorCode × Socket) → FinishedFine contexts steps r.inner es done → PolledRecord r es (connect_polled r done)
-  polled_record es r (Ok Pending, socket) k = (k.keeps, k.fine, tt)
-  polled_record es r (Ok (Ready done), socket) k = (k.keeps, k.fine, k.side)
-  polled_record es r (Err c, socket) k = (k.keeps, k.fine, tt)
+  polled_record : (es : List Entry) (r : Tcp2Socket) (done : Result (Answer (Unit {0})) ErrorCode × Socket) → RecordIsFine steps es r → FinishedFine contexts steps r.inner es done → PolledRecord r es (connect_polled r done)
+  polled_record es r (Ok Pending, socket) h k = (k.keeps, record_kept steps es r (with_inner r socket) (record { keeps = k.keeps; streams = refl }) k.fine h, tt)
+  polled_record es r (Ok (Ready done), socket) h k = opened_record contexts steps es r socket k.side.0 k.side.1 k.keeps k.fine h
+  polled_record es r (Err c, socket) h k = (k.keeps, record_kept steps es r (idle r socket) (record { keeps = k.keeps; streams = refl }) k.fine h, tt)
 
-  fine_poll_record : (es : List Entry) (r : Tcp2Socket) → SocketIsFine steps es r.inner → Allows (May contexts steps) (PolledRecord r) es (poll_connect_asks r)
+  fine_poll_record : (es : List Entry) (r : Tcp2Socket) → RecordIsFine steps es r → Allows (May contexts steps) (PolledRecord r) es (poll_connect_asks r)
   fine_poll_record es r f =
-      allows_then (May contexts steps) (FinishedFine contexts steps r.inner) (PolledRecord r) es (tcp_finish_connect r.inner) _ (fine_finish_connect contexts steps es r.inner f) (λ fs done k. polled_record fs r done k)
+      allows_then (May contexts steps) (λ fs done. RecordIsFine steps fs r × FinishedFine contexts steps r.inner fs done) (PolledRecord r) es (tcp_finish_connect r.inner) _
+      (keeps_record r (FinishedFine contexts steps r.inner) es (tcp_finish_connect r.inner) f (fine_finish_connect contexts steps es r.inner f.socket)) (λ fs done k. polled_record fs r done k.0 k.1)
 
   fine_polled : (es : List Entry) (m : Machine) (place : ℕ) (r : Tcp2Socket) (done : Result (Unit {0}) Stop × Tcp2Socket) → slice_get m.store.sockets place ≡ Some r → PolledRecord r es done → Fine es m
       → Polled m place es (with_record_put m.store place done)
@@ -344,7 +361,7 @@ module _ (contexts : List WasiSocketsCtx) (steps : List Step) where
     unfolding bind
     fine_stream es m side kind is f u =
         allows_if (MayAsk contexts steps) _ es (is_full m.table) _ _ (λ full. u.0) (λ room. (
-          (u.0.count, record { origin = step.TcpFinishConnect ctx s; at = l; holds = (is, refl, marked es m side u) }),
+          (u.0.count, record { origin = step.TcpFinishConnect ctx s; at = l; holds = (is, (refl, marked es m side u)) }),
           λ t fits. (
             state_made steps es m (own_of line) (name_of kind) (Some s) (Some side) t kind (f _ _ (stream_of es m side (name_of kind) u t)) u.0,
             kind_front m.table.live _ s (Tcp2 place) u.1,
@@ -382,25 +399,25 @@ module _ (contexts : List WasiSocketsCtx) (steps : List Step) where
 
   -- == what a socket says of its addresses
   abbrev ToldRecord : Tcp2Socket → List Entry → Result IpSocketAddress ErrorCode × Tcp2Socket → Type 0
-  ToldRecord r es done = KeepsSide r.inner done.1.inner × SocketIsFine steps es done.1.inner
+  ToldRecord r es done = KeepsRecord r done.1 × SocketIsFine steps es done.1.inner
 
   fine_address : (es : List Entry) (m : Machine) (place : ℕ) (r : Tcp2Socket) (asks : Asks (Result IpSocketAddress ErrorCode × Socket)) → slice_get m.store.sockets place ≡ Some r → Allows (May contexts steps) (ToldFine contexts steps r.inner) es asks → Fine es m
       → Meets (Stores m) es (bind (bind asks (λ done. Give (inner_answered r done))) (λ done. Give (put_back m.store place done)))
   fine_address es m place r asks g a h =
       and_then (λ fs done. Fine fs m × ToldRecord r fs done) (Stores m) es (bind asks (λ done. Give (inner_answered r done))) _
       (allows_state m (ToldRecord r) es (bind asks (λ done. Give (inner_answered r done))) h
-      (allows_then (May contexts steps) (ToldFine contexts steps r.inner) (ToldRecord r) es asks _ a (λ fs done k. (k.keeps, k.fine))))
+      (allows_then (May contexts steps) (ToldFine contexts steps r.inner) (ToldRecord r) es asks _ a (λ fs done k. (record { keeps = k.keeps; streams = refl }, k.fine))))
       (λ fs done k. fine_put fs m place r done g k.1.0 k.1.1 k.0)
 
   fine_local_at : (es : List Entry) (m : Machine) (op : OpId) (place : ℕ) (o : Option Tcp2Socket) → slice_get m.store.sockets place ≡ o → ((r : Tcp2Socket) → slice_get m.store.sockets place ≡ Some r → MayWork contexts steps es op r.inner) → Fine es m
       → Meets (Stores m) es (local_address_at m.store op place o)
   fine_local_at es m op place None g w h = h
-  fine_local_at es m op place (Some r) g w h = fine_address es m place r (local_asks op r.inner) g (fine_local contexts steps es op r.inner (w r g) (h.sockets place r g)) h
+  fine_local_at es m op place (Some r) g w h = fine_address es m place r (local_asks op r.inner) g (fine_local contexts steps es op r.inner (w r g) (h.sockets place r g).socket) h
 
   fine_remote_at : (es : List Entry) (m : Machine) (op : OpId) (place : ℕ) (o : Option Tcp2Socket) → slice_get m.store.sockets place ≡ o → ((r : Tcp2Socket) → slice_get m.store.sockets place ≡ Some r → MayWork contexts steps es op r.inner) → Fine es m
       → Meets (Stores m) es (remote_address_at m.store op place o)
   fine_remote_at es m op place None g w h = h
-  fine_remote_at es m op place (Some r) g w h = fine_address es m place r (remote_asks op r.inner) g (fine_remote contexts steps es op r.inner (w r g) (h.sockets place r g)) h
+  fine_remote_at es m op place (Some r) g w h = fine_address es m place r (remote_asks op r.inner) g (fine_remote contexts steps es op r.inner (w r g) (h.sockets place r g).socket) h
 
   fine_local_on : (es : List Entry) (m : Machine) (line ctx s : ℕ) (o : Option ℕ) → socket_at m s ≡ o → IsLine line (step.TcpLocalAddress ctx s) → Fine es m → Meets Leaves es (local_address_on m (own_of line) o)
   fine_local_on es m line ctx s None e l h = h
@@ -415,6 +432,132 @@ module _ (contexts : List WasiSocketsCtx) (steps : List Step) where
       and_then (Stores m) Leaves es (remote_address_at m.store (own_of line) place (slice_get m.store.sockets place)) _
       (fine_remote_at es m (own_of line) place (slice_get m.store.sockets place) refl (names_record es m line s place (step.TcpRemoteAddress ctx s) l (inl refl) (place_in (kind_at m.table s) place e) h) h)
       (λ fs done k. k)
+
+  -- == the calls of a stream
+  -- one that failed is of a record that has its side
+  abbrev HasFailedOn : {T : Type 0} → Result T StreamStop × Tcp2Socket → Type 0
+  HasFailedOn (Err (stop.Failed c), now) = (side : OpId) × (side_of now.inner ≡ Some side)
+  HasFailedOn _ = ⊤
+
+  abbrev Flowed : {T : Type 0} → Tcp2Socket → List Entry → Result T StreamStop × Tcp2Socket → Type 0
+  Flowed r es done = KeepsSide r.inner done.1.inner × RecordIsFine steps es done.1 × HasFailedOn done
+
+  side_known : {T : Type 0} (answer : Result T StreamStop) (now : Tcp2Socket) (side : OpId) → side_of now.inner ≡ Some side → HasFailedOn (answer, now)
+  side_known (Ok value) now side e = tt
+  side_known (Err (stop.Failed c)) now side e = (side, e)
+  side_known (Err stop.Closed) now side e = tt
+  side_known (Err (stop.Trap kind)) now side e = tt
+
+  -- streams in place of those that were
+  flowed : {T : Type 0} (es : List Entry) (r : Tcp2Socket) (streams : Streams) (answer : Result T StreamStop) → StreamsAreFine r.inner streams → RecordIsFine steps es r → Flowed r es (answer, record r { streams = Some streams })
+  flowed es r streams answer f h = (
+    keeps_side r.inner,
+    record { socket = h.socket; streams = λ others e. let q : streams ≡ others = cc in subst (StreamsAreFine r.inner) q f },
+    side_known answer (record r { streams = Some streams }) f.side (ap side_in f.connected.state ∙ ap (λ (x : OpId). Some x) f.connected.same),
+  )
+
+  -- the operation names the side of the streams
+  names_streams : (es : List Entry) (op : OpId) (r : Tcp2Socket) (s : Streams) → MayWork contexts steps es op r.inner → (f : StreamsAreFine r.inner s) → Names contexts steps es op f.side
+  names_streams es op r s w f = (w.works f.side (ap side_in f.connected.state ∙ ap (λ (x : OpId). Some x) f.connected.same)).named
+
+  fine_reader : {T : Type 0} (es : List Entry) (op : OpId) (r : Tcp2Socket) (o : Option Streams) (read : ReadState → Asks (Result T StreamStop × ReadState)) → r.streams ≡ o → MayWork contexts steps es op r.inner → RecordIsFine steps es r
+      → ((side : OpId) (s : ReadState) → Names contexts steps es op side → ReadsOn side s → Allows (May contexts steps) (LeavesReader contexts steps side) es (read s))
+      → Allows (May contexts steps) (Flowed r) es (reader_of r read o)
+  fine_reader es op r None read e w h k = (keeps_side r.inner, h, tt)
+  fine_reader es op r (Some s) read e w h k =
+      let f = h.streams s e in
+      allows_then (May contexts steps) (λ fs done. RecordIsFine steps fs r × LeavesReader contexts steps f.side fs done) (Flowed r) es (read s.reader) _
+      (keeps_record r (LeavesReader contexts steps f.side) es (read s.reader) h (k f.side s.reader (names_streams es op r s w f) f.reads))
+      (λ fs done q. flowed fs r (record s { reader = done.1 }) done.0 (record { side = f.side; connected = f.connected; reads = q.1; writes = f.writes }) q.0)
+
+  fine_writer : {T : Type 0} (es : List Entry) (op : OpId) (r : Tcp2Socket) (o : Option Streams) (write : WriteState → Asks (Result T StreamStop × WriteState)) → r.streams ≡ o → MayWork contexts steps es op r.inner → RecordIsFine steps es r
+      → ((side : OpId) (s : WriteState) → Names contexts steps es op side → WritesOn side s → Allows (May contexts steps) (LeavesWriter contexts steps side) es (write s))
+      → Allows (May contexts steps) (Flowed r) es (writer_of r write o)
+  fine_writer es op r None write e w h k = (keeps_side r.inner, h, tt)
+  fine_writer es op r (Some s) write e w h k =
+      let f = h.streams s e in
+      allows_then (May contexts steps) (λ fs done. RecordIsFine steps fs r × LeavesWriter contexts steps f.side fs done) (Flowed r) es (write s.writer) _
+      (keeps_record r (LeavesWriter contexts steps f.side) es (write s.writer) h (k f.side s.writer (names_streams es op r s w f) f.writes))
+      (λ fs done q. flowed fs r (record s { writer = done.1 }) done.0 (record { side = f.side; connected = f.connected; reads = f.reads; writes = q.1 }) q.0)
+
+  -- of the records
+  abbrev HasFailedAt : {T : Type 0} → ℕ → Result T StreamStop × Records → Type 0
+  HasFailedAt place (Err (stop.Failed c), store) = (side : OpId) × (side_at (slice_get store.sockets place) ≡ Some side)
+  HasFailedAt place _ = ⊤
+
+  abbrev FlowedAt : {T : Type 0} → Machine → ℕ → List Entry → Result T StreamStop × Records → Type 0
+  FlowedAt m place es done = Stores m es done × HasFailedAt place done
+
+  failed_at : {T : Type 0} (m : Machine) (place : ℕ) (r : Tcp2Socket) (done : Result T StreamStop × Tcp2Socket) → slice_get m.store.sockets place ≡ Some r → HasFailedOn done → HasFailedAt place (with_record_put m.store place done)
+  failed_at m place r (Ok value, now) g k = tt
+  failed_at m place r (Err (stop.Failed c), now) g k = (k.0, ap side_at (set_there m.store.sockets place r now g) ∙ k.1)
+  failed_at m place r (Err stop.Closed, now) g k = tt
+  failed_at m place r (Err (stop.Trap kind), now) g k = tt
+
+  fine_stream_at : {T : Type 0} (es : List Entry) (m : Machine) (place : ℕ) (call : Tcp2Socket → Asks (Result T StreamStop × Tcp2Socket)) (o : Option Tcp2Socket) → slice_get m.store.sockets place ≡ o
+      → ((r : Tcp2Socket) → slice_get m.store.sockets place ≡ Some r → Allows (May contexts steps) (Flowed r) es (call r)) → Fine es m → Meets (FlowedAt m place) es (stream_at m.store place call o)
+  fine_stream_at es m place call None g a h = (h, tt)
+  fine_stream_at es m place call (Some r) g a h =
+      and_then (λ fs done. Fine fs m × Flowed r fs done) (FlowedAt m place) es (call r) _ (allows_state m (Flowed r) es (call r) h (a r g))
+      (λ fs done k. (state_put steps fs m place r done.1 g k.1.0 k.1.1 k.0, failed_at m place r done g k.1.2))
+
+  module _ (line handle place : ℕ) (s : Step) (kind : Kind) (l : IsLine line s) (named : Has (handles_of s) handle)
+      (stands : (es : List Entry) (sockets : List Tcp2Socket) → HandleIsFine es sockets handle kind → NamesRecord es sockets handle place)
+      (mark : (es : List Entry) (sock : Option OpId) → IsMarkedWith es handle sock → IsMarkOf es (own_of line) name.ErrorValue (Some handle) sock s) where
+    -- a new error is of the stream's side
+    fine_failed : (es : List Entry) (m : Machine) (c : ErrorCode) (side : OpId) → kind_at m.table handle ≡ Some kind → side_at (slice_get m.store.sockets place) ≡ Some side → Fine es m
+        → Meets Leaves es (convert_asks m (own_of line) handle place (stop.Failed c))
+    fine_failed es m c side e p h =
+        let n = stands es m.store.sockets (h.handles handle kind e) in
+        let i = n.of.side side (sym (ap side_at n.at) ∙ p) in
+        let is_marked : IsMarkedWith es handle (Some side) = record { op = i.op; kind = i.kind; parent = i.parent; told = i.told; mark = i.mark } in
+        subst (λ (o : Option OpId). Meets Leaves es (bind (make_asks m.table (own_of line) ErrorValue (Some handle) o) (λ made. Give (failed_made c (with_table m made))))) (sym p)
+        (and_then (Tables m) Leaves es (make_asks m.table (own_of line) ErrorValue (Some handle) (Some side)) _
+        (fine_make es m (own_of line) ErrorValue (Some handle) (Some side) (record { origin = s; at = l; holds = mark es (Some side) is_marked }) (λ t. tt) h)
+        (λ fs made k. k))
+
+    fine_converted : {T : Type 0} (es : List Entry) (m : Machine) (done : Result T StreamStop × Records) → kind_at m.table handle ≡ Some kind → FlowedAt m place es done → Meets Leaves es (converted (own_of line) handle place (with_store m done))
+    fine_converted es m (Ok value, store) e k = k.0
+    fine_converted es m (Err (stop.Failed c), store) e k =
+        and_then Leaves Leaves es (convert_asks (record m { store = store }) (own_of line) handle place (stop.Failed c)) _ (fine_failed es (record m { store = store }) c k.1.0 e k.1.1 k.0) (λ fs made q. q)
+    fine_converted es m (Err stop.Closed, store) e k = k.0
+    fine_converted es m (Err (stop.Trap why), store) e k = k.0
+
+    fine_stream_on : {T : Type 0} (es : List Entry) (m : Machine) (call : Tcp2Socket → Asks (Result T StreamStop × Tcp2Socket)) → kind_at m.table handle ≡ Some kind
+        → ((r : Tcp2Socket) → MayWork contexts steps es (own_of line) r.inner → RecordIsFine steps es r → Allows (May contexts steps) (Flowed r) es (call r)) → Fine es m
+        → Meets Leaves es (stream_on m (own_of line) handle call (Some place))
+    fine_stream_on es m call e a h =
+        and_then (FlowedAt m place) Leaves es (stream_at m.store place call (slice_get m.store.sockets place)) _
+        (fine_stream_at es m place call (slice_get m.store.sockets place) refl
+        (λ r g. a r (works_by es m line handle place s l named (stands es m.store.sockets (h.handles handle kind e)) h r g) (h.sockets place r g)) h)
+        (λ fs done k. fine_converted fs m done e k)
+
+  input_in : (k : Option Kind) (place : ℕ) → input_of k ≡ Some place → k ≡ Some (Input place)
+  input_in None place e = absurd (cc)
+  input_in (Some (Input n)) place e = cc
+  input_in (Some _) place e = absurd (cc)
+
+  output_in : (k : Option Kind) (place : ℕ) → output_of k ≡ Some place → k ≡ Some (Output place)
+  output_in None place e = absurd (cc)
+  output_in (Some (Output n)) place e = cc
+  output_in (Some _) place e = absurd (cc)
+
+  fine_read_on : (es : List Entry) (m : Machine) (line ctx input len : ℕ) (o : Option ℕ) → input_at m input ≡ o → IsLine line (step.Read ctx input len) → Fine es m
+      → Meets Leaves es (stream_on m (own_of line) input (reader_asks (λ r. read_state_asks (own_of line) r len)) o)
+  fine_read_on es m line ctx input len None e l h = h
+  fine_read_on es m line ctx input len (Some place) e l h =
+      fine_stream_on line input place (step.Read ctx input len) (Input place) l (inl refl) (λ fs sockets n. n) (λ fs sock k. (refl, (refl, k))) es m _ (input_in (kind_at m.table input) place e)
+      (λ r w f. fine_reader es (own_of line) r r.streams _ refl w f (λ side s n on. fine_read contexts steps (own_of line) side es s len n on)) h
+
+  -- of the steps on an output
+  module _ (line output : ℕ) (s : Step) (l : IsLine line s) (named : Has (handles_of s) output) (mark : (es : List Entry) (sock : Option OpId) → IsMarkedWith es output sock → IsMarkOf es (own_of line) name.ErrorValue (Some output) sock s) where
+    fine_write_on : {T : Type 0} (es : List Entry) (m : Machine) (write : WriteState → Asks (Result T StreamStop × WriteState)) (o : Option ℕ) → output_at m output ≡ o
+        → ((side : OpId) (w : WriteState) → Names contexts steps es (own_of line) side → WritesOn side w → Allows (May contexts steps) (LeavesWriter contexts steps side) es (write w)) → Fine es m
+        → Meets Leaves es (stream_on m (own_of line) output (writer_asks write) o)
+    fine_write_on es m write None e a h = h
+    fine_write_on es m write (Some place) e a h =
+        fine_stream_on line output place s (Output place) l named (λ fs sockets n. n) mark es m _ (output_in (kind_at m.table output) place e)
+        (λ r w f. fine_writer es (own_of line) r r.streams write refl w f a) h
 
   -- == a line
   replied : {A : Type 0} (es : List Entry) (asks : Asks (A × Machine)) (reply : A → Reply) → Meets Leaves es asks → Meets Leaves es (bind asks (λ done. Give (reply done.0, done.1)))
@@ -433,10 +576,16 @@ module _ (contexts : List WasiSocketsCtx) (steps : List Step) where
   fine_step es m line (step.TcpRemoteAddress ctx s) l h = replied es (remote_address_on m (own_of line) (socket_at m s)) address_reply (fine_remote_on es m line ctx s (socket_at m s) refl l h)
   fine_step es m line (step.TcpIsListening ctx s) l h = h
   fine_step es m line (step.TcpAddressFamily ctx s) l h = h
-  fine_step es m line (step.Read ctx input len) l h = h
-  fine_step es m line (step.CheckWrite ctx output) l h = h
-  fine_step es m line (step.Write ctx output bytes) l h = h
-  fine_step es m line (step.Flush ctx output) l h = h
+  fine_step es m line (step.Read ctx input len) l h = replied es (read_asks m (own_of line) input len) bytes_reply (fine_read_on es m line ctx input len (input_at m input) refl l h)
+  fine_step es m line (step.CheckWrite ctx output) l h =
+      replied es (check_asks m (own_of line) output) permit_reply
+      (fine_write_on line output (step.CheckWrite ctx output) l (inl refl) (λ fs sock k. (refl, (refl, k))) es m _ (output_at m output) refl (λ side w n on. fine_check contexts steps (own_of line) side es w n on) h)
+  fine_step es m line (step.Write ctx output bytes) l h =
+      replied es (write_asks m (own_of line) output bytes) taken_reply
+      (fine_write_on line output (step.Write ctx output bytes) l (inl refl) (λ fs sock k. (refl, (refl, k))) es m _ (output_at m output) refl (λ side w n on. fine_write contexts steps (own_of line) side es w bytes n on) h)
+  fine_step es m line (step.Flush ctx output) l h =
+      replied es (flushed_asks m (own_of line) output) taken_reply
+      (fine_write_on line output (step.Flush ctx output) l (inl refl) (λ fs sock k. (refl, (refl, k))) es m flush_asks (output_at m output) refl (λ side w n on. on) h)
 
   -- while a call stands nothing is asked
   fine_machine : (es : List Entry) (m : Machine) (line : ℕ) (s : Step) (standing : Option StandingBind) → IsLine line s → Fine es m → Meets Leaves es (machine_asks contexts m line s standing)

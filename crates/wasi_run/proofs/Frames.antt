@@ -12,20 +12,23 @@ use Rattle.wasi_world.specs.declared.call.HandleKind.{HandleKind}
 use Rattle.wasi_world.specs.declared.call.Told.{Told}
 use Rattle.wasi_world.specs.declared.call.Entry.{Entry}
 use Rattle.wasi_world.specs.Operation.{Item, Operation}
+use Rattle.wasi_tcp.specs.declared.socket.Connection.{Connection}
+use Rattle.wasi_tcp.specs.declared.socket.TcpState.TheVariants.{Connected}
 use Rattle.wasi_tcp.specs.Shape.{Socket}
 use Rattle.wasi_tcp.specs.Socket.{side_of}
 use Rattle.wasi_run.specs.declared.machine.Machine.{Machine}
+use Rattle.wasi_run.specs.declared.socket.Streams.{Streams}
 use Rattle.wasi_run.specs.declared.socket.Tcp2Socket.{Tcp2Socket}
 use Rattle.wasi_run.specs.declared.step.Step.{Step}
 use Rattle.wasi_run.specs.declared.store.StandingBind.{StandingBind}
 use Rattle.wasi_run.specs.declared.table.Kind.{Kind}
-use Rattle.wasi_run.specs.declared.table.Kind.TheVariants.{Network, Tcp2, Input, Output}
+use Rattle.wasi_run.specs.declared.table.Kind.TheVariants.{Network, Tcp2, Input, Output, ErrorValue}
 use Rattle.wasi_run.specs.declared.table.Slot.{Slot}
 use Rattle.wasi_run.specs.Table.{kind_in, with_handle}
 use Rattle.wasi_run.specs.Store.{with_socket, with_record}
 use Rattle.wasi_run.specs.Licence.{entry, marked_by, NamesSide, IsSide, IsMaker, Created, Handed, HasWildcardYes, IsBoundSide, MayGoOut}
 use Rattle.wasi_run.proofs.Lists.{has_front, marks_in-push, get_front, get_split, get_set, set_get}
-use Rattle.wasi_run.proofs.Fine.{OfSide, NamesRecord, HandleIsFine, KnowsMaker, BindLeft, Whole, Checked, Over, ConnectLeft, Unbound, Unchecked, Allowed, ToClose, Ended, WorksOn, BindIsFine, ConnectIsFine, SocketIsFine, StateIsFine}
+use Rattle.wasi_run.proofs.Fine.{OfSide, NamesRecord, HandleIsFine, KnowsMaker, BindLeft, Whole, Checked, Over, ConnectLeft, Unbound, Unchecked, Allowed, ToClose, Ended, WorksOn, BindIsFine, ConnectIsFine, IsConnectedOn, StreamsAreFine, SocketIsFine, RecordIsFine, StateIsFine}
 
 -- == what more entries keep
 pub side_more : (es fs : List Entry) (handle : ℕ) (side : OpId) → IsSide es handle side → IsSide (es ++ fs) handle side
@@ -49,6 +52,7 @@ handle_more es fs sockets handle Network h = tt
 handle_more es fs sockets handle (Tcp2 place) h = names_record_more es fs sockets handle place h
 handle_more es fs sockets handle (Input place) h = names_record_more es fs sockets handle place h
 handle_more es fs sockets handle (Output place) h = names_record_more es fs sockets handle place h
+handle_more es fs sockets handle ErrorValue h = tt
 
 pub knows_more : (es fs : List Entry) (socket : Socket) → KnowsMaker es socket → KnowsMaker (es ++ fs) socket
 knows_more es fs socket h = record { maker = λ s e. maker_more es fs socket.maker socket.family s (h.maker s e) }
@@ -86,14 +90,34 @@ no_mark (Made handle kind parent sock) h = absurd h
 no_mark _ h = refl
 
 -- == how a record may change
--- It keeps its maker and its family, and has no side that it didn't have.
+-- It keeps its maker, its family and its connection, and has no side that it didn't have.
 pub record KeepsSide (old now : Socket) : Type 0 where
   pub maker : now.maker ≡ old.maker
   pub family : now.family ≡ old.family
   pub side : (side : OpId) → side_of now ≡ Some side → side_of old ≡ Some side
+  pub connected : (c : Connection) → old.state ≡ Connected c → IsConnectedOn now c.side
 
 pub keeps_side : (socket : Socket) → KeepsSide socket socket
-keeps_side socket = record { maker = refl; family = refl; side = λ s e. e }
+keeps_side socket = record { maker = refl; family = refl; side = λ s e. e; connected = λ c e. record { connection = c; state = e; same = refl } }
+
+pub keeps_then : (a b c : Socket) → KeepsSide a b → KeepsSide b c → KeepsSide a c
+keeps_then a b c k l = record {
+  maker = l.maker ∙ k.maker;
+  family = l.family ∙ k.family;
+  side = λ s e. k.side s (l.side s e);
+  connected = λ x e. let p = k.connected x e in let q = l.connected p.connection p.state in record { connection = q.connection; state = q.state; same = q.same ∙ p.same };
+}
+
+-- streams stay those of the socket's connection
+pub streams_kept : (old now : Socket) (streams : Streams) → KeepsSide old now → StreamsAreFine old streams → StreamsAreFine now streams
+streams_kept old now streams k f =
+    let c = k.connected f.connected.connection f.connected.state in
+    record { side = f.side; connected = record { connection = c.connection; state = c.state; same = c.same ∙ f.connected.same }; reads = f.reads; writes = f.writes }
+
+-- The record keeps its side, and its streams.
+pub record KeepsRecord (old now : Tcp2Socket) : Type 0 where
+  pub keeps : KeepsSide old.inner now.inner
+  pub streams : now.streams ≡ old.streams
 
 pub of_side_kept : (es : List Entry) (handle : ℕ) (old now : Socket) → KeepsSide old now → OfSide es handle old → OfSide es handle now
 of_side_kept es handle old now k h = record { side = λ s e. h.side s (k.side s e) }
@@ -116,6 +140,7 @@ handle_put es sockets i old now handle Network g k h = tt
 handle_put es sockets i old now handle (Tcp2 place) g k h = names_put es sockets i old now handle place g k h
 handle_put es sockets i old now handle (Input place) g k h = names_put es sockets i old now handle place g k h
 handle_put es sockets i old now handle (Output place) g k h = names_put es sockets i old now handle place g k h
+handle_put es sockets i old now handle ErrorValue g k h = tt
 
 names_push : (es : List Entry) (sockets : List Tcp2Socket) (r : Tcp2Socket) (handle place : ℕ) → NamesRecord es sockets handle place → NamesRecord es (sockets ++ r ∷ []) handle place
 names_push es sockets r handle place h = record { found = h.found; at = get_front sockets (r ∷ []) place h.found h.at; of = h.of }
@@ -125,6 +150,7 @@ handle_push es sockets r handle Network h = tt
 handle_push es sockets r handle (Tcp2 place) h = names_push es sockets r handle place h
 handle_push es sockets r handle (Input place) h = names_push es sockets r handle place h
 handle_push es sockets r handle (Output place) h = names_push es sockets r handle place h
+handle_push es sockets r handle ErrorValue h = tt
 
 -- == the live handles
 -- what a handle stands for among those of which the last was just made
@@ -176,12 +202,18 @@ module _ (steps : List Step) where
     connect = λ op s. connect_more es fs op (h.connect op s);
   }
 
+  pub record_more : (es fs : List Entry) (r : Tcp2Socket) → RecordIsFine steps es r → RecordIsFine steps (es ++ fs) r
+  record_more es fs r h = record { socket = socket_more es fs r.inner h.socket; streams = h.streams }
+
+  pub record_kept : (es : List Entry) (old now : Tcp2Socket) → KeepsRecord old now → SocketIsFine steps es now.inner → RecordIsFine steps es old → RecordIsFine steps es now
+  record_kept es old now k f h = record { socket = f; streams = λ streams e. streams_kept old.inner now.inner streams k.keeps (h.streams streams (sym k.streams ∙ e)) }
+
   -- any ask but a mark keeps the state
   pub state_asked : (es : List Entry) (m : Machine) (op : OpId) (c : Call) (told : Told) → NoMark c → StateIsFine steps es m → StateIsFine steps (es ++ entry op c told ∷ []) m
   state_asked es m op c told q h = record {
     count = let p = marks_in-push es (entry op c told) in let z = no_mark c q in let k = h.count in omega arith;
     handles = λ handle kind e. handle_more es _ m.store.sockets handle kind (h.handles handle kind e);
-    sockets = λ place r e. socket_more es _ r.inner (h.sockets place r e);
+    sockets = λ place r e. record_more es _ r (h.sockets place r e);
     standing = λ b e. bind_more es _ b.bind (h.standing b e);
   }
 
@@ -195,17 +227,17 @@ module _ (steps : List Step) where
       | inl g ↦ handle_more es _ m.store.sockets handle x (h.handles handle x g)
       | inr g ↦ (let fs = es ++ entry op (Made m.table.next name parent sock) told ∷ [] in subst (HandleIsFine fs m.store.sockets handle) g.1 (subst (λ (n : ℕ). HandleIsFine fs m.store.sockets n kind) g.0 f))
     ];
-    sockets = λ place r e. socket_more es _ r.inner (h.sockets place r e);
+    sockets = λ place r e. record_more es _ r (h.sockets place r e);
     standing = λ b e. bind_more es _ b.bind (h.standing b e);
   }
 
   -- one record changes
-  pub state_put : (es : List Entry) (m : Machine) (place : ℕ) (old now : Tcp2Socket) → slice_get m.store.sockets place ≡ Some old → KeepsSide old.inner now.inner → SocketIsFine steps es now.inner → StateIsFine steps es m → StateIsFine steps es (record m { store = with_socket m.store place now })
+  pub state_put : (es : List Entry) (m : Machine) (place : ℕ) (old now : Tcp2Socket) → slice_get m.store.sockets place ≡ Some old → KeepsSide old.inner now.inner → RecordIsFine steps es now → StateIsFine steps es m → StateIsFine steps es (record m { store = with_socket m.store place now })
   state_put es m place old now g k f h = record {
     count = h.count;
     handles = λ handle x e. handle_put es m.store.sockets place old now handle x g k (h.handles handle x e);
     sockets = λ i r e. elim (get_set m.store.sockets place now i r e) [
-      | inl q ↦ subst (λ (x : Tcp2Socket). SocketIsFine steps es x.inner) q.1 f
+      | inl q ↦ subst (RecordIsFine steps es) q.1 f
       | inr q ↦ h.sockets i r q
     ];
     standing = h.standing;
@@ -216,7 +248,7 @@ module _ (steps : List Step) where
   state_push es m socket f h = record {
     count = h.count;
     handles = λ handle x e. handle_push es m.store.sockets _ handle x (h.handles handle x e);
-    sockets = λ i r e. elim (get_split m.store.sockets _ i r e) [ inl q ↦ h.sockets i r q | inr q ↦ subst (λ (x : Tcp2Socket). SocketIsFine steps es x.inner) q f ];
+    sockets = λ i r e. elim (get_split m.store.sockets _ i r e) [ inl q ↦ h.sockets i r q | inr q ↦ subst (RecordIsFine steps es) q (record { socket = f; streams = λ streams e. absurd (cc) }) ];
     standing = h.standing;
   }
 

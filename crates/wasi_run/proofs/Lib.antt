@@ -2,6 +2,8 @@ pub mod Hosts
 pub mod Lookups
 pub mod SideCounts
 pub mod ConnectCounts
+pub mod StreamCounts
+pub mod StreamCalls
 pub mod Takes
 pub mod Stretches
 pub mod OneLine
@@ -19,6 +21,8 @@ pub mod Bounds
 pub mod Binds
 pub mod Connects
 pub mod Tells
+pub mod Openings
+pub mod Flows
 pub mod FineSteps
 pub mod Licences
 pub mod Meanings

@@ -77,7 +77,7 @@ module _ (contexts : List WasiSocketsCtx) (steps : List Step) where
     may_more before op (call.UdpConnect sock addr) h = h
     may_more before op (call.Listen sock backlog) h = h
     may_more before op (call.SetBacklog sock backlog) h = h
-    may_more before op (call.Connect sock addr) h = h
+    may_more before op (call.Connect sock addr) h = (reach_more before op sock h.0, began_more op _ h.1, h.2, h.3)
     may_more before op (call.Hand sock peer) h = (reach_more before op sock h.0, h.1, h.2)
     may_more before op (call.Send sock addr bytes) h = h
     may_more before op (call.Close sock) h = h

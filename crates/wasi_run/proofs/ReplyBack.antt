@@ -1,14 +1,14 @@
 -- Each reply that a step may give is read back from its text, so no two of them have one text.
-use Rattle.std.proofs.Common.{◌≡◌, ℕ, List, [], ◌∷◌, map, codes, Option, Some, None, IsTrue, append-nil, ap, sym, ◌∙◌, refl, arith}
+use Rattle.std.proofs.Common.{◌≡◌, ℕ, List, [], ◌∷◌, map, codes, decimal, Option, Some, None, IsTrue, append-nil, ap, sym, ◌∙◌, refl, arith}
 use Rattle.std.specs.List.{list_all}
 use Rattle.std.proofs.lemmas.List.{append_cancel_right}
 use Rattle.wasi_world.specs.declared.outcome.TrapKind.{TrapKind}
 use Rattle.wasi_world.specs.declared.outcome.TrapKind.TheVariants as trap
-use Rattle.wasi_world.specs.Fields.{Reader, ◌>>=◌, Row, row, read_then, give, give_some, after_word, named, field_at, word_at, number_at, bytes_at, line_with, fields_of}
-use Rattle.wasi_world.specs.Written.{AreVisible, is_visible}
+use Rattle.wasi_world.specs.Fields.{Reader, ◌>>=◌, Row, row, read_then, give, give_some, after_word, named, field_at, word_at, number_at, bytes_at, address_at, line_with, fields_of}
+use Rattle.wasi_world.specs.Written.{AreVisible, is_visible, address_numbers}
 use Rattle.wasi_world.proofs.Exactly.{All, all_give, all_some, all_then, all_both, all_end, all_last, same_found, field_exactly, number_exactly}
-use Rattle.wasi_world.proofs.ReadBack.{named_passes, u32_exactly, word_exactly, bytes_exactly}
-use Rattle.wasi_world.proofs.Visible.{visible_utf8, number_visible, bytes_visible, fields_of_line}
+use Rattle.wasi_world.proofs.ReadBack.{named_passes, u32_exactly, word_exactly, bytes_exactly, address_exactly}
+use Rattle.wasi_world.proofs.Visible.{visible_utf8, number_visible, bytes_visible, address_visible, fields_of_line}
 use Rattle.wasi_run.specs.declared.reply.CodeWord.{CodeWord}
 use Rattle.wasi_run.specs.declared.reply.CodeWord.TheVariants as word
 use Rattle.wasi_run.specs.declared.reply.Field.{Field}
@@ -16,7 +16,8 @@ use Rattle.wasi_run.specs.declared.reply.Field.TheVariants as field
 use Rattle.wasi_run.specs.declared.reply.Reply.{Reply}
 use Rattle.wasi_run.specs.declared.reply.Reply.TheVariants as reply
 use Rattle.wasi_run.specs.declared.step.Step.{Step}
-use Rattle.wasi_run.specs.Replies.{code_text, trap_text, field_text, fields_of_reply, text_of, FieldKind, ANumber, SomeBytes, Truth, kinds_of, IsOfKind, AreOfKinds, Gives}
+use Rattle.wasi_run.specs.Reply.{address_values}
+use Rattle.wasi_run.specs.Replies.{code_text, trap_text, field_text, fields_of_reply, text_of, FieldKind, ANumber, SomeBytes, Truth, FieldKinds, Each, AnAddress, kinds_of, IsOfKind, EachOfKind, AreOfKinds, Gives}
 
 code_words : List CodeWord
 code_words =
@@ -81,11 +82,16 @@ of_kind ANumber = number_at 18446744073709551615 >>= λ n. give (field.Number n)
 of_kind SomeBytes = bytes_at >>= λ bytes. give (field.Bytes bytes)
 of_kind Truth = word_at >>= after_word (row (codes "true") (give field.True) ∷ row (codes "false") (give field.False) ∷ [])
 
-of_kinds : List FieldKind → Reader (List Field)
-of_kinds [] = give []
-of_kinds (kind ∷ kinds) = of_kind kind >>= λ f. of_kinds kinds >>= λ fields. give (f ∷ fields)
+each_of_kind : List FieldKind → Reader (List Field)
+each_of_kind [] = give []
+each_of_kind (kind ∷ kinds) = of_kind kind >>= λ f. each_of_kind kinds >>= λ fields. give (f ∷ fields)
 
-rows : List FieldKind → List (Row Reply)
+-- the fields of a reply
+abbrev of_kinds : FieldKinds → Reader (List Field)
+of_kinds (Each kinds) = each_of_kind kinds
+of_kinds AnAddress = address_at >>= λ a. give (address_values a)
+
+rows : FieldKinds → List (Row Reply)
 rows kinds =
     row (codes "ok") (of_kinds kinds >>= λ fields. give (reply.Ok fields))
     ∷ row (codes "err") (code_at >>= λ code. give (reply.Err code))
@@ -101,7 +107,7 @@ rows kinds =
     ∷ []
 
 -- what reads a reply whose fields are of these kinds
-reply_at : List FieldKind → Reader Reply
+reply_at : FieldKinds → Reader Reply
 reply_at kinds = word_at >>= after_word (rows kinds)
 
 all_of_kind : (kind : FieldKind) (f : Field) → IsOfKind kind f → All (of_kind kind) f (field_text f ∷ [])
@@ -111,13 +117,23 @@ all_of_kind Truth field.True is = all_last _ word_exactly (visible_utf8 (codes "
 all_of_kind Truth field.False is = all_last _ word_exactly (visible_utf8 (codes "false") refl) all_give
 all_of_kind _ _ is = absurd is
 
-all_of_kinds : (kinds : List FieldKind) (fields : List Field) → AreOfKinds kinds fields → All (of_kinds kinds) fields (map field_text fields)
-unfolding of_kinds
-all_of_kinds [] [] are = all_give
-all_of_kinds (kind ∷ kinds) (f ∷ fields) are =
-    all_both _ (all_of_kind kind f are.0) (all_end _ (all_of_kinds kinds fields are.1) all_give)
-all_of_kinds [] (f ∷ fields) are = absurd are
-all_of_kinds (kind ∷ kinds) [] are = absurd are
+all_each : (kinds : List FieldKind) (fields : List Field) → EachOfKind kinds fields → All (each_of_kind kinds) fields (map field_text fields)
+unfolding each_of_kind
+all_each [] [] are = all_give
+all_each (kind ∷ kinds) (f ∷ fields) are =
+    all_both _ (all_of_kind kind f are.0) (all_end _ (all_each kinds fields are.1) all_give)
+all_each [] (f ∷ fields) are = absurd are
+all_each (kind ∷ kinds) [] are = absurd are
+
+-- numbers are written in decimal
+number_texts : (ns : List ℕ) → map field_text (map field.Number ns) ≡ map decimal ns
+number_texts [] = refl
+number_texts (n ∷ ns) = ap (λ texts. decimal n ∷ texts) (number_texts ns)
+
+all_of_kinds : (kinds : FieldKinds) (fields : List Field) → AreOfKinds kinds fields → All (of_kinds kinds) fields (map field_text fields)
+all_of_kinds (Each kinds) fields are = all_each kinds fields are
+all_of_kinds AnAddress fields are =
+    rw (are.numbers, number_texts (address_numbers are.address)) (all_last _ address_exactly are.fits all_give)
 
 code_all : (code : CodeWord) → All code_at code (code_text code ∷ [])
 unfolding code_at
@@ -127,7 +143,7 @@ trap_all : (kind : TrapKind) → All trap_at kind (trap_text kind ∷ [])
 unfolding trap_at
 trap_all kind = all_last _ field_exactly tt (all_some _ (trap_back kind))
 
-with_word : (kinds : List FieldKind) (word : List ℕ) {r : Reply} {taken : List (List ℕ)} → IsTrue (list_all is_visible word) → All (after_word (rows kinds) word) r taken → All (reply_at kinds) r (word ∷ taken)
+with_word : (kinds : FieldKinds) (word : List ℕ) {r : Reply} {taken : List (List ℕ)} → IsTrue (list_all is_visible word) → All (after_word (rows kinds) word) r taken → All (reply_at kinds) r (word ∷ taken)
 unfolding reply_at
 with_word kinds word visible more = all_then _ word_exactly (visible_utf8 word visible) more
 
@@ -161,11 +177,16 @@ field_visible Truth field.True is = refl
 field_visible Truth field.False is = refl
 field_visible _ _ is = absurd is
 
-fields_visible : (kinds : List FieldKind) (fields : List Field) → AreOfKinds kinds fields → AreVisible (map field_text fields)
-fields_visible [] [] are = tt
-fields_visible (kind ∷ kinds) (f ∷ fields) are = (field_visible kind f are.0, fields_visible kinds fields are.1)
-fields_visible [] (f ∷ fields) are = absurd are
-fields_visible (kind ∷ kinds) [] are = absurd are
+each_visible : (kinds : List FieldKind) (fields : List Field) → EachOfKind kinds fields → AreVisible (map field_text fields)
+each_visible [] [] are = tt
+each_visible (kind ∷ kinds) (f ∷ fields) are = (field_visible kind f are.0, each_visible kinds fields are.1)
+each_visible [] (f ∷ fields) are = absurd are
+each_visible (kind ∷ kinds) [] are = absurd are
+
+fields_visible : (kinds : FieldKinds) (fields : List Field) → AreOfKinds kinds fields → AreVisible (map field_text fields)
+fields_visible (Each kinds) fields are = each_visible kinds fields are
+fields_visible AnAddress fields are =
+    rw (are.numbers, number_texts (address_numbers are.address)) (address_visible are.address are.fits)
 
 reply_visible : (s : Step) (r : Reply) → Gives s r → AreVisible (fields_of_reply r)
 reply_visible s (reply.Ok fields) gives = (refl, fields_visible (kinds_of s) fields gives)
@@ -180,7 +201,7 @@ reply_visible s reply.Cancelled gives = (refl, tt)
 reply_visible s reply.Dropped gives = (refl, tt)
 reply_visible s reply.Unfilled gives = (refl, tt)
 
-no_reply : (kinds : List FieldKind) → reply_at kinds [] ≡ None
+no_reply : (kinds : FieldKinds) → reply_at kinds [] ≡ None
 unfolding reply_at read_then word_at field_at
 no_reply kinds = refl
 

@@ -53,18 +53,26 @@ module _ (contexts : List WasiSocketsCtx) (steps : List Step) where
 
   -- == the remote address
   -- a connection that keeps its side
-  connected : (es : List Entry) (socket : Socket) (old now : Connection) → socket.state ≡ state.Connected old → now.side ≡ old.side → SocketIsFine steps es socket → (answer : Result IpSocketAddress ErrorCode) → ToldFine socket es (answer, with_state socket (state.Connected now))
-  connected es socket old now e same f answer = record {
-    keeps = record { maker = refl; family = refl; side = λ side p. side_is side p };
-    fine = record {
-      knows = record { maker = λ side p. f.knows.maker side (side_is side p) };
-      bound = λ side p b. absurd (cc);
-      connect = λ op p. absurd (cc);
-    };
+  its_own_side : (socket : Socket) (old now : Connection) → socket.state ≡ state.Connected old → now.side ≡ old.side → (side : OpId) → Some now.side ≡ Some side → side_of socket ≡ Some side
+  its_own_side socket old now e same side p = ap side_in e ∙ (ap (λ (s : OpId). Some s) (sym same) ∙ p)
+
+  pub connected_keeps : (socket : Socket) (old now : Connection) → socket.state ≡ state.Connected old → now.side ≡ old.side → KeepsSide socket (with_state socket (state.Connected now))
+  connected_keeps socket old now e same = record {
+    maker = refl;
+    family = refl;
+    side = λ side p. its_own_side socket old now e same side p;
+    connected = λ c p. record { connection = now; state = refl; same = let q : old ≡ c = cc in same ∙ ap (λ (x : Connection). x.side) q };
   }
-    where
-      side_is : (side : OpId) → Some now.side ≡ Some side → side_of socket ≡ Some side
-      side_is side p = ap side_in e ∙ (ap (λ (s : OpId). Some s) (sym same) ∙ p)
+
+  pub connected_fine : (es : List Entry) (socket : Socket) (old now : Connection) → socket.state ≡ state.Connected old → now.side ≡ old.side → SocketIsFine steps es socket → SocketIsFine steps es (with_state socket (state.Connected now))
+  connected_fine es socket old now e same f = record {
+    knows = record { maker = λ side p. f.knows.maker side (its_own_side socket old now e same side p) };
+    bound = λ side p b. absurd (cc);
+    connect = λ op p. absurd (cc);
+  }
+
+  connected : (es : List Entry) (socket : Socket) (old now : Connection) → socket.state ≡ state.Connected old → now.side ≡ old.side → SocketIsFine steps es socket → (answer : Result IpSocketAddress ErrorCode) → ToldFine socket es (answer, with_state socket (state.Connected now))
+  connected es socket old now e same f answer = record { keeps = connected_keeps socket old now e same; fine = connected_fine es socket old now e same f }
 
   after : (es : List Entry) (socket : Socket) (c : Connection) (told : Result IpSocketAddress ErrorCode) → socket.state ≡ state.Connected c → SocketIsFine steps es socket → ToldFine socket es (in_socket socket (still_connected (after_peer c told)))
   after es socket c (Ok a) e f = connected es socket c (record c { peer = Some a }) e refl f (Ok a)

@@ -12,6 +12,7 @@ use Rattle.wasi_world.specs.Asks.{Asks, Give, bind}
 use Rattle.wasi_tcp.specs.Shape.{Socket}
 use Rattle.wasi_tcp.specs.Socket.{new_asks, side_of}
 use Rattle.wasi_run.specs.declared.machine.Machine.{Machine}
+use Rattle.wasi_run.specs.declared.reply.Field.{Field}
 use Rattle.wasi_run.specs.declared.reply.Reply.{Reply}
 use Rattle.wasi_run.specs.declared.reply.Reply.TheVariants as reply
 use Rattle.wasi_run.specs.declared.step.Step.{Step}
@@ -19,11 +20,16 @@ use Rattle.wasi_run.specs.declared.step.Step.TheVariants as step
 use Rattle.wasi_run.specs.declared.store.StandingBind.{StandingBind}
 use Rattle.wasi_run.specs.declared.socket.Tcp2Socket.{Tcp2Socket}
 use Rattle.wasi_run.specs.declared.table.Kind.{Kind}
-use Rattle.wasi_run.specs.declared.table.Kind.TheVariants.{Network, Tcp2, Input, Output}
-use Rattle.wasi_run.specs.Reply.{word_of_p2, is_trap, no_fields, number_fields, pair_fields, truth_fields, family_fields, address_values}
-use Rattle.wasi_run.specs.Host.{Stop, Code, Trap, code_stop}
+use Rattle.wasi_run.specs.declared.table.Kind.TheVariants.{Network, Tcp2, Input, Output, ErrorValue}
+use Rattle.wasi_run.specs.Reply.{word_of_p2, is_trap, no_fields, number_fields, pair_fields, bytes_fields, truth_fields, family_fields, address_values}
+use Rattle.wasi_addr.specs.Code.{p2_of_code}
+use Rattle.wasi_streams.specs.StreamStop.{StreamStop}
+use Rattle.wasi_streams.specs.StreamStop as stream
+use Rattle.wasi_tcp.specs.Reader.{read_state_asks}
+use Rattle.wasi_tcp.specs.Writer.{check_write_asks, write_state_asks}
+use Rattle.wasi_run.specs.Host.{Stop, Code, Trap, code_stop, CallStop, Failed, Closed, Traps, failed_with}
 use Rattle.wasi_run.specs.Table.{Shown, empty_table, kind_at, make_asks}
-use Rattle.wasi_run.specs.Store.{Records, no_records, with_record, start_bind_at, finish_bind_at, start_connect_at, finish_connect_at, local_address_at, remote_address_at, is_listening_at, address_family_at}
+use Rattle.wasi_run.specs.Store.{Records, no_records, with_record, start_bind_at, finish_bind_at, start_connect_at, finish_connect_at, local_address_at, remote_address_at, is_listening_at, address_family_at, reader_asks, writer_asks, flush_asks, stream_at}
 
 -- no handle, no record, no call that stands
 abbrev pub first_state : Machine
@@ -136,6 +142,56 @@ abbrev pub address_family_on : Machine → Option ℕ → Result SocketAddressFa
 address_family_on m None = Err (Trap NoSuchHandle)
 address_family_on m (Some place) = address_family_at (slice_get m.store.sockets place)
 
+-- == the calls of a stream
+-- the number of the record of an input's socket, and of an output's
+abbrev pub input_of : Option Kind → Option ℕ
+input_of (Some (Input place)) = Some place
+input_of _ = None
+
+abbrev pub output_of : Option Kind → Option ℕ
+output_of (Some (Output place)) = Some place
+output_of _ = None
+
+abbrev pub input_at : Machine → ℕ → Option ℕ
+input_at m h = input_of (kind_at m.table h)
+
+abbrev pub output_at : Machine → ℕ → Option ℕ
+output_at m h = output_of (kind_at m.table h)
+
+abbrev pub failed_made : ErrorCode → Result ℕ Stop × Machine → CallStop × Machine
+failed_made c (made, m) = (failed_with c made, m)
+
+-- why a stream's call gave no value: a failure gets the handle of a new error, whose parent is the stream
+abbrev pub convert_asks : Machine → OpId → ℕ → ℕ → StreamStop → Asks (CallStop × Machine)
+convert_asks m own handle place (stream.Failed c) =
+    bind (make_asks m.table own ErrorValue (Some handle) (side_at (slice_get m.store.sockets place))) (λ made. Give (failed_made c (with_table m made)))
+convert_asks m own handle place stream.Closed = Give (Closed, m)
+convert_asks m own handle place (stream.Trap kind) = Give (Traps kind, m)
+
+abbrev pub stopped : {T : Type 0} → CallStop × Machine → Result T CallStop × Machine
+stopped (stop, m) = (Err stop, m)
+
+abbrev pub converted : {T : Type 0} → OpId → ℕ → ℕ → Result T StreamStop × Machine → Asks (Result T CallStop × Machine)
+converted own handle place (Ok value, m) = Give (Ok value, m)
+converted own handle place (Err stop, m) = bind (convert_asks m own handle place stop) (λ c. Give (stopped c))
+
+-- a call on a stream of the record of this number
+abbrev pub stream_on : {T : Type 0} → Machine → OpId → ℕ → (Tcp2Socket → Asks (Result T StreamStop × Tcp2Socket)) → Option ℕ → Asks (Result T CallStop × Machine)
+stream_on m own handle call None = Give (Err (Traps NoSuchHandle), m)
+stream_on m own handle call (Some place) = bind (stream_at m.store place call (slice_get m.store.sockets place)) (λ done. converted own handle place (with_store m done))
+
+abbrev pub read_asks : Machine → OpId → ℕ → ℕ → Asks (Result (List ℕ) CallStop × Machine)
+read_asks m own input len = stream_on m own input (reader_asks (λ r. read_state_asks own r len)) (input_at m input)
+
+abbrev pub check_asks : Machine → OpId → ℕ → Asks (Result ℕ CallStop × Machine)
+check_asks m own output = stream_on m own output (writer_asks (check_write_asks own)) (output_at m output)
+
+abbrev pub write_asks : Machine → OpId → ℕ → List ℕ → Asks (Result (Unit {0}) CallStop × Machine)
+write_asks m own output bytes = stream_on m own output (writer_asks (λ w. write_state_asks own w bytes)) (output_at m output)
+
+abbrev pub flushed_asks : Machine → OpId → ℕ → Asks (Result (Unit {0}) CallStop × Machine)
+flushed_asks m own output = stream_on m own output (writer_asks flush_asks) (output_at m output)
+
 -- == replies
 abbrev pub stop_reply : Stop → Reply
 stop_reply (Code c) = reply.Err (word_of_p2 c)
@@ -164,6 +220,24 @@ truth_reply (Err stop) = stop_reply stop
 abbrev pub family_reply : Result SocketAddressFamily Stop → Reply
 family_reply (Ok family) = reply.Ok (family_fields family)
 family_reply (Err stop) = stop_reply stop
+
+-- of a call of a stream
+abbrev pub call_stop_reply : CallStop → Reply
+call_stop_reply (Failed c e) = reply.Failed (word_of_p2 (p2_of_code c)) e
+call_stop_reply Closed = reply.Closed
+call_stop_reply (Traps kind) = reply.Trap kind
+
+abbrev pub bytes_reply : Result (List ℕ) CallStop → Reply
+bytes_reply (Ok bytes) = reply.Ok (bytes_fields bytes)
+bytes_reply (Err stop) = call_stop_reply stop
+
+abbrev pub permit_reply : Result ℕ CallStop → Reply
+permit_reply (Ok n) = reply.Ok (number_fields n)
+permit_reply (Err stop) = call_stop_reply stop
+
+abbrev pub taken_reply : Result (Unit {0}) CallStop → Reply
+taken_reply (Ok done) = reply.Ok no_fields
+taken_reply (Err stop) = call_stop_reply stop
 
 -- a call that is pending stands under its line's number
 abbrev pub answer_reply : ℕ → Result (Answer (Unit {0})) Stop → Reply
@@ -195,7 +269,10 @@ step_asks contexts m line (step.TcpLocalAddress ctx s) = bind (local_address_on 
 step_asks contexts m line (step.TcpRemoteAddress ctx s) = bind (remote_address_on m (own_of line) (socket_at m s)) (λ done. Give (address_reply done.0, done.1))
 step_asks contexts m line (step.TcpIsListening ctx s) = Give (truth_reply (is_listening_on m (socket_at m s)), m)
 step_asks contexts m line (step.TcpAddressFamily ctx s) = Give (family_reply (address_family_on m (socket_at m s)), m)
-step_asks contexts m line _ = Give (reply.Busy, m)
+step_asks contexts m line (step.Read ctx input len) = bind (read_asks m (own_of line) input len) (λ done. Give (bytes_reply done.0, done.1))
+step_asks contexts m line (step.CheckWrite ctx output) = bind (check_asks m (own_of line) output) (λ done. Give (permit_reply done.0, done.1))
+step_asks contexts m line (step.Write ctx output bytes) = bind (write_asks m (own_of line) output bytes) (λ done. Give (taken_reply done.0, done.1))
+step_asks contexts m line (step.Flush ctx output) = bind (flushed_asks m (own_of line) output) (λ done. Give (taken_reply done.0, done.1))
 
 -- while a call stands every guest call is busy
 abbrev pub machine_asks : List WasiSocketsCtx → Machine → ℕ → Step → Option StandingBind → Asks (Reply × Machine)

@@ -7,7 +7,7 @@ use Rattle.wasi_world.specs.declared.outcome.TrapKind.TheVariants.{Full}
 use Rattle.wasi_world.specs.Asks.{Asks, Give, bind}
 use Rattle.wasi_world.specs.Typed.{ask_made}
 use Rattle.wasi_run.specs.declared.table.Kind.{Kind}
-use Rattle.wasi_run.specs.declared.table.Kind.TheVariants.{Network, Tcp2, Input, Output}
+use Rattle.wasi_run.specs.declared.table.Kind.TheVariants.{Network, Tcp2, Input, Output, ErrorValue}
 use Rattle.wasi_run.specs.declared.table.Slot.{Slot}
 use Rattle.wasi_run.specs.Host.{Stop, Trap}
 
@@ -24,6 +24,7 @@ name_of Network = name.Network
 name_of (Tcp2 n) = name.Tcp2
 name_of (Input n) = name.Input
 name_of (Output n) = name.Output
+name_of ErrorValue = name.ErrorValue
 
 -- 65,536 are live, or 4,294,967,294 were made
 abbrev pub is_full : Shown → Bool

@@ -1,8 +1,8 @@
 //! How a host call ends.
 
 use std::alloc::AllocError;
-use wasi_addr::p2;
-use wasi_world::{Refusal, TrapKind};
+use wasi_addr::{ErrorCode, p2};
+use wasi_world::{Handle, Refusal, TrapKind};
 
 /// Why a host call gave no value: a code for the guest, a trap, or want of memory.
 #[derive(Debug, Drop)]
@@ -35,4 +35,14 @@ impl From<Refusal> for SocketError {
             Refusal::Memory(e) => SocketError::Memory(e),
         }
     }
+}
+
+/// Why a call of a stream gave no value: its last operation failed, with a handle of the new error; the stream is at its end
+/// or closed; a trap; or want of memory.
+#[derive(Debug, Drop)]
+pub enum CallError {
+    Failed(ErrorCode, Handle),
+    Closed,
+    Trap(TrapKind),
+    Memory(AllocError),
 }

@@ -9,12 +9,14 @@ mod lines;
 pub mod machine;
 pub mod parse;
 pub mod program;
+mod replies;
 pub mod reply;
 pub mod run;
 mod session;
 pub mod socket;
 pub mod step;
 pub mod store;
+mod streams;
 pub mod table;
 
 pub use program::{Done, Status, run_main};

@@ -55,7 +55,7 @@ fn do_line<W: World, K: Sink>(
     let Some(step) = parse_step(alloc, line, contexts.len() as u32)? else {
         return Err(RunError::BadStep(session.lines + 1));
     };
-    let reply = session.step(alloc, world, contexts, &step)?;
+    let reply = session.step(alloc, world, contexts, step)?;
     let text = reply_text(alloc, &reply)?;
     let Ok(()) = write_all(writer, text.as_slice()) else {
         return Err(RunError::WriteFault);

@@ -1,13 +1,17 @@
 //! The machine that does a guest's calls, over one table of handles.
 
-ghost use Rattle.std.specs.Prelude.{◌≡◌, false, IfOk, IsOkAnd, Ok};
+ghost use Rattle.std.specs.Prelude.{◌≡◌, false, Ok};
 ghost use Rattle.wasi_world.specs.Asks.{AsksFor};
-ghost use Rattle.wasi_run.specs.Host.{host_outcome, IsStop};
-ghost use Rattle.wasi_run.specs.Machine.{first_state, network_asks, create_asks, start_bind_asks, finish_bind_on, start_connect_asks, finish_connect_on, connected_asks, streams_asks, output_asks, local_address_on, remote_address_on, is_listening_on, address_family_on, socket_at, is_network, machine_asks, step_asks, context_at, handle_reply, done_reply, answer_reply, pair_reply, address_reply, truth_reply, family_reply, stop_reply};
+ghost use Rattle.wasi_run.specs.Host.{host_outcome};
+ghost use Rattle.wasi_run.specs.Machine.{first_state, network_asks, create_asks, start_bind_asks, finish_bind_on, start_connect_asks, finish_connect_on, connected_asks, streams_asks, output_asks, local_address_on, remote_address_on, is_listening_on, address_family_on, socket_at, is_network, machine_asks, step_asks, context_at};
 ghost use Rattle.wasi_run.specs.Table.{kind_at};
 
 use crate::host::SocketError;
-use crate::reply::{CodeWord, Reply};
+use crate::replies::{
+    address_reply, answer_reply, bytes_reply, done_reply, family_reply, handle_reply, pair_reply,
+    permit_reply, taken_reply, truth_reply,
+};
+use crate::reply::Reply;
 use crate::step::Step;
 use crate::store::Store;
 use crate::table::{Kind, Table};
@@ -242,10 +246,10 @@ impl Machine {
         world: &mut W,
         contexts: &[WasiSocketsCtx],
         line: u32,
-        step: &Step,
+        step: Step,
     ) -> Result<Reply, AllocError>
         requires { (W.seen world.old).ended ≡ false }
-        ensures asked { AsksFor (machine_asks contexts.now self.old line step.now self.old.store.standing) (W.seen world.old) (W.seen world.new) (λ reply. (reply, self.new)) result }
+        ensures asked { AsksFor (machine_asks contexts.now self.old line step self.old.store.standing) (W.seen world.old) (W.seen world.new) (λ reply. (reply, self.new)) result }
         ensures sides { KnowsSides (W.seen world.old) self.old.store → KnowsSides (W.seen world.new) self.new.store }
         ensures open { (W.seen world.new).ended ≡ false }
     {
@@ -261,10 +265,10 @@ impl Machine {
         world: &mut W,
         contexts: &[WasiSocketsCtx],
         line: u32,
-        step: &Step,
+        step: Step,
     ) -> Result<Reply, AllocError>
         requires { (W.seen world.old).ended ≡ false }
-        ensures asked { AsksFor (step_asks contexts.now self.old line step.now) (W.seen world.old) (W.seen world.new) (λ reply. (reply, self.new)) result }
+        ensures asked { AsksFor (step_asks contexts.now self.old line step) (W.seen world.old) (W.seen world.new) (λ reply. (reply, self.new)) result }
         ensures sides { KnowsSides (W.seen world.old) self.old.store → KnowsSides (W.seen world.new) self.new.store }
         ensures open { (W.seen world.new).ended ≡ false }
     {
@@ -278,8 +282,8 @@ impl Machine {
                 handle_reply(alloc, made)
             }
             Step::TcpCreate { context, family } => {
-                let ctx = context_at(contexts, *context);
-                let made = self.create_tcp_socket(world, own, &ctx, *family);
+                let ctx = context_at(contexts, context);
+                let made = self.create_tcp_socket(world, own, &ctx, family);
                 handle_reply(alloc, made)
             }
             Step::TcpStartBind {
@@ -288,36 +292,51 @@ impl Machine {
                 addr,
                 ..
             } => {
-                let answer = self.start_bind(world, own, *socket, *network, *addr);
+                let answer = self.start_bind(world, own, socket, network, addr);
                 answer_reply(alloc, line, answer)
             }
-            Step::TcpFinishBind { socket, .. } => done_reply(alloc, self.finish_bind(*socket)),
+            Step::TcpFinishBind { socket, .. } => done_reply(alloc, self.finish_bind(socket)),
             Step::TcpStartConnect {
                 socket,
                 network,
                 addr,
                 ..
             } => {
-                let done = self.start_connect(world, own, *socket, *network, *addr);
+                let done = self.start_connect(world, own, socket, network, addr);
                 done_reply(alloc, done)
             }
             Step::TcpFinishConnect { socket, .. } => {
-                let made = self.finish_connect(world, own, *socket);
+                let made = self.finish_connect(world, own, socket);
                 pair_reply(alloc, made)
             }
             Step::TcpLocalAddress { socket, .. } => {
-                let told = self.local_address(world, own, *socket);
+                let told = self.local_address(world, own, socket);
                 address_reply(alloc, told)
             }
             Step::TcpRemoteAddress { socket, .. } => {
-                let told = self.remote_address(world, own, *socket);
+                let told = self.remote_address(world, own, socket);
                 address_reply(alloc, told)
             }
-            Step::TcpIsListening { socket, .. } => truth_reply(alloc, self.is_listening(*socket)),
+            Step::TcpIsListening { socket, .. } => truth_reply(alloc, self.is_listening(socket)),
             Step::TcpAddressFamily { socket, .. } => {
-                family_reply(alloc, self.address_family(*socket))
+                family_reply(alloc, self.address_family(socket))
             }
-            _ => Ok(Reply::Busy),
+            Step::Read { input, len, .. } => {
+                let read = self.read(alloc, world, own, input, len as usize);
+                bytes_reply(alloc, read)
+            }
+            Step::CheckWrite { output, .. } => {
+                let permit = self.check_write(world, own, output);
+                permit_reply(alloc, permit)
+            }
+            Step::Write { output, bytes, .. } => {
+                let written = self.write(world, own, output, bytes);
+                taken_reply(alloc, written)
+            }
+            Step::Flush { output, .. } => {
+                let flushed = self.flush(world, own, output);
+                taken_reply(alloc, flushed)
+            }
         }
     }
 }
@@ -329,100 +348,5 @@ fn context_at(contexts: &[WasiSocketsCtx], context: u32) -> WasiSocketsCtx
     match contexts.get(context as usize) {
         Some(ctx) => *ctx,
         None => WasiSocketsCtx::default(),
-    }
-}
-
-/// The reply of a call that makes a handle.
-fn handle_reply(alloc: Global, made: Result<Handle, SocketError>) -> Result<Reply, AllocError>
-    ensures { IfOk result (λ reply. IsOkAnd (host_outcome made) (λ x. reply ≡ handle_reply x)) }
-{
-    match made {
-        Ok(handle) => Reply::number(alloc, u64::from(handle)),
-        Err(error) => stop_reply(error),
-    }
-}
-
-/// The reply of a call that gives nothing.
-fn done_reply(alloc: Global, done: Result<(), SocketError>) -> Result<Reply, AllocError>
-    ensures { IfOk result (λ reply. IsOkAnd (host_outcome done) (λ x. reply ≡ done_reply x)) }
-{
-    match done {
-        Ok(()) => Ok(Reply::done(alloc)),
-        Err(error) => stop_reply(error),
-    }
-}
-
-/// The reply of a call that makes two handles.
-fn pair_reply(
-    alloc: Global,
-    made: Result<(Handle, Handle), SocketError>,
-) -> Result<Reply, AllocError>
-    ensures { IfOk result (λ reply. IsOkAnd (host_outcome made) (λ x. reply ≡ pair_reply x)) }
-{
-    match made {
-        Ok((first, second)) => Reply::pair(alloc, u64::from(first), u64::from(second)),
-        Err(error) => stop_reply(error),
-    }
-}
-
-/// The reply of a call that tells an address.
-fn address_reply(
-    alloc: Global,
-    told: Result<IpSocketAddress, SocketError>,
-) -> Result<Reply, AllocError>
-    ensures { IfOk result (λ reply. IsOkAnd (host_outcome told) (λ x. reply ≡ address_reply x)) }
-{
-    match told {
-        Ok(addr) => Reply::address(alloc, addr),
-        Err(error) => stop_reply(error),
-    }
-}
-
-/// The reply of a call that says whether something holds.
-fn truth_reply(alloc: Global, told: Result<bool, SocketError>) -> Result<Reply, AllocError>
-    ensures { IfOk result (λ reply. IsOkAnd (host_outcome told) (λ x. reply ≡ truth_reply x)) }
-{
-    match told {
-        Ok(truth) => Reply::truth(alloc, truth),
-        Err(error) => stop_reply(error),
-    }
-}
-
-/// The reply of a call that tells a family.
-fn family_reply(
-    alloc: Global,
-    told: Result<SocketAddressFamily, SocketError>,
-) -> Result<Reply, AllocError>
-    ensures { IfOk result (λ reply. IsOkAnd (host_outcome told) (λ x. reply ≡ family_reply x)) }
-{
-    match told {
-        Ok(family) => Reply::family(alloc, family),
-        Err(error) => stop_reply(error),
-    }
-}
-
-/// The reply of a call that may be pending; it then stands under its line's number.
-fn answer_reply(
-    alloc: Global,
-    line: u32,
-    answer: Result<Answer<()>, SocketError>,
-) -> Result<Reply, AllocError>
-    ensures { IfOk result (λ reply. IsOkAnd (host_outcome answer) (λ x. reply ≡ answer_reply line x)) }
-{
-    match answer {
-        Ok(Answer::Ready(())) => Ok(Reply::done(alloc)),
-        Ok(Answer::Pending) => Ok(Reply::Pending(line)),
-        Err(error) => stop_reply(error),
-    }
-}
-
-/// The reply of a call that gives no value; want of memory has none.
-fn stop_reply(error: SocketError) -> Result<Reply, AllocError>
-    ensures { IfOk result (λ reply. IsStop error (λ stop. reply ≡ stop_reply stop)) }
-{
-    match error {
-        SocketError::Code(code) => Ok(Reply::Err(CodeWord::from_p2(code))),
-        SocketError::Trap(kind) => Ok(Reply::Trap(kind)),
-        SocketError::Memory(e) => Err(e),
     }
 }

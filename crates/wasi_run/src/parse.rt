@@ -122,11 +122,7 @@ fn arguments(
 
 /// Takes a step of one of so many contexts.
 #[tactic(auto, unfolding(crate::specs::Steps::step_at, wasi_world::specs::Fields::read_then))]
-fn step(
-    alloc: Global,
-    fields: &mut Fields<'_>,
-    contexts: u32,
-) -> Result<Option<Step>, AllocError>
+fn step(alloc: Global, fields: &mut Fields<'_>, contexts: u32) -> Result<Option<Step>, AllocError>
     ensures { IfOk result (λ step. Reads (step_at contexts) fields.old step fields.new) }
 {
     let Some(context) = context(fields, contexts) else {
@@ -141,11 +137,7 @@ fn step(
 /// The step that a line is, without its newline, where there are so many contexts; none where it is no step of theirs. The
 /// bytes of a write take memory.
 #[tactic(auto, unfolding(crate::specs::Steps::step_of))]
-pub fn parse_step(
-    alloc: Global,
-    line: &[u8],
-    contexts: u32,
-) -> Result<Option<Step>, AllocError>
+pub fn parse_step(alloc: Global, line: &[u8], contexts: u32) -> Result<Option<Step>, AllocError>
     ensures { IfOk result (λ step. step ≡ step_of contexts line.now) }
 {
     let mut fields = Fields::of(line);

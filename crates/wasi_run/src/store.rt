@@ -4,7 +4,10 @@ ghost use Rattle.std.specs.Prelude.{◌≡◌, true, is_some, ◌<◌, false, If
 ghost use Rattle.wasi_world.specs.Asks.{AsksFor};
 ghost use Rattle.wasi_world.specs.Seen.{Seen};
 ghost use Rattle.wasi_run.specs.Host.{host_outcome};
-ghost use Rattle.wasi_run.specs.Store.{no_records, start_bind_at, finish_bind_at, start_connect_at, finish_connect_at, local_address_at, remote_address_at, is_listening_at, address_family_at, with_record, stood};
+ghost use Rattle.wasi_run.specs.Store.{no_records, start_bind_at, finish_bind_at, start_connect_at, finish_connect_at, local_address_at, remote_address_at, is_listening_at, address_family_at, reader_asks, writer_asks, flush_asks, stream_at, with_record, stood};
+ghost use Rattle.wasi_streams.specs.StreamStop.{stream_outcome};
+ghost use Rattle.wasi_tcp.specs.Reader.{read_state_asks};
+ghost use Rattle.wasi_tcp.specs.Writer.{check_write_asks, write_state_asks};
 
 use crate::closing::close_sides;
 use crate::host::SocketError;
@@ -13,8 +16,9 @@ use crate::table::{Kind, Table};
 use std::alloc::{AllocError, Global};
 use std::marker::Model;
 use wasi_addr::{IpSocketAddress, SocketAddressFamily, p2};
+use wasi_streams::StreamError;
 use wasi_tcp::{BindOp, TcpSocket};
-use wasi_world::{Answer, Handle, OpId, Sock, TrapKind, WasiSocketsCtx, World};
+use wasi_world::{Answer, Handle, Octets, OpId, Sock, TrapKind, WasiSocketsCtx, World};
 
 /// A bind that stands pending: while it does, every other guest call is busy.
 #[derive(Drop)]
@@ -225,6 +229,76 @@ impl Store {
         ensures { result ≡ side_at (slice_get self.now.sockets place) }
     {
         self.sockets.get(place)?.inner.side()
+    }
+
+    /// Reads from the connection of the socket of this number.
+    pub fn read<W: World>(
+        &mut self,
+        alloc: Global,
+        world: &mut W,
+        op: OpId,
+        place: usize,
+        len: usize,
+    ) -> Result<Octets, StreamError>
+        requires { (W.seen world.old).ended ≡ false }
+        ensures asked { AsksFor (stream_at self.old place (reader_asks (λ r. read_state_asks op r len)) (slice_get self.old.sockets place)) (W.seen world.old) (W.seen world.new) (λ answer. (answer, self.new)) (stream_outcome result) }
+        ensures sides { KnowsSides (W.seen world.old) self.old → KnowsSides (W.seen world.new) self.new }
+        ensures open { (W.seen world.new).ended ≡ false }
+    {
+        match self.sockets.get_mut(place) {
+            Some(record) => record.read(alloc, world, op, len),
+            None => Err(StreamError::Trap(TrapKind::NoSuchHandle)),
+        }
+    }
+
+    /// How much may be written to the connection of the socket of this number.
+    pub fn check_write<W: World>(
+        &mut self,
+        world: &mut W,
+        op: OpId,
+        place: usize,
+    ) -> Result<usize, StreamError>
+        requires { (W.seen world.old).ended ≡ false }
+        ensures asked { AsksFor (stream_at self.old place (writer_asks (check_write_asks op)) (slice_get self.old.sockets place)) (W.seen world.old) (W.seen world.new) (λ answer. (answer, self.new)) (stream_outcome result) }
+        ensures sides { KnowsSides (W.seen world.old) self.old → KnowsSides (W.seen world.new) self.new }
+        ensures open { (W.seen world.new).ended ≡ false }
+    {
+        match self.sockets.get_mut(place) {
+            Some(record) => record.check_write(world, op),
+            None => Err(StreamError::Trap(TrapKind::NoSuchHandle)),
+        }
+    }
+
+    /// Writes to the connection of the socket of this number.
+    pub fn write<W: World>(
+        &mut self,
+        world: &mut W,
+        op: OpId,
+        place: usize,
+        bytes: Octets,
+    ) -> Result<(), StreamError>
+        requires { (W.seen world.old).ended ≡ false }
+        ensures asked { AsksFor (stream_at self.old place (writer_asks (λ w. write_state_asks op w bytes)) (slice_get self.old.sockets place)) (W.seen world.old) (W.seen world.new) (λ answer. (answer, self.new)) (stream_outcome result) }
+        ensures sides { KnowsSides (W.seen world.old) self.old → KnowsSides (W.seen world.new) self.new }
+        ensures open { (W.seen world.new).ended ≡ false }
+    {
+        match self.sockets.get_mut(place) {
+            Some(record) => record.write(world, op, bytes),
+            None => Err(StreamError::Trap(TrapKind::NoSuchHandle)),
+        }
+    }
+
+    /// Tells a kept error of the writer of the socket of this number.
+    pub fn flush<W: World>(&mut self, world: &mut W, place: usize) -> Result<(), StreamError>
+        requires { (W.seen world.old).ended ≡ false }
+        ensures asked { AsksFor (stream_at self.old place (writer_asks flush_asks) (slice_get self.old.sockets place)) (W.seen world.old) (W.seen world.new) (λ answer. (answer, self.new)) (stream_outcome result) }
+        ensures sides { KnowsSides (W.seen world.old) self.old → KnowsSides (W.seen world.new) self.new }
+        ensures open { (W.seen world.new).ended ≡ false }
+    {
+        match self.sockets.get_mut(place) {
+            Some(record) => record.flush(world),
+            None => Err(StreamError::Trap(TrapKind::NoSuchHandle)),
+        }
     }
 
     /// Closes the network sides that the records hold, after the end mark; takes no memory.

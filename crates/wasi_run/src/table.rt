@@ -25,6 +25,8 @@ pub enum Kind {
     Input(usize),
     /// The output of a connection, with the number of its socket's record.
     Output(usize),
+    /// The error of a stream's operation.
+    ErrorValue,
 }
 
 impl Kind {
@@ -37,6 +39,7 @@ impl Kind {
             Kind::Tcp2(_) => HandleKind::Tcp2,
             Kind::Input(_) => HandleKind::Input,
             Kind::Output(_) => HandleKind::Output,
+            Kind::ErrorValue => HandleKind::ErrorValue,
         }
     }
 }

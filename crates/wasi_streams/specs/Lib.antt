@@ -1,1 +1,2 @@
 pub mod StreamError
+pub mod StreamStop

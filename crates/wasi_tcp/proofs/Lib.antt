@@ -1,3 +1,6 @@
 pub mod Connects
 pub mod LocalAddresses
 pub mod RemoteAddresses
+pub mod Readers
+pub mod Jobs
+pub mod Writers

@@ -5,4 +5,7 @@ pub mod Connect
 pub mod Connecting
 pub mod Addresses
 pub mod Halves
+pub mod Reader
+pub mod Job
+pub mod Writer
 pub mod Calls

@@ -6,7 +6,7 @@ ghost use Rattle.wasi_world.specs.Typed.{ask_read_ready, ask_write_ready, ask_sh
 ghost use Rattle.wasi_tcp.specs.Halves.{polled_answer, read_asks, write_asks};
 
 use std::alloc::{AllocError, Global};
-use wasi_addr::ShutdownType;
+use wasi_addr::{ErrorCode, ShutdownType};
 use wasi_world::asks::Polled;
 use wasi_world::{Answer, Octets, OpId, Refusal, Sock, World, asks};
 
@@ -33,6 +33,19 @@ fn answer<T: Drop>(told: Polled<T>) -> Result<Answer<T>, Refusal>
         Polled::Ready(value) => Ok(Answer::Ready(value)),
         Polled::Pending => Ok(Answer::Pending),
         Polled::Code(code) => Err(Refusal::Code(code)),
+    }
+}
+
+/// An answer that may be a code, apart from want of memory.
+pub(crate) fn answered<T: Drop>(
+    told: Result<T, Refusal>,
+) -> Result<Result<T, ErrorCode>, AllocError>
+    ensures { result ≡ outcome told }
+{
+    match told {
+        Ok(value) => Ok(Ok(value)),
+        Err(Refusal::Code(code)) => Ok(Err(code)),
+        Err(Refusal::Memory(e)) => Err(e),
     }
 }
 
@@ -75,10 +88,20 @@ impl TcpReceiveStream {
         answer(told)
     }
 
-    /// Shuts this half down.
+    /// Gives this half up: shuts it down.
     pub fn give_up<W: World>(self, world: &mut W, op: OpId) -> Result<(), AllocError>
         requires { (W.seen world.old).ended ≡ false }
         ensures asked { AsksFor (ask_shutdown op self.side ShutdownType.Receive) (W.seen world.old) (W.seen world.new) (λ done. done) result }
+        ensures err { OnErr result (W.seen world.new ≡ W.seen world.old) }
+        ensures open { (W.seen world.new).ended ≡ false }
+    {
+        self.shut_down(world, op)
+    }
+
+    /// Shuts this half down. Whoever keeps it lets it go then.
+    pub(crate) fn shut_down<W: World>(&self, world: &mut W, op: OpId) -> Result<(), AllocError>
+        requires { (W.seen world.old).ended ≡ false }
+        ensures asked { AsksFor (ask_shutdown op self.now.side ShutdownType.Receive) (W.seen world.old) (W.seen world.new) (λ done. done) result }
         ensures err { OnErr result (W.seen world.new ≡ W.seen world.old) }
         ensures open { (W.seen world.new).ended ≡ false }
     {
@@ -121,10 +144,20 @@ impl TcpSendStream {
         answer(told)
     }
 
-    /// Shuts this half down.
+    /// Gives this half up: shuts it down.
     pub fn give_up<W: World>(self, world: &mut W, op: OpId) -> Result<(), AllocError>
         requires { (W.seen world.old).ended ≡ false }
         ensures asked { AsksFor (ask_shutdown op self.side ShutdownType.Send) (W.seen world.old) (W.seen world.new) (λ done. done) result }
+        ensures err { OnErr result (W.seen world.new ≡ W.seen world.old) }
+        ensures open { (W.seen world.new).ended ≡ false }
+    {
+        self.shut_down(world, op)
+    }
+
+    /// Shuts this half down. Whoever keeps it lets it go then.
+    pub(crate) fn shut_down<W: World>(&self, world: &mut W, op: OpId) -> Result<(), AllocError>
+        requires { (W.seen world.old).ended ≡ false }
+        ensures asked { AsksFor (ask_shutdown op self.now.side ShutdownType.Send) (W.seen world.old) (W.seen world.new) (λ done. done) result }
         ensures err { OnErr result (W.seen world.new ≡ W.seen world.old) }
         ensures open { (W.seen world.new).ended ≡ false }
     {

@@ -6,13 +6,19 @@
 mod bind;
 mod connect;
 mod halves;
+mod job;
 pub mod laws;
+mod reader;
 mod socket;
+mod writer;
 
 pub use bind::{BindOp, BindStage};
 pub use connect::{ConnectOp, ConnectStage};
 pub use halves::{TcpReceiveStream, TcpSendStream};
+pub use job::{WriteJob, WriteStage};
+pub use reader::ReadState;
 pub use socket::{Connection, TcpSocket, TcpState};
+pub use writer::{WriteError, WriteState};
 
 #[cfg(test)]
 mod tests;

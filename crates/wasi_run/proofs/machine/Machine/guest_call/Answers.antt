@@ -1,5 +1,5 @@
 use Rattle.wasi_world.proofs.Walks.{asks_answered, given_answered}
-use Rattle.wasi_run.specs.Machine.{handle_reply, answer_reply, done_reply}
+use Rattle.wasi_run.specs.Machine.{handle_reply, answer_reply, done_reply, pair_reply, address_reply, truth_reply, family_reply}
 use Rattle.wasi_run.proofs.machine.Machine.guest_call.Goals as goal
 
 pub returns-in-Network-clause-asked : goal.returns-in-Network-clause-asked
@@ -13,3 +13,21 @@ returns-in-TcpStartBind-clause-asked g c = rw c.in-TcpStartBind.is (asks_answere
 
 pub returns-in-TcpFinishBind-clause-asked : goal.returns-in-TcpFinishBind-clause-asked
 returns-in-TcpFinishBind-clause-asked g c = rw (c.in-TcpFinishBind.is, c.finish_bind.ensures.state) (given_answered done_reply _ _ _ c.finish_bind.ensures.answer c.done_reply.ensures)
+
+pub returns-in-TcpStartConnect-clause-asked : goal.returns-in-TcpStartConnect-clause-asked
+returns-in-TcpStartConnect-clause-asked g c = rw c.in-TcpStartConnect.is (asks_answered done_reply _ _ c.start_connect-done.ensures.asked c.done_reply-in-TcpStartConnect.ensures)
+
+pub returns-in-TcpFinishConnect-clause-asked : goal.returns-in-TcpFinishConnect-clause-asked
+returns-in-TcpFinishConnect-clause-asked g c = rw c.in-TcpFinishConnect.is (asks_answered pair_reply _ _ c.finish_connect-made.ensures.asked c.pair_reply.ensures)
+
+pub returns-in-TcpLocalAddress-clause-asked : goal.returns-in-TcpLocalAddress-clause-asked
+returns-in-TcpLocalAddress-clause-asked g c = rw c.in-TcpLocalAddress.is (asks_answered address_reply _ _ c.local_address-told.ensures.asked c.address_reply.ensures)
+
+pub returns-in-TcpRemoteAddress-clause-asked : goal.returns-in-TcpRemoteAddress-clause-asked
+returns-in-TcpRemoteAddress-clause-asked g c = rw c.in-TcpRemoteAddress.is (asks_answered address_reply _ _ c.remote_address-told.ensures.asked c.address_reply-in-TcpRemoteAddress.ensures)
+
+pub returns-in-TcpIsListening-clause-asked : goal.returns-in-TcpIsListening-clause-asked
+returns-in-TcpIsListening-clause-asked g c = rw c.in-TcpIsListening.is (given_answered truth_reply _ _ _ c.is_listening.ensures c.truth_reply.ensures)
+
+pub returns-in-TcpAddressFamily-clause-asked : goal.returns-in-TcpAddressFamily-clause-asked
+returns-in-TcpAddressFamily-clause-asked g c = rw c.in-TcpAddressFamily.is (given_answered family_reply _ _ _ c.address_family.ensures c.family_reply.ensures)

@@ -15,25 +15,25 @@ use Rattle.wasi_run.proofs.store.Store.start_bind.Goals as goal
 pub returns-in_default-clause-asked : goal.returns-in_default-clause-asked
 returns-in_default-clause-asked g c = rw (← c.self.view_is, none_at c.self.inside.sockets.items c.args.place c.in_default.ensures.item) (asks_given _ _ refl refl)
 
-pub returns-in-Bind-clause-asked : goal.returns-in-Bind-clause-asked
-returns-in-Bind-clause-asked g c =
+pub returns-then-not-is_nothing-clause-asked : goal.returns-then-not-is_nothing-clause-asked
+returns-then-not-is_nothing-clause-asked g c =
     let store : Records = record { sockets = c.self.inside.sockets.items; standing = c.self.inside.standing } in
     rw (← c.self.view_is, found_at c.self.inside.sockets.items c.args.place c.in-Some.record c.in-Some.ensures.item)
-    (asks_at (start_bind_by store c.args.op c.args.place c.args.addr c.in-Some.record.now) c.in-Bind.is
+    (asks_at (start_bind_by store c.args.op c.args.place c.args.addr c.in-Some.record.now) (sym c.is_nothing.ensures ∙ c.if-not-is_nothing.true)
     (asks_given (Err (Code ConcurrencyConflict)) _ refl (ap (λ (l : List Tcp2Socket). Give (Err (Code ConcurrencyConflict), record store { sockets = l })) (sym (set_back c.self.inside.sockets.items c.args.place c.in-Some.record c.in-Some.ensures.item)))))
 
 pub returns-in_err-begun-clause-asked : goal.returns-in_err-begun-clause-asked
 returns-in_err-begun-clause-asked g c =
     let store : Records = record { sockets = c.self.inside.sockets.items; standing = c.self.inside.standing } in
     rw (← c.self.view_is, found_at c.self.inside.sockets.items c.args.place c.in-Some.record c.in-Some.ensures.item)
-    (asks_at (start_bind_by store c.args.op c.args.place c.args.addr c.in-Some.record.now) c.in-Nothing.is
+    (asks_at (start_bind_by store c.args.op c.args.place c.args.addr c.in-Some.record.now) (sym c.is_nothing.ensures ∙ c.if-not-is_nothing.false)
     (host_refused _ _ c.from_residual.result c.from_residual.ensures.1 c.in_err-begun.ensures.asked (λ code. refl)))
 
 pub returns-clause-asked : goal.returns-clause-asked
 returns-clause-asked g c =
     let store : Records = record { sockets = c.self.inside.sockets.items; standing = c.self.inside.standing } in
     rw (← c.self.view_is, found_at c.self.inside.sockets.items c.args.place c.in-Some.record c.in-Some.ensures.item)
-    (asks_at (start_bind_by store c.args.op c.args.place c.args.addr c.in-Some.record.now) c.in-Nothing.is
+    (asks_at (start_bind_by store c.args.op c.args.place c.args.addr c.in-Some.record.now) (sym c.is_nothing.ensures ∙ c.if-not-is_nothing.false)
     (asks_end _ c.in_ok-begun.ensures.asked.ok (ap (λ d. Give (allowed_answer d)) (sym c.stand.ensures))))
 
 pub returns-in_err-begun-clause-sides : goal.returns-in_err-begun-clause-sides
