@@ -13,11 +13,14 @@ use Rattle.wasi_world.specs.declared.outcome.TrapKind.TheVariants.{NoSuchHandle,
 use Rattle.wasi_world.specs.declared.outcome.WasiSocketsCtx.{WasiSocketsCtx}
 use Rattle.wasi_world.specs.Asks.{Give, bind}
 use Rattle.wasi_world.specs.Operation.{Item, Operation, End, Waits, Done, Refused, poll_asks}
+use Rattle.wasi_tcp.specs.declared.socket.Connection.{Connection}
 use Rattle.wasi_tcp.specs.declared.socket.TcpState.{TcpState}
 use Rattle.wasi_tcp.specs.declared.socket.TcpState.TheVariants as state
 use Rattle.wasi_tcp.specs.Shape.{Socket}
 use Rattle.wasi_tcp.specs.Connect.{IsConnect}
-use Rattle.wasi_tcp.specs.Connecting.{connect_ended, finish_in, in_socket, finish_connect_asks as socket_finish_connect}
+use Rattle.wasi_tcp.specs.Connecting.{with_state, connect_ended, finish_in, in_socket, finish_connect_asks as socket_finish_connect}
+use Rattle.wasi_tcp.specs.Addresses.{still_connected}
+use Rattle.wasi_tcp.specs.Halves.{taken_receive, taken_send}
 use Rattle.wasi_run.specs.declared.machine.Machine.{Machine}
 use Rattle.wasi_run.specs.declared.reply.CodeWord.{CodeWord}
 use Rattle.wasi_run.specs.declared.reply.CodeWord.TheVariants as word
@@ -26,12 +29,12 @@ use Rattle.wasi_run.specs.declared.reply.Reply.TheVariants as reply
 use Rattle.wasi_run.specs.declared.socket.Tcp2Socket.{Tcp2Socket}
 use Rattle.wasi_run.specs.declared.step.Step.TheVariants as step
 use Rattle.wasi_run.specs.declared.table.Kind.TheVariants.{Input, Output}
-use Rattle.wasi_run.specs.Host.{Stop}
+use Rattle.wasi_run.specs.Host.{Stop, code_stop}
 use Rattle.wasi_run.specs.Table.{is_full, with_handle, make_asks}
-use Rattle.wasi_run.specs.Store.{Records, is_connect, connect_polled, poll_connect_asks, with_record_put, finish_connect_by, finish_connect_at}
+use Rattle.wasi_run.specs.Store.{Records, is_connect, idle, opened_send, opened_receive, connect_polled, poll_connect_asks, with_record_put, finish_connect_by, finish_connect_at}
 use Rattle.wasi_run.specs.Machine.{socket_at, side_at, with_table, with_store, with_output, output_asks, streams_asks, connected_asks, finish_connect_on, finish_connect_asks, pair_reply, own_of}
 use Rattle.wasi_run.specs.Licence.{entry, marks_in}
-use Rattle.wasi_run.specs.Answered.{Answered, record_in, record_at, word_of_code, RefusedOf, HasNoConnectInProgress, FinishRefusal, NoConnect, StillConnects, Closes, WasClosed, NotConnecting, ConnectsAt}
+use Rattle.wasi_run.specs.Answered.{Answered, record_in, record_at, word_of_code, RefusedOf, HasNoConnectInProgress, FinishRefusal, NoConnect, StillConnects, Closes, WasClosed, NotConnecting, ReceivesAlready, SendsAlready, ConnectsAt}
 use Rattle.wasi_run.proofs.Lists.{marks_in-push}
 use Rattle.wasi_run.proofs.StepCauses.{Gives, gives_then, gives_both, gives_where, settled, busy_exactly}
 use Rattle.wasi_run.proofs.RecordCauses.{found, MayBeOfCode, of_code}
@@ -121,11 +124,26 @@ module _ (m : Machine) (line handle : ℕ) where
             (gives_both (λ es end. marks_in es ≡ 0) (λ es end. ConnectsAt m handle → ConnectEnds op es end) [] (poll_asks op) (poll_marks_none op) (gives_where (ConnectsAt m handle) (ConnectEnds op) [] (poll_asks op) (λ h. poll_connect_ends op (holds_connect h))))
             (λ es end k. ended es end k.0 k.1)
 
+      -- of the halves of a connection
+      module _ (connection : Connection) (at_state : r.inner.state ≡ state.Connected connection) where
+        abbrev connected_socket : Connection → Socket
+        connected_socket now = with_state r.inner (state.Connected now)
+
+        opens_send : (taken : Bool) → connection.send_taken ≡ taken
+            → RecordGives [] (opened_send r (record { side = connection.side }) (in_socket (connected_socket connection) (still_connected (taken_send (record connection { receive_taken = true }) taken))))
+        opens_send false e = (has, refl)
+        opens_send true e = why [] word.InvalidState _ (λ e. cc) (λ h. SendsAlready connection connects at_state e refl)
+
+        opens_receive : (taken : Bool) → connection.receive_taken ≡ taken → RecordGives [] (opened_receive r (in_socket (connected_socket connection) (still_connected (taken_receive connection taken))))
+        opens_receive false e = opens_send connection.send_taken refl
+        opens_receive true e =
+            subst (λ (st : TcpState). RecordGives [] (Err (code_stop InvalidState), idle r (with_state r.inner st))) at_state (why [] word.InvalidState _ (λ e. cc) (λ h. ReceivesAlready connection connects at_state e refl))
+
       state_gives : (st : TcpState) → r.inner.state ≡ st → Gives StateGives [] (finish_in st)
       state_gives (state.Default side) e =
           subst (λ (st : TcpState). StateGives [] (Err InvalidState, st)) e (why [] word.InvalidState _ (λ e. cc) (λ h. NotConnecting side connects e refl))
       state_gives (state.Connecting op) e = polled op e
-      state_gives (state.Connected connection) e = (has, refl)
+      state_gives (state.Connected connection) e = opens_receive connection e connection.receive_taken refl
       state_gives (state.Closed c) e = why [] (word_of_code c) _ (of_a_code c) (λ h. WasClosed c connects e refl)
 
       poll_gives : Gives RecordGives [] (poll_connect_asks r)

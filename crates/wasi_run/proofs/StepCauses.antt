@@ -18,9 +18,9 @@ use Rattle.wasi_run.specs.declared.socket.Tcp2Socket.{Tcp2Socket}
 use Rattle.wasi_run.specs.declared.step.Step.{Step}
 use Rattle.wasi_run.specs.declared.step.Step.TheVariants as step
 use Rattle.wasi_run.specs.declared.store.StandingBind.{StandingBind}
-use Rattle.wasi_run.specs.Host.{Stop, Code, Trap}
+use Rattle.wasi_run.specs.Host.{Stop, Code, Trap, CallStop, Failed, Closed, Traps}
 use Rattle.wasi_run.specs.Store.{is_bind, finish_bind_by, finish_bind_at}
-use Rattle.wasi_run.specs.Machine.{socket_at, network_asks, create_asks, start_bind_asks, finish_bind_on, start_connect_asks, finish_connect_asks, local_address_on, remote_address_on, is_listening_on, address_family_on, handle_reply, done_reply, answer_reply, pair_reply, address_reply, truth_reply, family_reply, own_of, context_at, step_asks, machine_asks}
+use Rattle.wasi_run.specs.Machine.{socket_at, network_asks, create_asks, start_bind_asks, finish_bind_on, start_connect_asks, finish_connect_asks, local_address_on, remote_address_on, is_listening_on, address_family_on, read_asks, check_asks, write_asks, flushed_asks, handle_reply, done_reply, answer_reply, pair_reply, address_reply, truth_reply, family_reply, call_stop_reply, bytes_reply, permit_reply, taken_reply, own_of, context_at, step_asks, machine_asks}
 use Rattle.wasi_run.specs.Answered.{Answered, record_in, HasNoBindInProgress}
 
 -- == what a tree gives, whatever is told
@@ -99,6 +99,23 @@ family_not_busy (Ok family) e = cc
 family_not_busy (Err (Code c)) e = cc
 family_not_busy (Err (Trap kind)) e = cc
 
+stream_not_busy : (stop : CallStop) → call_stop_reply stop ≢ reply.Busy
+stream_not_busy (Failed c e) same = cc
+stream_not_busy Closed same = cc
+stream_not_busy (Traps kind) same = cc
+
+bytes_not_busy : (r : Result (List ℕ) CallStop) → bytes_reply r ≢ reply.Busy
+bytes_not_busy (Ok bytes) e = cc
+bytes_not_busy (Err stop) e = stream_not_busy stop e
+
+permit_not_busy : (r : Result ℕ CallStop) → permit_reply r ≢ reply.Busy
+permit_not_busy (Ok n) e = cc
+permit_not_busy (Err stop) e = stream_not_busy stop e
+
+taken_not_busy : (r : Result (Unit {0}) CallStop) → taken_reply r ≢ reply.Busy
+taken_not_busy (Ok done) e = cc
+taken_not_busy (Err stop) e = stream_not_busy stop e
+
 module _ (contexts : List WasiSocketsCtx) (m : Machine) (line : ℕ) where
   not_busy : {A : Type 0} (asks : Asks (A × Machine)) (says : A → Reply) → ((a : A) → says a ≢ reply.Busy) → Gives NotBusy [] (bind asks (λ done. Give (says done.0, done.1)))
   not_busy asks says h = gives_then (λ es done. ⊤) NotBusy [] asks _ (gives_any _ (λ es done. tt) [] asks) (λ es done k. h done.0)
@@ -114,7 +131,10 @@ module _ (contexts : List WasiSocketsCtx) (m : Machine) (line : ℕ) where
   step_not_busy (step.TcpRemoteAddress ctx s) = not_busy (remote_address_on m (own_of line) (socket_at m s)) address_reply address_not_busy
   step_not_busy (step.TcpIsListening ctx s) = truth_not_busy (is_listening_on m (socket_at m s))
   step_not_busy (step.TcpAddressFamily ctx s) = family_not_busy (address_family_on m (socket_at m s))
-  step_not_busy _ = ?
+  step_not_busy (step.Read ctx input len) = not_busy (read_asks m (own_of line) input len) bytes_reply bytes_not_busy
+  step_not_busy (step.CheckWrite ctx output) = not_busy (check_asks m (own_of line) output) permit_reply permit_not_busy
+  step_not_busy (step.Write ctx output bytes) = not_busy (write_asks m (own_of line) output bytes) taken_reply taken_not_busy
+  step_not_busy (step.Flush ctx output) = not_busy (flushed_asks m (own_of line) output) taken_reply taken_not_busy
 
   busy_by : (s : Step) (standing : Option StandingBind) (entries : List Entry) (r : Reply) (after : Machine) → Left (machine_asks contexts m line s standing) entries (Give (r, after)) → (r ≡ reply.Busy) ↔ IsSome standing
   busy_by s None entries r after w = (λ e. absurd (given NotBusy _ entries (r, after) (step_not_busy s) w e), λ e. absurd (cc))

@@ -27,13 +27,12 @@ use Rattle.wasi_run.specs.declared.machine.Machine.{Machine}
 use Rattle.wasi_run.specs.declared.reply.CodeWord.{CodeWord}
 use Rattle.wasi_run.specs.declared.reply.CodeWord.TheVariants as word
 use Rattle.wasi_run.specs.declared.reply.Reply.{Reply}
-use Rattle.wasi_run.specs.declared.socket.InProgress.TheVariants as doing
 use Rattle.wasi_run.specs.declared.socket.Tcp2Socket.{Tcp2Socket}
 use Rattle.wasi_run.specs.declared.step.Step.{Step}
 use Rattle.wasi_run.specs.declared.step.Step.TheVariants as step
 use Rattle.wasi_run.specs.Reply.{word_of_p2}
 use Rattle.wasi_run.specs.Table.{kind_at}
-use Rattle.wasi_run.specs.Store.{with_inner, with_socket, left_of, is_nothing, is_bind, is_connect}
+use Rattle.wasi_run.specs.Store.{with_inner, with_socket, left_of, is_nothing, is_bind, is_connect, idle}
 use Rattle.wasi_run.specs.Machine.{socket_at, is_network, machine_asks}
 use Rattle.wasi_run.specs.Licence.{Has, entry}
 
@@ -204,10 +203,10 @@ pub data ClosedBy (op : Operation) (entries : List Entry) : ErrorCode → Type 0
 
 -- the machine, where the socket is closed with the code and nothing is in progress
 abbrev pub closed_with : Machine → ℕ → Tcp2Socket → ErrorCode → Machine
-closed_with m place r c = putting m place (record { inner = with_state r.inner (state.Closed c); in_progress = doing.Nothing })
+closed_with m place r c = putting m place (idle r (with_state r.inner (state.Closed c)))
 
 -- The finish of a connect is refused: none is in progress; or it waits, and goes on; or it was closed with a code, now or
--- before; or what is in progress isn't connecting.
+-- before; or what is in progress isn't connecting, or a half of the connection was taken before.
 pub data FinishRefusal (m : Machine) (place : ℕ) (r : Tcp2Socket) (entries : List Entry) : CodeWord → Machine → Type 0 where
   NoConnect : is_connect r.in_progress ≡ false → entries ≡ [] → FinishRefusal m place r entries word.NotInProgress m
   StillConnects : (op : Operation) (left : List Item) → is_connect r.in_progress ≡ true → r.inner.state ≡ state.Connecting op → EndsPending op.who.id entries
@@ -217,7 +216,11 @@ pub data FinishRefusal (m : Machine) (place : ℕ) (r : Tcp2Socket) (entries : L
   WasClosed : (c : ErrorCode) → is_connect r.in_progress ≡ true → r.inner.state ≡ state.Closed c → entries ≡ []
       → FinishRefusal m place r entries (word_of_code c) (closed_with m place r c)
   NotConnecting : (side : OpId) → is_connect r.in_progress ≡ true → r.inner.state ≡ state.Default side → entries ≡ []
-      → FinishRefusal m place r entries word.InvalidState (putting m place (record r { in_progress = doing.Nothing }))
+      → FinishRefusal m place r entries word.InvalidState (putting m place (idle r r.inner))
+  ReceivesAlready : (connection : Connection) → is_connect r.in_progress ≡ true → r.inner.state ≡ state.Connected connection → connection.receive_taken ≡ true → entries ≡ []
+      → FinishRefusal m place r entries word.InvalidState (putting m place (idle r r.inner))
+  SendsAlready : (connection : Connection) → is_connect r.in_progress ≡ true → r.inner.state ≡ state.Connected connection → connection.send_taken ≡ true → entries ≡ []
+      → FinishRefusal m place r entries word.InvalidState (putting m place (idle r (with_state r.inner (state.Connected (record connection { receive_taken = true })))))
 
 -- where the handle's socket is connecting, its operation is a connect
 abbrev pub ConnectsAt : Machine → ℕ → Type 0
