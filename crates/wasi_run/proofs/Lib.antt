@@ -40,6 +40,9 @@ pub mod ConnectPolls
 pub mod FinishCauses
 pub mod AddressCauses
 pub mod QuietCauses
+pub mod StreamCauses
+pub mod ReadCauses
+pub mod WriteCauses
 pub mod CreateCauses
 pub mod BindCauses
 pub mod ConnectCauses

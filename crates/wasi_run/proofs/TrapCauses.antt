@@ -21,6 +21,9 @@ use Rattle.wasi_run.specs.Machine.{socket_at, finish_bind_on, done_reply, own_of
 use Rattle.wasi_run.specs.Licence.{marks_in}
 use Rattle.wasi_run.specs.Answered.{Answered, record_in, MissesHandle, MakesHandle, IsStartBind, EndsPending}
 use Rattle.wasi_run.proofs.StepCauses.{Gives, gives_more, settled}
+use Rattle.wasi_run.proofs.StreamCauses.{StreamAnswer}
+use Rattle.wasi_run.proofs.ReadCauses.{read_gives}
+use Rattle.wasi_run.proofs.WriteCauses.{write_gives}
 use Rattle.wasi_run.proofs.CreateCauses.{NetworkSays, network_says, CreateSays, create_says}
 use Rattle.wasi_run.proofs.BindCauses.{StartSays, start_says}
 

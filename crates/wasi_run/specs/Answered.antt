@@ -1,5 +1,5 @@
 -- How a step was answered, where its answer comes from, and what stands after a refusal.
-use Rattle.std.specs.Prelude.{◌≡◌, ◌⊎◌, ⊤, ℕ, Bool, true, false, not, ◌&&◌, List, [], ◌∷◌, ◌++◌, Option, Some, None, Ok, IsSomeAnd, IfSome, slice_get}
+use Rattle.std.specs.Prelude.{◌≡◌, ◌⊎◌, ⊤, ℕ, ◌<◌, Bool, true, false, not, ◌&&◌, List, [], ◌∷◌, ◌++◌, Option, Some, None, Ok, IsSomeAnd, IfSome, slice_get}
 use Rattle.wasi_addr.specs.declared.address.IpSocketAddress.{IpSocketAddress}
 use Rattle.wasi_addr.specs.declared.address.SocketAddressFamily.{SocketAddressFamily}
 use Rattle.wasi_addr.specs.declared.address.SocketAddrUse.{SocketAddrUse}
@@ -20,6 +20,8 @@ use Rattle.wasi_world.specs.Operation.{Item, Check, Connect, Last, Nothing, Who,
 use Rattle.wasi_tcp.specs.declared.socket.Connection.{Connection}
 use Rattle.wasi_tcp.specs.declared.socket.TcpState.{TcpState}
 use Rattle.wasi_tcp.specs.declared.socket.TcpState.TheVariants as state
+use Rattle.wasi_tcp.specs.declared.writer.WriteState.{WriteState}
+use Rattle.wasi_tcp.specs.declared.writer.WriteState.TheVariants as writing
 use Rattle.wasi_tcp.specs.Shape.{Socket}
 use Rattle.wasi_tcp.specs.Connecting.{with_state, is_connectable, HoldsConnect}
 use Rattle.wasi_tcp.specs.Addresses.{usable_side}
@@ -27,13 +29,14 @@ use Rattle.wasi_run.specs.declared.machine.Machine.{Machine}
 use Rattle.wasi_run.specs.declared.reply.CodeWord.{CodeWord}
 use Rattle.wasi_run.specs.declared.reply.CodeWord.TheVariants as word
 use Rattle.wasi_run.specs.declared.reply.Reply.{Reply}
+use Rattle.wasi_run.specs.declared.socket.Streams.{Streams}
 use Rattle.wasi_run.specs.declared.socket.Tcp2Socket.{Tcp2Socket}
 use Rattle.wasi_run.specs.declared.step.Step.{Step}
 use Rattle.wasi_run.specs.declared.step.Step.TheVariants as step
 use Rattle.wasi_run.specs.Reply.{word_of_p2}
 use Rattle.wasi_run.specs.Table.{kind_at}
 use Rattle.wasi_run.specs.Store.{with_inner, with_socket, left_of, is_nothing, is_bind, is_connect, idle}
-use Rattle.wasi_run.specs.Machine.{socket_at, is_network, machine_asks}
+use Rattle.wasi_run.specs.Machine.{socket_at, is_network, input_at, output_at, machine_asks}
 use Rattle.wasi_run.specs.Licence.{Has, entry}
 
 -- the step was done: what it asked was told by these entries, and these are its reply and the machine afterwards
@@ -73,6 +76,28 @@ HasNoBindInProgress found = IsSomeAnd found (λ r. is_bind r.in_progress ≡ fal
 abbrev pub HasNoConnectInProgress : Option Tcp2Socket → Type 0
 HasNoConnectInProgress found = IsSomeAnd found (λ r. is_connect r.in_progress ≡ false)
 
+-- the streams of a record, where it has them
+abbrev pub streams_in : Option Tcp2Socket → Option Streams
+streams_in None = None
+streams_in (Some r) = r.streams
+
+-- the streams of a live handle of an input, and of an output
+abbrev pub input_streams : Machine → ℕ → Option Streams
+input_streams m h = streams_in (record_in m (input_at m h))
+
+abbrev pub output_streams : Machine → ℕ → Option Streams
+output_streams m h = streams_in (record_in m (output_at m h))
+
+-- The number names a record that has streams, and of all three this holds.
+pub record OfStreams (m : Machine) (number : Option ℕ) (P : ℕ → Tcp2Socket → Streams → Type 0) : Type 0 where
+  pub place : ℕ
+  pub found : Tcp2Socket
+  pub streams : Streams
+  pub names : number ≡ Some place
+  pub at : slice_get m.store.sockets place ≡ Some found
+  pub has : found.streams ≡ Some streams
+  pub holds : P place found streams
+
 -- == traps
 -- a handle of the step isn't live, or is of another kind
 abbrev pub MissesHandle : Machine → Step → Type 0
@@ -86,14 +111,25 @@ MissesHandle m (step.TcpLocalAddress ctx socket) = record_at m socket ≡ None
 MissesHandle m (step.TcpRemoteAddress ctx socket) = record_at m socket ≡ None
 MissesHandle m (step.TcpIsListening ctx socket) = record_at m socket ≡ None
 MissesHandle m (step.TcpAddressFamily ctx socket) = record_at m socket ≡ None
-MissesHandle m _ = ⊥
+MissesHandle m (step.Read ctx input len) = input_streams m input ≡ None
+MissesHandle m (step.CheckWrite ctx output) = output_streams m output ≡ None
+MissesHandle m (step.Write ctx output bytes) = output_streams m output ≡ None
+MissesHandle m (step.Flush ctx output) = output_streams m output ≡ None
 
--- the step makes one handle, or the two of a connection's streams
+-- the step makes a handle, the two of a connection's streams, or the one of a stream's error
 abbrev pub MakesHandle : Step → Type 0
 MakesHandle (step.Network ctx) = ⊤
 MakesHandle (step.TcpCreate ctx family) = ⊤
 MakesHandle (step.TcpFinishConnect ctx socket) = ⊤
+MakesHandle (step.Read ctx input len) = ⊤
+MakesHandle (step.CheckWrite ctx output) = ⊤
+MakesHandle (step.Write ctx output bytes) = ⊤
+MakesHandle (step.Flush ctx output) = ⊤
 MakesHandle _ = ⊥
+
+abbrev pub IsWrite : Step → Type 0
+IsWrite (step.Write ctx output bytes) = ⊤
+IsWrite _ = ⊥
 
 -- == calls that stand
 abbrev pub IsStartBind : Step → Type 0
@@ -248,3 +284,18 @@ abbrev pub IsQuiet : Step → Type 0
 IsQuiet (step.TcpIsListening ctx socket) = ⊤
 IsQuiet (step.TcpAddressFamily ctx socket) = ⊤
 IsQuiet _ = ⊥
+
+-- == the calls of a stream
+-- a write of it goes on
+abbrev pub IsUnfinished : WriteState → Type 0
+IsUnfinished (writing.Ready half permit) = ⊥
+IsUnfinished (writing.Writing job) = ⊤
+IsUnfinished (writing.Closing job) = ⊤
+IsUnfinished (writing.Closed e) = ⊥
+
+-- so many bytes aren't permitted: they are past the permit, or a write wasn't collected yet
+abbrev pub IsUnpermitted : WriteState → ℕ → Type 0
+IsUnpermitted (writing.Ready half permit) n = permit < n
+IsUnpermitted (writing.Writing job) n = ⊤
+IsUnpermitted (writing.Closing job) n = ⊤
+IsUnpermitted (writing.Closed e) n = ⊥
