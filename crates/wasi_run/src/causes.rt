@@ -14,7 +14,7 @@ ghost use Rattle.wasi_run.specs.declared.machine.Machine.{Machine};
 ghost use Rattle.wasi_run.specs.declared.reply.CodeWord.{CodeWord};
 ghost use Rattle.wasi_run.specs.declared.reply.Reply.{Reply};
 ghost use Rattle.wasi_run.specs.declared.step.Step.{Step};
-ghost use Rattle.wasi_run.specs.Answered.{Answered, ConnectsAt, CreateRefusal, FinishRefusal, HasNoConnectInProgress, RefusedOf, EndsPending, HasNoBindInProgress, HasOperationInProgress, IsQuiet, IsStartBind, KnowsBound, LocalRefusal, MakesHandle, MissesHandle, RefusedBind, RefusedConnect, RemoteRefusal, record_at};
+ghost use Rattle.wasi_run.specs.Answered.{Answered, ConnectsAt, CreateRefusal, FinishRefusal, HasNoConnectInProgress, RefusedOf, EndsPending, HasNoBindInProgress, HasOperationInProgress, IsQuiet, IsStartBind, IsWrite, KnowsBound, LocalRefusal, MakesHandle, MissesHandle, RefusedBind, RefusedConnect, RemoteRefusal, record_at};
 ghost use Rattle.wasi_run.specs.Licence.{entry, marks_in};
 ghost use Rattle.wasi_run.specs.Machine.{context_at, is_network, own_of};
 ghost use Rattle.wasi_run.specs.Store.{with_record};
@@ -44,16 +44,18 @@ pub fn finish_bind_refusals()
 
 /// A step traps because a handle of it isn't live or is of another kind, and asks nothing then and leaves the machine as it
 /// was; or because the table is full, where it is to make a handle: that was the last of the step, and the marks are those of
-/// the handles that were made before it.
+/// the handles that were made before it; or because a write isn't permitted.
 pub fn traps_have_causes()
     ensures kinds { (contexts : List WasiSocketsCtx) (m : Machine) (line : ℕ) (s : Step) (entries : List Entry) (kind : TrapKind) (after : Machine)
-        → Answered contexts m line s entries (Reply.Trap kind) after → (kind ≡ TrapKind.NoSuchHandle) ⊎ (kind ≡ TrapKind.Full) }
+        → Answered contexts m line s entries (Reply.Trap kind) after → (kind ≡ TrapKind.NoSuchHandle) ⊎ ((kind ≡ TrapKind.Full) ⊎ (kind ≡ TrapKind.NotPermitted)) }
     ensures no_such_handle { (contexts : List WasiSocketsCtx) (m : Machine) (line : ℕ) (s : Step) (entries : List Entry) (after : Machine)
         → Answered contexts m line s entries (Reply.Trap TrapKind.NoSuchHandle) after → MissesHandle m s × (entries ≡ []) × (after ≡ m) }
     ensures full { (contexts : List WasiSocketsCtx) (m : Machine) (line : ℕ) (s : Step) (entries : List Entry) (after : Machine)
         → Answered contexts m line s entries (Reply.Trap TrapKind.Full) after → MakesHandle s × (is_full after.table ≡ true) }
     ensures full_marks { (contexts : List WasiSocketsCtx) (m : Machine) (line : ℕ) (s : Step) (entries : List Entry) (after : Machine)
         → Answered contexts m line s entries (Reply.Trap TrapKind.Full) after → after.table.next ≡ m.table.next + marks_in entries }
+    ensures not_permitted { (contexts : List WasiSocketsCtx) (m : Machine) (line : ℕ) (s : Step) (entries : List Entry) (after : Machine)
+        → Answered contexts m line s entries (Reply.Trap TrapKind.NotPermitted) after → IsWrite s }
 {}
 
 /// Only the start of a bind is pending, under its line's number, where its last ask was told to wait; and its call stands.
