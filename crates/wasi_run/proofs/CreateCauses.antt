@@ -32,7 +32,7 @@ use Rattle.wasi_run.specs.Answered.{Answered, word_of_code, CreateRefusal, NotAl
 use Rattle.wasi_run.proofs.StepCauses.{Gives, gives_then, settled}
 
 -- == making a handle
-make_gives : (Q : List Entry → Result ℕ Stop × Shown → Type 0) (es : List Entry) (t : Shown) (op : OpId) (kind : Kind) (parent : Option ℕ) (side : Option OpId)
+pub make_gives : (Q : List Entry → Result ℕ Stop × Shown → Type 0) (es : List Entry) (t : Shown) (op : OpId) (kind : Kind) (parent : Option ℕ) (side : Option OpId)
     → (is_full t ≡ true → Q es (Err (Trap Full), t))
     → ((told : Told) → Q (es ++ entry op (call.Made t.next (name_of kind) parent side) told ∷ []) (Ok t.next, with_handle t kind))
     → Gives Q es (make_asks t op kind parent side)

@@ -1,6 +1,8 @@
 -- Where the answers of a step come from: of a call that stands, and of the finish of a bind.
 use Rattle.std.specs.Prelude.{⊤, IsSome}
-use Rattle.std.proofs.Common.{◌≡◌, ◌≢◌, ◌↔◌, ℕ, List, [], Option, Some, None, Result, Ok, Err, slice_get, refl, sym, ap}
+use Rattle.std.proofs.Common.{◌≡◌, ◌≢◌, ◌↔◌, ℕ, Bool, true, false, List, [], Option, Some, None, Result, Ok, Err, slice_get, refl, sym, ap}
+use Rattle.wasi_addr.specs.declared.address.IpSocketAddress.{IpSocketAddress}
+use Rattle.wasi_addr.specs.declared.address.SocketAddressFamily.{SocketAddressFamily}
 use Rattle.wasi_world.specs.declared.call.Entry.{Entry}
 use Rattle.wasi_world.specs.declared.outcome.Answer.{Answer}
 use Rattle.wasi_world.specs.declared.outcome.Answer.TheVariants.{Ready, Pending}
@@ -12,16 +14,14 @@ use Rattle.wasi_run.specs.declared.reply.CodeWord.{CodeWord}
 use Rattle.wasi_run.specs.declared.reply.CodeWord.TheVariants as word
 use Rattle.wasi_run.specs.declared.reply.Reply.{Reply}
 use Rattle.wasi_run.specs.declared.reply.Reply.TheVariants as reply
-use Rattle.wasi_run.specs.declared.socket.InProgress.{InProgress}
-use Rattle.wasi_run.specs.declared.socket.InProgress.TheVariants as doing
 use Rattle.wasi_run.specs.declared.socket.Tcp2Socket.{Tcp2Socket}
 use Rattle.wasi_run.specs.declared.step.Step.{Step}
 use Rattle.wasi_run.specs.declared.step.Step.TheVariants as step
 use Rattle.wasi_run.specs.declared.store.StandingBind.{StandingBind}
-use Rattle.wasi_run.specs.Host.{Stop, Code, Trap}
-use Rattle.wasi_run.specs.Store.{finish_bind_by, finish_bind_at}
-use Rattle.wasi_run.specs.Machine.{socket_at, network_asks, create_asks, start_bind_asks, finish_bind_on, handle_reply, done_reply, answer_reply, own_of, context_at, step_asks, machine_asks}
-use Rattle.wasi_run.specs.Answered.{Answered, record_in, HasNothingInProgress}
+use Rattle.wasi_run.specs.Host.{Stop, Code, Trap, CallStop, Failed, Closed, Traps}
+use Rattle.wasi_run.specs.Store.{is_bind, finish_bind_by, finish_bind_at}
+use Rattle.wasi_run.specs.Machine.{socket_at, network_asks, create_asks, start_bind_asks, finish_bind_on, start_connect_asks, finish_connect_asks, local_address_on, remote_address_on, is_listening_on, address_family_on, read_asks, check_asks, write_asks, flushed_asks, handle_reply, done_reply, answer_reply, pair_reply, address_reply, truth_reply, family_reply, call_stop_reply, bytes_reply, permit_reply, taken_reply, own_of, context_at, step_asks, machine_asks}
+use Rattle.wasi_run.specs.Answered.{Answered, record_in, HasNoBindInProgress}
 
 -- == what a tree gives, whatever is told
 abbrev pub Gives : {A : Type 0} → (List Entry → A → Type 0) → List Entry → Asks A → Type 0
@@ -39,6 +39,18 @@ gives_any Q any before (AskWrite op sock bytes next) = (tt, λ told fits front. 
 -- what is weaker
 pub gives_more : {A : Type 0} (Q R : List Entry → A → Type 0) (more : (es : List Entry) (a : A) → Q es a → R es a) (before : List Entry) (asks : Asks A) → Gives Q before asks → Gives R before asks
 gives_more Q R more before asks h = allows_weaker (λ es op call. ⊤) Q R more before asks h
+
+-- two at once
+pub gives_both : {A : Type 0} (Q R : List Entry → A → Type 0) (before : List Entry) (asks : Asks A) → Gives Q before asks → Gives R before asks → Gives (λ es a. Q es a × R es a) before asks
+gives_both Q R before (Give a) h k = (h, k)
+gives_both Q R before (Ask op call next) h k = (tt, λ told fits. gives_both Q R _ (next told) (h.1 told fits) (k.1 told fits))
+gives_both Q R before (AskWrite op sock bytes next) h k = (tt, λ told fits front. gives_both Q R _ (next told) (h.1 told fits front) (k.1 told fits front))
+
+-- what holds under a premise
+pub gives_where : {A : Type 0} (P : Type 0) (Q : List Entry → A → Type 0) (before : List Entry) (asks : Asks A) → (P → Gives Q before asks) → Gives (λ es a. P → Q es a) before asks
+gives_where P Q before (Give a) h = h
+gives_where P Q before (Ask op call next) h = (tt, λ told fits. gives_where P Q _ (next told) (λ p. (h p).1 told fits))
+gives_where P Q before (AskWrite op sock bytes next) h = (tt, λ told fits front. gives_where P Q _ (next told) (λ p. (h p).1 told fits front))
 
 -- of what was asked and told
 pub given : {A : Type 0} (Q : List Entry → A → Type 0) (asks : Asks A) (entries : List Entry) (a : A) → Gives Q [] asks → Left asks entries (Give a) → Q entries a
@@ -67,6 +79,43 @@ done_not_busy (Ok done) e = cc
 done_not_busy (Err (Code c)) e = cc
 done_not_busy (Err (Trap kind)) e = cc
 
+pair_not_busy : (r : Result (ℕ × ℕ) Stop) → pair_reply r ≢ reply.Busy
+pair_not_busy (Ok (a, b)) e = cc
+pair_not_busy (Err (Code c)) e = cc
+pair_not_busy (Err (Trap kind)) e = cc
+
+address_not_busy : (r : Result IpSocketAddress Stop) → address_reply r ≢ reply.Busy
+address_not_busy (Ok a) e = cc
+address_not_busy (Err (Code c)) e = cc
+address_not_busy (Err (Trap kind)) e = cc
+
+truth_not_busy : (r : Result Bool Stop) → truth_reply r ≢ reply.Busy
+truth_not_busy (Ok b) e = cc
+truth_not_busy (Err (Code c)) e = cc
+truth_not_busy (Err (Trap kind)) e = cc
+
+family_not_busy : (r : Result SocketAddressFamily Stop) → family_reply r ≢ reply.Busy
+family_not_busy (Ok family) e = cc
+family_not_busy (Err (Code c)) e = cc
+family_not_busy (Err (Trap kind)) e = cc
+
+stream_not_busy : (stop : CallStop) → call_stop_reply stop ≢ reply.Busy
+stream_not_busy (Failed c e) same = cc
+stream_not_busy Closed same = cc
+stream_not_busy (Traps kind) same = cc
+
+bytes_not_busy : (r : Result (List ℕ) CallStop) → bytes_reply r ≢ reply.Busy
+bytes_not_busy (Ok bytes) e = cc
+bytes_not_busy (Err stop) e = stream_not_busy stop e
+
+permit_not_busy : (r : Result ℕ CallStop) → permit_reply r ≢ reply.Busy
+permit_not_busy (Ok n) e = cc
+permit_not_busy (Err stop) e = stream_not_busy stop e
+
+taken_not_busy : (r : Result (Unit {0}) CallStop) → taken_reply r ≢ reply.Busy
+taken_not_busy (Ok done) e = cc
+taken_not_busy (Err stop) e = stream_not_busy stop e
+
 module _ (contexts : List WasiSocketsCtx) (m : Machine) (line : ℕ) where
   not_busy : {A : Type 0} (asks : Asks (A × Machine)) (says : A → Reply) → ((a : A) → says a ≢ reply.Busy) → Gives NotBusy [] (bind asks (λ done. Give (says done.0, done.1)))
   not_busy asks says h = gives_then (λ es done. ⊤) NotBusy [] asks _ (gives_any _ (λ es done. tt) [] asks) (λ es done k. h done.0)
@@ -76,6 +125,16 @@ module _ (contexts : List WasiSocketsCtx) (m : Machine) (line : ℕ) where
   step_not_busy (step.TcpCreate ctx family) = not_busy (create_asks m (own_of line) (context_at contexts ctx) family) handle_reply handle_not_busy
   step_not_busy (step.TcpStartBind ctx s n a) = not_busy (start_bind_asks m (own_of line) s n a) (answer_reply line) (answer_not_busy line)
   step_not_busy (step.TcpFinishBind ctx s) = done_not_busy (finish_bind_on m (socket_at m s)).0
+  step_not_busy (step.TcpStartConnect ctx s n a) = not_busy (start_connect_asks m (own_of line) s n a) done_reply done_not_busy
+  step_not_busy (step.TcpFinishConnect ctx s) = not_busy (finish_connect_asks m (own_of line) s) pair_reply pair_not_busy
+  step_not_busy (step.TcpLocalAddress ctx s) = not_busy (local_address_on m (own_of line) (socket_at m s)) address_reply address_not_busy
+  step_not_busy (step.TcpRemoteAddress ctx s) = not_busy (remote_address_on m (own_of line) (socket_at m s)) address_reply address_not_busy
+  step_not_busy (step.TcpIsListening ctx s) = truth_not_busy (is_listening_on m (socket_at m s))
+  step_not_busy (step.TcpAddressFamily ctx s) = family_not_busy (address_family_on m (socket_at m s))
+  step_not_busy (step.Read ctx input len) = not_busy (read_asks m (own_of line) input len) bytes_reply bytes_not_busy
+  step_not_busy (step.CheckWrite ctx output) = not_busy (check_asks m (own_of line) output) permit_reply permit_not_busy
+  step_not_busy (step.Write ctx output bytes) = not_busy (write_asks m (own_of line) output bytes) taken_reply taken_not_busy
+  step_not_busy (step.Flush ctx output) = not_busy (flushed_asks m (own_of line) output) taken_reply taken_not_busy
 
   busy_by : (s : Step) (standing : Option StandingBind) (entries : List Entry) (r : Reply) (after : Machine) → Left (machine_asks contexts m line s standing) entries (Give (r, after)) → (r ≡ reply.Busy) ↔ IsSome standing
   busy_by s None entries r after w = (λ e. absurd (given NotBusy _ entries (r, after) (step_not_busy s) w e), λ e. absurd (cc))
@@ -105,19 +164,19 @@ module _ (contexts : List WasiSocketsCtx) (m : Machine) (line : ℕ) where
   abbrev finished : Option ℕ → Reply × Machine
   finished o = let done = finish_bind_on m o in (done_reply done.0, done.1)
 
-  -- with nothing in progress it is refused, and else it is not
+  -- with no bind in progress it is refused, and else it is not
   abbrev Says : Option Tcp2Socket → Reply × Machine → Type 0
   Says found done =
-      (HasNothingInProgress found → done.0 ≡ reply.Err word.NotInProgress)
-      × ((w : CodeWord) → done.0 ≡ reply.Err w → (w ≡ word.NotInProgress) × HasNothingInProgress found × (done.1 ≡ m))
+      (HasNoBindInProgress found → done.0 ≡ reply.Err word.NotInProgress)
+      × ((w : CodeWord) → done.0 ≡ reply.Err w → (w ≡ word.NotInProgress) × HasNoBindInProgress found × (done.1 ≡ m))
 
-  says_by : (place : ℕ) (r : Tcp2Socket) (now : InProgress) → r.in_progress ≡ now → let done = finish_bind_by m.store place r now in Says (Some r) (done_reply done.0, record m { store = done.1 })
-  says_by place r doing.Nothing e = (λ h. refl, λ w h. (cc, e, refl))
-  says_by place r doing.Bind e = (λ h. absurd (cc), λ w h. absurd (cc))
+  says_by : (place : ℕ) (r : Tcp2Socket) (its : Bool) → is_bind r.in_progress ≡ its → let done = finish_bind_by m.store place r its in Says (Some r) (done_reply done.0, record m { store = done.1 })
+  says_by place r false e = (λ h. refl, λ w h. (cc, e, refl))
+  says_by place r true e = (λ h. absurd (cc), λ w h. absurd (cc))
 
   says_at : (place : ℕ) (found : Option Tcp2Socket) → let done = finish_bind_at m.store place found in Says found (done_reply done.0, record m { store = done.1 })
   says_at place None = (λ h. absurd h, λ w h. absurd (cc))
-  says_at place (Some r) = says_by place r r.in_progress refl
+  says_at place (Some r) = says_by place r (is_bind r.in_progress) refl
 
   says_on : (o : Option ℕ) → Says (record_in m o) (finished o)
   says_on None = (λ h. absurd h, λ w h. absurd (cc))
@@ -128,7 +187,7 @@ module _ (contexts : List WasiSocketsCtx) (m : Machine) (line : ℕ) where
   finish_asks_nothing ctx s (Some c) entries done w = (given (IsQuiet m) _ entries done (refl, refl, refl) w).0
 
   pub finish_exactly : (ctx s : ℕ) (standing : Option StandingBind) (entries : List Entry) (r : Reply) (after : Machine) → standing ≡ None → Left (machine_asks contexts m line (step.TcpFinishBind ctx s) standing) entries (Give (r, after))
-      → (r ≡ reply.Err word.NotInProgress) ↔ HasNothingInProgress (record_in m (socket_at m s))
+      → (r ≡ reply.Err word.NotInProgress) ↔ HasNoBindInProgress (record_in m (socket_at m s))
   finish_exactly ctx s None entries r after e w =
       let g = given (IsGiven (finished (socket_at m s))) _ entries (r, after) (refl, refl) w in
       let same : r ≡ (finished (socket_at m s)).0 = ap (λ (p : Reply × Machine). p.0) g.1 in

@@ -1,77 +1,166 @@
 -- Which steps trap and which stand, and why.
 use Rattle.std.specs.Prelude.{⊤, ◌⊎◌, IsSomeAnd}
-use Rattle.std.proofs.Common.{◌≡◌, ◌≢◌, ℕ, inl, inr, true, List, [], Option, Some, None, slice_get, refl, ap}
+use Rattle.std.proofs.Common.{◌≡◌, ◌≢◌, ℕ, ◌+◌, inl, inr, Bool, true, false, List, [], length, Option, Some, None, Result, Ok, Err, slice_get, refl, sym, ap, subst, ◌∙◌, arith}
 use Rattle.wasi_addr.specs.declared.address.IpSocketAddress.{IpSocketAddress}
 use Rattle.wasi_addr.specs.declared.address.SocketAddressFamily.{SocketAddressFamily}
 use Rattle.wasi_world.specs.declared.call.Entry.{Entry}
 use Rattle.wasi_world.specs.declared.outcome.TrapKind.{TrapKind}
-use Rattle.wasi_world.specs.declared.outcome.TrapKind.TheVariants.{NoSuchHandle, Full}
+use Rattle.wasi_world.specs.declared.outcome.TrapKind.TheVariants.{NoSuchHandle, Full, NotPermitted}
 use Rattle.wasi_world.specs.declared.outcome.WasiSocketsCtx.{WasiSocketsCtx}
+use Rattle.wasi_world.specs.Asks.{Asks, Give, bind}
+use Rattle.wasi_streams.specs.StreamStop.{StreamStop}
+use Rattle.wasi_streams.specs.StreamStop as stop
+use Rattle.wasi_tcp.specs.Reader.{read_state_asks}
+use Rattle.wasi_tcp.specs.Writer.{check_write_asks, write_state_asks}
 use Rattle.wasi_run.specs.declared.machine.Machine.{Machine}
+use Rattle.wasi_run.specs.declared.reply.CodeWord.{CodeWord}
 use Rattle.wasi_run.specs.declared.reply.Reply.{Reply}
 use Rattle.wasi_run.specs.declared.reply.Reply.TheVariants as reply
-use Rattle.wasi_run.specs.declared.socket.InProgress.{InProgress}
-use Rattle.wasi_run.specs.declared.socket.InProgress.TheVariants as doing
+use Rattle.wasi_run.specs.declared.socket.Streams.{Streams}
 use Rattle.wasi_run.specs.declared.socket.Tcp2Socket.{Tcp2Socket}
 use Rattle.wasi_run.specs.declared.step.Step.{Step}
 use Rattle.wasi_run.specs.declared.step.Step.TheVariants as step
-use Rattle.wasi_run.specs.Table.{is_full}
-use Rattle.wasi_run.specs.Store.{is_bind, finish_bind_by, finish_bind_at}
-use Rattle.wasi_run.specs.Machine.{socket_at, finish_bind_on, done_reply, own_of, context_at, step_asks}
+use Rattle.wasi_run.specs.Host.{CallStop}
+use Rattle.wasi_run.specs.Table.{Shown, is_full}
+use Rattle.wasi_run.specs.Store.{with_reader, with_writer, reader_asks, writer_asks, flush_asks, is_bind, finish_bind_by, finish_bind_at}
+use Rattle.wasi_run.specs.Machine.{socket_at, input_at, output_at, finish_bind_on, stream_on, done_reply, call_stop_reply, bytes_reply, permit_reply, taken_reply, own_of, context_at, step_asks}
 use Rattle.wasi_run.specs.Licence.{marks_in}
-use Rattle.wasi_run.specs.Answered.{Answered, record_in, MissesHandle, MakesHandle, IsStartBind, EndsPending}
-use Rattle.wasi_run.proofs.StepCauses.{Gives, gives_more, settled}
+use Rattle.wasi_run.specs.Answered.{Answered, record_in, record_at, streams_in, OfStreams, MissesHandle, MakesHandle, IsStartBind, IsWrite, EndsPending}
+use Rattle.wasi_run.proofs.StepCauses.{Gives, gives_then, gives_more, settled}
+use Rattle.wasi_run.proofs.RecordCauses.{RecordSays}
 use Rattle.wasi_run.proofs.CreateCauses.{NetworkSays, network_says, CreateSays, create_says}
-use Rattle.wasi_run.proofs.BindCauses.{StartSays, start_says}
+use Rattle.wasi_run.proofs.BindCauses.{BindSays, bind_says}
+use Rattle.wasi_run.proofs.ConnectCauses.{ConnectSays, connect_says}
+use Rattle.wasi_run.proofs.FinishCauses.{FinishSays, finish_says}
+use Rattle.wasi_run.proofs.AddressCauses.{LocalSays, local_says, RemoteSays, remote_says}
+use Rattle.wasi_run.proofs.QuietCauses.{QuietReply, QuietSays, listening_says, family_says}
+use Rattle.wasi_run.proofs.StreamCauses.{IsSound, StreamAnswer, NotThere, ItGives, ItFails, FindsFull, ItIsClosed, ItTraps, StreamGives, on_gives, reader_called, writer_called}
+use Rattle.wasi_run.proofs.ReadCauses.{ReadGives, read_gives, read_is_sound}
+use Rattle.wasi_run.proofs.WriteCauses.{CheckGives, check_gives, check_is_sound, WriteGives, write_gives, write_is_sound, FlushGives, flush_gives, flush_is_sound}
 
 module _ (contexts : List WasiSocketsCtx) (m : Machine) (line : ℕ) where
+  -- the table is full, after the handles that the entries mark
+  abbrev pub FindsFullAfter : List Entry → Machine → Type 0
+  FindsFullAfter es after = (is_full after.table ≡ true) × (after.table.next ≡ m.table.next + marks_in es)
+
   -- why it traps, or stands
   abbrev Says : Step → List Entry → Reply × Machine → Type 0
   Says s es (reply.Trap NoSuchHandle, after) = MissesHandle m s × (es ≡ []) × (after ≡ m)
-  Says s es (reply.Trap Full, after) = MakesHandle s × (is_full m.table ≡ true) × (marks_in es ≡ 0) × (after.table ≡ m.table)
+  Says s es (reply.Trap Full, after) = MakesHandle s × FindsFullAfter es after
+  Says s es (reply.Trap NotPermitted, after) = IsWrite s
   Says s es (reply.Trap _, after) = ⊥
   Says s es (reply.Pending n, after) = IsStartBind s × (n ≡ line) × EndsPending (own_of line) es × IsSomeAnd after.store.standing (λ c. c.line ≡ line)
   Says s es _ = ⊤
 
+  -- a table that no mark was made in
+  as_it_was : (es : List Entry) (after : Machine) → is_full m.table ≡ true → marks_in es ≡ 0 → after.table ≡ m.table → FindsFullAfter es after
+  as_it_was es after full none same = (rw same full, let next = ap (λ (t : Shown). t.next) same in omega (arith, next, none))
+
   of_network : (ctx : ℕ) (es : List Entry) (done : Reply × Machine) → NetworkSays m line es done → Says (step.Network ctx) es done
   of_network ctx es (reply.Ok fields, after) h = tt
-  of_network ctx es (reply.Trap Full, after) h = (tt, h.0, ap marks_in h.1, ap (λ (x : Machine). x.table) h.2)
+  of_network ctx es (reply.Trap Full, after) h = (tt, as_it_was es after h.0 (ap marks_in h.1) (ap (λ (x : Machine). x.table) h.2))
   of_network ctx es _ h = absurd h
 
   of_create : (ctx : ℕ) (its : WasiSocketsCtx) (family : SocketAddressFamily) (es : List Entry) (done : Reply × Machine) → CreateSays m line its family es done → Says (step.TcpCreate ctx family) es done
   of_create ctx its family es (reply.Ok fields, after) h = tt
   of_create ctx its family es (reply.Err w, after) h = tt
-  of_create ctx its family es (reply.Trap Full, after) h = (tt, h.0, ap marks_in h.1, ap (λ (x : Machine). x.table) h.2)
+  of_create ctx its family es (reply.Trap Full, after) h = (tt, as_it_was es after h.0 (ap marks_in h.1) (ap (λ (x : Machine). x.table) h.2))
   of_create ctx its family es _ h = absurd h
 
-  of_start : (ctx handle network : ℕ) (a : IpSocketAddress) (es : List Entry) (done : Reply × Machine) → StartSays m line handle network a es done → Says (step.TcpStartBind ctx handle network a) es done
-  of_start ctx handle network a es (reply.Ok fields, after) h = tt
-  of_start ctx handle network a es (reply.Err w, after) h = tt
-  of_start ctx handle network a es (reply.Pending n, after) h = (tt, h.0, h.1, h.2)
-  of_start ctx handle network a es (reply.Trap NoSuchHandle, after) h = h
-  of_start ctx handle network a es _ h = absurd h
+  of_bind : (ctx handle network : ℕ) (a : IpSocketAddress) (es : List Entry) (done : Reply × Machine) → BindSays m line handle network a es done → Says (step.TcpStartBind ctx handle network a) es done
+  of_bind ctx handle network a es (reply.Ok fields, after) h = tt
+  of_bind ctx handle network a es (reply.Err w, after) h = tt
+  of_bind ctx handle network a es (reply.Pending n, after) h = (tt, h.1.0, h.1.1, h.1.2)
+  of_bind ctx handle network a es (reply.Trap NoSuchHandle, after) h = h
+  of_bind ctx handle network a es _ h = absurd h
+
+  of_connect : (ctx handle network : ℕ) (a : IpSocketAddress) (es : List Entry) (done : Reply × Machine) → ConnectSays m line handle network a es done → Says (step.TcpStartConnect ctx handle network a) es done
+  of_connect ctx handle network a es (reply.Ok fields, after) h = tt
+  of_connect ctx handle network a es (reply.Err w, after) h = tt
+  of_connect ctx handle network a es (reply.Pending n, after) h = absurd h.1
+  of_connect ctx handle network a es (reply.Trap NoSuchHandle, after) h = h
+  of_connect ctx handle network a es _ h = absurd h
+
+  of_finish : (ctx handle : ℕ) (es : List Entry) (done : Reply × Machine) → FinishSays m line handle es done → Says (step.TcpFinishConnect ctx handle) es done
+  of_finish ctx handle es (reply.Ok fields, after) h = tt
+  of_finish ctx handle es (reply.Err w, after) h = tt
+  of_finish ctx handle es (reply.Trap NoSuchHandle, after) h = h
+  of_finish ctx handle es (reply.Trap Full, after) h = (tt, (h.1, h.2))
+  of_finish ctx handle es _ h = absurd h
+
+  -- a call that asks a record, and traps where that isn't there
+  of_record : (s : Step) (handle : ℕ) (Cause : ℕ → Tcp2Socket → List Entry → CodeWord → Machine → Type 0) → (record_at m handle ≡ None → MissesHandle m s) → (es : List Entry) (done : Reply × Machine) → RecordSays m handle Cause es done → Says s es done
+  of_record s handle Cause missing es (reply.Ok fields, after) h = tt
+  of_record s handle Cause missing es (reply.Err w, after) h = tt
+  of_record s handle Cause missing es (reply.Trap NoSuchHandle, after) h = (missing h.0, h.1, h.2)
+  of_record s handle Cause missing es _ h = absurd h
+
+  of_quiet : (s : Step) (handle : ℕ) → (record_at m handle ≡ None → MissesHandle m s) → (r : Reply) → QuietSays m handle [] (r, m) → Says s [] (r, m)
+  of_quiet s handle missing (reply.Ok fields) h = tt
+  of_quiet s handle missing (reply.Trap NoSuchHandle) h = (missing h.0, refl, refl)
+  of_quiet s handle missing _ h = absurd h.0
 
   module _ (ctx handle : ℕ) where
-    abbrev FinishSays : Reply × Machine → Type 0
-    FinishSays done = Says (step.TcpFinishBind ctx handle) [] done
+    abbrev FinishBindSays : Reply × Machine → Type 0
+    FinishBindSays done = Says (step.TcpFinishBind ctx handle) [] done
 
-    finish_by : (place : ℕ) (r : Tcp2Socket) (now : InProgress) → let done = finish_bind_by m.store place r (is_bind now) in FinishSays (done_reply done.0, record m { store = done.1 })
-    finish_by place r doing.Bind = tt
-    finish_by place r _ = tt
+    finish_by : (place : ℕ) (r : Tcp2Socket) (its : Bool) → let done = finish_bind_by m.store place r its in FinishBindSays (done_reply done.0, record m { store = done.1 })
+    finish_by place r true = tt
+    finish_by place r false = tt
 
-    finish_at : (place : ℕ) (o : Option Tcp2Socket) → socket_at m handle ≡ Some place → slice_get m.store.sockets place ≡ o → let done = finish_bind_at m.store place o in FinishSays (done_reply done.0, record m { store = done.1 })
+    finish_at : (place : ℕ) (o : Option Tcp2Socket) → socket_at m handle ≡ Some place → slice_get m.store.sockets place ≡ o → let done = finish_bind_at m.store place o in FinishBindSays (done_reply done.0, record m { store = done.1 })
     finish_at place None names at = (rw names at, refl, refl)
-    finish_at place (Some r) names at = finish_by place r r.in_progress
+    finish_at place (Some r) names at = finish_by place r (is_bind r.in_progress)
 
-    finish_on : (o : Option ℕ) → socket_at m handle ≡ o → let done = finish_bind_on m o in FinishSays (done_reply done.0, done.1)
+    finish_on : (o : Option ℕ) → socket_at m handle ≡ o → let done = finish_bind_on m o in FinishBindSays (done_reply done.0, done.1)
     finish_on None names = (ap (record_in m) names, refl, refl)
     finish_on (Some place) names = finish_at place (slice_get m.store.sockets place) names refl
+
+  -- == of a stream
+  module _ (s : Step) (handle : ℕ) (named : Option ℕ) (missing : streams_in (record_in m named) ≡ None → MissesHandle m s) (makes : MakesHandle s) where
+    of_trap : (es : List Entry) (kind : TrapKind) (after : Machine) (T S : Type 0) (now : S) → IsSound {T = T} {S = S} (IsWrite s) es (Err (stop.Trap kind), now) → Says s es (reply.Trap kind, after)
+    of_trap es NotPermitted after T S now h = h
+    of_trap es _ after T S now h = absurd h
+
+    module _ {T S : Type 0} (of : Streams → S) (put : Tcp2Socket → Streams → S → Tcp2Socket) (R : S → List Entry → Result T StreamStop × S → Type 0) (sound : (st : S) (es : List Entry) (done : Result T StreamStop × S) → R st es done → IsSound (IsWrite s) es done) where
+      of_stop : (es : List Entry) (stop : CallStop) (after : Machine) → StreamAnswer of put R m (own_of line) handle named es (Err stop) after → Says s es (call_stop_reply stop, after)
+      of_stop _ _ _ (NotThere none) = (missing none, refl, refl)
+      of_stop _ _ _ (ItFails es c now on side t) = tt
+      of_stop _ _ _ (FindsFull es c now on full) = (makes, (full, let none : marks_in es ≡ 0 = sound (of on.streams) es (Err (stop.Failed c), now) on.holds in omega (arith, none)))
+      of_stop _ _ _ (ItIsClosed es now on) = tt
+      of_stop _ _ _ (ItTraps es kind now on) = of_trap es kind _ T S now (sound (of on.streams) es (Err (stop.Trap kind), now) on.holds)
+
+      of_stream : (says : Result T CallStop → Reply) → ((value : T) (es : List Entry) (after : Machine) → Says s es (says (Ok value), after)) → ((stop : CallStop) → says (Err stop) ≡ call_stop_reply stop)
+          → (asks : Asks (Result T CallStop × Machine)) → Gives (StreamGives of put R m (own_of line) handle named) [] asks → Gives (Says s) [] (bind asks (λ done. Give (says done.0, done.1)))
+      of_stream says value err asks h = gives_then (StreamGives of put R m (own_of line) handle named) (Says s) [] asks _ h (λ es done k. by_result es done.0 done.1 k)
+        where
+          by_result : (es : List Entry) (res : Result T CallStop) (after : Machine) → StreamAnswer of put R m (own_of line) handle named es res after → Says s es (says res, after)
+          by_result es (Ok v) after k = value v es after
+          by_result es (Err stop) after k = rw (err stop) (of_stop es stop after k)
 
   says : (s : Step) → Gives (Says s) [] (step_asks contexts m line s)
   says (step.Network ctx) = gives_more (NetworkSays m line) _ (of_network ctx) [] _ (network_says m line)
   says (step.TcpCreate ctx family) = gives_more (CreateSays m line (context_at contexts ctx) family) _ (of_create ctx (context_at contexts ctx) family) [] _ (create_says m line (context_at contexts ctx) family)
-  says (step.TcpStartBind ctx handle network a) = gives_more (StartSays m line handle network a) _ (of_start ctx handle network a) [] _ (start_says m line handle network a)
+  says (step.TcpStartBind ctx handle network a) = gives_more (BindSays m line handle network a) _ (of_bind ctx handle network a) [] _ (bind_says m line handle network a)
   says (step.TcpFinishBind ctx handle) = finish_on ctx handle (socket_at m handle) refl
+  says (step.TcpStartConnect ctx handle network a) = gives_more (ConnectSays m line handle network a) _ (of_connect ctx handle network a) [] _ (connect_says m line handle network a)
+  says (step.TcpFinishConnect ctx handle) = gives_more (FinishSays m line handle) _ (of_finish ctx handle) [] _ (finish_says m line handle)
+  says (step.TcpLocalAddress ctx handle) = gives_more (LocalSays m line handle) _ (of_record (step.TcpLocalAddress ctx handle) handle _ (λ none. none)) [] _ (local_says m line handle)
+  says (step.TcpRemoteAddress ctx handle) = gives_more (RemoteSays m line handle) _ (of_record (step.TcpRemoteAddress ctx handle) handle _ (λ none. none)) [] _ (remote_says m line handle)
+  says (step.TcpIsListening ctx handle) = of_quiet (step.TcpIsListening ctx handle) handle (λ none. none) _ (listening_says m handle)
+  says (step.TcpAddressFamily ctx handle) = of_quiet (step.TcpAddressFamily ctx handle) handle (λ none. none) _ (family_says m handle)
+  says (step.Read ctx input len) =
+      of_stream (step.Read ctx input len) input (input_at m input) (λ none. none) tt (λ s. s.reader) with_reader (ReadGives (own_of line) len) (read_is_sound (own_of line) len) bytes_reply (λ v es after. tt) (λ stop. refl) _
+      (on_gives (λ s. s.reader) with_reader (ReadGives (own_of line) len) m (own_of line) input (input_at m input) (reader_asks (λ r. read_state_asks (own_of line) r len)) (reader_called (ReadGives (own_of line) len) _ (read_gives (own_of line) len)) (input_at m input) refl)
+  says (step.CheckWrite ctx output) =
+      of_stream (step.CheckWrite ctx output) output (output_at m output) (λ none. none) tt (λ s. s.writer) with_writer (CheckGives (own_of line)) (check_is_sound (own_of line)) permit_reply (λ v es after. tt) (λ stop. refl) _
+      (on_gives (λ s. s.writer) with_writer (CheckGives (own_of line)) m (own_of line) output (output_at m output) (writer_asks (check_write_asks (own_of line))) (writer_called (CheckGives (own_of line)) _ (check_gives (own_of line))) (output_at m output) refl)
+  says (step.Write ctx output bytes) =
+      of_stream (step.Write ctx output bytes) output (output_at m output) (λ none. none) tt (λ s. s.writer) with_writer (WriteGives (length bytes)) (write_is_sound (length bytes)) taken_reply (λ v es after. tt) (λ stop. refl) _
+      (on_gives (λ s. s.writer) with_writer (WriteGives (length bytes)) m (own_of line) output (output_at m output) (writer_asks (λ w. write_state_asks (own_of line) w bytes)) (writer_called (WriteGives (length bytes)) _ (write_gives (own_of line) bytes)) (output_at m output) refl)
+  says (step.Flush ctx output) =
+      of_stream (step.Flush ctx output) output (output_at m output) (λ none. none) tt (λ s. s.writer) with_writer FlushGives flush_is_sound taken_reply (λ v es after. tt) (λ stop. refl) _
+      (on_gives (λ s. s.writer) with_writer FlushGives m (own_of line) output (output_at m output) (writer_asks flush_asks) (writer_called FlushGives _ flush_gives) (output_at m output) refl)
 
   of_step : (s : Step) (entries : List Entry) (r : Reply) (after : Machine) → Answered contexts m line s entries r after → r ≢ reply.Busy → Says s entries (r, after)
   of_step s entries r after w n = settled contexts m line (Says s) s m.store.standing entries (r, after) (says s) w n
@@ -79,16 +168,20 @@ module _ (contexts : List WasiSocketsCtx) (m : Machine) (line : ℕ) where
   pub misses_handle : (s : Step) (entries : List Entry) (after : Machine) → Answered contexts m line s entries (reply.Trap NoSuchHandle) after → MissesHandle m s × (entries ≡ []) × (after ≡ m)
   misses_handle s entries after w = of_step s entries (reply.Trap NoSuchHandle) after w (λ e. cc)
 
-  pub finds_full : (s : Step) (entries : List Entry) (after : Machine) → Answered contexts m line s entries (reply.Trap Full) after → MakesHandle s × (is_full m.table ≡ true) × (marks_in entries ≡ 0) × (after.table ≡ m.table)
+  pub finds_full : (s : Step) (entries : List Entry) (after : Machine) → Answered contexts m line s entries (reply.Trap Full) after → MakesHandle s × FindsFullAfter entries after
   finds_full s entries after w = of_step s entries (reply.Trap Full) after w (λ e. cc)
 
-  kinds : (s : Step) (entries : List Entry) (after : Machine) (kind : TrapKind) → Says s entries (reply.Trap kind, after) → (kind ≡ NoSuchHandle) ⊎ (kind ≡ Full)
+  pub is_a_write : (s : Step) (entries : List Entry) (after : Machine) → Answered contexts m line s entries (reply.Trap NotPermitted) after → IsWrite s
+  is_a_write s entries after w = of_step s entries (reply.Trap NotPermitted) after w (λ e. cc)
+
+  kinds : (s : Step) (entries : List Entry) (after : Machine) (kind : TrapKind) → Says s entries (reply.Trap kind, after) → (kind ≡ NoSuchHandle) ⊎ ((kind ≡ Full) ⊎ (kind ≡ NotPermitted))
   kinds s entries after NoSuchHandle h = inl refl
-  kinds s entries after Full h = inr refl
+  kinds s entries after Full h = inr (inl refl)
+  kinds s entries after NotPermitted h = inr (inr refl)
   kinds s entries after _ h = absurd h
 
-  pub two_kinds : (s : Step) (entries : List Entry) (kind : TrapKind) (after : Machine) → Answered contexts m line s entries (reply.Trap kind) after → (kind ≡ NoSuchHandle) ⊎ (kind ≡ Full)
-  two_kinds s entries kind after w = kinds s entries after kind (of_step s entries (reply.Trap kind) after w (λ e. cc))
+  pub three_kinds : (s : Step) (entries : List Entry) (kind : TrapKind) (after : Machine) → Answered contexts m line s entries (reply.Trap kind) after → (kind ≡ NoSuchHandle) ⊎ ((kind ≡ Full) ⊎ (kind ≡ NotPermitted))
+  three_kinds s entries kind after w = kinds s entries after kind (of_step s entries (reply.Trap kind) after w (λ e. cc))
 
   pub stands : (s : Step) (entries : List Entry) (n : ℕ) (after : Machine) → Answered contexts m line s entries (reply.Pending n) after
       → IsStartBind s × (n ≡ line) × EndsPending (own_of line) entries × IsSomeAnd after.store.standing (λ c. c.line ≡ line)

@@ -1,7 +1,7 @@
 //! Laws over the definitions of specs/ that say where each answer of a step comes from, and what stands after a refusal:
 //! each is a function that does nothing, whose contract is the law.
 
-ghost use Rattle.std.specs.Prelude.{◌≡◌, ◌↔◌, ◌⊎◌, ℕ, true, List, [], ◌∷◌, IsSome, IsSomeAnd, None};
+ghost use Rattle.std.specs.Prelude.{◌≡◌, ◌↔◌, ◌⊎◌, ℕ, ◌+◌, true, List, [], ◌∷◌, IsSome, IsSomeAnd, None};
 ghost use Rattle.wasi_addr.specs.declared.address.IpSocketAddress.{IpSocketAddress};
 ghost use Rattle.wasi_addr.specs.declared.address.SocketAddressFamily.{SocketAddressFamily};
 ghost use Rattle.wasi_world.specs.declared.call.Call.{Call};
@@ -14,7 +14,7 @@ ghost use Rattle.wasi_run.specs.declared.machine.Machine.{Machine};
 ghost use Rattle.wasi_run.specs.declared.reply.CodeWord.{CodeWord};
 ghost use Rattle.wasi_run.specs.declared.reply.Reply.{Reply};
 ghost use Rattle.wasi_run.specs.declared.step.Step.{Step};
-ghost use Rattle.wasi_run.specs.Answered.{Answered, CreateRefusal, EndsPending, HasBindInProgress, HasNothingInProgress, IsStartBind, KnowsBound, MakesHandle, MissesHandle, RefusedStart, record_at};
+ghost use Rattle.wasi_run.specs.Answered.{Answered, ConnectsAt, CreateRefusal, FinishRefusal, HasNoConnectInProgress, RefusedOf, EndsPending, HasNoBindInProgress, HasOperationInProgress, IsQuiet, IsStartBind, IsWrite, KnowsBound, LocalRefusal, MakesHandle, MissesHandle, RefusedBind, RefusedConnect, RemoteRefusal, record_at};
 ghost use Rattle.wasi_run.specs.Licence.{entry, marks_in};
 ghost use Rattle.wasi_run.specs.Machine.{context_at, is_network, own_of};
 ghost use Rattle.wasi_run.specs.Store.{with_record};
@@ -29,13 +29,13 @@ pub fn busy_while_a_call_stands()
 {}
 
 /// The finish of a bind asks nothing. It is refused, with `not-in-progress`, exactly where the socket is there and has no
-/// operation in progress, and the machine stays as it was.
+/// bind in progress, and the machine stays as it was.
 pub fn finish_bind_refusals()
     ensures asks_nothing { (contexts : List WasiSocketsCtx) (m : Machine) (line ctx handle : ℕ) (entries : List Entry) (reply : Reply) (after : Machine)
         → Answered contexts m line (Step.TcpFinishBind ctx handle) entries reply after → entries ≡ [] }
     ensures exactly { (contexts : List WasiSocketsCtx) (m : Machine) (line ctx handle : ℕ) (entries : List Entry) (reply : Reply) (after : Machine)
         → m.store.standing ≡ None → Answered contexts m line (Step.TcpFinishBind ctx handle) entries reply after
-        → (reply ≡ Reply.Err CodeWord.NotInProgress) ↔ HasNothingInProgress (record_at m handle) }
+        → (reply ≡ Reply.Err CodeWord.NotInProgress) ↔ HasNoBindInProgress (record_at m handle) }
     ensures no_other { (contexts : List WasiSocketsCtx) (m : Machine) (line ctx handle : ℕ) (entries : List Entry) (word : CodeWord) (after : Machine)
         → Answered contexts m line (Step.TcpFinishBind ctx handle) entries (Reply.Err word) after → word ≡ CodeWord.NotInProgress }
     ensures stays { (contexts : List WasiSocketsCtx) (m : Machine) (line ctx handle : ℕ) (entries : List Entry) (word : CodeWord) (after : Machine)
@@ -43,16 +43,19 @@ pub fn finish_bind_refusals()
 {}
 
 /// A step traps because a handle of it isn't live or is of another kind, and asks nothing then and leaves the machine as it
-/// was; or because the table is full, where it is to make a handle, and then it marks none and leaves the table as it was.
+/// was; or because the table is full, where it is to make a handle: that was the last of the step, and the marks are those of
+/// the handles that were made before it; or because a write isn't permitted.
 pub fn traps_have_causes()
     ensures kinds { (contexts : List WasiSocketsCtx) (m : Machine) (line : ℕ) (s : Step) (entries : List Entry) (kind : TrapKind) (after : Machine)
-        → Answered contexts m line s entries (Reply.Trap kind) after → (kind ≡ TrapKind.NoSuchHandle) ⊎ (kind ≡ TrapKind.Full) }
+        → Answered contexts m line s entries (Reply.Trap kind) after → (kind ≡ TrapKind.NoSuchHandle) ⊎ ((kind ≡ TrapKind.Full) ⊎ (kind ≡ TrapKind.NotPermitted)) }
     ensures no_such_handle { (contexts : List WasiSocketsCtx) (m : Machine) (line : ℕ) (s : Step) (entries : List Entry) (after : Machine)
         → Answered contexts m line s entries (Reply.Trap TrapKind.NoSuchHandle) after → MissesHandle m s × (entries ≡ []) × (after ≡ m) }
     ensures full { (contexts : List WasiSocketsCtx) (m : Machine) (line : ℕ) (s : Step) (entries : List Entry) (after : Machine)
-        → Answered contexts m line s entries (Reply.Trap TrapKind.Full) after → MakesHandle s × (is_full m.table ≡ true) }
-    ensures full_marks_none { (contexts : List WasiSocketsCtx) (m : Machine) (line : ℕ) (s : Step) (entries : List Entry) (after : Machine)
-        → Answered contexts m line s entries (Reply.Trap TrapKind.Full) after → (marks_in entries ≡ 0) × (after.table ≡ m.table) }
+        → Answered contexts m line s entries (Reply.Trap TrapKind.Full) after → MakesHandle s × (is_full after.table ≡ true) }
+    ensures full_marks { (contexts : List WasiSocketsCtx) (m : Machine) (line : ℕ) (s : Step) (entries : List Entry) (after : Machine)
+        → Answered contexts m line s entries (Reply.Trap TrapKind.Full) after → after.table.next ≡ m.table.next + marks_in entries }
+    ensures not_permitted { (contexts : List WasiSocketsCtx) (m : Machine) (line : ℕ) (s : Step) (entries : List Entry) (after : Machine)
+        → Answered contexts m line s entries (Reply.Trap TrapKind.NotPermitted) after → IsWrite s }
 {}
 
 /// Only the start of a bind is pending, under its line's number, where its last ask was told to wait; and its call stands.
@@ -89,17 +92,74 @@ pub fn create_full()
         → after ≡ record m { store = with_record m.store (new_socket (own_of line) (context_at contexts ctx).name family) } }
 {}
 
-/// The start of a bind is refused with `concurrency-conflict` exactly where a bind is in progress, and else by its own tests
-/// or by what was told. The machine is as it was then, but that a socket that was found bound is known to be.
+/// The start of a bind is refused with `concurrency-conflict` exactly where an operation is in progress, whichever, and else
+/// by its own tests or by what was told. The machine is as it was then, but that a socket that was found bound is known to be.
 pub fn bind_refusals()
     ensures exactly { (contexts : List WasiSocketsCtx) (m : Machine) (line ctx handle network : ℕ) (a : IpSocketAddress) (entries : List Entry) (reply : Reply) (after : Machine)
         → m.store.standing ≡ None → is_network (kind_at m.table network) ≡ true
         → Answered contexts m line (Step.TcpStartBind ctx handle network a) entries reply after
-        → (reply ≡ Reply.Err CodeWord.ConcurrencyConflict) ↔ HasBindInProgress (record_at m handle) }
+        → (reply ≡ Reply.Err CodeWord.ConcurrencyConflict) ↔ HasOperationInProgress (record_at m handle) }
     ensures cause { (contexts : List WasiSocketsCtx) (m : Machine) (line ctx handle network : ℕ) (a : IpSocketAddress) (entries : List Entry) (word : CodeWord) (after : Machine)
         → Answered contexts m line (Step.TcpStartBind ctx handle network a) entries (Reply.Err word) after
-        → RefusedStart m (own_of line) handle a entries word after }
+        → RefusedBind m (own_of line) handle a entries word after }
     ensures stays { (contexts : List WasiSocketsCtx) (m : Machine) (line ctx handle network : ℕ) (a : IpSocketAddress) (entries : List Entry) (word : CodeWord) (after : Machine)
         → Answered contexts m line (Step.TcpStartBind ctx handle network a) entries (Reply.Err word) after
         → (after ≡ m) ⊎ ((word ≡ CodeWord.InvalidState) × KnowsBound m handle after) }
+{}
+
+/// The start of a connect is refused with `concurrency-conflict` exactly where an operation is in progress, whichever, and else
+/// by its own tests. The machine is as it was then, but that a socket that was found bound is known to be.
+pub fn start_connect_refusals()
+    ensures exactly { (contexts : List WasiSocketsCtx) (m : Machine) (line ctx handle network : ℕ) (a : IpSocketAddress) (entries : List Entry) (reply : Reply) (after : Machine)
+        → m.store.standing ≡ None → is_network (kind_at m.table network) ≡ true
+        → Answered contexts m line (Step.TcpStartConnect ctx handle network a) entries reply after
+        → (reply ≡ Reply.Err CodeWord.ConcurrencyConflict) ↔ HasOperationInProgress (record_at m handle) }
+    ensures cause { (contexts : List WasiSocketsCtx) (m : Machine) (line ctx handle network : ℕ) (a : IpSocketAddress) (entries : List Entry) (word : CodeWord) (after : Machine)
+        → Answered contexts m line (Step.TcpStartConnect ctx handle network a) entries (Reply.Err word) after
+        → RefusedConnect m (own_of line) handle a entries word after }
+    ensures stays { (contexts : List WasiSocketsCtx) (m : Machine) (line ctx handle network : ℕ) (a : IpSocketAddress) (entries : List Entry) (word : CodeWord) (after : Machine)
+        → Answered contexts m line (Step.TcpStartConnect ctx handle network a) entries (Reply.Err word) after
+        → (after ≡ m) ⊎ ((word ≡ CodeWord.InvalidArgument) × KnowsBound m handle after) }
+{}
+
+/// The finish of a connect is refused with `not-in-progress` exactly where the socket is there and has no connect in progress,
+/// and it asks nothing then and leaves the machine as it was. With `would-block` the connect was told to wait and goes on; with
+/// any other word the socket is closed with that word's code, and nothing is in progress.
+pub fn finish_connect_refusals()
+    ensures exactly { (contexts : List WasiSocketsCtx) (m : Machine) (line ctx handle : ℕ) (entries : List Entry) (reply : Reply) (after : Machine)
+        → m.store.standing ≡ None → Answered contexts m line (Step.TcpFinishConnect ctx handle) entries reply after
+        → (reply ≡ Reply.Err CodeWord.NotInProgress) ↔ HasNoConnectInProgress (record_at m handle) }
+    ensures not_in_progress { (contexts : List WasiSocketsCtx) (m : Machine) (line ctx handle : ℕ) (entries : List Entry) (after : Machine)
+        → Answered contexts m line (Step.TcpFinishConnect ctx handle) entries (Reply.Err CodeWord.NotInProgress) after → (entries ≡ []) × (after ≡ m) }
+    ensures cause { (contexts : List WasiSocketsCtx) (m : Machine) (line ctx handle : ℕ) (entries : List Entry) (word : CodeWord) (after : Machine)
+        → ConnectsAt m handle → Answered contexts m line (Step.TcpFinishConnect ctx handle) entries (Reply.Err word) after
+        → RefusedOf m handle (FinishRefusal m) entries word after }
+{}
+
+/// The local address is refused where the socket isn't bound or is connecting, with the code with which it is closed, or with
+/// the code that was told of it. The machine is as it was then, but that a socket that was found bound is known to be.
+pub fn local_address_refusals()
+    ensures cause { (contexts : List WasiSocketsCtx) (m : Machine) (line ctx handle : ℕ) (entries : List Entry) (word : CodeWord) (after : Machine)
+        → Answered contexts m line (Step.TcpLocalAddress ctx handle) entries (Reply.Err word) after
+        → RefusedOf m handle (LocalRefusal m (own_of line)) entries word after }
+    ensures stays { (contexts : List WasiSocketsCtx) (m : Machine) (line ctx handle : ℕ) (entries : List Entry) (word : CodeWord) (after : Machine)
+        → Answered contexts m line (Step.TcpLocalAddress ctx handle) entries (Reply.Err word) after → (after ≡ m) ⊎ KnowsBound m handle after }
+{}
+
+/// The remote address is refused where the socket isn't connected, with the code with which it is closed, or with the code that
+/// was told of it. The machine stays as it was.
+pub fn remote_address_refusals()
+    ensures cause { (contexts : List WasiSocketsCtx) (m : Machine) (line ctx handle : ℕ) (entries : List Entry) (word : CodeWord) (after : Machine)
+        → Answered contexts m line (Step.TcpRemoteAddress ctx handle) entries (Reply.Err word) after
+        → RefusedOf m handle (RemoteRefusal m (own_of line)) entries word after }
+    ensures stays { (contexts : List WasiSocketsCtx) (m : Machine) (line ctx handle : ℕ) (entries : List Entry) (word : CodeWord) (after : Machine)
+        → Answered contexts m line (Step.TcpRemoteAddress ctx handle) entries (Reply.Err word) after → after ≡ m }
+{}
+
+/// Whether it listens and of which family it is, is never refused. It asks nothing, and the machine stays as it was.
+pub fn listening_and_family_are_never_refused()
+    ensures never { (contexts : List WasiSocketsCtx) (m : Machine) (line : ℕ) (s : Step) (entries : List Entry) (word : CodeWord) (after : Machine)
+        → IsQuiet s → Answered contexts m line s entries (Reply.Err word) after → ⊥ }
+    ensures quiet { (contexts : List WasiSocketsCtx) (m : Machine) (line : ℕ) (s : Step) (entries : List Entry) (reply : Reply) (after : Machine)
+        → IsQuiet s → Answered contexts m line s entries reply after → (entries ≡ []) × (after ≡ m) }
 {}
