@@ -9,4 +9,5 @@ pub mod Reader
 pub mod Job
 pub mod Writer
 pub mod Taken
+pub mod Waiting
 pub mod Calls
