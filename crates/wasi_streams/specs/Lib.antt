@@ -1,2 +1,3 @@
 pub mod StreamError
 pub mod StreamStop
+pub mod Streams

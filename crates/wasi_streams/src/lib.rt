@@ -1,7 +1,9 @@
-//! What the streams of both generations share: their errors.
+//! What streams share: their errors, and what calls there are on them.
 #![tactic(auto)]
 
 pub mod error;
+pub mod stream;
 
 pub use error::StreamError;
+pub use stream::{InputStream, OutputStream, Pollable};
 pub use wasi_world::TrapKind;

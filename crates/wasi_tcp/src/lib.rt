@@ -10,6 +10,7 @@ mod job;
 pub mod laws;
 mod reader;
 mod socket;
+mod streams;
 mod writer;
 
 pub use bind::{BindOp, BindStage};
