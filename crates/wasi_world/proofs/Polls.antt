@@ -10,7 +10,7 @@ use Rattle.wasi_world.specs.declared.outcome.Refusal.{Refusal}
 use Rattle.wasi_world.specs.declared.outcome.Refusal.TheVariants as refusal
 use Rattle.wasi_world.specs.Seen.{Seen}
 use Rattle.wasi_world.specs.Asks.{Give, bind, Reaches, AsksFor, outcome}
-use Rattle.wasi_world.specs.Operation.{Given, Nothing, Item, Last, Who, Operation, Goes, Stays, Again, Ends, NothingLast, CloseLast, ShutdownLast, End, Waits, Done, Refused, front, polls, poll_asks, end_of, Ended, PollsFor}
+use Rattle.wasi_world.specs.Operation.{Given, Nothing, Item, Last, Who, Operation, Goes, Stays, Again, Ends, NothingLast, CloseLast, ShutdownLast, End, Waits, Done, Refused, front, polls, poll_asks, end_of, PollsFor}
 use Rattle.wasi_world.specs.Typed.{ask_close, ask_shutdown}
 use Rattle.wasi_world.proofs.Walks.{reaches_all, reaches_then, reaches_in, reaches_on}
 

@@ -1,6 +1,6 @@
 -- The words of a scenario's line.
 use Rattle.std.specs.Prelude.{◌&&◌, nat_le, IfSome}
-use Rattle.std.proofs.Common.{◌≡◌, ℕ, zero, suc, min, ◌+◌, ◌-◌, ◌^◌, ◌<◌, ◌≤◌, ◌==◌, length, take, drop, length-drop, Bool, true, false, cond, Ok, Err, ap, arith, List, [], ◌∷◌, ◌++◌, bytes_eq, Option, Some, None, Result, refl, sym, ◌∙◌}
+use Rattle.std.proofs.Common.{◌≡◌, ℕ, zero, suc, min, ◌+◌, ◌-◌, ◌^◌, ◌<◌, ◌≤◌, ◌==◌, length, take, drop, length-drop, true, false, Ok, Err, ap, arith, List, [], ◌∷◌, ◌++◌, bytes_eq, Option, Some, None, refl, sym, ◌∙◌}
 use Rattle.std.specs.List.{AllByRecursion, position}
 use Rattle.std.proofs.lemmas.List.{drop-drop, take_rest, length-take}
 use Rattle.std.proofs.lemmas.Bool.Decides.{nat_tests}

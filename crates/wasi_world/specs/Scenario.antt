@@ -1,5 +1,5 @@
 -- What a scenario plans: a line for each answer, with the word of its kind and the fields of the answer.
-use Rattle.std.specs.Prelude.{◌≡◌, ℕ, zero, suc, ◌+◌, ◌==◌, ◌&&◌, nat_le, Bool, true, false, if◌then◌else◌, List, [], ◌∷◌, ◌++◌, length, take, codes, Option, Some, None, option_map, Result, Ok, Err}
+use Rattle.std.specs.Prelude.{ℕ, zero, suc, ◌+◌, ◌==◌, ◌&&◌, nat_le, Bool, true, false, if◌then◌else◌, List, [], ◌∷◌, ◌++◌, length, take, codes, Option, Some, None, option_map, Result, Ok, Err}
 use Rattle.wasi_addr.specs.declared.address.IpAddress.{IpAddress}
 use Rattle.wasi_world.specs.declared.outcome.WasiSocketsCtx.{WasiSocketsCtx}
 use Rattle.wasi_world.specs.declared.scenario.ScenarioError.{ScenarioError}
@@ -8,44 +8,74 @@ use Rattle.wasi_world.specs.declared.plan.Kind.{Kind}
 use Rattle.wasi_world.specs.declared.plan.Kind.TheVariants as kind
 use Rattle.wasi_world.specs.declared.plan.Planned.{Planned}
 use Rattle.wasi_world.specs.declared.plan.Planned.TheVariants.{Pending, Done, Yes, No, Code, Addr, Arrived, Bytes, Took, Datagram, Value, Names}
-use Rattle.wasi_world.specs.Seen.{Plan, Seen}
-use Rattle.wasi_world.specs.Fields.{Reader, Row, row, after_word, read_then, ◌>>=◌, give, give_some, whole, fields_of, word_at, number_at, ip_at, address_at, code_at, bytes_at}
+use Rattle.wasi_world.specs.Seen.{Plan}
+use Rattle.wasi_world.specs.Fields.{Reader, Row, row, after_word, ◌>>=◌, give, give_some, named, whole, fields_of, word_at, number_at, ip_at, address_at, code_at, bytes_at}
 use Rattle.wasi_world.specs.Lines.{lines_of, rest_of}
 use Rattle.wasi_world.specs.Kinds.{takes}
 use Rattle.wasi_world.specs.Queued.{no_answers, with_answer}
 
--- the words of the kinds
-abbrev pub kinds : List (Row Kind)
+-- the word of a kind: its name, in lower case and with dashes
+abbrev pub kind_text : Kind → List ℕ
+kind_text kind.Check = codes "check"
+kind_text kind.Lookup = codes "lookup"
+kind_text kind.TcpCreate = codes "tcp-create"
+kind_text kind.UdpCreate = codes "udp-create"
+kind_text kind.UdpWritable = codes "udp-writable"
+kind_text kind.Local = codes "local"
+kind_text kind.Peer = codes "peer"
+kind_text kind.Bind = codes "bind"
+kind_text kind.Listen = codes "listen"
+kind_text kind.SetBacklog = codes "set-backlog"
+kind_text kind.UdpBind = codes "udp-bind"
+kind_text kind.UdpConnect = codes "udp-connect"
+kind_text kind.UdpDisconnect = codes "udp-disconnect"
+kind_text kind.SetOption = codes "set-option"
+kind_text kind.Connect = codes "connect"
+kind_text kind.Send = codes "send"
+kind_text kind.Accept = codes "accept"
+kind_text kind.Read = codes "read"
+kind_text kind.ReadReady = codes "read-ready"
+kind_text kind.Write = codes "write"
+kind_text kind.WriteReady = codes "write-ready"
+kind_text kind.Recv = codes "recv"
+kind_text kind.GetOption = codes "get-option"
+
+-- all kinds
+abbrev pub kinds : List Kind
 kinds =
-    row (codes "check") (give kind.Check)
-    ∷ row (codes "lookup") (give kind.Lookup)
-    ∷ row (codes "tcp-create") (give kind.TcpCreate)
-    ∷ row (codes "udp-create") (give kind.UdpCreate)
-    ∷ row (codes "udp-writable") (give kind.UdpWritable)
-    ∷ row (codes "local") (give kind.Local)
-    ∷ row (codes "peer") (give kind.Peer)
-    ∷ row (codes "bind") (give kind.Bind)
-    ∷ row (codes "listen") (give kind.Listen)
-    ∷ row (codes "set-backlog") (give kind.SetBacklog)
-    ∷ row (codes "udp-bind") (give kind.UdpBind)
-    ∷ row (codes "udp-connect") (give kind.UdpConnect)
-    ∷ row (codes "udp-disconnect") (give kind.UdpDisconnect)
-    ∷ row (codes "set-option") (give kind.SetOption)
-    ∷ row (codes "connect") (give kind.Connect)
-    ∷ row (codes "send") (give kind.Send)
-    ∷ row (codes "accept") (give kind.Accept)
-    ∷ row (codes "read") (give kind.Read)
-    ∷ row (codes "read-ready") (give kind.ReadReady)
-    ∷ row (codes "write") (give kind.Write)
-    ∷ row (codes "write-ready") (give kind.WriteReady)
-    ∷ row (codes "recv") (give kind.Recv)
-    ∷ row (codes "get-option") (give kind.GetOption)
+    kind.Check
+    ∷ kind.Lookup
+    ∷ kind.TcpCreate
+    ∷ kind.UdpCreate
+    ∷ kind.UdpWritable
+    ∷ kind.Local
+    ∷ kind.Peer
+    ∷ kind.Bind
+    ∷ kind.Listen
+    ∷ kind.SetBacklog
+    ∷ kind.UdpBind
+    ∷ kind.UdpConnect
+    ∷ kind.UdpDisconnect
+    ∷ kind.SetOption
+    ∷ kind.Connect
+    ∷ kind.Send
+    ∷ kind.Accept
+    ∷ kind.Read
+    ∷ kind.ReadReady
+    ∷ kind.Write
+    ∷ kind.WriteReady
+    ∷ kind.Recv
+    ∷ kind.GetOption
     ∷ []
+
+-- the kind whose word this is
+unfoldable pub kind_in : List ℕ → Option Kind
+kind_in word = named kind_text kinds word
 
 unfoldable pub kind_at : Reader Kind
 kind_at = do
   word ← word_at
-  after_word kinds word
+  give_some (kind_in word)
 
 -- values up to the end of the line, at most so many
 abbrev pub up_to : {A : Type 0} → Reader A → ℕ → Reader (List A)

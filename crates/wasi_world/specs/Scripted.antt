@@ -1,5 +1,5 @@
 -- What is known of a scripted world: all of it.
-use Rattle.std.specs.Prelude.{ℕ, List, [], Some, false, Result, Ok, Err}
+use Rattle.std.specs.Prelude.{ℕ, [], Some, false, Result, Ok, Err}
 use Rattle.wasi_world.specs.declared.scripted.ScriptedWorld.{ScriptedWorld}
 use Rattle.wasi_world.specs.Seen.{Plan, Seen}
 

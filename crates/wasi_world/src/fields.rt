@@ -1,8 +1,5 @@
 //! The fields of a line, which scripts and scenarios share.
 
-#[cfg(test)]
-mod tests;
-
 ghost use Rattle.std.specs.Prelude.{IsUtf8, ◌≢◌, OnOk, string_bytes, ◌++◌, ◌<◌, ◌^◌, option_copied, IfOk, ◌≡◌, ◌≤◌, ℕ, List, ◌∷◌, [], decimal, Some, IsTrue, ◌↔◌, IfSome, IfNone, position};
 ghost use Rattle.std.specs.List.{list_all};
 ghost use Rattle.hex.specs.Hex.{encode_lower};

@@ -19,8 +19,6 @@ pub mod scenario;
 pub mod scripted;
 mod sides;
 pub mod standard;
-#[cfg(test)]
-mod tests;
 pub mod world;
 
 pub use call::{Call, Entry, HandleKind, Opt, Told};

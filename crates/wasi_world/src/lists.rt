@@ -3,6 +3,7 @@
 ghost use Rattle.std.specs.Prelude.{◌≡◌, ◌<◌, IfOk, OnOk, OnErr, [], ◌∷◌, ◌++◌, Some, None, true, length, slice_get, option_map, IfSome};
 ghost use Rattle.wasi_world.specs.Asks.{IsFront};
 ghost use Rattle.wasi_world.specs.Fits.{Fits};
+ghost use Rattle.wasi_world.specs.declared.lists.TheConstants.{KINDS};
 ghost use Rattle.wasi_world.specs.Kinds.{place, kind_of, takes};
 ghost use Rattle.wasi_world.specs.Queued.{no_answers, with_answer};
 ghost use Rattle.wasi_world.specs.Script.{Offers, offered, given, as_planned, waiting, plan_after};
@@ -19,7 +20,7 @@ const KINDS: usize = 23;
 /// The place of a kind's list.
 fn place(kind: Kind) -> usize
     ensures place { result ≡ place kind }
-    ensures within { result < 23 }
+    ensures within { result < KINDS }
 {
     kind as usize
 }
@@ -104,7 +105,12 @@ impl Lists {
 
     /// What the next of its answers tells a call; none where all are used, or the call takes none. `bytes` are those
     /// that a write offers. Takes memory for bytes and names.
-    pub fn tell(&self, alloc: Global, call: &Call, bytes: &[u8]) -> Result<Option<Told>, AllocError>
+    pub(crate) fn tell(
+        &self,
+        alloc: Global,
+        call: &Call,
+        bytes: &[u8],
+    ) -> Result<Option<Told>, AllocError>
         requires some { Offers call.now }
         requires offered { length bytes.now ≡ offered call.now }
         ensures told { IfOk result (λ told. option_map as_planned told ≡ option_map (given call.now) (slice_get (waiting self.now.left (kind_of call.now)) 0)) }
@@ -118,7 +124,7 @@ impl Lists {
     }
 
     /// Goes on to what is left after a call; takes no memory.
-    pub fn advance(&mut self, call: &Call)
+    pub(crate) fn advance(&mut self, call: &Call)
         ensures { self.new ≡ record { all = self.old.all; left = plan_after self.old.left call.now } }
     {
         if let Some(kind) = kind_of(call) {

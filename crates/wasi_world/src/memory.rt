@@ -1,8 +1,5 @@
 //! A source and a sink in memory.
 
-#[cfg(test)]
-mod tests;
-
 ghost use Rattle.std.specs.Prelude.{◌≡◌, ◌≤◌, ◌+◌, ◌++◌, [], false, length, min, take, drop, IfOk, OnOk, OnErr, IsErr, IsTrue, ◌↔◌};
 ghost use Rattle.wasi_world.specs.Io.{HasRead, HasWritten, HasFlushed};
 ghost use Rattle.wasi_world.specs.Memory.{reading_of, writing_of, one_more, IsFailing, ended_after, refused_after, after_read, after_failed_read, after_write, after_failed_write, after_flush, after_failed_flush};

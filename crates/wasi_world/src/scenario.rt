@@ -3,7 +3,7 @@
 ghost use Rattle.std.specs.Prelude.{◌≡◌, ◌==◌, ◌≤◌, ◌<◌, ◌+◌, ◌^◌, ℕ, IfOk, OnOk, [], ◌∷◌, Some, None, true, IfErr, IfSome, Ok, Err, length, take, drop, position};
 ghost use Rattle.wasi_world.specs.Fields.{Reads, after_word};
 ghost use Rattle.wasi_world.specs.Kinds.{takes};
-ghost use Rattle.wasi_world.specs.Scenario.{kind_at, names_at, short_answers, answer_at, may_plan, planned_in, with_line, plan_within, plan_of, bad_line, free_context};
+ghost use Rattle.wasi_world.specs.Scenario.{kind_text, kind_in, kind_at, names_at, short_answers, answer_at, may_plan, planned_in, with_line, plan_within, plan_of, bad_line, free_context};
 
 use crate::fields::Fields;
 use crate::lists::Lists;
@@ -39,37 +39,80 @@ impl From<AllocError> for ScenarioError {
     }
 }
 
+const KINDS: [Kind; 23] = [
+    Kind::Check,
+    Kind::Lookup,
+    Kind::TcpCreate,
+    Kind::UdpCreate,
+    Kind::UdpWritable,
+    Kind::Local,
+    Kind::Peer,
+    Kind::Bind,
+    Kind::Listen,
+    Kind::SetBacklog,
+    Kind::UdpBind,
+    Kind::UdpConnect,
+    Kind::UdpDisconnect,
+    Kind::SetOption,
+    Kind::Connect,
+    Kind::Send,
+    Kind::Accept,
+    Kind::Read,
+    Kind::ReadReady,
+    Kind::Write,
+    Kind::WriteReady,
+    Kind::Recv,
+    Kind::GetOption,
+];
+
+/// The word of a kind: its name, in lower case and with dashes.
+fn kind_text(kind: Kind) -> &'static str
+    ensures { result.now ≡ kind_text kind }
+{
+    match kind {
+        Kind::Check => "check",
+        Kind::Lookup => "lookup",
+        Kind::TcpCreate => "tcp-create",
+        Kind::UdpCreate => "udp-create",
+        Kind::UdpWritable => "udp-writable",
+        Kind::Local => "local",
+        Kind::Peer => "peer",
+        Kind::Bind => "bind",
+        Kind::Listen => "listen",
+        Kind::SetBacklog => "set-backlog",
+        Kind::UdpBind => "udp-bind",
+        Kind::UdpConnect => "udp-connect",
+        Kind::UdpDisconnect => "udp-disconnect",
+        Kind::SetOption => "set-option",
+        Kind::Connect => "connect",
+        Kind::Send => "send",
+        Kind::Accept => "accept",
+        Kind::Read => "read",
+        Kind::ReadReady => "read-ready",
+        Kind::Write => "write",
+        Kind::WriteReady => "write-ready",
+        Kind::Recv => "recv",
+        Kind::GetOption => "get-option",
+    }
+}
+
+/// The kind whose word this is.
+#[tactic(auto, unfolding(crate::specs::Scenario::kind_in))]
+fn kind_word(word: &[u8]) -> Option<Kind>
+    ensures { result ≡ kind_in word.now }
+{
+    KINDS
+        .iter()
+        .copied()
+        .find(|kind| kind_text(*kind).as_bytes() == word)
+}
+
 /// Takes the word of a kind.
-#[tactic(auto, unfolding(crate::specs::Scenario::kind_at, crate::specs::Fields::read_then, crate::specs::Fields::give))]
+#[tactic(auto, unfolding(crate::specs::Scenario::kind_at, crate::specs::Fields::read_then, crate::specs::Fields::give_some))]
 fn kind(fields: &mut Fields<'_>) -> Option<Kind>
     ensures { Reads kind_at fields.old result fields.new }
 {
-    match fields.word()? {
-        "check" => Some(Kind::Check),
-        "lookup" => Some(Kind::Lookup),
-        "tcp-create" => Some(Kind::TcpCreate),
-        "udp-create" => Some(Kind::UdpCreate),
-        "udp-writable" => Some(Kind::UdpWritable),
-        "local" => Some(Kind::Local),
-        "peer" => Some(Kind::Peer),
-        "bind" => Some(Kind::Bind),
-        "listen" => Some(Kind::Listen),
-        "set-backlog" => Some(Kind::SetBacklog),
-        "udp-bind" => Some(Kind::UdpBind),
-        "udp-connect" => Some(Kind::UdpConnect),
-        "udp-disconnect" => Some(Kind::UdpDisconnect),
-        "set-option" => Some(Kind::SetOption),
-        "connect" => Some(Kind::Connect),
-        "send" => Some(Kind::Send),
-        "accept" => Some(Kind::Accept),
-        "read" => Some(Kind::Read),
-        "read-ready" => Some(Kind::ReadReady),
-        "write" => Some(Kind::Write),
-        "write-ready" => Some(Kind::WriteReady),
-        "recv" => Some(Kind::Recv),
-        "get-option" => Some(Kind::GetOption),
-        _ => None,
-    }
+    kind_word(fields.word()?.as_bytes())
 }
 
 /// Takes what follows the word of a short answer.
@@ -188,8 +231,8 @@ fn plan_line(
     Ok(())
 }
 
-/// Where the first newline stands.
-fn newline_at(bytes: &[u8]) -> Option<usize>
+/// Where the first newline stands; none where there is none.
+pub fn newline_at(bytes: &[u8]) -> Option<usize>
     ensures { result ≡ position (λ b. b == 10) bytes.now }
 {
     bytes.iter().position(|b| *b == b'\n')

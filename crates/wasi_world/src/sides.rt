@@ -14,7 +14,7 @@ use wasi_addr::{
 };
 
 /// The value of each option of a side.
-#[derive(Clone, Copy, Debug, PartialEq, Eq)]
+#[derive(Clone, Copy)]
 pub struct Options {
     keep_alive_enabled: u64,
     keep_alive_idle_time: u64,
@@ -70,7 +70,7 @@ impl Options {
 }
 
 /// A side: the family and the address that `local` and the wildcard go by, its peer, and its options.
-#[derive(Clone, Copy, Debug, PartialEq, Eq)]
+#[derive(Clone, Copy)]
 pub struct Side {
     pub family: SocketAddressFamily,
     pub local: Option<IpSocketAddress>,

@@ -1,8 +1,5 @@
 //! The standard input as a source, and the standard output as a sink.
 
-#[cfg(test)]
-mod tests;
-
 ghost use Rattle.std.specs.Prelude.{◌≡◌, false, None};
 ghost use Rattle.wasi_world.specs.Io.{Reading, Writing};
 

@@ -1,4 +1,6 @@
-use super::*;
+//! The standard streams.
+
+use wasi_world::{Sink, Source, StdSink, StdSource};
 
 // Tests run with an empty input.
 #[test]

@@ -1,7 +1,8 @@
-use super::*;
-use crate::standard::{StdSink, StdSource};
+//! Sources and sinks over memory.
+
 use std::process::Abort;
 use std::test::Fail;
+use wasi_world::{Failed, MemorySink, MemorySource, Sink, Source, StdSink, StdSource};
 
 type Answers = &'static [Result<usize, Failed>];
 

@@ -1,0 +1,18 @@
+//! The scripted world, the fields of lines, and the sources and sinks, beside their worked answers. These tests stand in
+//! a crate of their own, since a crate with tests is proved twice.
+#![tactic(auto)]
+
+#[cfg(test)]
+mod calls;
+#[cfg(test)]
+mod fields;
+#[cfg(test)]
+mod memory;
+#[cfg(test)]
+mod scenarios;
+#[cfg(test)]
+mod sides;
+#[cfg(test)]
+mod standard;
+#[cfg(test)]
+mod texts;
