@@ -1,6 +1,6 @@
 //! Does the lines of a script, and writes their replies.
 
-ghost use Rattle.std.specs.Prelude.{◌≡◌, ◌==◌, ◌∷◌, ◌+◌, ◌<◌, ◌≤◌, ◌^◌, [], Ok, OnOk, OnErr, length, take, drop, position, false};
+ghost use Rattle.std.specs.Prelude.{◌≡◌, ◌∷◌, ◌+◌, ◌<◌, ◌≤◌, ◌^◌, [], Ok, OnOk, OnErr, length, take, drop, false};
 ghost use Rattle.wasi_world.specs.Lines.{lines_of, lines_from};
 ghost use Rattle.wasi_run.specs.Lines.{LeftAt, KeptOf};
 ghost use Rattle.wasi_run.specs.Written.{TookAll, TookFront};
@@ -11,6 +11,7 @@ use crate::reply::reply_text;
 use crate::run::RunError;
 use crate::session::Session;
 use std::alloc::Global;
+use wasi_world::scenario::newline_at;
 use wasi_world::{Failed, Sink, WasiSocketsCtx, World};
 
 /// How lines ended that were done.
@@ -64,13 +65,6 @@ fn do_line<W: World, K: Sink>(
         return Ok(LinesEnd::Trapped);
     }
     Ok(LinesEnd::AllDone)
-}
-
-/// Where the first newline stands.
-pub fn newline_at(bytes: &[u8]) -> Option<usize>
-    ensures { result ≡ position (λ b. b == 10) bytes.now }
-{
-    bytes.iter().position(|b| *b == b'\n')
 }
 
 /// Does the whole lines from a place in the bytes on, and moves the place behind them.
