@@ -44,7 +44,7 @@ use Rattle.wasi_run.specs.declared.step.Step.TheVariants as step
 use Rattle.wasi_run.specs.declared.table.Kind.TheVariants as kind
 use Rattle.wasi_run.specs.Reply.{word_of_p2}
 use Rattle.wasi_run.specs.Table.{kind_at, with_handle}
-use Rattle.wasi_run.specs.Store.{with_inner, with_socket, left_of, is_nothing, is_bind, is_connect, idle}
+use Rattle.wasi_run.specs.Store.{with_inner, with_reader, with_socket, left_of, is_nothing, is_bind, is_connect, idle}
 use Rattle.wasi_run.specs.Machine.{socket_at, is_network, input_at, output_at, machine_asks}
 use Rattle.wasi_run.specs.Licence.{Has, entry}
 
@@ -325,6 +325,10 @@ pub record ReadFails (own : OpId) (len : ℕ) (reader : ReadState) (c : ErrorCod
   pub is_open : reader ≡ reading.Open half
   pub asked : entries ≡ read_entry own len half (told.Code c) ∷ shut_entry own half ∷ []
 
+-- the machine, where the reader is closed
+abbrev pub closing_reader : Machine → ℕ → Tcp2Socket → Streams → Machine
+closing_reader m place r s = putting m place (with_reader r s reading.Closed)
+
 -- A call on a stream failed with a code, because of these entries; after them comes the mark of the error's handle, whose
 -- parent is the stream.
 pub record FailsWith (m : Machine) (own : OpId) (stream : ℕ) (Cause : ErrorCode → List Entry → Type 0) (entries : List Entry) (word : CodeWord) (handle : ℕ) : Type 0 where
@@ -362,6 +366,10 @@ IsUnpermitted (writing.Ready half permit) n = permit < n
 IsUnpermitted (writing.Writing job) n = ⊤
 IsUnpermitted (writing.Closing job) n = ⊤
 IsUnpermitted (writing.Closed e) n = ⊥
+
+-- the writer is closed, and not because of a code
+abbrev pub IsGivenUp : WriteState → Type 0
+IsGivenUp writer = writer ≡ writing.Closed error.Closed
 
 -- the writer is closed with the code, and nothing was asked
 abbrev pub WasClosedWith : WriteState → ErrorCode → List Entry → Type 0
