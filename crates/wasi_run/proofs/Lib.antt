@@ -43,6 +43,9 @@ pub mod QuietCauses
 pub mod StreamCauses
 pub mod ReadCauses
 pub mod WriteCauses
+pub mod StreamSteps
+pub mod ReadLaws
+pub mod WriteLaws
 pub mod CreateCauses
 pub mod BindCauses
 pub mod ConnectCauses

@@ -1,17 +1,15 @@
 -- Which steps trap and which stand, and why.
 use Rattle.std.specs.Prelude.{⊤, ◌⊎◌, IsSomeAnd}
-use Rattle.std.proofs.Common.{◌≡◌, ◌≢◌, ℕ, ◌+◌, inl, inr, Bool, true, false, List, [], length, Option, Some, None, Result, Ok, Err, slice_get, refl, sym, ap, subst, ◌∙◌, arith}
+use Rattle.std.proofs.Common.{◌≡◌, ◌≢◌, ℕ, ◌+◌, inl, inr, Bool, true, false, List, [], length, Option, Some, None, Result, Ok, Err, slice_get, refl, ap, arith}
 use Rattle.wasi_addr.specs.declared.address.IpSocketAddress.{IpSocketAddress}
 use Rattle.wasi_addr.specs.declared.address.SocketAddressFamily.{SocketAddressFamily}
 use Rattle.wasi_world.specs.declared.call.Entry.{Entry}
 use Rattle.wasi_world.specs.declared.outcome.TrapKind.{TrapKind}
 use Rattle.wasi_world.specs.declared.outcome.TrapKind.TheVariants.{NoSuchHandle, Full, NotPermitted}
 use Rattle.wasi_world.specs.declared.outcome.WasiSocketsCtx.{WasiSocketsCtx}
-use Rattle.wasi_world.specs.Asks.{Asks, Give, bind}
+use Rattle.wasi_world.specs.Asks.{Give}
 use Rattle.wasi_streams.specs.StreamStop.{StreamStop}
 use Rattle.wasi_streams.specs.StreamStop as stop
-use Rattle.wasi_tcp.specs.Reader.{read_state_asks}
-use Rattle.wasi_tcp.specs.Writer.{check_write_asks, write_state_asks}
 use Rattle.wasi_run.specs.declared.machine.Machine.{Machine}
 use Rattle.wasi_run.specs.declared.reply.CodeWord.{CodeWord}
 use Rattle.wasi_run.specs.declared.reply.Reply.{Reply}
@@ -22,11 +20,11 @@ use Rattle.wasi_run.specs.declared.step.Step.{Step}
 use Rattle.wasi_run.specs.declared.step.Step.TheVariants as step
 use Rattle.wasi_run.specs.Host.{CallStop}
 use Rattle.wasi_run.specs.Table.{Shown, is_full}
-use Rattle.wasi_run.specs.Store.{with_reader, with_writer, reader_asks, writer_asks, flush_asks, is_bind, finish_bind_by, finish_bind_at}
-use Rattle.wasi_run.specs.Machine.{socket_at, input_at, output_at, finish_bind_on, stream_on, done_reply, call_stop_reply, bytes_reply, permit_reply, taken_reply, own_of, context_at, step_asks}
+use Rattle.wasi_run.specs.Store.{with_reader, with_writer, is_bind, finish_bind_by, finish_bind_at}
+use Rattle.wasi_run.specs.Machine.{socket_at, input_at, output_at, finish_bind_on, done_reply, call_stop_reply, bytes_reply, permit_reply, taken_reply, own_of, context_at, step_asks}
 use Rattle.wasi_run.specs.Licence.{marks_in}
-use Rattle.wasi_run.specs.Answered.{Answered, record_in, record_at, streams_in, OfStreams, MissesHandle, MakesHandle, IsStartBind, IsWrite, EndsPending}
-use Rattle.wasi_run.proofs.StepCauses.{Gives, gives_then, gives_more, settled}
+use Rattle.wasi_run.specs.Answered.{Answered, record_in, record_at, streams_in, MissesHandle, MakesHandle, IsStartBind, IsWrite, EndsPending}
+use Rattle.wasi_run.proofs.StepCauses.{Gives, gives_more, settled}
 use Rattle.wasi_run.proofs.RecordCauses.{RecordSays}
 use Rattle.wasi_run.proofs.CreateCauses.{NetworkSays, network_says, CreateSays, create_says}
 use Rattle.wasi_run.proofs.BindCauses.{BindSays, bind_says}
@@ -34,9 +32,10 @@ use Rattle.wasi_run.proofs.ConnectCauses.{ConnectSays, connect_says}
 use Rattle.wasi_run.proofs.FinishCauses.{FinishSays, finish_says}
 use Rattle.wasi_run.proofs.AddressCauses.{LocalSays, local_says, RemoteSays, remote_says}
 use Rattle.wasi_run.proofs.QuietCauses.{QuietReply, QuietSays, listening_says, family_says}
-use Rattle.wasi_run.proofs.StreamCauses.{IsSound, StreamAnswer, NotThere, ItGives, ItFails, FindsFull, ItIsClosed, ItTraps, StreamGives, on_gives, reader_called, writer_called}
-use Rattle.wasi_run.proofs.ReadCauses.{ReadGives, read_gives, read_is_sound}
-use Rattle.wasi_run.proofs.WriteCauses.{CheckGives, check_gives, check_is_sound, WriteGives, write_gives, write_is_sound, FlushGives, flush_gives, flush_is_sound}
+use Rattle.wasi_run.proofs.StreamCauses.{IsSound, StreamAnswer, NotThere, ItFails, FindsFull, ItIsClosed, ItTraps}
+use Rattle.wasi_run.proofs.ReadCauses.{ReadGives, read_is_sound}
+use Rattle.wasi_run.proofs.WriteCauses.{CheckGives, check_is_sound, WriteGives, write_is_sound, FlushGives, flush_is_sound}
+use Rattle.wasi_run.proofs.StreamSteps.{answered_by, ReadAnswer, read_answers, CheckAnswer, check_answers, WriteAnswer, write_answers, FlushAnswer, flush_answers}
 
 module _ (contexts : List WasiSocketsCtx) (m : Machine) (line : ℕ) where
   -- the table is full, after the handles that the entries mark
@@ -130,13 +129,21 @@ module _ (contexts : List WasiSocketsCtx) (m : Machine) (line : ℕ) where
       of_stop _ _ _ (ItIsClosed es now on) = tt
       of_stop _ _ _ (ItTraps es kind now on) = of_trap es kind _ T S now (sound (of on.streams) es (Err (stop.Trap kind), now) on.holds)
 
-      of_stream : (says : Result T CallStop → Reply) → ((value : T) (es : List Entry) (after : Machine) → Says s es (says (Ok value), after)) → ((stop : CallStop) → says (Err stop) ≡ call_stop_reply stop)
-          → (asks : Asks (Result T CallStop × Machine)) → Gives (StreamGives of put R m (own_of line) handle named) [] asks → Gives (Says s) [] (bind asks (λ done. Give (says done.0, done.1)))
-      of_stream says value err asks h = gives_then (StreamGives of put R m (own_of line) handle named) (Says s) [] asks _ h (λ es done k. by_result es done.0 done.1 k)
-        where
-          by_result : (es : List Entry) (res : Result T CallStop) (after : Machine) → StreamAnswer of put R m (own_of line) handle named es res after → Says s es (says res, after)
-          by_result es (Ok v) after k = value v es after
-          by_result es (Err stop) after k = rw (err stop) (of_stop es stop after k)
+  of_read : (ctx input len : ℕ) (es : List Entry) (res : Result (List ℕ) CallStop) (after : Machine) → ReadAnswer m line input len es res after → Says (step.Read ctx input len) es (bytes_reply res, after)
+  of_read ctx input len es (Ok bytes) after k = tt
+  of_read ctx input len es (Err stop) after k = of_stop (step.Read ctx input len) input (input_at m input) (λ none. none) tt (λ s. s.reader) with_reader (ReadGives (own_of line) len) (read_is_sound (own_of line) len) es stop after k
+
+  of_check : (ctx output : ℕ) (es : List Entry) (res : Result ℕ CallStop) (after : Machine) → CheckAnswer m line output es res after → Says (step.CheckWrite ctx output) es (permit_reply res, after)
+  of_check ctx output es (Ok n) after k = tt
+  of_check ctx output es (Err stop) after k = of_stop (step.CheckWrite ctx output) output (output_at m output) (λ none. none) tt (λ s. s.writer) with_writer (CheckGives (own_of line)) (check_is_sound (own_of line)) es stop after k
+
+  of_write : (ctx output : ℕ) (bytes : List ℕ) (es : List Entry) (res : Result (Unit {0}) CallStop) (after : Machine) → WriteAnswer m line output bytes es res after → Says (step.Write ctx output bytes) es (taken_reply res, after)
+  of_write ctx output bytes es (Ok done) after k = tt
+  of_write ctx output bytes es (Err stop) after k = of_stop (step.Write ctx output bytes) output (output_at m output) (λ none. none) tt (λ s. s.writer) with_writer (WriteGives (length bytes)) (write_is_sound (length bytes)) es stop after k
+
+  of_flush : (ctx output : ℕ) (es : List Entry) (res : Result (Unit {0}) CallStop) (after : Machine) → FlushAnswer m line output es res after → Says (step.Flush ctx output) es (taken_reply res, after)
+  of_flush ctx output es (Ok done) after k = tt
+  of_flush ctx output es (Err stop) after k = of_stop (step.Flush ctx output) output (output_at m output) (λ none. none) tt (λ s. s.writer) with_writer FlushGives flush_is_sound es stop after k
 
   says : (s : Step) → Gives (Says s) [] (step_asks contexts m line s)
   says (step.Network ctx) = gives_more (NetworkSays m line) _ (of_network ctx) [] _ (network_says m line)
@@ -149,18 +156,10 @@ module _ (contexts : List WasiSocketsCtx) (m : Machine) (line : ℕ) where
   says (step.TcpRemoteAddress ctx handle) = gives_more (RemoteSays m line handle) _ (of_record (step.TcpRemoteAddress ctx handle) handle _ (λ none. none)) [] _ (remote_says m line handle)
   says (step.TcpIsListening ctx handle) = of_quiet (step.TcpIsListening ctx handle) handle (λ none. none) _ (listening_says m handle)
   says (step.TcpAddressFamily ctx handle) = of_quiet (step.TcpAddressFamily ctx handle) handle (λ none. none) _ (family_says m handle)
-  says (step.Read ctx input len) =
-      of_stream (step.Read ctx input len) input (input_at m input) (λ none. none) tt (λ s. s.reader) with_reader (ReadGives (own_of line) len) (read_is_sound (own_of line) len) bytes_reply (λ v es after. tt) (λ stop. refl) _
-      (on_gives (λ s. s.reader) with_reader (ReadGives (own_of line) len) m (own_of line) input (input_at m input) (reader_asks (λ r. read_state_asks (own_of line) r len)) (reader_called (ReadGives (own_of line) len) _ (read_gives (own_of line) len)) (input_at m input) refl)
-  says (step.CheckWrite ctx output) =
-      of_stream (step.CheckWrite ctx output) output (output_at m output) (λ none. none) tt (λ s. s.writer) with_writer (CheckGives (own_of line)) (check_is_sound (own_of line)) permit_reply (λ v es after. tt) (λ stop. refl) _
-      (on_gives (λ s. s.writer) with_writer (CheckGives (own_of line)) m (own_of line) output (output_at m output) (writer_asks (check_write_asks (own_of line))) (writer_called (CheckGives (own_of line)) _ (check_gives (own_of line))) (output_at m output) refl)
-  says (step.Write ctx output bytes) =
-      of_stream (step.Write ctx output bytes) output (output_at m output) (λ none. none) tt (λ s. s.writer) with_writer (WriteGives (length bytes)) (write_is_sound (length bytes)) taken_reply (λ v es after. tt) (λ stop. refl) _
-      (on_gives (λ s. s.writer) with_writer (WriteGives (length bytes)) m (own_of line) output (output_at m output) (writer_asks (λ w. write_state_asks (own_of line) w bytes)) (writer_called (WriteGives (length bytes)) _ (write_gives (own_of line) bytes)) (output_at m output) refl)
-  says (step.Flush ctx output) =
-      of_stream (step.Flush ctx output) output (output_at m output) (λ none. none) tt (λ s. s.writer) with_writer FlushGives flush_is_sound taken_reply (λ v es after. tt) (λ stop. refl) _
-      (on_gives (λ s. s.writer) with_writer FlushGives m (own_of line) output (output_at m output) (writer_asks flush_asks) (writer_called FlushGives _ flush_gives) (output_at m output) refl)
+  says (step.Read ctx input len) = answered_by (λ es done. ReadAnswer m line input len es done.0 done.1) _ bytes_reply (of_read ctx input len) _ (read_answers m line input len)
+  says (step.CheckWrite ctx output) = answered_by (λ es done. CheckAnswer m line output es done.0 done.1) _ permit_reply (of_check ctx output) _ (check_answers m line output)
+  says (step.Write ctx output bytes) = answered_by (λ es done. WriteAnswer m line output bytes es done.0 done.1) _ taken_reply (of_write ctx output bytes) _ (write_answers m line output bytes)
+  says (step.Flush ctx output) = answered_by (λ es done. FlushAnswer m line output es done.0 done.1) _ taken_reply (of_flush ctx output) _ (flush_answers m line output)
 
   of_step : (s : Step) (entries : List Entry) (r : Reply) (after : Machine) → Answered contexts m line s entries r after → r ≢ reply.Busy → Says s entries (r, after)
   of_step s entries r after w n = settled contexts m line (Says s) s m.store.standing entries (r, after) (says s) w n

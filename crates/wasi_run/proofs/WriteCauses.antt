@@ -1,6 +1,6 @@
 -- What a writer gives, and where it comes from.
 use Rattle.std.specs.Prelude.{⊤}
-use Rattle.std.proofs.Common.{◌≡◌, ℕ, ◌<◌, nat_lt, Bool, true, false, if◌then◌else◌, List, [], ◌∷◌, ◌++◌, length, Option, Result, Ok, Err, refl, sym, arith}
+use Rattle.std.proofs.Common.{◌≡◌, ℕ, ◌<◌, nat_lt, Bool, true, false, if◌then◌else◌, List, [], ◌∷◌, ◌++◌, length, Option, Result, Ok, Err, refl, ap, arith}
 use Rattle.std.proofs.lemmas.Bool.{ltb-true, ltb-false}
 use Rattle.wasi_addr.specs.declared.code.ErrorCode.{ErrorCode}
 use Rattle.wasi_world.specs.declared.ids.OpId.{OpId}
@@ -11,7 +11,7 @@ use Rattle.wasi_world.specs.declared.call.Told.TheVariants as told
 use Rattle.wasi_world.specs.declared.outcome.Answer.TheVariants.{Ready, Pending}
 use Rattle.wasi_world.specs.declared.outcome.TrapKind.{TrapKind}
 use Rattle.wasi_world.specs.declared.outcome.TrapKind.TheVariants.{NotPermitted}
-use Rattle.wasi_world.specs.Fits.{IsReady}
+use Rattle.wasi_world.specs.Fits.{IsReady as FitsReady}
 use Rattle.wasi_world.specs.Asks.{Give, bind}
 use Rattle.wasi_world.specs.Operation.{Item, End, Waits, Done, Refused, poll_asks}
 use Rattle.wasi_world.specs.Typed.{told_ready}
@@ -25,7 +25,7 @@ use Rattle.wasi_tcp.specs.Job.{Job, new_job, job_after, job_asks}
 use Rattle.wasi_tcp.specs.Writer.{error_of_code, stop_of, collected, look_in, look_asks, permitted, check_write_asks, turn_asks, begun, write_on_asks, write_half_asks, write_state_asks, flush_of}
 use Rattle.wasi_run.specs.Licence.{entry, marks_in}
 use Rattle.wasi_run.specs.Store.{flush_asks}
-use Rattle.wasi_run.specs.Answered.{IsUnfinished, IsUnpermitted}
+use Rattle.wasi_run.specs.Answered.{Permits, GoesOn, NotReady, IsReady, IsUnpermitted}
 use Rattle.wasi_run.proofs.Lists.{marks_in-push}
 use Rattle.wasi_run.proofs.StepCauses.{Gives, gives_then}
 use Rattle.wasi_run.proofs.PollMarks.{poll_marks_none}
@@ -33,37 +33,36 @@ use Rattle.wasi_run.proofs.StreamCauses.{IsSound}
 
 module _ (own : OpId) where
   -- == a look at what may be written
-  pub data CheckGives (writer : WriteState) : List Entry → Result ℕ StreamStop × WriteState → Type 0 where
-    Permits : (half : TcpSendStream) (permit : ℕ) → collected writer ≡ writing.Ready half permit → CheckGives writer (entry own (call.WriteReady half.side) told.Done ∷ []) (Ok 65536, writing.Ready half 65536)
-    ToldToWait : (half : TcpSendStream) (permit : ℕ) → collected writer ≡ writing.Ready half permit → CheckGives writer (entry own (call.WriteReady half.side) told.Pending ∷ []) (Ok 0, writing.Ready half permit)
-    Unfinished : (now : WriteState) → collected writer ≡ now → IsUnfinished now → CheckGives writer [] (Ok 0, now)
-    WasClosed : (e : WriteError) → collected writer ≡ writing.Closed e → CheckGives writer [] (Err (stop_of e), writing.Closed e)
+  abbrev pub CheckGives : WriteState → List Entry → Result ℕ StreamStop × WriteState → Type 0
+  CheckGives writer es (Ok n, now) = Permits own writer n es
+  CheckGives writer es (Err (Trap kind), now) = ⊥
+  CheckGives writer es (Err stop, now) = es ≡ []
 
-  told_check : (writer : WriteState) (half : TcpSendStream) (permit : ℕ) (t : Told) → collected writer ≡ writing.Ready half permit → IsReady t → CheckGives writer (entry own (call.WriteReady half.side) t ∷ []) (permitted (Ok (told_ready t), writing.Ready half permit))
-  told_check writer half permit told.Done e fits = Permits half permit e
-  told_check writer half permit told.Pending e fits = ToldToWait half permit e
+  told_check : (writer : WriteState) (half : TcpSendStream) (permit : ℕ) (t : Told) → collected writer ≡ writing.Ready half permit → FitsReady t → CheckGives writer (entry own (call.WriteReady half.side) t ∷ []) (permitted (Ok (told_ready t), writing.Ready half permit))
+  told_check writer half permit told.Done e fits = IsReady half permit e
+  told_check writer half permit told.Pending e fits = NotReady half permit e
   told_check writer half permit _ e fits = absurd fits
+
+  told_kept : (writer : WriteState) (kept : WriteError) (now : WriteState) → CheckGives writer [] (Err (stop_of kept), now)
+  told_kept writer error.Closed now = refl
+  told_kept writer (error.LastOperationFailed c) now = refl
 
   check_looks : (writer now : WriteState) → collected writer ≡ now → Gives (CheckGives writer) [] (bind (look_in own now) (λ looked. Give (permitted looked)))
   unfolding bind
   check_looks writer (writing.Ready half permit) e = (tt, λ t fits. told_check writer half permit t e fits)
-  check_looks writer (writing.Writing job) e = Unfinished (writing.Writing job) e tt
-  check_looks writer (writing.Closing job) e = Unfinished (writing.Closing job) e tt
-  check_looks writer (writing.Closed kept) e = WasClosed kept e
+  check_looks writer (writing.Writing job) e = GoesOn (rw e tt)
+  check_looks writer (writing.Closing job) e = GoesOn (rw e tt)
+  check_looks writer (writing.Closed kept) e = told_kept writer kept (writing.Closed kept)
 
   pub check_gives : (writer : WriteState) → Gives (CheckGives writer) [] (check_write_asks own writer)
   check_gives writer = check_looks writer (collected writer) refl
 
-  kept_is_sound : (e : WriteError) → IsSound {T = ℕ} {S = WriteState} ⊥ [] (Err (stop_of e), writing.Closed e)
-  kept_is_sound error.Closed = tt
-  kept_is_sound (error.LastOperationFailed c) = refl
-
   -- it marks no handle, and doesn't trap
   pub check_is_sound : (writer : WriteState) (es : List Entry) (done : Result ℕ StreamStop × WriteState) → CheckGives writer es done → IsSound ⊥ es done
-  check_is_sound writer _ _ (Permits half permit e) = tt
-  check_is_sound writer _ _ (ToldToWait half permit e) = tt
-  check_is_sound writer _ _ (Unfinished now e is) = tt
-  check_is_sound writer _ _ (WasClosed e is) = kept_is_sound e
+  check_is_sound writer es (Ok n, now) h = tt
+  check_is_sound writer es (Err (Failed c), now) h = ap marks_in h
+  check_is_sound writer es (Err Closed, now) h = tt
+  check_is_sound writer es (Err (Trap kind), now) h = absurd h
 
 -- == a write
 -- where it is permitted or the writer is closed, it doesn't trap, and marks no handle

@@ -1,7 +1,8 @@
 -- How a step was answered, where its answer comes from, and what stands after a refusal.
-use Rattle.std.specs.Prelude.{◌≡◌, ◌⊎◌, ⊤, ℕ, ◌<◌, Bool, true, false, not, ◌&&◌, List, [], ◌∷◌, ◌++◌, Option, Some, None, Ok, IsSomeAnd, IfSome, slice_get}
+use Rattle.std.specs.Prelude.{◌≡◌, ◌⊎◌, ⊤, ℕ, ◌<◌, Bool, true, false, not, ◌&&◌, min, List, [], ◌∷◌, ◌++◌, Option, Some, None, Ok, IsSomeAnd, IfSome, slice_get}
 use Rattle.wasi_addr.specs.declared.address.IpSocketAddress.{IpSocketAddress}
 use Rattle.wasi_addr.specs.declared.address.SocketAddressFamily.{SocketAddressFamily}
+use Rattle.wasi_addr.specs.declared.address.ShutdownType.TheVariants.{Receive}
 use Rattle.wasi_addr.specs.declared.address.SocketAddrUse.{SocketAddrUse}
 use Rattle.wasi_addr.specs.declared.address.SocketAddrUse.TheVariants.{TcpBind}
 use Rattle.wasi_addr.specs.declared.code.ErrorCode.{ErrorCode}
@@ -12,6 +13,7 @@ use Rattle.wasi_world.specs.declared.ids.OpId.{OpId}
 use Rattle.wasi_world.specs.declared.call.Call.{Call}
 use Rattle.wasi_world.specs.declared.call.Call.TheVariants as call
 use Rattle.wasi_world.specs.declared.call.Entry.{Entry}
+use Rattle.wasi_world.specs.declared.call.HandleKind.TheVariants.{ErrorValue}
 use Rattle.wasi_world.specs.declared.call.Told.{Told}
 use Rattle.wasi_world.specs.declared.call.Told.TheVariants as told
 use Rattle.wasi_world.specs.declared.outcome.WasiSocketsCtx.{WasiSocketsCtx}
@@ -20,11 +22,17 @@ use Rattle.wasi_world.specs.Operation.{Item, Check, Connect, Last, Nothing, Who,
 use Rattle.wasi_tcp.specs.declared.socket.Connection.{Connection}
 use Rattle.wasi_tcp.specs.declared.socket.TcpState.{TcpState}
 use Rattle.wasi_tcp.specs.declared.socket.TcpState.TheVariants as state
+use Rattle.wasi_tcp.specs.declared.halves.TcpReceiveStream.{TcpReceiveStream}
+use Rattle.wasi_tcp.specs.declared.halves.TcpSendStream.{TcpSendStream}
+use Rattle.wasi_tcp.specs.declared.reader.ReadState.{ReadState}
+use Rattle.wasi_tcp.specs.declared.reader.ReadState.TheVariants as reading
+use Rattle.wasi_tcp.specs.declared.writer.WriteError.TheVariants as error
 use Rattle.wasi_tcp.specs.declared.writer.WriteState.{WriteState}
 use Rattle.wasi_tcp.specs.declared.writer.WriteState.TheVariants as writing
 use Rattle.wasi_tcp.specs.Shape.{Socket}
 use Rattle.wasi_tcp.specs.Connecting.{with_state, is_connectable, HoldsConnect}
 use Rattle.wasi_tcp.specs.Addresses.{usable_side}
+use Rattle.wasi_tcp.specs.Writer.{collected}
 use Rattle.wasi_run.specs.declared.machine.Machine.{Machine}
 use Rattle.wasi_run.specs.declared.reply.CodeWord.{CodeWord}
 use Rattle.wasi_run.specs.declared.reply.CodeWord.TheVariants as word
@@ -33,9 +41,10 @@ use Rattle.wasi_run.specs.declared.socket.Streams.{Streams}
 use Rattle.wasi_run.specs.declared.socket.Tcp2Socket.{Tcp2Socket}
 use Rattle.wasi_run.specs.declared.step.Step.{Step}
 use Rattle.wasi_run.specs.declared.step.Step.TheVariants as step
+use Rattle.wasi_run.specs.declared.table.Kind.TheVariants as kind
 use Rattle.wasi_run.specs.Reply.{word_of_p2}
-use Rattle.wasi_run.specs.Table.{kind_at}
-use Rattle.wasi_run.specs.Store.{with_inner, with_socket, left_of, is_nothing, is_bind, is_connect, idle}
+use Rattle.wasi_run.specs.Table.{kind_at, with_handle}
+use Rattle.wasi_run.specs.Store.{with_inner, with_reader, with_socket, left_of, is_nothing, is_bind, is_connect, idle}
 use Rattle.wasi_run.specs.Machine.{socket_at, is_network, input_at, output_at, machine_asks}
 use Rattle.wasi_run.specs.Licence.{Has, entry}
 
@@ -285,13 +294,71 @@ IsQuiet (step.TcpIsListening ctx socket) = ⊤
 IsQuiet (step.TcpAddressFamily ctx socket) = ⊤
 IsQuiet _ = ⊥
 
--- == the calls of a stream
--- a write of it goes on
+-- == reads
+-- what a read of an open half asks
+abbrev pub read_entry : OpId → ℕ → TcpReceiveStream → Told → Entry
+read_entry own len half told = entry own (call.Read half.side (min len 65536)) told
+
+-- an open half is given up
+abbrev pub shut_entry : OpId → TcpReceiveStream → Entry
+shut_entry own half = entry own (call.Shutdown half.side Receive) told.Done
+
+-- The bytes are those that the one read of an open half was told.
+pub record ReadsTold (own : OpId) (len : ℕ) (reader : ReadState) (bytes : List ℕ) (entries : List Entry) : Type 0 where
+  pub half : TcpReceiveStream
+  pub is_open : reader ≡ reading.Open half
+  pub asked : entries ≡ read_entry own len half (told.Bytes bytes) ∷ []
+
+-- No bytes are read: none were to be, or the read was told to wait.
+pub data ReadsNone (own : OpId) (len : ℕ) (reader : ReadState) : List Entry → Type 0 where
+  LengthZero : (half : TcpReceiveStream) → reader ≡ reading.Open half → len ≡ 0 → ReadsNone own len reader []
+  ToldToWait : (half : TcpReceiveStream) → reader ≡ reading.Open half → ReadsNone own len reader (read_entry own len half told.Pending ∷ [])
+
+-- A read is at the end: the reader is closed, or the read was told no bytes, and gave the half up.
+pub data ReadsEnd (own : OpId) (len : ℕ) (reader : ReadState) : List Entry → Type 0 where
+  AlreadyClosed : reader ≡ reading.Closed → ReadsEnd own len reader []
+  ToldNone : (half : TcpReceiveStream) → reader ≡ reading.Open half → ReadsEnd own len reader (read_entry own len half (told.Bytes []) ∷ shut_entry own half ∷ [])
+
+-- The one read of an open half was told the code, and gave the half up.
+pub record ReadFails (own : OpId) (len : ℕ) (reader : ReadState) (c : ErrorCode) (entries : List Entry) : Type 0 where
+  pub half : TcpReceiveStream
+  pub is_open : reader ≡ reading.Open half
+  pub asked : entries ≡ read_entry own len half (told.Code c) ∷ shut_entry own half ∷ []
+
+-- the machine, where the reader is closed
+abbrev pub closing_reader : Machine → ℕ → Tcp2Socket → Streams → Machine
+closing_reader m place r s = putting m place (with_reader r s reading.Closed)
+
+-- A call on a stream failed with a code, because of these entries; after them comes the mark of the error's handle, whose
+-- parent is the stream.
+pub record FailsWith (m : Machine) (own : OpId) (stream : ℕ) (Cause : ErrorCode → List Entry → Type 0) (entries : List Entry) (word : CodeWord) (handle : ℕ) : Type 0 where
+  pub code : ErrorCode
+  pub before : List Entry
+  pub side : Option OpId
+  pub told : Told
+  pub cause : Cause code before
+  pub marked : entries ≡ before ++ entry own (call.Made m.table.next ErrorValue (Some stream) side) told ∷ []
+  pub word_is : word ≡ word_of_code code
+  pub handle_is : handle ≡ m.table.next
+
+-- the machine, with a new handle of an error
+abbrev pub with_error : Machine → Machine
+with_error m = record m { table = with_handle m.table kind.ErrorValue }
+
+-- == writes
+-- a write goes on
 abbrev pub IsUnfinished : WriteState → Type 0
 IsUnfinished (writing.Ready half permit) = ⊥
 IsUnfinished (writing.Writing job) = ⊤
 IsUnfinished (writing.Closing job) = ⊤
 IsUnfinished (writing.Closed e) = ⊥
+
+-- How much may be written, once a write that ended is collected: none while it goes on, or where the writer was told to wait;
+-- and 65536 bytes where it was told that it is ready.
+pub data Permits (own : OpId) (writer : WriteState) : ℕ → List Entry → Type 0 where
+  GoesOn : IsUnfinished (collected writer) → Permits own writer 0 []
+  NotReady : (half : TcpSendStream) (permit : ℕ) → collected writer ≡ writing.Ready half permit → Permits own writer 0 (entry own (call.WriteReady half.side) told.Pending ∷ [])
+  IsReady : (half : TcpSendStream) (permit : ℕ) → collected writer ≡ writing.Ready half permit → Permits own writer 65536 (entry own (call.WriteReady half.side) told.Done ∷ [])
 
 -- so many bytes aren't permitted: they are past the permit, or a write wasn't collected yet
 abbrev pub IsUnpermitted : WriteState → ℕ → Type 0
@@ -299,3 +366,11 @@ IsUnpermitted (writing.Ready half permit) n = permit < n
 IsUnpermitted (writing.Writing job) n = ⊤
 IsUnpermitted (writing.Closing job) n = ⊤
 IsUnpermitted (writing.Closed e) n = ⊥
+
+-- the writer is closed, and not because of a code
+abbrev pub IsGivenUp : WriteState → Type 0
+IsGivenUp writer = writer ≡ writing.Closed error.Closed
+
+-- the writer is closed with the code, and nothing was asked
+abbrev pub WasClosedWith : WriteState → ErrorCode → List Entry → Type 0
+WasClosedWith writer c entries = (writer ≡ writing.Closed (error.LastOperationFailed c)) × (entries ≡ [])

@@ -1,7 +1,7 @@
 //! Laws over the definitions of specs/ that say where each answer of a step comes from, and what stands after a refusal:
 //! each is a function that does nothing, whose contract is the law.
 
-ghost use Rattle.std.specs.Prelude.{◌≡◌, ◌↔◌, ◌⊎◌, ℕ, ◌+◌, true, List, [], ◌∷◌, IsSome, IsSomeAnd, None};
+ghost use Rattle.std.specs.Prelude.{◌≡◌, ◌↔◌, ◌⊎◌, ℕ, ◌+◌, true, List, [], ◌∷◌, length, IsSome, IsSomeAnd, None};
 ghost use Rattle.wasi_addr.specs.declared.address.IpSocketAddress.{IpSocketAddress};
 ghost use Rattle.wasi_addr.specs.declared.address.SocketAddressFamily.{SocketAddressFamily};
 ghost use Rattle.wasi_world.specs.declared.call.Call.{Call};
@@ -12,11 +12,13 @@ ghost use Rattle.wasi_world.specs.declared.outcome.WasiSocketsCtx.{WasiSocketsCt
 ghost use Rattle.wasi_tcp.specs.Socket.{new_socket};
 ghost use Rattle.wasi_run.specs.declared.machine.Machine.{Machine};
 ghost use Rattle.wasi_run.specs.declared.reply.CodeWord.{CodeWord};
+ghost use Rattle.wasi_run.specs.declared.reply.Field.{Field};
 ghost use Rattle.wasi_run.specs.declared.reply.Reply.{Reply};
 ghost use Rattle.wasi_run.specs.declared.step.Step.{Step};
-ghost use Rattle.wasi_run.specs.Answered.{Answered, ConnectsAt, CreateRefusal, FinishRefusal, HasNoConnectInProgress, RefusedOf, EndsPending, HasNoBindInProgress, HasOperationInProgress, IsQuiet, IsStartBind, IsWrite, KnowsBound, LocalRefusal, MakesHandle, MissesHandle, RefusedBind, RefusedConnect, RemoteRefusal, record_at};
+ghost use Rattle.wasi_run.specs.Answered.{Answered, ConnectsAt, CreateRefusal, EndsPending, FailsWith, FinishRefusal, HasNoBindInProgress, HasNoConnectInProgress, HasOperationInProgress, IsGivenUp, IsQuiet, IsStartBind, IsUnpermitted, IsWrite, KnowsBound, LocalRefusal, MakesHandle, MissesHandle, OfStreams, Permits, ReadFails, ReadsEnd, ReadsNone, ReadsTold, RefusedBind, RefusedConnect, RefusedOf, RemoteRefusal, WasClosedWith, closing_reader, output_streams, record_at, with_error};
 ghost use Rattle.wasi_run.specs.Licence.{entry, marks_in};
-ghost use Rattle.wasi_run.specs.Machine.{context_at, is_network, own_of};
+ghost use Rattle.wasi_run.specs.Machine.{context_at, input_at, is_network, output_at, own_of};
+ghost use Rattle.wasi_run.specs.Reply.{bytes_fields, number_fields};
 ghost use Rattle.wasi_run.specs.Store.{with_record};
 ghost use Rattle.wasi_run.specs.Table.{is_full, kind_at};
 
@@ -162,4 +164,58 @@ pub fn listening_and_family_are_never_refused()
         → IsQuiet s → Answered contexts m line s entries (Reply.Err word) after → ⊥ }
     ensures quiet { (contexts : List WasiSocketsCtx) (m : Machine) (line : ℕ) (s : Step) (entries : List Entry) (reply : Reply) (after : Machine)
         → IsQuiet s → Answered contexts m line s entries reply after → (entries ≡ []) × (after ≡ m) }
+{}
+
+/// Each read that hands out at least one byte hands out exactly what its one ask, a read of its open half, was told; and with
+/// bytes or none the machine stays as it was.
+pub fn reads_hand_out_what_was_told()
+    ensures told { (contexts : List WasiSocketsCtx) (m : Machine) (line ctx input len b : ℕ) (bytes : List ℕ) (entries : List Entry) (after : Machine)
+        → Answered contexts m line (Step.Read ctx input len) entries (Reply.Ok (bytes_fields (b ∷ bytes))) after
+        → OfStreams m (input_at m input) (λ place r s. ReadsTold (own_of line) len s.reader (b ∷ bytes) entries) }
+    ensures none { (contexts : List WasiSocketsCtx) (m : Machine) (line ctx input len : ℕ) (entries : List Entry) (after : Machine)
+        → Answered contexts m line (Step.Read ctx input len) entries (Reply.Ok (bytes_fields [])) after
+        → OfStreams m (input_at m input) (λ place r s. ReadsNone (own_of line) len s.reader entries) }
+    ensures stays { (contexts : List WasiSocketsCtx) (m : Machine) (line ctx input len : ℕ) (fields : List Field) (entries : List Entry) (after : Machine)
+        → Answered contexts m line (Step.Read ctx input len) entries (Reply.Ok fields) after → after ≡ m }
+{}
+
+/// A read is `closed` where the reader is, or the read was told no bytes; it failed where the read was told that code, and the
+/// error's mark is the last then. The reader is closed then, and its half was given up.
+pub fn reads_end()
+    ensures closed { (contexts : List WasiSocketsCtx) (m : Machine) (line ctx input len : ℕ) (entries : List Entry) (after : Machine)
+        → Answered contexts m line (Step.Read ctx input len) entries Reply.Closed after
+        → OfStreams m (input_at m input) (λ place r s. ReadsEnd (own_of line) len s.reader entries × (after ≡ closing_reader m place r s)) }
+    ensures failed { (contexts : List WasiSocketsCtx) (m : Machine) (line ctx input len : ℕ) (entries : List Entry) (word : CodeWord) (handle : ℕ) (after : Machine)
+        → Answered contexts m line (Step.Read ctx input len) entries (Reply.Failed word handle) after
+        → OfStreams m (input_at m input) (λ place r s. FailsWith m (own_of line) input (ReadFails (own_of line) len s.reader) entries word handle × (after ≡ with_error (closing_reader m place r s))) }
+{}
+
+/// What may be written comes of the writer and of what it was told: nothing where a write isn't finished or the writer was told
+/// to wait, and else 65536 bytes.
+pub fn permits_have_causes()
+    ensures { (contexts : List WasiSocketsCtx) (m : Machine) (line ctx output n : ℕ) (entries : List Entry) (after : Machine)
+        → Answered contexts m line (Step.CheckWrite ctx output) entries (Reply.Ok (number_fields n)) after
+        → OfStreams m (output_at m output) (λ place r s. Permits (own_of line) s.writer n entries) }
+{}
+
+/// A write traps, as not permitted, exactly where its bytes are past the permit, or a write before it wasn't collected yet. It
+/// asks nothing then, and the machine stays as it was.
+pub fn writes_past_the_permit_trap()
+    ensures exactly { (contexts : List WasiSocketsCtx) (m : Machine) (line ctx output : ℕ) (bytes : List ℕ) (entries : List Entry) (reply : Reply) (after : Machine)
+        → m.store.standing ≡ None → Answered contexts m line (Step.Write ctx output bytes) entries reply after
+        → (reply ≡ Reply.Trap TrapKind.NotPermitted) ↔ IsSomeAnd (output_streams m output) (λ s. IsUnpermitted s.writer (length bytes)) }
+    ensures stays { (contexts : List WasiSocketsCtx) (m : Machine) (line ctx output : ℕ) (bytes : List ℕ) (entries : List Entry) (after : Machine)
+        → Answered contexts m line (Step.Write ctx output bytes) entries (Reply.Trap TrapKind.NotPermitted) after → (entries ≡ []) × (after ≡ m) }
+{}
+
+/// A flush only tells the error with which the writer is closed. It asks nothing but the mark of that error.
+pub fn flushes_tell_the_kept_error()
+    ensures done { (contexts : List WasiSocketsCtx) (m : Machine) (line ctx output : ℕ) (fields : List Field) (entries : List Entry) (after : Machine)
+        → Answered contexts m line (Step.Flush ctx output) entries (Reply.Ok fields) after → (entries ≡ []) × (after ≡ m) }
+    ensures closed { (contexts : List WasiSocketsCtx) (m : Machine) (line ctx output : ℕ) (entries : List Entry) (after : Machine)
+        → Answered contexts m line (Step.Flush ctx output) entries Reply.Closed after
+        → OfStreams m (output_at m output) (λ place r s. IsGivenUp s.writer) × (entries ≡ []) × (after ≡ m) }
+    ensures failed { (contexts : List WasiSocketsCtx) (m : Machine) (line ctx output : ℕ) (entries : List Entry) (word : CodeWord) (handle : ℕ) (after : Machine)
+        → Answered contexts m line (Step.Flush ctx output) entries (Reply.Failed word handle) after
+        → OfStreams m (output_at m output) (λ place r s. FailsWith m (own_of line) output (WasClosedWith s.writer) entries word handle) × (after ≡ with_error m) }
 {}
