@@ -7,46 +7,34 @@ use std::test::Fail;
 /// A script, what the network answers, and what comes of it: the replies and the log.
 #[derive(Clone, Copy)]
 struct Row {
+    shows: &'static str,
     scenario: &'static str,
     script: &'static str,
     replies: &'static str,
     log: &'static str,
 }
 
-fn run_row(rt: HostRuntime, row: Row) -> Result<(), Fail> {
-    let mut given = Given::script(&["run", "4096"], row.script.as_bytes());
-    given.scenario = row.scenario.as_bytes();
-    let done = given.run(rt.alloc())?;
-    assert_eq!(rt; (done.status, done.line), (0, 0));
-    assert_eq!(rt; done.sink.bytes(), row.replies.as_bytes());
-    let log = log_text(rt.alloc(), done.log.as_slice())?;
-    assert_eq!(rt; log.as_str(), row.log);
-    Ok(())
-}
-
-#[test]
-fn a_denied_connect_is_closed(rt: HostRuntime) -> Result<(), Fail> {
-    run_row(
-        rt,
-        Row {
-            scenario: "\
+const ROWS: [Row; 12] = [
+    Row {
+        shows: "a denied connect is closed",
+        scenario: "\
 check yes\n\
 check no\n",
-            script: "\
+        script: "\
 0 network\n\
 0 tcp-create 4\n\
 0 tcp-start-connect 2 1 4 127 0 0 1 80\n\
 0 tcp-finish-connect 2\n\
 0 tcp-local-address 2\n\
 0 tcp-start-bind 2 1 4 127 0 0 1 80\n",
-            replies: "\
+        replies: "\
 ok 1\n\
 ok 2\n\
 ok\n\
 err access-denied\n\
 err access-denied\n\
 err invalid-state\n",
-            log: "\
+        log: "\
 1 0 made 1 network - - = done\n\
 2 0 tcp-create 0 4 = done\n\
 2 0 made 2 tcp2 - 2 0 = done\n\
@@ -54,30 +42,24 @@ err invalid-state\n",
 3 0 check 0 4 0 0 0 0 0 tcp-bind = yes\n\
 3 0 check 0 4 127 0 0 1 80 tcp-connect = no\n\
 3 0 close 2 0 = done\n",
-        },
-    )
-}
-
-#[test]
-fn a_refused_connect_keeps_its_code(rt: HostRuntime) -> Result<(), Fail> {
-    run_row(
-        rt,
-        Row {
-            scenario: "\
+    },
+    Row {
+        shows: "a refused connect keeps its code",
+        scenario: "\
 connect code connection-refused\n",
-            script: "\
+        script: "\
 0 network\n\
 0 tcp-create 4\n\
 0 tcp-start-connect 2 1 4 127 0 0 1 80\n\
 0 tcp-finish-connect 2\n\
 0 tcp-remote-address 2\n",
-            replies: "\
+        replies: "\
 ok 1\n\
 ok 2\n\
 ok\n\
 err connection-refused\n\
 err connection-refused\n",
-            log: "\
+        log: "\
 1 0 made 1 network - - = done\n\
 2 0 tcp-create 0 4 = done\n\
 2 0 made 2 tcp2 - 2 0 = done\n\
@@ -86,19 +68,13 @@ err connection-refused\n",
 3 0 check 0 4 127 0 0 1 80 tcp-connect = yes\n\
 3 0 connect 2 0 4 127 0 0 1 80 = code connection-refused\n\
 3 0 close 2 0 = done\n",
-        },
-    )
-}
-
-#[test]
-fn a_pending_connect_is_polled_again(rt: HostRuntime) -> Result<(), Fail> {
-    run_row(
-        rt,
-        Row {
-            scenario: "\
+    },
+    Row {
+        shows: "a pending connect is polled again",
+        scenario: "\
 connect pending\n\
 connect pending\n",
-            script: "\
+        script: "\
 0 network\n\
 0 tcp-create 4\n\
 0 tcp-start-connect 2 1 4 127 0 0 1 80\n\
@@ -106,7 +82,7 @@ connect pending\n",
 0 tcp-finish-connect 2\n\
 0 tcp-finish-connect 2\n\
 0 tcp-finish-connect 2\n",
-            replies: "\
+        replies: "\
 ok 1\n\
 ok 2\n\
 ok\n\
@@ -114,7 +90,7 @@ err would-block\n\
 err would-block\n\
 ok 3 4\n\
 err not-in-progress\n",
-            log: "\
+        log: "\
 1 0 made 1 network - - = done\n\
 2 0 tcp-create 0 4 = done\n\
 2 0 made 2 tcp2 - 2 0 = done\n\
@@ -126,17 +102,11 @@ err not-in-progress\n",
 3 0 connect 2 0 4 127 0 0 1 80 = done\n\
 6 0 made 3 input 2 2 0 = done\n\
 6 0 made 4 output 2 2 0 = done\n",
-        },
-    )
-}
-
-#[test]
-fn a_bound_socket_tells_its_addresses(rt: HostRuntime) -> Result<(), Fail> {
-    run_row(
-        rt,
-        Row {
-            scenario: "",
-            script: "\
+    },
+    Row {
+        shows: "a bound socket tells its addresses",
+        scenario: "",
+        script: "\
 0 network\n\
 0 tcp-create 4\n\
 0 tcp-start-bind 2 1 4 127 0 0 1 80\n\
@@ -150,7 +120,7 @@ fn a_bound_socket_tells_its_addresses(rt: HostRuntime) -> Result<(), Fail> {
 0 tcp-is-listening 2\n\
 0 tcp-address-family 2\n\
 0 tcp-start-connect 2 1 4 127 0 0 1 81\n",
-            replies: "\
+        replies: "\
 ok 1\n\
 ok 2\n\
 ok\n\
@@ -164,7 +134,7 @@ ok 4 127 0 0 1 80\n\
 ok false\n\
 ok 4\n\
 err invalid-state\n",
-            log: "\
+        log: "\
 1 0 made 1 network - - = done\n\
 2 0 tcp-create 0 4 = done\n\
 2 0 made 2 tcp2 - 2 0 = done\n\
@@ -178,19 +148,13 @@ err invalid-state\n",
 7 0 made 4 output 2 2 0 = done\n\
 8 0 peer 2 0 = addr 4 127 0 0 1 81\n\
 10 0 local 2 0 = addr 4 127 0 0 1 80\n",
-        },
-    )
-}
-
-#[test]
-fn bytes_are_read_and_written(rt: HostRuntime) -> Result<(), Fail> {
-    run_row(
-        rt,
-        Row {
-            scenario: "\
+    },
+    Row {
+        shows: "bytes are read and written",
+        scenario: "\
 read bytes 0102\n\
 read bytes -\n",
-            script: "\
+        script: "\
 0 network\n\
 0 tcp-create 4\n\
 0 tcp-start-connect 2 1 4 127 0 0 1 80\n\
@@ -202,7 +166,7 @@ read bytes -\n",
 0 write 4 0a\n\
 0 check-write 4\n\
 0 flush 4\n",
-            replies: "\
+        replies: "\
 ok 1\n\
 ok 2\n\
 ok\n\
@@ -214,7 +178,7 @@ ok 65536\n\
 ok\n\
 ok 65536\n\
 ok\n",
-            log: "\
+        log: "\
 1 0 made 1 network - - = done\n\
 2 0 tcp-create 0 4 = done\n\
 2 0 made 2 tcp2 - 2 0 = done\n\
@@ -231,18 +195,12 @@ ok\n",
 9 0 write 2 0 1 = took 0a\n\
 9 0 write-ready 2 0 = done\n\
 10 0 write-ready 2 0 = done\n",
-        },
-    )
-}
-
-#[test]
-fn a_pending_write_takes_the_permit(rt: HostRuntime) -> Result<(), Fail> {
-    run_row(
-        rt,
-        Row {
-            scenario: "\
+    },
+    Row {
+        shows: "a pending write takes the permit",
+        scenario: "\
 write pending\n",
-            script: "\
+        script: "\
 0 network\n\
 0 tcp-create 4\n\
 0 tcp-start-connect 2 1 4 127 0 0 1 80\n\
@@ -252,7 +210,7 @@ write pending\n",
 0 write 4 01\n\
 0 write 4 -\n\
 0 network\n",
-            replies: "\
+        replies: "\
 ok 1\n\
 ok 2\n\
 ok\n\
@@ -261,7 +219,7 @@ ok\n\
 ok 65536\n\
 ok\n\
 trap not-permitted\n",
-            log: "\
+        log: "\
 1 0 made 1 network - - = done\n\
 2 0 tcp-create 0 4 = done\n\
 2 0 made 2 tcp2 - 2 0 = done\n\
@@ -273,19 +231,13 @@ trap not-permitted\n",
 4 0 made 4 output 2 2 0 = done\n\
 6 0 write-ready 2 0 = done\n\
 7 0 write 2 0 1 = pending\n",
-        },
-    )
-}
-
-#[test]
-fn a_failed_read_is_told_once(rt: HostRuntime) -> Result<(), Fail> {
-    run_row(
-        rt,
-        Row {
-            scenario: "\
+    },
+    Row {
+        shows: "a failed read is told once",
+        scenario: "\
 read pending\n\
 read code connection-reset\n",
-            script: "\
+        script: "\
 0 network\n\
 0 tcp-create 4\n\
 0 tcp-start-connect 2 1 4 127 0 0 1 80\n\
@@ -294,7 +246,7 @@ read code connection-reset\n",
 0 read 3 0\n\
 0 read 3 4\n\
 0 read 3 4\n",
-            replies: "\
+        replies: "\
 ok 1\n\
 ok 2\n\
 ok\n\
@@ -303,7 +255,7 @@ ok -\n\
 ok -\n\
 failed connection-reset 5\n\
 closed\n",
-            log: "\
+        log: "\
 1 0 made 1 network - - = done\n\
 2 0 tcp-create 0 4 = done\n\
 2 0 made 2 tcp2 - 2 0 = done\n\
@@ -317,19 +269,13 @@ closed\n",
 7 0 read 2 0 4 = code connection-reset\n\
 7 0 shutdown 2 0 receive = done\n\
 7 0 made 5 errorvalue 3 2 0 = done\n",
-        },
-    )
-}
-
-#[test]
-fn a_failed_write_is_told_each_time(rt: HostRuntime) -> Result<(), Fail> {
-    run_row(
-        rt,
-        Row {
-            scenario: "\
+    },
+    Row {
+        shows: "a failed write is told each time",
+        scenario: "\
 write took 1\n\
 write code connection-reset\n",
-            script: "\
+        script: "\
 0 network\n\
 0 tcp-create 4\n\
 0 tcp-start-connect 2 1 4 127 0 0 1 80\n\
@@ -339,7 +285,7 @@ write code connection-reset\n",
 0 check-write 4\n\
 0 write 4 01\n\
 0 flush 4\n",
-            replies: "\
+        replies: "\
 ok 1\n\
 ok 2\n\
 ok\n\
@@ -349,7 +295,7 @@ failed connection-reset 5\n\
 failed connection-reset 6\n\
 failed connection-reset 7\n\
 failed connection-reset 8\n",
-            log: "\
+        log: "\
 1 0 made 1 network - - = done\n\
 2 0 tcp-create 0 4 = done\n\
 2 0 made 2 tcp2 - 2 0 = done\n\
@@ -367,18 +313,12 @@ failed connection-reset 8\n",
 7 0 made 6 errorvalue 4 2 0 = done\n\
 8 0 made 7 errorvalue 4 2 0 = done\n\
 9 0 made 8 errorvalue 4 2 0 = done\n",
-        },
-    )
-}
-
-#[test]
-fn a_broken_connection_is_the_end(rt: HostRuntime) -> Result<(), Fail> {
-    run_row(
-        rt,
-        Row {
-            scenario: "\
+    },
+    Row {
+        shows: "a broken connection is the end",
+        scenario: "\
 write code connection-broken\n",
-            script: "\
+        script: "\
 0 network\n\
 0 tcp-create 4\n\
 0 tcp-start-connect 2 1 4 127 0 0 1 80\n\
@@ -386,7 +326,7 @@ write code connection-broken\n",
 0 check-write 4\n\
 0 write 4 01\n\
 0 flush 4\n",
-            replies: "\
+        replies: "\
 ok 1\n\
 ok 2\n\
 ok\n\
@@ -394,7 +334,7 @@ ok 3 4\n\
 ok 65536\n\
 closed\n\
 closed\n",
-            log: "\
+        log: "\
 1 0 made 1 network - - = done\n\
 2 0 tcp-create 0 4 = done\n\
 2 0 made 2 tcp2 - 2 0 = done\n\
@@ -407,20 +347,14 @@ closed\n",
 5 0 write-ready 2 0 = done\n\
 6 0 write 2 0 1 = code connection-broken\n\
 6 0 shutdown 2 0 send = done\n",
-        },
-    )
-}
-
-#[test]
-fn a_write_that_waits_permits_nothing(rt: HostRuntime) -> Result<(), Fail> {
-    run_row(
-        rt,
-        Row {
-            scenario: "\
+    },
+    Row {
+        shows: "a write that waits permits nothing",
+        scenario: "\
 write took 1\n\
 write pending\n\
 write-ready pending\n",
-            script: "\
+        script: "\
 0 network\n\
 0 tcp-create 4\n\
 0 tcp-start-connect 2 1 4 127 0 0 1 80\n\
@@ -430,7 +364,7 @@ write-ready pending\n",
 0 write 4 0102\n\
 0 check-write 4\n\
 0 write 4 01\n",
-            replies: "\
+        replies: "\
 ok 1\n\
 ok 2\n\
 ok\n\
@@ -440,7 +374,7 @@ ok 65536\n\
 ok\n\
 ok 0\n\
 trap not-permitted\n",
-            log: "\
+        log: "\
 1 0 made 1 network - - = done\n\
 2 0 tcp-create 0 4 = done\n\
 2 0 made 2 tcp2 - 2 0 = done\n\
@@ -454,29 +388,23 @@ trap not-permitted\n",
 6 0 write-ready 2 0 = done\n\
 7 0 write 2 0 2 = took 01\n\
 7 0 write 2 0 1 = pending\n",
-        },
-    )
-}
-
-#[test]
-fn an_output_is_no_input(rt: HostRuntime) -> Result<(), Fail> {
-    run_row(
-        rt,
-        Row {
-            scenario: "",
-            script: "\
+    },
+    Row {
+        shows: "an output is no input",
+        scenario: "",
+        script: "\
 0 network\n\
 0 tcp-create 4\n\
 0 tcp-start-connect 2 1 4 127 0 0 1 80\n\
 0 tcp-finish-connect 2\n\
 0 read 4 1\n",
-            replies: "\
+        replies: "\
 ok 1\n\
 ok 2\n\
 ok\n\
 ok 3 4\n\
 trap no-such-handle\n",
-            log: "\
+        log: "\
 1 0 made 1 network - - = done\n\
 2 0 tcp-create 0 4 = done\n\
 2 0 made 2 tcp2 - 2 0 = done\n\
@@ -486,31 +414,25 @@ trap no-such-handle\n",
 3 0 connect 2 0 4 127 0 0 1 80 = done\n\
 4 0 made 3 input 2 2 0 = done\n\
 4 0 made 4 output 2 2 0 = done\n",
-        },
-    )
-}
-
-#[test]
-fn an_address_that_is_not_remote_is_refused(rt: HostRuntime) -> Result<(), Fail> {
-    run_row(
-        rt,
-        Row {
-            scenario: "",
-            script: "\
+    },
+    Row {
+        shows: "an address that is not remote is refused",
+        scenario: "",
+        script: "\
 0 network\n\
 0 tcp-create 4\n\
 0 tcp-start-connect 2 1 4 127 0 0 1 0\n\
 0 tcp-start-connect 2 1 4 0 0 0 0 80\n\
 0 tcp-start-connect 2 1 4 224 0 0 1 80\n\
 0 tcp-start-connect 2 1 6 0 0 0 0 0 0 0 1 80 0 0\n",
-            replies: "\
+        replies: "\
 ok 1\n\
 ok 2\n\
 err invalid-argument\n\
 err invalid-argument\n\
 err invalid-argument\n\
 err invalid-argument\n",
-            log: "\
+        log: "\
 1 0 made 1 network - - = done\n\
 2 0 tcp-create 0 4 = done\n\
 2 0 made 2 tcp2 - 2 0 = done\n\
@@ -518,6 +440,19 @@ err invalid-argument\n",
 4 0 local 2 0 = addr 4 0 0 0 0 0\n\
 5 0 local 2 0 = addr 4 0 0 0 0 0\n\
 6 0 local 2 0 = addr 4 0 0 0 0 0\n",
-        },
-    )
+    },
+];
+
+#[test]
+fn connections_are_answered_and_logged(rt: HostRuntime) -> Result<(), Fail> {
+    for row in ROWS {
+        let mut given = Given::script(&["run", "4096"], row.script.as_bytes());
+        given.scenario = row.scenario.as_bytes();
+        let done = given.run(rt.alloc())?;
+        let log = log_text(rt.alloc(), done.log.as_slice())?;
+        assert_eq!(rt; (done.status, done.line), (0, 0), "{}", row.shows);
+        assert_eq!(rt; done.sink.bytes(), row.replies.as_bytes(), "{}", row.shows);
+        assert_eq!(rt; log.as_str(), row.log, "{}", row.shows);
+    }
+    Ok(())
 }

@@ -183,7 +183,7 @@ fn a_run_ends_its_world(rt: HostRuntime) -> Result<(), Fail> {
 
 #[test]
 fn rows_with_their_status_line_and_replies(rt: HostRuntime) -> Result<(), Fail> {
-    let rows: [(&[&str], &[u8], &[u8], u8, u32, &str); 21] = [
+    let rows: [(&[&str], &[u8], &[u8], u8, u32, &str); 22] = [
         (&["run", "1000"], b"", b"", 0, 0, ""),
         (&["run", "0"], b"", b"", 0, 0, ""),
         (&["run", "81"], b"", BIND, 0, 0, "ok 1\nok 2\nok\nok\n"),
@@ -207,6 +207,7 @@ fn rows_with_their_status_line_and_replies(rt: HostRuntime) -> Result<(), Fail> 
         (&["run", "01"], b"", BIND, 1, 0, ""),
         (&["walk", "1000"], b"", BIND, 1, 0, ""),
         (&["run", "1000"], b"", b"0 tcp-accept 1\n", 3, 1, ""),
+        (&["run", "1000"], b"", b"0 write 4 0g\n", 3, 1, ""),
         (&["run", "1000"], b"check maybe\n", BIND, 2, 1, ""),
         (&["run", "1000"], b"check no\n\n", BIND, 2, 2, ""),
         (&["run", "1000"], b"check no\nbind done", BIND, 2, 2, ""),

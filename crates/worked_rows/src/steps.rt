@@ -9,13 +9,13 @@ use wasi_run::parse::parse_step;
 fn each_step_has_its_line(rt: HostRuntime) -> Result<(), Fail> {
     assert!(rt;
         matches!(
-            parse_step(b"0 network", 1)?,
+            parse_step(rt.alloc(), b"0 network", 1)?,
             Some(Step::Network { context: 0 })
         )
     );
     assert!(rt;
         matches!(
-            parse_step(b"1 tcp-create 6", 2)?,
+            parse_step(rt.alloc(), b"1 tcp-create 6", 2)?,
             Some(Step::TcpCreate {
                 context: 1,
                 family: SocketAddressFamily::Ipv6
@@ -24,7 +24,7 @@ fn each_step_has_its_line(rt: HostRuntime) -> Result<(), Fail> {
     );
     assert!(rt;
         matches!(
-            parse_step(b"0 tcp-start-bind 2 1 4 127 0 0 1 65535", 1)?,
+            parse_step(rt.alloc(), b"0 tcp-start-bind 2 1 4 127 0 0 1 65535", 1)?,
             Some(Step::TcpStartBind {
                 context: 0,
                 socket: 2,
@@ -39,6 +39,7 @@ fn each_step_has_its_line(rt: HostRuntime) -> Result<(), Fail> {
     assert!(rt;
         matches!(
             parse_step(
+                rt.alloc(),
                 b"0 tcp-start-bind 4294967295 0 6 0 0 0 0 0 0 0 1 80 4294967295 7",
                 1
             )?,
@@ -57,13 +58,69 @@ fn each_step_has_its_line(rt: HostRuntime) -> Result<(), Fail> {
     );
     assert!(rt;
         matches!(
-            parse_step(b"0 tcp-finish-bind 2", 1)?,
+            parse_step(rt.alloc(), b"0 tcp-finish-bind 2", 1)?,
             Some(Step::TcpFinishBind {
                 context: 0,
                 socket: 2
             })
         )
     );
+    assert!(rt;
+        matches!(
+            parse_step(rt.alloc(), b"0 tcp-start-connect 2 1 4 127 0 0 1 80", 1)?,
+            Some(Step::TcpStartConnect {
+                context: 0,
+                socket: 2,
+                network: 1,
+                addr: IpSocketAddress::Ipv4(Ipv4SocketAddress {
+                    port: 80,
+                    address: (127, 0, 0, 1)
+                }),
+            })
+        )
+    );
+    let Some(
+        Step::Write {
+            context: 0,
+            output: 4,
+            bytes,
+        },
+    ) = parse_step(rt.alloc(), b"0 write 4 00ff", 1)?
+    else {
+        panic!(rt; "a write");
+    };
+    assert_eq!(rt; bytes.as_slice(), [0, 255].as_slice());
+    assert!(rt;
+        matches!(
+            parse_step(rt.alloc(), b"0 read 3 18446744073709551615", 1)?,
+            Some(Step::Read {
+                context: 0,
+                input: 3,
+                len: 18446744073709551615
+            })
+        )
+    );
+    Ok(())
+}
+
+#[test]
+fn each_word_has_its_step(rt: HostRuntime) -> Result<(), Fail> {
+    let lines = [
+        "0 tcp-finish-connect 2",
+        "0 tcp-local-address 2",
+        "0 tcp-remote-address 2",
+        "0 tcp-is-listening 2",
+        "0 tcp-address-family 2",
+        "0 check-write 4",
+        "0 write 4 -",
+        "0 flush 4",
+    ];
+    for line in lines {
+        assert!(rt;
+            parse_step(rt.alloc(), line.as_bytes(), 1)?.is_some(),
+            "{line}"
+        );
+    }
     Ok(())
 }
 
@@ -97,11 +154,23 @@ fn other_lines_are_no_steps(rt: HostRuntime) -> Result<(), Fail> {
         "0 tcp-start-bind 2 1 6 0 0 0 0 0 0 0 1 80 4294967296 0",
         "0 tcp-finish-bind 4294967296",
         "0 tcp-finish-bind -1",
+        "0 tcp-finish-connect",
+        "0 read 3",
+        "0 read 3 18446744073709551616",
+        "0 write 4",
+        "0 write 4 0",
+        "0 write 4 0A",
+        "0 write 4 0g",
+        "0 write 4 - -",
+        "0 flush 4 4",
     ];
     for line in lines {
-        assert!(rt; parse_step(line.as_bytes(), 2)?.is_none(), "{line}");
+        assert!(rt;
+            parse_step(rt.alloc(), line.as_bytes(), 2)?.is_none(),
+            "{line}"
+        );
     }
-    assert!(rt; parse_step(b"0 \xff", 1)?.is_none());
-    assert!(rt; parse_step(b"0 network", 0)?.is_none());
+    assert!(rt; parse_step(rt.alloc(), b"0 \xff", 1)?.is_none());
+    assert!(rt; parse_step(rt.alloc(), b"0 network", 0)?.is_none());
     Ok(())
 }
