@@ -1,10 +1,49 @@
 //! Sources and sinks over memory.
 
+use std::alloc::Global;
 use std::process::Abort;
 use std::test::Fail;
 use wasi_world::{Failed, MemorySink, MemorySource, Sink, Source, StdSink, StdSource};
 
 type Answers = &'static [Result<usize, Failed>];
+
+/// Reads once for each of the answers, and keeps what was given.
+fn expect_reads(
+    rt: &impl Abort,
+    source: &mut MemorySource,
+    size: usize,
+    answers: Answers,
+    given: &mut Vec<u8>,
+) -> Result<(), Fail> {
+    let mut buf = [0; 8];
+    for answer in answers {
+        let told = source.read(&mut buf[..size.min(8)]);
+        assert_eq!(rt; told, *answer);
+        given.extend_from_slice(&buf[..told.unwrap_or(0)])?;
+    }
+    Ok(())
+}
+
+/// A source of `abc` that fails at these calls gives these answers, all bytes and then its end.
+fn expect_source(
+    rt: &impl Abort,
+    alloc: Global,
+    most: usize,
+    fails: &[u32],
+    size: usize,
+    answers: Answers,
+) -> Result<(), Fail> {
+    assert!(rt; most >= 1);
+    let bytes = b"abc".to_vec(alloc)?;
+    let mut source = MemorySource::new(bytes, most, fails.to_vec(alloc)?);
+    let mut given = Vec::new(alloc);
+    expect_reads(rt, &mut source, size, answers, &mut given)?;
+    assert_eq!(rt; given.as_slice(), b"abc".as_slice());
+    assert!(rt; source.left().is_empty());
+    assert!(rt; source.has_ended());
+    assert_eq!(rt; source.faults(), fails.len() as u64);
+    Ok(())
+}
 
 #[test]
 fn a_source_gives_pieces_and_its_end(rt: HostRuntime) -> Result<(), Fail> {
@@ -18,22 +57,7 @@ fn a_source_gives_pieces_and_its_end(rt: HostRuntime) -> Result<(), Fail> {
         (1, &[5], 1, &[Ok(1), Ok(1), Ok(1), Ok(0), Err(Failed)]),
     ];
     for (most, fails, size, answers) in cases {
-        assert!(rt; most >= 1 && size <= 8);
-        let bytes = b"abc".to_vec(rt.alloc())?;
-        let mut source = MemorySource::new(bytes, most, fails.to_vec(rt.alloc())?);
-        let mut given = Vec::new(rt.alloc());
-        let mut buf = [0; 8];
-        for answer in answers {
-            let told = source.read(&mut buf[..size]);
-            assert_eq!(rt; told, *answer);
-            if let Ok(count) = told {
-                given.extend_from_slice(&buf[..count])?;
-            }
-        }
-        assert_eq!(rt; given.as_slice(), b"abc".as_slice());
-        assert!(rt; source.left().is_empty());
-        assert!(rt; source.has_ended());
-        assert_eq!(rt; source.faults(), fails.len() as u64);
+        expect_source(&rt, rt.alloc(), most, fails, size, answers)?;
     }
     Ok(())
 }
@@ -56,6 +80,16 @@ fn offer_text(rt: &impl Abort, sink: &mut MemorySink, answers: Answers) {
     }
 }
 
+/// The sink takes `abc` by these answers; then it has this text, and counted so many refused pieces and each failure.
+fn expect_sink(rt: &impl Abort, sink: MemorySink, answers: Answers, text: &str, refused: u64) {
+    let mut sink = sink;
+    offer_text(rt, &mut sink, answers);
+    assert_eq!(rt; sink.bytes(), text.as_bytes());
+    assert_eq!(rt; sink.refused(), refused);
+    let failures = answers.iter().filter(|answer| answer.is_err()).count();
+    assert_eq!(rt; sink.faults(), failures as u64);
+}
+
 #[test]
 fn a_sink_takes_what_it_has_room_for(rt: HostRuntime) -> Result<(), Fail> {
     let cases: [(usize, usize, &[u32], Answers, &str, u64); 6] = [
@@ -67,13 +101,21 @@ fn a_sink_takes_what_it_has_room_for(rt: HostRuntime) -> Result<(), Fail> {
         (0, 9, &[], &[Ok(0)], "", 1),
     ];
     for (most, room, fails, answers, text, refused) in cases {
-        let mut sink = MemorySink::new(rt.alloc(), most, room, fails.to_vec(rt.alloc())?)?;
-        offer_text(&rt, &mut sink, answers);
-        assert_eq!(rt; sink.bytes(), text.as_bytes());
-        assert_eq!(rt; sink.refused(), refused);
-        assert_eq!(rt; sink.faults(), fails.len() as u64);
+        let fails = fails.to_vec(rt.alloc())?;
+        let sink = MemorySink::new(rt.alloc(), most, room, fails)?;
+        expect_sink(&rt, sink, answers, text, refused);
     }
     Ok(())
+}
+
+/// Three writes and three flushes, of which the call with this number fails.
+fn expect_failure(rt: &impl Abort, sink: &mut MemorySink, failing: u32) {
+    for call in [1, 3, 5] {
+        assert_eq!(rt; sink.write(b"hi").is_err(), call == failing);
+        assert_eq!(rt; sink.flush().is_err(), call + 1 == failing);
+        assert_eq!(rt; sink.is_flushed(), call + 1 != failing);
+    }
+    assert_eq!(rt; sink.faults(), 1);
 }
 
 #[test]
@@ -81,12 +123,7 @@ fn a_sink_fails_at_each_call(rt: HostRuntime) -> Result<(), Fail> {
     for failing in 1..7u32 {
         let fails = [failing].to_vec(rt.alloc())?;
         let mut sink = MemorySink::new(rt.alloc(), 9, 9, fails)?;
-        for call in [1, 3, 5] {
-            assert_eq!(rt; sink.write(b"hi").is_err(), call == failing);
-            assert_eq!(rt; sink.flush().is_err(), call + 1 == failing);
-            assert_eq!(rt; sink.is_flushed(), call + 1 != failing);
-        }
-        assert_eq!(rt; sink.faults(), 1);
+        expect_failure(&rt, &mut sink, failing);
     }
     Ok(())
 }

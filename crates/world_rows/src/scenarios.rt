@@ -10,161 +10,102 @@ use std::process::Abort;
 use std::test::Fail;
 use wasi_world::{Kind, Lists, Planned, ScenarioError, ScriptedWorld, World};
 
+// The lines of a scenario, and what is told then: by each of them in turn, and then by default.
+const CASES: &str = "\
+check no; check yes; check no = no, yes, no, yes, yes
+lookup pending; lookup names 4 192 0 2 1; lookup code timeout = pending, 192.0.2.1, code Timeout, code Other
+tcp-create code not-supported; tcp-create done = code NotSupported, done, done
+udp-create code out-of-memory; udp-create done = code OutOfMemory, done, done
+udp-writable pending; udp-writable code other; udp-writable done = pending, code Other, done, done
+local addr 4 10 0 0 1 7; local code invalid-state = 10.0.0.1 7, code InvalidState, 0.0.0.0 0
+peer addr 6 0 0 0 0 0 0 0 1 7 0 0; peer code other = 0:0:0:0:0:0:0:1 7, code Other, code InvalidState
+bind code address-in-use; bind done = code AddressInUse, done, done
+listen code access-denied; listen done = code AccessDenied, done, done
+set-backlog code not-supported; set-backlog done = code NotSupported, done, done
+udp-bind code address-not-bindable; udp-bind done = code AddressNotBindable, done, done
+udp-connect code remote-unreachable; udp-connect done = code RemoteUnreachable, done, done
+udp-disconnect code other; udp-disconnect done = code Other, done, done
+set-option code invalid-argument; set-option done = code InvalidArgument, done, done
+connect pending; connect code connection-refused; connect done = pending, code ConnectionRefused, done, done
+send pending; send code datagram-too-large; send done = pending, code DatagramTooLarge, done, done
+accept arrived 4 10 0 0 1 7; accept pending; accept code connection-aborted = 10.0.0.1 7, pending, code ConnectionAborted, pending
+read bytes 616263646566; read pending; read bytes -; read code connection-reset = bytes abcd, bytes ef, pending, bytes , code ConnectionReset, pending
+read-ready done; read-ready pending = done, pending, pending
+write pending; write took 2; write took 9; write code connection-broken = pending, took ab, took abcde, code ConnectionBroken, took abcde
+write-ready pending; write-ready done = pending, done, done
+recv datagram 4 10 0 0 1 7 6869; recv pending; recv code timeout = hi from 10.0.0.1 7, pending, code Timeout, pending
+get-option value 7; get-option code other = 7, code Other, 64";
+
+// The kinds of the cases.
+const KINDS: [Kind; 23] = [
+    Kind::Check,
+    Kind::Lookup,
+    Kind::TcpCreate,
+    Kind::UdpCreate,
+    Kind::UdpWritable,
+    Kind::Local,
+    Kind::Peer,
+    Kind::Bind,
+    Kind::Listen,
+    Kind::SetBacklog,
+    Kind::UdpBind,
+    Kind::UdpConnect,
+    Kind::UdpDisconnect,
+    Kind::SetOption,
+    Kind::Connect,
+    Kind::Send,
+    Kind::Accept,
+    Kind::Read,
+    Kind::ReadReady,
+    Kind::Write,
+    Kind::WriteReady,
+    Kind::Recv,
+    Kind::GetOption,
+];
+
 /// Asks for each of the answers in turn.
 fn expect_answers(
     rt: &impl Abort,
     alloc: Global,
     world: &mut ScriptedWorld,
     kind: Kind,
-    answers: &[&str],
+    answers: &str,
 ) -> Result<(), Fail>
     requires { (seen_by world.old).ended ≡ false }
     ensures { (seen_by world.new).ended ≡ false }
 {
-    for answer in answers {
+    for answer in answers.split(", ") {
         let told = ask(alloc, world, SIDE, kind)?;
         let text = told_text(alloc, &told)?;
-        assert_eq!(rt; text.as_str(), *answer, "{kind:?}");
+        assert_eq!(rt; text.as_str(), answer);
     }
     Ok(())
+}
+
+/// A scenario of these lines.
+fn scenario(alloc: Global, lines: &str) -> Result<String, AllocError> {
+    let mut text = String::new(alloc);
+    for line in lines.split("; ") {
+        text.push_str(line)?;
+        text.push_str("\n")?;
+    }
+    Ok(text)
+}
+
+/// A world with these lines tells these answers to calls of the kind.
+fn expect_case(rt: &impl Abort, alloc: Global, kind: Kind, case: &str) -> Result<(), Fail> {
+    let (lines, answers) = case.split_once(" = ").unwrap_or(("", ""));
+    let scenario = scenario(alloc, lines)?;
+    let (mut world, _contexts) = ScriptedWorld::parse(alloc, scenario.as_bytes())?;
+    expect_answers(rt, alloc, &mut world, kind, answers)
 }
 
 /// Each kind with each of its answers, and then its default.
 #[test]
 fn lists_are_used_in_order(rt: HostRuntime) -> Result<(), Fail> {
-    let cases: [(&str, Kind, &[&str]); 23] = [
-        (
-            "check no\ncheck yes\ncheck no\n",
-            Kind::Check,
-            &["no", "yes", "no", "yes", "yes"],
-        ),
-        (
-            "lookup pending\nlookup names 4 192 0 2 1\nlookup code timeout\n",
-            Kind::Lookup,
-            &["pending", "192.0.2.1", "code Timeout", "code Other"],
-        ),
-        (
-            "tcp-create code not-supported\ntcp-create done\n",
-            Kind::TcpCreate,
-            &["code NotSupported", "done", "done"],
-        ),
-        (
-            "udp-create code out-of-memory\nudp-create done\n",
-            Kind::UdpCreate,
-            &["code OutOfMemory", "done", "done"],
-        ),
-        (
-            "udp-writable pending\nudp-writable code other\nudp-writable done\n",
-            Kind::UdpWritable,
-            &["pending", "code Other", "done", "done"],
-        ),
-        (
-            "local addr 4 10 0 0 1 7\nlocal code invalid-state\n",
-            Kind::Local,
-            &["10.0.0.1 7", "code InvalidState", "0.0.0.0 0"],
-        ),
-        (
-            "peer addr 6 0 0 0 0 0 0 0 1 7 0 0\npeer code other\n",
-            Kind::Peer,
-            &["0:0:0:0:0:0:0:1 7", "code Other", "code InvalidState"],
-        ),
-        (
-            "bind code address-in-use\nbind done\n",
-            Kind::Bind,
-            &["code AddressInUse", "done", "done"],
-        ),
-        (
-            "listen code access-denied\nlisten done\n",
-            Kind::Listen,
-            &["code AccessDenied", "done", "done"],
-        ),
-        (
-            "set-backlog code not-supported\nset-backlog done\n",
-            Kind::SetBacklog,
-            &["code NotSupported", "done", "done"],
-        ),
-        (
-            "udp-bind code address-not-bindable\nudp-bind done\n",
-            Kind::UdpBind,
-            &["code AddressNotBindable", "done", "done"],
-        ),
-        (
-            "udp-connect code remote-unreachable\nudp-connect done\n",
-            Kind::UdpConnect,
-            &["code RemoteUnreachable", "done", "done"],
-        ),
-        (
-            "udp-disconnect code other\nudp-disconnect done\n",
-            Kind::UdpDisconnect,
-            &["code Other", "done", "done"],
-        ),
-        (
-            "set-option code invalid-argument\nset-option done\n",
-            Kind::SetOption,
-            &["code InvalidArgument", "done", "done"],
-        ),
-        (
-            "connect pending\nconnect code connection-refused\nconnect done\n",
-            Kind::Connect,
-            &["pending", "code ConnectionRefused", "done", "done"],
-        ),
-        (
-            "send pending\nsend code datagram-too-large\nsend done\n",
-            Kind::Send,
-            &["pending", "code DatagramTooLarge", "done", "done"],
-        ),
-        (
-            "accept arrived 4 10 0 0 1 7\naccept pending\naccept code connection-aborted\n",
-            Kind::Accept,
-            &["10.0.0.1 7", "pending", "code ConnectionAborted", "pending"],
-        ),
-        (
-            "read bytes 616263646566\nread pending\nread bytes -\nread code connection-reset\n",
-            Kind::Read,
-            &[
-                "bytes abcd",
-                "bytes ef",
-                "pending",
-                "bytes ",
-                "code ConnectionReset",
-                "pending",
-            ],
-        ),
-        (
-            "read-ready done\nread-ready pending\n",
-            Kind::ReadReady,
-            &["done", "pending", "pending"],
-        ),
-        (
-            "write pending\nwrite took 2\nwrite took 9\nwrite code connection-broken\n",
-            Kind::Write,
-            &[
-                "pending",
-                "took ab",
-                "took abcde",
-                "code ConnectionBroken",
-                "took abcde",
-            ],
-        ),
-        (
-            "write-ready pending\nwrite-ready done\n",
-            Kind::WriteReady,
-            &["pending", "done", "done"],
-        ),
-        (
-            "recv datagram 4 10 0 0 1 7 6869\nrecv pending\nrecv code timeout\n",
-            Kind::Recv,
-            &["hi from 10.0.0.1 7", "pending", "code Timeout", "pending"],
-        ),
-        (
-            "get-option value 7\nget-option code other\n",
-            Kind::GetOption,
-            &["7", "code Other", "64"],
-        ),
-    ];
-    for (scenario, kind, answers) in cases {
-        let (mut world, _contexts) = ScriptedWorld::parse(rt.alloc(), scenario.as_bytes())?;
-        expect_answers(&rt, rt.alloc(), &mut world, kind, answers)?;
+    assert_eq!(rt; CASES.lines().count(), KINDS.len());
+    for (kind, case) in KINDS.into_iter().zip(CASES.lines()) {
+        expect_case(&rt, rt.alloc(), kind, case)?;
     }
     Ok(())
 }
@@ -231,14 +172,8 @@ fn a_world_keeps_its_log(rt: HostRuntime) -> Result<(), Fail> {
     let mut lists = Lists::new(rt.alloc())?;
     lists.push(Kind::Check, Planned::Pending)?;
     let mut world = ScriptedWorld::new(rt.alloc(), lists);
-    expect_answers(
-        &rt,
-        rt.alloc(),
-        &mut world,
-        Kind::Check,
-        &["pending", "yes"],
-    )?;
-    expect_answers(&rt, rt.alloc(), &mut world, Kind::Lookup, &["code Other"])?;
+    expect_answers(&rt, rt.alloc(), &mut world, Kind::Check, "pending, yes")?;
+    expect_answers(&rt, rt.alloc(), &mut world, Kind::Lookup, "code Other")?;
     assert_eq!(rt; world.faults(), 1);
     assert!(rt; !world.ended());
     world.end();

@@ -1,6 +1,7 @@
 //! The defaults of `local`, `peer` and `get-option`, which follow the calls that were told done.
 
 ghost use Rattle.std.specs.Prelude.{◌≡◌, false};
+ghost use Rattle.wasi_world.specs.Fits.{IsPlain};
 ghost use Rattle.wasi_world.specs.Scripted.{seen_by};
 
 use crate::calls::{SIDE, local};
@@ -51,24 +52,33 @@ fn make(world: &mut ScriptedWorld, op: OpId, word: &str, number: u16) -> Result<
     world.call(op, call)
 }
 
+/// What a call tells, as text.
+fn told(alloc: Global, world: &mut ScriptedWorld, call: Call) -> Result<String, AllocError>
+    requires open { (seen_by world.old).ended ≡ false }
+    requires plain { IsPlain call }
+    ensures { (seen_by world.new).ended ≡ false }
+{
+    let told = world.call(SIDE, call)?;
+    told_text(alloc, &told)
+}
+
 /// What `local`, `peer` and `get-option` tell of a side.
 fn defaults(alloc: Global, world: &mut ScriptedWorld, sock: Sock) -> Result<String, AllocError>
     requires { (seen_by world.old).ended ≡ false }
 {
     let option = Opt::HopLimit;
-    let local = world.call(SIDE, Call::Local { sock })?;
-    let peer = world.call(SIDE, Call::Peer { sock })?;
-    let value = world.call(SIDE, Call::GetOption { sock, option })?;
-    let local = told_text(alloc, &local)?;
-    let peer = told_text(alloc, &peer)?;
-    let value = told_text(alloc, &value)?;
+    let local = told(alloc, world, Call::Local { sock })?;
+    let peer = told(alloc, world, Call::Peer { sock })?;
+    let value = told(alloc, world, Call::GetOption { sock, option })?;
     format!(in alloc; "{local}, {peer}, {value}")
 }
 
-/// What the defaults tell after calls, each of which is a word and a number and has an operation of its own: of the side
-/// that was handed over, or else of the one that the first call made.
-fn told_after(alloc: Global, scenario: &str, calls: &str) -> Result<String, Fail> {
-    let (mut world, _contexts) = ScriptedWorld::parse(alloc, scenario.as_bytes())?;
+/// Makes the calls, each of which is a word and a number and has an operation of its own, and tells the side that was
+/// handed over, or else the one that the first call made.
+fn side_after(world: &mut ScriptedWorld, calls: &str) -> Result<Sock, AllocError>
+    requires { (seen_by world.old).ended ≡ false }
+    ensures { (seen_by world.new).ended ≡ false }
+{
     let mut calls = Fields::of(calls.as_bytes());
     let mut sock = SIDE;
     for step in 1..9u32 {
@@ -76,104 +86,63 @@ fn told_after(alloc: Global, scenario: &str, calls: &str) -> Result<String, Fail
             break;
         };
         let op = OpId { step, part: 0 };
-        make(&mut world, op, word, number as u16)?;
+        make(world, op, word, number as u16)?;
         if word == "hand" {
             sock = op;
         }
     }
+    Ok(sock)
+}
+
+/// What the defaults tell after calls.
+fn told_after(alloc: Global, scenario: &str, calls: &str) -> Result<String, Fail> {
+    let (mut world, _contexts) = ScriptedWorld::parse(alloc, scenario.as_bytes())?;
+    let sock = side_after(&mut world, calls)?;
     let told = defaults(alloc, &mut world, sock)?;
     Ok(told)
 }
 
-/// Each case of each default, by a scenario and calls.
+// Calls, and what the defaults tell after them.
+const CASES: &str = "\
+create 4: 0.0.0.0 0, code InvalidState, 64
+create 6: 0:0:0:0:0:0:0:0 0, code InvalidState, 64
+create 4 bind 80: 127.0.0.1 80, code InvalidState, 64
+create 4 bind 0: 127.0.0.1 50000, code InvalidState, 64
+create 4 udp-bind 0: 127.0.0.1 50000, code InvalidState, 64
+create 4 connect 9: 0.0.0.0 50000, 127.0.0.1 9, 64
+create 6 connect 9: 0:0:0:0:0:0:0:0 50000, 127.0.0.1 9, 64
+create 4 udp-connect 9: 0.0.0.0 50000, 127.0.0.1 9, 64
+create 4 send 80: 0.0.0.0 50000, code InvalidState, 64
+create 4 bind 7 connect 9: 127.0.0.1 7, 127.0.0.1 9, 64
+create 4 send 80 bind 7: 127.0.0.1 7, code InvalidState, 64
+create 4 udp-connect 8 udp-connect 9: 0.0.0.0 50000, 127.0.0.1 9, 64
+create 4 udp-connect 9 disconnect 9: 0.0.0.0 50000, code InvalidState, 64
+create 4 bind 80 hand 9: 127.0.0.1 80, 127.0.0.1 9, 64
+create 6 hand 9: 0:0:0:0:0:0:0:0 0, 127.0.0.1 9, 64
+create 4 hops 9: 0.0.0.0 0, code InvalidState, 9
+create 4 hops 9 hops 10: 0.0.0.0 0, code InvalidState, 10
+create 4 count 9: 0.0.0.0 0, code InvalidState, 64";
+
 #[test]
 fn defaults_follow_the_calls(rt: HostRuntime) -> Result<(), Fail> {
-    let cases = [
-        ("", "create 4", "0.0.0.0 0, code InvalidState, 64"),
-        ("", "create 6", "0:0:0:0:0:0:0:0 0, code InvalidState, 64"),
-        (
-            "",
-            "create 4 bind 80",
-            "127.0.0.1 80, code InvalidState, 64",
-        ),
-        (
-            "",
-            "create 4 bind 0",
-            "127.0.0.1 50000, code InvalidState, 64",
-        ),
-        (
-            "",
-            "create 4 udp-bind 0",
-            "127.0.0.1 50000, code InvalidState, 64",
-        ),
-        (
-            "bind code other\n",
-            "create 4 bind 80",
-            "0.0.0.0 0, code InvalidState, 64",
-        ),
-        ("", "create 4 connect 9", "0.0.0.0 50000, 127.0.0.1 9, 64"),
-        (
-            "",
-            "create 6 connect 9",
-            "0:0:0:0:0:0:0:0 50000, 127.0.0.1 9, 64",
-        ),
-        (
-            "",
-            "create 4 udp-connect 9",
-            "0.0.0.0 50000, 127.0.0.1 9, 64",
-        ),
-        (
-            "",
-            "create 4 send 80",
-            "0.0.0.0 50000, code InvalidState, 64",
-        ),
-        (
-            "connect pending\n",
-            "create 4 connect 9",
-            "0.0.0.0 0, code InvalidState, 64",
-        ),
-        (
-            "",
-            "create 4 bind 7 connect 9",
-            "127.0.0.1 7, 127.0.0.1 9, 64",
-        ),
-        (
-            "",
-            "create 4 send 80 bind 7",
-            "127.0.0.1 7, code InvalidState, 64",
-        ),
-        (
-            "",
-            "create 4 udp-connect 8 udp-connect 9",
-            "0.0.0.0 50000, 127.0.0.1 9, 64",
-        ),
-        (
-            "",
-            "create 4 udp-connect 9 disconnect 9",
-            "0.0.0.0 50000, code InvalidState, 64",
-        ),
-        (
-            "",
-            "create 4 bind 80 hand 9",
-            "127.0.0.1 80, 127.0.0.1 9, 64",
-        ),
-        ("", "create 6 hand 9", "0:0:0:0:0:0:0:0 0, 127.0.0.1 9, 64"),
-        ("", "create 4 hops 9", "0.0.0.0 0, code InvalidState, 9"),
-        (
-            "",
-            "create 4 hops 9 hops 10",
-            "0.0.0.0 0, code InvalidState, 10",
-        ),
-        (
-            "set-option code other\n",
-            "create 4 hops 9",
-            "0.0.0.0 0, code InvalidState, 64",
-        ),
-        ("", "create 4 count 9", "0.0.0.0 0, code InvalidState, 64"),
-    ];
-    for (scenario, calls, want) in cases {
+    for line in CASES.lines() {
+        let (calls, want) = line.split_once(": ").unwrap_or(("", ""));
+        let told = told_after(rt.alloc(), "", calls)?;
+        assert_eq!(rt; told.as_str(), want);
+    }
+    Ok(())
+}
+
+/// A call that isn't told done changes nothing.
+#[test]
+fn defaults_are_kept(rt: HostRuntime) -> Result<(), Fail> {
+    for (scenario, calls) in [
+        ("bind code other\n", "create 4 bind 80"),
+        ("connect pending\n", "create 4 connect 9"),
+        ("set-option code other\n", "create 4 hops 9"),
+    ] {
         let told = told_after(rt.alloc(), scenario, calls)?;
-        assert_eq!(rt; told.as_str(), want, "{calls}");
+        assert_eq!(rt; told.as_str(), "0.0.0.0 0, code InvalidState, 64");
     }
     Ok(())
 }
