@@ -5,3 +5,4 @@ pub mod Readers
 pub mod Jobs
 pub mod Writers
 pub mod TakenBytes
+pub mod ReadBytes

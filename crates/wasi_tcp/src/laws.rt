@@ -1,6 +1,6 @@
 //! Laws about the definitions that contracts cite.
 
-ghost use Rattle.std.specs.Prelude.{◌≡◌, ℕ, List, [], Result, Ok, Err};
+ghost use Rattle.std.specs.Prelude.{◌≡◌, ◌≤◌, ℕ, min, List, [], length, Result, Ok, Err};
 ghost use Rattle.wasi_addr.specs.declared.address.IpSocketAddress.{IpSocketAddress};
 ghost use Rattle.wasi_world.specs.declared.ids.OpId.{OpId};
 ghost use Rattle.wasi_world.specs.declared.call.Entry.{Entry};
@@ -50,6 +50,14 @@ pub fn writes_are_taken_in_order()
         Left (check_write_asks op s) entries rest → taken_in side entries ≡ [] }
     ensures read { (op side : OpId) (s : ReadState) (size : ℕ) (entries : List Entry) (rest : Asks (Result (List ℕ) StreamStop × ReadState)) →
         Left (read_state_asks op s size) entries rest → taken_in side entries ≡ [] }
+{}
+
+/// A read gives no more bytes than it was asked for, and at most 65536.
+///
+/// It runs no code: its contract is a law about the definitions that contracts cite.
+pub fn reads_are_within_their_size()
+    ensures { (op : OpId) (s after : ReadState) (size : ℕ) (bytes : List ℕ) (entries : List Entry) →
+        Left (read_state_asks op s size) entries (Give (Ok bytes, after)) → length bytes ≤ min size 65536 }
 {}
 
 /// A writing end that is closed answers its error on every call, asks nothing, and stays closed with it.

@@ -55,10 +55,7 @@ impl From<WriteError> for StreamError {
 fn refused<T: Drop>(error: WriteError) -> Result<T, StreamError>
     ensures { stream_outcome result ≡ Ok (Err (stop_of error)) }
 {
-    match error {
-        WriteError::Closed => Err(StreamError::Closed),
-        WriteError::LastOperationFailed(code) => Err(StreamError::LastOperationFailed(code)),
-    }
+    Err(StreamError::from(error))
 }
 
 /// What a guest writes to: the sending half of a connection, until it is given up.
