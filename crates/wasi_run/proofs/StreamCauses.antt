@@ -1,6 +1,6 @@
 -- How a call on a stream is answered, by what the stream itself gives.
 use Rattle.std.specs.Prelude.{⊤}
-use Rattle.std.proofs.Common.{◌≡◌, ℕ, ◌+◌, true, List, [], ◌∷◌, ◌++◌, Option, Some, None, Result, Ok, Err, slice_get, refl, ap, ◌∙◌}
+use Rattle.std.proofs.Common.{◌≡◌, ℕ, true, List, [], ◌∷◌, ◌++◌, Option, Some, None, Result, Ok, Err, slice_get, refl, ap, ◌∙◌}
 use Rattle.wasi_addr.specs.declared.code.ErrorCode.{ErrorCode}
 use Rattle.wasi_world.specs.declared.ids.OpId.{OpId}
 use Rattle.wasi_world.specs.declared.call.Call.TheVariants as call
