@@ -1,6 +1,6 @@
 -- Where the refusals come from of what a socket says of itself.
-use Rattle.std.specs.Prelude.{⊤, ◌⊎◌}
-use Rattle.std.proofs.Common.{◌≡◌, ◌≢◌, ℕ, Bool, true, false, inl, inr, List, [], ◌∷◌, ◌++◌, Option, Some, None, Result, Ok, Err, slice_get, refl, sym, ap, subst}
+use Rattle.std.specs.Prelude.{◌⊎◌}
+use Rattle.std.proofs.Common.{◌≡◌, ℕ, Bool, true, false, inl, inr, List, [], ◌∷◌, ◌++◌, Option, Some, None, Result, Ok, Err, slice_get, refl, sym, ap, subst}
 use Rattle.wasi_addr.specs.declared.address.IpSocketAddress.{IpSocketAddress}
 use Rattle.wasi_addr.specs.declared.code.ErrorCode.{ErrorCode}
 use Rattle.wasi_addr.specs.declared.code.ErrorCode.TheVariants.{InvalidState}

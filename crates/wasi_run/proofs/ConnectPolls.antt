@@ -1,6 +1,6 @@
 -- How a poll of a connect ends: it waits, or it is done, or it was closed with a code.
 use Rattle.std.specs.Prelude.{⊤}
-use Rattle.std.proofs.Common.{◌≡◌, ℕ, inl, inr, List, [], ◌∷◌, ◌++◌, refl, sym, subst, append_assoc}
+use Rattle.std.proofs.Common.{◌≡◌, inl, inr, List, [], ◌∷◌, ◌++◌, refl, sym, subst, append_assoc}
 use Rattle.wasi_addr.specs.declared.address.IpSocketAddress.{IpSocketAddress}
 use Rattle.wasi_addr.specs.declared.address.SocketAddrUse.{SocketAddrUse}
 use Rattle.wasi_addr.specs.declared.address.SocketAddrUse.TheVariants.{TcpBind, TcpConnect}
@@ -13,10 +13,10 @@ use Rattle.wasi_world.specs.declared.call.Told.TheVariants as told
 use Rattle.wasi_world.specs.Fits.{IsVerdict, IsPolled, IsDone}
 use Rattle.wasi_world.specs.Asks.{Asks, bind}
 use Rattle.wasi_world.specs.Typed.{told_verdict, told_polled}
-use Rattle.wasi_world.specs.Operation.{Given, Nothing, Item, Check, Connect, Last, LastAsk, CloseLast, Operation, End, Waits, Done, Refused, last_ask, after, round, polls, poll_asks, verdict_front, polled_front}
+use Rattle.wasi_world.specs.Operation.{Given, Nothing, Item, Check, Connect, LastAsk, CloseLast, Operation, End, Waits, Done, Refused, last_ask, after, round, polls, poll_asks, verdict_front, polled_front}
 use Rattle.wasi_tcp.specs.Connect.{IsConnect, IsLeftOfConnect, Unbound, Unchecked, Checked, ToClose, Ended}
 use Rattle.wasi_run.specs.Licence.{Has, entry}
-use Rattle.wasi_run.specs.Answered.{EndsPending, EndsClosing, ClosedBy, ToldNo, ToldWhy, ClosesLast}
+use Rattle.wasi_run.specs.Answered.{EndsPending, ClosedBy, ToldNo, ToldWhy, ClosesLast}
 use Rattle.wasi_run.proofs.StepCauses.{Gives}
 
 module _ (op : Operation) where

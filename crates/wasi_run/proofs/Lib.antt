@@ -46,6 +46,7 @@ pub mod WriteCauses
 pub mod StreamSteps
 pub mod ReadLaws
 pub mod WriteLaws
+pub mod RunCauses
 pub mod CreateCauses
 pub mod BindCauses
 pub mod ConnectCauses

@@ -1,6 +1,5 @@
 -- What a socket says of itself without asking the network.
-use Rattle.std.proofs.Common.{◌≡◌, ◌≢◌, ℕ, Bool, List, [], Option, Some, None, Result, Ok, Err, slice_get, refl, ap}
-use Rattle.wasi_addr.specs.declared.address.SocketAddressFamily.{SocketAddressFamily}
+use Rattle.std.proofs.Common.{◌≡◌, ℕ, List, [], Option, Some, None, slice_get, refl}
 use Rattle.wasi_world.specs.declared.call.Entry.{Entry}
 use Rattle.wasi_world.specs.declared.outcome.TrapKind.TheVariants.{NoSuchHandle}
 use Rattle.wasi_world.specs.declared.outcome.WasiSocketsCtx.{WasiSocketsCtx}
@@ -17,7 +16,6 @@ use Rattle.wasi_run.specs.Store.{is_listening_at, address_family_at}
 use Rattle.wasi_run.specs.Machine.{socket_at, is_listening_on, address_family_on, truth_reply, family_reply, step_asks, machine_asks}
 use Rattle.wasi_run.specs.Answered.{Answered, IsQuiet, record_in, record_at}
 use Rattle.wasi_run.proofs.StepCauses.{Gives, given, settled}
-use Rattle.wasi_run.proofs.RecordCauses.{found}
 
 -- == its answers
 -- it isn't refused, and traps where the record isn't there

@@ -1,5 +1,5 @@
 -- What a reader gives, and where it comes from.
-use Rattle.std.proofs.Common.{◌≡◌, ℕ, min, ◌==◌, Bool, true, false, if◌then◌else◌, List, [], ◌∷◌, ◌++◌, Option, Result, Ok, Err, refl, ap}
+use Rattle.std.proofs.Common.{◌≡◌, ℕ, min, ◌==◌, Bool, true, false, if◌then◌else◌, List, [], ◌∷◌, Result, Ok, Err, refl, ap}
 use Rattle.std.proofs.lemmas.Bool.{eqb-true}
 use Rattle.wasi_addr.specs.declared.address.ShutdownType.TheVariants.{Receive}
 use Rattle.wasi_addr.specs.declared.code.ErrorCode.{ErrorCode}

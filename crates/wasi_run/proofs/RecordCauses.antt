@@ -1,6 +1,6 @@
 -- Refusals of the record that a handle names: the record that is put back, and the words of codes.
 use Rattle.std.specs.Prelude.{⊤, IsSomeAnd}
-use Rattle.std.proofs.Common.{◌≡◌, ℕ, zero, suc, true, List, [], ◌∷◌, Option, Some, None, slice_get, slice_set, refl, sym, ap, subst, ◌∙◌}
+use Rattle.std.proofs.Common.{◌≡◌, ℕ, zero, suc, true, List, [], ◌∷◌, Option, Some, None, slice_get, slice_set, sym, ap, subst, ◌∙◌}
 use Rattle.wasi_addr.specs.declared.code.ErrorCode.{ErrorCode}
 use Rattle.wasi_addr.specs.declared.code.ErrorCode.TheVariants.{AccessDenied}
 use Rattle.wasi_world.specs.declared.call.Entry.{Entry}

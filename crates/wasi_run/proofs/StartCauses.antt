@@ -1,6 +1,6 @@
 -- Where the answers of the start of an operation come from, whichever is begun.
 use Rattle.std.specs.Prelude.{◌⊎◌}
-use Rattle.std.proofs.Common.{◌≡◌, ◌≢◌, ◌↔◌, ℕ, Bool, true, false, inl, inr, List, [], Option, Some, None, slice_get, refl, ap, subst}
+use Rattle.std.proofs.Common.{◌≡◌, ◌≢◌, ◌↔◌, ℕ, true, false, inl, inr, List, [], Option, Some, None, slice_get, refl, ap, subst}
 use Rattle.wasi_world.specs.declared.call.Entry.{Entry}
 use Rattle.wasi_world.specs.declared.outcome.TrapKind.TheVariants.{NoSuchHandle}
 use Rattle.wasi_world.specs.declared.outcome.WasiSocketsCtx.{WasiSocketsCtx}
@@ -14,7 +14,7 @@ use Rattle.wasi_run.specs.declared.step.Step.{Step}
 use Rattle.wasi_run.specs.Table.{kind_at}
 use Rattle.wasi_run.specs.Store.{is_nothing}
 use Rattle.wasi_run.specs.Machine.{socket_at, is_network, step_asks}
-use Rattle.wasi_run.specs.Answered.{Answered, record_at, OfRecord, RefusedOf, HasOperationInProgress, StartRefusal, InProgress, Begins}
+use Rattle.wasi_run.specs.Answered.{Answered, record_at, RefusedOf, HasOperationInProgress, StartRefusal, InProgress, Begins}
 use Rattle.wasi_run.proofs.StepCauses.{Gives, settled, busy_exactly}
 use Rattle.wasi_run.proofs.RecordCauses.{IsIdle, found}
 

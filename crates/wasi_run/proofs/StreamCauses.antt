@@ -1,6 +1,6 @@
 -- How a call on a stream is answered, by what the stream itself gives.
 use Rattle.std.specs.Prelude.{⊤}
-use Rattle.std.proofs.Common.{◌≡◌, ℕ, ◌+◌, true, List, [], ◌∷◌, ◌++◌, Option, Some, None, Result, Ok, Err, slice_get, refl, ap, subst, ◌∙◌}
+use Rattle.std.proofs.Common.{◌≡◌, ℕ, true, List, [], ◌∷◌, ◌++◌, Option, Some, None, Result, Ok, Err, slice_get, refl, ap, ◌∙◌}
 use Rattle.wasi_addr.specs.declared.code.ErrorCode.{ErrorCode}
 use Rattle.wasi_world.specs.declared.ids.OpId.{OpId}
 use Rattle.wasi_world.specs.declared.call.Call.TheVariants as call
@@ -19,9 +19,9 @@ use Rattle.wasi_run.specs.declared.socket.Streams.{Streams}
 use Rattle.wasi_run.specs.declared.socket.Tcp2Socket.{Tcp2Socket}
 use Rattle.wasi_run.specs.declared.table.Kind.TheVariants.{ErrorValue}
 use Rattle.wasi_run.specs.Host.{CallStop, Failed, Closed, Traps}
-use Rattle.wasi_run.specs.Table.{Shown, is_full, with_handle, make_asks}
-use Rattle.wasi_run.specs.Store.{Records, with_reader, with_writer, reader_of, reader_asks, writer_of, writer_asks, stream_at, with_record_put}
-use Rattle.wasi_run.specs.Machine.{side_at, with_table, with_store, failed_made, convert_asks, stopped, converted, stream_on}
+use Rattle.wasi_run.specs.Table.{is_full, with_handle, make_asks}
+use Rattle.wasi_run.specs.Store.{with_reader, with_writer, reader_of, reader_asks, writer_of, writer_asks, stream_at, with_record_put}
+use Rattle.wasi_run.specs.Machine.{side_at, with_table, with_store, failed_made, stopped, converted, stream_on}
 use Rattle.wasi_run.specs.Licence.{entry, marks_in}
 use Rattle.wasi_run.specs.Answered.{record_in, putting, streams_in, OfStreams}
 use Rattle.wasi_run.proofs.StepCauses.{Gives, gives_then}

@@ -1,5 +1,5 @@
 -- The answers of the calls of streams.
-use Rattle.std.proofs.Common.{◌≡◌, ℕ, List, [], length, Option, Some, None, Result, refl, sym, ap, subst, ◌∙◌}
+use Rattle.std.proofs.Common.{◌≡◌, ℕ, List, [], length, Option, Some, Result, refl, sym, ap, ◌∙◌}
 use Rattle.wasi_world.specs.declared.ids.OpId.{OpId}
 use Rattle.wasi_world.specs.declared.call.Entry.{Entry}
 use Rattle.wasi_world.specs.Asks.{Asks, Give, bind}
@@ -15,7 +15,7 @@ use Rattle.wasi_run.specs.Machine.{input_at, output_at, read_asks, check_asks, w
 use Rattle.wasi_run.specs.Answered.{record_in, streams_in, putting, OfStreams}
 use Rattle.wasi_run.proofs.StepCauses.{Gives, gives_then}
 use Rattle.wasi_run.proofs.RecordCauses.{put_same}
-use Rattle.wasi_run.proofs.StreamCauses.{StreamAnswer, StreamGives, on_gives, reader_called, writer_called}
+use Rattle.wasi_run.proofs.StreamCauses.{StreamAnswer, on_gives, reader_called, writer_called}
 use Rattle.wasi_run.proofs.ReadCauses.{ReadGives, read_gives}
 use Rattle.wasi_run.proofs.WriteCauses.{CheckGives, check_gives, WriteGives, write_gives, FlushGives, flush_gives}
 

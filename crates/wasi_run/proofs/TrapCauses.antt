@@ -7,7 +7,6 @@ use Rattle.wasi_world.specs.declared.call.Entry.{Entry}
 use Rattle.wasi_world.specs.declared.outcome.TrapKind.{TrapKind}
 use Rattle.wasi_world.specs.declared.outcome.TrapKind.TheVariants.{NoSuchHandle, Full, NotPermitted}
 use Rattle.wasi_world.specs.declared.outcome.WasiSocketsCtx.{WasiSocketsCtx}
-use Rattle.wasi_world.specs.Asks.{Give}
 use Rattle.wasi_streams.specs.StreamStop.{StreamStop}
 use Rattle.wasi_streams.specs.StreamStop as stop
 use Rattle.wasi_run.specs.declared.machine.Machine.{Machine}
@@ -31,7 +30,7 @@ use Rattle.wasi_run.proofs.BindCauses.{BindSays, bind_says}
 use Rattle.wasi_run.proofs.ConnectCauses.{ConnectSays, connect_says}
 use Rattle.wasi_run.proofs.FinishCauses.{FinishSays, finish_says}
 use Rattle.wasi_run.proofs.AddressCauses.{LocalSays, local_says, RemoteSays, remote_says}
-use Rattle.wasi_run.proofs.QuietCauses.{QuietReply, QuietSays, listening_says, family_says}
+use Rattle.wasi_run.proofs.QuietCauses.{QuietSays, listening_says, family_says}
 use Rattle.wasi_run.proofs.StreamCauses.{IsSound, StreamAnswer, NotThere, ItFails, FindsFull, ItIsClosed, ItTraps}
 use Rattle.wasi_run.proofs.ReadCauses.{ReadGives, read_is_sound}
 use Rattle.wasi_run.proofs.WriteCauses.{CheckGives, check_is_sound, WriteGives, write_is_sound, FlushGives, flush_is_sound}

@@ -1,19 +1,16 @@
 -- What a writer gives, and where it comes from.
 use Rattle.std.specs.Prelude.{⊤}
-use Rattle.std.proofs.Common.{◌≡◌, ℕ, ◌<◌, nat_lt, Bool, true, false, if◌then◌else◌, List, [], ◌∷◌, ◌++◌, length, Option, Result, Ok, Err, refl, ap, arith}
+use Rattle.std.proofs.Common.{◌≡◌, ℕ, nat_lt, Bool, true, false, if◌then◌else◌, List, [], ◌∷◌, length, Result, Ok, Err, refl, ap, arith}
 use Rattle.std.proofs.lemmas.Bool.{ltb-true, ltb-false}
-use Rattle.wasi_addr.specs.declared.code.ErrorCode.{ErrorCode}
 use Rattle.wasi_world.specs.declared.ids.OpId.{OpId}
 use Rattle.wasi_world.specs.declared.call.Call.TheVariants as call
 use Rattle.wasi_world.specs.declared.call.Entry.{Entry}
 use Rattle.wasi_world.specs.declared.call.Told.{Told}
 use Rattle.wasi_world.specs.declared.call.Told.TheVariants as told
-use Rattle.wasi_world.specs.declared.outcome.Answer.TheVariants.{Ready, Pending}
-use Rattle.wasi_world.specs.declared.outcome.TrapKind.{TrapKind}
 use Rattle.wasi_world.specs.declared.outcome.TrapKind.TheVariants.{NotPermitted}
 use Rattle.wasi_world.specs.Fits.{IsReady as FitsReady}
 use Rattle.wasi_world.specs.Asks.{Give, bind}
-use Rattle.wasi_world.specs.Operation.{Item, End, Waits, Done, Refused, poll_asks}
+use Rattle.wasi_world.specs.Operation.{poll_asks}
 use Rattle.wasi_world.specs.Typed.{told_ready}
 use Rattle.wasi_streams.specs.StreamStop.{StreamStop, Failed, Closed, Trap}
 use Rattle.wasi_tcp.specs.declared.halves.TcpSendStream.{TcpSendStream}
@@ -21,8 +18,8 @@ use Rattle.wasi_tcp.specs.declared.writer.WriteError.{WriteError}
 use Rattle.wasi_tcp.specs.declared.writer.WriteError.TheVariants as error
 use Rattle.wasi_tcp.specs.declared.writer.WriteState.{WriteState}
 use Rattle.wasi_tcp.specs.declared.writer.WriteState.TheVariants as writing
-use Rattle.wasi_tcp.specs.Job.{Job, new_job, job_after, job_asks}
-use Rattle.wasi_tcp.specs.Writer.{error_of_code, stop_of, collected, look_in, look_asks, permitted, check_write_asks, turn_asks, begun, write_on_asks, write_half_asks, write_state_asks, flush_of}
+use Rattle.wasi_tcp.specs.Job.{new_job, job_asks}
+use Rattle.wasi_tcp.specs.Writer.{stop_of, collected, look_in, permitted, check_write_asks, turn_asks, begun, write_on_asks, write_half_asks, write_state_asks, flush_of}
 use Rattle.wasi_run.specs.Licence.{entry, marks_in}
 use Rattle.wasi_run.specs.Store.{flush_asks}
 use Rattle.wasi_run.specs.Answered.{Permits, GoesOn, NotReady, IsReady, IsUnpermitted}

@@ -1,11 +1,11 @@
 -- Where the answers of an output's calls come from.
 use Rattle.std.specs.Prelude.{⊤, IsSomeAnd}
-use Rattle.std.proofs.Common.{◌≡◌, ◌≢◌, ◌↔◌, ℕ, List, [], ◌∷◌, ◌++◌, length, Option, Some, None, Result, Ok, Err, refl, sym, ap, subst, ◌∙◌}
+use Rattle.std.proofs.Common.{◌≡◌, ◌↔◌, ℕ, List, [], length, Option, Some, None, Result, Err, refl, sym, ap, subst, ◌∙◌}
 use Rattle.wasi_addr.specs.declared.code.ErrorCode.{ErrorCode}
 use Rattle.wasi_world.specs.declared.ids.OpId.{OpId}
 use Rattle.wasi_world.specs.declared.call.Entry.{Entry}
 use Rattle.wasi_world.specs.declared.outcome.TrapKind.{TrapKind}
-use Rattle.wasi_world.specs.declared.outcome.TrapKind.TheVariants.{NoSuchHandle, NotPermitted}
+use Rattle.wasi_world.specs.declared.outcome.TrapKind.TheVariants.{NotPermitted}
 use Rattle.wasi_world.specs.declared.outcome.WasiSocketsCtx.{WasiSocketsCtx}
 use Rattle.wasi_world.specs.Asks.{Give, bind}
 use Rattle.wasi_streams.specs.StreamStop.{StreamStop}
@@ -29,7 +29,7 @@ use Rattle.wasi_run.specs.Machine.{output_at, check_asks, write_asks, flushed_as
 use Rattle.wasi_run.specs.Answered.{Answered, putting, OfStreams, output_streams, Permits, IsUnpermitted, IsGivenUp, WasClosedWith, FailsWith, with_error}
 use Rattle.wasi_run.proofs.StepCauses.{Gives, settled, busy_exactly}
 use Rattle.wasi_run.proofs.StreamCauses.{NotThere, ItGives, ItFails, FindsFull, ItIsClosed, ItTraps}
-use Rattle.wasi_run.proofs.WriteCauses.{CheckGives, WriteGives, FlushGives}
+use Rattle.wasi_run.proofs.WriteCauses.{WriteGives}
 use Rattle.wasi_run.proofs.StreamSteps.{answered_by, CheckAnswer, check_answers, WriteAnswer, write_answers, FlushAnswer, flush_answers, of_more, the_streams, streams_same}
 
 module _ (m : Machine) (line output : ℕ) where

@@ -9,6 +9,7 @@ ghost use Rattle.wasi_world.specs.declared.call.Entry.{Entry};
 ghost use Rattle.wasi_world.specs.declared.call.Told.{Told};
 ghost use Rattle.wasi_world.specs.declared.outcome.TrapKind.{TrapKind};
 ghost use Rattle.wasi_world.specs.declared.outcome.WasiSocketsCtx.{WasiSocketsCtx};
+ghost use Rattle.wasi_world.specs.Asks.{Give, Left};
 ghost use Rattle.wasi_tcp.specs.Socket.{new_socket};
 ghost use Rattle.wasi_run.specs.declared.machine.Machine.{Machine};
 ghost use Rattle.wasi_run.specs.declared.reply.CodeWord.{CodeWord};
@@ -17,7 +18,7 @@ ghost use Rattle.wasi_run.specs.declared.reply.Reply.{Reply};
 ghost use Rattle.wasi_run.specs.declared.step.Step.{Step};
 ghost use Rattle.wasi_run.specs.Answered.{Answered, ConnectsAt, CreateRefusal, EndsPending, FailsWith, FinishRefusal, HasNoBindInProgress, HasNoConnectInProgress, HasOperationInProgress, IsGivenUp, IsQuiet, IsStartBind, IsUnpermitted, IsWrite, KnowsBound, LocalRefusal, MakesHandle, MissesHandle, OfStreams, Permits, ReadFails, ReadsEnd, ReadsNone, ReadsTold, RefusedBind, RefusedConnect, RefusedOf, RemoteRefusal, WasClosedWith, closing_reader, output_streams, record_at, with_error};
 ghost use Rattle.wasi_run.specs.Licence.{entry, marks_in};
-ghost use Rattle.wasi_run.specs.Machine.{context_at, input_at, is_network, output_at, own_of};
+ghost use Rattle.wasi_run.specs.Machine.{context_at, first_state, input_at, is_network, output_at, own_of, run};
 ghost use Rattle.wasi_run.specs.Reply.{bytes_fields, number_fields};
 ghost use Rattle.wasi_run.specs.Store.{with_record};
 ghost use Rattle.wasi_run.specs.Table.{is_full, kind_at};
@@ -126,7 +127,8 @@ pub fn start_connect_refusals()
 
 /// The finish of a connect is refused with `not-in-progress` exactly where the socket is there and has no connect in progress,
 /// and it asks nothing then and leaves the machine as it was. With `would-block` the connect was told to wait and goes on; with
-/// any other word the socket is closed with that word's code, and nothing is in progress.
+/// any other word the socket is closed with that word's code, and nothing is in progress. The causes are those of a socket that
+/// connects by a connect, as all do after any lines; those of other states than Connecting can't come in a run.
 pub fn finish_connect_refusals()
     ensures exactly { (contexts : List WasiSocketsCtx) (m : Machine) (line ctx handle : ℕ) (entries : List Entry) (reply : Reply) (after : Machine)
         → m.store.standing ≡ None → Answered contexts m line (Step.TcpFinishConnect ctx handle) entries reply after
@@ -136,6 +138,12 @@ pub fn finish_connect_refusals()
     ensures cause { (contexts : List WasiSocketsCtx) (m : Machine) (line ctx handle : ℕ) (entries : List Entry) (word : CodeWord) (after : Machine)
         → ConnectsAt m handle → Answered contexts m line (Step.TcpFinishConnect ctx handle) entries (Reply.Err word) after
         → RefusedOf m handle (FinishRefusal m) entries word after }
+{}
+
+/// After the lines of any script, what a handle's socket connects by is a connect.
+pub fn runs_connect_by_connects()
+    ensures { (contexts : List WasiSocketsCtx) (steps : List Step) (entries : List Entry) (replies : List Reply) (m : Machine)
+        → Left (run contexts [] first_state 1 steps) entries (Give (replies, m)) → (handle : ℕ) → ConnectsAt m handle }
 {}
 
 /// The local address is refused where the socket isn't bound or is connecting, with the code with which it is closed, or with
