@@ -4,3 +4,4 @@ pub mod RemoteAddresses
 pub mod Readers
 pub mod Jobs
 pub mod Writers
+pub mod TakenBytes

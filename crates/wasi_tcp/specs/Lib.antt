@@ -8,4 +8,5 @@ pub mod Halves
 pub mod Reader
 pub mod Job
 pub mod Writer
+pub mod Taken
 pub mod Calls

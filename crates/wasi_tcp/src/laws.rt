@@ -1,13 +1,23 @@
 //! Laws about the definitions that contracts cite.
 
-ghost use Rattle.std.specs.Prelude.{◌≡◌, List, Ok};
+ghost use Rattle.std.specs.Prelude.{◌≡◌, ℕ, List, [], Result, Ok, Err};
 ghost use Rattle.wasi_addr.specs.declared.address.IpSocketAddress.{IpSocketAddress};
 ghost use Rattle.wasi_world.specs.declared.ids.OpId.{OpId};
 ghost use Rattle.wasi_world.specs.declared.call.Entry.{Entry};
-ghost use Rattle.wasi_world.specs.Asks.{Give, Left};
+ghost use Rattle.wasi_world.specs.declared.outcome.Answer.{Answer};
+ghost use Rattle.wasi_world.specs.Asks.{Asks, Give, Left};
+ghost use Rattle.wasi_streams.specs.StreamStop.{StreamStop};
+ghost use Rattle.wasi_tcp.specs.declared.halves.TcpSendStream.{TcpSendStream};
+ghost use Rattle.wasi_tcp.specs.declared.reader.ReadState.{ReadState};
+ghost use Rattle.wasi_tcp.specs.declared.writer.WriteError.{WriteError};
+ghost use Rattle.wasi_tcp.specs.declared.writer.WriteState.{WriteState};
 ghost use Rattle.wasi_tcp.specs.Shape.{Socket};
 ghost use Rattle.wasi_tcp.specs.Addresses.{remote_asks};
 ghost use Rattle.wasi_tcp.specs.Calls.{SocketCall, after_calls, KnowsPeer};
+ghost use Rattle.wasi_tcp.specs.Reader.{read_state_asks};
+ghost use Rattle.wasi_tcp.specs.Writer.{stop_of, look_asks, check_write_asks, write_state_asks, flush_of};
+ghost use Rattle.wasi_tcp.specs.Taken.{taken_in, IsFrontOf, IsTakenBy};
+ghost use Rattle.wasi_tcp.specs.declared.writer.WriteState.TheVariants as WriteState;
 
 /// A remote address, once it is told, stays while the socket is connected: whatever calls are made on the socket, and
 /// whatever the network answers, it is still connected with this address, which is answered without an ask.
@@ -20,4 +30,34 @@ pub fn remote_address_stays()
         KnowsPeer a socket → Left (after_calls calls socket) entries (Give after) → KnowsPeer a after }
     ensures answered { (op : OpId) (a : IpSocketAddress) (socket : Socket) →
         KnowsPeer a socket → remote_asks op socket ≡ Give (Ok a, socket) }
+{}
+
+/// A write's bytes are taken in order, each once: wherever the write stands, what its side took is the first of them. Where
+/// it is over and the half is ready again, all were taken; where it goes on, it goes on with the rest. The other calls of
+/// a stream give a side nothing.
+///
+/// It runs no code: its contract is a law about the definitions that contracts cite.
+pub fn writes_are_taken_in_order()
+    ensures front { (op : OpId) (half : TcpSendStream) (permit : ℕ) (bytes : List ℕ) (entries : List Entry)
+        (rest : Asks (Result (Unit {0}) StreamStop × WriteState)) →
+        Left (write_state_asks op (WriteState.Ready half permit) bytes) entries rest → IsFrontOf (taken_in half.side entries) bytes }
+    ensures whole { (op : OpId) (half : TcpSendStream) (permit : ℕ) (bytes : List ℕ) (entries : List Entry)
+        (done : Result (Unit {0}) StreamStop × WriteState) →
+        Left (write_state_asks op (WriteState.Ready half permit) bytes) entries (Give done) → IsTakenBy bytes (taken_in half.side entries) done }
+    ensures look { (op side : OpId) (s : WriteState) (entries : List Entry) (rest : Asks (Result (Answer (Unit {0})) StreamStop × WriteState)) →
+        Left (look_asks op s) entries rest → taken_in side entries ≡ [] }
+    ensures check_write { (op side : OpId) (s : WriteState) (entries : List Entry) (rest : Asks (Result ℕ StreamStop × WriteState)) →
+        Left (check_write_asks op s) entries rest → taken_in side entries ≡ [] }
+    ensures read { (op side : OpId) (s : ReadState) (size : ℕ) (entries : List Entry) (rest : Asks (Result (List ℕ) StreamStop × ReadState)) →
+        Left (read_state_asks op s size) entries rest → taken_in side entries ≡ [] }
+{}
+
+/// A writing end that is closed answers its error on every call, asks nothing, and stays closed with it.
+///
+/// It runs no code: its contract is a law about the definitions that contracts cite.
+pub fn closed_writers_answer_the_same()
+    ensures look { (op : OpId) (e : WriteError) → look_asks op (WriteState.Closed e) ≡ Give (Err (stop_of e), WriteState.Closed e) }
+    ensures check_write { (op : OpId) (e : WriteError) → check_write_asks op (WriteState.Closed e) ≡ Give (Err (stop_of e), WriteState.Closed e) }
+    ensures write { (op : OpId) (e : WriteError) (bytes : List ℕ) → write_state_asks op (WriteState.Closed e) bytes ≡ Give (Err (stop_of e), WriteState.Closed e) }
+    ensures flush { (e : WriteError) → flush_of (WriteState.Closed e) ≡ Err (stop_of e) }
 {}
