@@ -35,3 +35,11 @@ pub mod StepCauses
 pub mod CreateCauses
 pub mod BindCauses
 pub mod TrapCauses
+pub mod PermitsQuiet
+pub mod PermitsStands
+pub mod PermitsWriter
+pub mod PermitsSteps
+pub mod PermitsKept
+pub mod PermitsWrites
+pub mod PermitsRuns
+pub mod PermitsAll
