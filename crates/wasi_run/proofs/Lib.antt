@@ -51,3 +51,11 @@ pub mod CreateCauses
 pub mod BindCauses
 pub mod ConnectCauses
 pub mod TrapCauses
+pub mod PermitsQuiet
+pub mod PermitsStands
+pub mod PermitsWriter
+pub mod PermitsSteps
+pub mod PermitsKept
+pub mod PermitsWrites
+pub mod PermitsRuns
+pub mod PermitsAll

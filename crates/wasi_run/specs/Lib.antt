@@ -17,3 +17,4 @@ pub mod Headline
 pub mod Program
 pub mod Parsed
 pub mod Answered
+pub mod Permitted

@@ -1,0 +1,115 @@
+-- Where a check-write permits something, all that was permitted was taken.
+use Rattle.std.specs.Prelude.{⊤, IsSomeAnd}
+use Rattle.std.proofs.Common.{◌≡◌, ℕ, ◌+◌, ◌<◌, List, [], ◌++◌, Option, Some, None, Ok, Err, Result, slice_get, length, refl, sym, ap, subst, ◌∙◌, append-nil}
+use Rattle.wasi_world.specs.declared.ids.OpId.{OpId}
+use Rattle.wasi_world.specs.declared.call.Entry.{Entry}
+use Rattle.wasi_world.specs.declared.outcome.WasiSocketsCtx.{WasiSocketsCtx}
+use Rattle.wasi_world.specs.Asks.{Give, bind, Left}
+use Rattle.wasi_world.proofs.Allowed.{reached}
+use Rattle.wasi_streams.specs.StreamStop.{StreamStop}
+use Rattle.wasi_tcp.specs.declared.halves.TcpSendStream.{TcpSendStream}
+use Rattle.wasi_tcp.specs.declared.writer.WriteState.{WriteState}
+use Rattle.wasi_tcp.specs.declared.writer.WriteState.TheVariants as writing
+use Rattle.wasi_tcp.specs.Socket.{side_in}
+use Rattle.wasi_tcp.specs.Writer.{writer_side, check_write_asks}
+use Rattle.wasi_tcp.specs.Taken.{taken_in}
+use Rattle.wasi_run.specs.declared.machine.Machine.{Machine}
+use Rattle.wasi_run.specs.declared.reply.Reply.{Reply}
+use Rattle.wasi_run.specs.declared.reply.Reply.TheVariants as reply
+use Rattle.wasi_run.specs.declared.socket.Streams.{Streams}
+use Rattle.wasi_run.specs.declared.socket.Tcp2Socket.{Tcp2Socket}
+use Rattle.wasi_run.specs.declared.step.Step.{Step}
+use Rattle.wasi_run.specs.declared.step.Step.TheVariants as step
+use Rattle.wasi_run.specs.declared.store.StandingBind.{StandingBind}
+use Rattle.wasi_run.specs.Host.{CallStop, Failed, Closed, Traps}
+use Rattle.wasi_run.specs.Reply.{number_fields}
+use Rattle.wasi_run.specs.Store.{writer_of, writer_asks, stream_at}
+use Rattle.wasi_run.specs.Machine.{first_state, with_store, convert_asks, converted, stream_on, output_at, check_asks, permit_reply, own_of, machine_asks}
+use Rattle.wasi_run.specs.Answered.{record_in, Answered}
+use Rattle.wasi_run.specs.Permitted.{writer_in, writer_of_record, WritesTo, Did}
+use Rattle.wasi_run.proofs.PermitsQuiet.{Quietly, Quiet, quiet_then}
+use Rattle.wasi_run.proofs.PermitsStands.{WriterIs, Holds, Agree, Agrees, Stands}
+use Rattle.wasi_run.proofs.PermitsWriter.{SaysAll, Checked, quiet_check}
+use Rattle.wasi_run.proofs.PermitsSteps.{meets_convert}
+use Rattle.wasi_run.proofs.PermitsWrites.{Fronts, quiet_keep}
+use Rattle.wasi_run.proofs.PermitsRuns.{taken_append, done_stands}
+
+some_side : (a b : OpId) → Some a ≡ Some b → a ≡ b
+some_side a b e = cc
+
+module _ (side : OpId) (taken permitted : List ℕ) (line : ℕ) (m : Machine) (own : OpId) (output : ℕ) (h : Stands side taken permitted m.store.sockets line) where
+  -- the writer of the output writes to the side
+  abbrev Writes : Option WriteState → Type 0
+  Writes found = IsSomeAnd found (λ w. writer_side w ≡ Some side)
+
+  abbrev Says : {A : Type 0} → Result ℕ StreamStop × A → Type 0
+  Says done = SaysAll taken permitted done.0
+
+  abbrev Tells : Result ℕ CallStop × Machine → Type 0
+  Tells (Ok n, now) = 0 < n → taken ≡ permitted
+  Tells (Err stop, now) = ⊤
+
+  tells : (es : List Entry) (place : ℕ) (done : Result ℕ StreamStop × Machine) → Says done → Quiet Tells es (converted own output place done)
+  tells es place (Ok n, now) k = k
+  tells es place (Err why, now) k =
+      quiet_then (λ c. ⊤) Tells es (convert_asks now own output place why) _ (meets_convert Quietly (λ fs rs. ⊤) (λ fs rs o n d p s q. tt) (λ fs rs o n d p s t q. tt) es now own output place why tt) (λ fs c q. tt)
+
+  says_of : (place : ℕ) (r : Tcp2Socket) (o : Option Streams) → slice_get m.store.sockets place ≡ Some r → r.streams ≡ o → Writes (writer_in o) → Quiet Says [] (writer_of r (check_write_asks own) o)
+  says_of place r None g e w = absurd w
+  says_of place r (Some s) g e w =
+      let o = (h.records place r g).opened s e in
+      quiet_then (Checked taken permitted s.writer) Says [] (check_write_asks own s.writer) _ (quiet_check taken permitted [] own o.connection.side s.writer o.writer) (λ fs done k. k.says (λ half permit p. all half permit p))
+    where
+      all : (half : TcpSendStream) (permit : ℕ) → s.writer ≡ writing.Ready half permit → taken ≡ permitted
+      all half permit p =
+          let o = (h.records place r g).opened s e in
+          let ours : half.side ≡ side = some_side half.side side (subst (λ (x : WriteState). writer_side x ≡ Some side) p w) in
+          let same : half.side ≡ o.connection.side = subst (WriterIs o.connection.side) p o.writer in
+          let held : Holds side r = ap side_in o.is ∙ ap (λ (x : OpId). Some x) (sym same ∙ ours) in
+          subst (Agrees taken permitted) p (subst (Agree taken permitted) e (h.agree place r g held))
+
+  says_at : (place : ℕ) (o : Option Tcp2Socket) → slice_get m.store.sockets place ≡ o → Writes (writer_of_record o) → Quiet Says [] (stream_at m.store place (writer_asks (check_write_asks own)) o)
+  says_at place None g w = absurd w
+  says_at place (Some r) g w = quiet_then Says Says [] (writer_asks (check_write_asks own) r) _ (says_of place r r.streams g refl w) (λ fs done k. k)
+
+  tells_on : (o : Option ℕ) → Writes (writer_of_record (record_in m o)) → Quiet Tells [] (stream_on m own output (writer_asks (check_write_asks own)) o)
+  tells_on None w = absurd w
+  tells_on (Some place) w =
+      let o = slice_get m.store.sockets place in
+      quiet_then Says Tells [] (stream_at m.store place (writer_asks (check_write_asks own)) o) _ (says_at place o refl w) (λ fs done k. tells fs place (with_store m done) k)
+
+  -- of the reply
+  abbrev Replies : Reply × Machine → Type 0
+  Replies done = (n : ℕ) → done.0 ≡ reply.Ok (number_fields n) → 0 < n → taken ≡ permitted
+
+  replies : (done : Result ℕ CallStop × Machine) → Tells done → Replies (permit_reply done.0, done.1)
+  replies (Ok v, now) k n e l = let same : v ≡ n = cc in k (subst (λ (x : ℕ). 0 < x) (sym same) l)
+  replies (Err (Failed c why), now) k n e l = absurd (cc)
+  replies (Err Closed, now) k n e l = absurd (cc)
+  replies (Err (Traps kind), now) k n e l = absurd (cc)
+
+  check_replies : WritesTo m output side → Quiet Replies [] (bind (check_asks m own output) (λ done. Give (permit_reply done.0, done.1)))
+  check_replies w = quiet_then Tells Replies [] (check_asks m own output) _ (tells_on (output_at m output) w) (λ fs done k. replies done k)
+
+module _ (contexts : List WasiSocketsCtx) (side : OpId) (taken permitted : List ℕ) (line : ℕ) (m : Machine) (ctx output n : ℕ) (h : Stands side taken permitted m.store.sockets line) (w : WritesTo m output side) (some : 0 < n) where
+  abbrev IsBusy : List Entry → Reply × Machine → Type 0
+  IsBusy es done = done.0 ≡ reply.Busy
+
+  all_by : (standing : Option StandingBind) (entries : List Entry) (next : Machine) → Left (machine_asks contexts m line (step.CheckWrite ctx output) standing) entries (Give (reply.Ok (number_fields n), next)) → taken ++ taken_in side entries ≡ permitted
+  all_by None entries next walk =
+      let asks = bind (check_asks m (own_of line) output) (λ done. Give (permit_reply done.0, done.1)) in
+      let Q = Replies side taken permitted line m (own_of line) output h in
+      let k = reached (λ es o c. Fronts side taken permitted es) (λ es done. (taken_in side es ≡ []) × Q done) [] asks entries (Give (reply.Ok (number_fields n), next))
+      (quiet_keep side taken permitted Q [] asks h.front refl (check_replies side taken permitted line m (own_of line) output h w)) walk in
+      ap (λ more. taken ++ more) k.0 ∙ (append-nil taken ∙ k.1 n refl some)
+  all_by (Some c) entries next walk =
+      let e : reply.Ok (number_fields n) ≡ reply.Busy = reached (λ es o c. ⊤) IsBusy [] (Give (reply.Busy, m)) entries (Give (reply.Ok (number_fields n), next)) refl walk in absurd (cc)
+
+  all_taken : (entries : List Entry) (next : Machine) → Answered contexts m line (step.CheckWrite ctx output) entries (reply.Ok (number_fields n)) next → taken ++ taken_in side entries ≡ permitted
+  all_taken entries next walk = all_by m.store.standing entries next walk
+
+pub permit_says_all : (contexts : List WasiSocketsCtx) (side : OpId) (steps : List Step) (log : List Entry) (permitted : List ℕ) (after : Machine) (ctx output n : ℕ) (entries : List Entry) (next : Machine)
+    → Did contexts side first_state 1 steps log permitted after → WritesTo after output side
+    → Answered contexts after (1 + length steps) (step.CheckWrite ctx output) entries (reply.Ok (number_fields n)) next → 0 < n → taken_in side (log ++ entries) ≡ permitted
+permit_says_all contexts side steps log permitted after ctx output n entries next d w walk some =
+    taken_append side log entries ∙ all_taken contexts side (taken_in side log) permitted (1 + length steps) after ctx output n (done_stands contexts side steps log permitted after d) w some entries next walk
