@@ -31,11 +31,8 @@ use Rattle.wasi_run.proofs.PermitsQuiet.{Quietly, Quiet, quiet_then}
 use Rattle.wasi_run.proofs.PermitsStands.{WriterIs, Holds, Agree, Agrees, Stands}
 use Rattle.wasi_run.proofs.PermitsWriter.{SaysAll, Checked, quiet_check}
 use Rattle.wasi_run.proofs.PermitsSteps.{meets_convert}
-use Rattle.wasi_run.proofs.PermitsWrites.{Fronts, quiet_keep}
+use Rattle.wasi_run.proofs.PermitsWrites.{Fronts, quiet_keep, some_side}
 use Rattle.wasi_run.proofs.PermitsRuns.{taken_append, done_stands}
-
-some_side : (a b : OpId) → Some a ≡ Some b → a ≡ b
-some_side a b e = cc
 
 module _ (side : OpId) (taken permitted : List ℕ) (line : ℕ) (m : Machine) (own : OpId) (output : ℕ) (h : Stands side taken permitted m.store.sockets line) where
   -- the writer of the output writes to the side

@@ -21,9 +21,6 @@ use Rattle.wasi_run.proofs.PermitsQuiet.{IsPlainState, Follows}
 same_record : (a b : Tcp2Socket) → Some a ≡ Some b → a ≡ b
 same_record a b p = cc
 
-same_connection : (a b : Connection) → state.Connected a ≡ state.Connected b → a ≡ b
-same_connection a b p = cc
-
 -- the record at a place of a list that grew by one
 split_place : {A : Type 0} (xs : List A) (y : A) (k : ℕ) (x : A) → slice_get (xs ++ y ∷ []) k ≡ Some x → (slice_get xs k ≡ Some x) ⊎ ((k ≡ length xs) × (y ≡ x))
 split_place [] y zero x h = inr (refl, cc)

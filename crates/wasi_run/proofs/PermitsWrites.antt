@@ -186,7 +186,7 @@ not_same a b e h =
     let q : true ≡ false = sym p ∙ (ap (λ (x : OpId). is_same a x) e ∙ h) in
     absurd (cc)
 
-some_side : (a b : OpId) → Some a ≡ Some b → a ≡ b
+pub some_side : (a b : OpId) → Some a ≡ Some b → a ≡ b
 some_side a b e = cc
 
 module _ (side : OpId) (taken permitted : List ℕ) (line : ℕ) (m : Machine) (own : OpId) (output : ℕ) (h : Stands side taken permitted m.store.sockets line) where
