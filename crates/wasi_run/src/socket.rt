@@ -12,8 +12,8 @@ ghost use Rattle.wasi_run.specs.Sides.{ClosesOwn};
 ghost use Rattle.wasi_run.specs.Store.{is_nothing, is_bind, is_connect, begin_bind_asks, poll_bind_asks, begin_connect_asks, poll_connect_asks, connect_told, connect_settled, opened, reader_asks, writer_asks, flush_asks, tell_local_asks, tell_remote_asks, new_record};
 
 use crate::host::SocketError;
-use wasi_addr::{IpSocketAddress, p2};
 use std::alloc::Global;
+use wasi_addr::{IpSocketAddress, p2};
 use wasi_streams::StreamError;
 use wasi_tcp::{BindOp, ReadState, TcpSocket, WriteState};
 use wasi_world::{Answer, Octets, OpId, Refusal, TrapKind, World};
@@ -229,11 +229,7 @@ impl Tcp2Socket {
     }
 
     /// How much may be written to the connection.
-    pub fn check_write<W: World>(
-        &mut self,
-        world: &mut W,
-        op: OpId,
-    ) -> Result<usize, StreamError>
+    pub fn check_write<W: World>(&mut self, world: &mut W, op: OpId) -> Result<usize, StreamError>
         requires { (W.seen world.old).ended ≡ false }
         ensures asked { AsksFor (writer_asks (check_write_asks op) self.old) (W.seen world.old) (W.seen world.new) (λ answer. (answer, self.new)) (stream_outcome result) }
         ensures side { side_of self.new.inner ≡ side_of self.old.inner }
