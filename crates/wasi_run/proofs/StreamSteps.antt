@@ -47,10 +47,10 @@ module _ (m : Machine) (line : ℕ) where
     -- == a write
     module _ (bytes : List ℕ) where
       abbrev pub WriteAnswer : List Entry → Result (Unit {0}) CallStop → Machine → Type 0
-      WriteAnswer = StreamAnswer (λ s. s.writer) with_writer (WriteGives (length bytes)) m own output (output_at m output)
+      WriteAnswer = StreamAnswer (λ s. s.writer) with_writer (WriteGives own (length bytes)) m own output (output_at m output)
 
       pub write_answers : Gives (λ es done. WriteAnswer es done.0 done.1) [] (write_asks m own output bytes)
-      write_answers = on_gives (λ s. s.writer) with_writer (WriteGives (length bytes)) m own output (output_at m output) (writer_asks (λ w. write_state_asks own w bytes)) (writer_called (WriteGives (length bytes)) (λ w. write_state_asks own w bytes) (write_gives own bytes)) (output_at m output) refl
+      write_answers = on_gives (λ s. s.writer) with_writer (WriteGives own (length bytes)) m own output (output_at m output) (writer_asks (λ w. write_state_asks own w bytes)) (writer_called (WriteGives own (length bytes)) (λ w. write_state_asks own w bytes) (write_gives own bytes)) (output_at m output) refl
 
     -- == a flush
     abbrev pub FlushAnswer : List Entry → Result (Unit {0}) CallStop → Machine → Type 0

@@ -138,7 +138,7 @@ module _ (contexts : List WasiSocketsCtx) (m : Machine) (line : ℕ) where
 
   of_write : (ctx output : ℕ) (bytes : List ℕ) (es : List Entry) (res : Result (Unit {0}) CallStop) (after : Machine) → WriteAnswer m line output bytes es res after → Says (step.Write ctx output bytes) es (taken_reply res, after)
   of_write ctx output bytes es (Ok done) after k = tt
-  of_write ctx output bytes es (Err stop) after k = of_stop (step.Write ctx output bytes) output (output_at m output) (λ none. none) tt (λ s. s.writer) with_writer (WriteGives (length bytes)) (write_is_sound (length bytes)) es stop after k
+  of_write ctx output bytes es (Err stop) after k = of_stop (step.Write ctx output bytes) output (output_at m output) (λ none. none) tt (λ s. s.writer) with_writer (WriteGives (own_of line) (length bytes)) (write_is_sound (own_of line) (length bytes)) es stop after k
 
   of_flush : (ctx output : ℕ) (es : List Entry) (res : Result (Unit {0}) CallStop) (after : Machine) → FlushAnswer m line output es res after → Says (step.Flush ctx output) es (taken_reply res, after)
   of_flush ctx output es (Ok done) after k = tt

@@ -10,6 +10,7 @@ use Rattle.wasi_world.specs.declared.outcome.WasiSocketsCtx.{WasiSocketsCtx}
 use Rattle.wasi_world.specs.Asks.{Give, bind}
 use Rattle.wasi_streams.specs.StreamStop.{StreamStop}
 use Rattle.wasi_streams.specs.StreamStop as stop
+use Rattle.wasi_tcp.specs.declared.writer.WriteError.{WriteError}
 use Rattle.wasi_tcp.specs.declared.writer.WriteError.TheVariants as error
 use Rattle.wasi_tcp.specs.declared.writer.WriteState.{WriteState}
 use Rattle.wasi_tcp.specs.declared.writer.WriteState.TheVariants as writing
@@ -26,7 +27,7 @@ use Rattle.wasi_run.specs.Host.{CallStop}
 use Rattle.wasi_run.specs.Reply.{number_fields}
 use Rattle.wasi_run.specs.Store.{with_writer}
 use Rattle.wasi_run.specs.Machine.{output_at, check_asks, write_asks, flushed_asks, permit_reply, taken_reply, own_of}
-use Rattle.wasi_run.specs.Answered.{Answered, putting, OfStreams, output_streams, Permits, IsUnpermitted, IsGivenUp, WasClosedWith, FailsWith, with_error}
+use Rattle.wasi_run.specs.Answered.{Answered, putting, OfStreams, output_streams, Permits, IsUnpermitted, IsGivenUp, WasClosedWith, FailsWith, with_error, closing_writer, CheckFails, WriteFails}
 use Rattle.wasi_run.proofs.StepCauses.{Gives, settled, busy_exactly}
 use Rattle.wasi_run.proofs.StreamCauses.{NotThere, ItGives, ItFails, FindsFull, ItIsClosed, ItTraps}
 use Rattle.wasi_run.proofs.WriteCauses.{WriteGives}
@@ -47,14 +48,36 @@ module _ (m : Machine) (line output : ℕ) where
   -- == a look at what may be written
   abbrev CheckSays : List Entry → Reply × Machine → Type 0
   CheckSays es (reply.Ok fields, after) = (n : ℕ) → fields ≡ number_fields n → Its (λ place r s. Permits own s.writer n es)
+  CheckSays es (reply.Closed, after) = Its (λ place r s. CheckFails error.Closed s.writer es × (after ≡ closing_writer m place r s error.Closed))
+  CheckSays es (reply.Failed w handle, after) = Its (λ place r s. FailsWith m own output (λ c before. CheckFails (error.LastOperationFailed c) s.writer before × (after ≡ with_error (closing_writer m place r s (error.LastOperationFailed c)))) es w handle)
   CheckSays es _ = ⊤
+
+  -- the machine, where the writer is now closed so
+  closed_so : (P : ℕ → Tcp2Socket → Streams → Type 0) (on : Its P) (now : WriteState) (e : WriteError) → now ≡ writing.Closed e → putting m on.place (with_writer on.found on.streams now) ≡ closing_writer m on.place on.found on.streams e
+  closed_so P on now e p = ap (λ (w : WriteState). putting m on.place (with_writer on.found on.streams w)) p
 
   of_check : (es : List Entry) (res : Result ℕ CallStop) (after : Machine) → CheckAnswer m line output es res after → CheckSays es (permit_reply res, after)
   of_check _ _ _ (NotThere none) = tt
   of_check _ _ _ (ItGives es value now on) = λ n e. let same : value ≡ n = cc in subst (λ (v : ℕ). Its (λ place r s. Permits own s.writer v es)) same on
-  of_check _ _ _ (ItFails es c now on side t) = tt
+  of_check _ _ _ (ItFails es c now on side t) = record {
+    place = on.place;
+    found = on.found;
+    streams = on.streams;
+    names = on.names;
+    at = on.at;
+    has = on.has;
+    holds = record { code = c; before = es; side = side; told = t; cause = (on.holds.0, ap with_error (closed_so _ on now (error.LastOperationFailed c) on.holds.1)); marked = refl; word_is = refl; handle_is = refl };
+  }
   of_check _ _ _ (FindsFull es c now on full) = tt
-  of_check _ _ _ (ItIsClosed es now on) = tt
+  of_check _ _ _ (ItIsClosed es now on) = record {
+    place = on.place;
+    found = on.found;
+    streams = on.streams;
+    names = on.names;
+    at = on.at;
+    has = on.has;
+    holds = (on.holds.0, closed_so _ on now error.Closed on.holds.1);
+  }
   of_check _ _ _ (ItTraps es kind now on) = absurd on.holds
 
   check_says : Gives CheckSays [] (bind (check_asks m own output) (λ done. Give (permit_reply done.0, done.1)))
@@ -72,7 +95,7 @@ module _ (m : Machine) (line output : ℕ) where
     its_writer : (P : ℕ → Tcp2Socket → Streams → Type 0) (on : Its P) → Unpermitted → IsUnpermitted on.streams.writer (length bytes)
     its_writer P on unpermitted = rw (the_streams m (output_at m output) P on) at unpermitted
 
-    traps : (es : List Entry) (kind : TrapKind) (now : WriteState) (on : Its (λ place r s. WriteGives (length bytes) s.writer es (Err (stop.Trap kind), now))) → WriteSays es (reply.Trap kind, putting m on.place (with_writer on.found on.streams now))
+    traps : (es : List Entry) (kind : TrapKind) (now : WriteState) (on : Its (λ place r s. WriteGives own (length bytes) s.writer es (Err (stop.Trap kind), now))) → WriteSays es (reply.Trap kind, putting m on.place (with_writer on.found on.streams now))
     traps es NotPermitted now on = (rw (the_streams m (output_at m output) _ on) on.holds.0, on.holds.1, stays _ on now on.holds.2)
     traps es _ now on = absurd on.holds
 
@@ -94,6 +117,39 @@ module _ (m : Machine) (line output : ℕ) where
     is_trap : (es : List Entry) (r : Reply) (after : Machine) → Unpermitted → WriteSays es (r, after) → r ≡ reply.Trap NotPermitted
     is_trap es (reply.Trap NotPermitted) after u h = refl
     is_trap es _ after u h = absurd (h u)
+
+    -- how it fails
+    abbrev WriteEnds : List Entry → Reply × Machine → Type 0
+    WriteEnds es (reply.Closed, after) = Its (λ place r s. WriteFails own error.Closed s.writer es × (after ≡ closing_writer m place r s error.Closed))
+    WriteEnds es (reply.Failed w handle, after) = Its (λ place r s. FailsWith m own output (λ c before. WriteFails own (error.LastOperationFailed c) s.writer before × (after ≡ with_error (closing_writer m place r s (error.LastOperationFailed c)))) es w handle)
+    WriteEnds es _ = ⊤
+
+    of_end : (es : List Entry) (res : Result (Unit {0}) CallStop) (after : Machine) → WriteAnswer m line output bytes es res after → WriteEnds es (taken_reply res, after)
+    of_end _ _ _ (NotThere none) = tt
+    of_end _ _ _ (ItGives es value now on) = tt
+    of_end _ _ _ (ItFails es c now on side t) = record {
+      place = on.place;
+      found = on.found;
+      streams = on.streams;
+      names = on.names;
+      at = on.at;
+      has = on.has;
+      holds = record { code = c; before = es; side = side; told = t; cause = (on.holds.2, ap with_error (closed_so _ on now (error.LastOperationFailed c) on.holds.3)); marked = refl; word_is = refl; handle_is = refl };
+    }
+    of_end _ _ _ (FindsFull es c now on full) = tt
+    of_end _ _ _ (ItIsClosed es now on) = record {
+      place = on.place;
+      found = on.found;
+      streams = on.streams;
+      names = on.names;
+      at = on.at;
+      has = on.has;
+      holds = (on.holds.2, closed_so _ on now error.Closed on.holds.3);
+    }
+    of_end _ _ _ (ItTraps es kind now on) = tt
+
+    write_ends : Gives WriteEnds [] (bind (write_asks m own output bytes) (λ done. Give (taken_reply done.0, done.1)))
+    write_ends = answered_by (λ es done. WriteAnswer m line output bytes es done.0 done.1) WriteEnds taken_reply of_end _ (write_answers m line output bytes)
 
   -- == a flush
   flush_is_closed : (writer : WriteState) → flush_of writer ≡ Err stop.Closed → IsGivenUp writer
@@ -157,3 +213,17 @@ module _ (m : Machine) (line output : ℕ) where
     pub flush_failed : (es : List Entry) (word : CodeWord) (handle : ℕ) (after : Machine) → Answered contexts m line (step.Flush ctx output) es (reply.Failed word handle) after
         → Its (λ place r s. FailsWith m own output (WasClosedWith s.writer) es word handle) × (after ≡ with_error m)
     flush_failed es word handle after w = settled contexts m line FlushSays (step.Flush ctx output) m.store.standing es (reply.Failed word handle, after) flush_says w (λ e. cc)
+
+    pub check_closed : (es : List Entry) (after : Machine) → Answered contexts m line (step.CheckWrite ctx output) es reply.Closed after → Its (λ place r s. CheckFails error.Closed s.writer es × (after ≡ closing_writer m place r s error.Closed))
+    check_closed es after w = settled contexts m line CheckSays (step.CheckWrite ctx output) m.store.standing es (reply.Closed, after) check_says w (λ e. cc)
+
+    pub check_failed : (es : List Entry) (word : CodeWord) (handle : ℕ) (after : Machine) → Answered contexts m line (step.CheckWrite ctx output) es (reply.Failed word handle) after
+        → Its (λ place r s. FailsWith m own output (λ c before. CheckFails (error.LastOperationFailed c) s.writer before × (after ≡ with_error (closing_writer m place r s (error.LastOperationFailed c)))) es word handle)
+    check_failed es word handle after w = settled contexts m line CheckSays (step.CheckWrite ctx output) m.store.standing es (reply.Failed word handle, after) check_says w (λ e. cc)
+
+    pub write_closed : (bytes : List ℕ) (es : List Entry) (after : Machine) → Answered contexts m line (step.Write ctx output bytes) es reply.Closed after → Its (λ place r s. WriteFails own error.Closed s.writer es × (after ≡ closing_writer m place r s error.Closed))
+    write_closed bytes es after w = settled contexts m line (WriteEnds bytes) (step.Write ctx output bytes) m.store.standing es (reply.Closed, after) (write_ends bytes) w (λ e. cc)
+
+    pub write_failed : (bytes : List ℕ) (es : List Entry) (word : CodeWord) (handle : ℕ) (after : Machine) → Answered contexts m line (step.Write ctx output bytes) es (reply.Failed word handle) after
+        → Its (λ place r s. FailsWith m own output (λ c before. WriteFails own (error.LastOperationFailed c) s.writer before × (after ≡ with_error (closing_writer m place r s (error.LastOperationFailed c)))) es word handle)
+    write_failed bytes es word handle after w = settled contexts m line (WriteEnds bytes) (step.Write ctx output bytes) m.store.standing es (reply.Failed word handle, after) (write_ends bytes) w (λ e. cc)

@@ -2,7 +2,7 @@
 use Rattle.std.specs.Prelude.{◌≡◌, ◌⊎◌, ⊤, ℕ, ◌<◌, Bool, true, false, not, ◌&&◌, min, List, [], ◌∷◌, ◌++◌, Option, Some, None, Ok, IsSomeAnd, IfSome, slice_get}
 use Rattle.wasi_addr.specs.declared.address.IpSocketAddress.{IpSocketAddress}
 use Rattle.wasi_addr.specs.declared.address.SocketAddressFamily.{SocketAddressFamily}
-use Rattle.wasi_addr.specs.declared.address.ShutdownType.TheVariants.{Receive}
+use Rattle.wasi_addr.specs.declared.address.ShutdownType.TheVariants.{Receive, Send}
 use Rattle.wasi_addr.specs.declared.address.SocketAddrUse.{SocketAddrUse}
 use Rattle.wasi_addr.specs.declared.address.SocketAddrUse.TheVariants.{TcpBind}
 use Rattle.wasi_addr.specs.declared.code.ErrorCode.{ErrorCode}
@@ -26,13 +26,14 @@ use Rattle.wasi_tcp.specs.declared.halves.TcpReceiveStream.{TcpReceiveStream}
 use Rattle.wasi_tcp.specs.declared.halves.TcpSendStream.{TcpSendStream}
 use Rattle.wasi_tcp.specs.declared.reader.ReadState.{ReadState}
 use Rattle.wasi_tcp.specs.declared.reader.ReadState.TheVariants as reading
+use Rattle.wasi_tcp.specs.declared.writer.WriteError.{WriteError}
 use Rattle.wasi_tcp.specs.declared.writer.WriteError.TheVariants as error
 use Rattle.wasi_tcp.specs.declared.writer.WriteState.{WriteState}
 use Rattle.wasi_tcp.specs.declared.writer.WriteState.TheVariants as writing
 use Rattle.wasi_tcp.specs.Shape.{Socket}
 use Rattle.wasi_tcp.specs.Connecting.{with_state, is_connectable, HoldsConnect}
 use Rattle.wasi_tcp.specs.Addresses.{usable_side}
-use Rattle.wasi_tcp.specs.Writer.{collected}
+use Rattle.wasi_tcp.specs.Writer.{error_of_code, collected}
 use Rattle.wasi_run.specs.declared.machine.Machine.{Machine}
 use Rattle.wasi_run.specs.declared.reply.CodeWord.{CodeWord}
 use Rattle.wasi_run.specs.declared.reply.CodeWord.TheVariants as word
@@ -44,7 +45,7 @@ use Rattle.wasi_run.specs.declared.step.Step.TheVariants as step
 use Rattle.wasi_run.specs.declared.table.Kind.TheVariants as kind
 use Rattle.wasi_run.specs.Reply.{word_of_p2}
 use Rattle.wasi_run.specs.Table.{kind_at, with_handle}
-use Rattle.wasi_run.specs.Store.{with_inner, with_reader, with_socket, left_of, is_nothing, is_bind, is_connect, idle}
+use Rattle.wasi_run.specs.Store.{with_inner, with_reader, with_writer, with_socket, left_of, is_nothing, is_bind, is_connect, idle}
 use Rattle.wasi_run.specs.Machine.{socket_at, is_network, input_at, output_at, machine_asks}
 use Rattle.wasi_run.specs.Licence.{Has, entry}
 
@@ -374,3 +375,18 @@ IsGivenUp writer = writer ≡ writing.Closed error.Closed
 -- the writer is closed with the code, and nothing was asked
 abbrev pub WasClosedWith : WriteState → ErrorCode → List Entry → Type 0
 WasClosedWith writer c entries = (writer ≡ writing.Closed (error.LastOperationFailed c)) × (entries ≡ [])
+
+-- the machine, where the writer is closed with the error
+abbrev pub closing_writer : Machine → ℕ → Tcp2Socket → Streams → WriteError → Machine
+closing_writer m place r s e = putting m place (with_writer r s (writing.Closed e))
+
+-- a look fails with the error that the writer is closed with, once a write that ended is collected; it asks nothing
+abbrev pub CheckFails : WriteError → WriteState → List Entry → Type 0
+CheckFails e writer entries = (collected writer ≡ writing.Closed e) × (entries ≡ [])
+
+-- A write fails with the error that the writer is closed with, or because it was told a code itself: its last asks are then
+-- that write and the shutdown of its half.
+pub data WriteFails (own : OpId) (e : WriteError) : WriteState → List Entry → Type 0 where
+  ErrorKept : WriteFails own e (writing.Closed e) []
+  CodeTold : (half : TcpSendStream) (permit offered : ℕ) (c : ErrorCode) (front : List Entry) → error_of_code c ≡ e
+      → WriteFails own e (writing.Ready half permit) (front ++ entry own (call.Write half.side offered) (told.Code c) ∷ entry own (call.Shutdown half.side Send) told.Done ∷ [])

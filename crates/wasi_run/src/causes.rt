@@ -10,13 +10,14 @@ ghost use Rattle.wasi_world.specs.declared.call.Told.{Told};
 ghost use Rattle.wasi_world.specs.declared.outcome.TrapKind.{TrapKind};
 ghost use Rattle.wasi_world.specs.declared.outcome.WasiSocketsCtx.{WasiSocketsCtx};
 ghost use Rattle.wasi_world.specs.Asks.{Give, Left};
+ghost use Rattle.wasi_tcp.specs.declared.writer.WriteError.{WriteError};
 ghost use Rattle.wasi_tcp.specs.Socket.{new_socket};
 ghost use Rattle.wasi_run.specs.declared.machine.Machine.{Machine};
 ghost use Rattle.wasi_run.specs.declared.reply.CodeWord.{CodeWord};
 ghost use Rattle.wasi_run.specs.declared.reply.Field.{Field};
 ghost use Rattle.wasi_run.specs.declared.reply.Reply.{Reply};
 ghost use Rattle.wasi_run.specs.declared.step.Step.{Step};
-ghost use Rattle.wasi_run.specs.Answered.{Answered, ConnectsAt, CreateRefusal, EndsPending, FailsWith, FinishRefusal, HasNoBindInProgress, HasNoConnectInProgress, HasOperationInProgress, IsGivenUp, IsQuiet, IsStartBind, IsUnpermitted, IsWrite, KnowsBound, LocalRefusal, MakesHandle, MissesHandle, OfStreams, Permits, ReadFails, ReadsEnd, ReadsNone, ReadsTold, RefusedBind, RefusedConnect, RefusedOf, RemoteRefusal, WasClosedWith, closing_reader, output_streams, record_at, with_error};
+ghost use Rattle.wasi_run.specs.Answered.{Answered, CheckFails, closing_reader, closing_writer, ConnectsAt, CreateRefusal, EndsPending, FailsWith, FinishRefusal, HasNoBindInProgress, HasNoConnectInProgress, HasOperationInProgress, IsGivenUp, IsQuiet, IsStartBind, IsUnpermitted, IsWrite, KnowsBound, LocalRefusal, MakesHandle, MissesHandle, OfStreams, output_streams, Permits, ReadFails, ReadsEnd, ReadsNone, ReadsTold, record_at, RefusedBind, RefusedConnect, RefusedOf, RemoteRefusal, WasClosedWith, with_error, WriteFails};
 ghost use Rattle.wasi_run.specs.Licence.{entry, marks_in};
 ghost use Rattle.wasi_run.specs.Machine.{context_at, first_state, input_at, is_network, output_at, own_of, run};
 ghost use Rattle.wasi_run.specs.Reply.{bytes_fields, number_fields};
@@ -226,4 +227,26 @@ pub fn flushes_tell_the_kept_error()
     ensures failed { (contexts : List WasiSocketsCtx) (m : Machine) (line ctx output : ℕ) (entries : List Entry) (word : CodeWord) (handle : ℕ) (after : Machine)
         → Answered contexts m line (Step.Flush ctx output) entries (Reply.Failed word handle) after
         → OfStreams m (output_at m output) (λ place r s. FailsWith m (own_of line) output (WasClosedWith s.writer) entries word handle) × (after ≡ with_error m) }
+{}
+
+/// A look at an output is `closed`, or fails, with the error that its writer is closed with, once a write that ended is
+/// collected. It asks nothing but the mark of that error.
+pub fn checks_tell_the_kept_error()
+    ensures closed { (contexts : List WasiSocketsCtx) (m : Machine) (line ctx output : ℕ) (entries : List Entry) (after : Machine)
+        → Answered contexts m line (Step.CheckWrite ctx output) entries Reply.Closed after
+        → OfStreams m (output_at m output) (λ place r s. CheckFails WriteError.Closed s.writer entries × (after ≡ closing_writer m place r s WriteError.Closed)) }
+    ensures failed { (contexts : List WasiSocketsCtx) (m : Machine) (line ctx output : ℕ) (entries : List Entry) (word : CodeWord) (handle : ℕ) (after : Machine)
+        → Answered contexts m line (Step.CheckWrite ctx output) entries (Reply.Failed word handle) after
+        → OfStreams m (output_at m output) (λ place r s. FailsWith m (own_of line) output (λ c before. CheckFails (WriteError.LastOperationFailed c) s.writer before × (after ≡ with_error (closing_writer m place r s (WriteError.LastOperationFailed c)))) entries word handle) }
+{}
+
+/// A write is `closed`, or fails, with the error that its writer is closed with; or because it was told a code itself, and then
+/// its last asks are that write and the shutdown of its half. The writer is closed with the error then.
+pub fn writes_tell_their_error()
+    ensures closed { (contexts : List WasiSocketsCtx) (m : Machine) (line ctx output : ℕ) (bytes : List ℕ) (entries : List Entry) (after : Machine)
+        → Answered contexts m line (Step.Write ctx output bytes) entries Reply.Closed after
+        → OfStreams m (output_at m output) (λ place r s. WriteFails (own_of line) WriteError.Closed s.writer entries × (after ≡ closing_writer m place r s WriteError.Closed)) }
+    ensures failed { (contexts : List WasiSocketsCtx) (m : Machine) (line ctx output : ℕ) (bytes : List ℕ) (entries : List Entry) (word : CodeWord) (handle : ℕ) (after : Machine)
+        → Answered contexts m line (Step.Write ctx output bytes) entries (Reply.Failed word handle) after
+        → OfStreams m (output_at m output) (λ place r s. FailsWith m (own_of line) output (λ c before. WriteFails (own_of line) (WriteError.LastOperationFailed c) s.writer before × (after ≡ with_error (closing_writer m place r s (WriteError.LastOperationFailed c)))) entries word handle) }
 {}
