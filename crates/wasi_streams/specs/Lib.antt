@@ -1,3 +1,4 @@
+pub mod HostError
 pub mod StreamError
 pub mod StreamStop
 pub mod Streams

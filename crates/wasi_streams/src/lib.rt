@@ -2,8 +2,10 @@
 #![tactic(auto)]
 
 pub mod error;
+pub mod fault;
 pub mod stream;
 
 pub use error::StreamError;
+pub use fault::{Fault, HostError};
 pub use stream::{InputStream, OutputStream, Pollable};
 pub use wasi_world::TrapKind;

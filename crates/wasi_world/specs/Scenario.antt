@@ -114,17 +114,12 @@ answer_at = do
   word ← word_at
   after_word (long_answers ++ short_answers) word
 
--- an answer that a line may plan: one that its kind's list may hold, but no check waits
-abbrev pub may_plan : Kind → Planned → Bool
-may_plan kind.Check Pending = false
-may_plan k answer = takes k answer
-
--- a kind, and an answer that it may plan
+-- a kind, and an answer that its list may hold
 unfoldable pub planned_at : Reader (Kind × Planned)
 planned_at = do
   k ← kind_at
   answer ← answer_at
-  give_some (if may_plan k answer then Some (k, answer) else None)
+  give_some (if takes k answer then Some (k, answer) else None)
 
 -- what a line plans, without its newline
 unfoldable pub planned_in : List ℕ → Option (Kind × Planned)

@@ -3,7 +3,7 @@
 ghost use Rattle.std.specs.Prelude.{◌≡◌, ◌==◌, ◌≤◌, ◌<◌, ◌+◌, ◌^◌, ℕ, IfOk, OnOk, [], ◌∷◌, Some, None, true, IfErr, IfSome, Ok, Err, length, take, drop, position};
 ghost use Rattle.wasi_world.specs.Fields.{Reads, after_word};
 ghost use Rattle.wasi_world.specs.Kinds.{takes};
-ghost use Rattle.wasi_world.specs.Scenario.{kind_text, kind_in, kind_at, names_at, short_answers, answer_at, may_plan, planned_in, with_line, plan_within, plan_of, bad_line, free_context};
+ghost use Rattle.wasi_world.specs.Scenario.{kind_text, kind_in, kind_at, names_at, short_answers, answer_at, planned_in, with_line, plan_within, plan_of, bad_line, free_context};
 
 use crate::fields::Fields;
 use crate::lists::Lists;
@@ -182,17 +182,6 @@ fn answer(alloc: Global, fields: &mut Fields<'_>) -> Result<Option<Planned>, All
     }
 }
 
-/// Whether a line may plan the answer: its kind's list may hold it, and it is no check that waits.
-fn may_plan(kind: Kind, answer: &Planned) -> bool
-    ensures plan { result ≡ may_plan kind answer.now }
-    ensures takes { result ≡ true → takes kind answer.now ≡ true }
-{
-    match (kind, answer) {
-        (Kind::Check, Planned::Pending) => false,
-        _ => kind.takes(answer),
-    }
-}
-
 /// What a line plans, without its newline; none exactly where it isn't in the grammar.
 #[tactic(auto, unfolding(crate::specs::Scenario::planned_in, crate::specs::Scenario::planned_at, crate::specs::Fields::read_then, crate::specs::Fields::give_some))]
 fn planned(alloc: Global, line: &[u8]) -> Result<Option<(Kind, Planned)>, AllocError>
@@ -206,7 +195,7 @@ fn planned(alloc: Global, line: &[u8]) -> Result<Option<(Kind, Planned)>, AllocE
     let Some(answer) = answer(alloc, &mut fields)? else {
         return Ok(None);
     };
-    if may_plan(kind, &answer) && fields.is_done() {
+    if kind.takes(&answer) && fields.is_done() {
         Ok(Some((kind, answer)))
     } else {
         Ok(None)
