@@ -21,9 +21,9 @@ use Rattle.wasi_tcp.specs.declared.socket.TcpState.{TcpState}
 use Rattle.wasi_tcp.specs.declared.socket.TcpState.TheVariants.{Default}
 use Rattle.wasi_tcp.specs.Shape.{Socket}
 use Rattle.wasi_tcp.specs.Socket.{side_in, side_of, after_local, ask_bound, bound_asks, bind_allowed, bind_start, bind_asks}
-use Rattle.wasi_run.specs.declared.socket.Tcp2Socket.{Tcp2Socket}
+use Rattle.wasi_host.specs.declared.socket.Tcp2Socket.{Tcp2Socket}
 use Rattle.wasi_run.specs.declared.step.Step.{Step}
-use Rattle.wasi_run.specs.Store.{with_inner, left_of, bind_ended, bind_begun, begin_bind_asks}
+use Rattle.wasi_host.specs.Store.{with_inner, left_of, bind_ended, bind_begun, begin_bind_asks}
 use Rattle.wasi_run.specs.Licence.{entry, BeganBy, IsBindTo, MayAsk}
 use Rattle.wasi_run.proofs.Lists.{has_last}
 use Rattle.wasi_run.proofs.Bounds.{May, MayWork, work_kept, Learned, fine_bound, keeps_socket}

@@ -28,7 +28,7 @@ use Rattle.wasi_tcp.specs.Socket.{side_in, side_of, bound_asks}
 use Rattle.wasi_tcp.specs.Connect.{connect_operation, connect_first}
 use Rattle.wasi_tcp.specs.Connecting.{with_state, is_connectable, connect_start, start_connect_in, start_connect_asks, new_connection, connect_ended, finish_in, in_socket, finish_connect_asks}
 use Rattle.wasi_run.specs.declared.step.Step.{Step}
-use Rattle.wasi_run.specs.Store.{left_of}
+use Rattle.wasi_host.specs.Store.{left_of}
 use Rattle.wasi_run.specs.Licence.{Has, entry, BeganBy, IsMaker, IsConnectTo, HasWildcardYes, MayGoOut, MayAsk}
 use Rattle.wasi_run.proofs.Bounds.{May, MayWork, Learned, fine_bound, keeps_socket}
 use Rattle.wasi_run.proofs.Lists.{has_last, has_front}

@@ -19,14 +19,14 @@ use Rattle.wasi_tcp.specs.Reader.{reader_side}
 use Rattle.wasi_tcp.specs.Writer.{writer_side}
 use Rattle.wasi_tcp.specs.Shape.{Socket}
 use Rattle.wasi_tcp.specs.Socket.{side_of}
-use Rattle.wasi_run.specs.declared.machine.Machine.{Machine}
-use Rattle.wasi_run.specs.declared.socket.Streams.{Streams}
-use Rattle.wasi_run.specs.declared.socket.Tcp2Socket.{Tcp2Socket}
+use Rattle.wasi_host.specs.declared.machine.Machine.{Machine}
+use Rattle.wasi_host.specs.declared.socket.Streams.{Streams}
+use Rattle.wasi_host.specs.declared.socket.Tcp2Socket.{Tcp2Socket}
 use Rattle.wasi_run.specs.declared.step.Step.{Step}
-use Rattle.wasi_run.specs.declared.store.StandingBind.{StandingBind}
-use Rattle.wasi_run.specs.declared.table.Kind.{Kind}
-use Rattle.wasi_run.specs.declared.table.Kind.TheVariants.{Network, Tcp2, Input, Output, ErrorValue}
-use Rattle.wasi_run.specs.Table.{kind_at}
+use Rattle.wasi_host.specs.declared.store.Standing.{Standing}
+use Rattle.wasi_host.specs.declared.kind.Kind.{Kind}
+use Rattle.wasi_host.specs.declared.kind.Kind.TheVariants.{Network, Tcp2, Input, Output, ErrorValue}
+use Rattle.wasi_host.specs.Kinds.{kind_at}
 use Rattle.wasi_run.specs.Licence.{Has, entry, marks_in, BeganBy, NamesSide, IsSide, IsMaker, IsBoundSide, MayGoOut, IsBindTo, IsConnectTo}
 
 -- The log has the mark of the handle: it is of the side of the socket that the handle stands for, as long as that has one.
@@ -121,4 +121,4 @@ module _ (steps : List Step) where
     pub count : m.table.next ≡ marks_in es + 1
     pub handles : (handle : ℕ) (kind : Kind) → kind_at m.table handle ≡ Some kind → HandleIsFine es m.store.sockets handle kind
     pub sockets : (place : ℕ) (r : Tcp2Socket) → slice_get m.store.sockets place ≡ Some r → RecordIsFine es r
-    pub standing : (c : StandingBind) → m.store.standing ≡ Some c → BindIsFine es c.bind
+    pub standing : (c : Standing) → m.store.standing ≡ Some c → BindIsFine es c.bind

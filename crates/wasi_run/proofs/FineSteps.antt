@@ -28,21 +28,26 @@ use Rattle.wasi_tcp.specs.Reader.{read_state_asks}
 use Rattle.wasi_tcp.specs.Socket.{side_in, side_of, new_socket, after_create, new_asks}
 use Rattle.wasi_tcp.specs.Connecting.{start_connect_asks as tcp_start_connect, finish_connect_asks as tcp_finish_connect}
 use Rattle.wasi_tcp.specs.Addresses.{local_asks, remote_asks}
-use Rattle.wasi_run.specs.declared.machine.Machine.{Machine}
+use Rattle.wasi_host.specs.declared.machine.Machine.{Machine}
 use Rattle.wasi_run.specs.declared.reply.Reply.{Reply}
-use Rattle.wasi_run.specs.declared.socket.InProgress.TheVariants as doing
-use Rattle.wasi_run.specs.declared.socket.Streams.{Streams}
-use Rattle.wasi_run.specs.declared.socket.Tcp2Socket.{Tcp2Socket}
+use Rattle.wasi_host.specs.declared.socket.InProgress.TheVariants as doing
+use Rattle.wasi_host.specs.declared.socket.Streams.{Streams}
+use Rattle.wasi_host.specs.declared.socket.Tcp2Socket.{Tcp2Socket}
 use Rattle.wasi_run.specs.declared.step.Step.{Step}
 use Rattle.wasi_run.specs.declared.step.Step.TheVariants as step
-use Rattle.wasi_run.specs.declared.store.StandingBind.{StandingBind}
-use Rattle.wasi_run.specs.declared.table.Kind.{Kind}
-use Rattle.wasi_run.specs.declared.table.Kind.TheVariants.{Network, Tcp2, Input, Output, ErrorValue}
-use Rattle.wasi_run.specs.Host.{Stop}
+use Rattle.wasi_host.specs.declared.store.Standing.{Standing}
+use Rattle.wasi_host.specs.declared.kind.Kind.{Kind}
+use Rattle.wasi_host.specs.declared.kind.Kind.TheVariants.{Network, Tcp2, Input, Output, ErrorValue}
+use Rattle.wasi_host.specs.Host.{Stop}
 use Rattle.wasi_run.specs.Reply.{is_trap}
-use Rattle.wasi_run.specs.Table.{Shown, name_of, is_full, kind_at, make_asks}
-use Rattle.wasi_run.specs.Store.{Records, new_record, with_record, with_socket, standing_bind, begin_bind_asks, bind_answered, start_bind_by, start_bind_at, finish_bind_by, finish_bind_at, is_nothing, is_bind, is_connect, connect_begun, begin_connect_asks, start_connect_by, start_connect_at, connect_polled, poll_connect_asks, put_back, with_record_put, idle, opened, reader_of, reader_asks, writer_of, writer_asks, flush_asks, stream_at, with_inner, finish_connect_by, finish_connect_at, inner_answered, local_address_at, remote_address_at}
-use Rattle.wasi_run.specs.Machine.{first_state, place_of, socket_at, is_network, network_asks, create_handle, created_asks, create_asks, start_bind_on, start_bind_asks, finish_bind_on, with_table, with_store, start_connect_on, start_connect_asks, side_at, with_output, output_asks, streams_asks, connected_asks, finish_connect_on, finish_connect_asks, input_of, output_of, input_at, output_at, failed_made, convert_asks, converted, stream_on, read_asks, check_asks, write_asks, flushed_asks, bytes_reply, permit_reply, taken_reply, local_address_on, remote_address_on, own_of, handle_reply, done_reply, answer_reply, pair_reply, address_reply, context_in, context_at, step_asks, machine_asks, run}
+use Rattle.wasi_host.specs.Kinds.{Handles, name_of, kind_at, make_asks}
+use Rattle.wasi_streams.specs.Table.{is_full}
+use Rattle.wasi_host.specs.Store.{Records, new_record, with_record, with_socket, standing_bind, begin_bind_asks, bind_answered, start_bind_by, start_bind_at, finish_bind_by, finish_bind_at, is_nothing, is_bind, is_connect, connect_begun, begin_connect_asks, start_connect_by, start_connect_at, connect_polled, poll_connect_asks, put_back, with_record_put, idle, opened, reader_of, reader_asks, writer_of, writer_asks, flush_asks, stream_at, with_inner, finish_connect_by, finish_connect_at, inner_answered, local_address_at, remote_address_at}
+use Rattle.wasi_host.specs.Machine.{first_state, socket_at, create_handle, created_asks, create_asks, with_table, with_store, side_at, input_at, output_at, own_of}
+use Rattle.wasi_host.specs.Kinds.{place_of, is_network, input_of, output_of}
+use Rattle.wasi_p2.specs.Tcp.{network_asks, start_bind_on, start_bind_asks, finish_bind_on, start_connect_on, start_connect_asks, with_output, output_asks, streams_asks, connected_asks, finish_connect_on, finish_connect_asks, local_address_on, remote_address_on}
+use Rattle.wasi_host.specs.StreamCalls.{failed_made, convert_asks, converted, stream_on, read_asks, check_asks, write_asks, flushed_asks}
+use Rattle.wasi_run.specs.Machine.{bytes_reply, permit_reply, taken_reply, handle_reply, done_reply, answer_reply, pair_reply, address_reply, context_in, context_at, step_asks, machine_asks, run}
 use Rattle.wasi_run.specs.Licence.{Has, entry, step_at, handles_of, BeganBy, IsMaker, Created, MayUseTcp, IsTcpCreate, IsBindTo, IsConnectTo, IsMarkedWith, IsMarkOf, MayAsk}
 use Rattle.wasi_run.proofs.Lists.{has_last, get_seam, set_there}
 use Rattle.wasi_run.proofs.Bounds.{May, MayWork, Learned, fine_bound, keeps_socket}
@@ -589,7 +594,7 @@ module _ (contexts : List WasiSocketsCtx) (steps : List Step) where
       (fine_write_on line output (step.Flush ctx output) l (inl refl) (λ fs sock k. (refl, (refl, k))) es m flush_asks (output_at m output) refl (λ side w n on. on) h)
 
   -- while a call stands nothing is asked
-  fine_machine : (es : List Entry) (m : Machine) (line : ℕ) (s : Step) (standing : Option StandingBind) → IsLine line s → Fine es m → Meets Leaves es (machine_asks contexts m line s standing)
+  fine_machine : (es : List Entry) (m : Machine) (line : ℕ) (s : Step) (standing : Option Standing) → IsLine line s → Fine es m → Meets Leaves es (machine_asks contexts m line s standing)
   fine_machine es m line s None l h = fine_step es m line s l h
   fine_machine es m line s (Some c) l h = h
 

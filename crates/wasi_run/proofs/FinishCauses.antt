@@ -20,18 +20,21 @@ use Rattle.wasi_tcp.specs.Connect.{IsConnect}
 use Rattle.wasi_tcp.specs.Connecting.{with_state, connect_ended, finish_in, in_socket, finish_connect_asks as socket_finish_connect}
 use Rattle.wasi_tcp.specs.Addresses.{still_connected}
 use Rattle.wasi_tcp.specs.Halves.{taken_receive, taken_send}
-use Rattle.wasi_run.specs.declared.machine.Machine.{Machine}
+use Rattle.wasi_host.specs.declared.machine.Machine.{Machine}
 use Rattle.wasi_run.specs.declared.reply.CodeWord.{CodeWord}
 use Rattle.wasi_run.specs.declared.reply.CodeWord.TheVariants as word
 use Rattle.wasi_run.specs.declared.reply.Reply.{Reply}
 use Rattle.wasi_run.specs.declared.reply.Reply.TheVariants as reply
-use Rattle.wasi_run.specs.declared.socket.Tcp2Socket.{Tcp2Socket}
+use Rattle.wasi_host.specs.declared.socket.Tcp2Socket.{Tcp2Socket}
 use Rattle.wasi_run.specs.declared.step.Step.TheVariants as step
-use Rattle.wasi_run.specs.declared.table.Kind.TheVariants.{Input, Output}
-use Rattle.wasi_run.specs.Host.{Stop, code_stop}
-use Rattle.wasi_run.specs.Table.{is_full, with_handle, make_asks}
-use Rattle.wasi_run.specs.Store.{Records, is_connect, idle, opened_send, opened_receive, connect_polled, poll_connect_asks, with_record_put, finish_connect_by, finish_connect_at}
-use Rattle.wasi_run.specs.Machine.{socket_at, side_at, with_table, with_store, with_output, output_asks, streams_asks, connected_asks, finish_connect_on, finish_connect_asks, pair_reply, own_of}
+use Rattle.wasi_host.specs.declared.kind.Kind.TheVariants.{Input, Output}
+use Rattle.wasi_host.specs.Host.{Stop, code_stop}
+use Rattle.wasi_streams.specs.Table.{is_full}
+use Rattle.wasi_host.specs.Kinds.{with_handle, make_asks}
+use Rattle.wasi_host.specs.Store.{Records, is_connect, idle, opened_send, opened_receive, connect_polled, poll_connect_asks, with_record_put, finish_connect_by, finish_connect_at}
+use Rattle.wasi_host.specs.Machine.{socket_at, side_at, with_table, with_store, own_of}
+use Rattle.wasi_p2.specs.Tcp.{with_output, output_asks, streams_asks, connected_asks, finish_connect_on, finish_connect_asks}
+use Rattle.wasi_run.specs.Machine.{pair_reply}
 use Rattle.wasi_run.specs.Licence.{entry, marks_in}
 use Rattle.wasi_run.specs.Answered.{Answered, record_in, record_at, word_of_code, RefusedOf, HasNoConnectInProgress, FinishRefusal, NoConnect, StillConnects, Closes, WasClosed, NotConnecting, ReceivesAlready, SendsAlready, ConnectsAt}
 use Rattle.wasi_run.proofs.Lists.{marks_in-push}

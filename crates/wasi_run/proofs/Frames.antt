@@ -16,16 +16,17 @@ use Rattle.wasi_tcp.specs.declared.socket.Connection.{Connection}
 use Rattle.wasi_tcp.specs.declared.socket.TcpState.TheVariants.{Connected}
 use Rattle.wasi_tcp.specs.Shape.{Socket}
 use Rattle.wasi_tcp.specs.Socket.{side_of}
-use Rattle.wasi_run.specs.declared.machine.Machine.{Machine}
-use Rattle.wasi_run.specs.declared.socket.Streams.{Streams}
-use Rattle.wasi_run.specs.declared.socket.Tcp2Socket.{Tcp2Socket}
+use Rattle.wasi_host.specs.declared.machine.Machine.{Machine}
+use Rattle.wasi_host.specs.declared.socket.Streams.{Streams}
+use Rattle.wasi_host.specs.declared.socket.Tcp2Socket.{Tcp2Socket}
 use Rattle.wasi_run.specs.declared.step.Step.{Step}
-use Rattle.wasi_run.specs.declared.store.StandingBind.{StandingBind}
-use Rattle.wasi_run.specs.declared.table.Kind.{Kind}
-use Rattle.wasi_run.specs.declared.table.Kind.TheVariants.{Network, Tcp2, Input, Output, ErrorValue}
+use Rattle.wasi_host.specs.declared.store.Standing.{Standing}
+use Rattle.wasi_host.specs.declared.kind.Kind.{Kind}
+use Rattle.wasi_host.specs.declared.kind.Kind.TheVariants.{Network, Tcp2, Input, Output, ErrorValue}
 use Rattle.wasi_run.specs.declared.table.Slot.{Slot}
-use Rattle.wasi_run.specs.Table.{kind_in, with_handle}
-use Rattle.wasi_run.specs.Store.{with_socket, with_record}
+use MISSING.Table.{kind_in}
+use Rattle.wasi_host.specs.Kinds.{with_handle}
+use Rattle.wasi_host.specs.Store.{with_socket, with_record}
 use Rattle.wasi_run.specs.Licence.{entry, marked_by, NamesSide, IsSide, IsMaker, Created, Handed, HasWildcardYes, IsBoundSide, MayGoOut}
 use Rattle.wasi_run.proofs.Lists.{has_front, marks_in-push, get_front, get_split, get_set, set_get}
 use Rattle.wasi_run.proofs.Fine.{OfSide, NamesRecord, HandleIsFine, KnowsMaker, BindLeft, Whole, Checked, Over, ConnectLeft, Unbound, Unchecked, Allowed, ToClose, Ended, WorksOn, BindIsFine, ConnectIsFine, IsConnectedOn, StreamsAreFine, SocketIsFine, RecordIsFine, StateIsFine}
@@ -253,13 +254,13 @@ module _ (steps : List Step) where
   }
 
   -- a bind stands
-  pub state_stands : (es : List Entry) (m : Machine) (c : StandingBind) → BindIsFine steps es c.bind → StateIsFine steps es m → StateIsFine steps es (record m { store = record m.store { standing = Some c } })
+  pub state_stands : (es : List Entry) (m : Machine) (c : Standing) → BindIsFine steps es c.bind → StateIsFine steps es m → StateIsFine steps es (record m { store = record m.store { standing = Some c } })
   state_stands es m c f h = record {
     count = h.count;
     handles = h.handles;
     sockets = h.sockets;
-    standing = λ d e. subst (λ (x : StandingBind). BindIsFine steps es x.bind) (same c d e) f;
+    standing = λ d e. subst (λ (x : Standing). BindIsFine steps es x.bind) (same c d e) f;
   }
     where
-      same : (a b : StandingBind) → Some a ≡ Some b → a ≡ b
+      same : (a b : Standing) → Some a ≡ Some b → a ≡ b
       same a b p = cc

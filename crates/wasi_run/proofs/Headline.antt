@@ -4,18 +4,18 @@ use Rattle.std.specs.Prelude.{OnOk}
 use Rattle.wasi_world.specs.declared.outcome.WasiSocketsCtx.{WasiSocketsCtx}
 use Rattle.wasi_world.specs.Seen.{Seen}
 use Rattle.wasi_world.specs.Io.{Reading, Writing}
-use Rattle.wasi_run.specs.declared.machine.Machine.{Machine}
+use Rattle.wasi_host.specs.declared.machine.Machine.{Machine}
 use Rattle.wasi_run.specs.declared.run.RunEnd.{RunEnd}
 use Rattle.wasi_run.specs.declared.run.RunError.{RunError}
-use Rattle.wasi_run.specs.Machine.{first_state}
-use Rattle.wasi_run.specs.Sides.{KnowsSides, ClosesAll}
-use Rattle.wasi_run.specs.Closing.{IsFresh, HasClosedAll}
+use Rattle.wasi_host.specs.Machine.{first_state}
+use Rattle.wasi_host.specs.Sides.{KnowsSides, ClosesAll}
+use Rattle.wasi_host.specs.Closing.{IsFresh, HasClosedAll}
 use Rattle.wasi_run.specs.Script.{RanOver, RanScript}
 use Rattle.wasi_run.specs.Causes.{BeginsRun, DoneLines}
 use Rattle.wasi_run.specs.Headline.{RunsLicensed}
 use Rattle.wasi_run.proofs.Licences.{started_is_licensed}
 use Rattle.wasi_run.proofs.Stretches.{stays_open}
-use Rattle.wasi_run.proofs.Closings.{empty_known}
+use Rattle.wasi_host.proofs.Closings.{empty_known}
 use Rattle.wasi_run.proofs.CauseLaws.{whole_by}
 
 -- at every return what was asked is a beginning of the run of the lines done and the one met

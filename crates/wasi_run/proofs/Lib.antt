@@ -1,16 +1,9 @@
-pub mod Hosts
-pub mod Lookups
-pub mod SideCounts
-pub mod ConnectCounts
-pub mod StreamCounts
-pub mod StreamCalls
 pub mod Takes
 pub mod Stretches
 pub mod OneLine
 pub mod ManyLines
 pub mod Pieces
 pub mod Streaming
-pub mod Closings
 pub mod Completes
 pub mod CauseLaws
 pub mod Headline

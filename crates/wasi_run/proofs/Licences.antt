@@ -9,10 +9,11 @@ use Rattle.wasi_world.specs.declared.outcome.WasiSocketsCtx.{WasiSocketsCtx}
 use Rattle.wasi_world.specs.Seen.{Seen}
 use Rattle.wasi_world.specs.Asks.{Asks, Left, Reaches, Started}
 use Rattle.wasi_world.proofs.Allowed.{allows_at}
-use Rattle.wasi_run.specs.declared.machine.Machine.{Machine}
+use Rattle.wasi_host.specs.declared.machine.Machine.{Machine}
 use Rattle.wasi_run.specs.declared.reply.Reply.{Reply}
 use Rattle.wasi_run.specs.declared.step.Step.{Step}
-use Rattle.wasi_run.specs.Machine.{first_state, run}
+use Rattle.wasi_host.specs.Machine.{first_state}
+use Rattle.wasi_run.specs.Machine.{run}
 use Rattle.wasi_run.specs.Licence.{BeganBy, NamesSide, ReachesSide, step_at, MayAsk, IsLicensed}
 use Rattle.wasi_run.proofs.Lists.{get_front}
 use Rattle.wasi_run.proofs.Fine.{StateIsFine}

@@ -5,7 +5,7 @@ use Rattle.wasi_world.specs.Seen.{Seen}
 use Rattle.wasi_world.specs.Asks.{Asks, Give, Reaches, Started}
 use Rattle.wasi_world.specs.Io.{Writing}
 use Rattle.wasi_world.proofs.Walks.{reaches_all, reaches_on, reaches_in}
-use Rattle.wasi_run.specs.declared.machine.Machine.{Machine}
+use Rattle.wasi_host.specs.declared.machine.Machine.{Machine}
 use Rattle.wasi_run.specs.declared.step.Step.{Step}
 use Rattle.wasi_run.specs.declared.reply.Reply.{Reply}
 use Rattle.wasi_run.specs.declared.lines.LinesEnd.TheVariants as lines
@@ -13,7 +13,7 @@ use Rattle.wasi_run.specs.declared.run.RunError.TheVariants.{Memory, BadStep, Wr
 use Rattle.wasi_run.specs.Reply.{is_trap}
 use Rattle.wasi_run.specs.Replies.{text_of}
 use Rattle.wasi_run.specs.Machine.{machine_asks, run}
-use Rattle.wasi_run.specs.Sides.{KnowsSides}
+use Rattle.wasi_host.specs.Sides.{KnowsSides}
 use Rattle.wasi_run.specs.Steps.{step_of}
 use Rattle.wasi_run.specs.Written.{TookAll, TookFront}
 use Rattle.wasi_run.specs.Ran.{LinesRan}

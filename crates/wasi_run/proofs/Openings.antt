@@ -16,11 +16,11 @@ use Rattle.wasi_tcp.specs.Socket.{side_in, side_of}
 use Rattle.wasi_tcp.specs.Addresses.{still_connected}
 use Rattle.wasi_tcp.specs.Connecting.{with_state, in_socket}
 use Rattle.wasi_tcp.specs.Halves.{taken_receive, taken_send, take_receive, take_send}
-use Rattle.wasi_run.specs.declared.socket.Streams.{Streams}
-use Rattle.wasi_run.specs.declared.socket.Tcp2Socket.{Tcp2Socket}
+use Rattle.wasi_host.specs.declared.socket.Streams.{Streams}
+use Rattle.wasi_host.specs.declared.socket.Tcp2Socket.{Tcp2Socket}
 use Rattle.wasi_run.specs.declared.step.Step.{Step}
-use Rattle.wasi_run.specs.Host.{Stop, code_stop}
-use Rattle.wasi_run.specs.Store.{idle, new_streams, opened_send, opened_receive, opened}
+use Rattle.wasi_host.specs.Host.{Stop, code_stop}
+use Rattle.wasi_host.specs.Store.{idle, new_streams, opened_send, opened_receive, opened}
 use Rattle.wasi_run.proofs.Fine.{IsConnectedOn, StreamsAreFine, SocketIsFine, RecordIsFine}
 use Rattle.wasi_run.proofs.Frames.{KeepsSide, keeps_then, record_kept}
 use Rattle.wasi_run.proofs.Tells.{connected_keeps, connected_fine}

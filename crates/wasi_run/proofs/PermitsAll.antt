@@ -13,18 +13,20 @@ use Rattle.wasi_tcp.specs.declared.writer.WriteState.TheVariants as writing
 use Rattle.wasi_tcp.specs.Socket.{side_in}
 use Rattle.wasi_tcp.specs.Writer.{writer_side, check_write_asks}
 use Rattle.wasi_tcp.specs.Taken.{taken_in}
-use Rattle.wasi_run.specs.declared.machine.Machine.{Machine}
+use Rattle.wasi_host.specs.declared.machine.Machine.{Machine}
 use Rattle.wasi_run.specs.declared.reply.Reply.{Reply}
 use Rattle.wasi_run.specs.declared.reply.Reply.TheVariants as reply
-use Rattle.wasi_run.specs.declared.socket.Streams.{Streams}
-use Rattle.wasi_run.specs.declared.socket.Tcp2Socket.{Tcp2Socket}
+use Rattle.wasi_host.specs.declared.socket.Streams.{Streams}
+use Rattle.wasi_host.specs.declared.socket.Tcp2Socket.{Tcp2Socket}
 use Rattle.wasi_run.specs.declared.step.Step.{Step}
 use Rattle.wasi_run.specs.declared.step.Step.TheVariants as step
-use Rattle.wasi_run.specs.declared.store.StandingBind.{StandingBind}
-use Rattle.wasi_run.specs.Host.{CallStop, Failed, Closed, Traps}
+use Rattle.wasi_host.specs.declared.store.Standing.{Standing}
+use Rattle.wasi_host.specs.Host.{CallStop, Failed, Closed, Traps}
 use Rattle.wasi_run.specs.Reply.{number_fields}
-use Rattle.wasi_run.specs.Store.{writer_of, writer_asks, stream_at}
-use Rattle.wasi_run.specs.Machine.{first_state, with_store, convert_asks, converted, stream_on, output_at, check_asks, permit_reply, own_of, machine_asks}
+use Rattle.wasi_host.specs.Store.{writer_of, writer_asks, stream_at}
+use Rattle.wasi_host.specs.Machine.{first_state, with_store, output_at, own_of}
+use Rattle.wasi_host.specs.StreamCalls.{convert_asks, converted, stream_on, check_asks}
+use Rattle.wasi_run.specs.Machine.{permit_reply, machine_asks}
 use Rattle.wasi_run.specs.Answered.{record_in, Answered}
 use Rattle.wasi_run.specs.Permitted.{writer_in, writer_of_record, WritesTo, Did}
 use Rattle.wasi_run.proofs.PermitsQuiet.{Quietly, Quiet, quiet_then}
@@ -92,7 +94,7 @@ module _ (contexts : List WasiSocketsCtx) (side : OpId) (taken permitted : List 
   abbrev IsBusy : List Entry → Reply × Machine → Type 0
   IsBusy es done = done.0 ≡ reply.Busy
 
-  all_by : (standing : Option StandingBind) (entries : List Entry) (next : Machine) → Left (machine_asks contexts m line (step.CheckWrite ctx output) standing) entries (Give (reply.Ok (number_fields n), next)) → taken ++ taken_in side entries ≡ permitted
+  all_by : (standing : Option Standing) (entries : List Entry) (next : Machine) → Left (machine_asks contexts m line (step.CheckWrite ctx output) standing) entries (Give (reply.Ok (number_fields n), next)) → taken ++ taken_in side entries ≡ permitted
   all_by None entries next walk =
       let asks = bind (check_asks m (own_of line) output) (λ done. Give (permit_reply done.0, done.1)) in
       let Q = Replies side taken permitted line m (own_of line) output h in

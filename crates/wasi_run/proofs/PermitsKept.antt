@@ -18,16 +18,19 @@ use Rattle.wasi_tcp.specs.Socket.{new_asks}
 use Rattle.wasi_tcp.specs.Reader.{read_state_asks}
 use Rattle.wasi_tcp.specs.Writer.{check_write_asks}
 use Rattle.wasi_tcp.specs.Addresses.{local_asks, remote_asks}
-use Rattle.wasi_run.specs.declared.machine.Machine.{Machine}
-use Rattle.wasi_run.specs.declared.socket.InProgress.TheVariants as doing
-use Rattle.wasi_run.specs.declared.socket.Streams.{Streams}
-use Rattle.wasi_run.specs.declared.socket.Tcp2Socket.{Tcp2Socket}
-use Rattle.wasi_run.specs.declared.table.Kind.{Kind}
-use Rattle.wasi_run.specs.declared.table.Kind.TheVariants.{Network, Tcp2, Input, Output}
-use Rattle.wasi_run.specs.Host.{Stop}
-use Rattle.wasi_run.specs.Table.{kind_at, make_asks}
-use Rattle.wasi_run.specs.Store.{Records, begin_bind_asks, bind_answered, start_bind_by, start_bind_at, finish_bind_by, finish_bind_at, is_nothing, is_bind, is_connect, begin_connect_asks, put_back, start_connect_by, start_connect_at, poll_connect_asks, finish_connect_by, finish_connect_at, tell_local_asks, tell_remote_asks, local_address_at, remote_address_at, reader_of, reader_asks, writer_of, writer_asks, flush_asks, stream_at}
-use Rattle.wasi_run.specs.Machine.{with_table, with_store, socket_at, is_network, network_asks, created_asks, create_asks, start_bind_on, start_bind_asks, finish_bind_on, start_connect_on, start_connect_asks, side_at, with_output, output_asks, connected_asks, finish_connect_on, finish_connect_asks, local_address_on, remote_address_on, stream_on, input_at, output_at, read_asks, check_asks, flushed_asks}
+use Rattle.wasi_host.specs.declared.machine.Machine.{Machine}
+use Rattle.wasi_host.specs.declared.socket.InProgress.TheVariants as doing
+use Rattle.wasi_host.specs.declared.socket.Streams.{Streams}
+use Rattle.wasi_host.specs.declared.socket.Tcp2Socket.{Tcp2Socket}
+use Rattle.wasi_host.specs.declared.kind.Kind.{Kind}
+use Rattle.wasi_host.specs.declared.kind.Kind.TheVariants.{Network, Tcp2, Input, Output}
+use Rattle.wasi_host.specs.Host.{Stop}
+use Rattle.wasi_host.specs.Kinds.{kind_at, make_asks}
+use Rattle.wasi_host.specs.Store.{Records, begin_bind_asks, bind_answered, start_bind_by, start_bind_at, finish_bind_by, finish_bind_at, is_nothing, is_bind, is_connect, begin_connect_asks, put_back, start_connect_by, start_connect_at, poll_connect_asks, finish_connect_by, finish_connect_at, tell_local_asks, tell_remote_asks, local_address_at, remote_address_at, reader_of, reader_asks, writer_of, writer_asks, flush_asks, stream_at}
+use Rattle.wasi_host.specs.Machine.{with_table, with_store, socket_at, created_asks, create_asks, side_at, input_at, output_at}
+use Rattle.wasi_host.specs.Kinds.{is_network}
+use Rattle.wasi_p2.specs.Tcp.{network_asks, start_bind_on, start_bind_asks, finish_bind_on, start_connect_on, start_connect_asks, with_output, output_asks, connected_asks, finish_connect_on, finish_connect_asks, local_address_on, remote_address_on}
+use Rattle.wasi_host.specs.StreamCalls.{stream_on, read_asks, check_asks, flushed_asks}
 use Rattle.wasi_run.proofs.PermitsQuiet.{Quietly, Quiet, quiet_then, quiet_if, follows_same, IsNew, quiet_new, quiet_local, quiet_remote, quiet_read}
 use Rattle.wasi_run.proofs.PermitsStands.{WriterIs, Keeps, Agree, Agrees, Stands, stands_next, stands_put, stands_kept, stands_opened, stands_push, streams_record}
 use Rattle.wasi_run.proofs.PermitsWriter.{Checked, quiet_check}

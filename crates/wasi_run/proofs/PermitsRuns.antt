@@ -6,14 +6,17 @@ use Rattle.wasi_world.specs.declared.outcome.WasiSocketsCtx.{WasiSocketsCtx}
 use Rattle.wasi_world.specs.Asks.{Asks, Give, Ask, AskWrite, bind, Left}
 use Rattle.wasi_world.proofs.Allowed.{allows_then, reached, holds}
 use Rattle.wasi_tcp.specs.Taken.{taken_by, taken_in, IsFrontOf}
-use Rattle.wasi_run.specs.declared.machine.Machine.{Machine}
+use Rattle.wasi_host.specs.declared.machine.Machine.{Machine}
 use Rattle.wasi_run.specs.declared.reply.Reply.{Reply}
 use Rattle.wasi_run.specs.declared.reply.Reply.TheVariants as reply
 use Rattle.wasi_run.specs.declared.step.Step.{Step}
 use Rattle.wasi_run.specs.declared.step.Step.TheVariants as step
-use Rattle.wasi_run.specs.declared.store.StandingBind.{StandingBind}
+use Rattle.wasi_host.specs.declared.store.Standing.{Standing}
 use Rattle.wasi_run.specs.Reply.{is_trap}
-use Rattle.wasi_run.specs.Machine.{first_state, socket_at, network_asks, create_asks, start_bind_asks, finish_bind_on, is_listening_on, address_family_on, truth_reply, family_reply, start_connect_asks, finish_connect_asks, local_address_on, remote_address_on, read_asks, check_asks, write_asks, flushed_asks, handle_reply, answer_reply, done_reply, pair_reply, address_reply, bytes_reply, permit_reply, taken_reply, own_of, context_at, step_asks, machine_asks, run}
+use Rattle.wasi_host.specs.Machine.{first_state, socket_at, create_asks, own_of}
+use Rattle.wasi_p2.specs.Tcp.{network_asks, start_bind_asks, finish_bind_on, is_listening_on, address_family_on, start_connect_asks, finish_connect_asks, local_address_on, remote_address_on}
+use Rattle.wasi_run.specs.Machine.{truth_reply, family_reply, handle_reply, answer_reply, done_reply, pair_reply, address_reply, bytes_reply, permit_reply, taken_reply, context_at, step_asks, machine_asks, run}
+use Rattle.wasi_host.specs.StreamCalls.{read_asks, check_asks, write_asks, flushed_asks}
 use Rattle.wasi_run.specs.Answered.{Answered}
 use Rattle.wasi_run.specs.Permitted.{permitted_in, permitted_by, Did, Nothing, Then, Begun, IsOfSteps}
 use Rattle.wasi_run.proofs.PermitsQuiet.{Quiet, quiet_then}
@@ -60,7 +63,7 @@ module _ (contexts : List WasiSocketsCtx) (side : OpId) (taken permitted : List 
   step_meets (step.Flush ctx output) = replied (flushed_asks m (own_of line) output) taken_reply (kept_flush side taken permitted (line + 1) m next [] (own_of line) output)
 
   -- while a call stands nothing is asked
-  machine_meets : (standing : Option StandingBind) (s : Step) → StepMeets (permitted_in m side standing s) (machine_asks contexts m line s standing)
+  machine_meets : (standing : Option Standing) (s : Step) → StepMeets (permitted_in m side standing s) (machine_asks contexts m line s standing)
   machine_meets None s = step_meets s
   machine_meets (Some c) s = given_step (reply.Busy, m) next
 

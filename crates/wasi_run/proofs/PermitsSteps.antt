@@ -24,13 +24,15 @@ use Rattle.wasi_tcp.specs.Socket.{bind_asks}
 use Rattle.wasi_tcp.specs.Addresses.{still_connected}
 use Rattle.wasi_tcp.specs.Halves.{taken_receive, taken_send, take_receive}
 use Rattle.wasi_tcp.specs.Connecting.{in_socket, with_state, start_connect_asks as tcp_start_connect, finish_connect_asks as tcp_finish_connect}
-use Rattle.wasi_run.specs.declared.machine.Machine.{Machine}
-use Rattle.wasi_run.specs.declared.socket.Tcp2Socket.{Tcp2Socket}
-use Rattle.wasi_run.specs.declared.table.Kind.{Kind}
-use Rattle.wasi_run.specs.declared.table.Kind.TheVariants.{ErrorValue}
-use Rattle.wasi_run.specs.Table.{Shown, is_full, make_asks}
-use Rattle.wasi_run.specs.Store.{Records, with_inner, idle, bind_ended, bind_begun, begin_bind_asks, connect_begun, begin_connect_asks, opened_send, opened_receive, connect_polled, poll_connect_asks, inner_answered}
-use Rattle.wasi_run.specs.Machine.{with_store, side_at, convert_asks, converted}
+use Rattle.wasi_host.specs.declared.machine.Machine.{Machine}
+use Rattle.wasi_host.specs.declared.socket.Tcp2Socket.{Tcp2Socket}
+use Rattle.wasi_host.specs.declared.kind.Kind.{Kind}
+use Rattle.wasi_host.specs.declared.kind.Kind.TheVariants.{ErrorValue}
+use Rattle.wasi_host.specs.Kinds.{Handles, make_asks}
+use Rattle.wasi_streams.specs.Table.{is_full}
+use Rattle.wasi_host.specs.Store.{Records, with_inner, idle, bind_ended, bind_begun, begin_bind_asks, connect_begun, begin_connect_asks, opened_send, opened_receive, connect_polled, poll_connect_asks, inner_answered}
+use Rattle.wasi_host.specs.Machine.{with_store, side_at}
+use Rattle.wasi_host.specs.StreamCalls.{convert_asks, converted}
 use Rattle.wasi_run.proofs.PermitsQuiet.{Quiet, quiet_then, ArePlain, plain_poll, IsPlainState, Follows, follows_equal, follows_then, follows_connected, StartsPlain, quiet_bind, Leaves as Turns, quiet_start_connect, quiet_finish_connect}
 use Rattle.wasi_run.proofs.PermitsStands.{Keeps, Opens}
 

@@ -19,11 +19,12 @@ use Rattle.wasi_tcp.specs.Socket.{side_in, side_of}
 use Rattle.wasi_tcp.specs.Writer.{write_on_asks, write_half_asks, write_state_asks}
 use Rattle.wasi_tcp.specs.Taken.{taken_by, taken_in, IsFrontOf, IsTakenBy}
 use Rattle.wasi_tcp.proofs.TakenBytes.{taken_front_of, taken_whole}
-use Rattle.wasi_run.specs.declared.machine.Machine.{Machine}
-use Rattle.wasi_run.specs.declared.socket.Streams.{Streams}
-use Rattle.wasi_run.specs.declared.socket.Tcp2Socket.{Tcp2Socket}
-use Rattle.wasi_run.specs.Store.{Records, with_writer, writer_of, writer_asks, stream_at}
-use Rattle.wasi_run.specs.Machine.{with_store, converted, stream_on, output_at, write_asks}
+use Rattle.wasi_host.specs.declared.machine.Machine.{Machine}
+use Rattle.wasi_host.specs.declared.socket.Streams.{Streams}
+use Rattle.wasi_host.specs.declared.socket.Tcp2Socket.{Tcp2Socket}
+use Rattle.wasi_host.specs.Store.{Records, with_writer, writer_of, writer_asks, stream_at}
+use Rattle.wasi_host.specs.Machine.{with_store, output_at}
+use Rattle.wasi_host.specs.StreamCalls.{converted, stream_on, write_asks}
 use Rattle.wasi_run.specs.Answered.{record_in}
 use Rattle.wasi_run.specs.Permitted.{writer_in, writer_of_record, writer_at, let_begin}
 use Rattle.wasi_run.proofs.PermitsQuiet.{Quiet, none_taken}

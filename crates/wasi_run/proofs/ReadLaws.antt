@@ -6,18 +6,20 @@ use Rattle.wasi_world.specs.declared.call.Entry.{Entry}
 use Rattle.wasi_world.specs.declared.outcome.WasiSocketsCtx.{WasiSocketsCtx}
 use Rattle.wasi_world.specs.Asks.{Give, bind}
 use Rattle.wasi_tcp.specs.declared.reader.ReadState.{ReadState}
-use Rattle.wasi_run.specs.declared.machine.Machine.{Machine}
+use Rattle.wasi_host.specs.declared.machine.Machine.{Machine}
 use Rattle.wasi_run.specs.declared.reply.CodeWord.{CodeWord}
 use Rattle.wasi_run.specs.declared.reply.Field.{Field}
 use Rattle.wasi_run.specs.declared.reply.Reply.{Reply}
 use Rattle.wasi_run.specs.declared.reply.Reply.TheVariants as reply
-use Rattle.wasi_run.specs.declared.socket.Streams.{Streams}
-use Rattle.wasi_run.specs.declared.socket.Tcp2Socket.{Tcp2Socket}
+use Rattle.wasi_host.specs.declared.socket.Streams.{Streams}
+use Rattle.wasi_host.specs.declared.socket.Tcp2Socket.{Tcp2Socket}
 use Rattle.wasi_run.specs.declared.step.Step.TheVariants as step
-use Rattle.wasi_run.specs.Host.{CallStop}
+use Rattle.wasi_host.specs.Host.{CallStop}
 use Rattle.wasi_run.specs.Reply.{bytes_fields}
-use Rattle.wasi_run.specs.Store.{with_reader}
-use Rattle.wasi_run.specs.Machine.{input_at, read_asks, bytes_reply, own_of}
+use Rattle.wasi_host.specs.Store.{with_reader}
+use Rattle.wasi_host.specs.Machine.{input_at, own_of}
+use Rattle.wasi_host.specs.StreamCalls.{read_asks}
+use Rattle.wasi_run.specs.Machine.{bytes_reply}
 use Rattle.wasi_run.specs.Answered.{Answered, putting, OfStreams, ReadsTold, ReadsNone, ReadsEnd, ReadFails, FailsWith, closing_reader, with_error}
 use Rattle.wasi_run.proofs.StepCauses.{Gives, settled}
 use Rattle.wasi_run.proofs.StreamCauses.{NotThere, ItGives, ItFails, FindsFull, ItIsClosed, ItTraps}

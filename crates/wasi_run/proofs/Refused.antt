@@ -18,7 +18,7 @@ use Rattle.wasi_world.specs.declared.call.Entry.{Entry}
 use Rattle.wasi_world.specs.declared.outcome.WasiSocketsCtx.{WasiSocketsCtx}
 use Rattle.wasi_run.specs.declared.step.Step.{Step}
 use Rattle.wasi_run.specs.declared.step.Step.TheVariants as step
-use Rattle.wasi_run.specs.Machine.{own_of}
+use Rattle.wasi_host.specs.Machine.{own_of}
 use Rattle.wasi_run.specs.Licence.{Has, entry, NamesSide, ReachesSide, IsMaker, Created, Handed, IsBindTo, IsTcpCreate, IsMarkOf, IsLicensed}
 use Rattle.wasi_run.proofs.Rows.{allowed, two_contexts, forbidden, local_80, bind_script}
 

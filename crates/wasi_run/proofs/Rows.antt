@@ -16,16 +16,17 @@ use Rattle.wasi_world.specs.Operation.{polls}
 use Rattle.wasi_tcp.specs.declared.bind.BindStage.TheVariants.{Check}
 use Rattle.wasi_tcp.specs.Bind.{bind_operation}
 use Rattle.wasi_tcp.specs.Socket.{new_socket}
-use Rattle.wasi_run.specs.declared.machine.Machine.{Machine}
+use Rattle.wasi_host.specs.declared.machine.Machine.{Machine}
 use Rattle.wasi_run.specs.declared.reply.CodeWord.TheVariants as word
 use Rattle.wasi_run.specs.declared.reply.Reply.TheVariants as reply
 use Rattle.wasi_run.specs.declared.step.Step.{Step}
 use Rattle.wasi_run.specs.declared.step.Step.TheVariants as step
-use Rattle.wasi_run.specs.declared.store.StandingBind.{StandingBind}
-use Rattle.wasi_run.specs.declared.table.Kind.TheVariants as slot
+use Rattle.wasi_host.specs.declared.store.Standing.{Standing}
+use Rattle.wasi_host.specs.declared.kind.Kind.TheVariants as slot
 use Rattle.wasi_run.specs.Reply.{no_fields, number_fields}
-use Rattle.wasi_run.specs.Store.{new_record, standing_bind}
-use Rattle.wasi_run.specs.Machine.{own_of, first_state, run}
+use Rattle.wasi_host.specs.Store.{new_record, standing_bind}
+use Rattle.wasi_host.specs.Machine.{own_of, first_state}
+use Rattle.wasi_run.specs.Machine.{run}
 use Rattle.wasi_run.specs.Licence.{Has, entry, BeganBy, NamesSide, Created, IsLicensed}
 use Rattle.wasi_run.proofs.Licences.{licensed, run_is_licensed}
 
@@ -47,7 +48,7 @@ abbrev pub local_80 : IpSocketAddress
 local_80 = socket.Ipv4 (record { port = 80; address = (127, 0, 0, 1) })
 
 -- the machine with a network and a socket by this context, and a bind that may stand
-abbrev with_socket : ℕ → SocketAddressFamily → Option StandingBind → Machine
+abbrev with_socket : ℕ → SocketAddressFamily → Option Standing → Machine
 with_socket ctx f standing = record {
   table = record { next = 3; live = record { handle = 1; kind = slot.Network } ∷ record { handle = 2; kind = slot.Tcp2 0 } ∷ [] };
   store = record { sockets = new_record (new_socket (own_of 2) ctx f) ∷ []; standing = standing };

@@ -15,11 +15,12 @@ use Rattle.wasi_tcp.specs.Shape.{Socket}
 use Rattle.wasi_tcp.specs.Connect.{IsLeftOfConnect}
 use Rattle.wasi_tcp.specs.Connect as connect
 use Rattle.wasi_tcp.specs.Connecting.{HoldsConnect}
-use Rattle.wasi_run.specs.declared.machine.Machine.{Machine}
+use Rattle.wasi_host.specs.declared.machine.Machine.{Machine}
 use Rattle.wasi_run.specs.declared.reply.Reply.{Reply}
-use Rattle.wasi_run.specs.declared.socket.Tcp2Socket.{Tcp2Socket}
+use Rattle.wasi_host.specs.declared.socket.Tcp2Socket.{Tcp2Socket}
 use Rattle.wasi_run.specs.declared.step.Step.{Step}
-use Rattle.wasi_run.specs.Machine.{first_state, socket_at, run}
+use Rattle.wasi_host.specs.Machine.{first_state, socket_at}
+use Rattle.wasi_run.specs.Machine.{run}
 use Rattle.wasi_run.specs.Licence.{MayAsk}
 use Rattle.wasi_run.specs.Answered.{record_in, ConnectsAt}
 use Rattle.wasi_run.proofs.Fine.{ConnectLeft, Unbound, Unchecked, Allowed, ToClose, Ended, SocketIsFine, StateIsFine}

@@ -4,16 +4,18 @@ use Rattle.std.proofs.Common.{◌≡◌, ◌≢◌, ◌↔◌, ℕ, true, false,
 use Rattle.wasi_world.specs.declared.call.Entry.{Entry}
 use Rattle.wasi_world.specs.declared.outcome.TrapKind.TheVariants.{NoSuchHandle}
 use Rattle.wasi_world.specs.declared.outcome.WasiSocketsCtx.{WasiSocketsCtx}
-use Rattle.wasi_run.specs.declared.machine.Machine.{Machine}
+use Rattle.wasi_host.specs.declared.machine.Machine.{Machine}
 use Rattle.wasi_run.specs.declared.reply.CodeWord.{CodeWord}
 use Rattle.wasi_run.specs.declared.reply.CodeWord.TheVariants as word
 use Rattle.wasi_run.specs.declared.reply.Reply.{Reply}
 use Rattle.wasi_run.specs.declared.reply.Reply.TheVariants as reply
-use Rattle.wasi_run.specs.declared.socket.Tcp2Socket.{Tcp2Socket}
+use Rattle.wasi_host.specs.declared.socket.Tcp2Socket.{Tcp2Socket}
 use Rattle.wasi_run.specs.declared.step.Step.{Step}
-use Rattle.wasi_run.specs.Table.{kind_at}
-use Rattle.wasi_run.specs.Store.{is_nothing}
-use Rattle.wasi_run.specs.Machine.{socket_at, is_network, step_asks}
+use Rattle.wasi_host.specs.Kinds.{kind_at}
+use Rattle.wasi_host.specs.Store.{is_nothing}
+use Rattle.wasi_host.specs.Machine.{socket_at}
+use Rattle.wasi_host.specs.Kinds.{is_network}
+use Rattle.wasi_run.specs.Machine.{step_asks}
 use Rattle.wasi_run.specs.Answered.{Answered, record_at, RefusedOf, HasOperationInProgress, StartRefusal, InProgress, Begins}
 use Rattle.wasi_run.proofs.StepCauses.{Gives, settled, busy_exactly}
 use Rattle.wasi_run.proofs.RecordCauses.{IsIdle, found}

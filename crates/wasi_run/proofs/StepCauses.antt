@@ -9,18 +9,21 @@ use Rattle.wasi_world.specs.declared.outcome.Answer.TheVariants.{Ready, Pending}
 use Rattle.wasi_world.specs.declared.outcome.WasiSocketsCtx.{WasiSocketsCtx}
 use Rattle.wasi_world.specs.Asks.{Asks, Give, Ask, AskWrite, bind, Left}
 use Rattle.wasi_world.proofs.Allowed.{Allows, allows_then, allows_weaker, reached}
-use Rattle.wasi_run.specs.declared.machine.Machine.{Machine}
+use Rattle.wasi_host.specs.declared.machine.Machine.{Machine}
 use Rattle.wasi_run.specs.declared.reply.CodeWord.{CodeWord}
 use Rattle.wasi_run.specs.declared.reply.CodeWord.TheVariants as word
 use Rattle.wasi_run.specs.declared.reply.Reply.{Reply}
 use Rattle.wasi_run.specs.declared.reply.Reply.TheVariants as reply
-use Rattle.wasi_run.specs.declared.socket.Tcp2Socket.{Tcp2Socket}
+use Rattle.wasi_host.specs.declared.socket.Tcp2Socket.{Tcp2Socket}
 use Rattle.wasi_run.specs.declared.step.Step.{Step}
 use Rattle.wasi_run.specs.declared.step.Step.TheVariants as step
-use Rattle.wasi_run.specs.declared.store.StandingBind.{StandingBind}
-use Rattle.wasi_run.specs.Host.{Stop, Code, Trap, CallStop, Failed, Closed, Traps}
-use Rattle.wasi_run.specs.Store.{is_bind, finish_bind_by, finish_bind_at}
-use Rattle.wasi_run.specs.Machine.{socket_at, network_asks, create_asks, start_bind_asks, finish_bind_on, start_connect_asks, finish_connect_asks, local_address_on, remote_address_on, is_listening_on, address_family_on, read_asks, check_asks, write_asks, flushed_asks, handle_reply, done_reply, answer_reply, pair_reply, address_reply, truth_reply, family_reply, call_stop_reply, bytes_reply, permit_reply, taken_reply, own_of, context_at, step_asks, machine_asks}
+use Rattle.wasi_host.specs.declared.store.Standing.{Standing}
+use Rattle.wasi_host.specs.Host.{Stop, Code, Trap, CallStop, Failed, Closed, Traps}
+use Rattle.wasi_host.specs.Store.{is_bind, finish_bind_by, finish_bind_at}
+use Rattle.wasi_host.specs.Machine.{socket_at, create_asks, own_of}
+use Rattle.wasi_p2.specs.Tcp.{network_asks, start_bind_asks, finish_bind_on, start_connect_asks, finish_connect_asks, local_address_on, remote_address_on, is_listening_on, address_family_on}
+use Rattle.wasi_host.specs.StreamCalls.{read_asks, check_asks, write_asks, flushed_asks}
+use Rattle.wasi_run.specs.Machine.{handle_reply, done_reply, answer_reply, pair_reply, address_reply, truth_reply, family_reply, call_stop_reply, bytes_reply, permit_reply, taken_reply, context_at, step_asks, machine_asks}
 use Rattle.wasi_run.specs.Answered.{Answered, record_in, HasNoBindInProgress}
 
 -- == what a tree gives, whatever is told
@@ -136,14 +139,14 @@ module _ (contexts : List WasiSocketsCtx) (m : Machine) (line : ℕ) where
   step_not_busy (step.Write ctx output bytes) = not_busy (write_asks m (own_of line) output bytes) taken_reply taken_not_busy
   step_not_busy (step.Flush ctx output) = not_busy (flushed_asks m (own_of line) output) taken_reply taken_not_busy
 
-  busy_by : (s : Step) (standing : Option StandingBind) (entries : List Entry) (r : Reply) (after : Machine) → Left (machine_asks contexts m line s standing) entries (Give (r, after)) → (r ≡ reply.Busy) ↔ IsSome standing
+  busy_by : (s : Step) (standing : Option Standing) (entries : List Entry) (r : Reply) (after : Machine) → Left (machine_asks contexts m line s standing) entries (Give (r, after)) → (r ≡ reply.Busy) ↔ IsSome standing
   busy_by s None entries r after w = (λ e. absurd (given NotBusy _ entries (r, after) (step_not_busy s) w e), λ e. absurd (cc))
   busy_by s (Some c) entries r after w = (λ e. refl, λ e. (given (IsQuiet m) (Give (reply.Busy, m)) entries (r, after) (refl, refl, refl) w).1)
 
   pub busy_exactly : (s : Step) (entries : List Entry) (r : Reply) (after : Machine) → Answered contexts m line s entries r after → (r ≡ reply.Busy) ↔ IsSome m.store.standing
   busy_exactly s entries r after w = busy_by s m.store.standing entries r after w
 
-  quiet_by : (s : Step) (standing : Option StandingBind) (entries : List Entry) (after : Machine) → Left (machine_asks contexts m line s standing) entries (Give (reply.Busy, after)) → (entries ≡ []) × (after ≡ m)
+  quiet_by : (s : Step) (standing : Option Standing) (entries : List Entry) (after : Machine) → Left (machine_asks contexts m line s standing) entries (Give (reply.Busy, after)) → (entries ≡ []) × (after ≡ m)
   quiet_by s None entries after w = absurd (given NotBusy _ entries (reply.Busy, after) (step_not_busy s) w refl)
   quiet_by s (Some c) entries after w = let q = given (IsQuiet m) (Give (reply.Busy, m)) entries (reply.Busy, after) (refl, refl, refl) w in (q.0, q.2)
 
@@ -151,7 +154,7 @@ module _ (contexts : List WasiSocketsCtx) (m : Machine) (line : ℕ) where
   busy_is_quiet s entries after w = quiet_by s m.store.standing entries after w
 
   -- an answer that isn't busy is the step's own
-  pub settled : (Q : List Entry → Reply × Machine → Type 0) (s : Step) (standing : Option StandingBind) (entries : List Entry) (done : Reply × Machine)
+  pub settled : (Q : List Entry → Reply × Machine → Type 0) (s : Step) (standing : Option Standing) (entries : List Entry) (done : Reply × Machine)
       → Gives Q [] (step_asks contexts m line s) → Left (machine_asks contexts m line s standing) entries (Give done) → done.0 ≢ reply.Busy → Q entries done
   settled Q s None entries done g w n = given Q (step_asks contexts m line s) entries done g w
   settled Q s (Some c) entries done g w n = absurd (n (given (IsQuiet m) (Give (reply.Busy, m)) entries done (refl, refl, refl) w).1)
@@ -182,11 +185,11 @@ module _ (contexts : List WasiSocketsCtx) (m : Machine) (line : ℕ) where
   says_on None = (λ h. absurd h, λ w h. absurd (cc))
   says_on (Some place) = says_at place (slice_get m.store.sockets place)
 
-  pub finish_asks_nothing : (ctx s : ℕ) (standing : Option StandingBind) (entries : List Entry) (done : Reply × Machine) → Left (machine_asks contexts m line (step.TcpFinishBind ctx s) standing) entries (Give done) → entries ≡ []
+  pub finish_asks_nothing : (ctx s : ℕ) (standing : Option Standing) (entries : List Entry) (done : Reply × Machine) → Left (machine_asks contexts m line (step.TcpFinishBind ctx s) standing) entries (Give done) → entries ≡ []
   finish_asks_nothing ctx s None entries done w = (given (IsGiven (finished (socket_at m s))) _ entries done (refl, refl) w).0
   finish_asks_nothing ctx s (Some c) entries done w = (given (IsQuiet m) _ entries done (refl, refl, refl) w).0
 
-  pub finish_exactly : (ctx s : ℕ) (standing : Option StandingBind) (entries : List Entry) (r : Reply) (after : Machine) → standing ≡ None → Left (machine_asks contexts m line (step.TcpFinishBind ctx s) standing) entries (Give (r, after))
+  pub finish_exactly : (ctx s : ℕ) (standing : Option Standing) (entries : List Entry) (r : Reply) (after : Machine) → standing ≡ None → Left (machine_asks contexts m line (step.TcpFinishBind ctx s) standing) entries (Give (r, after))
       → (r ≡ reply.Err word.NotInProgress) ↔ HasNoBindInProgress (record_in m (socket_at m s))
   finish_exactly ctx s None entries r after e w =
       let g = given (IsGiven (finished (socket_at m s))) _ entries (r, after) (refl, refl) w in
@@ -195,7 +198,7 @@ module _ (contexts : List WasiSocketsCtx) (m : Machine) (line : ℕ) where
       rw same (λ h. (says.1 word.NotInProgress h).1, says.0)
   finish_exactly ctx s (Some c) entries r after e w = absurd (cc)
 
-  pub finish_refused : (ctx s : ℕ) (standing : Option StandingBind) (entries : List Entry) (w : CodeWord) (after : Machine) → Left (machine_asks contexts m line (step.TcpFinishBind ctx s) standing) entries (Give (reply.Err w, after))
+  pub finish_refused : (ctx s : ℕ) (standing : Option Standing) (entries : List Entry) (w : CodeWord) (after : Machine) → Left (machine_asks contexts m line (step.TcpFinishBind ctx s) standing) entries (Give (reply.Err w, after))
       → (w ≡ word.NotInProgress) × (after ≡ m)
   finish_refused ctx s None entries w after h =
       let g = given (IsGiven (finished (socket_at m s))) _ entries (reply.Err w, after) (refl, refl) h in

@@ -14,14 +14,16 @@ use Rattle.wasi_streams.specs.StreamStop.{StreamStop}
 use Rattle.wasi_streams.specs.StreamStop as stop
 use Rattle.wasi_tcp.specs.declared.reader.ReadState.{ReadState}
 use Rattle.wasi_tcp.specs.declared.writer.WriteState.{WriteState}
-use Rattle.wasi_run.specs.declared.machine.Machine.{Machine}
-use Rattle.wasi_run.specs.declared.socket.Streams.{Streams}
-use Rattle.wasi_run.specs.declared.socket.Tcp2Socket.{Tcp2Socket}
-use Rattle.wasi_run.specs.declared.table.Kind.TheVariants.{ErrorValue}
-use Rattle.wasi_run.specs.Host.{CallStop, Failed, Closed, Traps}
-use Rattle.wasi_run.specs.Table.{is_full, with_handle, make_asks}
-use Rattle.wasi_run.specs.Store.{with_reader, with_writer, reader_of, reader_asks, writer_of, writer_asks, stream_at, with_record_put}
-use Rattle.wasi_run.specs.Machine.{side_at, with_table, with_store, failed_made, stopped, converted, stream_on}
+use Rattle.wasi_host.specs.declared.machine.Machine.{Machine}
+use Rattle.wasi_host.specs.declared.socket.Streams.{Streams}
+use Rattle.wasi_host.specs.declared.socket.Tcp2Socket.{Tcp2Socket}
+use Rattle.wasi_host.specs.declared.kind.Kind.TheVariants.{ErrorValue}
+use Rattle.wasi_host.specs.Host.{CallStop, Failed, Closed, Traps}
+use Rattle.wasi_streams.specs.Table.{is_full}
+use Rattle.wasi_host.specs.Kinds.{with_handle, make_asks}
+use Rattle.wasi_host.specs.Store.{with_reader, with_writer, reader_of, reader_asks, writer_of, writer_asks, stream_at, with_record_put}
+use Rattle.wasi_host.specs.Machine.{side_at, with_table, with_store}
+use Rattle.wasi_host.specs.StreamCalls.{failed_made, stopped, converted, stream_on}
 use Rattle.wasi_run.specs.Licence.{entry, marks_in}
 use Rattle.wasi_run.specs.Answered.{record_in, putting, streams_in, OfStreams}
 use Rattle.wasi_run.proofs.StepCauses.{Gives, gives_then}

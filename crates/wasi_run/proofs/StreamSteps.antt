@@ -5,13 +5,14 @@ use Rattle.wasi_world.specs.declared.call.Entry.{Entry}
 use Rattle.wasi_world.specs.Asks.{Asks, Give, bind}
 use Rattle.wasi_tcp.specs.Reader.{read_state_asks}
 use Rattle.wasi_tcp.specs.Writer.{check_write_asks, write_state_asks}
-use Rattle.wasi_run.specs.declared.machine.Machine.{Machine}
+use Rattle.wasi_host.specs.declared.machine.Machine.{Machine}
 use Rattle.wasi_run.specs.declared.reply.Reply.{Reply}
-use Rattle.wasi_run.specs.declared.socket.Streams.{Streams}
-use Rattle.wasi_run.specs.declared.socket.Tcp2Socket.{Tcp2Socket}
-use Rattle.wasi_run.specs.Host.{CallStop}
-use Rattle.wasi_run.specs.Store.{with_reader, with_writer, reader_asks, writer_asks, flush_asks}
-use Rattle.wasi_run.specs.Machine.{input_at, output_at, read_asks, check_asks, write_asks, flushed_asks, own_of}
+use Rattle.wasi_host.specs.declared.socket.Streams.{Streams}
+use Rattle.wasi_host.specs.declared.socket.Tcp2Socket.{Tcp2Socket}
+use Rattle.wasi_host.specs.Host.{CallStop}
+use Rattle.wasi_host.specs.Store.{with_reader, with_writer, reader_asks, writer_asks, flush_asks}
+use Rattle.wasi_host.specs.Machine.{input_at, output_at, own_of}
+use Rattle.wasi_host.specs.StreamCalls.{read_asks, check_asks, write_asks, flushed_asks}
 use Rattle.wasi_run.specs.Answered.{record_in, streams_in, putting, OfStreams}
 use Rattle.wasi_run.proofs.StepCauses.{Gives, gives_then}
 use Rattle.wasi_run.proofs.RecordCauses.{put_same}

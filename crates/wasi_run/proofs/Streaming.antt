@@ -6,14 +6,14 @@ use Rattle.std.proofs.Math.Seq.{take-append-add}
 use Rattle.wasi_world.specs.declared.outcome.WasiSocketsCtx.{WasiSocketsCtx}
 use Rattle.wasi_world.specs.Seen.{Seen}
 use Rattle.wasi_world.specs.Io.{Reading, Writing, Gave, GaveSome, GaveNone}
-use Rattle.wasi_run.specs.declared.machine.Machine.{Machine}
+use Rattle.wasi_host.specs.declared.machine.Machine.{Machine}
 use Rattle.wasi_run.specs.declared.lines.LinesEnd.{LinesEnd}
 use Rattle.wasi_run.specs.declared.lines.LinesEnd.TheVariants as lines
 use Rattle.wasi_run.specs.declared.run.RunEnd.{RunEnd}
 use Rattle.wasi_run.specs.declared.run.RunEnd.TheVariants as end
 use Rattle.wasi_run.specs.declared.run.RunError.{RunError}
 use Rattle.wasi_run.specs.declared.run.RunError.TheVariants.{BadStep, TooLong, ReadFault}
-use Rattle.wasi_run.specs.Machine.{first_state}
+use Rattle.wasi_host.specs.Machine.{first_state}
 use Rattle.wasi_world.specs.Lines.{lines_of, rest_of, lines_from, rest_from}
 use Rattle.wasi_run.specs.Lines.{after_lines, KeptOf}
 use Rattle.wasi_run.specs.Ran.{LinesRan}

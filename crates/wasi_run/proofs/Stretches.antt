@@ -5,7 +5,7 @@ use Rattle.wasi_world.specs.Seen.{Seen}
 use Rattle.wasi_world.specs.Asks.{Asks, Give, Reaches, Started}
 use Rattle.wasi_world.specs.Io.{Writing, SameCounts}
 use Rattle.wasi_world.proofs.Walks.{reaches_all, reaches_on, reaches_then}
-use Rattle.wasi_run.specs.declared.machine.Machine.{Machine}
+use Rattle.wasi_host.specs.declared.machine.Machine.{Machine}
 use Rattle.wasi_run.specs.declared.step.Step.{Step}
 use Rattle.wasi_run.specs.declared.reply.Reply.{Reply}
 use Rattle.wasi_run.specs.declared.lines.LinesEnd.{LinesEnd}
@@ -15,7 +15,7 @@ use Rattle.wasi_run.specs.declared.run.RunError.TheVariants.{Memory, BadStep, To
 use Rattle.wasi_run.specs.Reply.{is_trap}
 use Rattle.wasi_run.specs.Replies.{text_of}
 use Rattle.wasi_run.specs.Machine.{machine_asks, run}
-use Rattle.wasi_run.specs.Sides.{KnowsSides}
+use Rattle.wasi_host.specs.Sides.{KnowsSides}
 use Rattle.wasi_run.specs.Lines.{StartWith, BadAfter}
 use Rattle.wasi_run.specs.Ran.{texts, NoTrap, OneTrap, CutLast, Stretch, Wrote, Counted, Cause, LinesRan}
 use Rattle.wasi_run.proofs.Takes.{took_again, took_none, same_again, same_none, rose_again}

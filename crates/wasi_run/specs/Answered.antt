@@ -34,19 +34,21 @@ use Rattle.wasi_tcp.specs.Shape.{Socket}
 use Rattle.wasi_tcp.specs.Connecting.{with_state, is_connectable, HoldsConnect}
 use Rattle.wasi_tcp.specs.Addresses.{usable_side}
 use Rattle.wasi_tcp.specs.Writer.{error_of_code, collected}
-use Rattle.wasi_run.specs.declared.machine.Machine.{Machine}
+use Rattle.wasi_host.specs.declared.machine.Machine.{Machine}
 use Rattle.wasi_run.specs.declared.reply.CodeWord.{CodeWord}
 use Rattle.wasi_run.specs.declared.reply.CodeWord.TheVariants as word
 use Rattle.wasi_run.specs.declared.reply.Reply.{Reply}
-use Rattle.wasi_run.specs.declared.socket.Streams.{Streams}
-use Rattle.wasi_run.specs.declared.socket.Tcp2Socket.{Tcp2Socket}
+use Rattle.wasi_host.specs.declared.socket.Streams.{Streams}
+use Rattle.wasi_host.specs.declared.socket.Tcp2Socket.{Tcp2Socket}
 use Rattle.wasi_run.specs.declared.step.Step.{Step}
 use Rattle.wasi_run.specs.declared.step.Step.TheVariants as step
-use Rattle.wasi_run.specs.declared.table.Kind.TheVariants as kind
+use Rattle.wasi_host.specs.declared.kind.Kind.TheVariants as kind
 use Rattle.wasi_run.specs.Reply.{word_of_p2}
-use Rattle.wasi_run.specs.Table.{kind_at, with_handle}
-use Rattle.wasi_run.specs.Store.{with_inner, with_reader, with_writer, with_socket, left_of, is_nothing, is_bind, is_connect, idle}
-use Rattle.wasi_run.specs.Machine.{socket_at, is_network, input_at, output_at, machine_asks}
+use Rattle.wasi_host.specs.Kinds.{kind_at, with_handle}
+use Rattle.wasi_host.specs.Store.{with_inner, with_reader, with_writer, with_socket, left_of, is_nothing, is_bind, is_connect, idle}
+use Rattle.wasi_host.specs.Machine.{socket_at, input_at, output_at}
+use Rattle.wasi_host.specs.Kinds.{is_network}
+use Rattle.wasi_run.specs.Machine.{machine_asks}
 use Rattle.wasi_run.specs.Licence.{Has, entry}
 
 -- the step was done: what it asked was told by these entries, and these are its reply and the machine afterwards

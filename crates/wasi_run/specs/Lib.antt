@@ -1,15 +1,10 @@
 pub mod Reply
-pub mod Host
-pub mod Table
-pub mod Store
 pub mod Machine
-pub mod Sides
 pub mod Steps
 pub mod Replies
 pub mod Lines
 pub mod Written
 pub mod Ran
-pub mod Closing
 pub mod Script
 pub mod Causes
 pub mod Licence

@@ -10,7 +10,7 @@ use Rattle.wasi_world.specs.declared.ids.OpId.{OpId}
 use Rattle.wasi_world.specs.declared.call.Call.{Call}
 use Rattle.wasi_world.specs.declared.call.Call.TheVariants.{Check, Lookup, TcpCreate, UdpCreate, UdpWritable, Local, Peer, Bind, UdpBind, UdpConnect, Listen, SetBacklog, Connect, Accept, Hand, Refuse, Read, ReadReady, WriteReady, Write, Shutdown, UdpDisconnect, Send, Recv, GetOption, SetOption, Close, Made}
 use Rattle.wasi_world.specs.declared.call.HandleKind.{HandleKind}
-use Rattle.wasi_world.specs.declared.call.HandleKind.TheVariants.{Network, Tcp2, Input, Output, ErrorValue}
+use Rattle.wasi_world.specs.declared.call.HandleKind.TheVariants.{Network, Tcp2, Input, Output, Pollable, ErrorValue}
 use Rattle.wasi_world.specs.declared.call.Told.{Told}
 use Rattle.wasi_world.specs.declared.call.Told.TheVariants.{Done, Yes, Addr, Arrived}
 use Rattle.wasi_world.specs.declared.call.Entry.{Entry}
@@ -64,6 +64,12 @@ handles_of (step.Read ctx input len) = input ∷ []
 handles_of (step.CheckWrite ctx output) = output ∷ []
 handles_of (step.Write ctx output bytes) = output ∷ []
 handles_of (step.Flush ctx output) = output ∷ []
+handles_of (step.Subscribe ctx handle) = handle ∷ []
+handles_of (step.Ready ctx pollable) = pollable ∷ []
+handles_of (step.Drop ctx handle) = handle ∷ []
+handles_of (step.TcpShutdown ctx socket how) = socket ∷ []
+handles_of step.Turn = []
+handles_of (step.Poll n) = []
 
 -- == sides
 -- The side of a handle is the one in its mark.
@@ -165,7 +171,7 @@ abbrev pub IsOfParent : List Entry → ℕ → Option ℕ → Option OpId → Ty
 IsOfParent before handle parent sock = (parent ≡ Some handle) × IsMarkedWith before handle sock
 
 -- what a mark says, by the step that makes the handle: a network has no side, a socket that was created has its own, and
--- the two streams of a connection are of their socket's
+-- the two streams of a connection, an error and a pollable are of their parent's
 abbrev pub IsMarkOf : List Entry → OpId → HandleKind → Option ℕ → Option OpId → Step → Type 0
 IsMarkOf before op kind parent sock (step.Network ctx) = (kind ≡ Network) × (parent ≡ None) × (sock ≡ None)
 IsMarkOf before op kind parent sock (step.TcpCreate ctx family) =
@@ -182,6 +188,12 @@ IsMarkOf before op kind parent sock (step.Read ctx input len) = (kind ≡ ErrorV
 IsMarkOf before op kind parent sock (step.CheckWrite ctx output) = (kind ≡ ErrorValue) × IsOfParent before output parent sock
 IsMarkOf before op kind parent sock (step.Write ctx output bytes) = (kind ≡ ErrorValue) × IsOfParent before output parent sock
 IsMarkOf before op kind parent sock (step.Flush ctx output) = (kind ≡ ErrorValue) × IsOfParent before output parent sock
+IsMarkOf before op kind parent sock (step.Subscribe ctx handle) = (kind ≡ Pollable) × IsOfParent before handle parent sock
+IsMarkOf before op kind parent sock (step.Ready ctx pollable) = ⊥
+IsMarkOf before op kind parent sock (step.Drop ctx handle) = ⊥
+IsMarkOf before op kind parent sock (step.TcpShutdown ctx socket how) = ⊥
+IsMarkOf before op kind parent sock step.Turn = ⊥
+IsMarkOf before op kind parent sock (step.Poll n) = ⊥
 
 -- == the table
 -- What an operation may ask after these entries. Of a call whose row needs a step that isn't there yet it says that it may not

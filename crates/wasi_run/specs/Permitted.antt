@@ -8,14 +8,15 @@ use Rattle.wasi_world.specs.Asks.{Asks, Left}
 use Rattle.wasi_tcp.specs.declared.writer.WriteState.{WriteState}
 use Rattle.wasi_tcp.specs.declared.writer.WriteState.TheVariants as writing
 use Rattle.wasi_tcp.specs.Writer.{writer_side}
-use Rattle.wasi_run.specs.declared.machine.Machine.{Machine}
+use Rattle.wasi_host.specs.declared.machine.Machine.{Machine}
 use Rattle.wasi_run.specs.declared.reply.Reply.{Reply}
-use Rattle.wasi_run.specs.declared.socket.Streams.{Streams}
-use Rattle.wasi_run.specs.declared.socket.Tcp2Socket.{Tcp2Socket}
+use Rattle.wasi_host.specs.declared.socket.Streams.{Streams}
+use Rattle.wasi_host.specs.declared.socket.Tcp2Socket.{Tcp2Socket}
 use Rattle.wasi_run.specs.declared.step.Step.{Step}
 use Rattle.wasi_run.specs.declared.step.Step.TheVariants as step
-use Rattle.wasi_run.specs.declared.store.StandingBind.{StandingBind}
-use Rattle.wasi_run.specs.Machine.{output_at, machine_asks}
+use Rattle.wasi_host.specs.declared.store.Standing.{Standing}
+use Rattle.wasi_host.specs.Machine.{output_at}
+use Rattle.wasi_run.specs.Machine.{machine_asks}
 use Rattle.wasi_run.specs.Answered.{record_in, Answered}
 
 -- == the writer that an output names
@@ -44,7 +45,7 @@ let_begin side bytes (Some (writing.Ready half permit)) = if is_same half.side s
 let_begin side bytes _ = []
 
 -- while a call stands no write begins
-abbrev pub permitted_in : Machine → OpId → Option StandingBind → Step → List ℕ
+abbrev pub permitted_in : Machine → OpId → Option Standing → Step → List ℕ
 permitted_in m side None (step.Write ctx output bytes) = let_begin side bytes (writer_at m output)
 permitted_in m side None s = []
 permitted_in m side (Some standing) s = []

@@ -14,7 +14,7 @@ use Rattle.wasi_run.specs.declared.run.RunError.TheVariants as error
 use Rattle.wasi_run.specs.declared.program.Status.{Status}
 use Rattle.wasi_run.specs.declared.program.Status.TheVariants as status
 use Rattle.wasi_run.specs.Script.{RanScript}
-use Rattle.wasi_run.specs.Closing.{HasClosedAll}
+use Rattle.wasi_host.specs.Closing.{HasClosedAll}
 use Rattle.wasi_run.specs.Headline.{RunsLicensed}
 
 -- the words are `run LIMIT`

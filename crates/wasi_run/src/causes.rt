@@ -12,17 +12,20 @@ ghost use Rattle.wasi_world.specs.declared.outcome.WasiSocketsCtx.{WasiSocketsCt
 ghost use Rattle.wasi_world.specs.Asks.{Give, Left};
 ghost use Rattle.wasi_tcp.specs.declared.writer.WriteError.{WriteError};
 ghost use Rattle.wasi_tcp.specs.Socket.{new_socket};
-ghost use Rattle.wasi_run.specs.declared.machine.Machine.{Machine};
+ghost use Rattle.wasi_host.specs.declared.machine.Machine.{Machine};
 ghost use Rattle.wasi_run.specs.declared.reply.CodeWord.{CodeWord};
 ghost use Rattle.wasi_run.specs.declared.reply.Field.{Field};
 ghost use Rattle.wasi_run.specs.declared.reply.Reply.{Reply};
 ghost use Rattle.wasi_run.specs.declared.step.Step.{Step};
 ghost use Rattle.wasi_run.specs.Answered.{Answered, CheckFails, closing_reader, closing_writer, ConnectsAt, CreateRefusal, EndsPending, FailsWith, FinishRefusal, HasNoBindInProgress, HasNoConnectInProgress, HasOperationInProgress, IsGivenUp, IsQuiet, IsStartBind, IsUnpermitted, IsWrite, KnowsBound, LocalRefusal, MakesHandle, MissesHandle, OfStreams, output_streams, Permits, ReadFails, ReadsEnd, ReadsNone, ReadsTold, record_at, RefusedBind, RefusedConnect, RefusedOf, RemoteRefusal, WasClosedWith, with_error, WriteFails};
 ghost use Rattle.wasi_run.specs.Licence.{entry, marks_in};
-ghost use Rattle.wasi_run.specs.Machine.{context_at, first_state, input_at, is_network, output_at, own_of, run};
+ghost use Rattle.wasi_run.specs.Machine.{context_at, run};
+ghost use Rattle.wasi_host.specs.Machine.{first_state, input_at, output_at, own_of};
+ghost use Rattle.wasi_host.specs.Kinds.{is_network};
 ghost use Rattle.wasi_run.specs.Reply.{bytes_fields, number_fields};
-ghost use Rattle.wasi_run.specs.Store.{with_record};
-ghost use Rattle.wasi_run.specs.Table.{is_full, kind_at};
+ghost use Rattle.wasi_host.specs.Store.{with_record};
+ghost use Rattle.wasi_streams.specs.Table.{is_full};
+ghost use Rattle.wasi_host.specs.Kinds.{kind_at};
 
 /// A step is busy exactly where a call stands. It asks nothing then, and the machine stays as it was.
 pub fn busy_while_a_call_stands()

@@ -7,14 +7,15 @@ ghost use Rattle.wasi_world.specs.declared.ids.OpId.{OpId};
 ghost use Rattle.wasi_world.specs.declared.outcome.WasiSocketsCtx.{WasiSocketsCtx};
 ghost use Rattle.wasi_world.specs.Asks.{Asks, Left};
 ghost use Rattle.wasi_tcp.specs.Taken.{taken_in, IsFrontOf};
-ghost use Rattle.wasi_run.specs.declared.machine.Machine.{Machine};
+ghost use Rattle.wasi_host.specs.declared.machine.Machine.{Machine};
 ghost use Rattle.wasi_run.specs.declared.reply.Reply.{Reply};
 ghost use Rattle.wasi_run.specs.declared.step.Step.{Step};
 ghost use Rattle.wasi_run.specs.declared.reply.Reply.TheVariants as Reply;
 ghost use Rattle.wasi_run.specs.declared.step.Step.TheVariants as Step;
 ghost use Rattle.wasi_run.specs.Answered.{Answered};
 ghost use Rattle.wasi_run.specs.Licence.{IsLicensed, IsSide, IsMaker};
-ghost use Rattle.wasi_run.specs.Machine.{first_state, machine_asks, run};
+ghost use Rattle.wasi_host.specs.Machine.{first_state};
+ghost use Rattle.wasi_run.specs.Machine.{machine_asks, run};
 ghost use Rattle.wasi_run.specs.Permitted.{WritesTo, permitted_by, Did, IsOfSteps};
 ghost use Rattle.wasi_run.specs.Reply.{number_fields};
 

@@ -1,14 +1,25 @@
 //! The replies of calls.
 
 ghost use Rattle.std.specs.Prelude.{◌≡◌, IfOk, IsOkAnd};
-ghost use Rattle.wasi_run.specs.Host.{host_outcome, call_outcome, IsStop, IsCallStop};
-ghost use Rattle.wasi_run.specs.Machine.{handle_reply, done_reply, answer_reply, pair_reply, address_reply, truth_reply, family_reply, stop_reply, bytes_reply, permit_reply, taken_reply, call_stop_reply};
+ghost use Rattle.wasi_host.specs.Host.{host_outcome, fault_outcome, call_outcome, IsStop, IsCallStop};
+ghost use Rattle.wasi_run.specs.Machine.{handle_reply, done_reply, answer_reply, pair_reply, address_reply, truth_reply, family_reply, stop_reply, bytes_reply, permit_reply, taken_reply, call_stop_reply, outcome_reply, resumed_reply};
 
-use crate::host::{CallError, SocketError};
 use crate::reply::{CodeWord, Reply};
 use std::alloc::{AllocError, Global};
 use wasi_addr::{IpSocketAddress, SocketAddressFamily, p2};
+use wasi_host::{CallError, Outcome, SocketError};
+use wasi_streams::Fault;
 use wasi_world::{Answer, Handle, Octets};
+
+/// The same of a call that tells no codes.
+pub fn of_fault<T: Drop>(done: Result<T, Fault>) -> Result<T, SocketError>
+    ensures { host_outcome result ≡ fault_outcome done }
+{
+    match done {
+        Ok(value) => Ok(value),
+        Err(fault) => Err(SocketError::from(fault)),
+    }
+}
 
 /// The reply of a call that makes a handle.
 pub fn handle_reply(alloc: Global, made: Result<Handle, SocketError>) -> Result<Reply, AllocError>
@@ -95,7 +106,7 @@ pub fn answer_reply(
 }
 
 /// The reply of a call that gives no value; want of memory has none.
-fn stop_reply(error: SocketError) -> Result<Reply, AllocError>
+pub fn stop_reply(error: SocketError) -> Result<Reply, AllocError>
     ensures { IfOk result (λ reply. IsStop error (λ stop. reply ≡ stop_reply stop)) }
 {
     match error {
@@ -116,11 +127,11 @@ pub fn bytes_reply(alloc: Global, read: Result<Octets, CallError>) -> Result<Rep
 }
 
 /// The reply of a call that permits a number of bytes.
-pub fn permit_reply(alloc: Global, permit: Result<usize, CallError>) -> Result<Reply, AllocError>
+pub fn permit_reply(alloc: Global, permit: Result<u64, CallError>) -> Result<Reply, AllocError>
     ensures { IfOk result (λ reply. IsOkAnd (call_outcome permit) (λ x. reply ≡ permit_reply x)) }
 {
     match permit {
-        Ok(bytes) => Reply::number(alloc, bytes as u64),
+        Ok(bytes) => Reply::number(alloc, bytes),
         Err(error) => call_stop_reply(error),
     }
 }
@@ -147,5 +158,30 @@ fn call_stop_reply(error: CallError) -> Result<Reply, AllocError>
         CallError::Closed => Ok(Reply::Closed),
         CallError::Trap(kind) => Ok(Reply::Trap(kind)),
         CallError::Memory(e) => Err(e),
+    }
+}
+
+/// The reply of the call of this line that was resumed: pending, it stands on.
+pub fn outcome_reply(alloc: Global, line: u32, answer: Answer<Outcome>) -> Reply
+    ensures { result ≡ outcome_reply line answer }
+{
+    match answer {
+        Answer::Ready(Outcome::Nothing) => Reply::done(alloc),
+        Answer::Pending => Reply::Pending(line),
+    }
+}
+
+/// The reply of a poll, where the call isn't one of an interface's own.
+pub fn resumed_reply(
+    alloc: Global,
+    line: u32,
+    resumed: Result<Option<Answer<Outcome>>, CallError>,
+) -> Result<Reply, AllocError>
+    ensures { IfOk result (λ reply. IsOkAnd (call_outcome resumed) (λ x. reply ≡ resumed_reply line x)) }
+{
+    match resumed {
+        Ok(Some(answer)) => Ok(outcome_reply(alloc, line, answer)),
+        Ok(None) => Ok(Reply::NoSuchCall),
+        Err(error) => call_stop_reply(error),
     }
 }

@@ -3,8 +3,8 @@
 ghost use Rattle.std.specs.Prelude.{◌≡◌, ℕ, ◌<◌, ◌^◌, OnOk, length, take, false, true};
 ghost use Rattle.wasi_world.specs.Seen.{Rose};
 ghost use Rattle.wasi_world.specs.Io.{CountRose};
-ghost use Rattle.wasi_run.specs.Machine.{first_state};
-ghost use Rattle.wasi_run.specs.Closing.{IsFresh, HasClosedAll};
+ghost use Rattle.wasi_host.specs.Machine.{first_state};
+ghost use Rattle.wasi_host.specs.Closing.{IsFresh, HasClosedAll};
 ghost use Rattle.wasi_run.specs.Script.{AreNumbered, RanOver, RanScript, Completes};
 ghost use Rattle.wasi_run.specs.Headline.{RunsLicensed};
 ghost use Rattle.wasi_run.specs.Causes.{BeginsRun, DoneLines, ReadsAll, StopsAtTrap, StopsAtBadStep, StopsTooLong};

@@ -2,14 +2,16 @@
 
 ghost use Rattle.std.specs.Prelude.{◌≡◌, ◌+◌, ◌<◌, ◌^◌, false, true};
 ghost use Rattle.wasi_world.specs.Asks.{AsksFor};
-ghost use Rattle.wasi_run.specs.Machine.{first_state, machine_asks};
-ghost use Rattle.wasi_run.specs.Sides.{KnowsSides, ClosesAll};
-ghost use Rattle.wasi_run.specs.Closing.{AsksNothing};
+ghost use Rattle.wasi_host.specs.Machine.{first_state};
+ghost use Rattle.wasi_host.specs.Sides.{KnowsSides, ClosesAll};
+ghost use Rattle.wasi_host.specs.Closing.{AsksNothing};
+ghost use Rattle.wasi_run.specs.Machine.{machine_asks};
 
-use crate::machine::Machine;
+use crate::calls::do_step;
 use crate::reply::Reply;
 use crate::step::Step;
 use std::alloc::{AllocError, Global};
+use wasi_host::Machine;
 use wasi_world::{WasiSocketsCtx, World};
 
 /// The machine, and how many lines it has done.
@@ -46,7 +48,14 @@ impl Session {
         ensures sides { KnowsSides (W.seen world.old) self.old.machine.store → KnowsSides (W.seen world.new) self.new.machine.store }
     {
         self.lines += 1;
-        self.machine.step(alloc, world, contexts, self.lines, step)
+        do_step(
+            alloc,
+            &mut self.machine,
+            world,
+            contexts,
+            self.lines,
+            step,
+        )
     }
 
     /// Sets the end mark, and then closes the open network sides.

@@ -2,7 +2,7 @@
 
 ghost use Rattle.std.specs.Prelude.{◌≡◌, false};
 ghost use Rattle.wasi_world.specs.Operation.{PollsFor, Nothing};
-ghost use Rattle.wasi_tcp.specs.Bind.{bind_operation, IsOf};
+ghost use Rattle.wasi_tcp.specs.Bind.{bind_operation};
 
 use crate::socket::TcpSocket;
 use std::marker::Model;
@@ -55,14 +55,13 @@ impl BindOp {
     }
 
     /// Asks what comes next: a no is `AccessDenied`, and a code is answered. After want of memory it may be polled again.
-    /// The socket that began it stays in the state Default.
+    /// The socket that began it stays in the state Default; any other is left as it is, too.
     pub fn poll<W: World>(
         &mut self,
         world: &mut W,
         _socket: &mut TcpSocket,
     ) -> Result<Answer<()>, Refusal>
-        requires open { (W.seen world.old).ended ≡ false }
-        requires its_socket { IsOf self.old _socket.old }
+        requires { (W.seen world.old).ended ≡ false }
         ensures polled { PollsFor (λ done. Nothing) Nothing self.old self.new (W.seen world.old) (W.seen world.new) result }
         ensures same { _socket.new ≡ _socket.old }
         ensures open { (W.seen world.new).ended ≡ false }

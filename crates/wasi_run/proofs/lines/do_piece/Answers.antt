@@ -2,7 +2,7 @@ use Rattle.std.proofs.Common.{◌∙◌, ap, Ok, Result, refl, ◌+◌, drop}
 use Rattle.std.proofs.lemmas.Result.{err_from_is_err_and}
 use Rattle.wasi_world.specs.Seen.{Seen}
 use Rattle.wasi_world.specs.Io.{Writing}
-use Rattle.wasi_run.specs.declared.machine.Machine.{Machine}
+use Rattle.wasi_host.specs.declared.machine.Machine.{Machine}
 use Rattle.wasi_run.specs.declared.lines.LinesEnd.{LinesEnd}
 use Rattle.wasi_run.specs.declared.run.RunError.{RunError}
 use Rattle.wasi_world.specs.Lines.{lines_of, lines_from}

@@ -1,0 +1,60 @@
+-- How a host call's asks go on where it gives no value.
+use Rattle.std.specs.Prelude.{◌≡◌, ℕ, List, [], ◌∷◌, ◌++◌, length, Option, None, Result, Ok, Err, refl, IsErrAnd}
+use Rattle.std.specs.declared.alloc.AllocError.{AllocError}
+use Rattle.std.proofs.Common.{ap, sym, subst}
+use Rattle.wasi_addr.specs.declared.code.ErrorCode.{ErrorCode}
+use Rattle.wasi_world.specs.declared.outcome.Refusal.{Refusal}
+use Rattle.wasi_world.specs.declared.outcome.Refusal.TheVariants as refusal
+use Rattle.wasi_world.specs.Seen.{Seen}
+use Rattle.wasi_world.specs.Asks.{Asks, Give, bind, Reaches, Started, AsksFor, outcome}
+use Rattle.wasi_world.proofs.Walks.{reaches_all, reaches_in, asks_end, asks_gives}
+use Rattle.wasi_world.specs.declared.ids.OpId.{OpId}
+use Rattle.wasi_tcp.specs.Shape.{Socket}
+use Rattle.wasi_tcp.specs.Socket.{side_of}
+use Rattle.wasi_host.specs.declared.machine.Machine.{Machine}
+use Rattle.wasi_host.specs.declared.socket.Tcp2Socket.{Tcp2Socket}
+use Rattle.wasi_host.specs.declared.kind.Kind.TheVariants.{Tcp2}
+use Rattle.wasi_host.specs.Host.{SocketError}
+use Rattle.wasi_streams.specs.declared.fault.HostError.TheVariants.{Code, Trap, Memory}
+use Rattle.wasi_host.specs.Kinds.{Handles, make_asks}
+use Rattle.wasi_host.specs.Store.{new_record, with_record}
+use Rattle.wasi_host.specs.Machine.{with_table, create_handle}
+use Rattle.wasi_streams.specs.HostError.{of_refusal as error_of, of_fault}
+use Rattle.wasi_host.specs.Host.{Stop, code_stop, host_outcome}
+use Rattle.wasi_host.specs.Host as host
+
+host_memory : {T : Type 0} {d : AllocError} (r : Result T SocketError) → IsErrAnd r (λ x. x ≡ Memory d) → host_outcome r ≡ Err d
+host_memory (Ok x) h = absurd h
+host_memory (Err x) h = ap (λ (y : SocketError). host_outcome (Err y)) h
+
+-- want of memory before the first ask
+pub host_none : {A T : Type 0} {asks : Asks A} {s t : Seen} {view : Result T Stop → A} {d : AllocError} (r : Result T SocketError) → IsErrAnd r (λ x. x ≡ Memory d) → t ≡ s → AsksFor asks s t view (host_outcome r)
+host_none {asks} {s} {t} r h e = rw (host_memory r h) (record { ok = tt; err = record { rest = asks; reached = rw e (reaches_all asks s) } })
+
+-- or in it
+pub host_exit : {A B T : Type 0} {asks : Asks A} (f : A → Asks B) {s t : Seen} {view : Result T Stop → B} {d : AllocError} (r : Result T SocketError) → IsErrAnd r (λ x. x ≡ Memory d) → Started asks s t → AsksFor (bind asks f) s t view (host_outcome r)
+host_exit f r h k = rw (host_memory r h) (record { ok = tt; err = record { rest = bind k.rest f; reached = reaches_in f k.reached } })
+
+-- a refusal that becomes the call's error by a `?`
+pub host_refused : {A B T U : Type 0} {asks : Asks A} (f : A → Asks B) {s t : Seen} {view : Result T ErrorCode → A} {shown : Result U Stop → B} (x : Refusal) (r : Result U SocketError) → IsErrAnd r (λ y. y ≡ error_of x) → AsksFor asks s t view (outcome {T = T} (Err x)) → ((c : ErrorCode) → f (view (Err c)) ≡ Give (shown (Err (code_stop c)))) → AsksFor (bind asks f) s t shown (host_outcome r)
+host_refused f x (Ok y) h k e = absurd h
+host_refused {asks} f {s} {t} {view} {shown} (refusal.Code c) (Err y) h k e =
+    let P : SocketError → Type 0 = λ z. AsksFor (bind asks f) s t shown (host_outcome (Err z)) in subst P (sym h) (asks_end f k.ok (e c))
+host_refused {asks} f {s} {t} {view} {shown} (refusal.Memory d) (Err y) h k e =
+    let P : SocketError → Type 0 = λ z. AsksFor (bind asks f) s t shown (host_outcome (Err z)) in
+    subst P (sym h) (record { ok = tt; err = record { rest = bind k.err.rest f; reached = reaches_in f k.err.reached } })
+
+-- the handle of a socket that was made
+pub handle_asks : (m : Machine) (own : OpId) (socket : Socket) {place : ℕ} {side : Option OpId} {records : List Tcp2Socket} {table : Shown} {s t : Seen} {o : Result (Result ℕ Stop) AllocError} → place ≡ length m.store.sockets → side ≡ side_of socket → records ≡ m.store.sockets ++ new_record socket ∷ [] → AsksFor (make_asks m.table own (Tcp2 place) None side) s t (λ (made : Result ℕ Stop). (made, table)) o → AsksFor (create_handle m own socket) s t (λ (made : Result ℕ Stop). let n : Machine = record { table = table; store = record { sockets = records; standing = m.store.standing } } in (made, n)) o
+handle_asks m own socket p q r h = rw r (asks_gives (with_table (record m { store = with_record m.store socket })) (rw (p, q) at h))
+
+-- an error that is passed on by a `?`
+pub host_passed : {A B T U : Type 0} {asks : Asks A} (f : A → Asks B) {s t : Seen} {view : Result T Stop → A} {shown : Result U Stop → B} (x : SocketError) (r : Result U SocketError) → IsErrAnd r (λ y. y ≡ x) → AsksFor asks s t view (host_outcome {T = T} (Err x)) → ((stop : Stop) → f (view (Err stop)) ≡ Give (shown (Err stop))) → AsksFor (bind asks f) s t shown (host_outcome r)
+host_passed f x (Ok y) h k e = absurd h
+host_passed {asks} f {s} {t} {view} {shown} (Code c) (Err y) h k e =
+    let P : SocketError → Type 0 = λ z. AsksFor (bind asks f) s t shown (host_outcome (Err z)) in subst P (sym h) (asks_end f k.ok (e (host.Code c)))
+host_passed {asks} f {s} {t} {view} {shown} (Trap kind) (Err y) h k e =
+    let P : SocketError → Type 0 = λ z. AsksFor (bind asks f) s t shown (host_outcome (Err z)) in subst P (sym h) (asks_end f k.ok (e (host.Trap kind)))
+host_passed {asks} f {s} {t} {view} {shown} (Memory d) (Err y) h k e =
+    let P : SocketError → Type 0 = λ z. AsksFor (bind asks f) s t shown (host_outcome (Err z)) in
+    subst P (sym h) (record { ok = tt; err = record { rest = bind k.err.rest f; reached = reaches_in f k.err.reached } })

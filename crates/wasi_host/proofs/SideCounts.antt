@@ -1,0 +1,271 @@
+-- Walks in which no side is made or closed, and the sides that the records hold.
+use Rattle.std.proofs.Common.{◌≡◌, ℕ, zero, suc, ◌+◌, Bool, true, false, if◌then◌else◌, List, [], ◌∷◌, ◌++◌, Option, Some, None, option_map, IfSome, OnErr, Result, Ok, Err, refl, sym, ap, subst, ◌∙◌, arith, slice_get, slice_set, length}
+use Rattle.std.specs.declared.alloc.AllocError.{AllocError}
+use Rattle.wasi_addr.specs.declared.address.IpSocketAddress.{IpSocketAddress}
+use Rattle.wasi_addr.specs.declared.address.SocketAddressFamily.{SocketAddressFamily}
+use Rattle.wasi_addr.specs.declared.code.ErrorCode.{ErrorCode}
+use Rattle.wasi_addr.specs.declared.code.ErrorCode.TheVariants.{AccessDenied}
+use Rattle.wasi_world.specs.declared.call.Call.{Call}
+use Rattle.wasi_world.specs.declared.call.Call.TheVariants as call
+use Rattle.wasi_world.specs.declared.call.Told.{Told}
+use Rattle.wasi_world.specs.declared.call.Told.TheVariants as told
+use Rattle.wasi_world.specs.declared.call.Entry.{Entry}
+use Rattle.wasi_world.specs.declared.call.HandleKind.{HandleKind}
+use Rattle.wasi_world.specs.declared.ids.OpId.{OpId}
+use Rattle.wasi_world.specs.declared.asks.Verdict.{Verdict}
+use Rattle.wasi_world.specs.declared.asks.Verdict.TheVariants as verdict
+use Rattle.wasi_world.specs.declared.outcome.Refusal.{Refusal}
+use Rattle.wasi_world.specs.declared.outcome.Refusal.TheVariants as refusal
+use Rattle.wasi_world.specs.declared.outcome.WasiSocketsCtx.{WasiSocketsCtx}
+use Rattle.wasi_world.specs.Fits.{IsDoneOrCode}
+use Rattle.wasi_world.specs.Typed.{told_done, ask_tcp_create, ask_made}
+use Rattle.wasi_world.specs.Seen.{Seen, Passes}
+use Rattle.wasi_world.specs.Asks.{Asks, Give, Ask, AskWrite, bind, Left, Reaches, AsksFor, outcome}
+use Rattle.wasi_world.specs.Operation.{Given, Nothing, Item, Check, Bind, Who, Operation, NothingLast, Front, Goes, Stays, Again, Ends, verdict_front, done_front, front, after, round, polls, poll_asks, End}
+use Rattle.wasi_tcp.specs.declared.socket.TcpState.{TcpState}
+use Rattle.wasi_tcp.specs.declared.socket.TcpState.TheVariants as state
+use Rattle.wasi_tcp.specs.declared.socket.Connection.{Connection}
+use Rattle.wasi_tcp.specs.Addresses.{local_side, local_from, local_asks, peer_known, peer_asks, remote_in, remote_asks}
+use Rattle.wasi_tcp.specs.Connecting.{start_connect_in, start_connect_asks}
+use Rattle.wasi_tcp.specs.Shape.{Socket}
+use Rattle.wasi_tcp.specs.Socket.{side_of, new_asks, after_create, new_socket, ask_bound, bound_asks, bind_allowed, bind_start, bind_asks}
+use Rattle.wasi_host.specs.declared.socket.Tcp2Socket.{Tcp2Socket}
+use Rattle.wasi_host.specs.Store.{Records, new_record, with_inner, bind_begun, poll_bind_asks, begin_bind_asks, begin_connect_asks, tell_local_asks, tell_remote_asks, with_record, stood}
+use Rattle.wasi_host.specs.Sides.{one_if_done, made_by, closed_by, made_in, closed_in, one_if_some, held_in, KnowsSides}
+
+-- == calls that neither make nor close a side
+abbrev pub IsQuiet : Call → Type 0
+IsQuiet c = ((t : Told) → made_by c t ≡ 0) × (closed_by c ≡ 0)
+
+-- each ask of the tree is quiet, and this holds of what it gives
+abbrev pub Calm : {A : Type 0} → (A → Type 0) → Asks A → Type 0
+Calm Q (Give a) = Q a
+Calm Q (Ask op call next) = IsQuiet call × ((t : Told) → Calm Q (next t))
+Calm Q (AskWrite op sock bytes next) = (t : Told) → Calm Q (next t)
+
+pub calm_then : {A B : Type 0} (R : A → Type 0) (Q : B → Type 0) (asks : Asks A) (f : A → Asks B) → Calm R asks → ((a : A) → R a → Calm Q (f a)) → Calm Q (bind asks f)
+unfolding bind
+calm_then R Q (Give a) f h k = k a h
+calm_then R Q (Ask op call next) f h k = (h.0, λ t. calm_then R Q (next t) f (h.1 t) k)
+calm_then R Q (AskWrite op sock bytes next) f h k = λ t. calm_then R Q (next t) f (h t) k
+
+abbrev pub Any : {A : Type 0} → A → Type 0
+Any a = Unit {0}
+
+-- nothing was made or closed
+pub record NoneMade (es : List Entry) : Type 0 where
+  pub made : made_in es ≡ 0
+  pub closed : closed_in es ≡ 0
+
+none_more : (e : Entry) (es : List Entry) → IsQuiet e.call → NoneMade es → NoneMade (e ∷ es)
+none_more e es q h = let m = q.0 e.answer in let c = q.1 in record { made = omega arith; closed = omega arith }
+
+write_quiet : (sock : OpId) (n : ℕ) → IsQuiet (call.Write sock n)
+write_quiet sock n = (λ t. refl, refl)
+
+pub calm_left : {A : Type 0} (Q : A → Type 0) (asks : Asks A) (es : List Entry) (rest : Asks A) → Calm Q asks → Left asks es rest → NoneMade es
+calm_left Q asks [] rest h w = record { made = refl; closed = refl }
+calm_left Q (Give a) (e ∷ es) rest h w = absurd w
+calm_left Q (Ask op call next) (e ∷ es) rest h w = none_more e es (rw w.0.1 h.0) (calm_left Q (next e.answer) es rest (h.1 e.answer) w.1)
+calm_left Q (AskWrite op sock bytes next) (e ∷ es) rest h w = none_more e es (rw w.0.1 (write_quiet sock (length bytes))) (calm_left Q (next e.answer) es rest (h e.answer) w.2)
+
+-- == sides of a log that grew
+made_in-append : (xs ys : List Entry) → made_in (xs ++ ys) ≡ made_in xs + made_in ys
+made_in-append [] ys = omega arith
+made_in-append (x ∷ xs) ys = let h = made_in-append xs ys in omega arith
+
+closed_in-append : (xs ys : List Entry) → closed_in (xs ++ ys) ≡ closed_in xs + closed_in ys
+closed_in-append [] ys = omega arith
+closed_in-append (x ∷ xs) ys = let h = closed_in-append xs ys in omega arith
+
+-- the records know the sides where as many more are held as were made
+knows_grown : (old new : Option (List Entry)) (es : List Entry) (a b : ℕ) → new ≡ option_map (λ log. log ++ es) old → b + closed_in es ≡ a + made_in es → IfSome old (λ log. closed_in log + a ≡ made_in log) → IfSome new (λ log. closed_in log + b ≡ made_in log)
+knows_grown None new es a b e h k = rw e tt
+knows_grown (Some log) new es a b e h k = rw e (let m = made_in-append log es in let c = closed_in-append log es in omega arith)
+
+pub knows_then : {s t : Seen} (es : List Entry) (a b : Records) → Passes s es t → held_in b.sockets + closed_in es ≡ held_in a.sockets + made_in es → KnowsSides s a → KnowsSides t b
+knows_then {s} {t} es a b p h k = record { count = knows_grown s.log t.log es (held_in a.sockets) (held_in b.sockets) p.log h k.count }
+
+pub knows_calm : {A : Type 0} (Q : A → Type 0) {asks rest : Asks A} {s t : Seen} (a b : Records) → Calm Q asks → Reaches asks rest s t → held_in b.sockets ≡ held_in a.sockets → KnowsSides s a → KnowsSides t b
+knows_calm Q {asks} {rest} a b q h e k = let n = calm_left Q asks h.entries rest q h.left in knows_then h.entries a b h.passed (rw (n.made, n.closed) (ap (λ m. m + 0) e)) k
+
+-- of a call, whatever it answered
+pub knows_asked : {A T : Type 0} (Q : A → Type 0) {asks : Asks A} {s t : Seen} {view : T → A} (r : Result T AllocError) (a b : Records) → Calm Q asks → AsksFor asks s t view r → held_in b.sockets ≡ held_in a.sockets → KnowsSides s a → KnowsSides t b
+knows_asked Q (Ok x) a b q h e k = knows_calm Q a b q h.ok e k
+knows_asked Q (Err d) a b q h e k = knows_calm Q a b q h.err.reached e k
+
+-- == a record that is replaced holds as many sides
+pub held_in-set : (rs : List Tcp2Socket) (i : ℕ) (r s : Tcp2Socket) → slice_get rs i ≡ Some r → side_of s.inner ≡ side_of r.inner → held_in (slice_set rs i s) ≡ held_in rs
+held_in-set [] i r s h e = refl
+held_in-set (x ∷ rs) zero r s h e = let k : x ≡ r = cc in ap (λ o. one_if_some o + held_in rs) (e ∙ ap (λ (y : Tcp2Socket). side_of y.inner) (sym k))
+held_in-set (x ∷ rs) (suc i) r s h e = ap (λ n. one_if_some (side_of x.inner) + n) (held_in-set rs i r s h e)
+
+held_in-append : (rs : List Tcp2Socket) (r : Tcp2Socket) → held_in (rs ++ r ∷ []) ≡ held_in rs + one_if_some (side_of r.inner)
+held_in-append [] r = omega arith
+held_in-append (x ∷ rs) r = let h = held_in-append rs r in omega arith
+
+-- == a bind is calm
+abbrev IsCalmItem : Item → Type 0
+IsCalmItem (Check a usage) = Unit {0}
+IsCalmItem (Bind a) = Unit {0}
+IsCalmItem _ = ⊥
+
+abbrev AllCalm : List Item → Type 0
+AllCalm [] = Unit {0}
+AllCalm (i ∷ items) = IsCalmItem i × AllCalm items
+
+pub record IsCalmOperation (op : Operation) : Type 0 where
+  pub items : AllCalm op.left
+  pub last : op.who.last ≡ NothingLast
+
+abbrev IsCalmFront : Front → Type 0
+IsCalmFront (Goes g) = Unit {0}
+IsCalmFront (Stays i) = Unit {0}
+IsCalmFront (Again i) = ⊥
+IsCalmFront (Ends c g) = Unit {0}
+
+calm_verdict : (i : Item) (v : Verdict) → IsCalmFront (verdict_front i v)
+calm_verdict i verdict.Yes = tt
+calm_verdict i verdict.No = tt
+calm_verdict i verdict.Pending = tt
+
+calm_done : (r : Result (Unit {0}) ErrorCode) → IsCalmFront (done_front r)
+calm_done (Ok d) = tt
+calm_done (Err c) = tt
+
+calm_front : (who : Who) (i : Item) → IsCalmItem i → Calm IsCalmFront (front who i)
+unfolding bind
+calm_front who (Check a usage) h = ((λ t. refl, refl), λ t. calm_verdict (Check a usage) _)
+calm_front who (Bind a) h = ((λ t. refl, refl), λ t. calm_done _)
+calm_front who _ h = absurd h
+
+calm_round : (again : List Item → Asks (End × List Item)) (who : Who) (g : Given) (items : List Item) → who.last ≡ NothingLast → AllCalm items → Calm Any (round again who g items)
+calm_round again who g [] l h = tt
+calm_round again who g (i ∷ items) l h = calm_then IsCalmFront Any (front who i) _ (calm_front who i h.0) (λ fr k. after_calm fr k (λ given. calm_round again who given items l h.1))
+  where
+    after_calm : (fr : Front) → IsCalmFront fr → ((given : Given) → Calm Any (round again who given items)) → Calm Any (after again who items (λ given. round again who given items) fr)
+    after_calm (Goes given) k f = f given
+    after_calm (Stays j) k f = tt
+    after_calm (Again j) k f = absurd k
+    after_calm (Ends c given) k f = rw l tt
+
+pub calm_poll : (op : Operation) → IsCalmOperation op → Calm Any (poll_asks op)
+unfolding polls
+calm_poll op h = calm_round (polls 63 op.who) op.who Nothing op.left h.last h.items
+
+calm_any : {A : Type 0} (a : A) → Any a
+calm_any a = tt
+
+pub calm_poll_bind : (op : Operation) (r : Tcp2Socket) → IsCalmOperation op → Calm Any (poll_bind_asks op r)
+calm_poll_bind op r h = calm_then Any Any (poll_asks op) _ (calm_poll op h) (λ a k. tt)
+
+calm_bound : (op : OpId) (s : Socket) → Calm Any (bound_asks op s)
+unfolding bind
+calm_bound op s = by_kept s.bound
+  where
+    by_state : (st : TcpState) → Calm Any (ask_bound op s st)
+    by_state (state.Default side) = ((λ t. refl, refl), λ t. tt)
+    by_state _ = tt
+
+    by_kept : (b : Bool) → Calm Any (if b then Give (true, s) else ask_bound op s s.state)
+    by_kept true = tt
+    by_kept false = by_state s.state
+
+abbrev IsCalmStart : Result Operation ErrorCode × Socket → Type 0
+IsCalmStart (Ok op, s) = IsCalmOperation op
+IsCalmStart (Err c, s) = Unit {0}
+
+calm_allowed : (op : Operation) (s : Socket) (c : ErrorCode) (b : Bool) → IsCalmOperation op → IsCalmStart (if b then Ok op else Err c, s)
+calm_allowed op s c true h = h
+calm_allowed op s c false h = tt
+
+calm_state : (op : OpId) (s : Socket) (a : IpSocketAddress) (st : TcpState) → IsCalmStart (bind_allowed op s a st, s)
+calm_state op s a (state.Default side) = calm_allowed _ s _ _ (record { items = (tt, (tt, tt)); last = refl })
+calm_state op s a _ = tt
+
+calm_start : (op : OpId) (s : Socket) (a : IpSocketAddress) (b : Bool) → IsCalmStart (bind_start op s a b, s)
+calm_start op s a true = tt
+calm_start op s a false = calm_state op s a s.state
+
+calm_begun : (r : Tcp2Socket) (begun : Result Operation ErrorCode × Socket) → IsCalmStart begun → Calm Any (bind_begun r begun)
+calm_begun r (Ok op, s) h = calm_poll_bind op (with_inner r s) h
+calm_begun r (Err c, s) h = tt
+
+pub calm_begin_bind : (op : OpId) (r : Tcp2Socket) (a : IpSocketAddress) → Calm Any (begin_bind_asks op r a)
+calm_begin_bind op r a =
+    calm_then IsCalmStart Any (bind_asks op r.inner a) (bind_begun r) (calm_then Any IsCalmStart (bound_asks op r.inner) _ (calm_bound op r.inner) (λ b k. calm_start op b.1 a b.0)) (calm_begun r)
+
+-- == the start of a connect, and what a socket says of its addresses, are calm
+calm_start_in : (op : OpId) (s : Socket) (a : IpSocketAddress) (st : TcpState) → Calm Any (start_connect_in op s a st)
+calm_start_in op s a (state.Default side) = calm_then Any Any (bound_asks op s) _ (calm_bound op s) (λ b k. tt)
+calm_start_in op s a _ = tt
+
+pub calm_begin_connect : (op : OpId) (r : Tcp2Socket) (a : IpSocketAddress) → Calm Any (begin_connect_asks op r a)
+calm_begin_connect op r a = calm_then Any Any (start_connect_asks op r.inner a) _ (calm_start_in op r.inner a r.inner.state) (λ d k. tt)
+
+calm_local_from : (op : OpId) (s : Socket) (r : Result OpId ErrorCode) → Calm Any (local_from op s r)
+unfolding bind
+calm_local_from op s (Ok side) = ((λ t. refl, refl), λ t. tt)
+calm_local_from op s (Err c) = tt
+
+pub calm_tell_local : (op : OpId) (r : Tcp2Socket) → Calm Any (tell_local_asks op r)
+calm_tell_local op r =
+    calm_then Any Any (local_asks op r.inner) _ (calm_then Any Any (bound_asks op r.inner) _ (calm_bound op r.inner) (λ b k. calm_local_from op b.1 (local_side b.1 b.0))) (λ d k. tt)
+
+calm_peer : (op : OpId) (c : Connection) (kept : Option IpSocketAddress) → Calm Any (peer_known op c kept)
+unfolding bind
+calm_peer op c (Some a) = tt
+calm_peer op c None = ((λ t. refl, refl), λ t. tt)
+
+calm_remote_in : (op : OpId) (st : TcpState) → Calm Any (remote_in op st)
+calm_remote_in op (state.Connected c) = calm_then Any Any (peer_asks op c) _ (calm_peer op c c.peer) (λ p k. tt)
+calm_remote_in op _ = tt
+
+pub calm_tell_remote : (op : OpId) (r : Tcp2Socket) → Calm Any (tell_remote_asks op r)
+calm_tell_remote op r = calm_then Any Any (remote_asks op r.inner) _ (calm_then Any Any (remote_in op r.inner.state) _ (calm_remote_in op r.inner.state) (λ d k. tt)) (λ d k. tt)
+
+-- == a create makes one side where it gives a socket, and none where it doesn't
+abbrev made_or_not : Result Socket ErrorCode → ℕ
+made_or_not (Ok s) = 1
+made_or_not (Err c) = 0
+
+one_made : (op : OpId) (n : ℕ) (family : SocketAddressFamily) (t : Told) → IsDoneOrCode t → one_if_done t ≡ made_or_not (after_create op n family (told_done t))
+one_made op n family told.Done h = refl
+one_made op n family (told.Code c) h = refl
+one_made op n family _ h = absurd h
+
+pub record MadeSo (es : List Entry) (r : Result Socket ErrorCode) : Type 0 where
+  pub made : made_in es ≡ made_or_not r
+  pub closed : closed_in es ≡ 0
+
+created : (op : OpId) (ctx : WasiSocketsCtx) (family : SocketAddressFamily) (b : Bool) (es : List Entry) (r : Result Socket ErrorCode) → Left (if b then bind (ask_tcp_create op ctx.name family) (λ t. Give (after_create op ctx.name family t)) else Give (Err AccessDenied)) es (Give r) → MadeSo es r
+unfolding bind
+created op ctx family true [] r w = absurd (cc)
+created op ctx family true (e ∷ []) r w =
+    let k : after_create op ctx.name family (told_done e.answer) ≡ r = cc in
+    record { made = rw (w.0.1, ← k) (let m = one_made op ctx.name family e.answer w.0.2 in omega arith); closed = rw w.0.1 refl }
+created op ctx family true (e ∷ f ∷ es) r w = absurd w.1
+created op ctx family false [] r w = let k : Err AccessDenied ≡ r = cc in rw (← k) (record { made = refl; closed = refl })
+created op ctx family false (e ∷ es) r w = absurd w
+
+pub knows_created : (op : OpId) (ctx : WasiSocketsCtx) (family : SocketAddressFamily) {s t : Seen} (socket : Socket) (store : Records) → Reaches (new_asks op ctx family) (Give (Ok socket)) s t → side_of socket ≡ Some op → KnowsSides s store → KnowsSides t (with_record store socket)
+knows_created op ctx family socket store h i k =
+    let m = created op ctx family ctx.tcp h.entries (Ok socket) h.left in
+    knows_then h.entries store (with_record store socket) h.passed (rw (m.made, m.closed, held_in-append store.sockets (new_record socket), i) (omega arith)) k
+
+pub knows_refused : (op : OpId) (ctx : WasiSocketsCtx) (family : SocketAddressFamily) {s t : Seen} (x : Refusal) (store : Records) → AsksFor (new_asks op ctx family) s t (λ (made : Result Socket ErrorCode). made) (outcome {T = Socket} (Err x)) → OnErr (outcome {T = Socket} (Err x)) (t ≡ s) → KnowsSides s store → KnowsSides t store
+knows_refused op ctx family (refusal.Code c) store h e k = let m = created op ctx family ctx.tcp h.ok.entries (Err c) h.ok.left in knows_then h.ok.entries store store h.ok.passed (rw (m.made, m.closed) refl) k
+knows_refused op ctx family (refusal.Memory d) store h e k = rw e k
+
+-- == a mark is calm
+pub calm_made : (op : OpId) (h : ℕ) (kind : HandleKind) (parent : Option ℕ) (side : Option OpId) → Calm Any (ask_made op h kind parent side)
+calm_made op h kind parent side = ((λ t. refl, refl), λ t. tt)
+
+-- a call that stands holds no side of its own
+pub stood_sockets : (store : Records) (line place : ℕ) (begun : Option Operation) → (stood store line place begun).1.sockets ≡ store.sockets
+stood_sockets store line place None = refl
+stood_sockets store line place (Some op) = refl
+
+-- records that hold as many sides know them as well
+pub knows_same : {s : Seen} (a b : Records) → held_in b.sockets ≡ held_in a.sockets → KnowsSides s a → KnowsSides s b
+knows_same {s} a b e k = record { count = subst (λ (n : ℕ). IfSome s.log (λ log. closed_in log + n ≡ made_in log)) (sym e) k.count }

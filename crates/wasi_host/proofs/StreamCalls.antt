@@ -1,0 +1,61 @@
+-- How a stream's call goes on where it gives no value.
+use Rattle.std.specs.Prelude.{◌≡◌, ℕ, List, [], ◌∷◌, Option, Some, Result, Ok, Err, refl, slice_get}
+use Rattle.std.specs.declared.alloc.AllocError.{AllocError}
+use Rattle.std.proofs.Common.{ap, sym, subst}
+use Rattle.wasi_addr.specs.declared.code.ErrorCode.{ErrorCode}
+use Rattle.wasi_world.specs.Seen.{Seen}
+use Rattle.wasi_world.specs.declared.ids.OpId.{OpId}
+use Rattle.wasi_world.specs.Asks.{Asks, Give, bind, Reaches, AsksFor}
+use Rattle.wasi_world.proofs.Walks.{reaches_on, reaches_in, asks_end, asks_then}
+use Rattle.wasi_streams.specs.declared.error.StreamError.{StreamError}
+use Rattle.wasi_streams.specs.declared.error.StreamError.TheVariants as told
+use Rattle.wasi_streams.specs.StreamStop.{StreamStop, stream_outcome}
+use Rattle.wasi_streams.specs.StreamStop as stop
+use Rattle.wasi_host.specs.declared.error.CallError.{CallError}
+use Rattle.wasi_host.specs.declared.error.CallError.TheVariants as call
+use Rattle.wasi_host.specs.Host.{SocketError}
+use Rattle.wasi_streams.specs.declared.fault.HostError.TheVariants as error
+use Rattle.wasi_host.specs.declared.machine.Machine.{Machine}
+use Rattle.wasi_host.specs.declared.kind.Kind.TheVariants.{ErrorValue}
+use Rattle.wasi_host.specs.Host.{Stop, CallStop, host_outcome, call_outcome, error_outcome, failed_outcome, IsStreamStop, IfStreamMemory}
+use Rattle.wasi_host.specs.Kinds.{Handles, make_asks}
+use Rattle.wasi_host.specs.Store.{Records}
+use Rattle.wasi_host.specs.Machine.{with_table, with_store, side_at}
+use Rattle.wasi_host.specs.StreamCalls.{failed_made, convert_asks, stopped, converted}
+
+module _ (m : Machine) (own : OpId) (handle place : ℕ) where
+  -- the handle of an error
+  pub made_failed : (c : ErrorCode) {table : Shown} (made : Result ℕ SocketError) {side : Option OpId} {s t : Seen} → side ≡ side_at (slice_get m.store.sockets place)
+      → AsksFor (make_asks m.table own ErrorValue (Some handle) side) s t (λ x. (x, table)) (host_outcome made)
+      → AsksFor (convert_asks m own handle place (stop.Failed c)) s t (λ x. let after : Machine = record m { table = table } in (x, after)) (failed_outcome c made)
+  made_failed c (Ok e) p h = asks_end _ (rw p at h).ok refl
+  made_failed c (Err (error.Trap k)) p h = asks_end _ (rw p at h).ok refl
+  made_failed c (Err (error.Code d)) p h = asks_end _ (rw p at h).ok refl
+  made_failed c (Err (error.Memory e)) p h = let k = (rw p at h).err in record { ok = tt; err = record { rest = bind k.rest _; reached = reaches_in _ k.reached } }
+
+  -- an error that was made is the call's
+  pub stopped_by : {T : Type 0} {asks : Asks (CallStop × Machine)} {s t : Seen} {after : Machine} (r : CallError) → AsksFor asks s t (λ x. (x, after)) (error_outcome r)
+      → AsksFor (bind asks (λ c. Give (stopped {T = T} c))) s t (λ x. (x, after)) (call_outcome {T = T} (Err r))
+  stopped_by (call.Failed c e) h = asks_end _ h.ok refl
+  stopped_by call.Closed h = asks_end _ h.ok refl
+  stopped_by (call.Trap k) h = asks_end _ h.ok refl
+  stopped_by (call.Memory e) h = record { ok = tt; err = record { rest = bind h.err.rest _; reached = reaches_in _ h.err.reached } }
+
+  abbrev After : Records → Machine
+  After store = record m { store = store }
+
+  module _ {T : Type 0} {tree : Asks (Result T StreamStop × Records)} {store : Records} {s t : Seen} where
+    -- the call gave a value
+    pub converted_ok : (value : T) → AsksFor tree s t (λ a. (a, store)) (stream_outcome {T = T} (Ok value))
+        → AsksFor (bind tree (λ done. converted own handle place (with_store m done))) s t (λ x. (x, After store)) (call_outcome {T = T} (Ok value))
+    converted_ok value h = asks_end _ h.ok refl
+
+    -- or an error, which was converted
+    pub converted_err : {u : Seen} {after : Machine} (x : StreamError) (r : CallError) → AsksFor tree s t (λ a. (a, store)) (stream_outcome {T = T} (Err x))
+        → IsStreamStop x (λ why. AsksFor (convert_asks (After store) own handle place why) t u (λ c. (c, after)) (error_outcome r))
+        → IfStreamMemory x (λ e. (r ≡ call.Memory e) × (after ≡ After store) × (u ≡ t))
+        → AsksFor (bind tree (λ done. converted own handle place (with_store m done))) s u (λ y. (y, after)) (call_outcome {T = T} (Err r))
+    converted_err (told.LastOperationFailed c) r h k z = asks_then _ h.ok (stopped_by r k)
+    converted_err told.Closed r h k z = asks_then _ h.ok (stopped_by r k)
+    converted_err (told.Trap kind) r h k z = asks_then _ h.ok (stopped_by r k)
+    converted_err (told.Memory e) r h k z = rw (z.0, z.2) (record { ok = tt; err = record { rest = bind h.err.rest _; reached = reaches_in _ h.err.reached } })

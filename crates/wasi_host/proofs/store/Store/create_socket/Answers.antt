@@ -1,0 +1,34 @@
+use Rattle.std.proofs.Common.{List, Err, ap, sym, ◌∙◌, subst, refl}
+use Rattle.wasi_world.specs.Asks.{Give}
+use Rattle.wasi_world.proofs.Walks.{asks_then}
+use Rattle.wasi_host.specs.declared.machine.Machine.{Machine}
+use Rattle.wasi_host.specs.declared.socket.Tcp2Socket.{Tcp2Socket}
+use Rattle.wasi_host.specs.Host.{code_stop}
+use Rattle.wasi_host.specs.Store.{Records, with_record}
+use Rattle.wasi_host.specs.Sides.{KnowsSides}
+use Rattle.wasi_host.proofs.Hosts.{host_none, host_refused, handle_asks}
+use Rattle.wasi_host.proofs.SideCounts.{knows_created, knows_refused}
+use Rattle.wasi_host.proofs.store.Store.create_socket.Goals as goal
+
+pub returns-in_err-reserve-clause-asked : goal.returns-in_err-reserve-clause-asked
+returns-in_err-reserve-clause-asked g c = host_none c.from_residual.result c.from_residual.ensures.1 refl
+
+pub returns-in_err-socket-clause-asked : goal.returns-in_err-socket-clause-asked
+returns-in_err-socket-clause-asked g c = rw (← c.self.view_is)
+    (host_refused _ _ c.from_residual-in_err-socket.result c.from_residual-in_err-socket.ensures.1 c.in_err-socket.ensures.asked
+    (λ code. ap (λ (l : List Tcp2Socket). let m : Machine = record { table = c.args.table.now; store = record { sockets = l; jobs = c.self.inside.jobs.items; standing = c.self.inside.standing } } in Give (Err (code_stop code), m)) (sym c.reserve.ensures.items)))
+
+pub returns-in_err-socket-clause-sides : goal.returns-in_err-socket-clause-sides
+returns-in_err-socket-clause-sides g c = λ k. rw c.reserve.ensures.items (knows_refused c.args.own c.args.ctx.now c.args.family _ _ c.in_err-socket.ensures.asked c.in_err-socket.ensures.unasked (rw (← c.self.view_is) at k))
+
+pub returns-clause-asked : goal.returns-clause-asked
+returns-clause-asked g c = rw (← c.self.view_is)
+    (asks_then _ c.in_ok-socket.ensures.asked.ok
+    (handle_asks (record { table = c.args.table.now; store = record { sockets = c.self.inside.sockets.items; jobs = c.self.inside.jobs.items; standing = c.self.inside.standing } }) c.args.own c.in_ok-socket.socket
+    (c.len-place.ensures ∙ c.reserve.ensures.len ∙ c.self.inside.sockets.ok.0) c.side-side.ensures (rw (c.reserve.ensures.items, c.new-2.ensures) at c.push_reserved.ensures.items) c.make.ensures.asked))
+
+pub returns-clause-sides : goal.returns-clause-sides
+returns-clause-sides g c = λ k.
+    let store : Records = record { sockets = c.self.inside.sockets.items; jobs = c.self.inside.jobs.items; standing = c.self.inside.standing } in
+    subst (λ (l : List Tcp2Socket). KnowsSides (g.W.World.seen c.make.new.world) (record store { sockets = l })) (sym (rw (c.reserve.ensures.items, c.new-2.ensures) at c.push_reserved.ensures.items))
+    (c.make.ensures.sides (with_record store c.in_ok-socket.socket) (knows_created c.args.own c.args.ctx.now c.args.family c.in_ok-socket.socket store c.in_ok-socket.ensures.asked.ok c.in_ok-socket.ensures.side (rw (← c.self.view_is) at k)))

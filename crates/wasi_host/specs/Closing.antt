@@ -1,0 +1,25 @@
+-- The end mark, and the closings after it.
+use Rattle.std.specs.Prelude.{◌≡◌, ℕ, ◌+◌, [], true, IfSome}
+use Rattle.wasi_world.specs.Seen.{Seen}
+use Rattle.wasi_host.specs.Sides.{made_in, closed_in}
+
+-- From old on nothing was asked: the end mark and closings are no entries.
+pub record AsksNothing (old new : Seen) : Type 0 where
+  pub log : new.log ≡ old.log
+  pub faults : new.faults ≡ old.faults
+  pub plan : new.plan ≡ old.plan
+
+-- After the end mark so many sides were closed, the first of all, and nothing else was done.
+pub record ClosesSides (old new : Seen) (count : ℕ) : Type 0 where
+  pub quiet : AsksNothing old new
+  pub ended : new.ended ≡ true
+  pub counted : old.closings ≡ 0 → new.closings ≡ count
+
+-- No call is in the log, where it is told, and no closing was counted.
+pub record IsFresh (seen : Seen) : Type 0 where
+  pub log : IfSome seen.log (λ log. log ≡ [])
+  pub closings : seen.closings ≡ 0
+
+-- As many sides were closed after the end mark as the log made and didn't close, where it is told.
+pub record HasClosedAll (seen : Seen) : Type 0 where
+  pub count : IfSome seen.log (λ log. closed_in log + seen.closings ≡ made_in log)

@@ -1,0 +1,80 @@
+-- What goes with a handle: a socket gives its side up, and an output waits for its writer.
+use Rattle.std.specs.Prelude.{ℕ, Option, Some, None, Result, Ok, Err}
+use Rattle.std.specs.declared.alloc.AllocError.{AllocError}
+use Rattle.wasi_world.specs.declared.ids.OpId.{OpId}
+use Rattle.wasi_world.specs.declared.outcome.Answer.{Answer}
+use Rattle.wasi_world.specs.declared.outcome.Answer.TheVariants.{Ready, Pending}
+use Rattle.wasi_world.specs.Asks.{Asks, Give, bind}
+use Rattle.wasi_streams.specs.declared.error.StreamError.{StreamError}
+use Rattle.wasi_streams.specs.declared.error.StreamError.TheVariants as error
+use Rattle.wasi_streams.specs.StreamStop.{StreamStop}
+use Rattle.wasi_tcp.specs.declared.writer.WriteState.{WriteState}
+use Rattle.wasi_tcp.specs.Shape.{Socket}
+use Rattle.wasi_tcp.specs.Closing.{close_asks}
+use Rattle.wasi_tcp.specs.Reader.{reader_shutdown_asks}
+use Rattle.wasi_tcp.specs.Writer.{look_asks, writer_give_up_asks}
+use Rattle.wasi_host.specs.declared.socket.InProgress.TheVariants as doing
+use Rattle.wasi_host.specs.declared.socket.Streams.{Streams}
+use Rattle.wasi_host.specs.declared.socket.Tcp2Socket.{Tcp2Socket}
+use Rattle.wasi_host.specs.Store.{Records, with_socket, with_writer, standing_drop}
+use Rattle.wasi_host.specs.Jobs.{other_jobs}
+
+-- == a socket
+-- the open halves are given up, the receiving one first; a write that goes on ends there
+abbrev pub give_streams_up : OpId → Option Streams → Asks (Unit {0})
+give_streams_up op None = Give tt
+give_streams_up op (Some s) = bind (reader_shutdown_asks op s.reader) (λ done. writer_give_up_asks op s.writer)
+
+-- nothing is left of the record but its place
+abbrev pub gone : Tcp2Socket → Socket → Tcp2Socket
+gone r socket = record r { inner = socket; in_progress = doing.Nothing; streams = None }
+
+abbrev pub close_record : OpId → Tcp2Socket → Asks (Unit {0} × Tcp2Socket)
+close_record op r = bind (close_asks op r.inner) (λ done. Give (tt, gone r done.1))
+
+-- then its side is closed, where it has one
+abbrev pub release_asks : OpId → Tcp2Socket → Asks (Unit {0} × Tcp2Socket)
+release_asks op r = bind (give_streams_up op r.streams) (λ done. close_record op r)
+
+abbrev pub released : Records → ℕ → Tcp2Socket → Records
+released store place r = record (with_socket store place r) { jobs = other_jobs place store.jobs }
+
+abbrev pub release_at : Records → OpId → ℕ → Option Tcp2Socket → Asks (Unit {0} × Records)
+release_at store op place None = Give (tt, store)
+release_at store op place (Some r) = bind (release_asks op r) (λ done. Give (tt, released store place done.1))
+
+-- == an output
+-- an error doesn't wait
+abbrev pub wait_answer : Result (Answer (Unit {0})) StreamStop → Answer (Unit {0})
+wait_answer (Ok Pending) = Pending
+wait_answer (Ok (Ready done)) = Ready tt
+wait_answer (Err stop) = Ready tt
+
+-- the same of what the code answers
+abbrev pub waits_told : Result (Answer (Unit {0})) StreamError → Result (Answer (Unit {0})) AllocError
+waits_told (Ok answer) = Ok answer
+waits_told (Err (error.LastOperationFailed c)) = Ok (Ready tt)
+waits_told (Err error.Closed) = Ok (Ready tt)
+waits_told (Err (error.Trap k)) = Ok (Ready tt)
+waits_told (Err (error.Memory e)) = Err e
+
+abbrev pub wait_writer : OpId → Tcp2Socket → Option Streams → Asks (Answer (Unit {0}) × Tcp2Socket)
+wait_writer op r None = Give (Ready tt, r)
+wait_writer op r (Some s) = bind (look_asks op s.writer) (λ looked. Give (wait_answer looked.0, with_writer r s looked.1))
+
+abbrev pub wait_put : Records → ℕ → Answer (Unit {0}) × Tcp2Socket → Answer (Unit {0}) × Records
+wait_put store place done = (done.0, with_socket store place done.1)
+
+-- whether the writer is ready, by one look
+abbrev pub wait_at : Records → OpId → ℕ → Option Tcp2Socket → Asks (Answer (Unit {0}) × Records)
+wait_at store op place None = Give (Ready tt, store)
+wait_at store op place (Some r) = bind (wait_writer op r r.streams) (λ done. Give (wait_put store place done))
+
+-- one that waits stands under its line's number
+abbrev pub waited : ℕ → ℕ → Answer (Unit {0}) × Records → Answer (Unit {0}) × Records
+waited line place (Ready done, store) = (Ready tt, record store { standing = None })
+waited line place (Pending, store) = (Pending, record store { standing = Some (standing_drop line place) })
+
+-- waits, with nothing else standing
+abbrev pub drop_output_at : Records → OpId → ℕ → Option Tcp2Socket → Asks (Answer (Unit {0}) × Records)
+drop_output_at store op place found = bind (wait_at store op place found) (λ done. Give (waited op.step place done))

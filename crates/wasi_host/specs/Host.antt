@@ -1,0 +1,100 @@
+-- How host calls end.
+use Rattle.std.specs.Prelude.{ℕ, Result, Ok, Err}
+use Rattle.std.specs.declared.alloc.AllocError.{AllocError}
+use Rattle.wasi_addr.specs.declared.code.ErrorCode.{ErrorCode}
+use Rattle.wasi_addr.specs.declared.p2.ErrorCode.{ErrorCode as P2Code}
+use Rattle.wasi_addr.specs.Code.{p2_of_code}
+use Rattle.wasi_world.specs.declared.outcome.TrapKind.{TrapKind}
+use Rattle.wasi_world.specs.declared.outcome.TrapKind.TheVariants.{Full}
+use Rattle.wasi_streams.specs.declared.error.StreamError.{StreamError}
+use Rattle.wasi_streams.specs.declared.error.StreamError.TheVariants as told
+use Rattle.wasi_streams.specs.StreamStop.{StreamStop}
+use Rattle.wasi_streams.specs.StreamStop as stop
+use Rattle.wasi_host.specs.declared.error.CallError.{CallError}
+use Rattle.wasi_host.specs.declared.error.CallError.TheVariants as stream
+use Rattle.wasi_streams.specs.declared.fault.Fault.{Fault}
+use Rattle.wasi_streams.specs.declared.fault.Fault.TheVariants as fault
+use Rattle.wasi_streams.specs.declared.fault.HostError.{HostError}
+use Rattle.wasi_streams.specs.declared.fault.HostError.TheVariants as error
+
+-- the error of a 0.2 call
+abbrev pub SocketError : Type 0
+SocketError = HostError P2Code
+
+-- why a call gave no value, but for want of memory
+pub data Stop : Type 0 where
+  Code : P2Code → Stop
+  Trap : TrapKind → Stop
+
+abbrev pub code_stop : ErrorCode → Stop
+code_stop c = Code (p2_of_code c)
+
+-- a code and a trap are answers; only want of memory isn't
+abbrev pub host_outcome : {T : Type 0} → Result T SocketError → Result (Result T Stop) AllocError
+host_outcome (Ok t) = Ok (Ok t)
+host_outcome (Err (error.Code c)) = Ok (Err (Code c))
+host_outcome (Err (error.Trap k)) = Ok (Err (Trap k))
+host_outcome (Err (error.Memory e)) = Err e
+
+-- the same of a call that tells no codes
+abbrev pub fault_outcome : {T : Type 0} → Result T Fault → Result (Result T Stop) AllocError
+fault_outcome (Ok t) = Ok (Ok t)
+fault_outcome (Err (fault.Trap k)) = Ok (Err (Trap k))
+fault_outcome (Err (fault.Memory e)) = Err e
+
+-- it is a code or a trap, of which this holds
+abbrev pub IsStop : SocketError → (Stop → Type 0) → Type 0
+IsStop (error.Code c) P = P (Code c)
+IsStop (error.Trap k) P = P (Trap k)
+IsStop (error.Memory e) P = ⊥
+
+-- why a call of a stream gave no value, but for want of memory
+pub data CallStop : Type 0 where
+  Failed : ErrorCode → ℕ → CallStop  -- with the handle of the error
+  Closed : CallStop
+  Traps : TrapKind → CallStop
+
+abbrev pub call_outcome : {T : Type 0} → Result T CallError → Result (Result T CallStop) AllocError
+call_outcome (Ok t) = Ok (Ok t)
+call_outcome (Err (stream.Failed c e)) = Ok (Err (Failed c e))
+call_outcome (Err stream.Closed) = Ok (Err Closed)
+call_outcome (Err (stream.Trap k)) = Ok (Err (Traps k))
+call_outcome (Err (stream.Memory e)) = Err e
+
+-- the error alone
+abbrev pub error_outcome : CallError → Result CallStop AllocError
+error_outcome (stream.Failed c e) = Ok (Failed c e)
+error_outcome stream.Closed = Ok Closed
+error_outcome (stream.Trap k) = Ok (Traps k)
+error_outcome (stream.Memory e) = Err e
+
+-- a handle of an error, or the trap in its place; a table gives no code
+abbrev pub failed_with : ErrorCode → Result ℕ Stop → CallStop
+failed_with c (Ok e) = Failed c e
+failed_with c (Err (Trap k)) = Traps k
+failed_with c (Err (Code d)) = Traps Full
+
+-- it is none but want of memory, of which this holds
+abbrev pub IsCallStop : CallError → (CallStop → Type 0) → Type 0
+IsCallStop (stream.Failed c e) P = P (Failed c e)
+IsCallStop stream.Closed P = P Closed
+IsCallStop (stream.Trap k) P = P (Traps k)
+IsCallStop (stream.Memory e) P = ⊥
+
+-- the same of what the code answers
+abbrev pub failed_outcome : ErrorCode → Result ℕ Fault → Result CallStop AllocError
+failed_outcome c (Ok e) = Ok (Failed c e)
+failed_outcome c (Err (fault.Trap k)) = Ok (Traps k)
+failed_outcome c (Err (fault.Memory e)) = Err e
+
+-- of an error of a stream that isn't want of memory this holds
+abbrev pub IsStreamStop : StreamError → (StreamStop → Type 0) → Type 0
+IsStreamStop (told.LastOperationFailed c) P = P (stop.Failed c)
+IsStreamStop told.Closed P = P stop.Closed
+IsStreamStop (told.Trap k) P = P (stop.Trap k)
+IsStreamStop (told.Memory e) P = Unit {0}
+
+-- and of one that is
+abbrev pub IfStreamMemory : StreamError → (AllocError → Type 0) → Type 0
+IfStreamMemory (told.Memory e) P = P e
+IfStreamMemory _ P = Unit {0}

@@ -1,0 +1,82 @@
+-- Writes that go on by themselves: which records have one, and what a turn asks.
+use Rattle.std.specs.Prelude.{ℕ, Bool, true, false, not, ◌&&◌, ◌==◌, if◌then◌else◌, List, [], ◌∷◌, ◌++◌, Option, Some, None, Result, slice_get, slice_set}
+use Rattle.wasi_world.specs.Asks.{Asks, Give, bind}
+use Rattle.wasi_world.specs.Operation.{End, Waits}
+use Rattle.wasi_streams.specs.StreamStop.{StreamStop}
+use Rattle.wasi_tcp.specs.declared.writer.WriteState.{WriteState}
+use Rattle.wasi_tcp.specs.declared.writer.WriteState.TheVariants as writing
+use Rattle.wasi_tcp.specs.Writer.{turn_asks}
+use Rattle.wasi_host.specs.declared.socket.Streams.{Streams}
+use Rattle.wasi_host.specs.declared.socket.Tcp2Socket.{Tcp2Socket}
+use Rattle.wasi_host.specs.Store.{Records, with_writer, stream_at}
+
+-- == which records have a job
+abbrev pub goes_on : End → Bool
+goes_on Waits = true
+goes_on _ = false
+
+-- a write isn't over
+abbrev pub is_working : WriteState → Bool
+is_working (writing.Writing job) = goes_on job.end
+is_working (writing.Closing job) = goes_on job.end
+is_working _ = false
+
+abbrev pub works_in : Option Streams → Bool
+works_in None = false
+works_in (Some s) = is_working s.writer
+
+abbrev pub has_job : Option Tcp2Socket → Bool
+has_job None = false
+has_job (Some r) = works_in r.streams
+
+-- == a write that begins
+-- a job is the last of those that were made
+abbrev pub with_job : Records → ℕ → Bool → Records
+with_job store place true = record store { jobs = store.jobs ++ place ∷ [] }
+with_job store place false = store
+
+-- a write began on the record, and goes on
+abbrev pub begins_job : Option Tcp2Socket → Option Tcp2Socket → Bool
+begins_job before now = not (has_job before) && has_job now
+
+abbrev pub noted : {T : Type 0} → ℕ → Option Tcp2Socket → Result T StreamStop × Records → Result T StreamStop × Records
+noted place before done = (done.0, with_job done.1 place (begins_job before (slice_get done.1.sockets place)))
+
+-- a write on a record, by which a job may begin
+abbrev pub write_at : {T : Type 0} → Records → ℕ → (Tcp2Socket → Asks (Result T StreamStop × Tcp2Socket)) → Option Tcp2Socket → Asks (Result T StreamStop × Records)
+write_at store place call found = bind (stream_at store place call found) (λ done. Give (noted place found done))
+
+-- == a turn
+-- the record's write is polled once, where one goes on
+abbrev pub turned : Tcp2Socket → Option Streams → Asks Tcp2Socket
+turned r None = Give r
+turned r (Some s) = bind (turn_asks s.writer) (λ done. Give (with_writer r s done.1))
+
+abbrev pub turn_record : Tcp2Socket → Asks Tcp2Socket
+turn_record r = turned r r.streams
+
+abbrev pub turn_at : List Tcp2Socket → ℕ → Option Tcp2Socket → Asks (List Tcp2Socket)
+turn_at sockets place None = Give sockets
+turn_at sockets place (Some r) = bind (turn_record r) (λ now. Give (slice_set sockets place now))
+
+-- those of these numbers, in order
+abbrev pub turn_jobs : List ℕ → List Tcp2Socket → Asks (List Tcp2Socket)
+turn_jobs [] sockets = Give sockets
+turn_jobs (place ∷ places) sockets = bind (turn_at sockets place (slice_get sockets place)) (λ now. turn_jobs places now)
+
+-- a job that is over is none
+abbrev pub still_going : List Tcp2Socket → List ℕ → List ℕ
+still_going sockets [] = []
+still_going sockets (place ∷ places) = if has_job (slice_get sockets place) then place ∷ still_going sockets places else still_going sockets places
+
+abbrev pub after_turn : Records → List Tcp2Socket → Records
+after_turn store sockets = record store { sockets = sockets; jobs = still_going sockets store.jobs }
+
+-- each job is polled once, in the order of making
+abbrev pub turn_store_asks : Records → Asks (Unit {0} × Records)
+turn_store_asks store = bind (turn_jobs store.jobs store.sockets) (λ sockets. Give (tt, after_turn store sockets))
+
+-- == a socket that goes takes its job with it
+abbrev pub other_jobs : ℕ → List ℕ → List ℕ
+other_jobs place [] = []
+other_jobs place (p ∷ places) = if p == place then other_jobs place places else p ∷ other_jobs place places

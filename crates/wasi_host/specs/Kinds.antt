@@ -1,0 +1,102 @@
+-- Handles: what they stand for, and how one is made.
+use Rattle.std.specs.Prelude.{ℕ, Bool, true, false, if◌then◌else◌, List, [], ◌∷◌, Option, Some, None, Result, Ok, Err}
+use Rattle.wasi_world.specs.declared.call.HandleKind.{HandleKind}
+use Rattle.wasi_world.specs.declared.call.HandleKind.TheVariants as name
+use Rattle.wasi_world.specs.declared.ids.OpId.{OpId}
+use Rattle.wasi_world.specs.declared.outcome.TrapKind.TheVariants.{Full, HasChildren, NoSuchHandle}
+use Rattle.wasi_world.specs.Asks.{Asks, Give, bind}
+use Rattle.wasi_world.specs.Typed.{ask_made}
+use Rattle.wasi_streams.specs.Table.{Shown, value_at, children_of, is_full, pushed, without}
+use Rattle.wasi_host.specs.declared.kind.Kind.{Kind}
+use Rattle.wasi_host.specs.declared.kind.Kind.TheVariants.{Network, Tcp2, Input, Output, Pollable, ErrorValue}
+use Rattle.wasi_host.specs.declared.kind.Watched.{Watched}
+use Rattle.wasi_host.specs.declared.kind.Watched.TheVariants as watched
+use Rattle.wasi_host.specs.Host.{Stop, Trap}
+
+-- the table of handles
+abbrev pub Handles : Type 0
+Handles = Shown Kind
+
+abbrev pub name_of : Kind → HandleKind
+name_of Network = name.Network
+name_of (Tcp2 n) = name.Tcp2
+name_of (Input n) = name.Input
+name_of (Output n) = name.Output
+name_of (Pollable w) = name.Pollable
+name_of ErrorValue = name.ErrorValue
+
+-- what a live handle stands for
+abbrev pub kind_at : Handles → ℕ → Option Kind
+kind_at t h = value_at t.live h
+
+-- == what each kind names
+-- the number of a socket's record
+abbrev pub place_of : Option Kind → Option ℕ
+place_of (Some (Tcp2 place)) = Some place
+place_of _ = None
+
+abbrev pub is_network : Option Kind → Bool
+is_network (Some Network) = true
+is_network _ = false
+
+-- the number of the record of an input's socket, and of an output's
+abbrev pub input_of : Option Kind → Option ℕ
+input_of (Some (Input place)) = Some place
+input_of _ = None
+
+abbrev pub output_of : Option Kind → Option ℕ
+output_of (Some (Output place)) = Some place
+output_of _ = None
+
+-- what a pollable of the handle watches
+abbrev pub watched_by : Option Kind → Option Watched
+watched_by (Some (Tcp2 place)) = Some (watched.Socket place)
+watched_by (Some (Input place)) = Some (watched.Input place)
+watched_by (Some (Output place)) = Some (watched.Output place)
+watched_by _ = None
+
+-- what a pollable watches
+abbrev pub watch_of : Option Kind → Option Watched
+watch_of (Some (Pollable w)) = Some w
+watch_of _ = None
+
+-- the number of the record that it is watched in
+abbrev pub place_in : Watched → ℕ
+place_in (watched.Socket place) = place
+place_in (watched.Input place) = place
+place_in (watched.Output place) = place
+
+-- == a handle is made
+-- a pollable stands under what it watches, and the streams of a connection under its socket; an error's parent is named in its
+-- mark alone
+abbrev pub table_parent : Kind → Option ℕ → Option ℕ
+table_parent (Input n) parent = parent
+table_parent (Output n) parent = parent
+table_parent (Pollable w) parent = parent
+table_parent _ parent = None
+
+abbrev pub with_handle : Handles → Kind → Option ℕ → Handles
+with_handle t kind parent = pushed t kind (table_parent kind parent)
+
+-- there is room and the mark is asked, or it is a trap
+abbrev pub make_asks : Handles → OpId → Kind → Option ℕ → Option OpId → Asks (Result ℕ Stop × Handles)
+make_asks t op kind parent side =
+    if is_full t then Give (Err (Trap Full), t)
+    else bind (ask_made op t.next (name_of kind) parent side) (λ done. Give (Ok t.next, with_handle t kind parent))
+
+-- a handle is taken out of the table
+abbrev pub without_handle : Handles → ℕ → Handles
+without_handle t h = record t { live = without t.live h }
+
+-- nothing is made under a handle
+abbrev pub none_in : List ℕ → Bool
+none_in [] = true
+none_in (h ∷ hs) = false
+
+abbrev pub has_no_child : Handles → ℕ → Bool
+has_no_child t h = none_in (children_of t.live h)
+
+-- a handle is taken out, with what it stands for; what was made under it goes before
+abbrev pub taken_out : Handles → ℕ → Option Kind → Result Kind Stop × Handles
+taken_out t h None = (Err (Trap NoSuchHandle), t)
+taken_out t h (Some kind) = if has_no_child t h then (Ok kind, without_handle t h) else (Err (Trap HasChildren), t)

@@ -1,0 +1,13 @@
+pub mod Host
+pub mod Kinds
+pub mod Store
+pub mod Jobs
+pub mod Readiness
+pub mod Dropping
+pub mod Shutdowns
+pub mod Sides
+pub mod Closing
+pub mod Machine
+pub mod StreamCalls
+pub mod Pending
+pub mod Views

@@ -1,0 +1,74 @@
+-- Pollables: what they watch, and what a look at them asks.
+use Rattle.std.specs.Prelude.{ℕ, Bool, true, false, Option, Some, None, Result, Ok, Err}
+use Rattle.std.specs.declared.alloc.AllocError.{AllocError}
+use Rattle.wasi_addr.specs.declared.code.ErrorCode.{ErrorCode}
+use Rattle.wasi_world.specs.declared.ids.OpId.{OpId}
+use Rattle.wasi_world.specs.declared.outcome.Answer.{Answer}
+use Rattle.wasi_world.specs.declared.outcome.Answer.TheVariants.{Ready, Pending}
+use Rattle.wasi_world.specs.declared.outcome.Refusal.{Refusal}
+use Rattle.wasi_world.specs.declared.outcome.Refusal.TheVariants as refusal
+use Rattle.wasi_world.specs.declared.outcome.TrapKind.TheVariants.{NoSuchHandle}
+use Rattle.wasi_world.specs.Asks.{Asks, Give, bind}
+use Rattle.wasi_streams.specs.StreamStop.{StreamStop}
+use Rattle.wasi_tcp.specs.declared.reader.ReadState.{ReadState}
+use Rattle.wasi_tcp.specs.declared.writer.WriteState.{WriteState}
+use Rattle.wasi_tcp.specs.Shape.{Socket}
+use Rattle.wasi_tcp.specs.Connecting.{finish_connect_asks}
+use Rattle.wasi_tcp.specs.Reader.{reader_ready_asks}
+use Rattle.wasi_tcp.specs.Writer.{look_asks}
+use Rattle.wasi_host.specs.declared.kind.Watched.{Watched}
+use Rattle.wasi_host.specs.declared.kind.Watched.TheVariants as watched
+use Rattle.wasi_host.specs.declared.socket.Streams.{Streams}
+use Rattle.wasi_host.specs.declared.socket.Tcp2Socket.{Tcp2Socket}
+use Rattle.wasi_host.specs.Host.{Stop, Trap}
+use Rattle.wasi_host.specs.Store.{Records, with_socket, with_inner, with_reader, with_writer, is_connect}
+
+-- it doesn't wait; an error is ready too
+abbrev pub is_over : {E : Type 0} → Result (Answer (Unit {0})) E → Bool
+is_over (Ok Pending) = false
+is_over (Ok (Ready done)) = true
+is_over (Err e) = true
+
+abbrev pub is_done : Answer (Unit {0}) → Bool
+is_done Pending = false
+is_done (Ready done) = true
+
+-- the same of what the code answers
+abbrev pub over_told : Result (Answer (Unit {0})) Refusal → Result (Result Bool Stop) AllocError
+over_told (Ok answer) = Ok (Ok (is_done answer))
+over_told (Err (refusal.Code c)) = Ok (Ok true)
+over_told (Err (refusal.Memory e)) = Err e
+
+-- == a socket
+abbrev pub connect_looked : Tcp2Socket → Result (Answer (Unit {0})) ErrorCode × Socket → Result Bool Stop × Tcp2Socket
+connect_looked r done = (Ok (is_over done.0), with_inner r done.1)
+
+-- with a connect in progress that is polled, which stays in progress; else it is ready
+abbrev pub ready_socket_by : Tcp2Socket → Bool → Asks (Result Bool Stop × Tcp2Socket)
+ready_socket_by r true = bind (finish_connect_asks r.inner) (λ done. Give (connect_looked r done))
+ready_socket_by r false = Give (Ok true, r)
+
+abbrev pub ready_socket : Tcp2Socket → Asks (Result Bool Stop × Tcp2Socket)
+ready_socket r = ready_socket_by r (is_connect r.in_progress)
+
+-- == a stream
+abbrev pub ready_reader : OpId → Tcp2Socket → Option Streams → Asks (Result Bool Stop × Tcp2Socket)
+ready_reader op r None = Give (Err (Trap NoSuchHandle), r)
+ready_reader op r (Some s) = bind (reader_ready_asks op s.reader) (λ done. Give (Ok (is_done done.0), with_reader r s done.1))
+
+abbrev pub ready_writer : OpId → Tcp2Socket → Option Streams → Asks (Result Bool Stop × Tcp2Socket)
+ready_writer op r None = Give (Err (Trap NoSuchHandle), r)
+ready_writer op r (Some s) = bind (look_asks op s.writer) (λ done. Give (Ok (is_over done.0), with_writer r s done.1))
+
+-- == by what is watched
+abbrev pub ready_record : OpId → Watched → Tcp2Socket → Asks (Result Bool Stop × Tcp2Socket)
+ready_record op (watched.Socket place) r = ready_socket r
+ready_record op (watched.Input place) r = ready_reader op r r.streams
+ready_record op (watched.Output place) r = ready_writer op r r.streams
+
+abbrev pub ready_put : Records → ℕ → Result Bool Stop × Tcp2Socket → Result Bool Stop × Records
+ready_put store place done = (done.0, with_socket store place done.1)
+
+abbrev pub ready_at : Records → OpId → Watched → ℕ → Option Tcp2Socket → Asks (Result Bool Stop × Records)
+ready_at store op w place None = Give (Err (Trap NoSuchHandle), store)
+ready_at store op w place (Some r) = bind (ready_record op w r) (λ done. Give (ready_put store place done))

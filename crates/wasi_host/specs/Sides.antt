@@ -1,0 +1,61 @@
+-- The network sides that a log made and closed, and those that the records hold.
+use Rattle.std.specs.Prelude.{◌≡◌, ℕ, ◌+◌, List, [], ◌∷◌, Option, Some, None, IfSome}
+use Rattle.wasi_world.specs.declared.call.Call.{Call}
+use Rattle.wasi_world.specs.declared.call.Call.TheVariants.{TcpCreate, UdpCreate, Hand, Close}
+use Rattle.wasi_world.specs.declared.call.Told.{Told}
+use Rattle.wasi_world.specs.declared.call.Told.TheVariants.{Done}
+use Rattle.wasi_world.specs.declared.call.Entry.{Entry}
+use Rattle.wasi_world.specs.declared.ids.OpId.{OpId}
+use Rattle.wasi_world.specs.Seen.{Seen, Passes}
+use Rattle.wasi_tcp.specs.Shape.{Socket}
+use Rattle.wasi_tcp.specs.Socket.{side_of}
+use Rattle.wasi_host.specs.declared.socket.Tcp2Socket.{Tcp2Socket}
+use Rattle.wasi_host.specs.Store.{Records}
+
+abbrev pub one_if_done : Told → ℕ
+one_if_done Done = 1
+one_if_done _ = 0
+
+-- how many sides a call made: a create or a hand that was told done makes one
+abbrev pub made_by : Call → Told → ℕ
+made_by (TcpCreate ctx family) told = one_if_done told
+made_by (UdpCreate ctx family) told = one_if_done told
+made_by (Hand sock peer) told = one_if_done told
+made_by _ told = 0
+
+abbrev pub closed_by : Call → ℕ
+closed_by (Close sock) = 1
+closed_by _ = 0
+
+abbrev pub made_in : List Entry → ℕ
+made_in [] = 0
+made_in (e ∷ es) = made_by e.call e.answer + made_in es
+
+abbrev pub closed_in : List Entry → ℕ
+closed_in [] = 0
+closed_in (e ∷ es) = closed_by e.call + closed_in es
+
+abbrev pub one_if_some : Option OpId → ℕ
+one_if_some (Some side) = 1
+one_if_some None = 0
+
+-- how many records hold a side
+abbrev pub held_in : List Tcp2Socket → ℕ
+held_in [] = 0
+held_in (r ∷ rs) = one_if_some (side_of r.inner) + held_in rs
+
+-- No side was made, and a side that the socket holds no more was closed.
+pub record ClosesOwn (before after : Seen) (old now : Socket) : Type 0 where
+  pub entries : List Entry
+  pub passed : Passes before entries after
+  pub made : made_in entries ≡ 0
+  pub closed : closed_in entries + one_if_some (side_of now) ≡ one_if_some (side_of old)
+
+-- Each side that was made and not closed is held by a record, where the log is told.
+pub record KnowsSides (seen : Seen) (records : Records) : Type 0 where
+  pub count : IfSome seen.log (λ log. closed_in log + held_in records.sockets ≡ made_in log)
+
+-- As many sides were closed after the end mark as the log made and didn't close.
+pub record ClosesAll (old new : Seen) : Type 0 where
+  pub log : new.log ≡ old.log
+  pub count : old.closings ≡ 0 → IfSome new.log (λ log. closed_in log + new.closings ≡ made_in log)

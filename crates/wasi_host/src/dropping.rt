@@ -1,0 +1,146 @@
+//! What goes with a handle.
+
+ghost use Rattle.std.specs.Prelude.{◌≡◌, false, Ok, slice_get};
+ghost use Rattle.wasi_world.specs.Asks.{AsksFor};
+ghost use Rattle.wasi_host.specs.Dropping.{release_at, released, wait_at, waited, drop_output_at};
+ghost use Rattle.wasi_host.specs.Host.{fault_outcome};
+ghost use Rattle.wasi_host.specs.Jobs.{other_jobs};
+ghost use Rattle.wasi_host.specs.Machine.{own_of, drop_asks, drop_kind};
+ghost use Rattle.wasi_host.specs.Sides.{KnowsSides};
+ghost use Rattle.wasi_host.specs.Views.{SameView, state_of};
+
+use crate::handles;
+use crate::kind::Kind;
+use crate::store::{Standing, StandingCall, Store};
+use crate::view::WasiSocketsCtxView;
+use std::alloc::AllocError;
+use wasi_streams::{Fault, TrapKind};
+use wasi_world::{Answer, Handle, Ids, OpId, World};
+
+impl Store {
+    /// Gives up what the socket of this number has: its open halves, the receiving one first, and its side. A write that
+    /// goes on ends with its rest unwritten.
+    pub(crate) fn release<W: World>(
+        &mut self,
+        world: &mut W,
+        op: OpId,
+        place: usize,
+    ) -> Result<(), AllocError>
+        requires { (W.seen world.old).ended ≡ false }
+        ensures asked { AsksFor (release_at self.old op place (slice_get self.old.sockets place)) (W.seen world.old) (W.seen world.new) (λ done. (done, self.new)) result }
+        ensures sides { KnowsSides (W.seen world.old) self.old → KnowsSides (W.seen world.new) self.new }
+        ensures open { (W.seen world.new).ended ≡ false }
+    {
+        let Some(record) = self.sockets.get_mut(place) else {
+            return Ok(());
+        };
+        record.release(world, op)?;
+        self.forget_job(place);
+        Ok(())
+    }
+
+    /// No job of this socket is left.
+    fn forget_job(&mut self, place: usize)
+        ensures { self.new ≡ record self.old { jobs = other_jobs place self.old.jobs } }
+    {
+        self.jobs.retain(|job| *job != place);
+    }
+
+    /// Looks whether the writer of the socket of this number is ready. While it isn't, the drop of its output stands under
+    /// the operation's line.
+    pub(crate) fn drop_output<W: World>(
+        &mut self,
+        world: &mut W,
+        op: OpId,
+        place: usize,
+    ) -> Result<Answer<()>, AllocError>
+        requires { (W.seen world.old).ended ≡ false }
+        ensures asked { AsksFor (drop_output_at self.old op place (slice_get self.old.sockets place)) (W.seen world.old) (W.seen world.new) (λ answer. (answer, self.new)) result }
+        ensures sides { KnowsSides (W.seen world.old) self.old → KnowsSides (W.seen world.new) self.new }
+        ensures open { (W.seen world.new).ended ≡ false }
+    {
+        let answer = self.poll_writer(world, op, place)?;
+        Ok(self.stand_waiting(op.step, place, answer))
+    }
+
+    /// One look at the writer of the socket of this number; an error is ready too.
+    fn poll_writer<W: World>(
+        &mut self,
+        world: &mut W,
+        op: OpId,
+        place: usize,
+    ) -> Result<Answer<()>, AllocError>
+        requires { (W.seen world.old).ended ≡ false }
+        ensures asked { AsksFor (wait_at self.old op place (slice_get self.old.sockets place)) (W.seen world.old) (W.seen world.new) (λ answer. (answer, self.new)) result }
+        ensures sides { KnowsSides (W.seen world.old) self.old → KnowsSides (W.seen world.new) self.new }
+        ensures open { (W.seen world.new).ended ≡ false }
+    {
+        let Some(record) = self.sockets.get_mut(place) else {
+            return Ok(Answer::Ready(()));
+        };
+        record.poll_writer(world, op)
+    }
+
+    /// A drop that waits stands.
+    fn stand_waiting(&mut self, line: u32, socket: usize, answer: Answer<()>) -> Answer<()>
+        ensures { (result, self.new) ≡ waited line socket (answer, self.old) }
+    {
+        self.standing = match answer {
+            Answer::Ready(()) => None,
+            Answer::Pending => Some(Standing {
+                line,
+                call: StandingCall::DropOutput { socket },
+            }),
+        };
+        answer
+    }
+}
+
+/// Drops a handle (`drop` of each resource). Something made under it is live: `HasChildren`. The handle goes at once. A socket
+/// gives up its open halves and its network side; an output waits until its writer is ready, and while it isn't the call is
+/// pending and stands; nothing else waits.
+pub fn drop_handle<W: World>(
+    view: &mut WasiSocketsCtxView<'_>,
+    world: &mut W,
+    ids: &mut Ids,
+    this: Handle,
+) -> Result<Answer<()>, Fault>
+    requires { (W.seen world.old).ended ≡ false }
+    ensures asked { AsksFor (drop_asks (state_of view.old) (own_of ids.old.line) this) (W.seen world.old) (W.seen world.new) (λ answer. (answer, state_of view.new)) (fault_outcome result) }
+    ensures sides { KnowsSides (W.seen world.old) view.old.store.now → KnowsSides (W.seen world.new) view.new.store.now }
+    ensures view { SameView view.old view.new }
+    ensures ids { ids.new ≡ ids.old }
+    ensures open { (W.seen world.new).ended ≡ false }
+{
+    let kind = handles::remove(view.table, this)?;
+    release_kind(view, world, ids, kind)
+}
+
+/// What a kind of handle takes with it.
+fn release_kind<W: World>(
+    view: &mut WasiSocketsCtxView<'_>,
+    world: &mut W,
+    ids: &mut Ids,
+    kind: Kind,
+) -> Result<Answer<()>, Fault>
+    requires { (W.seen world.old).ended ≡ false }
+    ensures asked { AsksFor (drop_kind (state_of view.old) (own_of ids.old.line) kind) (W.seen world.old) (W.seen world.new) (λ answer. (answer, state_of view.new)) (fault_outcome result) }
+    ensures sides { KnowsSides (W.seen world.old) view.old.store.now → KnowsSides (W.seen world.new) view.new.store.now }
+    ensures view { SameView view.old view.new }
+    ensures ids { ids.new ≡ ids.old }
+    ensures open { (W.seen world.new).ended ≡ false }
+{
+    match kind {
+        Kind::Tcp2(place) => {
+            view.store.release(world, ids.own(), place)?;
+            Ok(Answer::Ready(()))
+        }
+        Kind::Output(place) => {
+            let answer = view.store.drop_output(world, ids.own(), place)?;
+            Ok(answer)
+        }
+        Kind::Network | Kind::Input(_) | Kind::Pollable(_) | Kind::ErrorValue => {
+            Ok(Answer::Ready(()))
+        }
+    }
+}

@@ -1,0 +1,71 @@
+//! What handles stand for.
+
+ghost use Rattle.std.specs.Prelude.{◌≡◌};
+ghost use Rattle.wasi_host.specs.Kinds.{name_of, place_in, table_parent, watched_by, watch_of, place_of, input_of, output_of, is_network};
+
+use wasi_world::{Handle, HandleKind};
+
+/// What a pollable watches, with the number of its socket's record.
+#[derive(Clone, Copy, Debug, PartialEq, Eq)]
+pub enum Watched {
+    /// The operation in progress of a socket.
+    Socket(usize),
+    /// Whether there is something to read.
+    Input(usize),
+    /// Whether something may be written.
+    Output(usize),
+}
+
+impl Watched {
+    /// The number of the record that it is watched in.
+    pub fn place(self) -> usize
+        ensures { result ≡ place_in self }
+    {
+        match self {
+            Watched::Socket(place) | Watched::Input(place) | Watched::Output(place) => place,
+        }
+    }
+}
+
+/// What a handle stands for, with the number of its record in the store.
+#[derive(Clone, Copy, Debug, PartialEq, Eq)]
+pub enum Kind {
+    Network,
+    /// A TCP socket of the 0.2 interface.
+    Tcp2(usize),
+    /// The input of a connection, with the number of its socket's record.
+    Input(usize),
+    /// The output of a connection, with the number of its socket's record.
+    Output(usize),
+    /// A pollable, with what it watches.
+    Pollable(Watched),
+    /// The error of a stream's operation.
+    ErrorValue,
+}
+
+impl Kind {
+    /// The name that a mark gives it.
+    pub fn name(self) -> HandleKind
+        ensures { result ≡ name_of self }
+    {
+        match self {
+            Kind::Network => HandleKind::Network,
+            Kind::Tcp2(_) => HandleKind::Tcp2,
+            Kind::Input(_) => HandleKind::Input,
+            Kind::Output(_) => HandleKind::Output,
+            Kind::Pollable(_) => HandleKind::Pollable,
+            Kind::ErrorValue => HandleKind::ErrorValue,
+        }
+    }
+
+    /// The parent in the table of a handle whose mark names this one: a pollable stands under what it watches, and the
+    /// streams of a connection under its socket; an error's parent is named in its mark alone.
+    pub fn table_parent(self, parent: Option<Handle>) -> Option<Handle>
+        ensures { result ≡ table_parent self parent }
+    {
+        match self {
+            Kind::Input(_) | Kind::Output(_) | Kind::Pollable(_) => parent,
+            Kind::Network | Kind::Tcp2(_) | Kind::ErrorValue => None,
+        }
+    }
+}

@@ -1,0 +1,29 @@
+//! What the calls of both generations stand on: the kinds of handles, the records that they name, views of both, streams and
+//! pollables, jobs and pending calls.
+#![tactic(auto)]
+
+mod closing;
+mod dropping;
+pub mod error;
+pub mod handles;
+mod jobs;
+pub mod kind;
+pub mod machine;
+pub mod pending;
+mod pollables;
+pub mod socket;
+pub mod store;
+mod streams;
+pub mod view;
+
+pub use dropping::drop_handle;
+pub use error::{CallError, SocketError};
+pub use jobs::turn;
+pub use kind::{Kind, Watched};
+pub use machine::Machine;
+pub use pending::{Outcome, resume};
+pub use pollables::{ready, subscribe};
+pub use socket::{InProgress, Streams, Tcp2Socket};
+pub use store::{Standing, StandingCall, Store};
+pub use streams::{check_write, convert_stream_error, flush, read, write};
+pub use view::{WasiSocketsCtxView, WasiSocketsView};

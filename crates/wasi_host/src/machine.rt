@@ -1,0 +1,28 @@
+//! The state behind a guest's calls.
+
+ghost use Rattle.std.specs.Prelude.{◌≡◌};
+ghost use Rattle.wasi_host.specs.Machine.{first_state};
+
+use crate::kind::Kind;
+use crate::store::Store;
+use std::alloc::Global;
+use wasi_streams::Table;
+
+/// A table of handles and the store of what they name: with a context they make a view, which the calls take.
+#[derive(Drop)]
+pub struct Machine {
+    pub table: Table<Kind>,
+    pub store: Store,
+}
+
+impl Machine {
+    /// No handle, no record, no job, no call that stands. Takes no memory.
+    pub fn new(alloc: Global) -> Machine
+        ensures { result ≡ first_state }
+    {
+        Machine {
+            table: Table::new(alloc),
+            store: Store::new(alloc),
+        }
+    }
+}

@@ -1,0 +1,530 @@
+//! A TCP socket as the guest of the 0.2 interface has it.
+
+ghost use Rattle.std.specs.Prelude.{◌≡◌, false, None, Ok, Some};
+ghost use Rattle.wasi_streams.specs.StreamStop.{stream_outcome};
+ghost use Rattle.wasi_tcp.specs.Reader.{read_state_asks};
+ghost use Rattle.wasi_tcp.specs.Writer.{check_write_asks, write_state_asks};
+ghost use Rattle.wasi_world.specs.Asks.{AsksFor, outcome};
+ghost use Rattle.wasi_tcp.specs.Socket.{side_of};
+ghost use Rattle.wasi_host.specs.Dropping.{give_streams_up, close_record, release_asks, wait_writer, waits_told};
+ghost use Rattle.wasi_host.specs.Host.{fault_outcome, host_outcome};
+ghost use Rattle.wasi_host.specs.Jobs.{is_working, works_in, turn_record};
+ghost use Rattle.wasi_host.specs.Readiness.{over_told, ready_record, ready_socket, ready_reader, ready_writer};
+ghost use Rattle.wasi_host.specs.Shutdowns.{shut_receive, shut_send, shut_streams, shut_record};
+ghost use Rattle.wasi_host.specs.Sides.{ClosesOwn};
+ghost use Rattle.wasi_host.specs.Store.{is_nothing, is_bind, is_connect, begin_bind_asks, poll_bind_asks, begin_connect_asks, poll_connect_asks, connect_told, connect_settled, opened, reader_asks, writer_asks, flush_asks, tell_local_asks, tell_remote_asks, new_record};
+
+use crate::error::SocketError;
+use crate::kind::Watched;
+use std::alloc::{AllocError, Global};
+use wasi_addr::{IpSocketAddress, ShutdownType, p2};
+use wasi_streams::{Fault, StreamError};
+use wasi_tcp::{BindOp, ReadState, TcpSocket, WriteState};
+use wasi_world::{Answer, Octets, OpId, Refusal, Sock, TrapKind, World};
+
+/// The operation that was started and isn't finished.
+#[derive(Clone, Copy, Debug, PartialEq, Eq)]
+pub enum InProgress {
+    Nothing,
+    Bind,
+    Connect,
+}
+
+impl InProgress {
+    pub fn is_nothing(self) -> bool
+        ensures { result ≡ is_nothing self }
+    {
+        matches!(self, InProgress::Nothing)
+    }
+
+    pub fn is_bind(self) -> bool
+        ensures { result ≡ is_bind self }
+    {
+        matches!(self, InProgress::Bind)
+    }
+
+    pub fn is_connect(self) -> bool
+        ensures { result ≡ is_connect self }
+    {
+        matches!(self, InProgress::Connect)
+    }
+}
+
+/// What a guest reads from a connection by, and what it writes to it by.
+#[derive(Drop)]
+pub struct Streams {
+    pub reader: ReadState,
+    pub writer: WriteState,
+}
+
+/// Whether a write goes on.
+fn is_working(writer: &WriteState) -> bool
+    ensures { result ≡ is_working writer.now }
+{
+    match writer {
+        WriteState::Writing(job) | WriteState::Closing(job) => match job.end() {
+            None => true,
+            Some(_) => false,
+        },
+        WriteState::Ready { .. } | WriteState::Closed(_) => false,
+    }
+}
+
+impl Streams {
+    fn shut_receive<W: World>(&mut self, world: &mut W, op: OpId) -> Result<(), AllocError>
+        requires { (W.seen world.old).ended ≡ false }
+        ensures asked { AsksFor (shut_receive op self.old) (W.seen world.old) (W.seen world.new) (λ done. (done, self.new)) result }
+        ensures open { (W.seen world.new).ended ≡ false }
+    {
+        self.reader.shutdown(world, op)
+    }
+
+    fn shut_send<W: World>(&mut self, world: &mut W, op: OpId) -> Result<(), AllocError>
+        requires { (W.seen world.old).ended ≡ false }
+        ensures asked { AsksFor (shut_send op self.old) (W.seen world.old) (W.seen world.new) (λ done. (done, self.new)) result }
+        ensures open { (W.seen world.new).ended ≡ false }
+    {
+        self.writer.shutdown(world, op)
+    }
+
+    /// Gives up the receiving half, the sending half, or the one after the other.
+    pub fn shutdown<W: World>(
+        &mut self,
+        world: &mut W,
+        op: OpId,
+        how: ShutdownType,
+    ) -> Result<(), AllocError>
+        requires { (W.seen world.old).ended ≡ false }
+        ensures asked { AsksFor (shut_streams op how self.old) (W.seen world.old) (W.seen world.new) (λ done. (done, self.new)) result }
+        ensures open { (W.seen world.new).ended ≡ false }
+    {
+        match how {
+            ShutdownType::Receive => self.shut_receive(world, op),
+            ShutdownType::Send => self.shut_send(world, op),
+            ShutdownType::Both => {
+                self.shut_receive(world, op)?;
+                self.shut_send(world, op)
+            }
+        }
+    }
+
+    /// Gives up the halves that are open, the receiving one first. A write that goes on ends with its rest unwritten.
+    fn give_up<W: World>(self, world: &mut W, op: OpId) -> Result<(), AllocError>
+        requires { (W.seen world.old).ended ≡ false }
+        ensures asked { AsksFor (give_streams_up op (Some self)) (W.seen world.old) (W.seen world.new) (λ done. done) result }
+        ensures open { (W.seen world.new).ended ≡ false }
+    {
+        let Streams { mut reader, writer } = self;
+        reader.shutdown(world, op)?;
+        writer.give_up(world, op)
+    }
+}
+
+/// Whether a look at a connect is over; a refusal is ready too.
+fn is_over(polled: Result<Answer<()>, Refusal>) -> Result<bool, Fault>
+    ensures { fault_outcome result ≡ over_told polled }
+{
+    match polled {
+        Ok(Answer::Pending) => Ok(false),
+        Ok(Answer::Ready(())) | Err(Refusal::Code(_)) => Ok(true),
+        Err(Refusal::Memory(e)) => Err(Fault::Memory(e)),
+    }
+}
+
+/// What a look at a writer answers to one that waits for it; an error doesn't wait.
+fn wait_answer(looked: Result<Answer<()>, StreamError>) -> Result<Answer<()>, AllocError>
+    ensures { result ≡ waits_told looked }
+{
+    match looked {
+        Ok(answer) => Ok(answer),
+        Err(StreamError::Memory(e)) => Err(e),
+        Err(_) => Ok(Answer::Ready(())),
+    }
+}
+
+/// The socket, its operation in progress, and its streams once they were made.
+#[derive(Drop)]
+pub struct Tcp2Socket {
+    pub inner: TcpSocket,
+    /// The network side that it was made with, also once that is closed: its handles are marked with it.
+    pub side: Option<Sock>,
+    pub in_progress: InProgress,
+    pub streams: Option<Streams>,
+}
+
+impl Tcp2Socket {
+    pub fn new(inner: TcpSocket) -> Tcp2Socket
+        ensures { result ≡ new_record inner }
+    {
+        let side = inner.side();
+        Tcp2Socket {
+            inner,
+            side,
+            in_progress: InProgress::Nothing,
+            streams: None,
+        }
+    }
+
+    /// Begins a bind and polls it. Where it is pending the operation is handed out; where it is done it is in progress.
+    pub fn begin_bind<W: World>(
+        &mut self,
+        world: &mut W,
+        op: OpId,
+        addr: IpSocketAddress,
+    ) -> Result<Option<BindOp>, Refusal>
+        requires { (W.seen world.old).ended ≡ false }
+        ensures asked { AsksFor (begin_bind_asks op self.old addr) (W.seen world.old) (W.seen world.new) (λ begun. (begun, self.new)) (outcome result) }
+        ensures side { side_of self.new.inner ≡ side_of self.old.inner }
+        ensures open { (W.seen world.new).ended ≡ false }
+    {
+        let bind = self.inner.bind(world, op, addr)?;
+        self.poll_bind(world, bind)
+    }
+
+    /// Polls a bind that this socket began.
+    pub fn poll_bind<W: World>(
+        &mut self,
+        world: &mut W,
+        mut bind: BindOp,
+    ) -> Result<Option<BindOp>, Refusal>
+        requires { (W.seen world.old).ended ≡ false }
+        ensures asked { AsksFor (poll_bind_asks bind self.old) (W.seen world.old) (W.seen world.new) (λ begun. (begun, self.new)) (outcome result) }
+        ensures side { side_of self.new.inner ≡ side_of self.old.inner }
+        ensures open { (W.seen world.new).ended ≡ false }
+    {
+        let answer = bind.poll(world, &mut self.inner)?;
+        match answer {
+            Answer::Pending => return Ok(Some(bind)),
+            Answer::Ready(()) => {
+                self.in_progress = InProgress::Bind;
+                return Ok(None);
+            }
+        }
+    }
+
+    /// Begins a connect, which is in progress then.
+    pub fn begin_connect<W: World>(
+        &mut self,
+        world: &mut W,
+        op: OpId,
+        addr: IpSocketAddress,
+    ) -> Result<(), Refusal>
+        requires { (W.seen world.old).ended ≡ false }
+        ensures asked { AsksFor (begin_connect_asks op self.old addr) (W.seen world.old) (W.seen world.new) (λ done. (done, self.new)) (outcome result) }
+        ensures side { side_of self.new.inner ≡ side_of self.old.inner }
+        ensures open { (W.seen world.new).ended ≡ false }
+    {
+        self.inner.start_connect(world, op, addr)?;
+        self.in_progress = InProgress::Connect;
+        Ok(())
+    }
+
+    /// Polls the connect in progress. Pending: `WouldBlock`. Ended, either way, it is in progress no more.
+    pub fn poll_connect<W: World>(&mut self, world: &mut W) -> Result<(), SocketError>
+        requires { (W.seen world.old).ended ≡ false }
+        ensures asked { AsksFor (poll_connect_asks self.old) (W.seen world.old) (W.seen world.new) (λ done. (done, self.new)) (host_outcome result) }
+        ensures closed { ClosesOwn (W.seen world.old) (W.seen world.new) self.old.inner self.new.inner }
+        ensures open { (W.seen world.new).ended ≡ false }
+    {
+        let polled = self.inner.poll_finish_connect(world);
+        self.settle_connect(polled)
+    }
+
+    /// What a poll of the connect makes of the record, and of the answer.
+    fn settle_connect(&mut self, polled: Result<Answer<()>, Refusal>) -> Result<(), SocketError>
+        ensures told { host_outcome result ≡ connect_told self.old polled }
+        ensures settled { self.new ≡ connect_settled self.old polled }
+    {
+        match polled {
+            Ok(Answer::Pending) => Err(SocketError::Code(p2::ErrorCode::WouldBlock)),
+            Ok(Answer::Ready(())) => {
+                self.in_progress = InProgress::Nothing;
+                self.open_streams()
+            }
+            Err(Refusal::Code(code)) => {
+                self.in_progress = InProgress::Nothing;
+                Err(SocketError::Code(p2::ErrorCode::from_code(code)))
+            }
+            Err(Refusal::Memory(e)) => Err(SocketError::Memory(e)),
+        }
+    }
+
+    /// Takes the two halves of the connection. With no operation in progress.
+    fn open_streams(&mut self) -> Result<(), SocketError>
+        requires { self.old.in_progress ≡ InProgress.Nothing }
+        ensures told { host_outcome result ≡ Ok (opened self.old self.old.inner).0 }
+        ensures record { self.new ≡ (opened self.old self.old.inner).1 }
+    {
+        let receive = match self.inner.take_receive_stream() {
+            Ok(receive) => receive,
+            Err(code) => return Err(SocketError::Code(p2::ErrorCode::from_code(code))),
+        };
+        let send = match self.inner.take_send_stream() {
+            Ok(send) => send,
+            Err(code) => return Err(SocketError::Code(p2::ErrorCode::from_code(code))),
+        };
+        self.streams = Some(Streams {
+            reader: ReadState::Open(receive),
+            writer: WriteState::Ready {
+                half: send,
+                permit: 0,
+            },
+        });
+        Ok(())
+    }
+
+    /// The local address.
+    pub fn local_address<W: World>(
+        &mut self,
+        world: &mut W,
+        op: OpId,
+    ) -> Result<IpSocketAddress, Refusal>
+        requires { (W.seen world.old).ended ≡ false }
+        ensures asked { AsksFor (tell_local_asks op self.old) (W.seen world.old) (W.seen world.new) (λ told. (told, self.new)) (outcome result) }
+        ensures side { side_of self.new.inner ≡ side_of self.old.inner }
+        ensures open { (W.seen world.new).ended ≡ false }
+    {
+        self.inner.local_address(world, op)
+    }
+
+    /// The remote address.
+    pub fn remote_address<W: World>(
+        &mut self,
+        world: &mut W,
+        op: OpId,
+    ) -> Result<IpSocketAddress, Refusal>
+        requires { (W.seen world.old).ended ≡ false }
+        ensures asked { AsksFor (tell_remote_asks op self.old) (W.seen world.old) (W.seen world.new) (λ told. (told, self.new)) (outcome result) }
+        ensures side { side_of self.new.inner ≡ side_of self.old.inner }
+        ensures open { (W.seen world.new).ended ≡ false }
+    {
+        self.inner.remote_address(world, op)
+    }
+
+    /// Reads from the connection. A record without streams: a trap, which no handle reaches.
+    pub fn read<W: World>(
+        &mut self,
+        alloc: Global,
+        world: &mut W,
+        op: OpId,
+        len: usize,
+    ) -> Result<Octets, StreamError>
+        requires { (W.seen world.old).ended ≡ false }
+        ensures asked { AsksFor (reader_asks (λ r. read_state_asks op r len) self.old) (W.seen world.old) (W.seen world.new) (λ answer. (answer, self.new)) (stream_outcome result) }
+        ensures side { side_of self.new.inner ≡ side_of self.old.inner }
+        ensures open { (W.seen world.new).ended ≡ false }
+    {
+        match &mut self.streams {
+            Some(streams) => streams.reader.read(alloc, world, op, len),
+            None => Err(StreamError::Trap(TrapKind::NoSuchHandle)),
+        }
+    }
+
+    /// How much may be written to the connection.
+    pub fn check_write<W: World>(&mut self, world: &mut W, op: OpId) -> Result<usize, StreamError>
+        requires { (W.seen world.old).ended ≡ false }
+        ensures asked { AsksFor (writer_asks (check_write_asks op) self.old) (W.seen world.old) (W.seen world.new) (λ answer. (answer, self.new)) (stream_outcome result) }
+        ensures side { side_of self.new.inner ≡ side_of self.old.inner }
+        ensures open { (W.seen world.new).ended ≡ false }
+    {
+        match &mut self.streams {
+            Some(streams) => streams.writer.check_write(world, op),
+            None => Err(StreamError::Trap(TrapKind::NoSuchHandle)),
+        }
+    }
+
+    /// Writes to the connection.
+    pub fn write<W: World>(
+        &mut self,
+        world: &mut W,
+        op: OpId,
+        bytes: Octets,
+    ) -> Result<(), StreamError>
+        requires { (W.seen world.old).ended ≡ false }
+        ensures asked { AsksFor (writer_asks (λ w. write_state_asks op w bytes) self.old) (W.seen world.old) (W.seen world.new) (λ answer. (answer, self.new)) (stream_outcome result) }
+        ensures side { side_of self.new.inner ≡ side_of self.old.inner }
+        ensures open { (W.seen world.new).ended ≡ false }
+    {
+        match &mut self.streams {
+            Some(streams) => streams.writer.write(world, op, bytes),
+            None => Err(StreamError::Trap(TrapKind::NoSuchHandle)),
+        }
+    }
+
+    /// Tells a kept error of the writer.
+    pub fn flush<W: World>(&mut self, world: &mut W) -> Result<(), StreamError>
+        requires { (W.seen world.old).ended ≡ false }
+        ensures asked { AsksFor (writer_asks flush_asks self.old) (W.seen world.old) (W.seen world.new) (λ answer. (answer, self.new)) (stream_outcome result) }
+        ensures side { side_of self.new.inner ≡ side_of self.old.inner }
+        ensures open { (W.seen world.new).ended ≡ false }
+    {
+        match &mut self.streams {
+            Some(streams) => streams.writer.flush(),
+            None => Err(StreamError::Trap(TrapKind::NoSuchHandle)),
+        }
+    }
+
+    /// Whether a write goes on by itself.
+    pub fn has_job(&self) -> bool
+        ensures { result ≡ works_in self.now.streams }
+    {
+        match &self.streams {
+            Some(streams) => is_working(&streams.writer),
+            None => false,
+        }
+    }
+
+    /// Polls a write that goes on, once.
+    pub fn turn<W: World>(&mut self, world: &mut W) -> Result<(), AllocError>
+        requires { (W.seen world.old).ended ≡ false }
+        ensures asked { AsksFor (turn_record self.old) (W.seen world.old) (W.seen world.new) (λ done. self.new) result }
+        ensures inner { self.new.inner ≡ self.old.inner }
+        ensures open { (W.seen world.new).ended ≡ false }
+    {
+        match &mut self.streams {
+            Some(streams) => streams.writer.turn(world),
+            None => Ok(()),
+        }
+    }
+
+    /// Gives up one half of the connection, or both. Before its streams were made: `InvalidState`.
+    pub fn shutdown<W: World>(
+        &mut self,
+        world: &mut W,
+        op: OpId,
+        how: ShutdownType,
+    ) -> Result<(), SocketError>
+        requires { (W.seen world.old).ended ≡ false }
+        ensures asked { AsksFor (shut_record op how self.old self.old.streams) (W.seen world.old) (W.seen world.new) (λ done. (done, self.new)) (host_outcome result) }
+        ensures side { side_of self.new.inner ≡ side_of self.old.inner }
+        ensures open { (W.seen world.new).ended ≡ false }
+    {
+        let Some(streams) = &mut self.streams else {
+            return Err(SocketError::Code(p2::ErrorCode::InvalidState));
+        };
+        streams.shutdown(world, op, how)?;
+        Ok(())
+    }
+
+    /// One look at what is watched of this socket.
+    pub fn poll_ready<W: World>(
+        &mut self,
+        world: &mut W,
+        op: OpId,
+        watched: Watched,
+    ) -> Result<bool, Fault>
+        requires { (W.seen world.old).ended ≡ false }
+        ensures asked { AsksFor (ready_record op watched self.old) (W.seen world.old) (W.seen world.new) (λ ready. (ready, self.new)) (fault_outcome result) }
+        ensures closed { ClosesOwn (W.seen world.old) (W.seen world.new) self.old.inner self.new.inner }
+        ensures open { (W.seen world.new).ended ≡ false }
+    {
+        match watched {
+            Watched::Socket(_) => self.connect_ready(world),
+            Watched::Input(_) => self.input_ready(world, op),
+            Watched::Output(_) => self.output_ready(world, op),
+        }
+    }
+
+    /// Polls a connect in progress, which stays in progress; with none it is ready.
+    fn connect_ready<W: World>(&mut self, world: &mut W) -> Result<bool, Fault>
+        requires { (W.seen world.old).ended ≡ false }
+        ensures asked { AsksFor (ready_socket self.old) (W.seen world.old) (W.seen world.new) (λ ready. (ready, self.new)) (fault_outcome result) }
+        ensures closed { ClosesOwn (W.seen world.old) (W.seen world.new) self.old.inner self.new.inner }
+        ensures open { (W.seen world.new).ended ≡ false }
+    {
+        if !self.in_progress.is_connect() {
+            return Ok(true);
+        }
+        let polled = self.inner.poll_finish_connect(world);
+        is_over(polled)
+    }
+
+    /// Whether there is something to read.
+    fn input_ready<W: World>(&mut self, world: &mut W, op: OpId) -> Result<bool, Fault>
+        requires { (W.seen world.old).ended ≡ false }
+        ensures asked { AsksFor (ready_reader op self.old self.old.streams) (W.seen world.old) (W.seen world.new) (λ ready. (ready, self.new)) (fault_outcome result) }
+        ensures inner { self.new.inner ≡ self.old.inner }
+        ensures open { (W.seen world.new).ended ≡ false }
+    {
+        let Some(streams) = &mut self.streams else {
+            return Err(Fault::Trap(TrapKind::NoSuchHandle));
+        };
+        match streams.reader.poll_ready(world, op)? {
+            Answer::Ready(()) => Ok(true),
+            Answer::Pending => Ok(false),
+        }
+    }
+
+    /// Whether something may be written; an error is ready too.
+    fn output_ready<W: World>(&mut self, world: &mut W, op: OpId) -> Result<bool, Fault>
+        requires { (W.seen world.old).ended ≡ false }
+        ensures asked { AsksFor (ready_writer op self.old self.old.streams) (W.seen world.old) (W.seen world.new) (λ ready. (ready, self.new)) (fault_outcome result) }
+        ensures inner { self.new.inner ≡ self.old.inner }
+        ensures open { (W.seen world.new).ended ≡ false }
+    {
+        let Some(streams) = &mut self.streams else {
+            return Err(Fault::Trap(TrapKind::NoSuchHandle));
+        };
+        let looked = streams.writer.poll_ready(world, op);
+        match wait_answer(looked)? {
+            Answer::Ready(()) => Ok(true),
+            Answer::Pending => Ok(false),
+        }
+    }
+
+    /// One look at the writer, by an output's drop that waits for it. With no streams nothing is waited for.
+    pub fn poll_writer<W: World>(
+        &mut self,
+        world: &mut W,
+        op: OpId,
+    ) -> Result<Answer<()>, AllocError>
+        requires { (W.seen world.old).ended ≡ false }
+        ensures asked { AsksFor (wait_writer op self.old self.old.streams) (W.seen world.old) (W.seen world.new) (λ answer. (answer, self.new)) result }
+        ensures inner { self.new.inner ≡ self.old.inner }
+        ensures open { (W.seen world.new).ended ≡ false }
+    {
+        let Some(streams) = &mut self.streams else {
+            return Ok(Answer::Ready(()));
+        };
+        let looked = streams.writer.poll_ready(world, op);
+        wait_answer(looked)
+    }
+
+    /// Gives up what it has: the open halves, the receiving one first, and then its network side. A write that goes on ends
+    /// with its rest unwritten.
+    pub fn release<W: World>(&mut self, world: &mut W, op: OpId) -> Result<(), AllocError>
+        requires { (W.seen world.old).ended ≡ false }
+        ensures asked { AsksFor (release_asks op self.old) (W.seen world.old) (W.seen world.new) (λ done. (done, self.new)) result }
+        ensures closed { ClosesOwn (W.seen world.old) (W.seen world.new) self.old.inner self.new.inner }
+        ensures open { (W.seen world.new).ended ≡ false }
+    {
+        self.give_streams_up(world, op)?;
+        self.close(world, op)
+    }
+
+    /// Gives up the open halves.
+    fn give_streams_up<W: World>(&mut self, world: &mut W, op: OpId) -> Result<(), AllocError>
+        requires { (W.seen world.old).ended ≡ false }
+        ensures asked { AsksFor (give_streams_up op self.old.streams) (W.seen world.old) (W.seen world.new) (λ done. done) result }
+        ensures state { self.new ≡ record self.old { streams = None } }
+        ensures open { (W.seen world.new).ended ≡ false }
+    {
+        match self.streams.take() {
+            Some(streams) => streams.give_up(world, op),
+            None => Ok(()),
+        }
+    }
+
+    /// Closes the network side, where there is one.
+    fn close<W: World>(&mut self, world: &mut W, op: OpId) -> Result<(), AllocError>
+        requires { (W.seen world.old).ended ≡ false }
+        ensures asked { AsksFor (close_record op self.old) (W.seen world.old) (W.seen world.new) (λ done. (done, self.new)) result }
+        ensures closed { ClosesOwn (W.seen world.old) (W.seen world.new) self.old.inner self.new.inner }
+        ensures open { (W.seen world.new).ended ≡ false }
+    {
+        self.inner.close(world, op)?;
+        self.in_progress = InProgress::Nothing;
+        self.streams = None;
+        Ok(())
+    }
+}

@@ -1,0 +1,390 @@
+//! The records that handles name, and the call that stands.
+
+ghost use Rattle.std.specs.Prelude.{◌≡◌, true, is_some, ◌<◌, false, IfOk, Ok, OnErr, slice_get, length};
+ghost use Rattle.wasi_world.specs.Asks.{AsksFor};
+ghost use Rattle.wasi_world.specs.Seen.{Seen};
+ghost use Rattle.wasi_host.specs.Host.{host_outcome};
+ghost use Rattle.wasi_host.specs.Jobs.{write_at};
+ghost use Rattle.wasi_host.specs.Pending.{exclusive_of, stands_as};
+ghost use Rattle.wasi_host.specs.Shutdowns.{shutdown_at};
+ghost use Rattle.wasi_host.specs.Store.{no_records, start_bind_at, finish_bind_at, start_connect_at, finish_connect_at, local_address_at, remote_address_at, is_listening_at, address_family_at, reader_asks, writer_asks, flush_asks, stream_at, with_record, stood};
+ghost use Rattle.wasi_streams.specs.StreamStop.{stream_outcome};
+ghost use Rattle.wasi_tcp.specs.Reader.{read_state_asks};
+ghost use Rattle.wasi_tcp.specs.Writer.{check_write_asks, write_state_asks};
+
+use crate::closing::close_sides;
+use crate::error::SocketError;
+use crate::socket::{InProgress, Tcp2Socket};
+use crate::handles;
+use crate::kind::Kind;
+use std::alloc::{AllocError, Global};
+use std::marker::Model;
+use wasi_addr::{IpSocketAddress, ShutdownType, SocketAddressFamily, p2};
+use wasi_streams::{StreamError, Table};
+use wasi_tcp::{BindOp, TcpSocket};
+use wasi_world::{Answer, Handle, Octets, OpId, Sock, TrapKind, WasiSocketsCtx, World};
+
+/// What a call does that stands.
+#[derive(Drop)]
+pub enum StandingCall {
+    /// Binds the socket of this number.
+    Bind { socket: usize, bind: BindOp },
+    /// Drops the output of the socket of this number, and waits until its writer is ready.
+    DropOutput { socket: usize },
+}
+
+/// A call that stands pending: while it does, every other guest call is busy.
+#[derive(Drop)]
+pub struct Standing {
+    /// The line that began it.
+    pub line: u32,
+    pub call: StandingCall,
+}
+
+/// The records by number, the jobs in the order of making, and the call that stands.
+///
+/// A job is a write that goes on by itself, named by the number of its socket. Memory follows how many sockets were made.
+#[derive(Drop)]
+pub struct Store {
+    pub(crate) sockets: Vec<Tcp2Socket>,
+    pub(crate) jobs: Vec<usize>,
+    pub(crate) standing: Option<Standing>,
+}
+
+impl Model for Store {
+    ghost use Rattle.wasi_host.specs.Store.{Records};
+
+    ghost Value = { Records };
+
+    ghost view = { λ s. record { sockets = s.sockets.items; jobs = s.jobs.items; standing = s.standing } };
+}
+
+impl Store {
+    ghost use Rattle.wasi_host.specs.Machine.{create_asks, side_at};
+    ghost use Rattle.wasi_host.specs.Closing.{ClosesSides};
+    ghost use Rattle.wasi_host.specs.Sides.{KnowsSides, held_in};
+
+    pub fn new(alloc: Global) -> Store
+        ensures { result ≡ no_records }
+    {
+        Store {
+            sockets: Vec::new(alloc),
+            jobs: Vec::new(alloc),
+            standing: None,
+        }
+    }
+
+    /// Makes a TCP socket, its record and its handle. Room for the record is taken before the side is made, so that a side
+    /// that was made is always known, also where no handle can be made for it.
+    pub fn create_socket<W: World>(
+        &mut self,
+        table: &mut Table<Kind>,
+        world: &mut W,
+        own: OpId,
+        ctx: &WasiSocketsCtx,
+        family: SocketAddressFamily,
+    ) -> Result<Handle, SocketError>
+        requires { (W.seen world.old).ended ≡ false }
+        ensures asked { AsksFor (create_asks (record { table = table.old; store = self.old }) own ctx.now family) (W.seen world.old) (W.seen world.new) (λ made. (made, record { table = table.new; store = self.new })) (host_outcome result) }
+        ensures sides { KnowsSides (W.seen world.old) self.old → KnowsSides (W.seen world.new) self.new }
+        ensures open { (W.seen world.new).ended ≡ false }
+    {
+        self.sockets.reserve(1)?;
+        let socket = TcpSocket::new(world, own, ctx, family)?;
+        let place = self.sockets.len();
+        let side = socket.side();
+        self.sockets.push_reserved(Tcp2Socket::new(socket));
+        let handle = handles::make(table, world, own, Kind::Tcp2(place), None, side)?;
+        Ok(handle)
+    }
+
+    /// Begins a bind of the socket of this number. An operation in progress: `ConcurrencyConflict`. A bind that is
+    /// pending stands.
+    pub fn start_bind<W: World>(
+        &mut self,
+        world: &mut W,
+        op: OpId,
+        place: usize,
+        addr: IpSocketAddress,
+    ) -> Result<Answer<()>, SocketError>
+        requires { (W.seen world.old).ended ≡ false }
+        ensures asked { AsksFor (start_bind_at self.old op place addr (slice_get self.old.sockets place)) (W.seen world.old) (W.seen world.new) (λ answer. (answer, self.new)) (host_outcome result) }
+        ensures sides { KnowsSides (W.seen world.old) self.old → KnowsSides (W.seen world.new) self.new }
+        ensures open { (W.seen world.new).ended ≡ false }
+    {
+        let Some(record) = self.sockets.get_mut(place) else {
+            return Err(SocketError::Trap(TrapKind::NoSuchHandle));
+        };
+        if !record.in_progress.is_nothing() {
+            return Err(SocketError::Code(p2::ErrorCode::ConcurrencyConflict));
+        }
+        let begun = record.begin_bind(world, op, addr)?;
+        Ok(self.stand(op.step, place, begun))
+    }
+
+    /// Ends the bind in progress. None is: `NotInProgress`.
+    pub fn finish_bind(&mut self, place: usize) -> Result<(), SocketError>
+        ensures sides { (s : Seen) → KnowsSides s self.old → KnowsSides s self.new }
+        ensures answer { host_outcome result ≡ Ok (finish_bind_at self.old place (slice_get self.old.sockets place)).0 }
+        ensures state { self.new ≡ (finish_bind_at self.old place (slice_get self.old.sockets place)).1 }
+    {
+        let Some(record) = self.sockets.get_mut(place) else {
+            return Err(SocketError::Trap(TrapKind::NoSuchHandle));
+        };
+        if !record.in_progress.is_bind() {
+            return Err(SocketError::Code(p2::ErrorCode::NotInProgress));
+        }
+        record.in_progress = InProgress::Nothing;
+        Ok(())
+    }
+
+    /// Begins a connect of the socket of this number. An operation in progress: `ConcurrencyConflict`.
+    pub fn start_connect<W: World>(
+        &mut self,
+        world: &mut W,
+        op: OpId,
+        place: usize,
+        addr: IpSocketAddress,
+    ) -> Result<(), SocketError>
+        requires { (W.seen world.old).ended ≡ false }
+        ensures asked { AsksFor (start_connect_at self.old op place addr (slice_get self.old.sockets place)) (W.seen world.old) (W.seen world.new) (λ done. (done, self.new)) (host_outcome result) }
+        ensures sides { KnowsSides (W.seen world.old) self.old → KnowsSides (W.seen world.new) self.new }
+        ensures open { (W.seen world.new).ended ≡ false }
+    {
+        let Some(record) = self.sockets.get_mut(place) else {
+            return Err(SocketError::Trap(TrapKind::NoSuchHandle));
+        };
+        if !record.in_progress.is_nothing() {
+            return Err(SocketError::Code(p2::ErrorCode::ConcurrencyConflict));
+        }
+        record.begin_connect(world, op, addr)?;
+        Ok(())
+    }
+
+    /// Polls the connect in progress. None is: `NotInProgress`. It is pending: `WouldBlock`. Once it has ended, either
+    /// way, it is in progress no more.
+    pub fn finish_connect<W: World>(
+        &mut self,
+        world: &mut W,
+        place: usize,
+    ) -> Result<(), SocketError>
+        requires { (W.seen world.old).ended ≡ false }
+        ensures asked { AsksFor (finish_connect_at self.old place (slice_get self.old.sockets place)) (W.seen world.old) (W.seen world.new) (λ done. (done, self.new)) (host_outcome result) }
+        ensures sides { KnowsSides (W.seen world.old) self.old → KnowsSides (W.seen world.new) self.new }
+        ensures open { (W.seen world.new).ended ≡ false }
+    {
+        let Some(record) = self.sockets.get_mut(place) else {
+            return Err(SocketError::Trap(TrapKind::NoSuchHandle));
+        };
+        if !record.in_progress.is_connect() {
+            return Err(SocketError::Code(p2::ErrorCode::NotInProgress));
+        }
+        record.poll_connect(world)
+    }
+
+    /// The local address of the socket of this number.
+    pub fn local_address<W: World>(
+        &mut self,
+        world: &mut W,
+        op: OpId,
+        place: usize,
+    ) -> Result<IpSocketAddress, SocketError>
+        requires { (W.seen world.old).ended ≡ false }
+        ensures asked { AsksFor (local_address_at self.old op place (slice_get self.old.sockets place)) (W.seen world.old) (W.seen world.new) (λ told. (told, self.new)) (host_outcome result) }
+        ensures sides { KnowsSides (W.seen world.old) self.old → KnowsSides (W.seen world.new) self.new }
+        ensures open { (W.seen world.new).ended ≡ false }
+    {
+        let Some(record) = self.sockets.get_mut(place) else {
+            return Err(SocketError::Trap(TrapKind::NoSuchHandle));
+        };
+        let addr = record.local_address(world, op)?;
+        Ok(addr)
+    }
+
+    /// The remote address of the socket of this number.
+    pub fn remote_address<W: World>(
+        &mut self,
+        world: &mut W,
+        op: OpId,
+        place: usize,
+    ) -> Result<IpSocketAddress, SocketError>
+        requires { (W.seen world.old).ended ≡ false }
+        ensures asked { AsksFor (remote_address_at self.old op place (slice_get self.old.sockets place)) (W.seen world.old) (W.seen world.new) (λ told. (told, self.new)) (host_outcome result) }
+        ensures sides { KnowsSides (W.seen world.old) self.old → KnowsSides (W.seen world.new) self.new }
+        ensures open { (W.seen world.new).ended ≡ false }
+    {
+        let Some(record) = self.sockets.get_mut(place) else {
+            return Err(SocketError::Trap(TrapKind::NoSuchHandle));
+        };
+        let addr = record.remote_address(world, op)?;
+        Ok(addr)
+    }
+
+    /// Whether the socket of this number is listening.
+    pub fn is_listening(&self, place: usize) -> Result<bool, SocketError>
+        ensures { host_outcome result ≡ Ok (is_listening_at (slice_get self.now.sockets place)) }
+    {
+        match self.sockets.get(place) {
+            Some(record) => Ok(record.inner.is_listening()),
+            None => Err(SocketError::Trap(TrapKind::NoSuchHandle)),
+        }
+    }
+
+    /// The family of the socket of this number.
+    pub fn address_family(&self, place: usize) -> Result<SocketAddressFamily, SocketError>
+        ensures { host_outcome result ≡ Ok (address_family_at (slice_get self.now.sockets place)) }
+    {
+        match self.sockets.get(place) {
+            Some(record) => Ok(record.inner.address_family()),
+            None => Err(SocketError::Trap(TrapKind::NoSuchHandle)),
+        }
+    }
+
+    /// The network side that the socket of this number was made with, where there is one.
+    pub fn side(&self, place: usize) -> Option<Sock>
+        ensures { result ≡ side_at (slice_get self.now.sockets place) }
+    {
+        self.sockets.get(place)?.side
+    }
+
+    /// Reads from the connection of the socket of this number.
+    pub fn read<W: World>(
+        &mut self,
+        alloc: Global,
+        world: &mut W,
+        op: OpId,
+        place: usize,
+        len: usize,
+    ) -> Result<Octets, StreamError>
+        requires { (W.seen world.old).ended ≡ false }
+        ensures asked { AsksFor (stream_at self.old place (reader_asks (λ r. read_state_asks op r len)) (slice_get self.old.sockets place)) (W.seen world.old) (W.seen world.new) (λ answer. (answer, self.new)) (stream_outcome result) }
+        ensures sides { KnowsSides (W.seen world.old) self.old → KnowsSides (W.seen world.new) self.new }
+        ensures open { (W.seen world.new).ended ≡ false }
+    {
+        let Some(record) = self.sockets.get_mut(place) else {
+            return Err(StreamError::Trap(TrapKind::NoSuchHandle));
+        };
+        record.read(alloc, world, op, len)
+    }
+
+    /// How much may be written to the connection of the socket of this number.
+    pub fn check_write<W: World>(
+        &mut self,
+        world: &mut W,
+        op: OpId,
+        place: usize,
+    ) -> Result<usize, StreamError>
+        requires { (W.seen world.old).ended ≡ false }
+        ensures asked { AsksFor (stream_at self.old place (writer_asks (check_write_asks op)) (slice_get self.old.sockets place)) (W.seen world.old) (W.seen world.new) (λ answer. (answer, self.new)) (stream_outcome result) }
+        ensures sides { KnowsSides (W.seen world.old) self.old → KnowsSides (W.seen world.new) self.new }
+        ensures open { (W.seen world.new).ended ≡ false }
+    {
+        let Some(record) = self.sockets.get_mut(place) else {
+            return Err(StreamError::Trap(TrapKind::NoSuchHandle));
+        };
+        record.check_write(world, op)
+    }
+
+    /// Writes to the connection of the socket of this number. A write that goes on becomes a job: the room for it is taken
+    /// before the write begins.
+    pub fn write<W: World>(
+        &mut self,
+        world: &mut W,
+        op: OpId,
+        place: usize,
+        bytes: Octets,
+    ) -> Result<(), StreamError>
+        requires { (W.seen world.old).ended ≡ false }
+        ensures asked { AsksFor (write_at self.old place (writer_asks (λ w. write_state_asks op w bytes)) (slice_get self.old.sockets place)) (W.seen world.old) (W.seen world.new) (λ answer. (answer, self.new)) (stream_outcome result) }
+        ensures sides { KnowsSides (W.seen world.old) self.old → KnowsSides (W.seen world.new) self.new }
+        ensures open { (W.seen world.new).ended ≡ false }
+    {
+        let Some(record) = self.sockets.get_mut(place) else {
+            return Err(StreamError::Trap(TrapKind::NoSuchHandle));
+        };
+        self.jobs.reserve(1)?;
+        let before = record.has_job();
+        let written = record.write(world, op, bytes);
+        if !before && record.has_job() {
+            self.jobs.push_reserved(place);
+        }
+        written
+    }
+
+    /// Tells a kept error of the writer of the socket of this number.
+    pub fn flush<W: World>(&mut self, world: &mut W, place: usize) -> Result<(), StreamError>
+        requires { (W.seen world.old).ended ≡ false }
+        ensures asked { AsksFor (stream_at self.old place (writer_asks flush_asks) (slice_get self.old.sockets place)) (W.seen world.old) (W.seen world.new) (λ answer. (answer, self.new)) (stream_outcome result) }
+        ensures sides { KnowsSides (W.seen world.old) self.old → KnowsSides (W.seen world.new) self.new }
+        ensures open { (W.seen world.new).ended ≡ false }
+    {
+        let Some(record) = self.sockets.get_mut(place) else {
+            return Err(StreamError::Trap(TrapKind::NoSuchHandle));
+        };
+        record.flush(world)
+    }
+
+    /// Gives up one half of the connection of the socket of this number, or both.
+    pub fn shutdown<W: World>(
+        &mut self,
+        world: &mut W,
+        op: OpId,
+        place: usize,
+        how: ShutdownType,
+    ) -> Result<(), SocketError>
+        requires { (W.seen world.old).ended ≡ false }
+        ensures asked { AsksFor (shutdown_at self.old op how place (slice_get self.old.sockets place)) (W.seen world.old) (W.seen world.new) (λ done. (done, self.new)) (host_outcome result) }
+        ensures sides { KnowsSides (W.seen world.old) self.old → KnowsSides (W.seen world.new) self.new }
+        ensures open { (W.seen world.new).ended ≡ false }
+    {
+        let Some(record) = self.sockets.get_mut(place) else {
+            return Err(SocketError::Trap(TrapKind::NoSuchHandle));
+        };
+        record.shutdown(world, op, how)
+    }
+
+    /// Closes the network sides that the records hold, after the end mark; takes no memory.
+    pub fn close_all<W: World>(self, world: &mut W)
+        requires { (W.seen world.old).ended ≡ true }
+        ensures { ClosesSides (W.seen world.old) (W.seen world.new) (held_in self.sockets) }
+    {
+        close_sides(world, self.sockets.as_slice());
+    }
+
+    /// The number of the call that stands: while it does, every guest call is busy. Takes no memory.
+    pub fn exclusive(&self) -> Option<u32>
+        ensures { result ≡ exclusive_of self.now.standing }
+    {
+        match &self.standing {
+            Some(standing) => Some(standing.line),
+            None => None,
+        }
+    }
+
+    /// Whether a pending call has this number. Takes no memory.
+    pub fn stands(&self, line: u32) -> bool
+        ensures { result ≡ stands_as self.now.standing line }
+    {
+        match &self.standing {
+            Some(standing) => standing.line == line,
+            None => false,
+        }
+    }
+
+    /// A bind that is pending stands.
+    pub(crate) fn stand(&mut self, line: u32, place: usize, begun: Option<BindOp>) -> Answer<()>
+        ensures { (result, self.new) ≡ stood self.old line place begun }
+    {
+        match begun {
+            None => Answer::Ready(()),
+            Some(bind) => {
+                let socket = place;
+                self.standing = Some(Standing {
+                    line,
+                    call: StandingCall::Bind { socket, bind },
+                });
+                Answer::Pending
+            }
+        }
+    }
+}

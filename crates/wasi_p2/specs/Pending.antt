@@ -1,0 +1,18 @@
+-- How a pending call of the 0.2 interface goes on.
+use Rattle.std.specs.Prelude.{ℕ, Option, Some, None, Result, Ok, Err}
+use Rattle.wasi_world.specs.declared.outcome.Answer.{Answer}
+use Rattle.wasi_world.specs.Asks.{Asks, Give, bind}
+use Rattle.wasi_host.specs.declared.machine.Machine.{Machine}
+use Rattle.wasi_host.specs.declared.pending.Outcome.{Outcome}
+use Rattle.wasi_host.specs.Host.{Stop}
+use Rattle.wasi_host.specs.Machine.{with_store}
+use Rattle.wasi_host.specs.Pending.{outcome_of, resume_bind_asks}
+
+abbrev pub resumed : Result (Option (Answer (Unit {0}))) Stop × Machine → Result (Option (Answer Outcome)) Stop × Machine
+resumed (Ok (Some answer), m) = (Ok (Some (outcome_of answer)), m)
+resumed (Ok None, m) = (Ok None, m)
+resumed (Err stop, m) = (Err stop, m)
+
+-- a bind is polled again; none where no bind has that number
+abbrev pub resume_asks : Machine → ℕ → Asks (Result (Option (Answer Outcome)) Stop × Machine)
+resume_asks m line = bind (resume_bind_asks m.store line) (λ done. Give (resumed (with_store m done)))

@@ -1,0 +1,254 @@
+//! The calls of TCP sockets (`wasi:sockets/tcp` and `tcp-create-socket`). Handles are tested first: one that isn't live or is of
+//! another kind is a trap, `NoSuchHandle`.
+
+ghost use Rattle.std.specs.Prelude.{◌≡◌, IsSome, Ok, false};
+ghost use Rattle.wasi_world.specs.Asks.{AsksFor};
+ghost use Rattle.wasi_host.specs.Host.{host_outcome};
+ghost use Rattle.wasi_host.specs.Kinds.{kind_at};
+ghost use Rattle.wasi_host.specs.Machine.{own_of, socket_at, create_asks};
+ghost use Rattle.wasi_host.specs.Sides.{KnowsSides};
+ghost use Rattle.wasi_host.specs.Views.{SameView, state_of};
+ghost use Rattle.wasi_p2.specs.Tcp.{start_bind_asks, finish_bind_on, start_connect_asks, finish_connect_on, streams_asks, local_address_on, remote_address_on, is_listening_on, address_family_on, shutdown_on};
+
+use crate::SocketError;
+use wasi_addr::{IpSocketAddress, ShutdownType, SocketAddressFamily};
+use wasi_host::{Kind, WasiSocketsCtxView, handles};
+use wasi_world::{Answer, Handle, Ids, Sock, TrapKind, World};
+
+/// Makes a TCP socket of this family (`create-tcp-socket`). Where the context forbids TCP: `AccessDenied`, and nothing is asked.
+pub fn create_tcp_socket<W: World>(
+    view: &mut WasiSocketsCtxView<'_>,
+    world: &mut W,
+    ids: &mut Ids,
+    family: SocketAddressFamily,
+) -> Result<Handle, SocketError>
+    requires { (W.seen world.old).ended ≡ false }
+    ensures asked { AsksFor (create_asks (state_of view.old) (own_of ids.old.line) view.old.ctx.now family) (W.seen world.old) (W.seen world.new) (λ made. (made, state_of view.new)) (host_outcome result) }
+    ensures sides { KnowsSides (W.seen world.old) view.old.store.now → KnowsSides (W.seen world.new) view.new.store.now }
+    ensures view { SameView view.old view.new }
+    ensures ids { ids.new ≡ ids.old }
+    ensures open { (W.seen world.new).ended ≡ false }
+{
+    view.store
+        .create_socket(view.table, world, ids.own(), view.ctx, family)
+}
+
+/// Begins to bind a socket to an address (`start-bind`). The handle of the network is tested first. With any operation in progress:
+/// `ConcurrencyConflict`. The bind is in progress once it is done; pending, the call stands.
+pub fn start_bind<W: World>(
+    view: &mut WasiSocketsCtxView<'_>,
+    world: &mut W,
+    ids: &mut Ids,
+    this: Handle,
+    network: Handle,
+    addr: IpSocketAddress,
+) -> Result<Answer<()>, SocketError>
+    requires { (W.seen world.old).ended ≡ false }
+    ensures asked { AsksFor (start_bind_asks (state_of view.old) (own_of ids.old.line) this network addr) (W.seen world.old) (W.seen world.new) (λ answer. (answer, state_of view.new)) (host_outcome result) }
+    ensures sides { KnowsSides (W.seen world.old) view.old.store.now → KnowsSides (W.seen world.new) view.new.store.now }
+    ensures view { SameView view.old view.new }
+    ensures ids { ids.new ≡ ids.old }
+    ensures open { (W.seen world.new).ended ≡ false }
+{
+    if !handles::is_network(view.table, network) {
+        return Err(SocketError::Trap(TrapKind::NoSuchHandle));
+    }
+    let Some(place) = handles::socket(view.table, this) else {
+        return Err(SocketError::Trap(TrapKind::NoSuchHandle));
+    };
+    view.store.start_bind(world, ids.own(), place, addr)
+}
+
+/// Ends a bind in progress (`finish-bind`). None is: `NotInProgress`. Asks nothing.
+pub fn finish_bind<W: World>(
+    view: &mut WasiSocketsCtxView<'_>,
+    _world: &mut W,
+    _ids: &mut Ids,
+    this: Handle,
+) -> Result<(), SocketError>
+    ensures answer { host_outcome result ≡ Ok (finish_bind_on (state_of view.old) (socket_at (state_of view.old) this)).0 }
+    ensures state { state_of view.new ≡ (finish_bind_on (state_of view.old) (socket_at (state_of view.old) this)).1 }
+    ensures sides { KnowsSides (W.seen _world.old) view.old.store.now → KnowsSides (W.seen _world.new) view.new.store.now }
+    ensures quiet { _world.new ≡ _world.old }
+    ensures view { SameView view.old view.new }
+    ensures ids { _ids.new ≡ _ids.old }
+{
+    let Some(place) = handles::socket(view.table, this) else {
+        return Err(SocketError::Trap(TrapKind::NoSuchHandle));
+    };
+    view.store.finish_bind(place)
+}
+
+/// Begins to connect a socket to an address (`start-connect`), which is in progress then. With any operation in progress:
+/// `ConcurrencyConflict`.
+pub fn start_connect<W: World>(
+    view: &mut WasiSocketsCtxView<'_>,
+    world: &mut W,
+    ids: &mut Ids,
+    this: Handle,
+    network: Handle,
+    addr: IpSocketAddress,
+) -> Result<(), SocketError>
+    requires { (W.seen world.old).ended ≡ false }
+    ensures asked { AsksFor (start_connect_asks (state_of view.old) (own_of ids.old.line) this network addr) (W.seen world.old) (W.seen world.new) (λ done. (done, state_of view.new)) (host_outcome result) }
+    ensures sides { KnowsSides (W.seen world.old) view.old.store.now → KnowsSides (W.seen world.new) view.new.store.now }
+    ensures view { SameView view.old view.new }
+    ensures ids { ids.new ≡ ids.old }
+    ensures open { (W.seen world.new).ended ≡ false }
+{
+    if !handles::is_network(view.table, network) {
+        return Err(SocketError::Trap(TrapKind::NoSuchHandle));
+    }
+    let Some(place) = handles::socket(view.table, this) else {
+        return Err(SocketError::Trap(TrapKind::NoSuchHandle));
+    };
+    view.store.start_connect(world, ids.own(), place, addr)
+}
+
+/// Polls the connect in progress, and makes the input and the output of the connection once it is done (`finish-connect`). Pending:
+/// `WouldBlock`.
+pub fn finish_connect<W: World>(
+    view: &mut WasiSocketsCtxView<'_>,
+    world: &mut W,
+    ids: &mut Ids,
+    this: Handle,
+) -> Result<(Handle, Handle), SocketError>
+    requires { (W.seen world.old).ended ≡ false }
+    ensures asked { AsksFor (finish_connect_on (state_of view.old) (own_of ids.old.line) this (socket_at (state_of view.old) this)) (W.seen world.old) (W.seen world.new) (λ made. (made, state_of view.new)) (host_outcome result) }
+    ensures sides { KnowsSides (W.seen world.old) view.old.store.now → KnowsSides (W.seen world.new) view.new.store.now }
+    ensures view { SameView view.old view.new }
+    ensures ids { ids.new ≡ ids.old }
+    ensures open { (W.seen world.new).ended ≡ false }
+{
+    let Some(place) = handles::socket(view.table, this) else {
+        return Err(SocketError::Trap(TrapKind::NoSuchHandle));
+    };
+    view.store.finish_connect(world, place)?;
+    let side = view.store.side(place);
+    make_streams(view, world, ids, this, place, side)
+}
+
+/// Makes the input and the output of a connection, under its socket's handle.
+fn make_streams<W: World>(
+    view: &mut WasiSocketsCtxView<'_>,
+    world: &mut W,
+    ids: &mut Ids,
+    this: Handle,
+    place: usize,
+    side: Option<Sock>,
+) -> Result<(Handle, Handle), SocketError>
+    requires open { (W.seen world.old).ended ≡ false }
+    requires parent { IsSome (kind_at view.old.table.now this) }
+    ensures asked { AsksFor (streams_asks (state_of view.old) (own_of ids.old.line) this place side) (W.seen world.old) (W.seen world.new) (λ made. (made, state_of view.new)) (host_outcome result) }
+    ensures sides { KnowsSides (W.seen world.old) view.old.store.now → KnowsSides (W.seen world.new) view.new.store.now }
+    ensures view { SameView view.old view.new }
+    ensures ids { ids.new ≡ ids.old }
+    ensures open { (W.seen world.new).ended ≡ false }
+{
+    let own = ids.own();
+    let input = handles::make(view.table, world, own, Kind::Input(place), Some(this), side)?;
+    let output = handles::make(view.table, world, own, Kind::Output(place), Some(this), side)?;
+    Ok((input, output))
+}
+
+/// The address that a socket is bound to (`local-address`).
+pub fn local_address<W: World>(
+    view: &mut WasiSocketsCtxView<'_>,
+    world: &mut W,
+    ids: &mut Ids,
+    this: Handle,
+) -> Result<IpSocketAddress, SocketError>
+    requires { (W.seen world.old).ended ≡ false }
+    ensures asked { AsksFor (local_address_on (state_of view.old) (own_of ids.old.line) (socket_at (state_of view.old) this)) (W.seen world.old) (W.seen world.new) (λ told. (told, state_of view.new)) (host_outcome result) }
+    ensures sides { KnowsSides (W.seen world.old) view.old.store.now → KnowsSides (W.seen world.new) view.new.store.now }
+    ensures view { SameView view.old view.new }
+    ensures ids { ids.new ≡ ids.old }
+    ensures open { (W.seen world.new).ended ≡ false }
+{
+    let Some(place) = handles::socket(view.table, this) else {
+        return Err(SocketError::Trap(TrapKind::NoSuchHandle));
+    };
+    view.store.local_address(world, ids.own(), place)
+}
+
+/// The address of the other end of a connection (`remote-address`).
+pub fn remote_address<W: World>(
+    view: &mut WasiSocketsCtxView<'_>,
+    world: &mut W,
+    ids: &mut Ids,
+    this: Handle,
+) -> Result<IpSocketAddress, SocketError>
+    requires { (W.seen world.old).ended ≡ false }
+    ensures asked { AsksFor (remote_address_on (state_of view.old) (own_of ids.old.line) (socket_at (state_of view.old) this)) (W.seen world.old) (W.seen world.new) (λ told. (told, state_of view.new)) (host_outcome result) }
+    ensures sides { KnowsSides (W.seen world.old) view.old.store.now → KnowsSides (W.seen world.new) view.new.store.now }
+    ensures view { SameView view.old view.new }
+    ensures ids { ids.new ≡ ids.old }
+    ensures open { (W.seen world.new).ended ≡ false }
+{
+    let Some(place) = handles::socket(view.table, this) else {
+        return Err(SocketError::Trap(TrapKind::NoSuchHandle));
+    };
+    view.store.remote_address(world, ids.own(), place)
+}
+
+/// Whether a socket is listening (`is-listening`). Asks nothing.
+pub fn is_listening<W: World>(
+    view: &mut WasiSocketsCtxView<'_>,
+    _world: &mut W,
+    _ids: &mut Ids,
+    this: Handle,
+) -> Result<bool, SocketError>
+    ensures answer { host_outcome result ≡ Ok (is_listening_on (state_of view.old) (socket_at (state_of view.old) this)) }
+    ensures state { state_of view.new ≡ state_of view.old }
+    ensures sides { KnowsSides (W.seen _world.old) view.old.store.now → KnowsSides (W.seen _world.new) view.new.store.now }
+    ensures quiet { _world.new ≡ _world.old }
+    ensures view { SameView view.old view.new }
+    ensures ids { _ids.new ≡ _ids.old }
+{
+    let Some(place) = handles::socket(view.table, this) else {
+        return Err(SocketError::Trap(TrapKind::NoSuchHandle));
+    };
+    view.store.is_listening(place)
+}
+
+/// The family of a socket (`address-family`). Asks nothing.
+pub fn address_family<W: World>(
+    view: &mut WasiSocketsCtxView<'_>,
+    _world: &mut W,
+    _ids: &mut Ids,
+    this: Handle,
+) -> Result<SocketAddressFamily, SocketError>
+    ensures answer { host_outcome result ≡ Ok (address_family_on (state_of view.old) (socket_at (state_of view.old) this)) }
+    ensures state { state_of view.new ≡ state_of view.old }
+    ensures sides { KnowsSides (W.seen _world.old) view.old.store.now → KnowsSides (W.seen _world.new) view.new.store.now }
+    ensures quiet { _world.new ≡ _world.old }
+    ensures view { SameView view.old view.new }
+    ensures ids { _ids.new ≡ _ids.old }
+{
+    let Some(place) = handles::socket(view.table, this) else {
+        return Err(SocketError::Trap(TrapKind::NoSuchHandle));
+    };
+    view.store.address_family(place)
+}
+
+/// Gives up the receiving half of a connection, the sending half, or both in that order (`shutdown`). Before the streams were
+/// made: `InvalidState`. The sending half goes once a write that goes on has ended.
+pub fn shutdown<W: World>(
+    view: &mut WasiSocketsCtxView<'_>,
+    world: &mut W,
+    ids: &mut Ids,
+    this: Handle,
+    how: ShutdownType,
+) -> Result<(), SocketError>
+    requires { (W.seen world.old).ended ≡ false }
+    ensures asked { AsksFor (shutdown_on (state_of view.old) (own_of ids.old.line) how (socket_at (state_of view.old) this)) (W.seen world.old) (W.seen world.new) (λ done. (done, state_of view.new)) (host_outcome result) }
+    ensures sides { KnowsSides (W.seen world.old) view.old.store.now → KnowsSides (W.seen world.new) view.new.store.now }
+    ensures view { SameView view.old view.new }
+    ensures ids { ids.new ≡ ids.old }
+    ensures open { (W.seen world.new).ended ≡ false }
+{
+    let Some(place) = handles::socket(view.table, this) else {
+        return Err(SocketError::Trap(TrapKind::NoSuchHandle));
+    };
+    view.store.shutdown(world, ids.own(), place, how)
+}

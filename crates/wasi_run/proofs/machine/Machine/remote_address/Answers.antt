@@ -1,6 +1,0 @@
-use Rattle.wasi_world.proofs.Walks.{asks_gives}
-use Rattle.wasi_run.specs.Machine.{with_store}
-use Rattle.wasi_run.proofs.machine.Machine.remote_address.Goals as goal
-
-pub returns-clause-asked : goal.returns-clause-asked
-returns-clause-asked g c = rw (← c.socket.ensures, c.in-Some.is) (asks_gives (with_store c.args.self.now) c.remote_address.ensures.asked)
