@@ -21,6 +21,7 @@ pub mod Licences
 pub mod Meanings
 pub mod Rows
 pub mod Refused
+pub mod StepWords
 pub mod StepLaws
 pub mod ReplyTexts
 pub mod ReplyBack

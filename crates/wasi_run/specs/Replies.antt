@@ -90,7 +90,7 @@ pub data FieldKinds : Type 0 where
   Each : List FieldKind → FieldKinds
   AnAddress : FieldKinds
 
--- the fields of a step's reply when it succeeds
+-- the fields of a step's reply when it succeeds; a poll has the reply of the call that it polls, and no call that can stand has a field in it
 abbrev pub kinds_of : Step → FieldKinds
 kinds_of (step.Network c) = Each (ANumber ∷ [])
 kinds_of (step.TcpCreate c family) = Each (ANumber ∷ [])
@@ -102,10 +102,16 @@ kinds_of (step.TcpLocalAddress c socket) = AnAddress
 kinds_of (step.TcpRemoteAddress c socket) = AnAddress
 kinds_of (step.TcpIsListening c socket) = Each (Truth ∷ [])
 kinds_of (step.TcpAddressFamily c socket) = Each (ANumber ∷ [])
+kinds_of (step.TcpShutdown c socket how) = Each []
 kinds_of (step.Read c input len) = Each (SomeBytes ∷ [])
 kinds_of (step.CheckWrite c output) = Each (ANumber ∷ [])
 kinds_of (step.Write c output bytes) = Each []
 kinds_of (step.Flush c output) = Each []
+kinds_of (step.Subscribe c handle) = Each (ANumber ∷ [])
+kinds_of (step.Ready c pollable) = Each (Truth ∷ [])
+kinds_of (step.Drop c handle) = Each []
+kinds_of step.Turn = Each []
+kinds_of (step.Poll call) = Each []
 
 abbrev pub IsOfKind : FieldKind → Field → Type 0
 IsOfKind ANumber (field.Number n) = n < 2 ^ 64

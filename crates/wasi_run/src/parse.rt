@@ -1,28 +1,61 @@
 //! Reads a line of a script.
 
-ghost use Rattle.std.specs.Prelude.{◌≡◌, ◌↔◌, ℕ, List, Some, IfOk};
-ghost use Rattle.wasi_world.specs.Fields.{Reads, after_word};
+ghost use Rattle.std.specs.Prelude.{◌≡◌, ◌↔◌, ◌++◌, ℕ, List, Some, IfOk};
+ghost use Rattle.wasi_world.specs.Fields.{Reads, after_word, number_in};
 ghost use Rattle.wasi_world.specs.Written.{IsVisible};
 ghost use Rattle.wasi_run.specs.declared.step.Step.{Step};
-ghost use Rattle.wasi_run.specs.Steps.{line_of, IsStep, steps, plain_steps, write_row, context_at, step_at, step_of};
+ghost use Rattle.wasi_run.specs.Steps.{line_of, IsStep, steps, plain_steps, socket_steps, question_steps, bare_steps, write_row, shutdown_at, guest_call_at, step_at, step_of};
 
 use crate::step::Step;
 use std::alloc::{AllocError, Global};
+use wasi_addr::ShutdownType;
 use wasi_world::Fields;
+use wasi_world::fields::number;
 
-/// Takes the number of one of so many contexts.
-#[tactic(auto, unfolding(crate::specs::Steps::context_at, wasi_world::specs::Fields::read_then, wasi_world::specs::Fields::give_some))]
-fn context(fields: &mut Fields<'_>, contexts: u32) -> Option<u32>
-    ensures { Reads (context_at contexts) fields.old result fields.new }
+/// Takes the word of what is shut down.
+#[tactic(auto, unfolding(crate::specs::Steps::shutdown_at, wasi_world::specs::Fields::read_then, wasi_world::specs::Fields::give))]
+fn shutdown_type(fields: &mut Fields<'_>) -> Option<ShutdownType>
+    ensures { Reads shutdown_at fields.old result fields.new }
 {
-    let context = fields.u32()?;
-    (context < contexts).then_some(context)
+    match fields.word()? {
+        "receive" => Some(ShutdownType::Receive),
+        "send" => Some(ShutdownType::Send),
+        "both" => Some(ShutdownType::Both),
+        _ => None,
+    }
 }
 
-/// Takes the arguments of a step word that are numbers.
+/// Takes the arguments of a step word that asks a socket what it is.
 #[tactic(auto, unfolding(wasi_world::specs::Fields::read_then, wasi_world::specs::Fields::give, wasi_world::specs::Fields::give_some))]
-fn plain_arguments(fields: &mut Fields<'_>, context: u32, word: &str) -> Option<Step>
-    ensures { Reads (after_word (plain_steps context) word.now) fields.old result fields.new }
+fn question_arguments(fields: &mut Fields<'_>, context: u32, word: &str) -> Option<Step>
+    ensures { Reads (after_word (question_steps context) word.now) fields.old result fields.new }
+{
+    match word {
+        "tcp-local-address" => Some(Step::TcpLocalAddress {
+            context,
+            socket: fields.u32()?,
+        }),
+        "tcp-remote-address" => Some(Step::TcpRemoteAddress {
+            context,
+            socket: fields.u32()?,
+        }),
+        "tcp-is-listening" => Some(Step::TcpIsListening {
+            context,
+            socket: fields.u32()?,
+        }),
+        "tcp-address-family" => Some(Step::TcpAddressFamily {
+            context,
+            socket: fields.u32()?,
+        }),
+        _ => None,
+    }
+}
+
+/// Takes the arguments of a step word that makes a socket, binds it, connects it or shuts it down, or asks it what it
+/// is.
+#[tactic(auto, unfolding(wasi_world::specs::Fields::read_then, wasi_world::specs::Fields::give, wasi_world::specs::Fields::give_some))]
+fn socket_arguments(fields: &mut Fields<'_>, context: u32, word: &str) -> Option<Step>
+    ensures { Reads (after_word (socket_steps context ++ question_steps context) word.now) fields.old result fields.new }
 {
     match word {
         "network" => Some(Step::Network { context }),
@@ -50,22 +83,21 @@ fn plain_arguments(fields: &mut Fields<'_>, context: u32, word: &str) -> Option<
             context,
             socket: fields.u32()?,
         }),
-        "tcp-local-address" => Some(Step::TcpLocalAddress {
+        "tcp-shutdown" => Some(Step::TcpShutdown {
             context,
             socket: fields.u32()?,
+            how: shutdown_type(fields)?,
         }),
-        "tcp-remote-address" => Some(Step::TcpRemoteAddress {
-            context,
-            socket: fields.u32()?,
-        }),
-        "tcp-is-listening" => Some(Step::TcpIsListening {
-            context,
-            socket: fields.u32()?,
-        }),
-        "tcp-address-family" => Some(Step::TcpAddressFamily {
-            context,
-            socket: fields.u32()?,
-        }),
+        _ => question_arguments(fields, context, word),
+    }
+}
+
+/// Takes the arguments of a step word, where they take no memory.
+#[tactic(auto, unfolding(wasi_world::specs::Fields::read_then, wasi_world::specs::Fields::give, wasi_world::specs::Fields::give_some))]
+fn plain_arguments(fields: &mut Fields<'_>, context: u32, word: &str) -> Option<Step>
+    ensures { Reads (after_word (plain_steps context) word.now) fields.old result fields.new }
+{
+    match word {
         "read" => Some(Step::Read {
             context,
             input: fields.u32()?,
@@ -79,7 +111,19 @@ fn plain_arguments(fields: &mut Fields<'_>, context: u32, word: &str) -> Option<
             context,
             output: fields.u32()?,
         }),
-        _ => None,
+        "subscribe" => Some(Step::Subscribe {
+            context,
+            handle: fields.u32()?,
+        }),
+        "ready" => Some(Step::Ready {
+            context,
+            pollable: fields.u32()?,
+        }),
+        "drop" => Some(Step::Drop {
+            context,
+            handle: fields.u32()?,
+        }),
+        _ => socket_arguments(fields, context, word),
     }
 }
 
@@ -120,18 +164,58 @@ fn arguments(
     }
 }
 
-/// Takes a step of one of so many contexts.
-#[tactic(auto, unfolding(crate::specs::Steps::step_at, wasi_world::specs::Fields::read_then))]
-fn step(alloc: Global, fields: &mut Fields<'_>, contexts: u32) -> Result<Option<Step>, AllocError>
-    ensures { IfOk result (λ step. Reads (step_at contexts) fields.old step fields.new) }
+/// Takes the guest call of this context, if it is one of so many.
+#[tactic(auto, unfolding(crate::specs::Steps::guest_call_at, wasi_world::specs::Fields::read_then, wasi_world::specs::Fields::give_some))]
+fn guest_call(
+    alloc: Global,
+    fields: &mut Fields<'_>,
+    context: u32,
+    contexts: u32,
+) -> Result<Option<Step>, AllocError>
+    ensures { IfOk result (λ step. Reads (guest_call_at contexts context) fields.old step fields.new) }
 {
-    let Some(context) = context(fields, contexts) else {
+    if context >= contexts {
         return Ok(None);
-    };
+    }
     let Some(word) = fields.word() else {
         return Ok(None);
     };
     arguments(alloc, fields, context, word)
+}
+
+/// Takes the arguments of a step word that no context's number stands before.
+#[tactic(auto, unfolding(wasi_world::specs::Fields::read_then, wasi_world::specs::Fields::give))]
+fn bare_arguments(fields: &mut Fields<'_>, word: &str) -> Option<Step>
+    ensures { Reads (after_word bare_steps word.now) fields.old result fields.new }
+{
+    match word {
+        "turn" => Some(Step::Turn),
+        "poll" => Some(Step::Poll {
+            call: fields.u32()?,
+        }),
+        _ => None,
+    }
+}
+
+/// The number of a context that the word is.
+fn context_number(word: &str) -> Option<u32>
+    ensures { result ≡ number_in word.now 4294967295 }
+{
+    Some(number(word.as_bytes(), 4294967295)? as u32)
+}
+
+/// Takes a step: a guest call of one of so many contexts, or a step that no context makes.
+#[tactic(auto, unfolding(crate::specs::Steps::step_at, wasi_world::specs::Fields::read_then))]
+fn step(alloc: Global, fields: &mut Fields<'_>, contexts: u32) -> Result<Option<Step>, AllocError>
+    ensures { IfOk result (λ step. Reads (step_at contexts) fields.old step fields.new) }
+{
+    let Some(first) = fields.word() else {
+        return Ok(None);
+    };
+    match context_number(first) {
+        Some(context) => guest_call(alloc, fields, context, contexts),
+        None => Ok(bare_arguments(fields, first)),
+    }
 }
 
 /// The step that a line is, without its newline, where there are so many contexts; none where it is no step of theirs. The
@@ -145,8 +229,8 @@ pub fn parse_step(alloc: Global, line: &[u8], contexts: u32) -> Result<Option<St
     Ok(if fields.is_done() { step } else { None })
 }
 
-/// A line is a step exactly where it is that step's line, and its context is one of so many. Nothing but visible ASCII
-/// characters and spaces stands in it.
+/// A line is a step exactly where it is that step's line, and its context, where it has one, is one of so many. Nothing
+/// but visible ASCII characters and spaces stands in it.
 pub fn steps_are_their_lines()
     ensures exactly { (contexts : ℕ) (line : List ℕ) (s : Step) → (step_of contexts line ≡ Some s) ↔ ((line ≡ line_of s) × IsStep contexts s) }
     ensures visible { (contexts : ℕ) (line : List ℕ) (s : Step) → step_of contexts line ≡ Some s → IsVisible line }

@@ -1,9 +1,9 @@
 //! The steps of a script.
 
-use wasi_addr::{IpSocketAddress, SocketAddressFamily};
+use wasi_addr::{IpSocketAddress, ShutdownType, SocketAddressFamily};
 use wasi_world::{Handle, Octets};
 
-/// One guest call of a script, with the number of the context that makes it.
+/// One step of a script: a guest call with the number of the context that makes it, or a step that no context makes.
 #[derive(Drop)]
 pub enum Step {
     /// Makes a handle of the network (`instance-network`).
@@ -59,6 +59,12 @@ pub enum Step {
         context: u32,
         socket: Handle,
     },
+    /// Shuts down this half of the connection, or both (`shutdown`).
+    TcpShutdown {
+        context: u32,
+        socket: Handle,
+        how: ShutdownType,
+    },
     /// Reads at most so many bytes (`input-stream.read`).
     Read {
         context: u32,
@@ -80,5 +86,27 @@ pub enum Step {
     Flush {
         context: u32,
         output: Handle,
+    },
+    /// Makes a pollable of what the handle is of (`subscribe` of the socket, of the input-stream, of the
+    /// output-stream).
+    Subscribe {
+        context: u32,
+        handle: Handle,
+    },
+    /// Whether what the pollable waits for is there (`pollable.ready`).
+    Ready {
+        context: u32,
+        pollable: Handle,
+    },
+    /// Drops the handle (`resource drop`).
+    Drop {
+        context: u32,
+        handle: Handle,
+    },
+    /// The host's background work goes on: each write that goes on by itself is polled once.
+    Turn,
+    /// Polls the call that stands under this number, which is that of the line that began it.
+    Poll {
+        call: u32,
     },
 }

@@ -1,7 +1,9 @@
 //! Lines that are steps, and lines that are none.
 
 use std::test::Fail;
-use wasi_addr::{IpSocketAddress, Ipv4SocketAddress, Ipv6SocketAddress, SocketAddressFamily};
+use wasi_addr::{
+    IpSocketAddress, Ipv4SocketAddress, Ipv6SocketAddress, ShutdownType, SocketAddressFamily,
+};
 use wasi_run::Step;
 use wasi_run::parse::parse_step;
 
@@ -104,6 +106,53 @@ fn each_step_has_its_line(rt: HostRuntime) -> Result<(), Fail> {
 }
 
 #[test]
+fn a_shutdown_says_what_is_shut_down(rt: HostRuntime) -> Result<(), Fail> {
+    assert!(rt;
+        matches!(
+            parse_step(rt.alloc(), b"0 tcp-shutdown 2 receive", 1)?,
+            Some(Step::TcpShutdown {
+                context: 0,
+                socket: 2,
+                how: ShutdownType::Receive
+            })
+        )
+    );
+    assert!(rt;
+        matches!(
+            parse_step(rt.alloc(), b"0 tcp-shutdown 2 send", 1)?,
+            Some(Step::TcpShutdown {
+                context: 0,
+                socket: 2,
+                how: ShutdownType::Send
+            })
+        )
+    );
+    assert!(rt;
+        matches!(
+            parse_step(rt.alloc(), b"0 tcp-shutdown 2 both", 1)?,
+            Some(Step::TcpShutdown {
+                context: 0,
+                socket: 2,
+                how: ShutdownType::Both
+            })
+        )
+    );
+    Ok(())
+}
+
+#[test]
+fn some_steps_have_no_context(rt: HostRuntime) -> Result<(), Fail> {
+    assert!(rt; matches!(parse_step(rt.alloc(), b"turn", 0)?, Some(Step::Turn)));
+    assert!(rt;
+        matches!(
+            parse_step(rt.alloc(), b"poll 4294967295", 0)?,
+            Some(Step::Poll { call: 4294967295 })
+        )
+    );
+    Ok(())
+}
+
+#[test]
 fn each_word_has_its_step(rt: HostRuntime) -> Result<(), Fail> {
     let lines = [
         "0 tcp-finish-connect 2",
@@ -114,6 +163,9 @@ fn each_word_has_its_step(rt: HostRuntime) -> Result<(), Fail> {
         "0 check-write 4",
         "0 write 4 -",
         "0 flush 4",
+        "0 subscribe 2",
+        "0 ready 5",
+        "0 drop 5",
     ];
     for line in lines {
         assert!(rt;
@@ -163,6 +215,20 @@ fn other_lines_are_no_steps(rt: HostRuntime) -> Result<(), Fail> {
         "0 write 4 0g",
         "0 write 4 - -",
         "0 flush 4 4",
+        "0 subscribe",
+        "0 ready -",
+        "0 drop 4294967296",
+        "0 tcp-shutdown 2",
+        "0 tcp-shutdown 2 Both",
+        "0 tcp-shutdown 2 receive send",
+        "subscribe 2",
+        "turn 0",
+        "0 turn",
+        "poll",
+        "poll 03",
+        "poll 4294967296",
+        "poll 3 3",
+        "0 poll 3",
     ];
     for line in lines {
         assert!(rt;
