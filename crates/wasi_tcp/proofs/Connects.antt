@@ -14,7 +14,6 @@ use Rattle.wasi_addr.specs.declared.address.IpSocketAddress.{IpSocketAddress}
 use Rattle.wasi_tcp.specs.declared.bind.Asker.{Asker}
 use Rattle.wasi_tcp.specs.declared.connect.ConnectStage.{ConnectStage}
 use Rattle.wasi_tcp.specs.declared.connect.ConnectStage.TheVariants as stage
-use Rattle.wasi_tcp.specs.declared.socket.TcpState.{TcpState}
 use Rattle.wasi_tcp.specs.declared.socket.TcpState.TheVariants as state
 use Rattle.wasi_tcp.specs.Connect.{connect_operation, IsConnect, Unbound, Unchecked, Checked, ToClose, Ended}
 use Rattle.wasi_tcp.specs.Connecting.{connect_ended, finish_in, settled, HoldsConnect}

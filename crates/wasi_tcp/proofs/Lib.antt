@@ -6,3 +6,4 @@ pub mod Jobs
 pub mod Writers
 pub mod TakenBytes
 pub mod ReadBytes
+pub mod Bounds

@@ -3,11 +3,13 @@ pub mod Bind
 pub mod Socket
 pub mod Connect
 pub mod Connecting
+pub mod Closing
 pub mod Addresses
 pub mod Halves
 pub mod Reader
 pub mod Job
 pub mod Writer
 pub mod Taken
+pub mod Bounds
 pub mod Waiting
 pub mod Calls

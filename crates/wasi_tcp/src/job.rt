@@ -4,6 +4,7 @@ ghost use Rattle.std.specs.Prelude.{◌≡◌, ◌≤◌, ◌<◌, ◌^◌, ℕ,
 ghost use Rattle.wasi_world.specs.Asks.{AsksFor, Reaches};
 ghost use Rattle.wasi_world.specs.Operation.{PollsFor, Nothing, Waits, write_front};
 ghost use Rattle.wasi_tcp.specs.Job.{writer, write_operation, new_job, rest_front, write_end, end_after, job_asks, told_end, closing_job, finish_asks};
+ghost use Rattle.wasi_tcp.specs.Bounds.{IsWrite};
 
 use crate::halves::answered;
 use std::alloc::AllocError;
@@ -73,7 +74,8 @@ impl WriteJob {
 
     /// How it ended, none where it goes on.
     pub fn end(&self) -> Option<Result<(), ErrorCode>>
-        ensures { result ≡ told_end self.now.end }
+        ensures told { result ≡ told_end self.now.end }
+        ensures write { IsWrite self.now }
     {
         match self.stage {
             WriteStage::Write | WriteStage::Close | WriteStage::Refused(_) => None,
@@ -116,6 +118,7 @@ impl WriteJob {
         ensures asked { AsksFor (job_asks self.old) (W.seen world.old) (W.seen world.new) (λ done. self.new) result }
         ensures err { OnErr result (Reaches (job_asks self.old) (job_asks self.new) (W.seen world.old) (W.seen world.new)) }
         ensures who { self.new.write.who ≡ self.old.write.who }
+        ensures write { IsWrite self.old }
         ensures open { (W.seen world.new).ended ≡ false }
     {
         match self.end() {

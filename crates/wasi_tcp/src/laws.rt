@@ -15,8 +15,10 @@ ghost use Rattle.wasi_tcp.specs.Shape.{Socket};
 ghost use Rattle.wasi_tcp.specs.Addresses.{remote_asks};
 ghost use Rattle.wasi_tcp.specs.Calls.{SocketCall, after_calls, KnowsPeer};
 ghost use Rattle.wasi_tcp.specs.Reader.{read_state_asks};
-ghost use Rattle.wasi_tcp.specs.Writer.{stop_of, look_asks, check_write_asks, write_state_asks, flush_of};
+ghost use Rattle.wasi_tcp.specs.Job.{Job, job_asks};
+ghost use Rattle.wasi_tcp.specs.Writer.{stop_of, look_asks, check_write_asks, write_state_asks, turn_asks, flush_of};
 ghost use Rattle.wasi_tcp.specs.Taken.{taken_in, IsFrontOf, IsTakenBy};
+ghost use Rattle.wasi_tcp.specs.Bounds.{IsWrite, HoldsWrite, most_polled, most_turned};
 ghost use Rattle.wasi_tcp.specs.declared.writer.WriteState.TheVariants as WriteState;
 
 /// A remote address, once it is told, stays while the socket is connected: whatever calls are made on the socket, and
@@ -50,6 +52,18 @@ pub fn writes_are_taken_in_order()
         Left (check_write_asks op s) entries rest → taken_in side entries ≡ [] }
     ensures read { (op side : OpId) (s : ReadState) (size : ℕ) (entries : List Entry) (rest : Asks (Result (List ℕ) StreamStop × ReadState)) →
         Left (read_state_asks op s size) entries rest → taken_in side entries ≡ [] }
+{}
+
+/// One poll of a write makes at most one call for each byte that is left, and one more, which shuts the half down; where
+/// no byte is left, that one at most; of a write that ended, none. That holds whatever the network answers, and wherever
+/// the poll stands. A turn of a writing end is a poll of its write, and makes no call where no write goes on.
+///
+/// It runs no code: its contract is a law about the definitions that contracts cite.
+pub fn write_jobs_are_bounded()
+    ensures poll { (job : Job) (entries : List Entry) (rest : Asks Job) →
+        IsWrite job → Left (job_asks job) entries rest → length entries ≤ most_polled job }
+    ensures turn { (s : WriteState) (entries : List Entry) (rest : Asks (Unit {0} × WriteState)) →
+        HoldsWrite s → Left (turn_asks s) entries rest → length entries ≤ most_turned s }
 {}
 
 /// A read gives no more bytes than it was asked for, and at most 65536.

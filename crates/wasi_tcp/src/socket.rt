@@ -1,6 +1,6 @@
 //! A TCP socket and its states.
 
-ghost use Rattle.std.specs.Prelude.{◌≡◌, true, false, OnErr, IfOk, Ok, Some};
+ghost use Rattle.std.specs.Prelude.{◌≡◌, true, false, OnErr, OnOk, IfOk, Ok, Some, None};
 ghost use Rattle.wasi_world.specs.Asks.{AsksFor, Reaches, outcome};
 ghost use Rattle.wasi_world.specs.Typed.{ask_local};
 ghost use Rattle.wasi_tcp.specs.Bind.{IsOf};
@@ -183,6 +183,7 @@ impl Model for TcpSocket {
 impl TcpSocket {
     ghost use Rattle.wasi_tcp.specs.Socket.{side_of, new_asks, bound_asks, bind_asks, after_local, bind_start};
     ghost use Rattle.wasi_tcp.specs.Connecting.{start_connect_asks, connect_start, finish_connect_asks, in_socket, HoldsConnect};
+    ghost use Rattle.wasi_tcp.specs.Closing.{close_asks};
     ghost use Rattle.wasi_tcp.specs.Halves.{take_receive, take_send};
     ghost use Rattle.wasi_tcp.specs.Addresses.{state_text, local_side, local_asks, local_where, remote_asks};
 
@@ -484,6 +485,25 @@ impl TcpSocket {
             TcpState::Closed(code) => Err(*code),
             TcpState::Default(_) | TcpState::Connecting(_) => Err(ErrorCode::InvalidState),
         }
+    }
+
+    /// Closes the network side, where there is one, as the drop of a `tcp-socket` does; the socket is Closed then, and
+    /// its code is `Other`. One that has no side asks nothing and stays as it is. After want of memory nothing was asked,
+    /// and the socket is as it was.
+    pub fn close<W: World>(&mut self, world: &mut W, op: OpId) -> Result<(), AllocError>
+        requires { (W.seen world.old).ended ≡ false }
+        ensures asked { AsksFor (close_asks op self.old) (W.seen world.old) (W.seen world.new) (λ done. (done, self.new)) result }
+        ensures err { OnErr result (self.new ≡ self.old) }
+        ensures unasked { OnErr result (W.seen world.new ≡ W.seen world.old) }
+        ensures gone { OnOk result (side_of self.new ≡ None) }
+        ensures open { (W.seen world.new).ended ≡ false }
+    {
+        let Some(side) = self.side() else {
+            return Ok(());
+        };
+        asks::close(world, op, side)?;
+        self.state = TcpState::Closed(ErrorCode::Other);
+        Ok(())
     }
 
     /// Whether it listens: not in the states that exist.

@@ -160,3 +160,18 @@ fn a_bind_gives_the_local_address(rt: HostRuntime) -> Result<(), Fail> {
     assert!(rt; !socket.is_listening());
     Ok(())
 }
+
+#[test]
+fn a_socket_is_closed_once(rt: HostRuntime) -> Result<(), Fail> {
+    let mut world = world(rt.alloc(), true, None)?;
+    let made = TcpSocket::new(&mut world, line(1), &CONTEXT, SocketAddressFamily::Ipv4);
+    let mut socket = told(made)??;
+    socket.close(&mut world, line(2))?;
+    assert_eq!(rt; socket.state_name(), "Closed");
+    assert_eq!(rt; socket.side(), None);
+    let local = socket.local_address(&mut world, line(3));
+    assert_eq!(rt; told(local)?, Err(ErrorCode::Other));
+    socket.close(&mut world, line(4))?;
+    assert_eq!(rt; world.entries().len(), 2);
+    Ok(())
+}

@@ -4,6 +4,7 @@ ghost use Rattle.std.specs.Prelude.{◌≡◌, true, false, Ok, Err, OnErr};
 ghost use Rattle.wasi_world.specs.Asks.{AsksFor, Reaches};
 ghost use Rattle.wasi_streams.specs.StreamStop.{stream_outcome};
 ghost use Rattle.wasi_tcp.specs.Writer.{error_of_code, stop_of, collected, look_in, look_asks, with_permit, check_write_asks, turn_asks, write_on_asks, write_state_asks, flush_of, writer_side, is_ready, now_closing, writer_shutdown_asks, writer_give_up_asks};
+ghost use Rattle.wasi_tcp.specs.Bounds.{HoldsWrite};
 
 use crate::halves::TcpSendStream;
 use crate::job::WriteJob;
@@ -237,6 +238,7 @@ impl WriteState {
         requires { (W.seen world.old).ended ≡ false }
         ensures asked { AsksFor (turn_asks self.old) (W.seen world.old) (W.seen world.new) (λ done. (done, self.new)) result }
         ensures err { OnErr result (Reaches (turn_asks self.old) (turn_asks self.new) (W.seen world.old) (W.seen world.new)) }
+        ensures write { HoldsWrite self.old }
         ensures open { (W.seen world.new).ended ≡ false }
     {
         match self {

@@ -14,3 +14,9 @@ returns-in-Closing-clause-asked g c = rw c.in-Closing.is (asks_gives (λ job. (t
 
 pub returns-in-Closing-clause-err : goal.returns-in-Closing-clause-err
 returns-in-Closing-clause-err g c = rw c.in-Closing.is (err_in _ _ (λ job. Give (tt, state.Closing job)) _ _ _ c.poll-in-Closing.ensures.err)
+
+pub returns-in-Writing-clause-write : goal.returns-in-Writing-clause-write
+returns-in-Writing-clause-write g c = rw c.in-Writing.is c.poll.ensures.write
+
+pub returns-in-Closing-clause-write : goal.returns-in-Closing-clause-write
+returns-in-Closing-clause-write g c = rw c.in-Closing.is c.poll-in-Closing.ensures.write

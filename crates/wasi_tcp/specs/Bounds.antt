@@ -1,0 +1,41 @@
+-- How many asks one poll of a write makes at most.
+use Rattle.std.specs.Prelude.{◌≡◌, ℕ, ◌+◌, Bool, List, length}
+use Rattle.wasi_world.specs.declared.ids.OpId.{OpId}
+use Rattle.wasi_world.specs.Operation.{End, Waits, Done, Refused}
+use Rattle.wasi_tcp.specs.declared.job.WriteStage.{WriteStage}
+use Rattle.wasi_tcp.specs.declared.writer.WriteState.{WriteState}
+use Rattle.wasi_tcp.specs.declared.writer.WriteState.TheVariants as state
+use Rattle.wasi_tcp.specs.Job.{Job, write_operation}
+use Rattle.wasi_tcp.specs.Taken.{bytes_left}
+
+-- What a job does is a write, at one of its stages.
+pub record IsWrite (job : Job) : Type 0 where
+  pub op : OpId
+  pub side : OpId
+  pub rest : List ℕ
+  pub closing : Bool
+  pub stage : WriteStage
+  pub write : job.write ≡ write_operation op side rest closing stage
+
+-- what a writing end keeps is a write
+abbrev pub HoldsWrite : WriteState → Type 0
+HoldsWrite (state.Ready half permit) = Unit {0}
+HoldsWrite (state.Writing job) = IsWrite job
+HoldsWrite (state.Closing job) = IsWrite job
+HoldsWrite (state.Closed e) = Unit {0}
+
+abbrev pub most_until : Job → End → ℕ
+most_until job Waits = length (bytes_left job.write.left) + 1
+most_until job (Done given) = 0
+most_until job (Refused c given) = 0
+
+-- one ask for each byte that is left, and one more, which shuts the half down; none of a job that ended
+abbrev pub most_polled : Job → ℕ
+most_polled job = most_until job job.end
+
+-- the same of a writing end, which asks nothing where no write goes on
+abbrev pub most_turned : WriteState → ℕ
+most_turned (state.Ready half permit) = 0
+most_turned (state.Writing job) = most_polled job
+most_turned (state.Closing job) = most_polled job
+most_turned (state.Closed e) = 0
