@@ -19,8 +19,10 @@ use Rattle.wasi_streams.specs.declared.fault.HostError.TheVariants.{Code, Trap, 
 use Rattle.wasi_host.specs.Kinds.{Handles, make_asks}
 use Rattle.wasi_host.specs.Store.{new_record, with_record}
 use Rattle.wasi_host.specs.Machine.{with_table, create_handle}
-use Rattle.wasi_streams.specs.HostError.{of_refusal as error_of, of_fault}
-use Rattle.wasi_host.specs.Host.{Stop, code_stop, host_outcome}
+use Rattle.wasi_streams.specs.declared.fault.Fault.{Fault}
+use Rattle.wasi_streams.specs.declared.fault.Fault.TheVariants as fault
+use Rattle.wasi_streams.specs.HostError.{of_refusal as error_of}
+use Rattle.wasi_host.specs.Host.{Stop, code_stop, host_outcome, fault_outcome}
 use Rattle.wasi_host.specs.Host as host
 
 host_memory : {T : Type 0} {d : AllocError} (r : Result T SocketError) → IsErrAnd r (λ x. x ≡ Memory d) → host_outcome r ≡ Err d
@@ -45,7 +47,7 @@ host_refused {asks} f {s} {t} {view} {shown} (refusal.Memory d) (Err y) h k e =
     subst P (sym h) (record { ok = tt; err = record { rest = bind k.err.rest f; reached = reaches_in f k.err.reached } })
 
 -- the handle of a socket that was made
-pub handle_asks : (m : Machine) (own : OpId) (socket : Socket) {place : ℕ} {side : Option OpId} {records : List Tcp2Socket} {table : Shown} {s t : Seen} {o : Result (Result ℕ Stop) AllocError} → place ≡ length m.store.sockets → side ≡ side_of socket → records ≡ m.store.sockets ++ new_record socket ∷ [] → AsksFor (make_asks m.table own (Tcp2 place) None side) s t (λ (made : Result ℕ Stop). (made, table)) o → AsksFor (create_handle m own socket) s t (λ (made : Result ℕ Stop). let n : Machine = record { table = table; store = record { sockets = records; standing = m.store.standing } } in (made, n)) o
+pub handle_asks : (m : Machine) (own : OpId) (socket : Socket) {place : ℕ} {side : Option OpId} {records : List Tcp2Socket} {table : Handles} {s t : Seen} {o : Result (Result ℕ Stop) AllocError} → place ≡ length m.store.sockets → side ≡ side_of socket → records ≡ m.store.sockets ++ new_record socket ∷ [] → AsksFor (make_asks m.table own (Tcp2 place) None side) s t (λ (made : Result ℕ Stop). (made, table)) o → AsksFor (create_handle m own socket) s t (λ (made : Result ℕ Stop). let n : Machine = record { table = table; store = record { sockets = records; jobs = m.store.jobs; standing = m.store.standing } } in (made, n)) o
 handle_asks m own socket p q r h = rw r (asks_gives (with_table (record m { store = with_record m.store socket })) (rw (p, q) at h))
 
 -- an error that is passed on by a `?`
@@ -58,3 +60,20 @@ host_passed {asks} f {s} {t} {view} {shown} (Trap kind) (Err y) h k e =
 host_passed {asks} f {s} {t} {view} {shown} (Memory d) (Err y) h k e =
     let P : SocketError → Type 0 = λ z. AsksFor (bind asks f) s t shown (host_outcome (Err z)) in
     subst P (sym h) (record { ok = tt; err = record { rest = bind k.err.rest f; reached = reaches_in f k.err.reached } })
+
+-- == of a call that tells no codes
+fault_memory : {T : Type 0} {d : AllocError} (r : Result T Fault) → IsErrAnd r (λ x. x ≡ fault.Memory d) → fault_outcome r ≡ Err d
+fault_memory (Ok x) h = absurd h
+fault_memory (Err x) h = ap (λ (y : Fault). fault_outcome (Err y)) h
+
+-- want of memory before the first ask
+pub fault_none : {A T : Type 0} {asks : Asks A} {s t : Seen} {view : Result T Stop → A} {d : AllocError} (r : Result T Fault) → IsErrAnd r (λ x. x ≡ fault.Memory d) → t ≡ s → AsksFor asks s t view (fault_outcome r)
+fault_none {asks} {s} {t} r h e = rw (fault_memory r h) (record { ok = tt; err = record { rest = asks; reached = rw e (reaches_all asks s) } })
+
+-- or in it
+pub fault_exit : {A B T : Type 0} {asks : Asks A} (f : A → Asks B) {s t : Seen} {view : Result T Stop → B} {d : AllocError} (r : Result T Fault) → IsErrAnd r (λ x. x ≡ fault.Memory d) → Started asks s t → AsksFor (bind asks f) s t view (fault_outcome r)
+fault_exit f r h k = rw (fault_memory r h) (record { ok = tt; err = record { rest = bind k.rest f; reached = reaches_in f k.reached } })
+
+-- or after it
+pub fault_after : {A T : Type 0} {asks rest : Asks A} {s t : Seen} {view : Result T Stop → A} {d : AllocError} (r : Result T Fault) → IsErrAnd r (λ x. x ≡ fault.Memory d) → Reaches asks rest s t → AsksFor asks s t view (fault_outcome r)
+fault_after {rest} r h k = rw (fault_memory r h) (record { ok = tt; err = record { rest = rest; reached = k } })

@@ -1,12 +1,26 @@
-//! How the calls of streams end.
+//! How host calls end.
+
+ghost use Rattle.std.specs.Prelude.{◌≡◌};
+ghost use Rattle.wasi_host.specs.Host.{host_outcome, fault_outcome};
 
 use std::alloc::AllocError;
 use wasi_addr::{ErrorCode, p2};
-use wasi_streams::HostError;
+use wasi_streams::{Fault, HostError};
 use wasi_world::{Handle, TrapKind};
 
 /// The error of a 0.2 call (`SocketError` of the crate wasmtime-wasi).
 pub type SocketError = HostError<p2::ErrorCode>;
+
+/// The same result, of a call that tells no codes.
+pub fn of_fault<T: Drop>(done: Result<T, Fault>) -> Result<T, SocketError>
+    ensures { host_outcome result ≡ fault_outcome done }
+{
+    match done {
+        Ok(value) => Ok(value),
+        Err(Fault::Trap(kind)) => Err(SocketError::Trap(kind)),
+        Err(Fault::Memory(e)) => Err(SocketError::Memory(e)),
+    }
+}
 
 /// Why a call of a stream gave no value: its last operation failed, with a handle of the new error; the stream is at its end
 /// or closed; a trap; or want of memory.

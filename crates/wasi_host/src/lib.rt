@@ -17,7 +17,7 @@ mod streams;
 pub mod view;
 
 pub use dropping::drop_handle;
-pub use error::{CallError, SocketError};
+pub use error::{CallError, SocketError, of_fault};
 pub use jobs::turn;
 pub use kind::{Kind, Watched};
 pub use machine::Machine;

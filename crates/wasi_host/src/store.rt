@@ -13,7 +13,7 @@ ghost use Rattle.wasi_tcp.specs.Reader.{read_state_asks};
 ghost use Rattle.wasi_tcp.specs.Writer.{check_write_asks, write_state_asks};
 
 use crate::closing::close_sides;
-use crate::error::SocketError;
+use crate::error::{SocketError, of_fault};
 use crate::socket::{InProgress, Tcp2Socket};
 use crate::handles;
 use crate::kind::Kind;
@@ -94,8 +94,8 @@ impl Store {
         let place = self.sockets.len();
         let side = socket.side();
         self.sockets.push_reserved(Tcp2Socket::new(socket));
-        let handle = handles::make(table, world, own, Kind::Tcp2(place), None, side)?;
-        Ok(handle)
+        let made = handles::make(table, world, own, Kind::Tcp2(place), None, side);
+        of_fault(made)
     }
 
     /// Begins a bind of the socket of this number. An operation in progress: `ConcurrencyConflict`. A bind that is

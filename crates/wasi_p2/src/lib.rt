@@ -12,7 +12,7 @@ ghost use Rattle.wasi_p2.specs.Tcp.{network_asks};
 
 pub mod tcp;
 
-use wasi_host::{Kind, Outcome, WasiSocketsCtxView, handles};
+use wasi_host::{Kind, Outcome, WasiSocketsCtxView, handles, of_fault};
 use wasi_world::{Answer, Handle, Ids, World};
 
 pub use wasi_host::SocketError;
@@ -33,8 +33,8 @@ pub fn instance_network<W: World>(
     ensures ids { ids.new ≡ ids.old }
     ensures open { (W.seen world.new).ended ≡ false }
 {
-    let made = handles::make(view.table, world, ids.own(), Kind::Network, None, None)?;
-    Ok(made)
+    let made = handles::make(view.table, world, ids.own(), Kind::Network, None, None);
+    of_fault(made)
 }
 
 /// Polls the call that stands under this number; none exactly where no call of this crate does. A bind that is pending stands on.

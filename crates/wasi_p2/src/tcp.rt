@@ -12,7 +12,7 @@ ghost use Rattle.wasi_p2.specs.Tcp.{start_bind_asks, finish_bind_on, start_conne
 
 use crate::SocketError;
 use wasi_addr::{IpSocketAddress, ShutdownType, SocketAddressFamily};
-use wasi_host::{Kind, WasiSocketsCtxView, handles};
+use wasi_host::{Kind, WasiSocketsCtxView, handles, of_fault};
 use wasi_world::{Answer, Handle, Ids, Sock, TrapKind, World};
 
 /// Makes a TCP socket of this family (`create-tcp-socket`). Where the context forbids TCP: `AccessDenied`, and nothing is asked.
@@ -146,8 +146,10 @@ fn make_streams<W: World>(
     ensures open { (W.seen world.new).ended ≡ false }
 {
     let own = ids.own();
-    let input = handles::make(view.table, world, own, Kind::Input(place), Some(this), side)?;
-    let output = handles::make(view.table, world, own, Kind::Output(place), Some(this), side)?;
+    let input = handles::make(view.table, world, own, Kind::Input(place), Some(this), side);
+    let input = of_fault(input)?;
+    let output = handles::make(view.table, world, own, Kind::Output(place), Some(this), side);
+    let output = of_fault(output)?;
     Ok((input, output))
 }
 

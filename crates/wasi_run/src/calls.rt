@@ -8,13 +8,13 @@ ghost use Rattle.wasi_run.specs.Machine.{machine_asks, step_asks, call_asks, pol
 ghost use Rattle.wasi_run.specs.Steps.{context_of};
 
 use crate::replies::{
-    address_reply, answer_reply, bytes_reply, done_reply, family_reply, handle_reply, of_fault,
+    address_reply, answer_reply, bytes_reply, done_reply, family_reply, handle_reply,
     outcome_reply, pair_reply, permit_reply, resumed_reply, stop_reply, taken_reply, truth_reply,
 };
 use crate::reply::Reply;
 use crate::step::Step;
 use std::alloc::{AllocError, Global};
-use wasi_host::{Kind, Machine, Store, WasiSocketsCtxView};
+use wasi_host::{Kind, Machine, Store, WasiSocketsCtxView, of_fault};
 use wasi_p2::tcp;
 use wasi_streams::Table;
 use wasi_world::{Ids, WasiSocketsCtx, World};

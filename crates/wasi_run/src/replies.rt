@@ -1,25 +1,14 @@
 //! The replies of calls.
 
 ghost use Rattle.std.specs.Prelude.{◌≡◌, IfOk, IsOkAnd};
-ghost use Rattle.wasi_host.specs.Host.{host_outcome, fault_outcome, call_outcome, IsStop, IsCallStop};
+ghost use Rattle.wasi_host.specs.Host.{host_outcome, call_outcome, IsStop, IsCallStop};
 ghost use Rattle.wasi_run.specs.Machine.{handle_reply, done_reply, answer_reply, pair_reply, address_reply, truth_reply, family_reply, stop_reply, bytes_reply, permit_reply, taken_reply, call_stop_reply, outcome_reply, resumed_reply};
 
 use crate::reply::{CodeWord, Reply};
 use std::alloc::{AllocError, Global};
 use wasi_addr::{IpSocketAddress, SocketAddressFamily, p2};
 use wasi_host::{CallError, Outcome, SocketError};
-use wasi_streams::Fault;
 use wasi_world::{Answer, Handle, Octets};
-
-/// The same of a call that tells no codes.
-pub fn of_fault<T: Drop>(done: Result<T, Fault>) -> Result<T, SocketError>
-    ensures { host_outcome result ≡ fault_outcome done }
-{
-    match done {
-        Ok(value) => Ok(value),
-        Err(fault) => Err(SocketError::from(fault)),
-    }
-}
 
 /// The reply of a call that makes a handle.
 pub fn handle_reply(alloc: Global, made: Result<Handle, SocketError>) -> Result<Reply, AllocError>

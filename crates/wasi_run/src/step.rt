@@ -1,5 +1,8 @@
 //! The steps of a script.
 
+ghost use Rattle.std.specs.Prelude.{◌≡◌};
+ghost use Rattle.wasi_run.specs.Steps.{context_of};
+
 use wasi_addr::{IpSocketAddress, ShutdownType, SocketAddressFamily};
 use wasi_world::{Handle, Octets};
 
@@ -109,4 +112,33 @@ pub enum Step {
     Poll {
         call: u32,
     },
+}
+
+impl Step {
+    /// The number of the context that makes the call; none for a turn and a poll, which are no calls of a guest.
+    pub fn context(&self) -> Option<u32>
+        ensures { result ≡ context_of self.now }
+    {
+        match self {
+            Step::Network { context }
+            | Step::TcpCreate { context, .. }
+            | Step::TcpStartBind { context, .. }
+            | Step::TcpFinishBind { context, .. }
+            | Step::TcpStartConnect { context, .. }
+            | Step::TcpFinishConnect { context, .. }
+            | Step::TcpLocalAddress { context, .. }
+            | Step::TcpRemoteAddress { context, .. }
+            | Step::TcpIsListening { context, .. }
+            | Step::TcpAddressFamily { context, .. }
+            | Step::TcpShutdown { context, .. }
+            | Step::Read { context, .. }
+            | Step::CheckWrite { context, .. }
+            | Step::Write { context, .. }
+            | Step::Flush { context, .. }
+            | Step::Subscribe { context, .. }
+            | Step::Ready { context, .. }
+            | Step::Drop { context, .. } => Some(*context),
+            Step::Turn | Step::Poll { .. } => None,
+        }
+    }
 }
