@@ -193,7 +193,7 @@ impl<K> Table<K> {
         ensures gone { self.new ≡ record self.old { live = without self.old.live handle } }
     {
         let Entry { value, parent, .. } = self.entries.remove(at);
-        forget_child(&mut self.entries, parent, handle);
+        forget_child(self.entries.as_mut_slice(), parent, handle);
         value
     }
 }
@@ -293,14 +293,14 @@ fn put_child<K: Drop>(
 }
 
 /// Takes a child out of the list of its parent, if that is live.
-fn forget_child<K>(entries: &mut Vec<Entry<K>>, parent: Option<u32>, child: u32)
-    requires { Rises (slots_of entries.old.items) 0 }
-    ensures { IsForgotten entries.old.items entries.new.items parent child }
+fn forget_child<K>(entries: &mut [Entry<K>], parent: Option<u32>, child: u32)
+    requires { Rises (slots_of entries.old) 0 }
+    ensures { IsForgotten entries.old entries.new parent child }
 {
     let Some(parent) = parent else {
         return;
     };
-    let Some(at) = place_of(entries.as_slice(), parent) else {
+    let Some(at) = place_of(entries, parent) else {
         return;
     };
     entries[at].children.retain(|id| *id != child);

@@ -1,8 +1,20 @@
+ghost use Rattle.std.specs.Prelude.{◌≡◌, OnOk};
+ghost use Rattle.wasi_streams.specs.Table.{with_value};
+
 use super::*;
 use std::test::Fail;
 
 /// The most handles that a table has at a time.
 const MOST: u32 = 65536;
+
+/// Gives a handle another value.
+fn rewrite(table: &mut Table<char>, handle: u32, value: char) -> Result<(), TableError>
+    ensures { OnOk result (table.new ≡ record table.old { live = with_value table.old.live handle value }) }
+{
+    let place = table.get_mut(handle)?;
+    *place = value;
+    Ok(())
+}
 
 #[test]
 fn each_call_and_each_refusal(rt: HostRuntime) -> Result<(), Fail> {
@@ -15,10 +27,8 @@ fn each_call_and_each_refusal(rt: HostRuntime) -> Result<(), Fail> {
 
     assert_eq!(rt; table.get(2), Ok(&'i'));
     assert_eq!(rt; table.get(4), Err(TableError::NoSuchHandle));
-    match table.get_mut(2) {
-        Ok(value) => *value = 'j',
-        Err(error) => assert!(rt; false, "{error:?}"),
-    }
+    assert_eq!(rt; rewrite(&mut table, 2, 'j'), Ok(()));
+    assert_eq!(rt; rewrite(&mut table, 4, 'j'), Err(TableError::NoSuchHandle));
 
     assert!(rt; matches!(table.children(1), Ok([2, 3])));
     assert!(rt; matches!(table.children(3), Ok([])));
