@@ -1,0 +1,62 @@
+ghost use Rattle.std.specs.Prelude.{◌≡◌, OnOk};
+ghost use Rattle.wasi_streams.specs.Table.{with_value};
+
+use super::*;
+use std::test::Fail;
+
+/// The most handles that a table has at a time.
+const MOST: u32 = 65536;
+
+/// Gives a handle another value.
+fn rewrite(table: &mut Table<char>, handle: u32, value: char) -> Result<(), TableError>
+    ensures { OnOk result (table.new ≡ record table.old { live = with_value table.old.live handle value }) }
+{
+    let place = table.get_mut(handle)?;
+    *place = value;
+    Ok(())
+}
+
+#[test]
+fn each_call_and_each_refusal(rt: HostRuntime) -> Result<(), Fail> {
+    let mut table = Table::new(rt.alloc());
+    assert_eq!(rt; table.push('s'), Ok(1));
+    assert_eq!(rt; table.push_child('i', 1), Ok(2));
+    assert_eq!(rt; table.push_child('o', 1), Ok(3));
+    assert_eq!(rt; table.push_child('x', 4), Err(TableError::NoSuchHandle));
+    assert_eq!(rt; table.next(), 4);
+
+    assert_eq!(rt; table.get(2), Ok(&'i'));
+    assert_eq!(rt; table.get(4), Err(TableError::NoSuchHandle));
+    assert_eq!(rt; rewrite(&mut table, 2, 'j'), Ok(()));
+    assert_eq!(rt; rewrite(&mut table, 4, 'j'), Err(TableError::NoSuchHandle));
+
+    assert!(rt; matches!(table.children(1), Ok([2, 3])));
+    assert!(rt; matches!(table.children(3), Ok([])));
+    assert!(rt; matches!(table.children(4), Err(TableError::NoSuchHandle)));
+
+    assert_eq!(rt; table.delete(1), Err(TableError::HasChildren));
+    assert_eq!(rt; table.delete(2), Ok('j'));
+    assert_eq!(rt; table.delete(2), Err(TableError::NoSuchHandle));
+    assert!(rt; matches!(table.children(1), Ok([3])));
+    assert_eq!(rt; table.delete(3), Ok('o'));
+    assert_eq!(rt; table.delete(1), Ok('s'));
+    Ok(())
+}
+
+#[test]
+fn a_full_table_makes_no_handle(rt: HostRuntime) -> Result<(), Fail> {
+    let mut table = Table::new(rt.alloc());
+    for handle in 1..=MOST {
+        assert!(rt; !table.is_full());
+        assert_eq!(rt; table.push(()), Ok(handle));
+    }
+    assert!(rt; table.is_full());
+    assert_eq!(rt; table.push(()), Err(TableError::Full));
+    assert_eq!(rt; table.push_child((), 1), Err(TableError::Full));
+    assert_eq!(rt; table.push_child((), 0), Err(TableError::NoSuchHandle));
+
+    // a number isn't given again
+    assert_eq!(rt; table.delete(MOST), Ok(()));
+    assert_eq!(rt; table.push(()), Ok(MOST + 1));
+    Ok(())
+}
