@@ -31,3 +31,14 @@ pub enum CallError {
     Trap(TrapKind),
     Memory(AllocError),
 }
+
+impl From<AllocError> for CallError {
+    ghost use Rattle.std.specs.Prelude.{◌≡◌};
+    ghost use Rattle.wasi_host.specs.declared.error.CallError.TheVariants.{Memory};
+
+    ghost from_gives = { λ e error. error ≡ Memory e };
+
+    fn from(e: AllocError) -> CallError {
+        CallError::Memory(e)
+    }
+}
