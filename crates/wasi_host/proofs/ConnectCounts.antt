@@ -209,7 +209,7 @@ settled_side r (Err (refusal.Memory e)) = refl
 closes_same : {s t : Seen} {old now : Socket} (other : Socket) → side_of other ≡ side_of now → ClosesOwn s t old now → ClosesOwn s t old other
 closes_same other e c = let k = c.closed in let p = ap one_if_some e in record { entries = c.entries; passed = c.passed; made = c.made; closed = omega arith }
 
-closed_by_poll : (socket now : Socket) (p : Result (Answer (Unit {0})) Refusal) {s t : Seen} → HoldsConnect socket.state → HoldsConnect now.state → AsksFor (finish_connect_asks socket) s t (λ answer. (answer, now)) (outcome p)
+pub closed_by_poll : (socket now : Socket) (p : Result (Answer (Unit {0})) Refusal) {s t : Seen} → HoldsConnect socket.state → HoldsConnect now.state → AsksFor (finish_connect_asks socket) s t (λ answer. (answer, now)) (outcome p)
     → OnErr (outcome p) (Reaches (finish_connect_asks socket) (finish_connect_asks now) s t) → OnErr (outcome p) (side_of now ≡ side_of socket) → ClosesOwn s t socket now
 closed_by_poll socket now (Ok a) h k asked e side = closes_done socket h asked.ok
 closed_by_poll socket now (Err (refusal.Code c)) h k asked e side = closes_done socket h asked.ok

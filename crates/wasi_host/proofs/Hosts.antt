@@ -7,7 +7,7 @@ use Rattle.wasi_world.specs.declared.outcome.Refusal.{Refusal}
 use Rattle.wasi_world.specs.declared.outcome.Refusal.TheVariants as refusal
 use Rattle.wasi_world.specs.Seen.{Seen}
 use Rattle.wasi_world.specs.Asks.{Asks, Give, bind, Reaches, Started, AsksFor, outcome}
-use Rattle.wasi_world.proofs.Walks.{reaches_all, reaches_in, asks_end, asks_gives}
+use Rattle.wasi_world.proofs.Walks.{reaches_all, reaches_in, reaches_on, asks_end, asks_gives}
 use Rattle.wasi_world.specs.declared.ids.OpId.{OpId}
 use Rattle.wasi_tcp.specs.Shape.{Socket}
 use Rattle.wasi_tcp.specs.Socket.{side_of}
@@ -74,6 +74,6 @@ fault_none {asks} {s} {t} r h e = rw (fault_memory r h) (record { ok = tt; err =
 pub fault_exit : {A B T : Type 0} {asks : Asks A} (f : A → Asks B) {s t : Seen} {view : Result T Stop → B} {d : AllocError} (r : Result T Fault) → IsErrAnd r (λ x. x ≡ fault.Memory d) → Started asks s t → AsksFor (bind asks f) s t view (fault_outcome r)
 fault_exit f r h k = rw (fault_memory r h) (record { ok = tt; err = record { rest = bind k.rest f; reached = reaches_in f k.reached } })
 
--- or after it
-pub fault_after : {A T : Type 0} {asks rest : Asks A} {s t : Seen} {view : Result T Stop → A} {d : AllocError} (r : Result T Fault) → IsErrAnd r (λ x. x ≡ fault.Memory d) → Reaches asks rest s t → AsksFor asks s t view (fault_outcome r)
-fault_after {rest} r h k = rw (fault_memory r h) (record { ok = tt; err = record { rest = rest; reached = k } })
+-- or after it, where what follows asks nothing
+pub fault_on : {A B T : Type 0} {asks : Asks A} {a : A} (f : A → Asks B) {s t : Seen} {view : Result T Stop → B} {d : AllocError} (r : Result T Fault) → IsErrAnd r (λ x. x ≡ fault.Memory d) → Reaches asks (Give a) s t → AsksFor (bind asks f) s t view (fault_outcome r)
+fault_on {a = a} f r h k = rw (fault_memory r h) (record { ok = tt; err = record { rest = f a; reached = reaches_on f k } })

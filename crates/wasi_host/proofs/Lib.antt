@@ -4,4 +4,6 @@ pub mod SideCounts
 pub mod ConnectCounts
 pub mod StreamCounts
 pub mod StreamCalls
+pub mod Looks
+pub mod JobLists
 pub mod Closings

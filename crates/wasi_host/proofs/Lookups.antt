@@ -1,5 +1,10 @@
 -- Look-ups in the store.
-use Rattle.std.proofs.Common.{◌≡◌, ℕ, List, Some, None, refl, sym, subst, slice_get, slice_set, length}
+use Rattle.std.specs.Prelude.{IsSome, is_some}
+use Rattle.std.proofs.Common.{◌≡◌, ℕ, zero, suc, Bool, true, false, List, [], ◌∷◌, Option, Some, None, refl, sym, ap, subst, slice_get, slice_set, length}
+use Rattle.wasi_streams.specs.Table.{pushed}
+use Rattle.wasi_streams.proofs.Tables.{value_front}
+use Rattle.wasi_host.specs.declared.kind.Kind.{Kind}
+use Rattle.wasi_host.specs.Kinds.{Handles, kind_at}
 use Rattle.std.specs.Borrow.{MutBor}
 use Rattle.std.specs.List.{IsItemAtMut}
 use Rattle.std.proofs.lemmas.Option.{slice_get_past, slice_get_read}
@@ -15,3 +20,17 @@ none_at xs i h = slice_get_past xs i h.3
 -- and it is given back as it was
 pub set_back : {X : Type 0} (xs : List X) (i : ℕ) (x : MutBor X) → IsItemAtMut xs i (Some x) → slice_set xs i x.now ≡ xs
 set_back xs i x h = subst (λ (v : _). slice_set xs i v ≡ xs) (sym h.1) (set-get_or xs i x.now)
+
+-- what is live stays so where a handle is made
+pub stays_live : (t n : Handles) (kind : Kind) (parent : Option ℕ) (h : ℕ) → n ≡ pushed t kind parent → IsSome (kind_at t h) → IsSome (kind_at n h)
+stays_live t n kind parent h e live = by (kind_at t h) refl
+  where
+    by : (k : Option Kind) → kind_at t h ≡ k → IsSome (kind_at n h)
+    by None q = let z : is_some (kind_at t h) ≡ true = live in let w : is_some (kind_at t h) ≡ false = ap is_some q in absurd (cc)
+    by (Some k) q = rw (e, value_front t.live _ h k q) refl
+
+-- what was put stands there
+pub set_there : {X : Type 0} (xs : List X) (i : ℕ) (now old : X) → slice_get xs i ≡ Some old → slice_get (slice_set xs i now) i ≡ Some now
+set_there [] i now old h = absurd (cc)
+set_there (x ∷ xs) zero now old h = refl
+set_there (x ∷ xs) (suc i) now old h = set_there xs i now old h

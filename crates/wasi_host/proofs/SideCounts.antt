@@ -1,5 +1,5 @@
 -- Walks in which no side is made or closed, and the sides that the records hold.
-use Rattle.std.proofs.Common.{◌≡◌, ℕ, zero, suc, ◌+◌, Bool, true, false, if◌then◌else◌, List, [], ◌∷◌, ◌++◌, Option, Some, None, option_map, IfSome, OnErr, Result, Ok, Err, refl, sym, ap, subst, ◌∙◌, arith, slice_get, slice_set, length}
+use Rattle.std.proofs.Common.{◌≡◌, ℕ, zero, suc, ◌+◌, Bool, true, false, if◌then◌else◌, List, [], ◌∷◌, ◌++◌, Option, Some, None, option_map, IfSome, OnErr, Result, Ok, Err, refl, sym, ap, subst, ◌∙◌, arith, append-nil, append_assoc, slice_get, slice_set, length}
 use Rattle.std.specs.declared.alloc.AllocError.{AllocError}
 use Rattle.wasi_addr.specs.declared.address.IpSocketAddress.{IpSocketAddress}
 use Rattle.wasi_addr.specs.declared.address.SocketAddressFamily.{SocketAddressFamily}
@@ -27,11 +27,15 @@ use Rattle.wasi_tcp.specs.declared.socket.TcpState.TheVariants as state
 use Rattle.wasi_tcp.specs.declared.socket.Connection.{Connection}
 use Rattle.wasi_tcp.specs.Addresses.{local_side, local_from, local_asks, peer_known, peer_asks, remote_in, remote_asks}
 use Rattle.wasi_tcp.specs.Connecting.{start_connect_in, start_connect_asks}
+use Rattle.wasi_tcp.specs.declared.bind.Asker.{Asker}
+use Rattle.wasi_tcp.specs.declared.bind.BindStage.{BindStage}
+use Rattle.wasi_tcp.specs.declared.bind.BindStage.TheVariants as stage
+use Rattle.wasi_tcp.specs.Bind.{bind_operation, IsBind}
 use Rattle.wasi_tcp.specs.Shape.{Socket}
 use Rattle.wasi_tcp.specs.Socket.{side_of, new_asks, after_create, new_socket, ask_bound, bound_asks, bind_allowed, bind_start, bind_asks}
 use Rattle.wasi_host.specs.declared.socket.Tcp2Socket.{Tcp2Socket}
 use Rattle.wasi_host.specs.Store.{Records, new_record, with_inner, bind_begun, poll_bind_asks, begin_bind_asks, begin_connect_asks, tell_local_asks, tell_remote_asks, with_record, stood}
-use Rattle.wasi_host.specs.Sides.{one_if_done, made_by, closed_by, made_in, closed_in, one_if_some, held_in, KnowsSides}
+use Rattle.wasi_host.specs.Sides.{one_if_done, made_by, closed_by, made_in, closed_in, one_if_some, held_in, KnowsSides, MakesNone}
 
 -- == calls that neither make nor close a side
 abbrev pub IsQuiet : Call → Type 0
@@ -79,7 +83,7 @@ closed_in-append [] ys = omega arith
 closed_in-append (x ∷ xs) ys = let h = closed_in-append xs ys in omega arith
 
 -- the records know the sides where as many more are held as were made
-knows_grown : (old new : Option (List Entry)) (es : List Entry) (a b : ℕ) → new ≡ option_map (λ log. log ++ es) old → b + closed_in es ≡ a + made_in es → IfSome old (λ log. closed_in log + a ≡ made_in log) → IfSome new (λ log. closed_in log + b ≡ made_in log)
+pub knows_grown : (old new : Option (List Entry)) (es : List Entry) (a b : ℕ) → new ≡ option_map (λ log. log ++ es) old → b + closed_in es ≡ a + made_in es → IfSome old (λ log. closed_in log + a ≡ made_in log) → IfSome new (λ log. closed_in log + b ≡ made_in log)
 knows_grown None new es a b e h k = rw e tt
 knows_grown (Some log) new es a b e h k = rw e (let m = made_in-append log es in let c = closed_in-append log es in omega arith)
 
@@ -153,11 +157,20 @@ pub calm_poll : (op : Operation) → IsCalmOperation op → Calm Any (poll_asks 
 unfolding polls
 calm_poll op h = calm_round (polls 63 op.who) op.who Nothing op.left h.last h.items
 
+-- one that was begun at any time
+calm_stage : (asker : Asker) (a : IpSocketAddress) (stage : BindStage) → IsCalmOperation (bind_operation asker a stage)
+calm_stage asker a stage.Check = record { items = (tt, (tt, tt)); last = refl }
+calm_stage asker a stage.Bind = record { items = (tt, tt); last = refl }
+calm_stage asker a stage.Over = record { items = tt; last = refl }
+
 calm_any : {A : Type 0} (a : A) → Any a
 calm_any a = tt
 
 pub calm_poll_bind : (op : Operation) (r : Tcp2Socket) → IsCalmOperation op → Calm Any (poll_bind_asks op r)
 calm_poll_bind op r h = calm_then Any Any (poll_asks op) _ (calm_poll op h) (λ a k. tt)
+
+pub calm_rebind : (op : Operation) (r : Tcp2Socket) → IsBind op → Calm Any (poll_bind_asks op r)
+calm_rebind op r h = calm_poll_bind op r (subst IsCalmOperation (sym h.is) (calm_stage h.asker h.addr h.stage))
 
 calm_bound : (op : OpId) (s : Socket) → Calm Any (bound_asks op s)
 unfolding bind
@@ -269,3 +282,29 @@ stood_sockets store line place (Some op) = refl
 -- records that hold as many sides know them as well
 pub knows_same : {s : Seen} (a b : Records) → held_in b.sockets ≡ held_in a.sockets → KnowsSides s a → KnowsSides s b
 knows_same {s} a b e k = record { count = subst (λ (n : ℕ). IfSome s.log (λ log. closed_in log + n ≡ made_in log)) (sym e) k.count }
+
+-- where no side was made or closed
+pub knows_none : {s t : Seen} (a b : Records) → MakesNone s t → held_in b.sockets ≡ held_in a.sockets → KnowsSides s a → KnowsSides t b
+knows_none {s} {t} a b n e k =
+    let m = n.made in let c = n.closed in record { count = knows_grown s.log t.log n.entries (held_in a.sockets) (held_in b.sockets) n.log (omega arith) k.count }
+
+pub none_calm : {A T : Type 0} {asks : Asks A} {s t : Seen} {view : T → A} → Calm Any asks → (r : Result T AllocError) → AsksFor asks s t view r → MakesNone s t
+none_calm {asks = asks} q (Ok x) h = let n = calm_left Any asks h.ok.entries _ q h.ok.left in record { entries = h.ok.entries; log = h.ok.passed.log; made = n.made; closed = n.closed }
+none_calm {asks = asks} q (Err d) h = let n = calm_left Any asks h.err.reached.entries h.err.rest q h.err.reached.left in record { entries = h.err.reached.entries; log = h.err.reached.passed.log; made = n.made; closed = n.closed }
+
+none_log : (log : Option (List Entry)) → log ≡ option_map (λ log. log ++ []) log
+none_log None = refl
+none_log (Some log) = ap Some (sym (append-nil log))
+
+pub none_first : (s : Seen) → MakesNone s s
+none_first s = record { entries = []; log = none_log s.log; made = refl; closed = refl }
+
+both_logs : (old mid new : Option (List Entry)) (es fs : List Entry) → mid ≡ option_map (λ log. log ++ es) old → new ≡ option_map (λ log. log ++ fs) mid → new ≡ option_map (λ log. log ++ (es ++ fs)) old
+both_logs None mid new es fs h k = k ∙ ap (option_map (λ log. log ++ fs)) h
+both_logs (Some log) mid new es fs h k = k ∙ (ap (option_map (λ log. log ++ fs)) h ∙ ap Some (append_assoc log es fs))
+
+pub none_then : {s t u : Seen} → MakesNone s t → MakesNone t u → MakesNone s u
+none_then {s} {t} {u} h k =
+    let m = h.made in let n = k.made in let c = h.closed in let d = k.closed in
+    let p = made_in-append h.entries k.entries in let q = closed_in-append h.entries k.entries in
+    record { entries = h.entries ++ k.entries; log = both_logs s.log t.log u.log h.entries k.entries h.log k.log; made = omega arith; closed = omega arith }

@@ -1,11 +1,11 @@
 -- How a stream's call goes on where it gives no value.
-use Rattle.std.specs.Prelude.{◌≡◌, ℕ, List, [], ◌∷◌, Option, Some, Result, Ok, Err, refl, slice_get}
+use Rattle.std.specs.Prelude.{◌≡◌, ℕ, List, [], ◌∷◌, Option, Some, Result, Ok, Err, IsErrAnd, refl, slice_get}
 use Rattle.std.specs.declared.alloc.AllocError.{AllocError}
 use Rattle.std.proofs.Common.{ap, sym, subst}
 use Rattle.wasi_addr.specs.declared.code.ErrorCode.{ErrorCode}
 use Rattle.wasi_world.specs.Seen.{Seen}
 use Rattle.wasi_world.specs.declared.ids.OpId.{OpId}
-use Rattle.wasi_world.specs.Asks.{Asks, Give, bind, Reaches, AsksFor}
+use Rattle.wasi_world.specs.Asks.{Asks, Give, bind, Reaches, Started, AsksFor}
 use Rattle.wasi_world.proofs.Walks.{reaches_on, reaches_in, asks_end, asks_then}
 use Rattle.wasi_streams.specs.declared.error.StreamError.{StreamError}
 use Rattle.wasi_streams.specs.declared.error.StreamError.TheVariants as told
@@ -13,11 +13,11 @@ use Rattle.wasi_streams.specs.StreamStop.{StreamStop, stream_outcome}
 use Rattle.wasi_streams.specs.StreamStop as stop
 use Rattle.wasi_host.specs.declared.error.CallError.{CallError}
 use Rattle.wasi_host.specs.declared.error.CallError.TheVariants as call
-use Rattle.wasi_host.specs.Host.{SocketError}
-use Rattle.wasi_streams.specs.declared.fault.HostError.TheVariants as error
+use Rattle.wasi_streams.specs.declared.fault.Fault.{Fault}
+use Rattle.wasi_streams.specs.declared.fault.Fault.TheVariants as fault
 use Rattle.wasi_host.specs.declared.machine.Machine.{Machine}
 use Rattle.wasi_host.specs.declared.kind.Kind.TheVariants.{ErrorValue}
-use Rattle.wasi_host.specs.Host.{Stop, CallStop, host_outcome, call_outcome, error_outcome, failed_outcome, IsStreamStop, IfStreamMemory}
+use Rattle.wasi_host.specs.Host.{Stop, CallStop, fault_outcome, call_outcome, error_outcome, failed_outcome, IsStreamStop, IfStreamMemory}
 use Rattle.wasi_host.specs.Kinds.{Handles, make_asks}
 use Rattle.wasi_host.specs.Store.{Records}
 use Rattle.wasi_host.specs.Machine.{with_table, with_store, side_at}
@@ -25,13 +25,12 @@ use Rattle.wasi_host.specs.StreamCalls.{failed_made, convert_asks, stopped, conv
 
 module _ (m : Machine) (own : OpId) (handle place : ℕ) where
   -- the handle of an error
-  pub made_failed : (c : ErrorCode) {table : Shown} (made : Result ℕ SocketError) {side : Option OpId} {s t : Seen} → side ≡ side_at (slice_get m.store.sockets place)
-      → AsksFor (make_asks m.table own ErrorValue (Some handle) side) s t (λ x. (x, table)) (host_outcome made)
+  pub made_failed : (c : ErrorCode) {table : Handles} (made : Result ℕ Fault) {side : Option OpId} {s t : Seen} → side ≡ side_at (slice_get m.store.sockets place)
+      → AsksFor (make_asks m.table own ErrorValue (Some handle) side) s t (λ x. (x, table)) (fault_outcome made)
       → AsksFor (convert_asks m own handle place (stop.Failed c)) s t (λ x. let after : Machine = record m { table = table } in (x, after)) (failed_outcome c made)
   made_failed c (Ok e) p h = asks_end _ (rw p at h).ok refl
-  made_failed c (Err (error.Trap k)) p h = asks_end _ (rw p at h).ok refl
-  made_failed c (Err (error.Code d)) p h = asks_end _ (rw p at h).ok refl
-  made_failed c (Err (error.Memory e)) p h = let k = (rw p at h).err in record { ok = tt; err = record { rest = bind k.rest _; reached = reaches_in _ k.reached } }
+  made_failed c (Err (fault.Trap k)) p h = asks_end _ (rw p at h).ok refl
+  made_failed c (Err (fault.Memory e)) p h = let k = (rw p at h).err in record { ok = tt; err = record { rest = bind k.rest _; reached = reaches_in _ k.reached } }
 
   -- an error that was made is the call's
   pub stopped_by : {T : Type 0} {asks : Asks (CallStop × Machine)} {s t : Seen} {after : Machine} (r : CallError) → AsksFor asks s t (λ x. (x, after)) (error_outcome r)
@@ -59,3 +58,11 @@ module _ (m : Machine) (own : OpId) (handle place : ℕ) where
     converted_err told.Closed r h k z = asks_then _ h.ok (stopped_by r k)
     converted_err (told.Trap kind) r h k z = asks_then _ h.ok (stopped_by r k)
     converted_err (told.Memory e) r h k z = rw (z.0, z.2) (record { ok = tt; err = record { rest = bind h.err.rest _; reached = reaches_in _ h.err.reached } })
+
+-- want of memory in a call
+call_memory : {T : Type 0} {d : AllocError} (r : Result T CallError) → IsErrAnd r (λ x. x ≡ call.Memory d) → call_outcome r ≡ Err d
+call_memory (Ok x) h = absurd h
+call_memory (Err x) h = ap (λ (y : CallError). call_outcome (Err y)) h
+
+pub call_exit : {A B T : Type 0} {asks : Asks A} (f : A → Asks B) {s t : Seen} {view : Result T CallStop → B} {d : AllocError} (r : Result T CallError) → IsErrAnd r (λ x. x ≡ call.Memory d) → Started asks s t → AsksFor (bind asks f) s t view (call_outcome r)
+call_exit f r h k = rw (call_memory r h) (record { ok = tt; err = record { rest = bind k.rest f; reached = reaches_in f k.reached } })

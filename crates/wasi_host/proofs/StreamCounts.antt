@@ -1,5 +1,5 @@
 -- The calls of a connection's streams make and close no side.
-use Rattle.std.proofs.Common.{◌≡◌, ℕ, zero, suc, Bool, true, false, if◌then◌else◌, List, [], ◌∷◌, Option, Some, None, refl, length}
+use Rattle.std.proofs.Common.{◌≡◌, ℕ, zero, suc, Bool, true, false, if◌then◌else◌, List, [], ◌∷◌, Option, Some, None, refl, sym, subst, length}
 use Rattle.std.specs.Prelude.{Result, Ok, Err, ◌==◌, nat_lt, min}
 use Rattle.wasi_addr.specs.declared.code.ErrorCode.{ErrorCode}
 use Rattle.wasi_world.specs.declared.ids.OpId.{OpId}
@@ -10,7 +10,7 @@ use Rattle.wasi_world.specs.declared.outcome.Answer.TheVariants.{Ready, Pending}
 use Rattle.wasi_world.specs.declared.outcome.TrapKind.TheVariants.{NotPermitted}
 use Rattle.wasi_world.specs.Asks.{Asks, Give, bind}
 use Rattle.wasi_world.specs.Typed.{ask_read}
-use Rattle.wasi_world.specs.Operation.{Given, Nothing, Item, Write, LastAsk, ShutdownLast, Who, Operation, Front, Goes, Stays, Again, Ends, End, Waits, Done, Refused, front, write_front, taken_front, less_one, last_ask, after, round, polls, poll_asks}
+use Rattle.wasi_world.specs.Operation.{Given, Nothing, Item, Write, ShutdownSend, Last, LastAsk, ShutdownLast, Who, Operation, Front, Goes, Stays, Again, Ends, End, Waits, Done, Refused, front, write_front, taken_front, less_one, last_ask, after, round, polls, poll_asks}
 use Rattle.wasi_streams.specs.StreamStop.{StreamStop}
 use Rattle.wasi_streams.specs.StreamStop as stop
 use Rattle.wasi_tcp.specs.declared.halves.TcpSendStream.{TcpSendStream}
@@ -20,7 +20,10 @@ use Rattle.wasi_tcp.specs.declared.writer.WriteState.{WriteState}
 use Rattle.wasi_tcp.specs.declared.writer.WriteState.TheVariants as writing
 use Rattle.wasi_tcp.specs.Halves.{polled_answer, read_asks}
 use Rattle.wasi_tcp.specs.Reader.{reader_shutdown_asks, read_end_asks, after_read, read_state_asks}
-use Rattle.wasi_tcp.specs.Job.{Job, new_job, writer, job_asks}
+use Rattle.wasi_tcp.specs.declared.job.WriteStage.{WriteStage}
+use Rattle.wasi_tcp.specs.declared.job.WriteStage.TheVariants as stage
+use Rattle.wasi_tcp.specs.Bounds.{IsWrite, HoldsWrite}
+use Rattle.wasi_tcp.specs.Job.{Job, new_job, writer, write_left, job_in, job_asks}
 use Rattle.wasi_tcp.specs.Writer.{collected, look_in, look_asks, check_write_asks, turn_asks, write_on_asks, write_half_asks, write_state_asks}
 use Rattle.wasi_host.specs.declared.socket.Streams.{Streams}
 use Rattle.wasi_host.specs.declared.socket.Tcp2Socket.{Tcp2Socket}
@@ -107,6 +110,61 @@ calm_write op (writing.Ready half permit) (b ∷ bytes) = calm_within op half pe
 calm_write op (writing.Writing job) bytes = tt
 calm_write op (writing.Closing job) bytes = tt
 calm_write op (writing.Closed e) bytes = tt
+
+-- == a turn
+-- what a write may have left
+abbrev IsCalmItem : Item → Type 0
+IsCalmItem (Write bytes) = Unit {0}
+IsCalmItem ShutdownSend = Unit {0}
+IsCalmItem (Last c g) = Unit {0}
+IsCalmItem _ = ⊥
+
+abbrev AreCalm : List Item → Type 0
+AreCalm [] = Unit {0}
+AreCalm (i ∷ items) = IsCalmItem i × AreCalm items
+
+calm_item : (who : Who) (i : Item) → IsCalmItem i → Calm IsCalmFront (front who i)
+unfolding bind
+calm_item who (Write bytes) h = calm_front who bytes 0
+calm_item who ShutdownSend h = ((λ t. refl, refl), λ t. tt)
+calm_item who (Last c g) h = tt
+calm_item who _ h = absurd h
+
+calm_round : (again : List Item → Asks (End × List Item)) (who : Who) (given : Given) (items : List Item) → who.last ≡ ShutdownLast → AreCalm items → Calm Any (round again who given items)
+calm_round again who given [] l h = tt
+calm_round again who given (i ∷ items) l h = calm_then IsCalmFront Any (front who i) _ (calm_item who i h.0) (λ f k. go f k (λ g. calm_round again who g items l h.1))
+  where
+    go : (f : Front) → IsCalmFront f → ((g : Given) → Calm Any (round again who g items)) → Calm Any (after again who items (λ g. round again who g items) f)
+    go (Goes g) k next = next g
+    go (Stays j) k next = tt
+    go (Again j) k next = absurd k
+    go (Ends c g) k next = calm_last who c g l
+
+calm_left_items : (rest : List ℕ) (closing : Bool) (stage : WriteStage) → AreCalm (write_left rest closing stage)
+calm_left_items rest true stage.Write = (tt, (tt, tt))
+calm_left_items rest false stage.Write = (tt, tt)
+calm_left_items rest closing stage.Close = (tt, tt)
+calm_left_items rest closing (stage.Refused c) = (tt, tt)
+calm_left_items rest closing stage.Written = tt
+calm_left_items rest closing (stage.Failed c) = tt
+
+calm_job : (job : Job) → IsWrite job → Calm Any (job_asks job)
+unfolding polls
+calm_job job h = by job.end
+  where
+    polled : Calm Any (poll_asks job.write)
+    polled = subst (λ (op : Operation). Calm Any (poll_asks op)) (sym h.write) (calm_round (polls 63 (writer h.op h.side)) (writer h.op h.side) Nothing (write_left h.rest h.closing h.stage) refl (calm_left_items h.rest h.closing h.stage))
+
+    by : (end : End) → Calm Any (job_in job end)
+    by Waits = calm_then Any Any (poll_asks job.write) _ polled (λ e k. tt)
+    by (Done g) = tt
+    by (Refused c g) = tt
+
+pub calm_turn : (w : WriteState) → HoldsWrite w → Calm Any (turn_asks w)
+calm_turn (writing.Ready half permit) h = tt
+calm_turn (writing.Writing job) h = calm_then Any Any (job_asks job) _ (calm_job job h) (λ j k. tt)
+calm_turn (writing.Closing job) h = calm_then Any Any (job_asks job) _ (calm_job job h) (λ j k. tt)
+calm_turn (writing.Closed e) h = tt
 
 -- == of a record
 calm_reader_of : {T : Type 0} (r : Tcp2Socket) (call : ReadState → Asks (Result T StreamStop × ReadState)) (o : Option Streams) → ((s : ReadState) → Calm Any (call s)) → Calm Any (reader_of r call o)

@@ -30,6 +30,10 @@ has_job None = false
 has_job (Some r) = works_in r.streams
 
 -- == a write that begins
+abbrev pub jobs_with : List ℕ → ℕ → Bool → List ℕ
+jobs_with jobs place true = jobs ++ place ∷ []
+jobs_with jobs place false = jobs
+
 -- a job is the last of those that were made
 abbrev pub with_job : Records → ℕ → Bool → Records
 with_job store place true = record store { jobs = store.jobs ++ place ∷ [] }

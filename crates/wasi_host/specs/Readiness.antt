@@ -9,6 +9,8 @@ use Rattle.wasi_world.specs.declared.outcome.Refusal.{Refusal}
 use Rattle.wasi_world.specs.declared.outcome.Refusal.TheVariants as refusal
 use Rattle.wasi_world.specs.declared.outcome.TrapKind.TheVariants.{NoSuchHandle}
 use Rattle.wasi_world.specs.Asks.{Asks, Give, bind}
+use Rattle.wasi_streams.specs.declared.error.StreamError.{StreamError}
+use Rattle.wasi_streams.specs.declared.error.StreamError.TheVariants as error
 use Rattle.wasi_streams.specs.StreamStop.{StreamStop}
 use Rattle.wasi_tcp.specs.declared.reader.ReadState.{ReadState}
 use Rattle.wasi_tcp.specs.declared.writer.WriteState.{WriteState}
@@ -38,6 +40,17 @@ abbrev pub over_told : Result (Answer (Unit {0})) Refusal → Result (Result Boo
 over_told (Ok answer) = Ok (Ok (is_done answer))
 over_told (Err (refusal.Code c)) = Ok (Ok true)
 over_told (Err (refusal.Memory e)) = Err e
+
+abbrev pub read_told : Result (Answer (Unit {0})) AllocError → Result (Result Bool Stop) AllocError
+read_told (Ok answer) = Ok (Ok (is_done answer))
+read_told (Err e) = Err e
+
+abbrev pub look_told : Result (Answer (Unit {0})) StreamError → Result (Result Bool Stop) AllocError
+look_told (Ok answer) = Ok (Ok (is_done answer))
+look_told (Err (error.LastOperationFailed c)) = Ok (Ok true)
+look_told (Err error.Closed) = Ok (Ok true)
+look_told (Err (error.Trap k)) = Ok (Ok true)
+look_told (Err (error.Memory e)) = Err e
 
 -- == a socket
 abbrev pub connect_looked : Tcp2Socket → Result (Answer (Unit {0})) ErrorCode × Socket → Result Bool Stop × Tcp2Socket

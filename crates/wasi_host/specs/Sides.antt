@@ -1,5 +1,5 @@
 -- The network sides that a log made and closed, and those that the records hold.
-use Rattle.std.specs.Prelude.{◌≡◌, ℕ, ◌+◌, List, [], ◌∷◌, Option, Some, None, IfSome}
+use Rattle.std.specs.Prelude.{◌≡◌, ℕ, ◌+◌, List, [], ◌∷◌, ◌++◌, Option, Some, None, option_map, IfSome}
 use Rattle.wasi_world.specs.declared.call.Call.{Call}
 use Rattle.wasi_world.specs.declared.call.Call.TheVariants.{TcpCreate, UdpCreate, Hand, Close}
 use Rattle.wasi_world.specs.declared.call.Told.{Told}
@@ -50,6 +50,13 @@ pub record ClosesOwn (before after : Seen) (old now : Socket) : Type 0 where
   pub passed : Passes before entries after
   pub made : made_in entries ≡ 0
   pub closed : closed_in entries + one_if_some (side_of now) ≡ one_if_some (side_of old)
+
+-- What was asked made no side and closed none.
+pub record MakesNone (before after : Seen) : Type 0 where
+  pub entries : List Entry
+  pub log : after.log ≡ option_map (λ log. log ++ entries) before.log
+  pub made : made_in entries ≡ 0
+  pub closed : closed_in entries ≡ 0
 
 -- Each side that was made and not closed is held by a record, where the log is told.
 pub record KnowsSides (seen : Seen) (records : Records) : Type 0 where

@@ -4,7 +4,7 @@ ghost use Rattle.std.specs.Prelude.{◌≡◌, false, slice_get};
 ghost use Rattle.wasi_world.specs.Asks.{AsksFor};
 ghost use Rattle.wasi_host.specs.Jobs.{turn_at, turn_jobs, turn_store_asks, still_going, has_job};
 ghost use Rattle.wasi_host.specs.Machine.{turn_machine_asks};
-ghost use Rattle.wasi_host.specs.Sides.{KnowsSides, held_in};
+ghost use Rattle.wasi_host.specs.Sides.{KnowsSides, MakesNone, held_in};
 ghost use Rattle.wasi_host.specs.Views.{SameView, state_of};
 
 use crate::socket::Tcp2Socket;
@@ -15,30 +15,32 @@ use wasi_world::World;
 
 /// Polls the write of the socket of this number once, where one goes on.
 fn turn_socket<W: World>(
-    sockets: &mut [Tcp2Socket],
+    sockets: &mut Vec<Tcp2Socket>,
     world: &mut W,
     place: usize,
 ) -> Result<(), AllocError>
     requires { (W.seen world.old).ended ≡ false }
-    ensures asked { AsksFor (turn_at sockets.old place (slice_get sockets.old place)) (W.seen world.old) (W.seen world.new) (λ done. sockets.new) result }
-    ensures held { held_in sockets.new ≡ held_in sockets.old }
+    ensures asked { AsksFor (turn_at sockets.old.items place (slice_get sockets.old.items place)) (W.seen world.old) (W.seen world.new) (λ done. sockets.new.items) result }
+    ensures held { held_in sockets.new.items ≡ held_in sockets.old.items }
+    ensures none { MakesNone (W.seen world.old) (W.seen world.new) }
     ensures open { (W.seen world.new).ended ≡ false }
 {
-    match sockets.get_mut(place) {
-        Some(record) => record.turn(world),
-        None => Ok(()),
-    }
+    let Some(record) = sockets.get_mut(place) else {
+        return Ok(());
+    };
+    record.turn(world)
 }
 
 /// Polls the writes of the sockets of these numbers, in order.
 fn turn_sockets<W: World>(
-    sockets: &mut [Tcp2Socket],
+    sockets: &mut Vec<Tcp2Socket>,
     world: &mut W,
     jobs: &[usize],
 ) -> Result<(), AllocError>
     requires { (W.seen world.old).ended ≡ false }
-    ensures asked { AsksFor (turn_jobs jobs.now sockets.old) (W.seen world.old) (W.seen world.new) (λ done. sockets.new) result }
-    ensures held { held_in sockets.new ≡ held_in sockets.old }
+    ensures asked { AsksFor (turn_jobs jobs.now sockets.old.items) (W.seen world.old) (W.seen world.new) (λ done. sockets.new.items) result }
+    ensures held { held_in sockets.new.items ≡ held_in sockets.old.items }
+    ensures none { MakesNone (W.seen world.old) (W.seen world.new) }
     ensures open { (W.seen world.new).ended ≡ false }
 {
     for job in jobs {
@@ -65,7 +67,7 @@ impl Store {
         ensures sides { KnowsSides (W.seen world.old) self.old → KnowsSides (W.seen world.new) self.new }
         ensures open { (W.seen world.new).ended ≡ false }
     {
-        turn_sockets(self.sockets.as_mut_slice(), world, self.jobs.as_slice())?;
+        turn_sockets(&mut self.sockets, world, self.jobs.as_slice())?;
         self.settle_jobs();
         Ok(())
     }
@@ -81,10 +83,7 @@ impl Store {
 
 /// Lets the host's background work go on: polls each write that goes on by itself once, in the order of making. It has no part
 /// of its own in the log: what a job asks carries the job's name.
-pub fn turn<W: World>(
-    view: &mut WasiSocketsCtxView<'_>,
-    world: &mut W,
-) -> Result<(), AllocError>
+pub fn turn<W: World>(view: &mut WasiSocketsCtxView<'_>, world: &mut W) -> Result<(), AllocError>
     requires { (W.seen world.old).ended ≡ false }
     ensures asked { AsksFor (turn_machine_asks (state_of view.old)) (W.seen world.old) (W.seen world.new) (λ done. (done, state_of view.new)) result }
     ensures sides { KnowsSides (W.seen world.old) view.old.store.now → KnowsSides (W.seen world.new) view.new.store.now }

@@ -59,10 +59,12 @@ impl Store {
             return None;
         }
         match self.standing.take() {
-            Some(Standing {
-                call: StandingCall::Bind { socket, bind },
-                ..
-            }) => Some((socket, bind)),
+            Some(
+                Standing {
+                    call: StandingCall::Bind { socket, bind },
+                    ..
+                },
+            ) => Some((socket, bind)),
             other => {
                 self.standing = other;
                 None
@@ -128,7 +130,10 @@ pub fn resume<W: World>(
     let Some(socket) = view.store.waiting_drop(line) else {
         return Ok(None);
     };
-    let own = OpId { step: line, part: 0 };
+    let own = OpId {
+        step: line,
+        part: 0,
+    };
     let answer = view.store.drop_output(world, own, socket)?;
     Ok(Some(Outcome::of_nothing(answer)))
 }

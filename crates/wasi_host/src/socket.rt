@@ -1,17 +1,18 @@
 //! A TCP socket as the guest of the 0.2 interface has it.
 
-ghost use Rattle.std.specs.Prelude.{◌≡◌, false, None, Ok, Some};
+ghost use Rattle.std.specs.Prelude.{◌≡◌, ◌&&◌, not, OnErr, false, None, Ok, Some};
 ghost use Rattle.wasi_streams.specs.StreamStop.{stream_outcome};
 ghost use Rattle.wasi_tcp.specs.Reader.{read_state_asks};
 ghost use Rattle.wasi_tcp.specs.Writer.{check_write_asks, write_state_asks};
 ghost use Rattle.wasi_world.specs.Asks.{AsksFor, outcome};
+ghost use Rattle.wasi_tcp.specs.Bind.{IsBind};
 ghost use Rattle.wasi_tcp.specs.Socket.{side_of};
 ghost use Rattle.wasi_host.specs.Dropping.{give_streams_up, close_record, release_asks, wait_writer, waits_told};
 ghost use Rattle.wasi_host.specs.Host.{fault_outcome, host_outcome};
 ghost use Rattle.wasi_host.specs.Jobs.{is_working, works_in, turn_record};
-ghost use Rattle.wasi_host.specs.Readiness.{over_told, ready_record, ready_socket, ready_reader, ready_writer};
+ghost use Rattle.wasi_host.specs.Readiness.{look_told, over_told, read_told, ready_record, ready_socket, ready_reader, ready_writer};
 ghost use Rattle.wasi_host.specs.Shutdowns.{shut_receive, shut_send, shut_streams, shut_record};
-ghost use Rattle.wasi_host.specs.Sides.{ClosesOwn};
+ghost use Rattle.wasi_host.specs.Sides.{ClosesOwn, MakesNone};
 ghost use Rattle.wasi_host.specs.Store.{is_nothing, is_bind, is_connect, begin_bind_asks, poll_bind_asks, begin_connect_asks, poll_connect_asks, connect_told, connect_settled, opened, reader_asks, writer_asks, flush_asks, tell_local_asks, tell_remote_asks, new_record};
 
 use crate::error::SocketError;
@@ -131,6 +132,28 @@ fn is_over(polled: Result<Answer<()>, Refusal>) -> Result<bool, Fault>
     }
 }
 
+/// Whether a reader is ready, by a look at it.
+fn is_read(looked: Result<Answer<()>, AllocError>) -> Result<bool, Fault>
+    ensures { fault_outcome result ≡ read_told looked }
+{
+    match looked {
+        Ok(Answer::Ready(())) => Ok(true),
+        Ok(Answer::Pending) => Ok(false),
+        Err(e) => Err(Fault::Memory(e)),
+    }
+}
+
+/// Whether a writer is ready, by a look at it; an error is ready too.
+fn is_ready(looked: Result<Answer<()>, StreamError>) -> Result<bool, Fault>
+    ensures { fault_outcome result ≡ look_told looked }
+{
+    match looked {
+        Ok(Answer::Pending) => Ok(false),
+        Err(StreamError::Memory(e)) => Err(Fault::Memory(e)),
+        Ok(Answer::Ready(())) | Err(_) => Ok(true),
+    }
+}
+
 /// What a look at a writer answers to one that waits for it; an error doesn't wait.
 fn wait_answer(looked: Result<Answer<()>, StreamError>) -> Result<Answer<()>, AllocError>
     ensures { result ≡ waits_told looked }
@@ -189,6 +212,7 @@ impl Tcp2Socket {
     ) -> Result<Option<BindOp>, Refusal>
         requires { (W.seen world.old).ended ≡ false }
         ensures asked { AsksFor (poll_bind_asks bind self.old) (W.seen world.old) (W.seen world.new) (λ begun. (begun, self.new)) (outcome result) }
+        ensures bind { IsBind bind }
         ensures side { side_of self.new.inner ≡ side_of self.old.inner }
         ensures open { (W.seen world.new).ended ≡ false }
     {
@@ -351,6 +375,25 @@ impl Tcp2Socket {
         }
     }
 
+    /// Writes to the connection, and says whether a write began that goes on.
+    pub fn write_noting<W: World>(
+        &mut self,
+        world: &mut W,
+        op: OpId,
+        bytes: Octets,
+    ) -> (Result<(), StreamError>, bool)
+        requires { (W.seen world.old).ended ≡ false }
+        ensures asked { AsksFor (writer_asks (λ w. write_state_asks op w bytes) self.old) (W.seen world.old) (W.seen world.new) (λ answer. (answer, self.new)) (stream_outcome result.0) }
+        ensures begins { result.1 ≡ (not (works_in self.old.streams) && works_in self.new.streams) }
+        ensures side { side_of self.new.inner ≡ side_of self.old.inner }
+        ensures open { (W.seen world.new).ended ≡ false }
+    {
+        let before = self.has_job();
+        let written = self.write(world, op, bytes);
+        let begins = !before && self.has_job();
+        (written, begins)
+    }
+
     /// Tells a kept error of the writer.
     pub fn flush<W: World>(&mut self, world: &mut W) -> Result<(), StreamError>
         requires { (W.seen world.old).ended ≡ false }
@@ -379,6 +422,7 @@ impl Tcp2Socket {
         requires { (W.seen world.old).ended ≡ false }
         ensures asked { AsksFor (turn_record self.old) (W.seen world.old) (W.seen world.new) (λ done. self.new) result }
         ensures inner { self.new.inner ≡ self.old.inner }
+        ensures none { MakesNone (W.seen world.old) (W.seen world.new) }
         ensures open { (W.seen world.new).ended ≡ false }
     {
         match &mut self.streams {
@@ -446,12 +490,9 @@ impl Tcp2Socket {
         ensures inner { self.new.inner ≡ self.old.inner }
         ensures open { (W.seen world.new).ended ≡ false }
     {
-        let Some(streams) = &mut self.streams else {
-            return Err(Fault::Trap(TrapKind::NoSuchHandle));
-        };
-        match streams.reader.poll_ready(world, op)? {
-            Answer::Ready(()) => Ok(true),
-            Answer::Pending => Ok(false),
+        match &mut self.streams {
+            Some(streams) => is_read(streams.reader.poll_ready(world, op)),
+            None => Err(Fault::Trap(TrapKind::NoSuchHandle)),
         }
     }
 
@@ -462,13 +503,9 @@ impl Tcp2Socket {
         ensures inner { self.new.inner ≡ self.old.inner }
         ensures open { (W.seen world.new).ended ≡ false }
     {
-        let Some(streams) = &mut self.streams else {
-            return Err(Fault::Trap(TrapKind::NoSuchHandle));
-        };
-        let looked = streams.writer.poll_ready(world, op);
-        match wait_answer(looked)? {
-            Answer::Ready(()) => Ok(true),
-            Answer::Pending => Ok(false),
+        match &mut self.streams {
+            Some(streams) => is_ready(streams.writer.poll_ready(world, op)),
+            None => Err(Fault::Trap(TrapKind::NoSuchHandle)),
         }
     }
 
@@ -483,11 +520,10 @@ impl Tcp2Socket {
         ensures inner { self.new.inner ≡ self.old.inner }
         ensures open { (W.seen world.new).ended ≡ false }
     {
-        let Some(streams) = &mut self.streams else {
-            return Ok(Answer::Ready(()));
-        };
-        let looked = streams.writer.poll_ready(world, op);
-        wait_answer(looked)
+        match &mut self.streams {
+            Some(streams) => wait_answer(streams.writer.poll_ready(world, op)),
+            None => Ok(Answer::Ready(())),
+        }
     }
 
     /// Gives up what it has: the open halves, the receiving one first, and then its network side. A write that goes on ends
@@ -519,7 +555,8 @@ impl Tcp2Socket {
     fn close<W: World>(&mut self, world: &mut W, op: OpId) -> Result<(), AllocError>
         requires { (W.seen world.old).ended ≡ false }
         ensures asked { AsksFor (close_record op self.old) (W.seen world.old) (W.seen world.new) (λ done. (done, self.new)) result }
-        ensures closed { ClosesOwn (W.seen world.old) (W.seen world.new) self.old.inner self.new.inner }
+        ensures err { OnErr result (self.new ≡ self.old) }
+        ensures unasked { OnErr result (W.seen world.new ≡ W.seen world.old) }
         ensures open { (W.seen world.new).ended ≡ false }
     {
         self.inner.close(world, op)?;

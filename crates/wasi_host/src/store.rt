@@ -1,10 +1,10 @@
 //! The records that handles name, and the call that stands.
 
-ghost use Rattle.std.specs.Prelude.{◌≡◌, true, is_some, ◌<◌, false, IfOk, Ok, OnErr, slice_get, length};
+ghost use Rattle.std.specs.Prelude.{◌≡◌, true, is_some, ◌<◌, false, IfOk, Ok, OnErr, slice_get, length, vec_capacity, vec_len};
 ghost use Rattle.wasi_world.specs.Asks.{AsksFor};
 ghost use Rattle.wasi_world.specs.Seen.{Seen};
 ghost use Rattle.wasi_host.specs.Host.{host_outcome};
-ghost use Rattle.wasi_host.specs.Jobs.{write_at};
+ghost use Rattle.wasi_host.specs.Jobs.{jobs_with, write_at};
 ghost use Rattle.wasi_host.specs.Pending.{exclusive_of, stands_as};
 ghost use Rattle.wasi_host.specs.Shutdowns.{shutdown_at};
 ghost use Rattle.wasi_host.specs.Store.{no_records, start_bind_at, finish_bind_at, start_connect_at, finish_connect_at, local_address_at, remote_address_at, is_listening_at, address_family_at, reader_asks, writer_asks, flush_asks, stream_at, with_record, stood};
@@ -14,9 +14,9 @@ ghost use Rattle.wasi_tcp.specs.Writer.{check_write_asks, write_state_asks};
 
 use crate::closing::close_sides;
 use crate::error::{SocketError, of_fault};
-use crate::socket::{InProgress, Tcp2Socket};
 use crate::handles;
 use crate::kind::Kind;
+use crate::socket::{InProgress, Tcp2Socket};
 use std::alloc::{AllocError, Global};
 use std::marker::Model;
 use wasi_addr::{IpSocketAddress, ShutdownType, SocketAddressFamily, p2};
@@ -299,15 +299,12 @@ impl Store {
         ensures sides { KnowsSides (W.seen world.old) self.old → KnowsSides (W.seen world.new) self.new }
         ensures open { (W.seen world.new).ended ≡ false }
     {
+        self.jobs.reserve(1)?;
         let Some(record) = self.sockets.get_mut(place) else {
             return Err(StreamError::Trap(TrapKind::NoSuchHandle));
         };
-        self.jobs.reserve(1)?;
-        let before = record.has_job();
-        let written = record.write(world, op, bytes);
-        if !before && record.has_job() {
-            self.jobs.push_reserved(place);
-        }
+        let (written, begins) = record.write_noting(world, op, bytes);
+        note_job(&mut self.jobs, place, begins);
         written
     }
 
@@ -386,5 +383,15 @@ impl Store {
                 Answer::Pending
             }
         }
+    }
+}
+
+/// Notes a job that begins, for which there is room.
+fn note_job(jobs: &mut Vec<usize>, place: usize, begins: bool)
+    requires { vec_len jobs.old < vec_capacity jobs.old }
+    ensures { jobs.new.items ≡ jobs_with jobs.old.items place begins }
+{
+    if begins {
+        jobs.push_reserved(place);
     }
 }

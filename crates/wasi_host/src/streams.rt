@@ -37,7 +37,10 @@ pub fn read<W: World>(
     let Some(place) = handles::input(view.table, this) else {
         return Err(CallError::Trap(TrapKind::NoSuchHandle));
     };
-    match view.store.read(alloc, world, ids.own(), place, len as usize) {
+    match view
+        .store
+        .read(alloc, world, ids.own(), place, len as usize)
+    {
         Ok(bytes) => Ok(bytes),
         Err(error) => Err(convert_stream_error(view, world, ids, this, place, error)),
     }
@@ -156,7 +159,14 @@ fn failed<W: World>(
     ensures open { (W.seen world.new).ended ≡ false }
 {
     let side = view.store.side(place);
-    let made = handles::make(view.table, world, ids.own(), Kind::ErrorValue, Some(this), side);
+    let made = handles::make(
+        view.table,
+        world,
+        ids.own(),
+        Kind::ErrorValue,
+        Some(this),
+        side,
+    );
     failed_with(code, made)
 }
 

@@ -24,3 +24,10 @@ bind_operation asker a stage = record { who = who_of asker NothingLast; left = b
 pub record IsOf (op : Operation) (socket : Socket) : Type 0 where
   pub side : socket.state ≡ Default op.who.side
   pub maker : socket.maker ≡ op.who.context
+
+-- What the operation does is a bind, at one of its stages.
+pub record IsBind (op : Operation) : Type 0 where
+  pub asker : Asker
+  pub addr : IpSocketAddress
+  pub stage : BindStage
+  pub is : op ≡ bind_operation asker addr stage

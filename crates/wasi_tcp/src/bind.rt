@@ -2,7 +2,7 @@
 
 ghost use Rattle.std.specs.Prelude.{◌≡◌, false};
 ghost use Rattle.wasi_world.specs.Operation.{PollsFor, Nothing};
-ghost use Rattle.wasi_tcp.specs.Bind.{bind_operation};
+ghost use Rattle.wasi_tcp.specs.Bind.{bind_operation, IsBind};
 
 use crate::socket::TcpSocket;
 use std::marker::Model;
@@ -36,7 +36,7 @@ pub struct BindOp {
 
 impl Model for BindOp {
     ghost use Rattle.wasi_world.specs.Operation.{Operation};
-    ghost use Rattle.wasi_tcp.specs.Bind.{bind_operation};
+    ghost use Rattle.wasi_tcp.specs.Bind.{bind_operation, IsBind};
 
     ghost Value = { Operation };
 
@@ -64,6 +64,7 @@ impl BindOp {
         requires { (W.seen world.old).ended ≡ false }
         ensures polled { PollsFor (λ done. Nothing) Nothing self.old self.new (W.seen world.old) (W.seen world.new) result }
         ensures same { _socket.new ≡ _socket.old }
+        ensures bind { IsBind self.old }
         ensures open { (W.seen world.new).ended ≡ false }
     {
         match self.stage {

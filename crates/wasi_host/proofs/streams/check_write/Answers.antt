@@ -1,10 +1,12 @@
+use Rattle.wasi_host.specs.Machine.{own_of}
+use Rattle.wasi_host.specs.Views.{state_of}
 use Rattle.wasi_host.proofs.StreamCalls.{converted_ok, converted_err}
 use Rattle.wasi_host.proofs.streams.check_write.Goals as goal
 
 pub returns-in-Ok-clause-asked : goal.returns-in-Ok-clause-asked
-returns-in-Ok-clause-asked g c = rw (← c.output.ensures, c.in-Some.is) (converted_ok c.args.self.now c.args.own c.args.output c.in-Some.place _ (rw c.in-Ok.is at c.check_write.ensures.asked))
+returns-in-Ok-clause-asked g c = rw (← c.output.ensures, c.in-Some.is) (converted_ok (state_of c.args.view.now) (own_of c.args.ids.now.line) c.args.this c.in-Some.place _ (rw (c.own.ensures, c.in-Ok.is) at c.check_write.ensures.asked))
 
 pub returns-in-Err-clause-asked : goal.returns-in-Err-clause-asked
 returns-in-Err-clause-asked g c =
     rw (← c.output.ensures, c.in-Some.is)
-    (converted_err c.args.self.now c.args.own c.args.output c.in-Some.place c.in-Err.error c.convert_stream_error.result (rw c.in-Err.is at c.check_write.ensures.asked) c.convert_stream_error.ensures.asked c.convert_stream_error.ensures.memory)
+    (converted_err (state_of c.args.view.now) (own_of c.args.ids.now.line) c.args.this c.in-Some.place c.in-Err.error c.convert_stream_error.result (rw (c.own.ensures, c.in-Err.is) at c.check_write.ensures.asked) c.convert_stream_error.ensures.asked c.convert_stream_error.ensures.memory)

@@ -24,11 +24,11 @@ returns-in_err-socket-clause-sides g c = λ k. rw c.reserve.ensures.items (knows
 pub returns-clause-asked : goal.returns-clause-asked
 returns-clause-asked g c = rw (← c.self.view_is)
     (asks_then _ c.in_ok-socket.ensures.asked.ok
-    (handle_asks (record { table = c.args.table.now; store = record { sockets = c.self.inside.sockets.items; jobs = c.self.inside.jobs.items; standing = c.self.inside.standing } }) c.args.own c.in_ok-socket.socket
-    (c.len-place.ensures ∙ c.reserve.ensures.len ∙ c.self.inside.sockets.ok.0) c.side-side.ensures (rw (c.reserve.ensures.items, c.new-2.ensures) at c.push_reserved.ensures.items) c.make.ensures.asked))
+    (rw c.of_fault.ensures (handle_asks (record { table = c.args.table.now; store = record { sockets = c.self.inside.sockets.items; jobs = c.self.inside.jobs.items; standing = c.self.inside.standing } }) c.args.own c.in_ok-socket.socket
+    (c.len-place.ensures ∙ c.reserve.ensures.len ∙ c.self.inside.sockets.ok.0) c.side-side.ensures (rw (c.reserve.ensures.items, c.new-2.ensures) at c.push_reserved.ensures.items) c.make-made.ensures.asked)))
 
 pub returns-clause-sides : goal.returns-clause-sides
 returns-clause-sides g c = λ k.
     let store : Records = record { sockets = c.self.inside.sockets.items; jobs = c.self.inside.jobs.items; standing = c.self.inside.standing } in
-    subst (λ (l : List Tcp2Socket). KnowsSides (g.W.World.seen c.make.new.world) (record store { sockets = l })) (sym (rw (c.reserve.ensures.items, c.new-2.ensures) at c.push_reserved.ensures.items))
-    (c.make.ensures.sides (with_record store c.in_ok-socket.socket) (knows_created c.args.own c.args.ctx.now c.args.family c.in_ok-socket.socket store c.in_ok-socket.ensures.asked.ok c.in_ok-socket.ensures.side (rw (← c.self.view_is) at k)))
+    subst (λ (l : List Tcp2Socket). KnowsSides (g.W.World.seen c.make-made.new.world) (record store { sockets = l })) (sym (rw (c.reserve.ensures.items, c.new-2.ensures) at c.push_reserved.ensures.items))
+    (c.make-made.ensures.sides (with_record store c.in_ok-socket.socket) (knows_created c.args.own c.args.ctx.now c.args.family c.in_ok-socket.socket store c.in_ok-socket.ensures.asked.ok c.in_ok-socket.ensures.side (rw (← c.self.view_is) at k)))

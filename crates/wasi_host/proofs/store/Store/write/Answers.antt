@@ -1,22 +1,33 @@
-use Rattle.std.proofs.Common.{refl}
-use Rattle.wasi_world.proofs.Walks.{asks_gives, asks_given}
-use Rattle.wasi_host.specs.Store.{Records, with_record_put}
+use Rattle.std.proofs.Common.{Some, refl}
+use Rattle.wasi_world.proofs.Walks.{asks_at, asks_gives, asks_given}
+use Rattle.wasi_streams.proofs.Streams.{stream_none}
+use Rattle.wasi_tcp.specs.Writer.{write_state_asks}
+use Rattle.wasi_host.specs.Jobs.{noted, write_at}
+use Rattle.wasi_host.specs.Store.{Records, with_record_put, writer_asks}
+use Rattle.wasi_host.proofs.JobLists.{noted_as, noted_none}
 use Rattle.wasi_host.proofs.Lookups.{found_at, none_at}
 use Rattle.wasi_host.proofs.SideCounts.{Any, knows_asked, held_in-set}
 use Rattle.wasi_host.proofs.StreamCounts.{calm_writer, calm_write}
 use Rattle.wasi_host.proofs.store.Store.write.Goals as goal
 
+pub returns-in_default-clause-asked : goal.returns-in_default-clause-asked
+returns-in_default-clause-asked g c =
+    let store : Records = record { sockets = c.self.inside.sockets.items; jobs = c.self.inside.jobs.items; standing = c.self.inside.standing } in
+    let none = none_at c.self.inside.sockets.items c.args.place c.in_default.ensures.item in
+    rw (← c.self.view_is, c.reserve.ensures.items) (asks_at (write_at store c.args.place (writer_asks (λ w. write_state_asks c.args.op w c.args.bytes))) none (asks_given _ _ refl (noted_none store c.args.place (writer_asks (λ w. write_state_asks c.args.op w c.args.bytes)) none)))
+
+pub returns-in_err-reserve-clause-asked : goal.returns-in_err-reserve-clause-asked
+returns-in_err-reserve-clause-asked g c = stream_none c.from_residual.result c.from_residual.ensures.1 refl
+
 pub returns-clause-asked : goal.returns-clause-asked
 returns-clause-asked g c =
     let store : Records = record { sockets = c.self.inside.sockets.items; jobs = c.self.inside.jobs.items; standing = c.self.inside.standing } in
-    rw (← c.self.view_is, found_at c.self.inside.sockets.items c.args.place c.in-Some.record c.in-Some.ensures.item)
-    (asks_gives (with_record_put store c.args.place) c.write.ensures.asked)
-
-pub returns-in_default-clause-asked : goal.returns-in_default-clause-asked
-returns-in_default-clause-asked g c = rw (← c.self.view_is, none_at c.self.inside.sockets.items c.args.place c.in_default.ensures.item) (asks_given _ _ refl refl)
+    let found = found_at c.self.inside.sockets.items c.args.place c.in-Some.record c.in-Some.ensures.item in
+    let is = noted_as store c.args.place c.in-Some.record.now c.write_noting-written.new.self c.write_noting-written.result.1 c.note_job.new.jobs.items found c.write_noting-written.ensures.begins (rw c.reserve.ensures.items at c.note_job.ensures) in
+    rw (← c.self.view_is, found, ← is) (asks_gives (noted c.args.place (Some c.in-Some.record.now)) (asks_gives (with_record_put store c.args.place) c.write_noting-written.ensures.asked))
 
 pub returns-clause-sides : goal.returns-clause-sides
 returns-clause-sides g c = λ k.
-    knows_asked Any _ _ _ (calm_writer _ c.in-Some.record.now (λ w. calm_write c.args.op w c.args.bytes)) c.write.ensures.asked
-    (held_in-set c.self.inside.sockets.items c.args.place c.in-Some.record.now c.write.new.self (found_at c.self.inside.sockets.items c.args.place c.in-Some.record c.in-Some.ensures.item) c.write.ensures.side)
+    knows_asked Any _ _ _ (calm_writer _ c.in-Some.record.now (λ w. calm_write c.args.op w c.args.bytes)) c.write_noting-written.ensures.asked
+    (held_in-set c.self.inside.sockets.items c.args.place c.in-Some.record.now c.write_noting-written.new.self (found_at c.self.inside.sockets.items c.args.place c.in-Some.record c.in-Some.ensures.item) c.write_noting-written.ensures.side)
     (rw (← c.self.view_is) at k)

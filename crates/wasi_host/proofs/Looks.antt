@@ -1,0 +1,210 @@
+-- Looks, shutdowns and closings of a record: how their answers are told, and what they make of the sides that are held.
+use Rattle.std.proofs.Common.{◌≡◌, ℕ, ◌+◌, Bool, List, [], ◌∷◌, ◌++◌, Option, Some, None, refl, sym, ap, subst, ◌∙◌, arith}
+use Rattle.std.specs.Prelude.{Result, Ok, Err, OnErr}
+use Rattle.std.specs.declared.alloc.AllocError.{AllocError}
+use Rattle.wasi_addr.specs.declared.address.ShutdownType.{ShutdownType}
+use Rattle.wasi_addr.specs.declared.address.ShutdownType.TheVariants.{Receive, Send, Both}
+use Rattle.wasi_addr.specs.declared.code.ErrorCode.{ErrorCode}
+use Rattle.wasi_world.specs.declared.call.Told.{Told}
+use Rattle.wasi_world.specs.declared.ids.OpId.{OpId}
+use Rattle.wasi_world.specs.declared.outcome.Answer.{Answer}
+use Rattle.wasi_world.specs.declared.outcome.Answer.TheVariants.{Ready, Pending}
+use Rattle.wasi_world.specs.declared.outcome.Refusal.{Refusal}
+use Rattle.wasi_world.specs.declared.outcome.Refusal.TheVariants as refusal
+use Rattle.wasi_world.specs.Seen.{Seen}
+use Rattle.wasi_world.specs.Asks.{Asks, Give, Ask, AskWrite, bind, Left, Reaches, Started, AsksFor, outcome}
+use Rattle.wasi_world.specs.Operation.{End, Waits, Done, Refused}
+use Rattle.wasi_world.proofs.Walks.{reaches_all, reaches_in, asks_end}
+use Rattle.wasi_streams.specs.declared.error.StreamError.{StreamError}
+use Rattle.wasi_streams.specs.declared.error.StreamError.TheVariants as error
+use Rattle.wasi_streams.specs.StreamStop.{StreamStop, stream_outcome}
+use Rattle.wasi_tcp.specs.declared.reader.ReadState.{ReadState}
+use Rattle.wasi_tcp.specs.declared.reader.ReadState.TheVariants as reading
+use Rattle.wasi_tcp.specs.declared.writer.WriteState.{WriteState}
+use Rattle.wasi_tcp.specs.declared.writer.WriteState.TheVariants as writing
+use Rattle.wasi_tcp.specs.Closing.{close_in, close_asks}
+use Rattle.wasi_tcp.specs.Connecting.{finish_connect_asks}
+use Rattle.wasi_tcp.specs.Job.{Job, finish_in, finish_asks}
+use Rattle.wasi_tcp.specs.Reader.{reader_ready_asks, reader_shutdown_asks}
+use Rattle.wasi_tcp.specs.Shape.{Socket}
+use Rattle.wasi_tcp.specs.Socket.{side_of}
+use Rattle.wasi_tcp.specs.Writer.{collected, look_asks, writer_side, writer_shutdown_asks, side_up_asks, writer_give_up_asks}
+use Rattle.wasi_host.specs.declared.socket.Streams.{Streams}
+use Rattle.wasi_host.specs.declared.socket.Tcp2Socket.{Tcp2Socket}
+use Rattle.wasi_host.specs.Dropping.{give_streams_up, gone, close_record, release_asks, wait_answer, waits_told, wait_writer}
+use Rattle.wasi_host.specs.Host.{Stop}
+use Rattle.wasi_host.specs.Readiness.{is_over, is_done, over_told, read_told, look_told, connect_looked, ready_reader, ready_writer}
+use Rattle.wasi_host.specs.Shutdowns.{shut_receive, shut_send, shut_streams, shut_record}
+use Rattle.wasi_host.specs.Sides.{closed_by, made_in, closed_in, one_if_some, held_in, ClosesOwn, KnowsSides}
+use Rattle.wasi_host.specs.Store.{Records, with_inner, with_reader, with_writer}
+use Rattle.wasi_host.proofs.SideCounts.{Calm, Any, calm_then, calm_left}
+use Rattle.wasi_host.proofs.ConnectCounts.{Counted, counted_then, counted_left}
+use Rattle.wasi_host.proofs.StreamCounts.{calm_look_in}
+
+-- == how a look is told
+waits_answer : (answer : Answer (Unit {0})) → wait_answer (Ok answer) ≡ answer
+waits_answer Pending = refl
+waits_answer (Ready tt) = refl
+
+module _ (op : OpId) (r : Tcp2Socket) (streams : Streams) where
+  -- by one that waits
+  pub look_waits : {w : WriteState} {s t : Seen} (looked : Result (Answer (Unit {0})) StreamError) → AsksFor (look_asks op streams.writer) s t (λ answer. (answer, w)) (stream_outcome looked)
+      → AsksFor {A = Answer (Unit {0}) × Tcp2Socket} (bind (look_asks op streams.writer) (λ l. Give (wait_answer l.0, with_writer r streams l.1))) s t (λ answer. (answer, with_writer r streams w)) (waits_told looked)
+  look_waits {w} (Ok answer) h = asks_end _ h.ok (ap (λ (a : Answer (Unit {0})). Give (a, with_writer r streams w)) (waits_answer answer))
+  look_waits (Err (error.LastOperationFailed c)) h = asks_end _ h.ok refl
+  look_waits (Err error.Closed) h = asks_end _ h.ok refl
+  look_waits (Err (error.Trap k)) h = asks_end _ h.ok refl
+  look_waits (Err (error.Memory e)) h = record { ok = tt; err = record { rest = bind h.err.rest _; reached = reaches_in _ h.err.reached } }
+
+  over_answer : (answer : Answer (Unit {0})) → is_over {E = StreamStop} (Ok answer) ≡ is_done answer
+  over_answer Pending = refl
+  over_answer (Ready tt) = refl
+
+  -- by a pollable
+  pub look_over : {w : WriteState} {s t : Seen} (looked : Result (Answer (Unit {0})) StreamError) → AsksFor (look_asks op streams.writer) s t (λ answer. (answer, w)) (stream_outcome looked)
+      → AsksFor {A = Result Bool Stop × Tcp2Socket} (bind (look_asks op streams.writer) (λ l. Give (Ok (is_over l.0), with_writer r streams l.1))) s t (λ (ready : Result Bool Stop). (ready, with_writer r streams w)) (look_told looked)
+  look_over {w} (Ok answer) h = asks_end _ h.ok (ap (λ (b : Bool). let told : Result Bool Stop = Ok b in Give (told, with_writer r streams w)) (over_answer answer))
+  look_over (Err (error.LastOperationFailed c)) h = asks_end _ h.ok refl
+  look_over (Err error.Closed) h = asks_end _ h.ok refl
+  look_over (Err (error.Trap k)) h = asks_end _ h.ok refl
+  look_over (Err (error.Memory e)) h = record { ok = tt; err = record { rest = bind h.err.rest _; reached = reaches_in _ h.err.reached } }
+
+pub read_over : (r : Tcp2Socket) (op : OpId) (streams : Streams) {now : ReadState} {s t : Seen} (looked : Result (Answer (Unit {0})) AllocError) → AsksFor (reader_ready_asks op streams.reader) s t (λ answer. (answer, now)) looked
+    → AsksFor {A = Result Bool Stop × Tcp2Socket} (bind (reader_ready_asks op streams.reader) (λ done. Give (Ok (is_done done.0), with_reader r streams done.1))) s t (λ (ready : Result Bool Stop). (ready, with_reader r streams now)) (read_told looked)
+read_over r op streams (Ok answer) h = asks_end _ h.ok refl
+read_over r op streams (Err e) h = record { ok = tt; err = record { rest = bind h.err.rest _; reached = reaches_in _ h.err.reached } }
+
+over_connect : (answer : Answer (Unit {0})) → is_over {E = ErrorCode} (Ok answer) ≡ is_done answer
+over_connect Pending = refl
+over_connect (Ready tt) = refl
+
+pub connect_over : (r : Tcp2Socket) (now : Socket) {s t : Seen} (polled : Result (Answer (Unit {0})) Refusal) → AsksFor (finish_connect_asks r.inner) s t (λ answer. (answer, now)) (outcome polled)
+    → AsksFor (bind (finish_connect_asks r.inner) (λ done. Give (connect_looked r done))) s t (λ (ready : Result Bool Stop). (ready, with_inner r now)) (over_told polled)
+connect_over r now (Ok answer) h = asks_end _ h.ok (ap (λ (b : Bool). let told : Result Bool Stop = Ok b in Give (told, with_inner r now)) (over_connect answer))
+connect_over r now (Err (refusal.Code c)) h = asks_end _ h.ok refl
+connect_over r now (Err (refusal.Memory e)) h = record { ok = tt; err = record { rest = bind h.err.rest _; reached = reaches_in _ h.err.reached } }
+
+-- == looks and shutdowns are calm
+calm_reader_ready : (op : OpId) (s : ReadState) → Calm Any (reader_ready_asks op s)
+unfolding bind
+calm_reader_ready op (reading.Open half) = ((λ t. refl, refl), λ t. tt)
+calm_reader_ready op reading.Closed = tt
+
+pub calm_ready_reader : (op : OpId) (r : Tcp2Socket) (o : Option Streams) → Calm Any (ready_reader op r o)
+calm_ready_reader op r None = tt
+calm_ready_reader op r (Some s) = calm_then Any Any (reader_ready_asks op s.reader) _ (calm_reader_ready op s.reader) (λ d k. tt)
+
+pub calm_ready_writer : (op : OpId) (r : Tcp2Socket) (o : Option Streams) → Calm Any (ready_writer op r o)
+calm_ready_writer op r None = tt
+calm_ready_writer op r (Some s) = calm_then Any Any (look_asks op s.writer) _ (calm_look_in op (collected s.writer)) (λ d k. tt)
+
+pub calm_wait_writer : (op : OpId) (r : Tcp2Socket) (o : Option Streams) → Calm Any (wait_writer op r o)
+calm_wait_writer op r None = tt
+calm_wait_writer op r (Some s) = calm_then Any Any (look_asks op s.writer) _ (calm_look_in op (collected s.writer)) (λ d k. tt)
+
+calm_reader_shutdown : (op : OpId) (s : ReadState) → Calm Any (reader_shutdown_asks op s)
+unfolding bind
+calm_reader_shutdown op (reading.Open half) = ((λ t. refl, refl), λ t. tt)
+calm_reader_shutdown op reading.Closed = tt
+
+calm_finish_in : (op : OpId) (job : Job) (end : End) → Calm Any (finish_in op job end)
+unfolding bind
+calm_finish_in op job Waits = tt
+calm_finish_in op job (Done given) = ((λ t. refl, refl), λ t. tt)
+calm_finish_in op job (Refused c given) = tt
+
+calm_writer_shutdown : (op : OpId) (w : WriteState) → Calm Any (writer_shutdown_asks op w)
+unfolding bind
+calm_writer_shutdown op (writing.Ready half permit) = ((λ t. refl, refl), λ t. tt)
+calm_writer_shutdown op (writing.Writing job) = calm_then Any Any (finish_asks op job) _ (calm_finish_in op job job.end) (λ f k. tt)
+calm_writer_shutdown op (writing.Closing job) = tt
+calm_writer_shutdown op (writing.Closed e) = tt
+
+calm_shut_receive : (op : OpId) (s : Streams) → Calm Any (shut_receive op s)
+calm_shut_receive op s = calm_then Any Any (reader_shutdown_asks op s.reader) _ (calm_reader_shutdown op s.reader) (λ d k. tt)
+
+calm_shut_send : (op : OpId) (s : Streams) → Calm Any (shut_send op s)
+calm_shut_send op s = calm_then Any Any (writer_shutdown_asks op s.writer) _ (calm_writer_shutdown op s.writer) (λ d k. tt)
+
+calm_shut : (op : OpId) (how : ShutdownType) (s : Streams) → Calm Any (shut_streams op how s)
+calm_shut op Receive s = calm_shut_receive op s
+calm_shut op Send s = calm_shut_send op s
+calm_shut op Both s = calm_then Any Any (shut_receive op s) _ (calm_shut_receive op s) (λ d k. calm_shut_send op d.1)
+
+pub calm_shut_record : (op : OpId) (how : ShutdownType) (r : Tcp2Socket) (o : Option Streams) → Calm Any (shut_record op how r o)
+calm_shut_record op how r None = tt
+calm_shut_record op how r (Some s) = calm_then Any Any (shut_streams op how s) _ (calm_shut op how s) (λ d k. tt)
+
+calm_side_up : (op : OpId) (o : Option OpId) → Calm Any (side_up_asks op o)
+unfolding bind
+calm_side_up op (Some side) = ((λ t. refl, refl), λ t. tt)
+calm_side_up op None = tt
+
+pub calm_give_up : (op : OpId) (o : Option Streams) → Calm Any (give_streams_up op o)
+calm_give_up op None = tt
+calm_give_up op (Some s) = calm_then Any Any (reader_shutdown_asks op s.reader) _ (calm_reader_shutdown op s.reader) (λ d k. calm_side_up op (writer_side s.writer))
+
+-- == what they make of the side
+pub closes_walk : {A : Type 0} {asks rest : Asks A} {s t : Seen} {old now : Socket} → Calm Any asks → Reaches asks rest s t → side_of now ≡ side_of old → ClosesOwn s t old now
+closes_walk {asks = asks} {rest} q h e =
+    let n = calm_left Any asks h.entries rest q h.left in
+    let p = ap one_if_some e in
+    let c = n.closed in
+    record { entries = h.entries; passed = h.passed; made = n.made; closed = omega arith }
+
+pub closes_calm : {A T : Type 0} {asks : Asks A} {s t : Seen} {view : T → A} {old now : Socket} → Calm Any asks → (r : Result T AllocError) → AsksFor asks s t view r → side_of now ≡ side_of old → ClosesOwn s t old now
+closes_calm q (Ok x) h e = closes_walk q h.ok e
+closes_calm q (Err d) h e = closes_walk q h.err.reached e
+
+-- no ask, and the socket as it was
+pub closes_none : (socket : Socket) (s : Seen) → ClosesOwn s s socket socket
+closes_none socket s = let done : Unit {0} = tt in closes_walk {asks = Give done} {rest = Give done} tt (reaches_all (Give done) s) refl
+
+-- a calm tree is counted as it was
+counted_calm : {A : Type 0} (n : ℕ) (asks : Asks A) → Calm Any asks → Counted (λ m a. m ≡ n) n asks
+counted_calm n (Give a) h = refl
+counted_calm n (Ask op call next) h =
+    let z = h.0.1 in
+    let e : n ≡ n + closed_by call = omega arith in
+    (h.0.0, λ t. subst (λ (m : ℕ). Counted (λ k a. k ≡ n) m (next t)) e (counted_calm n (next t) (h.1 t)))
+counted_calm n (AskWrite op sock bytes next) h = λ t. counted_calm n (next t) (h t)
+
+-- a side that was there is closed once
+Balances : Socket → ℕ → Unit {0} × Socket → Type 0
+Balances socket n done = n + one_if_some (side_of done.1) ≡ one_if_some (side_of socket)
+
+count_close : (op : OpId) (socket : Socket) (o : Option OpId) → side_of socket ≡ o → Counted (λ n done. n + one_if_some (side_of done.1) ≡ one_if_some (side_of socket)) 0 (close_in op socket o)
+unfolding bind
+count_close op socket None e = omega arith
+count_close op socket (Some side) e = ((λ t. refl), λ t. rw e refl)
+
+count_record : (op : OpId) (r : Tcp2Socket) → Counted (λ n (done : Unit {0} × Tcp2Socket). n + one_if_some (side_of done.1.inner) ≡ one_if_some (side_of r.inner)) 0 (close_record op r)
+count_record op r =
+    counted_then (λ n done. n + one_if_some (side_of done.1) ≡ one_if_some (side_of r.inner)) (λ n done. n + one_if_some (side_of done.1.inner) ≡ one_if_some (side_of r.inner)) 0 (close_asks op r.inner) _ (count_close op r.inner (side_of r.inner) refl) (λ n done k. k)
+
+count_release : (op : OpId) (r : Tcp2Socket) → Counted (λ n (done : Unit {0} × Tcp2Socket). n + one_if_some (side_of done.1.inner) ≡ one_if_some (side_of r.inner)) 0 (release_asks op r)
+count_release op r =
+    counted_then (λ n done. n ≡ 0) (λ n done. n + one_if_some (side_of done.1.inner) ≡ one_if_some (side_of r.inner)) 0 (give_streams_up op r.streams) _ (counted_calm 0 (give_streams_up op r.streams) (calm_give_up op r.streams))
+    (λ n done k. subst (λ (m : ℕ). Counted (λ n done. n + one_if_some (side_of done.1.inner) ≡ one_if_some (side_of r.inner)) m (close_record op r)) (sym k) (count_record op r))
+
+-- a record that is released has closed its side, unless memory was wanted before
+pub release_closes : (op : OpId) (r now : Tcp2Socket) {s t u : Seen} (result : Result (Unit {0}) AllocError) → Reaches (give_streams_up op r.streams) (Give tt) s t
+    → AsksFor (release_asks op r) s u (λ done. (done, now)) result → OnErr result (side_of now.inner ≡ side_of r.inner) → OnErr result (u ≡ t) → ClosesOwn s u r.inner now.inner
+release_closes op r now (Ok done) g h e q =
+    let w = counted_left (λ n (done : Unit {0} × Tcp2Socket). n + one_if_some (side_of done.1.inner) ≡ one_if_some (side_of r.inner)) 0 (release_asks op r) h.ok.entries _ (count_release op r) h.ok.left in
+    let balance = w.left in
+    record { entries = h.ok.entries; passed = h.ok.passed; made = w.made; closed = omega arith }
+release_closes op r now (Err d) g h e q = rw q (closes_walk (calm_give_up op r.streams) g e)
+
+-- jobs hold no side
+pub knows_jobs : {s : Seen} (store : Records) (jobs : List ℕ) → KnowsSides s store → KnowsSides s (record store { jobs = jobs })
+knows_jobs store jobs k = record { count = k.count }
+
+-- at want of memory alone
+pub on_err : {T E P : Type 0} (r : Result T E) → P → OnErr r P
+on_err (Ok x) p = tt
+on_err (Err e) p = p
+
+pub same_side : {T E : Type 0} (r mid now : Tcp2Socket) (result : Result T E) → mid ≡ record r { streams = None } → OnErr result (now ≡ mid) → OnErr result (side_of now.inner ≡ side_of r.inner)
+same_side r mid now (Ok x) e h = tt
+same_side r mid now (Err d) e h = ap (λ (q : Tcp2Socket). side_of q.inner) (h ∙ e)
