@@ -171,6 +171,9 @@ module _ (m : Machine) (line handle network : ℕ) (a : IpSocketAddress) where
     pub bind_refused : (entries : List Entry) (w : CodeWord) (after : Machine) → Answered contexts m line (step.TcpStartBind ctx handle network a) entries (reply.Err w) after → RefusedBind m own handle a entries w after
     bind_refused entries w after h = settled contexts m line BindSays (step.TcpStartBind ctx handle network a) m.store.standing entries (reply.Err w, after) bind_says h (λ e. cc)
 
+    pub bind_waits : (entries : List Entry) (n : ℕ) (after : Machine) → Answered contexts m line (step.TcpStartBind ctx handle network a) entries (reply.Pending n) after → EndsPending own entries
+    bind_waits entries n after h = (settled contexts m line BindSays (step.TcpStartBind ctx handle network a) m.store.standing entries (reply.Pending n, after) bind_says h (λ e. cc)).1.1
+
     -- what stands then
     left_of_begun : (place : ℕ) (r : Tcp2Socket) (entries : List Entry) (w : CodeWord) (after : Machine) → socket_at m handle ≡ Some place → slice_get m.store.sockets place ≡ Some r → Begun place r entries w after
         → (after ≡ m) ⊎ ((w ≡ word.InvalidState) × KnowsBound m handle after)

@@ -1,11 +1,11 @@
 -- A bind: each of its asks is allowed, and what it leaves may be polled on.
 use Rattle.std.specs.Prelude.{⊤}
-use Rattle.std.proofs.Common.{◌≡◌, inl, Bool, true, false, if◌then◌else◌, ◌&&◌, List, [], ◌∷◌, ◌++◌, Option, Some, None, Result, Ok, Err, refl, sym, ap, subst}
+use Rattle.std.proofs.Common.{◌≡◌, inl, Bool, true, false, if◌then◌else◌, ◌&&◌, List, [], ◌∷◌, ◌++◌, Option, Some, Result, Ok, Err, refl, sym, ap, subst}
 use Rattle.wasi_addr.specs.declared.address.IpSocketAddress.{IpSocketAddress}
 use Rattle.wasi_addr.specs.declared.address.SocketAddrUse.TheVariants.{TcpBind}
 use Rattle.wasi_addr.specs.declared.code.ErrorCode.{ErrorCode}
 use Rattle.wasi_addr.specs.declared.code.ErrorCode.TheVariants.{AccessDenied}
-use Rattle.wasi_addr.specs.Address.{ip_of, is_of_family, is_unicast, is_wildcard}
+use Rattle.wasi_addr.specs.Address.{ip_of, is_of_family, is_unicast}
 use Rattle.wasi_world.specs.declared.ids.OpId.{OpId}
 use Rattle.wasi_world.specs.declared.call.Call.{Call}
 use Rattle.wasi_world.specs.declared.call.Call.TheVariants as call
@@ -14,21 +14,21 @@ use Rattle.wasi_world.specs.declared.call.Told.TheVariants as told
 use Rattle.wasi_world.specs.declared.call.Entry.{Entry}
 use Rattle.wasi_world.specs.declared.outcome.WasiSocketsCtx.{WasiSocketsCtx}
 use Rattle.wasi_world.specs.Asks.{bind}
-use Rattle.wasi_world.specs.Typed.{told_verdict, told_done, told_addr}
+use Rattle.wasi_world.specs.Typed.{told_verdict, told_done}
 use Rattle.wasi_world.specs.Operation.{Given, Nothing, Item, Check, Bind, LastAsk, NothingLast, Who, Operation, End, Waits, Done, Refused, front, last_ask, poll_asks, verdict_front, done_front}
-use Rattle.wasi_world.proofs.Allowed.{Allows, allows_then, allows_if, allows_keep, FrontKeeps, allows_polls}
+use Rattle.wasi_world.proofs.Allowed.{Allows, allows_then, FrontKeeps, allows_polls}
 use Rattle.wasi_tcp.specs.declared.socket.TcpState.{TcpState}
 use Rattle.wasi_tcp.specs.declared.socket.TcpState.TheVariants.{Default}
 use Rattle.wasi_tcp.specs.Shape.{Socket}
-use Rattle.wasi_tcp.specs.Socket.{side_in, side_of, after_local, ask_bound, bound_asks, bind_allowed, bind_start, bind_asks}
+use Rattle.wasi_tcp.specs.Socket.{side_in, bound_asks, bind_allowed, bind_start, bind_asks}
 use Rattle.wasi_host.specs.declared.socket.Tcp2Socket.{Tcp2Socket}
 use Rattle.wasi_run.specs.declared.step.Step.{Step}
-use Rattle.wasi_host.specs.Store.{with_inner, left_of, bind_ended, bind_begun, begin_bind_asks}
-use Rattle.wasi_run.specs.Licence.{entry, BeganBy, IsBindTo, MayAsk}
+use Rattle.wasi_host.specs.Store.{with_inner, left_of, bind_ended, bind_begun, poll_bind_asks, begin_bind_asks}
+use Rattle.wasi_run.specs.Licence.{entry, BeganBy, IsBindTo}
 use Rattle.wasi_run.proofs.Lists.{has_last}
 use Rattle.wasi_run.proofs.Bounds.{May, MayWork, work_kept, Learned, fine_bound, keeps_socket}
 use Rattle.wasi_run.proofs.Fine.{BindLeft, Whole, Checked, Over, WorksOn, BindIsFine, SocketIsFine}
-use Rattle.wasi_run.proofs.Frames.{KeepsSide, KeepsRecord, works_more}
+use Rattle.wasi_run.proofs.Frames.{KeepsSide, keeps_side, KeepsRecord, works_more}
 
 module _ (contexts : List WasiSocketsCtx) (steps : List Step) where
   -- == a poll
@@ -109,15 +109,23 @@ module _ (contexts : List WasiSocketsCtx) (steps : List Step) where
 
   fine_ended : (es : List Entry) (op : Operation) (old r : Tcp2Socket) (ended : End × List Item) → KeepsRecord old r → SocketIsFine steps es r.inner → BindIsFine steps es (left_of op ended.1) → BegunIsFine old es (bind_ended op r ended)
   fine_ended es op old r (Waits, items) k f b = record { keeps = k; fine = f; stands = b }
-  fine_ended es op old r (Done given, items) k f b = record { keeps = record { keeps = k.keeps; streams = k.streams }; fine = f; stands = tt }
+  fine_ended es op old r (Done given, items) k f b = record { keeps = record { keeps = k.keeps; side = k.side; streams = k.streams }; fine = f; stands = tt }
   fine_ended es op old r (Refused c given, items) k f b = record { keeps = k; fine = f; stands = tt }
 
+  -- the poll of a bind on a record that is that of old
+  fine_polled : (es : List Entry) (op : Operation) (old r : Tcp2Socket) → KeepsRecord old r → SocketIsFine steps es r.inner → BindIsFine steps es op → Allows (May contexts steps) (BegunIsFine old) es (poll_bind_asks op r)
+  fine_polled es op old r k f h =
+      allows_then (May contexts steps) (λ fs ended. SocketIsFine steps fs r.inner × BindIsFine steps fs (left_of op ended.1)) (BegunIsFine old) es (poll_asks op) _
+      (keeps_socket contexts steps r.inner (λ fs ended. BindIsFine steps fs (left_of op ended.1)) es (poll_asks op) f (fine_poll op es h))
+      (λ fs ended b. fine_ended fs op old r ended k b.0 b.1)
+
+  -- of a bind that stands
+  pub fine_repoll : (es : List Entry) (op : Operation) (r : Tcp2Socket) → SocketIsFine steps es r.inner → BindIsFine steps es op → Allows (May contexts steps) (BegunIsFine r) es (poll_bind_asks op r)
+  fine_repoll es op r f h = fine_polled es op r r (record { keeps = keeps_side r.inner; side = refl; streams = refl }) f h
+
   fine_begun : (es : List Entry) (r : Tcp2Socket) (start : Result Operation ErrorCode × Socket) → KeepsSide r.inner start.1 → SocketIsFine steps es start.1 → StartIsFine es start.0 → Allows (May contexts steps) (BegunIsFine r) es (bind_begun r start)
-  fine_begun es r (Err c, socket) k f h = record { keeps = record { keeps = k; streams = refl }; fine = f; stands = tt }
-  fine_begun es r (Ok op, socket) k f h =
-      allows_then (May contexts steps) (λ fs ended. SocketIsFine steps fs socket × BindIsFine steps fs (left_of op ended.1)) (BegunIsFine r) es (poll_asks op) _
-      (keeps_socket contexts steps socket (λ fs ended. BindIsFine steps fs (left_of op ended.1)) es (poll_asks op) f (fine_poll op es h))
-      (λ fs ended b. fine_ended fs op r (with_inner r socket) ended (record { keeps = k; streams = refl }) b.0 b.1)
+  fine_begun es r (Err c, socket) k f h = record { keeps = record { keeps = k; side = refl; streams = refl }; fine = f; stands = tt }
+  fine_begun es r (Ok op, socket) k f h = fine_polled es op r (with_inner r socket) (record { keeps = k; side = refl; streams = refl }) f h
 
   pub fine_begin : (es : List Entry) (op : OpId) (r : Tcp2Socket) (a : IpSocketAddress) → BeganBy steps op (IsBindTo a) → MayWork contexts steps es op r.inner → SocketIsFine steps es r.inner → Allows (May contexts steps) (BegunIsFine r) es (begin_bind_asks op r a)
   fine_begin es op r a to h f =

@@ -1,8 +1,5 @@
 -- Whether a socket is bound: what is asked is allowed, and what is learned is in the log.
-use Rattle.std.specs.Prelude.{⊤}
-use Rattle.std.proofs.Common.{◌≡◌, inl, Bool, true, false, if◌then◌else◌, List, [], ◌∷◌, ◌++◌, Some, Ok, Err, Result, refl, sym, ap, subst}
-use Rattle.wasi_addr.specs.declared.address.IpSocketAddress.{IpSocketAddress}
-use Rattle.wasi_addr.specs.declared.code.ErrorCode.{ErrorCode}
+use Rattle.std.proofs.Common.{◌≡◌, inl, Bool, true, false, if◌then◌else◌, List, ◌++◌, Some, refl, ap, subst}
 use Rattle.wasi_addr.specs.Address.{is_wildcard}
 use Rattle.wasi_world.specs.declared.ids.OpId.{OpId}
 use Rattle.wasi_world.specs.declared.call.Call.{Call}
@@ -20,10 +17,10 @@ use Rattle.wasi_tcp.specs.declared.socket.TcpState.TheVariants as state
 use Rattle.wasi_tcp.specs.Shape.{Socket}
 use Rattle.wasi_tcp.specs.Socket.{side_in, side_of, after_local, ask_bound, bound_asks}
 use Rattle.wasi_run.specs.declared.step.Step.{Step}
-use Rattle.wasi_run.specs.Licence.{Has, entry, IsMaker, IsBoundSide, MayAsk}
+use Rattle.wasi_run.specs.Licence.{Has, entry, IsBoundSide, MayAsk}
 use Rattle.wasi_run.proofs.Lists.{has_last}
-use Rattle.wasi_run.proofs.Fine.{WorksOn, KnowsMaker, SocketIsFine}
-use Rattle.wasi_run.proofs.Frames.{NoMark, KeepsSide, keeps_side, knows_kept, works_more, connect_more, socket_more}
+use Rattle.wasi_run.proofs.Fine.{WorksOn, SocketIsFine}
+use Rattle.wasi_run.proofs.Frames.{NoMark, KeepsSide, keeps_side, works_more, socket_more}
 
 module _ (contexts : List WasiSocketsCtx) (steps : List Step) where
   -- an ask that may come, and is no mark

@@ -1,6 +1,6 @@
 -- A connect: each of its asks is allowed, and what it leaves may be polled on.
 use Rattle.std.specs.Prelude.{⊤}
-use Rattle.std.proofs.Common.{◌≡◌, ◌⊎◌, inl, inr, ℕ, Bool, true, false, if◌then◌else◌, List, [], ◌∷◌, ◌++◌, Some, Ok, Err, Result, refl, sym, ap, subst, ◌∙◌}
+use Rattle.std.proofs.Common.{◌≡◌, inl, inr, ℕ, Bool, true, false, if◌then◌else◌, List, [], ◌∷◌, ◌++◌, Some, Ok, Err, Result, refl, sym, ap, subst, ◌∙◌}
 use Rattle.wasi_addr.specs.declared.address.IpSocketAddress.{IpSocketAddress}
 use Rattle.wasi_addr.specs.declared.address.SocketAddressFamily.{SocketAddressFamily}
 use Rattle.wasi_addr.specs.declared.address.SocketAddrUse.TheVariants.{TcpBind, TcpConnect}
@@ -14,12 +14,12 @@ use Rattle.wasi_world.specs.declared.call.Told.{Told}
 use Rattle.wasi_world.specs.declared.call.Told.TheVariants as told
 use Rattle.wasi_world.specs.declared.call.Entry.{Entry}
 use Rattle.wasi_world.specs.declared.outcome.Answer.{Answer}
-use Rattle.wasi_world.specs.declared.outcome.Answer.TheVariants.{Ready, Pending}
+use Rattle.wasi_world.specs.declared.outcome.Answer.TheVariants.{Ready}
 use Rattle.wasi_world.specs.declared.outcome.WasiSocketsCtx.{WasiSocketsCtx}
-use Rattle.wasi_world.specs.Asks.{Asks, Give, bind}
+use Rattle.wasi_world.specs.Asks.{bind}
 use Rattle.wasi_world.specs.Typed.{told_verdict, told_polled}
-use Rattle.wasi_world.specs.Operation.{Given, Nothing, Item, Check, Connect, Last, LastAsk, CloseLast, Who, Operation, End, Waits, Done, Refused, front, last_ask, poll_asks, verdict_front, polled_front}
-use Rattle.wasi_world.proofs.Allowed.{Allows, allows_then, allows_if, FrontKeeps, allows_polls}
+use Rattle.wasi_world.specs.Operation.{Given, Nothing, Item, Check, Connect, LastAsk, CloseLast, Who, Operation, End, Waits, Done, Refused, front, last_ask, poll_asks, verdict_front, polled_front}
+use Rattle.wasi_world.proofs.Allowed.{Allows, allows_then, FrontKeeps, allows_polls}
 use Rattle.wasi_tcp.specs.declared.bind.Asker.{Asker}
 use Rattle.wasi_tcp.specs.declared.socket.TcpState.{TcpState}
 use Rattle.wasi_tcp.specs.declared.socket.TcpState.TheVariants as state
@@ -29,11 +29,11 @@ use Rattle.wasi_tcp.specs.Connect.{connect_operation, connect_first}
 use Rattle.wasi_tcp.specs.Connecting.{with_state, is_connectable, connect_start, start_connect_in, start_connect_asks, new_connection, connect_ended, finish_in, in_socket, finish_connect_asks}
 use Rattle.wasi_run.specs.declared.step.Step.{Step}
 use Rattle.wasi_host.specs.Store.{left_of}
-use Rattle.wasi_run.specs.Licence.{Has, entry, BeganBy, IsMaker, IsConnectTo, HasWildcardYes, MayGoOut, MayAsk}
+use Rattle.wasi_run.specs.Licence.{Has, entry, BeganBy, IsMaker, IsConnectTo, MayGoOut}
 use Rattle.wasi_run.proofs.Bounds.{May, MayWork, Learned, fine_bound, keeps_socket}
 use Rattle.wasi_run.proofs.Lists.{has_last, has_front}
 use Rattle.wasi_run.proofs.Fine.{ConnectLeft, Unbound, Unchecked, Allowed, ToClose, Ended, WorksOn, ConnectIsFine, IsConnectedOn, KnowsMaker, SocketIsFine}
-use Rattle.wasi_run.proofs.Frames.{KeepsSide, keeps_side, works_more, out_more, maker_more, knows_more}
+use Rattle.wasi_run.proofs.Frames.{KeepsSide, keeps_side, works_more, out_more, maker_more}
 
 module _ (contexts : List WasiSocketsCtx) (steps : List Step) where
   -- == a poll

@@ -35,9 +35,9 @@ use Rattle.wasi_run.specs.Answered.{Answered, word_of_code, CreateRefusal, NotAl
 use Rattle.wasi_run.proofs.StepCauses.{Gives, gives_then, settled}
 
 -- == making a handle
-pub make_gives : (Q : List Entry → Result ℕ Stop × Shown → Type 0) (es : List Entry) (t : Shown) (op : OpId) (kind : Kind) (parent : Option ℕ) (side : Option OpId)
+pub make_gives : (Q : List Entry → Result ℕ Stop × Handles → Type 0) (es : List Entry) (t : Handles) (op : OpId) (kind : Kind) (parent : Option ℕ) (side : Option OpId)
     → (is_full t ≡ true → Q es (Err (Trap Full), t))
-    → ((told : Told) → Q (es ++ entry op (call.Made t.next (name_of kind) parent side) told ∷ []) (Ok t.next, with_handle t kind))
+    → ((told : Told) → Q (es ++ entry op (call.Made t.next (name_of kind) parent side) told ∷ []) (Ok t.next, with_handle t kind parent))
     → Gives Q es (make_asks t op kind parent side)
 unfolding bind
 make_gives Q es t op kind parent side f h = allows_if _ Q es (is_full t) _ _ f (λ room. (tt, λ told fits. h told))

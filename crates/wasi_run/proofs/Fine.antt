@@ -10,40 +10,41 @@ use Rattle.wasi_world.specs.declared.ids.OpId.{OpId}
 use Rattle.wasi_world.specs.declared.call.Call.TheVariants as call
 use Rattle.wasi_world.specs.declared.call.Told.TheVariants.{Yes}
 use Rattle.wasi_world.specs.declared.call.Entry.{Entry}
-use Rattle.wasi_world.specs.Operation.{Nothing, Item, Check, Bind, Connect, Last, NothingLast, CloseLast, Operation}
+use Rattle.wasi_world.specs.Operation.{Nothing, Item, Check, Bind, Connect, Write, ShutdownSend, Last, NothingLast, CloseLast, ShutdownLast, Operation}
 use Rattle.wasi_tcp.specs.declared.socket.Connection.{Connection}
 use Rattle.wasi_tcp.specs.declared.socket.TcpState.TheVariants.{Default, Connecting, Connected}
 use Rattle.wasi_tcp.specs.declared.reader.ReadState.{ReadState}
+use Rattle.wasi_tcp.specs.declared.reader.ReadState.TheVariants as reading
 use Rattle.wasi_tcp.specs.declared.writer.WriteState.{WriteState}
-use Rattle.wasi_tcp.specs.Reader.{reader_side}
-use Rattle.wasi_tcp.specs.Writer.{writer_side}
+use Rattle.wasi_tcp.specs.declared.writer.WriteState.TheVariants as writing
+use Rattle.wasi_tcp.specs.Job.{Job}
 use Rattle.wasi_tcp.specs.Shape.{Socket}
 use Rattle.wasi_tcp.specs.Socket.{side_of}
+use Rattle.wasi_host.specs.declared.kind.Kind.{Kind}
+use Rattle.wasi_host.specs.declared.kind.Kind.TheVariants.{Network, Tcp2, Input, Output, Pollable, ErrorValue}
 use Rattle.wasi_host.specs.declared.machine.Machine.{Machine}
 use Rattle.wasi_host.specs.declared.socket.Streams.{Streams}
 use Rattle.wasi_host.specs.declared.socket.Tcp2Socket.{Tcp2Socket}
-use Rattle.wasi_run.specs.declared.step.Step.{Step}
 use Rattle.wasi_host.specs.declared.store.Standing.{Standing}
-use Rattle.wasi_host.specs.declared.kind.Kind.{Kind}
-use Rattle.wasi_host.specs.declared.kind.Kind.TheVariants.{Network, Tcp2, Input, Output, ErrorValue}
-use Rattle.wasi_host.specs.Kinds.{kind_at}
-use Rattle.wasi_run.specs.Licence.{Has, entry, marks_in, BeganBy, NamesSide, IsSide, IsMaker, IsBoundSide, MayGoOut, IsBindTo, IsConnectTo}
+use Rattle.wasi_host.specs.declared.store.StandingCall.{StandingCall}
+use Rattle.wasi_host.specs.declared.store.StandingCall.TheVariants as standing
+use Rattle.wasi_host.specs.Kinds.{kind_at, place_in}
+use Rattle.wasi_host.specs.Machine.{own_of}
+use Rattle.wasi_run.specs.declared.step.Step.{Step}
+use Rattle.wasi_run.specs.Licence.{Has, entry, marks_in, BeganBy, NamesSide, IsMarkedWith, IsMaker, IsBoundSide, MayGoOut, IsBindTo, IsConnectTo}
 
--- The log has the mark of the handle: it is of the side of the socket that the handle stands for, as long as that has one.
-pub record OfSide (es : List Entry) (handle : ℕ) (socket : Socket) : Type 0 where
-  pub side : (side : OpId) → side_of socket ≡ Some side → IsSide es handle side
-
--- The handle stands for the record at this place.
+-- The handle stands for the record at this place, and its mark says the side that the record was made with.
 pub record NamesRecord (es : List Entry) (sockets : List Tcp2Socket) (handle place : ℕ) : Type 0 where
   pub found : Tcp2Socket
   pub at : slice_get sockets place ≡ Some found
-  pub of : OfSide es handle found.inner
+  pub marked : IsMarkedWith es handle found.side
 
 abbrev pub HandleIsFine : List Entry → List Tcp2Socket → ℕ → Kind → Type 0
 HandleIsFine es sockets handle Network = ⊤
 HandleIsFine es sockets handle (Tcp2 place) = NamesRecord es sockets handle place
 HandleIsFine es sockets handle (Input place) = NamesRecord es sockets handle place
 HandleIsFine es sockets handle (Output place) = NamesRecord es sockets handle place
+HandleIsFine es sockets handle (Pollable w) = NamesRecord es sockets handle (place_in w)
 HandleIsFine es sockets handle ErrorValue = ⊤
 
 -- The socket knows the maker of its side, and the side's family.
@@ -56,19 +57,10 @@ pub record IsConnectedOn (socket : Socket) (side : OpId) : Type 0 where
   pub state : socket.state ≡ Connected connection
   pub same : connection.side ≡ side
 
--- the half, while there is one, is of this side
+-- the half, while it is open, is of this side
 abbrev pub ReadsOn : OpId → ReadState → Type 0
-ReadsOn side s = (other : OpId) → reader_side s ≡ Some other → other ≡ side
-
-abbrev pub WritesOn : OpId → WriteState → Type 0
-WritesOn side s = (other : OpId) → writer_side s ≡ Some other → other ≡ side
-
--- The streams are of the socket's connection.
-pub record StreamsAreFine (socket : Socket) (streams : Streams) : Type 0 where
-  pub side : OpId
-  pub connected : IsConnectedOn socket side
-  pub reads : ReadsOn side streams.reader
-  pub writes : WritesOn side streams.writer
+ReadsOn side (reading.Open half) = half.side ≡ side
+ReadsOn side reading.Closed = ⊤
 
 -- what is left of a bind to the address, and the yes that it was told
 pub data BindLeft (es : List Entry) (op : OpId) (maker : ℕ) (addr : IpSocketAddress) : List Item → Type 0 where
@@ -84,12 +76,24 @@ pub data ConnectLeft (es : List Entry) (op side : OpId) (maker : ℕ) (addr : Ip
   ToClose : (c : ErrorCode) → ConnectLeft es op side maker addr (Last c Nothing ∷ [])
   Ended : ConnectLeft es op side maker addr []
 
+-- what may be left of a write: nothing of it asks for an address
+pub data WriteLeft : List Item → Type 0 where
+  ToWrite : (rest : List ℕ) → WriteLeft (Write rest ∷ [])
+  ToWriteAndShut : (rest : List ℕ) → WriteLeft (Write rest ∷ ShutdownSend ∷ [])
+  ToShut : WriteLeft (ShutdownSend ∷ [])
+  ToRefuse : (c : ErrorCode) → WriteLeft (Last c Nothing ∷ [])
+  Written : WriteLeft []
+
 module _ (steps : List Step) where
+  -- the operation's step names a handle of this side
+  abbrev pub Names : List Entry → OpId → OpId → Type 0
+  Names es op side = BeganBy steps op (NamesSide es side)
+
   -- The operation is on a side that its step names, and knows the side's maker.
   pub record WorksOn (es : List Entry) (op side : OpId) (maker : ℕ) : Type 0 where
     pub family : SocketAddressFamily
     pub made : IsMaker es maker family side
-    pub named : BeganBy steps op (NamesSide es side)
+    pub named : Names es op side
 
   -- A bind that may be polled: where it came from, and what it has asked so far.
   pub record BindIsFine (es : List Entry) (op : Operation) : Type 0 where
@@ -107,18 +111,55 @@ module _ (steps : List Step) where
     pub last : op.who.last ≡ CloseLast
     pub left : ConnectLeft es op.who.id op.who.side op.who.context addr op.left
 
+  -- A write that may be polled: it is on this side, of which its own step names a handle.
+  pub record JobIsFine (es : List Entry) (side : OpId) (job : Job) : Type 0 where
+    pub named : Names es job.write.who.id side
+    pub on : job.write.who.side ≡ side
+    pub last : job.write.who.last ≡ ShutdownLast
+    pub left : WriteLeft job.write.left
+
+  -- the half, while there is one, is of this side, and a write that goes on may be polled
+  abbrev pub WritesOn : List Entry → OpId → WriteState → Type 0
+  WritesOn es side (writing.Ready half permit) = half.side ≡ side
+  WritesOn es side (writing.Writing job) = JobIsFine es side job
+  WritesOn es side (writing.Closing job) = JobIsFine es side job
+  WritesOn es side (writing.Closed e) = ⊤
+
+  -- The streams are of the socket's connection.
+  pub record StreamsAreFine (es : List Entry) (socket : Socket) (streams : Streams) : Type 0 where
+    pub side : OpId
+    pub connected : IsConnectedOn socket side
+    pub reads : ReadsOn side streams.reader
+    pub writes : WritesOn es side streams.writer
+
   -- A socket knows its maker; it is bound only where the log says so; and its connect may be polled.
   pub record SocketIsFine (es : List Entry) (socket : Socket) : Type 0 where
     pub knows : KnowsMaker es socket
     pub bound : (side : OpId) → socket.state ≡ Default side → socket.bound ≡ true → IsBoundSide es side
     pub connect : (op : Operation) → socket.state ≡ Connecting op → ConnectIsFine es op
 
+  -- A socket that still has a side has the one that its record was made with.
   pub record RecordIsFine (es : List Entry) (r : Tcp2Socket) : Type 0 where
     pub socket : SocketIsFine es r.inner
-    pub streams : (streams : Streams) → r.streams ≡ Some streams → StreamsAreFine r.inner streams
+    pub named : (side : OpId) → side_of r.inner ≡ Some side → r.side ≡ Some side
+    pub streams : (streams : Streams) → r.streams ≡ Some streams → StreamsAreFine es r.inner streams
+
+  -- An output's drop that waits: the operation's step names a handle of the side that the record was made with.
+  pub record DropIsFine (es : List Entry) (sockets : List Tcp2Socket) (op : OpId) (place : ℕ) : Type 0 where
+    pub found : Tcp2Socket
+    pub at : slice_get sockets place ≡ Some found
+    pub named : (side : OpId) → found.side ≡ Some side → Names es op side
+
+  -- a drop goes on by its line's own operation
+  abbrev pub CallIsFine : List Entry → List Tcp2Socket → ℕ → StandingCall → Type 0
+  CallIsFine es sockets line (standing.Bind place op) = BindIsFine es op
+  CallIsFine es sockets line (standing.DropOutput place) = DropIsFine es sockets (own_of line) place
+
+  abbrev pub StandingIsFine : List Entry → List Tcp2Socket → Standing → Type 0
+  StandingIsFine es sockets s = CallIsFine es sockets s.line s.call
 
   pub record StateIsFine (es : List Entry) (m : Machine) : Type 0 where
     pub count : m.table.next ≡ marks_in es + 1
     pub handles : (handle : ℕ) (kind : Kind) → kind_at m.table handle ≡ Some kind → HandleIsFine es m.store.sockets handle kind
     pub sockets : (place : ℕ) (r : Tcp2Socket) → slice_get m.store.sockets place ≡ Some r → RecordIsFine es r
-    pub standing : (c : Standing) → m.store.standing ≡ Some c → BindIsFine es c.bind
+    pub standing : (c : Standing) → m.store.standing ≡ Some c → StandingIsFine es m.store.sockets c

@@ -175,7 +175,7 @@ module _ (m : Machine) (line handle : ℕ) where
         gives_then (λ fs made. Gives FinishGives fs (output_asks own handle place side (with_table now made))) FinishGives es (make_asks now.table own (Input place) (Some handle) side) _
         (make_gives _ es now.table own (Input place) (Some handle) side
         (λ full. (has, full, count))
-        (λ told. second (record now { table = with_handle now.table (Input place) }) _ now.table.next (let p = marks_in-push es (entry own (call.Made now.table.next name.Input (Some handle) side) told) in omega arith)))
+        (λ told. second (record now { table = with_handle now.table (Input place) (Some handle) }) _ now.table.next (let p = marks_in-push es (entry own (call.Made now.table.next name.Input (Some handle) side) told) in omega arith)))
         (λ fs made k. k)
 
   connected : (place : ℕ) (es : List Entry) (done : Result (Unit {0}) Stop × Records) → PollGives es done → Gives FinishGives es (connected_asks own handle place (with_store m done))
@@ -213,5 +213,5 @@ module _ (m : Machine) (line handle : ℕ) where
         → (r ≡ reply.Err word.NotInProgress) ↔ HasNoConnectInProgress (record_at m handle)
     finish_none_exactly es r after free w = (
       λ e. (finish_had_none es after (subst (λ (x : Reply). Answered contexts m line (step.TcpFinishConnect ctx handle) es x after) e w)).0,
-      λ k. is_none es (r, after) k (says es r after w (λ busy. let standing = (busy_exactly contexts m line (step.TcpFinishConnect ctx handle) es r after w).0 busy in cc)),
+      λ k. is_none es (r, after) k (says es r after w (λ busy. let standing = ((busy_exactly contexts m line (step.TcpFinishConnect ctx handle) es r after w).0 busy).0 in cc)),
     )

@@ -1,7 +1,6 @@
 -- The invariant under one more entry, and under changes of the state.
 use Rattle.std.specs.Prelude.{⊤}
-use Rattle.std.proofs.Common.{◌≡◌, ℕ, ◌⊎◌, inl, inr, Bool, true, false, if◌then◌else◌, ◌==◌, List, [], ◌∷◌, ◌++◌, Option, Some, None, slice_get, slice_set, refl, sym, ap, subst, ◌∙◌, arith}
-use Rattle.std.proofs.lemmas.Bool.{eqb-true}
+use Rattle.std.proofs.Common.{◌≡◌, ℕ, inl, inr, List, [], ◌∷◌, ◌++◌, Option, Some, None, slice_get, slice_set, refl, sym, ap, subst, ◌∙◌, arith}
 use Rattle.wasi_addr.specs.declared.address.IpSocketAddress.{IpSocketAddress}
 use Rattle.wasi_addr.specs.declared.address.SocketAddressFamily.{SocketAddressFamily}
 use Rattle.wasi_addr.specs.declared.address.SocketAddrUse.{SocketAddrUse}
@@ -14,26 +13,33 @@ use Rattle.wasi_world.specs.declared.call.Entry.{Entry}
 use Rattle.wasi_world.specs.Operation.{Item, Operation}
 use Rattle.wasi_tcp.specs.declared.socket.Connection.{Connection}
 use Rattle.wasi_tcp.specs.declared.socket.TcpState.TheVariants.{Connected}
+use Rattle.wasi_tcp.specs.declared.writer.WriteState.{WriteState}
+use Rattle.wasi_tcp.specs.declared.writer.WriteState.TheVariants as writing
+use Rattle.wasi_tcp.specs.Job.{Job}
 use Rattle.wasi_tcp.specs.Shape.{Socket}
 use Rattle.wasi_tcp.specs.Socket.{side_of}
+use Rattle.wasi_host.specs.declared.kind.Kind.{Kind}
+use Rattle.wasi_host.specs.declared.kind.Kind.TheVariants.{Network, Tcp2, Input, Output, Pollable, ErrorValue}
 use Rattle.wasi_host.specs.declared.machine.Machine.{Machine}
 use Rattle.wasi_host.specs.declared.socket.Streams.{Streams}
 use Rattle.wasi_host.specs.declared.socket.Tcp2Socket.{Tcp2Socket}
-use Rattle.wasi_run.specs.declared.step.Step.{Step}
 use Rattle.wasi_host.specs.declared.store.Standing.{Standing}
-use Rattle.wasi_host.specs.declared.kind.Kind.{Kind}
-use Rattle.wasi_host.specs.declared.kind.Kind.TheVariants.{Network, Tcp2, Input, Output, ErrorValue}
-use Rattle.wasi_run.specs.declared.table.Slot.{Slot}
-use MISSING.Table.{kind_in}
-use Rattle.wasi_host.specs.Kinds.{with_handle}
+use Rattle.wasi_host.specs.declared.store.StandingCall.{StandingCall}
+use Rattle.wasi_host.specs.declared.store.StandingCall.TheVariants as standing
+use Rattle.wasi_host.specs.Kinds.{table_parent, with_handle, without_handle, place_in}
+use Rattle.wasi_host.specs.Machine.{own_of}
 use Rattle.wasi_host.specs.Store.{with_socket, with_record}
-use Rattle.wasi_run.specs.Licence.{entry, marked_by, NamesSide, IsSide, IsMaker, Created, Handed, HasWildcardYes, IsBoundSide, MayGoOut}
-use Rattle.wasi_run.proofs.Lists.{has_front, marks_in-push, get_front, get_split, get_set, set_get}
-use Rattle.wasi_run.proofs.Fine.{OfSide, NamesRecord, HandleIsFine, KnowsMaker, BindLeft, Whole, Checked, Over, ConnectLeft, Unbound, Unchecked, Allowed, ToClose, Ended, WorksOn, BindIsFine, ConnectIsFine, IsConnectedOn, StreamsAreFine, SocketIsFine, RecordIsFine, StateIsFine}
+use Rattle.wasi_run.specs.declared.step.Step.{Step}
+use Rattle.wasi_run.specs.Licence.{entry, marked_by, NamesSide, IsSide, IsMarkedWith, IsMaker, Created, Handed, HasWildcardYes, IsBoundSide, MayGoOut}
+use Rattle.wasi_run.proofs.Lists.{has_front, marks_in-push, get_front, get_split, get_set, set_get, value_split, value_without}
+use Rattle.wasi_run.proofs.Fine.{NamesRecord, HandleIsFine, KnowsMaker, BindLeft, Whole, Checked, Over, ConnectLeft, Unbound, Unchecked, Allowed, ToClose, Ended, Names, WorksOn, BindIsFine, ConnectIsFine, JobIsFine, WritesOn, IsConnectedOn, StreamsAreFine, SocketIsFine, RecordIsFine, DropIsFine, CallIsFine, StandingIsFine, StateIsFine}
 
 -- == what more entries keep
 pub side_more : (es fs : List Entry) (handle : ℕ) (side : OpId) → IsSide es handle side → IsSide (es ++ fs) handle side
 side_more es fs handle side h = record { op = h.op; kind = h.kind; parent = h.parent; told = h.told; mark = has_front es fs _ h.mark }
+
+pub marked_more : (es fs : List Entry) (handle : ℕ) (sock : Option OpId) → IsMarkedWith es handle sock → IsMarkedWith (es ++ fs) handle sock
+marked_more es fs handle sock h = record { op = h.op; kind = h.kind; parent = h.parent; told = h.told; mark = has_front es fs _ h.mark }
 
 pub names_more : (es fs : List Entry) (side : OpId) (s : Step) → NamesSide es side s → NamesSide (es ++ fs) side s
 names_more es fs side s h = record { handle = h.handle; named = h.named; is = side_more es fs h.handle side h.is }
@@ -42,17 +48,15 @@ pub maker_more : (es fs : List Entry) (ctx : ℕ) (family : SocketAddressFamily)
 maker_more es fs ctx family side (Created s t h) = Created s t (has_front es fs _ h)
 maker_more es fs ctx family side (Handed s l p t h m) = Handed s l p t (has_front es fs _ h) (maker_more es fs ctx family l m)
 
-pub of_side_more : (es fs : List Entry) (handle : ℕ) (socket : Socket) → OfSide es handle socket → OfSide (es ++ fs) handle socket
-of_side_more es fs handle socket h = record { side = λ s e. side_more es fs handle s (h.side s e) }
-
-names_record_more : (es fs : List Entry) (sockets : List Tcp2Socket) (handle place : ℕ) → NamesRecord es sockets handle place → NamesRecord (es ++ fs) sockets handle place
-names_record_more es fs sockets handle place h = record { found = h.found; at = h.at; of = of_side_more es fs handle h.found.inner h.of }
+pub names_record_more : (es fs : List Entry) (sockets : List Tcp2Socket) (handle place : ℕ) → NamesRecord es sockets handle place → NamesRecord (es ++ fs) sockets handle place
+names_record_more es fs sockets handle place h = record { found = h.found; at = h.at; marked = marked_more es fs handle h.found.side h.marked }
 
 pub handle_more : (es fs : List Entry) (sockets : List Tcp2Socket) (handle : ℕ) (kind : Kind) → HandleIsFine es sockets handle kind → HandleIsFine (es ++ fs) sockets handle kind
 handle_more es fs sockets handle Network h = tt
 handle_more es fs sockets handle (Tcp2 place) h = names_record_more es fs sockets handle place h
 handle_more es fs sockets handle (Input place) h = names_record_more es fs sockets handle place h
 handle_more es fs sockets handle (Output place) h = names_record_more es fs sockets handle place h
+handle_more es fs sockets handle (Pollable w) h = names_record_more es fs sockets handle (place_in w) h
 handle_more es fs sockets handle ErrorValue h = tt
 
 pub knows_more : (es fs : List Entry) (socket : Socket) → KnowsMaker es socket → KnowsMaker (es ++ fs) socket
@@ -90,7 +94,7 @@ no_mark : (c : Call) → NoMark c → marked_by c ≡ 0
 no_mark (Made handle kind parent sock) h = absurd h
 no_mark _ h = refl
 
--- == how a record may change
+-- == how a socket may change
 -- It keeps its maker, its family and its connection, and has no side that it didn't have.
 pub record KeepsSide (old now : Socket) : Type 0 where
   pub maker : now.maker ≡ old.maker
@@ -109,80 +113,60 @@ keeps_then a b c k l = record {
   connected = λ x e. let p = k.connected x e in let q = l.connected p.connection p.state in record { connection = q.connection; state = q.state; same = q.same ∙ p.same };
 }
 
--- streams stay those of the socket's connection
-pub streams_kept : (old now : Socket) (streams : Streams) → KeepsSide old now → StreamsAreFine old streams → StreamsAreFine now streams
-streams_kept old now streams k f =
-    let c = k.connected f.connected.connection f.connected.state in
-    record { side = f.side; connected = record { connection = c.connection; state = c.state; same = c.same ∙ f.connected.same }; reads = f.reads; writes = f.writes }
-
--- The record keeps its side, and its streams.
+-- The record keeps its socket's side, the side that it was made with, and its streams.
 pub record KeepsRecord (old now : Tcp2Socket) : Type 0 where
   pub keeps : KeepsSide old.inner now.inner
+  pub side : now.side ≡ old.side
   pub streams : now.streams ≡ old.streams
 
-pub of_side_kept : (es : List Entry) (handle : ℕ) (old now : Socket) → KeepsSide old now → OfSide es handle old → OfSide es handle now
-of_side_kept es handle old now k h = record { side = λ s e. h.side s (k.side s e) }
+-- == the records by place
+-- The record of this place was made with this side.
+pub record IsMadeWith (sockets : List Tcp2Socket) (place : ℕ) (side : Option OpId) : Type 0 where
+  pub found : Tcp2Socket
+  pub at : slice_get sockets place ≡ Some found
+  pub same : found.side ≡ side
 
-pub knows_kept : (es : List Entry) (old now : Socket) → KeepsSide old now → KnowsMaker es old → KnowsMaker es now
-knows_kept es old now k h = record { maker = λ s e. rw (k.maker, k.family) (h.maker s (k.side s e)) }
+pub same_record : (a b : Tcp2Socket) → Some a ≡ Some b → a ≡ b
+same_record a b p = cc
 
--- the handles of a list of which one record was replaced
-names_put : (es : List Entry) (sockets : List Tcp2Socket) (i : ℕ) (old now : Tcp2Socket) (handle place : ℕ) → slice_get sockets i ≡ Some old → KeepsSide old.inner now.inner → NamesRecord es sockets handle place → NamesRecord es (slice_set sockets i now) handle place
-names_put es sockets i old now handle place g k h = elim (set_get sockets i now place h.found h.at) [
-  | inl e ↦ record { found = h.found; at = e; of = h.of }
-  | inr e ↦ record { found = now; at = e.1; of = of_side_kept es handle old.inner now.inner k (subst (λ (r : Tcp2Socket). OfSide es handle r.inner) (same h.found old (sym h.at ∙ (ap (slice_get sockets) e.0 ∙ g))) h.of) }
+-- among those of which one was replaced by one that was made with the same side
+made_put : (sockets : List Tcp2Socket) (i : ℕ) (old now : Tcp2Socket) (place : ℕ) (found : Tcp2Socket) → slice_get sockets i ≡ Some old → now.side ≡ old.side → slice_get sockets place ≡ Some found → IsMadeWith (slice_set sockets i now) place found.side
+made_put sockets i old now place found g k h = elim (set_get sockets i now place found h) [
+  | inl e ↦ record { found = found; at = e; same = refl }
+  | inr e ↦ (let p : found ≡ old = same_record found old (sym h ∙ (ap (slice_get sockets) e.0 ∙ g)) in record { found = now; at = e.1; same = k ∙ ap (λ (r : Tcp2Socket). r.side) (sym p) })
 ]
-  where
-    same : (a b : Tcp2Socket) → Some a ≡ Some b → a ≡ b
-    same a b p = cc
 
-handle_put : (es : List Entry) (sockets : List Tcp2Socket) (i : ℕ) (old now : Tcp2Socket) (handle : ℕ) (kind : Kind) → slice_get sockets i ≡ Some old → KeepsSide old.inner now.inner → HandleIsFine es sockets handle kind → HandleIsFine es (slice_set sockets i now) handle kind
+names_put : (es : List Entry) (sockets : List Tcp2Socket) (i : ℕ) (old now : Tcp2Socket) (handle place : ℕ) → slice_get sockets i ≡ Some old → now.side ≡ old.side → NamesRecord es sockets handle place → NamesRecord es (slice_set sockets i now) handle place
+names_put es sockets i old now handle place g k h =
+    let m = made_put sockets i old now place h.found g k h.at in
+    record { found = m.found; at = m.at; marked = rw m.same h.marked }
+
+handle_put : (es : List Entry) (sockets : List Tcp2Socket) (i : ℕ) (old now : Tcp2Socket) (handle : ℕ) (kind : Kind) → slice_get sockets i ≡ Some old → now.side ≡ old.side → HandleIsFine es sockets handle kind → HandleIsFine es (slice_set sockets i now) handle kind
 handle_put es sockets i old now handle Network g k h = tt
 handle_put es sockets i old now handle (Tcp2 place) g k h = names_put es sockets i old now handle place g k h
 handle_put es sockets i old now handle (Input place) g k h = names_put es sockets i old now handle place g k h
 handle_put es sockets i old now handle (Output place) g k h = names_put es sockets i old now handle place g k h
+handle_put es sockets i old now handle (Pollable w) g k h = names_put es sockets i old now handle (place_in w) g k h
 handle_put es sockets i old now handle ErrorValue g k h = tt
 
 names_push : (es : List Entry) (sockets : List Tcp2Socket) (r : Tcp2Socket) (handle place : ℕ) → NamesRecord es sockets handle place → NamesRecord es (sockets ++ r ∷ []) handle place
-names_push es sockets r handle place h = record { found = h.found; at = get_front sockets (r ∷ []) place h.found h.at; of = h.of }
+names_push es sockets r handle place h = record { found = h.found; at = get_front sockets (r ∷ []) place h.found h.at; marked = h.marked }
 
 handle_push : (es : List Entry) (sockets : List Tcp2Socket) (r : Tcp2Socket) (handle : ℕ) (kind : Kind) → HandleIsFine es sockets handle kind → HandleIsFine es (sockets ++ r ∷ []) handle kind
 handle_push es sockets r handle Network h = tt
 handle_push es sockets r handle (Tcp2 place) h = names_push es sockets r handle place h
 handle_push es sockets r handle (Input place) h = names_push es sockets r handle place h
 handle_push es sockets r handle (Output place) h = names_push es sockets r handle place h
+handle_push es sockets r handle (Pollable w) h = names_push es sockets r handle (place_in w) h
 handle_push es sockets r handle ErrorValue h = tt
 
--- == the live handles
--- what a handle stands for among those of which the last was just made
-kind_split : (live : List Slot) (s : Slot) (handle : ℕ) (kind : Kind) → kind_in (live ++ s ∷ []) handle ≡ Some kind → (kind_in live handle ≡ Some kind) ⊎ ((s.handle ≡ handle) × (s.kind ≡ kind))
-kind_split [] s handle kind h = inr (last_if (s.handle == handle) (eqb-true s.handle handle) h)
-  where
-    last_if : (b : Bool) → (b ≡ true → s.handle ≡ handle) → (if b then Some s.kind else None) ≡ Some kind → (s.handle ≡ handle) × (s.kind ≡ kind)
-    last_if true f e = (f refl, cc)
-    last_if false f e = absurd (cc)
-kind_split (x ∷ live) s handle kind h = past_if (x.handle == handle) (kind_in (live ++ s ∷ []) handle) (kind_in live handle) (kind_split live s handle kind) h
-  where
-    past_if : (b : Bool) (o p : Option Kind) → (o ≡ Some kind → (p ≡ Some kind) ⊎ ((s.handle ≡ handle) × (s.kind ≡ kind))) → (if b then Some x.kind else o) ≡ Some kind → ((if b then Some x.kind else p) ≡ Some kind) ⊎ ((s.handle ≡ handle) × (s.kind ≡ kind))
-    past_if true o p f e = inl e
-    past_if false o p f e = f e
-
--- a handle that was live before the last was made stands for what it did
-pub kind_front : (live : List Slot) (s : Slot) (handle : ℕ) (kind : Kind) → kind_in live handle ≡ Some kind → kind_in (live ++ s ∷ []) handle ≡ Some kind
-kind_front [] s handle kind e = absurd (cc)
-kind_front (x ∷ live) s handle kind e = by_test (x.handle == handle) (kind_in live handle) (kind_in (live ++ s ∷ []) handle) (kind_front live s handle kind) e
-  where
-    by_test : (b : Bool) (o p : Option Kind) → (o ≡ Some kind → p ≡ Some kind) → (if b then Some x.kind else o) ≡ Some kind → (if b then Some x.kind else p) ≡ Some kind
-    by_test true o p f e = e
-    by_test false o p f e = f e
-
 module _ (steps : List Step) where
+  -- == what more entries keep of the operations
+  pub names_on : (es fs : List Entry) (op side : OpId) → Names steps es op side → Names steps (es ++ fs) op side
+  names_on es fs op side n = record { origin = n.origin; at = n.at; holds = names_more es fs side n.origin n.holds }
+
   pub works_more : (es fs : List Entry) (op side : OpId) (maker : ℕ) → WorksOn steps es op side maker → WorksOn steps (es ++ fs) op side maker
-  works_more es fs op side maker h = record {
-    family = h.family;
-    made = maker_more es fs maker h.family side h.made;
-    named = record { origin = h.named.origin; at = h.named.at; holds = names_more es fs side h.named.origin h.named.holds };
-  }
+  works_more es fs op side maker h = record { family = h.family; made = maker_more es fs maker h.family side h.made; named = names_on es fs op side h.named }
 
   pub bind_more : (es fs : List Entry) (op : Operation) → BindIsFine steps es op → BindIsFine steps (es ++ fs) op
   bind_more es fs op h = record { addr = h.addr; to = h.to; works = works_more es fs op.who.id op.who.side op.who.context h.works; last = h.last; left = left_more es fs op.who.id op.who.context h.addr op.left h.left }
@@ -196,6 +180,16 @@ module _ (steps : List Step) where
     left = connect_left_more es fs op.who.id op.who.side op.who.context h.addr op.left h.left;
   }
 
+  pub job_more : (es fs : List Entry) (side : OpId) (job : Job) → JobIsFine steps es side job → JobIsFine steps (es ++ fs) side job
+  job_more es fs side job h = record { named = names_on es fs job.write.who.id side h.named; on = h.on; last = h.last; left = h.left }
+
+  pub writes_more : (es fs : List Entry) (side : OpId) (w : WriteState) → WritesOn steps es side w → WritesOn steps (es ++ fs) side w
+  writes_more es fs side (writing.Ready half permit) h = h
+  writes_more es fs side (writing.Writing job) h = job_more es fs side job h
+  writes_more es fs side (writing.Closing job) h = job_more es fs side job h
+  writes_more es fs side (writing.Closed e) h = tt
+
+  -- == and of the records
   pub socket_more : (es fs : List Entry) (socket : Socket) → SocketIsFine steps es socket → SocketIsFine steps (es ++ fs) socket
   socket_more es fs socket h = record {
     knows = knows_more es fs socket h.knows;
@@ -203,37 +197,87 @@ module _ (steps : List Step) where
     connect = λ op s. connect_more es fs op (h.connect op s);
   }
 
+  pub streams_more : (es fs : List Entry) (socket : Socket) (streams : Streams) → StreamsAreFine steps es socket streams → StreamsAreFine steps (es ++ fs) socket streams
+  streams_more es fs socket streams h = record { side = h.side; connected = h.connected; reads = h.reads; writes = writes_more es fs h.side streams.writer h.writes }
+
   pub record_more : (es fs : List Entry) (r : Tcp2Socket) → RecordIsFine steps es r → RecordIsFine steps (es ++ fs) r
-  record_more es fs r h = record { socket = socket_more es fs r.inner h.socket; streams = h.streams }
+  record_more es fs r h = record { socket = socket_more es fs r.inner h.socket; named = h.named; streams = λ streams e. streams_more es fs r.inner streams (h.streams streams e) }
+
+  drop_more : (es fs : List Entry) (sockets : List Tcp2Socket) (op : OpId) (place : ℕ) → DropIsFine steps es sockets op place → DropIsFine steps (es ++ fs) sockets op place
+  drop_more es fs sockets op place h = record { found = h.found; at = h.at; named = λ side e. names_on es fs op side (h.named side e) }
+
+  standing_more : (es fs : List Entry) (sockets : List Tcp2Socket) (line : ℕ) (c : StandingCall) → CallIsFine steps es sockets line c → CallIsFine steps (es ++ fs) sockets line c
+  standing_more es fs sockets line (standing.Bind place op) h = bind_more es fs op h
+  standing_more es fs sockets line (standing.DropOutput place) h = drop_more es fs sockets (own_of line) place h
+
+  -- == a record that changes
+  -- streams stay those of the socket's connection
+  pub streams_kept : (es : List Entry) (old now : Socket) (streams : Streams) → KeepsSide old now → StreamsAreFine steps es old streams → StreamsAreFine steps es now streams
+  streams_kept es old now streams k f =
+      let c = k.connected f.connected.connection f.connected.state in
+      record { side = f.side; connected = record { connection = c.connection; state = c.state; same = c.same ∙ f.connected.same }; reads = f.reads; writes = f.writes }
 
   pub record_kept : (es : List Entry) (old now : Tcp2Socket) → KeepsRecord old now → SocketIsFine steps es now.inner → RecordIsFine steps es old → RecordIsFine steps es now
-  record_kept es old now k f h = record { socket = f; streams = λ streams e. streams_kept old.inner now.inner streams k.keeps (h.streams streams (sym k.streams ∙ e)) }
+  record_kept es old now k f h = record {
+    socket = f;
+    named = λ side e. k.side ∙ h.named side (k.keeps.side side e);
+    streams = λ streams e. streams_kept es old.inner now.inner streams k.keeps (h.streams streams (sym k.streams ∙ e));
+  }
 
+  -- A call on a record leaves one that was made with the same side, and that fits the log.
+  pub record LeavesRecord {A : Type 0} (old : Tcp2Socket) (es : List Entry) (done : A × Tcp2Socket) : Type 0 where
+    pub side : done.1.side ≡ old.side
+    pub fine : RecordIsFine steps es done.1
+
+  -- == the call that stands, where the records change
+  drop_put : (es : List Entry) (sockets : List Tcp2Socket) (i : ℕ) (old now : Tcp2Socket) (op : OpId) (place : ℕ) → slice_get sockets i ≡ Some old → now.side ≡ old.side → DropIsFine steps es sockets op place → DropIsFine steps es (slice_set sockets i now) op place
+  drop_put es sockets i old now op place g k h =
+      let m = made_put sockets i old now place h.found g k h.at in
+      record { found = m.found; at = m.at; named = λ side e. h.named side (sym m.same ∙ e) }
+
+  standing_put : (es : List Entry) (sockets : List Tcp2Socket) (i : ℕ) (old now : Tcp2Socket) (line : ℕ) (c : StandingCall) → slice_get sockets i ≡ Some old → now.side ≡ old.side → CallIsFine steps es sockets line c → CallIsFine steps es (slice_set sockets i now) line c
+  standing_put es sockets i old now line (standing.Bind place op) g k h = h
+  standing_put es sockets i old now line (standing.DropOutput place) g k h = drop_put es sockets i old now (own_of line) place g k h
+
+  standing_push : (es : List Entry) (sockets : List Tcp2Socket) (r : Tcp2Socket) (line : ℕ) (c : StandingCall) → CallIsFine steps es sockets line c → CallIsFine steps es (sockets ++ r ∷ []) line c
+  standing_push es sockets r line (standing.Bind place op) h = h
+  standing_push es sockets r line (standing.DropOutput place) h = record { found = h.found; at = get_front sockets (r ∷ []) place h.found h.at; named = h.named }
+
+  -- == the state
   -- any ask but a mark keeps the state
   pub state_asked : (es : List Entry) (m : Machine) (op : OpId) (c : Call) (told : Told) → NoMark c → StateIsFine steps es m → StateIsFine steps (es ++ entry op c told ∷ []) m
   state_asked es m op c told q h = record {
     count = let p = marks_in-push es (entry op c told) in let z = no_mark c q in let k = h.count in omega arith;
     handles = λ handle kind e. handle_more es _ m.store.sockets handle kind (h.handles handle kind e);
     sockets = λ place r e. record_more es _ r (h.sockets place r e);
-    standing = λ b e. bind_more es _ b.bind (h.standing b e);
+    standing = λ s e. standing_more es _ m.store.sockets s.line s.call (h.standing s e);
   }
 
   -- a mark, and the handle that it makes
   pub state_made : (es : List Entry) (m : Machine) (op : OpId) (name : HandleKind) (parent : Option ℕ) (sock : Option OpId) (told : Told) (kind : Kind)
       → HandleIsFine (es ++ entry op (Made m.table.next name parent sock) told ∷ []) m.store.sockets m.table.next kind
-      → StateIsFine steps es m → StateIsFine steps (es ++ entry op (Made m.table.next name parent sock) told ∷ []) (record m { table = with_handle m.table kind })
+      → StateIsFine steps es m → StateIsFine steps (es ++ entry op (Made m.table.next name parent sock) told ∷ []) (record m { table = with_handle m.table kind parent })
   state_made es m op name parent sock told kind f h = record {
     count = let p = marks_in-push es (entry op (Made m.table.next name parent sock) told) in let k = h.count in omega arith;
-    handles = λ handle x e. elim (kind_split m.table.live (record { handle = m.table.next; kind = kind }) handle x e) [
+    handles = λ handle x e. elim (value_split m.table.live (record { handle = m.table.next; value = kind; parent = table_parent kind parent }) handle x e) [
       | inl g ↦ handle_more es _ m.store.sockets handle x (h.handles handle x g)
       | inr g ↦ (let fs = es ++ entry op (Made m.table.next name parent sock) told ∷ [] in subst (HandleIsFine fs m.store.sockets handle) g.1 (subst (λ (n : ℕ). HandleIsFine fs m.store.sockets n kind) g.0 f))
     ];
     sockets = λ place r e. record_more es _ r (h.sockets place r e);
-    standing = λ b e. bind_more es _ b.bind (h.standing b e);
+    standing = λ s e. standing_more es _ m.store.sockets s.line s.call (h.standing s e);
+  }
+
+  -- a handle goes
+  pub state_taken : (es : List Entry) (m : Machine) (gone : ℕ) → StateIsFine steps es m → StateIsFine steps es (record m { table = without_handle m.table gone })
+  state_taken es m gone h = record {
+    count = h.count;
+    handles = λ handle kind e. h.handles handle kind (value_without m.table.live gone handle kind e);
+    sockets = h.sockets;
+    standing = h.standing;
   }
 
   -- one record changes
-  pub state_put : (es : List Entry) (m : Machine) (place : ℕ) (old now : Tcp2Socket) → slice_get m.store.sockets place ≡ Some old → KeepsSide old.inner now.inner → RecordIsFine steps es now → StateIsFine steps es m → StateIsFine steps es (record m { store = with_socket m.store place now })
+  pub state_put : (es : List Entry) (m : Machine) (place : ℕ) (old now : Tcp2Socket) → slice_get m.store.sockets place ≡ Some old → now.side ≡ old.side → RecordIsFine steps es now → StateIsFine steps es m → StateIsFine steps es (record m { store = with_socket m.store place now })
   state_put es m place old now g k f h = record {
     count = h.count;
     handles = λ handle x e. handle_put es m.store.sockets place old now handle x g k (h.handles handle x e);
@@ -241,7 +285,7 @@ module _ (steps : List Step) where
       | inl q ↦ subst (RecordIsFine steps es) q.1 f
       | inr q ↦ h.sockets i r q
     ];
-    standing = h.standing;
+    standing = λ s e. standing_put es m.store.sockets place old now s.line s.call g k (h.standing s e);
   }
 
   -- a record more
@@ -249,18 +293,29 @@ module _ (steps : List Step) where
   state_push es m socket f h = record {
     count = h.count;
     handles = λ handle x e. handle_push es m.store.sockets _ handle x (h.handles handle x e);
-    sockets = λ i r e. elim (get_split m.store.sockets _ i r e) [ inl q ↦ h.sockets i r q | inr q ↦ subst (RecordIsFine steps es) q (record { socket = f; streams = λ streams e. absurd (cc) }) ];
-    standing = h.standing;
+    sockets = λ i r e. elim (get_split m.store.sockets _ i r e) [
+      | inl q ↦ h.sockets i r q
+      | inr q ↦ subst (RecordIsFine steps es) q (record { socket = f; named = λ side p. p; streams = λ streams p. absurd (cc) })
+    ];
+    standing = λ s e. standing_push es m.store.sockets _ s.line s.call (h.standing s e);
   }
 
-  -- a bind stands
-  pub state_stands : (es : List Entry) (m : Machine) (c : Standing) → BindIsFine steps es c.bind → StateIsFine steps es m → StateIsFine steps es (record m { store = record m.store { standing = Some c } })
+  -- a call stands
+  pub state_stands : (es : List Entry) (m : Machine) (c : Standing) → StandingIsFine steps es m.store.sockets c → StateIsFine steps es m → StateIsFine steps es (record m { store = record m.store { standing = Some c } })
   state_stands es m c f h = record {
     count = h.count;
     handles = h.handles;
     sockets = h.sockets;
-    standing = λ d e. subst (λ (x : Standing). BindIsFine steps es x.bind) (same c d e) f;
+    standing = λ d e. subst (StandingIsFine steps es m.store.sockets) (same c d e) f;
   }
     where
       same : (a b : Standing) → Some a ≡ Some b → a ≡ b
       same a b p = cc
+
+  -- none stands
+  pub state_unstands : (es : List Entry) (m : Machine) → StateIsFine steps es m → StateIsFine steps es (record m { store = record m.store { standing = None } })
+  state_unstands es m h = record { count = h.count; handles = h.handles; sockets = h.sockets; standing = λ d e. absurd (cc) }
+
+  -- which writes go on is nothing to it
+  pub state_jobs : (es : List Entry) (m : Machine) (jobs : List ℕ) → StateIsFine steps es m → StateIsFine steps es (record m { store = record m.store { jobs = jobs } })
+  state_jobs es m jobs h = record { count = h.count; handles = h.handles; sockets = h.sockets; standing = h.standing }

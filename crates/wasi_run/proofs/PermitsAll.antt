@@ -5,14 +5,15 @@ use Rattle.wasi_world.specs.declared.ids.OpId.{OpId}
 use Rattle.wasi_world.specs.declared.call.Entry.{Entry}
 use Rattle.wasi_world.specs.declared.outcome.WasiSocketsCtx.{WasiSocketsCtx}
 use Rattle.wasi_world.specs.Asks.{Give, bind, Left}
+use Rattle.wasi_world.specs.Operation.{End, Waits, Done, Refused}
 use Rattle.wasi_world.proofs.Allowed.{reached}
 use Rattle.wasi_streams.specs.StreamStop.{StreamStop}
-use Rattle.wasi_tcp.specs.declared.halves.TcpSendStream.{TcpSendStream}
 use Rattle.wasi_tcp.specs.declared.writer.WriteState.{WriteState}
 use Rattle.wasi_tcp.specs.declared.writer.WriteState.TheVariants as writing
 use Rattle.wasi_tcp.specs.Socket.{side_in}
-use Rattle.wasi_tcp.specs.Writer.{writer_side, check_write_asks}
-use Rattle.wasi_tcp.specs.Taken.{taken_in}
+use Rattle.wasi_tcp.specs.Job.{Job}
+use Rattle.wasi_tcp.specs.Writer.{writing_side, closing_side, writer_side, check_write_asks}
+use Rattle.wasi_tcp.specs.Taken.{taken_in, IsFrontOf}
 use Rattle.wasi_host.specs.declared.machine.Machine.{Machine}
 use Rattle.wasi_run.specs.declared.reply.Reply.{Reply}
 use Rattle.wasi_run.specs.declared.reply.Reply.TheVariants as reply
@@ -30,13 +31,35 @@ use Rattle.wasi_run.specs.Machine.{permit_reply, machine_asks}
 use Rattle.wasi_run.specs.Answered.{record_in, Answered}
 use Rattle.wasi_run.specs.Permitted.{writer_in, writer_of_record, WritesTo, Did}
 use Rattle.wasi_run.proofs.PermitsQuiet.{Quietly, Quiet, quiet_then}
-use Rattle.wasi_run.proofs.PermitsStands.{WriterIs, Holds, Agree, Agrees, Stands}
+use Rattle.wasi_run.proofs.PermitsStands.{WriterIs, Holds, Agree, Keeping}
 use Rattle.wasi_run.proofs.PermitsWriter.{SaysAll, Checked, quiet_check}
+use Rattle.wasi_run.proofs.PermitsTaken.{Fronts, quiet_keep}
 use Rattle.wasi_run.proofs.PermitsSteps.{meets_convert}
-use Rattle.wasi_run.proofs.PermitsWrites.{Fronts, quiet_keep, some_side}
-use Rattle.wasi_run.proofs.PermitsRuns.{taken_append, done_stands}
+use Rattle.wasi_run.proofs.PermitsWrites.{some_side}
+use Rattle.wasi_run.proofs.PermitsRuns.{taken_append, done_keeps}
 
-module _ (side : OpId) (taken permitted : List ℕ) (line : ℕ) (m : Machine) (own : OpId) (output : ℕ) (h : Stands side taken permitted m.store.sockets line) where
+-- == a writer that writes to a side is of that side
+module _ (side at : OpId) where
+  none_of : None ≡ Some side → at ≡ side
+  none_of e = absurd (cc)
+
+  writing_of : (job : Job) (e : End) → job.write.who.side ≡ at → writing_side job e ≡ Some side → at ≡ side
+  writing_of job Waits s w = sym s ∙ some_side job.write.who.side side w
+  writing_of job (Done given) s w = sym s ∙ some_side job.write.who.side side w
+  writing_of job (Refused c given) s w = none_of w
+
+  closing_of : (job : Job) (e : End) → job.write.who.side ≡ at → closing_side job e ≡ Some side → at ≡ side
+  closing_of job Waits s w = sym s ∙ some_side job.write.who.side side w
+  closing_of job (Done given) s w = none_of w
+  closing_of job (Refused c given) s w = none_of w
+
+  writer_of_side : (w : WriteState) → WriterIs at w → writer_side w ≡ Some side → at ≡ side
+  writer_of_side (writing.Ready half permit) i w = sym i ∙ some_side half.side side w
+  writer_of_side (writing.Writing job) i w = writing_of job job.end i.0 w
+  writer_of_side (writing.Closing job) i w = closing_of job job.end i.0 w
+  writer_of_side (writing.Closed e) i w = none_of w
+
+module _ (side : OpId) (taken permitted : List ℕ) (line : ℕ) (m : Machine) (own : OpId) (output : ℕ) (h : Keeping side taken permitted line m.store) where
   -- the writer of the output writes to the side
   abbrev Writes : Option WriteState → Type 0
   Writes found = IsSomeAnd found (λ w. writer_side w ≡ Some side)
@@ -51,21 +74,14 @@ module _ (side : OpId) (taken permitted : List ℕ) (line : ℕ) (m : Machine) (
   tells : (es : List Entry) (place : ℕ) (done : Result ℕ StreamStop × Machine) → Says done → Quiet Tells es (converted own output place done)
   tells es place (Ok n, now) k = k
   tells es place (Err why, now) k =
-      quiet_then (λ c. ⊤) Tells es (convert_asks now own output place why) _ (meets_convert Quietly (λ fs rs. ⊤) (λ fs rs o n d p s q. tt) (λ fs rs o n d p s t q. tt) es now own output place why tt) (λ fs c q. tt)
+      quiet_then (λ c. ⊤) Tells es (convert_asks now own output place why) _ (meets_convert Quietly (λ fs store. ⊤) (λ fs store o n d p s q. tt) (λ fs store o n d p s t q. tt) es now own output place why tt) (λ fs c q. tt)
 
   says_of : (place : ℕ) (r : Tcp2Socket) (o : Option Streams) → slice_get m.store.sockets place ≡ Some r → r.streams ≡ o → Writes (writer_in o) → Quiet Says [] (writer_of r (check_write_asks own) o)
   says_of place r None g e w = absurd w
   says_of place r (Some s) g e w =
-      let o = (h.records place r g).opened s e in
-      quiet_then (Checked taken permitted s.writer) Says [] (check_write_asks own s.writer) _ (quiet_check taken permitted [] own o.connection.side s.writer o.writer) (λ fs done k. k.says (λ half permit p. all half permit p))
-    where
-      all : (half : TcpSendStream) (permit : ℕ) → s.writer ≡ writing.Ready half permit → taken ≡ permitted
-      all half permit p =
-          let o = (h.records place r g).opened s e in
-          let ours : half.side ≡ side = some_side half.side side (subst (λ (x : WriteState). writer_side x ≡ Some side) p w) in
-          let same : half.side ≡ o.connection.side = subst (WriterIs o.connection.side) p o.writer in
-          let held : Holds side r = ap side_in o.is ∙ ap (λ (x : OpId). Some x) (sym same ∙ ours) in
-          subst (Agrees taken permitted) p (subst (Agree taken permitted) e (h.agree place r g held))
+      let o = (h.stands.records place r g).opened s e in
+      let held : Holds side r = ap side_in o.is ∙ ap (λ (x : OpId). Some x) (writer_of_side side o.connection.side s.writer o.writer w) in
+      quiet_then (Checked s.writer) Says [] (check_write_asks own s.writer) _ (quiet_check [] own s.writer) (λ fs done k. k.says taken permitted (subst (Agree taken permitted) e (h.stands.agree place r g held)))
 
   says_at : (place : ℕ) (o : Option Tcp2Socket) → slice_get m.store.sockets place ≡ o → Writes (writer_of_record o) → Quiet Says [] (stream_at m.store place (writer_asks (check_write_asks own)) o)
   says_at place None g w = absurd w
@@ -90,7 +106,7 @@ module _ (side : OpId) (taken permitted : List ℕ) (line : ℕ) (m : Machine) (
   check_replies : WritesTo m output side → Quiet Replies [] (bind (check_asks m own output) (λ done. Give (permit_reply done.0, done.1)))
   check_replies w = quiet_then Tells Replies [] (check_asks m own output) _ (tells_on (output_at m output) w) (λ fs done k. replies done k)
 
-module _ (contexts : List WasiSocketsCtx) (side : OpId) (taken permitted : List ℕ) (line : ℕ) (m : Machine) (ctx output n : ℕ) (h : Stands side taken permitted m.store.sockets line) (w : WritesTo m output side) (some : 0 < n) where
+module _ (contexts : List WasiSocketsCtx) (side : OpId) (taken permitted : List ℕ) (line : ℕ) (m : Machine) (ctx output n : ℕ) (h : Keeping side taken permitted line m.store) (w : WritesTo m output side) (some : 0 < n) where
   abbrev IsBusy : List Entry → Reply × Machine → Type 0
   IsBusy es done = done.0 ≡ reply.Busy
 
@@ -99,7 +115,7 @@ module _ (contexts : List WasiSocketsCtx) (side : OpId) (taken permitted : List 
       let asks = bind (check_asks m (own_of line) output) (λ done. Give (permit_reply done.0, done.1)) in
       let Q = Replies side taken permitted line m (own_of line) output h in
       let k = reached (λ es o c. Fronts side taken permitted es) (λ es done. (taken_in side es ≡ []) × Q done) [] asks entries (Give (reply.Ok (number_fields n), next))
-      (quiet_keep side taken permitted Q [] asks h.front refl (check_replies side taken permitted line m (own_of line) output h w)) walk in
+      (quiet_keep side taken permitted Q [] [] asks (subst (λ t. IsFrontOf t permitted) (sym (append-nil taken)) h.stands.front) refl (check_replies side taken permitted line m (own_of line) output h w)) walk in
       ap (λ more. taken ++ more) k.0 ∙ (append-nil taken ∙ k.1 n refl some)
   all_by (Some c) entries next walk =
       let e : reply.Ok (number_fields n) ≡ reply.Busy = reached (λ es o c. ⊤) IsBusy [] (Give (reply.Busy, m)) entries (Give (reply.Ok (number_fields n), next)) refl walk in absurd (cc)
@@ -111,4 +127,4 @@ pub permit_says_all : (contexts : List WasiSocketsCtx) (side : OpId) (steps : Li
     → Did contexts side first_state 1 steps log permitted after → WritesTo after output side
     → Answered contexts after (1 + length steps) (step.CheckWrite ctx output) entries (reply.Ok (number_fields n)) next → 0 < n → taken_in side (log ++ entries) ≡ permitted
 permit_says_all contexts side steps log permitted after ctx output n entries next d w walk some =
-    taken_append side log entries ∙ all_taken contexts side (taken_in side log) permitted (1 + length steps) after ctx output n (done_stands contexts side steps log permitted after d) w some entries next walk
+    taken_append side log entries ∙ all_taken contexts side (taken_in side log) permitted (1 + length steps) after ctx output n (done_keeps contexts side steps log permitted after d) w some entries next walk

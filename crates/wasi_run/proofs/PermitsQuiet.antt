@@ -24,7 +24,7 @@ use Rattle.wasi_tcp.specs.declared.socket.Connection.{Connection}
 use Rattle.wasi_tcp.specs.declared.socket.TcpState.{TcpState}
 use Rattle.wasi_tcp.specs.declared.socket.TcpState.TheVariants as state
 use Rattle.wasi_tcp.specs.Shape.{Socket}
-use Rattle.wasi_tcp.specs.Socket.{side_in, after_create, new_asks, after_local, ask_bound, bound_asks, bind_allowed, bind_asks}
+use Rattle.wasi_tcp.specs.Socket.{side_in, side_of, after_create, new_asks, after_local, ask_bound, bound_asks, bind_allowed, bind_asks}
 use Rattle.wasi_tcp.specs.Connect.{connect_first, connect_left, connect_operation}
 use Rattle.wasi_tcp.specs.Connecting.{with_state, is_connectable, connect_start, start_connect_in, start_connect_asks, connect_ended, finish_in, finish_connect_asks}
 use Rattle.wasi_tcp.specs.Addresses.{still_connected, after_peer, peer_known, peer_asks, remote_in, remote_asks, local_from, local_side, local_asks}
@@ -32,7 +32,8 @@ use Rattle.wasi_streams.specs.StreamStop.{StreamStop}
 use Rattle.wasi_tcp.specs.declared.reader.ReadState.{ReadState}
 use Rattle.wasi_tcp.specs.declared.reader.ReadState.TheVariants as reading
 use Rattle.wasi_tcp.specs.Halves.{read_asks}
-use Rattle.wasi_tcp.specs.Reader.{read_end_asks, after_read, read_state_asks}
+use Rattle.wasi_tcp.specs.Closing.{close_in, close_asks}
+use Rattle.wasi_tcp.specs.Reader.{reader_ready_asks, reader_shutdown_asks, read_end_asks, after_read, read_state_asks}
 use Rattle.wasi_tcp.specs.Taken.{taken_by}
 
 -- == calls that write nothing
@@ -307,3 +308,26 @@ pub quiet_read : (es : List Entry) (op : OpId) (s : ReadState) (size : ℕ) → 
 quiet_read es op (reading.Open half) size =
     quiet_if (λ done. ⊤) es (size == 0) _ _ (λ none. tt) (λ some. quiet_then (λ r. ⊤) (λ done. ⊤) es (read_asks op half.side size) _ (quiet_half es op half.side size) (λ fs r k. quiet_after fs op (reading.Open half) r))
 quiet_read es op reading.Closed size = tt
+
+-- == a look at what may be read, and the ends of a half and of a socket
+pub quiet_readable : (es : List Entry) (op : OpId) (s : ReadState) → Quiet (λ done. ⊤) es (reader_ready_asks op s)
+unfolding bind
+quiet_readable es op (reading.Open half) = (tt, λ t fits. tt)
+quiet_readable es op reading.Closed = tt
+
+pub quiet_reader_shutdown : (es : List Entry) (op : OpId) (s : ReadState) → Quiet (λ done. ⊤) es (reader_shutdown_asks op s)
+unfolding bind
+quiet_reader_shutdown es op (reading.Open half) = (tt, λ t fits. tt)
+quiet_reader_shutdown es op reading.Closed = tt
+
+-- a socket that was closed has no side
+abbrev pub HasNoSide : Socket → Type 0
+HasNoSide socket = (side_of socket ≡ None) × IsPlainState socket.state
+
+quiet_close_in : (es : List Entry) (op : OpId) (socket : Socket) (o : Option OpId) → side_of socket ≡ o → IsPlainState socket.state → Quiet (λ done. HasNoSide done.1) es (close_in op socket o)
+unfolding bind
+quiet_close_in es op socket None e p = (e, p)
+quiet_close_in es op socket (Some side) e p = (tt, λ t fits. (refl, tt))
+
+pub quiet_close : (es : List Entry) (op : OpId) (socket : Socket) → IsPlainState socket.state → Quiet (λ done. HasNoSide done.1) es (close_asks op socket)
+quiet_close es op socket p = quiet_close_in es op socket (side_of socket) refl p

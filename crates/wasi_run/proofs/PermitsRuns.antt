@@ -13,28 +13,31 @@ use Rattle.wasi_run.specs.declared.step.Step.{Step}
 use Rattle.wasi_run.specs.declared.step.Step.TheVariants as step
 use Rattle.wasi_host.specs.declared.store.Standing.{Standing}
 use Rattle.wasi_run.specs.Reply.{is_trap}
-use Rattle.wasi_host.specs.Machine.{first_state, socket_at, create_asks, own_of}
-use Rattle.wasi_p2.specs.Tcp.{network_asks, start_bind_asks, finish_bind_on, is_listening_on, address_family_on, start_connect_asks, finish_connect_asks, local_address_on, remote_address_on}
-use Rattle.wasi_run.specs.Machine.{truth_reply, family_reply, handle_reply, answer_reply, done_reply, pair_reply, address_reply, bytes_reply, permit_reply, taken_reply, context_at, step_asks, machine_asks, run}
+use Rattle.wasi_host.specs.Machine.{first_state, socket_at, create_asks, own_of, subscribe_asks, ready_asks, drop_asks, turn_machine_asks}
+use Rattle.wasi_p2.specs.Tcp.{network_asks, start_bind_asks, finish_bind_on, is_listening_on, address_family_on, start_connect_asks, finish_connect_asks, local_address_on, remote_address_on, shutdown_on}
+use Rattle.wasi_run.specs.Machine.{truth_reply, family_reply, handle_reply, answer_reply, done_reply, pair_reply, address_reply, bytes_reply, permit_reply, taken_reply, context_at, poll_asks, step_asks, machine_asks, run}
 use Rattle.wasi_host.specs.StreamCalls.{read_asks, check_asks, write_asks, flushed_asks}
 use Rattle.wasi_run.specs.Answered.{Answered}
 use Rattle.wasi_run.specs.Permitted.{permitted_in, permitted_by, Did, Nothing, Then, Begun, IsOfSteps}
 use Rattle.wasi_run.proofs.PermitsQuiet.{Quiet, quiet_then}
-use Rattle.wasi_run.proofs.PermitsStands.{Stands, stands_first, stands_next}
-use Rattle.wasi_run.proofs.PermitsKept.{Leaves, kept_network, kept_create, kept_start_bind, kept_finish_bind, kept_start_connect, kept_finish_connect, kept_local, kept_remote, kept_read, kept_check, kept_flush}
-use Rattle.wasi_run.proofs.PermitsWrites.{Fronts, Meets, Ends, quiet_meets, kept_write}
+use Rattle.wasi_run.proofs.PermitsStands.{Keeping, stands_first}
+use Rattle.wasi_run.proofs.PermitsTaken.{Fronts, Meets}
+use Rattle.wasi_run.proofs.PermitsKept.{Leaves, kept_next, kept_network, kept_create, kept_start_bind, kept_finish_bind, kept_start_connect, kept_finish_connect, kept_local, kept_remote, kept_read, kept_check, kept_flush}
+use Rattle.wasi_run.proofs.PermitsWrites.{StandsOn, Ends, quiet_meets, kept_write}
+use Rattle.wasi_run.proofs.PermitsTurns.{kept_turn}
+use Rattle.wasi_run.proofs.PermitsDrops.{kept_subscribe, kept_ready, kept_shutdown, kept_drop, kept_poll}
 
 -- == one step
-module _ (contexts : List WasiSocketsCtx) (side : OpId) (taken permitted : List ℕ) (line : ℕ) (m : Machine) (h : Stands side taken permitted m.store.sockets line) where
-  next : Stands side taken permitted m.store.sockets (line + 1)
-  next = stands_next side taken permitted m.store.sockets line h
+module _ (contexts : List WasiSocketsCtx) (side : OpId) (taken permitted : List ℕ) (line : ℕ) (m : Machine) (h : Keeping side taken permitted line m.store) where
+  next : Keeping side taken permitted (line + 1) m.store
+  next = kept_next side taken permitted line m.store h
 
   -- where these bytes are let begin
   abbrev StepMeets : List ℕ → Asks (Reply × Machine) → Type 0
   StepMeets more asks = Meets side taken (permitted ++ more) (Ends side taken (permitted ++ more) (line + 1)) [] asks
 
   quiet_step : (asks : Asks (Reply × Machine)) → Quiet (Leaves side taken permitted (line + 1)) [] asks → StepMeets [] asks
-  quiet_step asks q = subst (λ p. Meets side taken p (Ends side taken p (line + 1)) [] asks) (sym (append-nil permitted)) (quiet_meets side taken permitted (line + 1) asks h.front q)
+  quiet_step asks q = subst (λ p. Meets side taken p (Ends side taken p (line + 1)) [] asks) (sym (append-nil permitted)) (quiet_meets side taken permitted (line + 1) asks h.stands.front q)
 
   given_step : (done : Reply × Machine) → Leaves side taken permitted (line + 1) done → StepMeets [] (Give done)
   given_step done k = quiet_step (Give done) k
@@ -61,10 +64,21 @@ module _ (contexts : List WasiSocketsCtx) (side : OpId) (taken permitted : List 
       allows_then (λ es o c. Fronts side taken (permitted ++ more) es) (Ends side taken (permitted ++ more) (line + 1)) (Ends side taken (permitted ++ more) (line + 1)) [] (write_asks m (own_of line) output bytes) _
       (kept_write side taken permitted (line + 1) m (own_of line) output next bytes) (λ es done k. k)
   step_meets (step.Flush ctx output) = replied (flushed_asks m (own_of line) output) taken_reply (kept_flush side taken permitted (line + 1) m next [] (own_of line) output)
+  step_meets (step.Subscribe ctx this) = replied (subscribe_asks m (own_of line) this) handle_reply (kept_subscribe side taken permitted (line + 1) m next [] (own_of line) this)
+  step_meets (step.Ready ctx pollable) = replied (ready_asks m (own_of line) pollable) truth_reply (kept_ready side taken permitted (line + 1) m next [] (own_of line) pollable)
+  step_meets (step.Drop ctx this) = replied (drop_asks m (own_of line) this) (answer_reply line) (kept_drop side taken permitted [] (line + 1) m (own_of line) this next)
+  step_meets (step.TcpShutdown ctx s how) = replied (shutdown_on m (own_of line) how (socket_at m s)) done_reply (kept_shutdown side taken permitted (line + 1) m next [] (own_of line) how (socket_at m s))
+  step_meets step.Turn =
+      let all = permitted ++ [] in
+      let h' : StandsOn side taken all (line + 1) [] m.store = subst (λ t. Keeping side t all (line + 1) m.store) (sym (append-nil taken)) (subst (λ p. Keeping side taken p (line + 1) m.store) (sym (append-nil permitted)) next) in
+      allows_then (λ es o c. Fronts side taken all es) (Ends side taken all (line + 1)) (Ends side taken all (line + 1)) [] (turn_machine_asks m) _ (kept_turn side taken all (line + 1) [] m h') (λ es done k. k)
+  step_meets (step.Poll n) = quiet_step (poll_asks m n) (kept_poll side taken permitted [] (line + 1) m n next)
 
-  -- while a call stands nothing is asked
+  -- while a call stands a guest call asks nothing
   machine_meets : (standing : Option Standing) (s : Step) → StepMeets (permitted_in m side standing s) (machine_asks contexts m line s standing)
   machine_meets None s = step_meets s
+  machine_meets (Some c) step.Turn = step_meets step.Turn
+  machine_meets (Some c) (step.Poll n) = step_meets (step.Poll n)
   machine_meets (Some c) s = given_step (reply.Busy, m) next
 
   line_meets : (s : Step) → StepMeets (permitted_by m side s) (machine_asks contexts m line s m.store.standing)
@@ -74,12 +88,12 @@ module _ (contexts : List WasiSocketsCtx) (side : OpId) (taken permitted : List 
   line_front : (s : Step) (entries : List Entry) (rest : Asks (Reply × Machine)) → Left (machine_asks contexts m line s m.store.standing) entries rest → IsFrontOf (taken ++ taken_in side entries) (permitted ++ permitted_by m side s)
   line_front s entries rest w =
       let bytes = permitted ++ permitted_by m side s in
-      holds (Fronts side taken bytes) (Ends side taken bytes (line + 1)) (λ es done k. k.front) entries rest
+      holds (Fronts side taken bytes) (Ends side taken bytes (line + 1)) (λ es done k. k.stands.front) entries rest
       (reached (λ es o c. Fronts side taken bytes es) (Ends side taken bytes (line + 1)) [] (machine_asks contexts m line s m.store.standing) entries rest (line_meets s) w)
 
   -- and after it
-  line_stands : (s : Step) (entries : List Entry) (r : Reply) (after : Machine) → Answered contexts m line s entries r after → Stands side (taken ++ taken_in side entries) (permitted ++ permitted_by m side s) after.store.sockets (line + 1)
-  line_stands s entries r after w =
+  line_keeps : (s : Step) (entries : List Entry) (r : Reply) (after : Machine) → Answered contexts m line s entries r after → Keeping side (taken ++ taken_in side entries) (permitted ++ permitted_by m side s) (line + 1) after.store
+  line_keeps s entries r after w =
       let bytes = permitted ++ permitted_by m side s in
       reached (λ es o c. Fronts side taken bytes es) (Ends side taken bytes (line + 1)) [] (machine_asks contexts m line s m.store.standing) entries (Give (r, after)) (line_meets s) w
 
@@ -88,35 +102,35 @@ pub taken_append : (side : OpId) (es fs : List Entry) → taken_in side (es ++ f
 taken_append side [] fs = refl
 taken_append side (e ∷ es) fs = ap (λ more. taken_by side e.call e.answer ++ more) (taken_append side es fs) ∙ sym (append_assoc (taken_by side e.call e.answer) (taken_in side es) (taken_in side fs))
 
-did_stands : (contexts : List WasiSocketsCtx) (side : OpId) (m : Machine) (line : ℕ) (steps : List Step) (log : List Entry) (bytes : List ℕ) (after : Machine) → Did contexts side m line steps log bytes after
-    → (taken permitted : List ℕ) → Stands side taken permitted m.store.sockets line → Stands side (taken ++ taken_in side log) (permitted ++ bytes) after.store.sockets (line + length steps)
-did_stands contexts side _ _ _ _ _ _ (Nothing m line) taken permitted h =
+did_keep : (contexts : List WasiSocketsCtx) (side : OpId) (m : Machine) (line : ℕ) (steps : List Step) (log : List Entry) (bytes : List ℕ) (after : Machine) → Did contexts side m line steps log bytes after
+    → (taken permitted : List ℕ) → Keeping side taken permitted line m.store → Keeping side (taken ++ taken_in side log) (permitted ++ bytes) (line + length steps) after.store
+did_keep contexts side _ _ _ _ _ _ (Nothing m line) taken permitted h =
     let z : line ≡ line + 0 = omega arith in
-    subst (λ t. Stands side t (permitted ++ []) m.store.sockets (line + 0)) (sym (append-nil taken))
-    (subst (λ p. Stands side taken p m.store.sockets (line + 0)) (sym (append-nil permitted)) (subst (Stands side taken permitted m.store.sockets) z h))
-did_stands contexts side _ _ _ _ _ _ (Then m next after line s steps entries log r bytes w d) taken permitted h =
+    subst (λ t. Keeping side t (permitted ++ []) (line + 0) m.store) (sym (append-nil taken))
+    (subst (λ p. Keeping side taken p (line + 0) m.store) (sym (append-nil permitted)) (subst (λ (n : ℕ). Keeping side taken permitted n m.store) z h))
+did_keep contexts side _ _ _ _ _ _ (Then m next after line s steps entries log r bytes w d) taken permitted h =
     let more = permitted_by m side s in
-    let k = did_stands contexts side next (line + 1) steps log bytes after d (taken ++ taken_in side entries) (permitted ++ more) (line_stands contexts side taken permitted line m h s entries r next w) in
+    let k = did_keep contexts side next (line + 1) steps log bytes after d (taken ++ taken_in side entries) (permitted ++ more) (line_keeps contexts side taken permitted line m h s entries r next w) in
     let t : (taken ++ taken_in side entries) ++ taken_in side log ≡ taken ++ taken_in side (entries ++ log) = append_assoc taken (taken_in side entries) (taken_in side log) ∙ ap (λ x. taken ++ x) (sym (taken_append side entries log)) in
     let z : line + 1 + length steps ≡ line + suc (length steps) = omega arith in
-    subst (λ x. Stands side x (permitted ++ (more ++ bytes)) after.store.sockets (line + suc (length steps))) t
-    (subst (λ x. Stands side ((taken ++ taken_in side entries) ++ taken_in side log) x after.store.sockets (line + suc (length steps))) (append_assoc permitted more bytes)
-    (subst (Stands side ((taken ++ taken_in side entries) ++ taken_in side log) ((permitted ++ more) ++ bytes) after.store.sockets) z k))
+    subst (λ x. Keeping side x (permitted ++ (more ++ bytes)) (line + suc (length steps)) after.store) t
+    (subst (λ x. Keeping side ((taken ++ taken_in side entries) ++ taken_in side log) x (line + suc (length steps)) after.store) (append_assoc permitted more bytes)
+    (subst (λ (n : ℕ). Keeping side ((taken ++ taken_in side entries) ++ taken_in side log) ((permitted ++ more) ++ bytes) n after.store) z k))
 
 -- from the first state
-pub done_stands : (contexts : List WasiSocketsCtx) (side : OpId) (steps : List Step) (log : List Entry) (permitted : List ℕ) (after : Machine) → Did contexts side first_state 1 steps log permitted after
-    → Stands side (taken_in side log) permitted after.store.sockets (1 + length steps)
-done_stands contexts side steps log permitted after d = did_stands contexts side first_state 1 steps log permitted after d [] [] (stands_first side)
+pub done_keeps : (contexts : List WasiSocketsCtx) (side : OpId) (steps : List Step) (log : List Entry) (permitted : List ℕ) (after : Machine) → Did contexts side first_state 1 steps log permitted after
+    → Keeping side (taken_in side log) permitted (1 + length steps) after.store
+done_keeps contexts side steps log permitted after d = did_keep contexts side first_state 1 steps log permitted after d [] [] (record { stands = stands_first side; quietly = tt })
 
 pub taken_done : (contexts : List WasiSocketsCtx) (side : OpId) (steps : List Step) (log : List Entry) (permitted : List ℕ) (after : Machine) → Did contexts side first_state 1 steps log permitted after → IsFrontOf (taken_in side log) permitted
-taken_done contexts side steps log permitted after d = (done_stands contexts side steps log permitted after d).front
+taken_done contexts side steps log permitted after d = (done_keeps contexts side steps log permitted after d).stands.front
 
 pub taken_front : (contexts : List WasiSocketsCtx) (side : OpId) (steps : List Step) (log : List Entry) (permitted : List ℕ) (after : Machine) (s : Step) (entries : List Entry) (rest : Asks (Reply × Machine))
     → Did contexts side first_state 1 steps log permitted after → Left (machine_asks contexts after (1 + length steps) s after.store.standing) entries rest
     → IsFrontOf (taken_in side (log ++ entries)) (permitted ++ permitted_by after side s)
 taken_front contexts side steps log permitted after s entries rest d w =
     subst (λ t. IsFrontOf t (permitted ++ permitted_by after side s)) (sym (taken_append side log entries))
-    (line_front contexts side (taken_in side log) permitted (1 + length steps) after (done_stands contexts side steps log permitted after d) s entries rest w)
+    (line_front contexts side (taken_in side log) permitted (1 + length steps) after (done_keeps contexts side steps log permitted after d) s entries rest w)
 
 -- == the run
 -- where a walk of one tree after another stands

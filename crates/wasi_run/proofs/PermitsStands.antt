@@ -2,21 +2,25 @@
 use Rattle.std.specs.Prelude.{⊤}
 use Rattle.std.proofs.Common.{◌≡◌, ◌⊎◌, inl, inr, ℕ, zero, suc, length, ◌+◌, ◌≤◌, ◌<◌, true, List, [], ◌∷◌, ◌++◌, Option, Some, None, slice_get, slice_set, refl, sym, ap, subst, ◌∙◌, arith}
 use Rattle.wasi_world.specs.declared.ids.OpId.{OpId}
-use Rattle.wasi_world.specs.Operation.{Waits}
+use Rattle.wasi_world.specs.Operation.{Item, Write, ShutdownSend, Last, End, Waits, Done, Refused}
 use Rattle.wasi_tcp.specs.declared.halves.TcpReceiveStream.{TcpReceiveStream}
 use Rattle.wasi_tcp.specs.declared.halves.TcpSendStream.{TcpSendStream}
 use Rattle.wasi_tcp.specs.declared.socket.Connection.{Connection}
 use Rattle.wasi_tcp.specs.declared.socket.TcpState.TheVariants as state
 use Rattle.wasi_tcp.specs.declared.writer.WriteState.{WriteState}
 use Rattle.wasi_tcp.specs.declared.writer.WriteState.TheVariants as writing
+use Rattle.wasi_tcp.specs.Job.{Job}
 use Rattle.wasi_tcp.specs.Shape.{Socket}
 use Rattle.wasi_tcp.specs.Socket.{side_in, side_of}
 use Rattle.wasi_tcp.specs.Taken.{IsFrontOf, bytes_left}
 use Rattle.wasi_host.specs.declared.socket.Streams.{Streams}
 use Rattle.wasi_host.specs.declared.socket.Tcp2Socket.{Tcp2Socket}
-use Rattle.wasi_host.specs.Store.{new_record, new_streams}
+use Rattle.wasi_host.specs.declared.store.Standing.{Standing}
+use Rattle.wasi_host.specs.declared.store.StandingCall.{StandingCall}
+use Rattle.wasi_host.specs.declared.store.StandingCall.TheVariants.{Bind, DropOutput}
+use Rattle.wasi_host.specs.Store.{Records, new_record, new_streams}
 use Rattle.wasi_run.proofs.Lists.{get_set, set_there}
-use Rattle.wasi_run.proofs.PermitsQuiet.{IsPlainState, Follows}
+use Rattle.wasi_run.proofs.PermitsQuiet.{ArePlain, IsPlainState, Follows}
 
 same_record : (a b : Tcp2Socket) → Some a ≡ Some b → a ≡ b
 same_record a b p = cc
@@ -28,11 +32,35 @@ split_place [] y (suc k) x h = absurd (cc)
 split_place (z ∷ xs) y zero x h = inl h
 split_place (z ∷ xs) y (suc k) x h = elim (split_place xs y k x h) [ inl e ↦ inl e | inr e ↦ inr (ap suc e.0, e.1) ]
 
--- a half that is ready is of this side, and a write that goes on isn't over
+-- == what is left of a write
+-- what follows its bytes: it writes nothing
+abbrev pub IsOfEnd : Item → Type 0
+IsOfEnd ShutdownSend = ⊤
+IsOfEnd (Last c given) = ⊤
+IsOfEnd _ = ⊥
+
+abbrev pub AreOfEnd : List Item → Type 0
+AreOfEnd [] = ⊤
+AreOfEnd (item ∷ items) = IsOfEnd item × AreOfEnd items
+
+abbrev pub IsOfWrite : Item → Type 0
+IsOfWrite (Write bytes) = ⊤
+IsOfWrite item = IsOfEnd item
+
+-- only the first may be a write
+abbrev pub AreOfWrite : List Item → Type 0
+AreOfWrite [] = ⊤
+AreOfWrite (item ∷ items) = IsOfWrite item × AreOfEnd items
+
+-- == a writer
+abbrev pub JobIs : OpId → Job → Type 0
+JobIs at job = (job.write.who.side ≡ at) × AreOfWrite job.write.left
+
+-- it writes to this side alone
 abbrev pub WriterIs : OpId → WriteState → Type 0
 WriterIs at (writing.Ready half permit) = half.side ≡ at
-WriterIs at (writing.Writing job) = job.end ≡ Waits
-WriterIs at (writing.Closing job) = ⊤
+WriterIs at (writing.Writing job) = JobIs at job
+WriterIs at (writing.Closing job) = JobIs at job
 WriterIs at (writing.Closed e) = ⊤
 
 -- The streams are of the socket's connection, whose sending half was taken.
@@ -90,18 +118,33 @@ opens_record old now k = record {
     its : (k : Opens old now) (s : Streams) → now.streams ≡ Some s → new_streams k.receive k.send ≡ s
     its k s e = some _ s (sym k.streams ∙ e)
 
--- the streams are others, and the writer's half is where it was
-pub streams_record : (r : Tcp2Socket) (s t : Streams) → r.streams ≡ Some s → ((at : OpId) → WriterIs at s.writer → WriterIs at t.writer) → RecordStands r → RecordStands (record r { streams = Some t })
+pub opened_writer : (inner : Socket) (w v : WriteState) → ((at : OpId) → WriterIs at w → WriterIs at v) → IsOpened inner w → IsOpened inner v
+opened_writer inner w v f o = record { connection = o.connection; is = o.is; taken = o.taken; writer = f o.connection.side o.writer }
+
+-- the streams are others, whose writer is of the same connection
+pub streams_record : (r : Tcp2Socket) (s t : Streams) → r.streams ≡ Some s → (IsOpened r.inner s.writer → IsOpened r.inner t.writer) → RecordStands r → RecordStands (record r { streams = Some t })
 streams_record r s t e f h =
-    let o = h.opened s e in
-    let kept : IsOpened r.inner t.writer = record { connection = o.connection; is = o.is; taken = o.taken; writer = f o.connection.side o.writer } in
+    let kept = f (h.opened s e) in
     record { plain = h.plain; opened = λ u p. let same : t ≡ u = cc in subst (λ (x : Streams). IsOpened r.inner x.writer) same kept }
 
--- a half that is ready had all taken, and a write that goes on has the rest before it
+-- a record that has no streams
+pub bare_record : (r : Tcp2Socket) → IsPlainState r.inner.state → r.streams ≡ None → RecordStands r
+bare_record r p e = record { plain = p; opened = λ s q. absurd (none s (sym e ∙ q)) }
+  where
+    none : (s : Streams) → None ≡ Some s → ⊥
+    none s q = absurd (cc)
+
+-- what was taken, with what a job is still to write, is what was permitted; after a code it is the front, of any length
+abbrev pub JobAgrees : List ℕ → List ℕ → List Item → End → Type 0
+JobAgrees taken permitted left Waits = taken ++ bytes_left left ≡ permitted
+JobAgrees taken permitted left (Done given) = taken ≡ permitted
+JobAgrees taken permitted left (Refused c given) = ⊤
+
+-- of a half that is ready all was taken
 abbrev pub Agrees : List ℕ → List ℕ → WriteState → Type 0
 Agrees taken permitted (writing.Ready half permit) = taken ≡ permitted
-Agrees taken permitted (writing.Writing job) = taken ++ bytes_left job.write.left ≡ permitted
-Agrees taken permitted (writing.Closing job) = ⊤
+Agrees taken permitted (writing.Writing job) = JobAgrees taken permitted job.write.left job.end
+Agrees taken permitted (writing.Closing job) = JobAgrees taken permitted job.write.left job.end
 Agrees taken permitted (writing.Closed e) = ⊤
 
 -- with no streams yet there is nothing
@@ -214,6 +257,14 @@ module _ (side : OpId) where
       none_before None e a = a.0 ∙ sym a.1
       none_before (Some s) e a = let q = (h.records place old g).opened s e in absurd (k.first q.connection q.is q.taken)
 
+  -- a record that has no side any more
+  pub stands_gone : (taken permitted : List ℕ) (sockets : List Tcp2Socket) (line place : ℕ) (old now : Tcp2Socket) → slice_get sockets place ≡ Some old → RecordStands now → side_of now.inner ≡ None → Stands taken permitted sockets line → Stands taken permitted (slice_set sockets place now) line
+  stands_gone taken permitted sockets line place old now g stands none h =
+      stands_put sockets line place old now g stands taken permitted (λ held. absurd (no_side (sym none ∙ held))) (λ held. absurd (no_side (sym none ∙ held))) h
+    where
+      no_side : None ≡ Some side → ⊥
+      no_side q = absurd (cc)
+
   -- a new record, of the line's own side
   pub stands_push : (taken permitted : List ℕ) (sockets : List Tcp2Socket) (line : ℕ) (own : OpId) (socket : Socket) → own.step ≡ line → socket.state ≡ state.Default own → Stands taken permitted sockets line → Stands taken permitted (sockets ++ new_record socket ∷ []) (line + 1)
   stands_push taken permitted sockets line own socket at e h = record {
@@ -246,3 +297,18 @@ module _ (side : OpId) where
         | inl p ↦ elim (split_place sockets (new_record socket) k q b) [ inl d ↦ h.one i k r q p d x y | inr d ↦ (let o = h.older i r p x in let n = is_now q d.1 y in absurd (omega (arith, o, n))) ]
         | inr p ↦ elim (split_place sockets (new_record socket) k q b) [ inl d ↦ (let o = h.older k q d y in let n = is_now r p.1 x in absurd (omega (arith, o, n))) | inr d ↦ p.0 ∙ sym d.0 ]
       ]
+
+-- == with the call that stands
+-- a bind that stands writes nothing
+abbrev pub IsQuietCall : StandingCall → Type 0
+IsQuietCall (Bind place op) = ArePlain op.left
+IsQuietCall (DropOutput place) = ⊤
+
+abbrev pub StandsQuietly : Option Standing → Type 0
+StandsQuietly None = ⊤
+StandsQuietly (Some c) = IsQuietCall c.call
+
+-- The records stand so, and so does the call.
+pub record Keeping (side : OpId) (taken permitted : List ℕ) (line : ℕ) (store : Records) : Type 0 where
+  pub stands : Stands side taken permitted store.sockets line
+  pub quietly : StandsQuietly store.standing

@@ -1,163 +1,145 @@
--- What each call of a writer leaves, and on which side it writes.
+-- What the calls of a writer leave that write nothing: a look, a check-write, a shutdown.
 use Rattle.std.specs.Prelude.{⊤}
-use Rattle.std.proofs.Common.{◌≡◌, ℕ, zero, suc, ◌<◌, false, List, [], ◌∷◌, Ok, Err, Result, refl, ap, ◌∙◌, arith}
-use Rattle.wasi_addr.specs.declared.code.ErrorCode.{ErrorCode}
+use Rattle.std.proofs.Common.{◌≡◌, ℕ, ◌<◌, List, [], ◌∷◌, Option, Some, None, Ok, Err, Result, refl, ap, subst, ◌∙◌, ◌++◌, arith}
 use Rattle.wasi_world.specs.declared.ids.OpId.{OpId}
-use Rattle.wasi_world.specs.declared.call.Call.{Call}
-use Rattle.wasi_world.specs.declared.call.Call.TheVariants as call
-use Rattle.wasi_world.specs.declared.call.Told.{Told}
 use Rattle.wasi_world.specs.declared.call.Entry.{Entry}
-use Rattle.wasi_world.specs.declared.asks.Polled.{Polled}
-use Rattle.wasi_world.specs.declared.asks.Polled.TheVariants as polled
 use Rattle.wasi_world.specs.declared.outcome.Answer.{Answer}
 use Rattle.wasi_world.specs.declared.outcome.Answer.TheVariants.{Ready, Pending}
-use Rattle.wasi_world.specs.Asks.{Asks, Give, bind}
-use Rattle.wasi_world.specs.Operation.{Given, Nothing, Item, Write, Who, Operation, LastAsk, NothingLast, CloseLast, ShutdownLast, Front, End, Waits, Done, Refused, write_front, taken_front, less_one, front, last_ask, poll_asks}
-use Rattle.wasi_world.specs.Sides.{is_same}
-use Rattle.wasi_world.proofs.Allowed.{Allows, FrontKeeps, allows_then, allows_polls}
+use Rattle.wasi_world.specs.Asks.{bind}
+use Rattle.wasi_world.specs.Typed.{told_ready}
+use Rattle.wasi_world.specs.Operation.{Item, Write, End, Waits, Done, Refused}
 use Rattle.wasi_streams.specs.StreamStop.{StreamStop}
-use Rattle.wasi_streams.specs.StreamStop as stop
-use Rattle.wasi_tcp.specs.declared.halves.TcpSendStream.{TcpSendStream}
+use Rattle.wasi_tcp.specs.declared.writer.WriteError.{WriteError}
 use Rattle.wasi_tcp.specs.declared.writer.WriteState.{WriteState}
 use Rattle.wasi_tcp.specs.declared.writer.WriteState.TheVariants as writing
-use Rattle.wasi_tcp.specs.Job.{Job, new_job, writer, job_asks}
-use Rattle.wasi_tcp.specs.Writer.{written_by, closed_by, look_in, look_asks, permitted, check_write_asks, turn_asks, begun, write_on_asks}
-use Rattle.wasi_tcp.specs.Taken.{taken_by}
-use Rattle.wasi_run.proofs.PermitsQuiet.{Quiet}
-use Rattle.wasi_run.proofs.PermitsStands.{WriterIs, Agrees}
+use Rattle.wasi_tcp.specs.Job.{Job, then_closed, finish_in}
+use Rattle.wasi_tcp.specs.Writer.{written_by, closed_by, collected, look_in, look_asks, with_permit, permitted, check_write_asks, writer_shutdown_asks, side_up_asks, writer_side, writer_give_up_asks}
+use Rattle.wasi_tcp.specs.Taken.{bytes_left}
+use Rattle.wasi_run.proofs.PermitsQuiet.{Quiet, quiet_then}
+use Rattle.wasi_run.proofs.PermitsStands.{AreOfWrite, WriterIs, JobAgrees, Agrees}
+
+-- The writer writes to the same side, and agrees as before.
+pub record KeepsWriter (w now : WriteState) : Type 0 where
+  pub writer : (at : OpId) → WriterIs at w → WriterIs at now
+  pub agrees : (taken bytes : List ℕ) → Agrees taken bytes w → Agrees taken bytes now
+
+pub same_writer : (w : WriteState) → KeepsWriter w w
+same_writer w = record { writer = λ at h. h; agrees = λ taken bytes h. h }
+
+pub writer_then : (a b c : WriteState) → KeepsWriter a b → KeepsWriter b c → KeepsWriter a c
+writer_then a b c h k = record { writer = λ at x. k.writer at (h.writer at x); agrees = λ taken bytes x. k.agrees taken bytes (h.agrees taken bytes x) }
+
+-- == a job that ended is collected
+collected_writing : (job : Job) (e : End) → job.end ≡ e → KeepsWriter (writing.Writing job) (written_by job e)
+collected_writing job Waits p = same_writer (writing.Writing job)
+collected_writing job (Done given) p = record { writer = λ at h. h.0; agrees = λ taken bytes h. subst (JobAgrees taken bytes job.write.left) p h }
+collected_writing job (Refused c given) p = record { writer = λ at h. tt; agrees = λ taken bytes h. tt }
+
+collected_closing : (job : Job) (e : End) → job.end ≡ e → KeepsWriter (writing.Closing job) (closed_by job e)
+collected_closing job Waits p = same_writer (writing.Closing job)
+collected_closing job (Done given) p = record { writer = λ at h. tt; agrees = λ taken bytes h. tt }
+collected_closing job (Refused c given) p = record { writer = λ at h. tt; agrees = λ taken bytes h. tt }
+
+collected_keeps : (w : WriteState) → KeepsWriter w (collected w)
+collected_keeps (writing.Ready half permit) = same_writer (writing.Ready half permit)
+collected_keeps (writing.Writing job) = collected_writing job job.end refl
+collected_keeps (writing.Closing job) = collected_closing job job.end refl
+collected_keeps (writing.Closed e) = same_writer (writing.Closed e)
+
+-- == a look
+-- where it is ready all was taken
+abbrev SaysReady : List ℕ → List ℕ → Result (Answer (Unit {0})) StreamStop → Type 0
+SaysReady taken bytes (Ok (Ready done)) = taken ≡ bytes
+SaysReady taken bytes (Ok Pending) = ⊤
+SaysReady taken bytes (Err why) = ⊤
+
+pub record Looked (w : WriteState) (looked : Result (Answer (Unit {0})) StreamStop × WriteState) : Type 0 where
+  pub keeps : KeepsWriter w looked.1
+  pub says : (taken bytes : List ℕ) → Agrees taken bytes w → SaysReady taken bytes looked.0
+
+says_ready : (taken bytes : List ℕ) (a : Answer (Unit {0})) → taken ≡ bytes → SaysReady taken bytes (Ok a)
+says_ready taken bytes (Ready done) h = h
+says_ready taken bytes Pending h = tt
+
+looked_in : (es : List Entry) (op : OpId) (w now : WriteState) → KeepsWriter w now → Quiet (Looked w) es (look_in op now)
+unfolding bind
+looked_in es op w (writing.Ready half permit) k = (tt, λ t fits. record { keeps = k; says = λ taken bytes h. says_ready taken bytes (told_ready t) (k.agrees taken bytes h) })
+looked_in es op w (writing.Writing job) k = record { keeps = k; says = λ taken bytes h. tt }
+looked_in es op w (writing.Closing job) k = record { keeps = k; says = λ taken bytes h. tt }
+looked_in es op w (writing.Closed e) k = record { keeps = k; says = λ taken bytes h. tt }
+
+pub quiet_look : (es : List Entry) (op : OpId) (w : WriteState) → Quiet (Looked w) es (look_asks op w)
+quiet_look es op w = looked_in es op w (collected w) (collected_keeps w)
 
 -- == a check-write
 -- where it permits something, all was taken
 abbrev pub SaysAll : List ℕ → List ℕ → Result ℕ StreamStop → Type 0
-SaysAll taken permitted (Ok n) = 0 < n → taken ≡ permitted
-SaysAll taken permitted (Err stop) = ⊤
+SaysAll taken bytes (Ok n) = 0 < n → taken ≡ bytes
+SaysAll taken bytes (Err why) = ⊤
 
-module _ (taken bytes : List ℕ) where
-  -- the writer is as it was, but for the permit
-  pub record Checked (w : WriteState) (done : Result ℕ StreamStop × WriteState) : Type 0 where
-    pub writer : (at : OpId) → WriterIs at w → WriterIs at done.1
-    pub agrees : Agrees taken bytes w → Agrees taken bytes done.1
-    pub says : ((half : TcpSendStream) (permit : ℕ) → w ≡ writing.Ready half permit → taken ≡ bytes) → SaysAll taken bytes done.0
+pub record Checked (w : WriteState) (done : Result ℕ StreamStop × WriteState) : Type 0 where
+  pub keeps : KeepsWriter w done.1
+  pub says : (taken bytes : List ℕ) → Agrees taken bytes w → SaysAll taken bytes done.0
 
-  checked_ready : (half : TcpSendStream) (permit : ℕ) (a : Answer (Unit {0})) → Checked (writing.Ready half permit) (permitted (Ok a, writing.Ready half permit))
-  checked_ready half permit (Ready done) = record { writer = λ at h. h; agrees = λ h. h; says = λ h n. h half permit refl }
-  checked_ready half permit Pending = record { writer = λ at h. h; agrees = λ h. h; says = λ h n. absurd (omega (arith, n)) }
+permit_keeps : (w : WriteState) → KeepsWriter w (with_permit w)
+permit_keeps (writing.Ready half permit) = record { writer = λ at h. h; agrees = λ taken bytes h. h }
+permit_keeps (writing.Writing job) = same_writer (writing.Writing job)
+permit_keeps (writing.Closing job) = same_writer (writing.Closing job)
+permit_keeps (writing.Closed e) = same_writer (writing.Closed e)
 
-  still : (w : WriteState) → Checked w (Ok 0, w)
-  still w = record { writer = λ at h. h; agrees = λ h. h; says = λ h n. absurd (omega (arith, n)) }
+checked : (w : WriteState) (looked : Result (Answer (Unit {0})) StreamStop × WriteState) → Looked w looked → Checked w (permitted looked)
+checked w (Ok (Ready done), now) k = record { keeps = writer_then w now (with_permit now) k.keeps (permit_keeps now); says = λ taken bytes h n. k.says taken bytes h }
+checked w (Ok Pending, now) k = record { keeps = k.keeps; says = λ taken bytes h n. absurd (omega (arith, n)) }
+checked w (Err why, now) k = record { keeps = k.keeps; says = λ taken bytes h. tt }
 
-  stopped : (w : WriteState) (why : StreamStop) → Checked w (Err why, w)
-  stopped w why = record { writer = λ at h. h; agrees = λ h. h; says = λ h. tt }
+pub quiet_check : (es : List Entry) (op : OpId) (w : WriteState) → Quiet (Checked w) es (check_write_asks op w)
+quiet_check es op w = quiet_then (Looked w) (Checked w) es (look_asks op w) _ (quiet_look es op w) (λ fs looked k. checked w looked k)
 
-  abbrev Looked : OpId → WriteState → WriteState → List Entry → Type 0
-  Looked op w now es = Quiet (Checked w) es (bind (look_in op now) (λ looked. Give (permitted looked)))
+-- == a shutdown
+-- a job that is to close its half has the same bytes to write
+left_closed : (items : List Item) → AreOfWrite items → AreOfWrite (then_closed items)
+left_closed [] h = h
+left_closed (Write rest ∷ items) h = (tt, (tt, tt))
+left_closed (_ ∷ items) h = h
 
-  checked_writing : (es : List Entry) (op : OpId) (job : Job) (e : End) → job.end ≡ e → e ≡ Waits → Looked op (writing.Writing job) (written_by job e) es
-  unfolding bind
-  checked_writing es op job Waits p q = still (writing.Writing job)
-  checked_writing es op job (Done given) p q = absurd (cc)
-  checked_writing es op job (Refused c given) p q = absurd (cc)
+bytes_closed : (items : List Item) → bytes_left (then_closed items) ≡ bytes_left items
+bytes_closed [] = refl
+bytes_closed (Write rest ∷ items) = refl
+bytes_closed (_ ∷ items) = refl
 
-  checked_closing : (es : List Entry) (op : OpId) (job : Job) (e : End) → Looked op (writing.Closing job) (closed_by job e) es
-  unfolding bind
-  checked_closing es op job Waits = still (writing.Closing job)
-  checked_closing es op job (Done given) = record { writer = λ at h. tt; agrees = λ h. tt; says = λ h. tt }
-  checked_closing es op job (Refused c given) = record { writer = λ at h. tt; agrees = λ h. tt; says = λ h. tt }
+same_bytes : (taken bytes : List ℕ) (left now : List Item) (e : End) → bytes_left now ≡ bytes_left left → JobAgrees taken bytes left e → JobAgrees taken bytes now e
+same_bytes taken bytes left now Waits p h = ap (λ more. taken ++ more) p ∙ h
+same_bytes taken bytes left now (Done given) p h = h
+same_bytes taken bytes left now (Refused c given) p h = h
 
-  pub quiet_check : (es : List Entry) (op at : OpId) (w : WriteState) → WriterIs at w → Quiet (Checked w) es (check_write_asks op w)
-  unfolding bind
-  quiet_check es op at (writing.Ready half permit) h = (tt, λ t fits. checked_ready half permit _)
-  quiet_check es op at (writing.Writing job) h = checked_writing es op job job.end refl h
-  quiet_check es op at (writing.Closing job) h = checked_closing es op job job.end
-  quiet_check es op at (writing.Closed e) h = stopped (writing.Closed e) _
+-- a write that becomes the last
+last_keeps : (job : Job) → KeepsWriter (writing.Writing job) (writing.Closing job)
+last_keeps job = record { writer = λ at h. h; agrees = λ taken bytes h. h }
 
--- == a write
--- all is written on one side
-abbrev OnSide : OpId → Call → Type 0
-OnSide at (call.Write sock offered) = sock ≡ at
-OnSide at _ = ⊤
+closed_keeps : (w : WriteState) (e : WriteError) → KeepsWriter w (writing.Closed e)
+closed_keeps w e = record { writer = λ at h. tt; agrees = λ taken bytes h. tt }
 
-abbrev pub On : OpId → List Entry → OpId → Call → Type 0
-On at es op c = OnSide at c
-
--- nothing is taken by another side
-pub none_other : (at side : OpId) (c : Call) (t : Told) → is_same at side ≡ false → OnSide at c → taken_by side c t ≡ []
-none_other at side (call.Write sock offered) t e h =
-    let p : is_same sock side ≡ false = ap (λ (x : OpId). is_same x side) h ∙ e in rw p refl
-none_other at side _ t e h = refl
-
-abbrev IsOfWrite : Item → Type 0
-IsOfWrite (Write bytes) = ⊤
-IsOfWrite _ = ⊥
-
-abbrev AreOfWrite : List Item → Type 0
-AreOfWrite [] = ⊤
-AreOfWrite (item ∷ items) = IsOfWrite item × AreOfWrite items
-
-module _ (who : Who) where
-  abbrev Before : List Entry → Given → List Item → Type 0
-  Before es given items = AreOfWrite items
-
-  abbrev After : List Entry → End × List Item → Type 0
-  After es ended = ⊤
-
-  on_last : (es : List Entry) (last : LastAsk) (c : ErrorCode) (given : Given) → Allows (On who.side) After es (last_ask who last c given)
-  unfolding bind
-  on_last es NothingLast c given = tt
-  on_last es CloseLast c given = (tt, λ t fits. tt)
-  on_last es ShutdownLast c given = (tt, λ t fits. tt)
-
-  module _ (items : List Item) (k : AreOfWrite items) where
-    abbrev Fronts : List Entry → Asks Front → Type 0
-    Fronts es asks = Allows (On who.side) (FrontKeeps (On who.side) who Before After items) es asks
-
-    on_taken : (b : ℕ) (bytes : List ℕ) → ((skip : ℕ) (fs : List Entry) → Fronts fs (write_front who bytes skip)) → (es : List Entry) (p : Polled ℕ) → Fronts es (taken_front (λ skip. write_front who bytes skip) (Write (b ∷ bytes)) p)
-    on_taken b bytes next es (polled.Ready n) = next (less_one n) es
-    on_taken b bytes next es polled.Pending = (tt, k)
-    on_taken b bytes next es (polled.Code c) = on_last es who.last c Nothing
-
-    on_write : (bytes : List ℕ) (skip : ℕ) (es : List Entry) → Fronts es (write_front who bytes skip)
-    unfolding bind
-    on_write [] skip es = k
-    on_write (b ∷ bytes) (suc skip) es = on_write bytes skip es
-    on_write (b ∷ bytes) zero es = (refl, λ t fits front. on_taken b bytes (λ skip fs. on_write bytes skip fs) _ _)
-
-  on_front : (es : List Entry) (given : Given) (item : Item) (items : List Item) → AreOfWrite (item ∷ items) → Allows (On who.side) (FrontKeeps (On who.side) who Before After items) es (front who item)
-  on_front es given (Write bytes) items k = on_write items k.1 bytes 0 es
-  on_front es given _ items k = absurd k.0
-
-on_poll : (op : Operation) (es : List Entry) → AreOfWrite op.left → Allows (On op.who.side) (λ fs ended. ⊤) es (poll_asks op)
-on_poll op es k = allows_polls (On op.who.side) op.who (Before op.who) (After op.who) (on_front op.who) (λ fs items h. tt) (λ fs given h. tt) 64 op.left es k
-
--- what a write that began leaves: the half where it was, a write that goes on, or a closed one
-abbrev pub Settled : OpId → Result (Unit {0}) StreamStop × WriteState → Type 0
-Settled at (Ok done, w) = WriterIs at w
-Settled at (Err why, writing.Ready half permit) = ⊥
-Settled at (Err why, writing.Writing job) = ⊥
-Settled at (Err why, writing.Closing job) = ⊥
-Settled at (Err why, writing.Closed e) = ⊤
-
-settled_look : (es : List Entry) (op at : OpId) (job : Job) (e : End) → job.end ≡ e → job.write.who.side ≡ at → Allows (On at) (λ fs done. Settled at done) es (bind (look_in op (written_by job e)) (λ looked. Give (begun looked)))
+finish_keeps : (es : List Entry) (op : OpId) (job : Job) (e : End) → Quiet (λ finished. KeepsWriter (writing.Writing job) (writing.Closing finished.1)) es (finish_in op job e)
 unfolding bind
-settled_look es op at job Waits p s = p
-settled_look es op at job (Done given) p s = (tt, λ t fits. s)
-settled_look es op at job (Refused c given) p s = tt
+finish_keeps es op job Waits = record {
+  writer = λ at h. (h.0, left_closed job.write.left h.1);
+  agrees = λ taken bytes h. same_bytes taken bytes job.write.left (then_closed job.write.left) job.end (bytes_closed job.write.left) h;
+}
+finish_keeps es op job (Done given) = (tt, λ t fits. last_keeps job)
+finish_keeps es op job (Refused c given) = last_keeps job
 
-abbrev Turned : OpId → WriteState → Type 0
-Turned at (writing.Writing j) = j.write.who.side ≡ at
-Turned at _ = ⊥
+pub quiet_shutdown : (es : List Entry) (op : OpId) (w : WriteState) → Quiet (λ done. KeepsWriter w done.1) es (writer_shutdown_asks op w)
+unfolding bind
+quiet_shutdown es op (writing.Ready half permit) = (tt, λ t fits. closed_keeps (writing.Ready half permit) _)
+quiet_shutdown es op (writing.Writing job) =
+    quiet_then (λ finished. KeepsWriter (writing.Writing job) (writing.Closing finished.1)) (λ done. KeepsWriter (writing.Writing job) done.1) es (finish_in op job job.end) _ (finish_keeps es op job job.end) (λ fs finished k. k)
+quiet_shutdown es op (writing.Closing job) = same_writer (writing.Closing job)
+quiet_shutdown es op (writing.Closed e) = same_writer (writing.Closed e)
 
-settled_turn : (es : List Entry) (op at : OpId) (w : WriteState) → Turned at w → Allows (On at) (λ gs done. Settled at done) es (bind (look_asks op w) (λ looked. Give (begun looked)))
-settled_turn es op at (writing.Ready half permit) k = absurd k
-settled_turn es op at (writing.Writing j) k = settled_look es op at j j.end refl k
-settled_turn es op at (writing.Closing j) k = absurd k
-settled_turn es op at (writing.Closed e) k = absurd k
+-- == the half is given up
+side_up : (es : List Entry) (op : OpId) (o : Option OpId) → Quiet (λ done. ⊤) es (side_up_asks op o)
+side_up es op (Some side) = (tt, λ t fits. tt)
+side_up es op None = tt
 
-pub write_settles : (es : List Entry) (op at : OpId) (bytes : List ℕ) → Allows (On at) (λ fs done. Settled at done) es (write_on_asks op (writing.Writing (new_job op at bytes)))
-write_settles es op at bytes =
-    let job = new_job op at bytes in
-    allows_then (On at) (λ fs turned. Turned at turned.1) (λ fs done. Settled at done) es (turn_asks (writing.Writing job)) _
-    (allows_then (On at) (λ fs j. j.write.who.side ≡ at) (λ fs turned. Turned at turned.1) es (job_asks job) _
-    (allows_then (On at) (λ fs ended. ⊤) (λ fs j. j.write.who.side ≡ at) es (poll_asks job.write) _ (on_poll job.write es (tt, tt)) (λ fs ended k. refl))
-    (λ fs j k. k))
-    (λ fs turned k. settled_turn fs op at turned.1 k)
+pub quiet_give_up : (es : List Entry) (op : OpId) (w : WriteState) → Quiet (λ done. ⊤) es (writer_give_up_asks op w)
+quiet_give_up es op w = side_up es op (writer_side w)

@@ -1,14 +1,12 @@
 -- A write keeps the invariant: what is taken goes on to be the front of what is permitted.
-use Rattle.std.specs.Prelude.{⊤, nat_lt}
-use Rattle.std.proofs.Common.{◌≡◌, ℕ, ◌==◌, ◌&&◌, Bool, true, false, if◌then◌else◌, List, [], ◌∷◌, ◌++◌, Option, Some, None, Ok, Err, Result, slice_get, slice_set, length, refl, sym, ap, subst, ◌∙◌, append_assoc, append-nil, arith}
-use Rattle.std.proofs.lemmas.Bool.{eqb-true}
+use Rattle.std.specs.Prelude.{nat_lt}
+use Rattle.std.proofs.Common.{◌≡◌, ℕ, Bool, true, false, if◌then◌else◌, List, [], ◌∷◌, ◌++◌, Option, Some, None, Err, Result, slice_get, slice_set, length, refl, sym, ap, subst, ◌∙◌, append_assoc, append-nil}
 use Rattle.wasi_world.specs.declared.ids.OpId.{OpId}
-use Rattle.wasi_world.specs.declared.call.Call.TheVariants.{Write}
 use Rattle.wasi_world.specs.declared.call.Entry.{Entry}
 use Rattle.wasi_world.specs.declared.outcome.TrapKind.TheVariants.{NotPermitted}
 use Rattle.wasi_world.specs.Sides.{is_same}
-use Rattle.wasi_world.specs.Asks.{Asks, Give, Ask, AskWrite, bind, Left}
-use Rattle.wasi_world.proofs.Allowed.{Allows, allows_then, allows_weaker, allows_keep, reached}
+use Rattle.wasi_world.specs.Asks.{Asks, Give, bind}
+use Rattle.wasi_world.proofs.Allowed.{allows_then, allows_weaker}
 use Rattle.wasi_streams.specs.StreamStop.{StreamStop}
 use Rattle.wasi_streams.specs.StreamStop as stop
 use Rattle.wasi_tcp.specs.declared.halves.TcpSendStream.{TcpSendStream}
@@ -17,160 +15,70 @@ use Rattle.wasi_tcp.specs.declared.writer.WriteState.TheVariants as writing
 use Rattle.wasi_tcp.specs.Job.{new_job}
 use Rattle.wasi_tcp.specs.Socket.{side_in, side_of}
 use Rattle.wasi_tcp.specs.Writer.{write_on_asks, write_half_asks, write_state_asks}
-use Rattle.wasi_tcp.specs.Taken.{taken_by, taken_in, IsFrontOf, IsTakenBy}
-use Rattle.wasi_tcp.proofs.TakenBytes.{taken_front_of, taken_whole}
+use Rattle.wasi_tcp.specs.Taken.{taken_in, IsFrontOf}
 use Rattle.wasi_host.specs.declared.machine.Machine.{Machine}
 use Rattle.wasi_host.specs.declared.socket.Streams.{Streams}
 use Rattle.wasi_host.specs.declared.socket.Tcp2Socket.{Tcp2Socket}
-use Rattle.wasi_host.specs.Store.{Records, with_writer, writer_of, writer_asks, stream_at}
+use Rattle.wasi_host.specs.Store.{Records, with_socket, with_writer, writer_of, writer_asks, stream_at}
+use Rattle.wasi_host.specs.Jobs.{with_job, begins_job, write_at}
 use Rattle.wasi_host.specs.Machine.{with_store, output_at}
-use Rattle.wasi_host.specs.StreamCalls.{converted, stream_on, write_asks}
+use Rattle.wasi_host.specs.StreamCalls.{converted, write_on, write_asks}
 use Rattle.wasi_run.specs.Answered.{record_in}
 use Rattle.wasi_run.specs.Permitted.{writer_in, writer_of_record, writer_at, let_begin}
-use Rattle.wasi_run.proofs.PermitsQuiet.{Quiet, none_taken}
-use Rattle.wasi_run.proofs.PermitsStands.{WriterIs, RecordStands, Holds, Agree, Agrees, Stands, stands_put, stands_moved, streams_record}
-use Rattle.wasi_run.proofs.PermitsWriter.{On, none_other, Settled, write_settles}
-use Rattle.wasi_run.proofs.PermitsSteps.{meets_stream}
+use Rattle.wasi_run.proofs.PermitsQuiet.{Quiet}
+use Rattle.wasi_run.proofs.PermitsStands.{WriterIs, IsOpened, RecordStands, Agree, Agrees, Stands, Keeping, stands_put, stands_moved, streams_record}
+use Rattle.wasi_run.proofs.PermitsTaken.{taken_push, same_side, not_same, Fronts, Meets, quiet_keep, Accounted}
+use Rattle.wasi_run.proofs.PermitsWriter.{KeepsWriter, same_writer}
+use Rattle.wasi_run.proofs.PermitsJobs.{WriterTakes, write_takes}
+use Rattle.wasi_run.proofs.PermitsSteps.{not_both, meets_stream}
 use Rattle.wasi_run.proofs.PermitsKept.{rewritten, same_kept}
 
--- == what is taken along a walk
-pub taken_push : (side : OpId) (es : List Entry) (e : Entry) → taken_by side e.call e.answer ≡ [] → taken_in side (es ++ e ∷ []) ≡ taken_in side es
-taken_push side [] e h = append-nil (taken_by side e.call e.answer) ∙ h
-taken_push side (x ∷ es) e h = ap (λ more. taken_by side x.call x.answer ++ more) (taken_push side es e h)
-
--- what holds of each walk of a tree holds at each of its asks
-pub walks_allow : {A : Type 0} (M : List Entry → Type 0) (Q : List Entry → A → Type 0) (before : List Entry) (asks : Asks A)
-    → ((es : List Entry) (rest : Asks A) → Left asks es rest → M (before ++ es)) → ((es : List Entry) (a : A) → Left asks es (Give a) → Q (before ++ es) a) → Allows (λ es op call. M es) Q before asks
-walks_allow M Q before (Give a) m q = subst (λ (es : List Entry). Q es a) (append-nil before) (q [] a refl)
-walks_allow M Q before (Ask op call next) m q = (
-  subst M (append-nil before) (m [] _ refl),
-  λ told fits.
-      let x : Entry = record { op = op; call = call; answer = told } in
-      walks_allow M Q (before ++ x ∷ []) (next told) (λ es rest w. subst M (sym (append_assoc before (x ∷ []) es)) (m (x ∷ es) rest ((refl, refl, fits), w)))
-      (λ es a w. subst (λ (fs : List Entry). Q fs a) (sym (append_assoc before (x ∷ []) es)) (q (x ∷ es) a ((refl, refl, fits), w))),
-)
-walks_allow M Q before (AskWrite op sock bytes next) m q = (
-  subst M (append-nil before) (m [] _ refl),
-  λ told fits front.
-      let x : Entry = record { op = op; call = Write sock (length bytes); answer = told } in
-      walks_allow M Q (before ++ x ∷ []) (next told) (λ es rest w. subst M (sym (append_assoc before (x ∷ []) es)) (m (x ∷ es) rest ((refl, refl, fits), front, w)))
-      (λ es a w. subst (λ (fs : List Entry). Q fs a) (sym (append_assoc before (x ∷ []) es)) (q (x ∷ es) a ((refl, refl, fits), front, w))),
-)
-
--- the sides are the same
-pub same_side : (a b : OpId) → is_same a b ≡ true → a ≡ b
-same_side a b h = by_tests (a.step == b.step) (a.part == b.part) (eqb-true a.step b.step) (eqb-true a.part b.part) h
-  where
-    by_tests : (x y : Bool) → (x ≡ true → a.step ≡ b.step) → (y ≡ true → a.part ≡ b.part) → (x && y) ≡ true → a ≡ b
-    by_tests true true f g e =
-        ap (λ (n : ℕ). let o : OpId = record { step = n; part = a.part } in o) (f refl) ∙ ap (λ (n : ℕ). let o : OpId = record { step = b.step; part = n } in o) (g refl)
-    by_tests true false f g e = absurd (cc)
-    by_tests false y f g e = absurd (cc)
+pub some_side : (a b : OpId) → Some a ≡ Some b → a ≡ b
+some_side a b e = cc
 
 -- == along a walk from where it stands
 module _ (side : OpId) (taken bytes : List ℕ) where
-  -- at each ask what was taken is the front
-  abbrev pub Fronts : List Entry → Type 0
-  Fronts es = IsFrontOf (taken ++ taken_in side es) bytes
-
-  abbrev pub StandsOn : ℕ → List Entry → List Tcp2Socket → Type 0
-  StandsOn line es sockets = Stands side (taken ++ taken_in side es) bytes sockets line
-
-  abbrev pub Meets : {A : Type 0} → (List Entry → A → Type 0) → List Entry → Asks A → Type 0
-  Meets Q es asks = Allows (λ fs op call. Fronts fs) Q es asks
+  abbrev pub StandsOn : ℕ → List Entry → Records → Type 0
+  StandsOn line es store = Keeping side (taken ++ taken_in side es) bytes line store
 
   abbrev pub Ends : {A : Type 0} → ℕ → List Entry → A × Machine → Type 0
-  Ends line es done = StandsOn line es done.1.store.sockets
+  Ends line es done = StandsOn line es done.1.store
 
   -- nothing more was taken
-  none_more : (es : List Entry) → taken_in side es ≡ [] → taken ≡ taken ++ taken_in side es
+  pub none_more : (es : List Entry) → taken_in side es ≡ [] → taken ≡ taken ++ taken_in side es
   none_more es e = sym (append-nil taken) ∙ ap (λ more. taken ++ more) (sym e)
 
-  -- a tree that writes nothing
-  pub quiet_keep : {A : Type 0} (Q : A → Type 0) (es : List Entry) (asks : Asks A) → IsFrontOf taken bytes → taken_in side es ≡ [] → Quiet Q es asks → Meets (λ fs a. (taken_in side fs ≡ []) × Q a) es asks
-  quiet_keep Q es (Give a) f e h = (e, h)
-  quiet_keep Q es (Ask op call next) f e h = (
-    subst (λ t. IsFrontOf t bytes) (none_more es e) f,
-    λ told fits. quiet_keep Q _ (next told) f (taken_push side es _ (none_taken side call told h.0) ∙ e) (h.1 told fits),
-  )
-  quiet_keep Q es (AskWrite op sock offered next) f e h = absurd h.0
-
-  pub quiet_meets : {A : Type 0} (line : ℕ) (asks : Asks (A × Machine)) → IsFrontOf taken bytes → Quiet (λ done. Stands side taken bytes done.1.store.sockets line) [] asks → Meets (Ends line) [] asks
+  pub quiet_meets : {A : Type 0} (line : ℕ) (asks : Asks (A × Machine)) → IsFrontOf taken bytes → Quiet (λ done. Keeping side taken bytes line done.1.store) [] asks → Meets side taken bytes (Ends line) [] asks
   quiet_meets line asks f h =
-      allows_weaker (λ fs op call. Fronts fs) (λ fs done. (taken_in side fs ≡ []) × Stands side taken bytes done.1.store.sockets line) (Ends line)
-      (λ fs done k. subst (λ t. Stands side t bytes done.1.store.sockets line) (none_more fs k.0) k.1) [] asks (quiet_keep (λ done. Stands side taken bytes done.1.store.sockets line) [] asks f refl h)
+      allows_weaker (λ fs op call. Fronts side taken bytes fs) (λ fs done. (taken_in side fs ≡ []) × Keeping side taken bytes line done.1.store) (Ends line)
+      (λ fs done k. subst (λ t. Keeping side t bytes line done.1.store) (none_more fs k.0) k.1) [] asks
+      (quiet_keep side taken bytes (λ done. Keeping side taken bytes line done.1.store) [] [] asks (subst (λ t. IsFrontOf t bytes) (sym (append-nil taken)) f) refl h)
 
   -- a stream's call, and what follows it
-  pub stream_meets : {T : Type 0} (line : ℕ) (m : Machine) (own : OpId) (handle place : ℕ) (asks : Asks (Result T StreamStop × Records)) → Meets (λ fs done. StandsOn line fs done.1.sockets) [] asks
-      → Meets (Ends line) [] (bind asks (λ done. converted own handle place (with_store m done)))
+  pub stream_meets : {T : Type 0} (line : ℕ) (m : Machine) (own : OpId) (handle place : ℕ) (asks : Asks (Result T StreamStop × Records)) → Meets side taken bytes (λ fs done. StandsOn line fs done.1) [] asks
+      → Meets side taken bytes (Ends line) [] (bind asks (λ done. converted own handle place (with_store m done)))
   stream_meets line m own handle place asks h =
-      meets_stream (λ fs op call. Fronts fs) (StandsOn line) (λ fs rs o n k p s q. q.front)
-      (λ fs rs o n k p s t q. subst (λ taken_now. Stands side (taken ++ taken_now) bytes rs line) (sym (taken_push side fs _ refl)) q) [] m own handle place asks h
+      meets_stream (λ fs op call. Fronts side taken bytes fs) (StandsOn line) (λ fs store o n k p s q. q.stands.front)
+      (λ fs store o n k p s t q. subst (λ taken_now. Keeping side (taken ++ taken_now) bytes line store) (sym (taken_push side fs _ refl)) q) [] m own handle place asks h
 
--- == a write that begins
--- it begins from where all was taken
-ended_agrees : (before bytes more : List ℕ) (at : OpId) (done : Result (Unit {0}) StreamStop × WriteState) → IsTakenBy bytes more done → Settled at done → Agrees (before ++ more) (before ++ bytes) done.1
-ended_agrees before bytes more at (Ok done, writing.Ready half permit) t s = ap (λ w. before ++ w) t
-ended_agrees before bytes more at (Ok done, writing.Writing job) t s = append_assoc before more _ ∙ ap (λ w. before ++ w) t
-ended_agrees before bytes more at (Ok done, writing.Closing job) t s = tt
-ended_agrees before bytes more at (Ok done, writing.Closed e) t s = tt
-ended_agrees before bytes more at (Err why, writing.Ready half permit) t s = absurd s
-ended_agrees before bytes more at (Err why, writing.Writing job) t s = absurd s
-ended_agrees before bytes more at (Err why, writing.Closing job) t s = absurd s
-ended_agrees before bytes more at (Err why, writing.Closed e) t s = tt
+  -- the writer of a record moved on
+  module _ (line : ℕ) (sockets : List Tcp2Socket) (place : ℕ) (r : Tcp2Socket) (s : Streams) (g : slice_get sockets place ≡ Some r) (at : OpId) (held : side_of r.inner ≡ Some at)
+      (before old permitted : List ℕ) (p : old ≡ taken ++ before) (h : Stands side old permitted sockets line) where
+    abbrev pub Moves : List Entry → WriteState → Type 0
+    Moves fs w = Stands side (taken ++ taken_in side fs) bytes (slice_set sockets place (with_writer r s w)) line
 
-settled_writer : (at : OpId) (done : Result (Unit {0}) StreamStop × WriteState) → Settled at done → WriterIs at done.1
-settled_writer at (Ok done, w) s = s
-settled_writer at (Err why, writing.Ready half permit) s = absurd s
-settled_writer at (Err why, writing.Writing job) s = absurd s
-settled_writer at (Err why, writing.Closing job) s = absurd s
-settled_writer at (Err why, writing.Closed e) s = tt
+    moved_by : (fs : List Entry) (w : WriteState) (ours : Bool) → is_same at side ≡ ours → RecordStands (with_writer r s w) → (is_same at side ≡ false → permitted ≡ bytes) → Accounted side taken bytes at before (λ all. Agrees all bytes w) fs → Moves fs w
+    moved_by fs w true e stands other a =
+        let is = same_side at side e in
+        stands_moved side sockets line place r (with_writer r s w) g stands old permitted (taken ++ taken_in side fs) bytes (held ∙ ap (λ (x : OpId). Some x) is) a.front (a.ours is) h
+    moved_by fs w false e stands other a =
+        let now = slice_set sockets place (with_writer r s w) in
+        let put : Stands side old permitted now line =
+        stands_put side sockets line place r (with_writer r s w) g stands old permitted (λ k. k) (λ k. absurd (not_same at side (some_side at side (sym held ∙ k)) e)) h in
+        subst (λ t. Stands side t bytes now line) (p ∙ ap (λ more. taken ++ more) (sym (a.theirs e))) (subst (λ q. Stands side old q now line) (other e) put)
 
-front_after : (before bytes more : List ℕ) → IsFrontOf more bytes → IsFrontOf (before ++ more) (before ++ bytes)
-front_after before bytes more f = (f.0, append_assoc before more f.0 ∙ ap (λ w. before ++ w) f.1)
-
--- What a write that began leaves.
-pub record Wrote (at : OpId) (taken bytes : List ℕ) (done : Result (Unit {0}) StreamStop × WriteState) : Type 0 where
-  pub front : IsFrontOf taken bytes
-  pub agrees : Agrees taken bytes done.1
-  pub writer : WriterIs at done.1
-
-module _ (op : OpId) (half : TcpSendStream) (permit b : ℕ) (rest : List ℕ) (fits : nat_lt permit (length (b ∷ rest)) ≡ false) where
-  abbrev offered : List ℕ
-  offered = b ∷ rest
-
-  abbrev tree : Asks (Result (Unit {0}) StreamStop × WriteState)
-  tree = write_on_asks op (writing.Writing (new_job op half.side offered))
-
-  whole : (es : List Entry) (left : Asks (Result (Unit {0}) StreamStop × WriteState)) → Left tree es left → Left (write_half_asks op half permit offered) es left
-  whole es left w =
-      let T : Bool → Type 0 = λ d. Left (if d then Give (Err (stop.Trap NotPermitted), writing.Ready half permit) else tree) es left in
-      subst T (sym fits) w
-
-  settles : (es : List Entry) (done : Result (Unit {0}) StreamStop × WriteState) → Left tree es (Give done) → Settled half.side done
-  settles es done w = reached (On half.side) (λ fs d. Settled half.side d) [] tree es (Give done) (write_settles [] op half.side offered) w
-
-  write_here : (before : List ℕ) → Allows (λ es o call. IsFrontOf (before ++ taken_in half.side es) (before ++ offered)) (λ es done. Wrote half.side (before ++ taken_in half.side es) (before ++ offered) done) [] tree
-  write_here before =
-      walks_allow (λ es. IsFrontOf (before ++ taken_in half.side es) (before ++ offered)) (λ es done. Wrote half.side (before ++ taken_in half.side es) (before ++ offered) done) [] tree
-      (λ es left w. front_after before offered (taken_in half.side es) (taken_front_of op half permit offered es left (whole es left w)))
-      (λ es done w. record {
-        front = front_after before offered (taken_in half.side es) (taken_front_of op half permit offered es (Give done) (whole es (Give done) w));
-        agrees = ended_agrees before offered (taken_in half.side es) half.side done (taken_whole op half permit offered es done (whole es (Give done) w)) (settles es done w);
-        writer = settled_writer half.side done (settles es done w);
-      })
-
-  -- of another side nothing is taken
-  abbrev Untaken : OpId → List Entry → Type 0
-  Untaken side es = taken_in side es ≡ []
-
-  write_elsewhere : (side : OpId) → is_same half.side side ≡ false → Allows (λ es o call. Untaken side es) (λ es done. Untaken side es × WriterIs half.side done.1) [] tree
-  write_elsewhere side other = on_keep [] tree refl (write_settles [] op half.side offered)
-    where
-      on_keep : (es : List Entry) (asks : Asks (Result (Unit {0}) StreamStop × WriteState)) → Untaken side es → Allows (On half.side) (λ fs d. Settled half.side d) es asks → Allows (λ fs o call. Untaken side fs) (λ fs done. Untaken side fs × WriterIs half.side done.1) es asks
-      on_keep es (Give a) e h = (e, settled_writer half.side a h)
-      on_keep es (Ask o call next) e h = (e, λ told fit. on_keep _ (next told) (taken_push side es _ (none_other half.side side call told other h.0) ∙ e) (h.1 told fit))
-      on_keep es (AskWrite o sock more next) e h = (e, λ told fit front. on_keep _ (next told) (taken_push side es _ (none_other half.side side (Write sock (length more)) told other h.0) ∙ e) (h.1 told fit front))
+    pub moved : (fs : List Entry) (w : WriteState) → RecordStands (with_writer r s w) → (is_same at side ≡ false → permitted ≡ bytes) → Accounted side taken bytes at before (λ all. Agrees all bytes w) fs → Moves fs w
+    moved fs w stands other a = moved_by fs w (is_same at side) refl stands other a
 
 -- == the step
 no_bytes : (a b : Bool) → (let bytes : List ℕ = if b then [] else [] in if a then bytes else []) ≡ []
@@ -178,103 +86,90 @@ no_bytes true true = refl
 no_bytes true false = refl
 no_bytes false b = refl
 
-same_number : (n : ℕ) → (n == n) ≡ true
-same_number n = grind arith
+front_on : (taken permitted more : List ℕ) → IsFrontOf taken permitted → IsFrontOf (taken ++ []) (permitted ++ more)
+front_on taken permitted more f = (f.0 ++ more, ap (λ t. t ++ (f.0 ++ more)) (append-nil taken) ∙ (sym (append_assoc taken f.0 more) ∙ ap (λ t. t ++ more) f.1))
 
-not_same : (a b : OpId) → a ≡ b → is_same a b ≡ false → ⊥
-not_same a b e h =
-    let p : is_same a a ≡ true = rw (same_number a.step, same_number a.part) refl in
-    let q : true ≡ false = sym p ∙ (ap (λ (x : OpId). is_same a x) e ∙ h) in
-    absurd (cc)
-
-pub some_side : (a b : OpId) → Some a ≡ Some b → a ≡ b
-some_side a b e = cc
-
-module _ (side : OpId) (taken permitted : List ℕ) (line : ℕ) (m : Machine) (own : OpId) (output : ℕ) (h : Stands side taken permitted m.store.sockets line) where
+module _ (side : OpId) (taken permitted : List ℕ) (line : ℕ) (m : Machine) (own : OpId) (output : ℕ) (h : Keeping side taken permitted line m.store) where
   -- it stands as before, and nothing is let begin
-  nothing : (rs : List Tcp2Socket) → Stands side taken permitted rs line → StandsOn side taken (permitted ++ []) line [] rs
-  nothing rs k = subst (λ t. Stands side t (permitted ++ []) rs line) (sym (append-nil taken)) (subst (λ p. Stands side taken p rs line) (sym (append-nil permitted)) k)
+  nothing : (store : Records) → Keeping side taken permitted line store → StandsOn side taken (permitted ++ []) line [] store
+  nothing store k = subst (λ t. Keeping side t (permitted ++ []) line store) (sym (append-nil taken)) (subst (λ p. Keeping side taken p line store) (sym (append-nil permitted)) k)
 
   -- what a record's call leaves, where these bytes are let begin
   abbrev Puts : ℕ → List ℕ → List Entry → Result (Unit {0}) StreamStop × Tcp2Socket → Type 0
-  Puts place more es done = StandsOn side taken (permitted ++ more) line es (slice_set m.store.sockets place done.1)
+  Puts place more es done = StandsOn side taken (permitted ++ more) line es (with_socket m.store place done.1)
 
   module _ (place : ℕ) (r : Tcp2Socket) (s : Streams) (g : slice_get m.store.sockets place ≡ Some r) (e : r.streams ≡ Some s) where
     abbrev PutsWriter : List ℕ → List Entry → Result (Unit {0}) StreamStop × WriteState → Type 0
-    PutsWriter more es done = StandsOn side taken (permitted ++ more) line es (slice_set m.store.sockets place (with_writer r s done.1))
+    PutsWriter more es done = StandsOn side taken (permitted ++ more) line es (with_socket m.store place (with_writer r s done.1))
 
-    same_writer : (w : WriteState) → s.writer ≡ w → StandsOn side taken (permitted ++ []) line [] (slice_set m.store.sockets place (with_writer r s w))
-    same_writer w p =
-        nothing _ (rewritten side taken permitted line m h place r s (record s { writer = w }) g e (λ at. subst (WriterIs at) p) (subst (Agrees taken permitted) p))
+    as_before : (w : WriteState) → s.writer ≡ w → StandsOn side taken (permitted ++ []) line [] (with_socket m.store place (with_writer r s w))
+    as_before w p =
+        nothing _ (rewritten side taken permitted line m h place r s (record s { writer = w }) g e (subst (KeepsWriter s.writer) p (same_writer s.writer)))
 
     module _ (half : TcpSendStream) (permit : ℕ) (p : s.writer ≡ writing.Ready half permit) where
       its_side : side_of r.inner ≡ Some half.side
       its_side =
-          let o = (h.records place r g).opened s e in
+          let o = (h.stands.records place r g).opened s e in
           let same : half.side ≡ o.connection.side = subst (WriterIs o.connection.side) p o.writer in
           ap side_in o.is ∙ ap (λ (x : OpId). Some x) (sym same)
 
-      there : (w : WriteState) → WriterIs half.side w → (at : OpId) → WriterIs at s.writer → WriterIs at w
-      there w k at q = let same : half.side ≡ at = subst (WriterIs at) p q in subst (λ (x : OpId). WriterIs x w) same k
+      opened_there : (w : WriteState) → WriterIs half.side w → IsOpened r.inner s.writer → IsOpened r.inner w
+      opened_there w k o =
+          let same : half.side ≡ o.connection.side = subst (WriterIs o.connection.side) p o.writer in
+          record { connection = o.connection; is = o.is; taken = o.taken; writer = subst (λ (x : OpId). WriterIs x w) same k }
 
       stands_there : (w : WriteState) → WriterIs half.side w → RecordStands (with_writer r s w)
-      stands_there w k = streams_record r s (record s { writer = w }) e (there w k) (h.records place r g)
+      stands_there w k = streams_record r s (record s { writer = w }) e (opened_there w k) (h.stands.records place r g)
 
-      -- on this side
-      write_ours : (b : ℕ) (rest : List ℕ) → nat_lt permit (length (b ∷ rest)) ≡ false → half.side ≡ side
-          → Meets side taken (permitted ++ (b ∷ rest)) (PutsWriter (b ∷ rest)) [] (write_on_asks own (writing.Writing (new_job own half.side (b ∷ rest))))
-      write_ours b rest fits ours =
-          let held : Holds side r = its_side ∙ ap (λ (x : OpId). Some x) ours in
-          let all : taken ≡ permitted = subst (Agrees taken permitted) p (subst (Agree taken permitted) e (h.agree place r g held)) in
-          let T : OpId → List ℕ → Type 0 = λ x q.
-          Allows (λ es o call. IsFrontOf (taken ++ taken_in x es) (q ++ (b ∷ rest))) (λ es done. Wrote half.side (taken ++ taken_in x es) (q ++ (b ∷ rest)) done) [] (write_on_asks own (writing.Writing (new_job own half.side (b ∷ rest)))) in
-          let here : T side permitted = subst (T side) all (subst (λ x. T x taken) ours (write_here own half permit b rest fits taken)) in
-          allows_weaker (λ es o call. Fronts side taken (permitted ++ (b ∷ rest)) es) (λ es done. Wrote half.side (taken ++ taken_in side es) (permitted ++ (b ∷ rest)) done) (PutsWriter (b ∷ rest))
-          (λ es done k.
-          stands_moved side m.store.sockets line place r (with_writer r s done.1) g (stands_there done.1 k.writer) taken permitted (taken ++ taken_in side es) (permitted ++ (b ∷ rest)) held k.front k.agrees h)
-          [] (write_on_asks own (writing.Writing (new_job own half.side (b ∷ rest)))) here
+      -- where the half is of this side all was taken
+      all_taken : half.side ≡ side → taken ≡ permitted
+      all_taken ours = subst (Agrees taken permitted) p (subst (Agree taken permitted) e (h.stands.agree place r g (its_side ∙ ap (λ (x : OpId). Some x) ours)))
 
-      -- on another
-      put_elsewhere : (es : List Entry) (done : Result (Unit {0}) StreamStop × WriteState) → is_same half.side side ≡ false → taken_in side es ≡ [] → WriterIs half.side done.1 → PutsWriter [] es done
-      put_elsewhere es done other none k =
-          let put : Stands side taken permitted (slice_set m.store.sockets place (with_writer r s done.1)) line =
-          stands_put side m.store.sockets line place r (with_writer r s done.1) g (stands_there done.1 k) taken permitted (λ held. held)
-          (λ held. absurd (not_same half.side side (some_side half.side side (sym its_side ∙ held)) other)) h in
-          subst (λ t. Stands side t (permitted ++ []) (slice_set m.store.sockets place (with_writer r s done.1)) line) (none_more side taken permitted es none)
-          (subst (λ q. Stands side taken q (slice_set m.store.sockets place (with_writer r s done.1)) line) (sym (append-nil permitted)) put)
+      module _ (b : ℕ) (rest : List ℕ) where
+        abbrev asks : Asks (Result (Unit {0}) StreamStop × WriteState)
+        asks = write_on_asks own (writing.Writing (new_job own half.side (b ∷ rest)))
 
-      front_elsewhere : (es : List Entry) → taken_in side es ≡ [] → Fronts side taken (permitted ++ []) es
-      front_elsewhere es none =
-          subst (λ t. IsFrontOf t (permitted ++ [])) (none_more side taken permitted es none) (subst (IsFrontOf taken) (sym (append-nil permitted)) h.front)
+        -- a write that begins, where these bytes are let begin
+        write_begins : (more : List ℕ) → (half.side ≡ side → more ≡ b ∷ rest) → (is_same half.side side ≡ false → more ≡ []) → Meets side taken (permitted ++ more) (PutsWriter more) [] asks
+        write_begins more ours theirs =
+            let bytes = permitted ++ more in
+            let first : WriterTakes side taken bytes [] half.side [] (writing.Writing (new_job own half.side (b ∷ rest))) = (
+              (refl, (tt, tt)),
+              record {
+                front = front_on taken permitted more h.stands.front;
+                ours = λ o. ap (λ t. t ++ (b ∷ rest)) (append-nil taken ∙ all_taken o) ∙ ap (λ t. permitted ++ t) (sym (ours o));
+                theirs = λ o. refl;
+              },
+            ) in
+            allows_weaker (λ es o c. Fronts side taken bytes es) (λ es done. WriterTakes side taken bytes [] half.side es done.1) (PutsWriter more)
+            (λ es done k. record {
+              stands =
+                  moved side taken bytes line m.store.sockets place r s g half.side its_side [] taken permitted (sym (append-nil taken)) h.stands es done.1 (stands_there done.1 k.0)
+                  (λ o. sym (append-nil permitted) ∙ ap (λ t. permitted ++ t) (sym (theirs o))) k.1;
+              quietly = h.quietly;
+            })
+            [] asks (write_takes side taken bytes [] half.side [] own (writing.Writing (new_job own half.side (b ∷ rest))) first)
 
-      write_theirs : (b : ℕ) (rest : List ℕ) → nat_lt permit (length (b ∷ rest)) ≡ false → is_same half.side side ≡ false
-          → Meets side taken (permitted ++ []) (PutsWriter []) [] (write_on_asks own (writing.Writing (new_job own half.side (b ∷ rest))))
-      write_theirs b rest fits other =
-          allows_weaker (λ es o call. Fronts side taken (permitted ++ []) es) (λ es done. ⊤ × ((taken_in side es ≡ []) × WriterIs half.side done.1)) (PutsWriter []) (λ es done k. put_elsewhere es done other k.1.0 k.1.1)
-          [] (write_on_asks own (writing.Writing (new_job own half.side (b ∷ rest))))
-          (allows_keep (λ es o call. taken_in side es ≡ []) (λ es o call. Fronts side taken (permitted ++ []) es) (λ es. ⊤) (λ es done. (taken_in side es ≡ []) × WriterIs half.side done.1)
-          (λ es o call told fit k q. tt) (λ es o call q. front_elsewhere es q) [] (write_on_asks own (writing.Writing (new_job own half.side (b ∷ rest)))) tt (write_elsewhere own half permit b rest fits side other))
-
-      by_tests : (b : ℕ) (rest : List ℕ) (over ours : Bool) → nat_lt permit (length (b ∷ rest)) ≡ over → is_same half.side side ≡ ours
-          → (let within_it : List ℕ = if over then [] else b ∷ rest in
-          let more : List ℕ = if ours then within_it else [] in
-          let asks : Asks (Result (Unit {0}) StreamStop × WriteState) = if over then Give (Err (stop.Trap NotPermitted), writing.Ready half permit) else write_on_asks own (writing.Writing (new_job own half.side (b ∷ rest))) in
-          Meets side taken (permitted ++ more) (PutsWriter more) [] asks)
-      by_tests b rest true true f o = same_writer (writing.Ready half permit) p
-      by_tests b rest true false f o = same_writer (writing.Ready half permit) p
-      by_tests b rest false true f o = write_ours b rest f (same_side half.side side o)
-      by_tests b rest false false f o = write_theirs b rest f o
+        by_tests : (over ours : Bool) → is_same half.side side ≡ ours
+            → (let within_it : List ℕ = if over then [] else b ∷ rest in
+            let more : List ℕ = if ours then within_it else [] in
+            let tree : Asks (Result (Unit {0}) StreamStop × WriteState) = if over then Give (Err (stop.Trap NotPermitted), writing.Ready half permit) else asks in
+            Meets side taken (permitted ++ more) (PutsWriter more) [] tree)
+        by_tests true true o = as_before (writing.Ready half permit) p
+        by_tests true false o = as_before (writing.Ready half permit) p
+        by_tests false true o = write_begins (b ∷ rest) (λ e. refl) (λ e. absurd (not_both (is_same half.side side) o e))
+        by_tests false false o = write_begins [] (λ e. absurd (not_same half.side side e o)) (λ e. refl)
 
       write_ready : (bytes : List ℕ) → let more = let_begin side bytes (Some (writing.Ready half permit)) in Meets side taken (permitted ++ more) (PutsWriter more) [] (write_half_asks own half permit bytes)
       write_ready [] =
-          subst (λ more. Meets side taken (permitted ++ more) (PutsWriter more) [] (write_half_asks own half permit [])) (sym (no_bytes (is_same half.side side) (nat_lt permit 0))) (same_writer (writing.Ready half permit) p)
-      write_ready (b ∷ rest) = by_tests b rest (nat_lt permit (length (b ∷ rest))) (is_same half.side side) refl refl
+          subst (λ more. Meets side taken (permitted ++ more) (PutsWriter more) [] (write_half_asks own half permit [])) (sym (no_bytes (is_same half.side side) (nat_lt permit 0))) (as_before (writing.Ready half permit) p)
+      write_ready (b ∷ rest) = by_tests b rest (nat_lt permit (length (b ∷ rest))) (is_same half.side side) refl
 
     write_from : (bytes : List ℕ) (w : WriteState) → s.writer ≡ w → let more = let_begin side bytes (Some w) in Meets side taken (permitted ++ more) (PutsWriter more) [] (write_state_asks own w bytes)
     write_from bytes (writing.Ready half permit) p = write_ready half permit p bytes
-    write_from bytes (writing.Writing job) p = same_writer (writing.Writing job) p
-    write_from bytes (writing.Closing job) p = same_writer (writing.Closing job) p
-    write_from bytes (writing.Closed why) p = same_writer (writing.Closed why) p
+    write_from bytes (writing.Writing job) p = as_before (writing.Writing job) p
+    write_from bytes (writing.Closing job) p = as_before (writing.Closing job) p
+    write_from bytes (writing.Closed why) p = as_before (writing.Closed why) p
 
   module _ (bytes : List ℕ) where
     abbrev call : Tcp2Socket → Asks (Result (Unit {0}) StreamStop × Tcp2Socket)
@@ -287,18 +182,30 @@ module _ (side : OpId) (taken permitted : List ℕ) (line : ℕ) (m : Machine) (
         let more = let_begin side bytes (Some s.writer) in
         allows_then (λ es o c. Fronts side taken (permitted ++ more) es) (PutsWriter place r s g e more) (Puts place more) [] (write_state_asks own s.writer bytes) _ (write_from place r s g e bytes s.writer refl) (λ es done k. k)
 
-    write_at : (place : ℕ) (o : Option Tcp2Socket) → slice_get m.store.sockets place ≡ o
-        → let more = let_begin side bytes (writer_of_record o) in Meets side taken (permitted ++ more) (λ es done. StandsOn side taken (permitted ++ more) line es done.1.sockets) [] (stream_at m.store place call o)
-    write_at place None g = nothing m.store.sockets h
-    write_at place (Some r) g =
+    write_record : (place : ℕ) (o : Option Tcp2Socket) → slice_get m.store.sockets place ≡ o
+        → let more = let_begin side bytes (writer_of_record o) in Meets side taken (permitted ++ more) (λ es done. StandsOn side taken (permitted ++ more) line es done.1) [] (stream_at m.store place call o)
+    write_record place None g = nothing m.store h
+    write_record place (Some r) g =
         let more = let_begin side bytes (writer_in r.streams) in
-        allows_then (λ es o c. Fronts side taken (permitted ++ more) es) (Puts place more) (λ es done. StandsOn side taken (permitted ++ more) line es done.1.sockets) [] (call r) _ (write_of place r r.streams g refl) (λ es done k. k)
+        allows_then (λ es o c. Fronts side taken (permitted ++ more) es) (Puts place more) (λ es done. StandsOn side taken (permitted ++ more) line es done.1) [] (call r) _ (write_of place r r.streams g refl) (λ es done k. k)
 
-    write_on : (o : Option ℕ) → let more = let_begin side bytes (writer_of_record (record_in m o)) in Meets side taken (permitted ++ more) (Ends side taken (permitted ++ more) line) [] (stream_on m own output call o)
-    write_on None = nothing m.store.sockets h
-    write_on (Some place) =
+    -- a job more, or none
+    with_job_stands : (all : List ℕ) (es : List Entry) (store : Records) (place : ℕ) (begins : Bool) → StandsOn side taken all line es store → StandsOn side taken all line es (with_job store place begins)
+    with_job_stands all es store place true k = record { stands = k.stands; quietly = k.quietly }
+    with_job_stands all es store place false k = k
+
+    write_noted : (place : ℕ) (o : Option Tcp2Socket) → slice_get m.store.sockets place ≡ o
+        → let more = let_begin side bytes (writer_of_record o) in Meets side taken (permitted ++ more) (λ es done. StandsOn side taken (permitted ++ more) line es done.1) [] (write_at m.store place call o)
+    write_noted place o g =
+        let all = permitted ++ let_begin side bytes (writer_of_record o) in
+        allows_then (λ es op c. Fronts side taken all es) (λ es done. StandsOn side taken all line es done.1) (λ es done. StandsOn side taken all line es done.1) [] (stream_at m.store place call o) _ (write_record place o g)
+        (λ es done k. with_job_stands all es done.1 place (begins_job o (slice_get done.1.sockets place)) k)
+
+    write_meets : (o : Option ℕ) → let more = let_begin side bytes (writer_of_record (record_in m o)) in Meets side taken (permitted ++ more) (Ends side taken (permitted ++ more) line) [] (write_on m own output call o)
+    write_meets None = nothing m.store h
+    write_meets (Some place) =
         let o = slice_get m.store.sockets place in
-        stream_meets side taken (permitted ++ let_begin side bytes (writer_of_record o)) line m own output place (stream_at m.store place call o) (write_at place o refl)
+        stream_meets side taken (permitted ++ let_begin side bytes (writer_of_record o)) line m own output place (write_at m.store place call o) (write_noted place o refl)
 
     pub kept_write : let more = let_begin side bytes (writer_at m output) in Meets side taken (permitted ++ more) (Ends side taken (permitted ++ more) line) [] (write_asks m own output bytes)
-    kept_write = write_on (output_at m output)
+    kept_write = write_meets (output_at m output)

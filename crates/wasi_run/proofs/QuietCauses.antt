@@ -77,7 +77,9 @@ module _ (m : Machine) where
 
     quiet_by : (s : Step) (standing : Option Standing) (es : List Entry) (done : Reply × Machine) → IsQuiet s → Left (machine_asks contexts m line s standing) es (Give done) → Stays es done
     quiet_by s None es done q w = given Stays (step_asks contexts m line s) es done (stays s q) w
-    quiet_by s (Some c) es done q w = given Stays (Give (reply.Busy, m)) es done (refl, refl) w
+    quiet_by (step.TcpIsListening ctx handle) (Some c) es done q w = given Stays (Give (reply.Busy, m)) es done (refl, refl) w
+    quiet_by (step.TcpAddressFamily ctx handle) (Some c) es done q w = given Stays (Give (reply.Busy, m)) es done (refl, refl) w
+    quiet_by _ (Some c) es done q w = absurd q
 
     pub quiet_stays : (s : Step) (es : List Entry) (r : Reply) (after : Machine) → IsQuiet s → Answered contexts m line s es r after → (es ≡ []) × (after ≡ m)
     quiet_stays s es r after q w = quiet_by s m.store.standing es (r, after) q w

@@ -11,7 +11,7 @@ use Rattle.wasi_run.specs.declared.reply.CodeWord.TheVariants as word
 use Rattle.wasi_run.specs.declared.reply.Reply.{Reply}
 use Rattle.wasi_run.specs.declared.reply.Reply.TheVariants as reply
 use Rattle.wasi_host.specs.declared.socket.Tcp2Socket.{Tcp2Socket}
-use Rattle.wasi_host.specs.Store.{Records, is_nothing}
+use Rattle.wasi_host.specs.Store.{Records, with_socket, is_nothing}
 use Rattle.wasi_host.specs.Machine.{socket_at}
 use Rattle.wasi_run.specs.Answered.{record_in, record_at, putting, word_of_code, RefusedOf}
 
@@ -21,8 +21,11 @@ set_same [] i x e = absurd (cc)
 set_same (y ∷ xs) zero x e = let p : y ≡ x = cc in ap (λ (z : _). z ∷ xs) (sym p)
 set_same (y ∷ xs) (suc i) x e = ap (λ (ys : List _). y ∷ ys) (set_same xs i x e)
 
+pub put_store_same : (store : Records) (place : ℕ) (r : Tcp2Socket) → slice_get store.sockets place ≡ Some r → with_socket store place r ≡ store
+put_store_same store place r at = ap (λ (rs : List Tcp2Socket). let left : Records = record store { sockets = rs } in left) (set_same store.sockets place r at)
+
 pub put_same : (m : Machine) (place : ℕ) (r : Tcp2Socket) → slice_get m.store.sockets place ≡ Some r → putting m place r ≡ m
-put_same m place r at = ap (λ (rs : List Tcp2Socket). let store : Records = record m.store { sockets = rs } in let left : Machine = record m { store = store } in left) (set_same m.store.sockets place r at)
+put_same m place r at = ap (λ (store : Records). let left : Machine = record m { store = store } in left) (put_store_same m.store place r at)
 
 -- what leaves the machine
 pub put_back : (P : Machine → Type 0) (m : Machine) (place : ℕ) (r : Tcp2Socket) → slice_get m.store.sockets place ≡ Some r → P m → P (putting m place r)

@@ -68,7 +68,7 @@ module _ (m : Machine) (handle network : ℕ) (Begun : ℕ → Tcp2Socket → Li
     pub conflict_exactly : (contexts : List WasiSocketsCtx) (line : ℕ) (s : Step) → Gives StartSays [] (step_asks contexts m line s) → (es : List Entry) (r : Reply) (after : Machine) → m.store.standing ≡ None → is_network (kind_at m.table network) ≡ true
         → Answered contexts m line s es r after → (r ≡ reply.Err word.ConcurrencyConflict) ↔ HasOperationInProgress (record_at m handle)
     conflict_exactly contexts line s gives es r after free is_one w =
-        let says : StartSays es (r, after) = settled contexts m line StartSays s m.store.standing es (r, after) gives w (λ busy. let standing = (busy_exactly contexts m line s es r after w).0 busy in cc) in (
+        let says : StartSays es (r, after) = settled contexts m line StartSays s m.store.standing es (r, after) gives w (λ busy. let standing = ((busy_exactly contexts m line s es r after w).0 busy).0 in cc) in (
           λ e. let h : IsRefused es word.ConcurrencyConflict after = subst (λ (x : Reply). StartSays es (x, after)) e says in in_progress es word.ConcurrencyConflict after h h.holds refl,
           λ k. is_conflict es (r, after) is_one k says,
         )

@@ -1,8 +1,11 @@
 -- Where the answers of a step come from: of a call that stands, and of the finish of a bind.
-use Rattle.std.specs.Prelude.{⊤, IsSome}
-use Rattle.std.proofs.Common.{◌≡◌, ◌≢◌, ◌↔◌, ℕ, Bool, true, false, List, [], Option, Some, None, Result, Ok, Err, slice_get, refl, sym, ap}
+use Rattle.std.specs.Prelude.{⊤, IsSome, is_some}
+use Rattle.std.proofs.Common.{◌≡◌, ◌≢◌, ◌↔◌, ℕ, Bool, true, false, if◌then◌else◌, List, [], length, Option, Some, None, Result, Ok, Err, slice_get, refl, sym, ap}
 use Rattle.wasi_addr.specs.declared.address.IpSocketAddress.{IpSocketAddress}
 use Rattle.wasi_addr.specs.declared.address.SocketAddressFamily.{SocketAddressFamily}
+use Rattle.wasi_world.specs.declared.ids.OpId.{OpId}
+use Rattle.wasi_world.specs.declared.call.Call.{Call}
+use Rattle.wasi_world.specs.declared.call.Call.TheVariants.{Write}
 use Rattle.wasi_world.specs.declared.call.Entry.{Entry}
 use Rattle.wasi_world.specs.declared.outcome.Answer.{Answer}
 use Rattle.wasi_world.specs.declared.outcome.Answer.TheVariants.{Ready, Pending}
@@ -17,13 +20,19 @@ use Rattle.wasi_run.specs.declared.reply.Reply.TheVariants as reply
 use Rattle.wasi_host.specs.declared.socket.Tcp2Socket.{Tcp2Socket}
 use Rattle.wasi_run.specs.declared.step.Step.{Step}
 use Rattle.wasi_run.specs.declared.step.Step.TheVariants as step
+use Rattle.wasi_host.specs.declared.pending.Outcome.{Outcome}
+use Rattle.wasi_host.specs.declared.pending.Outcome.TheVariants.{Nothing}
 use Rattle.wasi_host.specs.declared.store.Standing.{Standing}
 use Rattle.wasi_host.specs.Host.{Stop, Code, Trap, CallStop, Failed, Closed, Traps}
 use Rattle.wasi_host.specs.Store.{is_bind, finish_bind_by, finish_bind_at}
-use Rattle.wasi_host.specs.Machine.{socket_at, create_asks, own_of}
-use Rattle.wasi_p2.specs.Tcp.{network_asks, start_bind_asks, finish_bind_on, start_connect_asks, finish_connect_asks, local_address_on, remote_address_on, is_listening_on, address_family_on}
+use Rattle.wasi_host.specs.Machine.{socket_at, create_asks, subscribe_asks, ready_asks, drop_asks, turn_machine_asks, own_of}
+use Rattle.wasi_host.specs.Pending as host
+use Rattle.wasi_p2.specs.Pending as p2
+use Rattle.wasi_p2.specs.Tcp.{network_asks, start_bind_asks, finish_bind_on, start_connect_asks, finish_connect_asks, local_address_on, remote_address_on, is_listening_on, address_family_on, shutdown_on}
 use Rattle.wasi_host.specs.StreamCalls.{read_asks, check_asks, write_asks, flushed_asks}
-use Rattle.wasi_run.specs.Machine.{handle_reply, done_reply, answer_reply, pair_reply, address_reply, truth_reply, family_reply, call_stop_reply, bytes_reply, permit_reply, taken_reply, context_at, step_asks, machine_asks}
+use Rattle.wasi_run.specs.Machine.{stop_reply, handle_reply, done_reply, answer_reply, pair_reply, address_reply, truth_reply, family_reply, call_stop_reply, bytes_reply, permit_reply, taken_reply, outcome_reply, resumed_reply, poll_on, context_at, step_asks, machine_asks}
+use Rattle.wasi_run.specs.Reply.{no_fields}
+use Rattle.wasi_run.specs.Steps.{context_of}
 use Rattle.wasi_run.specs.Answered.{Answered, record_in, HasNoBindInProgress}
 
 -- == what a tree gives, whatever is told
@@ -42,6 +51,12 @@ gives_any Q any before (AskWrite op sock bytes next) = (tt, λ told fits front. 
 -- what is weaker
 pub gives_more : {A : Type 0} (Q R : List Entry → A → Type 0) (more : (es : List Entry) (a : A) → Q es a → R es a) (before : List Entry) (asks : Asks A) → Gives Q before asks → Gives R before asks
 gives_more Q R more before asks h = allows_weaker (λ es op call. ⊤) Q R more before asks h
+
+-- what is weaker of each ask
+pub allows_ask : {A : Type 0} (P R : List Entry → OpId → Call → Type 0) (Q : List Entry → A → Type 0) (weak : (es : List Entry) (op : OpId) (call : Call) → P es op call → R es op call) (before : List Entry) (asks : Asks A) → Allows P Q before asks → Allows R Q before asks
+allows_ask P R Q weak before (Give a) h = h
+allows_ask P R Q weak before (Ask op call next) h = (weak before op call h.0, λ told fits. allows_ask P R Q weak _ (next told) (h.1 told fits))
+allows_ask P R Q weak before (AskWrite op sock bytes next) h = (weak before op (Write sock (length bytes)) h.0, λ told fits front. allows_ask P R Q weak _ (next told) (h.1 told fits front))
 
 -- two at once
 pub gives_both : {A : Type 0} (Q R : List Entry → A → Type 0) (before : List Entry) (asks : Asks A) → Gives Q before asks → Gives R before asks → Gives (λ es a. Q es a × R es a) before asks
@@ -119,9 +134,30 @@ taken_not_busy : (r : Result (Unit {0}) CallStop) → taken_reply r ≢ reply.Bu
 taken_not_busy (Ok done) e = cc
 taken_not_busy (Err stop) e = stream_not_busy stop e
 
+stop_not_busy : (stop : Stop) → stop_reply stop ≢ reply.Busy
+stop_not_busy (Code c) e = cc
+stop_not_busy (Trap kind) e = cc
+
+outcome_not_busy : (line : ℕ) (answer : Answer Outcome) → outcome_reply line answer ≢ reply.Busy
+outcome_not_busy line (Ready Nothing) e = cc
+outcome_not_busy line Pending e = cc
+
+resumed_not_busy : (line : ℕ) (r : Result (Option (Answer Outcome)) CallStop) → resumed_reply line r ≢ reply.Busy
+resumed_not_busy line (Ok None) e = cc
+resumed_not_busy line (Ok (Some answer)) e = outcome_not_busy line answer e
+resumed_not_busy line (Err stop) e = stream_not_busy stop e
+
 module _ (contexts : List WasiSocketsCtx) (m : Machine) (line : ℕ) where
+  not_busy_after : {A : Type 0} (before : List Entry) (asks : Asks (A × Machine)) (says : A → Reply) → ((a : A) → says a ≢ reply.Busy) → Gives NotBusy before (bind asks (λ done. Give (says done.0, done.1)))
+  not_busy_after before asks says h = gives_then (λ es done. ⊤) NotBusy before asks _ (gives_any _ (λ es done. tt) before asks) (λ es done k. h done.0)
+
   not_busy : {A : Type 0} (asks : Asks (A × Machine)) (says : A → Reply) → ((a : A) → says a ≢ reply.Busy) → Gives NotBusy [] (bind asks (λ done. Give (says done.0, done.1)))
-  not_busy asks says h = gives_then (λ es done. ⊤) NotBusy [] asks _ (gives_any _ (λ es done. tt) [] asks) (λ es done k. h done.0)
+  not_busy = not_busy_after []
+
+  poll_not_busy : (n : ℕ) (es : List Entry) (done : Result (Option (Answer Outcome)) Stop × Machine) → Gives NotBusy es (poll_on n done)
+  poll_not_busy n es (Ok None, now) = not_busy_after es (host.resume_asks now n) (resumed_reply n) (resumed_not_busy n)
+  poll_not_busy n es (Ok (Some answer), now) = outcome_not_busy n answer
+  poll_not_busy n es (Err stop, now) = stop_not_busy stop
 
   step_not_busy : (s : Step) → Gives NotBusy [] (step_asks contexts m line s)
   step_not_busy (step.Network ctx) = not_busy (network_asks m (own_of line)) handle_reply handle_not_busy
@@ -138,26 +174,54 @@ module _ (contexts : List WasiSocketsCtx) (m : Machine) (line : ℕ) where
   step_not_busy (step.CheckWrite ctx output) = not_busy (check_asks m (own_of line) output) permit_reply permit_not_busy
   step_not_busy (step.Write ctx output bytes) = not_busy (write_asks m (own_of line) output bytes) taken_reply taken_not_busy
   step_not_busy (step.Flush ctx output) = not_busy (flushed_asks m (own_of line) output) taken_reply taken_not_busy
+  step_not_busy (step.Subscribe ctx h) = not_busy (subscribe_asks m (own_of line) h) handle_reply handle_not_busy
+  step_not_busy (step.Ready ctx p) = not_busy (ready_asks m (own_of line) p) truth_reply truth_not_busy
+  step_not_busy (step.Drop ctx h) = not_busy (drop_asks m (own_of line) h) (answer_reply line) (answer_not_busy line)
+  step_not_busy (step.TcpShutdown ctx s how) = not_busy (shutdown_on m (own_of line) how (socket_at m s)) done_reply done_not_busy
+  step_not_busy step.Turn = not_busy (turn_machine_asks m) (λ done. reply.Ok no_fields) (λ done e. cc)
+  step_not_busy (step.Poll n) = gives_then (λ es done. ⊤) NotBusy [] (p2.resume_asks m n) _ (gives_any _ (λ es done. tt) [] (p2.resume_asks m n)) (λ es done k. poll_not_busy n es done)
 
-  busy_by : (s : Step) (standing : Option Standing) (entries : List Entry) (r : Reply) (after : Machine) → Left (machine_asks contexts m line s standing) entries (Give (r, after)) → (r ≡ reply.Busy) ↔ IsSome standing
-  busy_by s None entries r after w = (λ e. absurd (given NotBusy _ entries (r, after) (step_not_busy s) w e), λ e. absurd (cc))
-  busy_by s (Some c) entries r after w = (λ e. refl, λ e. (given (IsQuiet m) (Give (reply.Busy, m)) entries (r, after) (refl, refl, refl) w).1)
+  -- a call stands, and the step is a call of a guest
+  abbrev pub IsHeldUp : Step → Option Standing → Type 0
+  IsHeldUp s standing = IsSome standing × IsSome (context_of s)
 
-  pub busy_exactly : (s : Step) (entries : List Entry) (r : Reply) (after : Machine) → Answered contexts m line s entries r after → (r ≡ reply.Busy) ↔ IsSome m.store.standing
+  -- while a call stands, by whether the step is a guest call
+  held : (s : Step) (o : Option ℕ) (entries : List Entry) (r : Reply) (after : Machine) → Left (if is_some o then Give (reply.Busy, m) else step_asks contexts m line s) entries (Give (r, after)) → (r ≡ reply.Busy) ↔ IsSome o
+  held s None entries r after w = (λ e. absurd (given NotBusy _ entries (r, after) (step_not_busy s) w e), λ e. absurd (cc))
+  held s (Some c) entries r after w = (λ e. refl, λ e. (given (IsQuiet m) (Give (reply.Busy, m)) entries (r, after) (refl, refl, refl) w).1)
+
+  busy_by : (s : Step) (standing : Option Standing) (entries : List Entry) (r : Reply) (after : Machine) → Left (machine_asks contexts m line s standing) entries (Give (r, after)) → (r ≡ reply.Busy) ↔ IsHeldUp s standing
+  busy_by s None entries r after w = (λ e. absurd (given NotBusy _ entries (r, after) (step_not_busy s) w e), λ e. let none = e.0 in absurd (cc))
+  busy_by s (Some c) entries r after w = let h = held s (context_of s) entries r after w in (λ e. (refl, h.0 e), λ e. h.1 e.1)
+
+  pub busy_exactly : (s : Step) (entries : List Entry) (r : Reply) (after : Machine) → Answered contexts m line s entries r after → (r ≡ reply.Busy) ↔ IsHeldUp s m.store.standing
   busy_exactly s entries r after w = busy_by s m.store.standing entries r after w
+
+  -- with no call standing, no step is busy
+  pub free_to_go : (s : Step) (entries : List Entry) (r : Reply) (after : Machine) → m.store.standing ≡ None → Answered contexts m line s entries r after → r ≢ reply.Busy
+  free_to_go s entries r after free w busy = let standing = ((busy_exactly s entries r after w).0 busy).0 in cc
+
+  held_quiet : (s : Step) (o : Option ℕ) (entries : List Entry) (after : Machine) → Left (if is_some o then Give (reply.Busy, m) else step_asks contexts m line s) entries (Give (reply.Busy, after)) → (entries ≡ []) × (after ≡ m)
+  held_quiet s None entries after w = absurd (given NotBusy _ entries (reply.Busy, after) (step_not_busy s) w refl)
+  held_quiet s (Some c) entries after w = let q = given (IsQuiet m) (Give (reply.Busy, m)) entries (reply.Busy, after) (refl, refl, refl) w in (q.0, q.2)
 
   quiet_by : (s : Step) (standing : Option Standing) (entries : List Entry) (after : Machine) → Left (machine_asks contexts m line s standing) entries (Give (reply.Busy, after)) → (entries ≡ []) × (after ≡ m)
   quiet_by s None entries after w = absurd (given NotBusy _ entries (reply.Busy, after) (step_not_busy s) w refl)
-  quiet_by s (Some c) entries after w = let q = given (IsQuiet m) (Give (reply.Busy, m)) entries (reply.Busy, after) (refl, refl, refl) w in (q.0, q.2)
+  quiet_by s (Some c) entries after w = held_quiet s (context_of s) entries after w
 
   pub busy_is_quiet : (s : Step) (entries : List Entry) (after : Machine) → Answered contexts m line s entries reply.Busy after → (entries ≡ []) × (after ≡ m)
   busy_is_quiet s entries after w = quiet_by s m.store.standing entries after w
 
   -- an answer that isn't busy is the step's own
+  settled_by : (Q : List Entry → Reply × Machine → Type 0) (s : Step) (o : Option ℕ) (entries : List Entry) (done : Reply × Machine)
+      → Gives Q [] (step_asks contexts m line s) → Left (if is_some o then Give (reply.Busy, m) else step_asks contexts m line s) entries (Give done) → done.0 ≢ reply.Busy → Q entries done
+  settled_by Q s None entries done g w n = given Q (step_asks contexts m line s) entries done g w
+  settled_by Q s (Some c) entries done g w n = absurd (n (given (IsQuiet m) (Give (reply.Busy, m)) entries done (refl, refl, refl) w).1)
+
   pub settled : (Q : List Entry → Reply × Machine → Type 0) (s : Step) (standing : Option Standing) (entries : List Entry) (done : Reply × Machine)
       → Gives Q [] (step_asks contexts m line s) → Left (machine_asks contexts m line s standing) entries (Give done) → done.0 ≢ reply.Busy → Q entries done
   settled Q s None entries done g w n = given Q (step_asks contexts m line s) entries done g w
-  settled Q s (Some c) entries done g w n = absurd (n (given (IsQuiet m) (Give (reply.Busy, m)) entries done (refl, refl, refl) w).1)
+  settled Q s (Some c) entries done g w n = settled_by Q s (context_of s) entries done g w n
 
   -- == the finish of a bind
   -- it asks nothing and gives this

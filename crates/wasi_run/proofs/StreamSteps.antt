@@ -16,7 +16,7 @@ use Rattle.wasi_host.specs.StreamCalls.{read_asks, check_asks, write_asks, flush
 use Rattle.wasi_run.specs.Answered.{record_in, streams_in, putting, OfStreams}
 use Rattle.wasi_run.proofs.StepCauses.{Gives, gives_then}
 use Rattle.wasi_run.proofs.RecordCauses.{put_same}
-use Rattle.wasi_run.proofs.StreamCauses.{StreamAnswer, on_gives, reader_called, writer_called}
+use Rattle.wasi_run.proofs.StreamCauses.{StreamAnswer, all_kept, job_noted, on_gives, write_on_gives, reader_called, writer_called}
 use Rattle.wasi_run.proofs.ReadCauses.{ReadGives, read_gives}
 use Rattle.wasi_run.proofs.WriteCauses.{CheckGives, check_gives, WriteGives, write_gives, FlushGives, flush_gives}
 
@@ -32,7 +32,7 @@ module _ (m : Machine) (line : ℕ) where
   -- == a read
   module _ (input len : ℕ) where
     abbrev pub ReadAnswer : List Entry → Result (List ℕ) CallStop → Machine → Type 0
-    ReadAnswer = StreamAnswer (λ s. s.reader) with_reader (ReadGives own len) m own input (input_at m input)
+    ReadAnswer = StreamAnswer (λ s. s.reader) with_reader (ReadGives own len) all_kept m own input (input_at m input)
 
     pub read_answers : Gives (λ es done. ReadAnswer es done.0 done.1) [] (read_asks m own input len)
     read_answers = on_gives (λ s. s.reader) with_reader (ReadGives own len) m own input (input_at m input) (reader_asks (λ r. read_state_asks own r len)) (reader_called (ReadGives own len) (λ r. read_state_asks own r len) (read_gives own len)) (input_at m input) refl
@@ -40,7 +40,7 @@ module _ (m : Machine) (line : ℕ) where
   module _ (output : ℕ) where
     -- == a look at what may be written
     abbrev pub CheckAnswer : List Entry → Result ℕ CallStop → Machine → Type 0
-    CheckAnswer = StreamAnswer (λ s. s.writer) with_writer (CheckGives own) m own output (output_at m output)
+    CheckAnswer = StreamAnswer (λ s. s.writer) with_writer (CheckGives own) all_kept m own output (output_at m output)
 
     pub check_answers : Gives (λ es done. CheckAnswer es done.0 done.1) [] (check_asks m own output)
     check_answers = on_gives (λ s. s.writer) with_writer (CheckGives own) m own output (output_at m output) (writer_asks (check_write_asks own)) (writer_called (CheckGives own) (check_write_asks own) (check_gives own)) (output_at m output) refl
@@ -48,14 +48,14 @@ module _ (m : Machine) (line : ℕ) where
     -- == a write
     module _ (bytes : List ℕ) where
       abbrev pub WriteAnswer : List Entry → Result (Unit {0}) CallStop → Machine → Type 0
-      WriteAnswer = StreamAnswer (λ s. s.writer) with_writer (WriteGives own (length bytes)) m own output (output_at m output)
+      WriteAnswer = StreamAnswer (λ s. s.writer) with_writer (WriteGives own (length bytes)) job_noted m own output (output_at m output)
 
       pub write_answers : Gives (λ es done. WriteAnswer es done.0 done.1) [] (write_asks m own output bytes)
-      write_answers = on_gives (λ s. s.writer) with_writer (WriteGives own (length bytes)) m own output (output_at m output) (writer_asks (λ w. write_state_asks own w bytes)) (writer_called (WriteGives own (length bytes)) (λ w. write_state_asks own w bytes) (write_gives own bytes)) (output_at m output) refl
+      write_answers = write_on_gives (λ s. s.writer) with_writer (WriteGives own (length bytes)) m own output (output_at m output) (writer_asks (λ w. write_state_asks own w bytes)) (writer_called (WriteGives own (length bytes)) (λ w. write_state_asks own w bytes) (write_gives own bytes)) (output_at m output) refl
 
     -- == a flush
     abbrev pub FlushAnswer : List Entry → Result (Unit {0}) CallStop → Machine → Type 0
-    FlushAnswer = StreamAnswer (λ s. s.writer) with_writer FlushGives m own output (output_at m output)
+    FlushAnswer = StreamAnswer (λ s. s.writer) with_writer FlushGives all_kept m own output (output_at m output)
 
     pub flush_answers : Gives (λ es done. FlushAnswer es done.0 done.1) [] (flushed_asks m own output)
     flush_answers = on_gives (λ s. s.writer) with_writer FlushGives m own output (output_at m output) (writer_asks flush_asks) (writer_called FlushGives flush_asks flush_gives) (output_at m output) refl

@@ -1,14 +1,12 @@
 -- What a socket says of its addresses: what is asked is allowed.
-use Rattle.std.specs.Prelude.{⊤}
-use Rattle.std.proofs.Common.{◌≡◌, inl, Bool, true, false, List, [], ◌∷◌, ◌++◌, Option, Some, None, Ok, Err, Result, refl, sym, ap, subst, ◌∙◌}
+use Rattle.std.proofs.Common.{◌≡◌, inl, Bool, true, false, List, Option, Some, None, Ok, Err, Result, refl, sym, ap, subst, ◌∙◌}
 use Rattle.wasi_addr.specs.declared.address.IpSocketAddress.{IpSocketAddress}
 use Rattle.wasi_addr.specs.declared.code.ErrorCode.{ErrorCode}
 use Rattle.wasi_addr.specs.declared.code.ErrorCode.TheVariants.{InvalidState}
 use Rattle.wasi_world.specs.declared.ids.OpId.{OpId}
-use Rattle.wasi_world.specs.declared.call.Told.{Told}
 use Rattle.wasi_world.specs.declared.call.Entry.{Entry}
 use Rattle.wasi_world.specs.declared.outcome.WasiSocketsCtx.{WasiSocketsCtx}
-use Rattle.wasi_world.specs.Asks.{Asks, Give, bind}
+use Rattle.wasi_world.specs.Asks.{bind}
 use Rattle.wasi_world.specs.Typed.{told_addr}
 use Rattle.wasi_world.proofs.Allowed.{Allows, allows_then}
 use Rattle.wasi_tcp.specs.declared.socket.Connection.{Connection}
@@ -17,7 +15,7 @@ use Rattle.wasi_tcp.specs.declared.socket.TcpState.TheVariants as state
 use Rattle.wasi_tcp.specs.Shape.{Socket}
 use Rattle.wasi_tcp.specs.Socket.{side_in, side_of, bound_asks}
 use Rattle.wasi_tcp.specs.Connecting.{with_state, in_socket}
-use Rattle.wasi_tcp.specs.Addresses.{usable_side, local_side, local_from, local_where, local_asks, after_peer, peer_known, peer_asks, still_connected, remote_in, remote_asks}
+use Rattle.wasi_tcp.specs.Addresses.{usable_side, local_side, local_from, local_asks, after_peer, peer_known, peer_asks, still_connected, remote_in, remote_asks}
 use Rattle.wasi_run.specs.declared.step.Step.{Step}
 use Rattle.wasi_run.proofs.Bounds.{May, MayWork, Learned, fine_bound, work_kept}
 use Rattle.wasi_run.proofs.Fine.{SocketIsFine}

@@ -1,11 +1,12 @@
 -- Which steps trap and which stand, and why.
 use Rattle.std.specs.Prelude.{⊤, ◌⊎◌, IsSomeAnd}
-use Rattle.std.proofs.Common.{◌≡◌, ◌≢◌, ℕ, ◌+◌, inl, inr, Bool, true, false, List, [], length, Option, Some, None, Result, Ok, Err, slice_get, refl, ap, arith}
+use Rattle.std.proofs.Common.{◌≡◌, ◌≢◌, ℕ, ◌+◌, inl, inr, Bool, true, false, List, [], length, Option, Some, None, Result, Ok, Err, slice_get, refl, sym, ap, subst, ◌∙◌, arith}
 use Rattle.wasi_addr.specs.declared.address.IpSocketAddress.{IpSocketAddress}
+use Rattle.wasi_addr.specs.declared.address.ShutdownType.{ShutdownType}
 use Rattle.wasi_addr.specs.declared.address.SocketAddressFamily.{SocketAddressFamily}
 use Rattle.wasi_world.specs.declared.call.Entry.{Entry}
 use Rattle.wasi_world.specs.declared.outcome.TrapKind.{TrapKind}
-use Rattle.wasi_world.specs.declared.outcome.TrapKind.TheVariants.{NoSuchHandle, Full, NotPermitted}
+use Rattle.wasi_world.specs.declared.outcome.TrapKind.TheVariants.{NoSuchHandle, HasChildren, Full, NotPermitted}
 use Rattle.wasi_world.specs.declared.outcome.WasiSocketsCtx.{WasiSocketsCtx}
 use Rattle.wasi_streams.specs.StreamStop.{StreamStop}
 use Rattle.wasi_streams.specs.StreamStop as stop
@@ -20,13 +21,15 @@ use Rattle.wasi_run.specs.declared.step.Step.TheVariants as step
 use Rattle.wasi_host.specs.Host.{CallStop}
 use Rattle.wasi_host.specs.Kinds.{Handles}
 use Rattle.wasi_streams.specs.Table.{is_full}
-use Rattle.wasi_host.specs.Store.{with_reader, with_writer, is_bind, finish_bind_by, finish_bind_at}
-use Rattle.wasi_host.specs.Machine.{socket_at, input_at, output_at, own_of}
+use Rattle.wasi_host.specs.Store.{Records, with_reader, with_writer, is_bind, finish_bind_by, finish_bind_at}
+use Rattle.wasi_host.specs.Machine.{socket_at, input_at, output_at, own_of, turn_machine_asks}
 use Rattle.wasi_p2.specs.Tcp.{finish_bind_on}
 use Rattle.wasi_run.specs.Machine.{done_reply, call_stop_reply, bytes_reply, permit_reply, taken_reply, context_at, step_asks}
 use Rattle.wasi_run.specs.Licence.{marks_in}
-use Rattle.wasi_run.specs.Answered.{Answered, record_in, record_at, streams_in, MissesHandle, MakesHandle, IsStartBind, IsWrite, EndsPending}
-use Rattle.wasi_run.proofs.StepCauses.{Gives, gives_more, settled}
+use Rattle.wasi_run.specs.Answered.{Answered, record_in, record_at, streams_in, MissesHandle, MakesHandle, IsWrite}
+use Rattle.wasi_run.specs.GivenUp.{IsDrop}
+use Rattle.wasi_run.specs.Waiting.{IsPoll, MayStand, left_missing}
+use Rattle.wasi_run.proofs.StepCauses.{Gives, gives_any, gives_more, gives_then, settled}
 use Rattle.wasi_run.proofs.RecordCauses.{RecordSays}
 use Rattle.wasi_run.proofs.CreateCauses.{NetworkSays, network_says, CreateSays, create_says}
 use Rattle.wasi_run.proofs.BindCauses.{BindSays, bind_says}
@@ -34,28 +37,38 @@ use Rattle.wasi_run.proofs.ConnectCauses.{ConnectSays, connect_says}
 use Rattle.wasi_run.proofs.FinishCauses.{FinishSays, finish_says}
 use Rattle.wasi_run.proofs.AddressCauses.{LocalSays, local_says, RemoteSays, remote_says}
 use Rattle.wasi_run.proofs.QuietCauses.{QuietSays, listening_says, family_says}
-use Rattle.wasi_run.proofs.StreamCauses.{IsSound, StreamAnswer, NotThere, ItFails, FindsFull, ItIsClosed, ItTraps}
+use Rattle.wasi_run.proofs.StreamCauses.{IsSound, all_kept, job_noted, StreamAnswer, NotThere, ItFails, FindsFull, ItIsClosed, ItTraps}
 use Rattle.wasi_run.proofs.ReadCauses.{ReadGives, read_is_sound}
 use Rattle.wasi_run.proofs.WriteCauses.{CheckGives, check_is_sound, WriteGives, write_is_sound, FlushGives, flush_is_sound}
 use Rattle.wasi_run.proofs.StreamSteps.{answered_by, ReadAnswer, read_answers, CheckAnswer, check_answers, WriteAnswer, write_answers, FlushAnswer, flush_answers}
+use Rattle.wasi_run.proofs.PollableCauses.{SubscribeAnswer, NotWatchable, NoRoom, Subscribes, SubscribeSays, subscribe_says, ReadyAnswer, NothingWatched, IsReadyNow, IsNotReady, ReadySays, ready_says}
+use Rattle.wasi_run.proofs.DropCauses.{DropAnswer, NotLive, HasUnder, AtOnce, OfNoRecord, Releases, Looks, StandsOn, DropSays, drop_says}
+use Rattle.wasi_run.proofs.ShutdownCauses.{ShutdownAnswer, NoRecord, NoStreams, Shuts, ShutdownSays, shutdown_says}
+use Rattle.wasi_run.proofs.PollCauses.{PollAnswer, NoCall, OfNothing, BindDone, BindRefused, BindWaits, DropDone, DropWaits, PollSays, poll_says}
 
 module _ (contexts : List WasiSocketsCtx) (m : Machine) (line : ℕ) where
   -- the table is full, after the handles that the entries mark
   abbrev pub FindsFullAfter : List Entry → Machine → Type 0
   FindsFullAfter es after = (is_full after.table ≡ true) × (after.table.next ≡ m.table.next + marks_in es)
 
-  -- why it traps, or stands
+  -- a call stands under this number afterwards
+  abbrev pub StandsUnder : Machine → ℕ → Type 0
+  StandsUnder after n = IsSomeAnd after.store.standing (λ c. c.line ≡ n)
+
+  -- why it traps, or stands, or finds no call
   abbrev Says : Step → List Entry → Reply × Machine → Type 0
-  Says s es (reply.Trap NoSuchHandle, after) = MissesHandle m s × (es ≡ []) × (after ≡ m)
+  Says s es (reply.Trap NoSuchHandle, after) = MissesHandle m s × (es ≡ []) × (after ≡ left_missing m s)
+  Says s es (reply.Trap HasChildren, after) = IsDrop s × (es ≡ []) × (after ≡ m)
   Says s es (reply.Trap Full, after) = MakesHandle s × FindsFullAfter es after
   Says s es (reply.Trap NotPermitted, after) = IsWrite s
   Says s es (reply.Trap _, after) = ⊥
-  Says s es (reply.Pending n, after) = IsStartBind s × (n ≡ line) × EndsPending (own_of line) es × IsSomeAnd after.store.standing (λ c. c.line ≡ line)
+  Says s es (reply.Pending n, after) = MayStand m line s n × StandsUnder after n
+  Says s es (reply.NoSuchCall, after) = IsPoll s
   Says s es _ = ⊤
 
   -- a table that no mark was made in
   as_it_was : (es : List Entry) (after : Machine) → is_full m.table ≡ true → marks_in es ≡ 0 → after.table ≡ m.table → FindsFullAfter es after
-  as_it_was es after full none same = (rw same full, let next = ap (λ (t : Shown). t.next) same in omega (arith, next, none))
+  as_it_was es after full none same = (rw same full, let next = ap (λ (t : Handles). t.next) same in omega (arith, next, none))
 
   of_network : (ctx : ℕ) (es : List Entry) (done : Reply × Machine) → NetworkSays m line es done → Says (step.Network ctx) es done
   of_network ctx es (reply.Ok fields, after) h = tt
@@ -71,7 +84,7 @@ module _ (contexts : List WasiSocketsCtx) (m : Machine) (line : ℕ) where
   of_bind : (ctx handle network : ℕ) (a : IpSocketAddress) (es : List Entry) (done : Reply × Machine) → BindSays m line handle network a es done → Says (step.TcpStartBind ctx handle network a) es done
   of_bind ctx handle network a es (reply.Ok fields, after) h = tt
   of_bind ctx handle network a es (reply.Err w, after) h = tt
-  of_bind ctx handle network a es (reply.Pending n, after) h = (tt, h.1.0, h.1.1, h.1.2)
+  of_bind ctx handle network a es (reply.Pending n, after) h = (h.1.0, subst (StandsUnder after) (sym h.1.0) h.1.2)
   of_bind ctx handle network a es (reply.Trap NoSuchHandle, after) h = h
   of_bind ctx handle network a es _ h = absurd h
 
@@ -90,16 +103,16 @@ module _ (contexts : List WasiSocketsCtx) (m : Machine) (line : ℕ) where
   of_finish ctx handle es _ h = absurd h
 
   -- a call that asks a record, and traps where that isn't there
-  of_record : (s : Step) (handle : ℕ) (Cause : ℕ → Tcp2Socket → List Entry → CodeWord → Machine → Type 0) → (record_at m handle ≡ None → MissesHandle m s) → (es : List Entry) (done : Reply × Machine) → RecordSays m handle Cause es done → Says s es done
-  of_record s handle Cause missing es (reply.Ok fields, after) h = tt
-  of_record s handle Cause missing es (reply.Err w, after) h = tt
-  of_record s handle Cause missing es (reply.Trap NoSuchHandle, after) h = (missing h.0, h.1, h.2)
-  of_record s handle Cause missing es _ h = absurd h
+  of_record : (s : Step) (handle : ℕ) (Cause : ℕ → Tcp2Socket → List Entry → CodeWord → Machine → Type 0) → (record_at m handle ≡ None → MissesHandle m s) → left_missing m s ≡ m → (es : List Entry) (done : Reply × Machine) → RecordSays m handle Cause es done → Says s es done
+  of_record s handle Cause missing stays es (reply.Ok fields, after) h = tt
+  of_record s handle Cause missing stays es (reply.Err w, after) h = tt
+  of_record s handle Cause missing stays es (reply.Trap NoSuchHandle, after) h = (missing h.0, h.1, h.2 ∙ sym stays)
+  of_record s handle Cause missing stays es _ h = absurd h
 
-  of_quiet : (s : Step) (handle : ℕ) → (record_at m handle ≡ None → MissesHandle m s) → (r : Reply) → QuietSays m handle [] (r, m) → Says s [] (r, m)
-  of_quiet s handle missing (reply.Ok fields) h = tt
-  of_quiet s handle missing (reply.Trap NoSuchHandle) h = (missing h.0, refl, refl)
-  of_quiet s handle missing _ h = absurd h.0
+  of_quiet : (s : Step) (handle : ℕ) → (record_at m handle ≡ None → MissesHandle m s) → left_missing m s ≡ m → (r : Reply) → QuietSays m handle [] (r, m) → Says s [] (r, m)
+  of_quiet s handle missing stays (reply.Ok fields) h = tt
+  of_quiet s handle missing stays (reply.Trap NoSuchHandle) h = (missing h.0, refl, sym stays)
+  of_quiet s handle missing stays _ h = absurd h.0
 
   module _ (ctx handle : ℕ) where
     abbrev FinishBindSays : Reply × Machine → Type 0
@@ -118,14 +131,14 @@ module _ (contexts : List WasiSocketsCtx) (m : Machine) (line : ℕ) where
     finish_on (Some place) names = finish_at place (slice_get m.store.sockets place) names refl
 
   -- == of a stream
-  module _ (s : Step) (handle : ℕ) (named : Option ℕ) (missing : streams_in (record_in m named) ≡ None → MissesHandle m s) (makes : MakesHandle s) where
+  module _ (s : Step) (handle : ℕ) (named : Option ℕ) (missing : streams_in (record_in m named) ≡ None → MissesHandle m s) (stays : left_missing m s ≡ m) (makes : MakesHandle s) where
     of_trap : (es : List Entry) (kind : TrapKind) (after : Machine) (T S : Type 0) (now : S) → IsSound {T = T} {S = S} (IsWrite s) es (Err (stop.Trap kind), now) → Says s es (reply.Trap kind, after)
     of_trap es NotPermitted after T S now h = h
     of_trap es _ after T S now h = absurd h
 
-    module _ {T S : Type 0} (of : Streams → S) (put : Tcp2Socket → Streams → S → Tcp2Socket) (R : S → List Entry → Result T StreamStop × S → Type 0) (sound : (st : S) (es : List Entry) (done : Result T StreamStop × S) → R st es done → IsSound (IsWrite s) es done) where
-      of_stop : (es : List Entry) (stop : CallStop) (after : Machine) → StreamAnswer of put R m (own_of line) handle named es (Err stop) after → Says s es (call_stop_reply stop, after)
-      of_stop _ _ _ (NotThere none) = (missing none, refl, refl)
+    module _ {T S : Type 0} (of : Streams → S) (put : Tcp2Socket → Streams → S → Tcp2Socket) (R : S → List Entry → Result T StreamStop × S → Type 0) (keep : ℕ → Option Tcp2Socket → Records → Records) (sound : (st : S) (es : List Entry) (done : Result T StreamStop × S) → R st es done → IsSound (IsWrite s) es done) where
+      of_stop : (es : List Entry) (stop : CallStop) (after : Machine) → StreamAnswer of put R keep m (own_of line) handle named es (Err stop) after → Says s es (call_stop_reply stop, after)
+      of_stop _ _ _ (NotThere none) = (missing none, refl, sym stays)
       of_stop _ _ _ (ItFails es c now on side t) = tt
       of_stop _ _ _ (FindsFull es c now on full) = (makes, (full, let none : marks_in es ≡ 0 = sound (of on.streams) es (Err (stop.Failed c), now) on.holds in omega (arith, none)))
       of_stop _ _ _ (ItIsClosed es now on) = tt
@@ -133,19 +146,57 @@ module _ (contexts : List WasiSocketsCtx) (m : Machine) (line : ℕ) where
 
   of_read : (ctx input len : ℕ) (es : List Entry) (res : Result (List ℕ) CallStop) (after : Machine) → ReadAnswer m line input len es res after → Says (step.Read ctx input len) es (bytes_reply res, after)
   of_read ctx input len es (Ok bytes) after k = tt
-  of_read ctx input len es (Err stop) after k = of_stop (step.Read ctx input len) input (input_at m input) (λ none. none) tt (λ s. s.reader) with_reader (ReadGives (own_of line) len) (read_is_sound (own_of line) len) es stop after k
+  of_read ctx input len es (Err stop) after k = of_stop (step.Read ctx input len) input (input_at m input) (λ none. none) refl tt (λ s. s.reader) with_reader (ReadGives (own_of line) len) all_kept (read_is_sound (own_of line) len) es stop after k
 
   of_check : (ctx output : ℕ) (es : List Entry) (res : Result ℕ CallStop) (after : Machine) → CheckAnswer m line output es res after → Says (step.CheckWrite ctx output) es (permit_reply res, after)
   of_check ctx output es (Ok n) after k = tt
-  of_check ctx output es (Err stop) after k = of_stop (step.CheckWrite ctx output) output (output_at m output) (λ none. none) tt (λ s. s.writer) with_writer (CheckGives (own_of line)) (check_is_sound (own_of line)) es stop after k
+  of_check ctx output es (Err stop) after k = of_stop (step.CheckWrite ctx output) output (output_at m output) (λ none. none) refl tt (λ s. s.writer) with_writer (CheckGives (own_of line)) all_kept (check_is_sound (own_of line)) es stop after k
 
   of_write : (ctx output : ℕ) (bytes : List ℕ) (es : List Entry) (res : Result (Unit {0}) CallStop) (after : Machine) → WriteAnswer m line output bytes es res after → Says (step.Write ctx output bytes) es (taken_reply res, after)
   of_write ctx output bytes es (Ok done) after k = tt
-  of_write ctx output bytes es (Err stop) after k = of_stop (step.Write ctx output bytes) output (output_at m output) (λ none. none) tt (λ s. s.writer) with_writer (WriteGives (own_of line) (length bytes)) (write_is_sound (own_of line) (length bytes)) es stop after k
+  of_write ctx output bytes es (Err stop) after k = of_stop (step.Write ctx output bytes) output (output_at m output) (λ none. none) refl tt (λ s. s.writer) with_writer (WriteGives (own_of line) (length bytes)) job_noted (write_is_sound (own_of line) (length bytes)) es stop after k
 
   of_flush : (ctx output : ℕ) (es : List Entry) (res : Result (Unit {0}) CallStop) (after : Machine) → FlushAnswer m line output es res after → Says (step.Flush ctx output) es (taken_reply res, after)
   of_flush ctx output es (Ok done) after k = tt
-  of_flush ctx output es (Err stop) after k = of_stop (step.Flush ctx output) output (output_at m output) (λ none. none) tt (λ s. s.writer) with_writer FlushGives flush_is_sound es stop after k
+  of_flush ctx output es (Err stop) after k = of_stop (step.Flush ctx output) output (output_at m output) (λ none. none) refl tt (λ s. s.writer) with_writer FlushGives all_kept flush_is_sound es stop after k
+
+  -- == of pollables, drops, shutdowns, turns and polls
+  of_subscribe : (ctx handle : ℕ) (es : List Entry) (r : Reply) (after : Machine) → SubscribeAnswer m line handle es r after → Says (step.Subscribe ctx handle) es (r, after)
+  of_subscribe ctx handle _ _ _ (NotWatchable none) = (none, refl, refl)
+  of_subscribe ctx handle _ _ _ (NoRoom full) = (tt, as_it_was [] m full refl refl)
+  of_subscribe ctx handle _ _ _ (Subscribes w is) = tt
+
+  of_ready : (ctx pollable : ℕ) (es : List Entry) (r : Reply) (after : Machine) → ReadyAnswer m line pollable es r after → Says (step.Ready ctx pollable) es (r, after)
+  of_ready ctx pollable _ _ _ (NothingWatched none) = (none, refl, refl)
+  of_ready ctx pollable _ _ _ (IsReadyNow es now after on) = tt
+  of_ready ctx pollable _ _ _ (IsNotReady es after on) = tt
+
+  of_drop : (ctx handle : ℕ) (es : List Entry) (r : Reply) (after : Machine) → DropAnswer m line handle es r after → Says (step.Drop ctx handle) es (r, after)
+  of_drop ctx handle _ _ _ (NotLive none) = (none, refl, refl)
+  of_drop ctx handle _ _ _ (HasUnder kind is e) = (tt, refl, refl)
+  of_drop ctx handle _ _ _ (AtOnce kind is e plain) = tt
+  of_drop ctx handle _ _ _ (OfNoRecord place is e at) = tt
+  of_drop ctx handle _ _ _ (Releases place r es socket is e at asked side) = tt
+  of_drop ctx handle _ _ _ (Looks place es store is e looks none) = tt
+  of_drop ctx handle _ _ _ (StandsOn place es store is e waits stands) = ((rw is refl, refl), rw stands refl)
+
+  of_shutdown : (ctx handle : ℕ) (how : ShutdownType) (es : List Entry) (r : Reply) (after : Machine) → ShutdownAnswer m line handle how es r after → Says (step.TcpShutdown ctx handle how) es (r, after)
+  of_shutdown ctx handle how _ _ _ (NoRecord none) = (none, refl, refl)
+  of_shutdown ctx handle how _ _ _ (NoStreams r at none) = tt
+  of_shutdown ctx handle how _ _ _ (Shuts es after on) = tt
+
+  of_poll : (n : ℕ) (es : List Entry) (r : Reply) (after : Machine) → PollAnswer m n es r after → Says (step.Poll n) es (r, after)
+  of_poll n _ _ _ (NoCall none) = tt
+  of_poll n _ _ _ (OfNothing place op e at) = (rw e at, refl, refl)
+  of_poll n _ _ _ (BindDone place op es after stands none) = tt
+  of_poll n _ _ _ (BindRefused place op es c after stands cause none) = tt
+  of_poll n _ _ _ (BindWaits place op left es after stands cause on) = (refl, rw on refl)
+  of_poll n _ _ _ (DropDone place es after stands looks none) = tt
+  of_poll n _ _ _ (DropWaits place es after stands waits on) = (refl, rw on refl)
+
+  -- what an answer says
+  by_answer : (Answer : List Entry → Reply → Machine → Type 0) (s : Step) → ((es : List Entry) (r : Reply) (after : Machine) → Answer es r after → Says s es (r, after)) → (es : List Entry) (done : Reply × Machine) → Answer es done.0 done.1 → Says s es done
+  by_answer Answer s of es (r, after) k = of es r after k
 
   says : (s : Step) → Gives (Says s) [] (step_asks contexts m line s)
   says (step.Network ctx) = gives_more (NetworkSays m line) _ (of_network ctx) [] _ (network_says m line)
@@ -154,20 +205,29 @@ module _ (contexts : List WasiSocketsCtx) (m : Machine) (line : ℕ) where
   says (step.TcpFinishBind ctx handle) = finish_on ctx handle (socket_at m handle) refl
   says (step.TcpStartConnect ctx handle network a) = gives_more (ConnectSays m line handle network a) _ (of_connect ctx handle network a) [] _ (connect_says m line handle network a)
   says (step.TcpFinishConnect ctx handle) = gives_more (FinishSays m line handle) _ (of_finish ctx handle) [] _ (finish_says m line handle)
-  says (step.TcpLocalAddress ctx handle) = gives_more (LocalSays m line handle) _ (of_record (step.TcpLocalAddress ctx handle) handle _ (λ none. none)) [] _ (local_says m line handle)
-  says (step.TcpRemoteAddress ctx handle) = gives_more (RemoteSays m line handle) _ (of_record (step.TcpRemoteAddress ctx handle) handle _ (λ none. none)) [] _ (remote_says m line handle)
-  says (step.TcpIsListening ctx handle) = of_quiet (step.TcpIsListening ctx handle) handle (λ none. none) _ (listening_says m handle)
-  says (step.TcpAddressFamily ctx handle) = of_quiet (step.TcpAddressFamily ctx handle) handle (λ none. none) _ (family_says m handle)
+  says (step.TcpLocalAddress ctx handle) = gives_more (LocalSays m line handle) _ (of_record (step.TcpLocalAddress ctx handle) handle _ (λ none. none) refl) [] _ (local_says m line handle)
+  says (step.TcpRemoteAddress ctx handle) = gives_more (RemoteSays m line handle) _ (of_record (step.TcpRemoteAddress ctx handle) handle _ (λ none. none) refl) [] _ (remote_says m line handle)
+  says (step.TcpIsListening ctx handle) = of_quiet (step.TcpIsListening ctx handle) handle (λ none. none) refl _ (listening_says m handle)
+  says (step.TcpAddressFamily ctx handle) = of_quiet (step.TcpAddressFamily ctx handle) handle (λ none. none) refl _ (family_says m handle)
   says (step.Read ctx input len) = answered_by (λ es done. ReadAnswer m line input len es done.0 done.1) _ bytes_reply (of_read ctx input len) _ (read_answers m line input len)
   says (step.CheckWrite ctx output) = answered_by (λ es done. CheckAnswer m line output es done.0 done.1) _ permit_reply (of_check ctx output) _ (check_answers m line output)
   says (step.Write ctx output bytes) = answered_by (λ es done. WriteAnswer m line output bytes es done.0 done.1) _ taken_reply (of_write ctx output bytes) _ (write_answers m line output bytes)
   says (step.Flush ctx output) = answered_by (λ es done. FlushAnswer m line output es done.0 done.1) _ taken_reply (of_flush ctx output) _ (flush_answers m line output)
+  says (step.Subscribe ctx handle) = gives_more (SubscribeSays m line handle) _ (by_answer (SubscribeAnswer m line handle) (step.Subscribe ctx handle) (of_subscribe ctx handle)) [] _ (subscribe_says m line handle)
+  says (step.Ready ctx pollable) = gives_more (ReadySays m line pollable) _ (by_answer (ReadyAnswer m line pollable) (step.Ready ctx pollable) (of_ready ctx pollable)) [] _ (ready_says m line pollable)
+  says (step.Drop ctx handle) = gives_more (DropSays m line handle) _ (by_answer (DropAnswer m line handle) (step.Drop ctx handle) (of_drop ctx handle)) [] _ (drop_says m line handle)
+  says (step.TcpShutdown ctx handle how) = gives_more (ShutdownSays m line handle how) _ (by_answer (ShutdownAnswer m line handle how) (step.TcpShutdown ctx handle how) (of_shutdown ctx handle how)) [] _ (shutdown_says m line handle how)
+  says step.Turn = gives_then (λ es done. ⊤) (Says step.Turn) [] (turn_machine_asks m) _ (gives_any (λ es done. ⊤) (λ es done. tt) [] (turn_machine_asks m)) (λ es done k. tt)
+  says (step.Poll n) = gives_more (PollSays m n) _ (by_answer (PollAnswer m n) (step.Poll n) (of_poll n)) [] _ (poll_says m n)
 
   of_step : (s : Step) (entries : List Entry) (r : Reply) (after : Machine) → Answered contexts m line s entries r after → r ≢ reply.Busy → Says s entries (r, after)
   of_step s entries r after w n = settled contexts m line (Says s) s m.store.standing entries (r, after) (says s) w n
 
-  pub misses_handle : (s : Step) (entries : List Entry) (after : Machine) → Answered contexts m line s entries (reply.Trap NoSuchHandle) after → MissesHandle m s × (entries ≡ []) × (after ≡ m)
+  pub misses_handle : (s : Step) (entries : List Entry) (after : Machine) → Answered contexts m line s entries (reply.Trap NoSuchHandle) after → MissesHandle m s × (entries ≡ []) × (after ≡ left_missing m s)
   misses_handle s entries after w = of_step s entries (reply.Trap NoSuchHandle) after w (λ e. cc)
+
+  pub finds_children : (s : Step) (entries : List Entry) (after : Machine) → Answered contexts m line s entries (reply.Trap HasChildren) after → IsDrop s × (entries ≡ []) × (after ≡ m)
+  finds_children s entries after w = of_step s entries (reply.Trap HasChildren) after w (λ e. cc)
 
   pub finds_full : (s : Step) (entries : List Entry) (after : Machine) → Answered contexts m line s entries (reply.Trap Full) after → MakesHandle s × FindsFullAfter entries after
   finds_full s entries after w = of_step s entries (reply.Trap Full) after w (λ e. cc)
@@ -175,15 +235,21 @@ module _ (contexts : List WasiSocketsCtx) (m : Machine) (line : ℕ) where
   pub is_a_write : (s : Step) (entries : List Entry) (after : Machine) → Answered contexts m line s entries (reply.Trap NotPermitted) after → IsWrite s
   is_a_write s entries after w = of_step s entries (reply.Trap NotPermitted) after w (λ e. cc)
 
-  kinds : (s : Step) (entries : List Entry) (after : Machine) (kind : TrapKind) → Says s entries (reply.Trap kind, after) → (kind ≡ NoSuchHandle) ⊎ ((kind ≡ Full) ⊎ (kind ≡ NotPermitted))
+  abbrev pub IsTrapOfSteps : TrapKind → Type 0
+  IsTrapOfSteps kind = (kind ≡ NoSuchHandle) ⊎ ((kind ≡ HasChildren) ⊎ ((kind ≡ Full) ⊎ (kind ≡ NotPermitted)))
+
+  kinds : (s : Step) (entries : List Entry) (after : Machine) (kind : TrapKind) → Says s entries (reply.Trap kind, after) → IsTrapOfSteps kind
   kinds s entries after NoSuchHandle h = inl refl
-  kinds s entries after Full h = inr (inl refl)
-  kinds s entries after NotPermitted h = inr (inr refl)
+  kinds s entries after HasChildren h = inr (inl refl)
+  kinds s entries after Full h = inr (inr (inl refl))
+  kinds s entries after NotPermitted h = inr (inr (inr refl))
   kinds s entries after _ h = absurd h
 
-  pub three_kinds : (s : Step) (entries : List Entry) (kind : TrapKind) (after : Machine) → Answered contexts m line s entries (reply.Trap kind) after → (kind ≡ NoSuchHandle) ⊎ ((kind ≡ Full) ⊎ (kind ≡ NotPermitted))
-  three_kinds s entries kind after w = kinds s entries after kind (of_step s entries (reply.Trap kind) after w (λ e. cc))
+  pub four_kinds : (s : Step) (entries : List Entry) (kind : TrapKind) (after : Machine) → Answered contexts m line s entries (reply.Trap kind) after → IsTrapOfSteps kind
+  four_kinds s entries kind after w = kinds s entries after kind (of_step s entries (reply.Trap kind) after w (λ e. cc))
 
-  pub stands : (s : Step) (entries : List Entry) (n : ℕ) (after : Machine) → Answered contexts m line s entries (reply.Pending n) after
-      → IsStartBind s × (n ≡ line) × EndsPending (own_of line) entries × IsSomeAnd after.store.standing (λ c. c.line ≡ line)
+  pub stands : (s : Step) (entries : List Entry) (n : ℕ) (after : Machine) → Answered contexts m line s entries (reply.Pending n) after → MayStand m line s n × StandsUnder after n
   stands s entries n after w = of_step s entries (reply.Pending n) after w (λ e. cc)
+
+  pub finds_no_call : (s : Step) (entries : List Entry) (after : Machine) → Answered contexts m line s entries reply.NoSuchCall after → IsPoll s
+  finds_no_call s entries after w = of_step s entries reply.NoSuchCall after w (λ e. cc)

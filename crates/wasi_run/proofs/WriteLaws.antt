@@ -1,6 +1,6 @@
 -- Where the answers of an output's calls come from.
 use Rattle.std.specs.Prelude.{⊤, IsSomeAnd}
-use Rattle.std.proofs.Common.{◌≡◌, ◌↔◌, ℕ, List, [], length, Option, Some, None, Result, Err, refl, sym, ap, subst, ◌∙◌}
+use Rattle.std.proofs.Common.{◌≡◌, ◌↔◌, ℕ, Bool, true, false, not, ◌&&◌, List, [], length, Option, Some, None, Result, Err, slice_get, refl, sym, ap, subst, ◌∙◌}
 use Rattle.wasi_addr.specs.declared.code.ErrorCode.{ErrorCode}
 use Rattle.wasi_world.specs.declared.ids.OpId.{OpId}
 use Rattle.wasi_world.specs.declared.call.Entry.{Entry}
@@ -25,13 +25,15 @@ use Rattle.wasi_host.specs.declared.socket.Tcp2Socket.{Tcp2Socket}
 use Rattle.wasi_run.specs.declared.step.Step.TheVariants as step
 use Rattle.wasi_host.specs.Host.{CallStop}
 use Rattle.wasi_run.specs.Reply.{number_fields}
-use Rattle.wasi_host.specs.Store.{with_writer}
+use Rattle.wasi_host.specs.Store.{Records, with_socket, with_writer}
+use Rattle.wasi_host.specs.Jobs.{has_job, with_job, begins_job}
 use Rattle.wasi_host.specs.Machine.{output_at, own_of}
 use Rattle.wasi_host.specs.StreamCalls.{check_asks, write_asks, flushed_asks}
 use Rattle.wasi_run.specs.Machine.{permit_reply, taken_reply}
 use Rattle.wasi_run.specs.Answered.{Answered, putting, OfStreams, output_streams, Permits, IsUnpermitted, IsGivenUp, WasClosedWith, FailsWith, with_error, closing_writer, CheckFails, WriteFails}
 use Rattle.wasi_run.proofs.StepCauses.{Gives, settled, busy_exactly}
-use Rattle.wasi_run.proofs.StreamCauses.{NotThere, ItGives, ItFails, FindsFull, ItIsClosed, ItTraps}
+use Rattle.wasi_run.proofs.Lists.{set_there}
+use Rattle.wasi_run.proofs.StreamCauses.{job_noted, none_begun, NotThere, ItGives, ItFails, FindsFull, ItIsClosed, ItTraps}
 use Rattle.wasi_run.proofs.WriteCauses.{WriteGives}
 use Rattle.wasi_run.proofs.StreamSteps.{answered_by, CheckAnswer, check_answers, WriteAnswer, write_answers, FlushAnswer, flush_answers, of_more, the_streams, streams_same}
 
@@ -53,6 +55,31 @@ module _ (m : Machine) (line output : ℕ) where
   CheckSays es (reply.Closed, after) = Its (λ place r s. CheckFails error.Closed s.writer es × (after ≡ closing_writer m place r s error.Closed))
   CheckSays es (reply.Failed w handle, after) = Its (λ place r s. FailsWith m own output (λ c before. CheckFails (error.LastOperationFailed c) s.writer before × (after ≡ with_error (closing_writer m place r s (error.LastOperationFailed c)))) es w handle)
   CheckSays es _ = ⊤
+
+  -- the machine after a write that left the writer so
+  abbrev written : (place : ℕ) (r : Tcp2Socket) (s : Streams) (now : WriteState) → Machine
+  written place r s now = record m { store = job_noted place (Some r) (with_socket m.store place (with_writer r s now)) }
+
+  -- a write that leaves the writer leaves the machine
+  written_same : (P : ℕ → Tcp2Socket → Streams → Type 0) (on : Its P) (now : WriteState) → now ≡ on.streams.writer → written on.place on.found on.streams now ≡ m
+  written_same P on now e =
+      let same = ap (λ (x : Machine). x.store) (stays P on now e) in
+      ap (λ (store : Records). let left : Machine = record m { store = job_noted on.place (Some on.found) store } in left) same
+      ∙ ap (λ (store : Records). let left : Machine = record m { store = store } in left) (none_begun m.store on.place (Some on.found) on.at)
+
+  and_not : (b : Bool) → (b && false) ≡ false
+  and_not true = refl
+  and_not false = refl
+
+  -- and one that closed the writer leaves no job
+  written_closed : (P : ℕ → Tcp2Socket → Streams → Type 0) (on : Its P) (now : WriteState) (e : WriteError) → now ≡ writing.Closed e → written on.place on.found on.streams now ≡ closing_writer m on.place on.found on.streams e
+  written_closed P on now e p =
+      let closed : Tcp2Socket = with_writer on.found on.streams (writing.Closed e) in
+      let store : Records = with_socket m.store on.place closed in
+      let there : slice_get store.sockets on.place ≡ Some closed = set_there m.store.sockets on.place on.found closed on.at in
+      ap (written on.place on.found on.streams) p
+      ∙ ap (λ (left : Records). let after : Machine = record m { store = left } in after)
+      (ap (λ (o : Option Tcp2Socket). with_job store on.place (begins_job (Some on.found) o)) there ∙ ap (with_job store on.place) (and_not (not (has_job (Some on.found)))))
 
   -- the machine, where the writer is now closed so
   closed_so : (P : ℕ → Tcp2Socket → Streams → Type 0) (on : Its P) (now : WriteState) (e : WriteError) → now ≡ writing.Closed e → putting m on.place (with_writer on.found on.streams now) ≡ closing_writer m on.place on.found on.streams e
@@ -97,8 +124,8 @@ module _ (m : Machine) (line output : ℕ) where
     its_writer : (P : ℕ → Tcp2Socket → Streams → Type 0) (on : Its P) → Unpermitted → IsUnpermitted on.streams.writer (length bytes)
     its_writer P on unpermitted = rw (the_streams m (output_at m output) P on) at unpermitted
 
-    traps : (es : List Entry) (kind : TrapKind) (now : WriteState) (on : Its (λ place r s. WriteGives own (length bytes) s.writer es (Err (stop.Trap kind), now))) → WriteSays es (reply.Trap kind, putting m on.place (with_writer on.found on.streams now))
-    traps es NotPermitted now on = (rw (the_streams m (output_at m output) _ on) on.holds.0, on.holds.1, stays _ on now on.holds.2)
+    traps : (es : List Entry) (kind : TrapKind) (now : WriteState) (on : Its (λ place r s. WriteGives own (length bytes) s.writer es (Err (stop.Trap kind), now))) → WriteSays es (reply.Trap kind, written on.place on.found on.streams now)
+    traps es NotPermitted now on = (rw (the_streams m (output_at m output) _ on) on.holds.0, on.holds.1, written_same _ on now on.holds.2)
     traps es _ now on = absurd on.holds
 
     none_there : (o : Option Streams) → o ≡ None → IsSomeAnd o (λ s. IsUnpermitted s.writer (length bytes)) → ⊥
@@ -136,7 +163,7 @@ module _ (m : Machine) (line output : ℕ) where
       names = on.names;
       at = on.at;
       has = on.has;
-      holds = record { code = c; before = es; side = side; told = t; cause = (on.holds.2, ap with_error (closed_so _ on now (error.LastOperationFailed c) on.holds.3)); marked = refl; word_is = refl; handle_is = refl };
+      holds = record { code = c; before = es; side = side; told = t; cause = (on.holds.2, ap with_error (written_closed _ on now (error.LastOperationFailed c) on.holds.3)); marked = refl; word_is = refl; handle_is = refl };
     }
     of_end _ _ _ (FindsFull es c now on full) = tt
     of_end _ _ _ (ItIsClosed es now on) = record {
@@ -146,7 +173,7 @@ module _ (m : Machine) (line output : ℕ) where
       names = on.names;
       at = on.at;
       has = on.has;
-      holds = (on.holds.2, closed_so _ on now error.Closed on.holds.3);
+      holds = (on.holds.2, written_closed _ on now error.Closed on.holds.3);
     }
     of_end _ _ _ (ItTraps es kind now on) = tt
 
@@ -203,7 +230,7 @@ module _ (m : Machine) (line output : ℕ) where
     pub write_exactly : (bytes : List ℕ) (es : List Entry) (r : Reply) (after : Machine) → m.store.standing ≡ None → Answered contexts m line (step.Write ctx output bytes) es r after → (r ≡ reply.Trap NotPermitted) ↔ Unpermitted bytes
     write_exactly bytes es r after free w = (
       λ e. (write_not_permitted bytes es after (subst (λ (x : Reply). Answered contexts m line (step.Write ctx output bytes) es x after) e w)).0,
-      λ u. is_trap bytes es r after u (settled contexts m line (WriteSays bytes) (step.Write ctx output bytes) m.store.standing es (r, after) (write_says bytes) w (λ busy. let standing = (busy_exactly contexts m line (step.Write ctx output bytes) es r after w).0 busy in cc)),
+      λ u. is_trap bytes es r after u (settled contexts m line (WriteSays bytes) (step.Write ctx output bytes) m.store.standing es (r, after) (write_says bytes) w (λ busy. let standing = ((busy_exactly contexts m line (step.Write ctx output bytes) es r after w).0 busy).0 in cc)),
     )
 
     pub flush_done : (es : List Entry) (fields : List Field) (after : Machine) → Answered contexts m line (step.Flush ctx output) es (reply.Ok fields) after → (es ≡ []) × (after ≡ m)

@@ -43,6 +43,10 @@ use Rattle.wasi_host.specs.declared.socket.Tcp2Socket.{Tcp2Socket}
 use Rattle.wasi_run.specs.declared.step.Step.{Step}
 use Rattle.wasi_run.specs.declared.step.Step.TheVariants as step
 use Rattle.wasi_host.specs.declared.kind.Kind.TheVariants as kind
+use Rattle.wasi_host.specs.declared.kind.Watched.{Watched}
+use Rattle.wasi_host.specs.declared.kind.Watched.TheVariants as watched
+use Rattle.wasi_host.specs.Kinds.{watched_by, watch_of, place_in}
+use Rattle.wasi_host.specs.Pending.{waiting_bind}
 use Rattle.wasi_run.specs.Reply.{word_of_p2}
 use Rattle.wasi_host.specs.Kinds.{kind_at, with_handle}
 use Rattle.wasi_host.specs.Store.{with_inner, with_reader, with_writer, with_socket, left_of, is_nothing, is_bind, is_connect, idle}
@@ -110,6 +114,21 @@ pub record OfStreams (m : Machine) (number : Option ℕ) (P : ℕ → Tcp2Socket
   pub has : found.streams ≡ Some streams
   pub holds : P place found streams
 
+-- == what a pollable watches
+-- what is watched isn't there
+abbrev pub MissesRecord : Watched → Option Tcp2Socket → Type 0
+MissesRecord (watched.Socket place) found = found ≡ None
+MissesRecord (watched.Input place) found = streams_in found ≡ None
+MissesRecord (watched.Output place) found = streams_in found ≡ None
+
+abbrev pub MissesWatched : Machine → Option Watched → Type 0
+MissesWatched m None = ⊤
+MissesWatched m (Some w) = MissesRecord w (slice_get m.store.sockets (place_in w))
+
+-- the bind that stands under this number is of no socket
+abbrev pub StandsOnNothing : Machine → ℕ → Type 0
+StandsOnNothing m n = IsSomeAnd (waiting_bind m.store.standing n) (λ b. slice_get m.store.sockets b.0 ≡ None)
+
 -- == traps
 -- a handle of the step isn't live, or is of another kind
 abbrev pub MissesHandle : Machine → Step → Type 0
@@ -127,6 +146,12 @@ MissesHandle m (step.Read ctx input len) = input_streams m input ≡ None
 MissesHandle m (step.CheckWrite ctx output) = output_streams m output ≡ None
 MissesHandle m (step.Write ctx output bytes) = output_streams m output ≡ None
 MissesHandle m (step.Flush ctx output) = output_streams m output ≡ None
+MissesHandle m (step.Subscribe ctx handle) = watched_by (kind_at m.table handle) ≡ None
+MissesHandle m (step.Ready ctx pollable) = MissesWatched m (watch_of (kind_at m.table pollable))
+MissesHandle m (step.Drop ctx handle) = kind_at m.table handle ≡ None
+MissesHandle m (step.TcpShutdown ctx socket how) = record_at m socket ≡ None
+MissesHandle m step.Turn = ⊥
+MissesHandle m (step.Poll n) = StandsOnNothing m n
 
 -- the step makes a handle, the two of a connection's streams, or the one of a stream's error
 abbrev pub MakesHandle : Step → Type 0
@@ -137,6 +162,7 @@ MakesHandle (step.Read ctx input len) = ⊤
 MakesHandle (step.CheckWrite ctx output) = ⊤
 MakesHandle (step.Write ctx output bytes) = ⊤
 MakesHandle (step.Flush ctx output) = ⊤
+MakesHandle (step.Subscribe ctx handle) = ⊤
 MakesHandle _ = ⊥
 
 abbrev pub IsWrite : Step → Type 0
@@ -144,10 +170,6 @@ IsWrite (step.Write ctx output bytes) = ⊤
 IsWrite _ = ⊥
 
 -- == calls that stand
-abbrev pub IsStartBind : Step → Type 0
-IsStartBind (step.TcpStartBind ctx socket network a) = ⊤
-IsStartBind _ = ⊥
-
 -- The last of the entries is this operation's, and it was told to wait.
 pub record EndsPending (own : OpId) (entries : List Entry) : Type 0 where
   pub front : List Entry
@@ -346,7 +368,7 @@ pub record FailsWith (m : Machine) (own : OpId) (stream : ℕ) (Cause : ErrorCod
 
 -- the machine, with a new handle of an error
 abbrev pub with_error : Machine → Machine
-with_error m = record m { table = with_handle m.table kind.ErrorValue }
+with_error m = record m { table = with_handle m.table kind.ErrorValue None }
 
 -- == writes
 -- a write goes on

@@ -12,4 +12,7 @@ pub mod Headline
 pub mod Program
 pub mod Parsed
 pub mod Answered
+pub mod GivenUp
+pub mod Waiting
+pub mod Turns
 pub mod Permitted

@@ -1,0 +1,139 @@
+-- What a drop and a shutdown give up: what is asked then, and what stands afterwards.
+use Rattle.std.specs.Prelude.{◌≡◌, ◌≢◌, ⊤, ℕ, true, List, [], ◌∷◌, ◌++◌, Option, Some, None, IsSome, IsSomeAnd, slice_get}
+use Rattle.wasi_addr.specs.declared.address.ShutdownType.{ShutdownType}
+use Rattle.wasi_addr.specs.declared.address.ShutdownType.TheVariants.{Receive, Send, Both}
+use Rattle.wasi_world.specs.declared.ids.OpId.{OpId}
+use Rattle.wasi_world.specs.declared.call.Call.TheVariants as call
+use Rattle.wasi_world.specs.declared.call.Entry.{Entry}
+use Rattle.wasi_world.specs.declared.call.Told.{Told}
+use Rattle.wasi_world.specs.declared.call.Told.TheVariants as told
+use Rattle.wasi_world.specs.Operation.{End, Waits, Done, Refused}
+use Rattle.wasi_streams.specs.Table.{children_of}
+use Rattle.wasi_tcp.specs.declared.reader.ReadState.{ReadState}
+use Rattle.wasi_tcp.specs.declared.reader.ReadState.TheVariants as reading
+use Rattle.wasi_tcp.specs.declared.writer.WriteError.TheVariants as error
+use Rattle.wasi_tcp.specs.declared.writer.WriteState.{WriteState}
+use Rattle.wasi_tcp.specs.declared.writer.WriteState.TheVariants as writing
+use Rattle.wasi_tcp.specs.Job.{Job, closing_job}
+use Rattle.wasi_tcp.specs.Socket.{side_of}
+use Rattle.wasi_tcp.specs.Writer.{writer_side}
+use Rattle.wasi_host.specs.declared.kind.Kind.{Kind}
+use Rattle.wasi_host.specs.declared.kind.Kind.TheVariants as kind
+use Rattle.wasi_host.specs.declared.machine.Machine.{Machine}
+use Rattle.wasi_host.specs.declared.socket.Streams.{Streams}
+use Rattle.wasi_host.specs.declared.socket.Tcp2Socket.{Tcp2Socket}
+use Rattle.wasi_host.specs.Kinds.{kind_at, without_handle}
+use Rattle.wasi_host.specs.Store.{is_nothing}
+use Rattle.wasi_run.specs.declared.reply.Reply.{Reply}
+use Rattle.wasi_run.specs.declared.reply.Reply.TheVariants as reply
+use Rattle.wasi_run.specs.declared.step.Step.{Step}
+use Rattle.wasi_run.specs.declared.step.Step.TheVariants as step
+use Rattle.wasi_run.specs.Answered.{shut_entry}
+use Rattle.wasi_run.specs.Licence.{Has, entry}
+
+-- == the halves of a connection
+-- the receiving half, while it is open
+abbrev pub receive_given_up : OpId → ReadState → List Entry
+receive_given_up own (reading.Open half) = shut_entry own half ∷ []
+receive_given_up own reading.Closed = []
+
+-- the sending half of this side, where there is one
+abbrev pub send_given_up : OpId → Option OpId → List Entry
+send_given_up own (Some side) = entry own (call.Shutdown side Send) told.Done ∷ []
+send_given_up own None = []
+
+-- == a drop
+abbrev pub IsDrop : Step → Type 0
+IsDrop (step.Drop ctx handle) = ⊤
+IsDrop _ = ⊥
+
+-- The handle is live, and something that was made under it is live too.
+pub record HasLiveChildren (m : Machine) (handle : ℕ) : Type 0 where
+  pub live : IsSome (kind_at m.table handle)
+  pub children : children_of m.table.live handle ≢ []
+
+-- the drop was done, or it stands
+abbrev pub IsDropped : Reply → Type 0
+IsDropped (reply.Ok fields) = ⊤
+IsDropped (reply.Pending n) = ⊤
+IsDropped _ = ⊥
+
+-- the machine without the handle
+abbrev pub without : Machine → ℕ → Machine
+without m handle = record m { table = without_handle m.table handle }
+
+-- all but a socket and an output: nothing is asked where it is dropped
+abbrev pub GoesAtOnce : Kind → Type 0
+GoesAtOnce (kind.Tcp2 place) = ⊥
+GoesAtOnce (kind.Output place) = ⊥
+GoesAtOnce _ = ⊤
+
+-- the open halves of the streams, the receiving one first
+abbrev pub streams_given_up : OpId → Option Streams → List Entry
+streams_given_up own None = []
+streams_given_up own (Some s) = receive_given_up own s.reader ++ send_given_up own (writer_side s.writer)
+
+-- the side, where there is one
+abbrev pub side_closed : OpId → Option OpId → List Entry
+side_closed own (Some side) = entry own (call.Close side) told.Done ∷ []
+side_closed own None = []
+
+-- a socket gives up its open halves, and then its side
+abbrev pub socket_given_up : OpId → Tcp2Socket → List Entry
+socket_given_up own r = streams_given_up own r.streams ++ side_closed own (side_of r.inner)
+
+-- Of the socket at this place nothing is left: no side, no streams, nothing in progress, and no job.
+pub record IsGone (m : Machine) (place : ℕ) : Type 0 where
+  pub found : Tcp2Socket
+  pub at : slice_get m.store.sockets place ≡ Some found
+  pub side : side_of found.inner ≡ None
+  pub streams : found.streams ≡ None
+  pub idle : is_nothing found.in_progress ≡ true
+  pub job : Has m.store.jobs place → ⊥
+
+-- At most one look was made at whether a side may be written to.
+pub data LooksOnce (own : OpId) : List Entry → Type 0 where
+  NoLook : LooksOnce own []
+  OneLook : (side : OpId) (told : Told) → LooksOnce own (entry own (call.WriteReady side) told ∷ [])
+
+-- == a shutdown
+-- it is the record of a socket whose streams weren't made yet
+abbrev pub HasNoStreams : Option Tcp2Socket → Type 0
+HasNoStreams found = IsSomeAnd found (λ r. r.streams ≡ None)
+
+-- the side of a write's half, where the write ended well
+abbrev pub ended_side : Job → End → Option OpId
+ended_side job Waits = None
+ended_side job (Done given) = Some job.write.who.side
+ended_side job (Refused c given) = None
+
+-- the side of the half that a shutdown gives up at once: none while a write goes on, or where the half was given up before
+abbrev pub shut_at_once : WriteState → Option OpId
+shut_at_once (writing.Ready half permit) = Some half.side
+shut_at_once (writing.Writing job) = ended_side job job.end
+shut_at_once (writing.Closing job) = None
+shut_at_once (writing.Closed e) = None
+
+-- a write that goes on gives the half up once all is written
+abbrev pub last_write : Job → End → Job
+last_write job Waits = closing_job job
+last_write job _ = job
+
+-- the writer after a shutdown
+abbrev pub shut_writer : WriteState → WriteState
+shut_writer (writing.Ready half permit) = writing.Closed error.Closed
+shut_writer (writing.Writing job) = writing.Closing (last_write job job.end)
+shut_writer (writing.Closing job) = writing.Closing job
+shut_writer (writing.Closed e) = writing.Closed e
+
+-- what a shutdown of the streams asks, the receiving half first
+abbrev pub shutdown_entries : OpId → ShutdownType → Streams → List Entry
+shutdown_entries own Receive s = receive_given_up own s.reader
+shutdown_entries own Send s = send_given_up own (shut_at_once s.writer)
+shutdown_entries own Both s = receive_given_up own s.reader ++ send_given_up own (shut_at_once s.writer)
+
+-- the streams after it
+abbrev pub shut_down : ShutdownType → Streams → Streams
+shut_down Receive s = record s { reader = reading.Closed }
+shut_down Send s = record s { writer = shut_writer s.writer }
+shut_down Both s = record { reader = reading.Closed; writer = shut_writer s.writer }
