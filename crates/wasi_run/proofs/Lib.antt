@@ -1,3 +1,4 @@
+pub mod CallSteps
 pub mod Takes
 pub mod Stretches
 pub mod OneLine

@@ -50,8 +50,8 @@ local_80 = socket.Ipv4 (record { port = 80; address = (127, 0, 0, 1) })
 -- the machine with a network and a socket by this context, and a bind that may stand
 abbrev with_socket : ℕ → SocketAddressFamily → Option Standing → Machine
 with_socket ctx f standing = record {
-  table = record { next = 3; live = record { handle = 1; kind = slot.Network } ∷ record { handle = 2; kind = slot.Tcp2 0 } ∷ [] };
-  store = record { sockets = new_record (new_socket (own_of 2) ctx f) ∷ []; standing = standing };
+  table = record { next = 3; live = record { handle = 1; value = slot.Network; parent = None } ∷ record { handle = 2; value = slot.Tcp2 0; parent = None } ∷ [] };
+  store = record { sockets = new_record (new_socket (own_of 2) ctx f) ∷ []; jobs = []; standing = standing };
 }
 
 -- == a bind
@@ -137,6 +137,6 @@ abbrev forbidden_script : List Step
 forbidden_script = step.Network 0 ∷ step.TcpCreate 0 family.Ipv4 ∷ []
 
 forbidden_run : Left (run forbidden [] first_state 1 forbidden_script) (entry (own_of 1) (call.Made 1 kind.Network None None) told.Done ∷ [])
-    (Give (reply.Ok (number_fields 1) ∷ reply.Err word.AccessDenied ∷ [], record { table = record { next = 2; live = record { handle = 1; kind = slot.Network } ∷ [] }; store = record { sockets = []; standing = None } }))
+    (Give (reply.Ok (number_fields 1) ∷ reply.Err word.AccessDenied ∷ [], record { table = record { next = 2; live = record { handle = 1; value = slot.Network; parent = None } ∷ [] }; store = record { sockets = []; jobs = []; standing = None } }))
 unfolding bind
 forbidden_run = ((refl, refl, tt), refl)

@@ -1,10 +1,10 @@
 //! The calls that a script's steps make, over a view of the line's context, the table and the store.
 
-ghost use Rattle.std.specs.Prelude.{◌≡◌, false};
+ghost use Rattle.std.specs.Prelude.{◌≡◌, ◌&&◌, Ok, is_some, false};
 ghost use Rattle.wasi_world.specs.Asks.{AsksFor};
 ghost use Rattle.wasi_host.specs.Sides.{KnowsSides};
 ghost use Rattle.wasi_host.specs.Views.{SameView, state_of};
-ghost use Rattle.wasi_run.specs.Machine.{machine_asks, step_asks, call_asks, poll_asks, context_at, context_for};
+ghost use Rattle.wasi_run.specs.Machine.{machine_asks, is_guest_call, call_asks, poll_asks, poll_on, context_at, context_for};
 ghost use Rattle.wasi_run.specs.Steps.{context_of};
 
 use crate::replies::{
@@ -14,10 +14,17 @@ use crate::replies::{
 use crate::reply::Reply;
 use crate::step::Step;
 use std::alloc::{AllocError, Global};
-use wasi_host::{Kind, Machine, Store, WasiSocketsCtxView, of_fault};
+use wasi_host::{Kind, Machine, Outcome, Store, WasiSocketsCtxView, of_fault};
 use wasi_p2::tcp;
 use wasi_streams::Table;
-use wasi_world::{Ids, WasiSocketsCtx, World};
+use wasi_world::{Answer, Ids, WasiSocketsCtx, World};
+
+/// Whether the step is a guest call, and a call stands.
+fn is_held_up(store: &Store, step: &Step) -> bool
+    ensures { result ≡ (is_some store.now.standing && is_guest_call step.now) }
+{
+    store.exclusive().is_some() && step.context().is_some()
+}
 
 /// Does one step, which is the line of this number. While a call stands every guest call is busy.
 pub fn do_step<W: World>(
@@ -33,7 +40,7 @@ pub fn do_step<W: World>(
     ensures sides { KnowsSides (W.seen world.old) machine.old.store → KnowsSides (W.seen world.new) machine.new.store }
     ensures open { (W.seen world.new).ended ≡ false }
 {
-    if machine.store.exclusive().is_some() && step.context().is_some() {
+    if is_held_up(&machine.store, &step) {
         return Ok(Reply::Busy);
     }
     let mut ctx = context_for(contexts, step.context());
@@ -182,12 +189,32 @@ fn poll<W: World>(
     ensures open { (W.seen world.new).ended ≡ false }
 {
     match wasi_p2::resume(view, world, ids, line) {
-        Ok(Some(answer)) => Ok(outcome_reply(alloc, line, answer)),
-        Ok(None) => {
+        Ok(answer) => poll_on(alloc, view, world, ids, line, answer),
+        Err(error) => stop_reply(error),
+    }
+}
+
+/// Answers a poll, where the 0.2 interface has that call; else asks the host for it.
+fn poll_on<W: World>(
+    alloc: Global,
+    view: &mut WasiSocketsCtxView<'_>,
+    world: &mut W,
+    ids: &mut Ids,
+    line: u32,
+    answer: Option<Answer<Outcome>>,
+) -> Result<Reply, AllocError>
+    requires { (W.seen world.old).ended ≡ false }
+    ensures asked { AsksFor (poll_on line (Ok answer, state_of view.old)) (W.seen world.old) (W.seen world.new) (λ reply. (reply, state_of view.new)) result }
+    ensures sides { KnowsSides (W.seen world.old) view.old.store.now → KnowsSides (W.seen world.new) view.new.store.now }
+    ensures view { SameView view.old view.new }
+    ensures open { (W.seen world.new).ended ≡ false }
+{
+    match answer {
+        Some(answer) => Ok(outcome_reply(alloc, line, answer)),
+        None => {
             let resumed = wasi_host::resume(view, world, ids, line);
             resumed_reply(alloc, line, resumed)
         }
-        Err(error) => stop_reply(error),
     }
 }
 

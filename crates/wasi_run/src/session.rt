@@ -48,14 +48,7 @@ impl Session {
         ensures sides { KnowsSides (W.seen world.old) self.old.machine.store → KnowsSides (W.seen world.new) self.new.machine.store }
     {
         self.lines += 1;
-        do_step(
-            alloc,
-            &mut self.machine,
-            world,
-            contexts,
-            self.lines,
-            step,
-        )
+        do_step(alloc, &mut self.machine, world, contexts, self.lines, step)
     }
 
     /// Sets the end mark, and then closes the open network sides.

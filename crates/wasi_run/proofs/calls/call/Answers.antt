@@ -1,5 +1,5 @@
 use Rattle.std.proofs.Common.{refl}
-use Rattle.wasi_world.proofs.Walks.{asks_answered, given_answered, asks_end}
+use Rattle.wasi_world.proofs.Walks.{asks_answered, given_answered, asks_end, asks_exit}
 use Rattle.wasi_run.specs.Machine.{handle_reply, answer_reply, done_reply, pair_reply, address_reply, truth_reply, family_reply, bytes_reply, permit_reply, taken_reply}
 use Rattle.wasi_run.proofs.calls.call.Goals as goal
 
@@ -56,3 +56,9 @@ returns-in-Ready-clause-asked g c = rw c.in-Ready.is (asks_answered truth_reply 
 
 pub returns-in-Drop-clause-asked : goal.returns-in-Drop-clause-asked
 returns-in-Drop-clause-asked g c = rw c.in-Drop.is (asks_answered (answer_reply c.args.ids.now.line) _ _ (rw (← c.of_fault-in-Drop.ensures) at c.drop_handle-answer.ensures.asked) (rw c.drop_handle-answer.ensures.ids at c.answer_reply-in-Drop.ensures))
+
+pub returns-in_err-turn-in-Turn-clause-asked : goal.returns-in_err-turn-in-Turn-clause-asked
+returns-in_err-turn-in-Turn-clause-asked g c = rw c.in-Turn.is (asks_exit _ _ c.from_residual.ensures.1 c.in_err-turn-in-Turn.ensures.asked.err)
+
+pub returns-in_ok-turn-in-Turn-clause-asked : goal.returns-in_ok-turn-in-Turn-clause-asked
+returns-in_ok-turn-in-Turn-clause-asked g c = rw c.in-Turn.is (asks_end _ c.in_ok-turn-in-Turn.ensures.asked.ok (rw c.done.ensures refl))
