@@ -1,18 +1,17 @@
 -- Looks, shutdowns and closings of a record: how their answers are told, and what they make of the sides that are held.
-use Rattle.std.proofs.Common.{◌≡◌, ℕ, ◌+◌, Bool, List, [], ◌∷◌, ◌++◌, Option, Some, None, refl, sym, ap, subst, ◌∙◌, arith}
+use Rattle.std.proofs.Common.{◌≡◌, ℕ, ◌+◌, Bool, List, Option, Some, None, refl, sym, ap, subst, ◌∙◌, arith}
 use Rattle.std.specs.Prelude.{Result, Ok, Err, OnErr}
 use Rattle.std.specs.declared.alloc.AllocError.{AllocError}
 use Rattle.wasi_addr.specs.declared.address.ShutdownType.{ShutdownType}
 use Rattle.wasi_addr.specs.declared.address.ShutdownType.TheVariants.{Receive, Send, Both}
 use Rattle.wasi_addr.specs.declared.code.ErrorCode.{ErrorCode}
-use Rattle.wasi_world.specs.declared.call.Told.{Told}
 use Rattle.wasi_world.specs.declared.ids.OpId.{OpId}
 use Rattle.wasi_world.specs.declared.outcome.Answer.{Answer}
 use Rattle.wasi_world.specs.declared.outcome.Answer.TheVariants.{Ready, Pending}
 use Rattle.wasi_world.specs.declared.outcome.Refusal.{Refusal}
 use Rattle.wasi_world.specs.declared.outcome.Refusal.TheVariants as refusal
 use Rattle.wasi_world.specs.Seen.{Seen}
-use Rattle.wasi_world.specs.Asks.{Asks, Give, Ask, AskWrite, bind, Left, Reaches, Started, AsksFor, outcome}
+use Rattle.wasi_world.specs.Asks.{Asks, Give, Ask, AskWrite, bind, Reaches, AsksFor, outcome}
 use Rattle.wasi_world.specs.Operation.{End, Waits, Done, Refused}
 use Rattle.wasi_world.proofs.Walks.{reaches_all, reaches_in, asks_end}
 use Rattle.wasi_streams.specs.declared.error.StreamError.{StreamError}
@@ -28,14 +27,14 @@ use Rattle.wasi_tcp.specs.Job.{Job, finish_in, finish_asks}
 use Rattle.wasi_tcp.specs.Reader.{reader_ready_asks, reader_shutdown_asks}
 use Rattle.wasi_tcp.specs.Shape.{Socket}
 use Rattle.wasi_tcp.specs.Socket.{side_of}
-use Rattle.wasi_tcp.specs.Writer.{collected, look_asks, writer_side, writer_shutdown_asks, side_up_asks, writer_give_up_asks}
+use Rattle.wasi_tcp.specs.Writer.{collected, look_asks, writer_side, writer_shutdown_asks, side_up_asks}
 use Rattle.wasi_host.specs.declared.socket.Streams.{Streams}
 use Rattle.wasi_host.specs.declared.socket.Tcp2Socket.{Tcp2Socket}
-use Rattle.wasi_host.specs.Dropping.{give_streams_up, gone, close_record, release_asks, wait_answer, waits_told, wait_writer}
+use Rattle.wasi_host.specs.Dropping.{give_streams_up, close_record, release_asks, wait_answer, waits_told, wait_writer}
 use Rattle.wasi_host.specs.Host.{Stop}
 use Rattle.wasi_host.specs.Readiness.{is_over, is_done, over_told, read_told, look_told, connect_looked, ready_reader, ready_writer}
 use Rattle.wasi_host.specs.Shutdowns.{shut_receive, shut_send, shut_streams, shut_record}
-use Rattle.wasi_host.specs.Sides.{closed_by, made_in, closed_in, one_if_some, held_in, ClosesOwn, KnowsSides}
+use Rattle.wasi_host.specs.Sides.{closed_by, one_if_some, ClosesOwn, KnowsSides}
 use Rattle.wasi_host.specs.Store.{Records, with_inner, with_reader, with_writer}
 use Rattle.wasi_host.proofs.SideCounts.{Calm, Any, calm_then, calm_left}
 use Rattle.wasi_host.proofs.ConnectCounts.{Counted, counted_then, counted_left}

@@ -1,6 +1,6 @@
 -- Look-ups in the store.
 use Rattle.std.specs.Prelude.{IsSome, is_some}
-use Rattle.std.proofs.Common.{◌≡◌, ℕ, zero, suc, Bool, true, false, List, [], ◌∷◌, Option, Some, None, refl, sym, ap, subst, slice_get, slice_set, length}
+use Rattle.std.proofs.Common.{◌≡◌, ℕ, zero, suc, true, false, List, [], ◌∷◌, Option, Some, None, refl, sym, ap, subst, slice_get, slice_set, length}
 use Rattle.wasi_streams.specs.Table.{pushed}
 use Rattle.wasi_streams.proofs.Tables.{value_front}
 use Rattle.wasi_host.specs.declared.kind.Kind.{Kind}

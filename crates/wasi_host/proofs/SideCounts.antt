@@ -32,7 +32,7 @@ use Rattle.wasi_tcp.specs.declared.bind.BindStage.{BindStage}
 use Rattle.wasi_tcp.specs.declared.bind.BindStage.TheVariants as stage
 use Rattle.wasi_tcp.specs.Bind.{bind_operation, IsBind}
 use Rattle.wasi_tcp.specs.Shape.{Socket}
-use Rattle.wasi_tcp.specs.Socket.{side_of, new_asks, after_create, new_socket, ask_bound, bound_asks, bind_allowed, bind_start, bind_asks}
+use Rattle.wasi_tcp.specs.Socket.{side_of, new_asks, after_create, ask_bound, bound_asks, bind_allowed, bind_start, bind_asks}
 use Rattle.wasi_host.specs.declared.socket.Tcp2Socket.{Tcp2Socket}
 use Rattle.wasi_host.specs.Store.{Records, new_record, with_inner, bind_begun, poll_bind_asks, begin_bind_asks, begin_connect_asks, tell_local_asks, tell_remote_asks, with_record, stood}
 use Rattle.wasi_host.specs.Sides.{one_if_done, made_by, closed_by, made_in, closed_in, one_if_some, held_in, KnowsSides, MakesNone}

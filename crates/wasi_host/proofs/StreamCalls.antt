@@ -1,12 +1,12 @@
 -- How a stream's call goes on where it gives no value.
-use Rattle.std.specs.Prelude.{◌≡◌, ℕ, List, [], ◌∷◌, Option, Some, Result, Ok, Err, IsErrAnd, refl, slice_get}
+use Rattle.std.specs.Prelude.{◌≡◌, ℕ, Option, Some, Result, Ok, Err, IsErrAnd, refl, slice_get}
 use Rattle.std.specs.declared.alloc.AllocError.{AllocError}
-use Rattle.std.proofs.Common.{ap, sym, subst}
+use Rattle.std.proofs.Common.{ap}
 use Rattle.wasi_addr.specs.declared.code.ErrorCode.{ErrorCode}
 use Rattle.wasi_world.specs.Seen.{Seen}
 use Rattle.wasi_world.specs.declared.ids.OpId.{OpId}
-use Rattle.wasi_world.specs.Asks.{Asks, Give, bind, Reaches, Started, AsksFor}
-use Rattle.wasi_world.proofs.Walks.{reaches_on, reaches_in, asks_end, asks_then}
+use Rattle.wasi_world.specs.Asks.{Asks, Give, bind, Started, AsksFor}
+use Rattle.wasi_world.proofs.Walks.{reaches_in, asks_end, asks_then}
 use Rattle.wasi_streams.specs.declared.error.StreamError.{StreamError}
 use Rattle.wasi_streams.specs.declared.error.StreamError.TheVariants as told
 use Rattle.wasi_streams.specs.StreamStop.{StreamStop, stream_outcome}
@@ -17,11 +17,11 @@ use Rattle.wasi_streams.specs.declared.fault.Fault.{Fault}
 use Rattle.wasi_streams.specs.declared.fault.Fault.TheVariants as fault
 use Rattle.wasi_host.specs.declared.machine.Machine.{Machine}
 use Rattle.wasi_host.specs.declared.kind.Kind.TheVariants.{ErrorValue}
-use Rattle.wasi_host.specs.Host.{Stop, CallStop, fault_outcome, call_outcome, error_outcome, failed_outcome, IsStreamStop, IfStreamMemory}
+use Rattle.wasi_host.specs.Host.{CallStop, fault_outcome, call_outcome, error_outcome, failed_outcome, IsStreamStop, IfStreamMemory}
 use Rattle.wasi_host.specs.Kinds.{Handles, make_asks}
 use Rattle.wasi_host.specs.Store.{Records}
-use Rattle.wasi_host.specs.Machine.{with_table, with_store, side_at}
-use Rattle.wasi_host.specs.StreamCalls.{failed_made, convert_asks, stopped, converted}
+use Rattle.wasi_host.specs.Machine.{with_store, side_at}
+use Rattle.wasi_host.specs.StreamCalls.{convert_asks, stopped, converted}
 
 module _ (m : Machine) (own : OpId) (handle place : ℕ) where
   -- the handle of an error

@@ -10,7 +10,7 @@ use Rattle.wasi_world.specs.declared.outcome.Answer.TheVariants.{Ready, Pending}
 use Rattle.wasi_world.specs.declared.outcome.TrapKind.TheVariants.{NotPermitted}
 use Rattle.wasi_world.specs.Asks.{Asks, Give, bind}
 use Rattle.wasi_world.specs.Typed.{ask_read}
-use Rattle.wasi_world.specs.Operation.{Given, Nothing, Item, Write, ShutdownSend, Last, LastAsk, ShutdownLast, Who, Operation, Front, Goes, Stays, Again, Ends, End, Waits, Done, Refused, front, write_front, taken_front, less_one, last_ask, after, round, polls, poll_asks}
+use Rattle.wasi_world.specs.Operation.{Given, Nothing, Item, Write, ShutdownSend, Last, ShutdownLast, Who, Operation, Front, Goes, Stays, Again, Ends, End, Waits, Done, Refused, front, write_front, taken_front, less_one, last_ask, after, round, polls, poll_asks}
 use Rattle.wasi_streams.specs.StreamStop.{StreamStop}
 use Rattle.wasi_streams.specs.StreamStop as stop
 use Rattle.wasi_tcp.specs.declared.halves.TcpSendStream.{TcpSendStream}
@@ -19,15 +19,15 @@ use Rattle.wasi_tcp.specs.declared.reader.ReadState.TheVariants as reading
 use Rattle.wasi_tcp.specs.declared.writer.WriteState.{WriteState}
 use Rattle.wasi_tcp.specs.declared.writer.WriteState.TheVariants as writing
 use Rattle.wasi_tcp.specs.Halves.{polled_answer, read_asks}
-use Rattle.wasi_tcp.specs.Reader.{reader_shutdown_asks, read_end_asks, after_read, read_state_asks}
+use Rattle.wasi_tcp.specs.Reader.{read_end_asks, after_read, read_state_asks}
 use Rattle.wasi_tcp.specs.declared.job.WriteStage.{WriteStage}
 use Rattle.wasi_tcp.specs.declared.job.WriteStage.TheVariants as stage
 use Rattle.wasi_tcp.specs.Bounds.{IsWrite, HoldsWrite}
 use Rattle.wasi_tcp.specs.Job.{Job, new_job, writer, write_left, job_in, job_asks}
-use Rattle.wasi_tcp.specs.Writer.{collected, look_in, look_asks, check_write_asks, turn_asks, write_on_asks, write_half_asks, write_state_asks}
+use Rattle.wasi_tcp.specs.Writer.{collected, look_in, look_asks, check_write_asks, turn_asks, write_on_asks, write_state_asks}
 use Rattle.wasi_host.specs.declared.socket.Streams.{Streams}
 use Rattle.wasi_host.specs.declared.socket.Tcp2Socket.{Tcp2Socket}
-use Rattle.wasi_host.specs.Store.{reader_of, reader_asks, writer_of, writer_asks, flush_asks}
+use Rattle.wasi_host.specs.Store.{reader_of, reader_asks, writer_of, writer_asks}
 use Rattle.wasi_host.proofs.SideCounts.{Calm, Any, calm_then}
 
 -- == a read

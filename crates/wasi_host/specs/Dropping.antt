@@ -8,7 +8,6 @@ use Rattle.wasi_world.specs.Asks.{Asks, Give, bind}
 use Rattle.wasi_streams.specs.declared.error.StreamError.{StreamError}
 use Rattle.wasi_streams.specs.declared.error.StreamError.TheVariants as error
 use Rattle.wasi_streams.specs.StreamStop.{StreamStop}
-use Rattle.wasi_tcp.specs.declared.writer.WriteState.{WriteState}
 use Rattle.wasi_tcp.specs.Shape.{Socket}
 use Rattle.wasi_tcp.specs.Closing.{close_asks}
 use Rattle.wasi_tcp.specs.Reader.{reader_shutdown_asks}

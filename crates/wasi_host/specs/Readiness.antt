@@ -11,9 +11,6 @@ use Rattle.wasi_world.specs.declared.outcome.TrapKind.TheVariants.{NoSuchHandle}
 use Rattle.wasi_world.specs.Asks.{Asks, Give, bind}
 use Rattle.wasi_streams.specs.declared.error.StreamError.{StreamError}
 use Rattle.wasi_streams.specs.declared.error.StreamError.TheVariants as error
-use Rattle.wasi_streams.specs.StreamStop.{StreamStop}
-use Rattle.wasi_tcp.specs.declared.reader.ReadState.{ReadState}
-use Rattle.wasi_tcp.specs.declared.writer.WriteState.{WriteState}
 use Rattle.wasi_tcp.specs.Shape.{Socket}
 use Rattle.wasi_tcp.specs.Connecting.{finish_connect_asks}
 use Rattle.wasi_tcp.specs.Reader.{reader_ready_asks}

@@ -58,7 +58,7 @@ pub record MakesNone (before after : Seen) : Type 0 where
   pub made : made_in entries ≡ 0
   pub closed : closed_in entries ≡ 0
 
--- Each side that was made and not closed is held by a record, where the log is told.
+-- As many sides were made and not closed as records hold one, where the log is told.
 pub record KnowsSides (seen : Seen) (records : Records) : Type 0 where
   pub count : IfSome seen.log (λ log. closed_in log + held_in records.sockets ≡ made_in log)
 

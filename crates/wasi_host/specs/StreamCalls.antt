@@ -11,9 +11,9 @@ use Rattle.wasi_tcp.specs.Writer.{check_write_asks, write_state_asks}
 use Rattle.wasi_host.specs.declared.kind.Kind.TheVariants.{ErrorValue}
 use Rattle.wasi_host.specs.declared.machine.Machine.{Machine}
 use Rattle.wasi_host.specs.declared.socket.Tcp2Socket.{Tcp2Socket}
-use Rattle.wasi_host.specs.Host.{Stop, CallStop, Failed, Closed, Traps, failed_with}
+use Rattle.wasi_host.specs.Host.{Stop, CallStop, Closed, Traps, failed_with}
 use Rattle.wasi_host.specs.Kinds.{make_asks}
-use Rattle.wasi_host.specs.Store.{Records, reader_asks, writer_asks, flush_asks, stream_at}
+use Rattle.wasi_host.specs.Store.{reader_asks, writer_asks, flush_asks, stream_at}
 use Rattle.wasi_host.specs.Jobs.{write_at}
 use Rattle.wasi_host.specs.Machine.{with_table, with_store, input_at, output_at, side_at}
 

@@ -46,9 +46,7 @@ impl Store {
             _ => None,
         }
     }
-}
 
-impl Store {
     /// Takes out the bind that stands under this number, with the number of its socket.
     fn take_bind(&mut self, line: u32) -> Option<(usize, BindOp)>
         ensures taken { result ≡ waiting_bind self.old.standing line }

@@ -204,7 +204,7 @@ impl Tcp2Socket {
         self.poll_bind(world, bind)
     }
 
-    /// Polls a bind that this socket began.
+    /// Polls a bind. Where it is done it is in progress; where it is pending it is handed back.
     pub fn poll_bind<W: World>(
         &mut self,
         world: &mut W,

@@ -348,7 +348,8 @@ impl Store {
         close_sides(world, self.sockets.as_slice());
     }
 
-    /// The number of the call that stands: while it does, every guest call is busy. Takes no memory.
+    /// The number of the call that stands: while it does, every guest call is busy. That is the caller's to test: the calls of
+    /// this crate and of `wasi_p2` don't, and one that comes to stand takes the place of one that stood. Takes no memory.
     pub fn exclusive(&self) -> Option<u32>
         ensures { result ≡ exclusive_of self.now.standing }
     {

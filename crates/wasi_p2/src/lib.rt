@@ -12,10 +12,9 @@ ghost use Rattle.wasi_p2.specs.Tcp.{network_asks};
 
 pub mod tcp;
 
+pub use wasi_host::SocketError;
 use wasi_host::{Kind, Outcome, WasiSocketsCtxView, handles, of_fault};
 use wasi_world::{Answer, Handle, Ids, World};
-
-pub use wasi_host::SocketError;
 
 /// A call that tells a code of the 0.2 interface (`SocketResult` of the crate wasmtime-wasi).
 pub type SocketResult<T> = Result<T, SocketError>;

@@ -148,7 +148,14 @@ fn make_streams<W: World>(
     let own = ids.own();
     let input = handles::make(view.table, world, own, Kind::Input(place), Some(this), side);
     let input = of_fault(input)?;
-    let output = handles::make(view.table, world, own, Kind::Output(place), Some(this), side);
+    let output = handles::make(
+        view.table,
+        world,
+        own,
+        Kind::Output(place),
+        Some(this),
+        side,
+    );
     let output = of_fault(output)?;
     Ok((input, output))
 }

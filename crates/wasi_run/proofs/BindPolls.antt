@@ -15,7 +15,7 @@ use Rattle.wasi_world.specs.Typed.{told_verdict, told_done}
 use Rattle.wasi_world.specs.Operation.{Given, Nothing, Item, Check, Bind, LastAsk, NothingLast, Operation, End, Waits, Done, Refused, last_ask, after, round, polls, poll_asks, verdict_front, done_front}
 use Rattle.wasi_run.specs.Answered.{EndsPending}
 use Rattle.wasi_run.specs.Licence.{Has, entry}
-use Rattle.wasi_run.specs.Waiting.{IsBind, IsLeftOfBind, Unchecked, Checked, Ended, BindFails, ToldNo, ToldWhy}
+use Rattle.wasi_run.specs.Waiting.{IsRestOfBind, IsLeftOfBind, Unchecked, Checked, Ended, BindFails, ToldNo, ToldWhy}
 use Rattle.wasi_run.proofs.StepCauses.{Gives}
 
 module _ (op : Operation) where
@@ -51,6 +51,6 @@ module _ (op : Operation) where
     by_left _ (Checked a) e = binds [] a Nothing (rw e (inl refl))
     by_left _ Ended e = tt
 
-pub poll_bind_ends : (op : Operation) → IsBind op → Gives (BindEnds op) [] (poll_asks op)
+pub poll_bind_ends : (op : Operation) → IsRestOfBind op → Gives (BindEnds op) [] (poll_asks op)
 unfolding polls
 poll_bind_ends op its = by_left op (polls 63 op.who) its.last op.left its.left refl

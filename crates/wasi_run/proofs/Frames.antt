@@ -31,7 +31,8 @@ use Rattle.wasi_host.specs.Machine.{own_of}
 use Rattle.wasi_host.specs.Store.{with_socket, with_record}
 use Rattle.wasi_run.specs.declared.step.Step.{Step}
 use Rattle.wasi_run.specs.Licence.{entry, marked_by, NamesSide, IsSide, IsMarkedWith, IsMaker, Created, Handed, HasWildcardYes, IsBoundSide, MayGoOut}
-use Rattle.wasi_run.proofs.Lists.{has_front, marks_in-push, get_front, get_split, get_set, set_get, value_split, value_without}
+use Rattle.wasi_run.proofs.Lists.{has_front, marks_in-push, get_front, get_split, get_set, set_get, value_split}
+use Rattle.wasi_streams.proofs.Tables.{value_without}
 use Rattle.wasi_run.proofs.Fine.{NamesRecord, HandleIsFine, KnowsMaker, BindLeft, Whole, Checked, Over, ConnectLeft, Unbound, Unchecked, Allowed, ToClose, Ended, Names, WorksOn, BindIsFine, ConnectIsFine, JobIsFine, WritesOn, IsConnectedOn, StreamsAreFine, SocketIsFine, RecordIsFine, DropIsFine, CallIsFine, StandingIsFine, StateIsFine}
 
 -- == what more entries keep

@@ -1,8 +1,8 @@
 -- Lists of entries, of records by place, and of live handles.
-use Rattle.std.proofs.Common.{◌≡◌, ℕ, zero, suc, ◌+◌, ◌⊎◌, inl, inr, Bool, true, false, if◌then◌else◌, ◌==◌, List, [], ◌∷◌, ◌++◌, Option, Some, None, slice_get, slice_set, length, refl, sym, ap, subst, ◌∙◌, arith}
+use Rattle.std.proofs.Common.{◌≡◌, ℕ, zero, suc, ◌+◌, ◌⊎◌, inl, inr, Bool, true, false, if◌then◌else◌, ◌==◌, List, [], ◌∷◌, ◌++◌, Option, Some, None, slice_get, slice_set, length, refl, ap, arith}
 use Rattle.std.proofs.lemmas.Bool.{eqb-true}
 use Rattle.wasi_world.specs.declared.call.Entry.{Entry}
-use Rattle.wasi_streams.specs.Table.{Slot, value_at, without}
+use Rattle.wasi_streams.specs.Table.{Slot, value_at}
 use Rattle.wasi_run.specs.Licence.{Has, marked_by, marks_in}
 
 -- == entries
@@ -96,32 +96,3 @@ value_front {K} (x ∷ live) s handle value e = by_test (x.handle == handle) (va
     by_test : (b : Bool) (o p : Option K) → (o ≡ Some value → p ≡ Some value) → (if b then Some x.value else o) ≡ Some value → (if b then Some x.value else p) ≡ Some value
     by_test true o p f e = e
     by_test false o p f e = f e
-
--- a handle that was taken out stands for nothing
-value_gone : {K : Type 0} (live : List (Slot K)) (gone : ℕ) → value_at (without live gone) gone ≡ None
-value_gone {K} [] gone = refl
-value_gone {K} (x ∷ live) gone = by_test (x.handle == gone) refl (value_gone live gone)
-  where
-    by_test : (b : Bool) → (x.handle == gone) ≡ b → value_at (without live gone) gone ≡ None → value_at (if b then without live gone else x ∷ without live gone) gone ≡ None
-    by_test true p z = z
-    by_test false p z = rw p z
-
--- what is left once a handle was taken out was there before
-pub value_without : {K : Type 0} (live : List (Slot K)) (gone handle : ℕ) (value : K) → value_at (without live gone) handle ≡ Some value → value_at live handle ≡ Some value
-value_without {K} [] gone handle value e = e
-value_without {K} (x ∷ live) gone handle value e = by_test (x.handle == gone) refl (value_without live gone handle value) e
-  where
-    not_it : (n : ℕ) → n ≡ gone → n ≡ handle → value_at (without live gone) handle ≡ Some value → Some x.value ≡ Some value
-    not_it n p q k = let r : gone ≡ handle = sym p ∙ q in let z = subst (λ (g : ℕ). value_at (without live gone) g ≡ None) r (value_gone live gone) in absurd (cc)
-
-    same : (b : Bool) (o p : Option K) → (o ≡ Some value → p ≡ Some value) → (if b then Some x.value else o) ≡ Some value → (if b then Some x.value else p) ≡ Some value
-    same true o p f k = k
-    same false o p f k = f k
-
-    before : (b : Bool) → (b ≡ true → x.handle ≡ handle) → x.handle ≡ gone → value_at (without live gone) handle ≡ Some value → value_at live handle ≡ Some value → (if b then Some x.value else value_at live handle) ≡ Some value
-    before true f p k i = not_it x.handle p (f refl) k
-    before false f p k i = i
-
-    by_test : (b : Bool) → (x.handle == gone) ≡ b → (value_at (without live gone) handle ≡ Some value → value_at live handle ≡ Some value) → value_at (if b then without live gone else x ∷ without live gone) handle ≡ Some value → value_at (x ∷ live) handle ≡ Some value
-    by_test true p i k = before (x.handle == handle) (eqb-true x.handle handle) (eqb-true x.handle gone p) k (i k)
-    by_test false p i k = same (x.handle == handle) (value_at (without live gone) handle) (value_at live handle) i k

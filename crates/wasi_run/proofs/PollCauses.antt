@@ -26,7 +26,7 @@ use Rattle.wasi_run.specs.Answered.{word_of_code, EndsPending}
 use Rattle.wasi_run.specs.GivenUp.{LooksOnce}
 use Rattle.wasi_run.specs.Machine.{resumed_reply, poll_on, poll_asks}
 use Rattle.wasi_run.specs.Reply.{no_fields}
-use Rattle.wasi_run.specs.Waiting.{OutputWaits, IsBind, BindFails, nothing_stands}
+use Rattle.wasi_run.specs.Waiting.{OutputWaits, IsRestOfBind, BindFails, nothing_stands}
 use Rattle.wasi_run.proofs.BindPolls.{BindEnds, poll_bind_ends}
 use Rattle.wasi_run.proofs.StepCauses.{Gives, gives_then, gives_where}
 use Rattle.wasi_run.proofs.WaitCauses.{OutputGives, output_gives}
@@ -82,8 +82,8 @@ module _ (m : Machine) (n : ℕ) where
     NoCall : stands_as m.store.standing n ≡ false → PollAnswer [] reply.NoSuchCall m
     OfNothing : (place : ℕ) (op : Operation) → waiting_bind m.store.standing n ≡ Some (place, op) → slice_get m.store.sockets place ≡ None → PollAnswer [] (reply.Trap NoSuchHandle) (nothing_stands m)
     BindDone : (place : ℕ) (op : Operation) (es : List Entry) (after : Machine) → StandsBy place op → after.store.standing ≡ None → PollAnswer es (reply.Ok no_fields) after
-    BindRefused : (place : ℕ) (op : Operation) (es : List Entry) (c : ErrorCode) (after : Machine) → StandsBy place op → (IsBind op → BindFails op es c) → after.store.standing ≡ None → PollAnswer es (reply.Err (word_of_code c)) after
-    BindWaits : (place : ℕ) (op left : Operation) (es : List Entry) (after : Machine) → StandsBy place op → (IsBind op → EndsPending op.who.id es) → after.store.standing ≡ Some (standing_bind n place left) → PollAnswer es (reply.Pending n) after
+    BindRefused : (place : ℕ) (op : Operation) (es : List Entry) (c : ErrorCode) (after : Machine) → StandsBy place op → (IsRestOfBind op → BindFails op es c) → after.store.standing ≡ None → PollAnswer es (reply.Err (word_of_code c)) after
+    BindWaits : (place : ℕ) (op left : Operation) (es : List Entry) (after : Machine) → StandsBy place op → (IsRestOfBind op → EndsPending op.who.id es) → after.store.standing ≡ Some (standing_bind n place left) → PollAnswer es (reply.Pending n) after
     DropDone : (place : ℕ) (es : List Entry) (after : Machine) → StandsFor place → LooksOnce (own_of n) es → after.store.standing ≡ None → PollAnswer es (reply.Ok no_fields) after
     DropWaits : (place : ℕ) (es : List Entry) (after : Machine) → StandsFor place → OutputWaits m (own_of n) (Some place) es → after.store.standing ≡ Some (standing_drop n place) → PollAnswer es (reply.Pending n) after
 
@@ -118,7 +118,7 @@ module _ (m : Machine) (n : ℕ) where
     stands : StandsBy place op
     stands = the_bind n m.store.standing place op e
 
-    ended : (r : Tcp2Socket) (es : List Entry) (end : End × List Item) → (IsBind op → BindEnds op es end) → AnswerGives es (bind_answered (unstood m.store) n place (bind_ended op r end))
+    ended : (r : Tcp2Socket) (es : List Entry) (end : End × List Item) → (IsRestOfBind op → BindEnds op es end) → AnswerGives es (bind_answered (unstood m.store) n place (bind_ended op r end))
     ended r es (Waits, items) h = BindWaits place op _ es _ stands h refl
     ended r es (Done given, items) h = BindDone place op es _ stands refl
     ended r es (Refused c given, items) h = BindRefused place op es c _ stands h refl
@@ -127,8 +127,8 @@ module _ (m : Machine) (n : ℕ) where
     by_record None at = OfNothing place op e at
     by_record (Some r) at =
         gives_then (λ es begun. AnswerGives es (bind_answered (unstood m.store) n place begun)) AnswerGives [] (poll_bind_asks op r) _
-        (gives_then (λ es end. IsBind op → BindEnds op es end) (λ es begun. AnswerGives es (bind_answered (unstood m.store) n place begun)) [] (operation_polls op) _
-        (gives_where (IsBind op) (BindEnds op) [] (operation_polls op) (poll_bind_ends op))
+        (gives_then (λ es end. IsRestOfBind op → BindEnds op es end) (λ es begun. AnswerGives es (bind_answered (unstood m.store) n place begun)) [] (operation_polls op) _
+        (gives_where (IsRestOfBind op) (BindEnds op) [] (operation_polls op) (poll_bind_ends op))
         (λ es end k. ended r es end k))
         (λ es begun k. k)
 

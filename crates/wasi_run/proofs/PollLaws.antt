@@ -15,7 +15,7 @@ use Rattle.wasi_run.specs.declared.reply.Reply.{Reply}
 use Rattle.wasi_run.specs.declared.reply.Reply.TheVariants as reply
 use Rattle.wasi_run.specs.declared.step.Step.TheVariants as step
 use Rattle.wasi_run.specs.Answered.{Answered}
-use Rattle.wasi_run.specs.Waiting.{IsBind, StandsByBind, CallWaits, StandingWaits, StandingFails}
+use Rattle.wasi_run.specs.Waiting.{IsRestOfBind, StandsByBind, CallWaits, StandingWaits, StandingFails}
 use Rattle.wasi_run.proofs.PollCauses.{the_bind, PollAnswer, NoCall, OfNothing, BindDone, BindRefused, BindWaits, DropDone, DropWaits, PollSays, poll_says}
 use Rattle.wasi_run.proofs.StepCauses.{settled, busy_exactly}
 
@@ -61,7 +61,7 @@ module _ (m : Machine) (n : ℕ) where
   ends _ _ _ (DropWaits place es after stands waits on) h = inl refl
 
   module _ (binds : StandsByBind m) where
-    is_bind : (place : ℕ) (op : Operation) → m.store.standing ≡ Some (standing_bind n place op) → IsBind op
+    is_bind : (place : ℕ) (op : Operation) → m.store.standing ≡ Some (standing_bind n place op) → IsRestOfBind op
     is_bind place op e = rw e at binds
 
     fails : (w : CodeWord) (es : List Entry) (r : Reply) (after : Machine) → Answer es r after → r ≡ reply.Err w → StandingFails m n es w

@@ -1,5 +1,5 @@
 -- The machine that does a script's steps: what each asks, answers and leaves, and the run of the steps.
-use Rattle.std.specs.Prelude.{ℕ, ◌+◌, Bool, true, false, if◌then◌else◌, List, [], ◌∷◌, ◌++◌, Option, Some, None, is_some, Result, Ok, Err, slice_get}
+use Rattle.std.specs.Prelude.{ℕ, ◌+◌, Bool, false, if◌then◌else◌, List, [], ◌∷◌, ◌++◌, Option, Some, None, is_some, Result, Ok, Err, slice_get}
 use Rattle.wasi_addr.specs.declared.address.IpSocketAddress.{IpSocketAddress}
 use Rattle.wasi_addr.specs.declared.address.SocketAddressFamily.{SocketAddressFamily}
 use Rattle.wasi_addr.specs.Code.{p2_of_code}
@@ -17,7 +17,6 @@ use Rattle.wasi_host.specs.StreamCalls.{read_asks, check_asks, write_asks, flush
 use Rattle.wasi_host.specs.Pending as host
 use Rattle.wasi_p2.specs.Pending as p2
 use Rattle.wasi_p2.specs.Tcp.{network_asks, start_bind_asks, finish_bind_on, start_connect_asks, finish_connect_asks, local_address_on, remote_address_on, is_listening_on, address_family_on, shutdown_on}
-use Rattle.wasi_run.specs.declared.reply.Field.{Field}
 use Rattle.wasi_run.specs.declared.reply.Reply.{Reply}
 use Rattle.wasi_run.specs.declared.reply.Reply.TheVariants as reply
 use Rattle.wasi_run.specs.declared.step.Step.{Step}

@@ -1,9 +1,9 @@
 -- What the program makes of its words, its scenario and its script.
-use Rattle.std.specs.Prelude.{◌≡◌, ℕ, ◌+◌, ◌≤◌, ◌⊎◌, Bool, true, false, if◌then◌else◌, bytes_eq, codes, List, [], ◌∷◌, Option, Some, None, Result, Ok, Err, length}
+use Rattle.std.specs.Prelude.{◌≡◌, ℕ, ◌+◌, ◌≤◌, ◌⊎◌, true, if◌then◌else◌, bytes_eq, codes, List, [], ◌∷◌, Option, Some, None, Result, Ok, Err, length}
 use Rattle.wasi_world.specs.declared.call.Entry.{Entry}
 use Rattle.wasi_world.specs.declared.outcome.WasiSocketsCtx.{WasiSocketsCtx}
 use Rattle.wasi_world.specs.Seen.{Plan, Seen, Rose}
-use Rattle.wasi_world.specs.Io.{Reading, Writing, Gave, HasEnded, Took}
+use Rattle.wasi_world.specs.Io.{Reading, Writing, Gave, HasEnded}
 use Rattle.wasi_world.specs.Fields.{number_in}
 use Rattle.wasi_world.specs.Script.{IsScripted}
 use Rattle.wasi_world.specs.Scenario.{plan_of, free_context}

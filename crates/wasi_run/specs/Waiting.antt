@@ -111,13 +111,13 @@ pub data IsLeftOfBind : List Item → Type 0 where
   Checked : (a : IpSocketAddress) → IsLeftOfBind (Bind a ∷ [])
   Ended : IsLeftOfBind []
 
--- The operation is a bind, at one of its stages.
-pub record IsBind (op : Operation) : Type 0 where
+-- What is left to the operation is the rest of a bind, and it asks nothing last.
+pub record IsRestOfBind (op : Operation) : Type 0 where
   pub last : op.who.last ≡ NothingLast
   pub left : IsLeftOfBind op.left
 
 abbrev pub HoldsBind : StandingCall → Type 0
-HoldsBind (standing.Bind place op) = IsBind op
+HoldsBind (standing.Bind place op) = IsRestOfBind op
 HoldsBind (standing.DropOutput place) = ⊤
 
 -- where a bind stands, its operation is a bind

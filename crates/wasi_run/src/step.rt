@@ -85,7 +85,7 @@ pub enum Step {
         output: Handle,
         bytes: Octets,
     },
-    /// Asks that what was written goes out (`output-stream.flush`).
+    /// Tells a kept error of an output; asks nothing (`output-stream.flush`).
     Flush {
         context: u32,
         output: Handle,

@@ -1,6 +1,5 @@
 use Rattle.std.proofs.Common.{refl}
 use Rattle.wasi_world.proofs.Walks.{asks_end}
-use Rattle.wasi_host.specs.Kinds.{name_of}
 use Rattle.wasi_host.proofs.Hosts.{fault_exit, fault_on}
 use Rattle.wasi_host.proofs.Lookups.{stays_live}
 use Rattle.wasi_host.proofs.SideCounts.{Any, knows_calm, calm_made}

@@ -1,4 +1,3 @@
-use Rattle.std.proofs.Common.{refl}
 use Rattle.wasi_world.proofs.Walks.{asks_at, asks_gives}
 use Rattle.wasi_host.specs.Store.{with_writer}
 use Rattle.wasi_host.specs.Jobs.{turned}

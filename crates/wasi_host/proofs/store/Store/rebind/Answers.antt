@@ -1,4 +1,4 @@
-use Rattle.std.proofs.Common.{List, Err, None, ◌≡◌, ap, sym, ◌∙◌, refl}
+use Rattle.std.proofs.Common.{None, ◌≡◌, ap, sym, ◌∙◌, refl}
 use Rattle.wasi_world.specs.declared.outcome.Answer.{Answer}
 use Rattle.wasi_world.specs.Asks.{Give}
 use Rattle.wasi_world.proofs.Walks.{asks_end, asks_given}

@@ -1,4 +1,4 @@
-use Rattle.std.proofs.Common.{refl, ap}
+use Rattle.std.proofs.Common.{refl}
 use Rattle.wasi_world.proofs.Walks.{asks_gives, asks_given}
 use Rattle.wasi_host.specs.Store.{Records}
 use Rattle.wasi_host.specs.Shutdowns.{shut_put}

@@ -1,6 +1,5 @@
 use Rattle.std.proofs.Common.{refl}
 use Rattle.wasi_world.proofs.Walks.{asks_exit, asks_end}
-use Rattle.wasi_host.specs.Store.{Records}
 use Rattle.wasi_host.proofs.SideCounts.{knows_none}
 use Rattle.wasi_host.proofs.store.Store.turn.Goals as goal
 
