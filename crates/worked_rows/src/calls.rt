@@ -7,11 +7,11 @@ use std::alloc::Global;
 use std::test::Fail;
 use wasi_addr::{ErrorCode, IpSocketAddress, Ipv4SocketAddress, ShutdownType, SocketAddressFamily};
 use wasi_host::{
-    CallError, Kind, Machine, Outcome, WasiSocketsCtxView, WasiSocketsView, Watched, handles,
+    CallError, Kind, Outcome, Store, WasiSocketsCtxView, WasiSocketsView, Watched, handles,
     of_fault,
 };
 use wasi_p2::tcp;
-use wasi_streams::StreamError;
+use wasi_streams::{StreamError, Table};
 use wasi_world::{
     Answer, HandleKind, Ids, Octets, OpId, ScriptedWorld, Sock, WasiSocketsCtx, World,
 };
@@ -29,7 +29,8 @@ const DONE: Answer<()> = Answer::Ready(());
 #[derive(Drop)]
 struct Guest {
     ctx: WasiSocketsCtx,
-    machine: Machine,
+    table: Table<Kind>,
+    store: Store,
 }
 
 impl Guest {
@@ -41,7 +42,8 @@ impl Guest {
                 udp: true,
                 tcp: true,
             },
-            machine: Machine::new(alloc),
+            table: Table::new(alloc),
+            store: Store::new(alloc),
         }
     }
 }
@@ -49,15 +51,15 @@ impl Guest {
 impl WasiSocketsView for Guest {
     ghost ctx = { λ guest. guest.ctx };
 
-    ghost table = { λ guest. guest.machine.table };
+    ghost table = { λ guest. guest.table };
 
-    ghost store = { λ guest. guest.machine.store };
+    ghost store = { λ guest. guest.store };
 
     fn sockets(&mut self) -> WasiSocketsCtxView<'_> {
         WasiSocketsCtxView {
             ctx: &mut self.ctx,
-            table: &mut self.machine.table,
-            store: &mut self.machine.store,
+            table: &mut self.table,
+            store: &mut self.store,
         }
     }
 }
@@ -242,7 +244,8 @@ fn open_sides_are_closed_after_the_end(rt: HostRuntime) -> Result<(), Fail> {
     )?;
     wasi_host::drop_handle(&mut view, &mut world, &mut line(4), 3)?;
     world.end();
-    guest.machine.store.close_all(&mut world);
+    let Guest { store, .. } = guest;
+    store.close_all(&mut world);
     assert_eq!(rt; world.closed_after_end(), 1);
     Ok(())
 }

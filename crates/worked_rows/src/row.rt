@@ -154,8 +154,10 @@ impl Row {
         let script = joined(alloc, self.begins.script, self.script)?;
         let script = script.as_str().as_bytes();
         let scenario = self.scenario.as_bytes();
-        let mut given = Given::script(&["run", "4096"], script);
-        given.scenario = scenario;
+        let given = Given {
+            scenario,
+            ..Given::script(&["run", "4096"], script)
+        };
         let done = given.run(alloc)?;
 
         let (mut world, mut contexts) = ScriptedWorld::parse(alloc, scenario)?;
