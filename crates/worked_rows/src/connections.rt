@@ -1,18 +1,7 @@
 //! Connections, from the script to the log. The rows are worked by hand from the rules in docs/MODEL.md.
 
-use crate::given::Given;
-use crate::logs::log_text;
+use crate::row::{CONNECTED, CONNECTING, Row, SOCKET};
 use std::test::Fail;
-
-/// A script, what the network answers, and what comes of it: the replies and the log.
-#[derive(Clone, Copy)]
-struct Row {
-    shows: &'static str,
-    scenario: &'static str,
-    script: &'static str,
-    replies: &'static str,
-    log: &'static str,
-}
 
 const ROWS: [Row; 12] = [
     Row {
@@ -20,81 +9,56 @@ const ROWS: [Row; 12] = [
         scenario: "\
 check yes\n\
 check no\n",
+        begins: CONNECTING,
         script: "\
-0 network\n\
-0 tcp-create 4\n\
-0 tcp-start-connect 2 1 4 127 0 0 1 80\n\
 0 tcp-finish-connect 2\n\
 0 tcp-local-address 2\n\
 0 tcp-start-bind 2 1 4 127 0 0 1 80\n",
         replies: "\
-ok 1\n\
-ok 2\n\
-ok\n\
 err access-denied\n\
 err access-denied\n\
 err invalid-state\n",
         log: "\
-1 0 made 1 network - - = done\n\
-2 0 tcp-create 0 4 = done\n\
-2 0 made 2 tcp2 - 2 0 = done\n\
-3 0 local 2 0 = addr 4 0 0 0 0 0\n\
 3 0 check 0 4 0 0 0 0 0 tcp-bind = yes\n\
 3 0 check 0 4 127 0 0 1 80 tcp-connect = no\n\
 3 0 close 2 0 = done\n",
+        closings: 0,
     },
     Row {
         shows: "a refused connect keeps its code",
         scenario: "\
 connect code connection-refused\n",
+        begins: CONNECTING,
         script: "\
-0 network\n\
-0 tcp-create 4\n\
-0 tcp-start-connect 2 1 4 127 0 0 1 80\n\
 0 tcp-finish-connect 2\n\
 0 tcp-remote-address 2\n",
         replies: "\
-ok 1\n\
-ok 2\n\
-ok\n\
 err connection-refused\n\
 err connection-refused\n",
         log: "\
-1 0 made 1 network - - = done\n\
-2 0 tcp-create 0 4 = done\n\
-2 0 made 2 tcp2 - 2 0 = done\n\
-3 0 local 2 0 = addr 4 0 0 0 0 0\n\
 3 0 check 0 4 0 0 0 0 0 tcp-bind = yes\n\
 3 0 check 0 4 127 0 0 1 80 tcp-connect = yes\n\
 3 0 connect 2 0 4 127 0 0 1 80 = code connection-refused\n\
 3 0 close 2 0 = done\n",
+        closings: 0,
     },
     Row {
         shows: "a pending connect is polled again",
         scenario: "\
 connect pending\n\
 connect pending\n",
+        begins: CONNECTING,
         script: "\
-0 network\n\
-0 tcp-create 4\n\
-0 tcp-start-connect 2 1 4 127 0 0 1 80\n\
 0 tcp-finish-connect 2\n\
 0 tcp-finish-connect 2\n\
 0 tcp-finish-connect 2\n\
 0 tcp-finish-connect 2\n",
         replies: "\
-ok 1\n\
-ok 2\n\
-ok\n\
 err would-block\n\
 err would-block\n\
 ok 3 4\n\
 err not-in-progress\n",
         log: "\
-1 0 made 1 network - - = done\n\
-2 0 tcp-create 0 4 = done\n\
-2 0 made 2 tcp2 - 2 0 = done\n\
-3 0 local 2 0 = addr 4 0 0 0 0 0\n\
 3 0 check 0 4 0 0 0 0 0 tcp-bind = yes\n\
 3 0 check 0 4 127 0 0 1 80 tcp-connect = yes\n\
 3 0 connect 2 0 4 127 0 0 1 80 = pending\n\
@@ -102,13 +66,13 @@ err not-in-progress\n",
 3 0 connect 2 0 4 127 0 0 1 80 = done\n\
 6 0 made 3 input 2 2 0 = done\n\
 6 0 made 4 output 2 2 0 = done\n",
+        closings: 1,
     },
     Row {
         shows: "a bound socket tells its addresses",
         scenario: "",
+        begins: SOCKET,
         script: "\
-0 network\n\
-0 tcp-create 4\n\
 0 tcp-start-bind 2 1 4 127 0 0 1 80\n\
 0 tcp-start-connect 2 1 4 127 0 0 1 81\n\
 0 tcp-finish-bind 2\n\
@@ -121,8 +85,6 @@ err not-in-progress\n",
 0 tcp-address-family 2\n\
 0 tcp-start-connect 2 1 4 127 0 0 1 81\n",
         replies: "\
-ok 1\n\
-ok 2\n\
 ok\n\
 err concurrency-conflict\n\
 ok\n\
@@ -135,9 +97,6 @@ ok false\n\
 ok 4\n\
 err invalid-state\n",
         log: "\
-1 0 made 1 network - - = done\n\
-2 0 tcp-create 0 4 = done\n\
-2 0 made 2 tcp2 - 2 0 = done\n\
 3 0 local 2 0 = addr 4 0 0 0 0 0\n\
 3 0 check 0 4 127 0 0 1 80 tcp-bind = yes\n\
 3 0 bind 2 0 4 127 0 0 1 80 = done\n\
@@ -148,17 +107,15 @@ err invalid-state\n",
 7 0 made 4 output 2 2 0 = done\n\
 8 0 peer 2 0 = addr 4 127 0 0 1 81\n\
 10 0 local 2 0 = addr 4 127 0 0 1 80\n",
+        closings: 1,
     },
     Row {
         shows: "bytes are read and written",
         scenario: "\
 read bytes 0102\n\
 read bytes -\n",
+        begins: CONNECTED,
         script: "\
-0 network\n\
-0 tcp-create 4\n\
-0 tcp-start-connect 2 1 4 127 0 0 1 80\n\
-0 tcp-finish-connect 2\n\
 0 read 3 10\n\
 0 read 3 10\n\
 0 read 3 10\n\
@@ -167,10 +124,6 @@ read bytes -\n",
 0 check-write 4\n\
 0 flush 4\n",
         replies: "\
-ok 1\n\
-ok 2\n\
-ok\n\
-ok 3 4\n\
 ok 0102\n\
 closed\n\
 closed\n\
@@ -179,15 +132,6 @@ ok\n\
 ok 65536\n\
 ok\n",
         log: "\
-1 0 made 1 network - - = done\n\
-2 0 tcp-create 0 4 = done\n\
-2 0 made 2 tcp2 - 2 0 = done\n\
-3 0 local 2 0 = addr 4 0 0 0 0 0\n\
-3 0 check 0 4 0 0 0 0 0 tcp-bind = yes\n\
-3 0 check 0 4 127 0 0 1 80 tcp-connect = yes\n\
-3 0 connect 2 0 4 127 0 0 1 80 = done\n\
-4 0 made 3 input 2 2 0 = done\n\
-4 0 made 4 output 2 2 0 = done\n\
 5 0 read 2 0 10 = bytes 0102\n\
 6 0 read 2 0 10 = bytes -\n\
 6 0 shutdown 2 0 receive = done\n\
@@ -195,116 +139,71 @@ ok\n",
 9 0 write 2 0 1 = took 0a\n\
 9 0 write-ready 2 0 = done\n\
 10 0 write-ready 2 0 = done\n",
+        closings: 1,
     },
     Row {
         shows: "a pending write takes the permit",
         scenario: "\
 write pending\n",
+        begins: CONNECTED,
         script: "\
-0 network\n\
-0 tcp-create 4\n\
-0 tcp-start-connect 2 1 4 127 0 0 1 80\n\
-0 tcp-finish-connect 2\n\
 0 write 4 -\n\
 0 check-write 4\n\
 0 write 4 01\n\
 0 write 4 -\n\
 0 network\n",
         replies: "\
-ok 1\n\
-ok 2\n\
-ok\n\
-ok 3 4\n\
 ok\n\
 ok 65536\n\
 ok\n\
 trap not-permitted\n",
         log: "\
-1 0 made 1 network - - = done\n\
-2 0 tcp-create 0 4 = done\n\
-2 0 made 2 tcp2 - 2 0 = done\n\
-3 0 local 2 0 = addr 4 0 0 0 0 0\n\
-3 0 check 0 4 0 0 0 0 0 tcp-bind = yes\n\
-3 0 check 0 4 127 0 0 1 80 tcp-connect = yes\n\
-3 0 connect 2 0 4 127 0 0 1 80 = done\n\
-4 0 made 3 input 2 2 0 = done\n\
-4 0 made 4 output 2 2 0 = done\n\
 6 0 write-ready 2 0 = done\n\
 7 0 write 2 0 1 = pending\n",
+        closings: 1,
     },
     Row {
         shows: "a failed read is told once",
         scenario: "\
 read pending\n\
 read code connection-reset\n",
+        begins: CONNECTED,
         script: "\
-0 network\n\
-0 tcp-create 4\n\
-0 tcp-start-connect 2 1 4 127 0 0 1 80\n\
-0 tcp-finish-connect 2\n\
 0 read 3 4\n\
 0 read 3 0\n\
 0 read 3 4\n\
 0 read 3 4\n",
         replies: "\
-ok 1\n\
-ok 2\n\
-ok\n\
-ok 3 4\n\
 ok -\n\
 ok -\n\
 failed connection-reset 5\n\
 closed\n",
         log: "\
-1 0 made 1 network - - = done\n\
-2 0 tcp-create 0 4 = done\n\
-2 0 made 2 tcp2 - 2 0 = done\n\
-3 0 local 2 0 = addr 4 0 0 0 0 0\n\
-3 0 check 0 4 0 0 0 0 0 tcp-bind = yes\n\
-3 0 check 0 4 127 0 0 1 80 tcp-connect = yes\n\
-3 0 connect 2 0 4 127 0 0 1 80 = done\n\
-4 0 made 3 input 2 2 0 = done\n\
-4 0 made 4 output 2 2 0 = done\n\
 5 0 read 2 0 4 = pending\n\
 7 0 read 2 0 4 = code connection-reset\n\
 7 0 shutdown 2 0 receive = done\n\
 7 0 made 5 errorvalue 3 2 0 = done\n",
+        closings: 1,
     },
     Row {
         shows: "a failed write is told each time",
         scenario: "\
 write took 1\n\
 write code connection-reset\n",
+        begins: CONNECTED,
         script: "\
-0 network\n\
-0 tcp-create 4\n\
-0 tcp-start-connect 2 1 4 127 0 0 1 80\n\
-0 tcp-finish-connect 2\n\
 0 check-write 4\n\
 0 write 4 010203\n\
 0 check-write 4\n\
 0 write 4 01\n\
 0 flush 4\n",
         replies: "\
-ok 1\n\
-ok 2\n\
-ok\n\
-ok 3 4\n\
 ok 65536\n\
 failed connection-reset 5\n\
 failed connection-reset 6\n\
 failed connection-reset 7\n\
 failed connection-reset 8\n",
         log: "\
-1 0 made 1 network - - = done\n\
-2 0 tcp-create 0 4 = done\n\
-2 0 made 2 tcp2 - 2 0 = done\n\
-3 0 local 2 0 = addr 4 0 0 0 0 0\n\
-3 0 check 0 4 0 0 0 0 0 tcp-bind = yes\n\
-3 0 check 0 4 127 0 0 1 80 tcp-connect = yes\n\
-3 0 connect 2 0 4 127 0 0 1 80 = done\n\
-4 0 made 3 input 2 2 0 = done\n\
-4 0 made 4 output 2 2 0 = done\n\
 5 0 write-ready 2 0 = done\n\
 6 0 write 2 0 3 = took 01\n\
 6 0 write 2 0 2 = code connection-reset\n\
@@ -313,40 +212,26 @@ failed connection-reset 8\n",
 7 0 made 6 errorvalue 4 2 0 = done\n\
 8 0 made 7 errorvalue 4 2 0 = done\n\
 9 0 made 8 errorvalue 4 2 0 = done\n",
+        closings: 1,
     },
     Row {
         shows: "a broken connection is the end",
         scenario: "\
 write code connection-broken\n",
+        begins: CONNECTED,
         script: "\
-0 network\n\
-0 tcp-create 4\n\
-0 tcp-start-connect 2 1 4 127 0 0 1 80\n\
-0 tcp-finish-connect 2\n\
 0 check-write 4\n\
 0 write 4 01\n\
 0 flush 4\n",
         replies: "\
-ok 1\n\
-ok 2\n\
-ok\n\
-ok 3 4\n\
 ok 65536\n\
 closed\n\
 closed\n",
         log: "\
-1 0 made 1 network - - = done\n\
-2 0 tcp-create 0 4 = done\n\
-2 0 made 2 tcp2 - 2 0 = done\n\
-3 0 local 2 0 = addr 4 0 0 0 0 0\n\
-3 0 check 0 4 0 0 0 0 0 tcp-bind = yes\n\
-3 0 check 0 4 127 0 0 1 80 tcp-connect = yes\n\
-3 0 connect 2 0 4 127 0 0 1 80 = done\n\
-4 0 made 3 input 2 2 0 = done\n\
-4 0 made 4 output 2 2 0 = done\n\
 5 0 write-ready 2 0 = done\n\
 6 0 write 2 0 1 = code connection-broken\n\
 6 0 shutdown 2 0 send = done\n",
+        closings: 1,
     },
     Row {
         shows: "a write that waits permits nothing",
@@ -354,105 +239,65 @@ closed\n",
 write took 1\n\
 write pending\n\
 write-ready pending\n",
+        begins: CONNECTED,
         script: "\
-0 network\n\
-0 tcp-create 4\n\
-0 tcp-start-connect 2 1 4 127 0 0 1 80\n\
-0 tcp-finish-connect 2\n\
 0 check-write 4\n\
 0 check-write 4\n\
 0 write 4 0102\n\
 0 check-write 4\n\
 0 write 4 01\n",
         replies: "\
-ok 1\n\
-ok 2\n\
-ok\n\
-ok 3 4\n\
 ok 0\n\
 ok 65536\n\
 ok\n\
 ok 0\n\
 trap not-permitted\n",
         log: "\
-1 0 made 1 network - - = done\n\
-2 0 tcp-create 0 4 = done\n\
-2 0 made 2 tcp2 - 2 0 = done\n\
-3 0 local 2 0 = addr 4 0 0 0 0 0\n\
-3 0 check 0 4 0 0 0 0 0 tcp-bind = yes\n\
-3 0 check 0 4 127 0 0 1 80 tcp-connect = yes\n\
-3 0 connect 2 0 4 127 0 0 1 80 = done\n\
-4 0 made 3 input 2 2 0 = done\n\
-4 0 made 4 output 2 2 0 = done\n\
 5 0 write-ready 2 0 = pending\n\
 6 0 write-ready 2 0 = done\n\
 7 0 write 2 0 2 = took 01\n\
 7 0 write 2 0 1 = pending\n",
+        closings: 1,
     },
     Row {
         shows: "an output is no input",
         scenario: "",
+        begins: CONNECTED,
         script: "\
-0 network\n\
-0 tcp-create 4\n\
-0 tcp-start-connect 2 1 4 127 0 0 1 80\n\
-0 tcp-finish-connect 2\n\
 0 read 4 1\n",
         replies: "\
-ok 1\n\
-ok 2\n\
-ok\n\
-ok 3 4\n\
 trap no-such-handle\n",
-        log: "\
-1 0 made 1 network - - = done\n\
-2 0 tcp-create 0 4 = done\n\
-2 0 made 2 tcp2 - 2 0 = done\n\
-3 0 local 2 0 = addr 4 0 0 0 0 0\n\
-3 0 check 0 4 0 0 0 0 0 tcp-bind = yes\n\
-3 0 check 0 4 127 0 0 1 80 tcp-connect = yes\n\
-3 0 connect 2 0 4 127 0 0 1 80 = done\n\
-4 0 made 3 input 2 2 0 = done\n\
-4 0 made 4 output 2 2 0 = done\n",
+        log: "",
+        closings: 1,
     },
     Row {
         shows: "an address that is not remote is refused",
         scenario: "",
+        begins: SOCKET,
         script: "\
-0 network\n\
-0 tcp-create 4\n\
 0 tcp-start-connect 2 1 4 127 0 0 1 0\n\
 0 tcp-start-connect 2 1 4 0 0 0 0 80\n\
 0 tcp-start-connect 2 1 4 224 0 0 1 80\n\
 0 tcp-start-connect 2 1 6 0 0 0 0 0 0 0 1 80 0 0\n",
         replies: "\
-ok 1\n\
-ok 2\n\
 err invalid-argument\n\
 err invalid-argument\n\
 err invalid-argument\n\
 err invalid-argument\n",
         log: "\
-1 0 made 1 network - - = done\n\
-2 0 tcp-create 0 4 = done\n\
-2 0 made 2 tcp2 - 2 0 = done\n\
 3 0 local 2 0 = addr 4 0 0 0 0 0\n\
 4 0 local 2 0 = addr 4 0 0 0 0 0\n\
 5 0 local 2 0 = addr 4 0 0 0 0 0\n\
 6 0 local 2 0 = addr 4 0 0 0 0 0\n",
+        closings: 1,
     },
 ];
 
 #[test]
 fn connections_are_answered_and_logged(rt: HostRuntime) -> Result<(), Fail> {
     for row in ROWS {
-        let mut given = Given::script(&["run", "4096"], row.script.as_bytes());
-        given.scenario = row.scenario.as_bytes();
-        let done = given.run(rt.alloc())?;
-        let log = log_text(rt.alloc(), done.log.as_slice())?;
-        assert_eq!(rt; (done.status, done.line), (0, 0), "{}", row.shows);
-        assert_eq!(rt; done.sink.bytes(), row.replies.as_bytes(), "{}", row.shows);
-        assert_eq!(rt; log.as_str(), row.log, "{}", row.shows);
+        let ran = row.run(rt.alloc())?;
+        assert_eq!(rt; ran, row.wanted(rt.alloc())?, "{}", row.shows);
     }
     Ok(())
 }

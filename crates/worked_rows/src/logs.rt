@@ -40,6 +40,7 @@ fn kind_text(kind: HandleKind) -> &'static str {
         HandleKind::Tcp2 => "tcp2",
         HandleKind::Input => "input",
         HandleKind::Output => "output",
+        HandleKind::Pollable => "pollable",
         HandleKind::ErrorValue => "errorvalue",
         _ => "other",
     }

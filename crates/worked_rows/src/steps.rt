@@ -141,12 +141,50 @@ fn a_shutdown_says_what_is_shut_down(rt: HostRuntime) -> Result<(), Fail> {
 }
 
 #[test]
+fn a_handle_is_watched_tested_and_dropped(rt: HostRuntime) -> Result<(), Fail> {
+    assert!(rt;
+        matches!(
+            parse_step(rt.alloc(), b"1 subscribe 4294967295", 2)?,
+            Some(Step::Subscribe {
+                context: 1,
+                handle: 4294967295
+            })
+        )
+    );
+    assert!(rt;
+        matches!(
+            parse_step(rt.alloc(), b"0 ready 0", 1)?,
+            Some(Step::Ready {
+                context: 0,
+                pollable: 0
+            })
+        )
+    );
+    assert!(rt;
+        matches!(
+            parse_step(rt.alloc(), b"1 drop 10", 2)?,
+            Some(Step::Drop {
+                context: 1,
+                handle: 10
+            })
+        )
+    );
+    Ok(())
+}
+
+#[test]
 fn some_steps_have_no_context(rt: HostRuntime) -> Result<(), Fail> {
     assert!(rt; matches!(parse_step(rt.alloc(), b"turn", 0)?, Some(Step::Turn)));
     assert!(rt;
         matches!(
             parse_step(rt.alloc(), b"poll 4294967295", 0)?,
             Some(Step::Poll { call: 4294967295 })
+        )
+    );
+    assert!(rt;
+        matches!(
+            parse_step(rt.alloc(), b"poll 0", 1)?,
+            Some(Step::Poll { call: 0 })
         )
     );
     Ok(())
@@ -216,15 +254,34 @@ fn other_lines_are_no_steps(rt: HostRuntime) -> Result<(), Fail> {
         "0 write 4 - -",
         "0 flush 4 4",
         "0 subscribe",
+        "0 subscribe 2 3",
+        "0 subscribe 02",
+        "0 ready",
         "0 ready -",
+        "0 ready 5 6",
+        "0 drop",
+        "0 drop x",
+        "0 drop 5 ",
         "0 drop 4294967296",
         "0 tcp-shutdown 2",
+        "0 tcp-shutdown both",
+        "0 tcp-shutdown 2 all",
         "0 tcp-shutdown 2 Both",
         "0 tcp-shutdown 2 receive send",
+        "tcp-shutdown 2 both",
         "subscribe 2",
+        "ready 5",
+        "drop 5",
+        "turn ",
+        " turn",
         "turn 0",
+        "turns",
+        "Turn",
         "0 turn",
         "poll",
+        "poll ",
+        "poll x",
+        "poll -",
         "poll 03",
         "poll 4294967296",
         "poll 3 3",
