@@ -25,6 +25,8 @@ const SIDE: Sock = OpId { step: 2, part: 0 };
 
 const DONE: Answer<()> = Answer::Ready(());
 
+const NOTHING: Option<Answer<Outcome>> = Some(Answer::Ready(Outcome::Nothing));
+
 /// A guest of one context.
 #[derive(Drop)]
 struct Guest {
@@ -100,26 +102,86 @@ fn connect(view: &mut WasiSocketsCtxView<'_>, world: &mut ScriptedWorld) -> Resu
     Ok(streams)
 }
 
+/// The addresses of the socket 2.
+fn addresses(
+    view: &mut WasiSocketsCtxView<'_>,
+    world: &mut ScriptedWorld,
+) -> Result<(IpSocketAddress, IpSocketAddress), Fail>
+    requires { (seen_by world.old).ended ≡ false }
+    ensures { (seen_by world.new).ended ≡ false }
+{
+    let local = tcp::local_address(view, world, &mut line(5), 2)?;
+    let remote = tcp::remote_address(view, world, &mut line(6), 2)?;
+    Ok((local, remote))
+}
+
+/// Whether the socket 2 listens, and its family.
+fn questions(
+    view: &mut WasiSocketsCtxView<'_>,
+    world: &mut ScriptedWorld,
+) -> Result<(bool, SocketAddressFamily), Fail>
+    requires { (seen_by world.old).ended ≡ false }
+    ensures { (seen_by world.new).ended ≡ false }
+{
+    let listens = tcp::is_listening(view, world, &mut line(7), 2)?;
+    let family = tcp::address_family(view, world, &mut line(8), 2)?;
+    Ok((listens, family))
+}
+
 #[test]
 fn a_socket_is_connected_and_asked(rt: HostRuntime) -> Result<(), Fail> {
     let mut world = world(rt.alloc(), "")?;
     let mut guest = Guest::new(rt.alloc());
     let mut view = guest.sockets();
     assert_eq!(rt; connect(&mut view, &mut world)?, (3, 4));
-    let local = tcp::local_address(&mut view, &mut world, &mut line(5), 2)?;
-    let remote = tcp::remote_address(&mut view, &mut world, &mut line(6), 2)?;
-    let listens = tcp::is_listening(&mut view, &mut world, &mut line(7), 2)?;
-    let family = tcp::address_family(&mut view, &mut world, &mut line(8), 2)?;
     // Bound by the connect, to the wildcard's address and a port of the scripted network's.
     let bound = IpSocketAddress::Ipv4(Ipv4SocketAddress {
         port: 50000,
         address: (0, 0, 0, 0),
     });
-    assert_eq!(rt; (local, remote), (bound, ADDRESS));
-    assert_eq!(rt; (listens, family), (false, SocketAddressFamily::Ipv4));
+    assert_eq!(rt; addresses(&mut view, &mut world)?, (bound, ADDRESS));
+    assert_eq!(rt;
+        questions(&mut view, &mut world)?,
+        (false, SocketAddressFamily::Ipv4)
+    );
     tcp::shutdown(&mut view, &mut world, &mut line(9), 2, ShutdownType::Both)?;
     assert_eq!(rt; world.entries().len(), 13);
     Ok(())
+}
+
+/// Makes the socket 2 and begins to bind it in line 3.
+fn begin_bind(
+    view: &mut WasiSocketsCtxView<'_>,
+    world: &mut ScriptedWorld,
+) -> Result<Answer<()>, Fail>
+    requires { (seen_by world.old).ended ≡ false }
+    ensures { (seen_by world.new).ended ≡ false }
+{
+    make_socket(view, world)?;
+    let begun = tcp::start_bind(view, world, &mut line(3), 2, 1, ADDRESS)?;
+    Ok(begun)
+}
+
+/// Polls the bind of line 3.
+fn resume_bind(
+    view: &mut WasiSocketsCtxView<'_>,
+    world: &mut ScriptedWorld,
+    number: u32,
+) -> Result<Option<Answer<Outcome>>, Fail>
+    requires { (seen_by world.old).ended ≡ false }
+    ensures { (seen_by world.new).ended ≡ false }
+{
+    let resumed = wasi_p2::resume(view, world, &mut line(number), 3)?;
+    Ok(resumed)
+}
+
+/// Whether a call stands, and whether it does under 3 and under 4.
+fn standing(view: &WasiSocketsCtxView<'_>) -> (Option<u32>, bool, bool) {
+    (
+        view.store.exclusive(),
+        view.store.stands(3),
+        view.store.stands(4),
+    )
 }
 
 #[test]
@@ -127,19 +189,44 @@ fn a_bind_waits_and_is_resumed(rt: HostRuntime) -> Result<(), Fail> {
     let mut world = world(rt.alloc(), "check pending\n")?;
     let mut guest = Guest::new(rt.alloc());
     let mut view = guest.sockets();
-    make_socket(&mut view, &mut world)?;
-    let begun = tcp::start_bind(&mut view, &mut world, &mut line(3), 2, 1, ADDRESS)?;
-    assert_eq!(rt; begun, Answer::Pending);
-    assert_eq!(rt; view.store.exclusive(), Some(3));
-    assert!(rt; view.store.stands(3));
-    assert!(rt; !view.store.stands(4));
-    let resumed = wasi_p2::resume(&mut view, &mut world, &mut line(4), 3)?;
-    assert_eq!(rt; resumed, Some(Answer::Ready(Outcome::Nothing)));
-    assert_eq!(rt; view.store.exclusive(), None);
-    let resumed = wasi_p2::resume(&mut view, &mut world, &mut line(5), 3)?;
-    assert_eq!(rt; resumed, None);
+    assert_eq!(rt; begin_bind(&mut view, &mut world)?, Answer::Pending);
+    assert_eq!(rt; standing(&view), (Some(3), true, false));
+    assert_eq!(rt; resume_bind(&mut view, &mut world, 4)?, NOTHING);
+    assert_eq!(rt; standing(&view), (None, false, false));
+    assert_eq!(rt; resume_bind(&mut view, &mut world, 5)?, None);
     tcp::finish_bind(&mut view, &mut world, &mut line(6), 2)?;
     Ok(())
+}
+
+/// Asks for a permit and writes two bytes.
+fn write_two(
+    alloc: Global,
+    view: &mut WasiSocketsCtxView<'_>,
+    world: &mut ScriptedWorld,
+    output: u32,
+) -> Result<u64, Fail>
+    requires { (seen_by world.old).ended ≡ false }
+    ensures { (seen_by world.new).ended ≡ false }
+{
+    let permit = wasi_host::check_write(view, world, &mut line(8), output)?;
+    let bytes = Octets::copy_of(alloc, b"hi")?;
+    wasi_host::write(view, world, &mut line(9), output, bytes)?;
+    Ok(permit)
+}
+
+/// Reads, and tells a kept error of the output.
+fn read_and_flush(
+    alloc: Global,
+    view: &mut WasiSocketsCtxView<'_>,
+    world: &mut ScriptedWorld,
+    streams: (u32, u32),
+) -> Result<Octets, Fail>
+    requires { (seen_by world.old).ended ≡ false }
+    ensures { (seen_by world.new).ended ≡ false }
+{
+    let read = wasi_host::read(alloc, view, world, &mut line(10), streams.0, 9)?;
+    wasi_host::flush(view, world, &mut line(11), streams.1)?;
+    Ok(read)
 }
 
 #[test]
@@ -148,16 +235,54 @@ fn streams_are_read_and_written(rt: HostRuntime) -> Result<(), Fail> {
     let mut world = world(alloc, "read bytes 0102\n")?;
     let mut guest = Guest::new(alloc);
     let mut view = guest.sockets();
-    let (input, output) = connect(&mut view, &mut world)?;
-    let read = wasi_host::read(alloc, &mut view, &mut world, &mut line(5), input, 9)?;
+    let streams = connect(&mut view, &mut world)?;
+    assert_eq!(rt; write_two(alloc, &mut view, &mut world, streams.1)?, 65536);
+    let read = read_and_flush(alloc, &mut view, &mut world, streams)?;
     assert_eq!(rt; read.as_slice(), [1, 2].as_slice());
-    let permit = wasi_host::check_write(&mut view, &mut world, &mut line(6), output)?;
-    assert_eq!(rt; permit, 65536);
-    let bytes = Octets::copy_of(alloc, b"hi")?;
-    wasi_host::write(&mut view, &mut world, &mut line(7), output, bytes)?;
-    wasi_host::flush(&mut view, &mut world, &mut line(8), output)?;
     assert_eq!(rt; world.entries().len(), 13);
     Ok(())
+}
+
+/// Watches a handle, looks once, and drops the pollable.
+fn look_once(
+    view: &mut WasiSocketsCtxView<'_>,
+    world: &mut ScriptedWorld,
+    handle: u32,
+) -> Result<(bool, Answer<()>), Fail>
+    requires { (seen_by world.old).ended ≡ false }
+    ensures { (seen_by world.new).ended ≡ false }
+{
+    let made = wasi_host::subscribe(view, world, &mut line(5), handle)?;
+    let ready = wasi_host::ready(view, world, &mut line(6), made)?;
+    let gone = wasi_host::drop_handle(view, world, &mut line(7), made)?;
+    Ok((ready, gone))
+}
+
+/// Drops an output in line 10.
+fn drop_output(
+    view: &mut WasiSocketsCtxView<'_>,
+    world: &mut ScriptedWorld,
+    output: u32,
+) -> Result<Answer<()>, Fail>
+    requires { (seen_by world.old).ended ≡ false }
+    ensures { (seen_by world.new).ended ≡ false }
+{
+    let gone = wasi_host::drop_handle(view, world, &mut line(10), output)?;
+    Ok(gone)
+}
+
+/// Lets writes go on, and polls the drop of line 10.
+fn turn_and_resume(
+    view: &mut WasiSocketsCtxView<'_>,
+    world: &mut ScriptedWorld,
+    number: u32,
+) -> Result<Option<Answer<Outcome>>, Fail>
+    requires { (seen_by world.old).ended ≡ false }
+    ensures { (seen_by world.new).ended ≡ false }
+{
+    wasi_host::turn(view, world)?;
+    let resumed = wasi_host::resume(view, world, &mut line(number), 10)?;
+    Ok(resumed)
 }
 
 #[test]
@@ -167,22 +292,25 @@ fn a_write_goes_on_and_its_output_waits(rt: HostRuntime) -> Result<(), Fail> {
     let mut guest = Guest::new(alloc);
     let mut view = guest.sockets();
     let (_, output) = connect(&mut view, &mut world)?;
-    let made = wasi_host::subscribe(&mut view, &mut world, &mut line(5), output)?;
-    assert!(rt; wasi_host::ready(&mut view, &mut world, &mut line(6), made)?);
-    let gone = wasi_host::drop_handle(&mut view, &mut world, &mut line(7), made)?;
-    assert_eq!(rt; gone, DONE);
-    wasi_host::check_write(&mut view, &mut world, &mut line(8), output)?;
-    let bytes = Octets::copy_of(alloc, b"hi")?;
-    wasi_host::write(&mut view, &mut world, &mut line(9), output, bytes)?;
-    let gone = wasi_host::drop_handle(&mut view, &mut world, &mut line(10), output)?;
-    assert_eq!(rt; gone, Answer::Pending);
+    assert_eq!(rt; look_once(&mut view, &mut world, output)?, (true, DONE));
+    assert_eq!(rt; write_two(alloc, &mut view, &mut world, output)?, 65536);
+    assert_eq!(rt;
+        drop_output(&mut view, &mut world, output)?,
+        Answer::Pending
+    );
     assert_eq!(rt; view.store.exclusive(), Some(10));
-    wasi_host::turn(&mut view, &mut world)?;
-    let resumed = wasi_host::resume(&mut view, &mut world, &mut line(12), 10)?;
-    assert_eq!(rt; resumed, Some(Answer::Ready(Outcome::Nothing)));
-    let resumed = wasi_host::resume(&mut view, &mut world, &mut line(13), 10)?;
-    assert_eq!(rt; resumed, None);
+    assert_eq!(rt; turn_and_resume(&mut view, &mut world, 12)?, NOTHING);
+    assert_eq!(rt; turn_and_resume(&mut view, &mut world, 14)?, None);
     Ok(())
+}
+
+/// What becomes of a failure of the input.
+fn fail(view: &mut WasiSocketsCtxView<'_>, world: &mut ScriptedWorld, input: u32) -> CallError
+    requires { (seen_by world.old).ended ≡ false }
+    ensures { (seen_by world.new).ended ≡ false }
+{
+    let error = StreamError::LastOperationFailed(ErrorCode::Timeout);
+    wasi_host::convert_stream_error(view, world, &mut line(5), input, 0, error)
 }
 
 #[test]
@@ -191,18 +319,41 @@ fn a_failure_gets_a_handle(rt: HostRuntime) -> Result<(), Fail> {
     let mut guest = Guest::new(rt.alloc());
     let mut view = guest.sockets();
     let (input, _) = connect(&mut view, &mut world)?;
-    let error = StreamError::LastOperationFailed(ErrorCode::Timeout);
-    let error = wasi_host::convert_stream_error(
-        &mut view,
-        &mut world,
-        &mut line(5),
-        input,
-        0,
-        error,
-    );
+    let error = fail(&mut view, &mut world, input);
     assert!(rt; matches!(error, CallError::Failed(ErrorCode::Timeout, 5)));
     assert_eq!(rt; handles::kind(view.table, 5), Some(Kind::ErrorValue));
     Ok(())
+}
+
+/// Connects the socket 2, and makes the pollable 5 of its input.
+fn connect_and_watch(
+    view: &mut WasiSocketsCtxView<'_>,
+    world: &mut ScriptedWorld,
+) -> Result<u32, Fail>
+    requires { (seen_by world.old).ended ≡ false }
+    ensures { (seen_by world.new).ended ≡ false }
+{
+    let (input, _) = connect(view, world)?;
+    let made = wasi_host::subscribe(view, world, &mut line(5), input)?;
+    Ok(made)
+}
+
+/// The records that the handles 2, 3 and 4 name.
+fn named(table: &Table<Kind>) -> [Option<usize>; 3] {
+    [
+        handles::socket(table, 2),
+        handles::input(table, 3),
+        handles::output(table, 4),
+    ]
+}
+
+/// What pollables of the handles 2 and 4 would watch, and what the pollable 5 does.
+fn watched(table: &Table<Kind>) -> [Option<Watched>; 3] {
+    [
+        handles::watched(table, 2),
+        handles::watched(table, 4),
+        handles::watch(table, 5),
+    ]
 }
 
 #[test]
@@ -210,23 +361,43 @@ fn a_handle_has_its_kind(rt: HostRuntime) -> Result<(), Fail> {
     let mut world = world(rt.alloc(), "")?;
     let mut guest = Guest::new(rt.alloc());
     let mut view = guest.sockets();
-    connect(&mut view, &mut world)?;
-    let made = wasi_host::subscribe(&mut view, &mut world, &mut line(5), 3)?;
+    assert_eq!(rt; connect_and_watch(&mut view, &mut world)?, 5);
     assert!(rt; handles::is_network(view.table, 1));
-    assert_eq!(rt; handles::socket(view.table, 2), Some(0));
-    assert_eq!(rt; handles::input(view.table, 3), Some(0));
-    assert_eq!(rt; handles::output(view.table, 4), Some(0));
-    assert_eq!(rt; handles::watched(view.table, 2), Some(Watched::Socket(0)));
-    assert_eq!(rt; handles::watched(view.table, 4), Some(Watched::Output(0)));
-    assert_eq!(rt; handles::watch(view.table, made), Some(Watched::Input(0)));
+    assert_eq!(rt; named(view.table), [Some(0), Some(0), Some(0)]);
+    assert_eq!(rt;
+        watched(view.table),
+        [
+            Some(Watched::Socket(0)),
+            Some(Watched::Output(0)),
+            Some(Watched::Input(0))
+        ]
+    );
     assert_eq!(rt; view.store.side(0), Some(SIDE));
-    let removed = of_fault(handles::remove(view.table, made))?;
-    assert_eq!(rt; removed, Kind::Pollable(Watched::Input(0)));
-    assert_eq!(rt; removed.name(), HandleKind::Pollable);
-    assert_eq!(rt; removed.table_parent(Some(3)), Some(3));
-    let op = OpId { step: 6, part: 0 };
+    Ok(())
+}
+
+#[test]
+fn a_handle_is_made_and_removed(rt: HostRuntime) -> Result<(), Fail> {
+    let mut world = world(rt.alloc(), "")?;
+    let mut guest = Guest::new(rt.alloc());
+    let mut view = guest.sockets();
+    let op = OpId { step: 1, part: 0 };
     let network = handles::make(view.table, &mut world, op, Kind::Network, None, None)?;
-    assert_eq!(rt; network, 6);
+    assert_eq!(rt; network, 1);
+    let removed = of_fault(handles::remove(view.table, network))?;
+    assert_eq!(rt; removed, Kind::Network);
+    assert_eq!(rt; removed.name(), HandleKind::Network);
+    assert_eq!(rt; Kind::Input(0).table_parent(Some(2)), Some(2));
+    Ok(())
+}
+
+/// Makes the socket 3 and drops it.
+fn make_and_drop(view: &mut WasiSocketsCtxView<'_>, world: &mut ScriptedWorld) -> Result<(), Fail>
+    requires { (seen_by world.old).ended ≡ false }
+    ensures { (seen_by world.new).ended ≡ false }
+{
+    let made = tcp::create_tcp_socket(view, world, &mut line(3), SocketAddressFamily::Ipv6)?;
+    wasi_host::drop_handle(view, world, &mut line(4), made)?;
     Ok(())
 }
 
@@ -236,13 +407,7 @@ fn open_sides_are_closed_after_the_end(rt: HostRuntime) -> Result<(), Fail> {
     let mut guest = Guest::new(rt.alloc());
     let mut view = guest.sockets();
     make_socket(&mut view, &mut world)?;
-    tcp::create_tcp_socket(
-        &mut view,
-        &mut world,
-        &mut line(3),
-        SocketAddressFamily::Ipv6,
-    )?;
-    wasi_host::drop_handle(&mut view, &mut world, &mut line(4), 3)?;
+    make_and_drop(&mut view, &mut world)?;
     world.end();
     let Guest { store, .. } = guest;
     store.close_all(&mut world);
