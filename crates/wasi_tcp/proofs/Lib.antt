@@ -1,4 +1,8 @@
 pub mod Connects
+pub mod Listens
+pub mod Rounds
+pub mod Accepts
+pub mod Listeners
 pub mod LocalAddresses
 pub mod RemoteAddresses
 pub mod Readers

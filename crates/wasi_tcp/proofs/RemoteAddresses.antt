@@ -1,13 +1,15 @@
 -- A remote address that was told is kept by every call.
-use Rattle.std.specs.Prelude.{◌≡◌, Bool, true, false, if◌then◌else◌, List, [], ◌∷◌, Option, Some, None, Result, Ok, Err, refl}
+use Rattle.std.specs.Prelude.{◌≡◌, ◌==◌, Bool, true, false, if◌then◌else◌, List, [], ◌∷◌, Option, Some, None, Result, Ok, Err, refl}
 use Rattle.std.proofs.Common.{ap, sym, subst, ◌∙◌}
 use Rattle.wasi_addr.specs.declared.address.IpSocketAddress.{IpSocketAddress}
 use Rattle.wasi_addr.specs.declared.code.ErrorCode.{ErrorCode}
+use Rattle.wasi_addr.specs.declared.code.ErrorCode.TheVariants.{InvalidArgument}
+use Rattle.wasi_addr.specs.Clamp.{clamped_backlog}
 use Rattle.wasi_world.specs.declared.ids.OpId.{OpId}
 use Rattle.wasi_world.specs.declared.call.Call.{Call}
 use Rattle.wasi_world.specs.declared.call.Entry.{Entry}
 use Rattle.wasi_world.specs.Asks.{Asks, Give, bind, Left}
-use Rattle.wasi_world.specs.Typed.{told_addr}
+use Rattle.wasi_world.specs.Typed.{ask_set_option, told_addr}
 use Rattle.wasi_world.proofs.Allowed.{Allows, allows_then, reached}
 use Rattle.wasi_tcp.specs.declared.socket.Connection.{Connection}
 use Rattle.wasi_tcp.specs.declared.socket.TcpState.{TcpState}
@@ -17,7 +19,8 @@ use Rattle.wasi_tcp.specs.Socket.{bound_asks, bind_asks}
 use Rattle.wasi_tcp.specs.Connecting.{in_socket}
 use Rattle.wasi_tcp.specs.Addresses.{after_peer, still_connected, peer_known, local_from, local_side, local_where, remote_in, remote_asks}
 use Rattle.wasi_tcp.specs.Halves.{taken_receive, taken_send}
-use Rattle.wasi_tcp.specs.Calls.{SocketCall, IsBound, BindTo, StartConnect, FinishConnect, LocalAddress, RemoteAddress, TakeReceive, TakeSend, socket_left, after_call, after_calls, KnowsPeer}
+use Rattle.wasi_tcp.specs.Options.{zero_test, value_set, refused_before, refused_after, set_backlog_in}
+use Rattle.wasi_tcp.specs.Calls.{SocketCall, IsBound, BindTo, StartConnect, FinishConnect, LocalAddress, RemoteAddress, TakeReceive, TakeSend, SetOption, SetBacklog, socket_left, after_call, after_calls, KnowsPeer}
 
 -- any ask
 abbrev Free : List Entry → OpId → Call → Type 0
@@ -77,6 +80,18 @@ call_keeps_here TakeSend socket c a before = by_taken c.send_taken
     by_taken : (b : Bool) → KnowsPeer a (in_socket (connected socket c a) (still_connected (taken_send (record c { peer = Some a }) b))).1
     by_taken true = knows socket c a
     by_taken false = record { connection = record c { peer = Some a; send_taken = true }; connected = refl; peer = refl }
+call_keeps_here (SetOption op option value) socket c a before =
+    left_keeps a before _ (by_refused (refused_before (zero_test option) value) (refused_after (zero_test option) value))
+  where
+    by_refused : (b d : Bool) → Allows Free (Keeps a) before (if b then Give (Err InvalidArgument, connected socket c a) else bind (if d then Give (Err InvalidArgument) else ask_set_option op c.side option (value_set option value)) (λ answer. Give (answer, connected socket c a)))
+    by_refused true d = knows socket c a
+    by_refused false true = knows socket c a
+    by_refused false false = (tt, λ told fits. knows socket c a)
+call_keeps_here (SetBacklog op value) socket c a before = left_keeps a before _ (by_zero (value == 0))
+  where
+    by_zero : (b : Bool) → Allows Free (Keeps a) before (if b then Give (Err InvalidArgument, connected socket c a) else set_backlog_in op (connected socket c a) (clamped_backlog value) (connected socket c a).state)
+    by_zero true = knows socket c a
+    by_zero false = knows socket c a
 
 call_keeps : (call : SocketCall) (a : IpSocketAddress) (socket : Socket) (before : List Entry) → KnowsPeer a socket → Allows Free (Knows a) before (after_call call socket)
 call_keeps call a socket before k = subst (λ (s : Socket). Allows Free (Knows a) before (after_call call s)) (sym (is_connected a socket k)) (call_keeps_here call socket k.connection a before)
@@ -113,6 +128,7 @@ kept_known op socket c None h = (tt, λ told fits. kept_after socket c [] (told_
 kept_in : (op : OpId) (socket : Socket) (s : TcpState) → Allows Free Told [] (bind (remote_in op s) (λ done. Give (in_socket socket done)))
 unfolding bind
 kept_in op socket (state.Default side) = tt
+kept_in op socket (state.Listening side) = tt
 kept_in op socket (state.Connecting connect) = tt
 kept_in op socket (state.Connected c) = kept_known op socket c c.peer refl
 kept_in op socket (state.Closed code) = tt

@@ -1,5 +1,5 @@
 -- The calls on a socket's addresses: what each asks, what it answers and what the socket is then.
-use Rattle.std.specs.Prelude.{ℕ, Bool, if◌then◌else◌, List, Option, Some, None, Result, Ok, Err, codes}
+use Rattle.std.specs.Prelude.{ℕ, Bool, true, false, if◌then◌else◌, List, Option, Some, None, Result, Ok, Err, codes}
 use Rattle.wasi_addr.specs.declared.address.IpSocketAddress.{IpSocketAddress}
 use Rattle.wasi_addr.specs.declared.code.ErrorCode.{ErrorCode}
 use Rattle.wasi_addr.specs.declared.code.ErrorCode.TheVariants.{InvalidState}
@@ -16,13 +16,19 @@ use Rattle.wasi_tcp.specs.Connecting.{in_socket}
 -- the state's name
 abbrev pub state_text : TcpState → List ℕ
 state_text (state.Default side) = codes "Default"
+state_text (state.Listening side) = codes "Listening"
 state_text (state.Connecting op) = codes "Connecting"
 state_text (state.Connected connection) = codes "Connected"
 state_text (state.Closed c) = codes "Closed"
 
+abbrev pub is_listening : TcpState → Bool
+is_listening (state.Listening side) = true
+is_listening _ = false
+
 -- the side that may be asked about: none while it connects
 abbrev pub usable_side : TcpState → Result OpId ErrorCode
 usable_side (state.Default side) = Ok side
+usable_side (state.Listening side) = Ok side
 usable_side (state.Connecting op) = Err InvalidState
 usable_side (state.Connected connection) = Ok connection.side
 usable_side (state.Closed c) = Err c
@@ -61,6 +67,7 @@ still_connected (answer, connection) = (answer, state.Connected connection)
 
 abbrev pub remote_in : OpId → TcpState → Asks (Result IpSocketAddress ErrorCode × TcpState)
 remote_in op (state.Default side) = Give (Err InvalidState, state.Default side)
+remote_in op (state.Listening side) = Give (Err InvalidState, state.Listening side)
 remote_in op (state.Connecting connect) = Give (Err InvalidState, state.Connecting connect)
 remote_in op (state.Connected connection) = bind (peer_asks op connection) (λ p. Give (still_connected p))
 remote_in op (state.Closed c) = Give (Err c, state.Closed c)

@@ -1,7 +1,8 @@
 -- One call after another on one socket, and what they keep.
-use Rattle.std.specs.Prelude.{◌≡◌, List, [], ◌∷◌, Some}
+use Rattle.std.specs.Prelude.{◌≡◌, ℕ, List, [], ◌∷◌, Some}
 use Rattle.wasi_addr.specs.declared.address.IpSocketAddress.{IpSocketAddress}
 use Rattle.wasi_world.specs.declared.ids.OpId.{OpId}
+use Rattle.wasi_world.specs.declared.call.Opt.{Opt}
 use Rattle.wasi_world.specs.Asks.{Asks, Give, bind}
 use Rattle.wasi_tcp.specs.declared.socket.Connection.{Connection}
 use Rattle.wasi_tcp.specs.declared.socket.TcpState.TheVariants.{Connected}
@@ -10,6 +11,7 @@ use Rattle.wasi_tcp.specs.Socket.{bound_asks, bind_asks}
 use Rattle.wasi_tcp.specs.Connecting.{start_connect_asks, finish_connect_asks, in_socket}
 use Rattle.wasi_tcp.specs.Addresses.{local_asks, remote_asks}
 use Rattle.wasi_tcp.specs.Halves.{take_receive, take_send}
+use Rattle.wasi_tcp.specs.Options.{set_option_asks, set_backlog_asks}
 
 -- the calls that may change a socket
 pub data SocketCall : Type 0 where
@@ -21,6 +23,8 @@ pub data SocketCall : Type 0 where
   RemoteAddress : OpId → SocketCall
   TakeReceive : SocketCall
   TakeSend : SocketCall
+  SetOption : OpId → Opt → ℕ → SocketCall
+  SetBacklog : OpId → ℕ → SocketCall
 
 -- what is kept of what a call gives
 abbrev pub socket_left : {T : Type 0} → Asks (T × Socket) → Asks Socket
@@ -36,6 +40,8 @@ after_call (LocalAddress op) socket = socket_left (local_asks op socket)
 after_call (RemoteAddress op) socket = socket_left (remote_asks op socket)
 after_call TakeReceive socket = Give (in_socket socket (take_receive socket.state)).1
 after_call TakeSend socket = Give (in_socket socket (take_send socket.state)).1
+after_call (SetOption op option value) socket = socket_left (set_option_asks op socket option value)
+after_call (SetBacklog op value) socket = socket_left (set_backlog_asks op socket value)
 
 -- the socket after one call and another
 abbrev pub after_calls : List SocketCall → Socket → Asks Socket

@@ -53,6 +53,7 @@ connect_ended who (Refused c given, left) = (Err c, state.Closed c)
 -- polls the connect of a state that is connecting
 abbrev pub finish_in : TcpState → Asks (Result (Answer (Unit {0})) ErrorCode × TcpState)
 finish_in (state.Default side) = Give (Err InvalidState, state.Default side)
+finish_in (state.Listening side) = Give (Err InvalidState, state.Listening side)
 finish_in (state.Connecting op) = bind (poll_asks op) (λ ended. Give (connect_ended op.who ended))
 finish_in (state.Connected connection) = Give (Ok (Ready tt), state.Connected connection)
 finish_in (state.Closed c) = Give (Err c, state.Closed c)

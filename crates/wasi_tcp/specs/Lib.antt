@@ -2,8 +2,13 @@ pub mod Shape
 pub mod Bind
 pub mod Socket
 pub mod Connect
+pub mod Rounds
+pub mod Accept
 pub mod Connecting
+pub mod Listen
 pub mod Closing
+pub mod Listener
+pub mod Listening
 pub mod Addresses
 pub mod Halves
 pub mod Reader
@@ -13,3 +18,4 @@ pub mod Taken
 pub mod Bounds
 pub mod Waiting
 pub mod Calls
+pub mod Options

@@ -3,22 +3,31 @@
 //! Each call's contract says by one tree what it asks of the world, what it answers and what the socket is then.
 #![tactic(auto)]
 
+mod accept;
 mod bind;
 mod connect;
 mod halves;
 mod job;
 pub mod laws;
+mod listen;
+mod listener;
+mod options;
 mod reader;
 mod socket;
 mod streams;
 mod writer;
 
+pub use accept::{AcceptOp, AcceptStage};
 pub use bind::{BindOp, BindStage};
 pub use connect::{ConnectOp, ConnectStage};
 pub use halves::{TcpReceiveStream, TcpSendStream};
 pub use job::{WriteJob, WriteStage};
+pub use listen::{ListenOp, ListenStage};
+pub use listener::{Accepting, TcpListenStream};
+pub use options::{NonInheritedOptions, largest_value};
 pub use reader::ReadState;
 pub use socket::{Connection, TcpSocket, TcpState};
+pub use wasi_world::Opt;
 pub use writer::{WriteError, WriteState};
 
 #[cfg(test)]

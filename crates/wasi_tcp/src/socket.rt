@@ -8,11 +8,13 @@ ghost use Rattle.wasi_tcp.specs.Bind.{IsOf};
 use crate::bind::{Asker, BindOp};
 use crate::connect::ConnectOp;
 use crate::halves::{TcpReceiveStream, TcpSendStream};
+use crate::listen::ListenOp;
+use crate::listener::TcpListenStream;
 use std::alloc::AllocError;
 use std::marker::Model;
 use wasi_addr::{
-    ErrorCode, IpSocketAddress, SocketAddressFamily, is_unspecified_addr, is_valid_address_family,
-    is_valid_remote_address, is_valid_unicast_address, unspecified_addr,
+    ErrorCode, IpSocketAddress, SocketAddressFamily, clamp_backlog, is_unspecified_addr,
+    is_valid_address_family, is_valid_remote_address, is_valid_unicast_address, unspecified_addr,
 };
 use wasi_world::{Answer, OpId, Refusal, Sock, WasiSocketsCtx, World, asks};
 
@@ -94,6 +96,8 @@ impl Connection {
 #[derive(Drop)]
 pub enum TcpState {
     Default(Sock),
+    /// A listen was done.
+    Listening(Sock),
     /// A connect was started; it is polled until it ends.
     Connecting(ConnectOp),
     Connected(Connection),
@@ -117,7 +121,9 @@ impl TcpState {
         ensures open { (W.seen world.new).ended ≡ false }
     {
         match self {
-            TcpState::Default(_) => Err(Refusal::Code(ErrorCode::InvalidState)),
+            TcpState::Default(_) | TcpState::Listening(_) => {
+                Err(Refusal::Code(ErrorCode::InvalidState))
+            }
             TcpState::Connecting(connect) => {
                 let side = connect.side();
                 let polled = connect.poll(world);
@@ -155,7 +161,7 @@ impl TcpState {
         match self {
             TcpState::Connected(connection) => connection.remote_address(world, op),
             TcpState::Closed(code) => Err(Refusal::Code(*code)),
-            TcpState::Default(_) | TcpState::Connecting(_) => {
+            TcpState::Default(_) | TcpState::Listening(_) | TcpState::Connecting(_) => {
                 Err(Refusal::Code(ErrorCode::InvalidState))
             }
         }
@@ -183,9 +189,12 @@ impl Model for TcpSocket {
 impl TcpSocket {
     ghost use Rattle.wasi_tcp.specs.Socket.{side_of, new_asks, bound_asks, bind_asks, after_local, bind_start};
     ghost use Rattle.wasi_tcp.specs.Connecting.{start_connect_asks, connect_start, finish_connect_asks, in_socket, HoldsConnect};
+    ghost use Rattle.wasi_tcp.specs.Listening.{listen_asks, listen_start, listen_told, listen_settled};
     ghost use Rattle.wasi_tcp.specs.Closing.{close_asks};
+    ghost use Rattle.wasi_tcp.specs.Options.{after_backlog, set_backlog_asks};
+    ghost use Rattle.wasi_tcp.specs.Listener.{accepted_socket};
     ghost use Rattle.wasi_tcp.specs.Halves.{take_receive, take_send};
-    ghost use Rattle.wasi_tcp.specs.Addresses.{state_text, local_side, local_asks, local_where, remote_asks};
+    ghost use Rattle.wasi_tcp.specs.Addresses.{state_text, is_listening, usable_side, local_side, local_asks, local_where, remote_asks};
 
     /// Makes a socket in the state Default, where the context may use TCP; else `AccessDenied` without a call.
     /// A code that the create tells is answered.
@@ -217,12 +226,26 @@ impl TcpSocket {
         }
     }
 
+    /// What an accept makes. It is bound.
+    pub(crate) fn accepted(state: TcpState, family: SocketAddressFamily, maker: u32) -> TcpSocket
+        ensures { result ≡ accepted_socket family maker state }
+    {
+        TcpSocket {
+            state,
+            family,
+            backlog: DEFAULT_BACKLOG,
+            bound: true,
+            maker,
+        }
+    }
+
     /// The state's name, as the crate's `Debug` has it.
     pub fn state_name(&self) -> &'static str
         ensures { result.now ≡ state_text self.now.state }
     {
         match self.state {
             TcpState::Default(_) => "Default",
+            TcpState::Listening(_) => "Listening",
             TcpState::Connecting(_) => "Connecting",
             TcpState::Connected(_) => "Connected",
             TcpState::Closed(_) => "Closed",
@@ -234,7 +257,7 @@ impl TcpSocket {
         ensures { result ≡ side_of self.now }
     {
         match &self.state {
-            TcpState::Default(side) => Some(*side),
+            TcpState::Default(side) | TcpState::Listening(side) => Some(*side),
             TcpState::Connecting(connect) => Some(connect.side()),
             TcpState::Connected(connection) => Some(connection.side),
             TcpState::Closed(_) => None,
@@ -395,6 +418,113 @@ impl TcpSocket {
         self.state.poll_finish_connect(world)
     }
 
+    /// Begins to listen (`tcp-socket.start-listen`); `ListenOp::poll` goes on with it. Not in the state Default:
+    /// `InvalidState`. The operation takes the network side with it: from here on the socket is Closed, with the code
+    /// `Other`, until the listen is done. Nothing is checked yet.
+    pub fn listen<W: World>(&mut self, world: &mut W, op: OpId) -> Result<ListenOp, Refusal>
+        requires { (W.seen world.old).ended ≡ false }
+        ensures asked { AsksFor (listen_asks op self.old) (W.seen world.old) (W.seen world.new) (λ begun. (begun, self.new)) (outcome result) }
+        ensures taken { IfOk result (λ begun. (side_of self.old ≡ Some begun.who.side) × (side_of self.new ≡ None)) }
+        ensures refused { OnErr result (side_of self.new ≡ side_of self.old) }
+        ensures open { (W.seen world.new).ended ≡ false }
+    {
+        let bound = self.is_bound(world, op)?;
+        self.begin_listen(op, bound)
+    }
+
+    /// The test of a listen, and what it makes of the socket.
+    fn begin_listen(&mut self, op: OpId, bound: bool) -> Result<ListenOp, Refusal>
+        ensures begun { outcome result ≡ Ok (listen_start op self.old bound self.old.state).0 }
+        ensures socket { self.new ≡ (listen_start op self.old bound self.old.state).1 }
+        ensures taken { IfOk result (λ begun. (side_of self.old ≡ Some begun.who.side) × (side_of self.new ≡ None)) }
+        ensures refused { OnErr result (side_of self.new ≡ side_of self.old) }
+    {
+        let TcpState::Default(side) = self.state else {
+            return Err(Refusal::Code(ErrorCode::InvalidState));
+        };
+        let asker = Asker {
+            op,
+            side,
+            maker: self.maker,
+        };
+        let wildcard = unspecified_addr(self.family);
+        self.state = TcpState::Closed(ErrorCode::Other);
+        Ok(ListenOp::new(asker, wildcard, self.backlog, bound))
+    }
+
+    /// What a poll of its listen makes of it, and of the answer.
+    pub(crate) fn settle_listen(
+        &mut self,
+        side: Sock,
+        maker: u32,
+        polled: Result<Answer<()>, Refusal>,
+    ) -> Result<Answer<TcpListenStream>, Refusal>
+        ensures told { result ≡ listen_told side maker self.old polled }
+        ensures socket { self.new ≡ listen_settled side self.old polled }
+    {
+        match polled {
+            Ok(Answer::Ready(())) => {
+                self.state = TcpState::Listening(side);
+                Ok(Answer::Ready(TcpListenStream::new(side, maker, self.family)))
+            }
+            Ok(Answer::Pending) => Ok(Answer::Pending),
+            Err(refusal) => Err(refusal),
+        }
+    }
+
+    /// How many connections may wait at a listener (`tcp-socket.set-listen-backlog-size`): the value is brought into 1
+    /// to 2,147,483,647. 0: `InvalidArgument`, in any state. In the state Default it is kept for the listen to come, and
+    /// nothing is asked. Listening, its side is asked for it: done, it is kept; a code is answered as `NotSupported`,
+    /// and the old one stays. Closed: its code. Connecting or Connected: `InvalidState`. After want of memory the socket
+    /// is as it was.
+    pub fn set_listen_backlog_size<W: World>(
+        &mut self,
+        world: &mut W,
+        op: OpId,
+        value: u64,
+    ) -> Result<(), Refusal>
+        requires { (W.seen world.old).ended ≡ false }
+        ensures asked { AsksFor (set_backlog_asks op self.old value) (W.seen world.old) (W.seen world.new) (λ answer. (answer, self.new)) (outcome result) }
+        ensures err { OnErr (outcome result) (self.new ≡ self.old) }
+        ensures unasked { OnErr (outcome result) (W.seen world.new ≡ W.seen world.old) }
+        ensures side { side_of self.new ≡ side_of self.old }
+        ensures open { (W.seen world.new).ended ≡ false }
+    {
+        if value == 0 {
+            return Err(Refusal::Code(ErrorCode::InvalidArgument));
+        }
+        let backlog = clamp_backlog(value);
+        match &self.state {
+            TcpState::Default(_) => {
+                self.backlog = backlog;
+                Ok(())
+            }
+            TcpState::Listening(side) => {
+                let told = asks::set_backlog(world, op, *side, backlog)?;
+                self.learn_backlog(backlog, told)
+            }
+            TcpState::Connecting(_) | TcpState::Connected(_) => {
+                Err(Refusal::Code(ErrorCode::InvalidState))
+            }
+            TcpState::Closed(code) => Err(Refusal::Code(*code)),
+        }
+    }
+
+    /// What the network tells of a backlog; one that it takes is kept.
+    fn learn_backlog(&mut self, backlog: u32, told: Result<(), ErrorCode>) -> Result<(), Refusal>
+        ensures answer { outcome result ≡ Ok (after_backlog self.old backlog told).0 }
+        ensures socket { self.new ≡ (after_backlog self.old backlog told).1 }
+        ensures side { side_of self.new ≡ side_of self.old }
+    {
+        match told {
+            Ok(()) => {
+                self.backlog = backlog;
+                Ok(())
+            }
+            Err(_) => Err(Refusal::Code(ErrorCode::NotSupported)),
+        }
+    }
+
     /// The local address. Not bound, or connecting: `InvalidState`. Closed: its code. A code that is told is answered.
     pub fn local_address<W: World>(
         &mut self,
@@ -437,8 +567,15 @@ impl TcpSocket {
         if !bound {
             return Err(ErrorCode::InvalidState);
         }
+        self.usable_side()
+    }
+
+    /// The side that may be asked about its address and its options: none while it connects. Closed: its code.
+    pub(crate) fn usable_side(&self) -> Result<Sock, ErrorCode>
+        ensures { result ≡ usable_side self.now.state }
+    {
         match &self.state {
-            TcpState::Default(side) => Ok(*side),
+            TcpState::Default(side) | TcpState::Listening(side) => Ok(*side),
             TcpState::Connecting(_) => Err(ErrorCode::InvalidState),
             TcpState::Connected(connection) => Ok(connection.side),
             TcpState::Closed(code) => Err(*code),
@@ -470,7 +607,9 @@ impl TcpSocket {
         match &mut self.state {
             TcpState::Connected(connection) => connection.take_receive(),
             TcpState::Closed(code) => Err(*code),
-            TcpState::Default(_) | TcpState::Connecting(_) => Err(ErrorCode::InvalidState),
+            TcpState::Default(_) | TcpState::Listening(_) | TcpState::Connecting(_) => {
+                Err(ErrorCode::InvalidState)
+            }
         }
     }
 
@@ -483,7 +622,9 @@ impl TcpSocket {
         match &mut self.state {
             TcpState::Connected(connection) => connection.take_send(),
             TcpState::Closed(code) => Err(*code),
-            TcpState::Default(_) | TcpState::Connecting(_) => Err(ErrorCode::InvalidState),
+            TcpState::Default(_) | TcpState::Listening(_) | TcpState::Connecting(_) => {
+                Err(ErrorCode::InvalidState)
+            }
         }
     }
 
@@ -506,11 +647,11 @@ impl TcpSocket {
         Ok(())
     }
 
-    /// Whether it listens: not in the states that exist.
+    /// Whether it listens; takes no memory.
     pub fn is_listening(&self) -> bool
-        ensures { result ≡ false }
+        ensures { result ≡ is_listening self.now.state }
     {
-        false
+        matches!(self.state, TcpState::Listening(_))
     }
 }
 

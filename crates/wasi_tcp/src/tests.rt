@@ -175,3 +175,56 @@ fn a_socket_is_closed_once(rt: HostRuntime) -> Result<(), Fail> {
     assert_eq!(rt; world.entries().len(), 2);
     Ok(())
 }
+
+/// A socket in the state Default, and its world.
+fn fresh(alloc: Global) -> Result<(TcpSocket, ScriptedWorld), Fail>
+    ensures { IfOk result (λ made. (seen_by made.1).ended ≡ false) }
+{
+    let mut world = world(alloc, true, None)?;
+    let made = TcpSocket::new(&mut world, line(1), &CONTEXT, SocketAddressFamily::Ipv4);
+    let socket = told(made)??;
+    Ok((socket, world))
+}
+
+#[test]
+fn probes_are_told_as_they_were_set(rt: HostRuntime) -> Result<(), Fail> {
+    let (mut socket, mut world) = fresh(rt.alloc())?;
+    let set = socket.set_keep_alive_enabled(&mut world, line(2), false);
+    told(set)??;
+    let set = socket.set_keep_alive_idle_time(&mut world, line(3), 1);
+    told(set)??;
+    let set = socket.set_keep_alive_interval(&mut world, line(4), 2_000_000_000);
+    told(set)??;
+    let set = socket.set_keep_alive_count(&mut world, line(5), 200);
+    told(set)??;
+    let enabled = socket.keep_alive_enabled(&mut world, line(6));
+    assert_eq!(rt; told(enabled)?, Ok(false));
+    let idle = socket.keep_alive_idle_time(&mut world, line(7));
+    assert_eq!(rt; told(idle)?, Ok(1_000_000_000));
+    let interval = socket.keep_alive_interval(&mut world, line(8));
+    assert_eq!(rt; told(interval)?, Ok(2_000_000_000));
+    let count = socket.keep_alive_count(&mut world, line(9));
+    assert_eq!(rt; told(count)?, Ok(127));
+    Ok(())
+}
+
+#[test]
+fn sizes_are_told_as_they_were_set(rt: HostRuntime) -> Result<(), Fail> {
+    let (mut socket, mut world) = fresh(rt.alloc())?;
+    let set = socket.set_hop_limit(&mut world, line(2), 255);
+    told(set)??;
+    let set = socket.set_receive_buffer_size(&mut world, line(3), 3);
+    told(set)??;
+    let set = socket.set_send_buffer_size(&mut world, line(4), u64::MAX);
+    told(set)??;
+    let set = socket.set_listen_backlog_size(&mut world, line(5), 7);
+    told(set)??;
+    let hops = socket.hop_limit(&mut world, line(6));
+    assert_eq!(rt; told(hops)?, Ok(255));
+    let receive = socket.receive_buffer_size(&mut world, line(7));
+    assert_eq!(rt; told(receive)?, Ok(1));
+    let send = socket.send_buffer_size(&mut world, line(8));
+    assert_eq!(rt; told(send)?, Ok(1_073_741_823));
+    assert_eq!(rt; world.entries().len(), 7);
+    Ok(())
+}

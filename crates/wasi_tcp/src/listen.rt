@@ -1,0 +1,405 @@
+//! A listen that is polled. Where it is refused it closes its side last.
+
+ghost use Rattle.std.specs.Prelude.{◌≡◌, false, OnErr};
+ghost use Rattle.wasi_world.specs.Asks.{AsksFor, Reaches, outcome};
+ghost use Rattle.wasi_world.specs.Operation.{PollsFor, Nothing};
+ghost use Rattle.wasi_tcp.specs.Listen.{listen_operation, listen_first, is_over, held_side, cancel_asks, IsListen};
+ghost use Rattle.wasi_tcp.specs.Rounds.{is_going, stays_going};
+ghost use Rattle.wasi_tcp.specs.Listening.{listen_poll_asks, listen_goes_on};
+
+use crate::bind::Asker;
+use crate::listener::TcpListenStream;
+use crate::socket::TcpSocket;
+use std::alloc::AllocError;
+use std::marker::Model;
+use wasi_addr::{ErrorCode, IpSocketAddress, SocketAddrUse};
+use wasi_world::asks::Verdict;
+use wasi_world::{Answer, Refusal, Sock, World, asks};
+
+/// The ask of a listen that comes next.
+#[derive(Clone, Copy, Debug, PartialEq, Eq)]
+pub enum ListenStage {
+    /// The socket was bound at the start: its local address is asked for.
+    Local,
+    /// The address that was told is checked for the listen.
+    CheckTold(IpSocketAddress),
+    /// The socket wasn't bound at the start: the wildcard is checked for the bind.
+    CheckBind,
+    /// The wildcard is checked for the listen.
+    CheckListen,
+    /// The socket is bound to the wildcard.
+    Bind,
+    /// The socket listens.
+    Listen,
+    /// Refused with this code, and to be closed.
+    Close(ErrorCode),
+    /// It ended, with a listener or with a code.
+    Over,
+}
+
+/// A listen that has begun, as `tcp-socket.start-listen` begins one. A socket that was bound at the start is asked for its
+/// local address, which is then checked; for one that wasn't, the wildcard is checked for the bind and for the listen, and
+/// bound. Then the socket listens, with the backlog of the start.
+#[derive(Drop)]
+pub struct ListenOp {
+    asker: Asker,
+    wildcard: IpSocketAddress,
+    backlog: u32,
+    stage: ListenStage,
+}
+
+impl Model for ListenOp {
+    ghost use Rattle.wasi_world.specs.Operation.{Operation};
+
+    ghost Value = { Operation };
+
+    ghost use Rattle.wasi_tcp.specs.Listen.{listen_operation};
+
+    ghost view = { λ o. listen_operation o.asker o.wildcard o.backlog o.stage };
+}
+
+impl ListenOp {
+    /// A listen that has asked nothing yet, of a socket that was bound or not.
+    pub(crate) fn new(
+        asker: Asker,
+        wildcard: IpSocketAddress,
+        backlog: u32,
+        bound: bool,
+    ) -> ListenOp
+        ensures { result ≡ listen_operation asker wildcard backlog (listen_first bound) }
+    {
+        let stage = if bound {
+            ListenStage::Local
+        } else {
+            ListenStage::CheckBind
+        };
+        ListenOp {
+            asker,
+            wildcard,
+            backlog,
+            stage,
+        }
+    }
+
+    /// The network side that it holds: that of the socket that began it, and none once it is over. Takes no memory.
+    pub fn held(&self) -> Option<Sock>
+        ensures { result ≡ held_side self.now }
+    {
+        if self.is_over() {
+            return None;
+        }
+        Some(self.asker.side)
+    }
+
+    /// The side that it was begun on.
+    fn side(&self) -> Sock
+        ensures { result ≡ self.now.who.side }
+    {
+        self.asker.side
+    }
+
+    /// Goes on with the listen of the socket that began it (`tcp-socket.start-listen`): done, the socket is Listening on
+    /// the side that it had, and the listener is given. A check that is pending is asked again by the next poll. A no is
+    /// `AccessDenied`, and a code is answered; both close the side first, and the socket stays Closed. After want of memory
+    /// it stands as after its last answered ask, and may be polled again. After an answer that is pending, and after want of
+    /// memory, there is an ask left; else it is over. One that is over: `InvalidState`, without an ask.
+    pub fn poll<W: World>(
+        &mut self,
+        world: &mut W,
+        socket: &mut TcpSocket,
+    ) -> Result<Answer<TcpListenStream>, Refusal>
+        requires { (W.seen world.old).ended ≡ false }
+        ensures asked { AsksFor (listen_poll_asks self.old socket.old) (W.seen world.old) (W.seen world.new) (λ answer. (answer, (self.new, socket.new))) (outcome result) }
+        ensures err { OnErr (outcome result) (Reaches (listen_goes_on self.old socket.old) (listen_goes_on self.new socket.new) (W.seen world.old) (W.seen world.new)) }
+        ensures going { is_going self.new ≡ stays_going result }
+        ensures before { IsListen self.old }
+        ensures after { IsListen self.new }
+        ensures open { (W.seen world.new).ended ≡ false }
+    {
+        let side = self.side();
+        let maker = self.maker();
+        if self.is_over() {
+            return Err(Refusal::Code(ErrorCode::InvalidState));
+        }
+        let polled = self.poll_asks(world);
+        socket.settle_listen(side, maker, polled)
+    }
+
+    /// Asks what comes next. A check that is pending is asked again by the next poll. A no is `AccessDenied`, and a code is
+    /// answered; both close the side first. After want of memory it stands as after its last answered ask, and may be
+    /// polled again. One that is over is ready, and asks nothing.
+    pub(crate) fn poll_asks<W: World>(&mut self, world: &mut W) -> Result<Answer<()>, Refusal>
+        requires { (W.seen world.old).ended ≡ false }
+        ensures polled { PollsFor (λ done. Nothing) Nothing self.old self.new (W.seen world.old) (W.seen world.new) result }
+        ensures going { is_going self.new ≡ stays_going result }
+        ensures before { IsListen self.old }
+        ensures after { IsListen self.new }
+        ensures open { (W.seen world.new).ended ≡ false }
+    {
+        let (asker, wildcard, backlog) = (self.asker, self.wildcard, self.backlog);
+        match self.stage {
+            ListenStage::Local => poll_local(world, asker, wildcard, backlog, &mut self.stage),
+            ListenStage::CheckTold(addr) => {
+                poll_told(world, asker, wildcard, backlog, &mut self.stage, addr)
+            }
+            ListenStage::CheckBind => {
+                poll_check_bind(world, asker, wildcard, backlog, &mut self.stage)
+            }
+            ListenStage::CheckListen => {
+                poll_check_listen(world, asker, wildcard, backlog, &mut self.stage)
+            }
+            ListenStage::Bind => poll_bind(world, asker, wildcard, backlog, &mut self.stage),
+            ListenStage::Listen => poll_listen(world, asker, wildcard, backlog, &mut self.stage),
+            ListenStage::Close(code) => {
+                poll_close(world, asker, wildcard, backlog, &mut self.stage, code)
+            }
+            ListenStage::Over => Ok(Answer::Ready(())),
+        }
+    }
+
+    /// Gives up a listen that `tcp-socket.start-listen` began: its side is closed by the operation's own name. One that is
+    /// over asks nothing: a refusal has closed the side already, and else the side is the listener's. The only error is
+    /// want of memory; then nothing was asked, and the side isn't closed.
+    pub fn cancel<W: World>(self, world: &mut W) -> Result<(), AllocError>
+        requires { (W.seen world.old).ended ≡ false }
+        ensures asked { AsksFor (cancel_asks self) (W.seen world.old) (W.seen world.new) (λ done. done) result }
+        ensures unasked { OnErr result (W.seen world.new ≡ W.seen world.old) }
+        ensures open { (W.seen world.new).ended ≡ false }
+    {
+        if self.is_over() {
+            return Ok(());
+        }
+        asks::close(world, self.asker.op, self.asker.side)
+    }
+
+    /// The context that its checks name.
+    fn maker(&self) -> u32
+        ensures maker { result ≡ self.now.who.context }
+        ensures listen { IsListen self.now }
+    {
+        self.asker.maker
+    }
+
+    /// Whether nothing is left to be asked.
+    fn is_over(&self) -> bool
+        ensures { result ≡ is_over self.now }
+    {
+        match self.stage {
+            ListenStage::Over => true,
+            ListenStage::Local
+            | ListenStage::CheckTold(_)
+            | ListenStage::CheckBind
+            | ListenStage::CheckListen
+            | ListenStage::Bind
+            | ListenStage::Listen
+            | ListenStage::Close(_) => false,
+        }
+    }
+}
+
+fn poll_local<W: World>(
+    world: &mut W,
+    asker: Asker,
+    wildcard: IpSocketAddress,
+    backlog: u32,
+    stage: &mut ListenStage,
+) -> Result<Answer<()>, Refusal>
+    requires open { (W.seen world.old).ended ≡ false }
+    requires stage { stage.old ≡ ListenStage.Local }
+    ensures polled { PollsFor (λ done. Nothing) Nothing (listen_operation asker wildcard backlog stage.old) (listen_operation asker wildcard backlog stage.new) (W.seen world.old) (W.seen world.new) result }
+    ensures going { is_going (listen_operation asker wildcard backlog stage.new) ≡ stays_going result }
+    ensures open { (W.seen world.new).ended ≡ false }
+{
+    let told = asks::local(world, asker.op, asker.side)?;
+    match told {
+        Err(code) => {
+            *stage = ListenStage::Close(code);
+            poll_close(world, asker, wildcard, backlog, stage, code)
+        }
+        Ok(addr) => {
+            *stage = ListenStage::CheckTold(addr);
+            poll_told(world, asker, wildcard, backlog, stage, addr)
+        }
+    }
+}
+
+fn poll_told<W: World>(
+    world: &mut W,
+    asker: Asker,
+    wildcard: IpSocketAddress,
+    backlog: u32,
+    stage: &mut ListenStage,
+    addr: IpSocketAddress,
+) -> Result<Answer<()>, Refusal>
+    requires open { (W.seen world.old).ended ≡ false }
+    requires stage { stage.old ≡ ListenStage.CheckTold addr }
+    ensures polled { PollsFor (λ done. Nothing) Nothing (listen_operation asker wildcard backlog stage.old) (listen_operation asker wildcard backlog stage.new) (W.seen world.old) (W.seen world.new) result }
+    ensures going { is_going (listen_operation asker wildcard backlog stage.new) ≡ stays_going result }
+    ensures open { (W.seen world.new).ended ≡ false }
+{
+    let verdict = asks::check(world, asker.op, asker.maker, addr, SocketAddrUse::TcpListen)?;
+    match verdict {
+        Verdict::Pending => return Ok(Answer::Pending),
+        Verdict::No => {
+            *stage = ListenStage::Close(ErrorCode::AccessDenied);
+            return poll_close(
+                world,
+                asker,
+                wildcard,
+                backlog,
+                stage,
+                ErrorCode::AccessDenied,
+            );
+        }
+        Verdict::Yes => {}
+    }
+    *stage = ListenStage::Listen;
+    poll_listen(world, asker, wildcard, backlog, stage)
+}
+
+fn poll_check_bind<W: World>(
+    world: &mut W,
+    asker: Asker,
+    wildcard: IpSocketAddress,
+    backlog: u32,
+    stage: &mut ListenStage,
+) -> Result<Answer<()>, Refusal>
+    requires open { (W.seen world.old).ended ≡ false }
+    requires stage { stage.old ≡ ListenStage.CheckBind }
+    ensures polled { PollsFor (λ done. Nothing) Nothing (listen_operation asker wildcard backlog stage.old) (listen_operation asker wildcard backlog stage.new) (W.seen world.old) (W.seen world.new) result }
+    ensures going { is_going (listen_operation asker wildcard backlog stage.new) ≡ stays_going result }
+    ensures open { (W.seen world.new).ended ≡ false }
+{
+    let verdict = asks::check(
+        world,
+        asker.op,
+        asker.maker,
+        wildcard,
+        SocketAddrUse::TcpBind,
+    )?;
+    match verdict {
+        Verdict::Pending => return Ok(Answer::Pending),
+        Verdict::No => {
+            *stage = ListenStage::Close(ErrorCode::AccessDenied);
+            return poll_close(
+                world,
+                asker,
+                wildcard,
+                backlog,
+                stage,
+                ErrorCode::AccessDenied,
+            );
+        }
+        Verdict::Yes => {}
+    }
+    *stage = ListenStage::CheckListen;
+    poll_check_listen(world, asker, wildcard, backlog, stage)
+}
+
+fn poll_check_listen<W: World>(
+    world: &mut W,
+    asker: Asker,
+    wildcard: IpSocketAddress,
+    backlog: u32,
+    stage: &mut ListenStage,
+) -> Result<Answer<()>, Refusal>
+    requires open { (W.seen world.old).ended ≡ false }
+    requires stage { stage.old ≡ ListenStage.CheckListen }
+    ensures polled { PollsFor (λ done. Nothing) Nothing (listen_operation asker wildcard backlog stage.old) (listen_operation asker wildcard backlog stage.new) (W.seen world.old) (W.seen world.new) result }
+    ensures going { is_going (listen_operation asker wildcard backlog stage.new) ≡ stays_going result }
+    ensures open { (W.seen world.new).ended ≡ false }
+{
+    let verdict = asks::check(
+        world,
+        asker.op,
+        asker.maker,
+        wildcard,
+        SocketAddrUse::TcpListen,
+    )?;
+    match verdict {
+        Verdict::Pending => return Ok(Answer::Pending),
+        Verdict::No => {
+            *stage = ListenStage::Close(ErrorCode::AccessDenied);
+            return poll_close(
+                world,
+                asker,
+                wildcard,
+                backlog,
+                stage,
+                ErrorCode::AccessDenied,
+            );
+        }
+        Verdict::Yes => {}
+    }
+    *stage = ListenStage::Bind;
+    poll_bind(world, asker, wildcard, backlog, stage)
+}
+
+fn poll_bind<W: World>(
+    world: &mut W,
+    asker: Asker,
+    wildcard: IpSocketAddress,
+    backlog: u32,
+    stage: &mut ListenStage,
+) -> Result<Answer<()>, Refusal>
+    requires open { (W.seen world.old).ended ≡ false }
+    requires stage { stage.old ≡ ListenStage.Bind }
+    ensures polled { PollsFor (λ done. Nothing) Nothing (listen_operation asker wildcard backlog stage.old) (listen_operation asker wildcard backlog stage.new) (W.seen world.old) (W.seen world.new) result }
+    ensures going { is_going (listen_operation asker wildcard backlog stage.new) ≡ stays_going result }
+    ensures open { (W.seen world.new).ended ≡ false }
+{
+    let told = asks::bind(world, asker.op, asker.side, wildcard)?;
+    match told {
+        Err(code) => {
+            *stage = ListenStage::Close(code);
+            return poll_close(world, asker, wildcard, backlog, stage, code);
+        }
+        Ok(()) => {}
+    }
+    *stage = ListenStage::Listen;
+    poll_listen(world, asker, wildcard, backlog, stage)
+}
+
+fn poll_listen<W: World>(
+    world: &mut W,
+    asker: Asker,
+    wildcard: IpSocketAddress,
+    backlog: u32,
+    stage: &mut ListenStage,
+) -> Result<Answer<()>, Refusal>
+    requires open { (W.seen world.old).ended ≡ false }
+    requires stage { stage.old ≡ ListenStage.Listen }
+    ensures polled { PollsFor (λ done. Nothing) Nothing (listen_operation asker wildcard backlog stage.old) (listen_operation asker wildcard backlog stage.new) (W.seen world.old) (W.seen world.new) result }
+    ensures going { is_going (listen_operation asker wildcard backlog stage.new) ≡ stays_going result }
+    ensures open { (W.seen world.new).ended ≡ false }
+{
+    let told = asks::listen(world, asker.op, asker.side, backlog)?;
+    match told {
+        Err(code) => {
+            *stage = ListenStage::Close(code);
+            return poll_close(world, asker, wildcard, backlog, stage, code);
+        }
+        Ok(()) => {}
+    }
+    *stage = ListenStage::Over;
+    Ok(Answer::Ready(()))
+}
+
+fn poll_close<W: World>(
+    world: &mut W,
+    asker: Asker,
+    wildcard: IpSocketAddress,
+    backlog: u32,
+    stage: &mut ListenStage,
+    code: ErrorCode,
+) -> Result<Answer<()>, Refusal>
+    requires open { (W.seen world.old).ended ≡ false }
+    requires stage { stage.old ≡ ListenStage.Close code }
+    ensures polled { PollsFor (λ done. Nothing) Nothing (listen_operation asker wildcard backlog stage.old) (listen_operation asker wildcard backlog stage.new) (W.seen world.old) (W.seen world.new) result }
+    ensures going { is_going (listen_operation asker wildcard backlog stage.new) ≡ stays_going result }
+    ensures open { (W.seen world.new).ended ≡ false }
+{
+    asks::close(world, asker.op, asker.side)?;
+    *stage = ListenStage::Over;
+    Err(Refusal::Code(code))
+}
