@@ -30,8 +30,8 @@ use Rattle.wasi_tcp.specs.Connecting.{HoldsConnect, connect_ended, finish_in, in
 use Rattle.wasi_host.specs.declared.socket.Tcp2Socket.{Tcp2Socket}
 use Rattle.wasi_world.proofs.Walks.{asks_end, reaches_in}
 use Rattle.wasi_host.specs.Store.{Records, with_socket, with_inner, opened_send, opened_receive, opened, connect_polled, connect_settled, connect_told, poll_connect_asks}
-use Rattle.wasi_host.specs.Sides.{made_by, closed_by, made_in, closed_in, one_if_some, held_in, ClosesOwn, KnowsSides}
-use Rattle.wasi_host.proofs.SideCounts.{knows_then}
+use Rattle.wasi_host.specs.Sides.{made_by, closed_by, made_in, closed_in, one_if_some, holds, held_in, Balances, KnowsSides}
+use Rattle.wasi_host.proofs.SideCounts.{knows_then, holds-same}
 
 -- == trees that make no side: so many were closed before, and this holds of how many there are at the end
 abbrev pub Counted : {A : Type 0} → (ℕ → A → Type 0) → ℕ → Asks A → Type 0
@@ -135,6 +135,7 @@ count_ended socket op n (Refused c given, items) h = rw h refl
 
 count_finish : (socket : Socket) (s : TcpState) → HoldsConnect s → Counted (λ n done. Balanced (held s) n (in_socket socket done)) 0 (finish_in s)
 count_finish socket (state.Default side) h = refl
+count_finish socket (state.Listening side) h = refl
 count_finish socket (state.Connecting op) h = counted_then Closes (λ n done. Balanced 1 n (in_socket socket done)) 0 (poll_asks op) _ (count_poll op h) (λ n end c. count_ended socket op n end c)
 count_finish socket (state.Connected c) h = refl
 count_finish socket (state.Closed c) h = refl
@@ -144,20 +145,22 @@ count_socket socket h =
     counted_then (λ n done. Balanced (held socket.state) n (in_socket socket done)) (Balanced (held socket.state)) 0 (finish_in socket.state) _ (count_finish socket socket.state h) (λ n done c. c)
 
 -- the poll came to its end
-pub closes_done : (socket : Socket) {answer : Result (Answer (Unit {0})) ErrorCode} {now : Socket} {s t : Seen} → HoldsConnect socket.state → Reaches (finish_connect_asks socket) (Give (answer, now)) s t → ClosesOwn s t socket now
-closes_done socket h r =
-    let w = counted_left (Balanced (held socket.state)) 0 (finish_connect_asks socket) r.entries _ (count_socket socket h) r.left in
+closes_done : (r : Tcp2Socket) {answer : Result (Answer (Unit {0})) ErrorCode} {now : Socket} {s t : Seen} → HoldsConnect r.inner.state → Reaches (finish_connect_asks r.inner) (Give (answer, now)) s t → Balances s t 0 r (with_inner r now)
+closes_done r h e =
+    let w = counted_left (Balanced (held r.inner.state)) 0 (finish_connect_asks r.inner) e.entries _ (count_socket r.inner h) e.left in
     let balance = w.left in
-    record { entries = r.entries; passed = r.passed; made = w.made; closed = omega arith }
+    let made = w.made in
+    record { entries = e.entries; passed = e.passed; balance = omega arith }
 
 -- or memory was wanted
-pub closes_memory : (socket now : Socket) {s t : Seen} → HoldsConnect socket.state → HoldsConnect now.state → side_of now ≡ side_of socket → Reaches (finish_connect_asks socket) (finish_connect_asks now) s t → ClosesOwn s t socket now
-closes_memory socket now h k e r =
-    let same : held now.state ≡ held socket.state = ap one_if_some e in
-    let w = counted_left (Balanced (held socket.state)) 0 (finish_connect_asks socket) r.entries (finish_connect_asks now) (count_socket socket h) r.left in
+closes_memory : (r : Tcp2Socket) (now : Socket) {s t : Seen} → HoldsConnect r.inner.state → HoldsConnect now.state → side_of now ≡ side_of r.inner → Reaches (finish_connect_asks r.inner) (finish_connect_asks now) s t → Balances s t 0 r (with_inner r now)
+closes_memory r now h k e f =
+    let same : held now.state ≡ held r.inner.state = ap one_if_some e in
+    let w = counted_left (Balanced (held r.inner.state)) 0 (finish_connect_asks r.inner) f.entries (finish_connect_asks now) (count_socket r.inner h) f.left in
     let own = subst (λ (b : ℕ). Counted (Balanced b) 0 (finish_connect_asks now)) same (count_socket now k) in
-    let none = counted_once (Balanced (held socket.state)) (λ n m done p q. omega arith) (0 + closed_in r.entries) 0 (finish_connect_asks now) w.left own in
-    record { entries = r.entries; passed = r.passed; made = w.made; closed = omega arith }
+    let none = counted_once (Balanced (held r.inner.state)) (λ n m done p q. omega arith) (0 + closed_in f.entries) 0 (finish_connect_asks now) w.left own in
+    let made = w.made in
+    record { entries = f.entries; passed = f.passed; balance = omega arith }
 
 -- == a record whose connect was polled
 pub poll_asked : (r : Tcp2Socket) (now : Socket) (p : Result (Answer (Unit {0})) Refusal) {s t : Seen} → AsksFor (finish_connect_asks r.inner) s t (λ answer. (answer, now)) (outcome p)
@@ -170,6 +173,7 @@ poll_asked r now (Err (refusal.Memory e)) h = record { ok = tt; err = record { r
 -- taking a half leaves the side
 receive_keeps : (s : TcpState) → side_in (take_receive s).1 ≡ side_in s
 receive_keeps (state.Default side) = refl
+receive_keeps (state.Listening side) = refl
 receive_keeps (state.Connecting op) = refl
 receive_keeps (state.Connected c) = by_taken c c.receive_taken
   where
@@ -180,6 +184,7 @@ receive_keeps (state.Closed c) = refl
 
 send_keeps : (s : TcpState) → side_in (take_send s).1 ≡ side_in s
 send_keeps (state.Default side) = refl
+send_keeps (state.Listening side) = refl
 send_keeps (state.Connecting op) = refl
 send_keeps (state.Connected c) = by_taken c c.send_taken
   where
@@ -205,29 +210,47 @@ settled_side r (Ok (Ready done)) = opened_side r r.inner
 settled_side r (Err (refusal.Code c)) = refl
 settled_side r (Err (refusal.Memory e)) = refl
 
--- another socket that holds the same side
-closes_same : {s t : Seen} {old now : Socket} (other : Socket) → side_of other ≡ side_of now → ClosesOwn s t old now → ClosesOwn s t old other
-closes_same other e c = let k = c.closed in let p = ap one_if_some e in record { entries = c.entries; passed = c.passed; made = c.made; closed = omega arith }
+-- nor does it touch what the record listens by
+opened_send_listening : (r : Tcp2Socket) (receive : TcpReceiveStream) (done : Result TcpSendStream ErrorCode × Socket) → (opened_send r receive done).1.listening ≡ r.listening
+opened_send_listening r receive (Ok send, socket) = refl
+opened_send_listening r receive (Err c, socket) = refl
 
-pub closed_by_poll : (socket now : Socket) (p : Result (Answer (Unit {0})) Refusal) {s t : Seen} → HoldsConnect socket.state → HoldsConnect now.state → AsksFor (finish_connect_asks socket) s t (λ answer. (answer, now)) (outcome p)
-    → OnErr (outcome p) (Reaches (finish_connect_asks socket) (finish_connect_asks now) s t) → OnErr (outcome p) (side_of now ≡ side_of socket) → ClosesOwn s t socket now
-closed_by_poll socket now (Ok a) h k asked e side = closes_done socket h asked.ok
-closed_by_poll socket now (Err (refusal.Code c)) h k asked e side = closes_done socket h asked.ok
-closed_by_poll socket now (Err (refusal.Memory d)) h k asked e side = closes_memory socket now h k side e
+opened_receive_listening : (r : Tcp2Socket) (done : Result TcpReceiveStream ErrorCode × Socket) → (opened_receive r done).1.listening ≡ r.listening
+opened_receive_listening r (Ok receive, socket) = opened_send_listening r receive (in_socket socket (take_send socket.state))
+opened_receive_listening r (Err c, socket) = refl
+
+pub opened_listening : (r : Tcp2Socket) (socket : Socket) → (opened r socket).1.listening ≡ r.listening
+opened_listening r socket = opened_receive_listening r (in_socket socket (take_receive socket.state))
+
+settled_listening : (r : Tcp2Socket) (p : Result (Answer (Unit {0})) Refusal) → (connect_settled r p).listening ≡ r.listening
+settled_listening r (Ok Pending) = refl
+settled_listening r (Ok (Ready done)) = opened_listening r r.inner
+settled_listening r (Err (refusal.Code c)) = refl
+settled_listening r (Err (refusal.Memory e)) = refl
+
+-- another record that holds as many sides
+pub balances_as : {s t : Seen} {n : ℕ} {old now : Tcp2Socket} (other : Tcp2Socket) → holds other ≡ holds now → Balances s t n old now → Balances s t n old other
+balances_as other e c = let b = c.balance in record { entries = c.entries; passed = c.passed; balance = omega arith }
+
+pub closed_by_poll : (r : Tcp2Socket) (now : Socket) (p : Result (Answer (Unit {0})) Refusal) {s t : Seen} → HoldsConnect r.inner.state → HoldsConnect now.state → AsksFor (finish_connect_asks r.inner) s t (λ answer. (answer, now)) (outcome p)
+    → OnErr (outcome p) (Reaches (finish_connect_asks r.inner) (finish_connect_asks now) s t) → OnErr (outcome p) (side_of now ≡ side_of r.inner) → Balances s t 0 r (with_inner r now)
+closed_by_poll r now (Ok a) h k asked e side = closes_done r h asked.ok
+closed_by_poll r now (Err (refusal.Code c)) h k asked e side = closes_done r h asked.ok
+closed_by_poll r now (Err (refusal.Memory d)) h k asked e side = closes_memory r now h k side e
 
 pub poll_closes : (r : Tcp2Socket) (now : Socket) (p : Result (Answer (Unit {0})) Refusal) {s t : Seen} → HoldsConnect r.inner.state → HoldsConnect now.state → AsksFor (finish_connect_asks r.inner) s t (λ answer. (answer, now)) (outcome p)
-    → OnErr (outcome p) (Reaches (finish_connect_asks r.inner) (finish_connect_asks now) s t) → OnErr (outcome p) (side_of now ≡ side_of r.inner) → ClosesOwn s t r.inner (connect_settled (with_inner r now) p).inner
-poll_closes r now p h k asked e side = closes_same (connect_settled (with_inner r now) p).inner (settled_side (with_inner r now) p) (closed_by_poll r.inner now p h k asked e side)
+    → OnErr (outcome p) (Reaches (finish_connect_asks r.inner) (finish_connect_asks now) s t) → OnErr (outcome p) (side_of now ≡ side_of r.inner) → Balances s t 0 r (connect_settled (with_inner r now) p)
+poll_closes r now p h k asked e side =
+    balances_as (connect_settled (with_inner r now) p) (holds-same (with_inner r now) (connect_settled (with_inner r now) p) (settled_side (with_inner r now) p) (settled_listening (with_inner r now) p)) (closed_by_poll r now p h k asked e side)
 
 -- == the records, where one of them was polled
-held_in-swap : (rs : List Tcp2Socket) (i : ℕ) (old now : Tcp2Socket) → slice_get rs i ≡ Some old → held_in (slice_set rs i now) + one_if_some (side_of old.inner) ≡ held_in rs + one_if_some (side_of now.inner)
+pub held_in-swap : (rs : List Tcp2Socket) (i : ℕ) (old now : Tcp2Socket) → slice_get rs i ≡ Some old → held_in (slice_set rs i now) + holds old ≡ held_in rs + holds now
 held_in-swap [] i old now h = absurd (cc)
-held_in-swap (x ∷ rs) zero old now h = let k : x ≡ old = cc in let p = ap (λ (r : Tcp2Socket). one_if_some (side_of r.inner)) k in omega arith
+held_in-swap (x ∷ rs) zero old now h = let k : x ≡ old = cc in let p = ap (λ (r : Tcp2Socket). holds r) k in omega arith
 held_in-swap (x ∷ rs) (suc i) old now h = let p = held_in-swap rs i old now h in omega arith
 
-pub knows_polled : {s t : Seen} (store : Records) (place : ℕ) (old now : Tcp2Socket) → slice_get store.sockets place ≡ Some old → ClosesOwn s t old.inner now.inner → KnowsSides s store → KnowsSides t (with_socket store place now)
+pub knows_polled : {s t : Seen} (store : Records) (place : ℕ) (old now : Tcp2Socket) → slice_get store.sockets place ≡ Some old → Balances s t 0 old now → KnowsSides s store → KnowsSides t (with_socket store place now)
 knows_polled store place old now g c k =
     let p = held_in-swap store.sockets place old now g in
-    let m = c.made in
-    let d = c.closed in
+    let b = c.balance in
     knows_then c.entries store (with_socket store place now) c.passed (omega arith) k

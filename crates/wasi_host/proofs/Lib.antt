@@ -2,8 +2,14 @@ pub mod Hosts
 pub mod Lookups
 pub mod SideCounts
 pub mod ConnectCounts
+pub mod AcceptCounts
+pub mod ListenCounts
+pub mod AcceptSides
+pub mod AcceptedRecords
+pub mod ListenStarts
 pub mod StreamCounts
 pub mod StreamCalls
 pub mod Looks
+pub mod Releases
 pub mod JobLists
 pub mod Closings

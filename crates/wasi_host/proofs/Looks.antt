@@ -1,5 +1,5 @@
 -- Looks, shutdowns and closings of a record: how their answers are told, and what they make of the sides that are held.
-use Rattle.std.proofs.Common.{◌≡◌, ℕ, ◌+◌, Bool, List, Option, Some, None, refl, sym, ap, subst, ◌∙◌, arith}
+use Rattle.std.proofs.Common.{◌≡◌, ℕ, Bool, List, Option, Some, None, refl, ap}
 use Rattle.std.specs.Prelude.{Result, Ok, Err, OnErr}
 use Rattle.std.specs.declared.alloc.AllocError.{AllocError}
 use Rattle.wasi_addr.specs.declared.address.ShutdownType.{ShutdownType}
@@ -11,9 +11,9 @@ use Rattle.wasi_world.specs.declared.outcome.Answer.TheVariants.{Ready, Pending}
 use Rattle.wasi_world.specs.declared.outcome.Refusal.{Refusal}
 use Rattle.wasi_world.specs.declared.outcome.Refusal.TheVariants as refusal
 use Rattle.wasi_world.specs.Seen.{Seen}
-use Rattle.wasi_world.specs.Asks.{Asks, Give, Ask, AskWrite, bind, Reaches, AsksFor, outcome}
+use Rattle.wasi_world.specs.Asks.{Give, bind, AsksFor, outcome}
 use Rattle.wasi_world.specs.Operation.{End, Waits, Done, Refused}
-use Rattle.wasi_world.proofs.Walks.{reaches_all, reaches_in, asks_end}
+use Rattle.wasi_world.proofs.Walks.{reaches_in, asks_end}
 use Rattle.wasi_streams.specs.declared.error.StreamError.{StreamError}
 use Rattle.wasi_streams.specs.declared.error.StreamError.TheVariants as error
 use Rattle.wasi_streams.specs.StreamStop.{StreamStop, stream_outcome}
@@ -21,23 +21,20 @@ use Rattle.wasi_tcp.specs.declared.reader.ReadState.{ReadState}
 use Rattle.wasi_tcp.specs.declared.reader.ReadState.TheVariants as reading
 use Rattle.wasi_tcp.specs.declared.writer.WriteState.{WriteState}
 use Rattle.wasi_tcp.specs.declared.writer.WriteState.TheVariants as writing
-use Rattle.wasi_tcp.specs.Closing.{close_in, close_asks}
 use Rattle.wasi_tcp.specs.Connecting.{finish_connect_asks}
 use Rattle.wasi_tcp.specs.Job.{Job, finish_in, finish_asks}
 use Rattle.wasi_tcp.specs.Reader.{reader_ready_asks, reader_shutdown_asks}
 use Rattle.wasi_tcp.specs.Shape.{Socket}
-use Rattle.wasi_tcp.specs.Socket.{side_of}
 use Rattle.wasi_tcp.specs.Writer.{collected, look_asks, writer_side, writer_shutdown_asks, side_up_asks}
 use Rattle.wasi_host.specs.declared.socket.Streams.{Streams}
 use Rattle.wasi_host.specs.declared.socket.Tcp2Socket.{Tcp2Socket}
-use Rattle.wasi_host.specs.Dropping.{give_streams_up, close_record, release_asks, wait_answer, waits_told, wait_writer}
+use Rattle.wasi_host.specs.Dropping.{give_streams_up, wait_answer, waits_told, wait_writer}
 use Rattle.wasi_host.specs.Host.{Stop}
 use Rattle.wasi_host.specs.Readiness.{is_over, is_done, over_told, read_told, look_told, connect_looked, ready_reader, ready_writer}
 use Rattle.wasi_host.specs.Shutdowns.{shut_receive, shut_send, shut_streams, shut_record}
-use Rattle.wasi_host.specs.Sides.{closed_by, one_if_some, ClosesOwn, KnowsSides}
+use Rattle.wasi_host.specs.Sides.{KnowsSides}
 use Rattle.wasi_host.specs.Store.{Records, with_inner, with_reader, with_writer}
-use Rattle.wasi_host.proofs.SideCounts.{Calm, Any, calm_then, calm_left}
-use Rattle.wasi_host.proofs.ConnectCounts.{Counted, counted_then, counted_left}
+use Rattle.wasi_host.proofs.SideCounts.{Calm, Any, calm_then}
 use Rattle.wasi_host.proofs.StreamCounts.{calm_look_in}
 
 -- == how a look is told
@@ -143,58 +140,6 @@ pub calm_give_up : (op : OpId) (o : Option Streams) → Calm Any (give_streams_u
 calm_give_up op None = tt
 calm_give_up op (Some s) = calm_then Any Any (reader_shutdown_asks op s.reader) _ (calm_reader_shutdown op s.reader) (λ d k. calm_side_up op (writer_side s.writer))
 
--- == what they make of the side
-pub closes_walk : {A : Type 0} {asks rest : Asks A} {s t : Seen} {old now : Socket} → Calm Any asks → Reaches asks rest s t → side_of now ≡ side_of old → ClosesOwn s t old now
-closes_walk {asks = asks} {rest} q h e =
-    let n = calm_left Any asks h.entries rest q h.left in
-    let p = ap one_if_some e in
-    let c = n.closed in
-    record { entries = h.entries; passed = h.passed; made = n.made; closed = omega arith }
-
-pub closes_calm : {A T : Type 0} {asks : Asks A} {s t : Seen} {view : T → A} {old now : Socket} → Calm Any asks → (r : Result T AllocError) → AsksFor asks s t view r → side_of now ≡ side_of old → ClosesOwn s t old now
-closes_calm q (Ok x) h e = closes_walk q h.ok e
-closes_calm q (Err d) h e = closes_walk q h.err.reached e
-
--- no ask, and the socket as it was
-pub closes_none : (socket : Socket) (s : Seen) → ClosesOwn s s socket socket
-closes_none socket s = let done : Unit {0} = tt in closes_walk {asks = Give done} {rest = Give done} tt (reaches_all (Give done) s) refl
-
--- a calm tree is counted as it was
-counted_calm : {A : Type 0} (n : ℕ) (asks : Asks A) → Calm Any asks → Counted (λ m a. m ≡ n) n asks
-counted_calm n (Give a) h = refl
-counted_calm n (Ask op call next) h =
-    let z = h.0.1 in
-    let e : n ≡ n + closed_by call = omega arith in
-    (h.0.0, λ t. subst (λ (m : ℕ). Counted (λ k a. k ≡ n) m (next t)) e (counted_calm n (next t) (h.1 t)))
-counted_calm n (AskWrite op sock bytes next) h = λ t. counted_calm n (next t) (h t)
-
--- a side that was there is closed once
-Balances : Socket → ℕ → Unit {0} × Socket → Type 0
-Balances socket n done = n + one_if_some (side_of done.1) ≡ one_if_some (side_of socket)
-
-count_close : (op : OpId) (socket : Socket) (o : Option OpId) → side_of socket ≡ o → Counted (λ n done. n + one_if_some (side_of done.1) ≡ one_if_some (side_of socket)) 0 (close_in op socket o)
-unfolding bind
-count_close op socket None e = omega arith
-count_close op socket (Some side) e = ((λ t. refl), λ t. rw e refl)
-
-count_record : (op : OpId) (r : Tcp2Socket) → Counted (λ n (done : Unit {0} × Tcp2Socket). n + one_if_some (side_of done.1.inner) ≡ one_if_some (side_of r.inner)) 0 (close_record op r)
-count_record op r =
-    counted_then (λ n done. n + one_if_some (side_of done.1) ≡ one_if_some (side_of r.inner)) (λ n done. n + one_if_some (side_of done.1.inner) ≡ one_if_some (side_of r.inner)) 0 (close_asks op r.inner) _ (count_close op r.inner (side_of r.inner) refl) (λ n done k. k)
-
-count_release : (op : OpId) (r : Tcp2Socket) → Counted (λ n (done : Unit {0} × Tcp2Socket). n + one_if_some (side_of done.1.inner) ≡ one_if_some (side_of r.inner)) 0 (release_asks op r)
-count_release op r =
-    counted_then (λ n done. n ≡ 0) (λ n done. n + one_if_some (side_of done.1.inner) ≡ one_if_some (side_of r.inner)) 0 (give_streams_up op r.streams) _ (counted_calm 0 (give_streams_up op r.streams) (calm_give_up op r.streams))
-    (λ n done k. subst (λ (m : ℕ). Counted (λ n done. n + one_if_some (side_of done.1.inner) ≡ one_if_some (side_of r.inner)) m (close_record op r)) (sym k) (count_record op r))
-
--- a record that is released has closed its side, unless memory was wanted before
-pub release_closes : (op : OpId) (r now : Tcp2Socket) {s t u : Seen} (result : Result (Unit {0}) AllocError) → Reaches (give_streams_up op r.streams) (Give tt) s t
-    → AsksFor (release_asks op r) s u (λ done. (done, now)) result → OnErr result (side_of now.inner ≡ side_of r.inner) → OnErr result (u ≡ t) → ClosesOwn s u r.inner now.inner
-release_closes op r now (Ok done) g h e q =
-    let w = counted_left (λ n (done : Unit {0} × Tcp2Socket). n + one_if_some (side_of done.1.inner) ≡ one_if_some (side_of r.inner)) 0 (release_asks op r) h.ok.entries _ (count_release op r) h.ok.left in
-    let balance = w.left in
-    record { entries = h.ok.entries; passed = h.ok.passed; made = w.made; closed = omega arith }
-release_closes op r now (Err d) g h e q = rw q (closes_walk (calm_give_up op r.streams) g e)
-
 -- jobs hold no side
 pub knows_jobs : {s : Seen} (store : Records) (jobs : List ℕ) → KnowsSides s store → KnowsSides s (record store { jobs = jobs })
 knows_jobs store jobs k = record { count = k.count }
@@ -203,7 +148,3 @@ knows_jobs store jobs k = record { count = k.count }
 pub on_err : {T E P : Type 0} (r : Result T E) → P → OnErr r P
 on_err (Ok x) p = tt
 on_err (Err e) p = p
-
-pub same_side : {T E : Type 0} (r mid now : Tcp2Socket) (result : Result T E) → mid ≡ record r { streams = None } → OnErr result (now ≡ mid) → OnErr result (side_of now.inner ≡ side_of r.inner)
-same_side r mid now (Ok x) e h = tt
-same_side r mid now (Err d) e h = ap (λ (q : Tcp2Socket). side_of q.inner) (h ∙ e)

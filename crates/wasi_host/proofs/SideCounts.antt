@@ -19,7 +19,7 @@ use Rattle.wasi_world.specs.declared.outcome.Refusal.TheVariants as refusal
 use Rattle.wasi_world.specs.declared.outcome.WasiSocketsCtx.{WasiSocketsCtx}
 use Rattle.wasi_world.specs.Fits.{IsDoneOrCode}
 use Rattle.wasi_world.specs.Typed.{told_done, ask_tcp_create, ask_made}
-use Rattle.wasi_world.specs.Seen.{Seen, Passes}
+use Rattle.wasi_world.specs.Seen.{Seen, Passes, CountsAll}
 use Rattle.wasi_world.specs.Asks.{Asks, Give, Ask, AskWrite, bind, Left, Reaches, AsksFor, outcome}
 use Rattle.wasi_world.specs.Operation.{Given, Nothing, Item, Check, Bind, Who, Operation, NothingLast, Front, Goes, Stays, Again, Ends, verdict_front, done_front, front, after, round, polls, poll_asks, End}
 use Rattle.wasi_tcp.specs.declared.socket.TcpState.{TcpState}
@@ -33,9 +33,10 @@ use Rattle.wasi_tcp.specs.declared.bind.BindStage.TheVariants as stage
 use Rattle.wasi_tcp.specs.Bind.{bind_operation, IsBind}
 use Rattle.wasi_tcp.specs.Shape.{Socket}
 use Rattle.wasi_tcp.specs.Socket.{side_of, new_asks, after_create, ask_bound, bound_asks, bind_allowed, bind_start, bind_asks}
+use Rattle.wasi_world.proofs.Walks.{reaches_all}
 use Rattle.wasi_host.specs.declared.socket.Tcp2Socket.{Tcp2Socket}
 use Rattle.wasi_host.specs.Store.{Records, new_record, with_inner, bind_begun, poll_bind_asks, begin_bind_asks, begin_connect_asks, tell_local_asks, tell_remote_asks, with_record, stood}
-use Rattle.wasi_host.specs.Sides.{one_if_done, made_by, closed_by, made_in, closed_in, one_if_some, held_in, KnowsSides, MakesNone}
+use Rattle.wasi_host.specs.Sides.{one_if_done, made_by, closed_by, made_in, closed_in, holds, held_in, Balances, KnowsSides, MakesNone}
 
 -- == calls that neither make nor close a side
 abbrev pub IsQuiet : Call → Type 0
@@ -99,14 +100,36 @@ knows_asked Q (Ok x) a b q h e k = knows_calm Q a b q h.ok e k
 knows_asked Q (Err d) a b q h e k = knows_calm Q a b q h.err.reached e k
 
 -- == a record that is replaced holds as many sides
-pub held_in-set : (rs : List Tcp2Socket) (i : ℕ) (r s : Tcp2Socket) → slice_get rs i ≡ Some r → side_of s.inner ≡ side_of r.inner → held_in (slice_set rs i s) ≡ held_in rs
-held_in-set [] i r s h e = refl
-held_in-set (x ∷ rs) zero r s h e = let k : x ≡ r = cc in ap (λ o. one_if_some o + held_in rs) (e ∙ ap (λ (y : Tcp2Socket). side_of y.inner) (sym k))
-held_in-set (x ∷ rs) (suc i) r s h e = ap (λ n. one_if_some (side_of x.inner) + n) (held_in-set rs i r s h e)
+pub held_in-same : (rs : List Tcp2Socket) (i : ℕ) (r s : Tcp2Socket) → slice_get rs i ≡ Some r → holds s ≡ holds r → held_in (slice_set rs i s) ≡ held_in rs
+held_in-same [] i r s h e = refl
+held_in-same (x ∷ rs) zero r s h e = let k : x ≡ r = cc in ap (λ n. n + held_in rs) (e ∙ ap (λ (y : Tcp2Socket). holds y) (sym k))
+held_in-same (x ∷ rs) (suc i) r s h e = ap (λ n. holds x + n) (held_in-same rs i r s h e)
 
-held_in-append : (rs : List Tcp2Socket) (r : Tcp2Socket) → held_in (rs ++ r ∷ []) ≡ held_in rs + one_if_some (side_of r.inner)
+pub holds-same : (r s : Tcp2Socket) → side_of s.inner ≡ side_of r.inner → s.listening ≡ r.listening → holds s ≡ holds r
+holds-same r s e l = rw (e, l) refl
+
+pub held_in-set : (rs : List Tcp2Socket) (i : ℕ) (r s : Tcp2Socket) → slice_get rs i ≡ Some r → side_of s.inner ≡ side_of r.inner → s.listening ≡ r.listening → held_in (slice_set rs i s) ≡ held_in rs
+held_in-set rs i r s h e l = held_in-same rs i r s h (holds-same r s e l)
+
+pub held_in-append : (rs : List Tcp2Socket) (r : Tcp2Socket) → held_in (rs ++ r ∷ []) ≡ held_in rs + holds r
 held_in-append [] r = omega arith
 held_in-append (x ∷ rs) r = let h = held_in-append rs r in omega arith
+
+-- == what calm asks make of a record's sides
+pub balances_walk : {A : Type 0} {asks rest : Asks A} {s t : Seen} {old now : Tcp2Socket} → Calm Any asks → Reaches asks rest s t → holds now ≡ holds old → Balances s t 0 old now
+balances_walk {asks = asks} {rest} q h e =
+    let n = calm_left Any asks h.entries rest q h.left in
+    let m = n.made in
+    let c = n.closed in
+    record { entries = h.entries; passed = h.passed; balance = omega arith }
+
+pub balances_calm : {A T : Type 0} {asks : Asks A} {s t : Seen} {view : T → A} {old now : Tcp2Socket} → Calm Any asks → (r : Result T AllocError) → AsksFor asks s t view r → holds now ≡ holds old → Balances s t 0 old now
+balances_calm q (Ok x) h e = balances_walk q h.ok e
+balances_calm q (Err d) h e = balances_walk q h.err.reached e
+
+-- no ask, and the record as it was
+pub balances_none : (r : Tcp2Socket) (s : Seen) → Balances s s 0 r r
+balances_none r s = let done : Unit {0} = tt in balances_walk {asks = Give done} {rest = Give done} tt (reaches_all (Give done) s) refl
 
 -- == a bind is calm
 abbrev IsCalmItem : Item → Type 0
@@ -172,7 +195,7 @@ calm_poll_bind op r h = calm_then Any Any (poll_asks op) _ (calm_poll op h) (λ 
 pub calm_rebind : (op : Operation) (r : Tcp2Socket) → IsBind op → Calm Any (poll_bind_asks op r)
 calm_rebind op r h = calm_poll_bind op r (subst IsCalmOperation (sym h.is) (calm_stage h.asker h.addr h.stage))
 
-calm_bound : (op : OpId) (s : Socket) → Calm Any (bound_asks op s)
+pub calm_bound : (op : OpId) (s : Socket) → Calm Any (bound_asks op s)
 unfolding bind
 calm_bound op s = by_kept s.bound
   where
@@ -308,3 +331,25 @@ none_then {s} {t} {u} h k =
     let m = h.made in let n = k.made in let c = h.closed in let d = k.closed in
     let p = made_in-append h.entries k.entries in let q = closed_in-append h.entries k.entries in
     record { entries = h.entries ++ k.entries; log = both_logs s.log t.log u.log h.entries k.entries h.log k.log; made = omega arith; closed = omega arith }
+
+-- == one walk after another
+counts_then : (es fs : List Entry) (n k m : ℕ) → CountsAll es n k → CountsAll fs k m → CountsAll (es ++ fs) n m
+counts_then [] fs n k m h t = rw h at t
+counts_then (e ∷ es) fs n k m h t = (h.0, h.1, counts_then es fs h.0 k m h.2 t)
+
+pub passes_then : {s t u : Seen} {es fs : List Entry} → Passes s es t → Passes t fs u → Passes s (es ++ fs) u
+passes_then {s} {t} {u} {es} {fs} h k = record {
+  log = both_logs s.log t.log u.log es fs h.log k.log;
+  faults = counts_then es fs s.faults t.faults u.faults h.faults k.faults;
+  ended = k.ended ∙ h.ended;
+  closings = k.closings ∙ h.closings;
+  plan = k.plan ∙ h.plan;
+}
+
+pub balances_then : {s t u : Seen} {n : ℕ} {old mid now : Tcp2Socket} → Balances s t 0 old mid → Balances t u n mid now → Balances s u n old now
+balances_then h k =
+    let a = h.balance in
+    let b = k.balance in
+    let m = made_in-append h.entries k.entries in
+    let c = closed_in-append h.entries k.entries in
+    record { entries = h.entries ++ k.entries; passed = passes_then h.passed k.passed; balance = omega arith }

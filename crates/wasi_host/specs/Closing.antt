@@ -1,5 +1,5 @@
 -- The end mark, and the closings after it.
-use Rattle.std.specs.Prelude.{◌≡◌, ℕ, ◌+◌, [], true, IfSome}
+use Rattle.std.specs.Prelude.{◌≡◌, ℕ, ◌+◌, ◌<◌, ◌^◌, [], true, IfSome}
 use Rattle.wasi_world.specs.Seen.{Seen}
 use Rattle.wasi_host.specs.Sides.{made_in, closed_in}
 
@@ -14,6 +14,12 @@ pub record ClosesSides (old new : Seen) (count : ℕ) : Type 0 where
   pub quiet : AsksNothing old new
   pub ended : new.ended ≡ true
   pub counted : old.closings ≡ 0 → new.closings ≡ count
+
+-- So many more were closed after the end mark, as far as they can be counted, and nothing else was done.
+pub record ClosesMore (old new : Seen) (count : ℕ) : Type 0 where
+  pub quiet : AsksNothing old new
+  pub ended : new.ended ≡ true
+  pub counted : old.closings + count < 2 ^ 64 → new.closings ≡ old.closings + count
 
 -- No call is in the log, where it is told, and no closing was counted.
 pub record IsFresh (seen : Seen) : Type 0 where

@@ -13,10 +13,12 @@ use Rattle.wasi_tcp.specs.Closing.{close_asks}
 use Rattle.wasi_tcp.specs.Reader.{reader_shutdown_asks}
 use Rattle.wasi_tcp.specs.Writer.{look_asks, writer_give_up_asks}
 use Rattle.wasi_host.specs.declared.socket.InProgress.TheVariants as doing
+use Rattle.wasi_host.specs.declared.listening.Listening.TheVariants.{Not}
 use Rattle.wasi_host.specs.declared.socket.Streams.{Streams}
 use Rattle.wasi_host.specs.declared.socket.Tcp2Socket.{Tcp2Socket}
 use Rattle.wasi_host.specs.Store.{Records, with_socket, with_writer, standing_drop}
 use Rattle.wasi_host.specs.Jobs.{other_jobs}
+use Rattle.wasi_host.specs.Listening.{give_up_asks}
 
 -- == a socket
 -- the open halves are given up, the receiving one first; a write that goes on ends there
@@ -26,14 +28,18 @@ give_streams_up op (Some s) = bind (reader_shutdown_asks op s.reader) (λ done. 
 
 -- nothing is left of the record but its place
 abbrev pub gone : Tcp2Socket → Socket → Tcp2Socket
-gone r socket = record r { inner = socket; in_progress = doing.Nothing; streams = None }
+gone r socket = record r { inner = socket; in_progress = doing.Nothing; listening = Not; streams = None }
 
 abbrev pub close_record : OpId → Tcp2Socket → Asks (Unit {0} × Tcp2Socket)
 close_record op r = bind (close_asks op r.inner) (λ done. Give (tt, gone r done.1))
 
 -- then its side is closed, where it has one
+abbrev pub release_connection : OpId → Tcp2Socket → Asks (Unit {0} × Tcp2Socket)
+release_connection op r = bind (give_streams_up op r.streams) (λ done. close_record op r)
+
+-- a listener goes before
 abbrev pub release_asks : OpId → Tcp2Socket → Asks (Unit {0} × Tcp2Socket)
-release_asks op r = bind (give_streams_up op r.streams) (λ done. close_record op r)
+release_asks op r = bind (give_up_asks r.listening) (λ done. release_connection op r)
 
 abbrev pub released : Records → ℕ → Tcp2Socket → Records
 released store place r = record (with_socket store place r) { jobs = other_jobs place store.jobs }

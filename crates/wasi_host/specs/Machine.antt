@@ -3,6 +3,7 @@ use Rattle.std.specs.Prelude.{ℕ, Bool, length, Option, Some, None, Result, Ok,
 use Rattle.wasi_addr.specs.declared.address.SocketAddressFamily.{SocketAddressFamily}
 use Rattle.wasi_addr.specs.declared.code.ErrorCode.{ErrorCode}
 use Rattle.wasi_world.specs.declared.ids.OpId.{OpId}
+use Rattle.wasi_world.specs.declared.ids.Ids.{Ids}
 use Rattle.wasi_world.specs.declared.outcome.Answer.{Answer}
 use Rattle.wasi_world.specs.declared.outcome.Answer.TheVariants.{Ready}
 use Rattle.wasi_world.specs.declared.outcome.TrapKind.TheVariants.{NoSuchHandle}
@@ -20,7 +21,7 @@ use Rattle.wasi_host.specs.Host.{Stop, Trap, code_stop}
 use Rattle.wasi_host.specs.Kinds.{Handles, kind_at, place_of, input_of, output_of, watched_by, watch_of, place_in, make_asks, taken_out}
 use Rattle.wasi_host.specs.Store.{Records, no_records, with_record}
 use Rattle.wasi_host.specs.Jobs.{turn_store_asks}
-use Rattle.wasi_host.specs.Readiness.{ready_at}
+use Rattle.wasi_host.specs.Readiness.{ready_at, ready_ids_at}
 use Rattle.wasi_host.specs.Dropping.{release_at, drop_output_at}
 
 -- no handle, no record, no job, no call that stands
@@ -77,13 +78,21 @@ subscribe_on m own this (Some w) =
 abbrev pub subscribe_asks : Machine → OpId → ℕ → Asks (Result ℕ Stop × Machine)
 subscribe_asks m own this = subscribe_on m own this (watched_by (kind_at m.table this))
 
-abbrev pub ready_on : Machine → OpId → Option Watched → Asks (Result Bool Stop × Machine)
-ready_on m own None = no_such_handle m
-ready_on m own (Some w) = bind (ready_at m.store own w (place_in w) (slice_get m.store.sockets (place_in w))) (λ done. Give (with_store m done))
+abbrev pub ready_on : Machine → Ids → Option Watched → Asks (Result Bool Stop × Machine)
+ready_on m ids None = no_such_handle m
+ready_on m ids (Some w) = bind (ready_at m.store (own_of ids.line) ids w (place_in w) (slice_get m.store.sockets (place_in w))) (λ done. Give (with_store m done))
 
 -- one look at what a pollable watches
-abbrev pub ready_asks : Machine → OpId → ℕ → Asks (Result Bool Stop × Machine)
-ready_asks m own pollable = ready_on m own (watch_of (kind_at m.table pollable))
+abbrev pub ready_asks : Machine → Ids → ℕ → Asks (Result Bool Stop × Machine)
+ready_asks m ids pollable = ready_on m ids (watch_of (kind_at m.table pollable))
+
+abbrev pub ready_ids_on : Machine → Ids → Option Watched → Ids
+ready_ids_on m ids None = ids
+ready_ids_on m ids (Some w) = ready_ids_at ids w (slice_get m.store.sockets (place_in w))
+
+-- the names that are left to the line then
+abbrev pub ids_after_ready : Machine → Ids → ℕ → Ids
+ids_after_ready m ids pollable = ready_ids_on m ids (watch_of (kind_at m.table pollable))
 
 -- == a handle goes
 abbrev pub answered : {A : Type 0} → A × Machine → Result A Stop × Machine

@@ -11,10 +11,11 @@ use Rattle.wasi_host.specs.declared.pending.Outcome.TheVariants.{Nothing}
 use Rattle.wasi_host.specs.declared.socket.Tcp2Socket.{Tcp2Socket}
 use Rattle.wasi_host.specs.declared.store.Standing.{Standing}
 use Rattle.wasi_host.specs.declared.store.StandingCall.{StandingCall}
-use Rattle.wasi_host.specs.declared.store.StandingCall.TheVariants.{Bind, DropOutput}
+use Rattle.wasi_host.specs.declared.store.StandingCall.TheVariants.{Bind, Listen, DropOutput}
 use Rattle.wasi_host.specs.Host.{CallStop, Stop, Trap}
 use Rattle.wasi_host.specs.Store.{Records, poll_bind_asks, bind_answered}
 use Rattle.wasi_host.specs.Dropping.{drop_output_at}
+use Rattle.wasi_host.specs.Listening.{poll_listen_asks, listen_answered}
 use Rattle.wasi_host.specs.Machine.{with_store, own_of}
 
 -- the number of the call that stands
@@ -35,6 +36,7 @@ outcome_of Pending = Pending
 -- == an output's drop that waits
 abbrev pub output_in : StandingCall → Option ℕ
 output_in (Bind place op) = None
+output_in (Listen place) = None
 output_in (DropOutput place) = Some place
 
 -- the record of the output whose drop stands under this number
@@ -57,6 +59,7 @@ resume_asks m line = resume_in m line (waiting_drop m.store.standing line)
 -- == a bind that waits
 abbrev pub bind_in : StandingCall → Option (ℕ × Operation)
 bind_in (Bind place op) = Some (place, op)
+bind_in (Listen place) = None
 bind_in (DropOutput place) = None
 
 -- the record and the operation of the bind that stands under this number
@@ -84,3 +87,27 @@ resume_bind_in store line (Some (place, op)) = bind (rebind_at store line place 
 -- none where no bind has that number
 abbrev pub resume_bind_asks : Records → ℕ → Asks (Result (Option (Answer (Unit {0}))) Stop × Records)
 resume_bind_asks store line = resume_bind_in store line (waiting_bind store.standing line)
+
+-- == a listen that waits
+abbrev pub listen_in : StandingCall → Option ℕ
+listen_in (Bind place op) = None
+listen_in (Listen place) = Some place
+listen_in (DropOutput place) = None
+
+-- the record whose listen stands under this number
+abbrev pub waiting_listen : Option Standing → ℕ → Option ℕ
+waiting_listen None line = None
+waiting_listen (Some s) line = if s.line == line then listen_in s.call else None
+
+abbrev pub relisten_at : Records → ℕ → ℕ → Option Tcp2Socket → Asks (Result (Answer (Unit {0})) Stop × Records)
+relisten_at store line place None = Give (Err (Trap NoSuchHandle), unstood store)
+relisten_at store line place (Some r) = bind (poll_listen_asks r) (λ begun. Give (listen_answered (unstood store) line place begun))
+
+-- it is polled again; pending, it stands on
+abbrev pub resume_listen_in : Records → ℕ → Option ℕ → Asks (Result (Option (Answer (Unit {0}))) Stop × Records)
+resume_listen_in store line None = Give (Ok None, store)
+resume_listen_in store line (Some place) = bind (relisten_at store line place (slice_get store.sockets place)) (λ done. Give (some_answer done))
+
+-- none where no listen has that number
+abbrev pub resume_listen_asks : Records → ℕ → Asks (Result (Option (Answer (Unit {0}))) Stop × Records)
+resume_listen_asks store line = resume_listen_in store line (waiting_listen store.standing line)

@@ -3,6 +3,7 @@ use Rattle.std.specs.Prelude.{ℕ, Bool, true, false, Option, Some, None, Result
 use Rattle.std.specs.declared.alloc.AllocError.{AllocError}
 use Rattle.wasi_addr.specs.declared.code.ErrorCode.{ErrorCode}
 use Rattle.wasi_world.specs.declared.ids.OpId.{OpId}
+use Rattle.wasi_world.specs.declared.ids.Ids.{Ids}
 use Rattle.wasi_world.specs.declared.outcome.Answer.{Answer}
 use Rattle.wasi_world.specs.declared.outcome.Answer.TheVariants.{Ready, Pending}
 use Rattle.wasi_world.specs.declared.outcome.Refusal.{Refusal}
@@ -13,14 +14,18 @@ use Rattle.wasi_streams.specs.declared.error.StreamError.{StreamError}
 use Rattle.wasi_streams.specs.declared.error.StreamError.TheVariants as error
 use Rattle.wasi_tcp.specs.Shape.{Socket}
 use Rattle.wasi_tcp.specs.Connecting.{finish_connect_asks}
+use Rattle.wasi_tcp.specs.Listener.{Listener, listener_ready_asks}
 use Rattle.wasi_tcp.specs.Reader.{reader_ready_asks}
 use Rattle.wasi_tcp.specs.Writer.{look_asks}
 use Rattle.wasi_host.specs.declared.kind.Watched.{Watched}
 use Rattle.wasi_host.specs.declared.kind.Watched.TheVariants as watched
+use Rattle.wasi_host.specs.declared.listening.Listening.{Listening}
+use Rattle.wasi_host.specs.declared.listening.Listening.TheVariants.{Accepts}
 use Rattle.wasi_host.specs.declared.socket.Streams.{Streams}
 use Rattle.wasi_host.specs.declared.socket.Tcp2Socket.{Tcp2Socket}
 use Rattle.wasi_host.specs.Host.{Stop, Trap}
-use Rattle.wasi_host.specs.Store.{Records, with_socket, with_inner, with_reader, with_writer, is_connect}
+use Rattle.wasi_host.specs.Store.{Records, with_socket, with_inner, with_reader, with_writer, is_nothing, is_connect}
+use Rattle.wasi_host.specs.Listening.{with_listening, ids_of}
 
 -- it doesn't wait; an error is ready too
 abbrev pub is_over : {E : Type 0} → Result (Answer (Unit {0})) E → Bool
@@ -53,13 +58,26 @@ look_told (Err (error.Memory e)) = Err e
 abbrev pub connect_looked : Tcp2Socket → Result (Answer (Unit {0})) ErrorCode × Socket → Result Bool Stop × Tcp2Socket
 connect_looked r done = (Ok (is_over done.0), with_inner r done.1)
 
--- with a connect in progress that is polled, which stays in progress; else it is ready
-abbrev pub ready_socket_by : Tcp2Socket → Bool → Asks (Result Bool Stop × Tcp2Socket)
-ready_socket_by r true = bind (finish_connect_asks r.inner) (λ done. Give (connect_looked r done))
-ready_socket_by r false = Give (Ok true, r)
+abbrev pub accept_looked : Tcp2Socket → Answer (Unit {0}) × Listener → Result Bool Stop × Tcp2Socket
+accept_looked r done = (Ok (is_done done.0), with_listening r (Accepts done.1))
 
-abbrev pub ready_socket : Tcp2Socket → Asks (Result Bool Stop × Tcp2Socket)
-ready_socket r = ready_socket_by r (is_connect r.in_progress)
+-- a listener's accept is polled, and its result isn't taken
+abbrev pub ready_listening : Ids → Tcp2Socket → Listening → Asks (Result Bool Stop × Tcp2Socket)
+ready_listening ids r (Accepts l) = bind (listener_ready_asks l ids) (λ done. Give (accept_looked r done))
+ready_listening ids r _ = Give (Ok true, r)
+
+abbrev pub ready_idle : Ids → Tcp2Socket → Bool → Asks (Result Bool Stop × Tcp2Socket)
+ready_idle ids r true = ready_listening ids r r.listening
+ready_idle ids r false = Give (Ok true, r)
+
+-- a connect in progress is polled, and stays in progress; with nothing in progress it is a listener's accept that is polled;
+-- else it is ready
+abbrev pub ready_socket_by : Ids → Tcp2Socket → Bool → Asks (Result Bool Stop × Tcp2Socket)
+ready_socket_by ids r true = bind (finish_connect_asks r.inner) (λ done. Give (connect_looked r done))
+ready_socket_by ids r false = ready_idle ids r (is_nothing r.in_progress)
+
+abbrev pub ready_socket : Ids → Tcp2Socket → Asks (Result Bool Stop × Tcp2Socket)
+ready_socket ids r = ready_socket_by ids r (is_connect r.in_progress)
 
 -- == a stream
 abbrev pub ready_reader : OpId → Tcp2Socket → Option Streams → Asks (Result Bool Stop × Tcp2Socket)
@@ -71,14 +89,32 @@ ready_writer op r None = Give (Err (Trap NoSuchHandle), r)
 ready_writer op r (Some s) = bind (look_asks op s.writer) (λ done. Give (Ok (is_over done.0), with_writer r s done.1))
 
 -- == by what is watched
-abbrev pub ready_record : OpId → Watched → Tcp2Socket → Asks (Result Bool Stop × Tcp2Socket)
-ready_record op (watched.Socket place) r = ready_socket r
-ready_record op (watched.Input place) r = ready_reader op r r.streams
-ready_record op (watched.Output place) r = ready_writer op r r.streams
+abbrev pub ready_record : OpId → Ids → Watched → Tcp2Socket → Asks (Result Bool Stop × Tcp2Socket)
+ready_record op ids (watched.Socket place) r = ready_socket ids r
+ready_record op ids (watched.Input place) r = ready_reader op r r.streams
+ready_record op ids (watched.Output place) r = ready_writer op r r.streams
 
 abbrev pub ready_put : Records → ℕ → Result Bool Stop × Tcp2Socket → Result Bool Stop × Records
 ready_put store place done = (done.0, with_socket store place done.1)
 
-abbrev pub ready_at : Records → OpId → Watched → ℕ → Option Tcp2Socket → Asks (Result Bool Stop × Records)
-ready_at store op w place None = Give (Err (Trap NoSuchHandle), store)
-ready_at store op w place (Some r) = bind (ready_record op w r) (λ done. Give (ready_put store place done))
+abbrev pub ready_at : Records → OpId → Ids → Watched → ℕ → Option Tcp2Socket → Asks (Result Bool Stop × Records)
+ready_at store op ids w place None = Give (Err (Trap NoSuchHandle), store)
+ready_at store op ids w place (Some r) = bind (ready_record op ids w r) (λ done. Give (ready_put store place done))
+
+-- == the names that are left to the line
+abbrev pub idle_ids : Listening → Ids → Bool → Ids
+idle_ids l ids true = ids_of l ids
+idle_ids l ids false = ids
+
+abbrev pub socket_ids : Tcp2Socket → Ids → Bool → Ids
+socket_ids r ids true = ids
+socket_ids r ids false = idle_ids r.listening ids (is_nothing r.in_progress)
+
+-- an accept that begins takes one
+abbrev pub ready_ids : Ids → Watched → Tcp2Socket → Ids
+ready_ids ids (watched.Socket place) r = socket_ids r ids (is_connect r.in_progress)
+ready_ids ids _ r = ids
+
+abbrev pub ready_ids_at : Ids → Watched → Option Tcp2Socket → Ids
+ready_ids_at ids w None = ids
+ready_ids_at ids w (Some r) = ready_ids ids w r

@@ -1,15 +1,19 @@
 -- The network sides that a log made and closed, and those that the records hold.
-use Rattle.std.specs.Prelude.{◌≡◌, ℕ, ◌+◌, List, [], ◌∷◌, ◌++◌, Option, Some, None, option_map, IfSome}
+use Rattle.std.specs.Prelude.{◌≡◌, ℕ, ◌+◌, List, [], ◌∷◌, ◌++◌, Option, Some, None, option_map, IfSome, Result, Ok, Err}
 use Rattle.wasi_world.specs.declared.call.Call.{Call}
 use Rattle.wasi_world.specs.declared.call.Call.TheVariants.{TcpCreate, UdpCreate, Hand, Close}
 use Rattle.wasi_world.specs.declared.call.Told.{Told}
 use Rattle.wasi_world.specs.declared.call.Told.TheVariants.{Done}
 use Rattle.wasi_world.specs.declared.call.Entry.{Entry}
 use Rattle.wasi_world.specs.declared.ids.OpId.{OpId}
+use Rattle.wasi_world.specs.declared.outcome.Answer.{Answer}
+use Rattle.wasi_world.specs.declared.outcome.Answer.TheVariants.{Ready}
+use Rattle.wasi_world.specs.declared.outcome.Refusal.{Refusal}
 use Rattle.wasi_world.specs.Seen.{Seen, Passes}
 use Rattle.wasi_tcp.specs.Shape.{Socket}
 use Rattle.wasi_tcp.specs.Socket.{side_of}
 use Rattle.wasi_host.specs.declared.socket.Tcp2Socket.{Tcp2Socket}
+use Rattle.wasi_host.specs.Listening.{side_in}
 use Rattle.wasi_host.specs.Store.{Records}
 
 abbrev pub one_if_done : Told → ℕ
@@ -39,17 +43,25 @@ abbrev pub one_if_some : Option OpId → ℕ
 one_if_some (Some side) = 1
 one_if_some None = 0
 
--- how many records hold a side
+-- how many sides a record holds: its socket's, and that of a listen that goes on, or of a connection that isn't taken
+abbrev pub holds : Tcp2Socket → ℕ
+holds r = one_if_some (side_of r.inner) + one_if_some (side_in r.listening)
+
+-- how many sides the records hold
 abbrev pub held_in : List Tcp2Socket → ℕ
 held_in [] = 0
-held_in (r ∷ rs) = one_if_some (side_of r.inner) + held_in rs
+held_in (r ∷ rs) = holds r + held_in rs
 
--- No side was made, and a side that the socket holds no more was closed.
-pub record ClosesOwn (before after : Seen) (old now : Socket) : Type 0 where
+-- how many sides the answer of an accept gives away
+abbrev pub given_by : Result (Answer Socket) Refusal → ℕ
+given_by (Ok (Ready socket)) = one_if_some (side_of socket)
+given_by _ = 0
+
+-- The record holds as many sides more than before, beside so many that it gave away, as were made and not closed.
+pub record Balances (before after : Seen) (given : ℕ) (old now : Tcp2Socket) : Type 0 where
   pub entries : List Entry
   pub passed : Passes before entries after
-  pub made : made_in entries ≡ 0
-  pub closed : closed_in entries + one_if_some (side_of now) ≡ one_if_some (side_of old)
+  pub balance : closed_in entries + (holds now + given) ≡ made_in entries + holds old
 
 -- What was asked made no side and closed none.
 pub record MakesNone (before after : Seen) : Type 0 where

@@ -26,9 +26,10 @@ use Rattle.wasi_tcp.specs.declared.writer.WriteState.TheVariants as writing
 use Rattle.wasi_tcp.specs.Connecting.{start_connect_asks, finish_connect_asks, in_socket}
 use Rattle.wasi_tcp.specs.Halves.{take_receive, take_send}
 use Rattle.wasi_tcp.specs.Writer.{flush_of}
-use Rattle.wasi_tcp.specs.Addresses.{local_asks, remote_asks}
+use Rattle.wasi_tcp.specs.Addresses.{local_asks, remote_asks, is_listening}
 use Rattle.wasi_host.specs.declared.socket.InProgress.{InProgress}
 use Rattle.wasi_host.specs.declared.socket.InProgress.TheVariants as doing
+use Rattle.wasi_host.specs.declared.listening.Listening.TheVariants as listening
 use Rattle.wasi_host.specs.declared.socket.Streams.{Streams}
 use Rattle.wasi_host.specs.declared.socket.Tcp2Socket.{Tcp2Socket}
 use Rattle.wasi_host.specs.declared.store.Standing.{Standing}
@@ -45,7 +46,7 @@ no_records = record { sockets = []; jobs = []; standing = None }
 
 -- its handles are marked with the side that it is made with
 abbrev pub new_record : Socket → Tcp2Socket
-new_record socket = record { inner = socket; side = side_of socket; in_progress = doing.Nothing; streams = None }
+new_record socket = record { inner = socket; side = side_of socket; in_progress = doing.Nothing; listening = listening.Not; streams = None }
 
 abbrev pub with_inner : Tcp2Socket → Socket → Tcp2Socket
 with_inner r socket = record r { inner = socket }
@@ -106,18 +107,22 @@ abbrev pub start_bind_at : Records → OpId → ℕ → IpSocketAddress → Opti
 start_bind_at store op place a None = Give (Err (Trap NoSuchHandle), store)
 start_bind_at store op place a (Some r) = start_bind_by store op place a r (is_nothing r.in_progress)
 
--- only what is in progress is finished
+-- only what is in progress is finished: a bind, or a listen
 abbrev pub is_bind : InProgress → Bool
 is_bind doing.Bind = true
 is_bind _ = false
 
-abbrev pub finish_bind_by : Records → ℕ → Tcp2Socket → Bool → Result (Unit {0}) Stop × Records
-finish_bind_by store place r true = (Ok tt, with_socket store place (record r { in_progress = doing.Nothing }))
-finish_bind_by store place r false = (Err (Code NotInProgress), store)
+abbrev pub is_listen : InProgress → Bool
+is_listen doing.Listen = true
+is_listen _ = false
 
-abbrev pub finish_bind_at : Records → ℕ → Option Tcp2Socket → Result (Unit {0}) Stop × Records
-finish_bind_at store place None = (Err (Trap NoSuchHandle), store)
-finish_bind_at store place (Some r) = finish_bind_by store place r (is_bind r.in_progress)
+abbrev pub finish_by : Records → ℕ → Tcp2Socket → Bool → Result (Unit {0}) Stop × Records
+finish_by store place r true = (Ok tt, with_socket store place (record r { in_progress = doing.Nothing }))
+finish_by store place r false = (Err (Code NotInProgress), store)
+
+abbrev pub finish_at : (InProgress → Bool) → Records → ℕ → Option Tcp2Socket → Result (Unit {0}) Stop × Records
+finish_at is_it store place None = (Err (Trap NoSuchHandle), store)
+finish_at is_it store place (Some r) = finish_by store place r (is_it r.in_progress)
 
 -- == a connect
 -- what a call on a record answered, and the records afterwards
@@ -219,7 +224,7 @@ remote_address_at store op place (Some r) = bind (tell_remote_asks op r) (λ don
 
 abbrev pub is_listening_at : Option Tcp2Socket → Result Bool Stop
 is_listening_at None = Err (Trap NoSuchHandle)
-is_listening_at (Some r) = Ok false
+is_listening_at (Some r) = Ok (is_listening r.inner.state)
 
 abbrev pub address_family_at : Option Tcp2Socket → Result SocketAddressFamily Stop
 address_family_at None = Err (Trap NoSuchHandle)

@@ -1,20 +1,29 @@
 //! Closes network sides after the end mark.
 
 ghost use Rattle.std.specs.Prelude.{◌≡◌, true};
-ghost use Rattle.wasi_host.specs.Sides.{held_in};
-ghost use Rattle.wasi_host.specs.Closing.{ClosesSides};
+ghost use Rattle.wasi_host.specs.Sides.{held_in, one_if_some};
+ghost use Rattle.wasi_host.specs.Closing.{ClosesMore, ClosesSides};
 
 use crate::socket::Tcp2Socket;
-use wasi_world::World;
+use wasi_world::{Sock, World};
 
-/// Closes the side of each record that holds one; takes no memory.
+/// Closes a side, where there is one.
+fn close_one<W: World>(world: &mut W, side: Option<Sock>)
+    requires { (W.seen world.old).ended ≡ true }
+    ensures { ClosesMore (W.seen world.old) (W.seen world.new) (one_if_some side) }
+{
+    if let Some(side) = side {
+        world.close_after_end(side);
+    }
+}
+
+/// Closes the sides that the records hold; takes no memory.
 pub fn close_sides<W: World>(world: &mut W, sockets: &[Tcp2Socket])
     requires { (W.seen world.old).ended ≡ true }
     ensures { ClosesSides (W.seen world.old) (W.seen world.new) (held_in sockets.now) }
 {
     for socket in sockets {
-        if let Some(side) = socket.inner.side() {
-            world.close_after_end(side);
-        }
+        close_one(world, socket.inner.side());
+        close_one(world, socket.listening.side());
     }
 }

@@ -118,6 +118,7 @@ pub fn make<W: World>(
     requires parent { IfSome (table_parent kind parent) (λ p. IsSome (kind_at table.old p)) }
     ensures asked { AsksFor (make_asks table.old op kind parent side) (W.seen world.old) (W.seen world.new) (λ made. (made, table.new)) (fault_outcome result) }
     ensures stay { (h : ℕ) → IsSome (kind_at table.old h) → IsSome (kind_at table.new h) }
+    ensures live { IfOk result (λ h. IsSome (kind_at table.new h)) }
     ensures sides { (store : Records) → KnowsSides (W.seen world.old) store → KnowsSides (W.seen world.new) store }
     ensures open { (W.seen world.new).ended ≡ false }
 {

@@ -3,7 +3,7 @@
 ghost use Rattle.std.specs.Prelude.{◌≡◌, IfNone, IsSome, None, false, slice_get};
 ghost use Rattle.wasi_world.specs.Asks.{AsksFor};
 ghost use Rattle.wasi_host.specs.Host.{call_outcome, host_outcome};
-ghost use Rattle.wasi_host.specs.Pending.{outcome_of, resume_asks, resume_bind_asks, rebind_at, unstood, waiting_bind, waiting_drop};
+ghost use Rattle.wasi_host.specs.Pending.{outcome_of, resume_asks, resume_bind_asks, rebind_at, resume_listen_asks, relisten_at, unstood, waiting_bind, waiting_drop, waiting_listen};
 ghost use Rattle.wasi_host.specs.Machine.{own_of};
 ghost use Rattle.wasi_host.specs.Sides.{KnowsSides};
 ghost use Rattle.wasi_host.specs.Views.{SameView, state_of};
@@ -107,6 +107,69 @@ impl Store {
         };
         let begun = record.poll_bind(world, bind)?;
         Ok(self.stand(line, place, begun))
+    }
+}
+
+impl Store {
+    /// Takes out the listen that stands under this number: its socket's number, where one does.
+    fn take_listen(&mut self, line: u32) -> Option<usize>
+        ensures taken { result ≡ waiting_listen self.old.standing line }
+        ensures some { IsSome result → self.new ≡ unstood self.old }
+        ensures none { IfNone result (self.new ≡ self.old) }
+    {
+        if !self.stands(line) {
+            return None;
+        }
+        match self.standing.take() {
+            Some(
+                Standing {
+                    call: StandingCall::Listen { socket },
+                    ..
+                },
+            ) => Some(socket),
+            other => {
+                self.standing = other;
+                None
+            }
+        }
+    }
+
+    /// Polls the listen that stands under this number; none where no listen does. While it is pending it stands on.
+    pub fn resume_listen<W: World>(
+        &mut self,
+        world: &mut W,
+        line: u32,
+    ) -> Result<Option<Answer<()>>, SocketError>
+        requires { (W.seen world.old).ended ≡ false }
+        ensures asked { AsksFor (resume_listen_asks self.old line) (W.seen world.old) (W.seen world.new) (λ answer. (answer, self.new)) (host_outcome result) }
+        ensures sides { KnowsSides (W.seen world.old) self.old → KnowsSides (W.seen world.new) self.new }
+        ensures open { (W.seen world.new).ended ≡ false }
+    {
+        let Some(place) = self.take_listen(line) else {
+            return Ok(None);
+        };
+        let answer = self.relisten(world, line, place)?;
+        Ok(Some(answer))
+    }
+
+    /// Polls a listen that stood.
+    fn relisten<W: World>(
+        &mut self,
+        world: &mut W,
+        line: u32,
+        place: usize,
+    ) -> Result<Answer<()>, SocketError>
+        requires open { (W.seen world.old).ended ≡ false }
+        requires nothing { self.old.standing ≡ None }
+        ensures asked { AsksFor (relisten_at self.old line place (slice_get self.old.sockets place)) (W.seen world.old) (W.seen world.new) (λ answer. (answer, self.new)) (host_outcome result) }
+        ensures sides { KnowsSides (W.seen world.old) self.old → KnowsSides (W.seen world.new) self.new }
+        ensures open { (W.seen world.new).ended ≡ false }
+    {
+        let Some(record) = self.sockets.get_mut(place) else {
+            return Err(SocketError::Trap(TrapKind::NoSuchHandle));
+        };
+        let answer = record.poll_listen(world)?;
+        Ok(self.stand_listening(line, place, answer))
     }
 }
 

@@ -1,11 +1,11 @@
 //! Pollables, and whether what they watch is ready.
 
-ghost use Rattle.std.specs.Prelude.{◌≡◌, false, slice_get};
+ghost use Rattle.std.specs.Prelude.{◌≡◌, ◌+◌, ◌<◌, ◌^◌, false, slice_get};
 ghost use Rattle.wasi_world.specs.Asks.{AsksFor};
 ghost use Rattle.wasi_host.specs.Host.{fault_outcome};
 ghost use Rattle.wasi_host.specs.Kinds.{place_in};
-ghost use Rattle.wasi_host.specs.Machine.{own_of, subscribe_asks, ready_asks};
-ghost use Rattle.wasi_host.specs.Readiness.{ready_at};
+ghost use Rattle.wasi_host.specs.Machine.{own_of, subscribe_asks, ready_asks, ids_after_ready};
+ghost use Rattle.wasi_host.specs.Readiness.{ready_at, ready_ids_at};
 ghost use Rattle.wasi_host.specs.Sides.{KnowsSides};
 ghost use Rattle.wasi_host.specs.Views.{SameView, state_of};
 
@@ -14,25 +14,27 @@ use crate::kind::{Kind, Watched};
 use crate::store::Store;
 use crate::view::WasiSocketsCtxView;
 use wasi_streams::{Fault, TrapKind};
-use wasi_world::{Handle, Ids, OpId, World};
+use wasi_world::{Handle, Ids, World};
 
 impl Store {
     /// One look at what is watched.
     pub(crate) fn poll_ready<W: World>(
         &mut self,
         world: &mut W,
-        op: OpId,
+        ids: &mut Ids,
         watched: Watched,
     ) -> Result<bool, Fault>
-        requires { (W.seen world.old).ended ≡ false }
-        ensures asked { AsksFor (ready_at self.old op watched (place_in watched) (slice_get self.old.sockets (place_in watched))) (W.seen world.old) (W.seen world.new) (λ ready. (ready, self.new)) (fault_outcome result) }
+        requires open { (W.seen world.old).ended ≡ false }
+        requires names { ids.old.next_part + 1 < 2 ^ 64 }
+        ensures asked { AsksFor (ready_at self.old (own_of ids.old.line) ids.old watched (place_in watched) (slice_get self.old.sockets (place_in watched))) (W.seen world.old) (W.seen world.new) (λ ready. (ready, self.new)) (fault_outcome result) }
         ensures sides { KnowsSides (W.seen world.old) self.old → KnowsSides (W.seen world.new) self.new }
+        ensures ids { ids.new ≡ ready_ids_at ids.old watched (slice_get self.old.sockets (place_in watched)) }
         ensures open { (W.seen world.new).ended ≡ false }
     {
         let Some(record) = self.sockets.get_mut(watched.place()) else {
             return Err(Fault::Trap(TrapKind::NoSuchHandle));
         };
-        record.poll_ready(world, op, watched)
+        record.poll_ready(world, ids, watched)
     }
 }
 
@@ -58,23 +60,25 @@ pub fn subscribe<W: World>(
     handles::make(view.table, world, ids.own(), kind, Some(this), side)
 }
 
-/// Whether what a pollable watches is ready (`pollable.ready`), by one look: the connect in progress of a socket is polled,
-/// and of a stream it is asked whether it is ready. An error is ready too.
+/// Whether what a pollable watches is ready (`pollable.ready`), by one look: the connect in progress of a socket is polled, or
+/// the accept of a listener with nothing in progress, whose result is left to [`accept`](Store::accept); and of a stream it is
+/// asked whether it is ready. An error is ready too. An accept that begins takes the next name of the line.
 pub fn ready<W: World>(
     view: &mut WasiSocketsCtxView<'_>,
     world: &mut W,
     ids: &mut Ids,
     pollable: Handle,
 ) -> Result<bool, Fault>
-    requires { (W.seen world.old).ended ≡ false }
-    ensures asked { AsksFor (ready_asks (state_of view.old) (own_of ids.old.line) pollable) (W.seen world.old) (W.seen world.new) (λ ready. (ready, state_of view.new)) (fault_outcome result) }
+    requires open { (W.seen world.old).ended ≡ false }
+    requires names { ids.old.next_part + 1 < 2 ^ 64 }
+    ensures asked { AsksFor (ready_asks (state_of view.old) ids.old pollable) (W.seen world.old) (W.seen world.new) (λ ready. (ready, state_of view.new)) (fault_outcome result) }
     ensures sides { KnowsSides (W.seen world.old) view.old.store.now → KnowsSides (W.seen world.new) view.new.store.now }
     ensures view { SameView view.old view.new }
-    ensures ids { ids.new ≡ ids.old }
+    ensures ids { ids.new ≡ ids_after_ready (state_of view.old) ids.old pollable }
     ensures open { (W.seen world.new).ended ≡ false }
 {
     let Some(watched) = handles::watch(view.table, pollable) else {
         return Err(Fault::Trap(TrapKind::NoSuchHandle));
     };
-    view.store.poll_ready(world, ids.own(), watched)
+    view.store.poll_ready(world, ids, watched)
 }

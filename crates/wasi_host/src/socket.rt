@@ -1,27 +1,30 @@
 //! A TCP socket as the guest of the 0.2 interface has it.
 
-ghost use Rattle.std.specs.Prelude.{◌≡◌, ◌&&◌, not, OnErr, false, None, Ok, Some};
+ghost use Rattle.std.specs.Prelude.{◌≡◌, ◌&&◌, ◌+◌, ◌<◌, ◌^◌, not, OnErr, false, None, Ok, Some};
 ghost use Rattle.wasi_streams.specs.StreamStop.{stream_outcome};
 ghost use Rattle.wasi_tcp.specs.Reader.{read_state_asks};
 ghost use Rattle.wasi_tcp.specs.Writer.{check_write_asks, write_state_asks};
 ghost use Rattle.wasi_world.specs.Asks.{AsksFor, outcome};
 ghost use Rattle.wasi_tcp.specs.Bind.{IsBind};
 ghost use Rattle.wasi_tcp.specs.Socket.{side_of};
-ghost use Rattle.wasi_host.specs.Dropping.{give_streams_up, close_record, release_asks, wait_writer, waits_told};
+ghost use Rattle.wasi_host.specs.Dropping.{give_streams_up, close_record, release_asks, release_connection, wait_writer, waits_told};
 ghost use Rattle.wasi_host.specs.Host.{fault_outcome, host_outcome};
 ghost use Rattle.wasi_host.specs.Jobs.{is_working, works_in, turn_record};
-ghost use Rattle.wasi_host.specs.Readiness.{look_told, over_told, read_told, ready_record, ready_socket, ready_reader, ready_writer};
+ghost use Rattle.wasi_host.specs.Readiness.{look_told, over_told, read_told, ready_record, ready_socket, ready_listening, ready_reader, ready_writer, ready_ids, socket_ids};
+ghost use Rattle.wasi_host.specs.Listening.{ids_of};
+ghost use Rattle.wasi_host.specs.Machine.{own_of};
 ghost use Rattle.wasi_host.specs.Shutdowns.{shut_receive, shut_send, shut_streams, shut_record};
-ghost use Rattle.wasi_host.specs.Sides.{ClosesOwn, MakesNone};
-ghost use Rattle.wasi_host.specs.Store.{is_nothing, is_bind, is_connect, begin_bind_asks, poll_bind_asks, begin_connect_asks, poll_connect_asks, connect_told, connect_settled, opened, reader_asks, writer_asks, flush_asks, tell_local_asks, tell_remote_asks, new_record};
+ghost use Rattle.wasi_host.specs.Sides.{Balances, MakesNone};
+ghost use Rattle.wasi_host.specs.Store.{is_nothing, is_bind, is_connect, is_listen, begin_bind_asks, poll_bind_asks, begin_connect_asks, poll_connect_asks, connect_told, connect_settled, opened, reader_asks, writer_asks, flush_asks, tell_local_asks, tell_remote_asks, new_record};
 
 use crate::error::SocketError;
 use crate::kind::Watched;
+use crate::listening::Listening;
 use std::alloc::{AllocError, Global};
 use wasi_addr::{IpSocketAddress, ShutdownType, p2};
 use wasi_streams::{Fault, StreamError};
 use wasi_tcp::{BindOp, ReadState, TcpSocket, WriteState};
-use wasi_world::{Answer, Octets, OpId, Refusal, Sock, TrapKind, World};
+use wasi_world::{Answer, Ids, Octets, OpId, Refusal, Sock, TrapKind, World};
 
 /// The operation that was started and isn't finished.
 #[derive(Clone, Copy, Debug, PartialEq, Eq)]
@@ -29,6 +32,7 @@ pub enum InProgress {
     Nothing,
     Bind,
     Connect,
+    Listen,
 }
 
 impl InProgress {
@@ -48,6 +52,12 @@ impl InProgress {
         ensures { result ≡ is_connect self }
     {
         matches!(self, InProgress::Connect)
+    }
+
+    pub fn is_listen(self) -> bool
+        ensures { result ≡ is_listen self }
+    {
+        matches!(self, InProgress::Listen)
     }
 }
 
@@ -132,7 +142,7 @@ fn is_over(polled: Result<Answer<()>, Refusal>) -> Result<bool, Fault>
     }
 }
 
-/// Whether a reader is ready, by a look at it.
+/// Whether a reader or a listener is ready, by a look at it.
 fn is_read(looked: Result<Answer<()>, AllocError>) -> Result<bool, Fault>
     ensures { fault_outcome result ≡ read_told looked }
 {
@@ -165,13 +175,14 @@ fn wait_answer(looked: Result<Answer<()>, StreamError>) -> Result<Answer<()>, Al
     }
 }
 
-/// The socket, its operation in progress, and its streams once they were made.
+/// The socket, its operation in progress, how far it is with listening, and its streams once they were made.
 #[derive(Drop)]
 pub struct Tcp2Socket {
     pub inner: TcpSocket,
     /// The network side that it was made with, also once that is closed: its handles are marked with it.
     pub side: Option<Sock>,
     pub in_progress: InProgress,
+    pub listening: Listening,
     pub streams: Option<Streams>,
 }
 
@@ -184,6 +195,7 @@ impl Tcp2Socket {
             inner,
             side,
             in_progress: InProgress::Nothing,
+            listening: Listening::Not,
             streams: None,
         }
     }
@@ -198,6 +210,7 @@ impl Tcp2Socket {
         requires { (W.seen world.old).ended ≡ false }
         ensures asked { AsksFor (begin_bind_asks op self.old addr) (W.seen world.old) (W.seen world.new) (λ begun. (begun, self.new)) (outcome result) }
         ensures side { side_of self.new.inner ≡ side_of self.old.inner }
+        ensures listening { self.new.listening ≡ self.old.listening }
         ensures open { (W.seen world.new).ended ≡ false }
     {
         let bind = self.inner.bind(world, op, addr)?;
@@ -214,6 +227,7 @@ impl Tcp2Socket {
         ensures asked { AsksFor (poll_bind_asks bind self.old) (W.seen world.old) (W.seen world.new) (λ begun. (begun, self.new)) (outcome result) }
         ensures bind { IsBind bind }
         ensures side { side_of self.new.inner ≡ side_of self.old.inner }
+        ensures listening { self.new.listening ≡ self.old.listening }
         ensures open { (W.seen world.new).ended ≡ false }
     {
         let answer = bind.poll(world, &mut self.inner)?;
@@ -236,6 +250,7 @@ impl Tcp2Socket {
         requires { (W.seen world.old).ended ≡ false }
         ensures asked { AsksFor (begin_connect_asks op self.old addr) (W.seen world.old) (W.seen world.new) (λ done. (done, self.new)) (outcome result) }
         ensures side { side_of self.new.inner ≡ side_of self.old.inner }
+        ensures listening { self.new.listening ≡ self.old.listening }
         ensures open { (W.seen world.new).ended ≡ false }
     {
         self.inner.start_connect(world, op, addr)?;
@@ -247,7 +262,7 @@ impl Tcp2Socket {
     pub fn poll_connect<W: World>(&mut self, world: &mut W) -> Result<(), SocketError>
         requires { (W.seen world.old).ended ≡ false }
         ensures asked { AsksFor (poll_connect_asks self.old) (W.seen world.old) (W.seen world.new) (λ done. (done, self.new)) (host_outcome result) }
-        ensures closed { ClosesOwn (W.seen world.old) (W.seen world.new) self.old.inner self.new.inner }
+        ensures sides { Balances (W.seen world.old) (W.seen world.new) 0 self.old self.new }
         ensures open { (W.seen world.new).ended ≡ false }
     {
         let polled = self.inner.poll_finish_connect(world);
@@ -274,7 +289,7 @@ impl Tcp2Socket {
     }
 
     /// Takes the two halves of the connection. With no operation in progress.
-    fn open_streams(&mut self) -> Result<(), SocketError>
+    pub(crate) fn open_streams(&mut self) -> Result<(), SocketError>
         requires { self.old.in_progress ≡ InProgress.Nothing }
         ensures told { host_outcome result ≡ Ok (opened self.old self.old.inner).0 }
         ensures record { self.new ≡ (opened self.old self.old.inner).1 }
@@ -306,6 +321,7 @@ impl Tcp2Socket {
         requires { (W.seen world.old).ended ≡ false }
         ensures asked { AsksFor (tell_local_asks op self.old) (W.seen world.old) (W.seen world.new) (λ told. (told, self.new)) (outcome result) }
         ensures side { side_of self.new.inner ≡ side_of self.old.inner }
+        ensures listening { self.new.listening ≡ self.old.listening }
         ensures open { (W.seen world.new).ended ≡ false }
     {
         self.inner.local_address(world, op)
@@ -320,6 +336,7 @@ impl Tcp2Socket {
         requires { (W.seen world.old).ended ≡ false }
         ensures asked { AsksFor (tell_remote_asks op self.old) (W.seen world.old) (W.seen world.new) (λ told. (told, self.new)) (outcome result) }
         ensures side { side_of self.new.inner ≡ side_of self.old.inner }
+        ensures listening { self.new.listening ≡ self.old.listening }
         ensures open { (W.seen world.new).ended ≡ false }
     {
         self.inner.remote_address(world, op)
@@ -336,6 +353,7 @@ impl Tcp2Socket {
         requires { (W.seen world.old).ended ≡ false }
         ensures asked { AsksFor (reader_asks (λ r. read_state_asks op r len) self.old) (W.seen world.old) (W.seen world.new) (λ answer. (answer, self.new)) (stream_outcome result) }
         ensures side { side_of self.new.inner ≡ side_of self.old.inner }
+        ensures listening { self.new.listening ≡ self.old.listening }
         ensures open { (W.seen world.new).ended ≡ false }
     {
         match &mut self.streams {
@@ -349,6 +367,7 @@ impl Tcp2Socket {
         requires { (W.seen world.old).ended ≡ false }
         ensures asked { AsksFor (writer_asks (check_write_asks op) self.old) (W.seen world.old) (W.seen world.new) (λ answer. (answer, self.new)) (stream_outcome result) }
         ensures side { side_of self.new.inner ≡ side_of self.old.inner }
+        ensures listening { self.new.listening ≡ self.old.listening }
         ensures open { (W.seen world.new).ended ≡ false }
     {
         match &mut self.streams {
@@ -367,6 +386,7 @@ impl Tcp2Socket {
         requires { (W.seen world.old).ended ≡ false }
         ensures asked { AsksFor (writer_asks (λ w. write_state_asks op w bytes) self.old) (W.seen world.old) (W.seen world.new) (λ answer. (answer, self.new)) (stream_outcome result) }
         ensures side { side_of self.new.inner ≡ side_of self.old.inner }
+        ensures listening { self.new.listening ≡ self.old.listening }
         ensures open { (W.seen world.new).ended ≡ false }
     {
         match &mut self.streams {
@@ -386,6 +406,7 @@ impl Tcp2Socket {
         ensures asked { AsksFor (writer_asks (λ w. write_state_asks op w bytes) self.old) (W.seen world.old) (W.seen world.new) (λ answer. (answer, self.new)) (stream_outcome result.0) }
         ensures begins { result.1 ≡ (not (works_in self.old.streams) && works_in self.new.streams) }
         ensures side { side_of self.new.inner ≡ side_of self.old.inner }
+        ensures listening { self.new.listening ≡ self.old.listening }
         ensures open { (W.seen world.new).ended ≡ false }
     {
         let before = self.has_job();
@@ -399,6 +420,7 @@ impl Tcp2Socket {
         requires { (W.seen world.old).ended ≡ false }
         ensures asked { AsksFor (writer_asks flush_asks self.old) (W.seen world.old) (W.seen world.new) (λ answer. (answer, self.new)) (stream_outcome result) }
         ensures side { side_of self.new.inner ≡ side_of self.old.inner }
+        ensures listening { self.new.listening ≡ self.old.listening }
         ensures open { (W.seen world.new).ended ≡ false }
     {
         match &mut self.streams {
@@ -422,6 +444,7 @@ impl Tcp2Socket {
         requires { (W.seen world.old).ended ≡ false }
         ensures asked { AsksFor (turn_record self.old) (W.seen world.old) (W.seen world.new) (λ done. self.new) result }
         ensures inner { self.new.inner ≡ self.old.inner }
+        ensures listening { self.new.listening ≡ self.old.listening }
         ensures none { MakesNone (W.seen world.old) (W.seen world.new) }
         ensures open { (W.seen world.new).ended ≡ false }
     {
@@ -441,6 +464,7 @@ impl Tcp2Socket {
         requires { (W.seen world.old).ended ≡ false }
         ensures asked { AsksFor (shut_record op how self.old self.old.streams) (W.seen world.old) (W.seen world.new) (λ done. (done, self.new)) (host_outcome result) }
         ensures side { side_of self.new.inner ≡ side_of self.old.inner }
+        ensures listening { self.new.listening ≡ self.old.listening }
         ensures open { (W.seen world.new).ended ≡ false }
     {
         let Some(streams) = &mut self.streams else {
@@ -454,33 +478,57 @@ impl Tcp2Socket {
     pub fn poll_ready<W: World>(
         &mut self,
         world: &mut W,
-        op: OpId,
+        ids: &mut Ids,
         watched: Watched,
     ) -> Result<bool, Fault>
-        requires { (W.seen world.old).ended ≡ false }
-        ensures asked { AsksFor (ready_record op watched self.old) (W.seen world.old) (W.seen world.new) (λ ready. (ready, self.new)) (fault_outcome result) }
-        ensures closed { ClosesOwn (W.seen world.old) (W.seen world.new) self.old.inner self.new.inner }
+        requires open { (W.seen world.old).ended ≡ false }
+        requires names { ids.old.next_part + 1 < 2 ^ 64 }
+        ensures asked { AsksFor (ready_record (own_of ids.old.line) ids.old watched self.old) (W.seen world.old) (W.seen world.new) (λ ready. (ready, self.new)) (fault_outcome result) }
+        ensures ids { ids.new ≡ ready_ids ids.old watched self.old }
+        ensures sides { Balances (W.seen world.old) (W.seen world.new) 0 self.old self.new }
         ensures open { (W.seen world.new).ended ≡ false }
     {
         match watched {
-            Watched::Socket(_) => self.connect_ready(world),
-            Watched::Input(_) => self.input_ready(world, op),
-            Watched::Output(_) => self.output_ready(world, op),
+            Watched::Socket(_) => self.socket_ready(world, ids),
+            Watched::Input(_) => self.input_ready(world, ids.own()),
+            Watched::Output(_) => self.output_ready(world, ids.own()),
         }
     }
 
-    /// Polls a connect in progress, which stays in progress; with none it is ready.
-    fn connect_ready<W: World>(&mut self, world: &mut W) -> Result<bool, Fault>
-        requires { (W.seen world.old).ended ≡ false }
-        ensures asked { AsksFor (ready_socket self.old) (W.seen world.old) (W.seen world.new) (λ ready. (ready, self.new)) (fault_outcome result) }
-        ensures closed { ClosesOwn (W.seen world.old) (W.seen world.new) self.old.inner self.new.inner }
+    /// Polls a connect in progress, which stays in progress; with nothing in progress the accept of a listener; else it is ready.
+    fn socket_ready<W: World>(&mut self, world: &mut W, ids: &mut Ids) -> Result<bool, Fault>
+        requires open { (W.seen world.old).ended ≡ false }
+        requires names { ids.old.next_part + 1 < 2 ^ 64 }
+        ensures asked { AsksFor (ready_socket ids.old self.old) (W.seen world.old) (W.seen world.new) (λ ready. (ready, self.new)) (fault_outcome result) }
+        ensures ids { ids.new ≡ socket_ids self.old ids.old (is_connect self.old.in_progress) }
+        ensures sides { Balances (W.seen world.old) (W.seen world.new) 0 self.old self.new }
         ensures open { (W.seen world.new).ended ≡ false }
     {
-        if !self.in_progress.is_connect() {
+        if self.in_progress.is_connect() {
+            let polled = self.inner.poll_finish_connect(world);
+            return is_over(polled);
+        }
+        if !self.in_progress.is_nothing() {
             return Ok(true);
         }
-        let polled = self.inner.poll_finish_connect(world);
-        is_over(polled)
+        self.accept_ready(world, ids)
+    }
+
+    /// Polls the accept of a listener, and leaves its result; what doesn't listen is ready.
+    fn accept_ready<W: World>(&mut self, world: &mut W, ids: &mut Ids) -> Result<bool, Fault>
+        requires open { (W.seen world.old).ended ≡ false }
+        requires names { ids.old.next_part + 1 < 2 ^ 64 }
+        ensures asked { AsksFor (ready_listening ids.old self.old self.old.listening) (W.seen world.old) (W.seen world.new) (λ ready. (ready, self.new)) (fault_outcome result) }
+        ensures ids { ids.new ≡ ids_of self.old.listening ids.old }
+        ensures sides { Balances (W.seen world.old) (W.seen world.new) 0 self.old self.new }
+        ensures open { (W.seen world.new).ended ≡ false }
+    {
+        match &mut self.listening {
+            Listening::Accepts(listener) => is_read(listener.poll_ready(world, ids)),
+            Listening::Not => Ok(true),
+            Listening::Begins(_) => Ok(true),
+            Listening::Unclosed(_) => Ok(true),
+        }
     }
 
     /// Whether there is something to read.
@@ -488,6 +536,7 @@ impl Tcp2Socket {
         requires { (W.seen world.old).ended ≡ false }
         ensures asked { AsksFor (ready_reader op self.old self.old.streams) (W.seen world.old) (W.seen world.new) (λ ready. (ready, self.new)) (fault_outcome result) }
         ensures inner { self.new.inner ≡ self.old.inner }
+        ensures listening { self.new.listening ≡ self.old.listening }
         ensures open { (W.seen world.new).ended ≡ false }
     {
         match &mut self.streams {
@@ -501,6 +550,7 @@ impl Tcp2Socket {
         requires { (W.seen world.old).ended ≡ false }
         ensures asked { AsksFor (ready_writer op self.old self.old.streams) (W.seen world.old) (W.seen world.new) (λ ready. (ready, self.new)) (fault_outcome result) }
         ensures inner { self.new.inner ≡ self.old.inner }
+        ensures listening { self.new.listening ≡ self.old.listening }
         ensures open { (W.seen world.new).ended ≡ false }
     {
         match &mut self.streams {
@@ -518,6 +568,7 @@ impl Tcp2Socket {
         requires { (W.seen world.old).ended ≡ false }
         ensures asked { AsksFor (wait_writer op self.old self.old.streams) (W.seen world.old) (W.seen world.new) (λ answer. (answer, self.new)) result }
         ensures inner { self.new.inner ≡ self.old.inner }
+        ensures listening { self.new.listening ≡ self.old.listening }
         ensures open { (W.seen world.new).ended ≡ false }
     {
         match &mut self.streams {
@@ -526,12 +577,24 @@ impl Tcp2Socket {
         }
     }
 
-    /// Gives up what it has: the open halves, the receiving one first, and then its network side. A write that goes on ends
-    /// with its rest unwritten.
+    /// Gives up what it has: what it listens by, the open halves, the receiving one first, and then its network side. A write
+    /// that goes on ends with its rest unwritten.
     pub fn release<W: World>(&mut self, world: &mut W, op: OpId) -> Result<(), AllocError>
         requires { (W.seen world.old).ended ≡ false }
         ensures asked { AsksFor (release_asks op self.old) (W.seen world.old) (W.seen world.new) (λ done. (done, self.new)) result }
-        ensures closed { ClosesOwn (W.seen world.old) (W.seen world.new) self.old.inner self.new.inner }
+        ensures sides { Balances (W.seen world.old) (W.seen world.new) 0 self.old self.new }
+        ensures open { (W.seen world.new).ended ≡ false }
+    {
+        self.give_listening_up(world)?;
+        self.release_connection(world, op)
+    }
+
+    /// Gives up the open halves, the receiving one first, and then its network side. It doesn't listen.
+    fn release_connection<W: World>(&mut self, world: &mut W, op: OpId) -> Result<(), AllocError>
+        requires open { (W.seen world.old).ended ≡ false }
+        requires not { self.old.listening ≡ Listening.Not }
+        ensures asked { AsksFor (release_connection op self.old) (W.seen world.old) (W.seen world.new) (λ done. (done, self.new)) result }
+        ensures sides { Balances (W.seen world.old) (W.seen world.new) 0 self.old self.new }
         ensures open { (W.seen world.new).ended ≡ false }
     {
         self.give_streams_up(world, op)?;
@@ -553,7 +616,8 @@ impl Tcp2Socket {
 
     /// Closes the network side, where there is one.
     fn close<W: World>(&mut self, world: &mut W, op: OpId) -> Result<(), AllocError>
-        requires { (W.seen world.old).ended ≡ false }
+        requires open { (W.seen world.old).ended ≡ false }
+        requires not { self.old.listening ≡ Listening.Not }
         ensures asked { AsksFor (close_record op self.old) (W.seen world.old) (W.seen world.new) (λ done. (done, self.new)) result }
         ensures err { OnErr result (self.new ≡ self.old) }
         ensures unasked { OnErr result (W.seen world.new ≡ W.seen world.old) }

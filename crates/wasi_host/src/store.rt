@@ -7,7 +7,7 @@ ghost use Rattle.wasi_host.specs.Host.{host_outcome};
 ghost use Rattle.wasi_host.specs.Jobs.{jobs_with, write_at};
 ghost use Rattle.wasi_host.specs.Pending.{exclusive_of, stands_as};
 ghost use Rattle.wasi_host.specs.Shutdowns.{shutdown_at};
-ghost use Rattle.wasi_host.specs.Store.{no_records, start_bind_at, finish_bind_at, start_connect_at, finish_connect_at, local_address_at, remote_address_at, is_listening_at, address_family_at, reader_asks, writer_asks, flush_asks, stream_at, with_record, stood};
+ghost use Rattle.wasi_host.specs.Store.{no_records, is_bind, is_listen, start_bind_at, finish_at, start_connect_at, finish_connect_at, local_address_at, remote_address_at, is_listening_at, address_family_at, reader_asks, writer_asks, flush_asks, stream_at, with_record, stood};
 ghost use Rattle.wasi_streams.specs.StreamStop.{stream_outcome};
 ghost use Rattle.wasi_tcp.specs.Reader.{read_state_asks};
 ghost use Rattle.wasi_tcp.specs.Writer.{check_write_asks, write_state_asks};
@@ -29,6 +29,8 @@ use wasi_world::{Answer, Handle, Octets, OpId, Sock, TrapKind, WasiSocketsCtx, W
 pub enum StandingCall {
     /// Binds the socket of this number.
     Bind { socket: usize, bind: BindOp },
+    /// Makes the socket of this number listen; its record has the operation.
+    Listen { socket: usize },
     /// Drops the output of the socket of this number, and waits until its writer is ready.
     DropOutput { socket: usize },
 }
@@ -125,13 +127,29 @@ impl Store {
     /// Ends the bind in progress. None is: `NotInProgress`.
     pub fn finish_bind(&mut self, place: usize) -> Result<(), SocketError>
         ensures sides { (s : Seen) → KnowsSides s self.old → KnowsSides s self.new }
-        ensures answer { host_outcome result ≡ Ok (finish_bind_at self.old place (slice_get self.old.sockets place)).0 }
-        ensures state { self.new ≡ (finish_bind_at self.old place (slice_get self.old.sockets place)).1 }
+        ensures answer { host_outcome result ≡ Ok (finish_at is_bind self.old place (slice_get self.old.sockets place)).0 }
+        ensures state { self.new ≡ (finish_at is_bind self.old place (slice_get self.old.sockets place)).1 }
     {
         let Some(record) = self.sockets.get_mut(place) else {
             return Err(SocketError::Trap(TrapKind::NoSuchHandle));
         };
         if !record.in_progress.is_bind() {
+            return Err(SocketError::Code(p2::ErrorCode::NotInProgress));
+        }
+        record.in_progress = InProgress::Nothing;
+        Ok(())
+    }
+
+    /// Ends the listen in progress. None is: `NotInProgress`.
+    pub fn finish_listen(&mut self, place: usize) -> Result<(), SocketError>
+        ensures sides { (s : Seen) → KnowsSides s self.old → KnowsSides s self.new }
+        ensures answer { host_outcome result ≡ Ok (finish_at is_listen self.old place (slice_get self.old.sockets place)).0 }
+        ensures state { self.new ≡ (finish_at is_listen self.old place (slice_get self.old.sockets place)).1 }
+    {
+        let Some(record) = self.sockets.get_mut(place) else {
+            return Err(SocketError::Trap(TrapKind::NoSuchHandle));
+        };
+        if !record.in_progress.is_listen() {
             return Err(SocketError::Code(p2::ErrorCode::NotInProgress));
         }
         record.in_progress = InProgress::Nothing;

@@ -1,7 +1,7 @@
 use Rattle.std.proofs.Common.{refl}
 use Rattle.wasi_world.proofs.Walks.{asks_end}
 use Rattle.wasi_host.proofs.Hosts.{fault_exit, fault_on}
-use Rattle.wasi_host.proofs.Lookups.{stays_live}
+use Rattle.wasi_host.proofs.Lookups.{stays_live, comes_live}
 use Rattle.wasi_host.proofs.SideCounts.{Any, knows_calm, calm_made}
 use Rattle.wasi_host.proofs.handles.make.Goals as goal
 
@@ -19,6 +19,9 @@ returns-clause-asked g c = rw (← c.is_full.ensures.full, c.if-is_full.false) (
 
 pub returns-clause-stay : goal.returns-clause-stay
 returns-clause-stay g c = λ h k. stays_live c.args.table.now _ _ _ h c.in_ok-handle.ensures.ok.1 k
+
+pub returns-clause-live : goal.returns-clause-live
+returns-clause-live g c = comes_live c.args.table.now _ _ _ _ c.in_ok-handle.ensures.ok.0 c.in_ok-handle.ensures.ok.1
 
 pub returns-clause-sides : goal.returns-clause-sides
 returns-clause-sides g c = λ store k. knows_calm Any store store (calm_made c.args.op c.next.result c.name.result c.args.parent c.args.side) c.in_ok-made.ensures.asked.ok refl k

@@ -15,4 +15,4 @@ pub returns-clause-asked : goal.returns-clause-asked
 returns-clause-asked g c = rw (found_at c.args.sockets.now.items c.args.place c.in-Some.record c.in-Some.ensures.item) (asks_gives (slice_set c.args.sockets.now.items c.args.place) c.turn.ensures.asked)
 
 pub returns-clause-held : goal.returns-clause-held
-returns-clause-held g c = held_in-set c.args.sockets.now.items c.args.place c.in-Some.record.now c.turn.new.self (found_at c.args.sockets.now.items c.args.place c.in-Some.record c.in-Some.ensures.item) (ap side_of c.turn.ensures.inner)
+returns-clause-held g c = held_in-set c.args.sockets.now.items c.args.place c.in-Some.record.now c.turn.new.self (found_at c.args.sockets.now.items c.args.place c.in-Some.record c.in-Some.ensures.item) (ap side_of c.turn.ensures.inner) c.turn.ensures.listening

@@ -1,8 +1,9 @@
-use Rattle.std.proofs.Common.{ap, refl}
+use Rattle.std.proofs.Common.{ap}
 use Rattle.wasi_world.proofs.Walks.{asks_exit, asks_end}
 use Rattle.wasi_tcp.specs.Shape.{Socket}
 use Rattle.wasi_host.specs.declared.socket.Tcp2Socket.{Tcp2Socket}
 use Rattle.wasi_host.proofs.Looks.{on_err}
+use Rattle.wasi_host.proofs.Releases.{gone_as}
 use Rattle.wasi_host.proofs.socket.Tcp2Socket.close.Goals as goal
 
 pub returns-in_err-close-clause-asked : goal.returns-in_err-close-clause-asked
@@ -12,4 +13,4 @@ pub returns-in_err-close-clause-err : goal.returns-in_err-close-clause-err
 returns-in_err-close-clause-err g c = on_err c.from_residual.result (ap (λ (i : Socket). let r : Tcp2Socket = record c.args.self.now { inner = i } in r) c.in_err-close.ensures.err)
 
 pub returns-clause-asked : goal.returns-clause-asked
-returns-clause-asked g c = asks_end _ c.in_ok-close.ensures.asked.ok refl
+returns-clause-asked g c = asks_end _ c.in_ok-close.ensures.asked.ok (gone_as c.args.self.now _ c.requires.not)

@@ -18,5 +18,5 @@ returns-in_default-clause-asked g c = rw (← c.self.view_is, none_at c.self.ins
 pub returns-clause-sides : goal.returns-clause-sides
 returns-clause-sides g c = λ k.
     knows_asked Any _ _ _ (calm_writer _ c.in-Some.record.now (calm_check c.args.op)) c.check_write.ensures.asked
-    (held_in-set c.self.inside.sockets.items c.args.place c.in-Some.record.now c.check_write.new.self (found_at c.self.inside.sockets.items c.args.place c.in-Some.record c.in-Some.ensures.item) c.check_write.ensures.side)
+    (held_in-set c.self.inside.sockets.items c.args.place c.in-Some.record.now c.check_write.new.self (found_at c.self.inside.sockets.items c.args.place c.in-Some.record c.in-Some.ensures.item) c.check_write.ensures.side c.check_write.ensures.listening)
     (rw (← c.self.view_is) at k)

@@ -1,7 +1,7 @@
 use Rattle.std.proofs.Common.{Bool, List, ap, sym, ◌∙◌, refl}
 use Rattle.wasi_host.specs.declared.socket.InProgress.TheVariants.{Nothing}
 use Rattle.wasi_host.specs.declared.socket.Tcp2Socket.{Tcp2Socket}
-use Rattle.wasi_host.specs.Store.{Records, finish_bind_by}
+use Rattle.wasi_host.specs.Store.{Records, finish_by}
 use Rattle.wasi_host.proofs.Lookups.{found_at, set_back}
 use Rattle.wasi_host.proofs.SideCounts.{held_in-set, knows_same}
 use Rattle.wasi_host.proofs.store.Store.finish_bind.Goals as goal
@@ -11,7 +11,7 @@ returns-then-not-is_bind-clause-state c =
     let store : Records = record { sockets = c.self.inside.sockets.items; jobs = c.self.inside.jobs.items; standing = c.self.inside.standing } in
     rw (← c.self.view_is, found_at c.self.inside.sockets.items c.args.place c.in-Some.record c.in-Some.ensures.item)
     (ap (λ (l : List Tcp2Socket). let r : Records = record store { sockets = l } in r) (set_back c.self.inside.sockets.items c.args.place c.in-Some.record c.in-Some.ensures.item)
-    ∙ sym (ap (λ (b : Bool). (finish_bind_by store c.args.place c.in-Some.record.now b).1) (sym c.is_bind.ensures ∙ c.if-not-is_bind.true)))
+    ∙ sym (ap (λ (b : Bool). (finish_by store c.args.place c.in-Some.record.now b).1) (sym c.is_bind.ensures ∙ c.if-not-is_bind.true)))
 
 pub returns-clause-answer : goal.returns-clause-answer
 returns-clause-answer c = rw (← c.self.view_is, found_at c.self.inside.sockets.items c.args.place c.in-Some.record c.in-Some.ensures.item, ← c.is_bind.ensures, c.if-not-is_bind.false) refl
@@ -21,4 +21,4 @@ returns-clause-state c = rw (← c.self.view_is, found_at c.self.inside.sockets.
 
 pub returns-clause-sides : goal.returns-clause-sides
 returns-clause-sides c = λ s k.
-    knows_same _ _ (held_in-set c.self.inside.sockets.items c.args.place c.in-Some.record.now (record c.in-Some.record.now { in_progress = Nothing }) (found_at c.self.inside.sockets.items c.args.place c.in-Some.record c.in-Some.ensures.item) refl) (rw (← c.self.view_is) at k)
+    knows_same _ _ (held_in-set c.self.inside.sockets.items c.args.place c.in-Some.record.now (record c.in-Some.record.now { in_progress = Nothing }) (found_at c.self.inside.sockets.items c.args.place c.in-Some.record c.in-Some.ensures.item) refl refl) (rw (← c.self.view_is) at k)

@@ -29,4 +29,4 @@ returns-clause-asked g c =
 pub returns-clause-sides : goal.returns-clause-sides
 returns-clause-sides g c = λ k.
     let store : Records = record { sockets = c.self.inside.sockets.items; jobs = c.self.inside.jobs.items; standing = c.self.inside.standing } in
-    knows_polled store c.args.place c.in-Some.record.now c.poll_connect.new.self (found_at c.self.inside.sockets.items c.args.place c.in-Some.record c.in-Some.ensures.item) c.poll_connect.ensures.closed (rw (← c.self.view_is) at k)
+    knows_polled store c.args.place c.in-Some.record.now c.poll_connect.new.self (found_at c.self.inside.sockets.items c.args.place c.in-Some.record c.in-Some.ensures.item) c.poll_connect.ensures.sides (rw (← c.self.view_is) at k)

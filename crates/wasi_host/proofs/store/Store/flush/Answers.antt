@@ -18,5 +18,5 @@ returns-in_default-clause-asked g c = rw (← c.self.view_is, none_at c.self.ins
 pub returns-clause-sides : goal.returns-clause-sides
 returns-clause-sides g c = λ k.
     knows_asked Any _ _ _ (calm_writer _ c.in-Some.record.now (λ w. tt)) c.flush.ensures.asked
-    (held_in-set c.self.inside.sockets.items c.args.place c.in-Some.record.now c.flush.new.self (found_at c.self.inside.sockets.items c.args.place c.in-Some.record c.in-Some.ensures.item) c.flush.ensures.side)
+    (held_in-set c.self.inside.sockets.items c.args.place c.in-Some.record.now c.flush.new.self (found_at c.self.inside.sockets.items c.args.place c.in-Some.record c.in-Some.ensures.item) c.flush.ensures.side c.flush.ensures.listening)
     (rw (← c.self.view_is) at k)

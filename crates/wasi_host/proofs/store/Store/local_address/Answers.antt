@@ -21,11 +21,11 @@ returns-clause-asked g c =
 pub returns-in_err-addr-clause-sides : goal.returns-in_err-addr-clause-sides
 returns-in_err-addr-clause-sides g c = λ k.
     knows_asked Any _ _ _ (calm_tell_local c.args.op c.in-Some.record.now) c.in_err-addr.ensures.asked
-    (held_in-set c.self.inside.sockets.items c.args.place c.in-Some.record.now c.local_address.new.self (found_at c.self.inside.sockets.items c.args.place c.in-Some.record c.in-Some.ensures.item) c.local_address.ensures.side)
+    (held_in-set c.self.inside.sockets.items c.args.place c.in-Some.record.now c.local_address.new.self (found_at c.self.inside.sockets.items c.args.place c.in-Some.record c.in-Some.ensures.item) c.local_address.ensures.side c.local_address.ensures.listening)
     (rw (← c.self.view_is) at k)
 
 pub returns-clause-sides : goal.returns-clause-sides
 returns-clause-sides g c = λ k.
     knows_calm Any _ _ (calm_tell_local c.args.op c.in-Some.record.now) c.in_ok-addr.ensures.asked.ok
-    (held_in-set c.self.inside.sockets.items c.args.place c.in-Some.record.now c.local_address.new.self (found_at c.self.inside.sockets.items c.args.place c.in-Some.record c.in-Some.ensures.item) c.local_address.ensures.side)
+    (held_in-set c.self.inside.sockets.items c.args.place c.in-Some.record.now c.local_address.new.self (found_at c.self.inside.sockets.items c.args.place c.in-Some.record c.in-Some.ensures.item) c.local_address.ensures.side c.local_address.ensures.listening)
     (rw (← c.self.view_is) at k)

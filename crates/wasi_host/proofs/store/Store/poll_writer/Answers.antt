@@ -20,5 +20,5 @@ returns-clause-asked g c =
 pub returns-clause-sides : goal.returns-clause-sides
 returns-clause-sides g c = λ k.
     knows_asked Any _ _ _ (calm_wait_writer c.args.op c.in-Some.record.now c.in-Some.record.now.streams) c.poll_writer.ensures.asked
-    (held_in-set c.self.inside.sockets.items c.args.place c.in-Some.record.now c.poll_writer.new.self (found_at c.self.inside.sockets.items c.args.place c.in-Some.record c.in-Some.ensures.item) (ap side_of c.poll_writer.ensures.inner))
+    (held_in-set c.self.inside.sockets.items c.args.place c.in-Some.record.now c.poll_writer.new.self (found_at c.self.inside.sockets.items c.args.place c.in-Some.record c.in-Some.ensures.item) (ap side_of c.poll_writer.ensures.inner) c.poll_writer.ensures.listening)
     (rw (← c.self.view_is) at k)

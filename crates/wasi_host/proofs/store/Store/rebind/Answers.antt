@@ -29,12 +29,12 @@ returns-clause-asked g c =
 pub returns-in_err-begun-clause-sides : goal.returns-in_err-begun-clause-sides
 returns-in_err-begun-clause-sides g c = λ k.
     knows_asked Any _ _ _ (calm_rebind c.args.bind c.in-Some.record.now c.in_err-begun.ensures.bind) c.in_err-begun.ensures.asked
-    (held_in-set c.self.inside.sockets.items c.args.place c.in-Some.record.now c.poll_bind.new.self (found_at c.self.inside.sockets.items c.args.place c.in-Some.record c.in-Some.ensures.item) c.poll_bind.ensures.side)
+    (held_in-set c.self.inside.sockets.items c.args.place c.in-Some.record.now c.poll_bind.new.self (found_at c.self.inside.sockets.items c.args.place c.in-Some.record c.in-Some.ensures.item) c.poll_bind.ensures.side c.poll_bind.ensures.listening)
     (rw (← c.self.view_is) at k)
 
 pub returns-clause-sides : goal.returns-clause-sides
 returns-clause-sides g c = λ k.
     knows_calm Any _ _ (calm_rebind c.args.bind c.in-Some.record.now c.poll_bind.ensures.bind) c.in_ok-begun.ensures.asked.ok
     (ap held_in (ap (λ (d : Answer (Unit {0}) × Records). d.1.sockets) c.stand.ensures ∙ stood_sockets _ _ _ c.in_ok-begun.begun)
-    ∙ held_in-set c.self.inside.sockets.items c.args.place c.in-Some.record.now c.poll_bind.new.self (found_at c.self.inside.sockets.items c.args.place c.in-Some.record c.in-Some.ensures.item) c.poll_bind.ensures.side)
+    ∙ held_in-set c.self.inside.sockets.items c.args.place c.in-Some.record.now c.poll_bind.new.self (found_at c.self.inside.sockets.items c.args.place c.in-Some.record c.in-Some.ensures.item) c.poll_bind.ensures.side c.poll_bind.ensures.listening)
     (rw (← c.self.view_is) at k)

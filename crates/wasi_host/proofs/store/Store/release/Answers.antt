@@ -17,7 +17,7 @@ returns-in_err-release-clause-asked g c =
 pub returns-in_err-release-clause-sides : goal.returns-in_err-release-clause-sides
 returns-in_err-release-clause-sides g c = λ k.
     let store : Records = record { sockets = c.self.inside.sockets.items; jobs = c.self.inside.jobs.items; standing = c.self.inside.standing } in
-    knows_polled store c.args.place c.in-Some.record.now c.release.new.self (found_at c.self.inside.sockets.items c.args.place c.in-Some.record c.in-Some.ensures.item) c.release.ensures.closed (rw (← c.self.view_is) at k)
+    knows_polled store c.args.place c.in-Some.record.now c.release.new.self (found_at c.self.inside.sockets.items c.args.place c.in-Some.record c.in-Some.ensures.item) c.release.ensures.sides (rw (← c.self.view_is) at k)
 
 pub returns-clause-asked : goal.returns-clause-asked
 returns-clause-asked g c =
@@ -27,4 +27,4 @@ returns-clause-asked g c =
 pub returns-clause-sides : goal.returns-clause-sides
 returns-clause-sides g c = λ k.
     let store : Records = record { sockets = c.self.inside.sockets.items; jobs = c.self.inside.jobs.items; standing = c.self.inside.standing } in
-    rw c.forget_job.ensures (knows_jobs _ _ (knows_polled store c.args.place c.in-Some.record.now c.release.new.self (found_at c.self.inside.sockets.items c.args.place c.in-Some.record c.in-Some.ensures.item) c.release.ensures.closed (rw (← c.self.view_is) at k)))
+    rw c.forget_job.ensures (knows_jobs _ _ (knows_polled store c.args.place c.in-Some.record.now c.release.new.self (found_at c.self.inside.sockets.items c.args.place c.in-Some.record c.in-Some.ensures.item) c.release.ensures.sides (rw (← c.self.view_is) at k)))

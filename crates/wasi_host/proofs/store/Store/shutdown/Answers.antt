@@ -19,5 +19,5 @@ returns-clause-asked g c =
 pub returns-clause-sides : goal.returns-clause-sides
 returns-clause-sides g c = λ k.
     knows_asked Any _ _ _ (calm_shut_record c.args.op c.args.how c.in-Some.record.now c.in-Some.record.now.streams) c.shutdown.ensures.asked
-    (held_in-set c.self.inside.sockets.items c.args.place c.in-Some.record.now c.shutdown.new.self (found_at c.self.inside.sockets.items c.args.place c.in-Some.record c.in-Some.ensures.item) c.shutdown.ensures.side)
+    (held_in-set c.self.inside.sockets.items c.args.place c.in-Some.record.now c.shutdown.new.self (found_at c.self.inside.sockets.items c.args.place c.in-Some.record c.in-Some.ensures.item) c.shutdown.ensures.side c.shutdown.ensures.listening)
     (rw (← c.self.view_is) at k)

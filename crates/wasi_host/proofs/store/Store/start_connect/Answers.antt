@@ -37,11 +37,11 @@ returns-clause-asked g c =
 pub returns-in_err-begin_connect-clause-sides : goal.returns-in_err-begin_connect-clause-sides
 returns-in_err-begin_connect-clause-sides g c = λ k.
     knows_asked Any _ _ _ (calm_begin_connect c.args.op c.in-Some.record.now c.args.addr) c.in_err-begin_connect.ensures.asked
-    (held_in-set c.self.inside.sockets.items c.args.place c.in-Some.record.now c.begin_connect.new.self (found_at c.self.inside.sockets.items c.args.place c.in-Some.record c.in-Some.ensures.item) c.begin_connect.ensures.side)
+    (held_in-set c.self.inside.sockets.items c.args.place c.in-Some.record.now c.begin_connect.new.self (found_at c.self.inside.sockets.items c.args.place c.in-Some.record c.in-Some.ensures.item) c.begin_connect.ensures.side c.begin_connect.ensures.listening)
     (rw (← c.self.view_is) at k)
 
 pub returns-clause-sides : goal.returns-clause-sides
 returns-clause-sides g c = λ k.
     knows_calm Any _ _ (calm_begin_connect c.args.op c.in-Some.record.now c.args.addr) c.in_ok-begin_connect.ensures.asked.ok
-    (held_in-set c.self.inside.sockets.items c.args.place c.in-Some.record.now c.begin_connect.new.self (found_at c.self.inside.sockets.items c.args.place c.in-Some.record c.in-Some.ensures.item) c.begin_connect.ensures.side)
+    (held_in-set c.self.inside.sockets.items c.args.place c.in-Some.record.now c.begin_connect.new.self (found_at c.self.inside.sockets.items c.args.place c.in-Some.record c.in-Some.ensures.item) c.begin_connect.ensures.side c.begin_connect.ensures.listening)
     (rw (← c.self.view_is) at k)

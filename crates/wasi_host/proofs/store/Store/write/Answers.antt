@@ -29,5 +29,5 @@ returns-clause-asked g c =
 pub returns-clause-sides : goal.returns-clause-sides
 returns-clause-sides g c = λ k.
     knows_asked Any _ _ _ (calm_writer _ c.in-Some.record.now (λ w. calm_write c.args.op w c.args.bytes)) c.write_noting-written.ensures.asked
-    (held_in-set c.self.inside.sockets.items c.args.place c.in-Some.record.now c.write_noting-written.new.self (found_at c.self.inside.sockets.items c.args.place c.in-Some.record c.in-Some.ensures.item) c.write_noting-written.ensures.side)
+    (held_in-set c.self.inside.sockets.items c.args.place c.in-Some.record.now c.write_noting-written.new.self (found_at c.self.inside.sockets.items c.args.place c.in-Some.record c.in-Some.ensures.item) c.write_noting-written.ensures.side c.write_noting-written.ensures.listening)
     (rw (← c.self.view_is) at k)

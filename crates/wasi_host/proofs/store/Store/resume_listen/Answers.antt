@@ -1,0 +1,15 @@
+use Rattle.std.proofs.Common.{refl}
+use Rattle.wasi_world.proofs.Walks.{asks_end}
+use Rattle.wasi_host.proofs.Hosts.{host_passed}
+use Rattle.wasi_host.proofs.ListenStarts.{unstood_relisten}
+use Rattle.wasi_host.proofs.store.Store.resume_listen.Goals as goal
+
+pub returns-in_err-answer-clause-asked : goal.returns-in_err-answer-clause-asked
+returns-in_err-answer-clause-asked g c =
+    rw (← c.take_listen.ensures.taken, c.in-Some.is)
+    (host_passed _ _ c.from_residual.result c.from_residual.ensures.1 (rw (c.take_listen.ensures.some (rw c.in-Some.is refl), unstood_relisten) at c.in_err-answer.ensures.asked) (λ stop. refl))
+
+pub returns-clause-asked : goal.returns-clause-asked
+returns-clause-asked g c =
+    rw (← c.take_listen.ensures.taken, c.in-Some.is)
+    (asks_end _ (rw (c.take_listen.ensures.some (rw c.in-Some.is refl), unstood_relisten) at c.in_ok-answer.ensures.asked.ok) refl)

@@ -1,0 +1,188 @@
+-- Sockets that listen: what a listen and an accept ask and answer, and what the record is then.
+use Rattle.std.specs.Prelude.{◌≡◌, ℕ, ◌+◌, ◌≤◌, ⊤, Bool, true, false, List, [], ◌∷◌, ◌++◌, length, Option, Some, None, Result, Ok, Err, slice_set}
+use Rattle.std.specs.declared.alloc.AllocError.{AllocError}
+use Rattle.wasi_addr.specs.declared.address.IpSocketAddress.{IpSocketAddress}
+use Rattle.wasi_addr.specs.declared.address.SocketAddressFamily.{SocketAddressFamily}
+use Rattle.wasi_addr.specs.declared.code.ErrorCode.{ErrorCode}
+use Rattle.wasi_addr.specs.declared.code.ErrorCode.TheVariants.{InvalidState}
+use Rattle.wasi_addr.specs.declared.p2.ErrorCode.TheVariants as p2
+use Rattle.wasi_world.specs.declared.ids.OpId.{OpId}
+use Rattle.wasi_world.specs.declared.ids.Ids.{Ids}
+use Rattle.wasi_world.specs.declared.outcome.Answer.{Answer}
+use Rattle.wasi_world.specs.declared.outcome.Answer.TheVariants.{Ready, Pending}
+use Rattle.wasi_world.specs.declared.outcome.Refusal.{Refusal}
+use Rattle.wasi_world.specs.declared.outcome.Refusal.TheVariants as refusal
+use Rattle.wasi_world.specs.declared.outcome.TrapKind.TheVariants.{NoSuchHandle}
+use Rattle.wasi_world.specs.Asks.{Asks, Give, bind}
+use Rattle.wasi_world.specs.Operation.{Operation}
+use Rattle.wasi_world.specs.Typed.{ask_close}
+use Rattle.wasi_tcp.specs.declared.socket.TcpState.TheVariants as state
+use Rattle.wasi_tcp.specs.Shape.{Socket}
+use Rattle.wasi_tcp.specs.Socket.{side_of, bound_asks}
+use Rattle.wasi_tcp.specs.Listen.{held_side, cancel_asks}
+use Rattle.wasi_tcp.specs.Listening.{listen_asks, listen_poll_asks}
+use Rattle.wasi_tcp.specs.Listener.{Listener, ids_after, listener_accept_asks, accepted_socket, accepted_state, untaken_side, listener_give_up_asks}
+use Rattle.wasi_host.specs.declared.listening.Listening.{Listening}
+use Rattle.wasi_host.specs.declared.listening.Listening.TheVariants.{Not, Begins, Accepts, Unclosed}
+use Rattle.wasi_host.specs.declared.socket.InProgress.TheVariants as doing
+use Rattle.wasi_host.specs.declared.socket.Tcp2Socket.{Tcp2Socket}
+use Rattle.wasi_host.specs.declared.store.Standing.{Standing}
+use Rattle.wasi_host.specs.declared.store.StandingCall.TheVariants as standing
+use Rattle.wasi_host.specs.Host.{Stop, Code, Trap, code_stop}
+use Rattle.wasi_host.specs.Store.{Records, new_record, with_inner, with_socket, allowed_answer, is_nothing, opened}
+
+abbrev pub with_listening : Tcp2Socket → Listening → Tcp2Socket
+with_listening r l = record r { listening = l }
+
+-- == a listen
+-- a poll of it ended: done, there is a listener, and the listen is in progress; pending, it is kept; refused, it is over
+abbrev pub listen_polled : Tcp2Socket → Result (Answer Listener) ErrorCode × (Operation × Socket) → Result (Answer (Unit {0})) ErrorCode × Tcp2Socket
+listen_polled r (Ok (Ready listener), (op, socket)) = (Ok (Ready tt), record r { inner = socket; in_progress = doing.Listen; listening = Accepts listener })
+listen_polled r (Ok Pending, (op, socket)) = (Ok Pending, record r { inner = socket; listening = Begins op })
+listen_polled r (Err c, (op, socket)) = (Err c, record r { inner = socket; listening = Not })
+
+-- the same of what the code answers: out of memory, it is kept
+abbrev pub listen_settled : Tcp2Socket → Result (Answer Listener) Refusal → Tcp2Socket
+listen_settled r (Ok (Ready listener)) = record r { in_progress = doing.Listen; listening = Accepts listener }
+listen_settled r (Ok Pending) = r
+listen_settled r (Err (refusal.Code c)) = with_listening r Not
+listen_settled r (Err (refusal.Memory e)) = r
+
+abbrev pub listen_told : Result (Answer Listener) Refusal → Result (Answer (Unit {0})) Refusal
+listen_told (Ok (Ready listener)) = Ok (Ready tt)
+listen_told (Ok Pending) = Ok Pending
+listen_told (Err x) = Err x
+
+abbrev pub poll_begun : Tcp2Socket → Operation → Asks (Result (Answer (Unit {0})) ErrorCode × Tcp2Socket)
+poll_begun r op = bind (listen_poll_asks op r.inner) (λ done. Give (listen_polled r done))
+
+abbrev pub poll_listening : Tcp2Socket → Listening → Asks (Result (Answer (Unit {0})) ErrorCode × Tcp2Socket)
+poll_listening r (Begins op) = poll_begun r op
+poll_listening r _ = Give (Err InvalidState, r)
+
+-- the socket has no side of its own while its listen goes on
+abbrev pub closed_listening : Tcp2Socket → Option OpId → Asks (Result (Answer (Unit {0})) ErrorCode × Tcp2Socket)
+closed_listening r None = poll_listening r r.listening
+closed_listening r (Some side) = Give (Err InvalidState, r)
+
+-- polls the listen that was begun
+abbrev pub poll_listen_asks : Tcp2Socket → Asks (Result (Answer (Unit {0})) ErrorCode × Tcp2Socket)
+poll_listen_asks r = closed_listening r (side_of r.inner)
+
+abbrev pub listen_begun : Tcp2Socket → Result Operation ErrorCode × Socket → Asks (Result (Answer (Unit {0})) ErrorCode × Tcp2Socket)
+listen_begun r (Ok op, socket) = poll_listen_asks (record r { inner = socket; listening = Begins op })
+listen_begun r (Err c, socket) = Give (Err c, with_inner r socket)
+
+-- one that listens, or is about to, doesn't begin again
+abbrev pub listen_once : OpId → Tcp2Socket → Listening → Asks (Result (Answer (Unit {0})) ErrorCode × Tcp2Socket)
+listen_once op r Not = bind (listen_asks op r.inner) (listen_begun r)
+listen_once op r _ = Give (Err InvalidState, r)
+
+abbrev pub listen_bound : OpId → Tcp2Socket → Bool → Asks (Result (Answer (Unit {0})) ErrorCode × Tcp2Socket)
+listen_bound op r true = listen_once op r r.listening
+listen_bound op r false = Give (Err InvalidState, r)
+
+-- a socket that isn't bound is refused
+abbrev pub begin_listen_asks : OpId → Tcp2Socket → Asks (Result (Answer (Unit {0})) ErrorCode × Tcp2Socket)
+begin_listen_asks op r = bind (bound_asks op r.inner) (λ b. listen_bound op (with_inner r b.1) b.0)
+
+abbrev pub standing_listen : ℕ → ℕ → Standing
+standing_listen line place = record { line = line; call = standing.Listen place }
+
+-- a listen that is pending stands under its line's number
+abbrev pub listen_stood : Records → ℕ → ℕ → Answer (Unit {0}) → Answer (Unit {0}) × Records
+listen_stood store line place (Ready done) = (Ready tt, store)
+listen_stood store line place Pending = (Pending, record store { standing = Some (standing_listen line place) })
+
+-- the answer to the guest
+abbrev pub listen_answered : Records → ℕ → ℕ → Result (Answer (Unit {0})) ErrorCode × Tcp2Socket → Result (Answer (Unit {0})) Stop × Records
+listen_answered store line place (Ok answer, r) = allowed_answer (listen_stood (with_socket store place r) line place answer)
+listen_answered store line place (Err c, r) = (Err (code_stop c), with_socket store place r)
+
+abbrev pub start_listen_by : Records → OpId → ℕ → Tcp2Socket → Bool → Asks (Result (Answer (Unit {0})) Stop × Records)
+start_listen_by store op place r true = bind (begin_listen_asks op r) (λ begun. Give (listen_answered store op.step place begun))
+start_listen_by store op place r false = Give (Err (Code p2.ConcurrencyConflict), store)
+
+-- with an operation in progress it is refused
+abbrev pub start_listen_at : Records → OpId → ℕ → Option Tcp2Socket → Asks (Result (Answer (Unit {0})) Stop × Records)
+start_listen_at store op place None = Give (Err (Trap NoSuchHandle), store)
+start_listen_at store op place (Some r) = start_listen_by store op place r (is_nothing r.in_progress)
+
+-- == an accept
+-- of a listener; any other socket is refused
+abbrev pub accept_listening : Ids → Tcp2Socket → Listening → Asks (Result (Answer Socket) ErrorCode × Tcp2Socket)
+accept_listening ids r (Accepts l) = bind (listener_accept_asks l ids) (λ done. Give (Ok done.0, with_listening r (Accepts done.1)))
+accept_listening ids r _ = Give (Err InvalidState, r)
+
+abbrev pub accept_record_asks : Ids → Tcp2Socket → Asks (Result (Answer Socket) ErrorCode × Tcp2Socket)
+accept_record_asks ids r = accept_listening ids r r.listening
+
+-- the record of what was accepted, with its streams; one with a code has none, and the code is told
+abbrev pub accepted_record : Socket → Result (Unit {0}) Stop × Tcp2Socket
+accepted_record socket = opened (new_record socket) socket
+
+abbrev pub kept_accepted : List Tcp2Socket → Result (Unit {0}) Stop × Tcp2Socket → Result ℕ Stop × List Tcp2Socket
+kept_accepted sockets (Ok done, r) = (Ok (length sockets), sockets ++ r ∷ [])
+kept_accepted sockets (Err stop, r) = (Err stop, sockets)
+
+-- the number of the new record, with the records
+abbrev pub with_accepted_in : List Tcp2Socket → Socket → Result ℕ Stop × List Tcp2Socket
+with_accepted_in sockets socket = kept_accepted sockets (accepted_record socket)
+
+abbrev pub with_sockets : Records → Result ℕ Stop × List Tcp2Socket → Result ℕ Stop × Records
+with_sockets store done = (done.0, record store { sockets = done.1 })
+
+-- or why there is none
+abbrev pub accept_answered : Records → ℕ → Result (Answer Socket) ErrorCode × Tcp2Socket → Result ℕ Stop × Records
+accept_answered store place (Ok (Ready socket), r) = with_sockets store (with_accepted_in (slice_set store.sockets place r) socket)
+accept_answered store place (Ok Pending, r) = (Err (Code p2.WouldBlock), with_socket store place r)
+accept_answered store place (Err c, r) = (Err (code_stop c), with_socket store place r)
+
+abbrev pub accept_at : Records → Ids → ℕ → Option Tcp2Socket → Asks (Result ℕ Stop × Records)
+accept_at store ids place None = Give (Err (Trap NoSuchHandle), store)
+accept_at store ids place (Some r) = bind (accept_record_asks ids r) (λ done. Give (accept_answered store place done))
+
+-- What an accept gives: a socket that was handed over, or one that is closed with a code.
+pub data IsAccepted : Socket → Type 0 where
+  Connects : (family : SocketAddressFamily) (maker : ℕ) (new : OpId) (peer : IpSocketAddress) → IsAccepted (accepted_socket family maker (accepted_state new peer))
+  Fails : (family : SocketAddressFamily) (maker : ℕ) (c : ErrorCode) → IsAccepted (accepted_socket family maker (state.Closed c))
+
+abbrev pub Accepted : Result (Answer Socket) Refusal → Type 0
+Accepted (Ok (Ready socket)) = IsAccepted socket
+Accepted _ = ⊤
+
+-- == the names that are left to the line: an accept that begins takes one
+abbrev pub ids_of : Listening → Ids → Ids
+ids_of (Accepts l) ids = ids_after l.accept ids
+ids_of _ ids = ids
+
+abbrev pub accept_ids_at : Ids → Option Tcp2Socket → Ids
+accept_ids_at ids None = ids
+accept_ids_at ids (Some r) = ids_of r.listening ids
+
+-- The line is the same, and at most one name was taken.
+pub record TakesOne (old new : Ids) : Type 0 where
+  pub line : new.line ≡ old.line
+  pub forth : old.next_part ≤ new.next_part
+  pub one : new.next_part ≤ old.next_part + 1
+
+-- == a listener that goes
+-- the side that is held beside the socket's own: of a listen that goes on, or of a connection that isn't taken
+abbrev pub side_in : Listening → Option OpId
+side_in Not = None
+side_in (Begins op) = held_side op
+side_in (Accepts l) = untaken_side l.accept
+side_in (Unclosed side) = Some side
+
+-- A listen that goes on is cancelled; a listener's accept is given up: an arrival in hand is refused, and a connection that
+-- isn't taken is closed.
+abbrev pub give_up_asks : Listening → Asks (Unit {0})
+give_up_asks Not = Give tt
+give_up_asks (Begins op) = cancel_asks op
+give_up_asks (Accepts l) = listener_give_up_asks l
+give_up_asks (Unclosed side) = ask_close side side
+
+-- out of memory, the side is known still
+abbrev pub unclosed : Option OpId → Listening
+unclosed None = Not
+unclosed (Some side) = Unclosed side

@@ -1,0 +1,276 @@
+//! Sockets that listen: how far one is with it, its listen, and what it accepts.
+
+ghost use Rattle.std.specs.Prelude.{◌≡◌, ◌+◌, ◌<◌, ◌^◌, false, IfOk, Ok, OnErr, slice_get, vec_capacity, vec_len};
+ghost use Rattle.wasi_world.specs.Asks.{AsksFor, outcome};
+ghost use Rattle.wasi_host.specs.Host.{host_outcome};
+ghost use Rattle.wasi_host.specs.Listening.{with_listening, listen_told, listen_settled, poll_listen_asks, listen_once, begin_listen_asks, listen_stood, start_listen_at, accept_record_asks, with_accepted_in, accept_at, ids_of, accept_ids_at, TakesOne, side_in, give_up_asks, unclosed, Accepted};
+ghost use Rattle.wasi_host.specs.Sides.{Balances, KnowsSides, given_by};
+
+use crate::error::SocketError;
+use crate::socket::{InProgress, Tcp2Socket};
+use crate::store::{Standing, StandingCall, Store};
+use std::alloc::AllocError;
+use std::mem;
+use wasi_addr::{ErrorCode, p2};
+use wasi_tcp::{ListenOp, TcpListenStream, TcpSocket};
+use wasi_world::{Answer, Ids, OpId, Refusal, Sock, TrapKind, World, asks};
+
+/// How far a socket is with listening.
+#[derive(Drop)]
+pub enum Listening {
+    /// It doesn't listen.
+    Not,
+    /// A listen goes on, which holds the network side.
+    Begins(ListenOp),
+    /// It listens.
+    Accepts(TcpListenStream),
+    /// It was given up, and memory was wanted: this side isn't closed yet.
+    Unclosed(Sock),
+}
+
+impl Listening {
+    /// The network side that it holds beside the socket's own: of a listen that goes on, or of a connection that isn't taken.
+    pub fn side(&self) -> Option<Sock>
+        ensures { result ≡ side_in self.now }
+    {
+        match self {
+            Listening::Not => None,
+            Listening::Begins(listen) => listen.held(),
+            Listening::Accepts(listener) => listener.untaken(),
+            Listening::Unclosed(side) => Some(*side),
+        }
+    }
+
+    /// What is left of it where memory is wanted.
+    fn unclosed(&self) -> Listening
+        ensures { result ≡ unclosed (side_in self.now) }
+    {
+        match self.side() {
+            Some(side) => Listening::Unclosed(side),
+            None => Listening::Not,
+        }
+    }
+
+    /// Gives it up: a listen that goes on closes its side, and a listener refuses an arrival in hand and closes a connection
+    /// that isn't taken. Out of memory nothing was asked.
+    fn give_up<W: World>(self, world: &mut W) -> Result<(), AllocError>
+        requires { (W.seen world.old).ended ≡ false }
+        ensures asked { AsksFor (give_up_asks self) (W.seen world.old) (W.seen world.new) (λ done. done) result }
+        ensures unasked { OnErr result (W.seen world.new ≡ W.seen world.old) }
+        ensures open { (W.seen world.new).ended ≡ false }
+    {
+        match self {
+            Listening::Not => Ok(()),
+            Listening::Begins(listen) => listen.cancel(world),
+            Listening::Accepts(listener) => listener.give_up(world),
+            Listening::Unclosed(side) => asks::close(world, side, side),
+        }
+    }
+}
+
+impl Tcp2Socket {
+    /// Begins a listen and polls it. A socket that isn't bound, or that listens already: `InvalidState`.
+    pub fn begin_listen<W: World>(&mut self, world: &mut W, op: OpId) -> Result<Answer<()>, Refusal>
+        requires { (W.seen world.old).ended ≡ false }
+        ensures asked { AsksFor (begin_listen_asks op self.old) (W.seen world.old) (W.seen world.new) (λ answer. (answer, self.new)) (outcome result) }
+        ensures sides { Balances (W.seen world.old) (W.seen world.new) 0 self.old self.new }
+        ensures open { (W.seen world.new).ended ≡ false }
+    {
+        if !self.inner.is_bound(world, op)? {
+            return Err(Refusal::Code(ErrorCode::InvalidState));
+        }
+        self.listen_once(world, op)
+    }
+
+    /// Begins a listen of a socket that is bound, and polls it.
+    fn listen_once<W: World>(&mut self, world: &mut W, op: OpId) -> Result<Answer<()>, Refusal>
+        requires { (W.seen world.old).ended ≡ false }
+        ensures asked { AsksFor (listen_once op self.old self.old.listening) (W.seen world.old) (W.seen world.new) (λ answer. (answer, self.new)) (outcome result) }
+        ensures sides { Balances (W.seen world.old) (W.seen world.new) 0 self.old self.new }
+        ensures open { (W.seen world.new).ended ≡ false }
+    {
+        match &self.listening {
+            Listening::Not => {}
+            Listening::Begins(_) => return Err(Refusal::Code(ErrorCode::InvalidState)),
+            Listening::Accepts(_) => return Err(Refusal::Code(ErrorCode::InvalidState)),
+            Listening::Unclosed(_) => return Err(Refusal::Code(ErrorCode::InvalidState)),
+        }
+        let listen = self.inner.listen(world, op)?;
+        self.listening = Listening::Begins(listen);
+        self.poll_listen(world)
+    }
+
+    /// Polls the listen that was begun: done, the socket listens, and the listen is in progress. None was, or the socket has a
+    /// side of its own: `InvalidState`.
+    pub fn poll_listen<W: World>(&mut self, world: &mut W) -> Result<Answer<()>, Refusal>
+        requires { (W.seen world.old).ended ≡ false }
+        ensures asked { AsksFor (poll_listen_asks self.old) (W.seen world.old) (W.seen world.new) (λ answer. (answer, self.new)) (outcome result) }
+        ensures sides { Balances (W.seen world.old) (W.seen world.new) 0 self.old self.new }
+        ensures open { (W.seen world.new).ended ≡ false }
+    {
+        // The socket has no side of its own while its listen goes on.
+        if self.inner.side().is_some() {
+            return Err(Refusal::Code(ErrorCode::InvalidState));
+        }
+        match &mut self.listening {
+            Listening::Begins(listen) => {
+                let polled = listen.poll(world, &mut self.inner);
+                self.settle_listen(polled)
+            }
+            Listening::Not => Err(Refusal::Code(ErrorCode::InvalidState)),
+            Listening::Accepts(_) => Err(Refusal::Code(ErrorCode::InvalidState)),
+            Listening::Unclosed(_) => Err(Refusal::Code(ErrorCode::InvalidState)),
+        }
+    }
+
+    /// What a poll of the listen makes of the record, and of the answer.
+    fn settle_listen(
+        &mut self,
+        polled: Result<Answer<TcpListenStream>, Refusal>,
+    ) -> Result<Answer<()>, Refusal>
+        ensures told { result ≡ listen_told polled }
+        ensures settled { self.new ≡ listen_settled self.old polled }
+    {
+        match polled {
+            Ok(Answer::Ready(listener)) => {
+                self.in_progress = InProgress::Listen;
+                self.listening = Listening::Accepts(listener);
+                Ok(Answer::Ready(()))
+            }
+            Ok(Answer::Pending) => Ok(Answer::Pending),
+            Err(Refusal::Code(code)) => {
+                self.listening = Listening::Not;
+                Err(Refusal::Code(code))
+            }
+            Err(Refusal::Memory(e)) => Err(Refusal::Memory(e)),
+        }
+    }
+
+    /// Accepts a connection, or takes the code of a fault. Nothing to take yet is pending. No listener: `InvalidState`.
+    pub fn poll_accept<W: World>(
+        &mut self,
+        world: &mut W,
+        ids: &mut Ids,
+    ) -> Result<Answer<TcpSocket>, Refusal>
+        requires open { (W.seen world.old).ended ≡ false }
+        requires names { ids.old.next_part + 1 < 2 ^ 64 }
+        ensures asked { AsksFor (accept_record_asks ids.old self.old) (W.seen world.old) (W.seen world.new) (λ answer. (answer, self.new)) (outcome result) }
+        ensures ids { ids.new ≡ ids_of self.old.listening ids.old }
+        ensures sides { Balances (W.seen world.old) (W.seen world.new) (given_by result) self.old self.new }
+        ensures accepted { Accepted result }
+        ensures open { (W.seen world.new).ended ≡ false }
+    {
+        match &mut self.listening {
+            Listening::Accepts(listener) => {
+                let answer = listener.poll_accept(world, ids)?;
+                Ok(answer)
+            }
+            Listening::Not => Err(Refusal::Code(ErrorCode::InvalidState)),
+            Listening::Begins(_) => Err(Refusal::Code(ErrorCode::InvalidState)),
+            Listening::Unclosed(_) => Err(Refusal::Code(ErrorCode::InvalidState)),
+        }
+    }
+
+    /// Gives up what it listens by. Out of memory a side that isn't closed is known still.
+    pub(crate) fn give_listening_up<W: World>(&mut self, world: &mut W) -> Result<(), AllocError>
+        requires { (W.seen world.old).ended ≡ false }
+        ensures asked { AsksFor (give_up_asks self.old.listening) (W.seen world.old) (W.seen world.new) (λ done. done) result }
+        ensures ok { IfOk result (λ done. self.new ≡ with_listening self.old Listening.Not) }
+        ensures err { OnErr result (self.new ≡ with_listening self.old (unclosed (side_in self.old.listening))) }
+        ensures unasked { OnErr result (W.seen world.new ≡ W.seen world.old) }
+        ensures open { (W.seen world.new).ended ≡ false }
+    {
+        let left = self.listening.unclosed();
+        let listening = mem::replace(&mut self.listening, left);
+        listening.give_up(world)?;
+        self.listening = Listening::Not;
+        Ok(())
+    }
+}
+
+/// Keeps the record of what was accepted, for which there is room, and gives its number. A code is told, and there is no record.
+fn keep_accepted(sockets: &mut Vec<Tcp2Socket>, socket: TcpSocket) -> Result<usize, SocketError>
+    requires { vec_len sockets.old < vec_capacity sockets.old }
+    ensures told { host_outcome result ≡ Ok (with_accepted_in sockets.old.items socket).0 }
+    ensures sockets { sockets.new.items ≡ (with_accepted_in sockets.old.items socket).1 }
+{
+    let place = sockets.len();
+    let mut accepted = Tcp2Socket::new(socket);
+    accepted.open_streams()?;
+    sockets.push_reserved(accepted);
+    Ok(place)
+}
+
+impl Store {
+    /// Begins a listen of the socket of this number. An operation in progress: `ConcurrencyConflict`. A listen that is pending
+    /// stands.
+    pub fn start_listen<W: World>(
+        &mut self,
+        world: &mut W,
+        op: OpId,
+        place: usize,
+    ) -> Result<Answer<()>, SocketError>
+        requires { (W.seen world.old).ended ≡ false }
+        ensures asked { AsksFor (start_listen_at self.old op place (slice_get self.old.sockets place)) (W.seen world.old) (W.seen world.new) (λ answer. (answer, self.new)) (host_outcome result) }
+        ensures sides { KnowsSides (W.seen world.old) self.old → KnowsSides (W.seen world.new) self.new }
+        ensures open { (W.seen world.new).ended ≡ false }
+    {
+        let Some(record) = self.sockets.get_mut(place) else {
+            return Err(SocketError::Trap(TrapKind::NoSuchHandle));
+        };
+        if !record.in_progress.is_nothing() {
+            return Err(SocketError::Code(p2::ErrorCode::ConcurrencyConflict));
+        }
+        let answer = record.begin_listen(world, op)?;
+        Ok(self.stand_listening(op.step, place, answer))
+    }
+
+    /// A listen that is pending stands.
+    pub(crate) fn stand_listening(
+        &mut self,
+        line: u32,
+        socket: usize,
+        answer: Answer<()>,
+    ) -> Answer<()>
+        ensures { (result, self.new) ≡ listen_stood self.old line socket answer }
+    {
+        match answer {
+            Answer::Ready(()) => Answer::Ready(()),
+            Answer::Pending => {
+                self.standing = Some(Standing {
+                    line,
+                    call: StandingCall::Listen { socket },
+                });
+                Answer::Pending
+            }
+        }
+    }
+
+    /// Accepts a connection of the listener of this number, and gives the number of its record, which has its streams. Room
+    /// for the record is taken before anything is asked, so that a side that was handed over is always known. Nothing has
+    /// arrived that may be taken: `WouldBlock`. No listener: `InvalidState`. The code of a fault is told.
+    pub fn accept<W: World>(
+        &mut self,
+        world: &mut W,
+        ids: &mut Ids,
+        place: usize,
+    ) -> Result<usize, SocketError>
+        requires open { (W.seen world.old).ended ≡ false }
+        requires names { ids.old.next_part + 1 < 2 ^ 64 }
+        ensures asked { AsksFor (accept_at self.old ids.old place (slice_get self.old.sockets place)) (W.seen world.old) (W.seen world.new) (λ accepted. (accepted, self.new)) (host_outcome result) }
+        ensures sides { KnowsSides (W.seen world.old) self.old → KnowsSides (W.seen world.new) self.new }
+        ensures ids { TakesOne ids.old ids.new }
+        ensures names { IfOk (host_outcome result) (λ answer. ids.new ≡ accept_ids_at ids.old (slice_get self.old.sockets place)) }
+        ensures open { (W.seen world.new).ended ≡ false }
+    {
+        self.sockets.reserve(1)?;
+        let Some(record) = self.sockets.get_mut(place) else {
+            return Err(SocketError::Trap(TrapKind::NoSuchHandle));
+        };
+        let answer = record.poll_accept(world, ids)?;
+        match answer {
+            Answer::Pending => Err(SocketError::Code(p2::ErrorCode::WouldBlock)),
+            Answer::Ready(socket) => keep_accepted(&mut self.sockets, socket),
+        }
+    }
+}
