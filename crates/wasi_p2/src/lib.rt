@@ -1,13 +1,13 @@
 //! The calls of the 0.2 interface, one function each, over a view of a context, a table and a store.
 #![tactic(auto)]
 
-ghost use Rattle.std.specs.Prelude.{◌≡◌, false};
+ghost use Rattle.std.specs.Prelude.{◌≡◌, None, Ok, false};
 ghost use Rattle.wasi_world.specs.Asks.{AsksFor};
 ghost use Rattle.wasi_host.specs.Host.{host_outcome};
 ghost use Rattle.wasi_host.specs.Machine.{own_of};
 ghost use Rattle.wasi_host.specs.Sides.{KnowsSides};
 ghost use Rattle.wasi_host.specs.Views.{SameView, state_of};
-ghost use Rattle.wasi_p2.specs.Pending.{resume_asks};
+ghost use Rattle.wasi_p2.specs.Pending.{resume_asks, resume_listen};
 ghost use Rattle.wasi_p2.specs.Tcp.{network_asks};
 
 pub mod tcp;
@@ -36,7 +36,8 @@ pub fn instance_network<W: World>(
     of_fault(made)
 }
 
-/// Polls the call that stands under this number; none exactly where no call of this crate does. A bind that is pending stands on.
+/// Polls the call that stands under this number; none exactly where no call of this crate does. A bind or a listen that is
+/// pending stands on.
 pub fn resume<W: World>(
     view: &mut WasiSocketsCtxView<'_>,
     world: &mut W,
@@ -51,6 +52,24 @@ pub fn resume<W: World>(
     ensures open { (W.seen world.new).ended ≡ false }
 {
     match view.store.resume_bind(world, line)? {
+        Some(answer) => Ok(Some(Outcome::of_nothing(answer))),
+        None => resume_listen(view, world, line),
+    }
+}
+
+/// Polls the listen that stands under this number; none where no listen does.
+fn resume_listen<W: World>(
+    view: &mut WasiSocketsCtxView<'_>,
+    world: &mut W,
+    line: u32,
+) -> Result<Option<Answer<Outcome>>, SocketError>
+    requires { (W.seen world.old).ended ≡ false }
+    ensures asked { AsksFor (resume_listen line (Ok None, state_of view.old)) (W.seen world.old) (W.seen world.new) (λ answer. (answer, state_of view.new)) (host_outcome result) }
+    ensures sides { KnowsSides (W.seen world.old) view.old.store.now → KnowsSides (W.seen world.new) view.new.store.now }
+    ensures view { SameView view.old view.new }
+    ensures open { (W.seen world.new).ended ≡ false }
+{
+    match view.store.resume_listen(world, line)? {
         Some(answer) => Ok(Some(Outcome::of_nothing(answer))),
         None => Ok(None),
     }

@@ -1,14 +1,16 @@
 //! The calls of TCP sockets (`wasi:sockets/tcp` and `tcp-create-socket`). Handles are tested first: one that isn't live or is of
 //! another kind is a trap, `NoSuchHandle`.
 
-ghost use Rattle.std.specs.Prelude.{◌≡◌, IsSome, Ok, false};
+ghost use Rattle.std.specs.Prelude.{◌≡◌, ◌+◌, ◌<◌, ◌^◌, IfOk, IsSome, Ok, false};
 ghost use Rattle.wasi_world.specs.Asks.{AsksFor};
 ghost use Rattle.wasi_host.specs.Host.{host_outcome};
 ghost use Rattle.wasi_host.specs.Kinds.{kind_at};
+ghost use Rattle.wasi_host.specs.Listening.{TakesOne};
 ghost use Rattle.wasi_host.specs.Machine.{own_of, socket_at, create_asks};
 ghost use Rattle.wasi_host.specs.Sides.{KnowsSides};
+ghost use Rattle.wasi_host.specs.Store.{is_bind, is_listen};
 ghost use Rattle.wasi_host.specs.Views.{SameView, state_of};
-ghost use Rattle.wasi_p2.specs.Tcp.{start_bind_asks, finish_bind_on, start_connect_asks, finish_connect_on, streams_asks, local_address_on, remote_address_on, is_listening_on, address_family_on, shutdown_on};
+ghost use Rattle.wasi_p2.specs.Tcp.{start_bind_asks, finish_on, start_connect_asks, finish_connect_on, streams_asks, local_address_on, remote_address_on, is_listening_on, address_family_on, shutdown_on, start_listen_on, accepted_handles, accept_asks, ids_after_accept};
 
 use crate::SocketError;
 use wasi_addr::{IpSocketAddress, ShutdownType, SocketAddressFamily};
@@ -66,8 +68,8 @@ pub fn finish_bind<W: World>(
     _ids: &mut Ids,
     this: Handle,
 ) -> Result<(), SocketError>
-    ensures answer { host_outcome result ≡ Ok (finish_bind_on (state_of view.old) (socket_at (state_of view.old) this)).0 }
-    ensures state { state_of view.new ≡ (finish_bind_on (state_of view.old) (socket_at (state_of view.old) this)).1 }
+    ensures answer { host_outcome result ≡ Ok (finish_on is_bind (state_of view.old) (socket_at (state_of view.old) this)).0 }
+    ensures state { state_of view.new ≡ (finish_on is_bind (state_of view.old) (socket_at (state_of view.old) this)).1 }
     ensures sides { KnowsSides (W.seen _world.old) view.old.store.now → KnowsSides (W.seen _world.new) view.new.store.now }
     ensures quiet { _world.new ≡ _world.old }
     ensures view { SameView view.old view.new }
@@ -158,6 +160,98 @@ fn make_streams<W: World>(
     );
     let output = of_fault(output)?;
     Ok((input, output))
+}
+
+/// Begins to make a socket listen (`start-listen`). With any operation in progress: `ConcurrencyConflict`. A socket that isn't
+/// bound, or isn't new: `InvalidState`. The listen is in progress once it is done; pending, the call stands. One that is refused
+/// leaves the socket closed.
+pub fn start_listen<W: World>(
+    view: &mut WasiSocketsCtxView<'_>,
+    world: &mut W,
+    ids: &mut Ids,
+    this: Handle,
+) -> Result<Answer<()>, SocketError>
+    requires { (W.seen world.old).ended ≡ false }
+    ensures asked { AsksFor (start_listen_on (state_of view.old) (own_of ids.old.line) (socket_at (state_of view.old) this)) (W.seen world.old) (W.seen world.new) (λ answer. (answer, state_of view.new)) (host_outcome result) }
+    ensures sides { KnowsSides (W.seen world.old) view.old.store.now → KnowsSides (W.seen world.new) view.new.store.now }
+    ensures view { SameView view.old view.new }
+    ensures ids { ids.new ≡ ids.old }
+    ensures open { (W.seen world.new).ended ≡ false }
+{
+    let Some(place) = handles::socket(view.table, this) else {
+        return Err(SocketError::Trap(TrapKind::NoSuchHandle));
+    };
+    view.store.start_listen(world, ids.own(), place)
+}
+
+/// Ends a listen in progress (`finish-listen`). None is: `NotInProgress`. Asks nothing.
+pub fn finish_listen<W: World>(
+    view: &mut WasiSocketsCtxView<'_>,
+    _world: &mut W,
+    _ids: &mut Ids,
+    this: Handle,
+) -> Result<(), SocketError>
+    ensures answer { host_outcome result ≡ Ok (finish_on is_listen (state_of view.old) (socket_at (state_of view.old) this)).0 }
+    ensures state { state_of view.new ≡ (finish_on is_listen (state_of view.old) (socket_at (state_of view.old) this)).1 }
+    ensures sides { KnowsSides (W.seen _world.old) view.old.store.now → KnowsSides (W.seen _world.new) view.new.store.now }
+    ensures quiet { _world.new ≡ _world.old }
+    ensures view { SameView view.old view.new }
+    ensures ids { _ids.new ≡ _ids.old }
+{
+    let Some(place) = handles::socket(view.table, this) else {
+        return Err(SocketError::Trap(TrapKind::NoSuchHandle));
+    };
+    view.store.finish_listen(place)
+}
+
+/// Accepts a connection of a listener (`accept`): its socket, its input and its output. No listener: `InvalidState`. Nothing
+/// has arrived that the check allows: `WouldBlock`, and the accept goes on. The code of a fault is told, and the next call
+/// begins the next accept. An accept that begins takes the next name of the line. Where a handle can't be made, `Trap(Full)`,
+/// the connection is taken all the same.
+pub fn accept<W: World>(
+    view: &mut WasiSocketsCtxView<'_>,
+    world: &mut W,
+    ids: &mut Ids,
+    this: Handle,
+) -> Result<(Handle, Handle, Handle), SocketError>
+    requires open { (W.seen world.old).ended ≡ false }
+    requires names { ids.old.next_part + 1 < 2 ^ 64 }
+    ensures asked { AsksFor (accept_asks (state_of view.old) ids.old this) (W.seen world.old) (W.seen world.new) (λ made. (made, state_of view.new)) (host_outcome result) }
+    ensures sides { KnowsSides (W.seen world.old) view.old.store.now → KnowsSides (W.seen world.new) view.new.store.now }
+    ensures view { SameView view.old view.new }
+    ensures ids { TakesOne ids.old ids.new }
+    ensures names { IfOk (host_outcome result) (λ answer. ids.new ≡ ids_after_accept (state_of view.old) ids.old this) }
+    ensures open { (W.seen world.new).ended ≡ false }
+{
+    let Some(place) = handles::socket(view.table, this) else {
+        return Err(SocketError::Trap(TrapKind::NoSuchHandle));
+    };
+    let accepted = view.store.accept(world, ids, place)?;
+    let side = view.store.side(accepted);
+    make_accepted(view, world, ids, this, accepted, side)
+}
+
+/// Makes the handles of a connection that was accepted.
+fn make_accepted<W: World>(
+    view: &mut WasiSocketsCtxView<'_>,
+    world: &mut W,
+    ids: &mut Ids,
+    listener: Handle,
+    place: usize,
+    side: Option<Sock>,
+) -> Result<(Handle, Handle, Handle), SocketError>
+    requires { (W.seen world.old).ended ≡ false }
+    ensures asked { AsksFor (accepted_handles (state_of view.old) (own_of ids.old.line) listener place side) (W.seen world.old) (W.seen world.new) (λ made. (made, state_of view.new)) (host_outcome result) }
+    ensures sides { KnowsSides (W.seen world.old) view.old.store.now → KnowsSides (W.seen world.new) view.new.store.now }
+    ensures view { SameView view.old view.new }
+    ensures ids { ids.new ≡ ids.old }
+    ensures open { (W.seen world.new).ended ≡ false }
+{
+    let kind = Kind::Tcp2(place);
+    let socket = handles::make(view.table, world, ids.own(), kind, Some(listener), side);
+    let socket = of_fault(socket)?;
+    let (input, output) = make_streams(view, world, ids, socket, place, side)?;
+    Ok((socket, input, output))
 }
 
 /// The address that a socket is bound to (`local-address`).
