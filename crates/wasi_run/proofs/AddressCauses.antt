@@ -33,16 +33,10 @@ use Rattle.wasi_host.specs.Machine.{socket_at, own_of}
 use Rattle.wasi_p2.specs.Tcp.{local_address_on, remote_address_on}
 use Rattle.wasi_run.specs.Machine.{address_reply}
 use Rattle.wasi_run.specs.Licence.{entry}
-use Rattle.wasi_run.specs.Answered.{Answered, record_in, putting, word_of_code, RefusedOf, KnowsBound, IsPastDefault, IsBound, Known, PastDefault, ToldBound, IsFree, LocalRefusal, NotBound, Connects, LocalClosed, LocalTold, RemoteRefusal, RemoteDefault, RemoteConnecting, RemoteClosed, RemoteTold}
+use Rattle.wasi_run.specs.Answered.{Answered, record_in, putting, word_of_code, RefusedOf, KnowsBound, IsPastDefault, IsBound, IsFree, LocalRefusal, NotBound, Connects, LocalClosed, LocalTold, RemoteRefusal, RemoteDefault, RemoteListening, RemoteConnecting, RemoteClosed, RemoteTold}
 use Rattle.wasi_run.proofs.StepCauses.{Gives, gives_then, settled}
 use Rattle.wasi_run.proofs.RecordCauses.{put_back, found, RecordSays}
-use Rattle.wasi_run.proofs.BoundCauses.{bound_says}
-
--- past the state Default nothing is asked
-asked_none : (own : OpId) (socket : Socket) (es : List Entry) → IsBound own socket es → IsPastDefault socket.state → es ≡ []
-asked_none own socket _ (Known known) past = refl
-asked_none own socket _ (PastDefault p) past = refl
-asked_none own socket _ (ToldBound side told at_side says) past = absurd (subst IsPastDefault at_side past)
+use Rattle.wasi_run.proofs.BoundCauses.{asked_none, bound_says}
 
 module _ (m : Machine) (line handle : ℕ) where
   abbrev own : OpId
@@ -82,6 +76,7 @@ module _ (m : Machine) (line handle : ℕ) where
       bound_gives : (st : TcpState) → r.inner.state ≡ st → Gives SocketGives es (local_from own bound (usable_side st))
       unfolding bind
       bound_gives (state.Default side) e = (tt, λ t fits. told_local side t (rw e refl) fits)
+      bound_gives (state.Listening side) e = (tt, λ t fits. told_local side t (rw e refl) fits)
       bound_gives (state.Connecting op) e = at_once InvalidState (rw e tt) (Connects op e)
       bound_gives (state.Connected connection) e = (tt, λ t fits. told_local connection.side t (rw e refl) fits)
       bound_gives (state.Closed c) e = at_once c (rw e tt) (LocalClosed c e)
@@ -150,6 +145,7 @@ module _ (m : Machine) (line handle : ℕ) where
 
     state_gives : (st : TcpState) → r.inner.state ≡ st → Gives StateGives [] (remote_in own st)
     state_gives (state.Default side) e = stays [] InvalidState (state.Default side) e (RemoteDefault side e)
+    state_gives (state.Listening side) e = stays [] InvalidState (state.Listening side) e (RemoteListening side e)
     state_gives (state.Connecting op) e = stays [] InvalidState (state.Connecting op) e (RemoteConnecting op e)
     state_gives (state.Connected connection) e = gives_then (PeerGives connection e) StateGives [] (peer_asks own connection) _ (peer_gives connection e connection.peer refl) (λ es p k. k)
     state_gives (state.Closed c) e = stays [] c (state.Closed c) e (RemoteClosed c e)
@@ -192,6 +188,7 @@ module _ (m : Machine) (line handle : ℕ) where
 
     remote_left : (place : ℕ) (r : Tcp2Socket) (es : List Entry) (w : CodeWord) (after : Machine) → RemoteRefusal m own place r es w after → after ≡ m
     remote_left place r _ _ _ (RemoteDefault side e) = refl
+    remote_left place r _ _ _ (RemoteListening side e) = refl
     remote_left place r _ _ _ (RemoteConnecting op e) = refl
     remote_left place r _ _ _ (RemoteClosed c e) = refl
     remote_left place r _ _ _ (RemoteTold connection c e none) = refl

@@ -109,7 +109,7 @@ module _ (contexts : List WasiSocketsCtx) (steps : List Step) where
 
   fine_ended : (es : List Entry) (op : Operation) (old r : Tcp2Socket) (ended : End × List Item) → KeepsRecord old r → SocketIsFine steps es r.inner → BindIsFine steps es (left_of op ended.1) → BegunIsFine old es (bind_ended op r ended)
   fine_ended es op old r (Waits, items) k f b = record { keeps = k; fine = f; stands = b }
-  fine_ended es op old r (Done given, items) k f b = record { keeps = record { keeps = k.keeps; side = k.side; streams = k.streams }; fine = f; stands = tt }
+  fine_ended es op old r (Done given, items) k f b = record { keeps = record { keeps = k.keeps; side = k.side; streams = k.streams; listening = k.listening }; fine = f; stands = tt }
   fine_ended es op old r (Refused c given, items) k f b = record { keeps = k; fine = f; stands = tt }
 
   -- the poll of a bind on a record that is that of old
@@ -121,11 +121,11 @@ module _ (contexts : List WasiSocketsCtx) (steps : List Step) where
 
   -- of a bind that stands
   pub fine_repoll : (es : List Entry) (op : Operation) (r : Tcp2Socket) → SocketIsFine steps es r.inner → BindIsFine steps es op → Allows (May contexts steps) (BegunIsFine r) es (poll_bind_asks op r)
-  fine_repoll es op r f h = fine_polled es op r r (record { keeps = keeps_side r.inner; side = refl; streams = refl }) f h
+  fine_repoll es op r f h = fine_polled es op r r (record { keeps = keeps_side r.inner; side = refl; streams = refl; listening = refl }) f h
 
   fine_begun : (es : List Entry) (r : Tcp2Socket) (start : Result Operation ErrorCode × Socket) → KeepsSide r.inner start.1 → SocketIsFine steps es start.1 → StartIsFine es start.0 → Allows (May contexts steps) (BegunIsFine r) es (bind_begun r start)
-  fine_begun es r (Err c, socket) k f h = record { keeps = record { keeps = k; side = refl; streams = refl }; fine = f; stands = tt }
-  fine_begun es r (Ok op, socket) k f h = fine_polled es op r (with_inner r socket) (record { keeps = k; side = refl; streams = refl }) f h
+  fine_begun es r (Err c, socket) k f h = record { keeps = record { keeps = k; side = refl; streams = refl; listening = refl }; fine = f; stands = tt }
+  fine_begun es r (Ok op, socket) k f h = fine_polled es op r (with_inner r socket) (record { keeps = k; side = refl; streams = refl; listening = refl }) f h
 
   pub fine_begin : (es : List Entry) (op : OpId) (r : Tcp2Socket) (a : IpSocketAddress) → BeganBy steps op (IsBindTo a) → MayWork contexts steps es op r.inner → SocketIsFine steps es r.inner → Allows (May contexts steps) (BegunIsFine r) es (begin_bind_asks op r a)
   fine_begin es op r a to h f =

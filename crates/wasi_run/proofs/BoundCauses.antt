@@ -16,8 +16,14 @@ use Rattle.wasi_tcp.specs.declared.socket.TcpState.TheVariants.{Default}
 use Rattle.wasi_tcp.specs.Shape.{Socket}
 use Rattle.wasi_tcp.specs.Socket.{after_local, ask_bound, bound_asks}
 use Rattle.wasi_run.specs.Licence.{entry}
-use Rattle.wasi_run.specs.Answered.{IsBound, Known, PastDefault, ToldBound, IsFree}
+use Rattle.wasi_run.specs.Answered.{IsPastDefault, IsBound, Known, PastDefault, ToldBound, IsFree}
 use Rattle.wasi_run.proofs.StepCauses.{Gives}
+
+-- past the state Default nothing is asked
+pub asked_none : (own : OpId) (socket : Socket) (es : List Entry) → IsBound own socket es → IsPastDefault socket.state → es ≡ []
+asked_none own socket _ (Known known) past = refl
+asked_none own socket _ (PastDefault p) past = refl
+asked_none own socket _ (ToldBound side told at_side says) past = absurd (subst IsPastDefault at_side past)
 
 module _ (own : OpId) (socket : Socket) (Q : List Entry → Bool × Socket → Type 0)
     (bound : (es : List Entry) → IsBound own socket es → Q es (true, record socket { bound = true }))

@@ -1,4 +1,5 @@
 -- Whether a socket is bound: what is asked is allowed, and what is learned is in the log.
+use Rattle.std.specs.Prelude.{⊤}
 use Rattle.std.proofs.Common.{◌≡◌, inl, Bool, true, false, if◌then◌else◌, List, ◌++◌, Some, refl, ap, subst}
 use Rattle.wasi_addr.specs.Address.{is_wildcard}
 use Rattle.wasi_world.specs.declared.ids.OpId.{OpId}
@@ -11,7 +12,7 @@ use Rattle.wasi_world.specs.declared.outcome.WasiSocketsCtx.{WasiSocketsCtx}
 use Rattle.wasi_world.specs.Asks.{Asks, bind}
 use Rattle.wasi_world.specs.Fits.{IsAddr}
 use Rattle.wasi_world.specs.Typed.{told_addr}
-use Rattle.wasi_world.proofs.Allowed.{Allows, allows_if, allows_keep}
+use Rattle.wasi_world.proofs.Allowed.{Allows, allows_if, allows_keep, allows_weaker}
 use Rattle.wasi_tcp.specs.declared.socket.TcpState.{TcpState}
 use Rattle.wasi_tcp.specs.declared.socket.TcpState.TheVariants as state
 use Rattle.wasi_tcp.specs.Shape.{Socket}
@@ -22,10 +23,24 @@ use Rattle.wasi_run.proofs.Lists.{has_last}
 use Rattle.wasi_run.proofs.Fine.{WorksOn, SocketIsFine}
 use Rattle.wasi_run.proofs.Frames.{NoMark, KeepsSide, keeps_side, works_more, socket_more}
 
+-- any call but `local`
+abbrev pub NoLocal : Call → Type 0
+NoLocal (call.Local side) = ⊥
+NoLocal _ = ⊤
+
 module _ (contexts : List WasiSocketsCtx) (steps : List Step) where
   -- an ask that may come, and is no mark
   abbrev pub May : List Entry → OpId → Call → Type 0
   May es op c = MayAsk contexts steps es op c × NoMark c
+
+  -- and doesn't ask for a local address either
+  abbrev pub MayQuietly : List Entry → OpId → Call → Type 0
+  MayQuietly es op c = May es op c × NoLocal c
+
+  -- what may come quietly may come
+  pub allows_quiet : {A : Type 0} (Q : List Entry → A → Type 0) (es : List Entry) (asks : Asks A) → Allows MayQuietly Q es asks → Allows May Q es asks
+  allows_quiet Q es asks h =
+      allows_weaker May (λ fs a. ⊤ × Q fs a) Q (λ fs a k. k.1) es asks (allows_keep MayQuietly May (λ fs. ⊤) Q (λ fs o c t fits k m. tt) (λ fs o c m. m.0) es asks tt h)
 
   -- The operation may work on the socket's side, where it has one.
   pub record MayWork (es : List Entry) (op : OpId) (socket : Socket) : Type 0 where
@@ -79,6 +94,7 @@ module _ (contexts : List WasiSocketsCtx) (steps : List Step) where
   unfolding bind
   learned_ask op socket es (state.Default side) e h f =
       ((inl (h.works side (ap side_in e)).named, tt), λ t fits. learned_told _ op side socket t e fits (has_last es _) (socket_more steps es _ socket f))
+  learned_ask op socket es (state.Listening c) e h f = learned_bound socket es f (λ side s. absurd (cc))
   learned_ask op socket es (state.Connecting c) e h f = learned_bound socket es f (λ side s. absurd (cc))
   learned_ask op socket es (state.Connected c) e h f = learned_bound socket es f (λ side s. absurd (cc))
   learned_ask op socket es (state.Closed c) e h f = learned_bound socket es f (λ side s. absurd (cc))

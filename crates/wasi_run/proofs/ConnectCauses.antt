@@ -50,9 +50,13 @@ module _ (m : Machine) (line handle network : ℕ) (a : IpSocketAddress) where
   abbrev Stands : List Entry → ℕ → Machine → Type 0
   Stands es n after = ⊥
 
+  -- the network isn't one
+  abbrev NoNetwork : Type 0
+  NoNetwork = is_network (kind_at m.table network) ≡ false
+
   -- its answer comes of the socket's record, or it traps
   abbrev pub ConnectSays : List Entry → Reply × Machine → Type 0
-  ConnectSays = StartSays m handle network Begun Stands
+  ConnectSays = StartSays m handle NoNetwork Begun Stands
 
   abbrev StartGives : List Entry → Result (Unit {0}) Stop × Machine → Type 0
   StartGives es done = ConnectSays es (done_reply done.0, done.1)
@@ -73,7 +77,7 @@ module _ (m : Machine) (line handle network : ℕ) (a : IpSocketAddress) where
       is_idle = rw (found m handle place (Some r) names at) idle
 
       because : (es : List Entry) (w : CodeWord) (after : Machine) → Begun place r es w after → RefusedConnect m own handle a es w after
-      because = begun m handle network Begun Stands place r names at idle
+      because = begun m handle NoNetwork Begun Stands place r names at idle
 
       -- a socket that is put back leaves the machine as it was
       stays : (es : List Entry) (w : CodeWord) → Begun place r es w m → RefusedConnect m own handle a es w (putting m place r)
@@ -111,7 +115,7 @@ module _ (m : Machine) (line handle network : ℕ) (a : IpSocketAddress) where
       begin_gives = gives_then SocketGives BegunGives [] (socket_start_connect own r.inner a) _ (socket_gives r.inner.state refl) (λ es done k. k)
 
     by_progress : (none : Bool) → is_nothing r.in_progress ≡ none → Gives StoreGives [] (start_connect_by m.store own place a r none)
-    by_progress false e = conflict m handle network Begun Stands place r names at e
+    by_progress false e = conflict m handle NoNetwork Begun Stands place r names at e
     by_progress true e = gives_then (BegunGives e) StoreGives [] (begin_connect_asks own r a) _ (begin_gives e) (λ es done k. k)
 
   at_gives : (place : ℕ) (o : Option Tcp2Socket) → socket_at m handle ≡ Some place → slice_get m.store.sockets place ≡ o → Gives StoreGives [] (start_connect_at m.store own place a o)
@@ -155,4 +159,4 @@ module _ (m : Machine) (line handle network : ℕ) (a : IpSocketAddress) where
 
     pub connect_conflicts : (entries : List Entry) (r : Reply) (after : Machine) → m.store.standing ≡ None → is_network (kind_at m.table network) ≡ true → Answered contexts m line (step.TcpStartConnect ctx handle network a) entries r after
         → (r ≡ reply.Err word.ConcurrencyConflict) ↔ HasOperationInProgress (record_at m handle)
-    connect_conflicts = conflict_exactly m handle network Begun Stands other contexts line (step.TcpStartConnect ctx handle network a) connect_says
+    connect_conflicts entries r after free is_one w = conflict_exactly m handle NoNetwork Begun Stands other contexts line (step.TcpStartConnect ctx handle network a) connect_says entries r after free (λ no. cc) w

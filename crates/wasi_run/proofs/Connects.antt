@@ -158,6 +158,7 @@ module _ (contexts : List WasiSocketsCtx) (steps : List Step) where
   start_in es op socket a (state.Default side) e to h f =
       allows_then (May contexts steps) (λ fs b. MayWork contexts steps fs op socket × Learned contexts steps socket fs b) (StartedFine socket) es (bound_asks op socket) _ (fine_bound contexts steps op socket es h f)
       (λ fs b k. started fs op side socket b.1 a b.0 (k.1.state ∙ e) k.1.keeps to (rw k.1.keeps.maker (k.0.works side (ap side_in e))) k.1.fine k.1.told)
+  start_in es op socket a (state.Listening c) e to h f = record { keeps = keeps_side socket; fine = f }
   start_in es op socket a (state.Connecting c) e to h f = record { keeps = keeps_side socket; fine = f }
   start_in es op socket a (state.Connected c) e to h f = record { keeps = keeps_side socket; fine = f }
   start_in es op socket a (state.Closed c) e to h f = record { keeps = keeps_side socket; fine = f }
@@ -207,6 +208,7 @@ module _ (contexts : List WasiSocketsCtx) (steps : List Step) where
 
   finish : (es : List Entry) (socket : Socket) (s : TcpState) → socket.state ≡ s → SocketIsFine steps es socket → Allows (May contexts steps) (λ fs done. FinishedFine socket fs (in_socket socket done)) es (finish_in s)
   finish es socket (state.Default side) e f = stays es socket (state.Default side) (Err InvalidState) e f tt
+  finish es socket (state.Listening side) e f = stays es socket (state.Listening side) (Err InvalidState) e f tt
   finish es socket (state.Connecting op) e f =
       allows_then (May contexts steps) (λ fs end. SocketIsFine steps fs socket × ConnectIsFine steps fs (left_of op end.1)) (λ fs done. FinishedFine socket fs (in_socket socket done)) es (poll_asks op) _
       (keeps_socket contexts steps socket (λ fs end. ConnectIsFine steps fs (left_of op end.1)) es (poll_asks op) f (fine_poll_connect op es (f.connect op e)))

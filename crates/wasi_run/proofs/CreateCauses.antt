@@ -10,7 +10,7 @@ use Rattle.wasi_world.specs.declared.call.Told.{Told}
 use Rattle.wasi_world.specs.declared.call.Told.TheVariants as told
 use Rattle.wasi_world.specs.declared.outcome.TrapKind.TheVariants.{Full}
 use Rattle.wasi_world.specs.declared.outcome.WasiSocketsCtx.{WasiSocketsCtx}
-use Rattle.wasi_world.specs.Fits.{IsDoneOrCode}
+use Rattle.wasi_world.specs.Fits.{IsDone, IsDoneOrCode}
 use Rattle.wasi_world.specs.Asks.{Give, bind}
 use Rattle.wasi_world.specs.Typed.{told_done}
 use Rattle.wasi_world.proofs.Allowed.{allows_if}
@@ -41,6 +41,18 @@ pub make_gives : (Q : List Entry → Result ℕ Stop × Handles → Type 0) (es 
     → Gives Q es (make_asks t op kind parent side)
 unfolding bind
 make_gives Q es t op kind parent side f h = allows_if _ Q es (is_full t) _ _ f (λ room. (tt, λ told fits. h told))
+
+-- the same, where the mark is told done
+pub make_done : (Q : List Entry → Result ℕ Stop × Handles → Type 0) (es : List Entry) (t : Handles) (op : OpId) (kind : Kind) (parent : Option ℕ) (side : Option OpId)
+    → (is_full t ≡ true → Q es (Err (Trap Full), t))
+    → Q (es ++ entry op (call.Made t.next (name_of kind) parent side) told.Done ∷ []) (Ok t.next, with_handle t kind parent)
+    → Gives Q es (make_asks t op kind parent side)
+unfolding bind
+make_done Q es t op kind parent side f h = allows_if _ Q es (is_full t) _ _ f (λ room. (tt, by_told))
+  where
+    by_told : (u : Told) → IsDone u → Q (es ++ entry op (call.Made t.next (name_of kind) parent side) u ∷ []) (Ok t.next, with_handle t kind parent)
+    by_told told.Done fits = h
+    by_told _ fits = absurd fits
 
 module _ (m : Machine) (line : ℕ) where
   -- == network

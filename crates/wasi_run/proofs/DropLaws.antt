@@ -148,7 +148,7 @@ module _ (m : Machine) (line handle : ℕ) where
           found = q;
           names = names_kind place is;
           at = at;
-          holds = record { found = gone q socket; at = set_there m.store.sockets place q (gone q socket) at; side = side; streams = refl; idle = refl; job = no_job place m.store.jobs };
+          holds = record { found = gone q socket; at = set_there m.store.sockets place q (gone q socket) at; side = side; listening = refl; streams = refl; idle = refl; job = no_job place m.store.jobs };
         };
       }
   gives_up r at_record _ _ _ (Looks place es store is e looks none) d = absurd (not_named (Output place) r is refl at_record)

@@ -1,6 +1,6 @@
 -- What the log says of the machine's state: the invariant that makes its next call a licensed one.
 use Rattle.std.specs.Prelude.{⊤}
-use Rattle.std.proofs.Common.{◌≡◌, ℕ, ◌+◌, true, List, [], ◌∷◌, Some, slice_get}
+use Rattle.std.proofs.Common.{◌≡◌, ℕ, ◌+◌, true, List, [], ◌∷◌, ◌++◌, Option, Some, None, slice_get}
 use Rattle.wasi_addr.specs.declared.address.IpSocketAddress.{IpSocketAddress}
 use Rattle.wasi_addr.specs.declared.address.SocketAddressFamily.{SocketAddressFamily}
 use Rattle.wasi_addr.specs.declared.address.SocketAddrUse.TheVariants.{TcpBind, TcpConnect}
@@ -8,9 +8,12 @@ use Rattle.wasi_addr.specs.declared.code.ErrorCode.{ErrorCode}
 use Rattle.wasi_addr.specs.Address.{wildcard}
 use Rattle.wasi_world.specs.declared.ids.OpId.{OpId}
 use Rattle.wasi_world.specs.declared.call.Call.TheVariants as call
-use Rattle.wasi_world.specs.declared.call.Told.TheVariants.{Yes}
+use Rattle.wasi_world.specs.declared.call.Told.{Told}
+use Rattle.wasi_world.specs.declared.call.Told.TheVariants.{Yes, Arrived}
 use Rattle.wasi_world.specs.declared.call.Entry.{Entry}
-use Rattle.wasi_world.specs.Operation.{Nothing, Item, Check, Bind, Connect, Write, ShutdownSend, Last, NothingLast, CloseLast, ShutdownLast, Operation}
+use Rattle.wasi_world.specs.Operation.{Nothing, Item, Check, CheckArrival, Bind, Connect, Accept, Write, ShutdownSend, Last, NothingLast, CloseLast, ShutdownLast, Operation}
+use Rattle.wasi_tcp.specs.declared.listener.Accepting.{Accepting}
+use Rattle.wasi_tcp.specs.declared.listener.Accepting.TheVariants as accepting
 use Rattle.wasi_tcp.specs.declared.socket.Connection.{Connection}
 use Rattle.wasi_tcp.specs.declared.socket.TcpState.TheVariants.{Default, Connecting, Connected}
 use Rattle.wasi_tcp.specs.declared.reader.ReadState.{ReadState}
@@ -18,10 +21,13 @@ use Rattle.wasi_tcp.specs.declared.reader.ReadState.TheVariants as reading
 use Rattle.wasi_tcp.specs.declared.writer.WriteState.{WriteState}
 use Rattle.wasi_tcp.specs.declared.writer.WriteState.TheVariants as writing
 use Rattle.wasi_tcp.specs.Job.{Job}
+use Rattle.wasi_tcp.specs.Listener.{Listener}
 use Rattle.wasi_tcp.specs.Shape.{Socket}
 use Rattle.wasi_tcp.specs.Socket.{side_of}
 use Rattle.wasi_host.specs.declared.kind.Kind.{Kind}
 use Rattle.wasi_host.specs.declared.kind.Kind.TheVariants.{Network, Tcp2, Input, Output, Pollable, ErrorValue}
+use Rattle.wasi_host.specs.declared.listening.Listening.{Listening}
+use Rattle.wasi_host.specs.declared.listening.Listening.TheVariants.{Not, Begins, Accepts, Unclosed}
 use Rattle.wasi_host.specs.declared.machine.Machine.{Machine}
 use Rattle.wasi_host.specs.declared.socket.Streams.{Streams}
 use Rattle.wasi_host.specs.declared.socket.Tcp2Socket.{Tcp2Socket}
@@ -31,7 +37,7 @@ use Rattle.wasi_host.specs.declared.store.StandingCall.TheVariants as standing
 use Rattle.wasi_host.specs.Kinds.{kind_at, place_in}
 use Rattle.wasi_host.specs.Machine.{own_of}
 use Rattle.wasi_run.specs.declared.step.Step.{Step}
-use Rattle.wasi_run.specs.Licence.{Has, entry, marks_in, BeganBy, NamesSide, IsMarkedWith, IsMaker, IsBoundSide, MayGoOut, IsBindTo, IsConnectTo}
+use Rattle.wasi_run.specs.Licence.{Has, entry, marks_in, BeganBy, NamesSide, IsMarkedWith, IsMaker, IsBoundSide, MayGoOut, HandedNone, MarksNoSocket, IsBindTo, IsConnectTo}
 
 -- The handle stands for the record at this place, and its mark says the side that the record was made with.
 pub record NamesRecord (es : List Entry) (sockets : List Tcp2Socket) (handle place : ℕ) : Type 0 where
@@ -84,6 +90,60 @@ pub data WriteLeft : List Item → Type 0 where
   ToRefuse : (c : ErrorCode) → WriteLeft (Last c Nothing ∷ [])
   Written : WriteLeft []
 
+-- == an accept
+-- The operation's last `accept` on the listener told this peer.
+pub record LastAccept (es : List Entry) (op side : OpId) (peer : IpSocketAddress) : Type 0 where
+  pub front : List Entry
+  pub back : List Entry
+  pub cut : es ≡ front ++ entry op (call.Accept side) (Arrived peer) ∷ back
+  pub last : (told : Told) → Has back (entry op (call.Accept side) told) → ⊥
+
+-- The log has what the operation handed over on the listener's side.
+pub record IsHanded (es : List Entry) (op side : OpId) (peer : IpSocketAddress) : Type 0 where
+  pub told : Told
+  pub hand : Has es (entry op (call.Hand side peer) told)
+
+-- what is left of an accept that waits, and what it was told
+pub data AcceptLeft (es : List Entry) (op side : OpId) : List Item → Type 0 where
+  Unarrived : AcceptLeft es op side (Accept ∷ [])
+  ToCheck : (peer : IpSocketAddress) → LastAccept es op side peer → AcceptLeft es op side (CheckArrival peer ∷ [])
+
+-- An accept that waits has handed nothing over, its name is in no mark of a socket, and so much is left of it.
+pub record AcceptStands (es : List Entry) (op side : OpId) (left : List Item) : Type 0 where
+  pub handed : HandedNone es op
+  pub marked : MarksNoSocket es op
+  pub so_far : AcceptLeft es op side left
+
+-- what a listener's accept may rely on while nothing is asked by its name: a connection that isn't taken is in no mark
+abbrev pub AcceptingStands : List Entry → OpId → Accepting → Type 0
+AcceptingStands es side accepting.Idle = ⊤
+AcceptingStands es side (accepting.Asking op) = AcceptStands es op.who.id side op.left
+AcceptingStands es side (accepting.Arrived new peer) = MarksNoSocket es new
+AcceptingStands es side (accepting.Failed c) = ⊤
+
+abbrev pub ListeningStands : List Entry → Listening → Type 0
+ListeningStands es Not = ⊤
+ListeningStands es (Begins op) = ⊤
+ListeningStands es (Accepts l) = AcceptingStands es l.side l.accept
+ListeningStands es (Unclosed side) = ⊤
+
+-- the name of the accept that is asking, or of the connection that isn't taken
+abbrev pub name_in : Accepting → Option OpId
+name_in accepting.Idle = None
+name_in (accepting.Asking op) = Some op.who.id
+name_in (accepting.Arrived new peer) = Some new
+name_in (accepting.Failed c) = None
+
+abbrev pub accept_name : Listening → Option OpId
+accept_name Not = None
+accept_name (Begins op) = None
+accept_name (Accepts l) = name_in l.accept
+accept_name (Unclosed side) = None
+
+-- no two records have an accept of one name
+abbrev pub OneHolds : List Tcp2Socket → Type 0
+OneHolds sockets = (i j : ℕ) (r s : Tcp2Socket) (x : OpId) → slice_get sockets i ≡ Some r → slice_get sockets j ≡ Some s → accept_name r.listening ≡ Some x → accept_name s.listening ≡ Some x → i ≡ j
+
 module _ (steps : List Step) where
   -- the operation's step names a handle of this side
   abbrev pub Names : List Entry → OpId → OpId → Type 0
@@ -132,6 +192,32 @@ module _ (steps : List Step) where
     pub reads : ReadsOn side streams.reader
     pub writes : WritesOn es side streams.writer
 
+  -- An accept that may be polled: it is on the listener's side, which its step names, and for the listener's maker.
+  pub record AcceptIsFine (es : List Entry) (side : OpId) (maker : ℕ) (op : Operation) : Type 0 where
+    pub named : Names es op.who.id side
+    pub on : op.who.side ≡ side
+    pub asks : op.who.context ≡ maker
+    pub last : op.who.last ≡ NothingLast
+
+  -- the listener's accept may be polled, and a connection that isn't taken was handed over
+  abbrev pub AcceptingIsFine : List Entry → OpId → ℕ → Accepting → Type 0
+  AcceptingIsFine es side maker accepting.Idle = ⊤
+  AcceptingIsFine es side maker (accepting.Asking op) = AcceptIsFine es side maker op
+  AcceptingIsFine es side maker (accepting.Arrived new peer) = IsHanded es new side peer
+  AcceptingIsFine es side maker (accepting.Failed c) = ⊤
+
+  -- A listener is on the side that its record was made with, and knows its maker.
+  pub record ListenerIsFine (es : List Entry) (made : Option OpId) (l : Listener) : Type 0 where
+    pub side : made ≡ Some l.side
+    pub maker : IsMaker es l.maker l.family l.side
+    pub accept : AcceptingIsFine es l.side l.maker l.accept
+
+  abbrev pub ListeningIsFine : List Entry → Option OpId → Listening → Type 0
+  ListeningIsFine es made Not = ⊤
+  ListeningIsFine es made (Begins op) = ⊤
+  ListeningIsFine es made (Accepts l) = ListenerIsFine es made l
+  ListeningIsFine es made (Unclosed side) = ⊤
+
   -- A socket knows its maker; it is bound only where the log says so; and its connect may be polled.
   pub record SocketIsFine (es : List Entry) (socket : Socket) : Type 0 where
     pub knows : KnowsMaker es socket
@@ -143,6 +229,7 @@ module _ (steps : List Step) where
     pub socket : SocketIsFine es r.inner
     pub named : (side : OpId) → side_of r.inner ≡ Some side → r.side ≡ Some side
     pub streams : (streams : Streams) → r.streams ≡ Some streams → StreamsAreFine es r.inner streams
+    pub listening : ListeningIsFine es r.side r.listening
 
   -- An output's drop that waits: the operation's step names a handle of the side that the record was made with.
   pub record DropIsFine (es : List Entry) (sockets : List Tcp2Socket) (op : OpId) (place : ℕ) : Type 0 where
@@ -150,9 +237,10 @@ module _ (steps : List Step) where
     pub at : slice_get sockets place ≡ Some found
     pub named : (side : OpId) → found.side ≡ Some side → Names es op side
 
-  -- a drop goes on by its line's own operation
+  -- a drop goes on by its line's own operation; where a listen stands, another invariant holds
   abbrev pub CallIsFine : List Entry → List Tcp2Socket → ℕ → StandingCall → Type 0
   CallIsFine es sockets line (standing.Bind place op) = BindIsFine es op
+  CallIsFine es sockets line (standing.Listen place) = ⊥
   CallIsFine es sockets line (standing.DropOutput place) = DropIsFine es sockets (own_of line) place
 
   abbrev pub StandingIsFine : List Entry → List Tcp2Socket → Standing → Type 0
@@ -163,3 +251,5 @@ module _ (steps : List Step) where
     pub handles : (handle : ℕ) (kind : Kind) → kind_at m.table handle ≡ Some kind → HandleIsFine es m.store.sockets handle kind
     pub sockets : (place : ℕ) (r : Tcp2Socket) → slice_get m.store.sockets place ≡ Some r → RecordIsFine es r
     pub standing : (c : Standing) → m.store.standing ≡ Some c → StandingIsFine es m.store.sockets c
+    pub accepts : (place : ℕ) (r : Tcp2Socket) → slice_get m.store.sockets place ≡ Some r → ListeningStands es r.listening
+    pub one : OneHolds m.store.sockets

@@ -1,6 +1,7 @@
 -- A handle is dropped: what is asked is allowed, and the state fits the log.
 use Rattle.std.specs.Prelude.{⊤}
-use Rattle.std.proofs.Common.{◌≡◌, ℕ, inl, Bool, true, false, if◌then◌else◌, List, Option, Some, None, Ok, Err, slice_get, refl, sym, ◌∙◌}
+use Rattle.std.proofs.Common.{◌≡◌, ℕ, inl, subst, Bool, true, false, if◌then◌else◌, List, Option, Some, None, Ok, Err, slice_get, refl, sym, ◌∙◌}
+use Rattle.wasi_addr.specs.declared.address.IpSocketAddress.{IpSocketAddress}
 use Rattle.wasi_addr.specs.declared.code.ErrorCode.TheVariants.{Other}
 use Rattle.wasi_world.specs.declared.ids.OpId.{OpId}
 use Rattle.wasi_world.specs.declared.call.Entry.{Entry}
@@ -8,17 +9,26 @@ use Rattle.wasi_world.specs.declared.outcome.Answer.{Answer}
 use Rattle.wasi_world.specs.declared.outcome.Answer.TheVariants.{Ready, Pending}
 use Rattle.wasi_world.specs.declared.outcome.TrapKind.TheVariants.{HasChildren}
 use Rattle.wasi_world.specs.declared.outcome.WasiSocketsCtx.{WasiSocketsCtx}
-use Rattle.wasi_world.specs.Asks.{bind}
+use Rattle.wasi_world.specs.Asks.{Give, bind}
+use Rattle.wasi_world.specs.Operation.{Who, Operation}
+use Rattle.wasi_world.specs.Typed.{ask_close}
 use Rattle.wasi_world.proofs.Allowed.{Allows, allows_then, allows_keep}
+use Rattle.wasi_tcp.specs.declared.listener.Accepting.{Accepting}
+use Rattle.wasi_tcp.specs.declared.listener.Accepting.TheVariants as accepting
 use Rattle.wasi_tcp.specs.declared.socket.TcpState.TheVariants as state
 use Rattle.wasi_tcp.specs.Shape.{Socket}
 use Rattle.wasi_tcp.specs.Socket.{side_of}
+use Rattle.wasi_tcp.specs.Accept.{in_hand, refuse_in}
 use Rattle.wasi_tcp.specs.Closing.{close_in, close_asks}
 use Rattle.wasi_tcp.specs.Connecting.{with_state}
+use Rattle.wasi_tcp.specs.Listen.{is_over}
+use Rattle.wasi_tcp.specs.Listener.{give_up_in}
 use Rattle.wasi_tcp.specs.Reader.{reader_shutdown_asks}
 use Rattle.wasi_tcp.specs.Writer.{look_asks}
 use Rattle.wasi_host.specs.declared.kind.Kind.{Kind}
 use Rattle.wasi_host.specs.declared.kind.Kind.TheVariants.{Tcp2, Output}
+use Rattle.wasi_host.specs.declared.listening.Listening.{Listening}
+use Rattle.wasi_host.specs.declared.listening.Listening.TheVariants.{Not, Begins, Accepts, Unclosed}
 use Rattle.wasi_host.specs.declared.machine.Machine.{Machine}
 use Rattle.wasi_host.specs.declared.socket.Streams.{Streams}
 use Rattle.wasi_host.specs.declared.socket.Tcp2Socket.{Tcp2Socket}
@@ -26,13 +36,15 @@ use Rattle.wasi_host.specs.Host.{Trap}
 use Rattle.wasi_host.specs.Kinds.{kind_at, without_handle, has_no_child, taken_out}
 use Rattle.wasi_host.specs.Store.{Records, with_socket, standing_drop}
 use Rattle.wasi_host.specs.Jobs.{other_jobs}
-use Rattle.wasi_host.specs.Dropping.{give_streams_up, gone, close_record, release_asks, release_at, wait_answer, wait_writer, wait_put, wait_at, waited, drop_output_at}
+use Rattle.wasi_host.specs.Listening.{give_up_asks}
+use Rattle.wasi_host.specs.Dropping.{give_streams_up, gone, close_record, release_connection, release_asks, release_at, wait_answer, wait_writer, wait_put, wait_at, waited, drop_output_at}
 use Rattle.wasi_host.specs.Machine.{own_of, drop_kind, drop_taken, drop_asks}
 use Rattle.wasi_run.specs.declared.step.Step.{Step}
 use Rattle.wasi_run.specs.declared.step.Step.TheVariants as step
 use Rattle.wasi_run.proofs.Lists.{set_there}
 use Rattle.wasi_run.proofs.Bounds.{May}
-use Rattle.wasi_run.proofs.Fine.{NamesRecord, HandleIsFine, Names, WritesOn, SocketIsFine, RecordIsFine, DropIsFine}
+use Rattle.wasi_run.proofs.AcceptFrames.{listening_gone}
+use Rattle.wasi_run.proofs.Fine.{NamesRecord, HandleIsFine, Names, WritesOn, AcceptingIsFine, ListeningIsFine, SocketIsFine, RecordIsFine, DropIsFine}
 use Rattle.wasi_run.proofs.Frames.{names_on, writes_more, LeavesRecord, state_taken, state_stands, state_unstands, state_jobs}
 use Rattle.wasi_run.proofs.Flows.{LeavesReader, fine_reader_shutdown, fine_look, fine_give_up}
 use Rattle.wasi_run.proofs.FineHandles.{Fine, Leaves, Stores, IsLine, Meets, and_then, allows_state, keeps_record, state_left, NamesMade, keeps_names, names_by}
@@ -64,10 +76,10 @@ module _ (contexts : List WasiSocketsCtx) (steps : List Step) where
   LeavesGone r es socket = LeavesRecord steps {A = Unit {0}} r es (tt, gone r socket)
 
   gone_closed : (es : List Entry) (r : Tcp2Socket) → LeavesGone r es (with_state r.inner (state.Closed Other))
-  gone_closed es r = record { side = refl; fine = record { socket = closed_is_fine es r.inner; named = λ side e. absurd (cc); streams = λ streams e. absurd (cc) } }
+  gone_closed es r = record { side = refl; listening = listening_gone r.listening; fine = record { socket = closed_is_fine es r.inner; named = λ side e. absurd (cc); streams = λ streams e. absurd (cc); listening = tt } }
 
   gone_as_it_was : (es : List Entry) (r : Tcp2Socket) → RecordIsFine steps es r → LeavesGone r es r.inner
-  gone_as_it_was es r h = record { side = refl; fine = record { socket = h.socket; named = h.named; streams = λ streams e. absurd (cc) } }
+  gone_as_it_was es r h = record { side = refl; listening = listening_gone r.listening; fine = record { socket = h.socket; named = h.named; streams = λ streams e. absurd (cc); listening = tt } }
 
   fine_close_in : (es : List Entry) (op : OpId) (r : Tcp2Socket) (o : Option OpId) → RecordIsFine steps es r → Allows (May contexts steps) (λ fs done. LeavesGone r fs done.1) es (close_in op r.inner o)
   unfolding bind
@@ -78,10 +90,39 @@ module _ (contexts : List WasiSocketsCtx) (steps : List Step) where
   fine_close es op r h =
       allows_then (May contexts steps) (λ fs done. LeavesGone r fs done.1) (LeavesRecord steps r) es (close_asks op r.inner) _ (fine_close_in es op r (side_of r.inner) h) (λ fs done k. k)
 
-  fine_release : (es : List Entry) (op : OpId) (r : Tcp2Socket) → NamesMade contexts steps es op r → RecordIsFine steps es r → Allows (May contexts steps) (LeavesRecord steps r) es (release_asks op r)
-  fine_release es op r n h =
+  fine_connection : (es : List Entry) (op : OpId) (r : Tcp2Socket) → NamesMade contexts steps es op r → RecordIsFine steps es r → Allows (May contexts steps) (LeavesRecord steps r) es (release_connection op r)
+  fine_connection es op r n h =
       allows_then (May contexts steps) (λ fs done. RecordIsFine steps fs r × Nothing fs done) (LeavesRecord steps r) es (give_streams_up op r.streams) _
       (keeps_record contexts steps r Nothing es (give_streams_up op r.streams) h (given_up es op r r.streams refl n h)) (λ fs done k. fine_close fs op r k.0)
+
+  -- == a listener
+  -- a listen that goes on is cancelled by a close
+  cancels : (es : List Entry) (op : Operation) (over : Bool) → Allows (May contexts steps) Nothing es (if over then Give tt else ask_close op.who.id op.who.side)
+  cancels es op true = tt
+  cancels es op false = ((tt, tt), λ t fits. tt)
+
+  -- an arrival in hand is refused by the accept that has it
+  refuses : (es : List Entry) (who : Who) (o : Option IpSocketAddress) → Names steps es who.id who.side → Allows (May contexts steps) Nothing es (refuse_in who o)
+  refuses es who None n = tt
+  refuses es who (Some peer) n = ((inl n, tt), λ t fits. tt)
+
+  gives_accept : (es : List Entry) (side : OpId) (maker : ℕ) (a : Accepting) → AcceptingIsFine steps es side maker a → Allows (May contexts steps) Nothing es (give_up_in a)
+  gives_accept es side maker accepting.Idle f = tt
+  gives_accept es side maker (accepting.Asking op) f = refuses es op.who (in_hand op.left) (subst (Names steps es op.who.id) (sym f.on) f.named)
+  gives_accept es side maker (accepting.Arrived new peer) f = ((tt, tt), λ t fits. tt)
+  gives_accept es side maker (accepting.Failed c) f = tt
+
+  gives_listening : (es : List Entry) (made : Option OpId) (l : Listening) → ListeningIsFine steps es made l → Allows (May contexts steps) Nothing es (give_up_asks l)
+  gives_listening es made Not f = tt
+  gives_listening es made (Begins op) f = cancels es op (is_over op)
+  gives_listening es made (Accepts l) f = gives_accept es l.side l.maker l.accept f.accept
+  gives_listening es made (Unclosed side) f = ((tt, tt), λ t fits. tt)
+
+  fine_release : (es : List Entry) (op : OpId) (r : Tcp2Socket) → NamesMade contexts steps es op r → RecordIsFine steps es r → Allows (May contexts steps) (LeavesRecord steps r) es (release_asks op r)
+  fine_release es op r n h =
+      allows_then (May contexts steps) (λ fs done. NamesMade contexts steps fs op r × (RecordIsFine steps fs r × Nothing fs done)) (LeavesRecord steps r) es (give_up_asks r.listening) _
+      (keeps_names contexts steps op r (λ fs done. RecordIsFine steps fs r × Nothing fs done) es (give_up_asks r.listening) n (keeps_record contexts steps r Nothing es (give_up_asks r.listening) h (gives_listening es r.side r.listening h.listening)))
+      (λ fs done k. fine_connection fs op r k.0 k.1.0)
 
   fine_release_at : (es : List Entry) (m : Machine) (op : OpId) (place : ℕ) (o : Option Tcp2Socket) → slice_get m.store.sockets place ≡ o → ((r : Tcp2Socket) → slice_get m.store.sockets place ≡ Some r → NamesMade contexts steps es op r) → Fine contexts steps es m
       → Meets contexts steps (Stores contexts steps m) es (release_at m.store op place o)

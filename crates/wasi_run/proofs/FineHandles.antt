@@ -34,7 +34,8 @@ use Rattle.wasi_run.specs.Machine.{context_in, context_at}
 use Rattle.wasi_run.specs.Licence.{Has, entry, step_at, handles_of, BeganBy, IsMaker, Created, MayUseTcp, IsTcpCreate, IsMarkedWith, IsMarkOf, MayAsk}
 use Rattle.wasi_run.proofs.Lists.{has_last, get_seam}
 use Rattle.wasi_run.proofs.Bounds.{May, MayWork}
-use Rattle.wasi_run.proofs.Fine.{NamesRecord, HandleIsFine, Names, SocketIsFine, RecordIsFine, StateIsFine}
+use Rattle.wasi_run.proofs.Fine.{NamesRecord, HandleIsFine, Names, accept_name, SocketIsFine, RecordIsFine, StateIsFine}
+use Rattle.wasi_run.proofs.AcceptFrames.{Spared, Free, free_push}
 use Rattle.wasi_run.proofs.Frames.{same_record, names_on, LeavesRecord, record_more, state_asked, state_made, state_put, state_push}
 
 module _ (contexts : List WasiSocketsCtx) (steps : List Step) where
@@ -72,7 +73,7 @@ module _ (contexts : List WasiSocketsCtx) (steps : List Step) where
 
   -- == a call on a record
   pub state_left : {A : Type 0} (es : List Entry) (m : Machine) (place : ℕ) (r : Tcp2Socket) (done : A × Tcp2Socket) → slice_get m.store.sockets place ≡ Some r → LeavesRecord steps r es done → Fine es m → Fine es (record m { store = with_socket m.store place done.1 })
-  state_left es m place r done g k h = state_put steps es m place r done.1 g k.side k.fine h
+  state_left es m place r done g k h = state_put steps es m place r done.1 g k.side k.listening k.fine h
 
   -- the record of this place is put back in its place
   pub fine_on_record : {A B : Type 0} (es : List Entry) (m : Machine) (place : ℕ) (r : Tcp2Socket) (asks : Asks (A × Tcp2Socket)) (put : A × Tcp2Socket → B × Records)
@@ -119,11 +120,12 @@ module _ (contexts : List WasiSocketsCtx) (steps : List Step) where
   -- == making a handle
   pub fine_make : (es : List Entry) (m : Machine) (op : OpId) (kind : Kind) (parent : Option ℕ) (sock : Option OpId)
       → BeganBy steps op (IsMarkOf es op (name_of kind) parent sock)
+      → Spared m.store.sockets op (call.Made m.table.next (name_of kind) parent sock)
       → ((t : Told) → HandleIsFine (es ++ entry op (call.Made m.table.next (name_of kind) parent sock) t ∷ []) m.store.sockets m.table.next kind)
       → Fine es m → Meets (Tables m) es (make_asks m.table op kind parent sock)
   unfolding bind
-  fine_make es m op kind parent sock o f h =
-      allows_if (MayAsk contexts steps) _ es (is_full m.table) _ _ (λ full. h) (λ room. ((h.count, o), λ t fits. state_made steps es m op (name_of kind) parent sock t kind (f t) h))
+  fine_make es m op kind parent sock o q f h =
+      allows_if (MayAsk contexts steps) _ es (is_full m.table) _ _ (λ full. h) (λ room. ((h.count, o), λ t fits. state_made steps es m op (name_of kind) parent sock t kind q (f t) h))
 
   pub new_mark : (es : List Entry) (op : OpId) (handle : ℕ) (kind : HandleKind) (parent : Option ℕ) (sock : Option OpId) (t : Told) → IsMarkedWith (es ++ entry op (call.Made handle kind parent sock) t ∷ []) handle sock
   new_mark es op handle kind parent sock t = record { op = op; kind = kind; parent = parent; told = t; mark = has_last es _ }
@@ -144,7 +146,7 @@ module _ (contexts : List WasiSocketsCtx) (steps : List Step) where
   pub fine_network : (es : List Entry) (m : Machine) (line ctx : ℕ) → IsLine line (step.Network ctx) → Fine es m → Meets Leaves es (network_asks m (own_of line))
   fine_network es m line ctx l h =
       and_then (Tables m) Leaves es (make_asks m.table (own_of line) Network None None) _
-      (fine_make es m (own_of line) Network None None (record { origin = step.Network ctx; at = l; holds = (refl, refl, refl) }) (λ t. tt) h) (λ fs made k. k)
+      (fine_make es m (own_of line) Network None None (record { origin = step.Network ctx; at = l; holds = (refl, refl, refl) }) (λ place r x e n t. t) (λ t. tt) h) (λ fs made k. k)
 
   -- == tcp-create
   may_use : (n : ℕ) (o : Option WasiSocketsCtx) → slice_get contexts n ≡ o → (context_in o).tcp ≡ true → MayUseTcp contexts n (context_in o).name
@@ -170,10 +172,10 @@ module _ (contexts : List WasiSocketsCtx) (steps : List Step) where
   unfolding bind
   fine_new es own ctx family o = allows_if (May contexts steps) _ es ctx.tcp _ _ (λ t. ((o t, tt), λ u fits. fine_told es own ctx.name family u fits)) (λ t. tt)
 
-  fine_created : (es : List Entry) (m : Machine) (line ctx maker : ℕ) (family : SocketAddressFamily) (made : Result Socket ErrorCode) → IsLine line (step.TcpCreate ctx family) → Fine es m
+  fine_created : (es : List Entry) (m : Machine) (line ctx maker : ℕ) (family : SocketAddressFamily) (made : Result Socket ErrorCode) → IsLine line (step.TcpCreate ctx family) → Free m.store.sockets (own_of line) → Fine es m
       → CreatedIsFine (own_of line) maker family es made → Meets Leaves es (created_asks m (own_of line) made)
-  fine_created es m line ctx maker family (Err c) l h k = h
-  fine_created es m line ctx maker family (Ok socket) l h k =
+  fine_created es m line ctx maker family (Err c) l q h k = h
+  fine_created es m line ctx maker family (Ok socket) l q h k =
       let own = own_of line in
       let now = new_socket own maker family in
       let next : Machine = record m { store = with_record m.store now } in
@@ -185,19 +187,20 @@ module _ (contexts : List WasiSocketsCtx) (steps : List Step) where
       subst (λ (s : Socket). Meets Leaves es (create_handle m own s)) (sym k.1)
       (and_then (Tables next) Leaves es (make_asks m.table own (Tcp2 (length m.store.sockets)) None (Some own)) _
       (fine_make es next own (Tcp2 (length m.store.sockets)) None (Some own) (record { origin = step.TcpCreate ctx family; at = l; holds = (refl, refl, refl, (maker, family, k.0)) })
+      (λ place r x e n t. free_push m.store.sockets (new_record now) own refl q place r e (subst (λ (y : OpId). accept_name r.listening ≡ Some y) (sym t) n))
       (λ t. record { found = new_record now; at = get_seam m.store.sockets (new_record now); marked = new_mark es own m.table.next name.Tcp2 None (Some own) t })
       (state_push steps es m now made_it h)) (λ fs made k. k))
     where
       maker_is : (own side : OpId) → Some own ≡ Some side → IsMaker es maker family own → IsMaker es maker family side
       maker_is own side e i = let p : own ≡ side = cc in subst (IsMaker es maker family) p i
 
-  pub fine_create : (es : List Entry) (m : Machine) (line ctx : ℕ) (family : SocketAddressFamily) → IsLine line (step.TcpCreate ctx family) → Fine es m
+  pub fine_create : (es : List Entry) (m : Machine) (line ctx : ℕ) (family : SocketAddressFamily) → IsLine line (step.TcpCreate ctx family) → Free m.store.sockets (own_of line) → Fine es m
       → Meets Leaves es (create_asks m (own_of line) (context_at contexts ctx) family)
-  fine_create es m line ctx family l h =
+  fine_create es m line ctx family l q h =
       let c = context_at contexts ctx in
       and_then (λ fs made. Fine fs m × CreatedIsFine (own_of line) c.name family fs made) Leaves es (new_asks (own_of line) c family) _
       (allows_state m (CreatedIsFine (own_of line) c.name family) es (new_asks (own_of line) c family) h (fine_new es (own_of line) c family (may_create line ctx family l)))
-      (λ fs made k. fine_created fs m line ctx c.name family made l k.0 k.1)
+      (λ fs made k. fine_created fs m line ctx c.name family made l q k.0 k.1)
 
   -- == subscribe
   -- what a pollable watches is the record of the handle that it is made under
@@ -215,5 +218,5 @@ module _ (contexts : List WasiSocketsCtx) (steps : List Step) where
       let n = names_watched es m.store.sockets this (kind_at m.table this) w e (h.handles this) in
       and_then (Tables m) Leaves es (make_asks m.table (own_of line) (Pollable w) (Some this) sock) _
       (fine_make es m (own_of line) (Pollable w) (Some this) sock (record { origin = step.Subscribe ctx this; at = l; holds = (refl, (refl, parent_marked es m.store.sockets this (place_in w) sock refl n)) })
-      (λ t. names_new es m.store.sockets this (place_in w) sock refl n (own_of line) m.table.next name.Pollable (Some this) t) h)
+      (λ place r x e n t. t) (λ t. names_new es m.store.sockets this (place_in w) sock refl n (own_of line) m.table.next name.Pollable (Some this) t) h)
       (λ fs made k. k)

@@ -13,22 +13,18 @@ use Rattle.wasi_streams.specs.StreamStop.{StreamStop}
 use Rattle.wasi_streams.specs.StreamStop as stop
 use Rattle.wasi_tcp.specs.declared.reader.ReadState.{ReadState}
 use Rattle.wasi_tcp.specs.declared.writer.WriteState.{WriteState}
-use Rattle.wasi_tcp.specs.Connecting.{finish_connect_asks}
-use Rattle.wasi_tcp.specs.Reader.{reader_ready_asks, reader_shutdown_asks, read_state_asks}
+use Rattle.wasi_tcp.specs.Reader.{reader_shutdown_asks, read_state_asks}
 use Rattle.wasi_tcp.specs.Socket.{side_in, side_of}
-use Rattle.wasi_tcp.specs.Writer.{look_asks, writer_shutdown_asks}
+use Rattle.wasi_tcp.specs.Writer.{writer_shutdown_asks}
 use Rattle.wasi_host.specs.declared.kind.Kind.{Kind}
-use Rattle.wasi_host.specs.declared.kind.Kind.TheVariants.{Input, Output, Pollable, ErrorValue}
-use Rattle.wasi_host.specs.declared.kind.Watched.{Watched}
-use Rattle.wasi_host.specs.declared.kind.Watched.TheVariants as watched
+use Rattle.wasi_host.specs.declared.kind.Kind.TheVariants.{Input, Output, ErrorValue}
 use Rattle.wasi_host.specs.declared.machine.Machine.{Machine}
 use Rattle.wasi_host.specs.declared.socket.Streams.{Streams}
 use Rattle.wasi_host.specs.declared.socket.Tcp2Socket.{Tcp2Socket}
-use Rattle.wasi_host.specs.Kinds.{kind_at, input_of, output_of, watch_of, place_in, make_asks}
-use Rattle.wasi_host.specs.Store.{Records, with_inner, with_reader, with_writer, is_connect, reader_of, reader_asks, writer_of, writer_asks, stream_at, with_record_put}
+use Rattle.wasi_host.specs.Kinds.{kind_at, input_of, output_of, make_asks}
+use Rattle.wasi_host.specs.Store.{Records, with_reader, with_writer, reader_of, reader_asks, writer_of, writer_asks, stream_at, with_record_put}
 use Rattle.wasi_host.specs.Jobs.{with_job, begins_job, write_at}
-use Rattle.wasi_host.specs.Machine.{with_store, input_at, output_at, side_at, own_of, socket_at, ready_on}
-use Rattle.wasi_host.specs.Readiness.{is_over, is_done, ready_socket_by, ready_reader, ready_writer, ready_record, ready_put, ready_at}
+use Rattle.wasi_host.specs.Machine.{with_store, input_at, output_at, side_at, own_of, socket_at}
 use Rattle.wasi_host.specs.Shutdowns.{shut_receive, shut_send, shut_streams, with_streams, shut_record, shut_put, shutdown_at}
 use Rattle.wasi_host.specs.StreamCalls.{convert_asks, converted, stream_on, write_on}
 use Rattle.wasi_p2.specs.Tcp.{shutdown_on}
@@ -36,10 +32,10 @@ use Rattle.wasi_run.specs.declared.step.Step.{Step}
 use Rattle.wasi_run.specs.declared.step.Step.TheVariants as step
 use Rattle.wasi_run.specs.Licence.{Has, handles_of, IsMarkedWith, IsMarkOf}
 use Rattle.wasi_run.proofs.Bounds.{May}
-use Rattle.wasi_run.proofs.Connects.{FinishedFine, fine_finish_connect}
-use Rattle.wasi_run.proofs.Flows.{LeavesReader, LeavesWriter, fine_reader_ready, fine_reader_shutdown, fine_read, fine_look, fine_writer_shutdown}
+use Rattle.wasi_run.proofs.Flows.{LeavesReader, LeavesWriter, fine_reader_shutdown, fine_read, fine_writer_shutdown}
 use Rattle.wasi_run.proofs.Fine.{NamesRecord, HandleIsFine, Names, ReadsOn, WritesOn, IsConnectedOn, StreamsAreFine, RecordIsFine}
-use Rattle.wasi_run.proofs.Frames.{names_on, writes_more, record_kept, LeavesRecord, state_jobs}
+use Rattle.wasi_run.proofs.AcceptFrames.{same_listening}
+use Rattle.wasi_run.proofs.Frames.{names_on, writes_more, LeavesRecord, state_jobs}
 use Rattle.wasi_run.proofs.FineHandles.{Fine, Leaves, Stores, Tables, IsLine, Meets, and_then, keeps_record, fine_on_record, NamesMade, names_by, names_socket, fine_make, parent_marked}
 
 module _ (contexts : List WasiSocketsCtx) (steps : List Step) where
@@ -72,7 +68,11 @@ module _ (contexts : List WasiSocketsCtx) (steps : List Step) where
   pub left_streams : {A : Type 0} (es : List Entry) (r : Tcp2Socket) (side : OpId) (streams : Streams) (answer : A) → IsConnectedOn r.inner side → StreamsOn side es streams → RecordIsFine steps es r → LeavesRecord steps r es (answer, with_streams r streams)
   left_streams es r side streams answer c f h =
       let it : StreamsAreFine steps es r.inner streams = record { side = side; connected = c; reads = f.0; writes = f.1 } in
-      record { side = refl; fine = record { socket = h.socket; named = h.named; streams = λ others e. let q : streams ≡ others = cc in subst (StreamsAreFine steps es r.inner) q it } }
+      record {
+        side = refl;
+        listening = same_listening r.listening;
+        fine = record { socket = h.socket; named = h.named; streams = λ others e. let q : streams ≡ others = cc in subst (StreamsAreFine steps es r.inner) q it; listening = h.listening };
+      }
 
   flows_on : {A B : Type 0} (es : List Entry) (r : Tcp2Socket) (side : OpId) (asks : Asks A) (streams : A → Streams) (answer : A → B) → IsConnectedOn r.inner side → Allows (May contexts steps) (Flowing side streams) es asks → RecordIsFine steps es r
       → Allows (May contexts steps) (LeavesRecord steps r) es (bind asks (λ a. Give (answer a, with_streams r (streams a))))
@@ -90,7 +90,7 @@ module _ (contexts : List WasiSocketsCtx) (steps : List Step) where
   writer_on es r s asks answer f a h = flows_on es r f.side asks (λ done. record s { writer = done.1 }) (λ done. answer done.0) f.connected (writer_flows es f.side s asks (f.reads, f.writes) a) h
 
   pub stays : {A : Type 0} (es : List Entry) (r : Tcp2Socket) (answer : A) → RecordIsFine steps es r → LeavesRecord steps r es (answer, r)
-  stays es r answer h = record { side = refl; fine = h }
+  stays es r answer h = record { side = refl; listening = same_listening r.listening; fine = h }
 
   -- == read, check-write, write and flush
   fine_reader : {T : Type 0} (es : List Entry) (op : OpId) (r : Tcp2Socket) (o : Option Streams) (read : ReadState → Asks (Result T StreamStop × ReadState)) → r.streams ≡ o → NamesMade contexts steps es op r → RecordIsFine steps es r
@@ -132,7 +132,7 @@ module _ (contexts : List WasiSocketsCtx) (steps : List Step) where
         let sock = side_at (slice_get m.store.sockets place) in
         let n = stands es m.store.sockets (h.handles handle kind e) in
         and_then contexts steps (Tables contexts steps m) (Leaves contexts steps) es (make_asks m.table (own_of line) ErrorValue (Some handle) sock) _
-        (fine_make contexts steps es m (own_of line) ErrorValue (Some handle) sock (record { origin = s; at = l; holds = mark es sock (parent_marked contexts steps es m.store.sockets handle place sock refl n) }) (λ t. tt) h)
+        (fine_make contexts steps es m (own_of line) ErrorValue (Some handle) sock (record { origin = s; at = l; holds = mark es sock (parent_marked contexts steps es m.store.sockets handle place sock refl n) }) (λ place r x e n t. t) (λ t. tt) h)
         (λ fs made k. k)
 
     fine_converted : {T : Type 0} (es : List Entry) (m : Machine) (done : Result T StreamStop × Records) → kind_at m.table handle ≡ Some kind → Stores contexts steps m es done → Meets contexts steps (Leaves contexts steps) es (converted (own_of line) handle place (with_store m done))
@@ -198,49 +198,6 @@ module _ (contexts : List WasiSocketsCtx) (steps : List Step) where
     fine_writing_on es m write None e a h = h
     fine_writing_on es m write (Some place) e a h =
         fine_write_on line output place s (Output place) l named (λ fs sockets n. n) mark es m _ (output_in (kind_at m.table output) place e) (λ r n f. fine_writer es (own_of line) r r.streams write refl n f a) h
-
-  -- == ready
-  looked_record : (es : List Entry) (r : Tcp2Socket) (connecting : Bool) → RecordIsFine steps es r → Allows (May contexts steps) (LeavesRecord steps r) es (ready_socket_by r connecting)
-  looked_record es r true f =
-      allows_then (May contexts steps) (λ fs done. RecordIsFine steps fs r × FinishedFine contexts steps r.inner fs done) (LeavesRecord steps r) es (finish_connect_asks r.inner) _
-      (keeps_record contexts steps r (FinishedFine contexts steps r.inner) es (finish_connect_asks r.inner) f (fine_finish_connect contexts steps es r.inner f.socket))
-      (λ fs done k. record { side = refl; fine = record_kept steps fs r (with_inner r done.1) (record { keeps = k.1.keeps; side = refl; streams = refl }) k.1.fine k.0 })
-  looked_record es r false f = stays es r _ f
-
-  fine_ready_reader : (es : List Entry) (op : OpId) (r : Tcp2Socket) (o : Option Streams) → r.streams ≡ o → NamesMade contexts steps es op r → RecordIsFine steps es r → Allows (May contexts steps) (LeavesRecord steps r) es (ready_reader op r o)
-  fine_ready_reader es op r None e n h = stays es r _ h
-  fine_ready_reader es op r (Some s) e n h =
-      let f = h.streams s e in
-      reader_on es r s (reader_ready_asks op s.reader) (λ answer. Ok (is_done answer)) f (fine_reader_ready contexts steps op f.side es s.reader (names_streams es op r s n h f) f.reads) h
-
-  fine_ready_writer : (es : List Entry) (op : OpId) (r : Tcp2Socket) (o : Option Streams) → r.streams ≡ o → NamesMade contexts steps es op r → RecordIsFine steps es r → Allows (May contexts steps) (LeavesRecord steps r) es (ready_writer op r o)
-  fine_ready_writer es op r None e n h = stays es r _ h
-  fine_ready_writer es op r (Some s) e n h =
-      let f = h.streams s e in
-      writer_on es r s (look_asks op s.writer) (λ answer. Ok (is_over answer)) f (fine_look contexts steps op f.side es s.writer (names_streams es op r s n h f) f.writes) h
-
-  fine_ready_record : (es : List Entry) (op : OpId) (w : Watched) (r : Tcp2Socket) → NamesMade contexts steps es op r → RecordIsFine steps es r → Allows (May contexts steps) (LeavesRecord steps r) es (ready_record op w r)
-  fine_ready_record es op (watched.Socket place) r n f = looked_record es r (is_connect r.in_progress) f
-  fine_ready_record es op (watched.Input place) r n f = fine_ready_reader es op r r.streams refl n f
-  fine_ready_record es op (watched.Output place) r n f = fine_ready_writer es op r r.streams refl n f
-
-  fine_ready_at : (es : List Entry) (m : Machine) (op : OpId) (w : Watched) (place : ℕ) (o : Option Tcp2Socket) → slice_get m.store.sockets place ≡ o → ((r : Tcp2Socket) → slice_get m.store.sockets place ≡ Some r → NamesMade contexts steps es op r) → Fine contexts steps es m
-      → Meets contexts steps (Stores contexts steps m) es (ready_at m.store op w place o)
-  fine_ready_at es m op w place None g n h = h
-  fine_ready_at es m op w place (Some r) g n h = fine_on_record contexts steps es m place r (ready_record op w r) (ready_put m.store place) (λ done. refl) g (fine_ready_record es op w r (n r g) (h.sockets place r g)) h
-
-  pollable_in : (k : Option Kind) (w : Watched) → watch_of k ≡ Some w → k ≡ Some (Pollable w)
-  pollable_in None w e = absurd (cc)
-  pollable_in (Some (Pollable v)) w e = cc
-  pollable_in (Some _) w e = absurd (cc)
-
-  pub fine_ready_on : (es : List Entry) (m : Machine) (line ctx pollable : ℕ) (o : Option Watched) → watch_of (kind_at m.table pollable) ≡ o → IsLine contexts steps line (step.Ready ctx pollable) → Fine contexts steps es m → Meets contexts steps (Leaves contexts steps) es (ready_on m (own_of line) o)
-  fine_ready_on es m line ctx pollable None e l h = h
-  fine_ready_on es m line ctx pollable (Some w) e l h =
-      let n : NamesRecord es m.store.sockets pollable (place_in w) = h.handles pollable (Pollable w) (pollable_in (kind_at m.table pollable) w e) in
-      and_then contexts steps (Stores contexts steps m) (Leaves contexts steps) es (ready_at m.store (own_of line) w (place_in w) (slice_get m.store.sockets (place_in w))) _
-      (fine_ready_at es m (own_of line) w (place_in w) (slice_get m.store.sockets (place_in w)) refl (names_by contexts steps es m.store.sockets line pollable (place_in w) (step.Ready ctx pollable) l (inl refl) n) h)
-      (λ fs done k. k)
 
   -- == tcp-shutdown
   module _ (op side : OpId) where

@@ -36,7 +36,7 @@ use Rattle.wasi_host.specs.Machine.{socket_at, side_at, with_table, with_store, 
 use Rattle.wasi_p2.specs.Tcp.{with_output, output_asks, streams_asks, connected_asks, finish_connect_on, finish_connect_asks}
 use Rattle.wasi_run.specs.Machine.{pair_reply}
 use Rattle.wasi_run.specs.Licence.{entry, marks_in}
-use Rattle.wasi_run.specs.Answered.{Answered, record_in, record_at, word_of_code, RefusedOf, HasNoConnectInProgress, FinishRefusal, NoConnect, StillConnects, Closes, WasClosed, NotConnecting, ReceivesAlready, SendsAlready, ConnectsAt}
+use Rattle.wasi_run.specs.Answered.{Answered, record_in, record_at, word_of_code, RefusedOf, HasNoConnectInProgress, FinishRefusal, NoConnect, StillConnects, Closes, WasClosed, NotConnecting, ListensAlready, ReceivesAlready, SendsAlready, ConnectsAt}
 use Rattle.wasi_run.proofs.Lists.{marks_in-push}
 use Rattle.wasi_run.proofs.StepCauses.{Gives, gives_then, gives_both, gives_where, settled, busy_exactly}
 use Rattle.wasi_run.proofs.RecordCauses.{found, MayBeOfCode, of_code}
@@ -144,6 +144,8 @@ module _ (m : Machine) (line handle : ℕ) where
       state_gives : (st : TcpState) → r.inner.state ≡ st → Gives StateGives [] (finish_in st)
       state_gives (state.Default side) e =
           subst (λ (st : TcpState). StateGives [] (Err InvalidState, st)) e (why [] word.InvalidState _ (λ e. cc) (λ h. NotConnecting side connects e refl))
+      state_gives (state.Listening side) e =
+          subst (λ (st : TcpState). StateGives [] (Err InvalidState, st)) e (why [] word.InvalidState _ (λ e. cc) (λ h. ListensAlready side connects e refl))
       state_gives (state.Connecting op) e = polled op e
       state_gives (state.Connected connection) e = opens_receive connection e connection.receive_taken refl
       state_gives (state.Closed c) e = why [] (word_of_code c) _ (of_a_code c) (λ h. WasClosed c connects e refl)

@@ -25,7 +25,7 @@ use Rattle.wasi_tcp.specs.Job.{Job, new_job, job_asks, finish_asks}
 use Rattle.wasi_tcp.specs.Writer.{writing_side, closing_side, writer_side, written_by, closed_by, collected, look_in, look_asks, with_permit, permitted, check_write_asks, turn_asks, begun, write_on_asks, write_state_asks, writer_shutdown_asks, side_up_asks, writer_give_up_asks}
 use Rattle.wasi_run.specs.declared.step.Step.{Step}
 use Rattle.wasi_run.specs.Licence.{ReachesSide}
-use Rattle.wasi_run.proofs.Bounds.{May}
+use Rattle.wasi_run.proofs.Bounds.{May, MayQuietly, allows_quiet}
 use Rattle.wasi_run.proofs.Fine.{ReadsOn, WritesOn, ToWrite, Names, JobIsFine}
 use Rattle.wasi_run.proofs.Frames.{names_on}
 use Rattle.wasi_run.proofs.WriteJobs.{fine_job, fine_finish}
@@ -38,12 +38,12 @@ module _ (contexts : List WasiSocketsCtx) (steps : List Step) where
   LeavesWriter side es done = WritesOn steps es side done.1
 
   -- one poll of a write that goes on, by its own operation
-  pub fine_turn : (es : List Entry) (side : OpId) (w : WriteState) → WritesOn steps es side w → Allows (May contexts steps) (LeavesWriter side) es (turn_asks w)
+  pub fine_turn : (es : List Entry) (side : OpId) (w : WriteState) → WritesOn steps es side w → Allows (MayQuietly contexts steps) (LeavesWriter side) es (turn_asks w)
   fine_turn es side (writing.Ready half permit) on = on
   fine_turn es side (writing.Writing job) on =
-      allows_then (May contexts steps) (λ fs j. JobIsFine steps fs side j) (LeavesWriter side) es (job_asks job) _ (fine_job contexts steps es side job on) (λ fs j k. k)
+      allows_then (MayQuietly contexts steps) (λ fs j. JobIsFine steps fs side j) (LeavesWriter side) es (job_asks job) _ (fine_job contexts steps es side job on) (λ fs j k. k)
   fine_turn es side (writing.Closing job) on =
-      allows_then (May contexts steps) (λ fs j. JobIsFine steps fs side j) (LeavesWriter side) es (job_asks job) _ (fine_job contexts steps es side job on) (λ fs j k. k)
+      allows_then (MayQuietly contexts steps) (λ fs j. JobIsFine steps fs side j) (LeavesWriter side) es (job_asks job) _ (fine_job contexts steps es side job on) (λ fs j k. k)
   fine_turn es side (writing.Closed e) on = on
 
   -- the other calls are made by an operation whose step names the side
@@ -147,7 +147,7 @@ module _ (contexts : List WasiSocketsCtx) (steps : List Step) where
     fine_write_on : (es : List Entry) (w : WriteState) → Names steps es op side → WritesOn steps es side w → Allows (May contexts steps) (LeavesWriter side) es (write_on_asks op w)
     fine_write_on es w n on =
         allows_then (May contexts steps) (λ fs turned. Names steps fs op side × LeavesWriter side fs turned) (LeavesWriter side) es (turn_asks w) _
-        (keeps_names (LeavesWriter side) es (turn_asks w) n (fine_turn es side w on))
+        (keeps_names (LeavesWriter side) es (turn_asks w) n (allows_quiet contexts steps (LeavesWriter side) es (turn_asks w) (fine_turn es side w on)))
         (λ fs turned k. allows_then (May contexts steps) (LeavesWriter side) (LeavesWriter side) fs (look_asks op turned.1) _ (fine_look fs turned.1 k.0 k.1) (λ gs looked l. begun_on gs looked l))
 
     fine_within : (es : List Entry) (half : TcpSendStream) (permit b : ℕ) (bytes : List ℕ) (past : Bool) → Names steps es op side → half.side ≡ side
@@ -167,7 +167,7 @@ module _ (contexts : List WasiSocketsCtx) (steps : List Step) where
     unfolding bind
     fine_writer_shutdown es (writing.Ready half permit) n on = ((reaches es half.side on n, tt), λ t fits. tt)
     fine_writer_shutdown es (writing.Writing job) n on =
-        allows_then (May contexts steps) (λ fs done. JobIsFine steps fs side done.1) (LeavesWriter side) es (finish_asks op job) _ (fine_finish contexts steps es op side job n on) (λ fs done k. k)
+        allows_then (May contexts steps) (λ fs done. JobIsFine steps fs side done.1) (LeavesWriter side) es (finish_asks op job) _ (allows_quiet contexts steps (λ fs done. JobIsFine steps fs side done.1) es (finish_asks op job) (fine_finish contexts steps es op side job n on)) (λ fs done k. k)
     fine_writer_shutdown es (writing.Closing job) n on = on
     fine_writer_shutdown es (writing.Closed e) n on = on
 

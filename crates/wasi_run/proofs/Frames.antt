@@ -6,11 +6,13 @@ use Rattle.wasi_addr.specs.declared.address.SocketAddressFamily.{SocketAddressFa
 use Rattle.wasi_addr.specs.declared.address.SocketAddrUse.{SocketAddrUse}
 use Rattle.wasi_world.specs.declared.ids.OpId.{OpId}
 use Rattle.wasi_world.specs.declared.call.Call.{Call}
-use Rattle.wasi_world.specs.declared.call.Call.TheVariants.{Made}
+use Rattle.wasi_world.specs.declared.call.Call.TheVariants.{Accept, Hand, Made}
 use Rattle.wasi_world.specs.declared.call.HandleKind.{HandleKind}
 use Rattle.wasi_world.specs.declared.call.Told.{Told}
 use Rattle.wasi_world.specs.declared.call.Entry.{Entry}
 use Rattle.wasi_world.specs.Operation.{Item, Operation}
+use Rattle.wasi_tcp.specs.declared.listener.Accepting.{Accepting}
+use Rattle.wasi_tcp.specs.declared.listener.Accepting.TheVariants as accepting
 use Rattle.wasi_tcp.specs.declared.socket.Connection.{Connection}
 use Rattle.wasi_tcp.specs.declared.socket.TcpState.TheVariants.{Connected}
 use Rattle.wasi_tcp.specs.declared.writer.WriteState.{WriteState}
@@ -20,6 +22,8 @@ use Rattle.wasi_tcp.specs.Shape.{Socket}
 use Rattle.wasi_tcp.specs.Socket.{side_of}
 use Rattle.wasi_host.specs.declared.kind.Kind.{Kind}
 use Rattle.wasi_host.specs.declared.kind.Kind.TheVariants.{Network, Tcp2, Input, Output, Pollable, ErrorValue}
+use Rattle.wasi_host.specs.declared.listening.Listening.{Listening}
+use Rattle.wasi_host.specs.declared.listening.Listening.TheVariants.{Not, Begins, Accepts, Unclosed}
 use Rattle.wasi_host.specs.declared.machine.Machine.{Machine}
 use Rattle.wasi_host.specs.declared.socket.Streams.{Streams}
 use Rattle.wasi_host.specs.declared.socket.Tcp2Socket.{Tcp2Socket}
@@ -28,12 +32,13 @@ use Rattle.wasi_host.specs.declared.store.StandingCall.{StandingCall}
 use Rattle.wasi_host.specs.declared.store.StandingCall.TheVariants as standing
 use Rattle.wasi_host.specs.Kinds.{table_parent, with_handle, without_handle, place_in}
 use Rattle.wasi_host.specs.Machine.{own_of}
-use Rattle.wasi_host.specs.Store.{with_socket, with_record}
+use Rattle.wasi_host.specs.Store.{new_record, with_socket, with_record}
 use Rattle.wasi_run.specs.declared.step.Step.{Step}
 use Rattle.wasi_run.specs.Licence.{entry, marked_by, NamesSide, IsSide, IsMarkedWith, IsMaker, Created, Handed, HasWildcardYes, IsBoundSide, MayGoOut}
 use Rattle.wasi_run.proofs.Lists.{has_front, marks_in-push, get_front, get_split, get_set, set_get, value_split}
 use Rattle.wasi_streams.proofs.Tables.{value_without}
-use Rattle.wasi_run.proofs.Fine.{NamesRecord, HandleIsFine, KnowsMaker, BindLeft, Whole, Checked, Over, ConnectLeft, Unbound, Unchecked, Allowed, ToClose, Ended, Names, WorksOn, BindIsFine, ConnectIsFine, JobIsFine, WritesOn, IsConnectedOn, StreamsAreFine, SocketIsFine, RecordIsFine, DropIsFine, CallIsFine, StandingIsFine, StateIsFine}
+use Rattle.wasi_run.proofs.Fine.{NamesRecord, HandleIsFine, KnowsMaker, BindLeft, Whole, Checked, Over, ConnectLeft, Unbound, Unchecked, Allowed, ToClose, Ended, Names, WorksOn, BindIsFine, ConnectIsFine, JobIsFine, WritesOn, IsConnectedOn, StreamsAreFine, ListeningStands, accept_name, AcceptIsFine, AcceptingIsFine, ListeningIsFine, SocketIsFine, RecordIsFine, DropIsFine, CallIsFine, StandingIsFine, StateIsFine}
+use Rattle.wasi_run.proofs.AcceptFrames.{Touches, Spared, stands_more, KeepsListening, Only, stands_put, one_put, stands_push, one_push}
 
 -- == what more entries keep
 pub side_more : (es fs : List Entry) (handle : ℕ) (side : OpId) → IsSide es handle side → IsSide (es ++ fs) handle side
@@ -85,15 +90,23 @@ connect_left_more es fs op side maker addr items (Allowed h y) = Allowed (out_mo
 connect_left_more es fs op side maker addr items (ToClose c) = ToClose c
 connect_left_more es fs op side maker addr items Ended = Ended
 
--- == a mark is a call of its own
--- any call but a mark
+-- == marks, accepts and what is handed over are calls of their own
+-- any call but these
 abbrev pub NoMark : Call → Type 0
 NoMark (Made handle kind parent sock) = ⊥
+NoMark (Accept sock) = ⊥
+NoMark (Hand sock peer) = ⊥
 NoMark _ = ⊤
 
 no_mark : (c : Call) → NoMark c → marked_by c ≡ 0
 no_mark (Made handle kind parent sock) h = absurd h
 no_mark _ h = refl
+
+pub no_touch : (op : OpId) (c : Call) (x : OpId) → NoMark c → Touches op c x → ⊥
+no_touch op (Made handle kind parent sock) x h t = h
+no_touch op (Accept sock) x h t = h
+no_touch op (Hand sock peer) x h t = h
+no_touch op _ x h t = t
 
 -- == how a socket may change
 -- It keeps its maker, its family and its connection, and has no side that it didn't have.
@@ -114,11 +127,12 @@ keeps_then a b c k l = record {
   connected = λ x e. let p = k.connected x e in let q = l.connected p.connection p.state in record { connection = q.connection; state = q.state; same = q.same ∙ p.same };
 }
 
--- The record keeps its socket's side, the side that it was made with, and its streams.
+-- The record keeps its socket's side, the side that it was made with, its streams, and how far it is with listening.
 pub record KeepsRecord (old now : Tcp2Socket) : Type 0 where
   pub keeps : KeepsSide old.inner now.inner
   pub side : now.side ≡ old.side
   pub streams : now.streams ≡ old.streams
+  pub listening : now.listening ≡ old.listening
 
 -- == the records by place
 -- The record of this place was made with this side.
@@ -190,6 +204,21 @@ module _ (steps : List Step) where
   writes_more es fs side (writing.Closing job) h = job_more es fs side job h
   writes_more es fs side (writing.Closed e) h = tt
 
+  pub accept_more : (es fs : List Entry) (side : OpId) (maker : ℕ) (op : Operation) → AcceptIsFine steps es side maker op → AcceptIsFine steps (es ++ fs) side maker op
+  accept_more es fs side maker op h = record { named = names_on es fs op.who.id side h.named; on = h.on; asks = h.asks; last = h.last }
+
+  accepting_more : (es fs : List Entry) (side : OpId) (maker : ℕ) (a : Accepting) → AcceptingIsFine steps es side maker a → AcceptingIsFine steps (es ++ fs) side maker a
+  accepting_more es fs side maker accepting.Idle h = tt
+  accepting_more es fs side maker (accepting.Asking op) h = accept_more es fs side maker op h
+  accepting_more es fs side maker (accepting.Arrived new peer) h = record { told = h.told; hand = has_front es fs _ h.hand }
+  accepting_more es fs side maker (accepting.Failed c) h = tt
+
+  pub listening_more : (es fs : List Entry) (made : Option OpId) (l : Listening) → ListeningIsFine steps es made l → ListeningIsFine steps (es ++ fs) made l
+  listening_more es fs made Not h = tt
+  listening_more es fs made (Begins op) h = tt
+  listening_more es fs made (Accepts l) h = record { side = h.side; maker = maker_more es fs l.maker l.family l.side h.maker; accept = accepting_more es fs l.side l.maker l.accept h.accept }
+  listening_more es fs made (Unclosed side) h = tt
+
   -- == and of the records
   pub socket_more : (es fs : List Entry) (socket : Socket) → SocketIsFine steps es socket → SocketIsFine steps (es ++ fs) socket
   socket_more es fs socket h = record {
@@ -202,13 +231,19 @@ module _ (steps : List Step) where
   streams_more es fs socket streams h = record { side = h.side; connected = h.connected; reads = h.reads; writes = writes_more es fs h.side streams.writer h.writes }
 
   pub record_more : (es fs : List Entry) (r : Tcp2Socket) → RecordIsFine steps es r → RecordIsFine steps (es ++ fs) r
-  record_more es fs r h = record { socket = socket_more es fs r.inner h.socket; named = h.named; streams = λ streams e. streams_more es fs r.inner streams (h.streams streams e) }
+  record_more es fs r h = record {
+    socket = socket_more es fs r.inner h.socket;
+    named = h.named;
+    streams = λ streams e. streams_more es fs r.inner streams (h.streams streams e);
+    listening = listening_more es fs r.side r.listening h.listening;
+  }
 
   drop_more : (es fs : List Entry) (sockets : List Tcp2Socket) (op : OpId) (place : ℕ) → DropIsFine steps es sockets op place → DropIsFine steps (es ++ fs) sockets op place
   drop_more es fs sockets op place h = record { found = h.found; at = h.at; named = λ side e. names_on es fs op side (h.named side e) }
 
   standing_more : (es fs : List Entry) (sockets : List Tcp2Socket) (line : ℕ) (c : StandingCall) → CallIsFine steps es sockets line c → CallIsFine steps (es ++ fs) sockets line c
   standing_more es fs sockets line (standing.Bind place op) h = bind_more es fs op h
+  standing_more es fs sockets line (standing.Listen place) h = h
   standing_more es fs sockets line (standing.DropOutput place) h = drop_more es fs sockets (own_of line) place h
 
   -- == a record that changes
@@ -223,11 +258,13 @@ module _ (steps : List Step) where
     socket = f;
     named = λ side e. k.side ∙ h.named side (k.keeps.side side e);
     streams = λ streams e. streams_kept es old.inner now.inner streams k.keeps (h.streams streams (sym k.streams ∙ e));
+    listening = rw (k.side, k.listening) h.listening;
   }
 
-  -- A call on a record leaves one that was made with the same side, and that fits the log.
+  -- A call on a record leaves one that was made with the same side, has no other accept, and fits the log.
   pub record LeavesRecord {A : Type 0} (old : Tcp2Socket) (es : List Entry) (done : A × Tcp2Socket) : Type 0 where
     pub side : done.1.side ≡ old.side
+    pub listening : KeepsListening old.listening done.1.listening
     pub fine : RecordIsFine steps es done.1
 
   -- == the call that stands, where the records change
@@ -238,27 +275,34 @@ module _ (steps : List Step) where
 
   standing_put : (es : List Entry) (sockets : List Tcp2Socket) (i : ℕ) (old now : Tcp2Socket) (line : ℕ) (c : StandingCall) → slice_get sockets i ≡ Some old → now.side ≡ old.side → CallIsFine steps es sockets line c → CallIsFine steps es (slice_set sockets i now) line c
   standing_put es sockets i old now line (standing.Bind place op) g k h = h
+  standing_put es sockets i old now line (standing.Listen place) g k h = h
   standing_put es sockets i old now line (standing.DropOutput place) g k h = drop_put es sockets i old now (own_of line) place g k h
 
   standing_push : (es : List Entry) (sockets : List Tcp2Socket) (r : Tcp2Socket) (line : ℕ) (c : StandingCall) → CallIsFine steps es sockets line c → CallIsFine steps es (sockets ++ r ∷ []) line c
   standing_push es sockets r line (standing.Bind place op) h = h
+  standing_push es sockets r line (standing.Listen place) h = h
   standing_push es sockets r line (standing.DropOutput place) h = record { found = h.found; at = get_front sockets (r ∷ []) place h.found h.at; named = h.named }
 
   -- == the state
-  -- any ask but a mark keeps the state
-  pub state_asked : (es : List Entry) (m : Machine) (op : OpId) (c : Call) (told : Told) → NoMark c → StateIsFine steps es m → StateIsFine steps (es ++ entry op c told ∷ []) m
-  state_asked es m op c told q h = record {
-    count = let p = marks_in-push es (entry op c told) in let z = no_mark c q in let k = h.count in omega arith;
+  -- an ask that is no mark, and that touches no accept, keeps the state
+  pub state_spared : (es : List Entry) (m : Machine) (op : OpId) (c : Call) (told : Told) → marked_by c ≡ 0 → Spared m.store.sockets op c → StateIsFine steps es m → StateIsFine steps (es ++ entry op c told ∷ []) m
+  state_spared es m op c told z q h = record {
+    count = let p = marks_in-push es (entry op c told) in let k = h.count in omega arith;
     handles = λ handle kind e. handle_more es _ m.store.sockets handle kind (h.handles handle kind e);
     sockets = λ place r e. record_more es _ r (h.sockets place r e);
     standing = λ s e. standing_more es _ m.store.sockets s.line s.call (h.standing s e);
+    accepts = λ place r e. stands_more es op c told r.listening (h.accepts place r e) (λ x n. q place r x e n);
+    one = h.one;
   }
 
+  pub state_asked : (es : List Entry) (m : Machine) (op : OpId) (c : Call) (told : Told) → NoMark c → StateIsFine steps es m → StateIsFine steps (es ++ entry op c told ∷ []) m
+  state_asked es m op c told q h = state_spared es m op c told (no_mark c q) (λ place r x e n. no_touch op c x q) h
+
   -- a mark, and the handle that it makes
-  pub state_made : (es : List Entry) (m : Machine) (op : OpId) (name : HandleKind) (parent : Option ℕ) (sock : Option OpId) (told : Told) (kind : Kind)
+  pub state_made : (es : List Entry) (m : Machine) (op : OpId) (name : HandleKind) (parent : Option ℕ) (sock : Option OpId) (told : Told) (kind : Kind) → Spared m.store.sockets op (Made m.table.next name parent sock)
       → HandleIsFine (es ++ entry op (Made m.table.next name parent sock) told ∷ []) m.store.sockets m.table.next kind
       → StateIsFine steps es m → StateIsFine steps (es ++ entry op (Made m.table.next name parent sock) told ∷ []) (record m { table = with_handle m.table kind parent })
-  state_made es m op name parent sock told kind f h = record {
+  state_made es m op name parent sock told kind q f h = record {
     count = let p = marks_in-push es (entry op (Made m.table.next name parent sock) told) in let k = h.count in omega arith;
     handles = λ handle x e. elim (value_split m.table.live (record { handle = m.table.next; value = kind; parent = table_parent kind parent }) handle x e) [
       | inl g ↦ handle_more es _ m.store.sockets handle x (h.handles handle x g)
@@ -266,6 +310,8 @@ module _ (steps : List Step) where
     ];
     sockets = λ place r e. record_more es _ r (h.sockets place r e);
     standing = λ s e. standing_more es _ m.store.sockets s.line s.call (h.standing s e);
+    accepts = λ place r e. stands_more es op _ told r.listening (h.accepts place r e) (λ x n. q place r x e n);
+    one = h.one;
   }
 
   -- a handle goes
@@ -275,11 +321,15 @@ module _ (steps : List Step) where
     handles = λ handle kind e. h.handles handle kind (value_without m.table.live gone handle kind e);
     sockets = h.sockets;
     standing = h.standing;
+    accepts = h.accepts;
+    one = h.one;
   }
 
-  -- one record changes
-  pub state_put : (es : List Entry) (m : Machine) (place : ℕ) (old now : Tcp2Socket) → slice_get m.store.sockets place ≡ Some old → now.side ≡ old.side → RecordIsFine steps es now → StateIsFine steps es m → StateIsFine steps es (record m { store = with_socket m.store place now })
-  state_put es m place old now g k f h = record {
+  -- one record changes, and its accept may be another
+  pub state_renewed : (es : List Entry) (m : Machine) (place : ℕ) (old now : Tcp2Socket) → slice_get m.store.sockets place ≡ Some old → now.side ≡ old.side → RecordIsFine steps es now
+      → ListeningStands es now.listening → ((x : OpId) → accept_name now.listening ≡ Some x → Only m.store.sockets place x)
+      → StateIsFine steps es m → StateIsFine steps es (record m { store = with_socket m.store place now })
+  state_renewed es m place old now g k f a o h = record {
     count = h.count;
     handles = λ handle x e. handle_put es m.store.sockets place old now handle x g k (h.handles handle x e);
     sockets = λ i r e. elim (get_set m.store.sockets place now i r e) [
@@ -287,19 +337,32 @@ module _ (steps : List Step) where
       | inr q ↦ h.sockets i r q
     ];
     standing = λ s e. standing_put es m.store.sockets place old now s.line s.call g k (h.standing s e);
+    accepts = stands_put es m.store.sockets place now a h.accepts;
+    one = one_put m.store.sockets place now o h.one;
   }
 
-  -- a record more
-  pub state_push : (es : List Entry) (m : Machine) (socket : Socket) → SocketIsFine steps es socket → StateIsFine steps es m → StateIsFine steps es (record m { store = with_record m.store socket })
-  state_push es m socket f h = record {
+  -- one record changes
+  pub state_put : (es : List Entry) (m : Machine) (place : ℕ) (old now : Tcp2Socket) → slice_get m.store.sockets place ≡ Some old → now.side ≡ old.side → KeepsListening old.listening now.listening → RecordIsFine steps es now → StateIsFine steps es m
+      → StateIsFine steps es (record m { store = with_socket m.store place now })
+  state_put es m place old now g k l f h = state_renewed es m place old now g k f (l.stands es (h.accepts place old g)) (λ x n i s e o. h.one i place s old x e g o (l.names x n)) h
+
+  -- a record more, which has no accept
+  pub state_joined : (es : List Entry) (m : Machine) (now : Tcp2Socket) → RecordIsFine steps es now → ListeningStands es now.listening → accept_name now.listening ≡ None → StateIsFine steps es m
+      → StateIsFine steps es (record m { store = record m.store { sockets = m.store.sockets ++ now ∷ [] } })
+  state_joined es m now f a n h = record {
     count = h.count;
-    handles = λ handle x e. handle_push es m.store.sockets _ handle x (h.handles handle x e);
-    sockets = λ i r e. elim (get_split m.store.sockets _ i r e) [
+    handles = λ handle x e. handle_push es m.store.sockets now handle x (h.handles handle x e);
+    sockets = λ i r e. elim (get_split m.store.sockets now i r e) [
       | inl q ↦ h.sockets i r q
-      | inr q ↦ subst (RecordIsFine steps es) q (record { socket = f; named = λ side p. p; streams = λ streams p. absurd (cc) })
+      | inr q ↦ subst (RecordIsFine steps es) q f
     ];
-    standing = λ s e. standing_push es m.store.sockets _ s.line s.call (h.standing s e);
+    standing = λ s e. standing_push es m.store.sockets now s.line s.call (h.standing s e);
+    accepts = stands_push es m.store.sockets now a h.accepts;
+    one = one_push m.store.sockets now n h.one;
   }
+
+  pub state_push : (es : List Entry) (m : Machine) (socket : Socket) → SocketIsFine steps es socket → StateIsFine steps es m → StateIsFine steps es (record m { store = with_record m.store socket })
+  state_push es m socket f h = state_joined es m (new_record socket) (record { socket = f; named = λ side p. p; streams = λ streams p. absurd (cc); listening = tt }) tt refl h
 
   -- a call stands
   pub state_stands : (es : List Entry) (m : Machine) (c : Standing) → StandingIsFine steps es m.store.sockets c → StateIsFine steps es m → StateIsFine steps es (record m { store = record m.store { standing = Some c } })
@@ -308,6 +371,8 @@ module _ (steps : List Step) where
     handles = h.handles;
     sockets = h.sockets;
     standing = λ d e. subst (StandingIsFine steps es m.store.sockets) (same c d e) f;
+    accepts = h.accepts;
+    one = h.one;
   }
     where
       same : (a b : Standing) → Some a ≡ Some b → a ≡ b
@@ -315,8 +380,8 @@ module _ (steps : List Step) where
 
   -- none stands
   pub state_unstands : (es : List Entry) (m : Machine) → StateIsFine steps es m → StateIsFine steps es (record m { store = record m.store { standing = None } })
-  state_unstands es m h = record { count = h.count; handles = h.handles; sockets = h.sockets; standing = λ d e. absurd (cc) }
+  state_unstands es m h = record { count = h.count; handles = h.handles; sockets = h.sockets; standing = λ d e. absurd (cc); accepts = h.accepts; one = h.one }
 
   -- which writes go on is nothing to it
   pub state_jobs : (es : List Entry) (m : Machine) (jobs : List ℕ) → StateIsFine steps es m → StateIsFine steps es (record m { store = record m.store { jobs = jobs } })
-  state_jobs es m jobs h = record { count = h.count; handles = h.handles; sockets = h.sockets; standing = h.standing }
+  state_jobs es m jobs h = record { count = h.count; handles = h.handles; sockets = h.sockets; standing = h.standing; accepts = h.accepts; one = h.one }

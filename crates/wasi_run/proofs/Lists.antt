@@ -21,6 +21,13 @@ has_back (x ∷ es) fs e h = inr (has_back es fs e h)
 pub has_last : {A : Type 0} (es : List A) (e : A) → Has (es ++ e ∷ []) e
 has_last es e = has_back es (e ∷ []) e (inl refl)
 
+-- an item of a list that grew by one
+pub has_split : {A : Type 0} (es : List A) (e x : A) → Has (es ++ e ∷ []) x → Has es x ⊎ (e ≡ x)
+has_split [] e x (inl h) = inr h
+has_split [] e x (inr h) = absurd h
+has_split (y ∷ es) e x (inl h) = inl (inl h)
+has_split (y ∷ es) e x (inr h) = elim (has_split es e x h) [ inl i ↦ inl (inr i) | inr i ↦ inr i ]
+
 -- an entry of a list, with what stands before it and after it
 pub record Cut (es : List Entry) (e : Entry) : Type 0 where
   pub front : List Entry
@@ -73,6 +80,12 @@ pub set_there : {A : Type 0} (xs : List A) (i : ℕ) (x y : A) → slice_get xs 
 set_there [] i x y h = absurd (cc)
 set_there (z ∷ xs) zero x y h = refl
 set_there (z ∷ xs) (suc i) x y h = set_there xs i x y h
+
+-- what was put in a place stands no more once it is replaced again
+pub set_set : {A : Type 0} (xs : List A) (i : ℕ) (x y : A) → slice_set (slice_set xs i x) i y ≡ slice_set xs i y
+set_set [] i x y = refl
+set_set (z ∷ xs) zero x y = refl
+set_set {A} (z ∷ xs) (suc i) x y = ap (λ (ys : List A). z ∷ ys) (set_set xs i x y)
 
 -- == the live handles
 -- what a handle stands for among those of which the last was just made

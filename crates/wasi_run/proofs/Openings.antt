@@ -17,6 +17,7 @@ use Rattle.wasi_host.specs.declared.socket.Tcp2Socket.{Tcp2Socket}
 use Rattle.wasi_host.specs.Host.{Stop, code_stop}
 use Rattle.wasi_host.specs.Store.{idle, new_streams, opened_send, opened_receive, opened}
 use Rattle.wasi_run.specs.declared.step.Step.{Step}
+use Rattle.wasi_run.proofs.AcceptFrames.{same_listening}
 use Rattle.wasi_run.proofs.Fine.{IsConnectedOn, StreamsAreFine, SocketIsFine, RecordIsFine}
 use Rattle.wasi_run.proofs.Frames.{KeepsSide, keeps_then, record_kept, LeavesRecord}
 use Rattle.wasi_run.proofs.Tells.{connected_keeps, connected_fine}
@@ -27,15 +28,17 @@ module _ (contexts : List WasiSocketsCtx) (steps : List Step) where
     Opened done = LeavesRecord steps r es done
 
     refused : (socket : Socket) (stop : Stop) → KeepsSide r.inner socket → SocketIsFine steps es socket → Opened (Err stop, idle r socket)
-    refused socket stop k f = record { side = refl; fine = record_kept steps es r (idle r socket) (record { keeps = k; side = refl; streams = refl }) f h }
+    refused socket stop k f = record { side = refl; listening = same_listening r.listening; fine = record_kept steps es r (idle r socket) (record { keeps = k; side = refl; streams = refl; listening = refl }) f h }
 
     both : (receive : TcpReceiveStream) (send : TcpSendStream) (socket : Socket) → receive.side ≡ side → send.side ≡ side → IsConnectedOn socket side → KeepsSide r.inner socket → SocketIsFine steps es socket
         → Opened (Ok tt, record (idle r socket) { streams = Some (new_streams receive send) })
     both receive send socket a b c k f = record {
       side = refl;
+      listening = same_listening r.listening;
       fine = record {
         socket = f;
         named = λ s e. h.named s (k.side s e);
+        listening = h.listening;
         streams = λ streams e. let q : new_streams receive send ≡ streams = cc in subst (StreamsAreFine steps es socket) q (record { side = side; connected = c; reads = a; writes = b });
       };
     }

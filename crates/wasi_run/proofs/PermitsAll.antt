@@ -30,8 +30,9 @@ use Rattle.wasi_host.specs.StreamCalls.{convert_asks, converted, stream_on, chec
 use Rattle.wasi_run.specs.Machine.{permit_reply, machine_asks}
 use Rattle.wasi_run.specs.Answered.{record_in, Answered}
 use Rattle.wasi_run.specs.Permitted.{writer_in, writer_of_record, WritesTo, Did}
-use Rattle.wasi_run.proofs.PermitsQuiet.{Quietly, Quiet, quiet_then}
-use Rattle.wasi_run.proofs.PermitsStands.{WriterIs, Holds, Agree, Keeping}
+use Rattle.wasi_run.proofs.PermitsPolls.{Quietly, Quiet, quiet_then}
+use Rattle.wasi_run.proofs.PermitsRecords.{WriterIs, Agree}
+use Rattle.wasi_run.proofs.PermitsStands.{Holds, Keeping}
 use Rattle.wasi_run.proofs.PermitsWriter.{SaysAll, Checked, quiet_check}
 use Rattle.wasi_run.proofs.PermitsTaken.{Fronts, quiet_keep}
 use Rattle.wasi_run.proofs.PermitsSteps.{meets_convert}
@@ -81,7 +82,7 @@ module _ (side : OpId) (taken permitted : List ℕ) (line : ℕ) (m : Machine) (
   says_of place r (Some s) g e w =
       let o = (h.stands.records place r g).opened s e in
       let held : Holds side r = ap side_in o.is ∙ ap (λ (x : OpId). Some x) (writer_of_side side o.connection.side s.writer o.writer w) in
-      quiet_then (Checked s.writer) Says [] (check_write_asks own s.writer) _ (quiet_check [] own s.writer) (λ fs done k. k.says taken permitted (subst (Agree taken permitted) e (h.stands.agree place r g held)))
+      quiet_then (Checked s.writer) Says [] (check_write_asks own s.writer) _ (quiet_check [] own s.writer) (λ fs done k. k.says taken permitted (subst (Agree taken permitted) e ((h.stands.agree place r g).held held)))
 
   says_at : (place : ℕ) (o : Option Tcp2Socket) → slice_get m.store.sockets place ≡ o → Writes (writer_of_record o) → Quiet Says [] (stream_at m.store place (writer_asks (check_write_asks own)) o)
   says_at place None g w = absurd w

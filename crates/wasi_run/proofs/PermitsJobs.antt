@@ -23,7 +23,7 @@ use Rattle.wasi_tcp.specs.declared.writer.WriteState.TheVariants as writing
 use Rattle.wasi_tcp.specs.Job.{Job, job_in, job_asks}
 use Rattle.wasi_tcp.specs.Writer.{look_asks, turn_asks, begun, write_on_asks}
 use Rattle.wasi_tcp.specs.Taken.{took, taken_by, taken_in, IsFrontOf, bytes_left}
-use Rattle.wasi_run.proofs.PermitsStands.{AreOfEnd, AreOfWrite, JobIs, WriterIs, JobAgrees, Agrees}
+use Rattle.wasi_run.proofs.PermitsRecords.{AreOfEnd, AreOfWrite, JobIs, WriterIs, JobAgrees, Agrees}
 use Rattle.wasi_run.proofs.PermitsWriter.{KeepsWriter, Looked, quiet_look}
 use Rattle.wasi_run.proofs.PermitsTaken.{same_side, not_same, Fronts, Meets, Accounts, Accounted, accounts_weaker, accounts_push, quiet_accounts}
 

@@ -19,6 +19,7 @@ use Rattle.wasi_tcp.specs.Reader.{read_state_asks}
 use Rattle.wasi_tcp.specs.Writer.{check_write_asks}
 use Rattle.wasi_tcp.specs.Addresses.{local_asks, remote_asks}
 use Rattle.wasi_host.specs.declared.machine.Machine.{Machine}
+use Rattle.wasi_host.specs.declared.socket.InProgress.{InProgress}
 use Rattle.wasi_host.specs.declared.socket.InProgress.TheVariants as doing
 use Rattle.wasi_host.specs.declared.socket.Streams.{Streams}
 use Rattle.wasi_host.specs.declared.socket.Tcp2Socket.{Tcp2Socket}
@@ -26,13 +27,15 @@ use Rattle.wasi_host.specs.declared.kind.Kind.{Kind}
 use Rattle.wasi_host.specs.declared.kind.Kind.TheVariants.{Network, Tcp2, Input, Output}
 use Rattle.wasi_host.specs.Host.{Stop}
 use Rattle.wasi_host.specs.Kinds.{kind_at, make_asks}
-use Rattle.wasi_host.specs.Store.{Records, with_socket, begin_bind_asks, bind_answered, start_bind_by, start_bind_at, finish_bind_by, finish_bind_at, is_nothing, is_bind, is_connect, begin_connect_asks, put_back, start_connect_by, start_connect_at, poll_connect_asks, finish_connect_by, finish_connect_at, tell_local_asks, tell_remote_asks, local_address_at, remote_address_at, reader_of, reader_asks, writer_of, writer_asks, flush_asks, stream_at}
+use Rattle.wasi_host.specs.Store.{Records, with_socket, begin_bind_asks, bind_answered, start_bind_by, start_bind_at, finish_by, finish_at, is_nothing, is_connect, begin_connect_asks, put_back, start_connect_by, start_connect_at, poll_connect_asks, finish_connect_by, finish_connect_at, tell_local_asks, tell_remote_asks, local_address_at, remote_address_at, reader_of, reader_asks, writer_of, writer_asks, flush_asks, stream_at}
 use Rattle.wasi_host.specs.Machine.{with_table, with_store, socket_at, created_asks, create_asks, side_at, input_at, output_at}
 use Rattle.wasi_host.specs.Kinds.{is_network}
-use Rattle.wasi_p2.specs.Tcp.{network_asks, start_bind_on, start_bind_asks, finish_bind_on, start_connect_on, start_connect_asks, with_output, output_asks, connected_asks, finish_connect_on, finish_connect_asks, local_address_on, remote_address_on}
+use Rattle.wasi_p2.specs.Tcp.{network_asks, start_bind_on, start_bind_asks, finish_on, start_connect_on, start_connect_asks, with_output, output_asks, streams_asks, connected_asks, finish_connect_on, finish_connect_asks, local_address_on, remote_address_on}
 use Rattle.wasi_host.specs.StreamCalls.{stream_on, read_asks, check_asks, flushed_asks}
-use Rattle.wasi_run.proofs.PermitsQuiet.{Quietly, Quiet, quiet_then, quiet_if, follows_same, IsNew, quiet_new, quiet_local, quiet_remote, quiet_read}
-use Rattle.wasi_run.proofs.PermitsStands.{Keeps, Agree, Keeping, stands_next, stands_put, stands_kept, stands_opened, stands_push, opened_writer, streams_record}
+use Rattle.wasi_run.proofs.PermitsPolls.{Quietly, Quiet, quiet_then, quiet_if}
+use Rattle.wasi_run.proofs.PermitsQuiet.{follows_same, IsNew, quiet_new, quiet_local, quiet_remote, quiet_read}
+use Rattle.wasi_run.proofs.PermitsRecords.{Keeps, Agree, opened_writer, streams_record}
+use Rattle.wasi_run.proofs.PermitsStands.{Keeping, stands_next, stands_put, stands_kept, stands_opened, stands_created}
 use Rattle.wasi_run.proofs.PermitsWriter.{KeepsWriter, same_writer, Checked, quiet_check}
 use Rattle.wasi_run.proofs.PermitsSteps.{Binds, begin_bind_keeps, begin_connect_keeps, Polled, poll_connect_keeps, told_keeps, meets_make, meets_stream}
 
@@ -62,7 +65,7 @@ module _ (side : OpId) (taken permitted : List ℕ) where
   created_kept es line m own (Err c) at n h = kept_next line m.store h
   created_kept es line m own (Ok socket) at n h =
       quiet_then (λ made. Kept line m.store) (Leaves (line + 1)) es (make_asks m.table own (Tcp2 (length m.store.sockets)) None _) _
-      (makes es line m own (Tcp2 (length m.store.sockets)) None _ h) (λ fs made k. record { stands = stands_push side taken permitted m.store.sockets line own socket at n k.stands; quietly = k.quietly })
+      (makes es line m own (Tcp2 (length m.store.sockets)) None _ h) (λ fs made k. record { stands = stands_created side taken permitted m.store.sockets line own socket at n k.stands; quietly = k.quietly })
 
   pub kept_create : (es : List Entry) (line : ℕ) (m : Machine) (own : OpId) (ctx : WasiSocketsCtx) (family : SocketAddressFamily) → own.step ≡ line → Kept line m.store → Quiet (Leaves (line + 1)) es (create_asks m own ctx family)
   kept_create es line m own ctx family at h =
@@ -93,8 +96,8 @@ module _ (side : OpId) (taken permitted : List ℕ) where
       start_kept es op a true = quiet_then (Binds r) (Stores line) es (begin_bind_asks op r a) _ (begin_bind_keeps es op r a (h.stands.records place r g).plain) (λ fs begun k. bind_kept op.step begun k)
       start_kept es op a false = h
 
-      finish_kept : (free : Bool) → Stores line (finish_bind_by m.store place r free)
-      finish_kept true = kept (record r { in_progress = doing.Nothing }) (record { streams = refl; follows = follows_same _ (h.stands.records place r g).plain })
+      finish_kept : (free : Bool) → Stores line (finish_by m.store place r free)
+      finish_kept true = kept (record r { in_progress = doing.Nothing }) (record { streams = refl; listening = refl; follows = follows_same _ (h.stands.records place r g).plain })
       finish_kept false = h
 
       -- a connect
@@ -117,13 +120,15 @@ module _ (side : OpId) (taken permitted : List ℕ) where
     pub kept_start_bind : (es : List Entry) (op : OpId) (s n : ℕ) (a : IpSocketAddress) → Quiet (Leaves line) es (start_bind_asks m op s n a)
     kept_start_bind es op s n a = quiet_if (Leaves line) es (is_network (kind_at m.table n)) _ _ (λ yes. start_on es op a (socket_at m s)) (λ no. h)
 
-    finish_at : (place : ℕ) (o : Option Tcp2Socket) → slice_get m.store.sockets place ≡ o → Stores line (finish_bind_at m.store place o)
-    finish_at place None g = h
-    finish_at place (Some r) g = finish_kept place r g (is_bind r.in_progress)
+    module _ (is_it : InProgress → Bool) where
+      done_at : (place : ℕ) (o : Option Tcp2Socket) → slice_get m.store.sockets place ≡ o → Stores line (finish_at is_it m.store place o)
+      done_at place None g = h
+      done_at place (Some r) g = finish_kept place r g (is_it r.in_progress)
 
-    pub kept_finish_bind : (o : Option ℕ) → Leaves line (finish_bind_on m o)
-    kept_finish_bind None = h
-    kept_finish_bind (Some place) = finish_at place (slice_get m.store.sockets place) refl
+      -- of a bind, or of a listen
+      pub kept_finish : (o : Option ℕ) → Leaves line (finish_on is_it m o)
+      kept_finish None = h
+      kept_finish (Some place) = done_at place (slice_get m.store.sockets place) refl
 
     connect_at : (es : List Entry) (op : OpId) (place : ℕ) (a : IpSocketAddress) (o : Option Tcp2Socket) → slice_get m.store.sockets place ≡ o → Quiet (Stores line) es (start_connect_at m.store op place a o)
     connect_at es op place a None g = h
@@ -164,13 +169,14 @@ module _ (side : OpId) (taken permitted : List ℕ) where
     pub rewritten : (place : ℕ) (r : Tcp2Socket) (s t : Streams) → slice_get m.store.sockets place ≡ Some r → r.streams ≡ Some s → KeepsWriter s.writer t.writer → Kept line (with_socket m.store place (record r { streams = Some t }))
     rewritten place r s t g e k = record {
       stands =
-          stands_put side m.store.sockets line place r (record r { streams = Some t }) g (streams_record r s t e (opened_writer r.inner s.writer t.writer k.writer) (h.stands.records place r g)) taken permitted (λ held. held)
-          (λ held. k.agrees taken permitted (subst (Agree taken permitted) e (h.stands.agree place r g held))) h.stands;
+          let a = h.stands.agree place r g in
+          stands_put side m.store.sockets line place r (record r { streams = Some t }) g (streams_record r s t e (opened_writer r.inner s.writer t.writer k.writer) (h.stands.records place r g)) taken permitted (λ c. c)
+          (record { held = λ held. k.agrees taken permitted (subst (Agree taken permitted) e (a.held held)); awaited = a.awaited; apart = a.apart }) h.stands;
       quietly = h.quietly;
     }
 
     pub same_kept : (place : ℕ) (r : Tcp2Socket) → slice_get m.store.sockets place ≡ Some r → Kept line (with_socket m.store place r)
-    same_kept place r g = kept place r g r (record { streams = refl; follows = follows_same _ (h.stands.records place r g).plain })
+    same_kept place r g = kept place r g r (record { streams = refl; listening = refl; follows = follows_same _ (h.stands.records place r g).plain })
 
     -- what a call leaves of a record
     abbrev pub Puts : {T : Type 0} → ℕ → T × Tcp2Socket → Type 0
@@ -224,18 +230,21 @@ module _ (side : OpId) (taken permitted : List ℕ) where
       (λ fs made k. with_output_kept line input (with_table m made) k)
   output_kept es line own handle place sock (Err why, m) h = h
 
-  streams_kept : (es : List Entry) (line : ℕ) (own : OpId) (handle place : ℕ) (done : Result (Unit {0}) Stop × Machine) → Leaves line done → Quiet (Leaves line) es (connected_asks own handle place done)
-  streams_kept es line own handle place (Ok done, m) h =
-      let sock = side_at (slice_get m.store.sockets place) in
+  -- the two streams of a connection
+  pub streams_kept : (es : List Entry) (line : ℕ) (m : Machine) (own : OpId) (handle place : ℕ) (sock : Option OpId) → Kept line m.store → Quiet (Leaves line) es (streams_asks m own handle place sock)
+  streams_kept es line m own handle place sock h =
       quiet_then (λ made. Kept line m.store) (Leaves line) es (make_asks m.table own (Input place) (Some handle) sock) _ (makes es line m own (Input place) (Some handle) sock h)
       (λ fs made k. output_kept fs line own handle place sock (with_table m made) k)
-  streams_kept es line own handle place (Err why, m) h = h
 
-  finish_on : (es : List Entry) (line : ℕ) (m : Machine) (own : OpId) (handle : ℕ) (o : Option ℕ) → Kept line m.store → Quiet (Leaves line) es (finish_connect_on m own handle o)
-  finish_on es line m own handle None h = h
-  finish_on es line m own handle (Some place) h =
+  connected_streams : (es : List Entry) (line : ℕ) (own : OpId) (handle place : ℕ) (done : Result (Unit {0}) Stop × Machine) → Leaves line done → Quiet (Leaves line) es (connected_asks own handle place done)
+  connected_streams es line own handle place (Ok done, m) h = streams_kept es line m own handle place (side_at (slice_get m.store.sockets place)) h
+  connected_streams es line own handle place (Err why, m) h = h
+
+  connect_done : (es : List Entry) (line : ℕ) (m : Machine) (own : OpId) (handle : ℕ) (o : Option ℕ) → Kept line m.store → Quiet (Leaves line) es (finish_connect_on m own handle o)
+  connect_done es line m own handle None h = h
+  connect_done es line m own handle (Some place) h =
       quiet_then (Stores line) (Leaves line) es (finish_connect_at m.store place (slice_get m.store.sockets place)) _ (connected_at line m h es place (slice_get m.store.sockets place) refl)
-      (λ fs done k. streams_kept fs line own handle place (with_store m done) k)
+      (λ fs done k. connected_streams fs line own handle place (with_store m done) k)
 
   pub kept_finish_connect : (es : List Entry) (line : ℕ) (m : Machine) (own : OpId) (s : ℕ) → Kept line m.store → Quiet (Leaves line) es (finish_connect_asks m own s)
-  kept_finish_connect es line m own s h = finish_on es line m own s (socket_at m s) h
+  kept_finish_connect es line m own s h = connect_done es line m own s (socket_at m s) h

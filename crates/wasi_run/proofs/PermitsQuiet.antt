@@ -1,25 +1,19 @@
--- Calls that write nothing, and what they leave of a socket.
+-- What the calls that write nothing leave of a socket.
 use Rattle.std.specs.Prelude.{⊤, ◌&&◌, ◌==◌}
 use Rattle.std.proofs.Common.{◌≡◌, ℕ, Bool, true, false, if◌then◌else◌, List, [], ◌∷◌, Option, Some, None, Ok, Err, Result, refl, sym, ap, subst, ◌∙◌}
 use Rattle.wasi_addr.specs.declared.address.IpSocketAddress.{IpSocketAddress}
 use Rattle.wasi_addr.specs.declared.address.SocketAddressFamily.{SocketAddressFamily}
-use Rattle.wasi_addr.specs.declared.address.SocketAddrUse.{SocketAddrUse}
 use Rattle.wasi_addr.specs.declared.code.ErrorCode.{ErrorCode}
-use Rattle.wasi_addr.specs.declared.code.ErrorCode.TheVariants.{AccessDenied, InvalidArgument}
+use Rattle.wasi_addr.specs.declared.code.ErrorCode.TheVariants.{InvalidArgument}
 use Rattle.wasi_addr.specs.Address.{ip_of, is_of_family, is_unicast, is_wildcard, wildcard}
 use Rattle.wasi_world.specs.declared.ids.OpId.{OpId}
-use Rattle.wasi_world.specs.declared.call.Call.{Call}
-use Rattle.wasi_world.specs.declared.call.Call.TheVariants as call
-use Rattle.wasi_world.specs.declared.call.Told.{Told}
-use Rattle.wasi_world.specs.declared.call.Told.TheVariants as told
 use Rattle.wasi_world.specs.declared.call.Entry.{Entry}
 use Rattle.wasi_world.specs.declared.outcome.Answer.{Answer}
 use Rattle.wasi_world.specs.declared.outcome.Answer.TheVariants.{Ready, Pending}
 use Rattle.wasi_world.specs.declared.outcome.WasiSocketsCtx.{WasiSocketsCtx}
-use Rattle.wasi_world.specs.Asks.{Asks, bind}
-use Rattle.wasi_world.specs.Typed.{told_verdict, told_done, told_polled, told_addr}
-use Rattle.wasi_world.specs.Operation.{Given, Nothing, Item, Check, Bind, Connect, Last, Who, Operation, LastAsk, NothingLast, CloseLast, ShutdownLast, End, Waits, Done, Refused, verdict_front, done_front, polled_front, front, last_ask, poll_asks}
-use Rattle.wasi_world.proofs.Allowed.{Allows, FrontKeeps, allows_then, allows_if, allows_polls}
+use Rattle.wasi_world.specs.Asks.{bind}
+use Rattle.wasi_world.specs.Typed.{told_done, told_addr}
+use Rattle.wasi_world.specs.Operation.{Item, Operation, End, Waits, Done, Refused, poll_asks}
 use Rattle.wasi_tcp.specs.declared.socket.Connection.{Connection}
 use Rattle.wasi_tcp.specs.declared.socket.TcpState.{TcpState}
 use Rattle.wasi_tcp.specs.declared.socket.TcpState.TheVariants as state
@@ -34,83 +28,7 @@ use Rattle.wasi_tcp.specs.declared.reader.ReadState.TheVariants as reading
 use Rattle.wasi_tcp.specs.Halves.{read_asks}
 use Rattle.wasi_tcp.specs.Closing.{close_in, close_asks}
 use Rattle.wasi_tcp.specs.Reader.{reader_ready_asks, reader_shutdown_asks, read_end_asks, after_read, read_state_asks}
-use Rattle.wasi_tcp.specs.Taken.{taken_by}
-
--- == calls that write nothing
--- any call but a write
-abbrev pub NoWrite : Call → Type 0
-NoWrite (call.Write sock offered) = ⊥
-NoWrite _ = ⊤
-
-abbrev pub Quietly : List Entry → OpId → Call → Type 0
-Quietly es op c = NoWrite c
-
--- nothing is written, and this holds of what is given
-abbrev pub Quiet : {A : Type 0} → (A → Type 0) → List Entry → Asks A → Type 0
-Quiet Q es asks = Allows Quietly (λ fs a. Q a) es asks
-
-pub quiet_then : {A B : Type 0} (R : A → Type 0) (Q : B → Type 0) (es : List Entry) (asks : Asks A) (f : A → Asks B) → Quiet R es asks → ((fs : List Entry) (a : A) → R a → Quiet Q fs (f a)) → Quiet Q es (bind asks f)
-quiet_then R Q es asks f h k = allows_then Quietly (λ fs a. R a) (λ fs b. Q b) es asks f h k
-
-pub quiet_if : {A : Type 0} (Q : A → Type 0) (es : List Entry) (b : Bool) (asks others : Asks A) → (b ≡ true → Quiet Q es asks) → (b ≡ false → Quiet Q es others) → Quiet Q es (if b then asks else others)
-quiet_if Q es b asks others h k = allows_if Quietly (λ fs a. Q a) es b asks others h k
-
--- a call that writes nothing has nothing taken
-pub none_taken : (side : OpId) (c : Call) (t : Told) → NoWrite c → taken_by side c t ≡ []
-none_taken side (call.Write sock offered) t h = absurd h
-none_taken side _ t h = refl
-
--- == operations that write nothing
-abbrev IsPlain : Item → Type 0
-IsPlain (Check a usage) = ⊤
-IsPlain (Bind a) = ⊤
-IsPlain (Connect a) = ⊤
-IsPlain (Last c given) = ⊤
-IsPlain _ = ⊥
-
-abbrev pub ArePlain : List Item → Type 0
-ArePlain [] = ⊤
-ArePlain (item ∷ items) = IsPlain item × ArePlain items
-
-module _ (who : Who) where
-  abbrev Before : List Entry → Given → List Item → Type 0
-  Before es given items = ArePlain items
-
-  abbrev After : List Entry → End × List Item → Type 0
-  After es ended = ArePlain ended.1
-
-  plain_last : (es : List Entry) (last : LastAsk) (c : ErrorCode) (given : Given) → Allows Quietly After es (last_ask who last c given)
-  unfolding bind
-  plain_last es NothingLast c given = tt
-  plain_last es CloseLast c given = (tt, λ t fits. tt)
-  plain_last es ShutdownLast c given = (tt, λ t fits. tt)
-
-  module _ (items : List Item) (k : ArePlain items) where
-    told_check : (es : List Entry) (a : IpSocketAddress) (usage : SocketAddrUse) (t : Told) → FrontKeeps Quietly who Before After items es (verdict_front (Check a usage) (told_verdict t))
-    told_check es a usage told.Yes = k
-    told_check es a usage told.No = plain_last es who.last AccessDenied Nothing
-    told_check es a usage t = (tt, k)
-
-    told_bind : (es : List Entry) (t : Told) → FrontKeeps Quietly who Before After items es (done_front (told_done t))
-    told_bind es (told.Code c) = plain_last es who.last c Nothing
-    told_bind es t = k
-
-    told_connect : (es : List Entry) (a : IpSocketAddress) (t : Told) → FrontKeeps Quietly who Before After items es (polled_front (Connect a) (told_polled t))
-    told_connect es a told.Done = k
-    told_connect es a (told.Code c) = plain_last es who.last c Nothing
-    told_connect es a t = (tt, k)
-
-  plain_front : (es : List Entry) (given : Given) (item : Item) (items : List Item) → ArePlain (item ∷ items) → Allows Quietly (FrontKeeps Quietly who Before After items) es (front who item)
-  unfolding bind
-  plain_front es given (Check a usage) items k = (tt, λ t fits. told_check items k.1 _ a usage t)
-  plain_front es given (Bind a) items k = (tt, λ t fits. told_bind items k.1 _ t)
-  plain_front es given (Connect a) items k = (tt, λ t fits. told_connect items k.1 _ a t)
-  plain_front es given (Last c kept) items k = plain_last es who.last c kept
-  plain_front es given _ items k = absurd k.0
-
--- a poll of such an operation writes nothing, and leaves such a one
-pub plain_poll : (op : Operation) (es : List Entry) → ArePlain op.left → Quiet (λ ended. ArePlain ended.1) es (poll_asks op)
-plain_poll op es k = allows_polls Quietly op.who (Before op.who) (After op.who) (plain_front op.who) (λ fs items h. h) (λ fs given h. h) 64 op.left es k
+use Rattle.wasi_run.proofs.PermitsPolls.{Quiet, quiet_then, quiet_if, ArePlain, plain_poll}
 
 -- == what a call leaves of a socket's state
 -- a connect that goes on writes nothing
@@ -169,11 +87,12 @@ same_after socket (Err c) = refl
 quiet_ask_bound : (es : List Entry) (op : OpId) (socket : Socket) (s : TcpState) → Quiet (λ b. b.1.state ≡ socket.state) es (ask_bound op socket s)
 unfolding bind
 quiet_ask_bound es op socket (state.Default side) = (tt, λ t fits. same_after socket (told_addr t))
+quiet_ask_bound es op socket (state.Listening side) = refl
 quiet_ask_bound es op socket (state.Connecting c) = refl
 quiet_ask_bound es op socket (state.Connected c) = refl
 quiet_ask_bound es op socket (state.Closed c) = refl
 
-quiet_bound : (es : List Entry) (op : OpId) (socket : Socket) → Quiet (λ b. b.1.state ≡ socket.state) es (bound_asks op socket)
+pub quiet_bound : (es : List Entry) (op : OpId) (socket : Socket) → Quiet (λ b. b.1.state ≡ socket.state) es (bound_asks op socket)
 quiet_bound es op socket = quiet_if (λ b. b.1.state ≡ socket.state) es socket.bound _ _ (λ b. refl) (λ b. quiet_ask_bound es op socket socket.state)
 
 -- == a new socket
@@ -231,6 +150,7 @@ connect_leaves op side socket a bound e = by_test (is_connectable socket a)
 quiet_start_in : (es : List Entry) (op : OpId) (socket : Socket) (a : IpSocketAddress) (s : TcpState) → socket.state ≡ s → IsPlainState s → Quiet (Leaves s) es (start_connect_in op socket a s)
 quiet_start_in es op socket a (state.Default side) e p =
     quiet_then (λ b. b.1.state ≡ socket.state) (Leaves (state.Default side)) es (bound_asks op socket) _ (quiet_bound es op socket) (λ fs b k. connect_leaves op side b.1 a b.0 (k ∙ e))
+quiet_start_in es op socket a (state.Listening side) e p = follows_equal _ _ e p
 quiet_start_in es op socket a (state.Connecting c) e p = follows_equal _ _ e p
 quiet_start_in es op socket a (state.Connected c) e p = follows_equal _ _ e p
 quiet_start_in es op socket a (state.Closed c) e p = follows_equal _ _ e p
@@ -249,6 +169,7 @@ turned op (Refused c given, left) p = record { side = λ x e. absurd (cc); conne
 
 quiet_finish_in : (es : List Entry) (s : TcpState) → IsPlainState s → Quiet (Turns s) es (finish_in s)
 quiet_finish_in es (state.Default side) p = follows_same _ p
+quiet_finish_in es (state.Listening side) p = follows_same _ p
 quiet_finish_in es (state.Connecting op) p =
     quiet_then (λ ended. ArePlain ended.1) (Turns (state.Connecting op)) es (poll_asks op) _ (plain_poll op es p) (λ fs ended k. turned op ended k)
 quiet_finish_in es (state.Connected c) p = follows_same _ p
@@ -279,6 +200,7 @@ quiet_peer es op c None = (tt, λ t fits. told_peer c (told_addr t))
 
 quiet_remote_in : (es : List Entry) (op : OpId) (s : TcpState) → IsPlainState s → Quiet (Turns s) es (remote_in op s)
 quiet_remote_in es op (state.Default side) p = follows_same _ p
+quiet_remote_in es op (state.Listening side) p = follows_same _ p
 quiet_remote_in es op (state.Connecting c) p = follows_same _ p
 quiet_remote_in es op (state.Connected c) p =
     quiet_then (λ q. Turns (state.Connected c) (still_connected q)) (Turns (state.Connected c)) es (peer_asks op c) _ (quiet_peer es op c c.peer) (λ fs q k. k)

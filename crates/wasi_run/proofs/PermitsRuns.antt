@@ -14,18 +14,21 @@ use Rattle.wasi_run.specs.declared.step.Step.TheVariants as step
 use Rattle.wasi_host.specs.declared.store.Standing.{Standing}
 use Rattle.wasi_run.specs.Reply.{is_trap}
 use Rattle.wasi_host.specs.Machine.{first_state, socket_at, create_asks, own_of, subscribe_asks, ready_asks, drop_asks, turn_machine_asks}
-use Rattle.wasi_p2.specs.Tcp.{network_asks, start_bind_asks, finish_bind_on, is_listening_on, address_family_on, start_connect_asks, finish_connect_asks, local_address_on, remote_address_on, shutdown_on}
-use Rattle.wasi_run.specs.Machine.{truth_reply, family_reply, handle_reply, answer_reply, done_reply, pair_reply, address_reply, bytes_reply, permit_reply, taken_reply, context_at, poll_asks, step_asks, machine_asks, run}
+use Rattle.wasi_host.specs.Store.{is_bind, is_listen}
+use Rattle.wasi_p2.specs.Tcp.{network_asks, start_bind_asks, finish_on, is_listening_on, address_family_on, start_connect_asks, finish_connect_asks, local_address_on, remote_address_on, shutdown_on, start_listen_on, accept_asks}
+use Rattle.wasi_run.specs.Machine.{truth_reply, family_reply, handle_reply, answer_reply, done_reply, pair_reply, triple_reply, address_reply, bytes_reply, permit_reply, taken_reply, context_at, first_ids, poll_asks, step_asks, machine_asks, run}
 use Rattle.wasi_host.specs.StreamCalls.{read_asks, check_asks, write_asks, flushed_asks}
 use Rattle.wasi_run.specs.Answered.{Answered}
 use Rattle.wasi_run.specs.Permitted.{permitted_in, permitted_by, Did, Nothing, Then, Begun, IsOfSteps}
-use Rattle.wasi_run.proofs.PermitsQuiet.{Quiet, quiet_then}
+use Rattle.wasi_run.proofs.PermitsPolls.{Quiet, quiet_then}
 use Rattle.wasi_run.proofs.PermitsStands.{Keeping, stands_first}
 use Rattle.wasi_run.proofs.PermitsTaken.{Fronts, Meets}
-use Rattle.wasi_run.proofs.PermitsKept.{Leaves, kept_next, kept_network, kept_create, kept_start_bind, kept_finish_bind, kept_start_connect, kept_finish_connect, kept_local, kept_remote, kept_read, kept_check, kept_flush}
+use Rattle.wasi_run.proofs.PermitsKept.{Leaves, kept_next, kept_network, kept_create, kept_start_bind, kept_finish, kept_start_connect, kept_finish_connect, kept_local, kept_remote, kept_read, kept_check, kept_flush}
+use Rattle.wasi_run.proofs.PermitsTakes.{kept_start_listen, kept_accept}
+use Rattle.wasi_run.proofs.PermitsReady.{kept_ready}
 use Rattle.wasi_run.proofs.PermitsWrites.{StandsOn, Ends, quiet_meets, kept_write}
 use Rattle.wasi_run.proofs.PermitsTurns.{kept_turn}
-use Rattle.wasi_run.proofs.PermitsDrops.{kept_subscribe, kept_ready, kept_shutdown, kept_drop, kept_poll}
+use Rattle.wasi_run.proofs.PermitsDrops.{kept_subscribe, kept_shutdown, kept_drop, kept_poll}
 
 -- == one step
 module _ (contexts : List WasiSocketsCtx) (side : OpId) (taken permitted : List ℕ) (line : ℕ) (m : Machine) (h : Keeping side taken permitted line m.store) where
@@ -50,9 +53,12 @@ module _ (contexts : List WasiSocketsCtx) (side : OpId) (taken permitted : List 
   step_meets (step.TcpCreate ctx family) =
       replied (create_asks m (own_of line) (context_at contexts ctx) family) handle_reply (kept_create side taken permitted [] line m (own_of line) (context_at contexts ctx) family refl h)
   step_meets (step.TcpStartBind ctx s n a) = replied (start_bind_asks m (own_of line) s n a) (answer_reply line) (kept_start_bind side taken permitted (line + 1) m next [] (own_of line) s n a)
-  step_meets (step.TcpFinishBind ctx s) = given_step (let done = finish_bind_on m (socket_at m s) in (done_reply done.0, done.1)) (kept_finish_bind side taken permitted (line + 1) m next (socket_at m s))
+  step_meets (step.TcpFinishBind ctx s) = given_step (let done = finish_on is_bind m (socket_at m s) in (done_reply done.0, done.1)) (kept_finish side taken permitted (line + 1) m next is_bind (socket_at m s))
   step_meets (step.TcpStartConnect ctx s n a) = replied (start_connect_asks m (own_of line) s n a) done_reply (kept_start_connect side taken permitted (line + 1) m next [] (own_of line) s n a)
   step_meets (step.TcpFinishConnect ctx s) = replied (finish_connect_asks m (own_of line) s) pair_reply (kept_finish_connect side taken permitted [] (line + 1) m (own_of line) s next)
+  step_meets (step.TcpStartListen ctx s) = replied (start_listen_on m (own_of line) (socket_at m s)) (answer_reply line) (kept_start_listen side taken permitted (line + 1) m next [] (own_of line) (socket_at m s))
+  step_meets (step.TcpFinishListen ctx s) = given_step (let done = finish_on is_listen m (socket_at m s) in (done_reply done.0, done.1)) (kept_finish side taken permitted (line + 1) m next is_listen (socket_at m s))
+  step_meets (step.TcpAccept ctx s) = replied (accept_asks m (first_ids line) s) triple_reply (kept_accept side taken permitted m (first_ids line) h [] s)
   step_meets (step.TcpLocalAddress ctx s) = replied (local_address_on m (own_of line) (socket_at m s)) address_reply (kept_local side taken permitted (line + 1) m next [] (own_of line) (socket_at m s))
   step_meets (step.TcpRemoteAddress ctx s) = replied (remote_address_on m (own_of line) (socket_at m s)) address_reply (kept_remote side taken permitted (line + 1) m next [] (own_of line) (socket_at m s))
   step_meets (step.TcpIsListening ctx s) = given_step (truth_reply (is_listening_on m (socket_at m s)), m) next
@@ -65,7 +71,7 @@ module _ (contexts : List WasiSocketsCtx) (side : OpId) (taken permitted : List 
       (kept_write side taken permitted (line + 1) m (own_of line) output next bytes) (λ es done k. k)
   step_meets (step.Flush ctx output) = replied (flushed_asks m (own_of line) output) taken_reply (kept_flush side taken permitted (line + 1) m next [] (own_of line) output)
   step_meets (step.Subscribe ctx this) = replied (subscribe_asks m (own_of line) this) handle_reply (kept_subscribe side taken permitted (line + 1) m next [] (own_of line) this)
-  step_meets (step.Ready ctx pollable) = replied (ready_asks m (own_of line) pollable) truth_reply (kept_ready side taken permitted (line + 1) m next [] (own_of line) pollable)
+  step_meets (step.Ready ctx pollable) = replied (ready_asks m (first_ids line) pollable) truth_reply (kept_ready side taken permitted m (first_ids line) h [] pollable)
   step_meets (step.Drop ctx this) = replied (drop_asks m (own_of line) this) (answer_reply line) (kept_drop side taken permitted [] (line + 1) m (own_of line) this next)
   step_meets (step.TcpShutdown ctx s how) = replied (shutdown_on m (own_of line) how (socket_at m s)) done_reply (kept_shutdown side taken permitted (line + 1) m next [] (own_of line) how (socket_at m s))
   step_meets step.Turn =

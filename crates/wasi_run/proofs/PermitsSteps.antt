@@ -34,12 +34,13 @@ use Rattle.wasi_streams.specs.Table.{is_full}
 use Rattle.wasi_host.specs.Store.{Records, with_inner, idle, bind_ended, poll_bind_asks, bind_begun, begin_bind_asks, connect_begun, begin_connect_asks, opened_send, opened_receive, connect_polled, poll_connect_asks, inner_answered}
 use Rattle.wasi_host.specs.Machine.{with_store, side_at}
 use Rattle.wasi_host.specs.StreamCalls.{convert_asks, converted}
-use Rattle.wasi_run.proofs.PermitsQuiet.{Quiet, quiet_then, ArePlain, plain_poll, IsPlainState, Follows, follows_equal, follows_then, follows_connected, StartsPlain, quiet_bind, Leaves as Turns, quiet_start_connect, quiet_finish_connect}
-use Rattle.wasi_run.proofs.PermitsStands.{Keeps, Opens}
+use Rattle.wasi_run.proofs.PermitsPolls.{Quiet, quiet_then, ArePlain, plain_poll}
+use Rattle.wasi_run.proofs.PermitsQuiet.{IsPlainState, Follows, follows_equal, follows_then, follows_connected, StartsPlain, quiet_bind, Leaves as Turns, quiet_start_connect, quiet_finish_connect}
+use Rattle.wasi_run.proofs.PermitsRecords.{Keeps, Opens}
 
 -- == of a record
 pub follows_record : (r : Tcp2Socket) (socket : Socket) → Follows r.inner.state socket.state → Keeps r (with_inner r socket)
-follows_record r socket f = record { streams = refl; follows = f }
+follows_record r socket f = record { streams = refl; listening = refl; follows = f }
 
 -- a bind: the record is kept, and an operation that goes on writes nothing
 abbrev pub GoesQuietly : Result (Option Operation) ErrorCode → Type 0
@@ -52,7 +53,7 @@ Binds r begun = Keeps r begun.1 × GoesQuietly begun.0
 
 ended_binds : (op : Operation) (old r : Tcp2Socket) (ended : End × List Item) → Keeps old r → ArePlain ended.1 → Binds old (bind_ended op r ended)
 ended_binds op old r (Waits, items) k p = (k, p)
-ended_binds op old r (Done given, items) k p = (record { streams = k.streams; follows = k.follows }, tt)
+ended_binds op old r (Done given, items) k p = (record { streams = k.streams; listening = k.listening; follows = k.follows }, tt)
 ended_binds op old r (Refused c given, items) k p = (k, tt)
 
 pub poll_bind_keeps : (es : List Entry) (op : Operation) (old r : Tcp2Socket) → Keeps old r → ArePlain op.left → Quiet (Binds old) es (poll_bind_asks op r)
@@ -69,7 +70,7 @@ begin_bind_keeps es op r a p =
 -- the start of a connect
 connect_keeps : (r : Tcp2Socket) (done : Result (Unit {0}) ErrorCode × Socket) → Turns r.inner.state done → Keeps r (connect_begun r done).1
 connect_keeps r (Err c, socket) k = follows_record r socket k
-connect_keeps r (Ok done, socket) k = record { streams = refl; follows = k }
+connect_keeps r (Ok done, socket) k = record { streams = refl; listening = refl; follows = k }
 
 pub begin_connect_keeps : (es : List Entry) (op : OpId) (r : Tcp2Socket) (a : IpSocketAddress) → IsPlainState r.inner.state → Quiet (λ done. Keeps r done.1) es (begin_connect_asks op r a)
 begin_connect_keeps es op r a p =
@@ -80,7 +81,7 @@ abbrev pub Polled : Tcp2Socket → Tcp2Socket → Type 0
 Polled r now = Keeps r now ⊎ Opens r now
 
 idle_keeps : (r : Tcp2Socket) (socket : Socket) → Follows r.inner.state socket.state → Polled r (idle r socket)
-idle_keeps r socket f = inl (record { streams = refl; follows = f })
+idle_keeps r socket f = inl (record { streams = refl; listening = refl; follows = f })
 
 same_connection : (a b : Connection) → state.Connected a ≡ state.Connected b → a ≡ b
 same_connection a b p = cc
@@ -94,6 +95,7 @@ send_opens r receive socket c true e f = idle_keeps r (with_state socket (state.
 send_opens r receive socket c false e f =
     let now : Connection = record c { send_taken = true } in
     inr (record {
+      listening = refl;
       follows = follows_then r.inner.state (state.Connected c) (state.Connected now) f (follows_connected c now refl (λ t. refl));
       connection = now;
       is = refl;
@@ -113,6 +115,7 @@ receive_opens r socket c false f =
 
 state_opens : (r : Tcp2Socket) (socket : Socket) (s : TcpState) → Follows r.inner.state s → Polled r (opened_receive r (in_socket socket (take_receive s))).1
 state_opens r socket (state.Default side) f = idle_keeps r (with_state socket (state.Default side)) f
+state_opens r socket (state.Listening side) f = idle_keeps r (with_state socket (state.Listening side)) f
 state_opens r socket (state.Connecting op) f = idle_keeps r (with_state socket (state.Connecting op)) f
 state_opens r socket (state.Connected c) f = receive_opens r socket c c.receive_taken f
 state_opens r socket (state.Closed c) f = idle_keeps r (with_state socket (state.Closed c)) f

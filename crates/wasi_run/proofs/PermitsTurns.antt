@@ -14,7 +14,8 @@ use Rattle.wasi_host.specs.Store.{Records, with_writer}
 use Rattle.wasi_host.specs.Jobs.{turned, turn_record, turn_at, turn_jobs, turn_store_asks}
 use Rattle.wasi_host.specs.Machine.{turn_machine_asks}
 use Rattle.wasi_run.proofs.PermitsQuiet.{follows_same}
-use Rattle.wasi_run.proofs.PermitsStands.{WriterIs, IsOpened, RecordStands, Agree, Stands, stands_kept, streams_record}
+use Rattle.wasi_run.proofs.PermitsRecords.{WriterIs, IsOpened, RecordStands, Agree, streams_record}
+use Rattle.wasi_run.proofs.PermitsStands.{Stands, stands_kept}
 use Rattle.wasi_run.proofs.PermitsTaken.{Fronts, Meets}
 use Rattle.wasi_run.proofs.PermitsJobs.{WriterTakes, turn_takes}
 use Rattle.wasi_run.proofs.PermitsWrites.{StandsOn, Ends, moved}
@@ -43,7 +44,7 @@ module _ (side : OpId) (taken bytes : List ℕ) (line : ℕ) where
         opened.writer,
         record {
           front = h.front;
-          ours = λ o. subst (Agree (taken ++ before) bytes) e (h.agree place r g (held ∙ ap (λ (x : OpId). Some x) o));
+          ours = λ o. subst (Agree (taken ++ before) bytes) e ((h.agree place r g).held (held ∙ ap (λ (x : OpId). Some x) o));
           theirs = λ o. refl;
         },
       )
@@ -61,7 +62,7 @@ module _ (side : OpId) (taken bytes : List ℕ) (line : ℕ) where
           (λ fs done k. moved side taken bytes line sockets place r s g opened.connection.side held before (taken ++ before) bytes refl h fs done.1 (now_stands done.1 k.0) (λ o. refl) k.1)
 
     record_stands : (o : Option Streams) → r.streams ≡ o → Meets side taken bytes Puts es (turned r o)
-    record_stands None e = stands_kept side (taken ++ taken_in side es) bytes sockets line place r r g (record { streams = refl; follows = follows_same _ (h.records place r g).plain }) h
+    record_stands None e = stands_kept side (taken ++ taken_in side es) bytes sockets line place r r g (record { streams = refl; listening = refl; follows = follows_same _ (h.records place r g).plain }) h
     record_stands (Some s) e = turned_stands s e
 
   place_stands : (sockets : List Tcp2Socket) (place : ℕ) (o : Option Tcp2Socket) → slice_get sockets place ≡ o → (es : List Entry) → Stand es sockets → Meets side taken bytes Stand es (turn_at sockets place o)

@@ -15,8 +15,8 @@ use Rattle.wasi_tcp.specs.declared.writer.WriteState.TheVariants as writing
 use Rattle.wasi_tcp.specs.Job.{Job, then_closed, finish_in}
 use Rattle.wasi_tcp.specs.Writer.{written_by, closed_by, collected, look_in, look_asks, with_permit, permitted, check_write_asks, writer_shutdown_asks, side_up_asks, writer_side, writer_give_up_asks}
 use Rattle.wasi_tcp.specs.Taken.{bytes_left}
-use Rattle.wasi_run.proofs.PermitsQuiet.{Quiet, quiet_then}
-use Rattle.wasi_run.proofs.PermitsStands.{AreOfWrite, WriterIs, JobAgrees, Agrees}
+use Rattle.wasi_run.proofs.PermitsPolls.{Quiet, quiet_then}
+use Rattle.wasi_run.proofs.PermitsRecords.{AreOfWrite, WriterIs, JobAgrees, Agrees}
 
 -- The writer writes to the same side, and agrees as before.
 pub record KeepsWriter (w now : WriteState) : Type 0 where

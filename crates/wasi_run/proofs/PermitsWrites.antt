@@ -25,8 +25,9 @@ use Rattle.wasi_host.specs.Machine.{with_store, output_at}
 use Rattle.wasi_host.specs.StreamCalls.{converted, write_on, write_asks}
 use Rattle.wasi_run.specs.Answered.{record_in}
 use Rattle.wasi_run.specs.Permitted.{writer_in, writer_of_record, writer_at, let_begin}
-use Rattle.wasi_run.proofs.PermitsQuiet.{Quiet}
-use Rattle.wasi_run.proofs.PermitsStands.{WriterIs, IsOpened, RecordStands, Agree, Agrees, Stands, Keeping, stands_put, stands_moved, streams_record}
+use Rattle.wasi_run.proofs.PermitsPolls.{Quiet}
+use Rattle.wasi_run.proofs.PermitsRecords.{WriterIs, IsOpened, RecordStands, Agree, Agrees, streams_record}
+use Rattle.wasi_run.proofs.PermitsStands.{Stands, Keeping, stands_put, stands_moved}
 use Rattle.wasi_run.proofs.PermitsTaken.{taken_push, same_side, not_same, Fronts, Meets, quiet_keep, Accounted}
 use Rattle.wasi_run.proofs.PermitsWriter.{KeepsWriter, same_writer}
 use Rattle.wasi_run.proofs.PermitsJobs.{WriterTakes, write_takes}
@@ -70,11 +71,12 @@ module _ (side : OpId) (taken bytes : List ℕ) where
     moved_by : (fs : List Entry) (w : WriteState) (ours : Bool) → is_same at side ≡ ours → RecordStands (with_writer r s w) → (is_same at side ≡ false → permitted ≡ bytes) → Accounted side taken bytes at before (λ all. Agrees all bytes w) fs → Moves fs w
     moved_by fs w true e stands other a =
         let is = same_side at side e in
-        stands_moved side sockets line place r (with_writer r s w) g stands old permitted (taken ++ taken_in side fs) bytes (held ∙ ap (λ (x : OpId). Some x) is) a.front (a.ours is) h
+        stands_moved side sockets line place r (with_writer r s w) g stands old permitted (taken ++ taken_in side fs) bytes (held ∙ ap (λ (x : OpId). Some x) is) (λ k. k) a.front (a.ours is) h
     moved_by fs w false e stands other a =
         let now = slice_set sockets place (with_writer r s w) in
         let put : Stands side old permitted now line =
-        stands_put side sockets line place r (with_writer r s w) g stands old permitted (λ k. k) (λ k. absurd (not_same at side (some_side at side (sym held ∙ k)) e)) h in
+        stands_put side sockets line place r (with_writer r s w) g stands old permitted (λ k. k)
+        (record { held = λ k. absurd (not_same at side (some_side at side (sym held ∙ k)) e); awaited = (h.agree place r g).awaited; apart = (h.agree place r g).apart }) h in
         subst (λ t. Stands side t bytes now line) (p ∙ ap (λ more. taken ++ more) (sym (a.theirs e))) (subst (λ q. Stands side old q now line) (other e) put)
 
     pub moved : (fs : List Entry) (w : WriteState) → RecordStands (with_writer r s w) → (is_same at side ≡ false → permitted ≡ bytes) → Accounted side taken bytes at before (λ all. Agrees all bytes w) fs → Moves fs w
@@ -123,7 +125,7 @@ module _ (side : OpId) (taken permitted : List ℕ) (line : ℕ) (m : Machine) (
 
       -- where the half is of this side all was taken
       all_taken : half.side ≡ side → taken ≡ permitted
-      all_taken ours = subst (Agrees taken permitted) p (subst (Agree taken permitted) e (h.stands.agree place r g (its_side ∙ ap (λ (x : OpId). Some x) ours)))
+      all_taken ours = subst (Agrees taken permitted) p (subst (Agree taken permitted) e ((h.stands.agree place r g).held (its_side ∙ ap (λ (x : OpId). Some x) ours)))
 
       module _ (b : ℕ) (rest : List ℕ) where
         abbrev asks : Asks (Result (Unit {0}) StreamStop × WriteState)

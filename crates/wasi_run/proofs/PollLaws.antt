@@ -7,16 +7,18 @@ use Rattle.wasi_world.specs.declared.outcome.WasiSocketsCtx.{WasiSocketsCtx}
 use Rattle.wasi_world.specs.Operation.{Operation}
 use Rattle.wasi_host.specs.declared.machine.Machine.{Machine}
 use Rattle.wasi_host.specs.declared.store.Standing.{Standing}
+use Rattle.wasi_host.specs.declared.store.StandingCall.TheVariants as standing
 use Rattle.wasi_host.specs.Machine.{own_of}
 use Rattle.wasi_host.specs.Pending.{stands_as}
+use Rattle.wasi_host.specs.Listening.{standing_listen}
 use Rattle.wasi_host.specs.Store.{standing_bind, standing_drop}
 use Rattle.wasi_run.specs.declared.reply.CodeWord.{CodeWord}
 use Rattle.wasi_run.specs.declared.reply.Reply.{Reply}
 use Rattle.wasi_run.specs.declared.reply.Reply.TheVariants as reply
 use Rattle.wasi_run.specs.declared.step.Step.TheVariants as step
 use Rattle.wasi_run.specs.Answered.{Answered}
-use Rattle.wasi_run.specs.Waiting.{IsRestOfBind, StandsByBind, CallWaits, StandingWaits, StandingFails}
-use Rattle.wasi_run.proofs.PollCauses.{the_bind, PollAnswer, NoCall, OfNothing, BindDone, BindRefused, BindWaits, DropDone, DropWaits, PollSays, poll_says}
+use Rattle.wasi_run.specs.Waiting.{IsRestOfBind, StandsByBind, CallWaits, StandingWaits, BindFailed, StandingFails}
+use Rattle.wasi_run.proofs.PollCauses.{the_bind, PollAnswer, NoCall, OfNothing, BindDone, BindRefused, BindWaits, the_listen, ListensOnNothing, ListenDone, ListenRefused, ListenWaitsOn, DropDone, DropWaits, PollSays, poll_says}
 use Rattle.wasi_run.proofs.StepCauses.{settled, busy_exactly}
 
 module _ (m : Machine) (n : ℕ) where
@@ -30,6 +32,9 @@ module _ (m : Machine) (n : ℕ) where
   drop_stands : (place : ℕ) → m.store.standing ≡ Some (standing_drop n place) → stands_as m.store.standing n ≡ true
   drop_stands place e = ap (λ (o : Option Standing). stands_as o n) e ∙ eq-eqb n n refl
 
+  listen_stands : (place : ℕ) → m.store.standing ≡ Some (standing_listen n place) → stands_as m.store.standing n ≡ true
+  listen_stands place e = ap (λ (o : Option Standing). stands_as o n) e ∙ eq-eqb n n refl
+
   not_both : stands_as m.store.standing n ≡ true → stands_as m.store.standing n ≡ false → ⊥
   not_both h k = cc
 
@@ -39,6 +44,10 @@ module _ (m : Machine) (n : ℕ) where
   finds_none _ _ _ (BindDone place op es after stands none) = (λ said. absurd (cc), λ h. absurd (not_both (bind_stands place op stands) h))
   finds_none _ _ _ (BindRefused place op es c after stands cause none) = (λ said. absurd (cc), λ h. absurd (not_both (bind_stands place op stands) h))
   finds_none _ _ _ (BindWaits place op left es after stands cause on) = (λ said. absurd (cc), λ h. absurd (not_both (bind_stands place op stands) h))
+  finds_none _ _ _ (ListensOnNothing place e at) = (λ said. absurd (cc), λ h. absurd (not_both (listen_stands place (the_listen n m.store.standing place e)) h))
+  finds_none _ _ _ (ListenDone place es after stands none) = (λ said. absurd (cc), λ h. absurd (not_both (listen_stands place stands) h))
+  finds_none _ _ _ (ListenRefused place es c after stands cause none) = (λ said. absurd (cc), λ h. absurd (not_both (listen_stands place stands) h))
+  finds_none _ _ _ (ListenWaitsOn place es after stands cause on) = (λ said. absurd (cc), λ h. absurd (not_both (listen_stands place stands) h))
   finds_none _ _ _ (DropDone place es after stands looks none) = (λ said. absurd (cc), λ h. absurd (not_both (drop_stands place stands) h))
   finds_none _ _ _ (DropWaits place es after stands waits on) = (λ said. absurd (cc), λ h. absurd (not_both (drop_stands place stands) h))
 
@@ -48,6 +57,10 @@ module _ (m : Machine) (n : ℕ) where
   stays _ _ _ (BindDone place op es after stands none) said = absurd (cc)
   stays _ _ _ (BindRefused place op es c after stands cause none) said = absurd (cc)
   stays _ _ _ (BindWaits place op left es after stands cause on) said = absurd (cc)
+  stays _ _ _ (ListensOnNothing place e at) said = absurd (cc)
+  stays _ _ _ (ListenDone place es after stands none) said = absurd (cc)
+  stays _ _ _ (ListenRefused place es c after stands cause none) said = absurd (cc)
+  stays _ _ _ (ListenWaitsOn place es after stands cause on) said = absurd (cc)
   stays _ _ _ (DropDone place es after stands looks none) said = absurd (cc)
   stays _ _ _ (DropWaits place es after stands waits on) said = absurd (cc)
 
@@ -57,6 +70,10 @@ module _ (m : Machine) (n : ℕ) where
   ends _ _ _ (BindDone place op es after stands none) h = inr none
   ends _ _ _ (BindRefused place op es c after stands cause none) h = inr none
   ends _ _ _ (BindWaits place op left es after stands cause on) h = inl refl
+  ends _ _ _ (ListensOnNothing place e at) h = inr refl
+  ends _ _ _ (ListenDone place es after stands none) h = inr none
+  ends _ _ _ (ListenRefused place es c after stands cause none) h = inr none
+  ends _ _ _ (ListenWaitsOn place es after stands cause on) h = inl refl
   ends _ _ _ (DropDone place es after stands looks none) h = inr none
   ends _ _ _ (DropWaits place es after stands waits on) h = inl refl
 
@@ -68,8 +85,12 @@ module _ (m : Machine) (n : ℕ) where
     fails w _ _ _ (NoCall none) said = absurd (cc)
     fails w _ _ _ (OfNothing place op e at) said = absurd (cc)
     fails w _ _ _ (BindDone place op es after stands none) said = absurd (cc)
-    fails w _ _ _ (BindRefused place op es c after stands cause none) said = record { place = place; op = op; code = c; stands = stands; cause = cause (is_bind place op stands); word_is = cc }
+    fails w _ _ _ (BindRefused place op es c after stands cause none) said = record { call = standing.Bind place op; code = c; stands = stands; cause = BindFailed place op c (cause (is_bind place op stands)); word_is = cc }
     fails w _ _ _ (BindWaits place op left es after stands cause on) said = absurd (cc)
+    fails w _ _ _ (ListensOnNothing place e at) said = absurd (cc)
+    fails w _ _ _ (ListenDone place es after stands none) said = absurd (cc)
+    fails w _ _ _ (ListenRefused place es c after stands cause none) said = record { call = standing.Listen place; code = c; stands = stands; cause = cause binds; word_is = cc }
+    fails w _ _ _ (ListenWaitsOn place es after stands cause on) said = absurd (cc)
     fails w _ _ _ (DropDone place es after stands looks none) said = absurd (cc)
     fails w _ _ _ (DropWaits place es after stands waits on) said = absurd (cc)
 
@@ -79,6 +100,10 @@ module _ (m : Machine) (n : ℕ) where
     waits k _ _ _ (BindDone place op es after stands none) said = absurd (cc)
     waits k _ _ _ (BindRefused place op es c after stands cause none) said = absurd (cc)
     waits k _ _ _ (BindWaits place op left es after stands cause on) said = rw stands (cause (is_bind place op stands))
+    waits k _ _ _ (ListensOnNothing place e at) said = absurd (cc)
+    waits k _ _ _ (ListenDone place es after stands none) said = absurd (cc)
+    waits k _ _ _ (ListenRefused place es c after stands cause none) said = absurd (cc)
+    waits k _ _ _ (ListenWaitsOn place es after stands cause on) said = subst (λ (o : Option Standing). IsSomeAnd o (λ s. CallWaits m (own_of n) es s.call)) (sym stands) (cause binds)
     waits k _ _ _ (DropDone place es after stands looks none) said = absurd (cc)
     waits k _ _ _ (DropWaits place es after stands its on) said = subst (λ (o : Option Standing). IsSomeAnd o (λ s. CallWaits m (own_of n) es s.call)) (sym stands) its
 

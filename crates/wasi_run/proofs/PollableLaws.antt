@@ -16,9 +16,10 @@ use Rattle.wasi_run.specs.declared.reply.Reply.{Reply}
 use Rattle.wasi_run.specs.declared.reply.Reply.TheVariants as reply
 use Rattle.wasi_run.specs.declared.step.Step.TheVariants as step
 use Rattle.wasi_run.specs.Answered.{Answered, MissesRecord, MissesWatched}
+use Rattle.wasi_run.specs.Listens.{AcceptsIn}
 use Rattle.wasi_run.specs.Reply.{number_fields, truth_fields}
-use Rattle.wasi_run.specs.Waiting.{pollable_mark, OfWatched, IsUnready, WatchesConnect, IsIdleSocket, WatchesIdle, IsFailure}
-use Rattle.wasi_run.proofs.PollableCauses.{SubscribeAnswer, NotWatchable, NoRoom, Subscribes, SubscribeSays, subscribe_says, IsAtWork, IsIdle, ReadyAnswer, NothingWatched, IsReadyNow, IsNotReady, ReadySays, ready_says}
+use Rattle.wasi_run.specs.Waiting.{pollable_mark, OfWatched, IsUnready, WatchesConnect, WatchesAccept, IsIdleSocket, WatchesIdle, IsFailure}
+use Rattle.wasi_run.proofs.PollableCauses.{SubscribeAnswer, NotWatchable, NoRoom, Subscribes, SubscribeSays, subscribe_says, ReadyAnswer, NothingWatched, IsReadyNow, IsNotReady, ReadySays, ready_says}
 use Rattle.wasi_run.proofs.StepCauses.{settled, free_to_go}
 
 -- == a subscription
@@ -67,14 +68,15 @@ module _ (m : Machine) (line pollable : ℕ) where
   abbrev NotReady : List Entry → Type 0
   NotReady es = OfWatched m pollable (λ w r. IsUnready (own_of line) r es w)
 
-  unready : (es : List Entry) (r : Reply) (after : Machine) → WatchesConnect m pollable → Answer es r after → r ≡ reply.Ok (truth_fields false) → NotReady es
-  unready _ _ _ connects (NothingWatched none) said = absurd (cc)
-  unready _ _ _ connects (IsReadyNow es now after on) said = absurd (cc)
-  unready _ _ _ connects (IsNotReady es after on) said =
+  unready : (es : List Entry) (r : Reply) (after : Machine) → WatchesConnect m pollable → WatchesAccept m pollable → Answer es r after → r ≡ reply.Ok (truth_fields false) → NotReady es
+  unready _ _ _ connects accepts (NothingWatched none) said = absurd (cc)
+  unready _ _ _ connects accepts (IsReadyNow es now after on) said = absurd (cc)
+  unready _ _ _ connects accepts (IsNotReady es after on) said =
       let holds : HoldsConnect on.found.inner.state = rw (on.watches, on.at) at connects in
-      record { watch = on.watch; found = on.found; watches = on.watches; at = on.at; holds = on.holds.1 holds }
+      let accepts_so : AcceptsIn on.found.listening = rw (on.watches, on.at) at accepts in
+      record { watch = on.watch; found = on.found; watches = on.watches; at = on.at; holds = on.holds.1 holds accepts_so }
 
-  -- == of a socket with no connect in progress
+  -- == of a socket of which nothing is polled
   abbrev IsReadyAtOnce : List Entry → Reply → Machine → Type 0
   IsReadyAtOnce es r after = (r ≡ reply.Ok (truth_fields true)) × (es ≡ []) × (after ≡ m)
 
@@ -96,14 +98,6 @@ module _ (m : Machine) (line pollable : ℕ) where
       let r = same_record P IsIdleSocket on idle in
       rw (w, r) idle.holds
 
-  at_once : (w : Watched) (r now : Tcp2Socket) (es : List Entry) → IsIdleSocket w r → IsIdle (own_of line) r es now w → (es ≡ []) × (now ≡ r)
-  at_once (watched.Socket place) r now es idle h = h idle
-  at_once _ r now es idle h = absurd idle
-
-  not_at_work : (w : Watched) (r : Tcp2Socket) → IsIdleSocket w r → IsAtWork (own_of line) r w → ⊥
-  not_at_work (watched.Socket place) r idle h = cc
-  not_at_work _ r idle h = absurd idle
-
   none_watched : WatchesIdle m pollable → MissesWatched m (watch_of (kind_at m.table pollable)) → ⊥
   none_watched idle none = by_watch idle.watch idle.found idle.holds (rw (idle.watches, idle.at) at none)
     where
@@ -113,8 +107,8 @@ module _ (m : Machine) (line pollable : ℕ) where
 
   ready_at_once : (es : List Entry) (r : Reply) (after : Machine) → WatchesIdle m pollable → Answer es r after → IsReadyAtOnce es r after
   ready_at_once _ _ _ idle (NothingWatched none) = absurd (none_watched idle none)
-  ready_at_once _ _ _ idle (IsReadyNow es now after on) = let h = at_once on.watch on.found now es (idle_too _ on idle) on.holds.0 in (refl, h.0, on.holds.1 h.1)
-  ready_at_once _ _ _ idle (IsNotReady es after on) = absurd (not_at_work on.watch on.found (idle_too _ on idle) on.holds.0)
+  ready_at_once _ _ _ idle (IsReadyNow es now after on) = let h = on.holds.0 (idle_too _ on idle) in (refl, h.0, on.holds.1 h.1)
+  ready_at_once _ _ _ idle (IsNotReady es after on) = absurd (on.holds.0 (idle_too _ on idle))
 
   -- == of its answers
   module _ (contexts : List WasiSocketsCtx) (ctx : ℕ) where
@@ -124,8 +118,8 @@ module _ (m : Machine) (line pollable : ℕ) where
     pub ready_values : (es : List Entry) (fields : List Field) (after : Machine) → Answered contexts m line (step.Ready ctx pollable) es (reply.Ok fields) after → (fields ≡ truth_fields true) ⊎ (fields ≡ truth_fields false)
     ready_values es fields after w = values fields es (reply.Ok fields) after (says es (reply.Ok fields) after w (λ e. cc)) refl
 
-    pub ready_waits : (es : List Entry) (after : Machine) → WatchesConnect m pollable → Answered contexts m line (step.Ready ctx pollable) es (reply.Ok (truth_fields false)) after → NotReady es
-    ready_waits es after connects w = unready es (reply.Ok (truth_fields false)) after connects (says es (reply.Ok (truth_fields false)) after w (λ e. cc)) refl
+    pub ready_waits : (es : List Entry) (after : Machine) → WatchesConnect m pollable → WatchesAccept m pollable → Answered contexts m line (step.Ready ctx pollable) es (reply.Ok (truth_fields false)) after → NotReady es
+    ready_waits es after connects accepts w = unready es (reply.Ok (truth_fields false)) after connects accepts (says es (reply.Ok (truth_fields false)) after w (λ e. cc)) refl
 
     pub ready_idle : (es : List Entry) (r : Reply) (after : Machine) → m.store.standing ≡ None → WatchesIdle m pollable → Answered contexts m line (step.Ready ctx pollable) es r after → IsReadyAtOnce es r after
     ready_idle es r after free idle w = ready_at_once es r after idle (says es r after w (free_to_go contexts m line (step.Ready ctx pollable) es r after free w))

@@ -19,18 +19,18 @@ use Rattle.wasi_world.specs.declared.outcome.WasiSocketsCtx.{WasiSocketsCtx}
 use Rattle.wasi_run.specs.declared.step.Step.{Step}
 use Rattle.wasi_run.specs.declared.step.Step.TheVariants as step
 use Rattle.wasi_host.specs.Machine.{own_of}
-use Rattle.wasi_run.specs.Licence.{Has, entry, NamesSide, ReachesSide, IsMaker, Created, Handed, IsBindTo, IsTcpCreate, IsMarkOf, IsLicensed}
+use Rattle.wasi_run.specs.Licence.{Has, entry, NamesSide, ReachesSide, IsMaker, Created, Handed, IsBindTo, IsListen, IsTcpCreate, IsMarkOf, IsLicensed}
 use Rattle.wasi_run.proofs.Rows.{allowed, two_contexts, forbidden, local_80, bind_script}
 
-abbrev local_81 : IpSocketAddress
+abbrev pub local_81 : IpSocketAddress
 local_81 = socket.Ipv4 (record { port = 81; address = (127, 0, 0, 1) })
 
 -- what holds of each entry holds of those that a log has
-abbrev Each : (Entry → Type 0) → List Entry → Type 0
+abbrev pub Each : (Entry → Type 0) → List Entry → Type 0
 Each P [] = ⊤
 Each P (e ∷ es) = P e × Each P es
 
-of_each : (P : Entry → Type 0) (es : List Entry) (e : Entry) → Each P es → Has es e → P e
+pub of_each : (P : Entry → Type 0) (es : List Entry) (e : Entry) → Each P es → Has es e → P e
 of_each P [] e all h = absurd h
 of_each P (x ∷ es) e all (inl h) = subst P h all.0
 of_each P (x ∷ es) e all (inr h) = of_each P es e all.1 h
@@ -41,7 +41,7 @@ NoCheck (call.Check ctx addr usage) = ⊥
 NoCheck _ = ⊤
 
 -- no yes
-abbrev NotYes : Told → Type 0
+abbrev pub NotYes : Told → Type 0
 NotYes told.Yes = ⊥
 NotYes _ = ⊤
 
@@ -138,7 +138,7 @@ abbrev bind_81 : Entry
 bind_81 = entry (own_of 3) (call.Bind (own_of 2) local_81) told.Done
 
 -- what holds of a line's step holds of this step
-at_line : (P : Step → Type 0) (s x : Step) → Some s ≡ Some x → P x → P s
+pub at_line : (P : Step → Type 0) (s x : Step) → Some s ≡ Some x → P x → P s
 at_line P s x e h = let p : x ≡ s = cc in subst P p h
 
 other_address : IsLicensed allowed bind_script (asks_81 ++ bind_81 ∷ []) → ⊥
@@ -227,5 +227,11 @@ not_created h =
     of_each (λ e. NoCreate e.call) uncreated _ (tt, tt) m.3.2
 
 -- == a call that no step makes
-unasked : IsLicensed allowed bind_script (begins ++ entry (own_of 3) (call.Listen (own_of 2) 128) told.Done ∷ []) → ⊥
-unasked h = h.each begins (entry (own_of 3) (call.Listen (own_of 2) 128) told.Done) [] refl
+unasked : IsLicensed allowed bind_script (begins ++ entry (own_of 3) (call.SetBacklog (own_of 2) 128) told.Done ∷ []) → ⊥
+unasked h = h.each begins (entry (own_of 3) (call.SetBacklog (own_of 2) 128) told.Done) [] refl
+
+-- == a step that isn't a listen listens
+no_listen : IsLicensed allowed bind_script (begins ++ entry (own_of 3) (call.Listen (own_of 2) 128) told.Done ∷ []) → ⊥
+no_listen h =
+    let may = h.each begins (entry (own_of 3) (call.Listen (own_of 2) 128) told.Done) [] refl in
+    at_line IsListen (step.TcpStartBind 0 2 1 local_80) may.1.origin may.1.at may.1.holds

@@ -28,7 +28,8 @@ use Rattle.wasi_host.specs.Store.{new_record, standing_bind}
 use Rattle.wasi_host.specs.Machine.{own_of, first_state}
 use Rattle.wasi_run.specs.Machine.{run}
 use Rattle.wasi_run.specs.Licence.{Has, entry, BeganBy, NamesSide, Created, IsLicensed}
-use Rattle.wasi_run.proofs.Licences.{licensed, run_is_licensed}
+use Rattle.wasi_run.proofs.Licensed.{licensed}
+use Rattle.wasi_run.proofs.Licences.{run_is_licensed}
 
 -- contexts that may use all
 abbrev pub context : ℕ → WasiSocketsCtx

@@ -1,87 +1,83 @@
--- Of the machines that runs lead to: what a socket connects by is a connect, and what stands by a bind is a bind.
+-- Of the machines that runs lead to: what a socket connects by is a connect, what a listener accepts by is an accept, and what
+-- stands by a bind is a bind, and by a listen a listen.
 use Rattle.std.specs.Prelude.{IfSome}
-use Rattle.std.proofs.Common.{◌≡◌, ℕ, List, [], Option, Some, None, slice_get, refl, one-add}
-use Rattle.wasi_addr.specs.declared.address.IpSocketAddress.{IpSocketAddress}
-use Rattle.wasi_addr.specs.Address.{wildcard}
-use Rattle.wasi_world.specs.declared.ids.OpId.{OpId}
+use Rattle.std.proofs.Common.{◌≡◌, ℕ, List, [], Option, Some, None, slice_get, refl}
 use Rattle.wasi_world.specs.declared.call.Entry.{Entry}
 use Rattle.wasi_world.specs.declared.outcome.WasiSocketsCtx.{WasiSocketsCtx}
 use Rattle.wasi_world.specs.Asks.{Give, Left}
-use Rattle.wasi_world.specs.Operation.{Item}
-use Rattle.wasi_world.proofs.Allowed.{reached}
-use Rattle.wasi_tcp.specs.declared.socket.TcpState.{TcpState}
-use Rattle.wasi_tcp.specs.declared.socket.TcpState.TheVariants as state
-use Rattle.wasi_tcp.specs.Shape.{Socket}
-use Rattle.wasi_tcp.specs.Connect.{IsLeftOfConnect}
-use Rattle.wasi_tcp.specs.Connect as connect
-use Rattle.wasi_tcp.specs.Connecting.{HoldsConnect}
 use Rattle.wasi_host.specs.declared.kind.Watched.{Watched}
+use Rattle.wasi_host.specs.declared.listening.Listening.{Listening}
+use Rattle.wasi_host.specs.declared.listening.Listening.TheVariants as listening
 use Rattle.wasi_host.specs.declared.machine.Machine.{Machine}
 use Rattle.wasi_host.specs.declared.socket.Tcp2Socket.{Tcp2Socket}
 use Rattle.wasi_host.specs.declared.store.Standing.{Standing}
 use Rattle.wasi_host.specs.declared.store.StandingCall.{StandingCall}
-use Rattle.wasi_host.specs.declared.store.StandingCall.TheVariants.{Bind, DropOutput}
+use Rattle.wasi_host.specs.declared.store.StandingCall.TheVariants as standing
 use Rattle.wasi_host.specs.Kinds.{kind_at, watch_of, place_in}
 use Rattle.wasi_host.specs.Machine.{first_state, socket_at}
 use Rattle.wasi_run.specs.declared.reply.Reply.{Reply}
 use Rattle.wasi_run.specs.declared.step.Step.{Step}
 use Rattle.wasi_run.specs.Answered.{record_in, ConnectsAt}
-use Rattle.wasi_run.specs.Licence.{MayAsk}
+use Rattle.wasi_run.specs.Listens.{AcceptsIn, AcceptsAt}
 use Rattle.wasi_run.specs.Machine.{run}
-use Rattle.wasi_run.specs.Waiting.{watched_in, WatchesConnect, IsLeftOfBind, HoldsBind, StandsByBind}
-use Rattle.wasi_run.specs.Waiting as bind
-use Rattle.wasi_run.proofs.Fine.{BindLeft, Whole, Checked, Over, ConnectLeft, Unbound, Unchecked, Allowed, ToClose, Ended, SocketIsFine, CallIsFine, StateIsFine}
-use Rattle.wasi_run.proofs.FineSteps.{fine_run, first_is_fine}
+use Rattle.wasi_run.specs.Waiting.{watched_in, WatchesConnect, WatchesAccept, IsListening, HoldsCall, StandsByBind}
+use Rattle.wasi_run.proofs.FitRecords.{FitListening, FitRecord}
+use Rattle.wasi_run.proofs.FitSteps.{run_fits}
+use Rattle.wasi_run.proofs.FitStores.{FitCall, FitStore}
+use Rattle.wasi_run.proofs.StepCauses.{given}
 
-is_left : (es : List Entry) (op side : OpId) (maker : ℕ) (a : IpSocketAddress) (items : List Item) → ConnectLeft es op side maker a items → IsLeftOfConnect items
-is_left es op side maker a _ (Unbound family made) = connect.Unbound (wildcard family) a
-is_left es op side maker a _ (Unchecked out) = connect.Unchecked a
-is_left es op side maker a _ (Allowed out told) = connect.Checked a
-is_left es op side maker a _ (ToClose c) = connect.ToClose c
-is_left es op side maker a _ Ended = connect.Ended
+-- == of a record
+accepts_so : (l : Listening) → FitListening l → AcceptsIn l
+accepts_so (listening.Accepts l) h = h
+accepts_so _ h = tt
 
-is_left_of_bind : (es : List Entry) (op : OpId) (maker : ℕ) (a : IpSocketAddress) (items : List Item) → BindLeft es op maker a items → IsLeftOfBind items
-is_left_of_bind es op maker a _ Whole = bind.Unchecked a
-is_left_of_bind es op maker a _ (Checked told) = bind.Checked a
-is_left_of_bind es op maker a _ Over = bind.Ended
+listens_so : (l : Listening) → FitListening l → IsListening l
+listens_so (listening.Begins op) h = h
+listens_so _ h = tt
 
-module _ (steps : List Step) (es : List Entry) where
-  holds : (socket : Socket) (st : TcpState) → socket.state ≡ st → SocketIsFine steps es socket → HoldsConnect st
-  holds socket (state.Connecting op) e f = let c = f.connect op e in record { last = c.last; left = is_left es op.who.id op.who.side op.who.context c.addr op.left c.left }
-  holds socket _ e f = tt
+module _ (m : Machine) (f : FitStore m.store) where
+  -- of the record at a place, where there is one
+  module _ (P : Tcp2Socket → Type 0) (so : (r : Tcp2Socket) → FitRecord r → P r) where
+    at_place : (place : ℕ) (o : Option Tcp2Socket) → slice_get m.store.sockets place ≡ o → IfSome o P
+    at_place place None at = tt
+    at_place place (Some r) at = so r (f.records place r at)
 
-  holds_bind : (sockets : List Tcp2Socket) (line : ℕ) (call : StandingCall) → CallIsFine steps es sockets line call → HoldsBind call
-  holds_bind sockets line (Bind place op) f = record { last = f.last; left = is_left_of_bind es op.who.id op.who.context f.addr op.left f.left }
-  holds_bind sockets line (DropOutput place) f = tt
+    of_record : (o : Option ℕ) → IfSome (record_in m o) P
+    of_record None = tt
+    of_record (Some place) = at_place place (slice_get m.store.sockets place) refl
 
-  module _ (m : Machine) (f : StateIsFine steps es m) where
-    connects_at : (place : ℕ) (o : Option Tcp2Socket) → slice_get m.store.sockets place ≡ o → IfSome o (λ r. HoldsConnect r.inner.state)
-    connects_at place None at = tt
-    connects_at place (Some r) at = holds r.inner r.inner.state refl (f.sockets place r at).socket
+    of_watched : (o : Option Watched) → IfSome (watched_in m o) P
+    of_watched None = tt
+    of_watched (Some w) = at_place (place_in w) (slice_get m.store.sockets (place_in w)) refl
 
-    connects_in : (o : Option ℕ) → IfSome (record_in m o) (λ r. HoldsConnect r.inner.state)
-    connects_in None = tt
-    connects_in (Some place) = connects_at place (slice_get m.store.sockets place) refl
+  by_call : (call : StandingCall) → FitCall call → HoldsCall m call
+  by_call (standing.Bind place op) h = h
+  by_call (standing.Listen place) h = at_place (λ r. IsListening r.listening) (λ r k. listens_so r.listening k.1) place (slice_get m.store.sockets place) refl
+  by_call (standing.DropOutput place) h = tt
 
-    watches : (o : Option Watched) → IfSome (watched_in m o) (λ r. HoldsConnect r.inner.state)
-    watches None = tt
-    watches (Some w) = connects_at (place_in w) (slice_get m.store.sockets (place_in w)) refl
+  stands_by : (o : Option Standing) → IfSome o (λ s. FitCall s.call) → IfSome o (λ s. HoldsCall m s.call)
+  stands_by None h = tt
+  stands_by (Some s) h = by_call s.call h
 
-    stands_by : (o : Option Standing) → m.store.standing ≡ o → IfSome o (λ s. HoldsBind s.call)
-    stands_by None e = tt
-    stands_by (Some s) e = holds_bind m.store.sockets s.line s.call (f.standing s e)
+first_fits : FitStore first_state.store
+first_fits = record { records = λ place r e. absurd (cc); stands = tt }
 
+-- == of a run
 module _ (contexts : List WasiSocketsCtx) (steps : List Step) (es : List Entry) (replies : List Reply) (m : Machine) (w : Left (run contexts [] first_state 1 steps) es (Give (replies, m))) where
-  is_fine : StateIsFine steps es m
-  is_fine =
-      reached (MayAsk contexts steps) (λ es done. StateIsFine steps es done.1) [] (run contexts [] first_state 1 steps) es (Give (replies, m))
-      (fine_run contexts steps [] first_state 1 steps [] (λ k s h. rw one-add h) (first_is_fine contexts steps)) w
+  fits : FitStore m.store
+  fits = given (λ fs done. FitStore done.1.store) (run contexts [] first_state 1 steps) es (replies, m) (run_fits contexts steps [] [] first_state 1 first_fits) w
 
   pub runs_connect : (handle : ℕ) → ConnectsAt m handle
-  runs_connect handle = connects_in steps es m is_fine (socket_at m handle)
+  runs_connect handle = of_record m fits _ (λ r k. k.0) (socket_at m handle)
 
   pub runs_watch : (pollable : ℕ) → WatchesConnect m pollable
-  runs_watch pollable = watches steps es m is_fine (watch_of (kind_at m.table pollable))
+  runs_watch pollable = of_watched m fits _ (λ r k. k.0) (watch_of (kind_at m.table pollable))
+
+  pub runs_accept : (handle : ℕ) → AcceptsAt m handle
+  runs_accept handle = of_record m fits _ (λ r k. accepts_so r.listening k.1) (socket_at m handle)
+
+  pub runs_watch_accept : (pollable : ℕ) → WatchesAccept m pollable
+  runs_watch_accept pollable = of_watched m fits _ (λ r k. accepts_so r.listening k.1) (watch_of (kind_at m.table pollable))
 
   pub runs_bind : StandsByBind m
-  runs_bind = stands_by steps es m is_fine m.store.standing refl
+  runs_bind = stands_by m fits m.store.standing fits.stands

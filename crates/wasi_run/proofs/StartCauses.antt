@@ -11,25 +11,23 @@ use Rattle.wasi_run.specs.declared.reply.Reply.{Reply}
 use Rattle.wasi_run.specs.declared.reply.Reply.TheVariants as reply
 use Rattle.wasi_host.specs.declared.socket.Tcp2Socket.{Tcp2Socket}
 use Rattle.wasi_run.specs.declared.step.Step.{Step}
-use Rattle.wasi_host.specs.Kinds.{kind_at}
 use Rattle.wasi_host.specs.Store.{is_nothing}
 use Rattle.wasi_host.specs.Machine.{socket_at}
-use Rattle.wasi_host.specs.Kinds.{is_network}
 use Rattle.wasi_run.specs.Machine.{step_asks}
 use Rattle.wasi_run.specs.Answered.{Answered, record_at, RefusedOf, HasOperationInProgress, StartRefusal, InProgress, Begins}
 use Rattle.wasi_run.proofs.StepCauses.{Gives, settled, busy_exactly}
 use Rattle.wasi_run.proofs.RecordCauses.{IsIdle, found}
 
-module _ (m : Machine) (handle network : ℕ) (Begun : ℕ → Tcp2Socket → List Entry → CodeWord → Machine → Type 0) (Stands : List Entry → ℕ → Machine → Type 0) where
+module _ (m : Machine) (handle : ℕ) (Missing : Type 0) (Begun : ℕ → Tcp2Socket → List Entry → CodeWord → Machine → Type 0) (Stands : List Entry → ℕ → Machine → Type 0) where
   abbrev pub IsRefused : List Entry → CodeWord → Machine → Type 0
   IsRefused = RefusedOf m handle (λ place r. StartRefusal m r (Begun place r))
 
-  -- its answer comes of the socket's record, or it traps
+  -- its answer comes of the socket's record, or it traps: that isn't there, or another handle of the step
   abbrev pub StartSays : List Entry → Reply × Machine → Type 0
   StartSays es (reply.Ok fields, after) = IsIdle (record_at m handle)
   StartSays es (reply.Err w, after) = IsRefused es w after
   StartSays es (reply.Pending n, after) = IsIdle (record_at m handle) × Stands es n after
-  StartSays es (reply.Trap NoSuchHandle, after) = ((is_network (kind_at m.table network) ≡ false) ⊎ (record_at m handle ≡ None)) × (es ≡ []) × (after ≡ m)
+  StartSays es (reply.Trap NoSuchHandle, after) = (Missing ⊎ (record_at m handle ≡ None)) × (es ≡ []) × (after ≡ m)
   StartSays es _ = ⊥
 
   -- with an operation in progress
@@ -56,19 +54,19 @@ module _ (m : Machine) (handle network : ℕ) (Begun : ℕ → Tcp2Socket → Li
         let is_idle : IsIdle (record_at m handle) = rw (found m handle h.place (Some h.found) h.names h.at) idle in
         absurd (not_both (record_at m handle) is_idle k)
 
-    is_conflict : (es : List Entry) (done : Reply × Machine) → is_network (kind_at m.table network) ≡ true → HasOperationInProgress (record_at m handle) → StartSays es done → done.0 ≡ reply.Err word.ConcurrencyConflict
-    is_conflict es (reply.Ok fields, after) is_one k h = absurd (not_both (record_at m handle) h k)
-    is_conflict es (reply.Err w, after) is_one k h = ap reply.Err (conflicts es w after h h.holds k)
-    is_conflict es (reply.Pending n, after) is_one k h = absurd (not_both (record_at m handle) h.0 k)
-    is_conflict es (reply.Trap NoSuchHandle, after) is_one k (inl other, quiet, same) = absurd (cc)
-    is_conflict es (reply.Trap NoSuchHandle, after) is_one k (inr none, quiet, same) = absurd (rw none at k)
-    is_conflict es _ is_one k h = absurd h
+    is_conflict : (es : List Entry) (done : Reply × Machine) → (Missing → ⊥) → HasOperationInProgress (record_at m handle) → StartSays es done → done.0 ≡ reply.Err word.ConcurrencyConflict
+    is_conflict es (reply.Ok fields, after) there k h = absurd (not_both (record_at m handle) h k)
+    is_conflict es (reply.Err w, after) there k h = ap reply.Err (conflicts es w after h h.holds k)
+    is_conflict es (reply.Pending n, after) there k h = absurd (not_both (record_at m handle) h.0 k)
+    is_conflict es (reply.Trap NoSuchHandle, after) there k (inl other, quiet, same) = absurd (there other)
+    is_conflict es (reply.Trap NoSuchHandle, after) there k (inr none, quiet, same) = absurd (rw none at k)
+    is_conflict es _ there k h = absurd h
 
     -- of a step that says this
-    pub conflict_exactly : (contexts : List WasiSocketsCtx) (line : ℕ) (s : Step) → Gives StartSays [] (step_asks contexts m line s) → (es : List Entry) (r : Reply) (after : Machine) → m.store.standing ≡ None → is_network (kind_at m.table network) ≡ true
+    pub conflict_exactly : (contexts : List WasiSocketsCtx) (line : ℕ) (s : Step) → Gives StartSays [] (step_asks contexts m line s) → (es : List Entry) (r : Reply) (after : Machine) → m.store.standing ≡ None → (Missing → ⊥)
         → Answered contexts m line s es r after → (r ≡ reply.Err word.ConcurrencyConflict) ↔ HasOperationInProgress (record_at m handle)
-    conflict_exactly contexts line s gives es r after free is_one w =
+    conflict_exactly contexts line s gives es r after free there w =
         let says : StartSays es (r, after) = settled contexts m line StartSays s m.store.standing es (r, after) gives w (λ busy. let standing = ((busy_exactly contexts m line s es r after w).0 busy).0 in cc) in (
           λ e. let h : IsRefused es word.ConcurrencyConflict after = subst (λ (x : Reply). StartSays es (x, after)) e says in in_progress es word.ConcurrencyConflict after h h.holds refl,
-          λ k. is_conflict es (r, after) is_one k says,
+          λ k. is_conflict es (r, after) there k says,
         )

@@ -1,5 +1,5 @@
--- Where the answers of a step come from: of a call that stands, and of the finish of a bind.
-use Rattle.std.specs.Prelude.{⊤, IsSome, is_some}
+-- Where the answers of a step come from: of a call that stands, and of the finish of a bind and of a listen.
+use Rattle.std.specs.Prelude.{⊤, IsSome, IsSomeAnd, is_some}
 use Rattle.std.proofs.Common.{◌≡◌, ◌≢◌, ◌↔◌, ℕ, Bool, true, false, if◌then◌else◌, List, [], length, Option, Some, None, Result, Ok, Err, slice_get, refl, sym, ap}
 use Rattle.wasi_addr.specs.declared.address.IpSocketAddress.{IpSocketAddress}
 use Rattle.wasi_addr.specs.declared.address.SocketAddressFamily.{SocketAddressFamily}
@@ -24,16 +24,17 @@ use Rattle.wasi_host.specs.declared.pending.Outcome.{Outcome}
 use Rattle.wasi_host.specs.declared.pending.Outcome.TheVariants.{Nothing}
 use Rattle.wasi_host.specs.declared.store.Standing.{Standing}
 use Rattle.wasi_host.specs.Host.{Stop, Code, Trap, CallStop, Failed, Closed, Traps}
-use Rattle.wasi_host.specs.Store.{is_bind, finish_bind_by, finish_bind_at}
+use Rattle.wasi_host.specs.declared.socket.InProgress.{InProgress}
+use Rattle.wasi_host.specs.Store.{is_bind, is_listen, finish_by, finish_at}
 use Rattle.wasi_host.specs.Machine.{socket_at, create_asks, subscribe_asks, ready_asks, drop_asks, turn_machine_asks, own_of}
 use Rattle.wasi_host.specs.Pending as host
 use Rattle.wasi_p2.specs.Pending as p2
-use Rattle.wasi_p2.specs.Tcp.{network_asks, start_bind_asks, finish_bind_on, start_connect_asks, finish_connect_asks, local_address_on, remote_address_on, is_listening_on, address_family_on, shutdown_on}
+use Rattle.wasi_p2.specs.Tcp.{network_asks, start_bind_asks, finish_on, start_connect_asks, finish_connect_asks, start_listen_on, accept_asks, local_address_on, remote_address_on, is_listening_on, address_family_on, shutdown_on}
 use Rattle.wasi_host.specs.StreamCalls.{read_asks, check_asks, write_asks, flushed_asks}
-use Rattle.wasi_run.specs.Machine.{stop_reply, handle_reply, done_reply, answer_reply, pair_reply, address_reply, truth_reply, family_reply, call_stop_reply, bytes_reply, permit_reply, taken_reply, outcome_reply, resumed_reply, poll_on, context_at, step_asks, machine_asks}
+use Rattle.wasi_run.specs.Machine.{stop_reply, handle_reply, done_reply, answer_reply, pair_reply, triple_reply, address_reply, truth_reply, family_reply, call_stop_reply, bytes_reply, permit_reply, taken_reply, outcome_reply, resumed_reply, poll_on, context_at, first_ids, step_asks, machine_asks}
 use Rattle.wasi_run.specs.Reply.{no_fields}
 use Rattle.wasi_run.specs.Steps.{context_of}
-use Rattle.wasi_run.specs.Answered.{Answered, record_in, HasNoBindInProgress}
+use Rattle.wasi_run.specs.Answered.{Answered, record_in}
 
 -- == what a tree gives, whatever is told
 abbrev pub Gives : {A : Type 0} → (List Entry → A → Type 0) → List Entry → Asks A → Type 0
@@ -102,6 +103,11 @@ pair_not_busy (Ok (a, b)) e = cc
 pair_not_busy (Err (Code c)) e = cc
 pair_not_busy (Err (Trap kind)) e = cc
 
+triple_not_busy : (r : Result (ℕ × ℕ × ℕ) Stop) → triple_reply r ≢ reply.Busy
+triple_not_busy (Ok (a, b, c)) e = cc
+triple_not_busy (Err (Code c)) e = cc
+triple_not_busy (Err (Trap kind)) e = cc
+
 address_not_busy : (r : Result IpSocketAddress Stop) → address_reply r ≢ reply.Busy
 address_not_busy (Ok a) e = cc
 address_not_busy (Err (Code c)) e = cc
@@ -163,9 +169,12 @@ module _ (contexts : List WasiSocketsCtx) (m : Machine) (line : ℕ) where
   step_not_busy (step.Network ctx) = not_busy (network_asks m (own_of line)) handle_reply handle_not_busy
   step_not_busy (step.TcpCreate ctx family) = not_busy (create_asks m (own_of line) (context_at contexts ctx) family) handle_reply handle_not_busy
   step_not_busy (step.TcpStartBind ctx s n a) = not_busy (start_bind_asks m (own_of line) s n a) (answer_reply line) (answer_not_busy line)
-  step_not_busy (step.TcpFinishBind ctx s) = done_not_busy (finish_bind_on m (socket_at m s)).0
+  step_not_busy (step.TcpFinishBind ctx s) = done_not_busy (finish_on is_bind m (socket_at m s)).0
   step_not_busy (step.TcpStartConnect ctx s n a) = not_busy (start_connect_asks m (own_of line) s n a) done_reply done_not_busy
   step_not_busy (step.TcpFinishConnect ctx s) = not_busy (finish_connect_asks m (own_of line) s) pair_reply pair_not_busy
+  step_not_busy (step.TcpStartListen ctx s) = not_busy (start_listen_on m (own_of line) (socket_at m s)) (answer_reply line) (answer_not_busy line)
+  step_not_busy (step.TcpFinishListen ctx s) = done_not_busy (finish_on is_listen m (socket_at m s)).0
+  step_not_busy (step.TcpAccept ctx s) = not_busy (accept_asks m (first_ids line) s) triple_reply triple_not_busy
   step_not_busy (step.TcpLocalAddress ctx s) = not_busy (local_address_on m (own_of line) (socket_at m s)) address_reply address_not_busy
   step_not_busy (step.TcpRemoteAddress ctx s) = not_busy (remote_address_on m (own_of line) (socket_at m s)) address_reply address_not_busy
   step_not_busy (step.TcpIsListening ctx s) = truth_not_busy (is_listening_on m (socket_at m s))
@@ -175,7 +184,7 @@ module _ (contexts : List WasiSocketsCtx) (m : Machine) (line : ℕ) where
   step_not_busy (step.Write ctx output bytes) = not_busy (write_asks m (own_of line) output bytes) taken_reply taken_not_busy
   step_not_busy (step.Flush ctx output) = not_busy (flushed_asks m (own_of line) output) taken_reply taken_not_busy
   step_not_busy (step.Subscribe ctx h) = not_busy (subscribe_asks m (own_of line) h) handle_reply handle_not_busy
-  step_not_busy (step.Ready ctx p) = not_busy (ready_asks m (own_of line) p) truth_reply truth_not_busy
+  step_not_busy (step.Ready ctx p) = not_busy (ready_asks m (first_ids line) p) truth_reply truth_not_busy
   step_not_busy (step.Drop ctx h) = not_busy (drop_asks m (own_of line) h) (answer_reply line) (answer_not_busy line)
   step_not_busy (step.TcpShutdown ctx s how) = not_busy (shutdown_on m (own_of line) how (socket_at m s)) done_reply done_not_busy
   step_not_busy step.Turn = not_busy (turn_machine_asks m) (λ done. reply.Ok no_fields) (λ done e. cc)
@@ -223,54 +232,57 @@ module _ (contexts : List WasiSocketsCtx) (m : Machine) (line : ℕ) where
   settled Q s None entries done g w n = given Q (step_asks contexts m line s) entries done g w
   settled Q s (Some c) entries done g w n = settled_by Q s (context_of s) entries done g w n
 
-  -- == the finish of a bind
-  -- it asks nothing and gives this
-  abbrev IsGiven : Reply × Machine → List Entry → Reply × Machine → Type 0
-  IsGiven done entries now = (entries ≡ []) × (now ≡ done)
+  -- == the finish of a bind, and of a listen
+  module _ (is_it : InProgress → Bool) where
+    -- it isn't in progress
+    abbrev pub IsNotDoing : Option Tcp2Socket → Type 0
+    IsNotDoing found = IsSomeAnd found (λ r. is_it r.in_progress ≡ false)
 
-  abbrev finished : Option ℕ → Reply × Machine
-  finished o = let done = finish_bind_on m o in (done_reply done.0, done.1)
+    -- it asks nothing and gives this
+    abbrev pub IsGiven : Reply × Machine → List Entry → Reply × Machine → Type 0
+    IsGiven done entries now = (entries ≡ []) × (now ≡ done)
 
-  -- with no bind in progress it is refused, and else it is not
-  abbrev Says : Option Tcp2Socket → Reply × Machine → Type 0
-  Says found done =
-      (HasNoBindInProgress found → done.0 ≡ reply.Err word.NotInProgress)
-      × ((w : CodeWord) → done.0 ≡ reply.Err w → (w ≡ word.NotInProgress) × HasNoBindInProgress found × (done.1 ≡ m))
+    abbrev pub finished : Option ℕ → Reply × Machine
+    finished o = let done = finish_on is_it m o in (done_reply done.0, done.1)
 
-  says_by : (place : ℕ) (r : Tcp2Socket) (its : Bool) → is_bind r.in_progress ≡ its → let done = finish_bind_by m.store place r its in Says (Some r) (done_reply done.0, record m { store = done.1 })
-  says_by place r false e = (λ h. refl, λ w h. (cc, e, refl))
-  says_by place r true e = (λ h. absurd (cc), λ w h. absurd (cc))
+    -- where it isn't in progress it is refused, and else it is not
+    abbrev Says : Option Tcp2Socket → Reply × Machine → Type 0
+    Says found done =
+        (IsNotDoing found → done.0 ≡ reply.Err word.NotInProgress)
+        × ((w : CodeWord) → done.0 ≡ reply.Err w → (w ≡ word.NotInProgress) × IsNotDoing found × (done.1 ≡ m))
 
-  says_at : (place : ℕ) (found : Option Tcp2Socket) → let done = finish_bind_at m.store place found in Says found (done_reply done.0, record m { store = done.1 })
-  says_at place None = (λ h. absurd h, λ w h. absurd (cc))
-  says_at place (Some r) = says_by place r (is_bind r.in_progress) refl
+    says_by : (place : ℕ) (r : Tcp2Socket) (its : Bool) → is_it r.in_progress ≡ its → let done = finish_by m.store place r its in Says (Some r) (done_reply done.0, record m { store = done.1 })
+    says_by place r false e = (λ h. refl, λ w h. (cc, e, refl))
+    says_by place r true e = (λ h. absurd (cc), λ w h. absurd (cc))
 
-  says_on : (o : Option ℕ) → Says (record_in m o) (finished o)
-  says_on None = (λ h. absurd h, λ w h. absurd (cc))
-  says_on (Some place) = says_at place (slice_get m.store.sockets place)
+    says_at : (place : ℕ) (found : Option Tcp2Socket) → let done = finish_at is_it m.store place found in Says found (done_reply done.0, record m { store = done.1 })
+    says_at place None = (λ h. absurd h, λ w h. absurd (cc))
+    says_at place (Some r) = says_by place r (is_it r.in_progress) refl
 
-  pub finish_asks_nothing : (ctx s : ℕ) (standing : Option Standing) (entries : List Entry) (done : Reply × Machine) → Left (machine_asks contexts m line (step.TcpFinishBind ctx s) standing) entries (Give done) → entries ≡ []
-  finish_asks_nothing ctx s None entries done w = (given (IsGiven (finished (socket_at m s))) _ entries done (refl, refl) w).0
-  finish_asks_nothing ctx s (Some c) entries done w = (given (IsQuiet m) _ entries done (refl, refl, refl) w).0
+    says_on : (o : Option ℕ) → Says (record_in m o) (finished o)
+    says_on None = (λ h. absurd h, λ w h. absurd (cc))
+    says_on (Some place) = says_at place (slice_get m.store.sockets place)
 
-  pub finish_exactly : (ctx s : ℕ) (standing : Option Standing) (entries : List Entry) (r : Reply) (after : Machine) → standing ≡ None → Left (machine_asks contexts m line (step.TcpFinishBind ctx s) standing) entries (Give (r, after))
-      → (r ≡ reply.Err word.NotInProgress) ↔ HasNoBindInProgress (record_in m (socket_at m s))
-  finish_exactly ctx s None entries r after e w =
-      let g = given (IsGiven (finished (socket_at m s))) _ entries (r, after) (refl, refl) w in
-      let same : r ≡ (finished (socket_at m s)).0 = ap (λ (p : Reply × Machine). p.0) g.1 in
-      let says = says_on (socket_at m s) in
-      rw same (λ h. (says.1 word.NotInProgress h).1, says.0)
-  finish_exactly ctx s (Some c) entries r after e w = absurd (cc)
+    -- of a step that is finished so
+    module _ (s : Step) (o : Option ℕ) (gives : Gives (IsGiven (finished o)) [] (step_asks contexts m line s)) where
+      finish_says : (entries : List Entry) (r : Reply) (after : Machine) → Answered contexts m line s entries r after → r ≢ reply.Busy → IsGiven (finished o) entries (r, after)
+      finish_says entries r after w n = settled (IsGiven (finished o)) s m.store.standing entries (r, after) gives w n
 
-  pub finish_refused : (ctx s : ℕ) (standing : Option Standing) (entries : List Entry) (w : CodeWord) (after : Machine) → Left (machine_asks contexts m line (step.TcpFinishBind ctx s) standing) entries (Give (reply.Err w, after))
-      → (w ≡ word.NotInProgress) × (after ≡ m)
-  finish_refused ctx s None entries w after h =
-      let g = given (IsGiven (finished (socket_at m s))) _ entries (reply.Err w, after) (refl, refl) h in
-      let said : reply.Err w ≡ (finished (socket_at m s)).0 = ap (λ (p : Reply × Machine). p.0) g.1 in
-      let left : after ≡ (finished (socket_at m s)).1 = ap (λ (p : Reply × Machine). p.1) g.1 in
-      let says = (says_on (socket_at m s)).1 w (sym said) in
-      (says.0, rw left says.2)
-  finish_refused ctx s (Some c) entries w after h =
-      let q = given (IsQuiet m) _ entries (reply.Err w, after) (refl, refl, refl) h in
-      let e : reply.Err w ≡ reply.Busy = q.1 in
-      absurd (cc)
+      pub finish_asks_nothing : (entries : List Entry) (r : Reply) (after : Machine) → Answered contexts m line s entries r after → entries ≡ []
+      finish_asks_nothing entries reply.Busy after w = (busy_is_quiet s entries after w).0
+      finish_asks_nothing entries r after w = (finish_says entries r after w (λ e. cc)).0
+
+      pub finish_exactly : (entries : List Entry) (r : Reply) (after : Machine) → m.store.standing ≡ None → Answered contexts m line s entries r after → (r ≡ reply.Err word.NotInProgress) ↔ IsNotDoing (record_in m o)
+      finish_exactly entries r after free w =
+          let g = finish_says entries r after w (free_to_go s entries r after free w) in
+          let same : r ≡ (finished o).0 = ap (λ (p : Reply × Machine). p.0) g.1 in
+          let says = says_on o in
+          rw same (λ h. (says.1 word.NotInProgress h).1, says.0)
+
+      pub finish_refused : (entries : List Entry) (w : CodeWord) (after : Machine) → Answered contexts m line s entries (reply.Err w) after → (w ≡ word.NotInProgress) × (after ≡ m)
+      finish_refused entries w after h =
+          let g = finish_says entries (reply.Err w) after h (λ e. cc) in
+          let said : reply.Err w ≡ (finished o).0 = ap (λ (p : Reply × Machine). p.0) g.1 in
+          let left : after ≡ (finished o).1 = ap (λ (p : Reply × Machine). p.1) g.1 in
+          let says = (says_on o).1 w (sym said) in
+          (says.0, rw left says.2)

@@ -13,7 +13,7 @@ use Rattle.wasi_addr.specs.declared.address.IpSocketAddress.{IpSocketAddress}
 use Rattle.wasi_addr.specs.declared.address.ShutdownType.{ShutdownType}
 use Rattle.wasi_addr.specs.declared.address.ShutdownType.TheVariants.{Receive, Send, Both}
 use Rattle.wasi_run.specs.declared.step.Step.{Step}
-use Rattle.wasi_run.specs.declared.step.Step.TheVariants.{Network, TcpCreate, TcpStartBind, TcpFinishBind, TcpStartConnect, TcpFinishConnect, TcpLocalAddress, TcpRemoteAddress, TcpIsListening, TcpAddressFamily, TcpShutdown, Read, CheckWrite, Write, Flush, Subscribe, Ready, Drop, Turn, Poll}
+use Rattle.wasi_run.specs.declared.step.Step.TheVariants.{Network, TcpCreate, TcpStartBind, TcpFinishBind, TcpStartConnect, TcpFinishConnect, TcpStartListen, TcpFinishListen, TcpAccept, TcpLocalAddress, TcpRemoteAddress, TcpIsListening, TcpAddressFamily, TcpShutdown, Read, CheckWrite, Write, Flush, Subscribe, Ready, Drop, Turn, Poll}
 use Rattle.wasi_run.specs.Steps.{shutdown_fields, fields_of_step, line_of, context_of, FitsArguments, IsStep, shutdown_words, shutdown_at, handle_at, steps, bare_steps, guest_call_at, after_first, step_at, step_of}
 
 -- a row reads the steps of a context that are written with its word
@@ -83,6 +83,9 @@ rows_only contexts c context width =
     and place_only (TcpStartConnect c) (λ socket network a fits. (is _ refl fits, refl))
     and handle_only (TcpFinishConnect c) (λ socket fits. (is _ refl fits, refl))
     and only_then _ u32_exactly (λ socket fs. only_last (TcpShutdown c socket) shutdown_exactly (λ how u. (is _ refl fs, refl)))
+    and handle_only (TcpStartListen c) (λ socket fits. (is _ refl fits, refl))
+    and handle_only (TcpFinishListen c) (λ socket fits. (is _ refl fits, refl))
+    and handle_only (TcpAccept c) (λ socket fits. (is _ refl fits, refl))
     and handle_only (TcpLocalAddress c) (λ socket fits. (is _ refl fits, refl))
     and handle_only (TcpRemoteAddress c) (λ socket fits. (is _ refl fits, refl))
     and handle_only (TcpIsListening c) (λ socket fits. (is _ refl fits, refl))
@@ -140,6 +143,9 @@ step_all n (TcpStartBind c socket network a) is = after refl is refl (place_all 
 step_all n (TcpFinishBind c socket) is = after refl is refl (handle_all (TcpFinishBind c) is.arguments)
 step_all n (TcpStartConnect c socket network a) is = after refl is refl (place_all (TcpStartConnect c) is.arguments)
 step_all n (TcpFinishConnect c socket) is = after refl is refl (handle_all (TcpFinishConnect c) is.arguments)
+step_all n (TcpStartListen c socket) is = after refl is refl (handle_all (TcpStartListen c) is.arguments)
+step_all n (TcpFinishListen c socket) is = after refl is refl (handle_all (TcpFinishListen c) is.arguments)
+step_all n (TcpAccept c socket) is = after refl is refl (handle_all (TcpAccept c) is.arguments)
 step_all n (TcpLocalAddress c socket) is = after refl is refl (handle_all (TcpLocalAddress c) is.arguments)
 step_all n (TcpRemoteAddress c socket) is = after refl is refl (handle_all (TcpRemoteAddress c) is.arguments)
 step_all n (TcpIsListening c socket) is = after refl is refl (handle_all (TcpIsListening c) is.arguments)
@@ -177,6 +183,9 @@ step_visible (TcpStartBind c socket network a) is = small c is.width and refl an
 step_visible (TcpFinishBind c socket) is = small c is.width and refl and small socket is.arguments and tt
 step_visible (TcpStartConnect c socket network a) is = small c is.width and refl and small socket is.arguments.0 and small network is.arguments.1 and address_visible a is.arguments.2
 step_visible (TcpFinishConnect c socket) is = small c is.width and refl and small socket is.arguments and tt
+step_visible (TcpStartListen c socket) is = small c is.width and refl and small socket is.arguments and tt
+step_visible (TcpFinishListen c socket) is = small c is.width and refl and small socket is.arguments and tt
+step_visible (TcpAccept c socket) is = small c is.width and refl and small socket is.arguments and tt
 step_visible (TcpLocalAddress c socket) is = small c is.width and refl and small socket is.arguments and tt
 step_visible (TcpRemoteAddress c socket) is = small c is.width and refl and small socket is.arguments and tt
 step_visible (TcpIsListening c socket) is = small c is.width and refl and small socket is.arguments and tt

@@ -30,6 +30,7 @@ module _ (contexts : List WasiSocketsCtx) (steps : List Step) where
   -- == the local address
   usable : (s : TcpState) (side : OpId) → usable_side s ≡ Ok side → side_in s ≡ Some side
   usable (state.Default x) side e = cc
+  usable (state.Listening x) side e = cc
   usable (state.Connecting op) side e = absurd (cc)
   usable (state.Connected c) side e = cc
   usable (state.Closed c) side e = absurd (cc)
@@ -88,6 +89,7 @@ module _ (contexts : List WasiSocketsCtx) (steps : List Step) where
 
   asked_in : (es : List Entry) (op : OpId) (socket : Socket) (s : TcpState) → socket.state ≡ s → MayWork contexts steps es op socket → SocketIsFine steps es socket → Allows (May contexts steps) (λ fs done. ToldFine socket fs (in_socket socket done)) es (remote_in op s)
   asked_in es op socket (state.Default side) e w f = stays es socket (state.Default side) (Err InvalidState) e f
+  asked_in es op socket (state.Listening side) e w f = stays es socket (state.Listening side) (Err InvalidState) e f
   asked_in es op socket (state.Connecting c) e w f = stays es socket (state.Connecting c) (Err InvalidState) e f
   asked_in es op socket (state.Connected c) e w f =
       allows_then (May contexts steps) (λ fs p. ToldFine socket fs (in_socket socket (still_connected p))) (λ fs done. ToldFine socket fs (in_socket socket done)) es (peer_asks op c) _ (asked_peer es op socket c c.peer e w f) (λ fs p k. k)

@@ -14,6 +14,7 @@ use Rattle.wasi_host.specs.declared.machine.Machine.{Machine}
 use Rattle.wasi_run.specs.declared.reply.CodeWord.{CodeWord}
 use Rattle.wasi_run.specs.declared.reply.Reply.{Reply}
 use Rattle.wasi_run.specs.declared.reply.Reply.TheVariants as reply
+use Rattle.wasi_host.specs.declared.socket.InProgress.{InProgress}
 use Rattle.wasi_host.specs.declared.socket.Streams.{Streams}
 use Rattle.wasi_host.specs.declared.socket.Tcp2Socket.{Tcp2Socket}
 use Rattle.wasi_run.specs.declared.step.Step.{Step}
@@ -21,9 +22,9 @@ use Rattle.wasi_run.specs.declared.step.Step.TheVariants as step
 use Rattle.wasi_host.specs.Host.{CallStop}
 use Rattle.wasi_host.specs.Kinds.{Handles}
 use Rattle.wasi_streams.specs.Table.{is_full}
-use Rattle.wasi_host.specs.Store.{Records, with_reader, with_writer, is_bind, finish_bind_by, finish_bind_at}
+use Rattle.wasi_host.specs.Store.{Records, with_reader, with_writer, is_bind, is_listen, finish_by, finish_at}
 use Rattle.wasi_host.specs.Machine.{socket_at, input_at, output_at, own_of, turn_machine_asks}
-use Rattle.wasi_p2.specs.Tcp.{finish_bind_on}
+use Rattle.wasi_p2.specs.Tcp.{finish_on}
 use Rattle.wasi_run.specs.Machine.{done_reply, call_stop_reply, bytes_reply, permit_reply, taken_reply, context_at, step_asks}
 use Rattle.wasi_run.specs.Licence.{marks_in}
 use Rattle.wasi_run.specs.Answered.{Answered, record_in, record_at, streams_in, MissesHandle, MakesHandle, IsWrite}
@@ -33,6 +34,8 @@ use Rattle.wasi_run.proofs.StepCauses.{Gives, gives_any, gives_more, gives_then,
 use Rattle.wasi_run.proofs.RecordCauses.{RecordSays}
 use Rattle.wasi_run.proofs.CreateCauses.{NetworkSays, network_says, CreateSays, create_says}
 use Rattle.wasi_run.proofs.BindCauses.{BindSays, bind_says}
+use Rattle.wasi_run.proofs.ListenCauses.{ListenSays, listen_says}
+use Rattle.wasi_run.proofs.AcceptCauses.{AcceptSays, accept_says}
 use Rattle.wasi_run.proofs.ConnectCauses.{ConnectSays, connect_says}
 use Rattle.wasi_run.proofs.FinishCauses.{FinishSays, finish_says}
 use Rattle.wasi_run.proofs.AddressCauses.{LocalSays, local_says, RemoteSays, remote_says}
@@ -44,7 +47,7 @@ use Rattle.wasi_run.proofs.StreamSteps.{answered_by, ReadAnswer, read_answers, C
 use Rattle.wasi_run.proofs.PollableCauses.{SubscribeAnswer, NotWatchable, NoRoom, Subscribes, SubscribeSays, subscribe_says, ReadyAnswer, NothingWatched, IsReadyNow, IsNotReady, ReadySays, ready_says}
 use Rattle.wasi_run.proofs.DropCauses.{DropAnswer, NotLive, HasUnder, AtOnce, OfNoRecord, Releases, Looks, StandsOn, DropSays, drop_says}
 use Rattle.wasi_run.proofs.ShutdownCauses.{ShutdownAnswer, NoRecord, NoStreams, Shuts, ShutdownSays, shutdown_says}
-use Rattle.wasi_run.proofs.PollCauses.{PollAnswer, NoCall, OfNothing, BindDone, BindRefused, BindWaits, DropDone, DropWaits, PollSays, poll_says}
+use Rattle.wasi_run.proofs.PollCauses.{PollAnswer, NoCall, OfNothing, BindDone, BindRefused, BindWaits, ListensOnNothing, ListenDone, ListenRefused, ListenWaitsOn, DropDone, DropWaits, PollSays, poll_says}
 
 module _ (contexts : List WasiSocketsCtx) (m : Machine) (line : ℕ) where
   -- the table is full, after the handles that the entries mark
@@ -88,6 +91,24 @@ module _ (contexts : List WasiSocketsCtx) (m : Machine) (line : ℕ) where
   of_bind ctx handle network a es (reply.Trap NoSuchHandle, after) h = h
   of_bind ctx handle network a es _ h = absurd h
 
+  of_listen : (ctx handle : ℕ) (es : List Entry) (done : Reply × Machine) → ListenSays m line handle es done → Says (step.TcpStartListen ctx handle) es done
+  of_listen ctx handle es (reply.Ok fields, after) h = tt
+  of_listen ctx handle es (reply.Err w, after) h = tt
+  of_listen ctx handle es (reply.Pending n, after) h = (h.1.0, subst (StandsUnder after) (sym h.1.0) h.1.2)
+  of_listen ctx handle es (reply.Trap NoSuchHandle, after) h = (no_network h.0, h.1, h.2)
+    where
+      no_network : ⊥ ⊎ (record_at m handle ≡ None) → record_at m handle ≡ None
+      no_network (inl none) = absurd none
+      no_network (inr none) = none
+  of_listen ctx handle es _ h = absurd h
+
+  of_accept : (ctx handle : ℕ) (es : List Entry) (done : Reply × Machine) → AcceptSays m line handle es done → Says (step.TcpAccept ctx handle) es done
+  of_accept ctx handle es (reply.Ok fields, after) h = tt
+  of_accept ctx handle es (reply.Err w, after) h = tt
+  of_accept ctx handle es (reply.Trap NoSuchHandle, after) h = h
+  of_accept ctx handle es (reply.Trap Full, after) h = (tt, h)
+  of_accept ctx handle es _ h = absurd h
+
   of_connect : (ctx handle network : ℕ) (a : IpSocketAddress) (es : List Entry) (done : Reply × Machine) → ConnectSays m line handle network a es done → Says (step.TcpStartConnect ctx handle network a) es done
   of_connect ctx handle network a es (reply.Ok fields, after) h = tt
   of_connect ctx handle network a es (reply.Err w, after) h = tt
@@ -114,21 +135,22 @@ module _ (contexts : List WasiSocketsCtx) (m : Machine) (line : ℕ) where
   of_quiet s handle missing stays (reply.Trap NoSuchHandle) h = (missing h.0, refl, sym stays)
   of_quiet s handle missing stays _ h = absurd h.0
 
-  module _ (ctx handle : ℕ) where
-    abbrev FinishBindSays : Reply × Machine → Type 0
-    FinishBindSays done = Says (step.TcpFinishBind ctx handle) [] done
+  -- a finish of what is in progress, a bind or a listen
+  module _ (is_it : InProgress → Bool) (s : Step) (handle : ℕ) (missing : record_at m handle ≡ None → MissesHandle m s) (stays : left_missing m s ≡ m) where
+    abbrev DoneSays : Reply × Machine → Type 0
+    DoneSays done = Says s [] done
 
-    finish_by : (place : ℕ) (r : Tcp2Socket) (its : Bool) → let done = finish_bind_by m.store place r its in FinishBindSays (done_reply done.0, record m { store = done.1 })
-    finish_by place r true = tt
-    finish_by place r false = tt
+    finishes_by : (place : ℕ) (r : Tcp2Socket) (its : Bool) → let done = finish_by m.store place r its in DoneSays (done_reply done.0, record m { store = done.1 })
+    finishes_by place r true = tt
+    finishes_by place r false = tt
 
-    finish_at : (place : ℕ) (o : Option Tcp2Socket) → socket_at m handle ≡ Some place → slice_get m.store.sockets place ≡ o → let done = finish_bind_at m.store place o in FinishBindSays (done_reply done.0, record m { store = done.1 })
-    finish_at place None names at = (rw names at, refl, refl)
-    finish_at place (Some r) names at = finish_by place r (is_bind r.in_progress)
+    finishes_at : (place : ℕ) (o : Option Tcp2Socket) → socket_at m handle ≡ Some place → slice_get m.store.sockets place ≡ o → let done = finish_at is_it m.store place o in DoneSays (done_reply done.0, record m { store = done.1 })
+    finishes_at place None names at = (missing (rw names at), refl, sym stays)
+    finishes_at place (Some r) names at = finishes_by place r (is_it r.in_progress)
 
-    finish_on : (o : Option ℕ) → socket_at m handle ≡ o → let done = finish_bind_on m o in FinishBindSays (done_reply done.0, done.1)
-    finish_on None names = (ap (record_in m) names, refl, refl)
-    finish_on (Some place) names = finish_at place (slice_get m.store.sockets place) names refl
+    finishes : (o : Option ℕ) → socket_at m handle ≡ o → let done = finish_on is_it m o in DoneSays (done_reply done.0, done.1)
+    finishes None names = (missing (ap (record_in m) names), refl, sym stays)
+    finishes (Some place) names = finishes_at place (slice_get m.store.sockets place) names refl
 
   -- == of a stream
   module _ (s : Step) (handle : ℕ) (named : Option ℕ) (missing : streams_in (record_in m named) ≡ None → MissesHandle m s) (stays : left_missing m s ≡ m) (makes : MakesHandle s) where
@@ -187,10 +209,14 @@ module _ (contexts : List WasiSocketsCtx) (m : Machine) (line : ℕ) where
 
   of_poll : (n : ℕ) (es : List Entry) (r : Reply) (after : Machine) → PollAnswer m n es r after → Says (step.Poll n) es (r, after)
   of_poll n _ _ _ (NoCall none) = tt
-  of_poll n _ _ _ (OfNothing place op e at) = (rw e at, refl, refl)
+  of_poll n _ _ _ (OfNothing place op e at) = (inl (rw e at), refl, refl)
   of_poll n _ _ _ (BindDone place op es after stands none) = tt
   of_poll n _ _ _ (BindRefused place op es c after stands cause none) = tt
   of_poll n _ _ _ (BindWaits place op left es after stands cause on) = (refl, rw on refl)
+  of_poll n _ _ _ (ListensOnNothing place e at) = (inr (rw e at), refl, refl)
+  of_poll n _ _ _ (ListenDone place es after stands none) = tt
+  of_poll n _ _ _ (ListenRefused place es c after stands cause none) = tt
+  of_poll n _ _ _ (ListenWaitsOn place es after stands cause on) = (refl, rw on refl)
   of_poll n _ _ _ (DropDone place es after stands looks none) = tt
   of_poll n _ _ _ (DropWaits place es after stands waits on) = (refl, rw on refl)
 
@@ -202,9 +228,12 @@ module _ (contexts : List WasiSocketsCtx) (m : Machine) (line : ℕ) where
   says (step.Network ctx) = gives_more (NetworkSays m line) _ (of_network ctx) [] _ (network_says m line)
   says (step.TcpCreate ctx family) = gives_more (CreateSays m line (context_at contexts ctx) family) _ (of_create ctx (context_at contexts ctx) family) [] _ (create_says m line (context_at contexts ctx) family)
   says (step.TcpStartBind ctx handle network a) = gives_more (BindSays m line handle network a) _ (of_bind ctx handle network a) [] _ (bind_says m line handle network a)
-  says (step.TcpFinishBind ctx handle) = finish_on ctx handle (socket_at m handle) refl
+  says (step.TcpFinishBind ctx handle) = finishes is_bind (step.TcpFinishBind ctx handle) handle (λ none. none) refl (socket_at m handle) refl
   says (step.TcpStartConnect ctx handle network a) = gives_more (ConnectSays m line handle network a) _ (of_connect ctx handle network a) [] _ (connect_says m line handle network a)
   says (step.TcpFinishConnect ctx handle) = gives_more (FinishSays m line handle) _ (of_finish ctx handle) [] _ (finish_says m line handle)
+  says (step.TcpStartListen ctx handle) = gives_more (ListenSays m line handle) _ (of_listen ctx handle) [] _ (listen_says m line handle)
+  says (step.TcpFinishListen ctx handle) = finishes is_listen (step.TcpFinishListen ctx handle) handle (λ none. none) refl (socket_at m handle) refl
+  says (step.TcpAccept ctx handle) = gives_more (AcceptSays m line handle) _ (of_accept ctx handle) [] _ (accept_says m line handle)
   says (step.TcpLocalAddress ctx handle) = gives_more (LocalSays m line handle) _ (of_record (step.TcpLocalAddress ctx handle) handle _ (λ none. none) refl) [] _ (local_says m line handle)
   says (step.TcpRemoteAddress ctx handle) = gives_more (RemoteSays m line handle) _ (of_record (step.TcpRemoteAddress ctx handle) handle _ (λ none. none) refl) [] _ (remote_says m line handle)
   says (step.TcpIsListening ctx handle) = of_quiet (step.TcpIsListening ctx handle) handle (λ none. none) refl _ (listening_says m handle)

@@ -13,7 +13,7 @@ use Rattle.wasi_world.proofs.Allowed.{Allows, allows_then, FrontKeeps, allows_po
 use Rattle.wasi_tcp.specs.Job.{Job, job_in, job_asks, then_closed, finish_in, finish_asks}
 use Rattle.wasi_run.specs.declared.step.Step.{Step}
 use Rattle.wasi_run.specs.Licence.{entry, ReachesSide}
-use Rattle.wasi_run.proofs.Bounds.{May}
+use Rattle.wasi_run.proofs.Bounds.{MayQuietly}
 use Rattle.wasi_run.proofs.Fine.{WriteLeft, ToWrite, ToWriteAndShut, ToShut, ToRefuse, Written, Names, JobIsFine}
 use Rattle.wasi_run.proofs.Frames.{names_on}
 
@@ -34,9 +34,9 @@ module _ (contexts : List WasiSocketsCtx) (steps : List Step) where
     reaches es n = inl (subst (Names steps es who.id) (sym on) n)
 
     -- one that ends with a code shuts its half down
-    ends_last : (es : List Entry) (c : ErrorCode) (given : Given) → Names steps es who.id side → Allows (May contexts steps) StandsAfter es (last_ask who who.last c given)
+    ends_last : (es : List Entry) (c : ErrorCode) (given : Given) → Names steps es who.id side → Allows (MayQuietly contexts steps) StandsAfter es (last_ask who who.last c given)
     unfolding bind
-    ends_last es c given n = rw last ((reaches es n, tt), λ t fits. (names_on steps es _ who.id side n, Written))
+    ends_last es c given n = rw last (((reaches es n, tt), tt), λ t fits. (names_on steps es _ who.id side n, Written))
 
     -- the bytes, where these items follow
     module _ (items : List Item) (form : (rest : List ℕ) → WriteLeft (Write rest ∷ items)) (over : WriteLeft items) where
@@ -44,18 +44,18 @@ module _ (contexts : List WasiSocketsCtx) (steps : List Step) where
       Keeps es = Names steps es who.id side
 
       fine_taken : (es : List Entry) (bytes rest : List ℕ) (p : Polled ℕ) → Keeps es
-          → ((skip : ℕ) → Allows (May contexts steps) (FrontKeeps (May contexts steps) who StandsBefore StandsAfter items) es (write_front who bytes skip))
-          → Allows (May contexts steps) (FrontKeeps (May contexts steps) who StandsBefore StandsAfter items) es (taken_front (λ skip. write_front who bytes skip) (Write rest) p)
+          → ((skip : ℕ) → Allows (MayQuietly contexts steps) (FrontKeeps (MayQuietly contexts steps) who StandsBefore StandsAfter items) es (write_front who bytes skip))
+          → Allows (MayQuietly contexts steps) (FrontKeeps (MayQuietly contexts steps) who StandsBefore StandsAfter items) es (taken_front (λ skip. write_front who bytes skip) (Write rest) p)
       fine_taken es bytes rest (polled.Ready k) n h = h (less_one k)
       fine_taken es bytes rest polled.Pending n h = (n, form rest)
       fine_taken es bytes rest (polled.Code c) n h = ends_last es c Nothing n
 
-      fine_bytes : (es : List Entry) (bytes : List ℕ) (skip : ℕ) → Keeps es → Allows (May contexts steps) (FrontKeeps (May contexts steps) who StandsBefore StandsAfter items) es (write_front who bytes skip)
+      fine_bytes : (es : List Entry) (bytes : List ℕ) (skip : ℕ) → Keeps es → Allows (MayQuietly contexts steps) (FrontKeeps (MayQuietly contexts steps) who StandsBefore StandsAfter items) es (write_front who bytes skip)
       unfolding bind
       fine_bytes es [] skip n = (n, over)
       fine_bytes es (b ∷ bytes) (suc skip) n = fine_bytes es bytes skip n
       fine_bytes es (b ∷ bytes) zero n = (
-        (reaches es n, tt),
+        ((reaches es n, tt), tt),
         λ t fits front.
             let fs = es ++ entry who.id (call.Write who.side (length (b ∷ bytes))) t ∷ [] in
             let more = names_on steps es _ who.id side n in
@@ -63,30 +63,30 @@ module _ (contexts : List WasiSocketsCtx) (steps : List Step) where
       )
 
     fine_front : (es : List Entry) (item : Item) (items : List Item) → Names steps es who.id side → WriteLeft (item ∷ items)
-        → Allows (May contexts steps) (FrontKeeps (May contexts steps) who StandsBefore StandsAfter items) es (front who item)
+        → Allows (MayQuietly contexts steps) (FrontKeeps (MayQuietly contexts steps) who StandsBefore StandsAfter items) es (front who item)
     unfolding bind
     fine_front es _ _ n (ToWrite rest) = fine_bytes [] ToWrite Written es rest 0 n
     fine_front es _ _ n (ToWriteAndShut rest) = fine_bytes (ShutdownSend ∷ []) ToWriteAndShut ToShut es rest 0 n
-    fine_front es _ _ n ToShut = ((reaches es n, tt), λ t fits. (names_on steps es _ who.id side n, Written))
+    fine_front es _ _ n ToShut = (((reaches es n, tt), tt), λ t fits. (names_on steps es _ who.id side n, Written))
     fine_front es _ _ n (ToRefuse c) = ends_last es c Nothing n
 
-    fine_poll : (items : List Item) (es : List Entry) → Names steps es who.id side → WriteLeft items → Allows (May contexts steps) StandsAfter es (poll_asks (record { who = who; left = items }))
+    fine_poll : (items : List Item) (es : List Entry) → Names steps es who.id side → WriteLeft items → Allows (MayQuietly contexts steps) StandsAfter es (poll_asks (record { who = who; left = items }))
     fine_poll items es n l =
-        allows_polls (May contexts steps) who StandsBefore StandsAfter (λ fs given item its k. fine_front fs item its k.0 k.1) (λ fs its k. k) (λ fs given k. k) 64 items es (n, l)
+        allows_polls (MayQuietly contexts steps) who StandsBefore StandsAfter (λ fs given item its k. fine_front fs item its k.0 k.1) (λ fs its k. k) (λ fs given k. k) 64 items es (n, l)
 
   abbrev JobStands : OpId → List Entry → Job → Type 0
   JobStands side es job = JobIsFine steps es side job
 
-  polled_in : (es : List Entry) (side : OpId) (job : Job) (e : End) → JobIsFine steps es side job → Allows (May contexts steps) (JobStands side) es (job_in job e)
+  polled_in : (es : List Entry) (side : OpId) (job : Job) (e : End) → JobIsFine steps es side job → Allows (MayQuietly contexts steps) (JobStands side) es (job_in job e)
   polled_in es side job Waits h =
-      allows_then (May contexts steps) (λ fs ended. Names steps fs job.write.who.id side × WriteLeft ended.1) (JobStands side) es (poll_asks job.write) _
+      allows_then (MayQuietly contexts steps) (λ fs ended. Names steps fs job.write.who.id side × WriteLeft ended.1) (JobStands side) es (poll_asks job.write) _
       (fine_poll job.write.who side h.on h.last job.write.left es h.named h.left)
       (λ fs ended k. record { named = k.0; on = h.on; last = h.last; left = k.1 })
   polled_in es side job (Done given) h = h
   polled_in es side job (Refused c given) h = h
 
   -- one poll of a write
-  pub fine_job : (es : List Entry) (side : OpId) (job : Job) → JobIsFine steps es side job → Allows (May contexts steps) (λ fs j. JobIsFine steps fs side j) es (job_asks job)
+  pub fine_job : (es : List Entry) (side : OpId) (job : Job) → JobIsFine steps es side job → Allows (MayQuietly contexts steps) (λ fs j. JobIsFine steps fs side j) es (job_asks job)
   fine_job es side job h = polled_in es side job job.end h
 
   -- == a write that is to be the last
@@ -97,15 +97,15 @@ module _ (contexts : List WasiSocketsCtx) (steps : List Step) where
   shut_after _ (ToRefuse c) = ToRefuse c
   shut_after _ Written = Written
 
-  finished_in : (es : List Entry) (op side : OpId) (job : Job) (e : End) → Names steps es op side → JobIsFine steps es side job → Allows (May contexts steps) (λ fs done. JobIsFine steps fs side done.1) es (finish_in op job e)
+  finished_in : (es : List Entry) (op side : OpId) (job : Job) (e : End) → Names steps es op side → JobIsFine steps es side job → Allows (MayQuietly contexts steps) (λ fs done. JobIsFine steps fs side done.1) es (finish_in op job e)
   unfolding bind
   finished_in es op side job Waits n h = record { named = h.named; on = h.on; last = h.last; left = shut_after job.write.left h.left }
   finished_in es op side job (Done given) n h = (
-    (inl (subst (Names steps es op) (sym h.on) n), tt),
+    ((inl (subst (Names steps es op) (sym h.on) n), tt), tt),
     λ t fits. record { named = names_on steps es _ job.write.who.id side h.named; on = h.on; last = h.last; left = h.left },
   )
   finished_in es op side job (Refused c given) n h = h
 
   -- the half is given up after it
-  pub fine_finish : (es : List Entry) (op side : OpId) (job : Job) → Names steps es op side → JobIsFine steps es side job → Allows (May contexts steps) (λ fs done. JobIsFine steps fs side done.1) es (finish_asks op job)
+  pub fine_finish : (es : List Entry) (op side : OpId) (job : Job) → Names steps es op side → JobIsFine steps es side job → Allows (MayQuietly contexts steps) (λ fs done. JobIsFine steps fs side done.1) es (finish_asks op job)
   fine_finish es op side job n h = finished_in es op side job job.end n h

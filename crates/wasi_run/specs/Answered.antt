@@ -46,7 +46,7 @@ use Rattle.wasi_host.specs.declared.kind.Kind.TheVariants as kind
 use Rattle.wasi_host.specs.declared.kind.Watched.{Watched}
 use Rattle.wasi_host.specs.declared.kind.Watched.TheVariants as watched
 use Rattle.wasi_host.specs.Kinds.{watched_by, watch_of, place_in}
-use Rattle.wasi_host.specs.Pending.{waiting_bind}
+use Rattle.wasi_host.specs.Pending.{waiting_bind, waiting_listen}
 use Rattle.wasi_run.specs.Reply.{word_of_p2}
 use Rattle.wasi_host.specs.Kinds.{kind_at, with_handle}
 use Rattle.wasi_host.specs.Store.{with_inner, with_reader, with_writer, with_socket, left_of, is_nothing, is_bind, is_connect, idle}
@@ -125,9 +125,11 @@ abbrev pub MissesWatched : Machine → Option Watched → Type 0
 MissesWatched m None = ⊤
 MissesWatched m (Some w) = MissesRecord w (slice_get m.store.sockets (place_in w))
 
--- the bind that stands under this number is of no socket
+-- the bind or the listen that stands under this number is of no socket
 abbrev pub StandsOnNothing : Machine → ℕ → Type 0
-StandsOnNothing m n = IsSomeAnd (waiting_bind m.store.standing n) (λ b. slice_get m.store.sockets b.0 ≡ None)
+StandsOnNothing m n =
+    IsSomeAnd (waiting_bind m.store.standing n) (λ b. slice_get m.store.sockets b.0 ≡ None)
+    ⊎ IsSomeAnd (waiting_listen m.store.standing n) (λ place. slice_get m.store.sockets place ≡ None)
 
 -- == traps
 -- a handle of the step isn't live, or is of another kind
@@ -138,6 +140,9 @@ MissesHandle m (step.TcpStartBind ctx socket network a) = (is_network (kind_at m
 MissesHandle m (step.TcpFinishBind ctx socket) = record_at m socket ≡ None
 MissesHandle m (step.TcpStartConnect ctx socket network a) = (is_network (kind_at m.table network) ≡ false) ⊎ (record_at m socket ≡ None)
 MissesHandle m (step.TcpFinishConnect ctx socket) = record_at m socket ≡ None
+MissesHandle m (step.TcpStartListen ctx socket) = record_at m socket ≡ None
+MissesHandle m (step.TcpFinishListen ctx socket) = record_at m socket ≡ None
+MissesHandle m (step.TcpAccept ctx socket) = record_at m socket ≡ None
 MissesHandle m (step.TcpLocalAddress ctx socket) = record_at m socket ≡ None
 MissesHandle m (step.TcpRemoteAddress ctx socket) = record_at m socket ≡ None
 MissesHandle m (step.TcpIsListening ctx socket) = record_at m socket ≡ None
@@ -153,11 +158,12 @@ MissesHandle m (step.TcpShutdown ctx socket how) = record_at m socket ≡ None
 MissesHandle m step.Turn = ⊥
 MissesHandle m (step.Poll n) = StandsOnNothing m n
 
--- the step makes a handle, the two of a connection's streams, or the one of a stream's error
+-- the step makes a handle, the two of a connection's streams, those of an accepted connection, or the one of a stream's error
 abbrev pub MakesHandle : Step → Type 0
 MakesHandle (step.Network ctx) = ⊤
 MakesHandle (step.TcpCreate ctx family) = ⊤
 MakesHandle (step.TcpFinishConnect ctx socket) = ⊤
+MakesHandle (step.TcpAccept ctx socket) = ⊤
 MakesHandle (step.Read ctx input len) = ⊤
 MakesHandle (step.CheckWrite ctx output) = ⊤
 MakesHandle (step.Write ctx output bytes) = ⊤
@@ -287,6 +293,8 @@ pub data FinishRefusal (m : Machine) (place : ℕ) (r : Tcp2Socket) (entries : L
       → FinishRefusal m place r entries (word_of_code c) (closed_with m place r c)
   NotConnecting : (side : OpId) → is_connect r.in_progress ≡ true → r.inner.state ≡ state.Default side → entries ≡ []
       → FinishRefusal m place r entries word.InvalidState (putting m place (idle r r.inner))
+  ListensAlready : (side : OpId) → is_connect r.in_progress ≡ true → r.inner.state ≡ state.Listening side → entries ≡ []
+      → FinishRefusal m place r entries word.InvalidState (putting m place (idle r r.inner))
   ReceivesAlready : (connection : Connection) → is_connect r.in_progress ≡ true → r.inner.state ≡ state.Connected connection → connection.receive_taken ≡ true → entries ≡ []
       → FinishRefusal m place r entries word.InvalidState (putting m place (idle r r.inner))
   SendsAlready : (connection : Connection) → is_connect r.in_progress ≡ true → r.inner.state ≡ state.Connected connection → connection.send_taken ≡ true → entries ≡ []
@@ -308,6 +316,7 @@ pub data LocalRefusal (m : Machine) (own : OpId) (place : ℕ) (r : Tcp2Socket) 
 -- The remote address is refused, and the machine stays: the socket isn't connected yet, or is closed with a code, or its side told a code.
 pub data RemoteRefusal (m : Machine) (own : OpId) (place : ℕ) (r : Tcp2Socket) : List Entry → CodeWord → Machine → Type 0 where
   RemoteDefault : (side : OpId) → r.inner.state ≡ state.Default side → RemoteRefusal m own place r [] word.InvalidState m
+  RemoteListening : (side : OpId) → r.inner.state ≡ state.Listening side → RemoteRefusal m own place r [] word.InvalidState m
   RemoteConnecting : (op : Operation) → r.inner.state ≡ state.Connecting op → RemoteRefusal m own place r [] word.InvalidState m
   RemoteClosed : (c : ErrorCode) → r.inner.state ≡ state.Closed c → RemoteRefusal m own place r [] (word_of_code c) m
   RemoteTold : (connection : Connection) (c : ErrorCode) → r.inner.state ≡ state.Connected connection → connection.peer ≡ None

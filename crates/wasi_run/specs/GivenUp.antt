@@ -1,5 +1,6 @@
 -- What a drop and a shutdown give up: what is asked then, and what stands afterwards.
 use Rattle.std.specs.Prelude.{◌≡◌, ◌≢◌, ⊤, ℕ, true, List, [], ◌∷◌, ◌++◌, Option, Some, None, IsSome, IsSomeAnd, slice_get}
+use Rattle.wasi_addr.specs.declared.address.IpSocketAddress.{IpSocketAddress}
 use Rattle.wasi_addr.specs.declared.address.ShutdownType.{ShutdownType}
 use Rattle.wasi_addr.specs.declared.address.ShutdownType.TheVariants.{Receive, Send, Both}
 use Rattle.wasi_world.specs.declared.ids.OpId.{OpId}
@@ -7,18 +8,24 @@ use Rattle.wasi_world.specs.declared.call.Call.TheVariants as call
 use Rattle.wasi_world.specs.declared.call.Entry.{Entry}
 use Rattle.wasi_world.specs.declared.call.Told.{Told}
 use Rattle.wasi_world.specs.declared.call.Told.TheVariants as told
-use Rattle.wasi_world.specs.Operation.{End, Waits, Done, Refused}
+use Rattle.wasi_world.specs.Operation.{End, Waits, Done, Refused, Who, Operation}
 use Rattle.wasi_streams.specs.Table.{children_of}
 use Rattle.wasi_tcp.specs.declared.reader.ReadState.{ReadState}
 use Rattle.wasi_tcp.specs.declared.reader.ReadState.TheVariants as reading
 use Rattle.wasi_tcp.specs.declared.writer.WriteError.TheVariants as error
 use Rattle.wasi_tcp.specs.declared.writer.WriteState.{WriteState}
 use Rattle.wasi_tcp.specs.declared.writer.WriteState.TheVariants as writing
+use Rattle.wasi_tcp.specs.declared.listener.Accepting.{Accepting}
+use Rattle.wasi_tcp.specs.declared.listener.Accepting.TheVariants as accepting
+use Rattle.wasi_tcp.specs.Accept.{in_hand}
 use Rattle.wasi_tcp.specs.Job.{Job, closing_job}
+use Rattle.wasi_tcp.specs.Listen.{held_side}
 use Rattle.wasi_tcp.specs.Socket.{side_of}
 use Rattle.wasi_tcp.specs.Writer.{writer_side}
 use Rattle.wasi_host.specs.declared.kind.Kind.{Kind}
 use Rattle.wasi_host.specs.declared.kind.Kind.TheVariants as kind
+use Rattle.wasi_host.specs.declared.listening.Listening.{Listening}
+use Rattle.wasi_host.specs.declared.listening.Listening.TheVariants as listening
 use Rattle.wasi_host.specs.declared.machine.Machine.{Machine}
 use Rattle.wasi_host.specs.declared.socket.Streams.{Streams}
 use Rattle.wasi_host.specs.declared.socket.Tcp2Socket.{Tcp2Socket}
@@ -78,15 +85,39 @@ abbrev pub side_closed : OpId → Option OpId → List Entry
 side_closed own (Some side) = entry own (call.Close side) told.Done ∷ []
 side_closed own None = []
 
--- a socket gives up its open halves, and then its side
-abbrev pub socket_given_up : OpId → Tcp2Socket → List Entry
-socket_given_up own r = streams_given_up own r.streams ++ side_closed own (side_of r.inner)
+-- the arrival that is in hand, where there is one, is refused by the accept's own name
+abbrev pub arrival_given_up : Who → Option IpSocketAddress → List Entry
+arrival_given_up who (Some peer) = entry who.id (call.Refuse who.side peer) told.Done ∷ []
+arrival_given_up who None = []
 
--- Of the socket at this place nothing is left: no side, no streams, nothing in progress, and no job.
+-- and a connection that isn't taken is closed, by the accept's own name too
+abbrev pub accept_given_up : Accepting → List Entry
+accept_given_up accepting.Idle = []
+accept_given_up (accepting.Asking op) = arrival_given_up op.who (in_hand op.left)
+accept_given_up (accepting.Arrived new peer) = entry new (call.Close new) told.Done ∷ []
+accept_given_up (accepting.Failed c) = []
+
+-- a listen that goes on closes the side that it holds, by its own name
+abbrev pub listen_given_up : Operation → Option OpId → List Entry
+listen_given_up op None = []
+listen_given_up op (Some side) = entry op.who.id (call.Close side) told.Done ∷ []
+
+abbrev pub listening_given_up : Listening → List Entry
+listening_given_up listening.Not = []
+listening_given_up (listening.Begins op) = listen_given_up op (held_side op)
+listening_given_up (listening.Accepts l) = accept_given_up l.accept
+listening_given_up (listening.Unclosed side) = entry side (call.Close side) told.Done ∷ []
+
+-- a socket gives up what it listens by, its open halves, and then its side
+abbrev pub socket_given_up : OpId → Tcp2Socket → List Entry
+socket_given_up own r = listening_given_up r.listening ++ streams_given_up own r.streams ++ side_closed own (side_of r.inner)
+
+-- Of the socket at this place nothing is left: no side, no listener, no streams, nothing in progress, and no job.
 pub record IsGone (m : Machine) (place : ℕ) : Type 0 where
   pub found : Tcp2Socket
   pub at : slice_get m.store.sockets place ≡ Some found
   pub side : side_of found.inner ≡ None
+  pub listening : found.listening ≡ listening.Not
   pub streams : found.streams ≡ None
   pub idle : is_nothing found.in_progress ≡ true
   pub job : Has m.store.jobs place → ⊥

@@ -12,7 +12,9 @@ pub mod Headline
 pub mod Program
 pub mod Parsed
 pub mod Answered
+pub mod Listens
 pub mod GivenUp
 pub mod Waiting
 pub mod Turns
 pub mod Permitted
+pub mod Order

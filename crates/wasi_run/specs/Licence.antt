@@ -4,7 +4,7 @@ use Rattle.std.specs.Prelude.{◌≡◌, ℕ, zero, suc, ◌+◌, ◌⊎◌, ⊤
 use Rattle.wasi_addr.specs.declared.address.IpSocketAddress.{IpSocketAddress}
 use Rattle.wasi_addr.specs.declared.address.SocketAddressFamily.{SocketAddressFamily}
 use Rattle.wasi_addr.specs.declared.address.SocketAddrUse.{SocketAddrUse}
-use Rattle.wasi_addr.specs.declared.address.SocketAddrUse.TheVariants.{TcpBind, TcpAccept, TcpConnect}
+use Rattle.wasi_addr.specs.declared.address.SocketAddrUse.TheVariants.{TcpBind, TcpListen, TcpAccept, TcpConnect}
 use Rattle.wasi_addr.specs.Address.{is_wildcard, wildcard}
 use Rattle.wasi_world.specs.declared.ids.OpId.{OpId}
 use Rattle.wasi_world.specs.declared.call.Call.{Call}
@@ -56,6 +56,9 @@ handles_of (step.TcpStartBind ctx socket network addr) = socket ∷ network ∷ 
 handles_of (step.TcpFinishBind ctx socket) = socket ∷ []
 handles_of (step.TcpStartConnect ctx socket network addr) = socket ∷ network ∷ []
 handles_of (step.TcpFinishConnect ctx socket) = socket ∷ []
+handles_of (step.TcpStartListen ctx socket) = socket ∷ []
+handles_of (step.TcpFinishListen ctx socket) = socket ∷ []
+handles_of (step.TcpAccept ctx socket) = socket ∷ []
 handles_of (step.TcpLocalAddress ctx socket) = socket ∷ []
 handles_of (step.TcpRemoteAddress ctx socket) = socket ∷ []
 handles_of (step.TcpIsListening ctx socket) = socket ∷ []
@@ -131,6 +134,21 @@ pub record IsBoundSide (before : List Entry) (side : OpId) : Type 0 where
 abbrev pub MayGoOut : List Entry → OpId → OpId → Type 0
 MayGoOut before op side = IsBoundSide before side ⊎ HasWildcardYes before op side TcpBind
 
+-- The last `local` of the side told this address.
+pub record IsLastLocal (before : List Entry) (side : OpId) (addr : IpSocketAddress) : Type 0 where
+  pub front : List Entry
+  pub op : OpId
+  pub back : List Entry
+  pub cut : before ≡ front ++ entry op (Local side) (Addr addr) ∷ back
+  pub last : (o : OpId) (told : Told) → Has back (entry o (Local side) told) → ⊥
+
+-- a side that was bound has a yes for the address that its local address was last told to be; one that wasn't has two for the
+-- wildcard
+abbrev pub MayListen : List Entry → OpId → OpId → Type 0
+MayListen before op side =
+    (IsBoundSide before side × ((addr : IpSocketAddress) × IsLastLocal before side addr × HasYes before before op side addr TcpListen))
+    ⊎ ((IsBoundSide before side → ⊥) × HasWildcardYes before op side TcpBind × HasWildcardYes before op side TcpListen)
+
 -- The operation's last `accept` on the listener told this peer, and after it came a yes for the peer.
 pub record IsAdmitted (before : List Entry) (op listener : OpId) (peer : IpSocketAddress) : Type 0 where
   pub front : List Entry
@@ -166,12 +184,45 @@ abbrev pub IsConnectTo : IpSocketAddress → Step → Type 0
 IsConnectTo addr (step.TcpStartConnect ctx socket network a) = a ≡ addr
 IsConnectTo addr _ = ⊥
 
+-- a listen
+abbrev pub IsListen : Step → Type 0
+IsListen (step.TcpStartListen ctx socket) = ⊤
+IsListen _ = ⊥
+
 -- its parent is this handle, of whose side it is
 abbrev pub IsOfParent : List Entry → ℕ → Option ℕ → Option OpId → Type 0
 IsOfParent before handle parent sock = (parent ≡ Some handle) × IsMarkedWith before handle sock
 
--- what a mark says, by the step that makes the handle: a network has no side, a socket that was created has its own, and
--- the two streams of a connection, an error and a pollable are of their parent's
+-- the side stands in no mark of a socket
+abbrev pub MarksNoSocket : List Entry → OpId → Type 0
+MarksNoSocket before side = (o : OpId) (handle : ℕ) (parent : Option ℕ) (told : Told) → Has before (entry o (Made handle Tcp2 parent (Some side)) told) → ⊥
+
+-- The first mark of an accept's step is of the socket that was accepted: its parent is the listener's handle, and its side was
+-- handed over on the listener's side, and stands in no earlier mark of a socket.
+pub record IsAcceptedMark (before : List Entry) (op : OpId) (listener : ℕ) (kind : HandleKind) (parent : Option ℕ) (sock : Option OpId) : Type 0 where
+  pub first : (handle : ℕ) (name : HandleKind) (above : Option ℕ) (side : Option OpId) (told : Told) → Has before (entry op (Made handle name above side) told) → ⊥
+  pub socket : kind ≡ Tcp2
+  pub under : parent ≡ Some listener
+  pub accept : OpId
+  pub side : sock ≡ Some accept
+  pub on : OpId
+  pub of_listener : IsSide before listener on
+  pub peer : IpSocketAddress
+  pub told : Told
+  pub handed : Has before (entry accept (Hand on peer) told)
+  pub fresh : MarksNoSocket before accept
+
+-- Its later marks are of the streams of the socket that it marked first: the parent is that socket's handle, and the side is its.
+pub record IsStreamMark (before : List Entry) (op : OpId) (kind : HandleKind) (parent : Option ℕ) (sock : Option OpId) : Type 0 where
+  pub stream : (kind ≡ Input) ⊎ (kind ≡ Output)
+  pub socket : ℕ
+  pub under : parent ≡ Some socket
+  pub above : Option ℕ
+  pub told : Told
+  pub marked : Has before (entry op (Made socket Tcp2 above sock) told)
+
+-- what a mark says, by the step that makes the handle: a network has no side, a socket that was created has its own, one that
+-- was accepted has what was handed over, and the two streams of a connection, an error and a pollable are of their parent's
 abbrev pub IsMarkOf : List Entry → OpId → HandleKind → Option ℕ → Option OpId → Step → Type 0
 IsMarkOf before op kind parent sock (step.Network ctx) = (kind ≡ Network) × (parent ≡ None) × (sock ≡ None)
 IsMarkOf before op kind parent sock (step.TcpCreate ctx family) =
@@ -180,6 +231,9 @@ IsMarkOf before op kind parent sock (step.TcpStartBind ctx socket network addr) 
 IsMarkOf before op kind parent sock (step.TcpFinishBind ctx socket) = ⊥
 IsMarkOf before op kind parent sock (step.TcpStartConnect ctx socket network addr) = ⊥
 IsMarkOf before op kind parent sock (step.TcpFinishConnect ctx socket) = ((kind ≡ Input) ⊎ (kind ≡ Output)) × IsOfParent before socket parent sock
+IsMarkOf before op kind parent sock (step.TcpStartListen ctx socket) = ⊥
+IsMarkOf before op kind parent sock (step.TcpFinishListen ctx socket) = ⊥
+IsMarkOf before op kind parent sock (step.TcpAccept ctx socket) = IsAcceptedMark before op socket kind parent sock ⊎ IsStreamMark before op kind parent sock
 IsMarkOf before op kind parent sock (step.TcpLocalAddress ctx socket) = ⊥
 IsMarkOf before op kind parent sock (step.TcpRemoteAddress ctx socket) = ⊥
 IsMarkOf before op kind parent sock (step.TcpIsListening ctx socket) = ⊥
@@ -209,7 +263,7 @@ MayAsk contexts steps before op (Peer sock) = ReachesSide steps before op sock
 MayAsk contexts steps before op (Bind sock addr) = ReachesSide steps before op sock × BeganBy steps op (IsBindTo addr) × HasYes before before op sock addr TcpBind
 MayAsk contexts steps before op (UdpBind sock addr) = ⊥
 MayAsk contexts steps before op (UdpConnect sock addr) = ⊥
-MayAsk contexts steps before op (Listen sock backlog) = ⊥
+MayAsk contexts steps before op (Listen sock backlog) = ReachesSide steps before op sock × BeganBy steps op IsListen × MayListen before op sock
 MayAsk contexts steps before op (SetBacklog sock backlog) = ⊥
 MayAsk contexts steps before op (Connect sock addr) =
     ReachesSide steps before op sock × BeganBy steps op (IsConnectTo addr) × HasYes before before op sock addr TcpConnect × MayGoOut before op sock

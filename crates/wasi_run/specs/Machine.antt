@@ -3,6 +3,7 @@ use Rattle.std.specs.Prelude.{ℕ, ◌+◌, Bool, false, if◌then◌else◌, Li
 use Rattle.wasi_addr.specs.declared.address.IpSocketAddress.{IpSocketAddress}
 use Rattle.wasi_addr.specs.declared.address.SocketAddressFamily.{SocketAddressFamily}
 use Rattle.wasi_addr.specs.Code.{p2_of_code}
+use Rattle.wasi_world.specs.declared.ids.Ids.{Ids}
 use Rattle.wasi_world.specs.declared.outcome.Answer.{Answer}
 use Rattle.wasi_world.specs.declared.outcome.Answer.TheVariants.{Ready, Pending}
 use Rattle.wasi_world.specs.declared.outcome.WasiSocketsCtx.{WasiSocketsCtx}
@@ -15,13 +16,14 @@ use Rattle.wasi_host.specs.Host.{Stop, Code, Trap, CallStop, Failed, Closed, Tra
 use Rattle.wasi_host.specs.Machine.{own_of, socket_at, create_asks, subscribe_asks, ready_asks, drop_asks, turn_machine_asks}
 use Rattle.wasi_host.specs.StreamCalls.{read_asks, check_asks, write_asks, flushed_asks}
 use Rattle.wasi_host.specs.Pending as host
+use Rattle.wasi_host.specs.Store.{is_bind, is_listen}
 use Rattle.wasi_p2.specs.Pending as p2
-use Rattle.wasi_p2.specs.Tcp.{network_asks, start_bind_asks, finish_bind_on, start_connect_asks, finish_connect_asks, local_address_on, remote_address_on, is_listening_on, address_family_on, shutdown_on}
+use Rattle.wasi_p2.specs.Tcp.{network_asks, start_bind_asks, finish_on, start_connect_asks, finish_connect_asks, local_address_on, remote_address_on, is_listening_on, address_family_on, shutdown_on, start_listen_on, accept_asks}
 use Rattle.wasi_run.specs.declared.reply.Reply.{Reply}
 use Rattle.wasi_run.specs.declared.reply.Reply.TheVariants as reply
 use Rattle.wasi_run.specs.declared.step.Step.{Step}
 use Rattle.wasi_run.specs.declared.step.Step.TheVariants as step
-use Rattle.wasi_run.specs.Reply.{word_of_p2, is_trap, no_fields, number_fields, pair_fields, bytes_fields, truth_fields, family_fields, address_values}
+use Rattle.wasi_run.specs.Reply.{word_of_p2, is_trap, no_fields, number_fields, pair_fields, triple_fields, bytes_fields, truth_fields, family_fields, address_values}
 use Rattle.wasi_run.specs.Steps.{context_of}
 
 -- == replies
@@ -40,6 +42,10 @@ done_reply (Err stop) = stop_reply stop
 abbrev pub pair_reply : Result (ℕ × ℕ) Stop → Reply
 pair_reply (Ok (a, b)) = reply.Ok (pair_fields a b)
 pair_reply (Err stop) = stop_reply stop
+
+abbrev pub triple_reply : Result (ℕ × ℕ × ℕ) Stop → Reply
+triple_reply (Ok (a, b, c)) = reply.Ok (triple_fields a b c)
+triple_reply (Err stop) = stop_reply stop
 
 abbrev pub address_reply : Result IpSocketAddress Stop → Reply
 address_reply (Ok a) = reply.Ok (address_values a)
@@ -111,13 +117,20 @@ abbrev pub context_for : List WasiSocketsCtx → Option ℕ → WasiSocketsCtx
 context_for contexts (Some n) = context_at contexts n
 context_for contexts None = context_in None
 
+-- the names of a line, but its own operation's: none was taken yet
+abbrev pub first_ids : ℕ → Ids
+first_ids line = record { line = line; next_part = 1 }
+
 abbrev pub call_asks : WasiSocketsCtx → Machine → ℕ → Step → Asks (Reply × Machine)
 call_asks ctx m line (step.Network c) = bind (network_asks m (own_of line)) (λ done. Give (handle_reply done.0, done.1))
 call_asks ctx m line (step.TcpCreate c family) = bind (create_asks m (own_of line) ctx family) (λ done. Give (handle_reply done.0, done.1))
 call_asks ctx m line (step.TcpStartBind c s n a) = bind (start_bind_asks m (own_of line) s n a) (λ done. Give (answer_reply line done.0, done.1))
-call_asks ctx m line (step.TcpFinishBind c s) = let done = finish_bind_on m (socket_at m s) in Give (done_reply done.0, done.1)
+call_asks ctx m line (step.TcpFinishBind c s) = let done = finish_on is_bind m (socket_at m s) in Give (done_reply done.0, done.1)
 call_asks ctx m line (step.TcpStartConnect c s n a) = bind (start_connect_asks m (own_of line) s n a) (λ done. Give (done_reply done.0, done.1))
 call_asks ctx m line (step.TcpFinishConnect c s) = bind (finish_connect_asks m (own_of line) s) (λ done. Give (pair_reply done.0, done.1))
+call_asks ctx m line (step.TcpStartListen c s) = bind (start_listen_on m (own_of line) (socket_at m s)) (λ done. Give (answer_reply line done.0, done.1))
+call_asks ctx m line (step.TcpFinishListen c s) = let done = finish_on is_listen m (socket_at m s) in Give (done_reply done.0, done.1)
+call_asks ctx m line (step.TcpAccept c s) = bind (accept_asks m (first_ids line) s) (λ done. Give (triple_reply done.0, done.1))
 call_asks ctx m line (step.TcpLocalAddress c s) = bind (local_address_on m (own_of line) (socket_at m s)) (λ done. Give (address_reply done.0, done.1))
 call_asks ctx m line (step.TcpRemoteAddress c s) = bind (remote_address_on m (own_of line) (socket_at m s)) (λ done. Give (address_reply done.0, done.1))
 call_asks ctx m line (step.TcpIsListening c s) = Give (truth_reply (is_listening_on m (socket_at m s)), m)
@@ -127,7 +140,7 @@ call_asks ctx m line (step.CheckWrite c output) = bind (check_asks m (own_of lin
 call_asks ctx m line (step.Write c output bytes) = bind (write_asks m (own_of line) output bytes) (λ done. Give (taken_reply done.0, done.1))
 call_asks ctx m line (step.Flush c output) = bind (flushed_asks m (own_of line) output) (λ done. Give (taken_reply done.0, done.1))
 call_asks ctx m line (step.Subscribe c h) = bind (subscribe_asks m (own_of line) h) (λ done. Give (handle_reply done.0, done.1))
-call_asks ctx m line (step.Ready c p) = bind (ready_asks m (own_of line) p) (λ done. Give (truth_reply done.0, done.1))
+call_asks ctx m line (step.Ready c p) = bind (ready_asks m (first_ids line) p) (λ done. Give (truth_reply done.0, done.1))
 call_asks ctx m line (step.Drop c h) = bind (drop_asks m (own_of line) h) (λ done. Give (answer_reply line done.0, done.1))
 call_asks ctx m line (step.TcpShutdown c s how) = bind (shutdown_on m (own_of line) how (socket_at m s)) (λ done. Give (done_reply done.0, done.1))
 call_asks ctx m line step.Turn = bind (turn_machine_asks m) (λ done. Give (reply.Ok no_fields, done.1))

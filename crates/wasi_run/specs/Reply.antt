@@ -51,6 +51,10 @@ number_fields n = Number n ∷ []
 abbrev pub pair_fields : ℕ → ℕ → List Field
 pair_fields a b = Number a ∷ Number b ∷ []
 
+-- the socket that was accepted, and its two streams
+abbrev pub triple_fields : ℕ → ℕ → ℕ → List Field
+triple_fields a b c = Number a ∷ Number b ∷ Number c ∷ []
+
 abbrev pub bytes_fields : List ℕ → List Field
 bytes_fields bytes = Bytes bytes ∷ []
 

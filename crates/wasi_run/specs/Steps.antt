@@ -5,7 +5,7 @@ use Rattle.wasi_addr.specs.declared.address.ShutdownType.TheVariants.{Receive, S
 use Rattle.wasi_world.specs.Fields.{Reader, Row, row, after_word, ◌>>=◌, give, give_some, whole, fields_of, line_with, number_in, number_at, word_at, family_at, address_at, bytes_at}
 use Rattle.wasi_world.specs.Written.{family_fields, address_fields, bytes_fields, FitsAddress, AreBytes}
 use Rattle.wasi_run.specs.declared.step.Step.{Step}
-use Rattle.wasi_run.specs.declared.step.Step.TheVariants.{Network, TcpCreate, TcpStartBind, TcpFinishBind, TcpStartConnect, TcpFinishConnect, TcpLocalAddress, TcpRemoteAddress, TcpIsListening, TcpAddressFamily, TcpShutdown, Read, CheckWrite, Write, Flush, Subscribe, Ready, Drop, Turn, Poll}
+use Rattle.wasi_run.specs.declared.step.Step.TheVariants.{Network, TcpCreate, TcpStartBind, TcpFinishBind, TcpStartConnect, TcpFinishConnect, TcpStartListen, TcpFinishListen, TcpAccept, TcpLocalAddress, TcpRemoteAddress, TcpIsListening, TcpAddressFamily, TcpShutdown, Read, CheckWrite, Write, Flush, Subscribe, Ready, Drop, Turn, Poll}
 
 -- the word of what is shut down
 abbrev pub shutdown_fields : ShutdownType → List (List ℕ)
@@ -21,6 +21,9 @@ fields_of_step (TcpStartBind c socket network a) = decimal c ∷ codes "tcp-star
 fields_of_step (TcpFinishBind c socket) = decimal c ∷ codes "tcp-finish-bind" ∷ decimal socket ∷ []
 fields_of_step (TcpStartConnect c socket network a) = decimal c ∷ codes "tcp-start-connect" ∷ decimal socket ∷ decimal network ∷ address_fields a
 fields_of_step (TcpFinishConnect c socket) = decimal c ∷ codes "tcp-finish-connect" ∷ decimal socket ∷ []
+fields_of_step (TcpStartListen c socket) = decimal c ∷ codes "tcp-start-listen" ∷ decimal socket ∷ []
+fields_of_step (TcpFinishListen c socket) = decimal c ∷ codes "tcp-finish-listen" ∷ decimal socket ∷ []
+fields_of_step (TcpAccept c socket) = decimal c ∷ codes "tcp-accept" ∷ decimal socket ∷ []
 fields_of_step (TcpLocalAddress c socket) = decimal c ∷ codes "tcp-local-address" ∷ decimal socket ∷ []
 fields_of_step (TcpRemoteAddress c socket) = decimal c ∷ codes "tcp-remote-address" ∷ decimal socket ∷ []
 fields_of_step (TcpIsListening c socket) = decimal c ∷ codes "tcp-is-listening" ∷ decimal socket ∷ []
@@ -48,6 +51,9 @@ context_of (TcpStartBind c socket network a) = Some c
 context_of (TcpFinishBind c socket) = Some c
 context_of (TcpStartConnect c socket network a) = Some c
 context_of (TcpFinishConnect c socket) = Some c
+context_of (TcpStartListen c socket) = Some c
+context_of (TcpFinishListen c socket) = Some c
+context_of (TcpAccept c socket) = Some c
 context_of (TcpLocalAddress c socket) = Some c
 context_of (TcpRemoteAddress c socket) = Some c
 context_of (TcpIsListening c socket) = Some c
@@ -71,6 +77,9 @@ FitsArguments (TcpStartBind c socket network a) = (socket ≤ 4294967295) × (ne
 FitsArguments (TcpFinishBind c socket) = socket ≤ 4294967295
 FitsArguments (TcpStartConnect c socket network a) = (socket ≤ 4294967295) × (network ≤ 4294967295) × FitsAddress a
 FitsArguments (TcpFinishConnect c socket) = socket ≤ 4294967295
+FitsArguments (TcpStartListen c socket) = socket ≤ 4294967295
+FitsArguments (TcpFinishListen c socket) = socket ≤ 4294967295
+FitsArguments (TcpAccept c socket) = socket ≤ 4294967295
 FitsArguments (TcpLocalAddress c socket) = socket ≤ 4294967295
 FitsArguments (TcpRemoteAddress c socket) = socket ≤ 4294967295
 FitsArguments (TcpIsListening c socket) = socket ≤ 4294967295
@@ -131,6 +140,14 @@ socket_steps c =
     ∷ row (codes "tcp-shutdown") (handle_at >>= λ socket. shutdown_at >>= λ how. give (TcpShutdown c socket how))
     ∷ []
 
+-- those that make a socket listen, and accept
+abbrev pub listener_steps : ℕ → List (Row Step)
+listener_steps c =
+    row (codes "tcp-start-listen") (handle_at >>= λ socket. give (TcpStartListen c socket))
+    ∷ row (codes "tcp-finish-listen") (handle_at >>= λ socket. give (TcpFinishListen c socket))
+    ∷ row (codes "tcp-accept") (handle_at >>= λ socket. give (TcpAccept c socket))
+    ∷ []
+
 -- those that ask a socket what it is
 abbrev pub question_steps : ℕ → List (Row Step)
 question_steps c =
@@ -142,7 +159,7 @@ question_steps c =
 
 -- the steps of a context whose arguments take no memory
 abbrev pub plain_steps : ℕ → List (Row Step)
-plain_steps c = stream_steps c ++ socket_steps c ++ question_steps c
+plain_steps c = stream_steps c ++ socket_steps c ++ listener_steps c ++ question_steps c
 
 -- the steps of a context
 abbrev pub steps : ℕ → List (Row Step)

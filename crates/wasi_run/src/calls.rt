@@ -4,12 +4,13 @@ ghost use Rattle.std.specs.Prelude.{◌≡◌, ◌&&◌, Ok, is_some, false};
 ghost use Rattle.wasi_world.specs.Asks.{AsksFor};
 ghost use Rattle.wasi_host.specs.Sides.{KnowsSides};
 ghost use Rattle.wasi_host.specs.Views.{SameView, state_of};
-ghost use Rattle.wasi_run.specs.Machine.{machine_asks, is_guest_call, call_asks, poll_asks, poll_on, context_at, context_for};
+ghost use Rattle.wasi_run.specs.Machine.{first_ids, machine_asks, is_guest_call, call_asks, poll_asks, poll_on, context_at, context_for};
 ghost use Rattle.wasi_run.specs.Steps.{context_of};
 
 use crate::replies::{
     address_reply, answer_reply, bytes_reply, done_reply, family_reply, handle_reply,
-    outcome_reply, pair_reply, permit_reply, resumed_reply, stop_reply, taken_reply, truth_reply,
+    outcome_reply, pair_reply, permit_reply, resumed_reply, stop_reply, taken_reply, triple_reply,
+    truth_reply,
 };
 use crate::reply::Reply;
 use crate::step::Step;
@@ -60,7 +61,8 @@ fn do_call<W: World>(
     ids: &mut Ids,
     step: Step,
 ) -> Result<Reply, AllocError>
-    requires { (W.seen world.old).ended ≡ false }
+    requires open { (W.seen world.old).ended ≡ false }
+    requires first { ids.old ≡ first_ids ids.old.line }
     ensures asked { AsksFor (call_asks ctx.old (record { table = table.old; store = store.old }) ids.old.line step) (W.seen world.old) (W.seen world.new) (λ reply. (reply, record { table = table.new; store = store.new })) result }
     ensures sides { KnowsSides (W.seen world.old) store.old → KnowsSides (W.seen world.new) store.new }
     ensures open { (W.seen world.new).ended ≡ false }
@@ -77,7 +79,8 @@ fn call<W: World>(
     ids: &mut Ids,
     step: Step,
 ) -> Result<Reply, AllocError>
-    requires { (W.seen world.old).ended ≡ false }
+    requires open { (W.seen world.old).ended ≡ false }
+    requires first { ids.old ≡ first_ids ids.old.line }
     ensures asked { AsksFor (call_asks view.old.ctx.now (state_of view.old) ids.old.line step) (W.seen world.old) (W.seen world.new) (λ reply. (reply, state_of view.new)) result }
     ensures sides { KnowsSides (W.seen world.old) view.old.store.now → KnowsSides (W.seen world.new) view.new.store.now }
     ensures view { SameView view.old view.new }
@@ -117,6 +120,18 @@ fn call<W: World>(
         Step::TcpFinishConnect { socket, .. } => {
             let made = tcp::finish_connect(view, world, ids, socket);
             pair_reply(alloc, made)
+        }
+        Step::TcpStartListen { socket, .. } => {
+            let answer = tcp::start_listen(view, world, ids, socket);
+            answer_reply(alloc, ids.line, answer)
+        }
+        Step::TcpFinishListen { socket, .. } => {
+            let done = tcp::finish_listen(view, world, ids, socket);
+            done_reply(alloc, done)
+        }
+        Step::TcpAccept { socket, .. } => {
+            let made = tcp::accept(view, world, ids, socket);
+            triple_reply(alloc, made)
         }
         Step::TcpLocalAddress { socket, .. } => {
             let told = tcp::local_address(view, world, ids, socket);

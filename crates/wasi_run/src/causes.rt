@@ -31,7 +31,7 @@ ghost use Rattle.wasi_host.specs.Kinds.{is_network, kind_at, watched_by, with_ha
 ghost use Rattle.wasi_host.specs.Pending.{stands_as};
 ghost use Rattle.wasi_run.specs.Reply.{bytes_fields, no_fields, number_fields, truth_fields};
 ghost use Rattle.wasi_run.specs.Turns.{IsOfJob};
-ghost use Rattle.wasi_run.specs.Waiting.{IsFailure, IsPoll, IsUnready, left_missing, MayStand, OfWatched, OutputWaits, pollable_mark, StandingFails, StandingWaits, StandsByBind, WatchesConnect, WatchesIdle};
+ghost use Rattle.wasi_run.specs.Waiting.{IsFailure, IsPoll, IsUnready, left_missing, MayStand, OfWatched, OutputWaits, pollable_mark, StandingFails, StandingWaits, StandsByBind, WatchesAccept, WatchesConnect, WatchesIdle};
 ghost use Rattle.wasi_host.specs.Store.{with_record};
 ghost use Rattle.wasi_streams.specs.Table.{children_of, is_full};
 
@@ -85,8 +85,9 @@ pub fn traps_have_causes()
 
 /// A poll finds no such call exactly where no call stands under its number. It asks nothing then, and the machine stays as it
 /// was; no other step is answered so. A poll of a call that stands leaves it standing, or it leaves nothing standing. It is
-/// refused with the word of the code by which the bind failed: its check was told no, or the bind was told the code, by the
-/// bind's own operation. That is said where what stands by a bind is a bind, as it does after any lines.
+/// refused with the word of the code by which the bind or the listen failed: a check was told no, or another of its asks was
+/// told the code, by its own operation, and a listen closed its side last. That is said where what stands by a bind is a bind,
+/// and by a listen a listen, as it does after any lines.
 pub fn polls_of_no_call()
     ensures exactly { (contexts : List WasiSocketsCtx) (m : Machine) (line n : ℕ) (entries : List Entry) (reply : Reply) (after : Machine)
         → Answered contexts m line (Step.Poll n) entries reply after → (reply ≡ Reply.NoSuchCall) ↔ (stands_as m.store.standing n ≡ false) }
@@ -100,10 +101,11 @@ pub fn polls_of_no_call()
         → StandsByBind m → Answered contexts m line (Step.Poll n) entries (Reply.Err word) after → StandingFails m n entries word }
 {}
 
-/// The start of a bind, the drop of an output and a poll may be pending: the first two under their line's number, and a poll
-/// under the number that it polls. A call stands under that number then. The last ask of a bind was told to wait; a drop waits
-/// where its output's write goes on, or its one ask was told to wait; and a poll waits as the call does that it polls. That is
-/// said where what stands by a bind is a bind, as it does after any lines.
+/// The start of a bind, that of a listen, the drop of an output and a poll may be pending: all but a poll under their line's
+/// number, and a poll under the number that it polls. A call stands under that number then. The last ask of a bind and of a
+/// listen was told to wait; a drop waits where its output's write goes on, or its one ask was told to wait; and a poll waits as
+/// the call does that it polls. That is said where what stands by a bind is a bind, and by a listen a listen, as it does after
+/// any lines.
 pub fn pending_where_told()
     ensures step { (contexts : List WasiSocketsCtx) (m : Machine) (line : ℕ) (s : Step) (entries : List Entry) (number : ℕ) (after : Machine)
         → Answered contexts m line s entries (Reply.Pending number) after → MayStand m line s number }
@@ -111,6 +113,8 @@ pub fn pending_where_told()
         → Answered contexts m line s entries (Reply.Pending number) after → IsSomeAnd after.store.standing (λ call. call.line ≡ number) }
     ensures told { (contexts : List WasiSocketsCtx) (m : Machine) (line ctx handle network : ℕ) (a : IpSocketAddress) (entries : List Entry) (number : ℕ) (after : Machine)
         → Answered contexts m line (Step.TcpStartBind ctx handle network a) entries (Reply.Pending number) after → EndsPending (own_of line) entries }
+    ensures listen { (contexts : List WasiSocketsCtx) (m : Machine) (line ctx handle : ℕ) (entries : List Entry) (number : ℕ) (after : Machine)
+        → Answered contexts m line (Step.TcpStartListen ctx handle) entries (Reply.Pending number) after → EndsPending (own_of line) entries }
     ensures output { (contexts : List WasiSocketsCtx) (m : Machine) (line ctx handle : ℕ) (entries : List Entry) (number : ℕ) (after : Machine)
         → Answered contexts m line (Step.Drop ctx handle) entries (Reply.Pending number) after → OutputWaits m (own_of line) (output_at m handle) entries }
     ensures polled { (contexts : List WasiSocketsCtx) (m : Machine) (line n : ℕ) (entries : List Entry) (number : ℕ) (after : Machine)
@@ -192,7 +196,7 @@ pub fn runs_connect_by_connects()
         → Left (run contexts [] first_state 1 steps) entries (Give (replies, m)) → (pollable : ℕ) → WatchesConnect m pollable }
 {}
 
-/// After the lines of any script, what stands by a bind is a bind.
+/// After the lines of any script, what stands by a bind is a bind, and what stands by a listen is a listen.
 pub fn runs_stand_by_binds()
     ensures { (contexts : List WasiSocketsCtx) (steps : List Step) (entries : List Entry) (replies : List Reply) (m : Machine)
         → Left (run contexts [] first_state 1 steps) entries (Give (replies, m)) → StandsByBind m }
@@ -302,8 +306,9 @@ pub fn writes_tell_their_error()
         → OfStreams m (output_at m output) (λ place r s. FailsWith m (own_of line) output (λ c before. WriteFails (own_of line) (WriteError.LastOperationFailed c) s.writer before × (after ≡ with_error (closing_writer m place r s (WriteError.LastOperationFailed c)))) entries word handle) }
 {}
 
-/// A drop of a socket is done, unless it traps. It gives up what is open: the receiving half while that is open, then the
-/// sending half while there is one, and then the socket's side, each told done; and nothing is left of the socket. A drop of a
+/// A drop of a socket is done, unless it traps. It gives up what is open: what it listens by, which refuses an arrival in hand
+/// and closes a connection that wasn't taken; the receiving half while that is open, then the sending half while there is one,
+/// and then the socket's side, each told done; and nothing is left of the socket. A drop of a
 /// network, an input, a pollable or an error asks nothing and takes the handle out, and a drop of an output looks once at most.
 /// Whatever was dropped, its handle is live no more.
 pub fn drops_give_up_what_is_open()
@@ -348,14 +353,16 @@ pub fn shutdown_refusals()
         → OfStreams m (socket_at m handle) (λ place r s. after ≡ putting m place (with_streams r (shut_down how s))) }
 {}
 
-/// A pollable isn't ready where the connect in progress was told to wait, or the input that is open was, or the output's write
-/// goes on or its writer was told to wait: that is said where a socket connects by a connect, as all do after any lines. A
-/// socket with no connect in progress is ready, which asks nothing and leaves the machine as it was. A look never fails.
+/// A pollable isn't ready where the connect in progress was told to wait, or with nothing in progress the accept of a listener
+/// waits, or the input that is open was told to wait, or the output's write goes on or its writer was told to wait: that is said
+/// where a socket connects by a connect and accepts by an accept, as all do after any lines. A socket with no connect in
+/// progress, and with no listener unless another operation is in progress, is ready, which asks nothing and leaves the machine
+/// as it was. A look never fails.
 pub fn readiness_has_causes()
     ensures values { (contexts : List WasiSocketsCtx) (m : Machine) (line ctx pollable : ℕ) (fields : List Field) (entries : List Entry) (after : Machine)
         → Answered contexts m line (Step.Ready ctx pollable) entries (Reply.Ok fields) after → (fields ≡ truth_fields true) ⊎ (fields ≡ truth_fields false) }
     ensures not_ready { (contexts : List WasiSocketsCtx) (m : Machine) (line ctx pollable : ℕ) (entries : List Entry) (after : Machine)
-        → WatchesConnect m pollable → Answered contexts m line (Step.Ready ctx pollable) entries (Reply.Ok (truth_fields false)) after
+        → WatchesConnect m pollable → WatchesAccept m pollable → Answered contexts m line (Step.Ready ctx pollable) entries (Reply.Ok (truth_fields false)) after
         → OfWatched m pollable (λ w r. IsUnready (own_of line) r entries w) }
     ensures idle { (contexts : List WasiSocketsCtx) (m : Machine) (line ctx pollable : ℕ) (entries : List Entry) (reply : Reply) (after : Machine)
         → m.store.standing ≡ None → WatchesIdle m pollable → Answered contexts m line (Step.Ready ctx pollable) entries reply after

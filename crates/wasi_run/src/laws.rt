@@ -5,7 +5,8 @@ ghost use Rattle.wasi_addr.specs.declared.address.SocketAddressFamily.{SocketAdd
 ghost use Rattle.wasi_world.specs.declared.call.Entry.{Entry};
 ghost use Rattle.wasi_world.specs.declared.ids.OpId.{OpId};
 ghost use Rattle.wasi_world.specs.declared.outcome.WasiSocketsCtx.{WasiSocketsCtx};
-ghost use Rattle.wasi_world.specs.Asks.{Asks, Left};
+ghost use Rattle.wasi_world.specs.Asks.{Asks, Give, Left};
+ghost use Rattle.wasi_world.specs.Operation.{Item, End, Operation};
 ghost use Rattle.wasi_tcp.specs.Taken.{taken_in, IsFrontOf};
 ghost use Rattle.wasi_host.specs.declared.machine.Machine.{Machine};
 ghost use Rattle.wasi_run.specs.declared.reply.Reply.{Reply};
@@ -16,6 +17,7 @@ ghost use Rattle.wasi_run.specs.Answered.{Answered};
 ghost use Rattle.wasi_run.specs.Licence.{IsLicensed, IsSide, IsMaker};
 ghost use Rattle.wasi_host.specs.Machine.{first_state};
 ghost use Rattle.wasi_run.specs.Machine.{machine_asks, run};
+ghost use Rattle.wasi_run.specs.Order.{IsOutward, ChecksFirst, HasGone, NoCheckLeft, operation_polled, asked_by};
 ghost use Rattle.wasi_run.specs.Permitted.{WritesTo, permitted_by, Did, IsOfSteps};
 ghost use Rattle.wasi_run.specs.Reply.{number_fields};
 
@@ -79,4 +81,19 @@ pub fn permit_means_all_is_taken()
         → Answered contexts after (1 + length steps) (Step.CheckWrite ctx output) entries (Reply.Ok (number_fields n)) next
         → 0 < n
         → taken_in side (log ++ entries) ≡ permitted }
+{}
+
+/// In one poll of a bind, a connect or a listen no check follows a bind, a listen or a connect; and where one of these was
+/// asked, the poll leaves no check to a later one.
+pub fn operations_check_first()
+    ensures poll { (op : Operation) (entries : List Entry) (rest : Asks (End × List Item))
+        → IsOutward op → Left (operation_polled op) entries rest → ChecksFirst entries }
+    ensures later { (op : Operation) (entries : List Entry) (ended : End × List Item)
+        → IsOutward op → Left (operation_polled op) entries (Give ended) → HasGone entries → NoCheckLeft ended.1 }
+{}
+
+/// Wherever a run stands, each operation asked its checks before its first bind, listen or connect.
+pub fn checks_come_first()
+    ensures { (contexts : List WasiSocketsCtx) (steps : List Step) (log : List Entry) (rest : Asks (List Reply × Machine))
+        → Left (run contexts [] first_state 1 steps) log rest → (op : OpId) → ChecksFirst (asked_by op log) }
 {}

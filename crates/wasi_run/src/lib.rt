@@ -5,6 +5,7 @@ mod calls;
 pub mod causes;
 pub mod laws;
 mod lines;
+pub mod listens;
 pub mod parse;
 pub mod program;
 mod replies;

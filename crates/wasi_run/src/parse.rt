@@ -4,7 +4,7 @@ ghost use Rattle.std.specs.Prelude.{◌≡◌, ◌↔◌, ◌++◌, ℕ, List, S
 ghost use Rattle.wasi_world.specs.Fields.{Reads, after_word, number_in};
 ghost use Rattle.wasi_world.specs.Written.{IsVisible};
 ghost use Rattle.wasi_run.specs.declared.step.Step.{Step};
-ghost use Rattle.wasi_run.specs.Steps.{line_of, IsStep, steps, plain_steps, socket_steps, question_steps, bare_steps, write_row, shutdown_at, guest_call_at, step_at, step_of};
+ghost use Rattle.wasi_run.specs.Steps.{line_of, IsStep, steps, plain_steps, socket_steps, listener_steps, question_steps, bare_steps, write_row, shutdown_at, guest_call_at, step_at, step_of};
 
 use crate::step::Step;
 use std::alloc::{AllocError, Global};
@@ -51,11 +51,33 @@ fn question_arguments(fields: &mut Fields<'_>, context: u32, word: &str) -> Opti
     }
 }
 
-/// Takes the arguments of a step word that makes a socket, binds it, connects it or shuts it down, or asks it what it
-/// is.
+/// Takes the arguments of a step word that makes a socket listen or accepts, or asks a socket what it is.
+#[tactic(auto, unfolding(wasi_world::specs::Fields::read_then, wasi_world::specs::Fields::give, wasi_world::specs::Fields::give_some))]
+fn listener_arguments(fields: &mut Fields<'_>, context: u32, word: &str) -> Option<Step>
+    ensures { Reads (after_word (listener_steps context ++ question_steps context) word.now) fields.old result fields.new }
+{
+    match word {
+        "tcp-start-listen" => Some(Step::TcpStartListen {
+            context,
+            socket: fields.u32()?,
+        }),
+        "tcp-finish-listen" => Some(Step::TcpFinishListen {
+            context,
+            socket: fields.u32()?,
+        }),
+        "tcp-accept" => Some(Step::TcpAccept {
+            context,
+            socket: fields.u32()?,
+        }),
+        _ => question_arguments(fields, context, word),
+    }
+}
+
+/// Takes the arguments of a step word that makes a socket, binds it, connects it, shuts it down or makes it listen, or asks
+/// it what it is.
 #[tactic(auto, unfolding(wasi_world::specs::Fields::read_then, wasi_world::specs::Fields::give, wasi_world::specs::Fields::give_some))]
 fn socket_arguments(fields: &mut Fields<'_>, context: u32, word: &str) -> Option<Step>
-    ensures { Reads (after_word (socket_steps context ++ question_steps context) word.now) fields.old result fields.new }
+    ensures { Reads (after_word (socket_steps context ++ listener_steps context ++ question_steps context) word.now) fields.old result fields.new }
 {
     match word {
         "network" => Some(Step::Network { context }),
@@ -88,7 +110,7 @@ fn socket_arguments(fields: &mut Fields<'_>, context: u32, word: &str) -> Option
             socket: fields.u32()?,
             how: shutdown_type(fields)?,
         }),
-        _ => question_arguments(fields, context, word),
+        _ => listener_arguments(fields, context, word),
     }
 }
 

@@ -2,7 +2,7 @@
 
 ghost use Rattle.std.specs.Prelude.{◌≡◌, IfOk, IsOkAnd};
 ghost use Rattle.wasi_host.specs.Host.{host_outcome, call_outcome, IsStop, IsCallStop};
-ghost use Rattle.wasi_run.specs.Machine.{handle_reply, done_reply, answer_reply, pair_reply, address_reply, truth_reply, family_reply, stop_reply, bytes_reply, permit_reply, taken_reply, call_stop_reply, outcome_reply, resumed_reply};
+ghost use Rattle.wasi_run.specs.Machine.{handle_reply, done_reply, answer_reply, pair_reply, triple_reply, address_reply, truth_reply, family_reply, stop_reply, bytes_reply, permit_reply, taken_reply, call_stop_reply, outcome_reply, resumed_reply};
 
 use crate::reply::{CodeWord, Reply};
 use std::alloc::{AllocError, Global};
@@ -39,6 +39,24 @@ pub fn pair_reply(
 {
     match made {
         Ok((first, second)) => Reply::pair(alloc, u64::from(first), u64::from(second)),
+        Err(error) => stop_reply(error),
+    }
+}
+
+/// The reply of a call that makes three handles.
+pub fn triple_reply(
+    alloc: Global,
+    made: Result<(Handle, Handle, Handle), SocketError>,
+) -> Result<Reply, AllocError>
+    ensures { IfOk result (λ reply. IsOkAnd (host_outcome made) (λ x. reply ≡ triple_reply x)) }
+{
+    match made {
+        Ok((first, second, third)) => Reply::triple(
+            alloc,
+            u64::from(first),
+            u64::from(second),
+            u64::from(third),
+        ),
         Err(error) => stop_reply(error),
     }
 }

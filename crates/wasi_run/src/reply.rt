@@ -5,7 +5,7 @@ ghost use Rattle.wasi_world.specs.Fields.{line_with};
 ghost use Rattle.wasi_run.specs.declared.reply.Reply.{Reply};
 ghost use Rattle.wasi_run.specs.declared.step.Step.{Step};
 ghost use Rattle.wasi_run.specs.Replies.{Gives, code_text, trap_text, field_text, fields_of_reply, text_of};
-ghost use Rattle.wasi_run.specs.Reply.{word_of_p2, is_trap, no_fields, number_fields, pair_fields, bytes_fields, truth_fields, family_fields, address_values};
+ghost use Rattle.wasi_run.specs.Reply.{word_of_p2, is_trap, no_fields, number_fields, pair_fields, triple_fields, bytes_fields, truth_fields, family_fields, address_values};
 
 use std::alloc::{AllocError, Global};
 use std::fmt;
@@ -172,6 +172,14 @@ impl Reply {
         ensures { IfOk result (λ reply. reply ≡ Reply.Ok (pair_fields a b)) }
     {
         let fields = vec![in alloc; Field::Number(a), Field::Number(b)]?;
+        Ok(Reply::Ok(ReplyFields::from_vec(fields)))
+    }
+
+    /// `ok` with three numbers.
+    pub fn triple(alloc: Global, a: u64, b: u64, c: u64) -> Result<Reply, AllocError>
+        ensures { IfOk result (λ reply. reply ≡ Reply.Ok (triple_fields a b c)) }
+    {
+        let fields = vec![in alloc; Field::Number(a), Field::Number(b), Field::Number(c)]?;
         Ok(Reply::Ok(ReplyFields::from_vec(fields)))
     }
 

@@ -42,6 +42,21 @@ pub enum Step {
         context: u32,
         socket: Handle,
     },
+    /// Begins to make the socket listen (`start-listen`).
+    TcpStartListen {
+        context: u32,
+        socket: Handle,
+    },
+    /// Ends a listen that was begun (`finish-listen`).
+    TcpFinishListen {
+        context: u32,
+        socket: Handle,
+    },
+    /// Accepts a connection of the listener, and makes its socket and its two streams (`accept`).
+    TcpAccept {
+        context: u32,
+        socket: Handle,
+    },
     /// The address that the socket is bound to (`local-address`).
     TcpLocalAddress {
         context: u32,
@@ -126,6 +141,9 @@ impl Step {
             | Step::TcpFinishBind { context, .. }
             | Step::TcpStartConnect { context, .. }
             | Step::TcpFinishConnect { context, .. }
+            | Step::TcpStartListen { context, .. }
+            | Step::TcpFinishListen { context, .. }
+            | Step::TcpAccept { context, .. }
             | Step::TcpLocalAddress { context, .. }
             | Step::TcpRemoteAddress { context, .. }
             | Step::TcpIsListening { context, .. }

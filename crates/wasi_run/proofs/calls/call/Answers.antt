@@ -1,6 +1,6 @@
 use Rattle.std.proofs.Common.{refl}
 use Rattle.wasi_world.proofs.Walks.{asks_answered, given_answered, asks_end, asks_exit}
-use Rattle.wasi_run.specs.Machine.{handle_reply, answer_reply, done_reply, pair_reply, address_reply, truth_reply, family_reply, bytes_reply, permit_reply, taken_reply}
+use Rattle.wasi_run.specs.Machine.{handle_reply, answer_reply, done_reply, pair_reply, triple_reply, address_reply, truth_reply, family_reply, bytes_reply, permit_reply, taken_reply}
 use Rattle.wasi_run.proofs.calls.call.Goals as goal
 
 pub returns-in-Network-clause-asked : goal.returns-in-Network-clause-asked
@@ -20,6 +20,15 @@ returns-in-TcpStartConnect-clause-asked g c = rw c.in-TcpStartConnect.is (asks_a
 
 pub returns-in-TcpFinishConnect-clause-asked : goal.returns-in-TcpFinishConnect-clause-asked
 returns-in-TcpFinishConnect-clause-asked g c = rw c.in-TcpFinishConnect.is (asks_answered pair_reply _ _ c.finish_connect-made.ensures.asked c.pair_reply.ensures)
+
+pub returns-in-TcpStartListen-clause-asked : goal.returns-in-TcpStartListen-clause-asked
+returns-in-TcpStartListen-clause-asked g c = rw c.in-TcpStartListen.is (asks_answered (answer_reply c.args.ids.now.line) _ _ c.start_listen-answer.ensures.asked (rw c.start_listen-answer.ensures.ids at c.answer_reply-in-TcpStartListen.ensures))
+
+pub returns-in-TcpFinishListen-clause-asked : goal.returns-in-TcpFinishListen-clause-asked
+returns-in-TcpFinishListen-clause-asked g c = rw (c.in-TcpFinishListen.is, c.finish_listen-done.ensures.state, c.finish_listen-done.ensures.quiet) (given_answered done_reply _ _ _ c.finish_listen-done.ensures.answer c.done_reply-in-TcpFinishListen.ensures)
+
+pub returns-in-TcpAccept-clause-asked : goal.returns-in-TcpAccept-clause-asked
+returns-in-TcpAccept-clause-asked g c = rw c.in-TcpAccept.is (asks_answered triple_reply _ _ (rw c.requires.first at c.accept-made.ensures.asked) c.triple_reply.ensures)
 
 pub returns-in-TcpLocalAddress-clause-asked : goal.returns-in-TcpLocalAddress-clause-asked
 returns-in-TcpLocalAddress-clause-asked g c = rw c.in-TcpLocalAddress.is (asks_answered address_reply _ _ c.local_address-told.ensures.asked c.address_reply.ensures)
@@ -52,7 +61,7 @@ pub returns-in-Subscribe-clause-asked : goal.returns-in-Subscribe-clause-asked
 returns-in-Subscribe-clause-asked g c = rw c.in-Subscribe.is (asks_answered handle_reply _ _ (rw (← c.of_fault.ensures) at c.subscribe-made.ensures.asked) c.handle_reply-in-Subscribe.ensures)
 
 pub returns-in-Ready-clause-asked : goal.returns-in-Ready-clause-asked
-returns-in-Ready-clause-asked g c = rw c.in-Ready.is (asks_answered truth_reply _ _ (rw (← c.of_fault-in-Ready.ensures) at c.ready-ready.ensures.asked) c.truth_reply-in-Ready.ensures)
+returns-in-Ready-clause-asked g c = rw c.in-Ready.is (asks_answered truth_reply _ _ (rw (← c.of_fault-in-Ready.ensures, c.requires.first) at c.ready-ready.ensures.asked) c.truth_reply-in-Ready.ensures)
 
 pub returns-in-Drop-clause-asked : goal.returns-in-Drop-clause-asked
 returns-in-Drop-clause-asked g c = rw c.in-Drop.is (asks_answered (answer_reply c.args.ids.now.line) _ _ (rw (← c.of_fault-in-Drop.ensures) at c.drop_handle-answer.ensures.asked) (rw c.drop_handle-answer.ensures.ids at c.answer_reply-in-Drop.ensures))
