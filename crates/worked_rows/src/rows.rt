@@ -1,6 +1,6 @@
 //! The program from its words to its log. The rows are worked by hand from the rules in docs/MODEL.md.
 
-use crate::given::Given;
+use script_rows::given::Given;
 use std::test::Fail;
 use wasi_addr::{IpSocketAddress, Ipv4SocketAddress, SocketAddrUse, SocketAddressFamily};
 use wasi_run::{RunEnd, run_main, run_script};
@@ -206,7 +206,7 @@ fn rows_with_their_status_line_and_replies(rt: HostRuntime) -> Result<(), Fail> 
         (&["run", "4294967296"], b"", BIND, 1, 0, ""),
         (&["run", "01"], b"", BIND, 1, 0, ""),
         (&["walk", "1000"], b"", BIND, 1, 0, ""),
-        (&["run", "1000"], b"", b"0 tcp-accept 1\n", 3, 1, ""),
+        (&["run", "1000"], b"", b"0 udp-create 4\n", 3, 1, ""),
         (&["run", "1000"], b"", b"0 write 4 0g\n", 3, 1, ""),
         (&["run", "1000"], b"check maybe\n", BIND, 2, 1, ""),
         (&["run", "1000"], b"check no\n\n", BIND, 2, 2, ""),

@@ -194,6 +194,9 @@ fn some_steps_have_no_context(rt: HostRuntime) -> Result<(), Fail> {
 fn each_word_has_its_step(rt: HostRuntime) -> Result<(), Fail> {
     let lines = [
         "0 tcp-finish-connect 2",
+        "0 tcp-start-listen 2",
+        "0 tcp-finish-listen 2",
+        "0 tcp-accept 2",
         "0 tcp-local-address 2",
         "0 tcp-remote-address 2",
         "0 tcp-is-listening 2",
@@ -245,6 +248,12 @@ fn other_lines_are_no_steps(rt: HostRuntime) -> Result<(), Fail> {
         "0 tcp-finish-bind 4294967296",
         "0 tcp-finish-bind -1",
         "0 tcp-finish-connect",
+        "0 tcp-start-listen",
+        "0 tcp-start-listen 2 1",
+        "0 tcp-finish-listen 4294967296",
+        "0 tcp-accept 02",
+        "0 tcp-accepts 2",
+        "tcp-accept 2",
         "0 read 3",
         "0 read 3 18446744073709551616",
         "0 write 4",

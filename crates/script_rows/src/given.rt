@@ -11,9 +11,11 @@ pub struct Given<'a> {
     pub words: &'a [&'a str],
     pub scenario: &'a [u8],
     pub script: &'a [u8],
-    // Reads and writes give or take at most so many bytes.
+    /// Reads and writes give or take at most so many bytes.
     pub most: usize,
+    /// The sink has room for so many bytes.
     pub room: usize,
+    /// The numbers of the reads and writes that fail, counted from 1.
     pub failing_reads: &'a [u32],
     pub failing_writes: &'a [u32],
 }
@@ -32,6 +34,7 @@ impl<'a> Given<'a> {
         }
     }
 
+    /// Runs the program over them.
     pub fn run(&self, alloc: Global) -> Result<Done<MemorySource, MemorySink>, Fail> {
         let mut words = Vec::new(alloc);
         for word in self.words {

@@ -1,10 +1,10 @@
 //! Streams that wait, and writes that go on by themselves, from the script to the log. The rows are worked by hand from the
 //! rules in docs/MODEL.md.
 
-use crate::row::{CONNECTED, Row, SOCKET};
+use script_rows::row::{CONNECTED, Row, SOCKET, check};
 use std::test::Fail;
 
-const STREAMS: [Row; 13] = [
+const STREAMS: [Row<'static>; 13] = [
     Row {
         shows: "a turn ends a write, and a look permits the next",
         scenario: "\
@@ -382,9 +382,5 @@ trap no-such-handle\n",
 
 #[test]
 fn streams_wait_for_the_network(rt: HostRuntime) -> Result<(), Fail> {
-    for row in STREAMS {
-        let ran = row.run(rt.alloc())?;
-        assert_eq!(rt; ran, row.wanted(rt.alloc())?, "{}", row.shows);
-    }
-    Ok(())
+    check(&rt, &STREAMS)
 }

@@ -1,9 +1,9 @@
 //! Connections, from the script to the log. The rows are worked by hand from the rules in docs/MODEL.md.
 
-use crate::row::{CONNECTED, CONNECTING, Row, SOCKET};
+use script_rows::row::{CONNECTED, CONNECTING, Row, SOCKET, check};
 use std::test::Fail;
 
-const ROWS: [Row; 12] = [
+const ROWS: [Row<'static>; 12] = [
     Row {
         shows: "a denied connect is closed",
         scenario: "\
@@ -295,9 +295,5 @@ err invalid-argument\n",
 
 #[test]
 fn connections_are_answered_and_logged(rt: HostRuntime) -> Result<(), Fail> {
-    for row in ROWS {
-        let ran = row.run(rt.alloc())?;
-        assert_eq!(rt; ran, row.wanted(rt.alloc())?, "{}", row.shows);
-    }
-    Ok(())
+    check(&rt, &ROWS)
 }

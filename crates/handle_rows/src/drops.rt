@@ -1,9 +1,9 @@
 //! What goes with a handle, and what the end of the run closes. The rows are worked by hand from the rules in docs/MODEL.md.
 
-use crate::row::{BOUND, CONNECTED, CONNECTING, NOTHING, Row, SOCKET};
+use script_rows::row::{BOUND, CONNECTED, CONNECTING, NOTHING, Row, SOCKET, check};
 use std::test::Fail;
 
-const SOCKETS: [Row; 12] = [
+const SOCKETS: [Row<'static>; 12] = [
     Row {
         shows: "a socket is closed",
         scenario: "",
@@ -219,7 +219,7 @@ ok 4\n",
     },
 ];
 
-const HANDLES: [Row; 10] = [
+const HANDLES: [Row<'static>; 10] = [
     Row {
         shows: "a network takes nothing with it",
         scenario: "",
@@ -373,7 +373,7 @@ trap no-such-handle\n",
     },
 ];
 
-const CHILDREN: [Row; 11] = [
+const CHILDREN: [Row<'static>; 11] = [
     Row {
         shows: "a socket has its streams under it",
         scenario: "",
@@ -546,27 +546,15 @@ ok\n",
 
 #[test]
 fn sockets_are_closed_when_they_go(rt: HostRuntime) -> Result<(), Fail> {
-    for row in SOCKETS {
-        let ran = row.run(rt.alloc())?;
-        assert_eq!(rt; ran, row.wanted(rt.alloc())?, "{}", row.shows);
-    }
-    Ok(())
+    check(&rt, &SOCKETS)
 }
 
 #[test]
 fn other_handles_take_nothing_with_them(rt: HostRuntime) -> Result<(), Fail> {
-    for row in HANDLES {
-        let ran = row.run(rt.alloc())?;
-        assert_eq!(rt; ran, row.wanted(rt.alloc())?, "{}", row.shows);
-    }
-    Ok(())
+    check(&rt, &HANDLES)
 }
 
 #[test]
 fn nothing_goes_before_what_is_under_it(rt: HostRuntime) -> Result<(), Fail> {
-    for row in CHILDREN {
-        let ran = row.run(rt.alloc())?;
-        assert_eq!(rt; ran, row.wanted(rt.alloc())?, "{}", row.shows);
-    }
-    Ok(())
+    check(&rt, &CHILDREN)
 }

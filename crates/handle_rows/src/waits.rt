@@ -1,9 +1,9 @@
 //! Binds and connects that wait, from the script to the log. The rows are worked by hand from the rules in docs/MODEL.md.
 
-use crate::row::{CONNECTING, NOTHING, Row, SOCKET};
+use script_rows::row::{CONNECTING, NOTHING, Row, SOCKET, check};
 use std::test::Fail;
 
-const BINDS: [Row; 6] = [
+const BINDS: [Row<'static>; 6] = [
     Row {
         shows: "a bind that waits holds up every guest call, and a poll ends it",
         scenario: "\
@@ -158,7 +158,7 @@ no-such-call\n",
     },
 ];
 
-const CONNECTS: [Row; 7] = [
+const CONNECTS: [Row<'static>; 7] = [
     Row {
         shows: "a connect that is ready makes its streams when it is finished",
         scenario: "",
@@ -327,18 +327,10 @@ trap no-such-handle\n",
 
 #[test]
 fn binds_that_wait_are_polled_until_they_end(rt: HostRuntime) -> Result<(), Fail> {
-    for row in BINDS {
-        let ran = row.run(rt.alloc())?;
-        assert_eq!(rt; ran, row.wanted(rt.alloc())?, "{}", row.shows);
-    }
-    Ok(())
+    check(&rt, &BINDS)
 }
 
 #[test]
 fn connects_are_polled_by_their_pollables_too(rt: HostRuntime) -> Result<(), Fail> {
-    for row in CONNECTS {
-        let ran = row.run(rt.alloc())?;
-        assert_eq!(rt; ran, row.wanted(rt.alloc())?, "{}", row.shows);
-    }
-    Ok(())
+    check(&rt, &CONNECTS)
 }

@@ -50,6 +50,8 @@ fn use_text(usage: SocketAddrUse) -> &'static str {
     match usage {
         SocketAddrUse::TcpBind => "tcp-bind",
         SocketAddrUse::TcpConnect => "tcp-connect",
+        SocketAddrUse::TcpListen => "tcp-listen",
+        SocketAddrUse::TcpAccept => "tcp-accept",
         _ => "other",
     }
 }
@@ -79,6 +81,18 @@ fn push_on(text: &mut String, name: &str, sock: OpId) -> Result<(), AllocError> 
     push_operation(text, sock)
 }
 
+/// A call on a side, to an address.
+fn push_to(
+    text: &mut String,
+    name: &str,
+    sock: OpId,
+    addr: IpSocketAddress,
+) -> Result<(), AllocError> {
+    push_on(text, name, sock)?;
+    text.push_str(" ")?;
+    push_address(text, addr)
+}
+
 fn push_call(text: &mut String, call: &Call) -> Result<(), AllocError> {
     match call {
         Call::Made {
@@ -101,16 +115,15 @@ fn push_call(text: &mut String, call: &Call) -> Result<(), AllocError> {
         }
         Call::Local { sock } => push_on(text, "local", *sock),
         Call::Peer { sock } => push_on(text, "peer", *sock),
-        Call::Bind { sock, addr } => {
-            push_on(text, "bind", *sock)?;
-            text.push_str(" ")?;
-            push_address(text, *addr)
+        Call::Bind { sock, addr } => push_to(text, "bind", *sock, *addr),
+        Call::Connect { sock, addr } => push_to(text, "connect", *sock, *addr),
+        Call::Listen { sock, backlog } => {
+            push_on(text, "listen", *sock)?;
+            write!(text, " {backlog}")
         }
-        Call::Connect { sock, addr } => {
-            push_on(text, "connect", *sock)?;
-            text.push_str(" ")?;
-            push_address(text, *addr)
-        }
+        Call::Accept { sock } => push_on(text, "accept", *sock),
+        Call::Hand { sock, peer } => push_to(text, "hand", *sock, *peer),
+        Call::Refuse { sock, peer } => push_to(text, "refuse", *sock, *peer),
         Call::Read { sock, size } => {
             push_on(text, "read", *sock)?;
             write!(text, " {size}")
@@ -143,6 +156,10 @@ fn push_told(text: &mut String, told: &Told) -> Result<(), AllocError> {
         Told::Code(code) => write!(text, "code {}", code_text(*code)),
         Told::Addr(addr) => {
             text.push_str("addr ")?;
+            push_address(text, *addr)
+        }
+        Told::Arrived(addr) => {
+            text.push_str("arrived ")?;
             push_address(text, *addr)
         }
         Told::Bytes(bytes) => {

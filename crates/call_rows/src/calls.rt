@@ -67,7 +67,9 @@ impl WasiSocketsView for Guest {
 }
 
 /// The names of a line.
-fn line(number: u32) -> Ids {
+fn line(number: u32) -> Ids
+    ensures { result.next_part ≡ 1 }
+{
     Ids {
         line: number,
         next_part: 1,
@@ -100,6 +102,33 @@ fn connect(view: &mut WasiSocketsCtxView<'_>, world: &mut ScriptedWorld) -> Resu
     tcp::start_connect(view, world, &mut line(3), 2, 1, ADDRESS)?;
     let streams = tcp::finish_connect(view, world, &mut line(4), 2)?;
     Ok(streams)
+}
+
+/// Makes the network 1 and the socket 2, which is bound and listens.
+fn listen(view: &mut WasiSocketsCtxView<'_>, world: &mut ScriptedWorld) -> Result<Answer<()>, Fail>
+    requires { (seen_by world.old).ended ≡ false }
+    ensures { (seen_by world.new).ended ≡ false }
+{
+    make_socket(view, world)?;
+    tcp::start_bind(view, world, &mut line(3), 2, 1, ADDRESS)?;
+    tcp::finish_bind(view, world, &mut line(4), 2)?;
+    let answer = tcp::start_listen(view, world, &mut line(5), 2)?;
+    tcp::finish_listen(view, world, &mut line(6), 2)?;
+    Ok(answer)
+}
+
+#[test]
+fn a_listener_accepts(rt: HostRuntime) -> Result<(), Fail> {
+    let alloc = rt.alloc();
+    let mut guest = Guest::new(alloc);
+    let mut world = world(alloc, "accept arrived 4 127 0 0 1 5000\n")?;
+    let mut view = guest.sockets();
+    assert_eq!(rt; listen(&mut view, &mut world)?, DONE);
+    let mut ids = line(7);
+    let made = tcp::accept(&mut view, &mut world, &mut ids, 2)?;
+    assert_eq!(rt; made, (3, 4, 5));
+    assert_eq!(rt; ids.next_part, 2);
+    Ok(())
 }
 
 /// The addresses of the socket 2.

@@ -3,6 +3,7 @@
 use crate::given::Given;
 use crate::logs::log_text;
 use std::alloc::{AllocError, Global};
+use std::process::Abort;
 use std::str;
 use std::test::Fail;
 use wasi_run::{RunEnd, run_script};
@@ -18,15 +19,18 @@ pub struct Beginning {
 
 /// A script, what the network answers, and what comes of it: the replies, the log, and how many sides the run's end closes.
 #[derive(Clone, Copy)]
-pub struct Row {
-    pub shows: &'static str,
-    pub scenario: &'static str,
+pub struct Row<'a> {
+    pub shows: &'a str,
+    pub scenario: &'a str,
     pub begins: Beginning,
-    pub script: &'static str,
-    pub replies: &'static str,
-    pub log: &'static str,
+    pub script: &'a str,
+    pub replies: &'a str,
+    pub log: &'a str,
     pub closings: u64,
 }
+
+/// The limit of a row's script, in bytes, and how many bytes of replies there is room for.
+const LIMIT: u32 = 8192;
 
 /// No line.
 pub const NOTHING: Beginning = Beginning {
@@ -130,7 +134,7 @@ pub struct Ran {
     world_log: String,
 }
 
-impl Row {
+impl Row<'_> {
     /// What is wanted.
     pub fn wanted(&self, alloc: Global) -> Result<Ran, AllocError> {
         let end = if self.replies.contains("trap") {
@@ -156,18 +160,19 @@ impl Row {
         let scenario = self.scenario.as_bytes();
         let given = Given {
             scenario,
-            ..Given::script(&["run", "4096"], script)
+            room: LIMIT as usize,
+            ..Given::script(&["run", "8192"], script)
         };
         let done = given.run(alloc)?;
 
         let (mut world, mut contexts) = ScriptedWorld::parse(alloc, scenario)?;
         let mut source = MemorySource::new(script.to_vec(alloc)?, 64, Vec::new(alloc));
-        let mut sink = MemorySink::new(alloc, 64, 4096, Vec::new(alloc))?;
+        let mut sink = MemorySink::new(alloc, 64, LIMIT as usize, Vec::new(alloc))?;
         let end = run_script(
             alloc,
             &mut world,
             &mut contexts,
-            4096,
+            LIMIT,
             &mut source,
             &mut sink,
         )?;
@@ -181,4 +186,13 @@ impl Row {
             world_log: log_text(alloc, world.entries())?,
         })
     }
+}
+
+/// Runs each row, and compares what came of it with what is wanted.
+pub fn check<R: Abort + AllocGlobal>(rt: &R, rows: &[Row]) -> Result<(), Fail> {
+    for row in rows {
+        let ran = row.run(rt.alloc())?;
+        assert_eq!(rt; ran, row.wanted(rt.alloc())?, "{}", row.shows);
+    }
+    Ok(())
 }

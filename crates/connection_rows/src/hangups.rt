@@ -1,10 +1,10 @@
 //! What goes with a connection: its halves, and the writes that still go on. The rows are worked by hand from the rules in
 //! docs/MODEL.md.
 
-use crate::row::{CONNECTED, Row};
+use script_rows::row::{CONNECTED, Row, check};
 use std::test::Fail;
 
-const HALVES: [Row; 12] = [
+const HALVES: [Row<'static>; 12] = [
     Row {
         shows: "open halves are shut down, the receiving one first",
         scenario: "",
@@ -277,7 +277,7 @@ ok\n",
     },
 ];
 
-const OUTPUTS: [Row; 9] = [
+const OUTPUTS: [Row<'static>; 9] = [
     Row {
         shows: "an output's drop waits for its write",
         scenario: "\
@@ -540,18 +540,10 @@ ok\n",
 
 #[test]
 fn open_halves_are_shut_down_once(rt: HostRuntime) -> Result<(), Fail> {
-    for row in HALVES {
-        let ran = row.run(rt.alloc())?;
-        assert_eq!(rt; ran, row.wanted(rt.alloc())?, "{}", row.shows);
-    }
-    Ok(())
+    check(&rt, &HALVES)
 }
 
 #[test]
 fn outputs_wait_until_they_are_ready(rt: HostRuntime) -> Result<(), Fail> {
-    for row in OUTPUTS {
-        let ran = row.run(rt.alloc())?;
-        assert_eq!(rt; ran, row.wanted(rt.alloc())?, "{}", row.shows);
-    }
-    Ok(())
+    check(&rt, &OUTPUTS)
 }
