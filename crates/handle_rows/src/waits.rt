@@ -1,6 +1,6 @@
 //! Binds and connects that wait, from the script to the log. The rows are worked by hand from the rules in docs/MODEL.md.
 
-use script_rows::row::{CONNECTING, NOTHING, Row, SOCKET, check};
+use script_rows::row::{CONNECTING, NOTHING, Row, SOCKET, first_wrong};
 use std::test::Fail;
 
 const BINDS: [Row<'static>; 6] = [
@@ -327,10 +327,12 @@ trap no-such-handle\n",
 
 #[test]
 fn binds_that_wait_are_polled_until_they_end(rt: HostRuntime) -> Result<(), Fail> {
-    check(&rt, &BINDS)
+    assert_eq!(rt; first_wrong(rt.alloc(), &BINDS)?, None);
+    Ok(())
 }
 
 #[test]
 fn connects_are_polled_by_their_pollables_too(rt: HostRuntime) -> Result<(), Fail> {
-    check(&rt, &CONNECTS)
+    assert_eq!(rt; first_wrong(rt.alloc(), &CONNECTS)?, None);
+    Ok(())
 }

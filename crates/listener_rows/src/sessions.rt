@@ -1,6 +1,6 @@
 //! Long scripts of a listener. The rows are worked by hand from the rules in docs/MODEL.md.
 
-use script_rows::row::{BOUND, Beginning, Row, check};
+use script_rows::row::{BOUND, Beginning, Row, first_wrong};
 use std::alloc::{AllocError, Global};
 use std::test::Fail;
 
@@ -57,7 +57,8 @@ ok 3 4 5\n",
         log: log.as_str(),
         closings: 2,
     };
-    check(&rt, &[row])
+    assert_eq!(rt; first_wrong(rt.alloc(), &[row])?, None);
+    Ok(())
 }
 
 /// What a listener is asked for before a connection: lines 1 to 9, and their replies and log.
@@ -185,5 +186,6 @@ fn a_session_is_served(rt: HostRuntime) -> Result<(), Fail> {
         log: log.as_str(),
         closings: 0,
     };
-    check(&rt, &[row])
+    assert_eq!(rt; first_wrong(rt.alloc(), &[row])?, None);
+    Ok(())
 }

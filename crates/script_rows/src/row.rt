@@ -3,7 +3,6 @@
 use crate::given::Given;
 use crate::logs::log_text;
 use std::alloc::{AllocError, Global};
-use std::process::Abort;
 use std::str;
 use std::test::Fail;
 use wasi_run::{RunEnd, run_script};
@@ -188,11 +187,23 @@ impl Row<'_> {
     }
 }
 
-/// Runs each row, and compares what came of it with what is wanted.
-pub fn check<R: Abort + AllocGlobal>(rt: &R, rows: &[Row]) -> Result<(), Fail> {
+/// A row of which something else came than what is wanted.
+#[derive(Debug, PartialEq, Drop)]
+pub struct Wrong<'a> {
+    shows: &'a str,
+    ran: Ran,
+    wanted: Ran,
+}
+
+/// Runs the rows in order, and gives the first that is wrong.
+pub fn first_wrong<'a>(alloc: Global, rows: &[Row<'a>]) -> Result<Option<Wrong<'a>>, Fail> {
     for row in rows {
-        let ran = row.run(rt.alloc())?;
-        assert_eq!(rt; ran, row.wanted(rt.alloc())?, "{}", row.shows);
+        let ran = row.run(alloc)?;
+        let wanted = row.wanted(alloc)?;
+        if ran != wanted {
+            let shows = row.shows;
+            return Ok(Some(Wrong { shows, ran, wanted }));
+        }
     }
-    Ok(())
+    Ok(None)
 }
