@@ -5,8 +5,9 @@ use Rattle.wasi_streams.specs.Table.{Slot, value_at, pushed}
 use Rattle.wasi_streams.proofs.Tables.{value_front}
 use Rattle.wasi_host.specs.declared.kind.Kind.{Kind}
 use Rattle.wasi_host.specs.Kinds.{Handles, kind_at}
-use Rattle.std.specs.Borrow.{MutBor}
+use Rattle.std.specs.Borrow.{Bor, MutBor}
 use Rattle.std.specs.List.{IsItemAtMut}
+use Rattle.std.specs.Slice.{IsItemAt}
 use Rattle.std.proofs.lemmas.Option.{slice_get_past, slice_get_read}
 use Rattle.std.proofs.lemmas.List.{set-get_or}
 use Rattle.std.proofs.lemmas.Bool.{eq-eqb}
@@ -47,3 +48,10 @@ pub set_there : {X : Type 0} (xs : List X) (i : ℕ) (now old : X) → slice_get
 set_there [] i now old h = absurd (cc)
 set_there (x ∷ xs) zero now old h = refl
 set_there (x ∷ xs) (suc i) now old h = set_there xs i now old h
+
+-- and what `get` lends
+pub got_at : {X : Type 0} (xs : List X) (i : ℕ) (x : Bor X) → IsItemAt xs i (Some x) → slice_get xs i ≡ Some x.now
+got_at xs i x h = slice_get_read xs (length xs) i x.now refl h.3.0 h.1
+
+pub not_got : {X : Type 0} (xs : List X) (i : ℕ) → IsItemAt xs i None → slice_get xs i ≡ None
+not_got xs i h = slice_get_past xs i h.3

@@ -2,6 +2,7 @@ pub mod Host
 pub mod Kinds
 pub mod Store
 pub mod Listening
+pub mod Options
 pub mod Jobs
 pub mod Readiness
 pub mod Dropping

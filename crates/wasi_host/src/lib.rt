@@ -10,6 +10,7 @@ mod jobs;
 pub mod kind;
 pub mod listening;
 pub mod machine;
+mod options;
 pub mod pending;
 mod pollables;
 pub mod socket;

@@ -10,6 +10,7 @@ ghost use Rattle.wasi_host.specs.Views.{SameView, state_of};
 ghost use Rattle.wasi_p2.specs.Pending.{resume_asks, resume_listen};
 ghost use Rattle.wasi_p2.specs.Tcp.{network_asks};
 
+mod options;
 pub mod tcp;
 
 pub use wasi_host::SocketError;

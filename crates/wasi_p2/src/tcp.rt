@@ -13,6 +13,12 @@ ghost use Rattle.wasi_host.specs.Views.{SameView, state_of};
 ghost use Rattle.wasi_p2.specs.Tcp.{start_bind_asks, finish_on, start_connect_asks, finish_connect_on, streams_asks, local_address_on, remote_address_on, is_listening_on, address_family_on, shutdown_on, start_listen_on, accepted_handles, accept_asks, ids_after_accept};
 
 use crate::SocketError;
+pub use crate::options::{
+    get_option, hop_limit, keep_alive_count, keep_alive_enabled, keep_alive_idle_time,
+    keep_alive_interval, receive_buffer_size, send_buffer_size, set_hop_limit, set_keep_alive_count,
+    set_keep_alive_enabled, set_keep_alive_idle_time, set_keep_alive_interval,
+    set_listen_backlog_size, set_option, set_receive_buffer_size, set_send_buffer_size,
+};
 use wasi_addr::{IpSocketAddress, ShutdownType, SocketAddressFamily};
 use wasi_host::{Kind, WasiSocketsCtxView, handles, of_fault};
 use wasi_world::{Answer, Handle, Ids, Sock, TrapKind, World};

@@ -1,0 +1,23 @@
+use Rattle.std.proofs.Common.{refl}
+use Rattle.wasi_world.proofs.Walks.{asks_end, asks_given}
+use Rattle.wasi_host.proofs.Hosts.{host_refused}
+use Rattle.wasi_host.proofs.Lookups.{got_at, not_got}
+use Rattle.wasi_host.proofs.SideCounts.{Any, knows_asked, knows_calm}
+use Rattle.wasi_host.proofs.OptionSides.{calm_get}
+use Rattle.wasi_host.proofs.store.Store.get_option.Goals as goal
+
+pub returns-in_default-clause-asked : goal.returns-in_default-clause-asked
+returns-in_default-clause-asked g c = rw (← c.self.view_is, not_got c.self.inside.sockets.items c.args.place (rw c.deref.ensures.value at c.in_default.ensures.lookup)) (asks_given _ _ refl refl)
+
+pub returns-in_err-value-clause-asked : goal.returns-in_err-value-clause-asked
+returns-in_err-value-clause-asked g c =
+    rw (← c.self.view_is, got_at c.self.inside.sockets.items c.args.place c.in-Some.record (rw c.deref.ensures.value at c.in-Some.ensures.lookup)) (host_refused _ _ c.from_residual.result c.from_residual.ensures.1 c.in_err-value.ensures.asked (λ code. refl))
+
+pub returns-clause-asked : goal.returns-clause-asked
+returns-clause-asked g c = rw (← c.self.view_is, got_at c.self.inside.sockets.items c.args.place c.in-Some.record (rw c.deref.ensures.value at c.in-Some.ensures.lookup)) (asks_end _ c.in_ok-value.ensures.asked.ok refl)
+
+pub returns-in_err-value-clause-sides : goal.returns-in_err-value-clause-sides
+returns-in_err-value-clause-sides g c = λ k. knows_asked Any _ _ _ (calm_get c.args.op c.in-Some.record.now.inner c.args.option) c.in_err-value.ensures.asked refl k
+
+pub returns-clause-sides : goal.returns-clause-sides
+returns-clause-sides g c = λ k. knows_calm Any _ _ (calm_get c.args.op c.in-Some.record.now.inner c.args.option) c.in_ok-value.ensures.asked.ok refl k

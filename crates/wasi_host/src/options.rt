@@ -1,0 +1,79 @@
+//! The options of a socket, and its backlog, by the number of its record.
+
+ghost use Rattle.std.specs.Prelude.{◌≡◌, ◌≤◌, false, IfOk, slice_get};
+ghost use Rattle.wasi_world.specs.Asks.{AsksFor};
+ghost use Rattle.wasi_tcp.specs.Options.{largest_value};
+ghost use Rattle.wasi_host.specs.Host.{host_outcome};
+ghost use Rattle.wasi_host.specs.Sides.{KnowsSides};
+
+use crate::error::SocketError;
+use crate::store::Store;
+use wasi_world::{OpId, Opt, TrapKind, World};
+
+impl Store {
+    ghost use Rattle.wasi_host.specs.Options.{get_option_at, set_option_at, set_backlog_at};
+
+    /// The value of an option of the socket of this number (`TcpSocket::get_option`).
+    pub fn get_option<W: World>(
+        &self,
+        world: &mut W,
+        op: OpId,
+        place: usize,
+        option: Opt,
+    ) -> Result<u64, SocketError>
+        requires { (W.seen world.old).ended ≡ false }
+        ensures asked { AsksFor (get_option_at self.now op option (slice_get self.now.sockets place)) (W.seen world.old) (W.seen world.new) (λ told. (told, self.now)) (host_outcome result) }
+        ensures within { IfOk result (λ value. value ≤ largest_value option) }
+        ensures sides { KnowsSides (W.seen world.old) self.now → KnowsSides (W.seen world.new) self.now }
+        ensures open { (W.seen world.new).ended ≡ false }
+    {
+        let Some(record) = self.sockets.get(place) else {
+            return Err(SocketError::Trap(TrapKind::NoSuchHandle));
+        };
+        let value = record.inner.get_option(world, op, option)?;
+        Ok(value)
+    }
+
+    /// Sets an option of the socket of this number to a value that is at most its `largest_value`
+    /// (`TcpSocket::set_option`). The records stay as they were.
+    pub fn set_option<W: World>(
+        &mut self,
+        world: &mut W,
+        op: OpId,
+        place: usize,
+        option: Opt,
+        value: u64,
+    ) -> Result<(), SocketError>
+        requires open { (W.seen world.old).ended ≡ false }
+        requires fits { value ≤ largest_value option }
+        ensures asked { AsksFor (set_option_at self.old op option value (slice_get self.old.sockets place)) (W.seen world.old) (W.seen world.new) (λ told. (told, self.new)) (host_outcome result) }
+        ensures sides { KnowsSides (W.seen world.old) self.old → KnowsSides (W.seen world.new) self.new }
+        ensures open { (W.seen world.new).ended ≡ false }
+    {
+        let Some(record) = self.sockets.get_mut(place) else {
+            return Err(SocketError::Trap(TrapKind::NoSuchHandle));
+        };
+        record.inner.set_option(world, op, option, value)?;
+        Ok(())
+    }
+
+    /// Sets the backlog of the socket of this number (`TcpSocket::set_listen_backlog_size`).
+    pub fn set_backlog<W: World>(
+        &mut self,
+        world: &mut W,
+        op: OpId,
+        place: usize,
+        value: u64,
+    ) -> Result<(), SocketError>
+        requires { (W.seen world.old).ended ≡ false }
+        ensures asked { AsksFor (set_backlog_at self.old op place value (slice_get self.old.sockets place)) (W.seen world.old) (W.seen world.new) (λ told. (told, self.new)) (host_outcome result) }
+        ensures sides { KnowsSides (W.seen world.old) self.old → KnowsSides (W.seen world.new) self.new }
+        ensures open { (W.seen world.new).ended ≡ false }
+    {
+        let Some(record) = self.sockets.get_mut(place) else {
+            return Err(SocketError::Trap(TrapKind::NoSuchHandle));
+        };
+        record.inner.set_listen_backlog_size(world, op, value)?;
+        Ok(())
+    }
+}
