@@ -11,7 +11,7 @@ use Rattle.wasi_world.specs.declared.ids.Ids.{Ids}
 use Rattle.wasi_world.specs.declared.ids.OpId.{OpId}
 use Rattle.wasi_world.specs.Asks.{Asks, Give, Ask, AskWrite, bind, Left}
 use Rattle.wasi_world.specs.Fits.{Fits, IsDone}
-use Rattle.wasi_world.specs.Operation.{Nothing, Connection, Item, Accept, CheckArrival, Hand, Refuse, LastAsk, NothingLast, Who, Operation, End, Done, Goes, last_ask, after, round, polls, accept_front, admitted_front}
+use Rattle.wasi_world.specs.Operation.{Nothing, Connection, Item, Accept, CheckArrival, Hand, Refuse, LastAsk, NothingLast, Who, Operation, End, Goes, last_ask, after, round, polls, accept_front, admitted_front}
 use Rattle.wasi_world.specs.Typed.{told_arrival, told_verdict}
 use Rattle.wasi_tcp.specs.Accept.{IsAccept, IsLeftOfAccept, Unarrived, Arrived, Admitted, Unwanted, Ended}
 use Rattle.wasi_tcp.specs.declared.listener.Accepting.{Accepting}

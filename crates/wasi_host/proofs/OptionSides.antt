@@ -1,14 +1,13 @@
 -- The options of a socket, and its backlog, make and close no side.
-use Rattle.std.proofs.Common.{◌≡◌, ℕ, ◌==◌, Bool, true, false, if◌then◌else◌, Result, Ok, Err, refl}
+use Rattle.std.proofs.Common.{ℕ, ◌==◌, Bool, true, false, if◌then◌else◌, Result, Ok, Err, refl}
 use Rattle.wasi_addr.specs.declared.code.ErrorCode.{ErrorCode}
 use Rattle.wasi_addr.specs.Clamp.{clamped_backlog}
 use Rattle.wasi_world.specs.declared.call.Opt.{Opt}
-use Rattle.wasi_world.specs.declared.call.Told.{Told}
 use Rattle.wasi_world.specs.declared.ids.OpId.{OpId}
-use Rattle.wasi_world.specs.Asks.{Asks, Give, Ask, bind}
+use Rattle.wasi_world.specs.Asks.{Asks, bind}
 use Rattle.wasi_tcp.specs.declared.socket.TcpState.{TcpState}
 use Rattle.wasi_tcp.specs.declared.socket.TcpState.TheVariants as state
-use Rattle.wasi_tcp.specs.Options.{zero_test, value_set, refused_before, refused_after, option_side, get_of_side_asks, get_where, get_option_asks, set_of_side_asks, set_where, set_option_asks, set_backlog_in, set_backlog_asks}
+use Rattle.wasi_tcp.specs.Options.{zero_test, refused_before, refused_after, option_side, get_of_side_asks, get_where, get_option_asks, set_of_side_asks, set_where, set_option_asks, set_backlog_in, set_backlog_asks}
 use Rattle.wasi_tcp.specs.Shape.{Socket}
 use Rattle.wasi_host.proofs.SideCounts.{Calm, Any, calm_then}
 

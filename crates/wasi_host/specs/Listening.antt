@@ -1,6 +1,5 @@
 -- Sockets that listen: what a listen and an accept ask and answer, and what the record is then.
 use Rattle.std.specs.Prelude.{◌≡◌, ℕ, ◌+◌, ◌≤◌, ⊤, Bool, true, false, List, [], ◌∷◌, ◌++◌, length, Option, Some, None, Result, Ok, Err, slice_set}
-use Rattle.std.specs.declared.alloc.AllocError.{AllocError}
 use Rattle.wasi_addr.specs.declared.address.IpSocketAddress.{IpSocketAddress}
 use Rattle.wasi_addr.specs.declared.address.SocketAddressFamily.{SocketAddressFamily}
 use Rattle.wasi_addr.specs.declared.code.ErrorCode.{ErrorCode}
