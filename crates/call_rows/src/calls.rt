@@ -16,7 +16,7 @@ use wasi_world::{
     Answer, HandleKind, Ids, Octets, OpId, ScriptedWorld, Sock, WasiSocketsCtx, World,
 };
 
-const ADDRESS: IpSocketAddress = IpSocketAddress::Ipv4(Ipv4SocketAddress {
+pub const ADDRESS: IpSocketAddress = IpSocketAddress::Ipv4(Ipv4SocketAddress {
     port: 80,
     address: (127, 0, 0, 1),
 });
@@ -29,14 +29,14 @@ const NOTHING: Option<Answer<Outcome>> = Some(Answer::Ready(Outcome::Nothing));
 
 /// A guest of one context.
 #[derive(Drop)]
-struct Guest {
+pub struct Guest {
     ctx: WasiSocketsCtx,
     table: Table<Kind>,
     store: Store,
 }
 
 impl Guest {
-    fn new(alloc: Global) -> Guest {
+    pub fn new(alloc: Global) -> Guest {
         Guest {
             ctx: WasiSocketsCtx {
                 name: 0,
@@ -67,7 +67,7 @@ impl WasiSocketsView for Guest {
 }
 
 /// The names of a line.
-fn line(number: u32) -> Ids
+pub fn line(number: u32) -> Ids
     ensures { result.next_part ≡ 1 }
 {
     Ids {
@@ -76,7 +76,7 @@ fn line(number: u32) -> Ids
     }
 }
 
-fn world(alloc: Global, scenario: &str) -> Result<ScriptedWorld, Fail>
+pub fn world(alloc: Global, scenario: &str) -> Result<ScriptedWorld, Fail>
     ensures { IfOk result (λ world. (seen_by world).ended ≡ false) }
 {
     let (world, _) = ScriptedWorld::parse(alloc, scenario.as_bytes())?;
@@ -84,7 +84,7 @@ fn world(alloc: Global, scenario: &str) -> Result<ScriptedWorld, Fail>
 }
 
 /// Makes the network 1 and the socket 2.
-fn make_socket(view: &mut WasiSocketsCtxView<'_>, world: &mut ScriptedWorld) -> Result<(), Fail>
+pub fn make_socket(view: &mut WasiSocketsCtxView<'_>, world: &mut ScriptedWorld) -> Result<(), Fail>
     requires { (seen_by world.old).ended ≡ false }
     ensures { (seen_by world.new).ended ≡ false }
 {

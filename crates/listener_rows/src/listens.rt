@@ -1,36 +1,7 @@
 //! Listeners and the connections that they accept. The rows are worked by hand from the rules in docs/MODEL.md.
 
-use script_rows::row::{BOUND, Beginning, CONNECTED, Row, SOCKET, first_wrong};
+use script_rows::row::{BOUND, CONNECTED, LISTENING, Row, SOCKET, first_wrong};
 use std::test::Fail;
-
-/// Socket 2 listens.
-const LISTENING: Beginning = Beginning {
-    script: "\
-0 network\n\
-0 tcp-create 4\n\
-0 tcp-start-bind 2 1 4 127 0 0 1 80\n\
-0 tcp-finish-bind 2\n\
-0 tcp-start-listen 2\n\
-0 tcp-finish-listen 2\n",
-    replies: "\
-ok 1\n\
-ok 2\n\
-ok\n\
-ok\n\
-ok\n\
-ok\n",
-    log: "\
-1 0 made 1 network - - = done\n\
-2 0 tcp-create 0 4 = done\n\
-2 0 made 2 tcp2 - 2 0 = done\n\
-3 0 local 2 0 = addr 4 0 0 0 0 0\n\
-3 0 check 0 4 127 0 0 1 80 tcp-bind = yes\n\
-3 0 bind 2 0 4 127 0 0 1 80 = done\n\
-5 0 local 2 0 = addr 4 127 0 0 1 80\n\
-5 0 local 2 0 = addr 4 127 0 0 1 80\n\
-5 0 check 0 4 127 0 0 1 80 tcp-listen = yes\n\
-5 0 listen 2 0 128 = done\n",
-};
 
 const LISTENS: [Row<'static>; 8] = [
     Row {

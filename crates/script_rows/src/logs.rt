@@ -4,7 +4,7 @@ use std::alloc::{AllocError, Global};
 use std::fmt::Write;
 use wasi_addr::{IpSocketAddress, ShutdownType, SocketAddrUse, SocketAddressFamily};
 use wasi_world::fields::{code_text, push_octets};
-use wasi_world::{Call, Entry, HandleKind, OpId, Told};
+use wasi_world::{Call, Entry, HandleKind, OpId, Opt, Told};
 
 /// The lines of the entries.
 pub fn log_text(alloc: Global, log: &[Entry]) -> Result<String, AllocError> {
@@ -53,6 +53,18 @@ fn use_text(usage: SocketAddrUse) -> &'static str {
         SocketAddrUse::TcpListen => "tcp-listen",
         SocketAddrUse::TcpAccept => "tcp-accept",
         _ => "other",
+    }
+}
+
+fn option_text(option: Opt) -> &'static str {
+    match option {
+        Opt::KeepAliveEnabled => "keep-alive-enabled",
+        Opt::KeepAliveIdleTime => "keep-alive-idle-time",
+        Opt::KeepAliveInterval => "keep-alive-interval",
+        Opt::KeepAliveCount => "keep-alive-count",
+        Opt::HopLimit => "hop-limit",
+        Opt::ReceiveBufferSize => "receive-buffer-size",
+        Opt::SendBufferSize => "send-buffer-size",
     }
 }
 
@@ -121,6 +133,22 @@ fn push_call(text: &mut String, call: &Call) -> Result<(), AllocError> {
             push_on(text, "listen", *sock)?;
             write!(text, " {backlog}")
         }
+        Call::SetBacklog { sock, backlog } => {
+            push_on(text, "set-backlog", *sock)?;
+            write!(text, " {backlog}")
+        }
+        Call::GetOption { sock, option } => {
+            push_on(text, "get-option", *sock)?;
+            write!(text, " {}", option_text(*option))
+        }
+        Call::SetOption {
+            sock,
+            option,
+            value,
+        } => {
+            push_on(text, "set-option", *sock)?;
+            write!(text, " {} {value}", option_text(*option))
+        }
         Call::Accept { sock } => push_on(text, "accept", *sock),
         Call::Hand { sock, peer } => push_to(text, "hand", *sock, *peer),
         Call::Refuse { sock, peer } => push_to(text, "refuse", *sock, *peer),
@@ -154,6 +182,7 @@ fn push_told(text: &mut String, told: &Told) -> Result<(), AllocError> {
         Told::Yes => text.push_str("yes"),
         Told::No => text.push_str("no"),
         Told::Code(code) => write!(text, "code {}", code_text(*code)),
+        Told::Value(value) => write!(text, "value {value}"),
         Told::Addr(addr) => {
             text.push_str("addr ")?;
             push_address(text, *addr)

@@ -73,6 +73,35 @@ ok\n",
 3 0 bind 2 0 4 127 0 0 1 80 = done\n",
 };
 
+/// Makes socket 2 listen.
+pub const LISTENING: Beginning = Beginning {
+    script: "\
+0 network\n\
+0 tcp-create 4\n\
+0 tcp-start-bind 2 1 4 127 0 0 1 80\n\
+0 tcp-finish-bind 2\n\
+0 tcp-start-listen 2\n\
+0 tcp-finish-listen 2\n",
+    replies: "\
+ok 1\n\
+ok 2\n\
+ok\n\
+ok\n\
+ok\n\
+ok\n",
+    log: "\
+1 0 made 1 network - - = done\n\
+2 0 tcp-create 0 4 = done\n\
+2 0 made 2 tcp2 - 2 0 = done\n\
+3 0 local 2 0 = addr 4 0 0 0 0 0\n\
+3 0 check 0 4 127 0 0 1 80 tcp-bind = yes\n\
+3 0 bind 2 0 4 127 0 0 1 80 = done\n\
+5 0 local 2 0 = addr 4 127 0 0 1 80\n\
+5 0 local 2 0 = addr 4 127 0 0 1 80\n\
+5 0 check 0 4 127 0 0 1 80 tcp-listen = yes\n\
+5 0 listen 2 0 128 = done\n",
+};
+
 /// Begins to connect socket 2.
 pub const CONNECTING: Beginning = Beginning {
     script: "\
@@ -115,7 +144,7 @@ ok 3 4\n",
 };
 
 /// One text after another.
-fn joined(alloc: Global, first: &str, then: &str) -> Result<String, AllocError> {
+pub fn joined(alloc: Global, first: &str, then: &str) -> Result<String, AllocError> {
     let mut text = first.to_string(alloc)?;
     text.push_str(then)?;
     Ok(text)

@@ -62,7 +62,8 @@ pub fn set_option<W: World>(
     let Some(place) = handles::socket(view.table, this) else {
         return Err(SocketError::Trap(TrapKind::NoSuchHandle));
     };
-    view.store.set_option(world, ids.own(), place, option, value)
+    view.store
+        .set_option(world, ids.own(), place, option, value)
 }
 
 /// Whether probes are sent on a connection that is idle (`keep-alive-enabled`): any told number but 0 is yes.
@@ -98,7 +99,14 @@ pub fn set_keep_alive_enabled<W: World>(
     ensures ids { ids.new ≡ ids.old }
     ensures open { (W.seen world.new).ended ≡ false }
 {
-    set_option(view, world, ids, this, Opt::KeepAliveEnabled, u64::from(value))
+    set_option(
+        view,
+        world,
+        ids,
+        this,
+        Opt::KeepAliveEnabled,
+        u64::from(value),
+    )
 }
 
 /// How long a connection is idle before the first probe, in nanoseconds (`keep-alive-idle-time`).
@@ -208,7 +216,14 @@ pub fn set_keep_alive_count<W: World>(
     ensures ids { ids.new ≡ ids.old }
     ensures open { (W.seen world.new).ended ≡ false }
 {
-    set_option(view, world, ids, this, Opt::KeepAliveCount, u64::from(value))
+    set_option(
+        view,
+        world,
+        ids,
+        this,
+        Opt::KeepAliveCount,
+        u64::from(value),
+    )
 }
 
 /// How many hops a packet lives (`hop-limit`). A number above 255 that is told: `NotSupported`.

@@ -15,9 +15,10 @@ ghost use Rattle.wasi_p2.specs.Tcp.{start_bind_asks, finish_on, start_connect_as
 use crate::SocketError;
 pub use crate::options::{
     get_option, hop_limit, keep_alive_count, keep_alive_enabled, keep_alive_idle_time,
-    keep_alive_interval, receive_buffer_size, send_buffer_size, set_hop_limit, set_keep_alive_count,
-    set_keep_alive_enabled, set_keep_alive_idle_time, set_keep_alive_interval,
-    set_listen_backlog_size, set_option, set_receive_buffer_size, set_send_buffer_size,
+    keep_alive_interval, receive_buffer_size, send_buffer_size, set_hop_limit,
+    set_keep_alive_count, set_keep_alive_enabled, set_keep_alive_idle_time,
+    set_keep_alive_interval, set_listen_backlog_size, set_option, set_receive_buffer_size,
+    set_send_buffer_size,
 };
 use wasi_addr::{IpSocketAddress, ShutdownType, SocketAddressFamily};
 use wasi_host::{Kind, WasiSocketsCtxView, handles, of_fault};

@@ -145,6 +145,7 @@ module _ (contexts : List WasiSocketsCtx) (steps : List Step) where
         fine = record {
           knows = record { maker = λ s p. f.knows.maker s (ap side_in e ∙ p) };
           bound = λ s p q. absurd (cc);
+          listens = λ s p. absurd (cc);
           connect = λ c p. let same : begun ≡ c = cc in subst (ConnectIsFine steps es) same may_connect;
         };
       }
@@ -178,27 +179,28 @@ module _ (contexts : List WasiSocketsCtx) (steps : List Step) where
     pub fine : SocketIsFine steps es done.1
     pub side : HasSide done.1 done.0
 
-  plain : (es : List Entry) (socket : Socket) (s : TcpState) → ((side : OpId) → side_in s ≡ Some side → side_of socket ≡ Some side) → KnowsMaker es socket → ((side : OpId) → s ≡ state.Default side → socket.state ≡ state.Default side) → ((op : Operation) → s ≡ state.Connecting op → ConnectIsFine steps es op) → SocketIsFine steps es socket → SocketIsFine steps es (with_state socket s)
-  plain es socket s k m d c f = record {
+  plain : (es : List Entry) (socket : Socket) (s : TcpState) → ((side : OpId) → side_in s ≡ Some side → side_of socket ≡ Some side) → KnowsMaker es socket → ((side : OpId) → s ≡ state.Default side → socket.state ≡ state.Default side) → ((side : OpId) → s ≡ state.Listening side → ⊥) → ((op : Operation) → s ≡ state.Connecting op → ConnectIsFine steps es op) → SocketIsFine steps es socket → SocketIsFine steps es (with_state socket s)
+  plain es socket s k m d n c f = record {
     knows = record { maker = λ side e. m.maker side (k side e) };
     bound = λ side e b. f.bound side (d side e) b;
+    listens = λ side e. absurd (n side e);
     connect = c;
   }
 
   ended : (es : List Entry) (socket : Socket) (op : Operation) (end : End × List Item) → socket.state ≡ state.Connecting op → SocketIsFine steps es socket → ConnectIsFine steps es (left_of op end.1) → FinishedFine socket es (in_socket socket (connect_ended op.who end))
   ended es socket op (Waits, items) e f c = record {
     keeps = record { maker = refl; family = refl; side = λ s p. ap side_in e ∙ p; connected = λ d p. absurd (cc) };
-    fine = plain es socket _ (λ s p. ap side_in e ∙ p) f.knows (λ s p. absurd (cc)) (λ o p. let same : left_of op items ≡ o = cc in subst (ConnectIsFine steps es) same c) f;
+    fine = plain es socket _ (λ s p. ap side_in e ∙ p) f.knows (λ s p. absurd (cc)) (λ s p. cc) (λ o p. let same : left_of op items ≡ o = cc in subst (ConnectIsFine steps es) same c) f;
     side = tt;
   }
   ended es socket op (Done given, items) e f c = record {
     keeps = record { maker = refl; family = refl; side = λ s p. ap side_in e ∙ p; connected = λ d p. absurd (cc) };
-    fine = plain es socket _ (λ s p. ap side_in e ∙ p) f.knows (λ s p. absurd (cc)) (λ o p. absurd (cc)) f;
+    fine = plain es socket _ (λ s p. ap side_in e ∙ p) f.knows (λ s p. absurd (cc)) (λ s p. cc) (λ o p. absurd (cc)) f;
     side = (op.who.side, record { connection = new_connection op.who.side; state = refl; same = refl });
   }
   ended es socket op (Refused code given, items) e f c = record {
     keeps = record { maker = refl; family = refl; side = λ s p. absurd (cc); connected = λ d p. absurd (cc) };
-    fine = plain es socket _ (λ s p. absurd (cc)) f.knows (λ s p. absurd (cc)) (λ o p. absurd (cc)) f;
+    fine = plain es socket _ (λ s p. absurd (cc)) f.knows (λ s p. absurd (cc)) (λ s p. cc) (λ o p. absurd (cc)) f;
     side = tt;
   }
 

@@ -15,7 +15,7 @@ use Rattle.wasi_world.specs.Operation.{Nothing, Item, Check, CheckArrival, Bind,
 use Rattle.wasi_tcp.specs.declared.listener.Accepting.{Accepting}
 use Rattle.wasi_tcp.specs.declared.listener.Accepting.TheVariants as accepting
 use Rattle.wasi_tcp.specs.declared.socket.Connection.{Connection}
-use Rattle.wasi_tcp.specs.declared.socket.TcpState.TheVariants.{Default, Connecting, Connected}
+use Rattle.wasi_tcp.specs.declared.socket.TcpState.TheVariants as state
 use Rattle.wasi_tcp.specs.declared.reader.ReadState.{ReadState}
 use Rattle.wasi_tcp.specs.declared.reader.ReadState.TheVariants as reading
 use Rattle.wasi_tcp.specs.declared.writer.WriteState.{WriteState}
@@ -37,7 +37,7 @@ use Rattle.wasi_host.specs.declared.store.StandingCall.TheVariants as standing
 use Rattle.wasi_host.specs.Kinds.{kind_at, place_in}
 use Rattle.wasi_host.specs.Machine.{own_of}
 use Rattle.wasi_run.specs.declared.step.Step.{Step}
-use Rattle.wasi_run.specs.Licence.{Has, entry, marks_in, BeganBy, NamesSide, IsMarkedWith, IsMaker, IsBoundSide, MayGoOut, HandedNone, MarksNoSocket, IsBindTo, IsConnectTo}
+use Rattle.wasi_run.specs.Licence.{Has, entry, marks_in, BeganBy, NamesSide, IsMarkedWith, IsMaker, IsBoundSide, Listens, MayGoOut, HandedNone, MarksNoSocket, IsBindTo, IsConnectTo}
 
 -- The handle stands for the record at this place, and its mark says the side that the record was made with.
 pub record NamesRecord (es : List Entry) (sockets : List Tcp2Socket) (handle place : ℕ) : Type 0 where
@@ -60,7 +60,7 @@ pub record KnowsMaker (es : List Entry) (socket : Socket) : Type 0 where
 -- The socket is connected, on this side.
 pub record IsConnectedOn (socket : Socket) (side : OpId) : Type 0 where
   pub connection : Connection
-  pub state : socket.state ≡ Connected connection
+  pub state : socket.state ≡ state.Connected connection
   pub same : connection.side ≡ side
 
 -- the half, while it is open, is of this side
@@ -218,11 +218,12 @@ module _ (steps : List Step) where
   ListeningIsFine es made (Accepts l) = ListenerIsFine es made l
   ListeningIsFine es made (Unclosed side) = ⊤
 
-  -- A socket knows its maker; it is bound only where the log says so; and its connect may be polled.
+  -- A socket knows its maker; it is bound, and it listens, only where the log says so; and its connect may be polled.
   pub record SocketIsFine (es : List Entry) (socket : Socket) : Type 0 where
     pub knows : KnowsMaker es socket
-    pub bound : (side : OpId) → socket.state ≡ Default side → socket.bound ≡ true → IsBoundSide es side
-    pub connect : (op : Operation) → socket.state ≡ Connecting op → ConnectIsFine es op
+    pub bound : (side : OpId) → socket.state ≡ state.Default side → socket.bound ≡ true → IsBoundSide es side
+    pub listens : (side : OpId) → socket.state ≡ state.Listening side → Listens es side
+    pub connect : (op : Operation) → socket.state ≡ state.Connecting op → ConnectIsFine es op
 
   -- A socket that still has a side has the one that its record was made with.
   pub record RecordIsFine (es : List Entry) (r : Tcp2Socket) : Type 0 where

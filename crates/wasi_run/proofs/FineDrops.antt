@@ -69,7 +69,7 @@ module _ (contexts : List WasiSocketsCtx) (steps : List Step) where
 
   -- a closed socket has no side, and may be anything else
   closed_is_fine : (es : List Entry) (socket : Socket) → SocketIsFine steps es (with_state socket (state.Closed Other))
-  closed_is_fine es socket = record { knows = record { maker = λ side e. absurd (cc) }; bound = λ side e b. absurd (cc); connect = λ op e. absurd (cc) }
+  closed_is_fine es socket = record { knows = record { maker = λ side e. absurd (cc) }; bound = λ side e b. absurd (cc); listens = λ side e. absurd (cc); connect = λ op e. absurd (cc) }
 
   -- the record's socket is this one, and nothing else is left of it
   abbrev LeavesGone : Tcp2Socket → List Entry → Socket → Type 0

@@ -182,6 +182,7 @@ module _ (contexts : List WasiSocketsCtx) (steps : List Step) where
       let made_it : SocketIsFine steps es now = record {
         knows = record { maker = λ side e. maker_is own side e (Created own told.Done k.0) };
         bound = λ side e b. absurd (cc);
+        listens = λ side e. absurd (cc);
         connect = λ op e. absurd (cc);
       } in
       subst (λ (s : Socket). Meets Leaves es (create_handle m own s)) (sym k.1)

@@ -33,13 +33,13 @@ use Rattle.wasi_host.specs.Store.{Records, left_of, with_inner, is_nothing}
 use Rattle.wasi_p2.specs.Tcp.{start_listen_on}
 use Rattle.wasi_run.specs.declared.step.Step.{Step}
 use Rattle.wasi_run.specs.declared.step.Step.TheVariants as step
-use Rattle.wasi_run.specs.Licence.{BeganBy, IsMaker, IsListen}
+use Rattle.wasi_run.specs.Licence.{BeganBy, IsMaker, Listens, IsListen}
 use Rattle.wasi_run.proofs.Lists.{set_there}
 use Rattle.wasi_run.proofs.Bounds.{May, MayWork, work_kept, Learned, fine_bound}
 use Rattle.wasi_run.proofs.AcceptFrames.{KeepsListening, same_listening}
 use Rattle.wasi_run.proofs.Fine.{ListeningStands, accept_name, RecordIsFine, StateIsFine}
 use Rattle.wasi_run.proofs.Frames.{maker_more, record_more, record_kept, LeavesRecord, state_unstands}
-use Rattle.wasi_run.proofs.ListenAsks.{Whole, ListenIsFine, fine_poll_listen}
+use Rattle.wasi_run.proofs.ListenAsks.{Whole, ListenIsFine, ListenEnds, fine_poll_listen}
 use Rattle.wasi_run.proofs.FineHandles.{Fine, IsLine, Meets, and_then, allows_state, keeps_record, state_left, NamesMade, may_work, names_socket}
 
 module _ (contexts : List WasiSocketsCtx) (steps : List Step) where
@@ -88,12 +88,13 @@ module _ (contexts : List WasiSocketsCtx) (steps : List Step) where
   no_streams es r s c h e = let p : side_of r.inner ≡ Some (h.streams s e).connected.connection.side = ap side_in (h.streams s e).connected.state in absurd (cc)
 
   -- one that is done listens
-  listens_now : (es : List Entry) (r : Tcp2Socket) (op : Operation) → r.side ≡ Some op.who.side → side_of r.inner ≡ None → op.who.context ≡ r.inner.maker → IsMaker es r.inner.maker r.inner.family op.who.side → RecordIsFine steps es r
+  listens_now : (es : List Entry) (r : Tcp2Socket) (op : Operation) → r.side ≡ Some op.who.side → side_of r.inner ≡ None → op.who.context ≡ r.inner.maker → IsMaker es r.inner.maker r.inner.family op.who.side → Listens es op.who.side → RecordIsFine steps es r
       → RecordIsFine steps es (record r { inner = with_state r.inner (state.Listening op.who.side); in_progress = doing.Listen; listening = Accepts (new_listener op.who.side op.who.context r.inner.family) })
-  listens_now es r op s c a m h = record {
+  listens_now es r op s c a m l h = record {
     socket = record {
       knows = record { maker = λ side e. let p : op.who.side ≡ side = cc in subst (IsMaker es r.inner.maker r.inner.family) p m };
       bound = λ side e b. absurd (cc);
+      listens = λ side e. let p : op.who.side ≡ side = cc in subst (Listens es) p l;
       connect = λ o e. absurd (cc);
     };
     named = λ side e. s ∙ e;
@@ -102,13 +103,13 @@ module _ (contexts : List WasiSocketsCtx) (steps : List Step) where
   }
 
   ended : (es : List Entry) (old r : Tcp2Socket) (op : Operation) (end : End × List Item) → r.side ≡ old.side → r.side ≡ Some op.who.side → side_of r.inner ≡ None → op.who.context ≡ r.inner.maker → IsMaker es r.inner.maker r.inner.family op.who.side
-      → RecordIsFine steps es r → ListenIsFine steps es (left_of op end.1) → ListenLeaves old es (listen_polled r (listen_ended op.who r.inner end))
+      → RecordIsFine steps es r → ListenEnds steps es op.who end.0 end.1 → ListenLeaves old es (listen_polled r (listen_ended op.who r.inner end))
   ended es old r op (Waits, items) k s c a m h f = record {
     leaves = record { side = k; listening = quiet old.listening (Begins (left_of op items)) (λ fs. tt) refl; fine = record { socket = h.socket; named = h.named; streams = h.streams; listening = tt } };
     waits = record { op = left_of op items; begins = refl; fine = f; side = s; closed = c; asks = a; made = m };
   }
   ended es old r op (Done given, items) k s c a m h f = record {
-    leaves = record { side = k; listening = quiet old.listening (Accepts (new_listener op.who.side op.who.context r.inner.family)) (λ fs. tt) refl; fine = listens_now es r op s c a m h };
+    leaves = record { side = k; listening = quiet old.listening (Accepts (new_listener op.who.side op.who.context r.inner.family)) (λ fs. tt) refl; fine = listens_now es r op s c a m f h };
     waits = tt;
   }
   ended es old r op (Refused code given, items) k s c a m h f = record {
@@ -128,8 +129,8 @@ module _ (contexts : List WasiSocketsCtx) (steps : List Step) where
 
   goes_on : (es : List Entry) (old r : Tcp2Socket) (l : ListenRecord es r) → r.side ≡ old.side → RecordIsFine steps es r → Allows (May contexts steps) (λ fs done. ListenLeaves old fs (listen_polled r done)) es (listen_goes_on l.op r.inner)
   goes_on es old r l k h =
-      allows_then (May contexts steps) (λ fs end. Kept r l.op fs × ListenIsFine steps fs (left_of l.op end.1)) (λ fs done. ListenLeaves old fs (listen_polled r done)) es (poll_asks l.op) _
-      (allows_keep (May contexts steps) (May contexts steps) (Kept r l.op) (λ fs end. ListenIsFine steps fs (left_of l.op end.1))
+      allows_then (May contexts steps) (λ fs end. Kept r l.op fs × ListenEnds steps fs l.op.who end.0 end.1) (λ fs done. ListenLeaves old fs (listen_polled r done)) es (poll_asks l.op) _
+      (allows_keep (May contexts steps) (May contexts steps) (Kept r l.op) (λ fs end. ListenEnds steps fs l.op.who end.0 end.1)
       (λ fs o c t fits q m. (record_more steps fs _ r q.0, maker_more fs _ r.inner.maker r.inner.family l.op.who.side q.1)) (λ fs o c m. m) es (poll_asks l.op) (h, l.made) (fine_poll_listen contexts steps l.op es l.fine))
       (λ fs end q. ended fs old r l.op end k l.side l.closed l.asks q.0.1 q.0.0 q.1)
 
@@ -164,7 +165,7 @@ module _ (contexts : List WasiSocketsCtx) (steps : List Step) where
         asks = refl;
         made = h.socket.knows.maker side its;
       }) k (record {
-        socket = record { knows = record { maker = λ s q. absurd (cc) }; bound = λ s q p. absurd (cc); connect = λ o q. absurd (cc) };
+        socket = record { knows = record { maker = λ s q. absurd (cc) }; bound = λ s q p. absurd (cc); listens = λ s q. absurd (cc); connect = λ o q. absurd (cc) };
         named = λ s q. absurd (cc);
         streams = λ s q. absurd (let p = (h.streams s q).connected.state in cc);
         listening = tt;

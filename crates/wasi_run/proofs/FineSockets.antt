@@ -44,7 +44,7 @@ use Rattle.wasi_run.proofs.FineHandles.{Fine, Leaves, Stores, IsLine, Meets, and
 
 module _ (contexts : List WasiSocketsCtx) (steps : List Step) where
   -- the handle of this line's socket stands for the record
-  abbrev NamedBy : List Entry → Machine → ℕ → ℕ → Type 0
+  abbrev pub NamedBy : List Entry → Machine → ℕ → ℕ → Type 0
   NamedBy es m line place = (r : Tcp2Socket) → slice_get m.store.sockets place ≡ Some r → NamesMade contexts steps es (own_of line) r
 
   -- == tcp-start-bind
@@ -97,11 +97,11 @@ module _ (contexts : List WasiSocketsCtx) (steps : List Step) where
   fine_finish_on es is_it m (Some place) h = fine_finish_at es is_it m place (slice_get m.store.sockets place) refl h
 
   -- == calls on a record whose socket alone changes
-  put_in : {T : Type 0} (store : Records) (place : ℕ) (done : Result T ErrorCode × Tcp2Socket) → with_socket store place done.1 ≡ (put_back store place done).1
+  pub put_in : {T : Type 0} (store : Records) (place : ℕ) (done : Result T ErrorCode × Tcp2Socket) → with_socket store place done.1 ≡ (put_back store place done).1
   put_in store place (Ok value, now) = refl
   put_in store place (Err c, now) = refl
 
-  inner_kept : {A : Type 0} (es : List Entry) (r now : Tcp2Socket) (answer : A) → KeepsSide r.inner now.inner → now.side ≡ r.side → now.streams ≡ r.streams → now.listening ≡ r.listening → SocketIsFine steps es now.inner → RecordIsFine steps es r → LeavesRecord steps r es (answer, now)
+  pub inner_kept : {A : Type 0} (es : List Entry) (r now : Tcp2Socket) (answer : A) → KeepsSide r.inner now.inner → now.side ≡ r.side → now.streams ≡ r.streams → now.listening ≡ r.listening → SocketIsFine steps es now.inner → RecordIsFine steps es r → LeavesRecord steps r es (answer, now)
   inner_kept es r now answer k s t l f h = record { side = s; listening = listening_kept r.listening now.listening l; fine = record_kept steps es r now (record { keeps = k; side = s; streams = t; listening = l }) f h }
 
   -- == tcp-start-connect

@@ -10,18 +10,21 @@ use Rattle.wasi_host.specs.Kinds.{kind_at, watched_by, watch_of}
 use Rattle.wasi_host.specs.Store.{flush_asks, is_bind, is_listen}
 use Rattle.wasi_host.specs.Machine.{first_state, own_of, socket_at, input_at, output_at, create_asks, subscribe_asks, ready_asks, drop_asks, turn_machine_asks}
 use Rattle.wasi_host.specs.StreamCalls.{read_asks, check_asks, write_asks, flushed_asks}
+use Rattle.wasi_p2.specs.Options.{get_option_on}
 use Rattle.wasi_p2.specs.Tcp.{network_asks, start_bind_asks, start_connect_asks, finish_connect_asks, start_listen_on, accept_asks, local_address_on, remote_address_on, shutdown_on}
 use Rattle.wasi_run.specs.declared.reply.Reply.{Reply}
 use Rattle.wasi_run.specs.declared.reply.Reply.TheVariants as reply
 use Rattle.wasi_run.specs.declared.step.Step.{Step}
 use Rattle.wasi_run.specs.declared.step.Step.TheVariants as step
 use Rattle.wasi_run.specs.Reply.{is_trap, no_fields}
-use Rattle.wasi_run.specs.Machine.{handle_reply, done_reply, pair_reply, triple_reply, address_reply, truth_reply, bytes_reply, permit_reply, taken_reply, answer_reply, context_at, first_ids, step_asks, is_guest_call, machine_asks, run}
+use Rattle.wasi_run.specs.Machine.{handle_reply, value_reply, done_reply, pair_reply, triple_reply, address_reply, truth_reply, bytes_reply, permit_reply, taken_reply, answer_reply, set_chosen, context_at, first_ids, step_asks, is_guest_call, machine_asks, run}
+use Rattle.wasi_run.specs.Settings.{chosen}
 use Rattle.wasi_run.specs.Licence.{step_at, MayAsk}
 use Rattle.wasi_run.proofs.Lists.{get_seam}
 use Rattle.wasi_run.proofs.Flows.{fine_check, fine_write}
 use Rattle.wasi_run.proofs.FineHandles.{Fine, Leaves, IsLine, Meets, and_then, fine_network, fine_create, fine_subscribe_on}
 use Rattle.wasi_run.proofs.FineSockets.{fine_start_bind, fine_finish_on, fine_start_connect_on, fine_finish_connect_on, fine_local_on, fine_remote_on}
+use Rattle.wasi_run.proofs.FineOptions.{fine_get_on, fine_set_on}
 use Rattle.wasi_run.proofs.FineStreams.{fine_read_on, fine_output_on, fine_writing_on, fine_shutdown_on}
 use Rattle.wasi_run.proofs.FineDrops.{fine_drop}
 use Rattle.wasi_run.proofs.FineAccepts.{IsNew}
@@ -57,6 +60,8 @@ module _ (contexts : List WasiSocketsCtx) (steps : List Step) where
   fine_step es m line (step.TcpRemoteAddress ctx s) l n h = replied es (remote_address_on m (own_of line) (socket_at m s)) address_reply (fine_remote_on contexts steps es m line ctx s (socket_at m s) refl l h)
   fine_step es m line (step.TcpIsListening ctx s) l n h = inl h
   fine_step es m line (step.TcpAddressFamily ctx s) l n h = inl h
+  fine_step es m line (step.TcpGet ctx s option) l n h = replied es (get_option_on m (own_of line) option (socket_at m s)) value_reply (fine_get_on contexts steps es m line ctx s option (socket_at m s) refl l h)
+  fine_step es m line (step.TcpSet ctx s setting) l n h = replied es (set_chosen m (own_of line) (socket_at m s) (chosen setting)) done_reply (fine_set_on contexts steps es m line ctx s setting (socket_at m s) refl l h)
   fine_step es m line (step.TcpShutdown ctx s how) l n h = replied es (shutdown_on m (own_of line) how (socket_at m s)) done_reply (fine_shutdown_on contexts steps es m line ctx s how (socket_at m s) refl l h)
   fine_step es m line (step.Read ctx input len) l n h = replied es (read_asks m (own_of line) input len) bytes_reply (fine_read_on contexts steps es m line ctx input len (input_at m input) refl l h)
   fine_step es m line (step.CheckWrite ctx output) l n h =

@@ -56,6 +56,7 @@ module _ (contexts : List WasiSocketsCtx) (steps : List Step) where
       let fine : SocketIsFine steps es socket = record {
         knows = record { maker = λ side e. let p : new ≡ side = cc in subst (IsMaker es l.maker l.family) p made };
         bound = λ side e b. absurd (cc);
+        listens = λ side e. absurd (cc);
         connect = λ o e. absurd (cc);
       } in
       (opened_record contexts steps es (new_record socket) socket new (record { connection = connection; state = refl; same = refl }) (keeps_side socket) fine

@@ -46,9 +46,11 @@ use Rattle.wasi_run.specs.declared.reply.Reply.{Reply}
 use Rattle.wasi_run.specs.declared.reply.Reply.TheVariants as reply
 use Rattle.wasi_run.specs.declared.step.Step.{Step}
 use Rattle.wasi_run.specs.declared.step.Step.TheVariants as step
-use Rattle.wasi_run.specs.Machine.{handle_reply, done_reply, answer_reply, pair_reply, triple_reply, address_reply, truth_reply, bytes_reply, permit_reply, taken_reply, poll_on, poll_asks, context_at, first_ids, is_guest_call, step_asks, machine_asks, run}
+use Rattle.wasi_run.specs.Machine.{handle_reply, value_reply, done_reply, answer_reply, pair_reply, triple_reply, address_reply, truth_reply, bytes_reply, permit_reply, taken_reply, poll_on, poll_asks, context_at, first_ids, is_guest_call, step_asks, machine_asks, run}
 use Rattle.wasi_run.specs.Reply.{is_trap}
+use Rattle.wasi_run.specs.Settings.{chosen}
 use Rattle.wasi_run.specs.Waiting.{IsRestOfBind}
+use Rattle.wasi_run.proofs.FitOptions.{get_fits, set_fits}
 use Rattle.wasi_run.proofs.FitRecords.{FitRecord, Leaves, reader_fits, writer_fits}
 use Rattle.wasi_run.proofs.FitSockets.{FitMade, made_fits}
 use Rattle.wasi_run.proofs.FitStores.{FitCall, FitStore, Stores, made_record_fits, start_bind_at_fits, start_connect_at_fits, start_listen_at_fits, finish_at_fits, finish_connect_at_fits, accept_at_fits, local_at_fits, remote_at_fits, shutdown_at_fits, ready_at_fits, release_at_fits, drop_output_fits, stream_at_fits, write_at_fits, rebind_fits, relisten_fits, turn_store_fits}
@@ -295,6 +297,8 @@ module _ (contexts : List WasiSocketsCtx) where
   step_fits es m line (step.TcpRemoteAddress ctx s) h = replied es _ address_reply (remote_fits es m h (own_of line) (socket_at m s))
   step_fits es m line (step.TcpIsListening ctx s) h = h
   step_fits es m line (step.TcpAddressFamily ctx s) h = h
+  step_fits es m line (step.TcpGet ctx s option) h = replied es _ value_reply (get_fits es m h (own_of line) option (socket_at m s))
+  step_fits es m line (step.TcpSet ctx s setting) h = replied es _ done_reply (set_fits es m h (own_of line) (socket_at m s) (chosen setting))
   step_fits es m line (step.TcpShutdown ctx s how) h = replied es _ done_reply (shutdown_fits es m h (own_of line) how (socket_at m s))
   step_fits es m line (step.Read ctx input len) h = replied es _ bytes_reply (stream_fits es m h (own_of line) input (reader_asks (λ r. read_state_asks (own_of line) r len)) (λ r k. reader_fits es r k _) (input_at m input))
   step_fits es m line (step.CheckWrite ctx output) h = replied es _ permit_reply (stream_fits es m h (own_of line) output (writer_asks (check_write_asks (own_of line))) (λ r k. writer_fits es r k _) (output_at m output))

@@ -71,7 +71,7 @@ module _ (store : Records) (h : FitStore store) where
     put : (now : Tcp2Socket) → FitRecord now → FitStore (with_socket store place now)
     put now k = record { records = set_fits store.sockets place now h.records k; stands = h.stands }
 
-    put_back_fits : {T : Type 0} (done : Result T ErrorCode × Tcp2Socket) → FitRecord done.1 → FitStore (put_back store place done).1
+    pub put_back_fits : {T : Type 0} (done : Result T ErrorCode × Tcp2Socket) → FitRecord done.1 → FitStore (put_back store place done).1
     put_back_fits (Ok value, r) k = put r k
     put_back_fits (Err c, r) k = put r k
 

@@ -34,7 +34,7 @@ use Rattle.wasi_host.specs.Kinds.{table_parent, with_handle, without_handle, pla
 use Rattle.wasi_host.specs.Machine.{own_of}
 use Rattle.wasi_host.specs.Store.{new_record, with_socket, with_record}
 use Rattle.wasi_run.specs.declared.step.Step.{Step}
-use Rattle.wasi_run.specs.Licence.{entry, marked_by, NamesSide, IsSide, IsMarkedWith, IsMaker, Created, Handed, HasWildcardYes, IsBoundSide, MayGoOut}
+use Rattle.wasi_run.specs.Licence.{entry, marked_by, NamesSide, IsSide, IsMarkedWith, IsMaker, Created, Handed, HasWildcardYes, IsBoundSide, Listens, MayGoOut}
 use Rattle.wasi_run.proofs.Lists.{has_front, marks_in-push, get_front, get_split, get_set, set_get, value_split}
 use Rattle.wasi_streams.proofs.Tables.{value_without}
 use Rattle.wasi_run.proofs.Fine.{NamesRecord, HandleIsFine, KnowsMaker, BindLeft, Whole, Checked, Over, ConnectLeft, Unbound, Unchecked, Allowed, ToClose, Ended, Names, WorksOn, BindIsFine, ConnectIsFine, JobIsFine, WritesOn, IsConnectedOn, StreamsAreFine, ListeningStands, accept_name, AcceptIsFine, AcceptingIsFine, ListeningIsFine, SocketIsFine, RecordIsFine, DropIsFine, CallIsFine, StandingIsFine, StateIsFine}
@@ -78,6 +78,9 @@ wildcard_more es fs op side usage h = record { ctx = h.ctx; family = h.family; m
 
 pub bound_more : (es fs : List Entry) (side : OpId) → IsBoundSide es side → IsBoundSide (es ++ fs) side
 bound_more es fs side h = record { ctx = h.ctx; family = h.family; maker = maker_more es fs h.ctx h.family side h.maker; op = h.op; addr = h.addr; told = has_front es fs _ h.told; other = h.other }
+
+pub listens_more : (es fs : List Entry) (side : OpId) → Listens es side → Listens (es ++ fs) side
+listens_more es fs side h = record { op = h.op; backlog = h.backlog; told = has_front es fs _ h.told }
 
 pub out_more : (es fs : List Entry) (op side : OpId) → MayGoOut es op side → MayGoOut (es ++ fs) op side
 out_more es fs op side (inl h) = inl (bound_more es fs side h)
@@ -224,6 +227,7 @@ module _ (steps : List Step) where
   socket_more es fs socket h = record {
     knows = knows_more es fs socket h.knows;
     bound = λ side s b. bound_more es fs side (h.bound side s b);
+    listens = λ side s. listens_more es fs side (h.listens side s);
     connect = λ op s. connect_more es fs op (h.connect op s);
   }
 

@@ -23,6 +23,7 @@ pub mod AcceptAsks
 pub mod Flows
 pub mod FineHandles
 pub mod FineSockets
+pub mod FineOptions
 pub mod FineStreams
 pub mod FineAccepts
 pub mod FineReady
@@ -66,6 +67,7 @@ pub mod AcceptPolls
 pub mod AcceptCauses
 pub mod PollCauses
 pub mod PollableCauses
+pub mod OptionCauses
 pub mod TrapCauses
 pub mod DropLaws
 pub mod PollLaws
@@ -76,12 +78,15 @@ pub mod FitPolls
 pub mod FitSockets
 pub mod FitRecords
 pub mod FitStores
+pub mod FitOptions
 pub mod FitSteps
 pub mod RunCauses
 pub mod Rows
 pub mod Refused
 pub mod ListenRows
+pub mod BacklogRows
 pub mod StepWords
+pub mod SettingLaws
 pub mod StepLaws
 pub mod ReplyTexts
 pub mod ReplyBack
@@ -101,6 +106,7 @@ pub mod PermitsWrites
 pub mod PermitsTurns
 pub mod PermitsReady
 pub mod PermitsDrops
+pub mod PermitsOptions
 pub mod PermitsRuns
 pub mod PermitsAll
 pub mod OrderWalks
@@ -114,4 +120,5 @@ pub mod OrderLooks
 pub mod OrderStores
 pub mod OrderSteps
 pub mod OrderCalls
+pub mod OrderOptions
 pub mod OrderRuns

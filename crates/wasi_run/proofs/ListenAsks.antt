@@ -1,4 +1,5 @@
--- A listen: each of its asks is allowed, and what it leaves may be polled on.
+-- A listen: each of its asks is allowed, what it leaves may be polled on, and where it is done its side listens.
+use Rattle.std.specs.Prelude.{⊤}
 use Rattle.std.proofs.Common.{◌≡◌, inl, inr, List, [], ◌∷◌, ◌++◌, ℕ, refl, sym, ap, subst, ◌∙◌, append_assoc}
 use Rattle.wasi_addr.specs.declared.address.IpSocketAddress.{IpSocketAddress}
 use Rattle.wasi_addr.specs.declared.address.SocketAddrUse.TheVariants.{TcpListen}
@@ -12,17 +13,16 @@ use Rattle.wasi_world.specs.declared.call.Told.TheVariants as told
 use Rattle.wasi_world.specs.declared.call.Entry.{Entry}
 use Rattle.wasi_world.specs.declared.outcome.WasiSocketsCtx.{WasiSocketsCtx}
 use Rattle.wasi_world.specs.Asks.{bind}
-use Rattle.wasi_world.specs.Fits.{IsAddr}
+use Rattle.wasi_world.specs.Fits.{IsAddr, IsDoneOrCode}
 use Rattle.wasi_world.specs.Typed.{told_verdict, told_done, told_addr}
-use Rattle.wasi_world.specs.Operation.{Given, Nothing, Item, Check, CheckLocal, Listen, LastAsk, CloseLast, Who, Operation, End, front, last_ask, poll_asks, verdict_front, done_front, check_front, local_front}
+use Rattle.wasi_world.specs.Operation.{Given, Nothing, Item, Check, CheckLocal, Listen, LastAsk, CloseLast, Who, Operation, End, Waits, Done, Refused, front, last_ask, poll_asks, verdict_front, done_front, check_front, local_front}
 use Rattle.wasi_world.proofs.Allowed.{Allows, FrontKeeps, allows_polls}
-use Rattle.wasi_host.specs.Store.{left_of}
 use Rattle.wasi_run.specs.declared.step.Step.{Step}
-use Rattle.wasi_run.specs.Licence.{Has, entry, BeganBy, IsBoundSide, IsLastLocal, IsListen}
+use Rattle.wasi_run.specs.Licence.{Has, entry, BeganBy, IsBoundSide, IsLastLocal, Listens, IsListen}
 use Rattle.wasi_run.proofs.Lists.{has_front, has_last, has_split}
 use Rattle.wasi_run.proofs.Bounds.{NoLocal, May}
 use Rattle.wasi_run.proofs.Fine.{WorksOn}
-use Rattle.wasi_run.proofs.Frames.{works_more, bound_more}
+use Rattle.wasi_run.proofs.Frames.{works_more, bound_more, listens_more}
 
 -- == the last local address
 no_local : (c d : Call) → c ≡ d → NoLocal c → NoLocal d
@@ -49,7 +49,11 @@ pub data ListenLeft (es : List Entry) (op side : OpId) (maker : ℕ) : List Item
   Whole : (backlog : ℕ) → ListenLeft es op side maker (CheckLocal TcpListen ∷ Listen backlog ∷ [])
   Untold : (a : IpSocketAddress) (backlog : ℕ) → IsLastLocal es side a → ListenLeft es op side maker (Check a TcpListen ∷ Listen backlog ∷ [])
   Allowed : (a : IpSocketAddress) (backlog : ℕ) → IsLastLocal es side a → Has es (entry op (call.Check maker a TcpListen) told.Yes) → ListenLeft es op side maker (Listen backlog ∷ [])
-  Over : ListenLeft es op side maker []
+  Over : Listens es side → ListenLeft es op side maker []
+
+-- with nothing left its `listen` was told done
+it_listens : (es : List Entry) (op side : OpId) (maker : ℕ) → ListenLeft es op side maker [] → Listens es side
+it_listens es op side maker (Over h) = h
 
 module _ (steps : List Step) where
   -- A listen that may be polled: where it came from, that its side was bound, and what it has asked so far.
@@ -64,7 +68,7 @@ module _ (steps : List Step) where
   left_unasked es o op side maker c t _ n (Whole backlog) = Whole backlog
   left_unasked es o op side maker c t _ n (Untold a backlog h) = Untold a backlog (local_more es o c t side a n h)
   left_unasked es o op side maker c t _ n (Allowed a backlog h y) = Allowed a backlog (local_more es o c t side a n h) (has_front es (entry o c t ∷ []) _ y)
-  left_unasked es o op side maker c t _ n Over = Over
+  left_unasked es o op side maker c t _ n (Over h) = Over (listens_more es _ side h)
 
   -- it stays so where no `local` is asked
   pub listen_more : (es : List Entry) (o : OpId) (c : Call) (t : Told) (op : Operation) → NoLocal c → ListenIsFine es op → ListenIsFine (es ++ entry o c t ∷ []) op
@@ -75,6 +79,12 @@ module _ (steps : List Step) where
     last = h.last;
     so_far = left_unasked es o op.who.id op.who.side op.who.context c t op.left n h.so_far;
   }
+
+  -- what a poll of it leaves: one that waits may be polled on, and where it is done its side listens
+  abbrev pub ListenEnds : List Entry → Who → End → List Item → Type 0
+  ListenEnds es who Waits items = ListenIsFine es (record { who = who; left = items })
+  ListenEnds es who (Done given) items = Listens es who.side
+  ListenEnds es who (Refused c given) items = ⊤
 
 module _ (contexts : List WasiSocketsCtx) (steps : List Step) where
   -- == a poll
@@ -87,7 +97,7 @@ module _ (contexts : List WasiSocketsCtx) (steps : List Step) where
     StandsBefore es given items = Stands es items
 
     abbrev StandsAfter : List Entry → End × List Item → Type 0
-    StandsAfter es ended = Stands es ended.1
+    StandsAfter es ended = ListenEnds steps es who ended.0 ended.1
 
     module _ (to : BeganBy steps who.id IsListen) (last : who.last ≡ CloseLast) where
       -- it works on its side, which was bound
@@ -101,16 +111,15 @@ module _ (contexts : List WasiSocketsCtx) (steps : List Step) where
       stands es items w l = record { to = to; works = w.0; bound = w.1; last = last; so_far = l }
 
       -- one that ends with a code closes its side
-      ends_last : (es : List Entry) (c : ErrorCode) (given : Given) → Works es → Allows (May contexts steps) StandsAfter es (last_ask who who.last c given)
+      ends_last : (es : List Entry) (c : ErrorCode) (given : Given) → Allows (May contexts steps) StandsAfter es (last_ask who who.last c given)
       unfolding bind
-      ends_last es c given w =
-          subst (λ (l : LastAsk). Allows (May contexts steps) StandsAfter es (last_ask who l c given)) (sym last) ((tt, tt), λ t fits. stands _ [] (works_on es _ t w) Over)
+      ends_last es c given = subst (λ (l : LastAsk). Allows (May contexts steps) StandsAfter es (last_ask who l c given)) (sym last) ((tt, tt), λ t fits. tt)
 
       -- the check of the address that was told
       asked_check : (es : List Entry) (a : IpSocketAddress) (backlog : ℕ) (t : Told) → Works es → IsLastLocal es who.side a
           → FrontKeeps (May contexts steps) who StandsBefore StandsAfter (Listen backlog ∷ []) (es ++ entry who.id (call.Check who.context a TcpListen) t ∷ []) (verdict_front (Check a TcpListen) (told_verdict t))
       asked_check es a backlog told.Yes w h = stands _ _ (works_on es _ told.Yes w) (Allowed a backlog (local_more es who.id _ told.Yes who.side a tt h) (has_last es _))
-      asked_check es a backlog told.No w h = ends_last _ AccessDenied Nothing (works_on es _ told.No w)
+      asked_check es a backlog told.No w h = ends_last _ AccessDenied Nothing
       asked_check es a backlog t w h = stands _ _ (works_on es _ t w) (Untold a backlog (local_more es who.id _ t who.side a tt h))
 
       checks : (es : List Entry) (a : IpSocketAddress) (backlog : ℕ) → Works es → IsLastLocal es who.side a → Allows (May contexts steps) (FrontKeeps (May contexts steps) who StandsBefore StandsAfter (Listen backlog ∷ [])) es (check_front who a TcpListen)
@@ -121,13 +130,14 @@ module _ (contexts : List WasiSocketsCtx) (steps : List Step) where
       asked_local : (es : List Entry) (backlog : ℕ) (t : Told) → IsAddr t → Works es
           → Allows (May contexts steps) (FrontKeeps (May contexts steps) who StandsBefore StandsAfter (Listen backlog ∷ [])) (es ++ entry who.id (call.Local who.side) t ∷ []) (local_front who TcpListen (told_addr t))
       asked_local es backlog (told.Addr a) fits w = checks _ a backlog (works_on es _ (told.Addr a) w) (local_told es who.id who.side a)
-      asked_local es backlog (told.Code c) fits w = ends_last _ c Nothing (works_on es _ (told.Code c) w)
+      asked_local es backlog (told.Code c) fits w = ends_last _ c Nothing
       asked_local es backlog _ fits w = absurd fits
 
       -- the listen itself
-      asked_listen : (es : List Entry) (backlog : ℕ) (t : Told) → Works es → FrontKeeps (May contexts steps) who StandsBefore StandsAfter [] (es ++ entry who.id (call.Listen who.side backlog) t ∷ []) (done_front (told_done t))
-      asked_listen es backlog (told.Code c) w = ends_last _ c Nothing (works_on es _ (told.Code c) w)
-      asked_listen es backlog t w = stands _ _ (works_on es _ t w) Over
+      asked_listen : (es : List Entry) (backlog : ℕ) (t : Told) → IsDoneOrCode t → Works es → FrontKeeps (May contexts steps) who StandsBefore StandsAfter [] (es ++ entry who.id (call.Listen who.side backlog) t ∷ []) (done_front (told_done t))
+      asked_listen es backlog told.Done fits w = stands _ _ (works_on es _ told.Done w) (Over (record { op = who.id; backlog = backlog; told = has_last es _ }))
+      asked_listen es backlog (told.Code c) fits w = ends_last _ c Nothing
+      asked_listen es backlog _ fits w = absurd fits
 
       fine_front : (es : List Entry) (item : Item) (items : List Item) → Works es → ListenLeft es who.id who.side who.context (item ∷ items) → Allows (May contexts steps) (FrontKeeps (May contexts steps) who StandsBefore StandsAfter items) es (front who item)
       unfolding bind
@@ -135,12 +145,11 @@ module _ (contexts : List WasiSocketsCtx) (steps : List Step) where
       fine_front es _ _ w (Untold a backlog h) = checks es a backlog w h
       fine_front es _ _ w (Allowed a backlog h y) = (
         ((inl w.0.named, to, inl (w.1, (a, h, record { ctx = who.context; family = w.0.family; maker = w.0.made; checked = y }))), tt),
-        λ t fits. asked_listen es backlog t w,
+        λ t fits. asked_listen es backlog t fits w,
       )
 
-  -- a poll of a listen leaves one that may be polled
-  pub fine_poll_listen : (op : Operation) (es : List Entry) → ListenIsFine steps es op → Allows (May contexts steps) (λ fs ended. ListenIsFine steps fs (left_of op ended.1)) es (poll_asks op)
+  pub fine_poll_listen : (op : Operation) (es : List Entry) → ListenIsFine steps es op → Allows (May contexts steps) (λ fs ended. ListenEnds steps fs op.who ended.0 ended.1) es (poll_asks op)
   fine_poll_listen op es b =
       allows_polls (May contexts steps) op.who (StandsBefore op.who) (StandsAfter op.who)
       (λ fs given item items k. fine_front op.who k.to k.last fs item items (k.works, k.bound) k.so_far)
-      (λ fs items k. k) (λ fs given k. k) 64 op.left es b
+      (λ fs items k. k) (λ fs given k. it_listens fs op.who.id op.who.side op.who.context k.so_far) 64 op.left es b

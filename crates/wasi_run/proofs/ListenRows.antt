@@ -46,7 +46,7 @@ sixth = record { step = 6; part = 1 }
 abbrev script : List Step
 script = step.Network 0 ∷ step.TcpCreate 0 family.Ipv4 ∷ step.TcpStartBind 0 2 1 local_80 ∷ step.TcpFinishBind 0 2 ∷ step.TcpStartListen 0 2 ∷ step.TcpAccept 0 2 ∷ []
 
-abbrev binds : List Entry
+abbrev pub binds : List Entry
 binds = entry (own_of 1) (call.Made 1 kind.Network None None) told.Done
     ∷ entry (own_of 2) (call.TcpCreate 0 family.Ipv4) told.Done
     ∷ entry (own_of 2) (call.Made 2 kind.Tcp2 None (Some (own_of 2))) told.Done

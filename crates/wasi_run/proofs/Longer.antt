@@ -48,7 +48,7 @@ module _ (steps more : List Step) where
   may_more contexts before op (call.UdpBind sock addr) h = h
   may_more contexts before op (call.UdpConnect sock addr) h = h
   may_more contexts before op (call.Listen sock backlog) h = (reach_more before op sock h.0, began_more op _ h.1, h.2)
-  may_more contexts before op (call.SetBacklog sock backlog) h = h
+  may_more contexts before op (call.SetBacklog sock backlog) h = (reach_more before op sock h.0, began_more op _ h.1, h.2)
   may_more contexts before op (call.Connect sock addr) h = (reach_more before op sock h.0, began_more op _ h.1, h.2, h.3)
   may_more contexts before op (call.Hand sock peer) h = (reach_more before op sock h.0, h.1, h.2)
   may_more contexts before op (call.Send sock addr bytes) h = h
@@ -80,7 +80,7 @@ module _ (steps more : List Step) where
     writes_more side (writing.Closed e) h = tt
 
     socket_more : (socket : Socket) → SocketIsFine steps es socket → SocketIsFine (steps ++ more) es socket
-    socket_more socket h = record { knows = h.knows; bound = h.bound; connect = λ op s. connect_more op (h.connect op s) }
+    socket_more socket h = record { knows = h.knows; bound = h.bound; listens = h.listens; connect = λ op s. connect_more op (h.connect op s) }
 
     streams_more : (socket : Socket) (streams : Streams) → StreamsAreFine steps es socket streams → StreamsAreFine (steps ++ more) es socket streams
     streams_more socket streams h = record { side = h.side; connected = h.connected; reads = h.reads; writes = writes_more h.side streams.writer h.writes }

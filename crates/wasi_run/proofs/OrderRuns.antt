@@ -13,18 +13,21 @@ use Rattle.wasi_host.specs.Store.{is_bind, is_listen}
 use Rattle.wasi_host.specs.StreamCalls.{read_asks, check_asks, write_asks, flushed_asks}
 use Rattle.wasi_host.specs.Machine.{first_state, own_of, socket_at, create_asks, subscribe_asks, ready_asks, drop_asks, turn_machine_asks}
 use Rattle.wasi_p2.specs.Tcp.{network_asks, start_bind_asks, finish_on, start_connect_asks, finish_connect_asks, local_address_on, remote_address_on, is_listening_on, address_family_on, shutdown_on, start_listen_on, accept_asks}
+use Rattle.wasi_p2.specs.Options.{get_option_on}
 use Rattle.wasi_run.specs.declared.reply.Reply.{Reply}
 use Rattle.wasi_run.specs.declared.reply.Reply.TheVariants as reply
 use Rattle.wasi_run.specs.declared.step.Step.{Step}
 use Rattle.wasi_run.specs.declared.step.Step.TheVariants as step
 use Rattle.wasi_run.specs.Reply.{is_trap, no_fields}
-use Rattle.wasi_run.specs.Machine.{handle_reply, done_reply, pair_reply, triple_reply, address_reply, truth_reply, family_reply, bytes_reply, permit_reply, taken_reply, answer_reply, context_at, first_ids, step_asks, machine_asks, run}
+use Rattle.wasi_run.specs.Settings.{chosen}
+use Rattle.wasi_run.specs.Machine.{handle_reply, value_reply, done_reply, pair_reply, triple_reply, address_reply, truth_reply, family_reply, bytes_reply, permit_reply, taken_reply, answer_reply, context_at, first_ids, set_chosen, step_asks, machine_asks, run}
 use Rattle.wasi_run.specs.Order.{ChecksFirst, asked_by}
 use Rattle.wasi_run.proofs.OrderWalks.{Walks, walks_then, walks_if, walk_ordered, first_asked, asked_one}
 use Rattle.wasi_run.proofs.OrderPolls.{if_ours, Within}
 use Rattle.wasi_run.proofs.OrderWeights.{nothing, Lighter, same, within_lighter, within_free, goes_on}
 use Rattle.wasi_run.proofs.OrderSteps.{mw, Machined, Keeps, Begins, free, network_keeps, create_keeps, subscribe_keeps, read_keeps, check_write_keeps, flush_keeps, write_goes_on}
 use Rattle.wasi_run.proofs.OrderCalls.{bind_starts, connect_starts, listen_starts, finish_on_keeps, connect_finishes, local_tells, remote_tells, shuts_down, turns, drops, accepts, looks, polls}
+use Rattle.wasi_run.proofs.OrderOptions.{option_gets, chosen_sets}
 
 -- == one step
 module _ (ours : OpId → Bool) (b : ℕ) (small : b ≤ 1) (n : ℕ) (contexts : List WasiSocketsCtx) (line : ℕ) (m : Machine) (fits : (part : ℕ) → if_ours (ours (record { step = line; part = part })) 1 ≤ n) where
@@ -52,6 +55,8 @@ module _ (ours : OpId → Bool) (b : ℕ) (small : b ≤ 1) (n : ℕ) (contexts 
   step_goes (step.TcpRemoteAddress ctx s) = kept (remote_address_on m (own_of line) (socket_at m s)) address_reply (remote_tells ours b small n m (own_of line) (socket_at m s))
   step_goes (step.TcpIsListening ctx s) = given (truth_reply (is_listening_on m (socket_at m s)), m) (same (mw ours b small m))
   step_goes (step.TcpAddressFamily ctx s) = given (family_reply (address_family_on m (socket_at m s)), m) (same (mw ours b small m))
+  step_goes (step.TcpGet ctx s option) = kept (get_option_on m (own_of line) option (socket_at m s)) value_reply (option_gets ours b small n m (own_of line) option (socket_at m s))
+  step_goes (step.TcpSet ctx s setting) = kept (set_chosen m (own_of line) (socket_at m s) (chosen setting)) done_reply (chosen_sets ours b small n m (own_of line) (socket_at m s) (chosen setting))
   step_goes (step.Read ctx input len) = kept (read_asks m (own_of line) input len) bytes_reply (read_keeps ours b small n m (own_of line) input len)
   step_goes (step.CheckWrite ctx output) = kept (check_asks m (own_of line) output) permit_reply (check_write_keeps ours b small n m (own_of line) output)
   step_goes (step.Write ctx output bytes) = replied (write_asks m (own_of line) output bytes) taken_reply (write_goes_on ours b small n m (own_of line) (fits 0) bytes output)

@@ -48,7 +48,7 @@ module _ (ours : OpId → Bool) (b : ℕ) (small : b ≤ 1) where
     put_there now = put_is ours b small store place r at now
 
     -- a record's call, and what becomes of the store
-    put_on : {A B : Type 0} (n m : ℕ) (mid : A → Weight) (asks : Asks A) (f : A → B × Records) → ((a : A) → Lighter (both others (mid a)) (Stored (f a))) → Goes ours b small n m (rw_of ours b small r) mid asks → Goes ours b small n m (stw store) Stored (bind asks (λ a. Give (f a)))
+    pub put_on : {A B : Type 0} (n m : ℕ) (mid : A → Weight) (asks : Asks A) (f : A → B × Records) → ((a : A) → Lighter (both others (mid a)) (Stored (f a))) → Goes ours b small n m (rw_of ours b small r) mid asks → Goes ours b small n m (stw store) Stored (bind asks (λ a. Give (f a)))
     put_on n m mid asks f l x = framed ours b small n m others (rw_of ours b small r) (stw store) mid Stored asks f (half_beside ours b small store place r at) (store_is ours b small store place r at) l x
 
     -- == a bind
@@ -69,7 +69,7 @@ module _ (ours : OpId → Bool) (b : ℕ) (small : b ≤ 1) where
     finish_by_keeps true = finished
     finish_by_keeps false = same (stw store)
 
-    put_back_keeps : {T : Type 0} (done : Result T ErrorCode × Tcp2Socket) → Lighter (both others (Recorded ours b small done)) (Stored (put_back store place done))
+    pub put_back_keeps : {T : Type 0} (done : Result T ErrorCode × Tcp2Socket) → Lighter (both others (Recorded ours b small done)) (Stored (put_back store place done))
     put_back_keeps (Ok value, now) = put_there now
     put_back_keeps (Err c, now) = put_there now
 

@@ -44,7 +44,7 @@ module _ (ours : OpId → Bool) (g : ℕ) where
   pub still_then : {A B : Type 0} (asks : Asks A) (f : A → Asks B) → Still asks → ((a : A) → Still (f a)) → Still (bind asks f)
   still_then asks f h k = calm_then ours (λ a. ⊤) (λ a. ⊤) g asks f h (λ a x. k a)
 
-  still_if : {A : Type 0} (c : Bool) (asks others : Asks A) → Still asks → Still others → Still (if c then asks else others)
+  pub still_if : {A : Type 0} (c : Bool) (asks others : Asks A) → Still asks → Still others → Still (if c then asks else others)
   still_if c asks others h k = walks_if ours (λ i a. (i ≡ g) × ⊤) g c asks others h k
 
   pub reader_ready_still : (op : OpId) (s : ReadState) → Still (reader_ready_asks op s)

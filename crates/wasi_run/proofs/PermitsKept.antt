@@ -82,7 +82,7 @@ module _ (side : OpId) (taken permitted : List ℕ) where
       plain_kept now (inl k) = kept now k
       plain_kept now (inr k) = record { stands = stands_opened side taken permitted m.store.sockets line place r now g k h.stands; quietly = h.quietly }
 
-      put_kept : {T : Type 0} (done : Result T ErrorCode × Tcp2Socket) → Keeps r done.1 → Stores line (put_back m.store place done)
+      pub put_kept : {T : Type 0} (done : Result T ErrorCode × Tcp2Socket) → Keeps r done.1 → Stores line (put_back m.store place done)
       put_kept (Ok value, now) k = kept now k
       put_kept (Err c, now) k = kept now k
 

@@ -16,7 +16,9 @@ use Rattle.wasi_run.specs.Reply.{is_trap}
 use Rattle.wasi_host.specs.Machine.{first_state, socket_at, create_asks, own_of, subscribe_asks, ready_asks, drop_asks, turn_machine_asks}
 use Rattle.wasi_host.specs.Store.{is_bind, is_listen}
 use Rattle.wasi_p2.specs.Tcp.{network_asks, start_bind_asks, finish_on, is_listening_on, address_family_on, start_connect_asks, finish_connect_asks, local_address_on, remote_address_on, shutdown_on, start_listen_on, accept_asks}
-use Rattle.wasi_run.specs.Machine.{truth_reply, family_reply, handle_reply, answer_reply, done_reply, pair_reply, triple_reply, address_reply, bytes_reply, permit_reply, taken_reply, context_at, first_ids, poll_asks, step_asks, machine_asks, run}
+use Rattle.wasi_p2.specs.Options.{get_option_on}
+use Rattle.wasi_run.specs.Settings.{chosen}
+use Rattle.wasi_run.specs.Machine.{truth_reply, family_reply, handle_reply, value_reply, answer_reply, done_reply, pair_reply, triple_reply, address_reply, bytes_reply, permit_reply, taken_reply, context_at, first_ids, poll_asks, set_chosen, step_asks, machine_asks, run}
 use Rattle.wasi_host.specs.StreamCalls.{read_asks, check_asks, write_asks, flushed_asks}
 use Rattle.wasi_run.specs.Answered.{Answered}
 use Rattle.wasi_run.specs.Permitted.{permitted_in, permitted_by, Did, Nothing, Then, Begun, IsOfSteps}
@@ -24,6 +26,7 @@ use Rattle.wasi_run.proofs.PermitsPolls.{Quiet, quiet_then}
 use Rattle.wasi_run.proofs.PermitsStands.{Keeping, stands_first}
 use Rattle.wasi_run.proofs.PermitsTaken.{Fronts, Meets}
 use Rattle.wasi_run.proofs.PermitsKept.{Leaves, kept_next, kept_network, kept_create, kept_start_bind, kept_finish, kept_start_connect, kept_finish_connect, kept_local, kept_remote, kept_read, kept_check, kept_flush}
+use Rattle.wasi_run.proofs.PermitsOptions.{kept_get_option, kept_set_chosen}
 use Rattle.wasi_run.proofs.PermitsTakes.{kept_start_listen, kept_accept}
 use Rattle.wasi_run.proofs.PermitsReady.{kept_ready}
 use Rattle.wasi_run.proofs.PermitsWrites.{StandsOn, Ends, quiet_meets, kept_write}
@@ -63,6 +66,8 @@ module _ (contexts : List WasiSocketsCtx) (side : OpId) (taken permitted : List 
   step_meets (step.TcpRemoteAddress ctx s) = replied (remote_address_on m (own_of line) (socket_at m s)) address_reply (kept_remote side taken permitted (line + 1) m next [] (own_of line) (socket_at m s))
   step_meets (step.TcpIsListening ctx s) = given_step (truth_reply (is_listening_on m (socket_at m s)), m) next
   step_meets (step.TcpAddressFamily ctx s) = given_step (family_reply (address_family_on m (socket_at m s)), m) next
+  step_meets (step.TcpGet ctx s option) = replied (get_option_on m (own_of line) option (socket_at m s)) value_reply (kept_get_option side taken permitted (line + 1) m next [] (own_of line) option (socket_at m s))
+  step_meets (step.TcpSet ctx s setting) = replied (set_chosen m (own_of line) (socket_at m s) (chosen setting)) done_reply (kept_set_chosen side taken permitted (line + 1) m next [] (own_of line) (socket_at m s) (chosen setting))
   step_meets (step.Read ctx input len) = replied (read_asks m (own_of line) input len) bytes_reply (kept_read side taken permitted (line + 1) m next [] (own_of line) input len)
   step_meets (step.CheckWrite ctx output) = replied (check_asks m (own_of line) output) permit_reply (kept_check side taken permitted (line + 1) m next [] (own_of line) output)
   step_meets (step.Write ctx output bytes) =

@@ -227,8 +227,19 @@ not_created h =
     of_each (λ e. NoCreate e.call) uncreated _ (tt, tt) m.3.2
 
 -- == a call that no step makes
+unmade : IsLicensed allowed bind_script (begins ++ entry (own_of 3) (call.UdpBind (own_of 2) local_80) told.Done ∷ []) → ⊥
+unmade h = h.each begins (entry (own_of 3) (call.UdpBind (own_of 2) local_80) told.Done) [] refl
+
+-- == the backlog of a side that doesn't listen is set
+-- no listen
+abbrev NoListen : Call → Type 0
+NoListen (call.Listen side backlog) = ⊥
+NoListen _ = ⊤
+
 unasked : IsLicensed allowed bind_script (begins ++ entry (own_of 3) (call.SetBacklog (own_of 2) 128) told.Done ∷ []) → ⊥
-unasked h = h.each begins (entry (own_of 3) (call.SetBacklog (own_of 2) 128) told.Done) [] refl
+unasked h =
+    let may = h.each begins (entry (own_of 3) (call.SetBacklog (own_of 2) 128) told.Done) [] refl in
+    of_each (λ e. NoListen e.call) begins _ (tt, (tt, (tt, (tt, tt)))) may.2.told
 
 -- == a step that isn't a listen listens
 no_listen : IsLicensed allowed bind_script (begins ++ entry (own_of 3) (call.Listen (own_of 2) 128) told.Done ∷ []) → ⊥

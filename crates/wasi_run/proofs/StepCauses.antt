@@ -28,11 +28,13 @@ use Rattle.wasi_host.specs.declared.socket.InProgress.{InProgress}
 use Rattle.wasi_host.specs.Store.{is_bind, is_listen, finish_by, finish_at}
 use Rattle.wasi_host.specs.Machine.{socket_at, create_asks, subscribe_asks, ready_asks, drop_asks, turn_machine_asks, own_of}
 use Rattle.wasi_host.specs.Pending as host
+use Rattle.wasi_p2.specs.Options.{get_option_on}
 use Rattle.wasi_p2.specs.Pending as p2
 use Rattle.wasi_p2.specs.Tcp.{network_asks, start_bind_asks, finish_on, start_connect_asks, finish_connect_asks, start_listen_on, accept_asks, local_address_on, remote_address_on, is_listening_on, address_family_on, shutdown_on}
 use Rattle.wasi_host.specs.StreamCalls.{read_asks, check_asks, write_asks, flushed_asks}
-use Rattle.wasi_run.specs.Machine.{stop_reply, handle_reply, done_reply, answer_reply, pair_reply, triple_reply, address_reply, truth_reply, family_reply, call_stop_reply, bytes_reply, permit_reply, taken_reply, outcome_reply, resumed_reply, poll_on, context_at, first_ids, step_asks, machine_asks}
+use Rattle.wasi_run.specs.Machine.{stop_reply, handle_reply, value_reply, done_reply, answer_reply, pair_reply, triple_reply, address_reply, truth_reply, family_reply, call_stop_reply, bytes_reply, permit_reply, taken_reply, outcome_reply, resumed_reply, poll_on, set_chosen, context_at, first_ids, step_asks, machine_asks}
 use Rattle.wasi_run.specs.Reply.{no_fields}
+use Rattle.wasi_run.specs.Settings.{chosen}
 use Rattle.wasi_run.specs.Steps.{context_of}
 use Rattle.wasi_run.specs.Answered.{Answered, record_in}
 
@@ -86,6 +88,11 @@ handle_not_busy : (r : Result ℕ Stop) → handle_reply r ≢ reply.Busy
 handle_not_busy (Ok h) e = cc
 handle_not_busy (Err (Code c)) e = cc
 handle_not_busy (Err (Trap kind)) e = cc
+
+value_not_busy : (r : Result ℕ Stop) → value_reply r ≢ reply.Busy
+value_not_busy (Ok value) e = cc
+value_not_busy (Err (Code c)) e = cc
+value_not_busy (Err (Trap kind)) e = cc
 
 answer_not_busy : (line : ℕ) (r : Result (Answer (Unit {0})) Stop) → answer_reply line r ≢ reply.Busy
 answer_not_busy line (Ok (Ready done)) e = cc
@@ -179,6 +186,8 @@ module _ (contexts : List WasiSocketsCtx) (m : Machine) (line : ℕ) where
   step_not_busy (step.TcpRemoteAddress ctx s) = not_busy (remote_address_on m (own_of line) (socket_at m s)) address_reply address_not_busy
   step_not_busy (step.TcpIsListening ctx s) = truth_not_busy (is_listening_on m (socket_at m s))
   step_not_busy (step.TcpAddressFamily ctx s) = family_not_busy (address_family_on m (socket_at m s))
+  step_not_busy (step.TcpGet ctx s option) = not_busy (get_option_on m (own_of line) option (socket_at m s)) value_reply value_not_busy
+  step_not_busy (step.TcpSet ctx s setting) = not_busy (set_chosen m (own_of line) (socket_at m s) (chosen setting)) done_reply done_not_busy
   step_not_busy (step.Read ctx input len) = not_busy (read_asks m (own_of line) input len) bytes_reply bytes_not_busy
   step_not_busy (step.CheckWrite ctx output) = not_busy (check_asks m (own_of line) output) permit_reply permit_not_busy
   step_not_busy (step.Write ctx output bytes) = not_busy (write_asks m (own_of line) output bytes) taken_reply taken_not_busy

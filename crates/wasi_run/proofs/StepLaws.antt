@@ -1,20 +1,21 @@
 -- Each step is read from exactly its line.
 use Rattle.std.proofs.Common.{◌≡◌, ℕ, ◌<◌, ◌≤◌, List, [], ◌∷◌, slice_index, codes, decimal, Option, Some, None, refl, arith, inl, inr, Bool, true, false, cond, nat_lt, IsTrue, append-nil, ap, ◌∙◌}
-use Rattle.wasi_world.specs.Fields.{Reader, ◌>>=◌, read_then, give, give_some, after_word, whole, fields_of, field_at, number_in, number_at, word_at, address_at, BeginsPlain}
+use Rattle.wasi_world.specs.Fields.{Reader, ◌>>=◌, read_then, give, give_some, after_word, whole, fields_of, field_at, number_in, word_at, address_at, BeginsPlain}
 use Rattle.std.specs.List.{AllByRecursion, list_all}
 use Rattle.std.proofs.lemmas.Bool.{ltb-true, lt-ltb}
-use Rattle.wasi_world.specs.Written.{ReadsExactly, AreVisible, IsVisible, is_visible, number_fields, address_fields, FitsAddress}
+use Rattle.wasi_world.specs.Written.{ReadsExactly, AreVisible, IsVisible, is_visible, address_fields, FitsAddress}
 use Rattle.wasi_world.proofs.Numbers.{number_in_is, number_in_decimal, begins_otherwise}
 use Rattle.wasi_world.proofs.ReadBack.{u32_exactly, family_exactly, address_exactly, bytes_exactly, word_exactly}
 use Rattle.wasi_world.proofs.Visible.{visible_utf8, visible_line, number_visible, family_visible, address_visible, bytes_visible, fields_of_line, line_of_fields}
-use Rattle.wasi_world.proofs.Exactly.{All, Only, exactly, all_give, only_give, only_some, all_then, only_then, all_last, only_last, number_exactly}
+use Rattle.wasi_world.proofs.Exactly.{All, Only, exactly, all_give, only_give, only_some, all_then, only_then, all_last, only_last}
 use Rattle.wasi_world.proofs.Words.{only_word}
 use Rattle.wasi_addr.specs.declared.address.IpSocketAddress.{IpSocketAddress}
 use Rattle.wasi_addr.specs.declared.address.ShutdownType.{ShutdownType}
 use Rattle.wasi_addr.specs.declared.address.ShutdownType.TheVariants.{Receive, Send, Both}
 use Rattle.wasi_run.specs.declared.step.Step.{Step}
-use Rattle.wasi_run.specs.declared.step.Step.TheVariants.{Network, TcpCreate, TcpStartBind, TcpFinishBind, TcpStartConnect, TcpFinishConnect, TcpStartListen, TcpFinishListen, TcpAccept, TcpLocalAddress, TcpRemoteAddress, TcpIsListening, TcpAddressFamily, TcpShutdown, Read, CheckWrite, Write, Flush, Subscribe, Ready, Drop, Turn, Poll}
+use Rattle.wasi_run.specs.declared.step.Step.TheVariants.{Network, TcpCreate, TcpStartBind, TcpFinishBind, TcpStartConnect, TcpFinishConnect, TcpStartListen, TcpFinishListen, TcpAccept, TcpLocalAddress, TcpRemoteAddress, TcpIsListening, TcpAddressFamily, TcpGet, TcpSet, TcpShutdown, Read, CheckWrite, Write, Flush, Subscribe, Ready, Drop, Turn, Poll}
 use Rattle.wasi_run.specs.Steps.{shutdown_fields, fields_of_step, line_of, context_of, FitsArguments, IsStep, shutdown_words, shutdown_at, handle_at, steps, bare_steps, guest_call_at, after_first, step_at, step_of}
+use Rattle.wasi_run.proofs.SettingLaws.{◌and◌, u64_exactly, option_exactly, option_visible, setting_exactly, setting_visible}
 
 -- a row reads the steps of a context that are written with its word
 abbrev ReadsStep : ℕ → ℕ → List ℕ → List (List ℕ) → Step → Type 0
@@ -23,11 +24,6 @@ ReadsStep contexts c word taken s = IsStep contexts s × (decimal c ∷ word ∷
 -- and a row of the steps that no context makes reads those
 abbrev ReadsBare : ℕ → List ℕ → List (List ℕ) → Step → Type 0
 ReadsBare contexts word taken s = IsStep contexts s × (word ∷ taken ≡ fields_of_step s)
-
--- what holds of the first of a list, and what holds of those after it
-infixr 5 ◌and◌
-abbrev ◌and◌ : {A B : Type 0} → A → B → A × B
-first and more = (first, more)
 
 -- what more than one step reads as its arguments: a handle; a socket, a network and an address
 handle_only : (make : ℕ → Step) {Q : List (List ℕ) → Step → Type 0} → ((h : ℕ) → h ≤ 4294967295 → Q (decimal h ∷ []) (make h)) → Only (handle_at >>= λ h. give (make h)) Q
@@ -49,9 +45,6 @@ place_only make q =
 place_all : (make : ℕ → ℕ → IpSocketAddress → Step) {socket network : ℕ} {a : IpSocketAddress} → FitsPlace socket network a → All (place_at make) (make socket network a) (decimal socket ∷ decimal network ∷ address_fields a)
 place_all make fits = all_then _ u32_exactly fits.0 (all_then _ u32_exactly fits.1 (all_last _ address_exactly fits.2 all_give))
 
-length_exactly : ReadsExactly (number_at 18446744073709551615) number_fields (λ n. n ≤ 18446744073709551615)
-length_exactly = number_exactly 18446744073709551615 (omega arith)
-
 -- the word of what is shut down is read exactly
 shutdown_all : (how : ShutdownType) → All shutdown_at how (shutdown_fields how)
 unfolding shutdown_at
@@ -70,7 +63,7 @@ rows_only : (contexts c : ℕ) → c < contexts → c ≤ 4294967295 → AllByRe
 rows_only contexts c context width =
     let is : (s : Step) → context_of s ≡ Some c → FitsArguments s → IsStep contexts s = λ s same arguments. record { context = rw same context; width = rw same width; arguments = arguments } in
     only_then _ u32_exactly (λ output fo. only_last _ bytes_exactly (λ bytes are. (is _ refl (fo, are), refl)))
-    and only_then _ u32_exactly (λ input fi. only_last (Read c input) length_exactly (λ len fl. (is _ refl (fi, fl), refl)))
+    and only_then _ u32_exactly (λ input fi. only_last (Read c input) u64_exactly (λ len fl. (is _ refl (fi, fl), refl)))
     and handle_only (CheckWrite c) (λ output fits. (is _ refl fits, refl))
     and handle_only (Flush c) (λ output fits. (is _ refl fits, refl))
     and handle_only (Subscribe c) (λ handle fits. (is _ refl fits, refl))
@@ -90,6 +83,8 @@ rows_only contexts c context width =
     and handle_only (TcpRemoteAddress c) (λ socket fits. (is _ refl fits, refl))
     and handle_only (TcpIsListening c) (λ socket fits. (is _ refl fits, refl))
     and handle_only (TcpAddressFamily c) (λ socket fits. (is _ refl fits, refl))
+    and only_then _ u32_exactly (λ socket fs. only_last (TcpGet c socket) option_exactly (λ option u. (is _ refl fs, refl)))
+    and only_then _ u32_exactly (λ socket fs. only_last (TcpSet c socket) setting_exactly (λ s fits. (is _ refl (fs, fits), refl)))
     and tt
 
 bare_only : (contexts : ℕ) → AllByRecursion (λ r. Only r.reads (ReadsBare contexts r.word)) bare_steps
@@ -150,8 +145,10 @@ step_all n (TcpLocalAddress c socket) is = after refl is refl (handle_all (TcpLo
 step_all n (TcpRemoteAddress c socket) is = after refl is refl (handle_all (TcpRemoteAddress c) is.arguments)
 step_all n (TcpIsListening c socket) is = after refl is refl (handle_all (TcpIsListening c) is.arguments)
 step_all n (TcpAddressFamily c socket) is = after refl is refl (handle_all (TcpAddressFamily c) is.arguments)
+step_all n (TcpGet c socket option) is = after refl is refl (all_then _ u32_exactly is.arguments (all_last _ option_exactly tt all_give))
+step_all n (TcpSet c socket setting) is = after refl is refl (all_then _ u32_exactly is.arguments.0 (all_last _ setting_exactly is.arguments.1 all_give))
 step_all n (TcpShutdown c socket how) is = after refl is refl (all_then _ u32_exactly is.arguments (all_last _ shutdown_exactly tt all_give))
-step_all n (Read c input len) is = after refl is refl (all_then _ u32_exactly is.arguments.0 (all_last _ length_exactly is.arguments.1 all_give))
+step_all n (Read c input len) is = after refl is refl (all_then _ u32_exactly is.arguments.0 (all_last _ u64_exactly is.arguments.1 all_give))
 step_all n (CheckWrite c output) is = after refl is refl (handle_all (CheckWrite c) is.arguments)
 step_all n (Write c output bytes) is = after refl is refl (all_then _ u32_exactly is.arguments.0 (all_last _ bytes_exactly is.arguments.1 all_give))
 step_all n (Flush c output) is = after refl is refl (handle_all (Flush c) is.arguments)
@@ -190,6 +187,8 @@ step_visible (TcpLocalAddress c socket) is = small c is.width and refl and small
 step_visible (TcpRemoteAddress c socket) is = small c is.width and refl and small socket is.arguments and tt
 step_visible (TcpIsListening c socket) is = small c is.width and refl and small socket is.arguments and tt
 step_visible (TcpAddressFamily c socket) is = small c is.width and refl and small socket is.arguments and tt
+step_visible (TcpGet c socket option) is = small c is.width and refl and small socket is.arguments and option_visible option
+step_visible (TcpSet c socket setting) is = small c is.width and refl and small socket is.arguments.0 and setting_visible setting is.arguments.1
 step_visible (TcpShutdown c socket how) is = small c is.width and refl and small socket is.arguments and shutdown_visible how
 step_visible (Read c input len) is = small c is.width and refl and small input is.arguments.0 and number_visible len (omega arith) and tt
 step_visible (CheckWrite c output) is = small c is.width and refl and small output is.arguments and tt

@@ -23,18 +23,19 @@ use Rattle.wasi_run.proofs.Frames.{KeepsSide, keeps_side, socket_more}
 
 module _ (contexts : List WasiSocketsCtx) (steps : List Step) where
   -- a call on the socket that leaves it fine
-  pub record ToldFine (old : Socket) (es : List Entry) (done : Result IpSocketAddress ErrorCode × Socket) : Type 0 where
+  pub record ToldFine {T : Type 0} (old : Socket) (es : List Entry) (done : Result T ErrorCode × Socket) : Type 0 where
     pub keeps : KeepsSide old done.1
     pub fine : SocketIsFine steps es done.1
 
-  -- == the local address
-  usable : (s : TcpState) (side : OpId) → usable_side s ≡ Ok side → side_in s ≡ Some side
+  -- the side that may be asked about is the socket's
+  pub usable : (s : TcpState) (side : OpId) → usable_side s ≡ Ok side → side_in s ≡ Some side
   usable (state.Default x) side e = cc
   usable (state.Listening x) side e = cc
   usable (state.Connecting op) side e = absurd (cc)
   usable (state.Connected c) side e = cc
   usable (state.Closed c) side e = absurd (cc)
 
+  -- == the local address
   its_side : (socket : Socket) (b : Bool) (side : OpId) → local_side socket b ≡ Ok side → side_of socket ≡ Some side
   its_side socket true side e = usable socket.state side e
   its_side socket false side e = absurd (cc)
@@ -67,6 +68,7 @@ module _ (contexts : List WasiSocketsCtx) (steps : List Step) where
   connected_fine es socket old now e same f = record {
     knows = record { maker = λ side p. f.knows.maker side (its_own_side socket old now e same side p) };
     bound = λ side p b. absurd (cc);
+    listens = λ side p. absurd (cc);
     connect = λ op p. absurd (cc);
   }
 

@@ -29,6 +29,7 @@ use Rattle.wasi_run.specs.Machine.{done_reply, call_stop_reply, bytes_reply, per
 use Rattle.wasi_run.specs.Licence.{marks_in}
 use Rattle.wasi_run.specs.Answered.{Answered, record_in, record_at, streams_in, MissesHandle, MakesHandle, IsWrite}
 use Rattle.wasi_run.specs.GivenUp.{IsDrop}
+use Rattle.wasi_run.specs.Settings.{chosen}
 use Rattle.wasi_run.specs.Waiting.{IsPoll, MayStand, left_missing}
 use Rattle.wasi_run.proofs.StepCauses.{Gives, gives_any, gives_more, gives_then, settled}
 use Rattle.wasi_run.proofs.RecordCauses.{RecordSays}
@@ -39,6 +40,7 @@ use Rattle.wasi_run.proofs.AcceptCauses.{AcceptSays, accept_says}
 use Rattle.wasi_run.proofs.ConnectCauses.{ConnectSays, connect_says}
 use Rattle.wasi_run.proofs.FinishCauses.{FinishSays, finish_says}
 use Rattle.wasi_run.proofs.AddressCauses.{LocalSays, local_says, RemoteSays, remote_says}
+use Rattle.wasi_run.proofs.OptionCauses.{GetSays, get_says, SetSays, set_says}
 use Rattle.wasi_run.proofs.QuietCauses.{QuietSays, listening_says, family_says}
 use Rattle.wasi_run.proofs.StreamCauses.{IsSound, all_kept, job_noted, StreamAnswer, NotThere, ItFails, FindsFull, ItIsClosed, ItTraps}
 use Rattle.wasi_run.proofs.ReadCauses.{ReadGives, read_is_sound}
@@ -238,6 +240,8 @@ module _ (contexts : List WasiSocketsCtx) (m : Machine) (line : ℕ) where
   says (step.TcpRemoteAddress ctx handle) = gives_more (RemoteSays m line handle) _ (of_record (step.TcpRemoteAddress ctx handle) handle _ (λ none. none) refl) [] _ (remote_says m line handle)
   says (step.TcpIsListening ctx handle) = of_quiet (step.TcpIsListening ctx handle) handle (λ none. none) refl _ (listening_says m handle)
   says (step.TcpAddressFamily ctx handle) = of_quiet (step.TcpAddressFamily ctx handle) handle (λ none. none) refl _ (family_says m handle)
+  says (step.TcpGet ctx handle option) = gives_more (GetSays m line handle option) _ (of_record (step.TcpGet ctx handle option) handle _ (λ none. none) refl) [] _ (get_says m line handle option)
+  says (step.TcpSet ctx handle setting) = gives_more (SetSays m line handle (chosen setting)) _ (of_record (step.TcpSet ctx handle setting) handle _ (λ none. none) refl) [] _ (set_says m line handle (chosen setting))
   says (step.Read ctx input len) = answered_by (λ es done. ReadAnswer m line input len es done.0 done.1) _ bytes_reply (of_read ctx input len) _ (read_answers m line input len)
   says (step.CheckWrite ctx output) = answered_by (λ es done. CheckAnswer m line output es done.0 done.1) _ permit_reply (of_check ctx output) _ (check_answers m line output)
   says (step.Write ctx output bytes) = answered_by (λ es done. WriteAnswer m line output bytes es done.0 done.1) _ taken_reply (of_write ctx output bytes) _ (write_answers m line output bytes)

@@ -1,5 +1,6 @@
 pub mod Reply
 pub mod Machine
+pub mod Settings
 pub mod Steps
 pub mod Replies
 pub mod Lines
@@ -13,6 +14,7 @@ pub mod Program
 pub mod Parsed
 pub mod Answered
 pub mod Listens
+pub mod Options
 pub mod GivenUp
 pub mod Waiting
 pub mod Turns

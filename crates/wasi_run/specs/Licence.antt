@@ -15,6 +15,7 @@ use Rattle.wasi_world.specs.declared.call.Told.{Told}
 use Rattle.wasi_world.specs.declared.call.Told.TheVariants.{Done, Yes, Addr, Arrived}
 use Rattle.wasi_world.specs.declared.call.Entry.{Entry}
 use Rattle.wasi_world.specs.declared.outcome.WasiSocketsCtx.{WasiSocketsCtx}
+use Rattle.wasi_run.specs.declared.setting.TcpSetting.TheVariants as setting
 use Rattle.wasi_run.specs.declared.step.Step.{Step}
 use Rattle.wasi_run.specs.declared.step.Step.TheVariants as step
 
@@ -63,6 +64,8 @@ handles_of (step.TcpLocalAddress ctx socket) = socket ∷ []
 handles_of (step.TcpRemoteAddress ctx socket) = socket ∷ []
 handles_of (step.TcpIsListening ctx socket) = socket ∷ []
 handles_of (step.TcpAddressFamily ctx socket) = socket ∷ []
+handles_of (step.TcpGet ctx socket option) = socket ∷ []
+handles_of (step.TcpSet ctx socket setting) = socket ∷ []
 handles_of (step.Read ctx input len) = input ∷ []
 handles_of (step.CheckWrite ctx output) = output ∷ []
 handles_of (step.Write ctx output bytes) = output ∷ []
@@ -149,6 +152,12 @@ MayListen before op side =
     (IsBoundSide before side × ((addr : IpSocketAddress) × IsLastLocal before side addr × HasYes before before op side addr TcpListen))
     ⊎ ((IsBoundSide before side → ⊥) × HasWildcardYes before op side TcpBind × HasWildcardYes before op side TcpListen)
 
+-- The side listens: a `listen` of it was told done.
+pub record Listens (before : List Entry) (side : OpId) : Type 0 where
+  pub op : OpId
+  pub backlog : ℕ
+  pub told : Has before (entry op (Listen side backlog) Done)
+
 -- The operation's last `accept` on the listener told this peer, and after it came a yes for the peer.
 pub record IsAdmitted (before : List Entry) (op listener : OpId) (peer : IpSocketAddress) : Type 0 where
   pub front : List Entry
@@ -188,6 +197,11 @@ IsConnectTo addr _ = ⊥
 abbrev pub IsListen : Step → Type 0
 IsListen (step.TcpStartListen ctx socket) = ⊤
 IsListen _ = ⊥
+
+-- a set of the backlog
+abbrev pub IsBacklogSet : Step → Type 0
+IsBacklogSet (step.TcpSet ctx socket (setting.ListenBacklogSize value)) = ⊤
+IsBacklogSet _ = ⊥
 
 -- its parent is this handle, of whose side it is
 abbrev pub IsOfParent : List Entry → ℕ → Option ℕ → Option OpId → Type 0
@@ -238,6 +252,8 @@ IsMarkOf before op kind parent sock (step.TcpLocalAddress ctx socket) = ⊥
 IsMarkOf before op kind parent sock (step.TcpRemoteAddress ctx socket) = ⊥
 IsMarkOf before op kind parent sock (step.TcpIsListening ctx socket) = ⊥
 IsMarkOf before op kind parent sock (step.TcpAddressFamily ctx socket) = ⊥
+IsMarkOf before op kind parent sock (step.TcpGet ctx socket option) = ⊥
+IsMarkOf before op kind parent sock (step.TcpSet ctx socket setting) = ⊥
 IsMarkOf before op kind parent sock (step.Read ctx input len) = (kind ≡ ErrorValue) × IsOfParent before input parent sock
 IsMarkOf before op kind parent sock (step.CheckWrite ctx output) = (kind ≡ ErrorValue) × IsOfParent before output parent sock
 IsMarkOf before op kind parent sock (step.Write ctx output bytes) = (kind ≡ ErrorValue) × IsOfParent before output parent sock
@@ -264,7 +280,7 @@ MayAsk contexts steps before op (Bind sock addr) = ReachesSide steps before op s
 MayAsk contexts steps before op (UdpBind sock addr) = ⊥
 MayAsk contexts steps before op (UdpConnect sock addr) = ⊥
 MayAsk contexts steps before op (Listen sock backlog) = ReachesSide steps before op sock × BeganBy steps op IsListen × MayListen before op sock
-MayAsk contexts steps before op (SetBacklog sock backlog) = ⊥
+MayAsk contexts steps before op (SetBacklog sock backlog) = ReachesSide steps before op sock × BeganBy steps op IsBacklogSet × Listens before sock
 MayAsk contexts steps before op (Connect sock addr) =
     ReachesSide steps before op sock × BeganBy steps op (IsConnectTo addr) × HasYes before before op sock addr TcpConnect × MayGoOut before op sock
 MayAsk contexts steps before op (Accept sock) = ReachesSide steps before op sock

@@ -4,6 +4,7 @@ use Rattle.wasi_addr.specs.declared.address.IpSocketAddress.{IpSocketAddress}
 use Rattle.wasi_addr.specs.declared.address.SocketAddressFamily.{SocketAddressFamily}
 use Rattle.wasi_addr.specs.Code.{p2_of_code}
 use Rattle.wasi_world.specs.declared.ids.Ids.{Ids}
+use Rattle.wasi_world.specs.declared.ids.OpId.{OpId}
 use Rattle.wasi_world.specs.declared.outcome.Answer.{Answer}
 use Rattle.wasi_world.specs.declared.outcome.Answer.TheVariants.{Ready, Pending}
 use Rattle.wasi_world.specs.declared.outcome.WasiSocketsCtx.{WasiSocketsCtx}
@@ -19,11 +20,13 @@ use Rattle.wasi_host.specs.Pending as host
 use Rattle.wasi_host.specs.Store.{is_bind, is_listen}
 use Rattle.wasi_p2.specs.Pending as p2
 use Rattle.wasi_p2.specs.Tcp.{network_asks, start_bind_asks, finish_on, start_connect_asks, finish_connect_asks, local_address_on, remote_address_on, is_listening_on, address_family_on, shutdown_on, start_listen_on, accept_asks}
+use Rattle.wasi_p2.specs.Options.{get_option_on, set_option_on, set_backlog_on}
 use Rattle.wasi_run.specs.declared.reply.Reply.{Reply}
 use Rattle.wasi_run.specs.declared.reply.Reply.TheVariants as reply
 use Rattle.wasi_run.specs.declared.step.Step.{Step}
 use Rattle.wasi_run.specs.declared.step.Step.TheVariants as step
 use Rattle.wasi_run.specs.Reply.{word_of_p2, is_trap, no_fields, number_fields, pair_fields, triple_fields, bytes_fields, truth_fields, family_fields, address_values}
+use Rattle.wasi_run.specs.Settings.{Chosen, AnOption, TheBacklog, chosen}
 use Rattle.wasi_run.specs.Steps.{context_of}
 
 -- == replies
@@ -34,6 +37,10 @@ stop_reply (Trap kind) = reply.Trap kind
 abbrev pub handle_reply : Result ℕ Stop → Reply
 handle_reply (Ok h) = reply.Ok (number_fields h)
 handle_reply (Err stop) = stop_reply stop
+
+abbrev pub value_reply : Result ℕ Stop → Reply
+value_reply (Ok value) = reply.Ok (number_fields value)
+value_reply (Err stop) = stop_reply stop
 
 abbrev pub done_reply : Result (Unit {0}) Stop → Reply
 done_reply (Ok done) = reply.Ok no_fields
@@ -103,6 +110,12 @@ poll_on line (Err stop, m) = Give (stop_reply stop, m)
 abbrev pub poll_asks : Machine → ℕ → Asks (Reply × Machine)
 poll_asks m line = bind (p2.resume_asks m line) (λ done. poll_on line done)
 
+-- == settings
+-- sets the option or the backlog that was chosen
+abbrev pub set_chosen : Machine → OpId → Option ℕ → Chosen → Asks (Result (Unit {0}) Stop × Machine)
+set_chosen m own found (AnOption option value) = set_option_on m own option value found
+set_chosen m own found (TheBacklog value) = set_backlog_on m own value found
+
 -- == steps
 -- a context that isn't there is allowed nothing
 abbrev pub context_in : Option WasiSocketsCtx → WasiSocketsCtx
@@ -135,6 +148,8 @@ call_asks ctx m line (step.TcpLocalAddress c s) = bind (local_address_on m (own_
 call_asks ctx m line (step.TcpRemoteAddress c s) = bind (remote_address_on m (own_of line) (socket_at m s)) (λ done. Give (address_reply done.0, done.1))
 call_asks ctx m line (step.TcpIsListening c s) = Give (truth_reply (is_listening_on m (socket_at m s)), m)
 call_asks ctx m line (step.TcpAddressFamily c s) = Give (family_reply (address_family_on m (socket_at m s)), m)
+call_asks ctx m line (step.TcpGet c s option) = bind (get_option_on m (own_of line) option (socket_at m s)) (λ done. Give (value_reply done.0, done.1))
+call_asks ctx m line (step.TcpSet c s setting) = bind (set_chosen m (own_of line) (socket_at m s) (chosen setting)) (λ done. Give (done_reply done.0, done.1))
 call_asks ctx m line (step.Read c input len) = bind (read_asks m (own_of line) input len) (λ done. Give (bytes_reply done.0, done.1))
 call_asks ctx m line (step.CheckWrite c output) = bind (check_asks m (own_of line) output) (λ done. Give (permit_reply done.0, done.1))
 call_asks ctx m line (step.Write c output bytes) = bind (write_asks m (own_of line) output bytes) (λ done. Give (taken_reply done.0, done.1))

@@ -5,7 +5,8 @@ use Rattle.wasi_addr.specs.declared.address.ShutdownType.TheVariants.{Receive, S
 use Rattle.wasi_world.specs.Fields.{Reader, Row, row, after_word, ◌>>=◌, give, give_some, whole, fields_of, line_with, number_in, number_at, word_at, family_at, address_at, bytes_at}
 use Rattle.wasi_world.specs.Written.{family_fields, address_fields, bytes_fields, FitsAddress, AreBytes}
 use Rattle.wasi_run.specs.declared.step.Step.{Step}
-use Rattle.wasi_run.specs.declared.step.Step.TheVariants.{Network, TcpCreate, TcpStartBind, TcpFinishBind, TcpStartConnect, TcpFinishConnect, TcpStartListen, TcpFinishListen, TcpAccept, TcpLocalAddress, TcpRemoteAddress, TcpIsListening, TcpAddressFamily, TcpShutdown, Read, CheckWrite, Write, Flush, Subscribe, Ready, Drop, Turn, Poll}
+use Rattle.wasi_run.specs.declared.step.Step.TheVariants.{Network, TcpCreate, TcpStartBind, TcpFinishBind, TcpStartConnect, TcpFinishConnect, TcpStartListen, TcpFinishListen, TcpAccept, TcpLocalAddress, TcpRemoteAddress, TcpIsListening, TcpAddressFamily, TcpGet, TcpSet, TcpShutdown, Read, CheckWrite, Write, Flush, Subscribe, Ready, Drop, Turn, Poll}
+use Rattle.wasi_run.specs.Settings.{option_word, option_at, setting_fields, FitsSetting, setting_at}
 
 -- the word of what is shut down
 abbrev pub shutdown_fields : ShutdownType → List (List ℕ)
@@ -28,6 +29,8 @@ fields_of_step (TcpLocalAddress c socket) = decimal c ∷ codes "tcp-local-addre
 fields_of_step (TcpRemoteAddress c socket) = decimal c ∷ codes "tcp-remote-address" ∷ decimal socket ∷ []
 fields_of_step (TcpIsListening c socket) = decimal c ∷ codes "tcp-is-listening" ∷ decimal socket ∷ []
 fields_of_step (TcpAddressFamily c socket) = decimal c ∷ codes "tcp-address-family" ∷ decimal socket ∷ []
+fields_of_step (TcpGet c socket option) = decimal c ∷ codes "tcp-get" ∷ decimal socket ∷ option_word option ∷ []
+fields_of_step (TcpSet c socket setting) = decimal c ∷ codes "tcp-set" ∷ decimal socket ∷ setting_fields setting
 fields_of_step (TcpShutdown c socket how) = decimal c ∷ codes "tcp-shutdown" ∷ decimal socket ∷ shutdown_fields how
 fields_of_step (Read c input len) = decimal c ∷ codes "read" ∷ decimal input ∷ decimal len ∷ []
 fields_of_step (CheckWrite c output) = decimal c ∷ codes "check-write" ∷ decimal output ∷ []
@@ -58,6 +61,8 @@ context_of (TcpLocalAddress c socket) = Some c
 context_of (TcpRemoteAddress c socket) = Some c
 context_of (TcpIsListening c socket) = Some c
 context_of (TcpAddressFamily c socket) = Some c
+context_of (TcpGet c socket option) = Some c
+context_of (TcpSet c socket setting) = Some c
 context_of (TcpShutdown c socket how) = Some c
 context_of (Read c input len) = Some c
 context_of (CheckWrite c output) = Some c
@@ -84,6 +89,8 @@ FitsArguments (TcpLocalAddress c socket) = socket ≤ 4294967295
 FitsArguments (TcpRemoteAddress c socket) = socket ≤ 4294967295
 FitsArguments (TcpIsListening c socket) = socket ≤ 4294967295
 FitsArguments (TcpAddressFamily c socket) = socket ≤ 4294967295
+FitsArguments (TcpGet c socket option) = socket ≤ 4294967295
+FitsArguments (TcpSet c socket setting) = (socket ≤ 4294967295) × FitsSetting setting
 FitsArguments (TcpShutdown c socket how) = socket ≤ 4294967295
 FitsArguments (Read c input len) = (input ≤ 4294967295) × (len ≤ 18446744073709551615)
 FitsArguments (CheckWrite c output) = output ≤ 4294967295
@@ -157,9 +164,16 @@ question_steps c =
     ∷ row (codes "tcp-address-family") (handle_at >>= λ socket. give (TcpAddressFamily c socket))
     ∷ []
 
+-- those that get and set a socket's options, and set its backlog
+abbrev pub option_steps : ℕ → List (Row Step)
+option_steps c =
+    row (codes "tcp-get") (handle_at >>= λ socket. option_at >>= λ option. give (TcpGet c socket option))
+    ∷ row (codes "tcp-set") (handle_at >>= λ socket. setting_at >>= λ setting. give (TcpSet c socket setting))
+    ∷ []
+
 -- the steps of a context whose arguments take no memory
 abbrev pub plain_steps : ℕ → List (Row Step)
-plain_steps c = stream_steps c ++ socket_steps c ++ listener_steps c ++ question_steps c
+plain_steps c = stream_steps c ++ socket_steps c ++ listener_steps c ++ question_steps c ++ option_steps c
 
 -- the steps of a context
 abbrev pub steps : ℕ → List (Row Step)

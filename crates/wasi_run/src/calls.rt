@@ -2,23 +2,27 @@
 
 ghost use Rattle.std.specs.Prelude.{◌≡◌, ◌&&◌, Ok, is_some, false};
 ghost use Rattle.wasi_world.specs.Asks.{AsksFor};
+ghost use Rattle.wasi_host.specs.Host.{host_outcome};
+ghost use Rattle.wasi_host.specs.Machine.{own_of, socket_at};
 ghost use Rattle.wasi_host.specs.Sides.{KnowsSides};
 ghost use Rattle.wasi_host.specs.Views.{SameView, state_of};
-ghost use Rattle.wasi_run.specs.Machine.{first_ids, machine_asks, is_guest_call, call_asks, poll_asks, poll_on, context_at, context_for};
+ghost use Rattle.wasi_run.specs.Machine.{first_ids, machine_asks, set_chosen, is_guest_call, call_asks, poll_asks, poll_on, context_at, context_for};
+ghost use Rattle.wasi_run.specs.Settings.{chosen};
 ghost use Rattle.wasi_run.specs.Steps.{context_of};
 
 use crate::replies::{
     address_reply, answer_reply, bytes_reply, done_reply, family_reply, handle_reply,
     outcome_reply, pair_reply, permit_reply, resumed_reply, stop_reply, taken_reply, triple_reply,
-    truth_reply,
+    truth_reply, value_reply,
 };
 use crate::reply::Reply;
+use crate::setting::TcpSetting;
 use crate::step::Step;
 use std::alloc::{AllocError, Global};
-use wasi_host::{Kind, Machine, Outcome, Store, WasiSocketsCtxView, of_fault};
+use wasi_host::{Kind, Machine, Outcome, SocketError, Store, WasiSocketsCtxView, of_fault};
 use wasi_p2::tcp;
 use wasi_streams::Table;
-use wasi_world::{Answer, Ids, WasiSocketsCtx, World};
+use wasi_world::{Answer, Handle, Ids, WasiSocketsCtx, World};
 
 /// Whether the step is a guest call, and a call stands.
 fn is_held_up(store: &Store, step: &Step) -> bool
@@ -149,6 +153,18 @@ fn call<W: World>(
             let told = tcp::address_family(view, world, ids, socket);
             family_reply(alloc, told)
         }
+        Step::TcpGet { socket, option, .. } => {
+            let told = tcp::get_option(view, world, ids, socket, option);
+            value_reply(alloc, told)
+        }
+        Step::TcpSet {
+            socket,
+            setting,
+            ..
+        } => {
+            let done = set(view, world, ids, socket, setting);
+            done_reply(alloc, done)
+        }
         Step::TcpShutdown { socket, how, .. } => {
             let done = tcp::shutdown(view, world, ids, socket, how);
             done_reply(alloc, done)
@@ -186,6 +202,34 @@ fn call<W: World>(
             Ok(Reply::done(alloc))
         }
         Step::Poll { call } => poll(alloc, view, world, ids, call),
+    }
+}
+
+/// Sets an option of a socket, or its backlog.
+fn set<W: World>(
+    view: &mut WasiSocketsCtxView<'_>,
+    world: &mut W,
+    ids: &mut Ids,
+    socket: Handle,
+    setting: TcpSetting,
+) -> Result<(), SocketError>
+    requires { (W.seen world.old).ended ≡ false }
+    ensures asked { AsksFor (set_chosen (state_of view.old) (own_of ids.old.line) (socket_at (state_of view.old) socket) (chosen setting)) (W.seen world.old) (W.seen world.new) (λ done. (done, state_of view.new)) (host_outcome result) }
+    ensures sides { KnowsSides (W.seen world.old) view.old.store.now → KnowsSides (W.seen world.new) view.new.store.now }
+    ensures view { SameView view.old view.new }
+    ensures ids { ids.new ≡ ids.old }
+    ensures open { (W.seen world.new).ended ≡ false }
+{
+    use TcpSetting::*;
+    match setting {
+        KeepAliveEnabled(value) => tcp::set_keep_alive_enabled(view, world, ids, socket, value),
+        KeepAliveIdleTime(value) => tcp::set_keep_alive_idle_time(view, world, ids, socket, value),
+        KeepAliveInterval(value) => tcp::set_keep_alive_interval(view, world, ids, socket, value),
+        KeepAliveCount(value) => tcp::set_keep_alive_count(view, world, ids, socket, value),
+        HopLimit(value) => tcp::set_hop_limit(view, world, ids, socket, value),
+        ReceiveBufferSize(value) => tcp::set_receive_buffer_size(view, world, ids, socket, value),
+        SendBufferSize(value) => tcp::set_send_buffer_size(view, world, ids, socket, value),
+        ListenBacklogSize(value) => tcp::set_listen_backlog_size(view, world, ids, socket, value),
     }
 }
 

@@ -6,15 +6,18 @@ pub mod causes;
 pub mod laws;
 mod lines;
 pub mod listens;
+pub mod options;
 pub mod parse;
 pub mod program;
 mod replies;
 pub mod reply;
 pub mod run;
 mod session;
+pub mod setting;
 pub mod step;
 
 pub use program::{Done, Status, run_main};
 pub use reply::{CodeWord, Field, Reply, ReplyFields};
 pub use run::{RunEnd, RunError, run_script};
+pub use setting::TcpSetting;
 pub use step::Step;

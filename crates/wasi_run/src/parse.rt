@@ -4,13 +4,15 @@ ghost use Rattle.std.specs.Prelude.{◌≡◌, ◌↔◌, ◌++◌, ℕ, List, S
 ghost use Rattle.wasi_world.specs.Fields.{Reads, after_word, number_in};
 ghost use Rattle.wasi_world.specs.Written.{IsVisible};
 ghost use Rattle.wasi_run.specs.declared.step.Step.{Step};
-ghost use Rattle.wasi_run.specs.Steps.{line_of, IsStep, steps, plain_steps, socket_steps, listener_steps, question_steps, bare_steps, write_row, shutdown_at, guest_call_at, step_at, step_of};
+ghost use Rattle.wasi_run.specs.Settings.{option_at, setting_words, setting_at};
+ghost use Rattle.wasi_run.specs.Steps.{line_of, IsStep, steps, plain_steps, socket_steps, listener_steps, question_steps, option_steps, bare_steps, write_row, shutdown_at, guest_call_at, step_at, step_of};
 
+use crate::setting::TcpSetting;
 use crate::step::Step;
 use std::alloc::{AllocError, Global};
 use wasi_addr::ShutdownType;
-use wasi_world::Fields;
 use wasi_world::fields::number;
+use wasi_world::{Fields, Opt};
 
 /// Takes the word of what is shut down.
 #[tactic(auto, unfolding(crate::specs::Steps::shutdown_at, wasi_world::specs::Fields::read_then, wasi_world::specs::Fields::give))]
@@ -25,10 +27,75 @@ fn shutdown_type(fields: &mut Fields<'_>) -> Option<ShutdownType>
     }
 }
 
-/// Takes the arguments of a step word that asks a socket what it is.
+/// Takes the word of an option.
+#[tactic(auto, unfolding(crate::specs::Settings::option_at, wasi_world::specs::Fields::read_then, wasi_world::specs::Fields::give))]
+fn option(fields: &mut Fields<'_>) -> Option<Opt>
+    ensures { Reads option_at fields.old result fields.new }
+{
+    match fields.word()? {
+        "keep-alive-enabled" => Some(Opt::KeepAliveEnabled),
+        "keep-alive-idle-time" => Some(Opt::KeepAliveIdleTime),
+        "keep-alive-interval" => Some(Opt::KeepAliveInterval),
+        "keep-alive-count" => Some(Opt::KeepAliveCount),
+        "hop-limit" => Some(Opt::HopLimit),
+        "receive-buffer-size" => Some(Opt::ReceiveBufferSize),
+        "send-buffer-size" => Some(Opt::SendBufferSize),
+        _ => None,
+    }
+}
+
+/// Takes the value of what this word says is set.
+#[tactic(auto, unfolding(wasi_world::specs::Fields::read_then, wasi_world::specs::Fields::give))]
+fn setting_of(fields: &mut Fields<'_>, word: &str) -> Option<TcpSetting>
+    ensures { Reads (after_word setting_words word.now) fields.old result fields.new }
+{
+    use TcpSetting::*;
+    match word {
+        "keep-alive-enabled" => Some(KeepAliveEnabled(fields.number(1)? == 1)),
+        "keep-alive-idle-time" => Some(KeepAliveIdleTime(fields.number(u64::MAX)?)),
+        "keep-alive-interval" => Some(KeepAliveInterval(fields.number(u64::MAX)?)),
+        "keep-alive-count" => Some(KeepAliveCount(fields.u32()?)),
+        "hop-limit" => Some(HopLimit(fields.number(255)? as u8)),
+        "receive-buffer-size" => Some(ReceiveBufferSize(fields.number(u64::MAX)?)),
+        "send-buffer-size" => Some(SendBufferSize(fields.number(u64::MAX)?)),
+        "listen-backlog-size" => Some(ListenBacklogSize(fields.number(u64::MAX)?)),
+        _ => None,
+    }
+}
+
+/// Takes what is set, and its value.
+#[tactic(auto, unfolding(crate::specs::Settings::setting_at, wasi_world::specs::Fields::read_then))]
+fn setting(fields: &mut Fields<'_>) -> Option<TcpSetting>
+    ensures { Reads setting_at fields.old result fields.new }
+{
+    let word = fields.word()?;
+    setting_of(fields, word)
+}
+
+/// Takes the arguments of a step word that gets or sets an option.
+#[tactic(auto, unfolding(wasi_world::specs::Fields::read_then, wasi_world::specs::Fields::give, wasi_world::specs::Fields::give_some))]
+fn option_arguments(fields: &mut Fields<'_>, context: u32, word: &str) -> Option<Step>
+    ensures { Reads (after_word (option_steps context) word.now) fields.old result fields.new }
+{
+    match word {
+        "tcp-get" => Some(Step::TcpGet {
+            context,
+            socket: fields.u32()?,
+            option: option(fields)?,
+        }),
+        "tcp-set" => Some(Step::TcpSet {
+            context,
+            socket: fields.u32()?,
+            setting: setting(fields)?,
+        }),
+        _ => None,
+    }
+}
+
+/// Takes the arguments of a step word that asks a socket what it is, or gets or sets an option.
 #[tactic(auto, unfolding(wasi_world::specs::Fields::read_then, wasi_world::specs::Fields::give, wasi_world::specs::Fields::give_some))]
 fn question_arguments(fields: &mut Fields<'_>, context: u32, word: &str) -> Option<Step>
-    ensures { Reads (after_word (question_steps context) word.now) fields.old result fields.new }
+    ensures { Reads (after_word (question_steps context ++ option_steps context) word.now) fields.old result fields.new }
 {
     match word {
         "tcp-local-address" => Some(Step::TcpLocalAddress {
@@ -47,14 +114,14 @@ fn question_arguments(fields: &mut Fields<'_>, context: u32, word: &str) -> Opti
             context,
             socket: fields.u32()?,
         }),
-        _ => None,
+        _ => option_arguments(fields, context, word),
     }
 }
 
-/// Takes the arguments of a step word that makes a socket listen or accepts, or asks a socket what it is.
+/// Takes the arguments of a step word that makes a socket listen or accepts, or asks it something.
 #[tactic(auto, unfolding(wasi_world::specs::Fields::read_then, wasi_world::specs::Fields::give, wasi_world::specs::Fields::give_some))]
 fn listener_arguments(fields: &mut Fields<'_>, context: u32, word: &str) -> Option<Step>
-    ensures { Reads (after_word (listener_steps context ++ question_steps context) word.now) fields.old result fields.new }
+    ensures { Reads (after_word (listener_steps context ++ question_steps context ++ option_steps context) word.now) fields.old result fields.new }
 {
     match word {
         "tcp-start-listen" => Some(Step::TcpStartListen {
@@ -74,10 +141,10 @@ fn listener_arguments(fields: &mut Fields<'_>, context: u32, word: &str) -> Opti
 }
 
 /// Takes the arguments of a step word that makes a socket, binds it, connects it, shuts it down or makes it listen, or asks
-/// it what it is.
+/// it something.
 #[tactic(auto, unfolding(wasi_world::specs::Fields::read_then, wasi_world::specs::Fields::give, wasi_world::specs::Fields::give_some))]
 fn socket_arguments(fields: &mut Fields<'_>, context: u32, word: &str) -> Option<Step>
-    ensures { Reads (after_word (socket_steps context ++ listener_steps context ++ question_steps context) word.now) fields.old result fields.new }
+    ensures { Reads (after_word (socket_steps context ++ listener_steps context ++ question_steps context ++ option_steps context) word.now) fields.old result fields.new }
 {
     match word {
         "network" => Some(Step::Network { context }),

@@ -2,7 +2,7 @@
 
 ghost use Rattle.std.specs.Prelude.{◌≡◌, IfOk, IsOkAnd};
 ghost use Rattle.wasi_host.specs.Host.{host_outcome, call_outcome, IsStop, IsCallStop};
-ghost use Rattle.wasi_run.specs.Machine.{handle_reply, done_reply, answer_reply, pair_reply, triple_reply, address_reply, truth_reply, family_reply, stop_reply, bytes_reply, permit_reply, taken_reply, call_stop_reply, outcome_reply, resumed_reply};
+ghost use Rattle.wasi_run.specs.Machine.{handle_reply, value_reply, done_reply, answer_reply, pair_reply, triple_reply, address_reply, truth_reply, family_reply, stop_reply, bytes_reply, permit_reply, taken_reply, call_stop_reply, outcome_reply, resumed_reply};
 
 use crate::reply::{CodeWord, Reply};
 use std::alloc::{AllocError, Global};
@@ -16,6 +16,16 @@ pub fn handle_reply(alloc: Global, made: Result<Handle, SocketError>) -> Result<
 {
     match made {
         Ok(handle) => Reply::number(alloc, u64::from(handle)),
+        Err(error) => stop_reply(error),
+    }
+}
+
+/// The reply of a call that tells a number.
+pub fn value_reply(alloc: Global, told: Result<u64, SocketError>) -> Result<Reply, AllocError>
+    ensures { IfOk result (λ reply. IsOkAnd (host_outcome told) (λ x. reply ≡ value_reply x)) }
+{
+    match told {
+        Ok(value) => Reply::number(alloc, value),
         Err(error) => stop_reply(error),
     }
 }

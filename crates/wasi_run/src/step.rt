@@ -3,8 +3,9 @@
 ghost use Rattle.std.specs.Prelude.{◌≡◌};
 ghost use Rattle.wasi_run.specs.Steps.{context_of};
 
+use crate::setting::TcpSetting;
 use wasi_addr::{IpSocketAddress, ShutdownType, SocketAddressFamily};
-use wasi_world::{Handle, Octets};
+use wasi_world::{Handle, Octets, Opt};
 
 /// One step of a script: a guest call with the number of the context that makes it, or a step that no context makes.
 #[derive(Drop)]
@@ -77,6 +78,18 @@ pub enum Step {
         context: u32,
         socket: Handle,
     },
+    /// The value of an option of the socket (its getter: `keep-alive-enabled`, and so on).
+    TcpGet {
+        context: u32,
+        socket: Handle,
+        option: Opt,
+    },
+    /// Sets an option of the socket, or its backlog (its setter: `set-keep-alive-enabled`, and so on).
+    TcpSet {
+        context: u32,
+        socket: Handle,
+        setting: TcpSetting,
+    },
     /// Shuts down this half of the connection, or both (`shutdown`).
     TcpShutdown {
         context: u32,
@@ -148,6 +161,8 @@ impl Step {
             | Step::TcpRemoteAddress { context, .. }
             | Step::TcpIsListening { context, .. }
             | Step::TcpAddressFamily { context, .. }
+            | Step::TcpGet { context, .. }
+            | Step::TcpSet { context, .. }
             | Step::TcpShutdown { context, .. }
             | Step::Read { context, .. }
             | Step::CheckWrite { context, .. }

@@ -1,6 +1,6 @@
 use Rattle.std.proofs.Common.{refl}
 use Rattle.wasi_world.proofs.Walks.{asks_answered, given_answered, asks_end, asks_exit}
-use Rattle.wasi_run.specs.Machine.{handle_reply, answer_reply, done_reply, pair_reply, triple_reply, address_reply, truth_reply, family_reply, bytes_reply, permit_reply, taken_reply}
+use Rattle.wasi_run.specs.Machine.{handle_reply, answer_reply, done_reply, pair_reply, triple_reply, address_reply, truth_reply, family_reply, value_reply, bytes_reply, permit_reply, taken_reply}
 use Rattle.wasi_run.proofs.calls.call.Goals as goal
 
 pub returns-in-Network-clause-asked : goal.returns-in-Network-clause-asked
@@ -41,6 +41,12 @@ returns-in-TcpIsListening-clause-asked g c = rw (c.in-TcpIsListening.is, c.is_li
 
 pub returns-in-TcpAddressFamily-clause-asked : goal.returns-in-TcpAddressFamily-clause-asked
 returns-in-TcpAddressFamily-clause-asked g c = rw (c.in-TcpAddressFamily.is, c.address_family-told.ensures.state, c.address_family-told.ensures.quiet) (given_answered family_reply _ _ _ c.address_family-told.ensures.answer c.family_reply.ensures)
+
+pub returns-in-TcpGet-clause-asked : goal.returns-in-TcpGet-clause-asked
+returns-in-TcpGet-clause-asked g c = rw c.in-TcpGet.is (asks_answered value_reply _ _ c.get_option-told.ensures.asked c.value_reply.ensures)
+
+pub returns-in-TcpSet-clause-asked : goal.returns-in-TcpSet-clause-asked
+returns-in-TcpSet-clause-asked g c = rw c.in-TcpSet.is (asks_answered done_reply _ _ c.set-done.ensures.asked c.done_reply-in-TcpSet.ensures)
 
 pub returns-in-TcpShutdown-clause-asked : goal.returns-in-TcpShutdown-clause-asked
 returns-in-TcpShutdown-clause-asked g c = rw c.in-TcpShutdown.is (asks_answered done_reply _ _ c.shutdown-done.ensures.asked c.done_reply-in-TcpShutdown.ensures)

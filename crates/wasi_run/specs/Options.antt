@@ -1,0 +1,104 @@
+-- How gets and sets of options and of the backlog are answered: where each answer comes from, and what stands afterwards.
+use Rattle.std.specs.Prelude.{◌≡◌, ℕ, ◌<◌, ◌≤◌, true, false, List, [], ◌∷◌, Ok, Err}
+use Rattle.wasi_addr.specs.declared.code.ErrorCode.{ErrorCode}
+use Rattle.wasi_addr.specs.Clamp.{clamped_backlog}
+use Rattle.wasi_world.specs.declared.ids.OpId.{OpId}
+use Rattle.wasi_world.specs.declared.call.Call.TheVariants as call
+use Rattle.wasi_world.specs.declared.call.Entry.{Entry}
+use Rattle.wasi_world.specs.declared.call.Opt.{Opt}
+use Rattle.wasi_world.specs.declared.call.Told.TheVariants as told
+use Rattle.wasi_world.specs.Operation.{Operation}
+use Rattle.wasi_tcp.specs.declared.socket.Connection.{Connection}
+use Rattle.wasi_tcp.specs.declared.socket.TcpState.TheVariants as state
+use Rattle.wasi_tcp.specs.Options.{largest_value, zero_test, value_set, value_told, refused_before, refused_after, option_side, with_backlog}
+use Rattle.wasi_host.specs.declared.machine.Machine.{Machine}
+use Rattle.wasi_host.specs.declared.socket.Tcp2Socket.{Tcp2Socket}
+use Rattle.wasi_host.specs.Store.{with_inner}
+use Rattle.wasi_run.specs.declared.reply.CodeWord.{CodeWord}
+use Rattle.wasi_run.specs.declared.reply.CodeWord.TheVariants as word
+use Rattle.wasi_run.specs.declared.reply.Field.{Field}
+use Rattle.wasi_run.specs.declared.setting.TcpSetting.{TcpSetting}
+use Rattle.wasi_run.specs.Answered.{putting, word_of_code, RefusedOf}
+use Rattle.wasi_run.specs.Licence.{entry}
+use Rattle.wasi_run.specs.Reply.{number_fields}
+use Rattle.wasi_run.specs.Settings.{Chosen, AnOption, TheBacklog, chosen}
+
+-- == refusals
+-- A get is refused: the socket has no side that may be asked, and nothing is; or its side told a code; or its side told a value
+-- that is too large for the option.
+pub data GetRefusal (own : OpId) (option : Opt) (r : Tcp2Socket) : List Entry → CodeWord → Type 0 where
+  GetsNoSide : (c : ErrorCode) → option_side r.inner ≡ Err c → GetRefusal own option r [] (word_of_code c)
+  GetTold : (side : OpId) (c : ErrorCode) → option_side r.inner ≡ Ok side → GetRefusal own option r (entry own (call.GetOption side option) (told.Code c) ∷ []) (word_of_code c)
+  ToldTooLarge : (side : OpId) (value : ℕ) → option_side r.inner ≡ Ok side → largest_value option < value_told option value
+      → GetRefusal own option r (entry own (call.GetOption side option) (told.Value value) ∷ []) word.NotSupported
+
+-- A set is refused: 0 is no value of the option, which is tested before the state; or the socket has no side that may be asked;
+-- or it has one, and 0 is no value of the option; or, the value being one, its side told a code. Only then is anything asked.
+pub data SetRefusal (own : OpId) (option : Opt) (value : ℕ) (r : Tcp2Socket) : List Entry → CodeWord → Type 0 where
+  ZeroBefore : refused_before (zero_test option) value ≡ true → SetRefusal own option value r [] word.InvalidArgument
+  SetsNoSide : (c : ErrorCode) → refused_before (zero_test option) value ≡ false → option_side r.inner ≡ Err c → SetRefusal own option value r [] (word_of_code c)
+  ZeroAfter : (side : OpId) → refused_before (zero_test option) value ≡ false → option_side r.inner ≡ Ok side → refused_after (zero_test option) value ≡ true
+      → SetRefusal own option value r [] word.InvalidArgument
+  SetTold : (side : OpId) (c : ErrorCode) → refused_before (zero_test option) value ≡ false → option_side r.inner ≡ Ok side → refused_after (zero_test option) value ≡ false
+      → SetRefusal own option value r (entry own (call.SetOption side option (value_set option value)) (told.Code c) ∷ []) (word_of_code c)
+
+-- A set of the backlog is refused: it is 0, in any state; or the socket connects, or is connected, or is closed with a code; or
+-- the side that listens told a code, whichever.
+pub data BacklogRefusal (own : OpId) (value : ℕ) (r : Tcp2Socket) : List Entry → CodeWord → Type 0 where
+  ZeroBacklog : value ≡ 0 → BacklogRefusal own value r [] word.InvalidArgument
+  StillConnects : (op : Operation) → 0 < value → r.inner.state ≡ state.Connecting op → BacklogRefusal own value r [] word.InvalidState
+  IsConnected : (connection : Connection) → 0 < value → r.inner.state ≡ state.Connected connection → BacklogRefusal own value r [] word.InvalidState
+  WasClosed : (c : ErrorCode) → 0 < value → r.inner.state ≡ state.Closed c → BacklogRefusal own value r [] (word_of_code c)
+  BacklogTold : (side : OpId) (c : ErrorCode) → 0 < value → r.inner.state ≡ state.Listening side
+      → BacklogRefusal own value r (entry own (call.SetBacklog side (clamped_backlog value)) (told.Code c) ∷ []) word.NotSupported
+
+-- the record's call is refused so, and the machine stays as it was
+abbrev pub RefusedHere : Machine → (Tcp2Socket → List Entry → CodeWord → Type 0) → ℕ → Tcp2Socket → List Entry → CodeWord → Machine → Type 0
+RefusedHere m Cause place r entries reply after = Cause r entries reply × (after ≡ m)
+
+-- the get of an option of the handle's socket was refused
+abbrev pub RefusedGet : Machine → OpId → ℕ → Opt → List Entry → CodeWord → Machine → Type 0
+RefusedGet m own handle option = RefusedOf m handle (RefusedHere m (GetRefusal own option))
+
+-- why the set of what was chosen is refused
+abbrev pub ChosenRefusal : OpId → Chosen → Tcp2Socket → List Entry → CodeWord → Type 0
+ChosenRefusal own (AnOption option value) = SetRefusal own option value
+ChosenRefusal own (TheBacklog value) = BacklogRefusal own value
+
+-- the setting of the handle's socket was refused
+abbrev pub RefusedSet : Machine → OpId → ℕ → TcpSetting → List Entry → CodeWord → Machine → Type 0
+RefusedSet m own handle setting = RefusedOf m handle (RefusedHere m (ChosenRefusal own (chosen setting)))
+
+-- == what is got and set
+-- The one thing asked was the option of the socket's side, and the fields are the number that it was told, as the option reads
+-- it, which isn't too large.
+pub record GetsOption (own : OpId) (option : Opt) (r : Tcp2Socket) (fields : List Field) (entries : List Entry) : Type 0 where
+  pub side : OpId
+  pub value : ℕ
+  pub has : option_side r.inner ≡ Ok side
+  pub asked : entries ≡ entry own (call.GetOption side option) (told.Value value) ∷ []
+  pub within : value_told option value ≤ largest_value option
+  pub gives : fields ≡ number_fields (value_told option value)
+
+-- The value wasn't refused, and the one thing asked was to set the option of the socket's side to it, brought into its range,
+-- and that was told done.
+pub record SetsOption (own : OpId) (option : Opt) (value : ℕ) (r : Tcp2Socket) (entries : List Entry) : Type 0 where
+  pub side : OpId
+  pub has : option_side r.inner ≡ Ok side
+  pub before : refused_before (zero_test option) value ≡ false
+  pub after : refused_after (zero_test option) value ≡ false
+  pub asked : entries ≡ entry own (call.SetOption side option (value_set option value)) told.Done ∷ []
+
+-- The backlog is kept for a listen to come, and nothing was asked; or the side that listens was told it, and that was told done.
+pub data SetsBacklog (own : OpId) (value : ℕ) (r : Tcp2Socket) : List Entry → Type 0 where
+  KeptForListen : (side : OpId) → r.inner.state ≡ state.Default side → SetsBacklog own value r []
+  ToldListener : (side : OpId) → r.inner.state ≡ state.Listening side → SetsBacklog own value r (entry own (call.SetBacklog side (clamped_backlog value)) told.Done ∷ [])
+
+-- the machine, where the socket has the backlog, brought into its range
+abbrev pub keeping_backlog : Machine → ℕ → Tcp2Socket → ℕ → Machine
+keeping_backlog m place r value = putting m place (with_inner r (with_backlog r.inner (clamped_backlog value)))
+
+-- what was chosen is set: an option, and the machine stays; or a backlog other than 0, and the socket keeps it
+abbrev pub SetsChosen : Machine → OpId → Chosen → ℕ → Tcp2Socket → List Entry → Machine → Type 0
+SetsChosen m own (AnOption option value) place r entries after = SetsOption own option value r entries × (after ≡ m)
+SetsChosen m own (TheBacklog value) place r entries after = (0 < value) × SetsBacklog own value r entries × (after ≡ keeping_backlog m place r value)
