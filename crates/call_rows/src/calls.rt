@@ -1,20 +1,18 @@
 //! Each call of the host and of the 0.2 interface, over a guest that gives its view.
 
-ghost use Rattle.std.specs.Prelude.{◌≡◌, IfOk, false};
+ghost use Rattle.std.specs.Prelude.{◌≡◌, false};
 ghost use Rattle.wasi_world.specs.Scripted.{seen_by};
 
+use crate::guest::{Guest, line, world};
 use std::alloc::Global;
 use std::test::Fail;
 use wasi_addr::{ErrorCode, IpSocketAddress, Ipv4SocketAddress, ShutdownType, SocketAddressFamily};
 use wasi_host::{
-    CallError, Kind, Outcome, Store, WasiSocketsCtxView, WasiSocketsView, Watched, handles,
-    of_fault,
+    CallError, Kind, Outcome, WasiSocketsCtxView, WasiSocketsView, Watched, handles, of_fault,
 };
 use wasi_p2::tcp;
 use wasi_streams::{StreamError, Table};
-use wasi_world::{
-    Answer, HandleKind, Ids, Octets, OpId, ScriptedWorld, Sock, WasiSocketsCtx, World,
-};
+use wasi_world::{Answer, HandleKind, Octets, OpId, ScriptedWorld, Sock, World};
 
 pub const ADDRESS: IpSocketAddress = IpSocketAddress::Ipv4(Ipv4SocketAddress {
     port: 80,
@@ -26,62 +24,6 @@ const SIDE: Sock = OpId { step: 2, part: 0 };
 const DONE: Answer<()> = Answer::Ready(());
 
 const NOTHING: Option<Answer<Outcome>> = Some(Answer::Ready(Outcome::Nothing));
-
-/// A guest of one context.
-#[derive(Drop)]
-pub struct Guest {
-    ctx: WasiSocketsCtx,
-    table: Table<Kind>,
-    store: Store,
-}
-
-impl Guest {
-    pub fn new(alloc: Global) -> Guest {
-        Guest {
-            ctx: WasiSocketsCtx {
-                name: 0,
-                ip_name_lookup: true,
-                udp: true,
-                tcp: true,
-            },
-            table: Table::new(alloc),
-            store: Store::new(alloc),
-        }
-    }
-}
-
-impl WasiSocketsView for Guest {
-    ghost ctx = { λ guest. guest.ctx };
-
-    ghost table = { λ guest. guest.table };
-
-    ghost store = { λ guest. guest.store };
-
-    fn sockets(&mut self) -> WasiSocketsCtxView<'_> {
-        WasiSocketsCtxView {
-            ctx: &mut self.ctx,
-            table: &mut self.table,
-            store: &mut self.store,
-        }
-    }
-}
-
-/// The names of a line.
-pub fn line(number: u32) -> Ids
-    ensures { result.next_part ≡ 1 }
-{
-    Ids {
-        line: number,
-        next_part: 1,
-    }
-}
-
-pub fn world(alloc: Global, scenario: &str) -> Result<ScriptedWorld, Fail>
-    ensures { IfOk result (λ world. (seen_by world).ended ≡ false) }
-{
-    let (world, _) = ScriptedWorld::parse(alloc, scenario.as_bytes())?;
-    Ok(world)
-}
 
 /// Makes the network 1 and the socket 2.
 pub fn make_socket(view: &mut WasiSocketsCtxView<'_>, world: &mut ScriptedWorld) -> Result<(), Fail>

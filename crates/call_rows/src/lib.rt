@@ -3,5 +3,6 @@
 
 #[cfg(test)]
 mod calls;
+pub mod guest;
 #[cfg(test)]
 mod options;

@@ -3,7 +3,8 @@
 ghost use Rattle.std.specs.Prelude.{◌≡◌, false};
 ghost use Rattle.wasi_world.specs.Scripted.{seen_by};
 
-use crate::calls::{ADDRESS, Guest, line, make_socket, world};
+use crate::calls::{ADDRESS, make_socket};
+use crate::guest::{Guest, line, world};
 use std::test::Fail;
 use wasi_host::{WasiSocketsCtxView, WasiSocketsView};
 use wasi_p2::tcp;

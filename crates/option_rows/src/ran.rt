@@ -59,3 +59,47 @@ pub fn compare(
         wanted,
     }))
 }
+
+const SCRIPT: &str = "0 tcp-create 4\n0 drop\n";
+
+/// What comes of it: its second line is no step.
+fn right(alloc: Global) -> Result<Ran, Fail> {
+    Ok(Ran {
+        status: 3,
+        line: 2,
+        replies: "ok 1\n".to_string(alloc)?,
+        log: "1 0 tcp-create 0 4 = done\n1 0 made 1 tcp2 - 1 0 = done\n".to_string(alloc)?,
+    })
+}
+
+/// Whether the script is told to be wrong where this is wanted.
+fn tells(alloc: Global, wanted: Ran) -> Result<bool, Fail> {
+    Ok(compare(alloc, "", "", SCRIPT, wanted)?.is_some())
+}
+
+#[test]
+fn what_is_wrong_is_told(rt: HostRuntime) -> Result<(), Fail> {
+    let alloc = rt.alloc();
+    assert!(rt; !tells(alloc, right(alloc)?)?);
+    let status = Ran {
+        status: 0,
+        ..right(alloc)?
+    };
+    assert!(rt; tells(alloc, status)?);
+    let line = Ran {
+        line: 3,
+        ..right(alloc)?
+    };
+    assert!(rt; tells(alloc, line)?);
+    let replies = Ran {
+        replies: String::new(alloc),
+        ..right(alloc)?
+    };
+    assert!(rt; tells(alloc, replies)?);
+    let log = Ran {
+        log: String::new(alloc),
+        ..right(alloc)?
+    };
+    assert!(rt; tells(alloc, log)?);
+    Ok(())
+}

@@ -1,5 +1,7 @@
 //! A run of the program over streams in memory.
 
+ghost use Rattle.std.specs.Prelude.{◌≡◌, []};
+
 use std::alloc::Global;
 use std::test::Fail;
 use wasi_run::{Done, run_main};
@@ -22,7 +24,12 @@ pub struct Given<'a> {
 
 impl<'a> Given<'a> {
     /// The words `run limit`, an empty scenario and streams without faults.
-    pub fn script(words: &'a [&'a str], script: &'a [u8]) -> Given<'a> {
+    pub fn script(words: &'a [&'a str], script: &'a [u8]) -> Given<'a>
+        ensures words { result.words.now ≡ words.now }
+        ensures script { result.script.now ≡ script.now }
+        ensures scenario { result.scenario.now ≡ [] }
+        ensures faults { (result.failing_reads.now ≡ []) × (result.failing_writes.now ≡ []) }
+    {
         Given {
             words,
             scenario: b"",

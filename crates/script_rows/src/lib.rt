@@ -4,3 +4,5 @@
 pub mod given;
 pub mod logs;
 pub mod row;
+#[cfg(test)]
+mod tells;

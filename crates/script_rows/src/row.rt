@@ -1,5 +1,7 @@
 //! Scripts beside what comes of them, and how they are run.
 
+ghost use Rattle.std.specs.Prelude.{◌≡◌, ◌++◌, IfOk, string_bytes};
+
 use crate::given::Given;
 use crate::logs::log_text;
 use std::alloc::{AllocError, Global};
@@ -144,7 +146,9 @@ ok 3 4\n",
 };
 
 /// One text after another.
-pub fn joined(alloc: Global, first: &str, then: &str) -> Result<String, AllocError> {
+pub fn joined(alloc: Global, first: &str, then: &str) -> Result<String, AllocError>
+    ensures { IfOk result (λ text. string_bytes text ≡ first.now ++ then.now) }
+{
     let mut text = first.to_string(alloc)?;
     text.push_str(then)?;
     Ok(text)
