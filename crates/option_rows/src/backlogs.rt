@@ -2,7 +2,7 @@
 //! rules in docs/MODEL.md.
 
 use crate::ran::{Ran, Wrong, compare};
-use crate::states::{Backlog, Line, STATES, State};
+use crate::states::{Answer, Backlog, Line, STATES, State};
 use script_rows::row::{BOUND, LISTENING, Row, SOCKET, first_wrong};
 use std::alloc::{AllocError, Global};
 use std::test::Fail;
@@ -20,15 +20,7 @@ const BACKLOGS: [(&str, Option<&str>); 9] = [
     ("18446744073709551615", Some("2147483647")),
 ];
 
-/// What the network answers to a listener's backlog: the scenario's line, what is told, and the reply.
-#[derive(Clone, Copy)]
-struct Answer {
-    line: &'static str,
-    told: &'static str,
-    reply: &'static str,
-}
-
-/// Whichever code is told, one is replied.
+/// What the network answers to a listener's backlog: whichever code is told, one is replied.
 const ANSWERS: [Answer; 4] = [
     Answer {
         line: "",

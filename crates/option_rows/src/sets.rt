@@ -2,7 +2,7 @@
 //! rules in docs/MODEL.md.
 
 use crate::ran::Wrong;
-use crate::states::{Line, STATES, State};
+use crate::states::{Answer, Line, STATES, State};
 use std::alloc::{AllocError, Global};
 use std::test::Fail;
 
@@ -71,14 +71,6 @@ const OPTIONS: [(&str, &[(&str, Set)]); 7] = [
     ("receive-buffer-size", &SIZES),
     ("send-buffer-size", &SIZES),
 ];
-
-/// What the network answers to a set: the scenario's line, what is told, and the reply.
-#[derive(Clone, Copy)]
-struct Answer {
-    line: &'static str,
-    told: &'static str,
-    reply: &'static str,
-}
 
 const DONE: Answer = Answer {
     line: "",

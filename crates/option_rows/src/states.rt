@@ -149,6 +149,14 @@ pub struct Line<'a> {
     pub asked: &'a str,
 }
 
+/// What the network answers to a set: the scenario's line, what is told, and the reply.
+#[derive(Clone, Copy)]
+pub struct Answer {
+    pub line: &'static str,
+    pub told: &'static str,
+    pub reply: &'static str,
+}
+
 impl State {
     /// The log of a line that asks this, after that of the lines before.
     fn log(&self, alloc: Global, asked: &str) -> Result<String, AllocError> {
