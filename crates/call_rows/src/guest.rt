@@ -1,7 +1,10 @@
 //! A guest that gives its view, the names of a line, and a network.
 
-ghost use Rattle.std.specs.Prelude.{◌≡◌, IfOk, false};
-ghost use Rattle.wasi_world.specs.Scripted.{seen_by};
+ghost use Rattle.std.specs.Prelude.{◌≡◌, IfOk, Ok, false, true};
+ghost use Rattle.wasi_host.specs.Store.{no_records};
+ghost use Rattle.wasi_streams.specs.Table.{empty};
+ghost use Rattle.wasi_world.specs.Scenario.{plan_of};
+ghost use Rattle.wasi_world.specs.Scripted.{seen_by, started};
 
 use std::alloc::Global;
 use std::test::Fail;
@@ -19,7 +22,11 @@ pub struct Guest {
 
 impl Guest {
     /// Its context allows all three.
-    pub fn new(alloc: Global) -> Guest {
+    pub fn new(alloc: Global) -> Guest
+        ensures ctx { result.ctx ≡ record { name = 0; ip_name_lookup = true; udp = true; tcp = true } }
+        ensures table { result.table ≡ empty }
+        ensures store { result.store ≡ no_records }
+    {
         Guest {
             ctx: WasiSocketsCtx {
                 name: 0,
@@ -61,7 +68,8 @@ pub fn line(number: u32) -> Ids
 
 /// The network of this scenario.
 pub fn world(alloc: Global, scenario: &str) -> Result<ScriptedWorld, Fail>
-    ensures { IfOk result (λ world. (seen_by world).ended ≡ false) }
+    ensures planned { IfOk result (λ world. started (plan_of scenario.now) ≡ Ok (seen_by world)) }
+    ensures open { IfOk result (λ world. (seen_by world).ended ≡ false) }
 {
     let (world, _) = ScriptedWorld::parse(alloc, scenario.as_bytes())?;
     Ok(world)
