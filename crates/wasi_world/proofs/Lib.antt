@@ -21,3 +21,4 @@ pub mod Pieces
 pub mod UpTo
 pub mod ScenarioLines
 pub mod LinesOf
+pub mod EntryTexts

@@ -14,3 +14,4 @@ pub mod Scripted
 pub mod Memory
 pub mod Lines
 pub mod Scenario
+pub mod EntryText

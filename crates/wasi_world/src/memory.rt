@@ -260,3 +260,69 @@ impl Sink for MemorySink {
         Ok(())
     }
 }
+
+/// A sink that keeps all bytes it is given, for which it takes memory. A write that finds none is a fault and takes
+/// nothing; no other call fails, and no piece is refused.
+#[derive(Drop)]
+pub struct GrowingSink {
+    bytes: Vec<u8>,
+    flushed: bool,
+    faults: u64,
+}
+
+impl Model for GrowingSink {
+    ghost use Rattle.std.specs.Prelude.{Some};
+    ghost use Rattle.wasi_world.specs.Io.{Writing};
+
+    ghost Value = { Writing };
+
+    ghost view = { λ s. record { written = Some s.bytes.items; flushed = Some s.flushed; faults = s.faults; refused = 0 } };
+}
+
+impl GrowingSink {
+    /// An empty sink. Takes no memory.
+    pub fn new(alloc: Global) -> GrowingSink
+        ensures { result ≡ record { written = Some []; flushed = Some false; faults = 0; refused = 0 } }
+    {
+        GrowingSink {
+            bytes: Vec::new(alloc),
+            flushed: false,
+            faults: 0,
+        }
+    }
+
+    /// The bytes that it was given.
+    pub fn bytes(&self) -> &[u8]
+        ensures { self.now.written ≡ Some result.now }
+    {
+        self.bytes.as_slice()
+    }
+
+    /// The bytes themselves; takes no memory.
+    pub fn into_bytes(self) -> Vec<u8>
+        ensures { self.written ≡ Some result.items }
+    {
+        self.bytes
+    }
+}
+
+impl Sink for GrowingSink {
+    ghost writing = { λ s. s };
+
+    /// Takes the whole piece.
+    fn write(&mut self, bytes: &[u8]) -> Result<usize, Failed>
+        ensures written { HasWritten self.old self.new bytes.now result }
+        ensures whole { IfOk result (λ count. count ≡ length bytes.now) }
+    {
+        self.flushed = false;
+        match self.bytes.extend_from_slice(bytes) {
+            Ok(()) => Ok(bytes.len()),
+            Err(_) => Err(count_fault(&mut self.faults)),
+        }
+    }
+
+    fn flush(&mut self) -> Result<(), Failed> {
+        self.flushed = true;
+        Ok(())
+    }
+}

@@ -1,13 +1,14 @@
-//! The standard input as a source, and the standard output as a sink.
+//! The standard input and a file as sources, and the standard output as a sink.
 
 ghost use Rattle.std.specs.Prelude.{◌≡◌, false, None};
 ghost use Rattle.wasi_world.specs.Io.{Reading, Writing};
 
 use crate::io::{Failed, Sink, Source};
 use crate::memory::{count_fault, ended_after, refused_after};
-use std::io;
 use std::io::{Read, Write};
 use std::marker::Model;
+use std::rt::Files;
+use std::{fs, io};
 
 /// The standard input of a runtime, which it keeps. It tells no bytes.
 ///
@@ -73,6 +74,52 @@ impl<R: Input> Source for StdSource<R> {
             }
             Err(_) => Err(count_fault(&mut self.faults)),
         }
+    }
+}
+
+/// A file that is read from its start. One that can't be opened fails at each read. It tells no bytes.
+#[derive(Drop)]
+pub struct FileSource<F> {
+    file: Option<F>,
+    ended: bool,
+    faults: u64,
+}
+
+impl<F> Model for FileSource<F> {
+    ghost use Rattle.std.specs.Prelude.{None};
+    ghost use Rattle.wasi_world.specs.Io.{Reading};
+
+    ghost Value = { Reading };
+
+    ghost view = { λ s. record { left = None; ended = s.ended; faults = s.faults } };
+}
+
+impl<F> FileSource<F> {
+    /// Opens the file at the path; that it can't be opened shows at the first read.
+    pub fn open<R: Files<File = F>>(rt: &R, path: &str) -> FileSource<F>
+        ensures { result ≡ record { left = None; ended = false; faults = 0 } }
+    {
+        FileSource {
+            file: fs::open(rt, path).ok(),
+            ended: false,
+            faults: 0,
+        }
+    }
+}
+
+impl<F: Read> Source for FileSource<F> {
+    ghost reading = { λ s. s };
+
+    /// One read of the file. Whatever error it has is a fault.
+    fn read(&mut self, buf: &mut [u8]) -> Result<usize, Failed> {
+        let Some(file) = &mut self.file else {
+            return Err(count_fault(&mut self.faults));
+        };
+        let Ok(count) = file.read(buf) else {
+            return Err(count_fault(&mut self.faults));
+        };
+        self.ended = ended_after(self.ended, count, buf.len());
+        Ok(count)
     }
 }
 
