@@ -12,12 +12,14 @@ pub mod program;
 mod replies;
 pub mod reply;
 pub mod run;
-mod session;
+pub mod session;
 pub mod setting;
 pub mod step;
 
+pub use lines::write_all;
 pub use program::{Done, Status, run_main};
 pub use reply::{CodeWord, Field, Reply, ReplyFields};
 pub use run::{RunEnd, RunError, run_script};
+pub use session::Session;
 pub use setting::TcpSetting;
 pub use step::Step;

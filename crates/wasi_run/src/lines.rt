@@ -21,8 +21,9 @@ pub enum LinesEnd {
     Trapped,
 }
 
-/// Writes all the bytes, in as many pieces as it takes.
-fn write_all<K: Sink>(writer: &mut K, bytes: &[u8]) -> Result<(), Failed>
+/// Writes all the bytes, in as many pieces as it takes. It fails where the writer counts a fault or takes nothing of a piece.
+/// Takes no memory.
+pub fn write_all<K: Sink>(writer: &mut K, bytes: &[u8]) -> Result<(), Failed>
     ensures all { OnOk result (TookAll (K.writing writer.old) (K.writing writer.new) bytes.now) }
     ensures front { OnErr result (TookFront (K.writing writer.old) (K.writing writer.new) bytes.now) }
 {

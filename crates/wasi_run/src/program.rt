@@ -53,7 +53,8 @@ impl Status {
         }
     }
 
-    fn of_run(outcome: Result<RunEnd, RunError>) -> Status
+    /// How a run's end is told.
+    pub fn of_run(outcome: Result<RunEnd, RunError>) -> Status
         ensures { result ≡ status_of outcome }
     {
         match outcome {
@@ -68,7 +69,7 @@ impl Status {
 }
 
 /// The line of a step that is none, counted from 1, else 0.
-fn bad_line(outcome: Result<RunEnd, RunError>) -> u32
+pub fn bad_line(outcome: Result<RunEnd, RunError>) -> u32
     ensures { result ≡ bad_line_of outcome }
 {
     match outcome {
@@ -128,13 +129,14 @@ fn limit_in(words: &[String]) -> Option<u32>
 }
 
 /// Why a scenario wasn't read.
-enum Unread {
+#[derive(Clone, Copy, Debug, PartialEq, Eq)]
+pub enum Unread {
     Fault,
     Memory(AllocError),
 }
 
-/// Reads a scenario to its end, or to one byte past the most.
-fn read_scenario<C: Source>(alloc: Global, scenario: &mut C) -> Result<Vec<u8>, Unread>
+/// Reads a scenario to its end, or to one byte past the 1,048,576 that it may have. Takes memory for its bytes.
+pub fn read_scenario<C: Source>(alloc: Global, scenario: &mut C) -> Result<Vec<u8>, Unread>
     ensures read { IfOk result (λ text. ReadScenario (C.reading scenario.old) (C.reading scenario.new) text.items) }
     ensures fault { result ≡ Err Unread.Fault → Rose (C.reading scenario.old).faults (C.reading scenario.new).faults }
 {
@@ -156,13 +158,14 @@ fn read_scenario<C: Source>(alloc: Global, scenario: &mut C) -> Result<Vec<u8>, 
 }
 
 /// What a scenario plans and its contexts, or the first line that isn't in its grammar.
-enum Scenario {
+#[derive(Drop)]
+pub enum Scenario {
     Planned(ScriptedWorld, Vec<WasiSocketsCtx>),
     BadLine(u32),
 }
 
-/// Reads the grammar of scenarios.
-fn parse_scenario(alloc: Global, text: &[u8]) -> Result<Scenario, AllocError>
+/// Reads the grammar of scenarios. Takes memory for what is planned.
+pub fn parse_scenario(alloc: Global, text: &[u8]) -> Result<Scenario, AllocError>
     ensures { IfOk result (λ scenario. IsParsed text.now scenario) }
 {
     match ScriptedWorld::parse(alloc, text) {

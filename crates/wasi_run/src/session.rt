@@ -1,4 +1,4 @@
-//! A run, step by step.
+//! A run, step by step: what an embedder makes a guest's calls by, one after another.
 
 ghost use Rattle.std.specs.Prelude.{◌≡◌, ◌+◌, ◌<◌, ◌^◌, false, true};
 ghost use Rattle.wasi_world.specs.Asks.{AsksFor};
@@ -14,7 +14,8 @@ use std::alloc::{AllocError, Global};
 use wasi_host::Machine;
 use wasi_world::{WasiSocketsCtx, World};
 
-/// The machine, and how many lines it has done.
+/// The host's state behind a guest's calls, and how many steps it has done. Each step has the number of its line, counted
+/// from 1, which names the operations that it begins.
 #[derive(Drop)]
 pub struct Session {
     pub machine: Machine,
@@ -22,7 +23,7 @@ pub struct Session {
 }
 
 impl Session {
-    /// Takes no memory.
+    /// No handle and no step yet. Takes no memory.
     pub fn new(alloc: Global) -> Session
         ensures machine { result.machine ≡ first_state }
         ensures lines { result.lines ≡ 0 }
@@ -33,7 +34,8 @@ impl Session {
         }
     }
 
-    /// Does a step, which is the next line.
+    /// Does a step, which is the next line. After a trap, and where memory ran out, no further step is meant to be done,
+    /// but for `finish`. Takes memory for what the step makes and for its reply.
     pub fn step<W: World>(
         &mut self,
         alloc: Global,
@@ -51,7 +53,7 @@ impl Session {
         do_step(alloc, &mut self.machine, world, contexts, self.lines, step)
     }
 
-    /// Sets the end mark, and then closes the open network sides.
+    /// Sets the end mark, and then closes each socket that was made and not closed. Takes no memory.
     pub fn finish<W: World>(self, world: &mut W)
         requires { (W.seen world.old).ended ≡ false }
         ensures quiet { AsksNothing (W.seen world.old) (W.seen world.new) }
