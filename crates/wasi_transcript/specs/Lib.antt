@@ -1,0 +1,5 @@
+pub mod Reading
+pub mod Transcript
+pub mod Done
+pub mod Shown
+pub mod Showing

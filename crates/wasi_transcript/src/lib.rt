@@ -1,0 +1,6 @@
+//! Transcripts of scripts.
+#![tactic(auto)]
+
+mod exchange;
+pub mod lines;
+mod show;
