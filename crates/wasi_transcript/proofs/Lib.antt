@@ -4,3 +4,4 @@ pub mod Exchanges
 pub mod Conversation
 pub mod Showings
 pub mod Endings
+pub mod CasesRead

@@ -38,3 +38,20 @@ module _ (front piece : List ℕ) (start : ℕ) where
   takes_front line h is =
       let none = no_cut front (drop start piece) (ap (position (λ b. b == 10)) (sym (take_rest piece start)) ∙ sym h) in
       (none.lines, none.rest ∙ sym (is ∙ ap (λ l. front ++ l) (take_rest piece start)))
+
+module _ (text : List ℕ) (end : ℕ) where
+  rest_after : Some end ≡ position (λ b. b == 10) text → (cut : Cut [] text end) → cut.after ≡ held_of text (end + 1)
+  rest_after h cut = sym (cut_after [] text end cut) ∙ sym (take_rest text (end + 1))
+
+  -- the first line of a text
+  pub line_taken : Some end ≡ position (λ b. b == 10) text → lines_of text ≡ take end text ∷ lines_of (held_of text (end + 1))
+  line_taken h =
+      let cut = cut_at [] text end (sym h) in
+      cut.lines ∙ ap (λ l. l ∷ lines_of cut.after) (sym (cut_line [] text end cut)) ∙ ap (λ t. take end text ∷ lines_of t) (rest_after h cut)
+
+  pub rest_taken : Some end ≡ position (λ b. b == 10) text → rest_of text ≡ rest_of (held_of text (end + 1))
+  rest_taken h = let cut = cut_at [] text end (sym h) in cut.rest ∙ ap rest_of (rest_after h cut)
+
+-- a text without a newline has no line
+pub no_line : (text : List ℕ) → None ≡ position (λ b. b == 10) text → lines_of text ≡ []
+no_line text h = (no_cut [] text (sym h)).lines

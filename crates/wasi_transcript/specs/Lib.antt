@@ -3,3 +3,5 @@ pub mod Transcript
 pub mod Done
 pub mod Shown
 pub mod Showing
+pub mod Cases
+pub mod CaseRead

@@ -1,6 +1,7 @@
 //! Transcripts of scripts.
 #![tactic(auto)]
 
+pub mod cases;
 mod exchange;
 pub mod lines;
-mod show;
+pub mod show;
