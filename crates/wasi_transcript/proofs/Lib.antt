@@ -5,3 +5,5 @@ pub mod Conversation
 pub mod Showings
 pub mod Endings
 pub mod CasesRead
+pub mod CasesSpelled
+pub mod RunsShown

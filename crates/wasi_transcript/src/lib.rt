@@ -3,5 +3,6 @@
 
 pub mod cases;
 mod exchange;
+pub mod laws;
 pub mod lines;
 pub mod show;

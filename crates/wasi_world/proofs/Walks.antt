@@ -13,13 +13,13 @@ use Rattle.wasi_world.specs.Seen.{Seen, CountsAll, Passes}
 use Rattle.wasi_world.specs.Asks.{Asks, Give, Ask, AskWrite, bind, one, one_write, Left, Reaches, Started, AsksFor, outcome}
 
 -- of walks
-left_then : {A : Type 0} (asks mid rest : Asks A) (es fs : List Entry) → Left asks es mid → Left mid fs rest → Left asks (es ++ fs) rest
+pub left_then : {A : Type 0} (asks mid rest : Asks A) (es fs : List Entry) → Left asks es mid → Left mid fs rest → Left asks (es ++ fs) rest
 left_then asks mid rest [] fs h k = let P : Asks _ → Type 0 = λ t. Left t fs rest in subst P (sym h) k
 left_then (Give x) mid rest (e ∷ es) fs h k = absurd h
 left_then (Ask op call next) mid rest (e ∷ es) fs h k = (h.0, left_then (next e.answer) mid rest es fs h.1 k)
 left_then (AskWrite op sock bytes next) mid rest (e ∷ es) fs h k = (h.0, h.1, left_then (next e.answer) mid rest es fs h.2 k)
 
-left_in : {A B : Type 0} (f : A → Asks B) (asks rest : Asks A) (es : List Entry) → Left asks es rest → Left (bind asks f) es (bind rest f)
+pub left_in : {A B : Type 0} (f : A → Asks B) (asks rest : Asks A) (es : List Entry) → Left asks es rest → Left (bind asks f) es (bind rest f)
 unfolding bind
 left_in f asks rest [] h = ap (λ t. bind t f) h
 left_in f (Give x) rest (e ∷ es) h = absurd h
