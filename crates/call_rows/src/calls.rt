@@ -1,20 +1,18 @@
-//! Each call of the host and of the 0.2 interface, over a guest that gives its view.
+//! What a caller of the host and of the 0.2 interface sees beside the replies of a script: the names that a call takes, the
+//! call that is pending, what handles stand for, and the end.
 
 ghost use Rattle.std.specs.Prelude.{◌≡◌, false};
 ghost use Rattle.wasi_world.specs.Scripted.{seen_by};
 
 use crate::guest::{Guest, line, world};
-use std::alloc::Global;
 use std::test::Fail;
-use wasi_addr::{ErrorCode, IpSocketAddress, Ipv4SocketAddress, ShutdownType, SocketAddressFamily};
-use wasi_host::{
-    CallError, Kind, Outcome, WasiSocketsCtxView, WasiSocketsView, Watched, handles, of_fault,
-};
+use wasi_addr::{IpSocketAddress, Ipv4SocketAddress, SocketAddressFamily};
+use wasi_host::{Kind, Outcome, WasiSocketsCtxView, WasiSocketsView, Watched, handles, of_fault};
 use wasi_p2::tcp;
-use wasi_streams::{StreamError, Table};
-use wasi_world::{Answer, HandleKind, Octets, OpId, ScriptedWorld, Sock, World};
+use wasi_streams::Table;
+use wasi_world::{Answer, HandleKind, OpId, ScriptedWorld, Sock, World};
 
-pub const ADDRESS: IpSocketAddress = IpSocketAddress::Ipv4(Ipv4SocketAddress {
+const ADDRESS: IpSocketAddress = IpSocketAddress::Ipv4(Ipv4SocketAddress {
     port: 80,
     address: (127, 0, 0, 1),
 });
@@ -60,7 +58,7 @@ fn listen(view: &mut WasiSocketsCtxView<'_>, world: &mut ScriptedWorld) -> Resul
 }
 
 #[test]
-fn a_listener_accepts(rt: HostRuntime) -> Result<(), Fail> {
+fn an_accept_takes_the_lines_next_name(rt: HostRuntime) -> Result<(), Fail> {
     let alloc = rt.alloc();
     let mut guest = Guest::new(alloc);
     let mut world = world(alloc, "accept arrived 4 127 0 0 1 5000\n")?;
@@ -70,53 +68,6 @@ fn a_listener_accepts(rt: HostRuntime) -> Result<(), Fail> {
     let made = tcp::accept(&mut view, &mut world, &mut ids, 2)?;
     assert_eq!(rt; made, (3, 4, 5));
     assert_eq!(rt; ids.next_part, 2);
-    Ok(())
-}
-
-/// The addresses of the socket 2.
-fn addresses(
-    view: &mut WasiSocketsCtxView<'_>,
-    world: &mut ScriptedWorld,
-) -> Result<(IpSocketAddress, IpSocketAddress), Fail>
-    requires { (seen_by world.old).ended ≡ false }
-    ensures { (seen_by world.new).ended ≡ false }
-{
-    let local = tcp::local_address(view, world, &mut line(5), 2)?;
-    let remote = tcp::remote_address(view, world, &mut line(6), 2)?;
-    Ok((local, remote))
-}
-
-/// Whether the socket 2 listens, and its family.
-fn questions(
-    view: &mut WasiSocketsCtxView<'_>,
-    world: &mut ScriptedWorld,
-) -> Result<(bool, SocketAddressFamily), Fail>
-    requires { (seen_by world.old).ended ≡ false }
-    ensures { (seen_by world.new).ended ≡ false }
-{
-    let listens = tcp::is_listening(view, world, &mut line(7), 2)?;
-    let family = tcp::address_family(view, world, &mut line(8), 2)?;
-    Ok((listens, family))
-}
-
-#[test]
-fn a_socket_is_connected_and_asked(rt: HostRuntime) -> Result<(), Fail> {
-    let mut world = world(rt.alloc(), "")?;
-    let mut guest = Guest::new(rt.alloc());
-    let mut view = guest.sockets();
-    assert_eq!(rt; connect(&mut view, &mut world)?, (3, 4));
-    // Bound by the connect, to the wildcard's address and a port of the scripted network's.
-    let bound = IpSocketAddress::Ipv4(Ipv4SocketAddress {
-        port: 50000,
-        address: (0, 0, 0, 0),
-    });
-    assert_eq!(rt; addresses(&mut view, &mut world)?, (bound, ADDRESS));
-    assert_eq!(rt;
-        questions(&mut view, &mut world)?,
-        (false, SocketAddressFamily::Ipv4)
-    );
-    tcp::shutdown(&mut view, &mut world, &mut line(9), 2, ShutdownType::Both)?;
-    assert_eq!(rt; world.entries().len(), 13);
     Ok(())
 }
 
@@ -166,133 +117,6 @@ fn a_bind_waits_and_is_resumed(rt: HostRuntime) -> Result<(), Fail> {
     assert_eq!(rt; standing(&view), (None, false, false));
     assert_eq!(rt; resume_bind(&mut view, &mut world, 5)?, None);
     tcp::finish_bind(&mut view, &mut world, &mut line(6), 2)?;
-    Ok(())
-}
-
-/// Asks for a permit and writes two bytes.
-fn write_two(
-    alloc: Global,
-    view: &mut WasiSocketsCtxView<'_>,
-    world: &mut ScriptedWorld,
-    output: u32,
-) -> Result<u64, Fail>
-    requires { (seen_by world.old).ended ≡ false }
-    ensures { (seen_by world.new).ended ≡ false }
-{
-    let permit = wasi_host::check_write(view, world, &mut line(8), output)?;
-    let bytes = Octets::copy_of(alloc, b"hi")?;
-    wasi_host::write(view, world, &mut line(9), output, bytes)?;
-    Ok(permit)
-}
-
-/// Reads, and tells a kept error of the output.
-fn read_and_flush(
-    alloc: Global,
-    view: &mut WasiSocketsCtxView<'_>,
-    world: &mut ScriptedWorld,
-    streams: (u32, u32),
-) -> Result<Octets, Fail>
-    requires { (seen_by world.old).ended ≡ false }
-    ensures { (seen_by world.new).ended ≡ false }
-{
-    let read = wasi_host::read(alloc, view, world, &mut line(10), streams.0, 9)?;
-    wasi_host::flush(view, world, &mut line(11), streams.1)?;
-    Ok(read)
-}
-
-#[test]
-fn streams_are_read_and_written(rt: HostRuntime) -> Result<(), Fail> {
-    let alloc = rt.alloc();
-    let mut world = world(alloc, "read bytes 0102\n")?;
-    let mut guest = Guest::new(alloc);
-    let mut view = guest.sockets();
-    let streams = connect(&mut view, &mut world)?;
-    assert_eq!(rt; write_two(alloc, &mut view, &mut world, streams.1)?, 65536);
-    let read = read_and_flush(alloc, &mut view, &mut world, streams)?;
-    assert_eq!(rt; read.as_slice(), [1, 2].as_slice());
-    assert_eq!(rt; world.entries().len(), 13);
-    Ok(())
-}
-
-/// Watches a handle, looks once, and drops the pollable.
-fn look_once(
-    view: &mut WasiSocketsCtxView<'_>,
-    world: &mut ScriptedWorld,
-    handle: u32,
-) -> Result<(bool, Answer<()>), Fail>
-    requires { (seen_by world.old).ended ≡ false }
-    ensures { (seen_by world.new).ended ≡ false }
-{
-    let made = wasi_host::subscribe(view, world, &mut line(5), handle)?;
-    let ready = wasi_host::ready(view, world, &mut line(6), made)?;
-    let gone = wasi_host::drop_handle(view, world, &mut line(7), made)?;
-    Ok((ready, gone))
-}
-
-/// Drops an output in line 10.
-fn drop_output(
-    view: &mut WasiSocketsCtxView<'_>,
-    world: &mut ScriptedWorld,
-    output: u32,
-) -> Result<Answer<()>, Fail>
-    requires { (seen_by world.old).ended ≡ false }
-    ensures { (seen_by world.new).ended ≡ false }
-{
-    let gone = wasi_host::drop_handle(view, world, &mut line(10), output)?;
-    Ok(gone)
-}
-
-/// Lets writes go on, and polls the drop of line 10.
-fn turn_and_resume(
-    view: &mut WasiSocketsCtxView<'_>,
-    world: &mut ScriptedWorld,
-    number: u32,
-) -> Result<Option<Answer<Outcome>>, Fail>
-    requires { (seen_by world.old).ended ≡ false }
-    ensures { (seen_by world.new).ended ≡ false }
-{
-    wasi_host::turn(view, world)?;
-    let resumed = wasi_host::resume(view, world, &mut line(number), 10)?;
-    Ok(resumed)
-}
-
-#[test]
-fn a_write_goes_on_and_its_output_waits(rt: HostRuntime) -> Result<(), Fail> {
-    let alloc = rt.alloc();
-    let mut world = world(alloc, "write pending\n")?;
-    let mut guest = Guest::new(alloc);
-    let mut view = guest.sockets();
-    let (_, output) = connect(&mut view, &mut world)?;
-    assert_eq!(rt; look_once(&mut view, &mut world, output)?, (true, DONE));
-    assert_eq!(rt; write_two(alloc, &mut view, &mut world, output)?, 65536);
-    assert_eq!(rt;
-        drop_output(&mut view, &mut world, output)?,
-        Answer::Pending
-    );
-    assert_eq!(rt; view.store.exclusive(), Some(10));
-    assert_eq!(rt; turn_and_resume(&mut view, &mut world, 12)?, NOTHING);
-    assert_eq!(rt; turn_and_resume(&mut view, &mut world, 14)?, None);
-    Ok(())
-}
-
-/// What becomes of a failure of the input.
-fn fail(view: &mut WasiSocketsCtxView<'_>, world: &mut ScriptedWorld, input: u32) -> CallError
-    requires { (seen_by world.old).ended ≡ false }
-    ensures { (seen_by world.new).ended ≡ false }
-{
-    let error = StreamError::LastOperationFailed(ErrorCode::Timeout);
-    wasi_host::convert_stream_error(view, world, &mut line(5), input, 0, error)
-}
-
-#[test]
-fn a_failure_gets_a_handle(rt: HostRuntime) -> Result<(), Fail> {
-    let mut world = world(rt.alloc(), "")?;
-    let mut guest = Guest::new(rt.alloc());
-    let mut view = guest.sockets();
-    let (input, _) = connect(&mut view, &mut world)?;
-    let error = fail(&mut view, &mut world, input);
-    assert!(rt; matches!(error, CallError::Failed(ErrorCode::Timeout, 5)));
-    assert_eq!(rt; handles::kind(view.table, 5), Some(Kind::ErrorValue));
     Ok(())
 }
 

@@ -1,4 +1,5 @@
-//! Each call of the host and of the 0.2 interface once, over a guest that gives its view.
+//! Calls of the host and of the 0.2 interface over a guest that gives its view: what only their caller sees, beside what
+//! transcripts of scripts show.
 #![tactic(auto)]
 
 #[cfg(test)]

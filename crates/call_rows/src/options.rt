@@ -1,14 +1,14 @@
-//! Each call of the 0.2 interface on the options of a socket, and on its backlog, over a guest that gives its view.
+//! The getter and the setter of each option of a socket, which have its own type.
 
 ghost use Rattle.std.specs.Prelude.{◌≡◌, false};
 ghost use Rattle.wasi_world.specs.Scripted.{seen_by};
 
-use crate::calls::{ADDRESS, make_socket};
+use crate::calls::make_socket;
 use crate::guest::{Guest, line, world};
 use std::test::Fail;
 use wasi_host::{WasiSocketsCtxView, WasiSocketsView};
 use wasi_p2::tcp;
-use wasi_world::{Call, Opt, ScriptedWorld};
+use wasi_world::{Opt, ScriptedWorld};
 
 /// Sets the times of the socket 2 to the least and the most, and asks for them.
 fn times(view: &mut WasiSocketsCtxView<'_>, world: &mut ScriptedWorld) -> Result<(u64, u64), Fail>
@@ -92,61 +92,5 @@ fn a_socket_has_sizes_and_a_hop_limit(rt: HostRuntime) -> Result<(), Fail> {
     assert_eq!(rt; hops(&mut view, &mut world)?, 255);
     assert_eq!(rt; options(&mut view, &mut world)?, (9, 50));
     assert_eq!(rt; world.entries().len(), 12);
-    Ok(())
-}
-
-/// Makes the socket 2 and gives it a backlog, binds it and lets it listen.
-fn listen_with(
-    view: &mut WasiSocketsCtxView<'_>,
-    world: &mut ScriptedWorld,
-    backlog: u64,
-) -> Result<(), Fail>
-    requires { (seen_by world.old).ended ≡ false }
-    ensures { (seen_by world.new).ended ≡ false }
-{
-    make_socket(view, world)?;
-    tcp::set_listen_backlog_size(view, world, &mut line(3), 2, backlog)?;
-    tcp::start_bind(view, world, &mut line(4), 2, 1, ADDRESS)?;
-    tcp::finish_bind(view, world, &mut line(5), 2)?;
-    tcp::start_listen(view, world, &mut line(6), 2)?;
-    Ok(())
-}
-
-/// Gives the listener 2 another backlog.
-fn relisten_with(
-    view: &mut WasiSocketsCtxView<'_>,
-    world: &mut ScriptedWorld,
-    backlog: u64,
-) -> Result<(), Fail>
-    requires { (seen_by world.old).ended ≡ false }
-    ensures { (seen_by world.new).ended ≡ false }
-{
-    tcp::set_listen_backlog_size(view, world, &mut line(7), 2, backlog)?;
-    Ok(())
-}
-
-/// The call that was made last.
-fn last_call(world: &ScriptedWorld) -> Option<&Call> {
-    let entry = world.entries().last()?;
-    Some(&entry.call)
-}
-
-#[test]
-fn a_socket_has_a_backlog(rt: HostRuntime) -> Result<(), Fail> {
-    let mut world = world(rt.alloc(), "")?;
-    let mut guest = Guest::new(rt.alloc());
-    let mut view = guest.sockets();
-    listen_with(&mut view, &mut world, 5)?;
-    assert!(rt; matches!(last_call(&world), Some(Call::Listen { backlog: 5, .. })));
-    relisten_with(&mut view, &mut world, u64::MAX)?;
-    assert!(rt;
-        matches!(
-            last_call(&world),
-            Some(Call::SetBacklog {
-                backlog: 2147483647,
-                ..
-            })
-        )
-    );
     Ok(())
 }

@@ -1,11 +1,9 @@
-//! The scripted world, the fields of lines, and the sources and sinks, beside their worked answers. These tests stand in
-//! a crate of their own, since a crate with tests is proved twice.
+//! The scripted world and the sources and sinks: what no transcript of a script shows. These tests stand in a crate of
+//! their own, since a crate with tests is proved twice.
 #![tactic(auto)]
 
 #[cfg(test)]
 mod calls;
-#[cfg(test)]
-mod fields;
 #[cfg(test)]
 mod memory;
 #[cfg(test)]

