@@ -1,5 +1,5 @@
 -- How the lines of a case are read, one after another.
-use Rattle.std.proofs.Common.{◌==◌, arith, false, ◌<◌, length, subst, ◌≡◌, ◌≢◌, ◌∙◌, ap, sym, refl, ℕ, List, [], ◌∷◌, ◌++◌, codes, Option, Some, None, append_assoc, append-nil}
+use Rattle.std.proofs.Common.{◌==◌, arith, false, ◌<◌, ◌≤◌, length, subst, ◌≡◌, ◌≢◌, ◌∙◌, ap, sym, refl, ℕ, List, [], ◌∷◌, ◌++◌, codes, Option, Some, None, append_assoc, append-nil}
 use Rattle.std.proofs.lemmas.Bool.Decides.{nat_tests}
 use Rattle.std.specs.Prelude.{option_map, option_and_then}
 use Rattle.std.specs.List.{flat_map, cons_option}
@@ -22,9 +22,10 @@ pub record Planning (old now scenario : List ℕ) : Type 0 where
   pub left : (planned_at (lines_of old)).1 ≡ (planned_at (lines_of now)).1
   pub rest : rest_of old ≡ rest_of now
   pub text : scenario ≡ unlines done
+  pub shorter : length now ≤ length old
 
 pub planning_start : (old scenario : List ℕ) → scenario ≡ [] → Planning old old scenario
-planning_start old scenario e = record { done = []; planned = refl; left = refl; rest = refl; text = e }
+planning_start old scenario e = record { done = []; planned = refl; left = refl; rest = refl; text = e; shorter = omega arith }
 
 planned_next : (lines : List (List ℕ)) (line plan : List ℕ) (more : List (List ℕ)) → lines ≡ line ∷ more → after (codes "given ") line ≡ Some plan → planned_at lines ≡ (plan ∷ (planned_at more).0, (planned_at more).1)
 planned_next lines line plan more e h = ap planned_at e ∙ ap (λ o. next_planned o line more (planned_at more)) h
@@ -37,6 +38,7 @@ planning_on {now = now} {new = new} {scenario = scenario} {plan = plan} h k e =
       left = h.left ∙ ap (λ p. p.1) next;
       rest = h.rest ∙ k.3;
       text = e ∙ ap (λ t. t ++ (plan ++ codes "\n")) h.text ∙ unlines_more h.done plan;
+      shorter = omega (arith, h.shorter, k.4);
     }
 
 none_planned : (lines : List (List ℕ)) → ((line : List ℕ) → (more : List (List ℕ)) → lines ≡ line ∷ more → after (codes "given ") line ≡ None) → planned_at lines ≡ ([], lines)
@@ -49,6 +51,7 @@ planning_over {now = now} h k =
       left = h.left ∙ ap (λ p. p.1) none ∙ ap lines_of (sym k.1);
       rest = h.rest ∙ ap rest_of (sym k.1);
       text = h.text ∙ ap unlines (sym (h.planned ∙ ap (λ p. h.done ++ p.0) none ∙ append-nil h.done));
+      shorter = omega (arith, h.shorter, ap length k.1);
     }
 
 -- == the transcript
@@ -63,13 +66,14 @@ pub record Showing (old now script wanted : List ℕ) : Type 0 where
   pub rest : rest_of old ≡ rest_of now
   pub script_is : script ≡ unlines (script_of done)
   pub wanted_is : wanted ≡ unlines done
+  pub shorter : length now ≤ length old
 
 same_found : (o : Option (List (List ℕ) × List (List ℕ))) → o ≡ option_map (before []) o
 same_found None = refl
 same_found (Some found) = refl
 
 pub showing_start : (old script wanted : List ℕ) → script ≡ [] → wanted ≡ [] → Showing old old script wanted
-showing_start old script wanted s w = record { done = []; shown = same_found (shown_at (lines_of old)); rest = refl; script_is = s; wanted_is = w }
+showing_start old script wanted s w = record { done = []; shown = same_found (shown_at (lines_of old)); rest = refl; script_is = s; wanted_is = w; shorter = omega arith }
 
 -- the script of one line more
 script_more : (done : List (List ℕ)) (line : List ℕ) → script_of (done ++ line ∷ []) ≡ script_of done ++ cons_option (after (codes "> ") line) []
@@ -102,13 +106,14 @@ twice_found done line None = refl
 twice_found done line (Some found) = ap (λ ls. Some (ls, found.1)) (sym (append_assoc done (line ∷ []) found.0))
 
 -- a line more of the transcript
-pub showing_on : {old now new script wanted grown_script grown : List ℕ} (line : List ℕ) → (h : Showing old now script wanted) → line ≢ [] → lines_of now ≡ line ∷ lines_of new → rest_of now ≡ rest_of new → grown_script ≡ unlines (script_of (h.done ++ line ∷ [])) → grown ≡ wanted ++ (line ++ codes "\n") → Showing old new grown_script grown
-showing_on {new = new} line h some lines rest script e = record {
+pub showing_on : {old now new script wanted grown_script grown : List ℕ} (line : List ℕ) → (h : Showing old now script wanted) → line ≢ [] → lines_of now ≡ line ∷ lines_of new → rest_of now ≡ rest_of new → length new < length now → grown_script ≡ unlines (script_of (h.done ++ line ∷ [])) → grown ≡ wanted ++ (line ++ codes "\n") → Showing old new grown_script grown
+showing_on {new = new} line h some lines rest less script e = record {
   done = h.done ++ line ∷ [];
   shown = h.shown ∙ ap (option_map (before h.done)) (ap shown_at lines ∙ shown_next line (lines_of new) some) ∙ twice_found h.done line (shown_at (lines_of new));
   rest = h.rest ∙ rest;
   script_is = script;
   wanted_is = e ∙ ap (λ t. t ++ (line ++ codes "\n")) h.wanted_is ∙ unlines_more h.done line;
+  shorter = omega (arith, h.shorter, less);
 }
 
 -- == the case

@@ -1,9 +1,9 @@
 -- The lines of a case are read as that case, and lines that are read as a case are that case's.
-use Rattle.std.proofs.Common.{arith, ◌≡◌, ◌≢◌, ◌∙◌, ap, sym, refl, subst, ℕ, Bool, true, false, List, [], ◌∷◌, ◌++◌, map, length, take, drop, bytes_eq, codes, Option, Some, None, append_assoc, append-nil}
+use Rattle.std.proofs.Common.{arith, if◌then◌else◌, ◌≡◌, ◌≢◌, ◌∙◌, ap, sym, refl, subst, ℕ, Bool, true, false, List, [], ◌∷◌, ◌++◌, map, length, take, drop, bytes_eq, codes, Option, Some, None, append_assoc, append-nil}
 use Rattle.std.specs.Prelude.{option_map, option_and_then}
 use Rattle.std.specs.List.{AllByRecursion}
+use Rattle.std.specs.Option.{unwrap_or}
 use Rattle.std.proofs.Math.Seq.{take-append_seam, drop-append_seam}
-use Rattle.std.proofs.Math.Option.{some-injective}
 use Rattle.std.proofs.lemmas.Option.{none-some}
 use Rattle.std.proofs.lemmas.List.{take-append-drop}
 use Rattle.std.proofs.lemmas.Slice.Eq.{bytes_eq-Decides}
@@ -11,6 +11,9 @@ use Rattle.wasi_transcript.specs.Cases.{CaseText, IsCase, NotFirst, case_lines, 
 use Rattle.wasi_transcript.proofs.CasesRead.{case_whole}
 
 -- == what stands in front
+some_is : {A : Type 0} (x y : A) → Some x ≡ Some y → x ≡ y
+some_is x y e = ap (λ o. unwrap_or o x) e
+
 same_bytes : (xs ys : List ℕ) → xs ≡ ys → bytes_eq xs ys ≡ true
 same_bytes xs ys e = (bytes_eq-Decides xs ys).1 e
 
@@ -21,7 +24,7 @@ after_front front rest =
 
 after_by : (front line rest : List ℕ) (b : Bool) → bytes_eq (take (length front) line) front ≡ b → (if b then Some (drop (length front) line) else None) ≡ Some rest → line ≡ front ++ rest
 after_by front line rest true e k =
-    sym (take-append-drop (length front) line) ∙ ap (λ f. f ++ drop (length front) line) ((bytes_eq-Decides (take (length front) line) front).0 e) ∙ ap (λ r. front ++ r) (some-injective (drop (length front) line) rest k)
+    sym (take-append-drop (length front) line) ∙ ap (λ f. f ++ drop (length front) line) ((bytes_eq-Decides (take (length front) line) front).0 e) ∙ ap (λ r. front ++ r) (some_is (drop (length front) line) rest k)
 after_by front line rest false e k = absurd (none-some rest k)
 
 pub after_is : (front line rest : List ℕ) → after front line ≡ Some rest → line ≡ front ++ rest
@@ -29,7 +32,7 @@ unfolding after
 after_is front line rest h = after_by front line rest (bytes_eq (take (length front) line) front) refl h
 
 -- == the lines of a scenario
-given : List ℕ → List ℕ
+abbrev given : List ℕ → List ℕ
 given line = codes "given " ++ line
 
 not_planned : (lines : List (List ℕ)) → NotFirst (codes "given ") lines → planned_at lines ≡ ([], lines)
@@ -69,16 +72,16 @@ record ShownIs (lines : List (List ℕ)) (found : List (List ℕ) × List (List 
   pub all : lines ≡ found.0 ++ [] ∷ found.1
   pub some : AllByRecursion (λ line. line ≢ []) found.0
 
+shown_by : (b : ℕ) (bytes : List ℕ) (lines : List (List ℕ)) (found : List (List ℕ) × List (List ℕ)) (o : Option (List (List ℕ) × List (List ℕ))) → ((more : List (List ℕ) × List (List ℕ)) → o ≡ Some more → ShownIs lines more) → option_map {U = List (List ℕ) × List (List ℕ)} (λ found. ((b ∷ bytes) ∷ found.0, found.1)) o ≡ Some found → ShownIs ((b ∷ bytes) ∷ lines) found
+shown_by b bytes lines found None h k = absurd (none-some found k)
+shown_by b bytes lines found (Some more) h k =
+    let rest = h more refl in
+    subst (ShownIs ((b ∷ bytes) ∷ lines)) (some_is ((b ∷ bytes) ∷ more.0, more.1) found k) (record { all = ap (λ ls. (b ∷ bytes) ∷ ls) rest.all; some = (not_nil b bytes, rest.some) })
+
 shown_is : (lines : List (List ℕ)) (found : List (List ℕ) × List (List ℕ)) → shown_at lines ≡ Some found → ShownIs lines found
 shown_is [] found h = absurd (none-some found h)
-shown_is ([] ∷ lines) found h = subst (ShownIs ([] ∷ lines)) (some-injective ([], lines) found h) (record { all = refl; some = tt })
-shown_is ((b ∷ bytes) ∷ lines) found h = by (shown_at lines) refl h
-  where
-    by : (o : Option (List (List ℕ) × List (List ℕ))) → shown_at lines ≡ o → option_map {U = List (List ℕ) × List (List ℕ)} (λ found. ((b ∷ bytes) ∷ found.0, found.1)) o ≡ Some found → ShownIs ((b ∷ bytes) ∷ lines) found
-    by None e k = absurd (none-some found k)
-    by (Some more) e k =
-        let h = shown_is lines more e in
-        subst (ShownIs ((b ∷ bytes) ∷ lines)) (some-injective ((b ∷ bytes) ∷ more.0, more.1) found k) (record { all = ap (λ ls. (b ∷ bytes) ∷ ls) h.all; some = (not_nil b bytes, h.some) })
+shown_is ([] ∷ lines) found h = subst (ShownIs ([] ∷ lines)) (some_is ([], lines) found h) (record { all = refl; some = tt })
+shown_is ((b ∷ bytes) ∷ lines) found h = shown_by b bytes lines found (shown_at lines) (λ more e. shown_is lines more e) h
 
 -- == the case
 not_first_on : (shown rest : List (List ℕ)) → NotFirst (codes "given ") shown → NotFirst (codes "given ") (shown ++ [] ∷ rest)
@@ -117,7 +120,7 @@ case_of line title lines shown t s =
 
 case_by_shown : (line title : List ℕ) (lines : List (List ℕ)) (found : CaseText × List (List ℕ)) (o : Option (List (List ℕ) × List (List ℕ))) → after (codes "# ") line ≡ Some title → shown_at (planned_at lines).1 ≡ o → option_map {U = CaseText × List (List ℕ)} (λ shown. (record { title = title; planned = (planned_at lines).0; shown = shown.0 }, shown.1)) o ≡ Some found → CaseIs (line ∷ lines) found
 case_by_shown line title lines found None t s h = absurd (none-some found h)
-case_by_shown line title lines found (Some shown) t s h = subst (CaseIs (line ∷ lines)) (some-injective (record { title = title; planned = (planned_at lines).0; shown = shown.0 }, shown.1) found h) (case_of line title lines shown t s)
+case_by_shown line title lines found (Some shown) t s h = subst (CaseIs (line ∷ lines)) (some_is (record { title = title; planned = (planned_at lines).0; shown = shown.0 }, shown.1) found h) (case_of line title lines shown t s)
 
 case_by_title : (line : List ℕ) (lines : List (List ℕ)) (found : CaseText × List (List ℕ)) (o : Option (List ℕ)) → after (codes "# ") line ≡ o → option_and_then (titled lines) o ≡ Some found → CaseIs (line ∷ lines) found
 case_by_title line lines found None t h = absurd (none-some found h)

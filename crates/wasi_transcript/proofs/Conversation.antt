@@ -51,13 +51,13 @@ logged_none None = refl
 logged_none (Some log) = ap Some (sym (append-nil log))
 
 pub logged_again : {old mid new : Seen} {xs ys : List Entry} → Logged old xs mid → Logged mid ys new → Logged old (xs ++ ys) new
-logged_again {old} {mid} {new} {xs} {ys} h k = record { log = logged_twice old.log mid.log new.log xs ys h.log k.log }
+logged_again {old} {mid} {new} {xs} {ys} h k = record { log = logged_twice old.log mid.log new.log xs ys h.log k.log; plan = k.plan ∙ h.plan }
 
 pub logged_as : {old new : Seen} {xs ys : List Entry} → xs ≡ ys → Logged old xs new → Logged old ys new
 logged_as e h = rw e at h
 
 pub logged_nothing : (old : Seen) → Logged old [] old
-logged_nothing old = record { log = logged_none old.log }
+logged_nothing old = record { log = logged_none old.log; plan = refl }
 
 -- == the text that was read
 -- a text with more, under a limit

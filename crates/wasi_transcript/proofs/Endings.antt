@@ -33,7 +33,7 @@ module _ {contexts : List WasiSocketsCtx} {limit : ℕ} {s_old s_new : Reading} 
     last = d.last;
     done = d.done;
     met = d.met;
-    logged = record { log = q.log ∙ d.logged.log };
+    logged = record { log = q.log ∙ d.logged.log; plan = q.plan ∙ d.logged.plan };
   }
 
   stops_ended : (d : Done contexts limit s_old s_new w_old w_mid) (q : AsksNothing w_mid w_new) (line : List ℕ) (result : Result RunEnd RunError) → Stops contexts limit s_old s_new w_old w_mid d line result → Stops contexts limit s_old s_new w_old w_new (done_ended d q) line result

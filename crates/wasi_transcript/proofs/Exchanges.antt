@@ -29,7 +29,7 @@ exchanged {line = line} {s = s} {reply = reply} {old = old} {log_old = log_old} 
   exchange = record { line = line; step = s; calls = h.entries; reply = reply };
   line_is = refl;
   done = record { spelled = spelled; asked = h.left };
-  logged = record { log = h.passed.log };
+  logged = record { log = h.passed.log; plan = h.passed.plan };
   closings = h.passed.closings;
   text_is = text ∙ ap (λ es. answered_text line es reply) (newer log_old log_new h.entries (grown old.log log_old log_new h.entries before (sym after ∙ h.passed.log)));
   trap_is = trap;

@@ -7,3 +7,4 @@ pub mod Endings
 pub mod CasesRead
 pub mod CasesSpelled
 pub mod RunsShown
+pub mod CasesHeld

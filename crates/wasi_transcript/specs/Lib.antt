@@ -5,3 +5,5 @@ pub mod Shown
 pub mod Showing
 pub mod Cases
 pub mod CaseRead
+pub mod CaseHolds
+pub mod Words

@@ -74,6 +74,7 @@ abbrev pub AreDone : List WasiSocketsCtx → Machine → ℕ → List Exchange �
 AreDone contexts m number [] last = m ≡ last
 AreDone contexts m number (x ∷ xs) last = (next : Machine) × IsDone contexts m number x next × AreDone contexts next (number + 1) xs last
 
--- From old to new these calls were logged, and no others.
+-- From old to new these calls were logged, and no others, and the plan stayed.
 pub record Logged (old : Seen) (calls : List Entry) (new : Seen) : Type 0 where
   pub log : new.log ≡ option_map (λ log. log ++ calls) old.log
+  pub plan : new.plan ≡ old.plan

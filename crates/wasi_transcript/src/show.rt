@@ -1,6 +1,7 @@
 //! Prints the transcript of a script.
 
 ghost use Rattle.std.specs.Prelude.{◌≡◌, ◌++◌, ◌<◌, ◌^◌, IfOk, IfErr, OnOk, OnErr, length, true, false};
+ghost use Rattle.wasi_world.specs.Script.{GoesByPlan};
 ghost use Rattle.wasi_world.specs.Scripted.{seen_by};
 ghost use Rattle.wasi_host.specs.Machine.{first_state};
 ghost use Rattle.wasi_host.specs.Closing.{IsFresh, HasClosedAll};
@@ -144,6 +145,7 @@ pub fn show_script<S: Source, K: Sink>(
         (S.reading reader.old) (S.reading reader.new)
         (K.writing writer.old) (K.writing writer.new)
         (seen_by world.old) (seen_by world.new) result }
+    ensures planned { GoesByPlan (seen_by world.new) }
     ensures ended { (seen_by world.new).ended ≡ true }
     ensures closed { IsFresh (seen_by world.old) → HasClosedAll (seen_by world.new) }
 {
