@@ -8,3 +8,4 @@ pub mod CasesRead
 pub mod CasesSpelled
 pub mod RunsShown
 pub mod CasesHeld
+pub mod WordsRead
