@@ -102,7 +102,7 @@ case_spelled c rest h =
     let lines = (map given c.planned ++ (c.shown ++ [] ∷ [])) ++ rest in
     let planned = ap planned_at (lines_behind c rest) ∙ planned_spelled c.planned (c.shown ++ [] ∷ rest) (not_first_on c.shown rest h.first) in
     case_whole (codes "# " ++ c.title) c.title lines (c.shown ++ [] ∷ rest) c.shown rest (after_front (codes "# ") c.title) (ap (λ p. p.1) planned) (shown_spelled c.shown rest h.some)
-      ∙ ap (λ p. Some (record { title = c.title; planned = p.0; shown = c.shown }, rest)) planned
+    ∙ ap (λ p. Some (record { title = c.title; planned = p.0; shown = c.shown }, rest)) planned
 
 -- a case, and what follows it
 record CaseIs (lines : List (List ℕ)) (found : CaseText × List (List ℕ)) : Type 0 where

@@ -61,7 +61,7 @@ more_is old xs ys h =
     let e : old.limit - old.taken ≡ length xs + left = omega arith in
     let all : length xs ≤ old.limit - old.taken = omega arith in
     ap (λ t. old.held ++ t) (ap (λ n. take n (xs ++ ys)) e ∙ take-append-add xs ys left ∙ ap (λ t. t ++ take left ys) (sym (take_all (old.limit - old.taken) xs all)))
-        ∙ sym (append_assoc old.held (take (old.limit - old.taken) xs) (take left ys))
+    ∙ sym (append_assoc old.held (take (old.limit - old.taken) xs) (take left ys))
 
 module _ {s_old s_now : Reading} {old now : Held} {front : List ℕ} where
   -- nothing is held, and the line so far is what follows the last newline

@@ -61,9 +61,9 @@ ran contexts (x ∷ xs) so_far m number last h may =
     let asks = machine_asks contexts m number x.step m.store.standing in
     let f = going_on contexts so_far number (steps_in xs) in
     left_then (bind asks f) (f (x.reply, next)) (Give (so_far ++ x.reply ∷ replies_in xs, last)) x.calls (calls_in xs)
-      (left_in f asks (Give (x.reply, next)) x.calls done.asked)
-      (after_one contexts x.reply xs so_far number next last (is_trap x.reply) refl more may
-        (ran contexts xs (so_far ++ x.reply ∷ []) next (number + 1) last more (may_rest x.reply (replies_in xs) may)))
+    (left_in f asks (Give (x.reply, next)) x.calls done.asked)
+    (after_one contexts x.reply xs so_far number next last (is_trap x.reply) refl more may
+    (ran contexts xs (so_far ++ x.reply ∷ []) next (number + 1) last more (may_rest x.reply (replies_in xs) may)))
 
 pub ran_on : (contexts : List WasiSocketsCtx) (m : Machine) (number : ℕ) (exchanges : List Exchange) (last : Machine) (so_far : List Reply) → AreDone contexts m number exchanges last → NoTrap (replies_in exchanges) → Left (run contexts so_far m number (steps_in exchanges)) (calls_in exchanges) (Give (so_far ++ replies_in exchanges, last))
 ran_on contexts m number exchanges last so_far h none = ran contexts exchanges so_far m number last h (none_may (replies_in exchanges) none)

@@ -59,7 +59,10 @@ impl<'a> TextLines<'a> {
     pub fn next_after(&mut self, front: &[u8]) -> Option<&'a [u8]>
         ensures { TakesAfter front.now self.old self.new (option_copied result) }
     {
-        let mut others = TextLines { rest: self.rest, number: self.number };
+        let mut others = TextLines {
+            rest: self.rest,
+            number: self.number,
+        };
         let found = after(others.next()?, front)?;
         self.rest = others.rest;
         self.number = others.number;

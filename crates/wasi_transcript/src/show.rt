@@ -110,12 +110,7 @@ fn stop_text(alloc: Global, stop: Stop, line: &[u8]) -> Result<Vec<u8>, AllocErr
 
 /// The last lines of a transcript: the line that is no step, where one stopped the run, and how many sockets the end of
 /// the run closed.
-fn ending_text(
-    alloc: Global,
-    stop: Stop,
-    line: &[u8],
-    closings: u64,
-) -> Result<Vec<u8>, AllocError>
+fn ending_text(alloc: Global, stop: Stop, line: &[u8], closings: u64) -> Result<Vec<u8>, AllocError>
     ensures { IfOk result (λ text. text.items ≡ ending_text stop line.now closings) }
 {
     let mut text = stop_text(alloc, stop, line)?;

@@ -21,18 +21,18 @@ returns-then-not-is c = (
   c.cases.lines,
   c.cases.invariant.held,
   fails_next c.read_case.new.lines c.in-Some.case c.in_ok-came.came
-    (as_read c.cases.lines c.read_case.new.lines c.in-Some.is c.in_ok-case.ensures)
-    (rw (c.as_slice.ensures.value, c.as_slice-in-cases.ensures.value) at c.in_ok-came.ensures)
-    (λ same. false≢true (sym c.if-not-is.true ∙ c.is.ensures.1 (rw c.as_slice-in-cases-2.ensures.value same))),
+      (as_read c.cases.lines c.read_case.new.lines c.in-Some.is c.in_ok-case.ensures)
+      (rw (c.as_slice.ensures.value, c.as_slice-in-cases.ensures.value) at c.in_ok-came.ensures)
+      (λ same. false≢true (sym c.if-not-is.true ∙ c.is.ensures.1 (rw c.as_slice-in-cases-2.ensures.value same))),
 )
 
 pub cases-preserved : goal.cases-preserved
 cases-preserved c =
     checking_on c.in-Some.case c.in_ok-came.came c.cases.invariant
-      (as_read c.cases.lines c.read_case.new.lines c.in-Some.is c.in_ok-case.ensures)
-      (rw (c.as_slice.ensures.value, c.as_slice-in-cases.ensures.value) at c.in_ok-came.ensures)
-      (rw c.as_slice-in-cases-2.ensures.value at (c.is.ensures.0 c.if-not-is.false))
-      c.saturating_add-count.ensures
+    (as_read c.cases.lines c.read_case.new.lines c.in-Some.is c.in_ok-case.ensures)
+    (rw (c.as_slice.ensures.value, c.as_slice-in-cases.ensures.value) at c.in_ok-came.ensures)
+    (rw c.as_slice-in-cases-2.ensures.value at (c.is.ensures.0 c.if-not-is.false))
+    c.saturating_add-count.ensures
 
 pub returns : goal.returns
 returns c =

@@ -77,11 +77,14 @@ lines-preserved g c =
     let s = at_line c.lines.invariant.between r in
     let w = within_limit c.lines.invariant.between r in
     let k = rw (c.in-Answered.is, c.as_slice.ensures.value) at c.in_ok-text.ensures.done in
-    record { open_world = c.do_line.ensures.open; between = record {
-      showing = rw (← k.1) at (line_done s k.0 c.do_line.ensures.sides (rw c.as_slice-in-Answered.ensures.value at c.in_ok-put-in-Answered.ensures.all));
-      limit_is = r.limit ∙ c.lines.invariant.between.limit_is;
-      faults = r.found.3 ∙ c.lines.invariant.between.faults;
-    } }
+    record {
+      open_world = c.do_line.ensures.open;
+      between = record {
+        showing = rw (← k.1) at (line_done s k.0 c.do_line.ensures.sides (rw c.as_slice-in-Answered.ensures.value at c.in_ok-put-in-Answered.ensures.all));
+        limit_is = r.limit ∙ c.lines.invariant.between.limit_is;
+        faults = r.found.3 ∙ c.lines.invariant.between.faults;
+      };
+    }
 
 pub returns-in_err-put-in-Trapped-clause-shown : goal.returns-in_err-put-in-Trapped-clause-shown
 returns-in_err-put-in-Trapped-clause-shown g c =
