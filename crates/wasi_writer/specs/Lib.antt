@@ -1,0 +1,4 @@
+pub mod Names
+pub mod Knows
+pub mod Keeps
+pub mod Answers

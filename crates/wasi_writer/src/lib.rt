@@ -1,0 +1,8 @@
+//! The write stream whose writes a worker makes.
+#![tactic(auto)]
+
+pub mod lock;
+pub mod names;
+pub mod owner_facts;
+pub mod task;
+pub mod worker_facts;
