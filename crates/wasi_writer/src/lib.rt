@@ -4,5 +4,6 @@
 pub mod lock;
 pub mod names;
 pub mod owner_facts;
+pub mod shared;
 pub mod task;
 pub mod worker_facts;

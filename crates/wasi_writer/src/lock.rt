@@ -1,8 +1,8 @@
 //! What the owner and the worker of a write stream have under one lock.
 
-ghost use Rattle.std.specs.Prelude.{◌≡◌, ◌≤◌, ◌<◌, IfOk, IfErr, IfSome, IfNone, true, false, length, is_ok, Ok};
+ghost use Rattle.std.specs.Prelude.{◌≡◌, ◌≤◌, ◌<◌, IfOk, IfErr, IfSome, IfNone, OnSome, true, false, not, ◌||◌, length, is_ok, Ok};
 ghost use Rattle.wasi_pipes.specs.WriteRecord.{accept_answer};
-ghost use Rattle.wasi_pipes.specs.WriteState.{fresh_state, is_done};
+ghost use Rattle.wasi_pipes.specs.WriteState.{fresh_state};
 ghost use Rattle.wasi_writer.specs.Knows.{nothing_yet, idle};
 ghost use Rattle.wasi_writer.specs.Keeps.{KeepsCounts, KeepsOwner, KeepsWorker, KeepsFlush};
 ghost use Rattle.wasi_writer.specs.Answers.{after_write, after_flush, after_check, after_push, with_bytes, TrapCause, ErrorCause, IsRefused, IsFull, HasTask, Settled};
@@ -120,13 +120,6 @@ impl<N: Names> Locked<N> {
         ready
     }
 
-    /// Whether nothing is left to wait for.
-    pub fn is_done(&self) -> bool
-        ensures { result ≡ is_done self.now.core.state }
-    {
-        self.core.is_done()
-    }
-
     /// The owner stops the stream.
     pub fn cancel(&mut self, keys: &mut OwnerKeys<N>)
         ensures { keys.new ≡ record keys.old { stopped = true } }
@@ -137,20 +130,21 @@ impl<N: Names> Locked<N> {
         self.owner.stop(keys, done);
     }
 
-    /// The owner has nothing left to wait for, and stops the stream. Tells whether it was stopped before.
-    pub fn close(&mut self, keys: &mut OwnerKeys<N>) -> bool
-        requires { is_done self.old.core.state ≡ true }
-        ensures was { result ≡ keys.old.stopped }
-        ensures first { keys.old.stopped ≡ false → keys.new ≡ record keys.old { stopped = true; done = true } }
-        ensures again { keys.old.stopped ≡ true → keys.new ≡ keys.old }
+    /// Where nothing is left to wait for, the owner stops the stream, and is told whether it was stopped before.
+    pub fn close(&mut self, keys: &mut OwnerKeys<N>) -> Option<bool>
+        ensures was { IfSome result (λ cancelled. cancelled ≡ keys.old.stopped) }
+        ensures some { OnSome result (keys.new ≡ record keys.old { stopped = true; done = not keys.old.stopped || keys.old.done }) }
+        ensures none { IfNone result (keys.new ≡ keys.old) }
     {
         self.owner.agree(keys);
-        let cancelled = self.owner.is_stopped();
-        if !cancelled {
-            self.core.stop();
-            self.owner.stop(keys, true);
+        if !self.core.is_done() {
+            return None;
         }
-        cancelled
+        let cancelled = self.owner.is_stopped();
+        let done = !cancelled || self.owner.is_done();
+        self.core.stop();
+        self.owner.stop(keys, done);
+        Some(cancelled)
     }
 
     /// What each side knows, once both are back in one place.
