@@ -4,6 +4,8 @@
 pub mod lock;
 pub mod names;
 pub mod owner_facts;
+pub mod put;
 pub mod shared;
 pub mod task;
+pub mod worker;
 pub mod worker_facts;
