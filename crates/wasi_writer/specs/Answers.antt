@@ -80,3 +80,9 @@ pub record Settled (owner : OwnerKnows) (worker : WorkerKnows) : Type 0 where
   pub popped : owner.done ≡ true → worker.met ≡ false → worker.popped ≡ owner.pushed
   pub flushed : owner.done ≡ true → worker.met ≡ false → owner.flush ≡ true → worker.flushed ≡ true
   pub told : owner.told ≡ true → worker.met ≡ true
+
+-- What was popped is the front of what was pushed, and all of it once all was done without a fault.
+pub record HasLeft (pushed popped : List (List ℕ)) (Done NoFault : Type 0) : Type 0 where
+  pub items : List (List ℕ)
+  pub in_order : pushed ≡ popped ++ items
+  pub none : Done → NoFault → items ≡ []

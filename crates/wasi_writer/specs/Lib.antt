@@ -3,3 +3,4 @@ pub mod Knows
 pub mod Keeps
 pub mod Answers
 pub mod Worked
+pub mod Stream

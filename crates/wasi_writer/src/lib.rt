@@ -6,6 +6,7 @@ pub mod names;
 pub mod owner_facts;
 pub mod put;
 pub mod shared;
+pub mod stream;
 pub mod task;
 pub mod worker;
 pub mod worker_facts;

@@ -1,7 +1,7 @@
 //! What the two sides of a write stream share, and how each waits for the other.
 
 ghost use Rattle.std.specs.Prelude.{◌≡◌, ◌≤◌, ◌<◌, IfOk, IfErr, true, false, not, ◌||◌, length};
-ghost use Rattle.wasi_writer.specs.Answers.{after_write, after_flush, after_check, after_push, TrapCause, ErrorCause, IsRefused, IsFull, HasTask};
+ghost use Rattle.wasi_writer.specs.Answers.{after_write, after_flush, after_check, after_push, TrapCause, ErrorCause, IsRefused, IsFull, HasTask, Settled, HasLeft};
 
 use crate::lock::Locked;
 use crate::names::Names;
@@ -11,7 +11,7 @@ use crate::worker_facts::WorkerKeys;
 use bytes::Bytes;
 use std::sync::{Condvar, Mutex, Wait};
 use wasi_addr::ErrorCode;
-use wasi_shared::{Line, PopEnd, PushEnd};
+use wasi_shared::{Line, PopEnd, PushEnd, count_left};
 use wasi_streams::StreamError;
 
 /// The lock of a write stream, and its line beside it: chunks are pushed and popped under the lock alone.
@@ -168,5 +168,23 @@ impl<N: Names> Shared<N> {
     {
         self.lock.lock(rt).failed(keys, code);
         self.progress.notify_one();
+    }
+
+    /// Both sides are back in one place: what was popped is the front of what was pushed.
+    pub fn settle<R: Wait>(
+        &self,
+        rt: &R,
+        push: PushEnd,
+        mut owner: OwnerKeys<N>,
+        pop: PopEnd,
+        mut worker: WorkerKeys<N>,
+    )
+        requires line { (push.line ≡ N.line) × (pop.line ≡ N.line) }
+        requires counted { (owner.pushed ≡ length push.chunks) × (worker.popped ≡ length pop.chunks) }
+        ensures knows { Settled owner worker }
+        ensures chunks { HasLeft push.chunks pop.chunks (owner.done ≡ true) (worker.met ≡ false) }
+    {
+        self.lock.lock(rt).settle(&mut owner, &mut worker);
+        count_left(rt, &self.line, push, pop);
     }
 }
