@@ -1,0 +1,86 @@
+//! The rule of a line of chunks: what was pushed is what was popped, and then what the line holds.
+
+use bytes::Bytes;
+use crossbeam_queue::protocol::{Join, Lesson, Outcome, Protocol, Split};
+use crossbeam_queue::{RuledSegQueue, SegPass};
+use std::collections::LinkedList;
+
+/// What a pass may do, and what it has pushed and popped. No value of it is made.
+pub struct Log {
+    pub pushes: bool,
+    pub pops: bool,
+    pub pushed: LinkedList<Bytes>,
+    pub popped: LinkedList<Bytes>,
+}
+
+/// First in, first out.
+pub struct InOrder;
+
+impl Protocol<Bytes, Log> for InOrder {
+    ghost use Rattle.std.specs.Prelude.{true, []};
+    ghost use Rattle.wasi_shared.specs.Relay.{log, Relayed};
+
+    ghost holds = { Relayed };
+
+    ghost first = { log true true [] [] };
+}
+
+/// One pass pushes and another pops.
+pub struct Sides;
+
+impl Split<Log> for Sides {
+    ghost use Rattle.std.specs.Prelude.{true, false, []};
+    ghost use Rattle.wasi_shared.specs.Relay.{log};
+
+    ghost left = { λ v. log true false v.pushed [] };
+
+    ghost right = { λ v. log false true [] v.popped };
+}
+
+impl Join<Log> for Sides {
+    ghost use Rattle.std.specs.Prelude.{true, false, []};
+    ghost use Rattle.wasi_shared.specs.Relay.{log};
+
+    ghost both = { λ v w. log true true v.pushed w.popped };
+
+    ghost spent = { log false false [] [] };
+}
+
+/// A chunk was pushed.
+pub struct Pushed;
+
+impl Outcome<Bytes, Log> for Pushed {
+    ghost use Rattle.std.specs.Prelude.{◌≡◌, ◌++◌, ◌∷◌, []};
+    ghost use Rattle.wasi_shared.specs.Relay.{log};
+
+    ghost then = { λ v x w. w ≡ log v.pushes v.pops (v.pushed ++ x ∷ []) v.popped };
+}
+
+/// A chunk was popped.
+pub struct Popped;
+
+impl Outcome<Bytes, Log> for Popped {
+    ghost use Rattle.std.specs.Prelude.{◌≡◌, ◌++◌, ◌∷◌, []};
+    ghost use Rattle.wasi_shared.specs.Relay.{log};
+
+    ghost then = { λ v x w. w ≡ log v.pushes v.pops v.pushed (v.popped ++ x ∷ []) };
+}
+
+impl Lesson<Bytes, Log> for Popped {
+    ghost use Rattle.std.specs.Prelude.{⊤};
+
+    ghost fact = { λ v items. ⊤ };
+}
+
+/// What is left is what was pushed and not popped.
+pub struct Left;
+
+impl Lesson<Bytes, Log> for Left {
+    ghost use Rattle.std.specs.Prelude.{◌≡◌, ◌++◌};
+
+    ghost fact = { λ v items. v.pushed ≡ v.popped ++ items };
+}
+
+pub type Queue = RuledSegQueue<Bytes, Log, InOrder>;
+
+pub type Pass = SegPass<Bytes, Log>;

@@ -1,0 +1,4 @@
+pub mod Took
+pub mod Works
+pub mod Ends
+pub mod Writes

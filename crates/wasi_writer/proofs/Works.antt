@@ -1,0 +1,39 @@
+-- What a worker made of its sink, task by task.
+use Rattle.std.proofs.Common.{◌≡◌, ℕ, Bool, true, false, List, [], ◌∷◌, ◌++◌, Option, None, Some, IfSome, option_map, is_some, refl, ap, ◌∙◌, sym, subst, append_assoc, append-nil, true≢false}
+use Rattle.std.specs.List.{concat}
+use Rattle.wasi_world.specs.Io.{Writing, Flushed, FlushFailed}
+use Rattle.wasi_writer.specs.Knows.{WorkerKnows}
+use Rattle.wasi_writer.specs.Worked.{TookAll, TookFault, TookTo, IsFlushed, Worked}
+use Rattle.wasi_writer.proofs.Took.{all_none, all_more, fault_more, took_none}
+
+pub concat_end : (chunks : List (List ℕ)) (chunk : List ℕ) → concat (chunks ++ chunk ∷ []) ≡ concat chunks ++ chunk
+concat_end [] chunk = append-nil chunk
+concat_end (c ∷ chunks) chunk = ap (λ r. c ++ r) (concat_end chunks chunk) ∙ sym (append_assoc c (concat chunks) chunk)
+
+module _ {a b : Writing} {chunks : List (List ℕ)} {k : WorkerKnows} where
+  -- with no fault, all of the chunks are written
+  pub all_of : Worked a chunks k b → k.met ≡ false → TookAll a (concat chunks) b
+  all_of w met = let F : Bool → Type 0 = λ m. TookTo m a (concat chunks) b in subst F met w.took
+
+  pub goes : k.met ≡ false → TookAll a (concat chunks) b → (k.flushed ≡ true → IsFlushed b) → Worked a chunks k b
+  goes met all flushed = let F : Bool → Type 0 = λ m. TookTo m a (concat chunks) b in record { took = subst F (sym met) all; flushed = flushed }
+
+  pub stops : k.met ≡ true → TookFault a (concat chunks) b → (k.flushed ≡ true → IsFlushed b) → Worked a chunks k b
+  stops met fault flushed = let F : Bool → Type 0 = λ m. TookTo m a (concat chunks) b in record { took = subst F (sym met) fault; flushed = flushed }
+
+-- no worker did anything yet
+pub begins : (a : Writing) (chunks : List (List ℕ)) (k : WorkerKnows) → chunks ≡ [] → k.met ≡ false → k.flushed ≡ false → Worked a chunks k a
+begins a chunks k none met flushed = goes met (let F : List (List ℕ) → Type 0 = λ l. TookAll a (concat l) a in subst F (sym none) (all_none a)) (λ f. absurd (true≢false (sym f ∙ flushed)))
+
+module _ {a b c : Writing} {chunks : List (List ℕ)} {k : WorkerKnows} where
+  -- a chunk was written
+  pub wrote : (chunk : List ℕ) (chunks' : List (List ℕ)) (k' : WorkerKnows) → Worked a chunks k b → k.met ≡ false → TookAll b chunk c
+      → chunks' ≡ chunks ++ chunk ∷ [] → k'.met ≡ false → k'.flushed ≡ false → Worked a chunks' k' c
+  wrote chunk chunks' k' w met all more met' flushed' = let F : List ℕ → Type 0 = λ l. TookAll a l c in
+      goes met' (subst F (sym (ap concat more ∙ concat_end chunks chunk)) (all_more a b c (concat chunks) chunk (all_of w met) all)) (λ f. absurd (true≢false (sym f ∙ flushed')))
+
+  -- a chunk wasn't wholly written
+  pub failed : (chunk : List ℕ) (chunks' : List (List ℕ)) (k' : WorkerKnows) → Worked a chunks k b → k.met ≡ false → TookFault b chunk c
+      → chunks' ≡ chunks ++ chunk ∷ [] → k'.met ≡ true → k'.flushed ≡ false → Worked a chunks' k' c
+  failed chunk chunks' k' w met fault more met' flushed' = let F : List ℕ → Type 0 = λ l. TookFault a l c in
+      stops met' (subst F (sym (ap concat more ∙ concat_end chunks chunk)) (fault_more a b c (concat chunks) chunk (all_of w met) fault)) (λ f. absurd (true≢false (sym f ∙ flushed')))

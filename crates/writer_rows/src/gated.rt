@@ -1,0 +1,112 @@
+//! What a stream answers while its worker is held in the sink's first write.
+
+use crate::gate::gated;
+use crate::play::{Answer, Step, play};
+use std::alloc::Global;
+use std::process::Abort;
+use std::sync::Wait;
+use std::test::*;
+use std::thread::Threads;
+use wasi_addr::ErrorCode;
+use wasi_shared::Ended;
+use wasi_streams::StreamError;
+use wasi_world::TrapKind;
+
+const OK: Answer = Answer::Done(Ok(()));
+
+const CLOSED: Answer = Answer::Done(Err(StreamError::Closed));
+
+const ABOVE: Answer = Answer::Done(Err(StreamError::Trap(TrapKind::Budget)));
+
+const PENDING: Answer = Answer::Done(Err(StreamError::Trap(TrapKind::FlushPending)));
+
+/// Takes the steps on a stream with a budget of 10 bytes, each of which is to be answered so. Then it is to end so, with
+/// so many bytes in the sink.
+fn plays<R: Threads + Wait + Abort + Copy + Send + 'static>(
+    rt: &R,
+    alloc: Global,
+    steps: &[(Step, Answer)],
+    outcome: Result<(), Ended>,
+    bytes: u64,
+) -> Result<(), Fail> {
+    let (gate, sink) = gated(alloc)?;
+    let Ok((other, finished)) = play(rt, alloc, 10, gate, sink, steps) else {
+        return Err(Fail::new("no worker"));
+    };
+    assert_eq!(rt; other, None);
+    assert_eq!(rt; finished.outcome, outcome);
+    assert_eq!(rt; finished.inner.bytes(), bytes);
+    Ok(())
+}
+
+/// The owner sees that the worker began the sink's first write, while it holds it.
+#[test]
+fn gate_first_write(rt: HostRuntime) -> Result<(), Fail> {
+    let steps = [
+        (Step::Write(&[1, 2, 3]), OK),
+        (Step::See, Answer::Is(true)),
+        (Step::Check, Answer::Count(Ok(7))),
+        (Step::Open, OK),
+    ];
+    plays(&rt, rt.alloc(), &steps, Ok(()), 3)
+}
+
+/// The budget is used up, a flush is pending, and then all of the budget is there again.
+#[test]
+fn the_budget_comes_back_whole_after_a_flush(rt: HostRuntime) -> Result<(), Fail> {
+    let steps = [
+        (Step::Check, Answer::Count(Ok(10))),
+        (Step::Write(&[0; 11]), ABOVE),
+        (Step::Write(&[0; 4]), OK),
+        (Step::Write(&[]), OK),
+        (Step::Check, Answer::Count(Ok(6))),
+        (Step::Poll, Answer::Is(true)),
+        (Step::Write(&[0; 6]), OK),
+        (Step::Check, Answer::Count(Ok(0))),
+        (Step::Poll, Answer::Is(false)),
+        (Step::Write(&[0]), ABOVE),
+        (Step::Flush, OK),
+        (Step::Flush, OK),
+        (Step::Write(&[]), PENDING),
+        (Step::Check, Answer::Count(Ok(0))),
+        (Step::Open, OK),
+        (Step::Ready, OK),
+        (Step::Check, Answer::Count(Ok(10))),
+        (Step::Write(&[0; 10]), OK),
+    ];
+    plays(&rt, rt.alloc(), &steps, Ok(()), 20)
+}
+
+/// A stream is cancelled while a chunk is being written and another waits.
+#[test]
+fn a_cancelled_stream_lets_the_call_end(rt: HostRuntime) -> Result<(), Fail> {
+    let steps = [
+        (Step::Write(&[1, 2, 3]), OK),
+        (Step::See, Answer::Is(true)),
+        (Step::Write(&[4, 5]), OK),
+        (Step::Cancel, OK),
+        (Step::Poll, Answer::Is(true)),
+        (Step::Write(&[6]), CLOSED),
+        (Step::Flush, CLOSED),
+        (Step::Check, Answer::Count(Err(StreamError::Closed))),
+        (Step::Cancel, OK),
+        (Step::Open, OK),
+    ];
+    plays(&rt, rt.alloc(), &steps, Err(Ended::Cancelled), 3)
+}
+
+/// The worker's fault is told once, also after a cancel, and then the stream is closed.
+#[test]
+fn a_fault_is_told_once(rt: HostRuntime) -> Result<(), Fail> {
+    let told = StreamError::LastOperationFailed(ErrorCode::Other);
+    let steps = [
+        (Step::Fail, OK),
+        (Step::Write(&[0; 10]), OK),
+        (Step::Ready, OK),
+        (Step::Cancel, OK),
+        (Step::Flush, Answer::Done(Err(told))),
+        (Step::Write(&[]), CLOSED),
+        (Step::Check, Answer::Count(Err(StreamError::Closed))),
+    ];
+    plays(&rt, rt.alloc(), &steps, Err(Ended::Fault), 0)
+}

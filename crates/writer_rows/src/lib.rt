@@ -1,0 +1,18 @@
+//! The write stream with its worker in a real thread. These tests stand in a crate of their own, since a crate with tests
+//! is proved twice.
+#![tactic(auto)]
+
+#[cfg(test)]
+mod ends;
+#[cfg(test)]
+mod gate;
+#[cfg(test)]
+mod gated;
+#[cfg(test)]
+mod pieces;
+#[cfg(test)]
+mod piped;
+#[cfg(test)]
+mod play;
+#[cfg(test)]
+mod pour;
