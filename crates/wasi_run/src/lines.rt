@@ -22,7 +22,7 @@ pub enum LinesEnd {
 }
 
 /// Writes all the bytes, in as many pieces as it takes.
-fn write_all<K: Sink>(writer: &mut K, bytes: &[u8]) -> Result<(), Failed>
+pub fn write_all<K: Sink>(writer: &mut K, bytes: &[u8]) -> Result<(), Failed>
     ensures all { OnOk result (TookAll (K.writing writer.old) (K.writing writer.new) bytes.now) }
     ensures front { OnErr result (TookFront (K.writing writer.old) (K.writing writer.new) bytes.now) }
 {

@@ -2,6 +2,8 @@
 //! log.
 #![tactic(auto)]
 
+#[cfg(test)]
+mod generated;
 pub mod quiet;
 #[cfg(test)]
 mod replies;
