@@ -1,6 +1,7 @@
 //! A connection: its bytes, its readiness, its addresses and its end.
 
-ghost use Rattle.std.specs.Prelude.{◌≡◌, None, IfOk, OnErr};
+ghost use Rattle.std.specs.Prelude.{◌≡◌, ◌==◌, None, Some, IfOk, OnErr, take, if◌then◌else◌};
+ghost use Rattle.wasi_net.specs.Faults.{fault_code};
 
 use crate::fault::{code_of, may_retry, told_address, told_failed};
 use crate::options::{hop_limit_of, is_ipv4, told_set, told_unsupported, told_value};
@@ -35,6 +36,25 @@ fn is_readable<R: Clock>(rt: &R, stream: &TcpStream) -> io::Result<bool> {
         }
     }
     Ok(false)
+}
+
+/// The answer to a read that gave so many bytes at the front of the buffer.
+fn told_read(mut bytes: Vec<u8>, count: usize) -> Told
+    ensures { result ≡ Told.Bytes (take count bytes.items) }
+{
+    bytes.truncate(count);
+    Told::Bytes(Octets::from_vec(bytes))
+}
+
+/// The answer to a write that took so many of the bytes. One that took none may be made again.
+fn told_written(mut bytes: Vec<u8>, count: usize) -> Told
+    ensures { result ≡ (if count == 0 then Told.Pending else Told.Took (take count bytes.items)) }
+{
+    if count == 0 {
+        return Told::Pending;
+    }
+    bytes.truncate(count);
+    Told::Took(Octets::from_vec(bytes))
 }
 
 impl Connection {
@@ -86,12 +106,16 @@ impl Connection {
         }
         let mut bytes = vec![in alloc; 0u8; (size as usize).min(MOST_BYTES)]?;
         match (&self.stream).read(&mut bytes) {
-            Ok(count) => {
-                bytes.truncate(count);
-                Ok(Told::Bytes(Octets::from_vec(bytes)))
-            }
+            Ok(count) => Ok(told_read(bytes, count)),
             Err(e) => Ok(told_failed(&e)),
         }
+    }
+
+    /// Keeps a fault that a look met.
+    fn keep(&mut self, error: &io::Error)
+        ensures { self.new.fault ≡ Some (fault_code error.now) }
+    {
+        self.fault = Some(code_of(error));
     }
 
     /// Looks whether there are bytes, the end or a fault, for at most about a second.
@@ -105,7 +129,7 @@ impl Connection {
             Ok(true) => Told::Done,
             Ok(false) => Told::Pending,
             Err(e) => {
-                self.fault = Some(code_of(&e));
+                self.keep(&e);
                 Told::Done
             }
         }
@@ -122,11 +146,7 @@ impl Connection {
         let mut taken = Vec::new(alloc);
         taken.extend_from_slice(&bytes[..bytes.len().min(MOST_BYTES)])?;
         match (&self.stream).write(&taken) {
-            Ok(0) => Ok(Told::Pending),
-            Ok(count) => {
-                taken.truncate(count);
-                Ok(Told::Took(Octets::from_vec(taken)))
-            }
+            Ok(count) => Ok(told_written(taken, count)),
             Err(e) => Ok(told_failed(&e)),
         }
     }
