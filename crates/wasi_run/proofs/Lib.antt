@@ -122,3 +122,6 @@ pub mod OrderSteps
 pub mod OrderCalls
 pub mod OrderOptions
 pub mod OrderRuns
+mod GeneratedLines
+mod Generated
+mod Newlines

@@ -20,3 +20,6 @@ pub mod Waiting
 pub mod Turns
 pub mod Permitted
 pub mod Order
+pub mod Generate
+pub mod Counted
+pub mod TextStreams

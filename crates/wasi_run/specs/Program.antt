@@ -1,5 +1,6 @@
 -- What the program makes of its words, its scenario and its script.
-use Rattle.std.specs.Prelude.{◌≡◌, ℕ, ◌+◌, ◌≤◌, ◌⊎◌, true, if◌then◌else◌, bytes_eq, codes, List, [], ◌∷◌, Option, Some, None, Result, Ok, Err, length}
+use Rattle.std.specs.Prelude.{◌≡◌, ℕ, ◌+◌, ◌≤◌, ◌⊎◌, true, if◌then◌else◌, bytes_eq, codes, List, [], ◌∷◌, Option, Some, None, option_map, Result, Ok, Err, length}
+use Rattle.std.specs.Option.{option_and_then}
 use Rattle.wasi_world.specs.declared.call.Entry.{Entry}
 use Rattle.wasi_world.specs.declared.outcome.WasiSocketsCtx.{WasiSocketsCtx}
 use Rattle.wasi_world.specs.Seen.{Plan, Seen, Rose}
@@ -11,16 +12,33 @@ use Rattle.wasi_world.specs.Scripted.{at_start}
 use Rattle.wasi_run.specs.declared.run.RunEnd.{RunEnd}
 use Rattle.wasi_run.specs.declared.run.RunError.{RunError}
 use Rattle.wasi_run.specs.declared.run.RunError.TheVariants as error
+use Rattle.wasi_run.specs.declared.counts.Counts.{Counts}
+use Rattle.wasi_run.specs.declared.program.Command.{Command}
+use Rattle.wasi_run.specs.declared.program.Command.TheVariants.{Run, Generate}
 use Rattle.wasi_run.specs.declared.program.Status.{Status}
 use Rattle.wasi_run.specs.declared.program.Status.TheVariants as status
 use Rattle.wasi_run.specs.Script.{RanScript}
 use Rattle.wasi_host.specs.Closing.{HasClosedAll}
 use Rattle.wasi_run.specs.Headline.{RunsLicensed}
+use Rattle.wasi_run.specs.Counted.{CountsRun, summary}
+use Rattle.wasi_run.specs.Written.{TookAll, TookFront}
 
 -- the words are `run LIMIT`
-abbrev pub limit_in : List (List ℕ) → Option ℕ
-limit_in (word ∷ limit ∷ []) = if bytes_eq word (codes "run") then number_in limit 4294967295 else None
-limit_in _ = None
+abbrev pub run_in : List ℕ → List ℕ → Option Command
+run_in word limit = if bytes_eq word (codes "run") then option_map (λ n. Run n) (number_in limit 4294967295) else None
+
+-- the words are `gen SEED STEPS`
+abbrev pub generate_in : List ℕ → List ℕ → List ℕ → Option Command
+generate_in word seed steps =
+    if bytes_eq word (codes "gen")
+    then option_and_then (λ n. option_map (λ count. Generate n count) (number_in steps 100000)) (number_in seed 18446744073709551615)
+    else None
+
+-- what the words ask for
+abbrev pub command_in : List (List ℕ) → Option Command
+command_in (word ∷ limit ∷ []) = run_in word limit
+command_in (word ∷ seed ∷ steps ∷ []) = generate_in word seed steps
+command_in _ = None
 
 abbrev pub number_of : Status → ℕ
 number_of status.Ok = 0
@@ -95,36 +113,60 @@ pub record HasBadLine (c_old c_new : Reading) (line : ℕ) : Type 0 where
   pub read : ReadScenario c_old c_new text
   pub bad : scenario_of text ≡ Err line
 
--- the words aren't in order
-pub record WordsAreBad (words : List (List ℕ)) (c_old c_new s_old s_new : Reading) (k_old k_new : Writing) (log : List Entry) (line : ℕ) : Type 0 where
-  pub words_are : limit_in words ≡ None
-  pub scenario : c_new ≡ c_old
-  pub nothing : NothingRan s_old s_new k_old k_new log
-  pub line_is : line ≡ 0
-
+-- == `run LIMIT`
 -- The scenario was read whole, and a run over it ended so.
-pub record ScriptRan (words : List (List ℕ)) (c_old c_new s_old s_new : Reading) (k_old k_new : Writing) (log : List Entry) (line : ℕ) (end : Status) : Type 0 where
-  pub limit : ℕ
-  pub words_are : limit_in words ≡ Some limit
+pub record ScriptRan (limit : ℕ) (c_old c_new s_old s_new : Reading) (k_old k_new : Writing) (log : List Entry) (line : ℕ) (end : Status) : Type 0 where
   pub text : List ℕ
   pub read : ReadScenario c_old c_new text
   pub ran : RanText limit text s_old s_new k_old k_new log line end
 
--- No run began, though the words are in order, for this reason.
-pub record NoRun (words : List (List ℕ)) (s_old s_new : Reading) (k_old k_new : Writing) (log : List Entry) (P : Type 0) : Type 0 where
-  pub limit : ℕ
-  pub words_are : limit_in words ≡ Some limit
+-- No run began, for this reason.
+pub record NoRun (s_old s_new : Reading) (k_old k_new : Writing) (log : List Entry) (P : Type 0) : Type 0 where
   pub nothing : NothingRan s_old s_new k_old k_new log
   pub because : P
 
 -- the cause of each status
+abbrev pub RunEnds : ℕ → Reading → Reading → Reading → Reading → Writing → Writing → List Entry → ℕ → Status → Type 0
+RunEnds limit c_old c_new s_old s_new k_old k_new log line status.BadWords = ⊥
+RunEnds limit c_old c_new s_old s_new k_old k_new log line status.BadScenario = NoRun s_old s_new k_old k_new log (HasBadLine c_old c_new line)
+RunEnds limit c_old c_new s_old s_new k_old k_new log line status.ScenarioFault = NoRun s_old s_new k_old k_new log (Rose c_old.faults c_new.faults × (line ≡ 0))
+RunEnds limit c_old c_new s_old s_new k_old k_new log line status.Memory =
+    NoRun s_old s_new k_old k_new log (line ≡ 0) ⊎ ScriptRan limit c_old c_new s_old s_new k_old k_new log line status.Memory
+RunEnds limit c_old c_new s_old s_new k_old k_new log line end = ScriptRan limit c_old c_new s_old s_new k_old k_new log line end
+
+-- == `gen SEED STEPS`
+-- The generated script was run over the empty scenario, and this holds of the line that tells its counts.
+pub record Told (seed steps : ℕ) (P : List ℕ → Type 0) : Type 0 where
+  pub counts : Counts
+  pub ran : CountsRun seed steps counts
+  pub told : P (summary counts)
+
+-- the cause of each status: the sink took the line, or its front; or memory ran out, and nothing was written
+abbrev pub GeneratedEnds : ℕ → ℕ → Writing → Writing → Status → Type 0
+GeneratedEnds seed steps k_old k_new status.Ok = Told seed steps (TookAll k_old k_new)
+GeneratedEnds seed steps k_old k_new status.WriteFault = Told seed steps (TookFront k_old k_new)
+GeneratedEnds seed steps k_old k_new status.Memory = k_new ≡ k_old
+GeneratedEnds seed steps k_old k_new _ = ⊥
+
+-- Nothing was read, and there is no log.
+pub record ReadNothing (c_old c_new s_old s_new : Reading) (log : List Entry) (line : ℕ) : Type 0 where
+  pub scenario : c_new ≡ c_old
+  pub source : s_new ≡ s_old
+  pub log_is : log ≡ []
+  pub line_is : line ≡ 0
+
+-- == any words
+-- the cause of each status, by what the words ask for
+abbrev pub CommandEnds : Option Command → Reading → Reading → Reading → Reading → Writing → Writing → List Entry → ℕ → Status → Type 0
+CommandEnds None c_old c_new s_old s_new k_old k_new log line end =
+    ReadNothing c_old c_new s_old s_new log line × (k_new ≡ k_old) × (end ≡ status.BadWords)
+CommandEnds (Some (Run limit)) c_old c_new s_old s_new k_old k_new log line end =
+    RunEnds limit c_old c_new s_old s_new k_old k_new log line end
+CommandEnds (Some (Generate seed steps)) c_old c_new s_old s_new k_old k_new log line end =
+    ReadNothing c_old c_new s_old s_new log line × GeneratedEnds seed steps k_old k_new end
+
 abbrev pub EndsBy : List (List ℕ) → Reading → Reading → Reading → Reading → Writing → Writing → List Entry → ℕ → Status → Type 0
-EndsBy words c_old c_new s_old s_new k_old k_new log line status.BadWords = WordsAreBad words c_old c_new s_old s_new k_old k_new log line
-EndsBy words c_old c_new s_old s_new k_old k_new log line status.BadScenario = NoRun words s_old s_new k_old k_new log (HasBadLine c_old c_new line)
-EndsBy words c_old c_new s_old s_new k_old k_new log line status.ScenarioFault = NoRun words s_old s_new k_old k_new log (Rose c_old.faults c_new.faults × (line ≡ 0))
-EndsBy words c_old c_new s_old s_new k_old k_new log line status.Memory =
-    NoRun words s_old s_new k_old k_new log (line ≡ 0) ⊎ ScriptRan words c_old c_new s_old s_new k_old k_new log line status.Memory
-EndsBy words c_old c_new s_old s_new k_old k_new log line end = ScriptRan words c_old c_new s_old s_new k_old k_new log line end
+EndsBy words c_old c_new s_old s_new k_old k_new log line end = CommandEnds (command_in words) c_old c_new s_old s_new k_old k_new log line end
 
 -- The program ended with this status and line, and with its cause.
 pub record RanMain (words : List (List ℕ)) (c_old c_new s_old s_new : Reading) (k_old k_new : Writing) (log : List Entry) (number line : ℕ) : Type 0 where

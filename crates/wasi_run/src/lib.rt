@@ -3,6 +3,9 @@
 
 mod calls;
 pub mod causes;
+pub mod counts;
+pub mod generate;
+mod growing_sink;
 pub mod laws;
 mod lines;
 pub mod listens;
@@ -15,8 +18,10 @@ pub mod run;
 pub mod session;
 pub mod setting;
 pub mod step;
+mod text_source;
 
 pub use lines::write_all;
+pub use counts::Counts;
 pub use program::{Done, Status, run_main};
 pub use reply::{CodeWord, Field, Reply, ReplyFields};
 pub use run::{RunEnd, RunError, run_script};

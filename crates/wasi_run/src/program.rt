@@ -4,10 +4,12 @@ ghost use Rattle.std.specs.Prelude.{◌≡◌, ◌↔◌, ◌+◌, ◌≤◌, �
 ghost use Rattle.wasi_world.specs.Io.{Gave};
 ghost use Rattle.wasi_world.specs.Scripted.{seen_by};
 ghost use Rattle.wasi_world.specs.Seen.{Rose};
-ghost use Rattle.wasi_run.specs.Program.{limit_in, number_of, status_of, bad_line_of, ReadScenario, RanText, RanMain, EndsBy};
+ghost use Rattle.wasi_run.specs.Program.{run_in, generate_in, command_in, number_of, status_of, bad_line_of, ReadScenario, RanText, RanMain, RunEnds, GeneratedEnds, EndsBy};
 ghost use Rattle.wasi_run.specs.Parsed.{IsPlanned, IsParsed, TextEnds};
 ghost use Rattle.wasi_run.specs.Script.{AreNumbered};
 
+use crate::counts::run_generated;
+use crate::lines::write_all;
 use crate::run::{RunEnd, RunError, run_script};
 use std::alloc::{AllocError, Global};
 use wasi_world::fields::number;
@@ -112,18 +114,48 @@ impl Ended {
     }
 }
 
-/// The limit in the words `run LIMIT`.
-fn limit_in(words: &[String]) -> Option<u32>
-    ensures { result ≡ limit_in (map (λ w. string_bytes w) words.now) }
+/// The most lines that a script is generated with.
+const MOST_STEPS: u64 = 100_000;
+
+/// What the words ask for.
+#[derive(Clone, Copy, Debug, PartialEq, Eq)]
+pub enum Command {
+    /// `run LIMIT`: a script of at most so many bytes.
+    Run(u32),
+    /// `gen SEED STEPS`: a script that is generated from a seed, of so many lines.
+    Generate(u64, u32),
+}
+
+/// The limit of `run LIMIT`.
+fn run_in(word: &str, limit: &str) -> Option<Command>
+    ensures { result ≡ run_in word.now limit.now }
+{
+    if word != "run" {
+        return None;
+    }
+    let limit = number(limit.as_bytes(), u64::from(u32::MAX))?;
+    Some(Command::Run(limit as u32))
+}
+
+/// The seed and the number of lines of `gen SEED STEPS`.
+fn generate_in(word: &str, seed: &str, steps: &str) -> Option<Command>
+    ensures { result ≡ generate_in word.now seed.now steps.now }
+{
+    if word != "gen" {
+        return None;
+    }
+    let seed = number(seed.as_bytes(), u64::MAX)?;
+    let steps = number(steps.as_bytes(), MOST_STEPS)?;
+    Some(Command::Generate(seed, steps as u32))
+}
+
+/// The command in the words.
+fn command_in(words: &[String]) -> Option<Command>
+    ensures { result ≡ command_in (map (λ w. string_bytes w) words.now) }
 {
     match words {
-        [word, limit] => {
-            if word.as_str() != "run" {
-                return None;
-            }
-            let limit = number(limit.as_str().as_bytes(), u64::from(u32::MAX))?;
-            Some(limit as u32)
-        }
+        [word, limit] => run_in(word.as_str(), limit.as_str()),
+        [word, seed, steps] => generate_in(word.as_str(), seed.as_str(), steps.as_str()),
         _ => None,
     }
 }
@@ -220,6 +252,40 @@ fn run_text<S: Source, K: Sink>(
     }
 }
 
+/// Reads the scenario, and runs the script over it.
+fn run_scenario<C: Source, S: Source, K: Sink>(
+    alloc: Global,
+    limit: u32,
+    scenario: &mut C,
+    source: &mut S,
+    sink: &mut K,
+) -> Ended
+    ensures { RunEnds limit (C.reading scenario.old) (C.reading scenario.new) (S.reading source.old) (S.reading source.new) (K.writing sink.old) (K.writing sink.new) result.log.items result.line result.status }
+{
+    let text = match read_scenario(alloc, scenario) {
+        Ok(text) => text,
+        Err(Unread::Fault) => return Ended::without_run(alloc, Status::ScenarioFault, 0),
+        Err(Unread::Memory(_)) => return Ended::without_run(alloc, Status::Memory, 0),
+    };
+    run_text(alloc, limit, text.as_slice(), source, sink)
+}
+
+/// Runs a generated script, and writes the line that tells its counts.
+fn tell_generated<K: Sink>(alloc: Global, seed: u64, steps: u32, sink: &mut K) -> Status
+    ensures { GeneratedEnds seed steps (K.writing sink.old) (K.writing sink.new) result }
+{
+    let Ok(counts) = run_generated(alloc, seed, steps) else {
+        return Status::Memory;
+    };
+    let Ok(line) = counts.summary(alloc) else {
+        return Status::Memory;
+    };
+    match write_all(sink, line.as_str().as_bytes()) {
+        Ok(()) => Status::Ok,
+        Err(_) => Status::WriteFault,
+    }
+}
+
 /// Does what the words say.
 fn run_words<C: Source, S: Source, K: Sink>(
     alloc: Global,
@@ -230,19 +296,20 @@ fn run_words<C: Source, S: Source, K: Sink>(
 ) -> Ended
     ensures { EndsBy (map (λ w. string_bytes w) words.now) (C.reading scenario.old) (C.reading scenario.new) (S.reading source.old) (S.reading source.new) (K.writing sink.old) (K.writing sink.new) result.log.items result.line result.status }
 {
-    let Some(limit) = limit_in(words) else {
-        return Ended::without_run(alloc, Status::BadWords, 0);
-    };
-    let text = match read_scenario(alloc, scenario) {
-        Ok(text) => text,
-        Err(Unread::Fault) => return Ended::without_run(alloc, Status::ScenarioFault, 0),
-        Err(Unread::Memory(_)) => return Ended::without_run(alloc, Status::Memory, 0),
-    };
-    run_text(alloc, limit, text.as_slice(), source, sink)
+    match command_in(words) {
+        None => return Ended::without_run(alloc, Status::BadWords, 0),
+        Some(Command::Run(limit)) => return run_scenario(alloc, limit, scenario, source, sink),
+        Some(Command::Generate(seed, steps)) => {
+            let status = tell_generated(alloc, seed, steps, sink);
+            return Ended::without_run(alloc, status, 0);
+        }
+    }
 }
 
 /// Does what the program's words say. `run LIMIT` reads the scenario, and then runs the script that the source gives, of at
-/// most LIMIT bytes, over the scenario's world; replies go to the sink. Other words are status 1.
+/// most LIMIT bytes, over the scenario's world; replies go to the sink. `gen SEED STEPS` runs the script that is generated
+/// from the seed, of at most 100000 lines, over the empty scenario, and writes one line to the sink, which tells what it
+/// came to; it reads nothing. Other words are status 1.
 ///
 /// The words are tested first, then the scenario is read whole (a failed read is status 8), then it is parsed (status 2).
 pub fn run_main<C: Source, S: Source, K: Sink>(
@@ -253,7 +320,7 @@ pub fn run_main<C: Source, S: Source, K: Sink>(
     mut sink: K,
 ) -> Done<S, K>
     ensures ran { RanMain (map (λ w. string_bytes w) words.now) (C.reading scenario.old) (C.reading scenario.new) (S.reading source) (S.reading result.source) (K.writing sink) (K.writing result.sink) result.log.items result.status result.line }
-    ensures words { (result.status ≡ 1) ↔ (limit_in (map (λ w. string_bytes w) words.now) ≡ None) }
+    ensures words { (result.status ≡ 1) ↔ (command_in (map (λ w. string_bytes w) words.now) ≡ None) }
 {
     let ended = run_words(alloc, words, scenario, &mut source, &mut sink);
     Done {

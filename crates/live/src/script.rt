@@ -1,0 +1,63 @@
+//! The script's run over std's sockets.
+
+ghost use Rattle.std.specs.Prelude.{◌≡◌, [], ◌∷◌, IfOk};
+ghost use Rattle.wasi_world.specs.Scenario.{free_context};
+ghost use Rattle.wasi_run.specs.Program.{status_of};
+ghost use Rattle.live.specs.Live.{RanLive};
+
+use crate::command::Command;
+use std::alloc::{AllocError, Global};
+use std::net::{Net, TcpListener, TcpStream};
+use std::time::Clock;
+use wasi_net::NetWorld;
+use wasi_run::{RunEnd, RunError, Status, run_script};
+use wasi_world::{Sink, Source, WasiSocketsCtx};
+
+/// The one context, which may use all that is built. Its check goes by the ports.
+const FREE: WasiSocketsCtx = WasiSocketsCtx {
+    name: 0,
+    ip_name_lookup: true,
+    udp: true,
+    tcp: true,
+};
+
+fn contexts(alloc: Global) -> Result<Vec<WasiSocketsCtx>, AllocError>
+    ensures { IfOk result (λ contexts. contexts.items ≡ free_context ∷ []) }
+{
+    Ok(vec![in alloc; FREE]?)
+}
+
+/// How the program tells the end of a run.
+pub fn status_of(outcome: Result<RunEnd, RunError>) -> Status
+    ensures { result ≡ status_of outcome }
+{
+    match outcome {
+        Ok(_) => Status::Ok,
+        Err(RunError::Memory) => Status::Memory,
+        Err(RunError::BadStep(_)) => Status::BadStep,
+        Err(RunError::TooLong) => Status::TooLong,
+        Err(RunError::ReadFault) => Status::ReadFault,
+        Err(RunError::WriteFault) => Status::WriteFault,
+    }
+}
+
+/// Runs the script that the source gives over std's sockets, of which the command's ports may be used, and writes the
+/// replies to the sink. What is open at its end is closed.
+pub fn run_live<R, S, K>(
+    rt: R,
+    alloc: Global,
+    command: Command,
+    source: &mut S,
+    sink: &mut K,
+) -> Result<RunEnd, RunError>
+where
+    R: Net<Listener = TcpListener, Stream = TcpStream> + Clock + Drop,
+    S: Source,
+    K: Sink,
+    ensures { RanLive command.limit (S.reading source.old) (S.reading source.new) (K.writing sink.old) (K.writing sink.new) result }
+{
+    let Command { limit, ports } = command;
+    let mut world = NetWorld::new(rt, alloc, ports);
+    let mut contexts = contexts(alloc)?;
+    run_script(alloc, &mut world, &mut contexts, limit, source, sink)
+}

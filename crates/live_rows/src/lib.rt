@@ -1,0 +1,5 @@
+//! Scripts over std's sockets, beside what comes of them.
+#![tactic(auto)]
+
+#[cfg(test)]
+mod scripts;

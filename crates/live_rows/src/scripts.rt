@@ -1,0 +1,85 @@
+//! Scripts that connect to themselves over 127.0.0.1.
+
+ghost use Rattle.std.specs.Prelude.{◌≡◌, [], ◌∷◌, IfOk};
+ghost use Rattle.wasi_world.specs.Scenario.{free_context};
+
+use std::alloc::{AllocError, Global};
+use std::test::Fail;
+use wasi_net::NetWorld;
+use wasi_run::{RunEnd, run_script};
+use wasi_world::{MemorySink, MemorySource, WasiSocketsCtx};
+
+/// Binds and listens, connects, accepts, writes a byte and reads it.
+const CARRIES: (&[u8], &[u8]) = (
+    b"0 network\n0 tcp-create 4\n0 tcp-create 4\n0 tcp-start-bind 2 1 4 127 0 0 1 40123\n0 tcp-finish-bind 2\n0 tcp-start-listen 2\n0 tcp-finish-listen 2\n0 tcp-start-connect 3 1 4 127 0 0 1 40123\n0 tcp-finish-connect 3\n0 tcp-accept 2\n0 check-write 5\n0 write 5 0a\n0 subscribe 7\n0 ready 9\n0 read 7 9\n",
+    b"ok 1\nok 2\nok 3\nok\nok\nok\nok\nok\nok 4 5\nok 6 7 8\nok 65536\nok\nok 9\nok true\nok 0a\n",
+);
+
+/// The listener goes before it accepted the connection, which resets it. The look meets that, and the read tells it.
+const RESETS: (&[u8], &[u8]) = (
+    b"0 network\n0 tcp-create 4\n0 tcp-create 4\n0 tcp-start-bind 2 1 4 127 0 0 1 40124\n0 tcp-finish-bind 2\n0 tcp-start-listen 2\n0 tcp-finish-listen 2\n0 tcp-start-connect 3 1 4 127 0 0 1 40124\n0 tcp-finish-connect 3\n0 drop 2\n0 subscribe 4\n0 ready 6\n0 read 4 9\n0 read 4 9\n",
+    b"ok 1\nok 2\nok 3\nok\nok\nok\nok\nok\nok 4 5\nok\nok 6\nok true\nfailed connection-reset 7\nclosed\n",
+);
+
+/// The second listener finds the port in use, and a connect finds one where none listens.
+const REFUSED: (&[u8], &[u8]) = (
+    b"0 network\n0 tcp-create 4\n0 tcp-create 4\n0 tcp-create 4\n0 tcp-start-bind 2 1 4 127 0 0 1 40125\n0 tcp-finish-bind 2\n0 tcp-start-listen 2\n0 tcp-finish-listen 2\n0 tcp-start-bind 3 1 4 127 0 0 1 40125\n0 tcp-finish-bind 3\n0 tcp-start-listen 3\n0 drop 2\n0 tcp-start-connect 4 1 4 127 0 0 1 40125\n0 tcp-finish-connect 4\n",
+    b"ok 1\nok 2\nok 3\nok 4\nok\nok\nok\nok\nok\nok\nerr address-in-use\nok\nok\nerr connection-refused\n",
+);
+
+/// Every port.
+fn all_ports(alloc: Global) -> Result<Vec<u16>, AllocError> {
+    let mut ports = Vec::new(alloc);
+    for port in 0..=u16::MAX {
+        ports.push(port)?;
+    }
+    Ok(ports)
+}
+
+fn contexts(alloc: Global) -> Result<Vec<WasiSocketsCtx>, AllocError>
+    ensures { IfOk result (λ contexts. contexts.items ≡ free_context ∷ []) }
+{
+    let all = WasiSocketsCtx {
+        name: 0,
+        ip_name_lookup: true,
+        udp: true,
+        tcp: true,
+    };
+    Ok(vec![in alloc; all]?)
+}
+
+/// Runs the script with every port allowed, and fails where it doesn't write these replies to its end.
+fn runs(rt: HostRuntime, script: &[u8], replies: &[u8]) -> Result<(), Fail> {
+    let alloc = rt.alloc();
+    let mut world = NetWorld::new(rt, alloc, all_ports(alloc)?);
+    let mut contexts = contexts(alloc)?;
+    let mut source = MemorySource::new(script.to_vec(alloc)?, 4096, Vec::new(alloc));
+    let mut sink = MemorySink::new(alloc, 4096, 4096, Vec::new(alloc))?;
+    let outcome = run_script(
+        alloc,
+        &mut world,
+        &mut contexts,
+        4096,
+        &mut source,
+        &mut sink,
+    );
+    if sink.bytes() != replies || !matches!(outcome, Ok(RunEnd::AllRead)) {
+        return Err(Fail::new("other replies"));
+    }
+    Ok(())
+}
+
+#[test]
+fn a_script_connects_to_itself(rt: HostRuntime) -> Result<(), Fail> {
+    runs(rt, CARRIES.0, CARRIES.1)
+}
+
+#[test]
+fn a_reset_is_told(rt: HostRuntime) -> Result<(), Fail> {
+    runs(rt, RESETS.0, RESETS.1)
+}
+
+#[test]
+fn a_port_in_use_and_one_where_none_listens_are_told(rt: HostRuntime) -> Result<(), Fail> {
+    runs(rt, REFUSED.0, REFUSED.1)
+}

@@ -1,0 +1,181 @@
+//! One who asks the network, and has each answer as a text.
+
+ghost use Rattle.std.specs.Prelude.{◌≡◌, ◌≤◌, ◌<◌, ◌^◌, false, length, IfOk};
+ghost use Rattle.wasi_world.specs.Fits.{IsPlain};
+ghost use Rattle.wasi_net.specs.Net.{seen_by};
+
+use std::alloc::{AllocError, Global};
+use std::net::{Net, TcpListener, TcpStream};
+use std::test::Fail;
+use std::time::Clock;
+use wasi_addr::{IpSocketAddress, Ipv4SocketAddress, SocketAddrUse, SocketAddressFamily};
+use wasi_net::NetWorld;
+use wasi_world::fields::push_octets;
+use wasi_world::{Call, OpId, Sock, Told, World};
+
+/// A network that has not ended.
+#[derive(Drop)]
+pub struct Guest<R> {
+    alloc: Global,
+    world: NetWorld<R>,
+    ghost open: { (seen_by world).ended ≡ false },
+}
+
+/// The name of a line's own operation, and of the side that it makes.
+pub fn line(step: u32) -> OpId {
+    OpId { step, part: 0 }
+}
+
+pub fn loopback(port: u16) -> IpSocketAddress {
+    IpSocketAddress::Ipv4(Ipv4SocketAddress {
+        port,
+        address: (127, 0, 0, 1),
+    })
+}
+
+/// The text of an answer. An address is told by its port.
+fn told_text(alloc: Global, told: &Told) -> Result<String, AllocError> {
+    match told {
+        Told::Pending => "pending".to_string(alloc),
+        Told::Done => "done".to_string(alloc),
+        Told::Yes => "yes".to_string(alloc),
+        Told::No => "no".to_string(alloc),
+        Told::Code(code) => format!(in alloc; "{code}"),
+        Told::Addr(addr) => format!(in alloc; "port {}", addr.port()),
+        Told::Arrived(_) => "arrived".to_string(alloc),
+        Told::Bytes(bytes) => {
+            let mut text = "bytes ".to_string(alloc)?;
+            push_octets(&mut text, bytes.as_slice())?;
+            Ok(text)
+        }
+        Told::Took(bytes) => format!(in alloc; "took {}", bytes.len()),
+        Told::Datagram(_, _) => "datagram".to_string(alloc),
+        Told::Value(value) => format!(in alloc; "value {value}"),
+        Told::Names(_) => "names".to_string(alloc),
+    }
+}
+
+impl<R: Net<Listener = TcpListener, Stream = TcpStream> + Clock> Guest<R> {
+    /// Over a network where these ports are allowed.
+    pub fn new(rt: R, alloc: Global, ports: Vec<u16>) -> Guest<R> {
+        Guest {
+            alloc,
+            world: NetWorld::new(rt, alloc, ports),
+        }
+    }
+
+    fn tell(&mut self, op: OpId, call: Call) -> Result<Told, AllocError>
+        requires { IsPlain call }
+    {
+        self.world.call(op, call)
+    }
+
+    /// Fails where the answer is another than this text.
+    fn compare(&self, told: Told, text: &str) -> Result<(), Fail> {
+        let told = told_text(self.alloc, &told)?;
+        if told.as_str() == text {
+            return Ok(());
+        }
+        Err(Fail::new(format_args!("{told} in place of {text}")))
+    }
+
+    /// Makes a call of this operation, and fails where another answer than this is told.
+    pub fn expects(&mut self, op: OpId, call: Call, text: &str) -> Result<(), Fail>
+        requires { IsPlain call }
+    {
+        let told = self.tell(op, call)?;
+        self.compare(told, text)
+    }
+
+    /// Writes, and fails where another answer than this is told.
+    pub fn writes(&mut self, sock: Sock, bytes: &[u8], text: &str) -> Result<(), Fail>
+        requires some { 1 ≤ length bytes.now }
+        requires short { length bytes.now < 2 ^ 32 }
+    {
+        let told = self.world.write(sock, sock, bytes)?;
+        self.compare(told, text)
+    }
+
+    pub fn check(
+        &mut self,
+        usage: SocketAddrUse,
+        addr: IpSocketAddress,
+        text: &str,
+    ) -> Result<(), Fail> {
+        let ctx = 0;
+        self.expects(line(1), Call::Check { ctx, addr, usage }, text)
+    }
+
+    /// Makes a side.
+    pub fn create(&mut self, sock: Sock) -> Result<(), Fail> {
+        let family = SocketAddressFamily::Ipv4;
+        self.expects(sock, Call::TcpCreate { ctx: 0, family }, "done")
+    }
+
+    /// Makes a listener, and tells its port.
+    pub fn listen(&mut self, sock: Sock, port: u16) -> Result<u16, Fail> {
+        self.create(sock)?;
+        let addr = loopback(port);
+        self.expects(sock, Call::Bind { sock, addr }, "done")?;
+        self.expects(sock, Call::Listen { sock, backlog: 1 }, "done")?;
+        match self.tell(sock, Call::Local { sock })? {
+            Told::Addr(addr) => Ok(addr.port()),
+            _ => Err(Fail::new("a listener has an address")),
+        }
+    }
+
+    /// Makes a side and connects it to the port; fails where another answer than this is told.
+    pub fn connect(&mut self, sock: Sock, port: u16, text: &str) -> Result<(), Fail> {
+        self.create(sock)?;
+        let addr = loopback(port);
+        self.expects(sock, Call::Connect { sock, addr }, text)
+    }
+
+    /// A listener of line 1, a connection to it of line 2, and its other end of line 3.
+    pub fn connection(&mut self) -> Result<(), Fail> {
+        let sock = line(1);
+        let port = self.listen(sock, 0)?;
+        self.connect(line(2), port, "done")?;
+        self.expects(line(3), Call::Accept { sock }, "arrived")?;
+        let peer = loopback(port);
+        self.expects(line(3), Call::Hand { sock, peer }, "done")
+    }
+
+    /// How many bytes a write took.
+    pub fn write(&mut self, sock: Sock, bytes: &[u8]) -> Result<u64, Fail>
+        requires some { 1 ≤ length bytes.now }
+        requires short { length bytes.now < 2 ^ 32 }
+    {
+        match self.world.write(sock, sock, bytes)? {
+            Told::Took(bytes) => Ok(bytes.len() as u64),
+            _ => Ok(0),
+        }
+    }
+
+    /// How many bytes a read gave, once the side was looked at.
+    pub fn read(&mut self, sock: Sock) -> Result<u64, Fail> {
+        let _ = self.tell(sock, Call::ReadReady { sock })?;
+        match self.tell(sock, Call::Read { sock, size: 65_536 })? {
+            Told::Bytes(bytes) => Ok(bytes.len() as u64),
+            _ => Ok(0),
+        }
+    }
+
+    /// How many codes were told.
+    pub fn faults(&self) -> u64 {
+        self.world.faults()
+    }
+}
+
+impl<R: Net<Listener = TcpListener, Stream = TcpStream> + Clock + Drop> Guest<R> {
+    /// Ends the run with this side open, and tells how many were closed.
+    pub fn end(self, sock: Sock) -> u64 {
+        let Guest {
+            alloc: _,
+            mut world,
+        } = self;
+        world.end();
+        world.close_after_end(sock);
+        world.closed_after_end()
+    }
+}

@@ -1,0 +1,12 @@
+//! Tests of the network of std's sockets, over this machine's loopback addresses.
+#![tactic(auto)]
+
+#[cfg(test)]
+mod checks;
+#[cfg(test)]
+mod connections;
+pub mod guest;
+#[cfg(test)]
+mod listeners;
+#[cfg(test)]
+mod refusals;

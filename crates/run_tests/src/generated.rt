@@ -1,0 +1,70 @@
+//! Generated scripts, and the words `gen SEED STEPS`.
+
+use crate::given::Given;
+use std::test::Fail;
+use wasi_run::generate::generate;
+
+/// The lines of the first block of seed 1 up to the write. The number that is drawn is 7806831264735756412: the port is
+/// 60930, and 61 bytes 108 are written.
+const FIRST: &[u8] =
+    b"0 network\n0 tcp-create 4\n0 tcp-start-connect 2 1 4 127 0 0 1 60930\n0 tcp-finish-connect 2\n0 check-write 4\n0 write 4 6c6c6c6c6c6c6c6c6c6c6c6c6c6c6c6c6c6c6c6c6c6c6c6c6c6c6c6c6c6c6c6c6c6c6c6c6c6c6c6c6c6c6c6c6c6c6c6c6c6c6c6c6c6c6c6c6c6c6c6c6c\n";
+
+/// The lines after the write of that block, and the first of the next.
+const REST: &[u8] = b"0 tcp-shutdown 2 both\n0 drop 3\n0 drop 4\n0 drop 2\n0 tcp-create 4\n";
+
+#[test]
+fn a_seed_gives_its_lines(rt: HostRuntime) -> Result<(), Fail> {
+    assert_eq!(rt; generate(rt.alloc(), 1, 6)?.as_slice(), FIRST);
+    let more = generate(rt.alloc(), 1, 11)?;
+    assert!(rt; more.as_slice().starts_with(FIRST) && more.as_slice().ends_with(REST));
+    assert_eq!(rt; more.len(), FIRST.len() + REST.len());
+    Ok(())
+}
+
+#[test]
+fn gen_tells_what_its_run_came_to(rt: HostRuntime) -> Result<(), Fail> {
+    let rows = [
+        (
+            "1",
+            "10",
+            b"lines 10 replies 10 entries 15 bytes 61\n".as_slice(),
+        ),
+        ("7", "0", b"lines 0 replies 0 entries 0 bytes 0\n"),
+        ("1", "1", b"lines 1 replies 1 entries 1 bytes 0\n"),
+    ];
+    for (seed, steps, line) in rows {
+        let done = Given::script(&["gen", seed, steps], b"not read").run(rt.alloc())?;
+        assert_eq!(rt; (done.status, done.line, done.log.len()), (0, 0, 0));
+        assert_eq!(rt; done.sink.bytes(), line);
+    }
+    Ok(())
+}
+
+#[test]
+fn gen_has_a_seed_and_a_number_of_lines(rt: HostRuntime) -> Result<(), Fail> {
+    let rows = [
+        ("1", "100001"),
+        ("18446744073709551616", "1"),
+        ("-1", "1"),
+        ("01", "1"),
+        ("1", ""),
+    ];
+    for (seed, steps) in rows {
+        let done = Given::script(&["gen", seed, steps], b"").run(rt.alloc())?;
+        assert_eq!(rt; (done.status, done.sink.bytes().len()), (1, 0));
+    }
+    let done = Given::script(&["gen", "1"], b"").run(rt.alloc())?;
+    assert_eq!(rt; done.status, 1);
+    Ok(())
+}
+
+#[test]
+fn gen_tells_a_write_that_failed(rt: HostRuntime) -> Result<(), Fail> {
+    let given = Given {
+        room: 5,
+        ..Given::script(&["gen", "1", "1"], b"")
+    };
+    let done = given.run(rt.alloc())?;
+    assert_eq!(rt; (done.status, done.sink.bytes()), (6, b"lines".as_slice()));
+    Ok(())
+}

@@ -1,0 +1,3 @@
+mod Sides
+mod Fitting
+mod Counted

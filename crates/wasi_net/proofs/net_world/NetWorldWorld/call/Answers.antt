@@ -1,0 +1,17 @@
+use Rattle.std.proofs.Common.{Ok}
+use Rattle.wasi_world.proofs.Made.{asked_one}
+use Rattle.wasi_world.proofs.Walks.{asks_none}
+use Rattle.wasi_net.proofs.Fitting.{network_fits}
+use Rattle.wasi_net.proofs.Counted.{passes_one}
+use Rattle.wasi_net.proofs.net_world.NetWorldWorld.call.Goals as goal
+use Rattle.std.proofs.Common.{refl}
+
+pub returns-in_err-told-clause-asked : goal.returns-in_err-told-clause-asked
+returns-in_err-told-clause-asked g c = asks_none _ _ c.from_residual.ensures.1 refl
+
+pub returns-clause-asked : goal.returns-clause-asked
+returns-clause-asked g c =
+    asked_one c.args.op c.args.call _ _ (Ok c.in_ok-told.told) (passes_one _ _ _ _ _ c.count_after-self.ensures) (network_fits _ _ _ c.args.op c.args.call _ c.in_ok-told.ensures.told) tt
+
+pub returns-clause-fits : goal.returns-clause-fits
+returns-clause-fits g c = network_fits _ _ _ c.args.op c.args.call _ c.in_ok-told.ensures.told

@@ -1,0 +1,5 @@
+pub mod Allowed
+pub mod Faults
+pub mod Known
+pub mod Answers
+pub mod Net

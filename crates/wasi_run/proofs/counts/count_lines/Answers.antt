@@ -1,0 +1,8 @@
+use Rattle.std.specs.Prelude.{◌==◌, count_by}
+use Rattle.std.proofs.Common.{◌∙◌, sym, ap}
+use Rattle.std.proofs.lemmas.List.{take_all}
+use Rattle.wasi_run.proofs.Newlines.{newlines}
+use Rattle.wasi_run.proofs.counts.count_lines.Goals as goal
+
+pub returns : goal.returns
+returns c = c.loop-byte.invariant.lines ∙ ap (λ text. count_by (λ b. b == 10) text) (take_all c.loop-byte.byte-index c.args.text.now c.loop-byte-test.false) ∙ sym (newlines c.args.text.now)

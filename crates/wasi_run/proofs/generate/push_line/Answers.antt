@@ -1,0 +1,24 @@
+use Rattle.std.proofs.Common.{◌+◌}
+use Rattle.wasi_run.proofs.GeneratedLines.{written, pushed, create_line, finish_line, check_line, shutdown_line, drop_line}
+use Rattle.wasi_run.proofs.generate.push_line.Goals as goal
+
+pub returns-in-0 : goal.returns-in-0
+returns-in-0 c = rw c.in-0.is (pushed c.push_str.result _ _ _ _ c.push_str.ensures.bytes create_line)
+
+pub returns-in-2 : goal.returns-in-2
+returns-in-2 c = rw c.in-2.is (written c.write.result _ _ _ _ c.write.ensures.bytes (finish_line c.args.socket))
+
+pub returns-in-3 : goal.returns-in-3
+returns-in-3 c = rw c.in-3.is (written c.write-in-3.result _ _ _ _ c.write-in-3.ensures.bytes (check_line (c.args.socket + 2)))
+
+pub returns-in-5 : goal.returns-in-5
+returns-in-5 c = rw c.in-5.is (written c.write-in-5.result _ _ _ _ c.write-in-5.ensures.bytes (shutdown_line c.args.socket))
+
+pub returns-in-6 : goal.returns-in-6
+returns-in-6 c = rw c.in-6.is (written c.write-in-6.result _ _ _ _ c.write-in-6.ensures.bytes (drop_line (c.args.socket + 1)))
+
+pub returns-in-7 : goal.returns-in-7
+returns-in-7 c = rw c.in-7.is (written c.write-in-7.result _ _ _ _ c.write-in-7.ensures.bytes (drop_line (c.args.socket + 2)))
+
+pub returns-in-8 : goal.returns-in-8
+returns-in-8 c = rw c.in-8.is (written c.write-in-8.result _ _ _ _ c.write-in-8.ensures.bytes (drop_line c.args.socket))

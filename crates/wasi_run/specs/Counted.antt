@@ -1,0 +1,48 @@
+-- The run of a generated script, and its counts.
+use Rattle.std.specs.Prelude.{◌≡◌, ℕ, min, List, [], ◌∷◌, ◌++◌, Some, None, false, codes, decimal, length, sum_by}
+use Rattle.wasi_world.specs.declared.call.Told.{Told}
+use Rattle.wasi_world.specs.declared.call.Told.TheVariants.{Took}
+use Rattle.wasi_world.specs.declared.call.Entry.{Entry}
+use Rattle.wasi_world.specs.Seen.{Seen}
+use Rattle.wasi_world.specs.Io.{Reading, Writing}
+use Rattle.wasi_world.specs.Lines.{lines_of}
+use Rattle.wasi_world.specs.Queued.{no_answers}
+use Rattle.wasi_world.specs.Scenario.{free_context}
+use Rattle.wasi_world.specs.Scripted.{at_start}
+use Rattle.wasi_run.specs.Causes.{DoneLines}
+use Rattle.wasi_run.specs.declared.counts.Counts.{Counts}
+use Rattle.wasi_run.specs.Generate.{generated}
+
+-- how many bytes an answer took
+abbrev pub took_count : Told → ℕ
+took_count (Took bytes) = length bytes
+took_count _ = 0
+
+abbrev pub taken_bytes : List Entry → ℕ
+taken_bytes log = sum_by (λ e. took_count e.answer) log
+
+-- a source that holds this text, and a sink that has nothing yet
+abbrev pub unread : List ℕ → Reading
+unread text = record { left = Some text; ended = false; faults = 0 }
+
+abbrev pub unwritten : Writing
+unwritten = record { written = Some []; flushed = None; faults = 0; refused = 0 }
+
+-- The run of the generated script over the empty scenario was done, and these are its counts.
+pub record CountsRun (seed steps : ℕ) (counts : Counts) : Type 0 where
+  pub after : Reading
+  pub sink : Writing
+  pub seen : Seen
+  pub log : List Entry
+  pub written : List ℕ
+  pub ran : DoneLines (free_context ∷ []) (length (generated seed steps)) (unread (generated seed steps)) after unwritten sink (at_start no_answers) seen
+  pub logged : seen.log ≡ Some log
+  pub wrote : sink.written ≡ Some written
+  pub lines : counts.lines ≡ length (lines_of (generated seed steps))
+  pub replies : counts.replies ≡ length (lines_of written)
+  pub entries : counts.entries ≡ length log
+  pub bytes : counts.bytes ≡ min (taken_bytes log) 18446744073709551615
+
+-- the line that tells the counts
+abbrev pub summary : Counts → List ℕ
+summary counts = codes "lines " ++ decimal counts.lines ++ codes " replies " ++ decimal counts.replies ++ codes " entries " ++ decimal counts.entries ++ codes " bytes " ++ decimal counts.bytes ++ codes "\n"

@@ -1,0 +1,115 @@
+//! The run of a generated script over the empty scenario, and its counts.
+
+ghost use Rattle.std.specs.Prelude.{◌≡◌, min, IfOk, length, string_bytes, sum_by};
+ghost use Rattle.wasi_world.specs.Lines.{lines_of};
+ghost use Rattle.wasi_run.specs.Counted.{took_count, taken_bytes, CountsRun, summary};
+
+use crate::generate::generate;
+use crate::growing_sink::GrowingSink;
+use crate::run::run_script;
+use crate::text_source::TextSource;
+use std::alloc::{AllocError, Global};
+use std::fmt::Write;
+use wasi_world::{Entry, Lists, ScriptedWorld, Told, WasiSocketsCtx};
+
+/// The context of a scenario that has no line about contexts.
+const FREE: WasiSocketsCtx = WasiSocketsCtx {
+    name: 0,
+    ip_name_lookup: true,
+    udp: true,
+    tcp: true,
+};
+
+/// What a run came to. It prints as the program's line.
+#[derive(Clone, Copy, Debug, PartialEq, Eq)]
+pub struct Counts {
+    /// Lines of the script.
+    pub lines: u64,
+    /// Lines that were written as replies.
+    pub replies: u64,
+    /// Entries of the log.
+    pub entries: u64,
+    /// Bytes that answers to writes took. The count stays at its greatest value.
+    pub bytes: u64,
+}
+
+/// How many lines a text has that newlines end.
+fn count_lines(text: &[u8]) -> u64
+    ensures { result ≡ length (lines_of text.now) }
+{
+    let mut lines: u64 = 0;
+    for byte in text {
+        if *byte == b'\n' {
+            lines += 1;
+        }
+    }
+    lines
+}
+
+/// How many bytes an answer took.
+fn took_count(told: &Told) -> u64
+    ensures { result ≡ took_count told.now }
+{
+    match told {
+        Told::Took(bytes) => bytes.len() as u64,
+        _ => 0,
+    }
+}
+
+/// How many bytes the answers of a log took.
+fn taken_bytes(log: &[Entry]) -> u64
+    ensures { result ≡ min (taken_bytes log.now) 18446744073709551615 }
+{
+    let mut taken: u64 = 0;
+    for entry in log {
+        taken = taken.saturating_add(took_count(&entry.answer));
+    }
+    taken
+}
+
+/// Runs the script that is generated from the seed, of so many lines, and counts what it came to. Takes memory for the
+/// script, its replies and its log.
+pub fn run_generated(alloc: Global, seed: u64, steps: u32) -> Result<Counts, AllocError>
+    ensures { IfOk result (λ counts. CountsRun seed steps counts) }
+{
+    let script = generate(alloc, seed, steps)?;
+    let lines = count_lines(script.as_slice());
+    let Ok(limit) = u32::try_from(script.len()) else {
+        return Err(AllocError);
+    };
+    let mut world = ScriptedWorld::new(alloc, Lists::new(alloc)?);
+    let mut contexts = vec![in alloc; FREE]?;
+    let mut source = TextSource::new(script);
+    let mut sink = GrowingSink::new(alloc);
+    let Ok(_) = run_script(
+        alloc,
+        &mut world,
+        &mut contexts,
+        limit,
+        &mut source,
+        &mut sink,
+    ) else {
+        return Err(AllocError);
+    };
+    Ok(Counts {
+        lines,
+        replies: count_lines(sink.bytes()),
+        entries: world.entries().len() as u64,
+        bytes: taken_bytes(world.entries()),
+    })
+}
+
+impl Counts {
+    /// The line that tells them, with its newline. Takes memory for it.
+    pub fn summary(&self, alloc: Global) -> Result<String, AllocError>
+        ensures { IfOk result (λ text. string_bytes text ≡ summary self.now) }
+    {
+        let mut text = String::new(alloc);
+        write!(
+            text,
+            "lines {} replies {} entries {} bytes {}\n",
+            self.lines, self.replies, self.entries, self.bytes
+        )?;
+        Ok(text)
+    }
+}
