@@ -1,4 +1,4 @@
-use Rattle.wasi_run.proofs.RunCauses.{runs_connect, runs_watch}
+use Rattle.wasi_run.proofs.fits.Runs.{runs_connect, runs_watch}
 use Rattle.wasi_run.proofs.causes.runs_connect_by_connects.Goals as goal
 
 pub returns : goal.returns

@@ -1,4 +1,4 @@
-use Rattle.wasi_run.proofs.RunCauses.{runs_bind}
+use Rattle.wasi_run.proofs.fits.Runs.{runs_bind}
 use Rattle.wasi_run.proofs.causes.runs_stand_by_binds.Goals as goal
 
 pub returns : goal.returns

@@ -1,4 +1,4 @@
-use Rattle.wasi_run.proofs.OrderOutward.{operation_checks_first, operation_leaves_none}
+use Rattle.wasi_run.proofs.order.Outward.{operation_checks_first, operation_leaves_none}
 use Rattle.wasi_run.proofs.laws.operations_check_first.Goals as goal
 
 pub returns : goal.returns

@@ -1,4 +1,4 @@
-use Rattle.wasi_run.proofs.PermitsRuns.{runs_of_steps}
+use Rattle.wasi_run.proofs.permits.Steps.{runs_of_steps}
 use Rattle.wasi_run.proofs.laws.runs_are_of_steps.Goals as goal
 
 pub returns : goal.returns

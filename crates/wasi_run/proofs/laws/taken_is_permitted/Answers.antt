@@ -1,5 +1,5 @@
-use Rattle.wasi_run.proofs.PermitsRuns.{taken_done, taken_front}
+use Rattle.wasi_run.proofs.permits.Runs.{runs_let, runs_let_begun}
 use Rattle.wasi_run.proofs.laws.taken_is_permitted.Goals as goal
 
 pub returns : goal.returns
-returns c = record { done = taken_done; begun = taken_front }
+returns c = record { done = runs_let; begun = runs_let_begun }

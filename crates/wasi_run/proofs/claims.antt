@@ -1,0 +1,3 @@
+-- The base law: numbers and sides are claimed once, and are of older lines.
+pub mod Law
+pub mod Lines

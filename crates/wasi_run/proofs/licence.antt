@@ -1,0 +1,24 @@
+-- Each ask is licensed.
+pub mod State
+pub mod AcceptFrames
+pub mod Frames
+pub mod Bounds
+pub mod Binds
+pub mod Connects
+pub mod WriteJobs
+pub mod ListenAsks
+pub mod AcceptAsks
+pub mod NewNames
+pub mod Listening
+pub mod Longer
+pub mod Licensed
+pub mod Fresh
+pub mod Locals
+pub mod Law
+pub mod Runs
+pub mod Beginnings
+pub mod Meanings
+pub mod Rows
+pub mod ListenRows
+pub mod BacklogRows
+pub mod Refused
