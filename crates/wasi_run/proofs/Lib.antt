@@ -56,3 +56,4 @@ pub mod claims
 pub mod order
 pub mod permits
 pub mod licence
+pub mod sockets

@@ -20,3 +20,4 @@ pub mod Waiting
 pub mod Turns
 pub mod Permitted
 pub mod Order
+pub mod Opened

@@ -1,8 +1,10 @@
 //! Laws over the definitions of specs/: each is a function that does nothing, whose contract is the law.
 
-ghost use Rattle.std.specs.Prelude.{◌≡◌, ℕ, ◌+◌, ◌<◌, List, [], ◌++◌, length};
+ghost use Rattle.std.specs.Prelude.{◌≡◌, ℕ, ◌+◌, ◌<◌, List, [], ◌∷◌, ◌++◌, Some, length};
 ghost use Rattle.wasi_addr.specs.declared.address.SocketAddressFamily.{SocketAddressFamily};
+ghost use Rattle.wasi_world.specs.declared.call.Call.TheVariants as Call;
 ghost use Rattle.wasi_world.specs.declared.call.Entry.{Entry};
+ghost use Rattle.wasi_world.specs.declared.call.Told.{Told};
 ghost use Rattle.wasi_world.specs.declared.ids.OpId.{OpId};
 ghost use Rattle.wasi_world.specs.declared.outcome.WasiSocketsCtx.{WasiSocketsCtx};
 ghost use Rattle.wasi_world.specs.Asks.{Asks, Give, Left};
@@ -14,9 +16,10 @@ ghost use Rattle.wasi_run.specs.declared.step.Step.{Step};
 ghost use Rattle.wasi_run.specs.declared.reply.Reply.TheVariants as Reply;
 ghost use Rattle.wasi_run.specs.declared.step.Step.TheVariants as Step;
 ghost use Rattle.wasi_run.specs.Answered.{Answered};
-ghost use Rattle.wasi_run.specs.Licence.{IsLicensed, IsSide, IsMaker};
+ghost use Rattle.wasi_run.specs.Licence.{Has, entry, IsLicensed, IsSide, IsMaker};
 ghost use Rattle.wasi_host.specs.Machine.{first_state};
 ghost use Rattle.wasi_run.specs.Machine.{machine_asks, run};
+ghost use Rattle.wasi_run.specs.Opened.{socket_of, AsksOpenSockets};
 ghost use Rattle.wasi_run.specs.Order.{IsOutward, ChecksFirst, HasGone, NoCheckLeft, operation_polled, asked_by};
 ghost use Rattle.wasi_run.specs.Permitted.{WritesTo, permitted_by, Did, IsOfSteps};
 ghost use Rattle.wasi_run.specs.Reply.{number_fields};
@@ -96,4 +99,15 @@ pub fn operations_check_first()
 pub fn checks_come_first()
     ensures { (contexts : List WasiSocketsCtx) (steps : List Step) (log : List Entry) (rest : Asks (List Reply × Machine))
         → Left (run contexts [] first_state 1 steps) log rest → (op : OpId) → ChecksFirst (asked_by op log) }
+{}
+
+/// Wherever a run stands, each call on a socket, its close too, is asked of one that was made before, by a create that was done or
+/// by being handed over, and that wasn't closed before. So once a socket was closed nothing is asked of it, no second close either.
+pub fn sockets_are_asked_while_open()
+    ensures asked { (contexts : List WasiSocketsCtx) (steps : List Step) (log : List Entry) (rest : Asks (List Reply × Machine))
+        → Left (run contexts [] first_state 1 steps) log rest → AsksOpenSockets log }
+    ensures ends { (contexts : List WasiSocketsCtx) (steps : List Step) (log : List Entry) (rest : Asks (List Reply × Machine))
+        (before : List Entry) (op side : OpId) (told : Told) (after : List Entry) (e : Entry)
+        → Left (run contexts [] first_state 1 steps) log rest → log ≡ before ++ (entry op (Call.Close side) told) ∷ after
+        → Has after e → socket_of e.call ≡ Some side → ⊥ }
 {}

@@ -26,7 +26,7 @@ use Rattle.wasi_host.specs.declared.listening.Listening.TheVariants.{Not, Begins
 use Rattle.wasi_host.specs.declared.socket.Tcp2Socket.{Tcp2Socket}
 use Rattle.wasi_host.specs.Dropping.{gone}
 use Rattle.wasi_host.specs.Kinds.{make_asks}
-use Rattle.wasi_host.specs.Listening.{give_up_asks}
+use Rattle.wasi_host.specs.Listening.{give_up_asks, with_listening}
 use Rattle.wasi_host.specs.Machine.{own_of, created_asks, create_asks}
 use Rattle.wasi_host.specs.Store.{new_record, with_inner, with_writer, left_of}
 use Rattle.wasi_run.specs.declared.step.Step.{Step}
@@ -36,7 +36,7 @@ use Rattle.wasi_run.proofs.fits.Polls.{Anything}
 use Rattle.wasi_run.proofs.fits.Records.{FitListening}
 use Rattle.wasi_run.proofs.Lists.{split_place, get_set, get_split, set_there}
 use Rattle.wasi_run.proofs.permits.Polls.{Quietly, ArePlain, GivesOwn, own_poll}
-use Rattle.wasi_run.proofs.walks.Moves.{Own, Used, Unused, ToWrite, Here, put, Found, Goes, WasClosed, HadNone, joined, second_of, new_accept, accepting_now, listen_after, beginning_listen, made_so, Held, InHand, Connects, Listens, Awaits, Move, Reaches, Leaves, Spends, Changes, ClosesReader, Writes, IsGone, Reconnects, Opens, BeginsConnect, BeginsBind, BeginsWrite, BeginsListen, BeginsAccept, Unlistens, Forgets, Watches, Joins, StandsListen, StandsDrop, ResumesDrop, Unstands, Stands, Resumes, Ends, Lists, Takes}
+use Rattle.wasi_run.proofs.walks.Moves.{closed_record, Own, Used, Unused, ToWrite, Here, put, Found, joined, second_of, new_accept, accepting_now, listen_after, beginning_listen, made_so, Held, InHand, Connects, Listens, Awaits, Move, Reaches, Leaves, Spends, Changes, ClosesReader, Writes, IsGone, Reconnects, Opens, BeginsConnect, BeginsBind, BeginsWrite, BeginsListen, BeginsAccept, Unlistens, Forgets, Watches, Joins, StandsListen, StandsDrop, ResumesDrop, Unstands, Stands, Resumes, Ends, Lists, Takes}
 use Rattle.wasi_run.proofs.walks.Law.{Law, Walks}
 use Rattle.wasi_run.proofs.fits.Law.{Fit, told_same, whatever, fits, moves_fit, polls_fit, put_fit, created}
 
@@ -193,10 +193,6 @@ module _ (contexts : List WasiSocketsCtx) (line : ℕ) (origin : Step) where
   put_spent : (h : Here) (place : ℕ) (r now : Tcp2Socket) → Found h place r → now.side ≡ r.side → now.listening ≡ r.listening → ((x : OpId) → side_of now.inner ≡ Some x → side_of r.inner ≡ Some x) → Named line h → Named line (record (put h place now) { own = Used })
   put_spent h place r now g s l k n = spends_named (put h place now) (put_inner h place r now g s l k n) (by_line h.own)
 
-  gone_sides : (r : Tcp2Socket) (socket : Socket) → Goes r.inner socket → (x : OpId) → side_of socket ≡ Some x → side_of r.inner ≡ Some x
-  gone_sides r _ WasClosed x e = absurd (cc)
-  gone_sides r _ (HadNone n) x e = e
-
   -- a name of the line is fresh
   pub fresh : (h : Here) → h.own ≡ Unused → Named line h → (x : OpId) → x.step ≡ line → Fresh h x
   fresh h u n x e i r g c = let o = n.older x i r g c in let z : next_of line h.own ≡ line = ap (next_of line) u in absurd (omega (arith, o, z, e))
@@ -222,7 +218,7 @@ module _ (contexts : List WasiSocketsCtx) (line : ℕ) (origin : Step) where
   moves_named _ _ (Changes h place r now g p) n = put_inner h place r now g p.side p.listening (λ x e. sym (ap side_in p.does) ∙ e) n
   moves_named _ _ (ClosesReader h place r s g e) n = put_inner h place r _ g refl refl (λ x e. e) n
   moves_named _ _ (Writes h place r s w g e m) n = put_inner h place r _ g refl refl (λ x e. e) n
-  moves_named _ _ (IsGone h place r socket g k) n = put_named line h place r (gone r socket) g (record { side = refl; accepts = λ x e. absurd (cc); named = λ x e. n.named x place r g (gone_sides r socket k x e); held = λ op e. absurd (cc) }) n
+  moves_named _ _ (IsGone h place r g e) n = put_named line h place r (gone r r.inner) g (record { side = refl; accepts = λ x p. absurd (cc); named = λ x p. n.named x place r g p; held = λ op p. absurd (cc) }) n
   moves_named _ _ (Reconnects h place r c now g e s t) n = put_inner h place r _ g refl refl (λ x p. ap side_in e ∙ (ap (λ (y : OpId). Some y) (sym s) ∙ p)) n
   moves_named _ _ (Opens h place r c g e k) n = put_inner h place r _ g refl refl (λ x p. ap side_in e ∙ p) n
   moves_named _ _ (BeginsConnect h place r side a bound at g d to known own) n = put_spent h place r _ g refl refl (λ x p. ap side_in d ∙ p) n
@@ -273,9 +269,9 @@ module _ (contexts : List WasiSocketsCtx) (line : ℕ) (origin : Step) where
 
   names_polled : (es : List Entry) (h : Here) (op : Operation) (after : End × List Item → Here) → Held h op after → Base h → Allows Anything (λ fs ended. Named line (after ended)) es (poll_asks op)
   names_polled es h _ _ (InHand op e) n = whatever (λ ended. Named line (record h { hand = Some (left_of op ended.1) })) (λ ended. let k = n.1 in record { one = k.one; apart = k.apart; older = k.older; named = k.named; held = k.held }) es _
-  names_polled es h _ _ (Connects place r op g e) n =
+  names_polled es h _ _ (Connects place r op q g e) n =
       whatever (λ ended. Named line (put h place (with_inner r (with_state r.inner (connect_ended op.who ended).1)))) (λ ended. put_inner h place r _ g refl refl (λ x p. ap side_in e ∙ ended_sides op ended x p) n.1) es _
-  names_polled es h _ _ (Listens place r op g e c) n = whatever (λ ended. Named line (put h place (listen_after op r ended))) (λ ended. put_named line h place r _ g (listened_names h place r op ended g e n.1) n.1) es _
+  names_polled es h _ _ (Listens place r op q g e c) n = whatever (λ ended. Named line (put h place (listen_after op r ended))) (λ ended. put_named line h place r _ g (listened_names h place r op ended g e n.1) n.1) es _
   names_polled es h _ _ (Awaits place r l op g e a) n =
       let its : IsAcceptOn l.side l.maker op = subst (HoldsAccept l.side l.maker) a (subst FitListening e (n.0.records place r g).1) in
       allows_weaker Anything (λ fs ended. ArePlain ended.1 × GivesOwn op.who.id ended.0) (λ fs ended. Named line (put h place (accepting_now r l (accept_ended op.who ended)))) (λ fs ended k. awaited_names h place r l op ended g e a k.1 n.1) es (poll_asks op)
@@ -319,13 +315,15 @@ module _ (contexts : List WasiSocketsCtx) (line : ℕ) (origin : Step) where
         asks = λ es h place n r side c at g o q i. (tt, λ told k. i);
         sets = λ es h place r side b at g s is i. (tt, λ told k. i);
         learns = λ es h place r side at g e i. (tt, λ told k. ((f.learns es h place r side at g e i.0).1 told k, put_inner h place r _ g refl refl (λ x p. sym (ap side_in (told_same r.inner (told_addr told))) ∙ p) i.1));
-        closes = λ es h op side i. (tt, λ told k. i);
+        closes = λ es h place r side q g e i. (tt, λ told k. ((f.closes es h place r side q g e i.0).1 told k, put_named line h place r (closed_record r) g (record { side = refl; accepts = λ x p. absurd (cc); named = λ x p. absurd (cc); held = λ op p. absurd (cc) }) i.1));
         marks = λ es h kind parent sock m i. whatever (λ made. Base (record h { machine = record h.machine { table = made.1 } })) (λ made. let k = i.1 in (record { records = i.0.records; stands = i.0.stands; hand = i.0.hand }, record { one = k.one; apart = k.apart; older = k.older; named = k.named; held = k.held })) es _;
         creates = λ es h ctx family c a o m i. both Anything Anything (λ fs done. Named line (record h { machine = done.1; own = Used })) (λ fs done. Fit (record h { machine = done.1; own = Used })) es _ (created_named es h ctx family o i.1) (created contexts line origin es h (own_of line) ctx family i.0);
         accepted = λ es h c s place r is e o g i. whatever (λ made. Base (record h { machine = record h.machine { table = made.1 }; made = made_so place made.0 })) (λ made. let k = i.1 in (record { records = i.0.records; stands = i.0.stands; hand = i.0.hand }, record { one = k.one; apart = k.apart; older = k.older; named = k.named; held = k.held })) es _;
         polls = λ es h op after k i. both Anything Anything (λ fs ended. Named line (after ended)) (λ fs ended. Fit (after ended)) es _ (names_polled es h op after k i) (polls_fit contexts line origin es h op after k i.0);
         turns = λ es h place r s g e i. whatever (λ done. Base (put h place (with_writer r s done.1))) (λ done. (put_fit h place _ (i.0.records place r g) i.0, put_inner h place r _ g refl refl (λ x p. p) i.1)) es (turn_asks s.writer);
-        gives_up = λ es h place r g i. whatever (λ done. Base h) (λ done. i) es (give_up_asks r.listening);
+        gives_up = λ es h place r q g i.
+            whatever (λ done. Base (put h place (with_listening r Not)))
+            (λ done. (put_fit h place _ ((i.0.records place r g).0, tt) i.0, put_named line h place r (with_listening r Not) g (listening_names h place r Not g (λ x p. absurd (cc)) (λ op p. absurd (cc)) i.1) i.1)) es (give_up_asks r.listening);
       }
 
   -- the laws that stand on it

@@ -29,13 +29,14 @@ use Rattle.wasi_host.specs.declared.socket.Tcp2Socket.{Tcp2Socket}
 use Rattle.wasi_host.specs.declared.store.Standing.{Standing}
 use Rattle.wasi_host.specs.Dropping.{gone}
 use Rattle.wasi_host.specs.Kinds.{make_asks}
-use Rattle.wasi_host.specs.Listening.{give_up_asks, standing_listen}
+use Rattle.wasi_host.specs.declared.listening.Listening.TheVariants.{Not}
+use Rattle.wasi_host.specs.Listening.{give_up_asks, standing_listen, with_listening}
 use Rattle.wasi_host.specs.Machine.{own_of, created_asks, create_asks}
 use Rattle.wasi_host.specs.Store.{new_record, with_inner, with_writer, left_of, standing_bind, standing_drop}
 use Rattle.wasi_run.specs.declared.step.Step.{Step}
 use Rattle.wasi_run.specs.Waiting.{IsLeftOfBind, IsRestOfBind}
 use Rattle.wasi_run.specs.Waiting as binding
-use Rattle.wasi_run.proofs.walks.Moves.{Held, InHand, Connects, Used, Here, put, Goes, WasClosed, HadNone, Move, Reaches, Leaves, Spends, Changes, ClosesReader, Writes, IsGone, Reconnects, Opens, BeginsConnect, BeginsBind, BeginsWrite, Stands, Resumes, Ends, Lists, Takes, BeginsListen, BeginsAccept, Unlistens, Forgets, Watches, Joins, StandsListen, StandsDrop, ResumesDrop, Unstands, Listens, Awaits, listen_after, accepting_now, beginning_listen, new_accept, joined, made_so, Found}
+use Rattle.wasi_run.proofs.walks.Moves.{closed_record, Held, InHand, Connects, Used, Here, put, Move, Reaches, Leaves, Spends, Changes, ClosesReader, Writes, IsGone, Reconnects, Opens, BeginsConnect, BeginsBind, BeginsWrite, Stands, Resumes, Ends, Lists, Takes, BeginsListen, BeginsAccept, Unlistens, Forgets, Watches, Joins, StandsListen, StandsDrop, ResumesDrop, Unstands, Listens, Awaits, listen_after, accepting_now, beginning_listen, new_accept, joined, made_so, Found}
 use Rattle.wasi_run.proofs.fits.Records.{FitListening, FitRecord}
 use Rattle.wasi_run.proofs.fits.Records.{FitCall}
 use Rattle.wasi_run.proofs.Lists.{get_set, get_split}
@@ -58,10 +59,6 @@ put_fit h place now f i = record {
 
 pub in_hand : (h : Here) (op : Operation) → IsRestOfBind op → Fit h → Fit (record h { hand = Some op })
 in_hand h op f i = record { records = i.records; stands = i.stands; hand = λ o e. let p : op ≡ o = cc in subst IsRestOfBind p f }
-
-pub gone_fit : (r : Tcp2Socket) (socket : Socket) → Goes r.inner socket → FitRecord r → FitRecord (gone r socket)
-gone_fit r _ WasClosed f = (tt, tt)
-gone_fit r _ (HadNone e) f = (f.0, tt)
 
 pub told_same : (socket : Socket) (told : Result IpSocketAddress ErrorCode) → (after_local socket told).1.state ≡ socket.state
 told_same socket (Ok a) = by_test (is_wildcard socket.family a)
@@ -113,7 +110,7 @@ module _ (contexts : List WasiSocketsCtx) (line : ℕ) (origin : Step) where
   moves_fit _ _ (Changes h place r now g p) i = let f = i.records place r g in put_fit h place now (subst HoldsConnect (sym p.does) f.0, subst FitListening (sym p.listening) f.1) i
   moves_fit _ _ (ClosesReader h place r s g e) i = put_fit h place _ (i.records place r g) i
   moves_fit _ _ (Writes h place r s w g e m) i = put_fit h place _ (i.records place r g) i
-  moves_fit _ _ (IsGone h place r socket g k) i = put_fit h place _ (gone_fit r socket k (i.records place r g)) i
+  moves_fit _ _ (IsGone h place r g e) i = put_fit h place _ ((i.records place r g).0, tt) i
   moves_fit _ _ (Reconnects h place r c now g e s t) i = put_fit h place _ (tt, (i.records place r g).1) i
   moves_fit _ _ (Opens h place r c g e n) i = put_fit h place _ (tt, (i.records place r g).1) i
   moves_fit _ _ (BeginsConnect h place r side a bound at g d to known own) i = let k = put_fit h place _ (first_of (own_of line) side r.inner.maker (wildcard r.inner.family) a bound, (i.records place r g).1) i in record { records = k.records; stands = k.stands; hand = k.hand }
@@ -169,11 +166,11 @@ module _ (contexts : List WasiSocketsCtx) (line : ℕ) (origin : Step) where
 
   pub polls_fit : (es : List Entry) (h : Here) (op : Operation) (after : End × List Item → Here) → Held h op after → Fit h → Allows Anything (λ fs ended. Fit (after ended)) es (poll_asks op)
   polls_fit es h _ _ (InHand op e) i = allows_weaker Anything (λ fs end. IsLeftOfBind end.1) (λ fs end. Fit (record h { hand = Some (left_of op end.1) })) (λ fs end k. in_hand h _ (record { last = (i.hand op e).last; left = k }) i) es (poll_asks op) (bind_left op (i.hand op e) es)
-  polls_fit es h _ _ (Connects place r op g e) i =
+  polls_fit es h _ _ (Connects place r op q g e) i =
       let f = i.records place r g in
       let its : IsConnect op = subst HoldsConnect e f.0 in
       allows_weaker Anything (λ fs end. IsLeftOfConnect end.1) (λ fs end. Fit (put h place (with_inner r (with_state r.inner (connect_ended op.who end).1)))) (λ fs end k. put_fit h place _ (ended_fits op end its k, f.1) i) es (poll_asks op) (connect_left op its es)
-  polls_fit es h _ _ (Listens place r op g e c) i =
+  polls_fit es h _ _ (Listens place r op q g e c) i =
       let f = i.records place r g in
       let its : IsListen op = subst FitListening e f.1 in
       allows_weaker Anything (λ fs end. IsLeftOfListen end.1) (λ fs end. Fit (put h place (listen_after op r end))) (λ fs end k. put_fit h place _ (listened_fits op r end its k f.0) i) es (poll_asks op) (listen_left op its es)
@@ -190,13 +187,13 @@ module _ (contexts : List WasiSocketsCtx) (line : ℕ) (origin : Step) where
     asks = λ es h place n r side c at g o q i. (tt, λ told fits. i);
     sets = λ es h place r side b at g s is i. (tt, λ told fits. i);
     learns = λ es h place r side at g e i. (tt, λ told fits. let f = i.records place r g in put_fit h place _ (subst HoldsConnect (sym (told_same r.inner (told_addr told))) f.0, f.1) i);
-    closes = λ es h op side i. (tt, λ told fits. i);
+    closes = λ es h place r side q g e i. (tt, λ told fits. put_fit h place (closed_record r) (tt, tt) i);
     marks = λ es h kind parent sock m i. whatever (λ made. Fit (record h { machine = record h.machine { table = made.1 } })) (λ made. record { records = i.records; stands = i.stands; hand = i.hand }) es _;
     creates = λ es h ctx family c a o m i. created es h (own_of line) ctx family i;
     accepted = λ es h c s place r is e o g i. whatever (λ made. Fit (record h { machine = record h.machine { table = made.1 }; made = made_so place made.0 })) (λ made. record { records = i.records; stands = i.stands; hand = i.hand }) es _;
     polls = polls_fit;
     turns = λ es h place r s g e i. whatever (λ done. Fit (put h place (with_writer r s done.1))) (λ done. put_fit h place _ (i.records place r g) i) es (turn_asks s.writer);
-    gives_up = λ es h place r g i. whatever (λ done. Fit h) (λ done. i) es (give_up_asks r.listening);
+    gives_up = λ es h place r q g i. whatever (λ done. Fit (put h place (with_listening r Not))) (λ done. put_fit h place _ ((i.records place r g).0, tt) i) es (give_up_asks r.listening);
   }
 
   -- what it says of a tree

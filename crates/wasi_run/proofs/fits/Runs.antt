@@ -1,7 +1,7 @@
 -- Of the machines that runs lead to: what a socket connects by is a connect, what a listener accepts by is an accept, and what
 -- stands by a bind is a bind, and by a listen a listen.
 use Rattle.std.specs.Prelude.{IfSome}
-use Rattle.std.proofs.Common.{◌≡◌, ℕ, List, [], Option, Some, None, slice_get, refl}
+use Rattle.std.proofs.Common.{◌≡◌, ℕ, ◌+◌, List, [], Option, Some, None, slice_get, refl}
 use Rattle.wasi_world.specs.declared.call.Entry.{Entry}
 use Rattle.wasi_world.specs.declared.outcome.WasiSocketsCtx.{WasiSocketsCtx}
 use Rattle.wasi_world.specs.Asks.{Give, Left}
@@ -74,7 +74,7 @@ pub starts_fit : (m : Machine) (own : Own) → Fit (Over m) → Fit (Starts m ow
 starts_fit m own f = record { records = f.records; stands = f.stands; hand = λ op e. absurd (cc) }
 
 line_fits : (contexts : List WasiSocketsCtx) (line : ℕ) (s : Step) (m : Machine) (es : List Entry) → Fit (Over m) → Allows Anything (λ fs done. Fit (Over done.1)) es (machine_asks contexts m line s m.store.standing)
-line_fits contexts line s m es f = fits_along contexts line s (machine_walks line s m m.store.standing) es (starts_fit m (may_while m s m.store.standing) f)
+line_fits contexts line s m es f = fits_along contexts line s (machine_walks line s m m.store.standing refl) es (starts_fit m (may_while m s m.store.standing) f)
 
 -- == of a run
 module _ (contexts : List WasiSocketsCtx) (steps : List Step) (es : List Entry) (replies : List Reply) (m : Machine) (w : Left (run contexts [] first_state 1 steps) es (Give (replies, m))) where

@@ -69,7 +69,7 @@ use Rattle.wasi_run.proofs.licence.ListenAsks.{ListenIsFine, Whole as WholeListe
 use Rattle.wasi_run.proofs.licence.NewNames.{NoMadeBy, spared_as, made_more}
 use Rattle.wasi_run.proofs.licence.Locals.{also, AllAsk, poll_says, listen_unless}
 use Rattle.wasi_run.proofs.claims.Law.{Named, Base, no_some, same_begun, fresh, taken_fresh, Fresh, on_names, on_along}
-use Rattle.wasi_run.proofs.walks.Moves.{Held, InHand, Connects, Used, Unused, Marks, ANetwork, AStream, AnError, Creates, Here, put, Found, IsQuestionOf, IsOn, OfSocket, OfReader, OfWriter, MarksError, record_of, WriterMoves, Collects, Permits, Lasts, LastsAfter, Closes, Plain, Goes, WasClosed, HadNone, Move, Reaches, Leaves, Spends, Changes, ClosesReader, Writes, IsGone, opened_by, Reconnects, Opens, BeginsConnect, BeginsBind, BeginsWrite, Stands, Resumes, Ends, Lists, Takes, Made, Past, Unmade, Joined, Marked, made_so, APollable, AnAcceptedStream, BeginsListen, BeginsAccept, Unlistens, Forgets, Watches, Joins, StandsListen, StandsDrop, ResumesDrop, Unstands, Listens, Awaits, listen_after, accepting_now, begun_listen, beginning_listen, new_accept, joined, second_of}
+use Rattle.wasi_run.proofs.walks.Moves.{closed_record, Held, InHand, Connects, Used, Unused, Marks, ANetwork, AStream, AnError, Creates, Here, put, Found, IsQuestionOf, IsOn, OfSocket, OfReader, OfWriter, MarksError, record_of, WriterMoves, Collects, Permits, Lasts, LastsAfter, Closes, Plain, Move, Reaches, Leaves, Spends, Changes, ClosesReader, Writes, IsGone, opened_by, Reconnects, Opens, BeginsConnect, BeginsBind, BeginsWrite, Stands, Resumes, Ends, Lists, Takes, Made, Past, Unmade, Joined, Marked, made_so, APollable, AnAcceptedStream, BeginsListen, BeginsAccept, Unlistens, Forgets, Watches, Joins, StandsListen, StandsDrop, ResumesDrop, Unstands, Listens, Awaits, listen_after, accepting_now, begun_listen, beginning_listen, new_accept, joined, second_of}
 use Rattle.wasi_run.proofs.Lists.{has_last, get_set, get_split, get_seam, has_split, has_front, set_there}
 use Rattle.wasi_run.proofs.licence.State.{ConnectIsFine, ConnectLeft, Unbound, Unchecked, accept_name, NamesRecord, HandleIsFine, ReadsOn, Whole, ToWrite, Names, BindIsFine, JobIsFine, WritesOn, StreamsAreFine, AcceptingIsFine, ListeningIsFine, SocketIsFine, RecordIsFine, StateIsFine, IsHanded, AcceptStands, Unarrived, AcceptingStands, ListeningStands, ListenerIsFine, name_in, DropIsFine, AcceptLeft, AcceptIsFine}
 use Rattle.wasi_run.proofs.licence.AcceptFrames.{Touches, Spared, KeepsListening, same_listening, listening_kept, listening_gone, Only, handed_unless, unmarked_unless, handed_more}
@@ -289,14 +289,13 @@ module _ (contexts : List WasiSocketsCtx) (steps : List Step) (line : ℕ) (orig
   writes_on es side _ _ (LastsAfter job) on = record { named = on.named; on = on.on; last = on.last; left = shut_after contexts steps job.write.left on.left }
   writes_on es side _ _ (Closes w e) on = tt
 
-  gone_fine : (es : List Entry) (r : Tcp2Socket) (socket : Socket) → Goes r.inner socket → RecordIsFine steps es r → RecordIsFine steps es (gone r socket)
-  gone_fine es r _ WasClosed f = record {
+  closed_fine : (es : List Entry) (r : Tcp2Socket) → RecordIsFine steps es (closed_record r)
+  closed_fine es r = record {
     socket = record { knows = record { maker = λ side e. absurd (cc) }; bound = λ side e b. absurd (cc); listens = λ side e. absurd (cc); connect = λ op e. absurd (cc) };
     named = λ side e. absurd (cc);
     streams = λ s e. absurd (cc);
     listening = tt;
   }
-  gone_fine es r _ (HadNone e) f = record { socket = f.socket; named = f.named; streams = λ s p. absurd (cc); listening = tt }
 
   held_side : (es : List Entry) (r : Tcp2Socket) (s : Streams) (f : StreamsAreFine steps es r.inner s) → side_of r.inner ≡ Some f.side
   held_side es r s f = ap side_in f.connected.state ∙ ap (λ (x : OpId). Some x) f.connected.same
@@ -386,7 +385,9 @@ module _ (contexts : List WasiSocketsCtx) (steps : List Step) (line : ℕ) (orig
   moves_fine es _ _ (Changes h place r now g p) b i = plain_fine es h place r now g p i
   moves_fine es _ _ (ClosesReader h place r s g e) b i = streams_fine es h place r s (record s { reader = reading.Closed }) g e (λ f. (tt, f.writes)) i
   moves_fine es _ _ (Writes h place r s w g e m) b i = streams_fine es h place r s (record s { writer = w }) g e (λ f. (f.reads, writes_on es f.side s.writer w m f.writes)) i
-  moves_fine es _ _ (IsGone h place r socket g k) b i = put_fine es h place r (gone r socket) g refl (listening_gone r.listening) (gone_maker r socket) (gone_fine es r socket k (i.fine.sockets place r g)) i
+  moves_fine es _ _ (IsGone h place r g e) b i =
+      let f = i.fine.sockets place r g in
+      put_fine es h place r (gone r r.inner) g refl (listening_gone r.listening) (gone_maker r r.inner) (record { socket = f.socket; named = f.named; streams = λ s p. absurd (cc); listening = tt }) i
   moves_fine es _ _ (Reconnects h place r c now g e s t) b i =
       let f = i.fine.sockets place r g in
       put_fine es h place r _ g refl (same_listening r.listening) (same_listen r (with_inner r (with_state r.inner (state.Connected now))) refl refl refl) (record_kept steps es r _ (record { keeps = still_connected r c now e s; side = refl; streams = refl; listening = refl }) (connected_fine es r.inner c now e s f.socket) f) i
@@ -1045,8 +1046,8 @@ module _ (contexts : List WasiSocketsCtx) (steps : List Step) (line : ℕ) (orig
 
   polls_fine : (es : List Entry) (h : Here) (op : Operation) (after : End × List Item → Here) → Held h op after → Base contexts line origin h → Licensed es h → Allows (MayAsk contexts steps) (λ fs ended. Licensed fs (after ended)) es (poll_asks op)
   polls_fine es h _ _ (InHand op e) b i = polled_fine es h op e b.0 i
-  polls_fine es h _ _ (Connects place r op g e) b i = connected_on es h place r op g e b.0 i
-  polls_fine es h _ _ (Listens place r op g e c) b i = listened_on es h place r op g e c b.0 b.1 i
+  polls_fine es h _ _ (Connects place r op q g e) b i = connected_on es h place r op g e b.0 i
+  polls_fine es h _ _ (Listens place r op q g e c) b i = listened_on es h place r op g e c b.0 b.1 i
   polls_fine es h _ _ (Awaits place r l op g e a) b i = awaited_on es h place r l op g e a b.0 b.1 i
 
   licences : Above contexts line origin (λ es h. Base contexts line origin h)
@@ -1062,7 +1063,12 @@ module _ (contexts : List WasiSocketsCtx) (steps : List Step) (line : ℕ) (orig
         let f = i.fine.sockets place r g in
         ((inl (i.names place line r at g side (f.named side (ap side_in s))), record { origin = origin; at = is_line; holds = is }, f.socket.listens side s), λ told fits. asked_fine es h (own_of line) (call.SetBacklog side backlog) told tt (spares h (call.SetBacklog side backlog) tt) i);
     learns = λ es h place r side at g e b i. (inl (names_on_side es h place line r side at g (OfSocket (ap side_in e)) i), λ told fits. learned_fine es h place r side told g e fits b.1 i);
-    closes = λ es h op side b i. (tt, λ told fits. asked_fine es h op (call.Close side) told tt (spares h (call.Close side) tt) i);
+    closes = λ es h place r side q g e b i. (
+      tt,
+      λ told fits.
+          let fs = es ++ entry (own_of line) (call.Close side) told ∷ [] in
+          put_fine fs h place r (closed_record r) g refl (listening_gone r.listening) (gone_maker r (closed_record r).inner) (closed_fine fs r) (asked_fine es h (own_of line) (call.Close side) told tt (spares h (call.Close side) tt) i),
+    );
     marks = λ es h kind parent sock m b i. marked_fine es h kind parent sock m i;
     creates = λ es h ctx family c a o past b i.
         allows_then (MayAsk contexts steps) (λ fs made. Licensed fs h × CreatedIsFine ctx.name family fs made) (λ fs done. Licensed fs (record h { machine = done.1; own = Used })) es (new_asks (own_of line) ctx family) (created_asks h.machine (own_of line))
@@ -1070,8 +1076,8 @@ module _ (contexts : List WasiSocketsCtx) (steps : List Step) (line : ℕ) (orig
     accepted = λ es h c s place r is e o g b i. accepted_fine es h c s place r is e o g b.1 i;
     polls = polls_fine;
     turns = λ es h place r s g e b i. turned_fine es h place r s g e i;
-    gives_up = λ es h place r g b i.
-        allows_weaker (MayAsk contexts steps) (λ fs done. Licensed fs h × ⊤) (λ fs done. Licensed fs h) (λ fs done k. k.0) es (give_up_asks r.listening)
+    gives_up = λ es h place r q g b i.
+        allows_weaker (MayAsk contexts steps) (λ fs done. Licensed fs h × ⊤) (λ fs done. Licensed fs (put h place (with_listening r Not))) (λ fs done k. taken_out fs h place r g k.0) es (give_up_asks r.listening)
         (kept h (λ fs done. ⊤) es (give_up_asks r.listening) i (given_up es r.side r.listening (i.fine.sockets place r g).listening));
   }
 

@@ -12,6 +12,7 @@ use Rattle.wasi_host.specs.declared.socket.Tcp2Socket.{Tcp2Socket}
 use Rattle.wasi_host.specs.Machine.{own_of, first_state}
 use Rattle.wasi_run.specs.declared.reply.Reply.{Reply}
 use Rattle.wasi_run.specs.declared.step.Step.{Step}
+use Rattle.wasi_run.specs.declared.step.Step.TheVariants as step
 use Rattle.wasi_run.specs.Licence.{IsLicensed, MayAsk, step_at}
 use Rattle.wasi_run.specs.Machine.{machine_asks, run}
 use Rattle.wasi_run.specs.Reply.{is_trap}
@@ -58,7 +59,7 @@ module _ (contexts : List WasiSocketsCtx) where
       let o = may_while m s m.store.standing in
       allows_weaker (MayAsk contexts steps) _ (λ fs done. Fine steps (line + 1) fs done.1)
       (λ fs done k. record { base = base_over contexts line s done.1 k.0; fine = k.1.fine; listens = k.1.listens }) es (machine_asks contexts m line s m.store.standing)
-      (licence_along contexts steps line s l (machine_walks line s m m.store.standing) es
+      (licence_along contexts steps line s l (machine_walks line s m m.store.standing refl) es
       (base_starts contexts line s m o i.base)
       (record {
         fine = i.fine;

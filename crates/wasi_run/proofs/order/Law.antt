@@ -38,12 +38,13 @@ use Rattle.wasi_host.specs.declared.socket.Tcp2Socket.{Tcp2Socket}
 use Rattle.wasi_host.specs.declared.store.Standing.{Standing}
 use Rattle.wasi_host.specs.Dropping.{gone}
 use Rattle.wasi_host.specs.Kinds.{name_of, make_asks}
-use Rattle.wasi_host.specs.Listening.{give_up_asks, standing_listen}
+use Rattle.wasi_host.specs.declared.listening.Listening.TheVariants.{Not}
+use Rattle.wasi_host.specs.Listening.{give_up_asks, standing_listen, with_listening}
 use Rattle.wasi_host.specs.Machine.{own_of, created_asks, create_asks, side_at}
 use Rattle.wasi_host.specs.Store.{new_record, with_record, with_inner, with_writer, left_of, standing_bind, standing_drop}
 use Rattle.wasi_run.specs.declared.step.Step.{Step}
 use Rattle.wasi_run.specs.Licence.{entry}
-use Rattle.wasi_run.proofs.walks.Moves.{Held, InHand, Connects, Own, Used, Here, put, Found, IsQuestionOf, WriterMoves, Collects, Permits, Lasts, LastsAfter, Closes, Goes, WasClosed, HadNone, Move, Reaches, Leaves, Spends, Changes, ClosesReader, Writes, IsGone, Reconnects, Opens, BeginsConnect, BeginsBind, BeginsWrite, Stands, Resumes, Ends, Lists, Takes, BeginsListen, BeginsAccept, Unlistens, Forgets, Watches, Joins, StandsListen, StandsDrop, ResumesDrop, Unstands, Listens, Awaits, listen_after, accepting_now, beginning_listen, new_accept, joined, joining, second_of}
+use Rattle.wasi_run.proofs.walks.Moves.{closed_record, Held, InHand, Connects, Own, Used, Here, put, Found, IsQuestionOf, WriterMoves, Collects, Permits, Lasts, LastsAfter, Closes, Move, Reaches, Leaves, Spends, Changes, ClosesReader, Writes, IsGone, Reconnects, Opens, BeginsConnect, BeginsBind, BeginsWrite, Stands, Resumes, Ends, Lists, Takes, BeginsListen, BeginsAccept, Unlistens, Forgets, Watches, Joins, StandsListen, StandsDrop, ResumesDrop, Unstands, Listens, Awaits, listen_after, accepting_now, beginning_listen, new_accept, joined, joining, second_of}
 use Rattle.wasi_run.proofs.fits.Law.{told_same}
 use Rattle.wasi_run.proofs.order.Walks.{Walks, May, gone_after, gone_along, walks_weaker}
 use Rattle.wasi_run.proofs.order.Polls.{if_ours, op_weight, Within, poll_walks}
@@ -119,10 +120,6 @@ module _ (contexts : List WasiSocketsCtx) (line : ℕ) (origin : Step) (ours : O
   streams_are : (r : Tcp2Socket) (s : Streams) (i : Bool) → r.streams ≡ Some s → streams_weight ours r.streams i ≡ writer_weight ours s.writer i
   streams_are r s i e = ap (λ (t : Option Streams). streams_weight ours t i) e
 
-  gone_lighter : (r : Tcp2Socket) (socket : Socket) → Goes r.inner socket → Lighter (λ i. record_weight ours r i) (λ i. record_weight ours (gone r socket) i)
-  gone_lighter r _ WasClosed i = omega arith
-  gone_lighter r _ (HadNone e) i = omega arith
-
   listen_weighs : (side : OpId) (maker : ℕ) (any : IpSocketAddress) (backlog : ℕ) → op_weight ours (own_of line) (listen_operation (record { op = own_of line; side = side; maker = maker }) any backlog (listen_first true)).left true ≤ if_ours (ours (own_of line)) 1
   listen_weighs side maker any backlog = omega arith
 
@@ -137,7 +134,7 @@ module _ (contexts : List WasiSocketsCtx) (line : ℕ) (origin : Step) (ours : O
   moves_kept es _ _ (Changes h place r now g p) i = put_kept es h place r now g (same_weight r now p.does p.listening p.streams) i
   moves_kept es _ _ (ClosesReader h place r s g e) i = put_kept es h place r _ g (λ j. let x = streams_are r s j e in omega (arith, x)) i
   moves_kept es _ _ (Writes h place r s w g e m) i = put_kept es h place r _ g (λ j. let x = streams_are r s j e in let y = writer_lighter s.writer w m j in omega (arith, x, y)) i
-  moves_kept es _ _ (IsGone h place r socket g k) i = put_kept es h place r _ g (gone_lighter r socket k) i
+  moves_kept es _ _ (IsGone h place r g e) i = put_kept es h place r _ g (λ j. omega arith) i
   moves_kept es _ _ (Reconnects h place r c now g e s t) i = put_kept es h place r _ g (λ j. omega arith) i
   moves_kept es _ _ (Opens h place r c g e k) i = put_kept es h place r _ g (λ j. omega arith) i
   moves_kept es _ _ (BeginsConnect h place r side a bound at g d to known own) i =
@@ -301,10 +298,10 @@ module _ (contexts : List WasiSocketsCtx) (line : ℕ) (origin : Step) (ours : O
       (λ fs ended k. let p = k.0 in let q = k.1 in (omega (arith, p), omega (arith, q))) es (poll_asks op)
       (along (λ g ended. Within b (store_weight ours h.machine.store) (room h.own) g (op_weight ours op.who.id ended.1)) es (poll_asks op)
       (poll_walks ours b small (store_weight ours h.machine.store) (half_store ours h.machine.store) (room h.own) (gone_in es) op (omega (arith, x, u), omega (arith, y, v))))
-  polls_kept es h _ _ (Connects place r op g e) i =
+  polls_kept es h _ _ (Connects place r op q g e) i =
       polled_kept es h place r op (λ j. listening_weight ours r.listening j + streams_weight ours r.streams j) _ (let y = half_streams ours r.streams in let z = half_listening ours r.listening in omega (arith, y, z)) g
       (λ j. let z : state_weight ours r.inner.state j ≡ weight_of ours op j = ap (λ (t : TcpState). state_weight ours t j) e in omega (arith, z)) (λ ended j. let l = ended_weighs op ended j in omega (arith, l)) i
-  polls_kept es h _ _ (Listens place r op g e c) i =
+  polls_kept es h _ _ (Listens place r op q g e c) i =
       polled_kept es h place r op (λ j. state_weight ours r.inner.state j + streams_weight ours r.streams j) (listen_after op r) (let y = half_streams ours r.streams in let z = half_state ours r.inner.state in omega (arith, y, z)) g
       (λ j. let z : listening_weight ours r.listening j ≡ weight_of ours op j = ap (λ (t : Listening). listening_weight ours t j) e in omega (arith, z)) (listened_weighs op r) i
   polls_kept es h _ _ (Awaits place r l op g e a) i =
@@ -326,7 +323,7 @@ module _ (contexts : List WasiSocketsCtx) (line : ℕ) (origin : Step) (ours : O
           let now : Tcp2Socket = with_inner r (after_local r.inner (told_addr told)).1 in
           put_kept fs h place r now g (same_weight r now (told_same r.inner (told_addr told)) refl refl) (asked_kept es h (own_of line) (call.Local side) told refl i),
     );
-    closes = λ es h op side i. (tt, λ told f. asked_kept es h op (call.Close side) told refl i);
+    closes = λ es h place r side q g e i. (tt, λ told f. put_kept (es ++ entry (own_of line) (call.Close side) told ∷ []) h place r (closed_record r) g (λ j. omega arith) (asked_kept es h (own_of line) (call.Close side) told refl i));
     marks = λ es h kind parent sock m i. marked es h kind parent sock i;
     creates = λ es h ctx family c a o m i. created es h ctx family i;
     polls = polls_kept;
@@ -340,10 +337,11 @@ module _ (contexts : List WasiSocketsCtx) (line : ℕ) (origin : Step) (ours : O
         (omega (arith, c, p), omega (arith, d, q))) es (turn_asks s.writer)
         (along (λ g done. Within b (beside h place r) (room h.own) g (λ j. writer_weight ours done.1 j)) es (turn_asks s.writer)
         (turn_keeps ours b small (room h.own) s.writer (beside h place r) (half_beside h place r) (gone_in es) (omega (arith, x, z, u), omega (arith, y, w, v))));
-    gives_up = λ es h place r g i.
-        along (λ k done. Within b nothing (room h.own) k (weight h)) es (give_up_asks r.listening)
+    gives_up = λ es h place r q g i.
+        allows_weaker Asked (λ fs done. Kept fs h) (λ fs done. Kept fs (put h place (with_listening r Not))) (λ fs done k. put_kept fs h place r (with_listening r Not) g (λ j. omega arith) k) es (give_up_asks r.listening)
+        (along (λ k done. Within b nothing (room h.own) k (weight h)) es (give_up_asks r.listening)
         (walks_weaker ours (λ k done. (k ≡ gone_in es) × ⊤) (λ k done. Within b nothing (room h.own) k (weight h)) (gone_in es) (give_up_asks r.listening)
-        (λ k done z. subst (λ (m : ℕ). Within b nothing (room h.own) m (weight h)) (sym z.0) i) (listening_up ours (gone_in es) r.listening));
+        (λ k done z. subst (λ (m : ℕ). Within b nothing (room h.own) m (weight h)) (sym z.0) i) (listening_up ours (gone_in es) r.listening)));
   }
 
   -- what it says of a tree

@@ -12,6 +12,7 @@ use Rattle.wasi_host.specs.declared.machine.Machine.{Machine}
 use Rattle.wasi_host.specs.Machine.{first_state}
 use Rattle.wasi_run.specs.declared.reply.Reply.{Reply}
 use Rattle.wasi_run.specs.declared.step.Step.{Step}
+use Rattle.wasi_run.specs.declared.step.Step.TheVariants as step
 use Rattle.wasi_run.specs.Machine.{machine_asks, run}
 use Rattle.wasi_run.specs.Order.{ChecksFirst, asked_by}
 use Rattle.wasi_run.proofs.order.Weights.{nothing, store_weight}
@@ -86,7 +87,7 @@ module _ (it : OpId) (contexts : List WasiSocketsCtx) where
       let more = bound_next it.step line in let x = i.0 in let y = i.1 in
       allows_weaker Asked (λ fs now. Kept contexts line s ours b (bound_small it.step (line + 1)) (room it.step line) (room_fits it line) fs (Over now.1)) (λ fs now. Weighs (line + 1) fs now.1)
       (λ fs now k. let p = k.0 in let q = k.1 in (omega (arith, p), omega (arith, q))) es (machine_asks contexts m line s m.store.standing)
-      (order_along contexts line s ours b (bound_small it.step (line + 1)) (room it.step line) (room_fits it line) (machine_walks line s m m.store.standing) es (starts (may_while m s m.store.standing) (omega (arith, more, x), omega (arith, more, y))))
+      (order_along contexts line s ours b (bound_small it.step (line + 1)) (room it.step line) (room_fits it line) (machine_walks line s m m.store.standing refl) es (starts (may_while m s m.store.standing) (omega (arith, more, x), omega (arith, more, y))))
     where
       starts : (o : Own) → Within (bound it.step (line + 1)) nothing (room it.step line) (gone_along ours 0 es) (store_weight ours m.store)
           → Kept contexts line s ours (bound it.step (line + 1)) (bound_small it.step (line + 1)) (room it.step line) (room_fits it line) es (Starts m o)

@@ -45,7 +45,7 @@ use Rattle.wasi_host.specs.declared.socket.Streams.{Streams}
 use Rattle.wasi_host.specs.declared.socket.Tcp2Socket.{Tcp2Socket}
 use Rattle.wasi_host.specs.Dropping.{gone}
 use Rattle.wasi_host.specs.Kinds.{name_of, make_asks}
-use Rattle.wasi_host.specs.Listening.{give_up_asks}
+use Rattle.wasi_host.specs.Listening.{give_up_asks, with_listening}
 use Rattle.wasi_host.specs.Machine.{own_of, created_asks, create_asks, side_at}
 use Rattle.wasi_host.specs.Store.{with_record, with_inner, with_writer, left_of, new_record}
 use Rattle.wasi_run.specs.declared.step.Step.{Step}
@@ -56,7 +56,7 @@ use Rattle.wasi_run.proofs.walks.OnBase.{Above}
 use Rattle.wasi_run.proofs.claims.Law.{Named, Base, on_names, on_along, fresh, taken_fresh}
 use Rattle.wasi_run.proofs.permits.Accepted.{taken_stands}
 use Rattle.wasi_run.proofs.permits.Listening.{Listens as ListensOf, over, polled, begun, plain_listen}
-use Rattle.wasi_run.proofs.walks.Moves.{Held, InHand, Connects, Own, Used, Unused, ToWrite, Here, put, Found, IsQuestionOf, WriterMoves, Collects, Permits, Lasts, LastsAfter, Closes, Goes, WasClosed, HadNone, Move, Reaches, Leaves, Spends, Changes, ClosesReader, Writes, IsGone, opened_by, Reconnects, Opens, BeginsConnect, BeginsBind, BeginsWrite, Stands, Resumes, Ends, Lists, Takes, BeginsListen, BeginsAccept, Unlistens, Forgets, Watches, Joins, StandsListen, StandsDrop, ResumesDrop, Unstands, Listens, Awaits, listen_after, accepting_now, beginning_listen, new_accept, joined, made_so}
+use Rattle.wasi_run.proofs.walks.Moves.{closed_record, Held, InHand, Connects, Own, Used, Unused, ToWrite, Here, put, Found, IsQuestionOf, WriterMoves, Collects, Permits, Lasts, LastsAfter, Closes, Move, Reaches, Leaves, Spends, Changes, ClosesReader, Writes, IsGone, opened_by, Reconnects, Opens, BeginsConnect, BeginsBind, BeginsWrite, Stands, Resumes, Ends, Lists, Takes, BeginsListen, BeginsAccept, Unlistens, Forgets, Watches, Joins, StandsListen, StandsDrop, ResumesDrop, Unstands, Listens, Awaits, listen_after, accepting_now, beginning_listen, new_accept, joined, made_so}
 use Rattle.wasi_run.proofs.fits.Law.{told_same}
 use Rattle.wasi_run.proofs.permits.Polls.{NoWrite, Quiet, quiet_if, none_taken, ArePlain, plain_poll}
 use Rattle.wasi_run.proofs.permits.Quiet.{Follows, follows_connected, IsNew, quiet_new, IsPlainState, follows_equal}
@@ -232,9 +232,19 @@ module _ (contexts : List WasiSocketsCtx) (line : ℕ) (origin : Step) (side : O
       (agrees_put side h.machine.store.sockets place r now g refl (streams_record r s t e (opened_writer r.inner s.writer t.writer k.writer) (i.stands.records place r g)) (taken_in side es) i.held
       (λ v. k.agrees (taken_in side es) i.held (subst (Agree (taken_in side es) i.held) e (i.stands.lives place r g v))) i.stands)
 
-  no_side : (r : Tcp2Socket) (socket : Socket) → Goes r.inner socket → IsPlainState r.inner.state → (side_of socket ≡ None) × IsPlainState socket.state
-  no_side r _ WasClosed p = (refl, tt)
-  no_side r _ (HadNone e) p = (e, p)
+  -- it listens no more
+  unlistened : (es : List Entry) (h : Here) (place : ℕ) (r : Tcp2Socket) → Found h place r → Permitted es h → Permitted es (put h place (with_listening r listening.Not))
+  unlistened es h place r g i =
+      let now : Tcp2Socket = with_listening r listening.Not in
+      let s = i.stands.records place r g in
+      records_kept es h (slice_set h.machine.store.sockets place now) i
+      (agrees_put side h.machine.store.sockets place r now g refl (record { plain = s.plain; listens = tt; opened = s.opened }) (taken_in side es) i.held (λ v. i.stands.lives place r g (v.0, elim v.1 [ inl p ↦ inl p | inr p ↦ absurd p ])) i.stands)
+
+  -- nothing is left of it
+  gone_kept : (es : List Entry) (h : Here) (place : ℕ) (r : Tcp2Socket) (socket : Socket) → Found h place r → side_of socket ≡ None → IsPlainState socket.state → Permitted es h → Permitted es (put h place (gone r socket))
+  gone_kept es h place r socket g e p i =
+      records_kept es h (slice_set h.machine.store.sockets place (gone r socket)) i
+      (agrees_put side h.machine.store.sockets place r (gone r socket) g refl (bare_record (gone r socket) p tt refl) (taken_in side es) i.held (λ v. absurd (elim v.1 [ inl q ↦ no_some side (sym e ∙ q) | inr q ↦ q ])) i.stands)
 
   -- a write begins: its side is the connection's
   module _ (es : List Entry) (h : Here) (place : ℕ) (r : Tcp2Socket) (s : Streams) (half : TcpSendStream) (permit : ℕ) (bytes : List ℕ) (g : Found h place r) (e : r.streams ≡ Some s) (w : s.writer ≡ writing.Ready half permit) (n : Named line h) (i : Permitted es h) where
@@ -309,9 +319,7 @@ module _ (contexts : List WasiSocketsCtx) (line : ℕ) (origin : Step) (side : O
   moves_kept es _ _ (Changes h place r now g p) n i = follows_kept es h place r now g p.side p.streams p.listening p.does i
   moves_kept es _ _ (ClosesReader h place r s g e) n i = streams_kept es h place r s (record s { reader = reading.Closed }) g e (same_writer s.writer) i
   moves_kept es _ _ (Writes h place r s w g e m) n i = streams_kept es h place r s (record s { writer = w }) g e (writer_keeps s.writer w m) i
-  moves_kept es _ _ (IsGone h place r socket g k) n i =
-      let z = no_side r socket k (i.stands.records place r g).plain in
-      records_kept es h (slice_set h.machine.store.sockets place (gone r socket)) i (agrees_put side h.machine.store.sockets place r (gone r socket) g refl (bare_record (gone r socket) z.1 tt refl) (taken_in side es) i.held (λ v. absurd (elim v.1 [ inl p ↦ no_some side (sym z.0 ∙ p) | inr p ↦ p ])) i.stands)
+  moves_kept es _ _ (IsGone h place r g e) n i = gone_kept es h place r r.inner g e (i.stands.records place r g).plain i
   moves_kept es _ _ (Reconnects h place r c now g e s t) n i =
       state_kept es h place r _ g (subst (λ (x : TcpState). Follows x (state.Connected now)) (sym e) (follows_connected c now s t)) i
   moves_kept es _ _ (Opens h place r c g e f) n i =
@@ -490,8 +498,8 @@ module _ (contexts : List WasiSocketsCtx) (line : ℕ) (origin : Step) (side : O
       allows_weaker IsFront (λ fs ended. Permitted fs h × ArePlain ended.1) (λ fs ended. Permitted fs (record h { hand = Some (left_of op ended.1) }))
       (λ fs ended k. record { held = k.0.held; stands = k.0.stands; quietly = k.0.quietly; hand = λ o p. subst (λ (x : Operation). ArePlain x.left) (same_op _ o p) k.1; owes = k.0.owes }) es (poll_asks op)
       (quiet_kept (λ ended. ArePlain ended.1) es h (poll_asks op) i (plain_poll op es (i.hand op e)))
-  polls_kept es h _ _ (Connects place r op g e) i = connects_kept es h place r op g e i
-  polls_kept es h _ _ (Listens place r op g e c) i =
+  polls_kept es h _ _ (Connects place r op q g e) i = connects_kept es h place r op g e i
+  polls_kept es h _ _ (Listens place r op q g e c) i =
       allows_weaker IsFront (λ fs ended. Permitted fs h × ArePlain ended.1) (λ fs ended. Permitted fs (put h place (listen_after op r ended)))
       (λ fs ended k. listened_kept fs h place r _ g (listened_side op r ended) (polled r (k.0.stands.records place r g) c op e ended k.1) (begun_lives r op e) k.0) es (poll_asks op)
       (quiet_kept (λ ended. ArePlain ended.1) es h (poll_asks op) i (plain_poll op es (subst IsPlainListening e (i.stands.records place r g).listens)))
@@ -516,13 +524,14 @@ module _ (contexts : List WasiSocketsCtx) (line : ℕ) (origin : Step) (side : O
           let now : Tcp2Socket = with_inner r (after_local r.inner (told_addr told)).1 in
           follows_kept _ h place r now g refl refl refl (told_same r.inner (told_addr told)) (asked_kept es h (own_of line) (call.Local at) told tt i),
     );
-    closes = λ es h op at b i. (front es h i, λ told f. asked_kept es h op (call.Close at) told tt i);
+    closes = λ es h place r at q g e b i. (front es h i, λ told f. gone_kept _ h place r (with_state r.inner (state.Closed Other)) g refl tt (asked_kept es h (own_of line) (call.Close at) told tt i));
     marks = λ es h kind parent sock m b i. marked es h kind parent sock i;
     creates = λ es h ctx family c a o m b i. created es h ctx family o b.1 i;
     polls = λ es h op after k b i. polls_kept es h op after k i;
     turns = λ es h place r s g e b i. turned_kept es h place r s g e b.1 i;
-    gives_up = λ es h place r g b i.
-        allows_weaker IsFront (λ fs done. Permitted fs h × ⊤) (λ fs done. Permitted fs h) (λ fs done k. k.0) es (give_up_asks r.listening) (quiet_kept (λ done. ⊤) es h (give_up_asks r.listening) i (listening_up es r.listening));
+    gives_up = λ es h place r q g b i.
+        allows_weaker IsFront (λ fs done. Permitted fs h × ⊤) (λ fs done. Permitted fs (put h place (with_listening r listening.Not))) (λ fs done k. unlistened fs h place r g k.0) es (give_up_asks r.listening)
+        (quiet_kept (λ done. ⊤) es h (give_up_asks r.listening) i (listening_up es r.listening));
   }
 
   pub permits : Law contexts line origin

@@ -96,7 +96,7 @@ module _ (contexts : List WasiSocketsCtx) (side : OpId) where
         stands = subst (λ (t : List ℕ). Agreeing side (taken_in side fs) t done.1.store.sockets) k.1.owes k.1.stands;
         quietly = k.1.quietly;
       }) es (machine_asks contexts m line s m.store.standing)
-      (permits_along contexts line s side (given ++ more) (machine_walks line s m m.store.standing) es (base_starts contexts line s m o i.base)
+      (permits_along contexts line s side (given ++ more) (machine_walks line s m m.store.standing refl) es (base_starts contexts line s m o i.base)
       (record { held = given; stands = i.stands; quietly = i.quietly; hand = λ o a. absurd (cc); owes = owes line s given o })))
 
   did_lets : (m : Machine) (line : ℕ) (steps : List Step) (log : List Entry) (bytes : List ℕ) (after : Machine) → Did contexts side m line steps log bytes after → (given : List ℕ) (es : List Entry) → Lets line given es m → Lets (line + length steps) (given ++ bytes) (es ++ log) after

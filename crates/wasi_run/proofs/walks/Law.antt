@@ -20,17 +20,17 @@ use Rattle.wasi_tcp.specs.Socket.{side_of, after_local}
 use Rattle.wasi_tcp.specs.Writer.{turn_asks}
 use Rattle.wasi_host.specs.declared.kind.Kind.{Kind}
 use Rattle.wasi_host.specs.declared.kind.Kind.TheVariants.{Tcp2}
-use Rattle.wasi_host.specs.declared.listening.Listening.TheVariants.{Begins, Accepts}
+use Rattle.wasi_host.specs.declared.listening.Listening.TheVariants.{Not, Begins, Accepts}
 use Rattle.wasi_host.specs.declared.socket.Streams.{Streams}
 use Rattle.wasi_host.specs.declared.socket.Tcp2Socket.{Tcp2Socket}
 use Rattle.wasi_host.specs.Kinds.{make_asks}
-use Rattle.wasi_host.specs.Listening.{give_up_asks}
+use Rattle.wasi_host.specs.Listening.{give_up_asks, with_listening}
 use Rattle.wasi_host.specs.Machine.{own_of, side_at, create_asks}
 use Rattle.wasi_host.specs.Store.{with_inner, with_writer, left_of}
 use Rattle.wasi_run.specs.declared.step.Step.{Step}
 use Rattle.wasi_run.specs.declared.step.Step.TheVariants as step
 use Rattle.wasi_run.specs.Licence.{entry, IsBacklogSet}
-use Rattle.wasi_run.proofs.walks.Moves.{Here, put, Found, Past, Joined, made_so, listen_after, accepting_now, Held, InHand, Connects, Listens, Awaits, IsQuestionOf, IsOn, Move, Marks, Creates, Used, Unused}
+use Rattle.wasi_run.proofs.walks.Moves.{Here, put, Found, NoBind, closed_record, Past, Joined, made_so, listen_after, accepting_now, Held, InHand, Connects, Listens, Awaits, IsQuestionOf, IsOn, Move, Marks, Creates, Used, Unused}
 use Rattle.wasi_run.proofs.Lists.{set_there, set_set}
 
 pub record Law (contexts : List WasiSocketsCtx) (line : ℕ) (origin : Step) : Type 1 where
@@ -44,7 +44,8 @@ pub record Law (contexts : List WasiSocketsCtx) (line : ℕ) (origin : Step) : T
       → P es (own_of line) (call.SetBacklog side backlog) × ((told : Told) → Fits (call.SetBacklog side backlog) told → Inv (es ++ entry (own_of line) (call.SetBacklog side backlog) told ∷ []) h)
   pub learns : (es : List Entry) (h : Here) (place : ℕ) (r : Tcp2Socket) (side : OpId) → h.at ≡ Some (place, line) → Found h place r → r.inner.state ≡ state.Default side → Inv es h
       → P es (own_of line) (call.Local side) × ((told : Told) → Fits (call.Local side) told → Inv (es ++ entry (own_of line) (call.Local side) told ∷ []) (put h place (with_inner r (after_local r.inner (told_addr told)).1)))
-  pub closes : (es : List Entry) (h : Here) (op side : OpId) → Inv es h → P es op (call.Close side) × ((told : Told) → Fits (call.Close side) told → Inv (es ++ entry op (call.Close side) told ∷ []) h)
+  pub closes : (es : List Entry) (h : Here) (place : ℕ) (r : Tcp2Socket) (side : OpId) → NoBind h → Found h place r → side_of r.inner ≡ Some side → Inv es h
+      → P es (own_of line) (call.Close side) × ((told : Told) → Fits (call.Close side) told → Inv (es ++ entry (own_of line) (call.Close side) told ∷ []) (put h place (closed_record r)))
   pub marks : (es : List Entry) (h : Here) (kind : Kind) (parent : Option ℕ) (sock : Option OpId) → Marks origin h kind parent sock → Inv es h
       → Allows P (λ fs made. Inv fs (record h { machine = record h.machine { table = made.1 } })) es (make_asks h.machine.table (own_of line) kind parent sock)
   pub creates : (es : List Entry) (h : Here) (ctx : WasiSocketsCtx) (family : SocketAddressFamily) → Creates contexts ctx family origin → h.at ≡ None → h.own ≡ Unused → h.made ≡ Past → Inv es h
@@ -54,7 +55,7 @@ pub record Law (contexts : List WasiSocketsCtx) (line : ℕ) (origin : Step) : T
   -- what goes on
   pub polls : (es : List Entry) (h : Here) (op : Operation) (after : End × List Item → Here) → Held h op after → Inv es h → Allows P (λ fs ended. Inv fs (after ended)) es (poll_asks op)
   pub turns : (es : List Entry) (h : Here) (place : ℕ) (r : Tcp2Socket) (s : Streams) → Found h place r → r.streams ≡ Some s → Inv es h → Allows P (λ fs done. Inv fs (put h place (with_writer r s done.1))) es (turn_asks s.writer)
-  pub gives_up : (es : List Entry) (h : Here) (place : ℕ) (r : Tcp2Socket) → Found h place r → Inv es h → Allows P (λ fs done. Inv fs h) es (give_up_asks r.listening)
+  pub gives_up : (es : List Entry) (h : Here) (place : ℕ) (r : Tcp2Socket) → NoBind h → Found h place r → Inv es h → Allows P (λ fs done. Inv fs (put h place (with_listening r Not))) es (give_up_asks r.listening)
 
 -- A place that has a record.
 pub record HasRecord (h : Here) (place : ℕ) : Type 0 where
@@ -95,6 +96,9 @@ module _ {contexts : List WasiSocketsCtx} {line : ℕ} {origin : Step} where
 pub found : {h : Here} {place : ℕ} → HasRecord h place → (r : Tcp2Socket) → Found (put h place r) place r
 found {h} {place} here r = set_there h.machine.store.sockets place here.was r here.found
 
+pub spent : {h : Here} {place : ℕ} → HasRecord h place → HasRecord (record h { own = Used }) place
+spent here = record { was = here.was; found = here.found }
+
 module _ {contexts : List WasiSocketsCtx} {line : ℕ} {origin : Step} {law : Law contexts line origin} where
   -- == how walks are put together
   pub give : {A : Type 0} {end : A → Here} (a : A) → Walks law (end a) end (Give a)
@@ -133,9 +137,6 @@ module _ {contexts : List WasiSocketsCtx} {line : ℕ} {origin : Step} {law : La
 
   pub ends : {A : Type 0} {h : Here} {mid end : A → Here} {asks : Asks A} → ((a : A) → mid a ≡ end a) → Walks law h mid asks → Walks law h end asks
   ends {mid} {end} {asks} e w = record { along = λ es i. allows_weaker law.P (λ fs a. law.Inv fs (mid a)) (λ fs a. law.Inv fs (end a)) (λ fs a k. subst (law.Inv fs) (e a) k) es asks (w.along es i) }
-
-  pub close : {A : Type 0} {h : Here} {end : A → Here} {op side : OpId} {next : Told → Asks A} → ((told : Told) → Walks law h end (next told)) → Walks law h end (Ask op (call.Close side) next)
-  close {h} {op} {side} k = record { along = λ es i. let a = law.closes es h op side i in (a.0, λ told fits. (k told).along (es ++ entry op (call.Close side) told ∷ []) (a.1 told fits)) }
 
   pub poll : {h : Here} {op : Operation} → h.hand ≡ Some op → Walks law h (λ ended. record h { hand = Some (left_of op ended.1) }) (poll_asks op)
   poll {h} {op} e = record { along = λ es i. law.polls es h op _ (InHand op e) i }
@@ -184,11 +185,11 @@ module _ {contexts : List WasiSocketsCtx} {line : ℕ} {origin : Step} {law : La
     polled : (r : Tcp2Socket) {op : Operation} (now : End × List Item → Tcp2Socket) → Held (put h place r) op (λ ended. put (put h place r) place (now ended)) → Walks law (put h place r) (λ ended. put h place (now ended)) (poll_asks op)
     polled r {op} now held = ends (λ ended. put_put h place r (now ended)) (record { along = λ es i. law.polls es (put h place r) op _ held i })
 
-    pub connect : (r : Tcp2Socket) (op : Operation) → r.inner.state ≡ state.Connecting op → Walks law (put h place r) (λ ended. put h place (with_inner r (with_state r.inner (connect_ended op.who ended).1))) (poll_asks op)
-    connect r op e = polled r _ (Connects place r op (found here r) e)
+    pub connect : (r : Tcp2Socket) (op : Operation) → NoBind h → r.inner.state ≡ state.Connecting op → Walks law (put h place r) (λ ended. put h place (with_inner r (with_state r.inner (connect_ended op.who ended).1))) (poll_asks op)
+    connect r op q e = polled r _ (Connects place r op q (found here r) e)
 
-    pub listen : (r : Tcp2Socket) (op : Operation) → r.listening ≡ Begins op → side_of r.inner ≡ None → Walks law (put h place r) (λ ended. put h place (listen_after op r ended)) (poll_asks op)
-    listen r op e c = polled r _ (Listens place r op (found here r) e c)
+    pub listen : (r : Tcp2Socket) (op : Operation) → NoBind h → r.listening ≡ Begins op → side_of r.inner ≡ None → Walks law (put h place r) (λ ended. put h place (listen_after op r ended)) (poll_asks op)
+    listen r op q e c = polled r _ (Listens place r op q (found here r) e c)
 
     pub await : (r : Tcp2Socket) (l : Listener) (op : Operation) → r.listening ≡ Accepts l → l.accept ≡ accepting.Asking op → Walks law (put h place r) (λ ended. put h place (accepting_now r l (accept_ended op.who ended))) (poll_asks op)
     await r l op e a = polled r _ (Awaits place r l op (found here r) e a)
@@ -200,5 +201,17 @@ module _ {contexts : List WasiSocketsCtx} {line : ℕ} {origin : Step} {law : La
           (λ fs done k. subst (law.Inv fs) (put_put h place r (with_writer r s done.1)) k) es (turn_asks s.writer) (law.turns es (put h place r) place r s (found here r) e i);
     }
 
-    pub give_up : (r : Tcp2Socket) → Walks law (put h place r) (λ done. put h place r) (give_up_asks r.listening)
-    give_up r = record { along = λ es i. law.gives_up es (put h place r) place r (found here r) i }
+    -- the record goes: its listening is given up, and its side is closed
+    pub give_up : (r : Tcp2Socket) → NoBind h → Walks law (put h place r) (λ done. put h place (with_listening r Not)) (give_up_asks r.listening)
+    give_up r q = ends (λ done. put_put h place r (with_listening r Not)) (record { along = λ es i. law.gives_up es (put h place r) place r q (found here r) i })
+
+    pub close : {A : Type 0} {end : A → Here} (r : Tcp2Socket) {side : OpId} {next : Told → Asks A} → NoBind h → side_of r.inner ≡ Some side → ((told : Told) → Walks law (put h place (closed_record r)) end (next told)) → Walks law (put h place r) end (Ask (own_of line) (call.Close side) next)
+    close r {side} q e k = record {
+      along = λ es i.
+          let a = law.closes es (put h place r) place r side q (found here r) e i in (
+            a.0,
+            λ told fits.
+                let fs : List Entry = es ++ entry (own_of line) (call.Close side) told ∷ [] in
+                (k told).along fs (subst (law.Inv fs) (put_put h place r (closed_record r)) (a.1 told fits)),
+          );
+    }

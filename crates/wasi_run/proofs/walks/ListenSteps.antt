@@ -22,8 +22,8 @@ use Rattle.wasi_run.specs.Machine.{first_ids}
 use Rattle.wasi_run.specs.declared.step.Step.{Step}
 use Rattle.wasi_run.specs.declared.step.Step.TheVariants as step
 use Rattle.wasi_run.specs.Licence.{Has, handles_of, IsListen}
-use Rattle.wasi_run.proofs.walks.Moves.{Used, Unused, put, Found, record_of, Reaches, Leaves, Spends, Marked, made_so, AnAcceptedStream, StandsListen, Watches}
-use Rattle.wasi_run.proofs.walks.Law.{Law, HasRecord, put_same, Walks, give, and_then, and_given, move, gives, from, accept}
+use Rattle.wasi_run.proofs.walks.Moves.{NoBindStands, Used, Unused, put, Found, record_of, Reaches, Leaves, Spends, Marked, made_so, AnAcceptedStream, StandsListen, Watches}
+use Rattle.wasi_run.proofs.walks.Law.{Law, HasRecord, put_same, Walks, give, and_then, and_given, move, gives, from, found, accept}
 use Rattle.wasi_run.proofs.walks.Listeners.{joined_if, Took, takes_walks, listener_walks, begin_listen_walks}
 use Rattle.wasi_run.proofs.walks.States.{Watching, OverWith, Between, socket_record, JoinedSo, At, Starts, given_any, AcceptedSo, Put, joined_given, Over, there}
 use Rattle.wasi_run.proofs.walks.SocketSteps.{streams_walks}
@@ -35,13 +35,13 @@ module _ {contexts : List WasiSocketsCtx} {line : ℕ} {origin : Step} {law : La
   listen_answered_walks m n k place (Ok Pending, r) = gives _ (StandsListen _ n place)
   listen_answered_walks m n k place (Err c, r) = give _
 
-  start_listen_by_walks : (m : Machine) (place : ℕ) (r : Tcp2Socket) (idle : Bool) → Found (At line m place Unused) place r → IsListen origin → Walks law (At line m place Unused) (Put line m place) (start_listen_by m.store (own_of line) place r idle)
-  start_listen_by_walks m place r true g is = from (put_same (At line m place Unused) place r g) (and_then (begin_listen_walks (there g) refl is refl r) (listen_answered_walks m line line place))
-  start_listen_by_walks m place r false g is = gives _ (Spends _ refl)
+  start_listen_by_walks : (m : Machine) (place : ℕ) (r : Tcp2Socket) (idle : Bool) → Found (At line m place Unused) place r → IsListen origin → NoBindStands m.store.standing → Walks law (At line m place Unused) (Put line m place) (start_listen_by m.store (own_of line) place r idle)
+  start_listen_by_walks m place r true g is q = from (put_same (At line m place Unused) place r g) (and_then (begin_listen_walks (there g) refl is refl (refl, q) r) (listen_answered_walks m line line place))
+  start_listen_by_walks m place r false g is q = gives _ (Spends _ refl)
 
-  pub start_listen_at_walks : (m : Machine) (place : ℕ) (o : Option Tcp2Socket) → slice_get m.store.sockets place ≡ o → IsListen origin → Walks law (At line m place Unused) (Put line m place) (start_listen_at m.store (own_of line) place o)
-  start_listen_at_walks m place None g is = gives _ (Spends _ refl)
-  start_listen_at_walks m place (Some r) g is = start_listen_by_walks m place r (is_nothing r.in_progress) g is
+  pub start_listen_at_walks : (m : Machine) (place : ℕ) (o : Option Tcp2Socket) → slice_get m.store.sockets place ≡ o → IsListen origin → NoBindStands m.store.standing → Walks law (At line m place Unused) (Put line m place) (start_listen_at m.store (own_of line) place o)
+  start_listen_at_walks m place None g is q = gives _ (Spends _ refl)
+  start_listen_at_walks m place (Some r) g is q = start_listen_by_walks m place r (is_nothing r.in_progress) g is q
 
   -- == an accept
 

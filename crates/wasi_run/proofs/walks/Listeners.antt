@@ -7,6 +7,7 @@ use Rattle.wasi_world.specs.declared.outcome.Answer.{Answer}
 use Rattle.wasi_world.specs.declared.outcome.Answer.TheVariants.{Ready, Pending}
 use Rattle.wasi_world.specs.Asks.{Give}
 use Rattle.wasi_world.specs.Operation.{Operation}
+use Rattle.wasi_streams.specs.StreamStop as stop
 use Rattle.wasi_tcp.specs.declared.listener.Accepting.TheVariants as accepting
 use Rattle.wasi_tcp.specs.declared.listener.Accepting.{Accepting}
 use Rattle.wasi_tcp.specs.Listener.{Listener, with_accept, accept_ended, accept_asks, begun as accept_begun, accept_end}
@@ -23,20 +24,20 @@ use Rattle.wasi_host.specs.declared.listening.Listening.TheVariants.{Not, Begins
 use Rattle.wasi_host.specs.declared.listening.Listening.{Listening}
 use Rattle.wasi_host.specs.declared.socket.Tcp2Socket.{Tcp2Socket}
 use Rattle.wasi_host.specs.Machine.{own_of}
-use Rattle.wasi_host.specs.Store.{with_inner}
+use Rattle.wasi_host.specs.Store.{with_inner, idle}
 use Rattle.wasi_run.specs.Machine.{first_ids}
 use Rattle.wasi_run.specs.declared.step.Step.TheVariants as step
 use Rattle.wasi_run.specs.declared.step.Step.{Step}
 use Rattle.wasi_run.specs.Licence.{IsListen}
 use Rattle.wasi_run.proofs.Lists.{set_set}
-use Rattle.wasi_run.proofs.walks.Moves.{Used, Unused, Here, put, Spends, Unmade, record_of, new_accept, accepting_now, beginning_listen, joined, joining, BeginsListen, BeginsAccept, Unlistens, Forgets, Joins}
-use Rattle.wasi_run.proofs.walks.Law.{Law, HasRecord, put_put, Given, Walks, give, and_then, and_given, by_if, move, gives, from, found, on, listen, await}
+use Rattle.wasi_run.proofs.walks.Moves.{NoBind, Used, Unused, Here, put, Spends, Unmade, record_of, new_accept, accepting_now, beginning_listen, joined, joining, BeginsListen, BeginsAccept, Unlistens, Forgets, Joins}
+use Rattle.wasi_run.proofs.walks.Law.{Law, HasRecord, spent, put_put, Given, Walks, give, and_then, and_given, by_if, move, gives, from, found, on, listen, await}
 use Rattle.wasi_run.proofs.walks.Sockets.{KnowsBound, bound_given, bound_walks}
 
 -- == a listen
-module _ {contexts : List WasiSocketsCtx} {line : ℕ} {origin : Step} {law : Law contexts line origin} {h : Here} {place : ℕ} (here : HasRecord h place) where
+module _ {contexts : List WasiSocketsCtx} {line : ℕ} {origin : Step} {law : Law contexts line origin} {h : Here} {place : ℕ} (here : HasRecord h place) (quiet : NoBind h) where
   poll_begun_walks : (r : Tcp2Socket) (op : Operation) → r.listening ≡ Begins op → side_of r.inner ≡ None → Walks law (put h place r) (λ done. put h place done.1) (poll_begun r op)
-  poll_begun_walks r op e c = and_then {mid = λ done. put h place (listen_polled r done).1} (by_if (is_over op) (λ over. on here r _ (Unlistens _ _ _ op (found here r) e c over) (give _)) (λ more. and_then (listen here r op e c) (λ ended. give _))) (λ done. give _)
+  poll_begun_walks r op e c = and_then {mid = λ done. put h place (listen_polled r done).1} (by_if (is_over op) (λ over. on here r _ (Unlistens _ _ _ op (found here r) e c over) (give _)) (λ more. and_then (listen here r op quiet e c) (λ ended. give _))) (λ done. give _)
 
   by_listening : (r : Tcp2Socket) (l : Listening) → r.listening ≡ l → side_of r.inner ≡ None → Walks law (put h place r) (λ done. put h place done.1) (poll_listening r l)
   by_listening r (Begins op) e c = poll_begun_walks r op e c
@@ -64,10 +65,7 @@ abbrev pub Listened : Here → ℕ → Tcp2Socket → Result Operation ErrorCode
 Listened h place r (Ok op, socket) = record (put h place (record r { inner = socket; listening = Begins op })) { own = Used }
 Listened h place r (Err c, socket) = record (put h place (with_inner r socket)) { own = Used }
 
-spent_too : {h : Here} {place : ℕ} → HasRecord h place → HasRecord (record h { own = Used }) place
-spent_too here = record { was = here.was; found = here.found }
-
-module _ {contexts : List WasiSocketsCtx} {line : ℕ} {origin : Step} {law : Law contexts line origin} {h : Here} {place : ℕ} (here : HasRecord h place) (at : h.at ≡ Some (place, line)) (is : IsListen origin) (free : h.own ≡ Unused) where
+module _ {contexts : List WasiSocketsCtx} {line : ℕ} {origin : Step} {law : Law contexts line origin} {h : Here} {place : ℕ} (here : HasRecord h place) (at : h.at ≡ Some (place, line)) (is : IsListen origin) (free : h.own ≡ Unused) (quiet : NoBind h) where
   starts_listen : (r : Tcp2Socket) (s : TcpState) → r.inner.state ≡ s → r.listening ≡ Not → r.inner.bound ≡ true → Walks law (put h place r) (Listened h place r) (Give (listen_start (own_of line) r.inner true s))
   starts_listen r (state.Default side) e none bound = move (BeginsListen (put h place r) place r side at (found here r) e bound none is free) (from (ap (λ (x : Here). record x { own = Used }) (sym (put_put h place r (beginning_listen (own_of line) side r)))) (give _))
   starts_listen r (state.Listening side) e none bound = gives _ (Spends _ free)
@@ -81,7 +79,7 @@ module _ {contexts : List WasiSocketsCtx} {line : ℕ} {origin : Step} {law : La
       subst (λ (x : Bool). T (x, b.1)) (sym k.0) (subst (λ (y : Socket). T (true, y)) (sym k.1) (starts_listen r r.inner.state refl none bound))
 
   listened_walks : (r : Tcp2Socket) (start : Result Operation ErrorCode × Socket) → Walks law (Listened h place r start) (λ done. record (put h place done.1) { own = Used }) (listen_begun r start)
-  listened_walks r (Ok op, socket) = poll_listen_walks (spent_too here) (record r { inner = socket; listening = Begins op })
+  listened_walks r (Ok op, socket) = poll_listen_walks (spent here) quiet (record r { inner = socket; listening = Begins op })
   listened_walks r (Err c, socket) = give _
 
   once_walks : (r : Tcp2Socket) (l : Listening) → r.listening ≡ l → r.inner.bound ≡ true → Walks law (put h place r) (λ done. record (put h place done.1) { own = Used }) (listen_once (own_of line) r l)
@@ -114,10 +112,10 @@ module _ {contexts : List WasiSocketsCtx} {line : ℕ} {origin : Step} {law : La
       → ((now : Accepting) → Walks law (record (put h place (accepting_now r l now)) { own = Used }) end (Give (ends now))) → Walks law (put h place r) end (accept_asks ends (accept_begun l.side l.maker (first_ids line) a))
   listener_walks r l ends accepting.Idle e q free k =
       move (BeginsAccept (put h place r) place r l at (found here r) e q free)
-      (from (ap (λ (x : Here). record x { own = Used }) (sym (put_put h place r (accepting_now r l (new_accept line l))))) (accepting_walks (spent_too here) r l ends k (new_accept line l)))
-  listener_walks r l ends (accepting.Asking op) e q free k = move (Spends _ free) (from (same_accept (record h { own = Used }) place r l (accepting.Asking op) e q) (accepting_walks (spent_too here) r l ends k (accepting.Asking op)))
-  listener_walks r l ends (accepting.Arrived new peer) e q free k = move (Spends _ free) (from (same_accept (record h { own = Used }) place r l (accepting.Arrived new peer) e q) (accepting_walks (spent_too here) r l ends k (accepting.Arrived new peer)))
-  listener_walks r l ends (accepting.Failed c) e q free k = move (Spends _ free) (from (same_accept (record h { own = Used }) place r l (accepting.Failed c) e q) (accepting_walks (spent_too here) r l ends k (accepting.Failed c)))
+      (from (ap (λ (x : Here). record x { own = Used }) (sym (put_put h place r (accepting_now r l (new_accept line l))))) (accepting_walks (spent here) r l ends k (new_accept line l)))
+  listener_walks r l ends (accepting.Asking op) e q free k = move (Spends _ free) (from (same_accept (record h { own = Used }) place r l (accepting.Asking op) e q) (accepting_walks (spent here) r l ends k (accepting.Asking op)))
+  listener_walks r l ends (accepting.Arrived new peer) e q free k = move (Spends _ free) (from (same_accept (record h { own = Used }) place r l (accepting.Arrived new peer) e q) (accepting_walks (spent here) r l ends k (accepting.Arrived new peer)))
+  listener_walks r l ends (accepting.Failed c) e q free k = move (Spends _ free) (from (same_accept (record h { own = Used }) place r l (accepting.Failed c) e q) (accepting_walks (spent here) r l ends k (accepting.Failed c)))
 
 -- what was taken joins the records, with its streams
 abbrev pub joined_if : Here → ℕ → Tcp2Socket → Result (Unit {0}) Stop × Tcp2Socket → Here

@@ -13,20 +13,21 @@ use Rattle.wasi_world.specs.Typed.{told_addr}
 use Rattle.wasi_world.specs.Operation.{Operation, End, Item, poll_asks}
 use Rattle.wasi_world.proofs.Allowed.{Allows}
 use Rattle.wasi_tcp.specs.declared.socket.TcpState.TheVariants as state
-use Rattle.wasi_tcp.specs.Socket.{after_local}
+use Rattle.wasi_tcp.specs.Socket.{side_of, after_local}
 use Rattle.wasi_tcp.specs.Writer.{turn_asks}
 use Rattle.wasi_host.specs.declared.kind.Kind.{Kind}
 use Rattle.wasi_host.specs.declared.kind.Kind.TheVariants.{Tcp2}
 use Rattle.wasi_host.specs.declared.socket.Streams.{Streams}
 use Rattle.wasi_host.specs.declared.socket.Tcp2Socket.{Tcp2Socket}
 use Rattle.wasi_host.specs.Kinds.{make_asks}
-use Rattle.wasi_host.specs.Listening.{give_up_asks}
+use Rattle.wasi_host.specs.declared.listening.Listening.TheVariants.{Not}
+use Rattle.wasi_host.specs.Listening.{give_up_asks, with_listening}
 use Rattle.wasi_host.specs.Machine.{own_of, side_at, create_asks}
 use Rattle.wasi_host.specs.Store.{with_inner, with_writer}
 use Rattle.wasi_run.specs.declared.step.Step.{Step}
 use Rattle.wasi_run.specs.declared.step.Step.TheVariants as step
 use Rattle.wasi_run.specs.Licence.{entry, IsBacklogSet}
-use Rattle.wasi_run.proofs.walks.Moves.{Here, put, Found, Past, Joined, made_so, Held, IsQuestionOf, IsOn, Move, Marks, Creates, Used, Unused}
+use Rattle.wasi_run.proofs.walks.Moves.{Here, put, Found, NoBind, closed_record, Past, Joined, made_so, Held, IsQuestionOf, IsOn, Move, Marks, Creates, Used, Unused}
 use Rattle.wasi_run.proofs.walks.Law.{Law}
 
 -- what two say of a tree
@@ -45,7 +46,8 @@ pub record Above (contexts : List WasiSocketsCtx) (line : ℕ) (origin : Step) (
       → P es (own_of line) (call.SetBacklog side backlog) × ((told : Told) → Fits (call.SetBacklog side backlog) told → Inv (es ++ entry (own_of line) (call.SetBacklog side backlog) told ∷ []) h)
   pub learns : (es : List Entry) (h : Here) (place : ℕ) (r : Tcp2Socket) (side : OpId) → h.at ≡ Some (place, line) → Found h place r → r.inner.state ≡ state.Default side → B es h → Inv es h
       → P es (own_of line) (call.Local side) × ((told : Told) → Fits (call.Local side) told → Inv (es ++ entry (own_of line) (call.Local side) told ∷ []) (put h place (with_inner r (after_local r.inner (told_addr told)).1)))
-  pub closes : (es : List Entry) (h : Here) (op side : OpId) → B es h → Inv es h → P es op (call.Close side) × ((told : Told) → Fits (call.Close side) told → Inv (es ++ entry op (call.Close side) told ∷ []) h)
+  pub closes : (es : List Entry) (h : Here) (place : ℕ) (r : Tcp2Socket) (side : OpId) → NoBind h → Found h place r → side_of r.inner ≡ Some side → B es h → Inv es h
+      → P es (own_of line) (call.Close side) × ((told : Told) → Fits (call.Close side) told → Inv (es ++ entry (own_of line) (call.Close side) told ∷ []) (put h place (closed_record r)))
   pub marks : (es : List Entry) (h : Here) (kind : Kind) (parent : Option ℕ) (sock : Option OpId) → Marks origin h kind parent sock → B es h → Inv es h
       → Allows P (λ fs made. Inv fs (record h { machine = record h.machine { table = made.1 } })) es (make_asks h.machine.table (own_of line) kind parent sock)
   pub creates : (es : List Entry) (h : Here) (ctx : WasiSocketsCtx) (family : SocketAddressFamily) → Creates contexts ctx family origin → h.at ≡ None → h.own ≡ Unused → h.made ≡ Past → B es h → Inv es h
@@ -54,7 +56,7 @@ pub record Above (contexts : List WasiSocketsCtx) (line : ℕ) (origin : Step) (
       → Allows P (λ fs made. Inv fs (record h { machine = record h.machine { table = made.1 }; made = made_so place made.0 })) es (make_asks h.machine.table (own_of line) (Tcp2 place) (Some listener) (side_at (slice_get h.machine.store.sockets place)))
   pub polls : (es : List Entry) (h : Here) (op : Operation) (after : End × List Item → Here) → Held h op after → B es h → Inv es h → Allows P (λ fs ended. Inv fs (after ended)) es (poll_asks op)
   pub turns : (es : List Entry) (h : Here) (place : ℕ) (r : Tcp2Socket) (s : Streams) → Found h place r → r.streams ≡ Some s → B es h → Inv es h → Allows P (λ fs done. Inv fs (put h place (with_writer r s done.1))) es (turn_asks s.writer)
-  pub gives_up : (es : List Entry) (h : Here) (place : ℕ) (r : Tcp2Socket) → Found h place r → B es h → Inv es h → Allows P (λ fs done. Inv fs h) es (give_up_asks r.listening)
+  pub gives_up : (es : List Entry) (h : Here) (place : ℕ) (r : Tcp2Socket) → NoBind h → Found h place r → B es h → Inv es h → Allows P (λ fs done. Inv fs (put h place (with_listening r Not))) es (give_up_asks r.listening)
 
 -- the two as one law
 unfoldable pub stand : {contexts : List WasiSocketsCtx} {line : ℕ} {origin : Step} (base : Law contexts line origin) → Above contexts line origin base.Inv → Law contexts line origin
@@ -65,11 +67,11 @@ stand base a = record {
   asks = λ es h place n r side c at g o q i. let x = base.asks es h place n r side c at g o q i.0 in let y = a.asks es h place n r side c at g o q i.0 i.1 in (y.0, λ told f. (x.1 told f, y.1 told f));
   sets = λ es h place r side b at g s is i. let x = base.sets es h place r side b at g s is i.0 in let y = a.sets es h place r side b at g s is i.0 i.1 in (y.0, λ told f. (x.1 told f, y.1 told f));
   learns = λ es h place r side at g e i. let x = base.learns es h place r side at g e i.0 in let y = a.learns es h place r side at g e i.0 i.1 in (y.0, λ told f. (x.1 told f, y.1 told f));
-  closes = λ es h op side i. let x = base.closes es h op side i.0 in let y = a.closes es h op side i.0 i.1 in (y.0, λ told f. (x.1 told f, y.1 told f));
+  closes = λ es h place r side q g e i. let x = base.closes es h place r side q g e i.0 in let y = a.closes es h place r side q g e i.0 i.1 in (y.0, λ told f. (x.1 told f, y.1 told f));
   marks = λ es h kind parent sock m i. both a.P base.P _ _ es _ (a.marks es h kind parent sock m i.0 i.1) (base.marks es h kind parent sock m i.0);
   creates = λ es h ctx family c t o m i. both a.P base.P _ _ es _ (a.creates es h ctx family c t o m i.0 i.1) (base.creates es h ctx family c t o m i.0);
   accepted = λ es h c listener place r is e o g i. both a.P base.P _ _ es _ (a.accepted es h c listener place r is e o g i.0 i.1) (base.accepted es h c listener place r is e o g i.0);
   polls = λ es h op after k i. both a.P base.P _ _ es _ (a.polls es h op after k i.0 i.1) (base.polls es h op after k i.0);
   turns = λ es h place r s g e i. both a.P base.P _ _ es _ (a.turns es h place r s g e i.0 i.1) (base.turns es h place r s g e i.0);
-  gives_up = λ es h place r g i. both a.P base.P _ _ es _ (a.gives_up es h place r g i.0 i.1) (base.gives_up es h place r g i.0);
+  gives_up = λ es h place r q g i. both a.P base.P _ _ es _ (a.gives_up es h place r q g i.0 i.1) (base.gives_up es h place r q g i.0);
 }

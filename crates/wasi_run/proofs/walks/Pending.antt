@@ -10,6 +10,7 @@ use Rattle.wasi_host.specs.declared.pending.Outcome.{Outcome}
 use Rattle.wasi_host.specs.Listening.{listen_answered}
 use Rattle.wasi_host.specs.declared.machine.Machine.{Machine}
 use Rattle.wasi_host.specs.declared.socket.Tcp2Socket.{Tcp2Socket}
+use Rattle.wasi_host.specs.declared.store.StandingCall.TheVariants as standing
 use Rattle.wasi_host.specs.Host.{Stop}
 use Rattle.wasi_host.specs.Machine.{with_store}
 use Rattle.wasi_host.specs.Pending.{some_answer, waiting_bind, unstood, rebind_at, resume_bind_in, relisten_at, resume_listen_in, waiting_listen, waiting_drop, resume_in}
@@ -54,7 +55,7 @@ module _ {contexts : List WasiSocketsCtx} {line : ℕ} {origin : Step} {law : La
   relisten_walks m n place None g = give _
   relisten_walks m n place (Some r) g =
       let now : Machine = record m { store = unstood m.store } in
-      from (put_same (Over now) place r g) (and_then (poll_listen_walks {h = Over now} {place = place} (there {h = Over now} {place = place} g) r) (answers_listen now n place))
+      from (put_same (Over now) place r g) (and_then (poll_listen_walks {h = Over now} {place = place} (there {h = Over now} {place = place} g) (refl, tt) r) (answers_listen now n place))
 
   some_walks : (m : Machine) (done : Result (Answer (Unit {0})) Stop × Records) → Walks law (Over (record m { store = done.1 })) (λ x. Over (record m { store = x.1 })) (Give (some_answer done))
   some_walks m (Ok answer, store) = give _

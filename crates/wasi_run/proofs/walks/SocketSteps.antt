@@ -27,7 +27,7 @@ use Rattle.wasi_run.specs.Settings.{Chosen, AnOption, TheBacklog}
 use Rattle.wasi_run.specs.declared.step.Step.{Step}
 use Rattle.wasi_run.specs.declared.step.Step.TheVariants as step
 use Rattle.wasi_run.specs.Licence.{Has, handles_of, IsBindTo, IsConnectTo, IsBacklogSet}
-use Rattle.wasi_run.proofs.walks.Moves.{Used, Unused, Here, put, Found, record_of, AStream, Reaches, Leaves, Spends, Changes, Stands, Made, Past, Marks}
+use Rattle.wasi_run.proofs.walks.Moves.{NoBindStands, Used, Unused, Here, put, Found, record_of, AStream, Reaches, Leaves, Spends, Changes, Stands, Made, Past, Marks}
 use Rattle.wasi_run.proofs.walks.Law.{Law, HasRecord, put_same, Walks, Given, give, and_then, and_given, by_if, move, gives, from, mark}
 use Rattle.wasi_run.proofs.walks.Sockets.{Begun, set_walks, begin_bind_walks, begin_connect_walks, poll_connect_walks, local_walks, remote_walks, backlog_walks}
 use Rattle.wasi_run.proofs.walks.Streams.{shut_walks}
@@ -93,13 +93,13 @@ module _ {contexts : List WasiSocketsCtx} {line : ℕ} {origin : Step} {law : La
   pub start_connect_walks : (m : Machine) (s n : ℕ) (a : IpSocketAddress) → Has (handles_of origin) s → IsConnectTo a origin → Walks law (Starts m Unused) OverWith (start_connect_asks m (own_of line) s n a)
   start_connect_walks m s n a named to = by_if (is_network (kind_at m.table n)) (λ yes. start_connect_on_walks m s a (socket_at m s) refl named to) (λ other. gives _ (Spends _ refl))
 
-  finish_by_walks : (m : Machine) (place : ℕ) (r : Tcp2Socket) (its : Bool) → Found (At line m place Unused) place r → Walks law (At line m place Unused) (Put line m place) (finish_connect_by m.store place r its)
-  finish_by_walks m place r true g = from (put_same (At line m place Unused) place r g) (and_then (poll_connect_walks (there g) r) (λ done. gives _ (Spends _ refl)))
-  finish_by_walks m place r false g = gives _ (Spends _ refl)
+  finish_by_walks : (m : Machine) (place : ℕ) (r : Tcp2Socket) (its : Bool) → Found (At line m place Unused) place r → NoBindStands m.store.standing → Walks law (At line m place Unused) (Put line m place) (finish_connect_by m.store place r its)
+  finish_by_walks m place r true g q = from (put_same (At line m place Unused) place r g) (and_then (poll_connect_walks (there g) (refl, q) r) (λ done. gives _ (Spends _ refl)))
+  finish_by_walks m place r false g q = gives _ (Spends _ refl)
 
-  finish_at_walks : (m : Machine) (place : ℕ) (o : Option Tcp2Socket) → slice_get m.store.sockets place ≡ o → Walks law (At line m place Unused) (Put line m place) (finish_connect_at m.store place o)
-  finish_at_walks m place None g = gives _ (Spends _ refl)
-  finish_at_walks m place (Some r) g = finish_by_walks m place r (is_connect r.in_progress) g
+  finish_at_walks : (m : Machine) (place : ℕ) (o : Option Tcp2Socket) → slice_get m.store.sockets place ≡ o → NoBindStands m.store.standing → Walks law (At line m place Unused) (Put line m place) (finish_connect_at m.store place o)
+  finish_at_walks m place None g q = gives _ (Spends _ refl)
+  finish_at_walks m place (Some r) g q = finish_by_walks m place r (is_connect r.in_progress) g q
 
   -- the two streams, under a socket's handle, by whatever is known of the table
   module _ (at : Option (ℕ × ℕ)) (made : Made) (s place : ℕ) (m : Machine) (G : Handles → Type 0) (more : (t : Handles) (kind : Kind) → G t → Given (λ x. G x.1) (make_asks t (own_of line) kind (Some s) (side_at (slice_get m.store.sockets place))))
@@ -121,11 +121,11 @@ module _ {contexts : List WasiSocketsCtx} {line : ℕ} {origin : Step} {law : La
       streams_walks (Some (place, line)) Past s place now (λ t. record_of (kind_at t s) ≡ Some place) (λ t kind g. make_given t (own_of line) kind (Some s) (side_at (slice_get store.sockets place)) s place g) (λ t kind which g. AStream c s place kind is which g) k
   connected_walks c s place m (Err why, store) is k = gives _ (Leaves _)
 
-  pub finish_on_walks : (c s : ℕ) (m : Machine) (o : Option ℕ) → socket_at m s ≡ o → Has (handles_of origin) s → origin ≡ step.TcpFinishConnect c s → Walks law (Starts m Unused) OverWith (finish_connect_on m (own_of line) s o)
-  finish_on_walks c s m None e named is = gives _ (Spends _ refl)
-  finish_on_walks c s m (Some place) e named is =
+  pub finish_on_walks : (c s : ℕ) (m : Machine) (o : Option ℕ) → socket_at m s ≡ o → Has (handles_of origin) s → origin ≡ step.TcpFinishConnect c s → NoBindStands m.store.standing → Walks law (Starts m Unused) OverWith (finish_connect_on m (own_of line) s o)
+  finish_on_walks c s m None e named is q = gives _ (Spends _ refl)
+  finish_on_walks c s m (Some place) e named is q =
       let k = socket_record (kind_at m.table s) place e in
-      move (Reaches _ s place named k) (and_then (finish_at_walks m place (slice_get m.store.sockets place) refl) (λ done. connected_walks c s place m done is k))
+      move (Reaches _ s place named k) (and_then (finish_at_walks m place (slice_get m.store.sockets place) refl q) (λ done. connected_walks c s place m done is k))
 
   -- == the addresses, and what is finished
   puts_back : {T : Type 0} (m : Machine) (place : ℕ) (r : Tcp2Socket) (call : Asks (Result T ErrorCode × Tcp2Socket)) → Found (At line m place Unused) place r → Walks law (put (At line m place Unused) place r) (λ done. put (At line m place Unused) place done.1) call

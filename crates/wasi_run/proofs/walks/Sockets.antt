@@ -26,6 +26,8 @@ use Rattle.wasi_tcp.specs.Halves.{taken_receive, taken_send, take_receive}
 use Rattle.wasi_tcp.specs.Options.{get_where, get_option_asks, zero_test, refused_before, refused_after, value_set, set_where, set_option_asks, with_backlog, after_backlog, set_backlog_in, set_backlog_asks}
 use Rattle.wasi_tcp.specs.Shape.{Socket}
 use Rattle.wasi_tcp.specs.Socket.{side_in, side_of, after_local, ask_bound, bound_asks, bind_allowed, bind_asks}
+use Rattle.wasi_tcp.specs.Writer.{begun}
+use Rattle.wasi_host.specs.declared.listening.Listening.{Listening}
 use Rattle.wasi_host.specs.declared.socket.InProgress.{InProgress}
 use Rattle.wasi_host.specs.declared.socket.InProgress.TheVariants as doing
 use Rattle.wasi_host.specs.declared.socket.Tcp2Socket.{Tcp2Socket}
@@ -33,8 +35,8 @@ use Rattle.wasi_host.specs.Machine.{own_of}
 use Rattle.wasi_host.specs.Store.{with_inner, left_of, bind_ended, poll_bind_asks, bind_begun, begin_bind_asks, connect_begun, begin_connect_asks, idle, tell_local_asks, tell_remote_asks, opened_send, opened_receive, connect_polled, poll_connect_asks}
 use Rattle.wasi_run.specs.declared.step.Step.{Step}
 use Rattle.wasi_run.specs.Licence.{IsBindTo, IsConnectTo, IsBacklogSet}
-use Rattle.wasi_run.proofs.walks.Moves.{Used, Unused, Here, put, opened_by, Reconnects, Opens, BeginsConnect, OfSocket, Plain, Move, Spends, Changes, BeginsBind, Ends}
-use Rattle.wasi_run.proofs.walks.Law.{Law, HasRecord, put_put, Given, Walks, give, and_then, and_given, connect, by_if, move, gives, from, poll, found, on, ask, learn, set}
+use Rattle.wasi_run.proofs.walks.Moves.{NoBind, Used, Unused, Here, put, opened_by, Reconnects, Opens, BeginsConnect, OfSocket, Plain, Move, Spends, Changes, BeginsBind, Ends}
+use Rattle.wasi_run.proofs.walks.Law.{Law, HasRecord, spent, put_put, Given, Walks, give, and_then, and_given, connect, by_if, move, gives, from, poll, found, on, ask, learn, set}
 
 -- what a call on the record's socket, its reader or its writer leaves
 abbrev pub Inner : {A : Type 0} → Here → ℕ → Tcp2Socket → A × Socket → Here
@@ -106,9 +108,9 @@ abbrev pub In : Here → ℕ → Tcp2Socket → Socket → TcpState → Here
 In h place r socket s = put h place (with_inner r (with_state socket s))
 
 -- a poll of a connect asks by the line that began it
-module _ {contexts : List WasiSocketsCtx} {line : ℕ} {origin : Step} {law : Law contexts line origin} {h : Here} {place : ℕ} (here : HasRecord h place) where
+module _ {contexts : List WasiSocketsCtx} {line : ℕ} {origin : Step} {law : Law contexts line origin} {h : Here} {place : ℕ} (here : HasRecord h place) (quiet : NoBind h) where
   finish_in_walks : (r : Tcp2Socket) (s : TcpState) → Walks law (In h place r r.inner s) (λ done. In h place r r.inner done.1) (finish_in s)
-  finish_in_walks r (state.Connecting op) = and_then (connect here (with_inner r (with_state r.inner (state.Connecting op))) op refl) (λ ended. give _)
+  finish_in_walks r (state.Connecting op) = and_then (connect here (with_inner r (with_state r.inner (state.Connecting op))) op quiet refl) (λ ended. give _)
   finish_in_walks r (state.Default side) = give _
   finish_in_walks r (state.Listening side) = give _
   finish_in_walks r (state.Connected c) = give _
@@ -266,11 +268,8 @@ module _ {contexts : List WasiSocketsCtx} {line : ℕ} {origin : Step} {law : La
   pub begin_connect_walks : (r : Tcp2Socket) (a : IpSocketAddress) → IsConnectTo a origin → h.own ≡ Unused → Walks law (put h place r) (λ done. record (put h place done.1) { own = Used }) (begin_connect_asks (own_of line) r a)
   begin_connect_walks r a to free = and_then (start_connect_walks r a r.inner.state refl to free) begun
     where
-      spent : HasRecord (record h { own = Used }) place
-      spent = record { was = here.was; found = here.found }
-
       begun : (done : Result (Unit {0}) ErrorCode × Socket) → Walks law (Spent h place r done) (λ d. record (put h place d.1) { own = Used }) (Give (connect_begun r done))
-      begun (Ok d, socket) = on spent (with_inner r socket) _ (Changes _ _ _ _ (found spent (with_inner r socket)) (record { side = refl; streams = refl; listening = refl; does = refl; maker = refl; family = refl; bound = λ side d b. b })) (give _)
+      begun (Ok d, socket) = on (spent here) (with_inner r socket) _ (Changes _ _ _ _ (found (spent here) (with_inner r socket)) (record { side = refl; streams = refl; listening = refl; does = refl; maker = refl; family = refl; bound = λ side d b. b })) (give _)
       begun (Err c, socket) = give _
 
   pub local_walks : (r : Tcp2Socket) → Walks law (put h place r) (λ done. put h place done.1) (tell_local_asks (own_of line) r)

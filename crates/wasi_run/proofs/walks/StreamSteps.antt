@@ -13,6 +13,7 @@ use Rattle.wasi_tcp.specs.Listener.{ready_end}
 use Rattle.wasi_tcp.specs.declared.reader.ReadState.{ReadState}
 use Rattle.wasi_tcp.specs.declared.writer.WriteState.{WriteState}
 use Rattle.wasi_tcp.specs.Closing.{close_in}
+use Rattle.wasi_tcp.specs.Shape.{Socket}
 use Rattle.wasi_tcp.specs.Socket.{side_of}
 use Rattle.wasi_tcp.specs.Writer.{write_state_asks}
 use Rattle.wasi_host.specs.declared.listening.Listening.TheVariants.{Not, Begins, Accepts, Unclosed}
@@ -38,8 +39,8 @@ use Rattle.wasi_run.specs.declared.step.Step.{Step}
 use Rattle.wasi_run.specs.declared.step.Step.TheVariants as step
 use Rattle.wasi_run.specs.Licence.{Has, handles_of}
 use Rattle.wasi_run.proofs.walks.Writes.{may_of, may_in, may_at, may}
-use Rattle.wasi_run.proofs.walks.Moves.{Own, Used, Unused, Here, put, WasClosed, HadNone, record_of, MarksError, AnError, Reaches, Leaves, Spends, IsGone, Lists, Takes, Past, Unstands, StandsDrop, APollable}
-use Rattle.wasi_run.proofs.walks.Law.{Law, HasRecord, put_same, Walks, give, and_then, move, gives, from, ends, close, mark, found, on, turn, give_up, and_so}
+use Rattle.wasi_run.proofs.walks.Moves.{NoBind, NoBindStands, Own, Used, Unused, Here, put, record_of, MarksError, AnError, Reaches, Leaves, Spends, IsGone, Lists, Takes, Past, Unstands, StandsDrop, APollable}
+use Rattle.wasi_run.proofs.walks.Law.{Law, HasRecord, put_same, Walks, give, and_then, move, gives, from, ends, close, mark, found, on, turn, give_up, and_so, accept}
 use Rattle.wasi_run.proofs.walks.Streams.{Reading, Writing, reader_up_walks, writer_up_walks, write_walks, look_walks, reader_ready_walks}
 use Rattle.wasi_run.proofs.walks.Listeners.{listener_walks}
 use Rattle.wasi_run.proofs.walks.Sockets.{finish_walks}
@@ -102,7 +103,7 @@ module _ {contexts : List WasiSocketsCtx} {line : ℕ} {origin : Step} {law : La
       (λ done. noted_walks m place done (begins_job o (slice_get done.1.sockets place)))) (λ done. converted_walks m handle place done marks (k place refl)))
 
   -- == a drop
-  module _ {h : Here} {place : ℕ} (here : HasRecord h place) (at : h.at ≡ Some (place, line)) where
+  module _ {h : Here} {place : ℕ} (here : HasRecord h place) (at : h.at ≡ Some (place, line)) (quiet : NoBind h) where
     given_up_walks : (r : Tcp2Socket) (o : Option Streams) → r.streams ≡ o → Walks law (put h place r) (λ done. put h place r) (give_streams_up (own_of line) o)
     given_up_walks r None e = give _
     given_up_walks r (Some s) e =
@@ -110,15 +111,15 @@ module _ {contexts : List WasiSocketsCtx} {line : ℕ} {origin : Step} {law : La
 
     closes_walks : (r : Tcp2Socket) (o : Option OpId) → side_of r.inner ≡ o → Walks law (put h place r) (λ done. put h place (gone r done.1)) (close_in (own_of line) r.inner o)
     unfolding bind
-    closes_walks r None e = on here r _ (IsGone _ _ _ _ (found here r) (HadNone e)) (give _)
-    closes_walks r (Some side) e = close (λ told. on here r _ (IsGone _ _ _ _ (found here r) WasClosed) (give _))
+    closes_walks r None e = on here r _ (IsGone _ _ _ (found here r) e) (give _)
+    closes_walks r (Some side) e = close here r quiet e (λ told. give _)
 
     release_walks : (r : Tcp2Socket) → Walks law (put h place r) (λ done. put h place done.1) (release_asks (own_of line) r)
-    release_walks r = and_then (give_up here r) (λ done. and_then (given_up_walks r r.streams refl) (λ done. and_then (closes_walks r (side_of r.inner) refl) (λ done. give _)))
+    release_walks r = let now = with_listening r Not in and_then (give_up here r quiet) (λ done. and_then (given_up_walks now r.streams refl) (λ done. and_then (closes_walks now (side_of r.inner) refl) (λ done. give _)))
 
-  release_at_walks : (m : Machine) (place : ℕ) (o : Option Tcp2Socket) → slice_get m.store.sockets place ≡ o → Walks law (At line m place Unused) (Put line m place) (release_at m.store (own_of line) place o)
-  release_at_walks m place None g = gives _ (Spends _ refl)
-  release_at_walks m place (Some r) g = from (put_same (At line m place Unused) place r g) (and_then (release_walks (there g) refl r) (λ done. move (Spends _ refl) (gives _ (Lists _ _))))
+  release_at_walks : (m : Machine) (place : ℕ) (o : Option Tcp2Socket) → slice_get m.store.sockets place ≡ o → NoBindStands m.store.standing → Walks law (At line m place Unused) (Put line m place) (release_at m.store (own_of line) place o)
+  release_at_walks m place None g q = gives _ (Spends _ refl)
+  release_at_walks m place (Some r) g q = from (put_same (At line m place Unused) place r g) (and_then (release_walks (there g) refl (refl, q) r) (λ done. move (Spends _ refl) (gives _ (Lists _ _))))
 
   -- a drop that waits: one look by the line that dropped it
   module _ (n place : ℕ) where
@@ -136,23 +137,23 @@ module _ {contexts : List WasiSocketsCtx} {line : ℕ} {origin : Step} {law : La
     drop_output_walks m (Some r) g =
         from (put_same (At n m place Used) place r g) (and_so (wait_put m.store place) (λ done. Give (waited n place done)) (wait_walks m r (there g) r.streams refl) (stands_or m r (there g)))
 
-  dropped_walks : (m : Machine) (this : ℕ) (kind : Kind) (b : Bool) → Has (handles_of origin) this → kind_at m.table this ≡ Some kind
+  dropped_walks : (m : Machine) (this : ℕ) (kind : Kind) (b : Bool) → Has (handles_of origin) this → kind_at m.table this ≡ Some kind → NoBindStands m.store.standing
       → Walks law (Starts m Unused) OverWith (drop_taken m (own_of line) (if b then (Ok kind, without_handle m.table this) else (Err (Trap HasChildren), m.table)))
-  dropped_walks m this kind false named e = gives _ (Spends _ refl)
-  dropped_walks m this (Tcp2 place) true named e =
+  dropped_walks m this kind false named e q = gives _ (Spends _ refl)
+  dropped_walks m this (Tcp2 place) true named e q =
       let now : Machine = record m { table = without_handle m.table this } in
-      move (Reaches _ this place named (ap record_of e)) (move (Takes _ this) (and_then (release_at_walks now place (slice_get m.store.sockets place) refl) (λ done. gives _ (Leaves _))))
-  dropped_walks m this Network true named e = move (Takes _ this) (gives _ (Spends _ refl))
-  dropped_walks m this (Input place) true named e = move (Takes _ this) (gives _ (Spends _ refl))
-  dropped_walks m this (Output place) true named e =
+      move (Reaches _ this place named (ap record_of e)) (move (Takes _ this) (and_then (release_at_walks now place (slice_get m.store.sockets place) refl q) (λ done. gives _ (Leaves _))))
+  dropped_walks m this Network true named e q = move (Takes _ this) (gives _ (Spends _ refl))
+  dropped_walks m this (Input place) true named e q = move (Takes _ this) (gives _ (Spends _ refl))
+  dropped_walks m this (Output place) true named e q =
       let now : Machine = record m { table = without_handle m.table this } in
       move (Reaches _ this place named (ap record_of e)) (move (Takes _ this) (move (Spends _ refl) (and_then (drop_output_walks line place now (slice_get m.store.sockets place) refl) (λ done. gives _ (Leaves _)))))
-  dropped_walks m this (Pollable w) true named e = move (Takes _ this) (gives _ (Spends _ refl))
-  dropped_walks m this ErrorValue true named e = move (Takes _ this) (gives _ (Spends _ refl))
+  dropped_walks m this (Pollable w) true named e q = move (Takes _ this) (gives _ (Spends _ refl))
+  dropped_walks m this ErrorValue true named e q = move (Takes _ this) (gives _ (Spends _ refl))
 
-  pub drop_walks : (m : Machine) (this : ℕ) (k : Option Kind) → Has (handles_of origin) this → kind_at m.table this ≡ k → Walks law (Starts m Unused) OverWith (drop_taken m (own_of line) (taken_out m.table this k))
-  drop_walks m this None named e = gives _ (Spends _ refl)
-  drop_walks m this (Some kind) named e = dropped_walks m this kind (has_no_child m.table this) named e
+  pub drop_walks : (m : Machine) (this : ℕ) (k : Option Kind) → Has (handles_of origin) this → kind_at m.table this ≡ k → NoBindStands m.store.standing → Walks law (Starts m Unused) OverWith (drop_taken m (own_of line) (taken_out m.table this k))
+  drop_walks m this None named e q = gives _ (Spends _ refl)
+  drop_walks m this (Some kind) named e q = dropped_walks m this kind (has_no_child m.table this) named e q
 
   -- == a turn
   turned_walks : {h : Here} {place : ℕ} (here : HasRecord h place) (r : Tcp2Socket) (o : Option Streams) → r.streams ≡ o → Walks law (put h place r) (λ now. put h place now) (turned r o)
@@ -175,7 +176,7 @@ module _ {contexts : List WasiSocketsCtx} {line : ℕ} {origin : Step} {law : La
   subscribe_walks c s m None e is = gives _ (Spends _ refl)
   subscribe_walks c s m (Some w) e is = move (Spends _ refl) (and_then (mark (APollable c s w is (watched_record (kind_at m.table s) w e))) (λ made. give _))
 
-  module _ {h : Here} {place : ℕ} (here : HasRecord h place) (at : h.at ≡ Some (place, line)) (free : h.own ≡ Unused) where
+  module _ {h : Here} {place : ℕ} (here : HasRecord h place) (at : h.at ≡ Some (place, line)) (free : h.own ≡ Unused) (quiet : NoBind h) where
     ready_listening_walks : (r : Tcp2Socket) (l : Listening) → r.listening ≡ l → Walks law (put h place r) (λ done. record (put h place done.1) { own = Used }) (ready_listening (first_ids line) r l)
     ready_listening_walks r (Accepts l) e = and_then {mid = λ done. record (put h place (with_listening r (Accepts done.1))) { own = Used }} (listener_walks here at r l (ready_end l) l.accept e refl free (λ now. give _)) (λ done. give _)
     ready_listening_walks r Not e = gives _ (Spends _ free)
@@ -187,7 +188,7 @@ module _ {contexts : List WasiSocketsCtx} {line : ℕ} {origin : Step} {law : La
     ready_idle_walks r false = gives _ (Spends _ free)
 
     ready_socket_walks : (r : Tcp2Socket) (connects : Bool) → Walks law (put h place r) (λ done. record (put h place done.1) { own = Used }) (ready_socket_by (first_ids line) r connects)
-    ready_socket_walks r true = and_then (finish_walks here r) (λ done. gives _ (Spends _ free))
+    ready_socket_walks r true = and_then (finish_walks here quiet r) (λ done. gives _ (Spends _ free))
     ready_socket_walks r false = ready_idle_walks r (is_nothing r.in_progress)
 
     ready_reader_walks : (r : Tcp2Socket) (o : Option Streams) → r.streams ≡ o → Walks law (put h place r) (λ done. record (put h place done.1) { own = Used }) (ready_reader (own_of line) r o)
@@ -203,10 +204,10 @@ module _ {contexts : List WasiSocketsCtx} {line : ℕ} {origin : Step} {law : La
     ready_record_walks (watched.Input n) r = ready_reader_walks r r.streams refl
     ready_record_walks (watched.Output n) r = ready_writer_walks r r.streams refl
 
-  ready_at_walks : (m : Machine) (place : ℕ) (w : Watched) (o : Option Tcp2Socket) → slice_get m.store.sockets place ≡ o → Walks law (At line m place Unused) (Put line m place) (ready_at m.store (own_of line) (first_ids line) w place o)
-  ready_at_walks m place w None g = gives _ (Spends _ refl)
-  ready_at_walks m place w (Some r) g = from (put_same (At line m place Unused) place r g) (and_then (ready_record_walks (there g) refl refl w r) (λ done. give _))
+  ready_at_walks : (m : Machine) (place : ℕ) (w : Watched) (o : Option Tcp2Socket) → slice_get m.store.sockets place ≡ o → NoBindStands m.store.standing → Walks law (At line m place Unused) (Put line m place) (ready_at m.store (own_of line) (first_ids line) w place o)
+  ready_at_walks m place w None g q = gives _ (Spends _ refl)
+  ready_at_walks m place w (Some r) g q = from (put_same (At line m place Unused) place r g) (and_then (ready_record_walks (there g) refl refl (refl, q) w r) (λ done. give _))
 
-  pub ready_walks : (m : Machine) (p : ℕ) (o : Option Watched) → watch_of (kind_at m.table p) ≡ o → Has (handles_of origin) p → Walks law (Starts m Unused) OverWith (ready_on m (first_ids line) o)
-  ready_walks m p None e named = gives _ (Spends _ refl)
-  ready_walks m p (Some w) e named = move (Reaches _ p (place_in w) named (watch_record (kind_at m.table p) w e)) (and_then (ready_at_walks m (place_in w) w (slice_get m.store.sockets (place_in w)) refl) (λ done. gives _ (Leaves _)))
+  pub ready_walks : (m : Machine) (p : ℕ) (o : Option Watched) → watch_of (kind_at m.table p) ≡ o → Has (handles_of origin) p → NoBindStands m.store.standing → Walks law (Starts m Unused) OverWith (ready_on m (first_ids line) o)
+  ready_walks m p None e named q = gives _ (Spends _ refl)
+  ready_walks m p (Some w) e named q = move (Reaches _ p (place_in w) named (watch_record (kind_at m.table p) w e)) (and_then (ready_at_walks m (place_in w) w (slice_get m.store.sockets (place_in w)) refl q) (λ done. gives _ (Leaves _)))

@@ -32,7 +32,7 @@ use Rattle.wasi_host.specs.Store.{with_reader, with_writer}
 use Rattle.wasi_run.specs.declared.step.Step.{Step}
 use Rattle.wasi_run.proofs.walks.Writes.{may_begin}
 use Rattle.wasi_run.proofs.walks.Moves.{Own, Used, Unused, ToWrite, Here, put, OfReader, OfWriter, Collects, Permits, Lasts, LastsAfter, Closes, Spends, ClosesReader, Writes, BeginsWrite}
-use Rattle.wasi_run.proofs.walks.Law.{Law, HasRecord, put_put, Walks, give, and_then, by_if, move, gives, from, found, on, ask, turn}
+use Rattle.wasi_run.proofs.walks.Law.{Law, HasRecord, spent, put_put, Walks, give, and_then, by_if, move, gives, from, found, on, ask, turn}
 
 -- what a call on the record's socket, its reader or its writer leaves
 abbrev pub Reading : {A : Type 0} → Here → ℕ → Tcp2Socket → Streams → A × ReadState → Here
@@ -132,9 +132,6 @@ module _ {contexts : List WasiSocketsCtx} {line : ℕ} {origin : Step} {law : La
   reader_ready_walks r s reading.Closed = give _
 
 -- == a write, which may begin a job
-spent_there : {h : Here} {place : ℕ} → HasRecord h place → HasRecord (record h { own = Used }) place
-spent_there here = record { was = here.was; found = here.found }
-
 -- after it the line's operation begins nothing more
 abbrev pub Wrote : {A : Type 0} → Here → ℕ → Tcp2Socket → Streams → A × WriteState → Here
 Wrote h place r s done = record (put h place (with_writer r s done.1)) { own = Used }
@@ -155,7 +152,7 @@ module _ {contexts : List WasiSocketsCtx} {line : ℕ} {origin : Step} {law : La
       let old : Tcp2Socket = with_writer r s (writing.Ready half permit) in
       let begun : Tcp2Socket = with_writer r s (writing.Writing (new_job (own_of line) half.side (b ∷ bytes))) in
       move (BeginsWrite (put h place old) place old (record s { writer = writing.Ready half permit }) half permit (b ∷ bytes) at (found here old) refl refl t free)
-      (from (ap (λ (x : Here). record x { own = Used }) (sym (put_put h place old begun))) (write_on_walks (spent_there here) at r s (writing.Writing (new_job (own_of line) half.side (b ∷ bytes)))))
+      (from (ap (λ (x : Here). record x { own = Used }) (sym (put_put h place old begun))) (write_on_walks (spent here) at r s (writing.Writing (new_job (own_of line) half.side (b ∷ bytes)))))
 
   pub write_walks : (r : Tcp2Socket) (s : Streams) (w : WriteState) (bytes : List ℕ) → h.own ≡ may_begin w bytes → Walks law (put h place (with_writer r s w)) (Wrote h place r s) (write_state_asks (own_of line) w bytes)
   write_walks r s (writing.Ready half permit) [] free = gives _ (Spends _ free)

@@ -1,0 +1,5 @@
+-- What is asked of a socket is asked while it is open.
+pub mod Grown
+pub mod Polls
+pub mod Law
+pub mod Runs
