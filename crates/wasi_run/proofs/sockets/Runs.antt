@@ -21,7 +21,8 @@ use Rattle.wasi_run.proofs.walks.Steps.{may_while, machine_walks}
 use Rattle.wasi_run.proofs.walks.Runs.{each_entry}
 use Rattle.wasi_run.proofs.claims.Lines.{BaseBetween, first_base, base_starts, base_over}
 use Rattle.wasi_run.proofs.sockets.Polls.{AskedOpen}
-use Rattle.wasi_run.proofs.sockets.Law.{Opened, sockets_along}
+use Rattle.wasi_run.proofs.sockets.Opened.{Opened}
+use Rattle.wasi_run.proofs.sockets.Law.{sockets_along}
 
 -- Before the line of this number.
 record Between (line : ℕ) (es : List Entry) (m : Machine) : Type 0 where
