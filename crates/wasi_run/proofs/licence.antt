@@ -14,6 +14,12 @@ pub mod Longer
 pub mod Licensed
 pub mod Fresh
 pub mod Locals
+pub mod Line
+pub mod Moves
+pub mod Asked
+pub mod Marks
+pub mod Created
+pub mod GoesOn
 pub mod Law
 pub mod Runs
 pub mod Beginnings

@@ -8,6 +8,7 @@ pub mod Quiet
 pub mod Standing
 pub mod Accepted
 pub mod Listening
+pub mod Agreeing
 pub mod Law
 pub mod All
 pub mod Steps

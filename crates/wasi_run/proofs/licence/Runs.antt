@@ -22,7 +22,8 @@ use Rattle.wasi_run.proofs.licence.Fresh.{next_is_new}
 use Rattle.wasi_run.proofs.licence.Licensed.{EachMayCome, licensed, may_come, come_longer}
 use Rattle.wasi_run.proofs.Lists.{get_seam}
 use Rattle.wasi_run.proofs.licence.Longer.{may_more, state_more, listen_more}
-use Rattle.wasi_run.proofs.licence.Law.{ListenGoesOn, calm, licence_along}
+use Rattle.wasi_run.proofs.licence.Line.{ListenGoesOn, calm}
+use Rattle.wasi_run.proofs.licence.Law.{licence_along}
 use Rattle.wasi_run.proofs.walks.Steps.{may_while, machine_walks}
 use Rattle.wasi_run.proofs.claims.Lines.{BaseBetween, first_base, base_starts, base_over}
 

@@ -10,33 +10,33 @@ use Rattle.wasi_world.proofs.Allowed.{reached}
 use Rattle.wasi_streams.specs.StreamStop.{StreamStop}
 use Rattle.wasi_streams.specs.StreamStop as stop
 use Rattle.wasi_streams.specs.Table.{is_full}
-use Rattle.wasi_host.specs.declared.kind.Kind.TheVariants.{ErrorValue}
-use Rattle.wasi_host.specs.Kinds.{make_asks}
-use Rattle.wasi_tcp.specs.Socket.{side_of}
+use Rattle.wasi_tcp.specs.Socket.{side_of, side_in}
 use Rattle.wasi_tcp.specs.declared.writer.WriteState.{WriteState}
 use Rattle.wasi_tcp.specs.declared.writer.WriteState.TheVariants as writing
-use Rattle.wasi_tcp.specs.Socket.{side_in}
 use Rattle.wasi_tcp.specs.Job.{Job}
 use Rattle.wasi_tcp.specs.Writer.{writing_side, closing_side, writer_side, check_write_asks}
 use Rattle.wasi_tcp.specs.Taken.{taken_in, IsFrontOf}
+use Rattle.wasi_host.specs.declared.kind.Kind.TheVariants.{ErrorValue}
+use Rattle.wasi_host.specs.Kinds.{make_asks}
 use Rattle.wasi_host.specs.declared.machine.Machine.{Machine}
-use Rattle.wasi_run.specs.declared.reply.Reply.{Reply}
-use Rattle.wasi_run.specs.declared.reply.Reply.TheVariants as reply
 use Rattle.wasi_host.specs.declared.socket.Streams.{Streams}
 use Rattle.wasi_host.specs.declared.socket.Tcp2Socket.{Tcp2Socket}
-use Rattle.wasi_run.specs.declared.step.Step.TheVariants as step
 use Rattle.wasi_host.specs.declared.store.Standing.{Standing}
 use Rattle.wasi_host.specs.Host.{CallStop, Failed, Closed, Traps}
-use Rattle.wasi_run.specs.Reply.{number_fields}
 use Rattle.wasi_host.specs.Store.{writer_of, writer_asks, stream_at}
 use Rattle.wasi_host.specs.Machine.{with_store, output_at, own_of, side_at}
 use Rattle.wasi_host.specs.StreamCalls.{convert_asks, converted, stream_on, check_asks}
+use Rattle.wasi_run.specs.declared.reply.Reply.{Reply}
+use Rattle.wasi_run.specs.declared.reply.Reply.TheVariants as reply
+use Rattle.wasi_run.specs.declared.step.Step.TheVariants as step
+use Rattle.wasi_run.specs.Reply.{number_fields}
 use Rattle.wasi_run.specs.Machine.{permit_reply, machine_asks}
 use Rattle.wasi_run.specs.Answered.{record_in, Answered}
 use Rattle.wasi_run.specs.Permitted.{writer_in, writer_of_record, WritesTo}
 use Rattle.wasi_run.proofs.permits.Polls.{Quiet, quiet_then, quiet_if}
 use Rattle.wasi_run.proofs.permits.Records.{WriterIs, Agree}
-use Rattle.wasi_run.proofs.permits.Law.{Agreeing, some_side}
+use Rattle.wasi_run.proofs.permits.Agreeing.{Agreeing}
+use Rattle.wasi_run.proofs.permits.Law.{some_side}
 use Rattle.wasi_run.proofs.permits.Writer.{SaysAll, Checked, quiet_check}
 use Rattle.wasi_run.proofs.permits.Taken.{Fronts, quiet_keep}
 

@@ -23,7 +23,8 @@ use Rattle.wasi_run.specs.declared.step.Step.TheVariants as step
 use Rattle.wasi_run.specs.Machine.{machine_asks}
 use Rattle.wasi_run.specs.Reply.{number_fields}
 use Rattle.wasi_run.proofs.permits.Standing.{StandsQuietly}
-use Rattle.wasi_run.proofs.permits.Law.{Owes, Agreeing, permits_along}
+use Rattle.wasi_run.proofs.permits.Agreeing.{Agreeing}
+use Rattle.wasi_run.proofs.permits.Law.{Owes, permits_along}
 use Rattle.wasi_run.proofs.walks.Moves.{Own, Used, Unused, ToWrite}
 use Rattle.wasi_run.proofs.walks.Writes.{may_begin, may_of, may_in, may_at, may, let_write}
 use Rattle.wasi_run.proofs.walks.Steps.{may_while, machine_walks}
