@@ -54,7 +54,7 @@ use Rattle.wasi_run.proofs.licence.State.{accept_name, name_in}
 use Rattle.wasi_run.proofs.walks.OnBase.{Above}
 use Rattle.wasi_run.proofs.claims.Law.{Named, Base, on_names, on_along, fresh, taken_fresh}
 use Rattle.wasi_run.proofs.permits.Accepted.{taken_stands}
-use Rattle.wasi_run.proofs.permits.Listening.{Listens as ListensOf, over, polled, begun, plain_listen}
+use Rattle.wasi_run.proofs.permits.Listening.{StaysBare, over, polled, begun, plain_listen}
 use Rattle.wasi_run.proofs.walks.Moves.{Held, InHand, Connects, Own, Used, Unused, ToWrite, Here, put, Found, IsQuestionOf, WriterMoves, Collects, Permits, Lasts, LastsAfter, Closes, Move, Reaches, Leaves, Spends, Changes, ClosesReader, Writes, IsGone, opened_by, Reconnects, Opens, BeginsConnect, BeginsBind, BeginsWrite, Stands, Resumes, Ends, Lists, Takes, BeginsListen, BeginsAccept, Unlistens, Forgets, Watches, Joins, StandsListen, StandsDrop, ResumesDrop, Unstands, Listens, Awaits, listen_after, accepting_now, beginning_listen, new_accept, joined, made_so}
 use Rattle.wasi_run.proofs.fits.Law.{told_same}
 use Rattle.wasi_run.proofs.permits.Polls.{NoWrite, Quiet, quiet_if, none_taken, ArePlain, plain_poll}
@@ -211,7 +211,7 @@ module _ (contexts : List WasiSocketsCtx) (line : ℕ) (origin : Step) (side : O
       (λ v. i.stands.lives place r g (v.0, elim v.1 [ inl p ↦ inl (f.side side p) | inr p ↦ inr p ])) i.stands)
 
   -- a listen is polled, or begins
-  listened_kept : (es : List Entry) (h : Here) (place : ℕ) (r now : Tcp2Socket) → Found h place r → now.side ≡ r.side → ListensOf r now → (r.side ≡ Some side → Lives side r) → Permitted es h → Permitted es (put h place now)
+  listened_kept : (es : List Entry) (h : Here) (place : ℕ) (r now : Tcp2Socket) → Found h place r → now.side ≡ r.side → StaysBare r now → (r.side ≡ Some side → Lives side r) → Permitted es h → Permitted es (put h place now)
   listened_kept es h place r now g o k live i =
       records_kept es h (slice_set h.machine.store.sockets place now) i
       (agrees_put side h.machine.store.sockets place r now g o k.stands (taken_in side es) i.held (λ v. subst (Agree (taken_in side es) i.held) (sym k.bare) (subst (Agree (taken_in side es) i.held) k.bare_before (i.stands.lives place r g (live (sym o ∙ v.0))))) i.stands)
@@ -272,11 +272,11 @@ module _ (contexts : List WasiSocketsCtx) (line : ℕ) (origin : Step) (side : O
       record { held = given; stands = begins es h place r s half permit bytes g e w n i (is_same half.side side) refl (subst (λ (x : Own). Owes x i.held) o i.owes); quietly = i.quietly; hand = i.hand; owes = refl }
   moves_kept es _ _ (BeginsListen h place r at p g d bound none to o) n i =
       let now = beginning_listen (own_of line) at r in
-      let k = listened_kept es h place r now g refl (begun r (i.stands.records place r g) _ (with_state r.inner (state.Closed Other)) none (d, plain_listen (wildcard r.inner.family) r.inner.backlog true, refl)) (λ m. (m, inl (ap side_in d ∙ (sym (n.named at place r g (ap side_in d)) ∙ m)))) i in
+      let k = listened_kept es h place r now g refl (begun r at _ (with_state r.inner (state.Closed Other)) (i.stands.records place r g) d (plain_listen (wildcard r.inner.family) r.inner.backlog true) tt) (λ m. (m, inl (ap side_in d ∙ (sym (n.named at place r g (ap side_in d)) ∙ m)))) i in
       record { held = k.held; stands = k.stands; quietly = k.quietly; hand = k.hand; owes = subst (λ (y : Own). Owes y k.held) o k.owes }
   moves_kept es _ _ (BeginsAccept h place r l p g e a o) n i =
       let k = accept_kept es h place r l (new_accept line l) g (tt, tt) i in record { held = k.held; stands = k.stands; quietly = k.quietly; hand = k.hand; owes = subst (λ (y : Own). Owes y k.held) o k.owes }
-  moves_kept es _ _ (Unlistens h place r op g e c o) n i = listened_kept es h place r _ g refl (over r (i.stands.records place r g) c op e) (begun_lives r op e) i
+  moves_kept es _ _ (Unlistens h place r op g e c o) n i = listened_kept es h place r _ g refl (over r (i.stands.records place r g) c op) (begun_lives r op e) i
   moves_kept es _ _ (Forgets h place r l c g e a) n i = accept_kept es h place r l accepting.Idle g tt i
   moves_kept es _ _ (Watches h o) n i = record { held = i.held; stands = i.stands; quietly = i.quietly; hand = i.hand; owes = i.owes }
   moves_kept es _ _ (Joins h c handle place r l new peer is of u g e a) n i =
@@ -424,7 +424,7 @@ module _ (contexts : List WasiSocketsCtx) (line : ℕ) (origin : Step) (side : O
   polls_kept es h _ _ (Connects place r op q g e) i = connects_kept es h place r op g e i
   polls_kept es h _ _ (Listens place r op q g e c) i =
       allows_weaker IsFront (λ fs ended. Permitted fs h × ArePlain ended.1) (λ fs ended. Permitted fs (put h place (listen_after op r ended)))
-      (λ fs ended k. listened_kept fs h place r _ g (listened_side op r ended) (polled r (k.0.stands.records place r g) c op e ended k.1) (begun_lives r op e) k.0) es (poll_asks op)
+      (λ fs ended k. listened_kept fs h place r _ g (listened_side op r ended) (polled r (k.0.stands.records place r g) c op ended k.1) (begun_lives r op e) k.0) es (poll_asks op)
       (quiet_kept (λ ended. ArePlain ended.1) es h (poll_asks op) i (plain_poll op es (subst IsPlainListening e (i.stands.records place r g).listens)))
   polls_kept es h _ _ (Awaits place r l op g e a) i =
       allows_weaker IsFront (λ fs ended. Permitted fs h × ArePlain ended.1) (λ fs ended. Permitted fs (put h place (accepting_now r l (accept_ended op.who ended))))

@@ -72,18 +72,6 @@ IsPlainListening (listening.Begins op) = ArePlain op.left
 IsPlainListening (listening.Accepts l) = IsPlainAccept l.accept
 IsPlainListening _ = ⊤
 
--- the side of the connection that an accept is to give
-abbrev pub accept_awaits : Accepting → Option OpId
-accept_awaits (accepting.Asking op) = Some op.who.id
-accept_awaits (accepting.Arrived new peer) = Some new
-accept_awaits _ = None
-
--- the side that a record awaits: of its listen, until that is over, or of a connection that is to be taken
-abbrev pub awaited_in : Listening → Option OpId
-awaited_in (listening.Begins op) = Some op.who.side
-awaited_in (listening.Accepts l) = accept_awaits l.accept
-awaited_in _ = None
-
 pub no_some : (x : OpId) → None ≡ Some x → ⊥
 no_some x e = absurd (cc)
 

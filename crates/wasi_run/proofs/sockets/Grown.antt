@@ -1,23 +1,18 @@
 -- A log that grows: what was made stays so, and which sockets are closed.
-use Rattle.std.specs.Prelude.{⊤}
-use Rattle.std.proofs.Common.{◌≡◌, ◌⊎◌, inl, inr, ℕ, List, [], ◌∷◌, ◌++◌, Option, Some, None, refl, sym, ap, subst}
+use Rattle.std.proofs.Common.{◌≡◌, ◌⊎◌, inl, inr, List, [], ◌∷◌, ◌++◌, refl, sym, ap, subst}
 use Rattle.wasi_world.specs.declared.ids.OpId.{OpId}
 use Rattle.wasi_world.specs.declared.call.Call.{Call}
 use Rattle.wasi_world.specs.declared.call.Call.TheVariants as call
 use Rattle.wasi_world.specs.declared.call.Told.{Told}
 use Rattle.wasi_world.specs.declared.call.Entry.{Entry}
-use Rattle.wasi_run.specs.Licence.{Has, entry}
-use Rattle.wasi_run.specs.Opened.{socket_of, IsMade, Created, HandedOver, IsClosed, IsOpen, IsAskedOpen}
-use Rattle.wasi_run.proofs.Lists.{has_front, has_last, has_split}
+use Rattle.wasi_run.specs.Licence.{entry}
+use Rattle.wasi_run.specs.Opened.{IsMade, Created, HandedOver, IsClosed, IsOpen}
+use Rattle.wasi_run.proofs.Lists.{has_front, has_split}
 
 -- a close, of this socket
 abbrev pub Closes : Call → OpId → Type 0
 Closes (call.Close side) x = side ≡ x
 Closes _ x = ⊥
-
--- no close
-abbrev pub NoClose : Call → Type 0
-NoClose c = (x : OpId) → Closes c x → ⊥
 
 -- The entries so far came after these ones, and of the sockets that they close more C holds.
 pub record Grows (C : OpId → Type 0) (es fs : List Entry) : Type 0 where
@@ -47,10 +42,6 @@ grows_entry C es fs op c t k g = record {
     | inr e ↦ inr (k x (close_is (entry op c t) (entry h.op (call.Close x) h.told) x e refl))
   ];
 }
-
--- one after the other
-pub grows_then : (C D : OpId → Type 0) (es fs gs : List Entry) → ((x : OpId) → C x → D x) → Grows C es fs → Grows D fs gs → Grows D es gs
-grows_then C D es fs gs k g h = record { made = λ x m. h.made x (g.made x m); closed = λ x c. elim (h.closed x c) [ inl b ↦ elim (g.closed x b) [ inl a ↦ inl a | inr p ↦ inr (k x p) ] | inr p ↦ inr p ] }
 
 pub grows_weaker : (C D : OpId → Type 0) (es fs : List Entry) → ((x : OpId) → C x → D x) → Grows C es fs → Grows D es fs
 grows_weaker C D es fs k g = record { made = g.made; closed = λ x c. elim (g.closed x c) [ inl a ↦ inl a | inr p ↦ inr (k x p) ] }
