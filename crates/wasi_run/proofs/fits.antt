@@ -2,4 +2,4 @@
 pub mod Records
 pub mod Polls
 pub mod Law
-pub mod Runs
+pub mod Lines

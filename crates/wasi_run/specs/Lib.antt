@@ -14,10 +14,4 @@ pub mod Program
 pub mod Parsed
 pub mod Answered
 pub mod Listens
-pub mod Options
-pub mod GivenUp
 pub mod Waiting
-pub mod Turns
-pub mod Permitted
-pub mod Order
-pub mod Opened

@@ -2,11 +2,8 @@
 #![tactic(auto)]
 
 mod calls;
-pub mod causes;
 pub mod laws;
 mod lines;
-pub mod listens;
-pub mod options;
 pub mod parse;
 pub mod program;
 mod replies;

@@ -35,7 +35,7 @@ use Rattle.wasi_run.proofs.licence.State.{name_in, accept_name}
 use Rattle.wasi_run.proofs.fits.Polls.{Anything}
 use Rattle.wasi_run.proofs.fits.Records.{FitListening}
 use Rattle.wasi_run.proofs.Lists.{split_place, get_set, get_split, set_there}
-use Rattle.wasi_run.proofs.permits.Polls.{Quietly, ArePlain, GivesOwn, own_poll}
+use Rattle.wasi_run.proofs.claims.Polls.{Quietly, ArePlain, GivesOwn, own_poll}
 use Rattle.wasi_run.proofs.walks.Moves.{closed_record, Own, Used, Unused, ToWrite, Here, put, Found, joined, second_of, new_accept, accepting_now, listen_after, beginning_listen, made_so, Held, InHand, Connects, Listens, Awaits, Move, Reaches, Leaves, Spends, Changes, ClosesReader, Writes, IsGone, Reconnects, Opens, BeginsConnect, BeginsBind, BeginsWrite, BeginsListen, BeginsAccept, Unlistens, Forgets, Watches, Joins, StandsListen, StandsDrop, ResumesDrop, Unstands, Stands, Resumes, Ends, Lists, Takes}
 use Rattle.wasi_run.proofs.walks.Law.{Law, Walks}
 use Rattle.wasi_run.proofs.fits.Law.{Fit, told_same, whatever, fits, moves_fit, polls_fit, put_fit, created}

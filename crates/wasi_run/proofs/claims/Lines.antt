@@ -7,7 +7,7 @@ use Rattle.wasi_run.specs.declared.step.Step.{Step}
 use Rattle.wasi_run.proofs.walks.Moves.{Own, Used, Unused, ToWrite}
 use Rattle.wasi_run.proofs.walks.States.{Starts, Over}
 use Rattle.wasi_run.proofs.fits.Law.{Fit}
-use Rattle.wasi_run.proofs.fits.Runs.{first_fit, starts_fit}
+use Rattle.wasi_run.proofs.fits.Lines.{first_fit, starts_fit}
 use Rattle.wasi_run.proofs.claims.Law.{Named, Base}
 
 -- Before the line of this number.

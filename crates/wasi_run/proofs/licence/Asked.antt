@@ -34,7 +34,6 @@ use Rattle.wasi_run.proofs.licence.Line.{some_same, local_side, calm, ListenGoes
 use Rattle.wasi_run.proofs.licence.Moves.{held_side, same_listen}
 
 module _ (contexts : List WasiSocketsCtx) (steps : List Step) (line : ℕ) (origin : Step) (is_line : step_at steps line ≡ Some origin) where
-
   -- == asks
   -- no listen that goes on is on a side whose local address is asked for
   abbrev pub Spares : Here → Call → Type 0

@@ -36,7 +36,6 @@ use Rattle.wasi_run.proofs.licence.Line.{some_same, no_listen, calm, Licensed, s
 use Rattle.wasi_run.proofs.licence.Marks.{made_fine}
 
 module _ (contexts : List WasiSocketsCtx) (steps : List Step) (line : ℕ) (origin : Step) (is_line : step_at steps line ≡ Some origin) where
-
   -- == a socket that is created
   may_use : (n : ℕ) (o : Option WasiSocketsCtx) → slice_get contexts n ≡ o → (context_in o).tcp ≡ true → MayUseTcp contexts n (context_in o).name
   may_use n None e t = absurd (cc)

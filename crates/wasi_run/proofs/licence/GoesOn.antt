@@ -62,7 +62,6 @@ use Rattle.wasi_run.proofs.licence.Moves.{streams_fine, held_side, same_listen, 
 use Rattle.wasi_run.proofs.licence.Asked.{Spares, spares, asked_by, asked_fine}
 
 module _ (contexts : List WasiSocketsCtx) (steps : List Step) (line : ℕ) (origin : Step) (is_line : step_at steps line ≡ Some origin) where
-
   -- == what goes on
   pub kept : {A : Type 0} (h : Here) (Q : List Entry → A → Type 0) (es : List Entry) (asks : Asks A) → Licensed steps line origin es h → Allows (MayQuietly contexts steps) Q es asks → Allows (MayAsk contexts steps) (λ fs a. Licensed steps line origin fs h × Q fs a) es asks
   kept h Q es asks i a = allows_keep (MayQuietly contexts steps) (MayAsk contexts steps) (λ fs. Licensed steps line origin fs h) Q (λ fs op c t fits k m. asked_fine contexts steps line origin is_line fs h op c t m.0.1 (spares contexts steps line origin is_line h c m.1) k) (λ fs op c m. m.0.0) es asks i a

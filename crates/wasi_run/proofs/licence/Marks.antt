@@ -31,7 +31,6 @@ use Rattle.wasi_run.proofs.licence.Line.{names_record, calm, NotMarked, MadeSock
 use Rattle.wasi_run.proofs.licence.Asked.{listens_on, joined_on}
 
 module _ (contexts : List WasiSocketsCtx) (steps : List Step) (line : ℕ) (origin : Step) (is_line : step_at steps line ≡ Some origin) where
-
   error_mark : (es : List Entry) (op : OpId) (handle : ℕ) (sock : Option OpId) (s : Step) → MarksError handle s → IsMarkedWith es handle sock → IsMarkOf es op name.ErrorValue (Some handle) sock s
   error_mark es op handle sock (step.Read ctx input len) m w = (refl, (ap (λ (n : ℕ). Some n) m, subst (λ (n : ℕ). IsMarkedWith es n sock) m w))
   error_mark es op handle sock (step.CheckWrite ctx output) m w = (refl, (ap (λ (n : ℕ). Some n) m, subst (λ (n : ℕ). IsMarkedWith es n sock) m w))

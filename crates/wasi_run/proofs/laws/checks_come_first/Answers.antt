@@ -1,5 +1,0 @@
-use Rattle.wasi_run.proofs.order.Runs.{runs_ordered}
-use Rattle.wasi_run.proofs.laws.checks_come_first.Goals as goal
-
-pub returns : goal.returns
-returns c = λ contexts steps log rest w op. runs_ordered op contexts steps log rest w
