@@ -41,12 +41,13 @@ use Rattle.wasi_run.specs.Licence.{entry, marks_in}
 use Rattle.wasi_run.specs.Listens.{accept_name, AcceptFails, WasTold, IsTold, accepting_now, AcceptRefusal, NoListener, StillAccepts, AcceptFailed, RefusedAccept, AcceptGives, WasHanded, IsHanded, accepted_marks, AcceptTakes, AcceptsAt}
 use Rattle.wasi_run.specs.Machine.{triple_reply, first_ids}
 use Rattle.wasi_run.specs.Reply.{triple_fields}
+use Rattle.wasi_run.proofs.Lists.{get_seam, marks_in-push}
+use Rattle.wasi_run.proofs.Gives.{Gives, gives_then, gives_both, gives_where}
 use Rattle.wasi_causes.proofs.AcceptPolls.{HandsOver, TellsCode, AcceptEnds, poll_accept_ends}
 use Rattle.wasi_causes.proofs.CreateCauses.{make_done}
-use Rattle.wasi_run.proofs.Lists.{get_seam, marks_in-push}
 use Rattle.wasi_causes.proofs.PollMarks.{poll_marks_none}
 use Rattle.wasi_causes.proofs.RecordCauses.{put_back, found}
-use Rattle.wasi_run.proofs.StepCauses.{Gives, gives_then, gives_both, gives_where, settled}
+use Rattle.wasi_causes.proofs.StepCauses.{settled}
 
 module _ (m : Machine) (line handle : ℕ) where
   abbrev own : OpId

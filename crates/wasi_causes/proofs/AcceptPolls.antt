@@ -16,7 +16,7 @@ use Rattle.wasi_tcp.specs.Accept.{IsAccept, IsLeftOfAccept, Unarrived, Arrived, 
 use Rattle.wasi_tcp.specs.Rounds.{some_left, is_going}
 use Rattle.wasi_run.specs.Licence.{entry}
 use Rattle.wasi_run.specs.Listens.{refused_by, refused_in, AcceptWaits, LastWaits, RefusedMost}
-use Rattle.wasi_run.proofs.StepCauses.{Gives}
+use Rattle.wasi_run.proofs.Gives.{Gives}
 
 -- one entry more
 pub refused_in-push : (es : List Entry) (e : Entry) → refused_in (es ++ e ∷ []) ≡ refused_in es + refused_by e.call

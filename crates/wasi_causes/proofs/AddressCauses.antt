@@ -21,20 +21,21 @@ use Rattle.wasi_tcp.specs.Socket.{bound_asks}
 use Rattle.wasi_tcp.specs.Connecting.{with_state, in_socket}
 use Rattle.wasi_tcp.specs.Addresses.{usable_side, local_from, local_where, local_asks, after_peer, peer_known, peer_asks, still_connected, remote_in, remote_asks}
 use Rattle.wasi_host.specs.declared.machine.Machine.{Machine}
-use Rattle.wasi_run.specs.declared.reply.CodeWord.{CodeWord}
-use Rattle.wasi_run.specs.declared.reply.CodeWord.TheVariants as word
-use Rattle.wasi_run.specs.declared.reply.Reply.{Reply}
-use Rattle.wasi_run.specs.declared.reply.Reply.TheVariants as reply
 use Rattle.wasi_host.specs.declared.socket.Tcp2Socket.{Tcp2Socket}
-use Rattle.wasi_run.specs.declared.step.Step.TheVariants as step
 use Rattle.wasi_host.specs.Host.{Stop}
 use Rattle.wasi_host.specs.Store.{Records, with_inner, put_back as answer_put, inner_answered, tell_local_asks, tell_remote_asks, local_address_at, remote_address_at}
 use Rattle.wasi_host.specs.Machine.{socket_at, own_of}
 use Rattle.wasi_p2.specs.Tcp.{local_address_on, remote_address_on}
+use Rattle.wasi_run.specs.declared.reply.CodeWord.{CodeWord}
+use Rattle.wasi_run.specs.declared.reply.CodeWord.TheVariants as word
+use Rattle.wasi_run.specs.declared.reply.Reply.{Reply}
+use Rattle.wasi_run.specs.declared.reply.Reply.TheVariants as reply
+use Rattle.wasi_run.specs.declared.step.Step.TheVariants as step
 use Rattle.wasi_run.specs.Machine.{address_reply}
 use Rattle.wasi_run.specs.Licence.{entry}
 use Rattle.wasi_run.specs.Answered.{Answered, record_in, putting, word_of_code, RefusedOf, KnowsBound, IsPastDefault, IsBound, IsFree, LocalRefusal, NotBound, Connects, LocalClosed, LocalTold, RemoteRefusal, RemoteDefault, RemoteListening, RemoteConnecting, RemoteClosed, RemoteTold}
-use Rattle.wasi_run.proofs.StepCauses.{Gives, gives_then, settled}
+use Rattle.wasi_run.proofs.Gives.{Gives, gives_then}
+use Rattle.wasi_causes.proofs.StepCauses.{settled}
 use Rattle.wasi_causes.proofs.RecordCauses.{put_back, found, RecordSays}
 use Rattle.wasi_causes.proofs.BoundCauses.{asked_none, bound_says}
 

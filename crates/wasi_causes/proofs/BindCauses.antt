@@ -24,22 +24,22 @@ use Rattle.wasi_tcp.specs.Bind.{bind_operation}
 use Rattle.wasi_tcp.specs.Shape.{Socket}
 use Rattle.wasi_tcp.specs.Socket.{bound_asks, bind_allowed, bind_start, bind_asks}
 use Rattle.wasi_host.specs.declared.machine.Machine.{Machine}
+use Rattle.wasi_host.specs.declared.socket.Tcp2Socket.{Tcp2Socket}
+use Rattle.wasi_host.specs.Host.{Stop}
+use Rattle.wasi_host.specs.Kinds.{kind_at, is_network}
+use Rattle.wasi_host.specs.Store.{Records, is_nothing, bind_ended, bind_begun, poll_bind_asks, begin_bind_asks, bind_answered, start_bind_by, start_bind_at}
+use Rattle.wasi_host.specs.Machine.{socket_at, own_of}
+use Rattle.wasi_p2.specs.Tcp.{start_bind_on, start_bind_asks}
 use Rattle.wasi_run.specs.declared.reply.CodeWord.{CodeWord}
 use Rattle.wasi_run.specs.declared.reply.CodeWord.TheVariants as word
 use Rattle.wasi_run.specs.declared.reply.Reply.{Reply}
 use Rattle.wasi_run.specs.declared.reply.Reply.TheVariants as reply
-use Rattle.wasi_host.specs.declared.socket.Tcp2Socket.{Tcp2Socket}
 use Rattle.wasi_run.specs.declared.step.Step.TheVariants as step
-use Rattle.wasi_host.specs.Host.{Stop}
-use Rattle.wasi_host.specs.Kinds.{kind_at}
-use Rattle.wasi_host.specs.Store.{Records, is_nothing, bind_ended, bind_begun, poll_bind_asks, begin_bind_asks, bind_answered, start_bind_by, start_bind_at}
-use Rattle.wasi_host.specs.Machine.{socket_at, own_of}
-use Rattle.wasi_host.specs.Kinds.{is_network}
-use Rattle.wasi_p2.specs.Tcp.{start_bind_on, start_bind_asks}
 use Rattle.wasi_run.specs.Machine.{answer_reply}
 use Rattle.wasi_run.specs.Licence.{entry}
 use Rattle.wasi_run.specs.Answered.{Answered, record_in, record_at, putting, HasOperationInProgress, KnowsBound, EndsPending, IsFree, may_bind_to, BindRefusal, AlreadyBound, WrongAddress, Denied, Failed, StartRefusal, InProgress, Begins, RefusedBind}
-use Rattle.wasi_run.proofs.StepCauses.{Gives, gives_then, settled}
+use Rattle.wasi_run.proofs.Gives.{Gives, gives_then}
+use Rattle.wasi_causes.proofs.StepCauses.{settled}
 use Rattle.wasi_causes.proofs.RecordCauses.{put_back, found, IsIdle, MayBeOfCode, of_code}
 use Rattle.wasi_causes.proofs.BoundCauses.{bound_says}
 use Rattle.wasi_causes.proofs.StartCauses.{StartSays, conflict, begun, conflict_exactly}

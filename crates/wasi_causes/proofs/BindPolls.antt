@@ -16,7 +16,7 @@ use Rattle.wasi_world.specs.Operation.{Given, Nothing, Item, Check, Bind, LastAs
 use Rattle.wasi_run.specs.Answered.{EndsPending}
 use Rattle.wasi_run.specs.Licence.{Has, entry}
 use Rattle.wasi_run.specs.Waiting.{IsRestOfBind, IsLeftOfBind, Unchecked, Checked, Ended, BindFails, ToldNo, ToldWhy}
-use Rattle.wasi_run.proofs.StepCauses.{Gives}
+use Rattle.wasi_run.proofs.Gives.{Gives}
 
 module _ (op : Operation) where
   abbrev pub BindEnds : List Entry → End × List Item → Type 0

@@ -17,7 +17,7 @@ use Rattle.wasi_tcp.specs.Shape.{Socket}
 use Rattle.wasi_tcp.specs.Socket.{after_local, ask_bound, bound_asks}
 use Rattle.wasi_run.specs.Licence.{entry}
 use Rattle.wasi_run.specs.Answered.{IsPastDefault, IsBound, Known, PastDefault, ToldBound, IsFree}
-use Rattle.wasi_run.proofs.StepCauses.{Gives}
+use Rattle.wasi_run.proofs.Gives.{Gives}
 
 -- past the state Default nothing is asked
 pub asked_none : (own : OpId) (socket : Socket) (es : List Entry) → IsBound own socket es → IsPastDefault socket.state → es ≡ []

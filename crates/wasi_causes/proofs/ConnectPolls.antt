@@ -17,7 +17,7 @@ use Rattle.wasi_world.specs.Operation.{Given, Nothing, Item, Check, Connect, Las
 use Rattle.wasi_tcp.specs.Connect.{IsConnect, IsLeftOfConnect, Unbound, Unchecked, Checked, ToClose, Ended}
 use Rattle.wasi_run.specs.Licence.{Has, entry}
 use Rattle.wasi_run.specs.Answered.{EndsPending, ClosedBy, ToldNo, ToldWhy, ClosesLast}
-use Rattle.wasi_run.proofs.StepCauses.{Gives}
+use Rattle.wasi_run.proofs.Gives.{Gives}
 
 module _ (op : Operation) where
   abbrev pub ConnectEnds : List Entry → End × List Item → Type 0

@@ -14,25 +14,26 @@ use Rattle.wasi_world.specs.Fits.{IsDone, IsDoneOrCode}
 use Rattle.wasi_world.specs.Asks.{Give, bind}
 use Rattle.wasi_world.specs.Typed.{told_done}
 use Rattle.wasi_world.proofs.Allowed.{allows_if}
+use Rattle.wasi_streams.specs.Table.{is_full}
 use Rattle.wasi_tcp.specs.Shape.{Socket}
 use Rattle.wasi_tcp.specs.Socket.{side_of, new_socket, after_create, new_asks}
 use Rattle.wasi_host.specs.declared.machine.Machine.{Machine}
-use Rattle.wasi_run.specs.declared.reply.CodeWord.{CodeWord}
-use Rattle.wasi_run.specs.declared.reply.Reply.{Reply}
-use Rattle.wasi_run.specs.declared.reply.Reply.TheVariants as reply
-use Rattle.wasi_run.specs.declared.step.Step.TheVariants as step
 use Rattle.wasi_host.specs.declared.kind.Kind.{Kind}
 use Rattle.wasi_host.specs.declared.kind.Kind.TheVariants.{Network, Tcp2}
 use Rattle.wasi_host.specs.Host.{Stop, Trap}
 use Rattle.wasi_host.specs.Kinds.{Handles, name_of, with_handle, make_asks}
-use Rattle.wasi_streams.specs.Table.{is_full}
 use Rattle.wasi_host.specs.Store.{with_record}
-use Rattle.wasi_p2.specs.Tcp.{network_asks}
 use Rattle.wasi_host.specs.Machine.{created_asks, create_asks, own_of}
+use Rattle.wasi_p2.specs.Tcp.{network_asks}
+use Rattle.wasi_run.specs.declared.reply.CodeWord.{CodeWord}
+use Rattle.wasi_run.specs.declared.reply.Reply.{Reply}
+use Rattle.wasi_run.specs.declared.reply.Reply.TheVariants as reply
+use Rattle.wasi_run.specs.declared.step.Step.TheVariants as step
 use Rattle.wasi_run.specs.Machine.{handle_reply, context_at}
 use Rattle.wasi_run.specs.Licence.{entry}
 use Rattle.wasi_run.specs.Answered.{Answered, word_of_code, CreateRefusal, NotAllowed, ToldCode}
-use Rattle.wasi_run.proofs.StepCauses.{Gives, gives_then, settled}
+use Rattle.wasi_run.proofs.Gives.{Gives, gives_then}
+use Rattle.wasi_causes.proofs.StepCauses.{settled}
 
 -- == making a handle
 pub make_gives : (Q : List Entry → Result ℕ Stop × Handles → Type 0) (es : List Entry) (t : Handles) (op : OpId) (kind : Kind) (parent : Option ℕ) (side : Option OpId)

@@ -19,12 +19,12 @@ use Rattle.wasi_host.specs.Machine.{own_of, with_store, answered, at_once, drop_
 use Rattle.wasi_host.specs.Store.{Records, standing_drop}
 use Rattle.wasi_run.specs.declared.reply.Reply.{Reply}
 use Rattle.wasi_run.specs.declared.reply.Reply.TheVariants as reply
-use Rattle.wasi_causes.specs.GivenUp.{without, GoesAtOnce, socket_given_up, LooksOnce}
 use Rattle.wasi_run.specs.Machine.{answer_reply}
 use Rattle.wasi_run.specs.Reply.{no_fields}
 use Rattle.wasi_run.specs.Waiting.{OutputWaits}
+use Rattle.wasi_run.proofs.Gives.{Gives, gives_then}
+use Rattle.wasi_causes.specs.GivenUp.{without, GoesAtOnce, socket_given_up, LooksOnce}
 use Rattle.wasi_causes.proofs.GiveUps.{Released, release_gives}
-use Rattle.wasi_run.proofs.StepCauses.{Gives, gives_then}
 use Rattle.wasi_causes.proofs.WaitCauses.{OutputGives, output_gives}
 
 module _ (m : Machine) (line handle : ℕ) where

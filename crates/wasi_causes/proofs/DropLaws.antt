@@ -23,14 +23,14 @@ use Rattle.wasi_run.specs.declared.reply.Reply.TheVariants as reply
 use Rattle.wasi_run.specs.declared.reply.Field.{Field}
 use Rattle.wasi_run.specs.declared.step.Step.TheVariants as step
 use Rattle.wasi_run.specs.Answered.{Answered, record_at, OfRecord}
-use Rattle.wasi_causes.specs.GivenUp.{HasLiveChildren, IsDropped, without, GoesAtOnce, socket_given_up, IsGone, LooksOnce, NoLook, OneLook}
 use Rattle.wasi_run.specs.Licence.{Has}
 use Rattle.wasi_run.specs.Reply.{no_fields}
 use Rattle.wasi_run.specs.Waiting.{OutputWaits, WritesOn, ToldToWait, WriterWaits}
-use Rattle.wasi_causes.proofs.DropCauses.{DropAnswer, NotLive, HasUnder, AtOnce, OfNoRecord, Releases, Looks, StandsOn, DropSays, drop_says}
 use Rattle.wasi_run.proofs.Lists.{set_there}
+use Rattle.wasi_causes.specs.GivenUp.{HasLiveChildren, IsDropped, without, GoesAtOnce, socket_given_up, IsGone, LooksOnce, NoLook, OneLook}
+use Rattle.wasi_causes.proofs.DropCauses.{DropAnswer, NotLive, HasUnder, AtOnce, OfNoRecord, Releases, Looks, StandsOn, DropSays, drop_says}
 use Rattle.wasi_causes.proofs.RecordCauses.{found}
-use Rattle.wasi_run.proofs.StepCauses.{settled, busy_is_quiet, free_to_go}
+use Rattle.wasi_causes.proofs.StepCauses.{settled, busy_is_quiet, free_to_go}
 
 -- == what is taken out of the lists
 gone_at : (live : List (Slot Kind)) (h : ℕ) → value_at (table.without live h) h ≡ None

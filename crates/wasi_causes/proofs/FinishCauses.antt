@@ -12,6 +12,7 @@ use Rattle.wasi_world.specs.declared.outcome.TrapKind.TheVariants.{NoSuchHandle,
 use Rattle.wasi_world.specs.declared.outcome.WasiSocketsCtx.{WasiSocketsCtx}
 use Rattle.wasi_world.specs.Asks.{Give, bind}
 use Rattle.wasi_world.specs.Operation.{Item, Operation, End, Waits, Done, Refused, poll_asks}
+use Rattle.wasi_streams.specs.Table.{is_full}
 use Rattle.wasi_tcp.specs.declared.socket.Connection.{Connection}
 use Rattle.wasi_tcp.specs.declared.socket.TcpState.{TcpState}
 use Rattle.wasi_tcp.specs.declared.socket.TcpState.TheVariants as state
@@ -21,24 +22,24 @@ use Rattle.wasi_tcp.specs.Connecting.{with_state, connect_ended, finish_in, in_s
 use Rattle.wasi_tcp.specs.Addresses.{still_connected}
 use Rattle.wasi_tcp.specs.Halves.{taken_receive, taken_send}
 use Rattle.wasi_host.specs.declared.machine.Machine.{Machine}
-use Rattle.wasi_run.specs.declared.reply.CodeWord.{CodeWord}
-use Rattle.wasi_run.specs.declared.reply.CodeWord.TheVariants as word
-use Rattle.wasi_run.specs.declared.reply.Reply.{Reply}
-use Rattle.wasi_run.specs.declared.reply.Reply.TheVariants as reply
 use Rattle.wasi_host.specs.declared.socket.Tcp2Socket.{Tcp2Socket}
-use Rattle.wasi_run.specs.declared.step.Step.TheVariants as step
 use Rattle.wasi_host.specs.declared.kind.Kind.TheVariants.{Input, Output}
 use Rattle.wasi_host.specs.Host.{Stop, code_stop}
-use Rattle.wasi_streams.specs.Table.{is_full}
 use Rattle.wasi_host.specs.Kinds.{with_handle, make_asks}
 use Rattle.wasi_host.specs.Store.{Records, is_connect, idle, opened_send, opened_receive, connect_polled, poll_connect_asks, with_record_put, finish_connect_by, finish_connect_at}
 use Rattle.wasi_host.specs.Machine.{socket_at, side_at, with_table, with_store, own_of}
 use Rattle.wasi_p2.specs.Tcp.{with_output, output_asks, streams_asks, connected_asks, finish_connect_on, finish_connect_asks}
+use Rattle.wasi_run.specs.declared.reply.CodeWord.{CodeWord}
+use Rattle.wasi_run.specs.declared.reply.CodeWord.TheVariants as word
+use Rattle.wasi_run.specs.declared.reply.Reply.{Reply}
+use Rattle.wasi_run.specs.declared.reply.Reply.TheVariants as reply
+use Rattle.wasi_run.specs.declared.step.Step.TheVariants as step
 use Rattle.wasi_run.specs.Machine.{pair_reply}
 use Rattle.wasi_run.specs.Licence.{entry, marks_in}
 use Rattle.wasi_run.specs.Answered.{Answered, record_in, record_at, word_of_code, RefusedOf, HasNoConnectInProgress, FinishRefusal, NoConnect, StillConnects, Closes, WasClosed, NotConnecting, ListensAlready, ReceivesAlready, SendsAlready, ConnectsAt}
 use Rattle.wasi_run.proofs.Lists.{marks_in-push}
-use Rattle.wasi_run.proofs.StepCauses.{Gives, gives_then, gives_both, gives_where, settled, busy_exactly}
+use Rattle.wasi_run.proofs.Gives.{Gives, gives_then, gives_both, gives_where}
+use Rattle.wasi_causes.proofs.StepCauses.{settled, busy_exactly}
 use Rattle.wasi_causes.proofs.RecordCauses.{found, MayBeOfCode, of_code}
 use Rattle.wasi_causes.proofs.CreateCauses.{make_gives}
 use Rattle.wasi_causes.proofs.PollMarks.{poll_marks_none}

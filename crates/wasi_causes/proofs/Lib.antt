@@ -1,3 +1,5 @@
+pub mod StepReplies
+pub mod StepCauses
 pub mod AcceptCauses
 pub mod AcceptPolls
 pub mod AddressCauses
@@ -34,3 +36,4 @@ pub mod TurnCauses
 pub mod WaitCauses
 pub mod WriteCauses
 pub mod WriteLaws
+pub mod MayAnswers

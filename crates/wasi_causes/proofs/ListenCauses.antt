@@ -45,10 +45,11 @@ use Rattle.wasi_run.specs.Answered.{Answered, record_in, record_at, OfRecord, pu
 use Rattle.wasi_run.specs.Licence.{entry}
 use Rattle.wasi_run.specs.Listens.{ListenFails, LocalTold, ListenDenied, ListenTold, closed_by_listen, IsPastNot, ListenRefusal, NotBound, NotDefault, ListensAlready, ListenRefused, RefusedListen}
 use Rattle.wasi_run.specs.Machine.{answer_reply}
+use Rattle.wasi_run.proofs.Gives.{Gives, gives_then}
 use Rattle.wasi_causes.proofs.BoundCauses.{asked_none, bound_says}
 use Rattle.wasi_causes.proofs.RecordCauses.{put_back, found, IsIdle, MayBeOfCode, of_code}
 use Rattle.wasi_causes.proofs.StartCauses.{StartSays, conflict, begun, conflict_exactly}
-use Rattle.wasi_run.proofs.StepCauses.{Gives, gives_then, settled}
+use Rattle.wasi_causes.proofs.StepCauses.{settled}
 
 -- == entries that were added one by one
 push_two : (es : List Entry) (a b : Entry) → (es ++ a ∷ []) ++ b ∷ [] ≡ es ++ a ∷ b ∷ []

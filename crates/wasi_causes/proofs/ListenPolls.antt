@@ -18,7 +18,7 @@ use Rattle.wasi_tcp.specs.Listen.{IsListen, IsLeftOfListen, BoundBefore, Address
 use Rattle.wasi_run.specs.Answered.{EndsPending}
 use Rattle.wasi_run.specs.Licence.{entry}
 use Rattle.wasi_run.specs.Waiting.{ListenEnds, CheckedNo, LocalCode, BindCode, ListenCode, ListenCloses}
-use Rattle.wasi_run.proofs.StepCauses.{Gives}
+use Rattle.wasi_run.proofs.Gives.{Gives}
 
 module _ (op : Operation) where
   -- it waits, is done, or ended with a code

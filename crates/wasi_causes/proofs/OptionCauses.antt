@@ -36,10 +36,11 @@ use Rattle.wasi_run.specs.declared.step.Step.TheVariants as step
 use Rattle.wasi_run.specs.Answered.{Answered, OfRecord, RefusedOf, record_in, record_at, word_of_code}
 use Rattle.wasi_run.specs.Licence.{entry}
 use Rattle.wasi_run.specs.Machine.{value_reply, done_reply, set_chosen}
-use Rattle.wasi_causes.specs.Options.{GetRefusal, GetsNoSide, GetTold, ToldTooLarge, SetRefusal, ZeroBefore, SetsNoSide, ZeroAfter, SetTold, BacklogRefusal, ZeroBacklog, StillConnects, IsConnected, WasClosed, BacklogTold, RefusedHere, RefusedGet, ChosenRefusal, RefusedSet, GetsOption, SetsOption, SetsBacklog, KeptForListen, ToldListener, SetsChosen}
 use Rattle.wasi_run.specs.Reply.{no_fields, number_fields}
 use Rattle.wasi_run.specs.Settings.{Chosen, AnOption, TheBacklog, chosen}
-use Rattle.wasi_run.proofs.StepCauses.{Gives, gives_more, gives_then, busy_is_quiet, settled}
+use Rattle.wasi_run.proofs.Gives.{Gives, gives_more, gives_then}
+use Rattle.wasi_causes.specs.Options.{GetRefusal, GetsNoSide, GetTold, ToldTooLarge, SetRefusal, ZeroBefore, SetsNoSide, ZeroAfter, SetTold, BacklogRefusal, ZeroBacklog, StillConnects, IsConnected, WasClosed, BacklogTold, RefusedHere, RefusedGet, ChosenRefusal, RefusedSet, GetsOption, SetsOption, SetsBacklog, KeptForListen, ToldListener, SetsChosen}
+use Rattle.wasi_causes.proofs.StepCauses.{busy_is_quiet, settled}
 use Rattle.wasi_causes.proofs.RecordCauses.{put_back, found, RecordSays}
 
 -- == of a socket

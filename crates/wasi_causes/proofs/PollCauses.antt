@@ -35,13 +35,13 @@ use Rattle.wasi_p2.specs.Pending as p2
 use Rattle.wasi_run.specs.declared.reply.Reply.{Reply}
 use Rattle.wasi_run.specs.declared.reply.Reply.TheVariants as reply
 use Rattle.wasi_run.specs.Answered.{word_of_code, EndsPending}
-use Rattle.wasi_causes.specs.GivenUp.{LooksOnce}
 use Rattle.wasi_run.specs.Machine.{resumed_reply, poll_on, poll_asks}
 use Rattle.wasi_run.specs.Reply.{no_fields}
 use Rattle.wasi_run.specs.Waiting.{OutputWaits, IsRestOfBind, BindFails, IsListening, ListenWaits, CallWaits, CallFails, ListenFailed, NoListen, HasNoListen, StandsByBind, nothing_stands}
+use Rattle.wasi_run.proofs.Gives.{Gives, gives_then, gives_where}
+use Rattle.wasi_causes.specs.GivenUp.{LooksOnce}
 use Rattle.wasi_causes.proofs.BindPolls.{BindEnds, poll_bind_ends}
 use Rattle.wasi_causes.proofs.ListenPolls.{ListenGives as ListenPolled, poll_listen_gives}
-use Rattle.wasi_run.proofs.StepCauses.{Gives, gives_then, gives_where}
 use Rattle.wasi_causes.proofs.WaitCauses.{OutputGives, output_gives}
 
 -- == what stands under a number

@@ -19,7 +19,7 @@ use Rattle.wasi_run.specs.declared.step.Step.TheVariants as step
 use Rattle.wasi_run.specs.Answered.{Answered}
 use Rattle.wasi_run.specs.Waiting.{IsRestOfBind, StandsByBind, CallWaits, StandingWaits, BindFailed, StandingFails}
 use Rattle.wasi_causes.proofs.PollCauses.{the_bind, PollAnswer, NoCall, OfNothing, BindDone, BindRefused, BindWaits, the_listen, ListensOnNothing, ListenDone, ListenRefused, ListenWaitsOn, DropDone, DropWaits, PollSays, poll_says}
-use Rattle.wasi_run.proofs.StepCauses.{settled, busy_exactly}
+use Rattle.wasi_causes.proofs.StepCauses.{settled, busy_exactly}
 
 module _ (m : Machine) (n : ℕ) where
   abbrev Answer : List Entry → Reply → Machine → Type 0

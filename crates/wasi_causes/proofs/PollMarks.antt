@@ -19,7 +19,7 @@ use Rattle.wasi_world.specs.Operation.{Given, Nothing, Item, Check, CheckLocal, 
 use Rattle.wasi_world.proofs.Allowed.{Allows, allows_if, allows_keep, FrontKeeps, allows_polls}
 use Rattle.wasi_run.specs.Licence.{marked_by, marks_in}
 use Rattle.wasi_run.proofs.Lists.{marks_in-push}
-use Rattle.wasi_run.proofs.StepCauses.{Gives, gives_more, allows_ask}
+use Rattle.wasi_run.proofs.Gives.{Gives, gives_more, allows_ask}
 
 abbrev IsOwn : Who → List Entry → OpId → Call → Type 0
 IsOwn who es op call = (op ≡ who.id) × (marked_by call ≡ 0)

@@ -53,10 +53,10 @@ use Rattle.wasi_run.specs.Listens.{AcceptWaits, accept_name, HasNoListener, Acce
 use Rattle.wasi_run.specs.Machine.{handle_reply, truth_reply, first_ids}
 use Rattle.wasi_run.specs.Reply.{number_fields, truth_fields}
 use Rattle.wasi_run.specs.Waiting.{pollable_mark, OfWatched, IsIdleSocket, IsUnready, AcceptWaitsOn, ConnectWaits, InputWaits, WriteWaits}
+use Rattle.wasi_run.proofs.Gives.{Gives, gives_then, gives_where}
 use Rattle.wasi_causes.proofs.AcceptPolls.{AcceptEnds, poll_accept_ends}
 use Rattle.wasi_causes.proofs.ConnectPolls.{ConnectEnds, poll_connect_ends}
 use Rattle.wasi_causes.proofs.RecordCauses.{put_store_same}
-use Rattle.wasi_run.proofs.StepCauses.{Gives, gives_then, gives_where}
 use Rattle.wasi_causes.proofs.WaitCauses.{LookGives, look_gives}
 
 -- == a subscription

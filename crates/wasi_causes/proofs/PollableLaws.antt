@@ -20,7 +20,7 @@ use Rattle.wasi_run.specs.Listens.{AcceptsIn}
 use Rattle.wasi_run.specs.Reply.{number_fields, truth_fields}
 use Rattle.wasi_run.specs.Waiting.{pollable_mark, OfWatched, IsUnready, WatchesConnect, WatchesAccept, IsIdleSocket, WatchesIdle, IsFailure}
 use Rattle.wasi_causes.proofs.PollableCauses.{SubscribeAnswer, NotWatchable, NoRoom, Subscribes, SubscribeSays, subscribe_says, ReadyAnswer, NothingWatched, IsReadyNow, IsNotReady, ReadySays, ready_says}
-use Rattle.wasi_run.proofs.StepCauses.{settled, free_to_go}
+use Rattle.wasi_causes.proofs.StepCauses.{settled, free_to_go}
 
 -- == a subscription
 module _ (m : Machine) (line handle : ℕ) where

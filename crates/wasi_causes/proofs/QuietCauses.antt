@@ -5,19 +5,20 @@ use Rattle.wasi_world.specs.declared.outcome.TrapKind.TheVariants.{NoSuchHandle}
 use Rattle.wasi_world.specs.declared.outcome.WasiSocketsCtx.{WasiSocketsCtx}
 use Rattle.wasi_world.specs.Asks.{Give, Left}
 use Rattle.wasi_host.specs.declared.machine.Machine.{Machine}
-use Rattle.wasi_run.specs.declared.reply.CodeWord.{CodeWord}
-use Rattle.wasi_run.specs.declared.reply.Reply.{Reply}
-use Rattle.wasi_run.specs.declared.reply.Reply.TheVariants as reply
 use Rattle.wasi_host.specs.declared.socket.Tcp2Socket.{Tcp2Socket}
-use Rattle.wasi_run.specs.declared.step.Step.{Step}
-use Rattle.wasi_run.specs.declared.step.Step.TheVariants as step
 use Rattle.wasi_host.specs.declared.store.Standing.{Standing}
 use Rattle.wasi_host.specs.Store.{is_listening_at, address_family_at}
 use Rattle.wasi_host.specs.Machine.{socket_at}
 use Rattle.wasi_p2.specs.Tcp.{is_listening_on, address_family_on}
+use Rattle.wasi_run.specs.declared.reply.CodeWord.{CodeWord}
+use Rattle.wasi_run.specs.declared.reply.Reply.{Reply}
+use Rattle.wasi_run.specs.declared.reply.Reply.TheVariants as reply
+use Rattle.wasi_run.specs.declared.step.Step.{Step}
+use Rattle.wasi_run.specs.declared.step.Step.TheVariants as step
 use Rattle.wasi_run.specs.Machine.{truth_reply, family_reply, step_asks, machine_asks}
 use Rattle.wasi_run.specs.Answered.{Answered, IsQuiet, record_in, record_at}
-use Rattle.wasi_run.proofs.StepCauses.{Gives, given, settled}
+use Rattle.wasi_run.proofs.Gives.{Gives, given}
+use Rattle.wasi_causes.proofs.StepCauses.{settled}
 
 -- == its answers
 -- it isn't refused, and traps where the record isn't there

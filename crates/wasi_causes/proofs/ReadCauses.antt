@@ -20,7 +20,7 @@ use Rattle.wasi_tcp.specs.Halves.{polled_answer}
 use Rattle.wasi_tcp.specs.Reader.{after_read, read_state_asks}
 use Rattle.wasi_run.specs.Licence.{entry, marks_in}
 use Rattle.wasi_run.specs.Answered.{read_entry, ReadsTold, ReadsNone, LengthZero, ToldToWait, ReadsEnd, AlreadyClosed, ToldNone, ReadFails}
-use Rattle.wasi_run.proofs.StepCauses.{Gives}
+use Rattle.wasi_run.proofs.Gives.{Gives}
 use Rattle.wasi_causes.proofs.StreamCauses.{IsSound}
 
 module _ (own : OpId) (len : ℕ) where

@@ -7,21 +7,22 @@ use Rattle.wasi_world.specs.declared.outcome.WasiSocketsCtx.{WasiSocketsCtx}
 use Rattle.wasi_world.specs.Asks.{Give, bind}
 use Rattle.wasi_tcp.specs.declared.reader.ReadState.{ReadState}
 use Rattle.wasi_host.specs.declared.machine.Machine.{Machine}
+use Rattle.wasi_host.specs.declared.socket.Streams.{Streams}
+use Rattle.wasi_host.specs.declared.socket.Tcp2Socket.{Tcp2Socket}
+use Rattle.wasi_host.specs.Host.{CallStop}
+use Rattle.wasi_host.specs.Store.{with_reader}
+use Rattle.wasi_host.specs.Machine.{input_at, own_of}
+use Rattle.wasi_host.specs.StreamCalls.{read_asks}
 use Rattle.wasi_run.specs.declared.reply.CodeWord.{CodeWord}
 use Rattle.wasi_run.specs.declared.reply.Field.{Field}
 use Rattle.wasi_run.specs.declared.reply.Reply.{Reply}
 use Rattle.wasi_run.specs.declared.reply.Reply.TheVariants as reply
-use Rattle.wasi_host.specs.declared.socket.Streams.{Streams}
-use Rattle.wasi_host.specs.declared.socket.Tcp2Socket.{Tcp2Socket}
 use Rattle.wasi_run.specs.declared.step.Step.TheVariants as step
-use Rattle.wasi_host.specs.Host.{CallStop}
 use Rattle.wasi_run.specs.Reply.{bytes_fields}
-use Rattle.wasi_host.specs.Store.{with_reader}
-use Rattle.wasi_host.specs.Machine.{input_at, own_of}
-use Rattle.wasi_host.specs.StreamCalls.{read_asks}
 use Rattle.wasi_run.specs.Machine.{bytes_reply}
 use Rattle.wasi_run.specs.Answered.{Answered, putting, OfStreams, ReadsTold, ReadsNone, ReadsEnd, ReadFails, FailsWith, closing_reader, with_error}
-use Rattle.wasi_run.proofs.StepCauses.{Gives, settled}
+use Rattle.wasi_run.proofs.Gives.{Gives}
+use Rattle.wasi_causes.proofs.StepCauses.{settled}
 use Rattle.wasi_causes.proofs.StreamCauses.{NotThere, ItGives, ItFails, FindsFull, ItIsClosed, ItTraps}
 use Rattle.wasi_causes.proofs.ReadCauses.{ReadGives}
 use Rattle.wasi_causes.proofs.StreamSteps.{answered_by, ReadAnswer, read_answers, of_more, streams_same}

@@ -63,25 +63,32 @@ module _ (m : Machine) (f : Fit (Over m)) where
   stands_by None h = tt
   stands_by (Some s) h = by_call s.call (h s refl)
 
+-- what its sockets connect by is a connect, and what its listeners accept by is an accept
+pub connects_at : (m : Machine) → Fit (Over m) → (handle : ℕ) → ConnectsAt m handle
+connects_at m f handle = of_record m f _ (λ r k. k.0) (socket_at m handle)
+
+pub accepts_at : (m : Machine) → Fit (Over m) → (handle : ℕ) → AcceptsAt m handle
+accepts_at m f handle = of_record m f _ (λ r k. accepts_so r.listening k.1) (socket_at m handle)
+
 -- == of a run
 abbrev pub Between : ℕ → List Entry → Machine → Type 0
 Between line es m = Fit (Over m)
 
-line_fits : (contexts : List WasiSocketsCtx) (line : ℕ) (s : Step) (m : Machine) (es : List Entry) → Fit (Over m) → Allows Anything (λ fs done. Fit (Over done.1)) es (machine_asks contexts m line s m.store.standing)
+pub line_fits : (contexts : List WasiSocketsCtx) (line : ℕ) (s : Step) (m : Machine) (es : List Entry) → Fit (Over m) → Allows Anything (λ fs done. Fit (Over done.1)) es (machine_asks contexts m line s m.store.standing)
 line_fits contexts line s m es f = fits_along contexts line s (machine_walks line s m m.store.standing refl) es (starts_fit m (may_while m s m.store.standing) f)
 
 module _ (contexts : List WasiSocketsCtx) (steps : List Step) (es : List Entry) (replies : List Reply) (m : Machine) (w : Left (run contexts [] first_state 1 steps) es (Give (replies, m))) where
-  fits : Fit (Over m)
+  pub fits : Fit (Over m)
   fits = (run_ends contexts Anything Between (line_fits contexts) first_fit steps es replies m w).1
 
   pub runs_connect : (handle : ℕ) → ConnectsAt m handle
-  runs_connect handle = of_record m fits _ (λ r k. k.0) (socket_at m handle)
+  runs_connect = connects_at m fits
 
   pub runs_watch : (pollable : ℕ) → WatchesConnect m pollable
   runs_watch pollable = of_watched m fits _ (λ r k. k.0) (watch_of (kind_at m.table pollable))
 
   pub runs_accept : (handle : ℕ) → AcceptsAt m handle
-  runs_accept handle = of_record m fits _ (λ r k. accepts_so r.listening k.1) (socket_at m handle)
+  runs_accept = accepts_at m fits
 
   pub runs_watch_accept : (pollable : ℕ) → WatchesAccept m pollable
   runs_watch_accept pollable = of_watched m fits _ (λ r k. accepts_so r.listening k.1) (watch_of (kind_at m.table pollable))

@@ -17,12 +17,12 @@ use Rattle.wasi_run.specs.declared.reply.CodeWord.TheVariants as word
 use Rattle.wasi_run.specs.declared.reply.Reply.{Reply}
 use Rattle.wasi_run.specs.declared.reply.Reply.TheVariants as reply
 use Rattle.wasi_run.specs.Answered.{record_in, record_at, putting, OfStreams}
-use Rattle.wasi_causes.specs.GivenUp.{shutdown_entries, shut_down}
 use Rattle.wasi_run.specs.Machine.{done_reply}
 use Rattle.wasi_run.specs.Reply.{no_fields}
+use Rattle.wasi_run.proofs.Gives.{Gives, gives_then}
+use Rattle.wasi_causes.specs.GivenUp.{shutdown_entries, shut_down}
 use Rattle.wasi_causes.proofs.GiveUps.{ShutSo, shut_gives}
 use Rattle.wasi_causes.proofs.RecordCauses.{put_back, found}
-use Rattle.wasi_run.proofs.StepCauses.{Gives, gives_then}
 
 module _ (m : Machine) (line handle : ℕ) (how : ShutdownType) where
   abbrev own : OpId

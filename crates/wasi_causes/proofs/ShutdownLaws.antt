@@ -18,7 +18,7 @@ use Rattle.wasi_run.specs.Answered.{Answered, record_at, putting, OfStreams}
 use Rattle.wasi_causes.specs.GivenUp.{HasNoStreams, shutdown_entries, shut_down}
 use Rattle.wasi_causes.proofs.RecordCauses.{found}
 use Rattle.wasi_causes.proofs.ShutdownCauses.{ShutTo, ShutdownAnswer, NoRecord, NoStreams, Shuts, ShutdownSays, shutdown_says}
-use Rattle.wasi_run.proofs.StepCauses.{settled, free_to_go}
+use Rattle.wasi_causes.proofs.StepCauses.{settled, free_to_go}
 use Rattle.wasi_causes.proofs.StreamSteps.{of_more}
 
 none_has_none : (o : Option Tcp2Socket) → o ≡ None → HasNoStreams o → ⊥

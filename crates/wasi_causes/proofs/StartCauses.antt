@@ -5,17 +5,18 @@ use Rattle.wasi_world.specs.declared.call.Entry.{Entry}
 use Rattle.wasi_world.specs.declared.outcome.TrapKind.TheVariants.{NoSuchHandle}
 use Rattle.wasi_world.specs.declared.outcome.WasiSocketsCtx.{WasiSocketsCtx}
 use Rattle.wasi_host.specs.declared.machine.Machine.{Machine}
+use Rattle.wasi_host.specs.declared.socket.Tcp2Socket.{Tcp2Socket}
+use Rattle.wasi_host.specs.Store.{is_nothing}
+use Rattle.wasi_host.specs.Machine.{socket_at}
 use Rattle.wasi_run.specs.declared.reply.CodeWord.{CodeWord}
 use Rattle.wasi_run.specs.declared.reply.CodeWord.TheVariants as word
 use Rattle.wasi_run.specs.declared.reply.Reply.{Reply}
 use Rattle.wasi_run.specs.declared.reply.Reply.TheVariants as reply
-use Rattle.wasi_host.specs.declared.socket.Tcp2Socket.{Tcp2Socket}
 use Rattle.wasi_run.specs.declared.step.Step.{Step}
-use Rattle.wasi_host.specs.Store.{is_nothing}
-use Rattle.wasi_host.specs.Machine.{socket_at}
 use Rattle.wasi_run.specs.Machine.{step_asks}
 use Rattle.wasi_run.specs.Answered.{Answered, record_at, RefusedOf, HasOperationInProgress, StartRefusal, InProgress, Begins}
-use Rattle.wasi_run.proofs.StepCauses.{Gives, settled, busy_exactly}
+use Rattle.wasi_run.proofs.Gives.{Gives}
+use Rattle.wasi_causes.proofs.StepCauses.{settled, busy_exactly}
 use Rattle.wasi_causes.proofs.RecordCauses.{IsIdle, found}
 
 module _ (m : Machine) (handle : ℕ) (Missing : Type 0) (Begun : ℕ → Tcp2Socket → List Entry → CodeWord → Machine → Type 0) (Stands : List Entry → ℕ → Machine → Type 0) where

@@ -12,6 +12,7 @@ use Rattle.wasi_world.specs.declared.outcome.TrapKind.TheVariants.{NoSuchHandle,
 use Rattle.wasi_world.specs.Asks.{Asks, Give, bind}
 use Rattle.wasi_streams.specs.StreamStop.{StreamStop}
 use Rattle.wasi_streams.specs.StreamStop as stop
+use Rattle.wasi_streams.specs.Table.{is_full}
 use Rattle.wasi_tcp.specs.declared.reader.ReadState.{ReadState}
 use Rattle.wasi_tcp.specs.declared.writer.WriteState.{WriteState}
 use Rattle.wasi_host.specs.declared.machine.Machine.{Machine}
@@ -19,7 +20,6 @@ use Rattle.wasi_host.specs.declared.socket.Streams.{Streams}
 use Rattle.wasi_host.specs.declared.socket.Tcp2Socket.{Tcp2Socket}
 use Rattle.wasi_host.specs.declared.kind.Kind.TheVariants.{ErrorValue}
 use Rattle.wasi_host.specs.Host.{CallStop, Failed, Closed, Traps}
-use Rattle.wasi_streams.specs.Table.{is_full}
 use Rattle.wasi_host.specs.Kinds.{with_handle, make_asks}
 use Rattle.wasi_host.specs.Store.{Records, with_socket, with_reader, with_writer, reader_of, reader_asks, writer_of, writer_asks, stream_at, with_record_put}
 use Rattle.wasi_host.specs.Machine.{side_at, with_table, with_store}
@@ -27,7 +27,7 @@ use Rattle.wasi_host.specs.Jobs.{has_job, with_job, begins_job, write_at}
 use Rattle.wasi_host.specs.StreamCalls.{failed_made, stopped, converted, stream_on, write_on}
 use Rattle.wasi_run.specs.Licence.{entry, marks_in}
 use Rattle.wasi_run.specs.Answered.{record_in, streams_in, OfStreams}
-use Rattle.wasi_run.proofs.StepCauses.{Gives, gives_then}
+use Rattle.wasi_run.proofs.Gives.{Gives, gives_then}
 use Rattle.wasi_causes.proofs.RecordCauses.{put_store_same}
 use Rattle.wasi_causes.proofs.CreateCauses.{make_gives}
 

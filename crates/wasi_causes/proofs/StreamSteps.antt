@@ -6,15 +6,15 @@ use Rattle.wasi_world.specs.Asks.{Asks, Give, bind}
 use Rattle.wasi_tcp.specs.Reader.{read_state_asks}
 use Rattle.wasi_tcp.specs.Writer.{check_write_asks, write_state_asks}
 use Rattle.wasi_host.specs.declared.machine.Machine.{Machine}
-use Rattle.wasi_run.specs.declared.reply.Reply.{Reply}
 use Rattle.wasi_host.specs.declared.socket.Streams.{Streams}
 use Rattle.wasi_host.specs.declared.socket.Tcp2Socket.{Tcp2Socket}
 use Rattle.wasi_host.specs.Host.{CallStop}
 use Rattle.wasi_host.specs.Store.{with_reader, with_writer, reader_asks, writer_asks, flush_asks}
 use Rattle.wasi_host.specs.Machine.{input_at, output_at, own_of}
 use Rattle.wasi_host.specs.StreamCalls.{read_asks, check_asks, write_asks, flushed_asks}
+use Rattle.wasi_run.specs.declared.reply.Reply.{Reply}
 use Rattle.wasi_run.specs.Answered.{record_in, streams_in, putting, OfStreams}
-use Rattle.wasi_run.proofs.StepCauses.{Gives, gives_then}
+use Rattle.wasi_run.proofs.Gives.{Gives, gives_then}
 use Rattle.wasi_causes.proofs.RecordCauses.{put_same}
 use Rattle.wasi_causes.proofs.StreamCauses.{StreamAnswer, all_kept, job_noted, on_gives, write_on_gives, reader_called, writer_called}
 use Rattle.wasi_causes.proofs.ReadCauses.{ReadGives, read_gives}

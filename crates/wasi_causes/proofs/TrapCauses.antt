@@ -10,28 +10,29 @@ use Rattle.wasi_world.specs.declared.outcome.TrapKind.TheVariants.{NoSuchHandle,
 use Rattle.wasi_world.specs.declared.outcome.WasiSocketsCtx.{WasiSocketsCtx}
 use Rattle.wasi_streams.specs.StreamStop.{StreamStop}
 use Rattle.wasi_streams.specs.StreamStop as stop
+use Rattle.wasi_streams.specs.Table.{is_full}
 use Rattle.wasi_host.specs.declared.machine.Machine.{Machine}
-use Rattle.wasi_run.specs.declared.reply.CodeWord.{CodeWord}
-use Rattle.wasi_run.specs.declared.reply.Reply.{Reply}
-use Rattle.wasi_run.specs.declared.reply.Reply.TheVariants as reply
 use Rattle.wasi_host.specs.declared.socket.InProgress.{InProgress}
 use Rattle.wasi_host.specs.declared.socket.Streams.{Streams}
 use Rattle.wasi_host.specs.declared.socket.Tcp2Socket.{Tcp2Socket}
-use Rattle.wasi_run.specs.declared.step.Step.{Step}
-use Rattle.wasi_run.specs.declared.step.Step.TheVariants as step
 use Rattle.wasi_host.specs.Host.{CallStop}
 use Rattle.wasi_host.specs.Kinds.{Handles}
-use Rattle.wasi_streams.specs.Table.{is_full}
 use Rattle.wasi_host.specs.Store.{Records, with_reader, with_writer, is_bind, is_listen, finish_by, finish_at}
 use Rattle.wasi_host.specs.Machine.{socket_at, input_at, output_at, own_of, turn_machine_asks}
 use Rattle.wasi_p2.specs.Tcp.{finish_on}
+use Rattle.wasi_run.specs.declared.reply.CodeWord.{CodeWord}
+use Rattle.wasi_run.specs.declared.reply.Reply.{Reply}
+use Rattle.wasi_run.specs.declared.reply.Reply.TheVariants as reply
+use Rattle.wasi_run.specs.declared.step.Step.{Step}
+use Rattle.wasi_run.specs.declared.step.Step.TheVariants as step
 use Rattle.wasi_run.specs.Machine.{done_reply, call_stop_reply, bytes_reply, permit_reply, taken_reply, context_at, step_asks}
 use Rattle.wasi_run.specs.Licence.{marks_in}
 use Rattle.wasi_run.specs.Answered.{Answered, record_in, record_at, streams_in, MissesHandle, MakesHandle, IsWrite}
-use Rattle.wasi_causes.specs.GivenUp.{IsDrop}
 use Rattle.wasi_run.specs.Settings.{chosen}
 use Rattle.wasi_run.specs.Waiting.{IsPoll, MayStand, left_missing}
-use Rattle.wasi_run.proofs.StepCauses.{Gives, gives_any, gives_more, gives_then, settled}
+use Rattle.wasi_run.proofs.Gives.{Gives, gives_any, gives_more, gives_then}
+use Rattle.wasi_causes.specs.GivenUp.{IsDrop}
+use Rattle.wasi_causes.proofs.StepCauses.{settled}
 use Rattle.wasi_causes.proofs.RecordCauses.{RecordSays}
 use Rattle.wasi_causes.proofs.CreateCauses.{NetworkSays, network_says, CreateSays, create_says}
 use Rattle.wasi_causes.proofs.BindCauses.{BindSays, bind_says}

@@ -25,10 +25,10 @@ use Rattle.wasi_run.specs.Answered.{Answered}
 use Rattle.wasi_run.specs.Licence.{Has}
 use Rattle.wasi_run.specs.Machine.{machine_asks}
 use Rattle.wasi_run.specs.Reply.{no_fields}
-use Rattle.wasi_causes.specs.Turns.{writes_by, writer_asks_by, job_of, IsOfJob}
 use Rattle.wasi_run.proofs.Lists.{cut_of}
+use Rattle.wasi_run.proofs.Gives.{Gives, given, allows_ask}
+use Rattle.wasi_causes.specs.Turns.{writes_by, writer_asks_by, job_of, IsOfJob}
 use Rattle.wasi_causes.proofs.PollMarks.{AnyEnd, poll_asks_by}
-use Rattle.wasi_run.proofs.StepCauses.{Gives, given, allows_ask}
 
 -- == one write
 -- it asks by its operation, which stays the same

@@ -16,23 +16,24 @@ use Rattle.wasi_tcp.specs.declared.writer.WriteState.{WriteState}
 use Rattle.wasi_tcp.specs.declared.writer.WriteState.TheVariants as writing
 use Rattle.wasi_tcp.specs.Writer.{flush_of}
 use Rattle.wasi_host.specs.declared.machine.Machine.{Machine}
-use Rattle.wasi_run.specs.declared.reply.CodeWord.{CodeWord}
-use Rattle.wasi_run.specs.declared.reply.Field.{Field}
-use Rattle.wasi_run.specs.declared.reply.Reply.{Reply}
-use Rattle.wasi_run.specs.declared.reply.Reply.TheVariants as reply
 use Rattle.wasi_host.specs.declared.socket.Streams.{Streams}
 use Rattle.wasi_host.specs.declared.socket.Tcp2Socket.{Tcp2Socket}
-use Rattle.wasi_run.specs.declared.step.Step.TheVariants as step
 use Rattle.wasi_host.specs.Host.{CallStop}
-use Rattle.wasi_run.specs.Reply.{number_fields}
 use Rattle.wasi_host.specs.Store.{Records, with_socket, with_writer}
 use Rattle.wasi_host.specs.Jobs.{has_job, with_job, begins_job}
 use Rattle.wasi_host.specs.Machine.{output_at, own_of}
 use Rattle.wasi_host.specs.StreamCalls.{check_asks, write_asks, flushed_asks}
+use Rattle.wasi_run.specs.declared.reply.CodeWord.{CodeWord}
+use Rattle.wasi_run.specs.declared.reply.Field.{Field}
+use Rattle.wasi_run.specs.declared.reply.Reply.{Reply}
+use Rattle.wasi_run.specs.declared.reply.Reply.TheVariants as reply
+use Rattle.wasi_run.specs.declared.step.Step.TheVariants as step
+use Rattle.wasi_run.specs.Reply.{number_fields}
 use Rattle.wasi_run.specs.Machine.{permit_reply, taken_reply}
 use Rattle.wasi_run.specs.Answered.{Answered, putting, OfStreams, output_streams, Permits, IsUnpermitted, IsGivenUp, WasClosedWith, FailsWith, with_error, closing_writer, CheckFails, WriteFails}
-use Rattle.wasi_run.proofs.StepCauses.{Gives, settled, busy_exactly}
+use Rattle.wasi_run.proofs.Gives.{Gives}
 use Rattle.wasi_run.proofs.Lists.{set_there}
+use Rattle.wasi_causes.proofs.StepCauses.{settled, busy_exactly}
 use Rattle.wasi_causes.proofs.StreamCauses.{job_noted, none_begun, NotThere, ItGives, ItFails, FindsFull, ItIsClosed, ItTraps}
 use Rattle.wasi_causes.proofs.WriteCauses.{WriteGives}
 use Rattle.wasi_causes.proofs.StreamSteps.{answered_by, CheckAnswer, check_answers, WriteAnswer, write_answers, FlushAnswer, flush_answers, of_more, the_streams, streams_same}

@@ -1,3 +1,4 @@
 pub mod GivenUp
 pub mod Options
 pub mod Turns
+pub mod MayAnswer

@@ -9,7 +9,7 @@ pub mod Completes
 pub mod CauseLaws
 pub mod Headline
 pub mod Lists
-pub mod StepCauses
+pub mod Gives
 pub mod StepWords
 pub mod SettingLaws
 pub mod StepLaws

@@ -36,7 +36,6 @@ use Rattle.wasi_host.specs.declared.listening.Listening.{Listening}
 use Rattle.wasi_host.specs.declared.socket.Streams.{Streams}
 use Rattle.wasi_host.specs.declared.socket.Tcp2Socket.{Tcp2Socket}
 use Rattle.wasi_host.specs.declared.store.Standing.{Standing}
-use Rattle.wasi_host.specs.Dropping.{gone}
 use Rattle.wasi_host.specs.Kinds.{name_of, make_asks}
 use Rattle.wasi_host.specs.declared.listening.Listening.TheVariants.{Not}
 use Rattle.wasi_host.specs.Listening.{give_up_asks, standing_listen, with_listening}

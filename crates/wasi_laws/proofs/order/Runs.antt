@@ -12,7 +12,6 @@ use Rattle.wasi_host.specs.declared.machine.Machine.{Machine}
 use Rattle.wasi_host.specs.Machine.{first_state}
 use Rattle.wasi_run.specs.declared.reply.Reply.{Reply}
 use Rattle.wasi_run.specs.declared.step.Step.{Step}
-use Rattle.wasi_run.specs.declared.step.Step.TheVariants as step
 use Rattle.wasi_run.specs.Machine.{machine_asks, run}
 use Rattle.wasi_laws.specs.Order.{ChecksFirst, asked_by}
 use Rattle.wasi_laws.proofs.order.Weights.{nothing, store_weight}

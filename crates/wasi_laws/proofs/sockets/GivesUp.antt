@@ -1,5 +1,5 @@
 -- A listening that is given up: what goes on is cancelled, an arrival is refused, and what was not taken is closed.
-use Rattle.std.proofs.Common.{◌≡◌, inl, inr, ℕ, ◌+◌, List, [], ◌∷◌, ◌++◌, Option, Some, None, refl, sym, ap, subst, ◌∙◌}
+use Rattle.std.proofs.Common.{◌≡◌, inl, inr, ℕ, List, [], ◌∷◌, ◌++◌, Option, Some, None, refl, sym, ap, subst, ◌∙◌}
 use Rattle.wasi_addr.specs.declared.address.IpSocketAddress.{IpSocketAddress}
 use Rattle.wasi_world.specs.declared.ids.OpId.{OpId}
 use Rattle.wasi_world.specs.declared.call.Call.TheVariants as call
@@ -10,10 +10,9 @@ use Rattle.wasi_world.specs.Operation.{Operation, Who}
 use Rattle.wasi_world.proofs.Allowed.{Allows, allows_if}
 use Rattle.wasi_tcp.specs.declared.listener.Accepting.{Accepting}
 use Rattle.wasi_tcp.specs.declared.listener.Accepting.TheVariants as accepting
-use Rattle.wasi_tcp.specs.declared.socket.TcpState.TheVariants as state
 use Rattle.wasi_tcp.specs.Accept.{in_hand, refuse_in}
 use Rattle.wasi_tcp.specs.Listen.{is_over}
-use Rattle.wasi_tcp.specs.Listener.{Listener, give_up_in, arrived}
+use Rattle.wasi_tcp.specs.Listener.{Listener, give_up_in}
 use Rattle.wasi_host.specs.declared.listening.Listening.{Listening}
 use Rattle.wasi_host.specs.declared.listening.Listening.TheVariants.{Not, Begins, Accepts, Unclosed}
 use Rattle.wasi_host.specs.declared.socket.Tcp2Socket.{Tcp2Socket}

@@ -15,7 +15,6 @@ use Rattle.wasi_tcp.specs.Job.{Job, job_in, job_asks}
 use Rattle.wasi_tcp.specs.Listener.{Listener, accept_ended, arrived, HoldsAccept, IsAcceptOn}
 use Rattle.wasi_tcp.specs.Socket.{side_in, side_of}
 use Rattle.wasi_tcp.specs.Writer.{writer_side, writing_side, closing_side, turn_asks}
-use Rattle.wasi_host.specs.declared.listening.Listening.{Listening}
 use Rattle.wasi_host.specs.declared.listening.Listening.TheVariants.{Begins, Accepts, Unclosed}
 use Rattle.wasi_host.specs.declared.socket.Streams.{Streams}
 use Rattle.wasi_host.specs.declared.socket.Tcp2Socket.{Tcp2Socket}

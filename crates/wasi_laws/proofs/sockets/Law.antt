@@ -1,6 +1,6 @@
 -- The law that what is asked of a socket is asked while it is open, on the base law.
 use Rattle.std.specs.Prelude.{⊤}
-use Rattle.std.proofs.Common.{◌≡◌, inl, ℕ, ◌+◌, List, [], ◌∷◌, ◌++◌, Option, Some, None, Result, Ok, Err, refl, sym, ap, subst, ◌∙◌, slice_get, length, arith}
+use Rattle.std.proofs.Common.{◌≡◌, inl, ℕ, List, [], ◌∷◌, ◌++◌, Option, Some, None, Result, Ok, Err, refl, sym, ap, subst, ◌∙◌, slice_get, length, arith}
 use Rattle.wasi_addr.specs.declared.address.SocketAddressFamily.{SocketAddressFamily}
 use Rattle.wasi_addr.specs.declared.code.ErrorCode.{ErrorCode}
 use Rattle.wasi_world.specs.declared.ids.OpId.{OpId}
@@ -13,11 +13,9 @@ use Rattle.wasi_world.specs.declared.outcome.WasiSocketsCtx.{WasiSocketsCtx}
 use Rattle.wasi_world.specs.Asks.{Asks, bind}
 use Rattle.wasi_world.specs.Typed.{told_addr, told_done}
 use Rattle.wasi_world.specs.Fits.{IsDoneOrCode}
-use Rattle.wasi_world.specs.Operation.{Done}
 use Rattle.wasi_world.proofs.Allowed.{Allows, allows_then, allows_if, allows_weaker}
 use Rattle.wasi_streams.specs.Table.{is_full}
 use Rattle.wasi_tcp.specs.declared.socket.TcpState.TheVariants as state
-use Rattle.wasi_tcp.specs.Listener.{arrived}
 use Rattle.wasi_tcp.specs.Shape.{Socket}
 use Rattle.wasi_tcp.specs.Socket.{side_in, side_of, after_local, after_create, new_asks}
 use Rattle.wasi_host.specs.declared.kind.Kind.{Kind}

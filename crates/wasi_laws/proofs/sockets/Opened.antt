@@ -6,7 +6,6 @@ use Rattle.wasi_world.specs.declared.call.Told.{Told}
 use Rattle.wasi_world.specs.declared.call.Entry.{Entry}
 use Rattle.wasi_world.specs.Operation.{Operation}
 use Rattle.wasi_host.specs.declared.socket.Tcp2Socket.{Tcp2Socket}
-use Rattle.wasi_host.specs.declared.store.StandingCall.TheVariants as standing
 use Rattle.wasi_host.specs.Store.{standing_bind}
 use Rattle.wasi_run.specs.Licence.{entry}
 use Rattle.wasi_laws.specs.Opened.{IsClosed, IsOpen}

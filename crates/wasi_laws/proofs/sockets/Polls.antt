@@ -1,6 +1,6 @@
 -- One poll of an operation asks of its own side alone, and closes it only last, where it is refused.
 use Rattle.std.specs.Prelude.{⊤, not, ◌&&◌}
-use Rattle.std.proofs.Common.{◌≡◌, Bool, true, false, if◌then◌else◌, zero, suc, ℕ, List, [], ◌∷◌, ◌++◌, Option, Some, None, Result, Ok, Err, refl, sym, subst, length}
+use Rattle.std.proofs.Common.{◌≡◌, Bool, true, false, if◌then◌else◌, zero, suc, ℕ, List, [], ◌∷◌, ◌++◌, Option, Result, Ok, Err, refl, sym, subst}
 use Rattle.wasi_addr.specs.declared.address.IpAddress.{IpAddress}
 use Rattle.wasi_addr.specs.declared.address.IpSocketAddress.{IpSocketAddress}
 use Rattle.wasi_addr.specs.declared.address.SocketAddressFamily.{SocketAddressFamily}
@@ -17,7 +17,7 @@ use Rattle.wasi_world.specs.declared.asks.Polled.{Polled}
 use Rattle.wasi_world.specs.declared.asks.Polled.TheVariants as polled
 use Rattle.wasi_world.specs.Asks.{Asks, bind}
 use Rattle.wasi_world.specs.Typed.{told_verdict, told_addr, told_done, told_polled, told_arrival, told_taken, told_names, told_datagram}
-use Rattle.wasi_world.specs.Operation.{Given, Nothing, Connection, Datagram, Item, Check, CheckLocal, Bind, Connect, Listen, Accept, CheckArrival, Hand, Refuse, Write, ShutdownSend, UdpWritable, UdpBind, UdpConnect, AskPeer, Send, Receive, CheckPeer, Lookup, Last, Who, LastAsk, NothingLast, CloseLast, ShutdownLast, Front, Goes, Stays, Again, Ends, End, Waits, Done, Refused, verdict_front, done_front, polled_front, check_front, local_front, hand_front, refuse_front, admitted_front, arrival_front, accept_front, write_front, taken_front, less_one, ask_peer_front, peer_front, remote_told, send_front, is_now, receive_front, received_front, check_peer_front, is_wanted, lookup_front, front, last_ask, poll_asks}
+use Rattle.wasi_world.specs.Operation.{Given, Nothing, Connection, Datagram, Item, Check, CheckLocal, Bind, Connect, Listen, Accept, CheckArrival, Hand, Refuse, Write, ShutdownSend, UdpWritable, UdpBind, UdpConnect, AskPeer, Send, Receive, CheckPeer, Lookup, Last, Who, LastAsk, NothingLast, CloseLast, ShutdownLast, Front, Goes, Again, Ends, End, Waits, Done, Refused, verdict_front, done_front, polled_front, check_front, local_front, hand_front, refuse_front, admitted_front, arrival_front, accept_front, write_front, taken_front, less_one, ask_peer_front, peer_front, remote_told, send_front, is_now, receive_front, received_front, check_peer_front, is_wanted, lookup_front, front, last_ask, poll_asks}
 use Rattle.wasi_world.proofs.Allowed.{Allows, FrontKeeps, allows_polls, allows_if}
 use Rattle.wasi_run.specs.Licence.{entry}
 use Rattle.wasi_laws.specs.Opened.{IsMade, HandedOver, IsOpen, IsAskedOpen, socket_of}

@@ -3,7 +3,6 @@ use Rattle.std.specs.Prelude.{⊤}
 use Rattle.std.proofs.Common.{◌≡◌, ◌⊎◌, inl, inr, ℕ, List, Option, Some, None, refl, sym, ap, subst, ◌∙◌}
 use Rattle.wasi_addr.specs.declared.address.IpSocketAddress.{IpSocketAddress}
 use Rattle.wasi_world.specs.declared.ids.OpId.{OpId}
-use Rattle.wasi_world.specs.declared.call.Call.TheVariants as call
 use Rattle.wasi_world.specs.declared.call.Entry.{Entry}
 use Rattle.wasi_world.specs.Operation.{Operation, End, Waits, Done, Refused, CloseLast, NothingLast, ShutdownLast, LastAsk, Given}
 use Rattle.wasi_tcp.specs.declared.listener.Accepting.{Accepting}
@@ -16,7 +15,7 @@ use Rattle.wasi_tcp.specs.declared.writer.WriteState.{WriteState}
 use Rattle.wasi_tcp.specs.declared.writer.WriteState.TheVariants as writing
 use Rattle.wasi_tcp.specs.Connecting.{with_state}
 use Rattle.wasi_tcp.specs.Job.{Job, closing_job}
-use Rattle.wasi_tcp.specs.Listener.{Listener, arrived}
+use Rattle.wasi_tcp.specs.Listener.{Listener}
 use Rattle.wasi_tcp.specs.Socket.{side_in, side_of}
 use Rattle.wasi_tcp.specs.Writer.{writer_side, writing_side, closing_side, written_by, closed_by}
 use Rattle.wasi_host.specs.declared.listening.Listening.{Listening}

@@ -1,5 +1,5 @@
 -- Along a run each call on a socket is asked while the socket is open, and nothing is asked of it once it was closed.
-use Rattle.std.proofs.Common.{◌≡◌, ℕ, ◌+◌, List, [], ◌∷◌, ◌++◌, Option, Some, None, refl, sym, ap, subst, ◌∙◌, append_assoc, inl, arith}
+use Rattle.std.proofs.Common.{◌≡◌, ℕ, ◌+◌, List, [], ◌∷◌, ◌++◌, Some, refl, sym, ap, subst, ◌∙◌, append_assoc, inl, arith}
 use Rattle.wasi_world.specs.declared.ids.OpId.{OpId}
 use Rattle.wasi_world.specs.declared.call.Call.TheVariants as call
 use Rattle.wasi_world.specs.declared.call.Told.{Told}
@@ -13,10 +13,10 @@ use Rattle.wasi_run.specs.declared.reply.Reply.{Reply}
 use Rattle.wasi_run.specs.declared.step.Step.{Step}
 use Rattle.wasi_run.specs.Licence.{Has, entry}
 use Rattle.wasi_run.specs.Machine.{machine_asks, run}
-use Rattle.wasi_laws.specs.Opened.{socket_of, IsClosed, IsOpen, IsAskedOpen, AsksOpenSockets}
+use Rattle.wasi_laws.specs.Opened.{socket_of, IsOpen, IsAskedOpen, AsksOpenSockets}
 use Rattle.wasi_run.proofs.Lists.{cut_of, has_back}
 use Rattle.wasi_run.proofs.walks.Moves.{Own, Used, Unused, ToWrite}
-use Rattle.wasi_run.proofs.walks.States.{Starts, Over}
+use Rattle.wasi_run.proofs.walks.States.{Starts}
 use Rattle.wasi_run.proofs.walks.Steps.{may_while, machine_walks}
 use Rattle.wasi_run.proofs.walks.Runs.{each_entry}
 use Rattle.wasi_run.proofs.claims.Lines.{BaseBetween, first_base, base_starts, base_over}

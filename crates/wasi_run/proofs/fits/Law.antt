@@ -27,7 +27,6 @@ use Rattle.wasi_tcp.specs.Writer.{turn_asks}
 use Rattle.wasi_host.specs.declared.kind.Kind.TheVariants.{Tcp2}
 use Rattle.wasi_host.specs.declared.socket.Tcp2Socket.{Tcp2Socket}
 use Rattle.wasi_host.specs.declared.store.Standing.{Standing}
-use Rattle.wasi_host.specs.Dropping.{gone}
 use Rattle.wasi_host.specs.Kinds.{make_asks}
 use Rattle.wasi_host.specs.declared.listening.Listening.TheVariants.{Not}
 use Rattle.wasi_host.specs.Listening.{give_up_asks, standing_listen, with_listening}

@@ -25,7 +25,7 @@ use Rattle.wasi_tcp.specs.Listen as listen
 use Rattle.wasi_tcp.specs.Rounds.{some_left, is_going}
 use Rattle.wasi_run.specs.Waiting.{IsLeftOfBind, IsRestOfBind}
 use Rattle.wasi_run.specs.Waiting as binding
-use Rattle.wasi_run.proofs.StepCauses.{Gives}
+use Rattle.wasi_run.proofs.Gives.{Gives}
 
 abbrev pub Anything : List Entry → OpId → Call → Type 0
 Anything es op call = ⊤

@@ -4,7 +4,6 @@ use Rattle.wasi_world.specs.declared.ids.OpId.{OpId}
 use Rattle.wasi_world.specs.declared.call.Call.{Call}
 use Rattle.wasi_world.specs.declared.call.Call.TheVariants as call
 use Rattle.wasi_world.specs.declared.call.Told.{Told}
-use Rattle.wasi_world.specs.declared.call.Told.TheVariants as told
 use Rattle.wasi_world.specs.declared.call.Entry.{Entry}
 use Rattle.wasi_world.specs.declared.outcome.WasiSocketsCtx.{WasiSocketsCtx}
 use Rattle.wasi_world.specs.Operation.{Operation, End, Waits, Done, Refused}
@@ -23,8 +22,8 @@ use Rattle.wasi_run.specs.declared.step.Step.{Step}
 use Rattle.wasi_run.specs.Licence.{entry, step_at, MayAsk, marked_by, MarksNoSocket}
 use Rattle.wasi_run.proofs.licence.NewNames.{made_more}
 use Rattle.wasi_run.proofs.licence.Locals.{listen_unless}
-use Rattle.wasi_run.proofs.claims.Law.{Named, no_some, fresh}
-use Rattle.wasi_run.proofs.walks.Moves.{Unused, Here, put, Found, IsQuestionOf, IsOn, OfSocket, OfReader, OfWriter, Made, joined, second_of}
+use Rattle.wasi_run.proofs.claims.Law.{Named, no_some}
+use Rattle.wasi_run.proofs.walks.Moves.{Unused, Here, put, Found, IsQuestionOf, IsOn, OfSocket, OfReader, OfWriter, second_of}
 use Rattle.wasi_run.proofs.Lists.{has_last, has_front}
 use Rattle.wasi_run.proofs.licence.State.{ReadsOn, Names, WritesOn, RecordIsFine}
 use Rattle.wasi_run.proofs.licence.AcceptFrames.{Touches, Spared, same_listening, unmarked_unless, handed_more}

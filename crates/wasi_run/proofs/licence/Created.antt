@@ -11,7 +11,6 @@ use Rattle.wasi_world.specs.declared.call.Told.TheVariants as told
 use Rattle.wasi_world.specs.declared.call.Entry.{Entry}
 use Rattle.wasi_world.specs.declared.outcome.WasiSocketsCtx.{WasiSocketsCtx}
 use Rattle.wasi_world.specs.Asks.{bind}
-use Rattle.wasi_world.specs.Operation.{Done}
 use Rattle.wasi_world.specs.Fits.{IsDoneOrCode}
 use Rattle.wasi_world.specs.Typed.{told_done}
 use Rattle.wasi_world.proofs.Allowed.{Allows, allows_then, allows_if}
@@ -27,7 +26,7 @@ use Rattle.wasi_run.specs.declared.step.Step.{Step}
 use Rattle.wasi_run.specs.declared.step.Step.TheVariants as step
 use Rattle.wasi_run.specs.Licence.{Has, entry, step_at, IsMarkOf, IsMaker, Created, MayUseTcp, IsTcpCreate, MayAsk}
 use Rattle.wasi_run.proofs.claims.Law.{Named, fresh}
-use Rattle.wasi_run.proofs.walks.Moves.{Used, Unused, Creates, Here, Past, Joined, Marked, joined}
+use Rattle.wasi_run.proofs.walks.Moves.{Used, Unused, Creates, Here, Past, Joined, Marked}
 use Rattle.wasi_run.proofs.Lists.{has_last, get_split, get_seam}
 use Rattle.wasi_run.proofs.licence.State.{accept_name, SocketIsFine}
 use Rattle.wasi_run.proofs.licence.Frames.{state_push}

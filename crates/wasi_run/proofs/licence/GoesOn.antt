@@ -5,7 +5,6 @@ use Rattle.wasi_addr.specs.declared.address.IpSocketAddress.{IpSocketAddress}
 use Rattle.wasi_world.specs.declared.ids.OpId.{OpId}
 use Rattle.wasi_world.specs.declared.call.Call.{Call}
 use Rattle.wasi_world.specs.declared.call.Call.TheVariants as call
-use Rattle.wasi_world.specs.declared.call.HandleKind.TheVariants as name
 use Rattle.wasi_world.specs.declared.call.Entry.{Entry}
 use Rattle.wasi_world.specs.declared.outcome.WasiSocketsCtx.{WasiSocketsCtx}
 use Rattle.wasi_world.specs.Asks.{Asks, Give}
@@ -37,7 +36,6 @@ use Rattle.wasi_host.specs.Store.{with_inner, with_writer, left_of}
 use Rattle.wasi_run.specs.Waiting as binding
 use Rattle.wasi_run.specs.Waiting.{IsLeftOfBind}
 use Rattle.wasi_run.specs.declared.step.Step.{Step}
-use Rattle.wasi_run.specs.declared.step.Step.TheVariants as step
 use Rattle.wasi_run.specs.Licence.{step_at, IsMaker, MayAsk, marked_by}
 use Rattle.wasi_run.proofs.licence.AcceptAsks.{MayAs, StandsAfter, polled as polled_accept}
 use Rattle.wasi_run.proofs.licence.Listening.{ended as listen_ended_fine}
@@ -47,9 +45,9 @@ use Rattle.wasi_run.proofs.licence.ListenAsks.{ListenEnds, fine_poll_listen}
 use Rattle.wasi_run.proofs.licence.NewNames.{spared_as}
 use Rattle.wasi_run.proofs.licence.Locals.{also, AllAsk, poll_says}
 use Rattle.wasi_run.proofs.claims.Law.{Named, Base, same_begun, fresh, taken_fresh, Fresh}
-use Rattle.wasi_run.proofs.walks.Moves.{Held, InHand, Connects, Unused, Here, put, Found, Made, Listens, Awaits, listen_after, accepting_now, second_of}
+use Rattle.wasi_run.proofs.walks.Moves.{Held, InHand, Connects, Unused, Here, put, Found, Listens, Awaits, listen_after, accepting_now, second_of}
 use Rattle.wasi_run.proofs.Lists.{get_set, set_there}
-use Rattle.wasi_run.proofs.licence.State.{ConnectIsFine, Unbound, Unchecked, accept_name, Names, BindIsFine, JobIsFine, WritesOn, StreamsAreFine, AcceptingIsFine, ListeningIsFine, RecordIsFine, AcceptStands, Unarrived, AcceptingStands, ListeningStands, name_in, AcceptLeft, AcceptIsFine}
+use Rattle.wasi_run.proofs.licence.State.{ConnectIsFine, accept_name, Names, BindIsFine, JobIsFine, WritesOn, StreamsAreFine, AcceptingIsFine, ListeningIsFine, RecordIsFine, AcceptStands, AcceptingStands, ListeningStands, name_in, AcceptLeft, AcceptIsFine}
 use Rattle.wasi_run.proofs.licence.AcceptFrames.{Touches, same_listening, listening_gone}
 use Rattle.wasi_run.proofs.licence.Frames.{same_record, record_kept, state_put, state_renewed, maker_more}
 use Rattle.wasi_run.proofs.licence.Bounds.{May, MayQuietly, NoLocal}

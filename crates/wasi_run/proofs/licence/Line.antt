@@ -7,10 +7,8 @@ use Rattle.wasi_world.specs.declared.ids.OpId.{OpId}
 use Rattle.wasi_world.specs.declared.call.Call.TheVariants as call
 use Rattle.wasi_world.specs.declared.call.HandleKind.TheVariants as name
 use Rattle.wasi_world.specs.declared.call.Told.{Told}
-use Rattle.wasi_world.specs.declared.call.Told.TheVariants as told
 use Rattle.wasi_world.specs.declared.call.Entry.{Entry}
 use Rattle.wasi_world.specs.Operation.{Operation}
-use Rattle.wasi_tcp.specs.declared.socket.TcpState.TheVariants as state
 use Rattle.wasi_tcp.specs.Socket.{side_in}
 use Rattle.wasi_host.specs.declared.store.StandingCall.TheVariants as standing
 use Rattle.wasi_host.specs.declared.store.StandingCall.{StandingCall}
@@ -28,8 +26,7 @@ use Rattle.wasi_run.specs.declared.step.Step.TheVariants as step
 use Rattle.wasi_run.specs.Licence.{Has, entry, IsMaker, IsSide, MarksNoSocket, HandedNone}
 use Rattle.wasi_run.proofs.licence.ListenAsks.{ListenIsFine}
 use Rattle.wasi_run.proofs.licence.NewNames.{NoMadeBy}
-use Rattle.wasi_run.proofs.claims.Law.{fresh}
-use Rattle.wasi_run.proofs.walks.Moves.{Used, Unused, Here, put, Found, record_of, Plain, Made, Unmade, Joined, Marked, joined, second_of}
+use Rattle.wasi_run.proofs.walks.Moves.{Used, Unused, Here, put, Found, record_of, Plain, Made, Unmade, Joined, Marked, second_of}
 use Rattle.wasi_run.proofs.Lists.{get_set, get_seam}
 use Rattle.wasi_run.proofs.licence.State.{NamesRecord, HandleIsFine, Names, BindIsFine, RecordIsFine, StateIsFine, IsHanded}
 use Rattle.wasi_run.proofs.licence.AcceptFrames.{KeepsListening}

@@ -6,13 +6,11 @@ use Rattle.wasi_world.specs.declared.call.Call.TheVariants as call
 use Rattle.wasi_world.specs.declared.call.HandleKind.{HandleKind}
 use Rattle.wasi_world.specs.declared.call.HandleKind.TheVariants as name
 use Rattle.wasi_world.specs.declared.call.Told.{Told}
-use Rattle.wasi_world.specs.declared.call.Told.TheVariants as told
 use Rattle.wasi_world.specs.declared.call.Entry.{Entry}
 use Rattle.wasi_world.specs.declared.outcome.WasiSocketsCtx.{WasiSocketsCtx}
 use Rattle.wasi_world.specs.Asks.{bind}
 use Rattle.wasi_world.proofs.Allowed.{Allows, allows_if}
 use Rattle.wasi_streams.specs.Table.{is_full}
-use Rattle.wasi_tcp.specs.Accept as accept
 use Rattle.wasi_host.specs.declared.kind.Kind.{Kind}
 use Rattle.wasi_host.specs.declared.kind.Kind.TheVariants.{Network, Tcp2, Input, Output, Pollable, ErrorValue}
 use Rattle.wasi_host.specs.declared.socket.Tcp2Socket.{Tcp2Socket}
@@ -21,8 +19,8 @@ use Rattle.wasi_host.specs.Machine.{own_of, side_at}
 use Rattle.wasi_run.specs.declared.step.Step.{Step}
 use Rattle.wasi_run.specs.declared.step.Step.TheVariants as step
 use Rattle.wasi_run.specs.Licence.{Has, entry, step_at, BeganBy, IsMarkedWith, IsMarkOf, MayAsk, IsSide, MarksNoSocket}
-use Rattle.wasi_run.proofs.claims.Law.{Named, fresh}
-use Rattle.wasi_run.proofs.walks.Moves.{Used, Unused, Marks, ANetwork, AStream, AnError, Here, Found, MarksError, Made, Joined, Marked, made_so, APollable, AnAcceptedStream, joined, second_of}
+use Rattle.wasi_run.proofs.claims.Law.{Named}
+use Rattle.wasi_run.proofs.walks.Moves.{Used, Unused, Marks, ANetwork, AStream, AnError, Here, Found, MarksError, Joined, Marked, made_so, APollable, AnAcceptedStream, second_of}
 use Rattle.wasi_run.proofs.Lists.{has_last, has_split, has_front}
 use Rattle.wasi_run.proofs.licence.State.{accept_name, NamesRecord, HandleIsFine}
 use Rattle.wasi_run.proofs.licence.AcceptFrames.{Touches, Spared, handed_unless}

@@ -4,11 +4,9 @@ use Rattle.wasi_addr.specs.declared.address.IpSocketAddress.{IpSocketAddress}
 use Rattle.wasi_addr.specs.declared.address.SocketAddressFamily.{SocketAddressFamily}
 use Rattle.wasi_addr.specs.Address.{wildcard}
 use Rattle.wasi_world.specs.declared.ids.OpId.{OpId}
-use Rattle.wasi_world.specs.declared.call.Told.TheVariants as told
 use Rattle.wasi_world.specs.declared.call.Entry.{Entry}
 use Rattle.wasi_world.specs.declared.outcome.WasiSocketsCtx.{WasiSocketsCtx}
 use Rattle.wasi_world.specs.Operation.{End, Waits, Done, Refused}
-use Rattle.wasi_tcp.specs.Accept as accept
 use Rattle.wasi_tcp.specs.declared.listener.Accepting.{Accepting}
 use Rattle.wasi_tcp.specs.declared.listener.Accepting.TheVariants as accepting
 use Rattle.wasi_tcp.specs.declared.reader.ReadState.TheVariants as reading
@@ -23,7 +21,6 @@ use Rattle.wasi_tcp.specs.Listener.{Listener, accepted_socket}
 use Rattle.wasi_tcp.specs.Shape.{Socket}
 use Rattle.wasi_tcp.specs.Socket.{side_in, side_of}
 use Rattle.wasi_tcp.specs.Writer.{written_by, closed_by}
-use Rattle.wasi_host.specs.declared.store.StandingCall.TheVariants as standing
 use Rattle.wasi_host.specs.declared.listening.Listening.TheVariants.{Not, Accepts}
 use Rattle.wasi_host.specs.declared.socket.Streams.{Streams}
 use Rattle.wasi_host.specs.declared.socket.Tcp2Socket.{Tcp2Socket}
@@ -33,7 +30,6 @@ use Rattle.wasi_host.specs.Listening.{with_listening}
 use Rattle.wasi_host.specs.Machine.{own_of}
 use Rattle.wasi_host.specs.Store.{new_streams, with_inner, standing_bind, standing_drop}
 use Rattle.wasi_run.specs.declared.step.Step.{Step}
-use Rattle.wasi_run.specs.declared.step.Step.TheVariants as step
 use Rattle.wasi_run.specs.Licence.{Has, step_at, IsMarkedWith, IsMaker, MayGoOut, IsSide, MarksNoSocket, Handed, handles_of}
 use Rattle.wasi_run.proofs.licence.ListenAsks.{Whole as WholeListen}
 use Rattle.wasi_run.proofs.claims.Law.{Base, same_begun, fresh}

@@ -12,7 +12,6 @@ use Rattle.wasi_host.specs.declared.socket.Tcp2Socket.{Tcp2Socket}
 use Rattle.wasi_host.specs.Machine.{own_of, first_state}
 use Rattle.wasi_run.specs.declared.reply.Reply.{Reply}
 use Rattle.wasi_run.specs.declared.step.Step.{Step}
-use Rattle.wasi_run.specs.declared.step.Step.TheVariants as step
 use Rattle.wasi_run.specs.Licence.{IsLicensed, MayAsk, step_at}
 use Rattle.wasi_run.specs.Machine.{machine_asks, run}
 use Rattle.wasi_run.specs.Reply.{is_trap}

@@ -23,7 +23,7 @@ use Rattle.wasi_run.specs.declared.step.Step.{Step}
 use Rattle.wasi_run.specs.declared.step.Step.TheVariants as step
 use Rattle.wasi_run.specs.Licence.{Has, handles_of, IsListen}
 use Rattle.wasi_run.proofs.walks.Moves.{NoBindStands, Used, Unused, put, Found, record_of, Reaches, Leaves, Spends, Marked, made_so, AnAcceptedStream, StandsListen, Watches}
-use Rattle.wasi_run.proofs.walks.Law.{Law, HasRecord, put_same, Walks, give, and_then, and_given, move, gives, from, found, accept}
+use Rattle.wasi_run.proofs.walks.Law.{Law, HasRecord, put_same, Walks, give, and_then, and_given, move, gives, from, accept}
 use Rattle.wasi_run.proofs.walks.Listeners.{joined_if, Took, takes_walks, listener_walks, begin_listen_walks}
 use Rattle.wasi_run.proofs.walks.States.{Watching, OverWith, Between, socket_record, JoinedSo, At, Starts, given_any, AcceptedSo, Put, joined_given, Over, there}
 use Rattle.wasi_run.proofs.walks.SocketSteps.{streams_walks}

@@ -7,7 +7,6 @@ use Rattle.wasi_world.specs.declared.outcome.Answer.{Answer}
 use Rattle.wasi_world.specs.declared.outcome.Answer.TheVariants.{Ready, Pending}
 use Rattle.wasi_world.specs.Asks.{Give}
 use Rattle.wasi_world.specs.Operation.{Operation}
-use Rattle.wasi_streams.specs.StreamStop as stop
 use Rattle.wasi_tcp.specs.declared.listener.Accepting.TheVariants as accepting
 use Rattle.wasi_tcp.specs.declared.listener.Accepting.{Accepting}
 use Rattle.wasi_tcp.specs.Listener.{Listener, with_accept, accept_ended, accept_asks, begun as accept_begun, accept_end}
@@ -24,7 +23,7 @@ use Rattle.wasi_host.specs.declared.listening.Listening.TheVariants.{Not, Begins
 use Rattle.wasi_host.specs.declared.listening.Listening.{Listening}
 use Rattle.wasi_host.specs.declared.socket.Tcp2Socket.{Tcp2Socket}
 use Rattle.wasi_host.specs.Machine.{own_of}
-use Rattle.wasi_host.specs.Store.{with_inner, idle}
+use Rattle.wasi_host.specs.Store.{with_inner}
 use Rattle.wasi_run.specs.Machine.{first_ids}
 use Rattle.wasi_run.specs.declared.step.Step.TheVariants as step
 use Rattle.wasi_run.specs.declared.step.Step.{Step}

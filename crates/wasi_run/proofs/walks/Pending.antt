@@ -10,7 +10,6 @@ use Rattle.wasi_host.specs.declared.pending.Outcome.{Outcome}
 use Rattle.wasi_host.specs.Listening.{listen_answered}
 use Rattle.wasi_host.specs.declared.machine.Machine.{Machine}
 use Rattle.wasi_host.specs.declared.socket.Tcp2Socket.{Tcp2Socket}
-use Rattle.wasi_host.specs.declared.store.StandingCall.TheVariants as standing
 use Rattle.wasi_host.specs.Host.{Stop}
 use Rattle.wasi_host.specs.Machine.{with_store}
 use Rattle.wasi_host.specs.Pending.{some_answer, waiting_bind, unstood, rebind_at, resume_bind_in, relisten_at, resume_listen_in, waiting_listen, waiting_drop, resume_in}

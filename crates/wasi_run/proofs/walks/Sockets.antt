@@ -26,8 +26,6 @@ use Rattle.wasi_tcp.specs.Halves.{taken_receive, taken_send, take_receive}
 use Rattle.wasi_tcp.specs.Options.{get_where, get_option_asks, zero_test, refused_before, refused_after, value_set, set_where, set_option_asks, with_backlog, after_backlog, set_backlog_in, set_backlog_asks}
 use Rattle.wasi_tcp.specs.Shape.{Socket}
 use Rattle.wasi_tcp.specs.Socket.{side_in, side_of, after_local, ask_bound, bound_asks, bind_allowed, bind_asks}
-use Rattle.wasi_tcp.specs.Writer.{begun}
-use Rattle.wasi_host.specs.declared.listening.Listening.{Listening}
 use Rattle.wasi_host.specs.declared.socket.InProgress.{InProgress}
 use Rattle.wasi_host.specs.declared.socket.InProgress.TheVariants as doing
 use Rattle.wasi_host.specs.declared.socket.Tcp2Socket.{Tcp2Socket}

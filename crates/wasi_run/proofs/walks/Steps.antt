@@ -1,14 +1,11 @@
 -- Each step is made of moves, and so is a line while a call stands.
 use Rattle.std.proofs.Common.{◌≡◌, ℕ, inl, true, false, List, Option, Some, None, refl, sym, subst, slice_get}
-use Rattle.wasi_world.specs.declared.outcome.Answer.TheVariants.{Ready}
 use Rattle.wasi_world.specs.declared.outcome.WasiSocketsCtx.{WasiSocketsCtx}
 use Rattle.wasi_tcp.specs.Options.{get_option_asks}
 use Rattle.wasi_tcp.specs.Reader.{read_state_asks}
 use Rattle.wasi_tcp.specs.Writer.{check_write_asks}
-use Rattle.wasi_host.specs.declared.kind.Kind.TheVariants.{Network}
 use Rattle.wasi_host.specs.declared.machine.Machine.{Machine}
 use Rattle.wasi_host.specs.declared.store.Standing.{Standing}
-use Rattle.wasi_host.specs.declared.store.StandingCall.TheVariants as standing
 use Rattle.wasi_host.specs.Kinds.{kind_at, watched_by, watch_of}
 use Rattle.wasi_host.specs.Machine.{own_of, socket_at, input_at, output_at}
 use Rattle.wasi_host.specs.Store.{is_bind, flush_asks, reader_asks, writer_asks, is_listen}

@@ -13,7 +13,6 @@ use Rattle.wasi_tcp.specs.Listener.{ready_end}
 use Rattle.wasi_tcp.specs.declared.reader.ReadState.{ReadState}
 use Rattle.wasi_tcp.specs.declared.writer.WriteState.{WriteState}
 use Rattle.wasi_tcp.specs.Closing.{close_in}
-use Rattle.wasi_tcp.specs.Shape.{Socket}
 use Rattle.wasi_tcp.specs.Socket.{side_of}
 use Rattle.wasi_tcp.specs.Writer.{write_state_asks}
 use Rattle.wasi_host.specs.declared.listening.Listening.TheVariants.{Not, Begins, Accepts, Unclosed}
@@ -40,7 +39,7 @@ use Rattle.wasi_run.specs.declared.step.Step.TheVariants as step
 use Rattle.wasi_run.specs.Licence.{Has, handles_of}
 use Rattle.wasi_run.proofs.walks.Writes.{may_of, may_in, may_at, may}
 use Rattle.wasi_run.proofs.walks.Moves.{NoBind, NoBindStands, Own, Used, Unused, Here, put, record_of, MarksError, AnError, Reaches, Leaves, Spends, IsGone, Lists, Takes, Past, Unstands, StandsDrop, APollable}
-use Rattle.wasi_run.proofs.walks.Law.{Law, HasRecord, put_same, Walks, give, and_then, move, gives, from, ends, close, mark, found, on, turn, give_up, and_so, accept}
+use Rattle.wasi_run.proofs.walks.Law.{Law, HasRecord, put_same, Walks, give, and_then, move, gives, from, ends, close, mark, found, on, turn, give_up, and_so}
 use Rattle.wasi_run.proofs.walks.Streams.{Reading, Writing, reader_up_walks, writer_up_walks, write_walks, look_walks, reader_ready_walks}
 use Rattle.wasi_run.proofs.walks.Listeners.{listener_walks}
 use Rattle.wasi_run.proofs.walks.Sockets.{finish_walks}
