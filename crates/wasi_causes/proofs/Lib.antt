@@ -37,3 +37,5 @@ pub mod WaitCauses
 pub mod WriteCauses
 pub mod WriteLaws
 pub mod MayAnswers
+pub mod Reached
+pub mod RunStates

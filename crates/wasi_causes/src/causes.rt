@@ -1,7 +1,7 @@
 //! Laws over the definitions of specs/ that say where each answer of a step comes from, and what stands after a refusal:
 //! each is a function that does nothing, whose contract is the law.
 
-ghost use Rattle.std.specs.Prelude.{◌≡◌, ◌↔◌, ◌⊎◌, ℕ, ◌+◌, true, false, List, [], ◌∷◌, length, IsSome, IsSomeAnd, Some, None};
+ghost use Rattle.std.specs.Prelude.{◌≡◌, ◌↔◌, ◌⊎◌, ℕ, ◌+◌, true, false, List, [], ◌∷◌, length, IsSome, IsSomeAnd, Some, None, slice_get};
 ghost use Rattle.wasi_addr.specs.declared.address.IpSocketAddress.{IpSocketAddress};
 ghost use Rattle.wasi_addr.specs.declared.address.ShutdownType.{ShutdownType};
 ghost use Rattle.wasi_addr.specs.declared.address.SocketAddressFamily.{SocketAddressFamily};
@@ -20,8 +20,9 @@ ghost use Rattle.wasi_run.specs.declared.reply.CodeWord.{CodeWord};
 ghost use Rattle.wasi_run.specs.declared.reply.Field.{Field};
 ghost use Rattle.wasi_run.specs.declared.reply.Reply.{Reply};
 ghost use Rattle.wasi_run.specs.declared.step.Step.{Step};
-ghost use Rattle.wasi_run.specs.Answered.{Answered, CheckFails, closing_reader, closing_writer, ConnectsAt, CreateRefusal, EndsPending, FailsWith, FinishRefusal, HasNoBindInProgress, HasNoConnectInProgress, HasOperationInProgress, IsGivenUp, IsQuiet, IsUnpermitted, IsWrite, KnowsBound, LocalRefusal, MakesHandle, MissesHandle, OfRecord, OfStreams, output_streams, Permits, putting, ReadFails, ReadsEnd, ReadsNone, ReadsTold, record_at, RefusedBind, RefusedConnect, RefusedOf, RemoteRefusal, WasClosedWith, with_error, WriteFails};
+ghost use Rattle.wasi_run.specs.Answered.{Answered, CheckFails, closing_reader, closing_writer, ConnectsAt, CreateRefusal, EndsPending, FailsWith, FinishRefusal, HasNoBindInProgress, HasNoConnectInProgress, HasOperationInProgress, IsGivenUp, IsQuiet, IsUnpermitted, IsWrite, KnowsBound, LocalRefusal, MakesHandle, MissesHandle, OfRecord, OfStreams, output_streams, Permits, putting, ReadFails, ReadsEnd, ReadsNone, ReadsTold, record_at, RefusedBind, RefusedConnect, RefusedOf, RemoteRefusal, StandsOnNothing, WasClosedWith, with_error, WriteFails};
 ghost use Rattle.wasi_causes.specs.MayAnswer.{may_answer, EachMayAnswer};
+ghost use Rattle.wasi_causes.specs.Reached.{MayFinish, OfItsRecord, RefusedInRun};
 ghost use Rattle.wasi_causes.specs.GivenUp.{GoesAtOnce, HasLiveChildren, HasNoStreams, IsDrop, IsDropped, IsGone, LooksOnce, shut_down, shutdown_entries, socket_given_up, without};
 ghost use Rattle.wasi_run.specs.Licence.{entry, Has, marks_in};
 ghost use Rattle.wasi_run.specs.Machine.{context_at, run};
@@ -33,7 +34,7 @@ ghost use Rattle.wasi_host.specs.Pending.{stands_as};
 ghost use Rattle.wasi_run.specs.Reply.{bytes_fields, no_fields, number_fields, truth_fields};
 ghost use Rattle.wasi_causes.specs.Turns.{IsOfJob};
 ghost use Rattle.wasi_run.specs.Waiting.{IsFailure, IsPoll, IsUnready, left_missing, MayStand, OfWatched, OutputWaits, pollable_mark, StandingFails, StandingWaits, StandsByBind, WatchesAccept, WatchesConnect, WatchesIdle};
-ghost use Rattle.wasi_host.specs.Store.{with_record};
+ghost use Rattle.wasi_host.specs.Store.{is_connect, with_record};
 ghost use Rattle.wasi_streams.specs.Table.{children_of, is_full};
 
 /// Each reply of a run, and each that a step after it may get, is one that the table of replies names for its step: fields of the
@@ -99,7 +100,7 @@ pub fn traps_have_causes()
 /// was; no other step is answered so. A poll of a call that stands leaves it standing, or it leaves nothing standing. It is
 /// refused with the word of the code by which the bind or the listen failed: a check was told no, or another of its asks was
 /// told the code, by its own operation, and a listen closed its side last. That is said where what stands by a bind is a bind,
-/// and by a listen a listen, as it does after any lines.
+/// and by a listen a listen, as it does after any lines. In a run no poll traps.
 pub fn polls_of_no_call()
     ensures exactly { (contexts : List WasiSocketsCtx) (m : Machine) (line n : ℕ) (entries : List Entry) (reply : Reply) (after : Machine)
         → Answered contexts m line (Step.Poll n) entries reply after → (reply ≡ Reply.NoSuchCall) ↔ (stands_as m.store.standing n ≡ false) }
@@ -111,6 +112,8 @@ pub fn polls_of_no_call()
         → stands_as m.store.standing n ≡ true → Answered contexts m line (Step.Poll n) entries reply after → (reply ≡ Reply.Pending n) ⊎ (after.store.standing ≡ None) }
     ensures refused { (contexts : List WasiSocketsCtx) (m : Machine) (line n : ℕ) (entries : List Entry) (word : CodeWord) (after : Machine)
         → StandsByBind m → Answered contexts m line (Step.Poll n) entries (Reply.Err word) after → StandingFails m n entries word }
+    ensures never_traps { (contexts : List WasiSocketsCtx) (steps : List Step) (log : List Entry) (replies : List Reply) (m : Machine) (line n : ℕ) (entries : List Entry) (kind : TrapKind) (after : Machine)
+        → Left (run contexts [] first_state 1 steps) log (Give (replies, m)) → Answered contexts m line (Step.Poll n) entries (Reply.Trap kind) after → ⊥ }
 {}
 
 /// The start of a bind, that of a listen, the drop of an output and a poll may be pending: all but a poll under their line's
@@ -188,7 +191,8 @@ pub fn start_connect_refusals()
 /// The finish of a connect is refused with `not-in-progress` exactly where the socket is there and has no connect in progress,
 /// and it asks nothing then and leaves the machine as it was. With `would-block` the connect was told to wait and goes on; with
 /// any other word the socket is closed with that word's code, and nothing is in progress. The causes are those of a socket that
-/// connects by a connect, as all do after any lines; those of other states than Connecting can't come in a run.
+/// connects by a connect, as all do after any lines. In a run the socket connects or was closed: the causes of other states don't
+/// come.
 pub fn finish_connect_refusals()
     ensures exactly { (contexts : List WasiSocketsCtx) (m : Machine) (line ctx handle : ℕ) (entries : List Entry) (reply : Reply) (after : Machine)
         → m.store.standing ≡ None → Answered contexts m line (Step.TcpFinishConnect ctx handle) entries reply after
@@ -198,6 +202,9 @@ pub fn finish_connect_refusals()
     ensures cause { (contexts : List WasiSocketsCtx) (m : Machine) (line ctx handle : ℕ) (entries : List Entry) (word : CodeWord) (after : Machine)
         → ConnectsAt m handle → Answered contexts m line (Step.TcpFinishConnect ctx handle) entries (Reply.Err word) after
         → RefusedOf m handle (FinishRefusal m) entries word after }
+    ensures in_runs { (contexts : List WasiSocketsCtx) (steps : List Step) (log : List Entry) (replies : List Reply) (m : Machine) (line ctx handle : ℕ) (entries : List Entry) (word : CodeWord) (after : Machine)
+        → Left (run contexts [] first_state 1 steps) log (Give (replies, m)) → Answered contexts m line (Step.TcpFinishConnect ctx handle) entries (Reply.Err word) after
+        → RefusedOf m handle (RefusedInRun m) entries word after }
 {}
 
 /// After the lines of any script, what a socket connects by is a connect: that of a handle, and one that a pollable watches.
@@ -206,6 +213,20 @@ pub fn runs_connect_by_connects()
         → Left (run contexts [] first_state 1 steps) entries (Give (replies, m)) → (handle : ℕ) → ConnectsAt m handle }
     ensures pollables { (contexts : List WasiSocketsCtx) (steps : List Step) (entries : List Entry) (replies : List Reply) (m : Machine)
         → Left (run contexts [] first_state 1 steps) entries (Give (replies, m)) → (pollable : ℕ) → WatchesConnect m pollable }
+{}
+
+/// After the lines of any script: each live handle of a socket, a stream or a pollable is of a record that is there, so a number
+/// of which no socket is found isn't live or stands for something else; a call that stands is of a socket that is there; and where
+/// a connect is in progress, the socket connects, or was closed with a code, or is connected and neither half of it was taken.
+pub fn runs_keep_their_records()
+    ensures handles { (contexts : List WasiSocketsCtx) (steps : List Step) (log : List Entry) (replies : List Reply) (m : Machine) (handle : ℕ) (kind : Kind)
+        → Left (run contexts [] first_state 1 steps) log (Give (replies, m)) → kind_at m.table handle ≡ Some kind → OfItsRecord m kind }
+    ensures missing { (contexts : List WasiSocketsCtx) (steps : List Step) (log : List Entry) (replies : List Reply) (m : Machine) (handle : ℕ)
+        → Left (run contexts [] first_state 1 steps) log (Give (replies, m)) → record_at m handle ≡ None → socket_at m handle ≡ None }
+    ensures stands { (contexts : List WasiSocketsCtx) (steps : List Step) (log : List Entry) (replies : List Reply) (m : Machine) (number : ℕ)
+        → Left (run contexts [] first_state 1 steps) log (Give (replies, m)) → StandsOnNothing m number → ⊥ }
+    ensures connects { (contexts : List WasiSocketsCtx) (steps : List Step) (log : List Entry) (replies : List Reply) (m : Machine) (place : ℕ) (r : Tcp2Socket)
+        → Left (run contexts [] first_state 1 steps) log (Give (replies, m)) → slice_get m.store.sockets place ≡ Some r → is_connect r.in_progress ≡ true → MayFinish r.inner.state }
 {}
 
 /// After the lines of any script, what stands by a bind is a bind, and what stands by a listen is a listen.

@@ -134,7 +134,7 @@ module _ (contexts : List WasiSocketsCtx) (line : ℕ) (origin : Step) (ours : O
   moves_kept es _ _ (ClosesReader h place r s g e) i = put_kept es h place r _ g (λ j. let x = streams_are r s j e in omega (arith, x)) i
   moves_kept es _ _ (Writes h place r s w g e m) i = put_kept es h place r _ g (λ j. let x = streams_are r s j e in let y = writer_lighter s.writer w m j in omega (arith, x, y)) i
   moves_kept es _ _ (IsGone h place r g e) i = put_kept es h place r _ g (λ j. omega arith) i
-  moves_kept es _ _ (Reconnects h place r c now g e s t) i = put_kept es h place r _ g (λ j. omega arith) i
+  moves_kept es _ _ (Reconnects h place r c now g e s t u) i = put_kept es h place r _ g (λ j. omega arith) i
   moves_kept es _ _ (Opens h place r c g e k) i = put_kept es h place r _ g (λ j. omega arith) i
   moves_kept es _ _ (BeginsConnect h place r side a bound at g d to known own) i =
       let op = connect_operation (record { op = own_of line; side = side; maker = r.inner.maker }) (wildcard r.inner.family) a (connect_first bound) in
@@ -179,11 +179,11 @@ module _ (contexts : List WasiSocketsCtx) (line : ℕ) (origin : Step) (ours : O
       let idle : Tcp2Socket = accepting_now r l accepting.Idle in
       let sockets : List Tcp2Socket = slice_set h.machine.store.sockets place idle in
       lighter es h (joining h sockets (joined l new peer)) (λ j. let x = total_at ours h.machine.store.sockets place r j g in let y = total_set ours h.machine.store.sockets place r idle j g in let z = total_push ours sockets (joined l new peer) j in omega (arith, x, y, z)) (omega arith) i
-  moves_kept es _ _ (StandsListen h k place) i = lighter es h (record h { machine = record h.machine { store = record h.machine.store { standing = Some (standing_listen k place) } } }) (λ j. omega arith) (omega arith) i
+  moves_kept es _ _ (StandsListen h k place r f) i = lighter es h (record h { machine = record h.machine { store = record h.machine.store { standing = Some (standing_listen k place) } } }) (λ j. omega arith) (omega arith) i
   moves_kept es _ _ (StandsDrop h k place r at g) i = lighter es h (record h { machine = record h.machine { store = record h.machine.store { standing = Some (standing_drop k place) } } }) (λ j. omega arith) (omega arith) i
   moves_kept es _ _ (ResumesDrop h k place e) i = i
   moves_kept es _ _ (Unstands h) i = lighter es h (record h { machine = record h.machine { store = record h.machine.store { standing = None } } }) (λ j. omega arith) (omega arith) i
-  moves_kept es _ _ (Stands h k place op e) i =
+  moves_kept es _ _ (Stands h k place r op f e) i =
       lighter es h (record h { machine = record h.machine { store = record h.machine.store { standing = Some (standing_bind k place op) } }; hand = None })
       (λ j. let x : hand_weight h.hand j ≡ weight_of ours op j = ap (λ (o : Option Operation). hand_weight o j) e in omega (arith, x)) (omega arith) i
   moves_kept es _ _ (Resumes h k place op e) i =

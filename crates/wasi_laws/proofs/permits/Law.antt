@@ -243,7 +243,7 @@ module _ (contexts : List WasiSocketsCtx) (line : ℕ) (origin : Step) (side : O
   moves_kept es _ _ (ClosesReader h place r s g e) n i = streams_kept es h place r s (record s { reader = reading.Closed }) g e (same_writer s.writer) i
   moves_kept es _ _ (Writes h place r s w g e m) n i = streams_kept es h place r s (record s { writer = w }) g e (writer_keeps s.writer w m) i
   moves_kept es _ _ (IsGone h place r g e) n i = gone_kept es h place r r.inner g e (i.stands.records place r g).plain i
-  moves_kept es _ _ (Reconnects h place r c now g e s t) n i =
+  moves_kept es _ _ (Reconnects h place r c now g e s t u) n i =
       state_kept es h place r _ g (subst (λ (x : TcpState). Follows x (state.Connected now)) (sym e) (follows_connected c now s t)) i
   moves_kept es _ _ (Opens h place r c g e f) n i =
       let now = opened_by r c in
@@ -289,11 +289,11 @@ module _ (contexts : List WasiSocketsCtx) (line : ℕ) (origin : Step) (side : O
         hand = k.hand;
         owes = k.owes;
       }
-  moves_kept es _ _ (StandsListen h k place) n i = record { held = i.held; stands = i.stands; quietly = tt; hand = i.hand; owes = i.owes }
+  moves_kept es _ _ (StandsListen h k place r f) n i = record { held = i.held; stands = i.stands; quietly = tt; hand = i.hand; owes = i.owes }
   moves_kept es _ _ (StandsDrop h k place r p g) n i = record { held = i.held; stands = i.stands; quietly = tt; hand = i.hand; owes = i.owes }
   moves_kept es _ _ (ResumesDrop h k place e) n i = record { held = i.held; stands = i.stands; quietly = i.quietly; hand = i.hand; owes = i.owes }
   moves_kept es _ _ (Unstands h) n i = record { held = i.held; stands = i.stands; quietly = tt; hand = i.hand; owes = i.owes }
-  moves_kept es _ _ (Stands h k place op e) n i = record { held = i.held; stands = i.stands; quietly = i.hand op e; hand = λ o p. absurd (cc); owes = i.owes }
+  moves_kept es _ _ (Stands h k place r op f e) n i = record { held = i.held; stands = i.stands; quietly = i.hand op e; hand = λ o p. absurd (cc); owes = i.owes }
   moves_kept es _ _ (Resumes h k place op e) n i = record { held = i.held; stands = i.stands; quietly = tt; hand = λ o p. subst (λ (x : Operation). ArePlain x.left) (same_op op o p) (subst StandsQuietly e i.quietly); owes = i.owes }
   moves_kept es _ _ (Ends h) n i = record { held = i.held; stands = i.stands; quietly = i.quietly; hand = λ o p. absurd (cc); owes = i.owes }
   moves_kept es _ _ (Lists h jobs) n i = record { held = i.held; stands = i.stands; quietly = i.quietly; hand = i.hand; owes = i.owes }

@@ -32,7 +32,7 @@ module _ {line : ℕ} {origin : Step} where
   moves_open es _ _ (ClosesReader h place r s g e) i = put_open es h place _ (streams_open es r s _ e (λ half d. absurd (cc)) (λ x d. d) (λ k. k) (i.records place r g)) i
   moves_open es _ _ (Writes h place r s w g e m) i = put_open es h place _ (streams_open es r s _ e (λ half d. d) (λ x d. writer_had s.writer w x m d) (shuts_still s.writer w m) (i.records place r g)) i
   moves_open es _ _ (IsGone h place r g e) i = put_open es h place _ (bare_open es (gone r r.inner) e refl refl) i
-  moves_open es _ _ (Reconnects h place r c now g e s t) i =
+  moves_open es _ _ (Reconnects h place r c now g e s t u) i =
       let k = i.records place r g in
       put_open es h place _ (record_kept es r _ refl refl
       (record { streams = λ x d. (tt, (k.phase.streams x d).1); accepts = λ l d. (let q : state.Connected c ≡ state.Listening l.side = sym e ∙ k.phase.accepts l d in absurd (cc)); closing = k.phase.closing })
@@ -90,11 +90,11 @@ module _ {line : ℕ} {origin : Step} where
       let mid = put_open es h place (accepting_now r l accepting.Idle) (accepts_open es r l accepting.Idle e (λ x p. absurd (no_some x p)) (λ n p q. absurd (cc)) k) i in
       let j = push_open es (put h place (accepting_now r l accepting.Idle)) (joined l new peer) (joined_open es l new peer (record { made = k.arrived l new peer e a; unclosed = k.named new (ap accept_name e ∙ ap name_in a) })) mid in
       record { records = j.records; hand = j.hand; stands = j.stands; older = j.older }
-  moves_open es _ _ (StandsListen h n place) i = record { records = i.records; hand = i.hand; stands = λ n p op e. absurd (subst NoBindStands e tt); older = i.older }
+  moves_open es _ _ (StandsListen h n place r f) i = record { records = i.records; hand = i.hand; stands = λ n p op e. absurd (subst NoBindStands e tt); older = i.older }
   moves_open es _ _ (StandsDrop h n place r at g) i = record { records = i.records; hand = i.hand; stands = λ n p op e. absurd (subst NoBindStands e tt); older = i.older }
   moves_open es _ _ (ResumesDrop h n place e) i = record { records = i.records; hand = i.hand; stands = i.stands; older = i.older }
   moves_open es _ _ (Unstands h) i = record { records = i.records; hand = i.hand; stands = λ n p op e. absurd (cc); older = i.older }
-  moves_open es _ _ (Stands h n place op e) i = record { records = i.records; hand = λ o p. absurd (cc); stands = λ m p o q. subst (λ (x : Operation). IsOpen es x.who.side) (stands_of n m place p op o q) (i.hand op e); older = i.older }
+  moves_open es _ _ (Stands h n place r op f e) i = record { records = i.records; hand = λ o p. absurd (cc); stands = λ m p o q. subst (λ (x : Operation). IsOpen es x.who.side) (stands_of n m place p op o q) (i.hand op e); older = i.older }
   moves_open es _ _ (Resumes h n place op e) i = record { records = i.records; hand = λ o p. subst (λ (x : Operation). IsOpen es x.who.side) (some_same op o p) (i.stands n place op e); stands = λ m p o q. absurd (cc); older = i.older }
   moves_open es _ _ (Ends h) i = record { records = i.records; hand = λ o p. absurd (cc); stands = i.stands; older = i.older }
   moves_open es _ _ (Lists h jobs) i = record { records = i.records; hand = i.hand; stands = i.stands; older = i.older }

@@ -219,7 +219,7 @@ module _ (contexts : List WasiSocketsCtx) (line : ℕ) (origin : Step) where
   moves_named _ _ (ClosesReader h place r s g e) n = put_inner h place r _ g refl refl (λ x e. e) n
   moves_named _ _ (Writes h place r s w g e m) n = put_inner h place r _ g refl refl (λ x e. e) n
   moves_named _ _ (IsGone h place r g e) n = put_named line h place r (gone r r.inner) g (record { side = refl; accepts = λ x p. absurd (cc); named = λ x p. n.named x place r g p; held = λ op p. absurd (cc) }) n
-  moves_named _ _ (Reconnects h place r c now g e s t) n = put_inner h place r _ g refl refl (λ x p. ap side_in e ∙ (ap (λ (y : OpId). Some y) (sym s) ∙ p)) n
+  moves_named _ _ (Reconnects h place r c now g e s t u) n = put_inner h place r _ g refl refl (λ x p. ap side_in e ∙ (ap (λ (y : OpId). Some y) (sym s) ∙ p)) n
   moves_named _ _ (Opens h place r c g e k) n = put_inner h place r _ g refl refl (λ x p. ap side_in e ∙ p) n
   moves_named _ _ (BeginsConnect h place r side a bound at g d to known own) n = put_spent h place r _ g refl refl (λ x p. ap side_in d ∙ p) n
   moves_named _ _ (BeginsBind h place r side a at g d to own) n = let k = spends_named h n (by_line h.own) in record { one = k.one; apart = k.apart; older = k.older; named = k.named; held = k.held }
@@ -244,11 +244,11 @@ module _ (contexts : List WasiSocketsCtx) (line : ℕ) (origin : Step) where
       let name : accept_name r.listening ≡ Some new = ap accept_name e ∙ ap name_in a in
       let j = push_named line mid (joined l new peer) h.own refl (λ x p. (let s : new ≡ x = cc in subst (λ (y : OpId). (y.step < next_of line h.own) × Fresh mid y) s (n.older new place r g (inr name), taken_fresh h place r (accepting_now r l accepting.Idle) new g name refl refl n))) (λ x p. p) (λ op p. absurd (cc)) (omega arith) k in
       record { one = j.one; apart = j.apart; older = j.older; named = j.named; held = j.held }
-  moves_named _ _ (StandsListen h k place) n = record { one = n.one; apart = n.apart; older = n.older; named = n.named; held = n.held }
+  moves_named _ _ (StandsListen h k place r f) n = record { one = n.one; apart = n.apart; older = n.older; named = n.named; held = n.held }
   moves_named _ _ (StandsDrop h k place r at g) n = record { one = n.one; apart = n.apart; older = n.older; named = n.named; held = n.held }
   moves_named _ _ (ResumesDrop h k place e) n = record { one = n.one; apart = n.apart; older = n.older; named = n.named; held = n.held }
   moves_named _ _ (Unstands h) n = record { one = n.one; apart = n.apart; older = n.older; named = n.named; held = n.held }
-  moves_named _ _ (Stands h k place op e) n = record { one = n.one; apart = n.apart; older = n.older; named = n.named; held = n.held }
+  moves_named _ _ (Stands h k place r op f e) n = record { one = n.one; apart = n.apart; older = n.older; named = n.named; held = n.held }
   moves_named _ _ (Resumes h k place op e) n = record { one = n.one; apart = n.apart; older = n.older; named = n.named; held = n.held }
   moves_named _ _ (Ends h) n = record { one = n.one; apart = n.apart; older = n.older; named = n.named; held = n.held }
   moves_named _ _ (Lists h jobs) n = record { one = n.one; apart = n.apart; older = n.older; named = n.named; held = n.held }

@@ -110,7 +110,7 @@ module _ (contexts : List WasiSocketsCtx) (line : ℕ) (origin : Step) where
   moves_fit _ _ (ClosesReader h place r s g e) i = put_fit h place _ (i.records place r g) i
   moves_fit _ _ (Writes h place r s w g e m) i = put_fit h place _ (i.records place r g) i
   moves_fit _ _ (IsGone h place r g e) i = put_fit h place _ ((i.records place r g).0, tt) i
-  moves_fit _ _ (Reconnects h place r c now g e s t) i = put_fit h place _ (tt, (i.records place r g).1) i
+  moves_fit _ _ (Reconnects h place r c now g e s t u) i = put_fit h place _ (tt, (i.records place r g).1) i
   moves_fit _ _ (Opens h place r c g e n) i = put_fit h place _ (tt, (i.records place r g).1) i
   moves_fit _ _ (BeginsConnect h place r side a bound at g d to known own) i = let k = put_fit h place _ (first_of (own_of line) side r.inner.maker (wildcard r.inner.family) a bound, (i.records place r g).1) i in record { records = k.records; stands = k.stands; hand = k.hand }
   moves_fit _ _ (BeginsBind h place r side a at g d to own) i = let k = in_hand h _ (record { last = refl; left = binding.Unchecked a }) i in record { records = k.records; stands = k.stands; hand = k.hand }
@@ -125,11 +125,11 @@ module _ (contexts : List WasiSocketsCtx) (line : ℕ) (origin : Step) where
   moves_fit _ _ (Joins h c handle place r l new peer is of u g e a) i =
       let k = put_fit h place (accepting_now r l accepting.Idle) ((i.records place r g).0, tt) i in
       record { records = λ p q d. elim (get_split (slice_set h.machine.store.sockets place (accepting_now r l accepting.Idle)) (joined l new peer) p q d) [ inl x ↦ k.records p q x | inr x ↦ subst FitRecord x (joined_fits l new peer) ]; stands = k.stands; hand = k.hand }
-  moves_fit _ _ (StandsListen h n place) i = record { records = i.records; stands = λ c p. let q : standing_listen n place ≡ c = cc in subst (λ (x : Standing). FitCall x.call) q tt; hand = i.hand }
+  moves_fit _ _ (StandsListen h n place r f) i = record { records = i.records; stands = λ c p. let q : standing_listen n place ≡ c = cc in subst (λ (x : Standing). FitCall x.call) q tt; hand = i.hand }
   moves_fit _ _ (StandsDrop h n place r at g) i = record { records = i.records; stands = λ c p. let q : standing_drop n place ≡ c = cc in subst (λ (x : Standing). FitCall x.call) q tt; hand = i.hand }
   moves_fit _ _ (ResumesDrop h n place e) i = record { records = i.records; stands = i.stands; hand = i.hand }
   moves_fit _ _ (Unstands h) i = record { records = i.records; stands = λ c p. absurd (cc); hand = i.hand }
-  moves_fit _ _ (Stands h n place op e) i =
+  moves_fit _ _ (Stands h n place r op f e) i =
       record { records = i.records; stands = λ c p. let q : standing_bind n place op ≡ c = cc in subst (λ (x : Standing). FitCall x.call) q (i.hand op e); hand = λ o p. absurd (cc) }
   moves_fit _ _ (Resumes h n place op e) i = let k = in_hand h op (i.stands (standing_bind n place op) e) i in record { records = k.records; stands = λ c p. absurd (cc); hand = k.hand }
   moves_fit _ _ (Ends h) i = record { records = i.records; stands = i.stands; hand = λ o p. absurd (cc) }

@@ -185,7 +185,7 @@ module _ (contexts : List WasiSocketsCtx) (steps : List Step) (line : ℕ) (orig
   moves_fine es _ _ (IsGone h place r g e) b i =
       let f = i.fine.sockets place r g in
       put_fine es h place r (gone r r.inner) g refl (listening_gone r.listening) (gone_maker r r.inner) (record { socket = f.socket; named = f.named; streams = λ s p. absurd (cc); listening = tt }) i
-  moves_fine es _ _ (Reconnects h place r c now g e s t) b i =
+  moves_fine es _ _ (Reconnects h place r c now g e s t u) b i =
       let f = i.fine.sockets place r g in
       put_fine es h place r _ g refl (same_listening r.listening) (same_listen r (with_inner r (with_state r.inner (state.Connected now))) refl refl refl) (record_kept steps es r _ (record { keeps = still_connected r c now e s; side = refl; streams = refl; listening = refl }) (connected_fine es r.inner c now e s f.socket) f) i
   moves_fine es _ _ (Opens h place r c g e n) b i =
@@ -279,7 +279,7 @@ module _ (contexts : List WasiSocketsCtx) (steps : List Step) (line : ℕ) (orig
         };
         marked = λ s p m. absurd (cc);
       }
-  moves_fine es _ _ (StandsListen h n place) b i = elsewhere es h _ refl refl refl i (state_unstands steps es (calm h.machine) i.fine) i.names i.hand
+  moves_fine es _ _ (StandsListen h n place r f) b i = elsewhere es h _ refl refl refl i (state_unstands steps es (calm h.machine) i.fine) i.names i.hand
   moves_fine es _ _ (StandsDrop h n place r at g) b i = elsewhere es h _ refl refl refl i (state_stands steps es (calm h.machine) (standing_drop n place) (record { found = r; at = g; named = i.names place n r at g }) i.fine) i.names i.hand
   moves_fine es _ _ (ResumesDrop h n place e) b i =
       let d : DropIsFine steps es h.machine.store.sockets (own_of n) place = i.fine.standing (standing_drop n place) (ap calm_standing e) in
@@ -291,7 +291,7 @@ module _ (contexts : List WasiSocketsCtx) (steps : List Step) (line : ℕ) (orig
           let same : d.found ≡ r = same_record d.found r (sym d.at ∙ (ap (slice_get h.machine.store.sockets) p ∙ g)) in
           subst (λ (x : ℕ). NamesMade steps x es r) q (subst (NamesMade steps n es) same d.named)
   moves_fine es _ _ (Unstands h) b i = elsewhere es h _ refl refl refl i (state_unstands steps es (calm h.machine) i.fine) i.names i.hand
-  moves_fine es _ _ (Stands h n place op e) b i = elsewhere es h _ refl refl refl i (state_stands steps es (calm h.machine) (standing_bind n place op) (i.hand op e) i.fine) i.names (λ o p. absurd (cc))
+  moves_fine es _ _ (Stands h n place r op f e) b i = elsewhere es h _ refl refl refl i (state_stands steps es (calm h.machine) (standing_bind n place op) (i.hand op e) i.fine) i.names (λ o p. absurd (cc))
   moves_fine es _ _ (Resumes h n place op e) b i = elsewhere es h _ refl refl refl i (state_unstands steps es (calm h.machine) i.fine) i.names (λ o p. subst (BindIsFine steps es) (same_op op o p) (i.fine.standing (standing_bind n place op) (ap calm_standing e)))
   moves_fine es _ _ (Ends h) b i = elsewhere es h _ refl refl refl i i.fine i.names (λ o p. absurd (cc))
   moves_fine es _ _ (Lists h jobs) b i = elsewhere es h _ refl refl refl i (state_jobs steps es (calm h.machine) jobs i.fine) i.names i.hand

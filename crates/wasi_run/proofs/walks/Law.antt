@@ -83,6 +83,12 @@ Given R (Give a) = R a
 Given R (Ask op c next) = (told : Told) → Given R (next told)
 Given R (AskWrite op sock bytes next) = (told : Told) → Given R (next told)
 
+pub given_then : {A B : Type 0} (R : B → Type 0) (f : A → B) → ((a : A) → R (f a)) → (asks : Asks A) → Given R (bind asks (λ a. Give (f a)))
+unfolding bind
+given_then R f k (Give a) = k a
+given_then R f k (Ask op c next) = λ told. given_then R f k (next told)
+given_then R f k (AskWrite op sock bytes next) = λ told. given_then R f k (next told)
+
 given_too : {A : Type 0} (P : List Entry → OpId → Call → Type 0) (Q : List Entry → A → Type 0) (R : A → Type 0) (es : List Entry) (asks : Asks A) → Allows P Q es asks → Given R asks → Allows P (λ fs a. Q fs a × R a) es asks
 given_too P Q R es (Give a) h g = (h, g)
 given_too P Q R es (Ask op c next) h g = (h.0, λ told fits. given_too P Q R _ (next told) (h.1 told fits) (g told))

@@ -23,20 +23,20 @@ use Rattle.wasi_run.specs.declared.step.Step.{Step}
 use Rattle.wasi_run.specs.declared.step.Step.TheVariants as step
 use Rattle.wasi_run.specs.Licence.{Has, handles_of, IsListen}
 use Rattle.wasi_run.proofs.walks.Moves.{NoBindStands, Used, Unused, put, Found, record_of, Reaches, Leaves, Spends, Marked, made_so, AnAcceptedStream, StandsListen, Watches}
-use Rattle.wasi_run.proofs.walks.Law.{Law, HasRecord, put_same, Walks, give, and_then, and_given, move, gives, from, accept}
+use Rattle.wasi_run.proofs.walks.Law.{Law, HasRecord, found, put_same, Walks, give, and_then, and_given, move, gives, from, accept}
 use Rattle.wasi_run.proofs.walks.Listeners.{joined_if, Took, takes_walks, listener_walks, begin_listen_walks}
 use Rattle.wasi_run.proofs.walks.States.{Watching, OverWith, Between, socket_record, JoinedSo, At, Starts, given_any, AcceptedSo, Put, joined_given, Over, there}
 use Rattle.wasi_run.proofs.walks.SocketSteps.{streams_walks}
 
 module _ {contexts : List WasiSocketsCtx} {line : ℕ} {origin : Step} {law : Law contexts line origin} where
   -- == a listen
-  listen_answered_walks : (m : Machine) (n k place : ℕ) (begun : Result (Answer (Unit {0})) ErrorCode × Tcp2Socket) → Walks law (put (At k m place Used) place begun.1) (Put k m place) (Give (listen_answered m.store n place begun))
-  listen_answered_walks m n k place (Ok (Ready d), r) = give _
-  listen_answered_walks m n k place (Ok Pending, r) = gives _ (StandsListen _ n place)
-  listen_answered_walks m n k place (Err c, r) = give _
+  listen_answered_walks : (m : Machine) (n k place : ℕ) → HasRecord (At k m place Used) place → (begun : Result (Answer (Unit {0})) ErrorCode × Tcp2Socket) → Walks law (put (At k m place Used) place begun.1) (Put k m place) (Give (listen_answered m.store n place begun))
+  listen_answered_walks m n k place here (Ok (Ready d), r) = give _
+  listen_answered_walks m n k place here (Ok Pending, r) = gives _ (StandsListen _ n place r (found here r))
+  listen_answered_walks m n k place here (Err c, r) = give _
 
   start_listen_by_walks : (m : Machine) (place : ℕ) (r : Tcp2Socket) (idle : Bool) → Found (At line m place Unused) place r → IsListen origin → NoBindStands m.store.standing → Walks law (At line m place Unused) (Put line m place) (start_listen_by m.store (own_of line) place r idle)
-  start_listen_by_walks m place r true g is q = from (put_same (At line m place Unused) place r g) (and_then (begin_listen_walks (there g) refl is refl (refl, q) r) (listen_answered_walks m line line place))
+  start_listen_by_walks m place r true g is q = from (put_same (At line m place Unused) place r g) (and_then (begin_listen_walks (there g) refl is refl (refl, q) r) (listen_answered_walks m line line place (record { was = r; found = g })))
   start_listen_by_walks m place r false g is q = gives _ (Spends _ refl)
 
   pub start_listen_at_walks : (m : Machine) (place : ℕ) (o : Option Tcp2Socket) → slice_get m.store.sockets place ≡ o → IsListen origin → NoBindStands m.store.standing → Walks law (At line m place Unused) (Put line m place) (start_listen_at m.store (own_of line) place o)

@@ -18,7 +18,7 @@ use Rattle.wasi_p2.specs.Pending.{resumed, resume_listen}
 use Rattle.wasi_run.specs.Machine.{poll_on, poll_asks}
 use Rattle.wasi_run.specs.declared.step.Step.{Step}
 use Rattle.wasi_run.proofs.walks.Moves.{Used, Unused, put, Leaves, Spends, Resumes, Ends, Past, Unstands, StandsListen, ResumesDrop}
-use Rattle.wasi_run.proofs.walks.Law.{Law, put_same, Walks, give, and_then, move, gives, from}
+use Rattle.wasi_run.proofs.walks.Law.{Law, HasRecord, found, put_same, Walks, give, and_then, move, gives, from}
 use Rattle.wasi_run.proofs.walks.Sockets.{poll_bind_walks}
 use Rattle.wasi_run.proofs.walks.Listeners.{poll_listen_walks}
 use Rattle.wasi_run.proofs.walks.States.{stands_so, OverWith, stands_drop, Starts, Over, there}
@@ -32,7 +32,7 @@ module _ {contexts : List WasiSocketsCtx} {line : ℕ} {origin : Step} {law : La
   rebind_walks m n place op (Some r) g =
       let now : Machine = record m { store = unstood m.store } in
       from (put_same (record { machine = now; at = None; hand = Some op; made = Past; own = Used }) place r g)
-      (and_then (poll_bind_walks {h = Over now} {place = place} (there {h = Over now} {place = place} g) op r) (λ begun. answered_walks now None n place begun))
+      (and_then (poll_bind_walks {h = Over now} {place = place} (there {h = Over now} {place = place} g) op r) (λ begun. answered_walks now None n place begun (record { was = r; found = g })))
 
   resume_walks : (m : Machine) (n : ℕ) (o : Option (ℕ × Operation)) → waiting_bind m.store.standing n ≡ o → Walks law (Starts m Unused) (λ done. Over (record m { store = done.1 })) (resume_bind_in m.store n o)
   resume_walks m n None e = gives _ (Spends _ refl)
@@ -45,16 +45,16 @@ module _ {contexts : List WasiSocketsCtx} {line : ℕ} {origin : Step} {law : La
       some (Err why, store) = give _
 
   -- == a pending call goes on
-  answers_listen : (m : Machine) (n place : ℕ) (begun : Result (Answer (Unit {0})) ErrorCode × Tcp2Socket) → Walks law (put (Over m) place begun.1) (λ done. Over (record m { store = done.1 })) (Give (listen_answered m.store n place begun))
-  answers_listen m n place (Ok (Ready d), r) = give _
-  answers_listen m n place (Ok Pending, r) = gives _ (StandsListen _ n place)
-  answers_listen m n place (Err c, r) = give _
+  answers_listen : (m : Machine) (n place : ℕ) → HasRecord (Over m) place → (begun : Result (Answer (Unit {0})) ErrorCode × Tcp2Socket) → Walks law (put (Over m) place begun.1) (λ done. Over (record m { store = done.1 })) (Give (listen_answered m.store n place begun))
+  answers_listen m n place here (Ok (Ready d), r) = give _
+  answers_listen m n place here (Ok Pending, r) = gives _ (StandsListen _ n place r (found here r))
+  answers_listen m n place here (Err c, r) = give _
 
   relisten_walks : (m : Machine) (n place : ℕ) (o : Option Tcp2Socket) → slice_get m.store.sockets place ≡ o → Walks law (Over (record m { store = unstood m.store })) (λ done. Over (record m { store = done.1 })) (relisten_at m.store n place o)
   relisten_walks m n place None g = give _
   relisten_walks m n place (Some r) g =
       let now : Machine = record m { store = unstood m.store } in
-      from (put_same (Over now) place r g) (and_then (poll_listen_walks {h = Over now} {place = place} (there {h = Over now} {place = place} g) (refl, tt) r) (answers_listen now n place))
+      from (put_same (Over now) place r g) (and_then (poll_listen_walks {h = Over now} {place = place} (there {h = Over now} {place = place} g) (refl, tt) r) (answers_listen now n place (there {h = Over now} {place = place} g)))
 
   some_walks : (m : Machine) (done : Result (Answer (Unit {0})) Stop × Records) → Walks law (Over (record m { store = done.1 })) (λ x. Over (record m { store = x.1 })) (Give (some_answer done))
   some_walks m (Ok answer, store) = give _

@@ -28,7 +28,7 @@ use Rattle.wasi_run.specs.declared.step.Step.{Step}
 use Rattle.wasi_run.specs.declared.step.Step.TheVariants as step
 use Rattle.wasi_run.specs.Licence.{Has, handles_of, IsBindTo, IsConnectTo, IsBacklogSet}
 use Rattle.wasi_run.proofs.walks.Moves.{NoBindStands, Used, Unused, Here, put, Found, record_of, AStream, Reaches, Leaves, Spends, Changes, Stands, Made, Past, Marks}
-use Rattle.wasi_run.proofs.walks.Law.{Law, HasRecord, put_same, Walks, Given, give, and_then, and_given, by_if, move, gives, from, mark}
+use Rattle.wasi_run.proofs.walks.Law.{Law, HasRecord, found, put_same, Walks, Given, give, and_then, and_given, by_if, move, gives, from, mark}
 use Rattle.wasi_run.proofs.walks.Sockets.{Begun, set_walks, begin_bind_walks, begin_connect_walks, poll_connect_walks, local_walks, remote_walks, backlog_walks}
 use Rattle.wasi_run.proofs.walks.Streams.{shut_walks}
 use Rattle.wasi_run.proofs.walks.States.{OverWith, Between, socket_record, make_given, At, Starts, streams_are, Put, Over, there}
@@ -50,14 +50,14 @@ module _ {contexts : List WasiSocketsCtx} {line : ℕ} {origin : Step} {law : La
 
   -- a bind that was begun
   pub answered_walks : (m : Machine) (at : Option (ℕ × ℕ)) (n place : ℕ) (begun : Result (Option Operation) ErrorCode × Tcp2Socket) → let h : Here = record { machine = m; at = at; hand = None; made = Past; own = Used } in
-      Walks law (Begun h place begun) (λ done. record h { machine = record m { store = done.1 } }) (Give (bind_answered m.store n place begun))
-  answered_walks m at n place (Ok (Some op), r) = gives _ (Stands _ n place op refl)
-  answered_walks m at n place (Ok None, r) = give _
-  answered_walks m at n place (Err c, r) = give _
+      HasRecord h place → Walks law (Begun h place begun) (λ done. record h { machine = record m { store = done.1 } }) (Give (bind_answered m.store n place begun))
+  answered_walks m at n place (Ok (Some op), r) here = gives _ (Stands _ n place r op (found here r) refl)
+  answered_walks m at n place (Ok None, r) here = give _
+  answered_walks m at n place (Err c, r) here = give _
 
   -- == a bind
   start_by_walks : (m : Machine) (place : ℕ) (a : IpSocketAddress) (r : Tcp2Socket) (idle : Bool) → Found (At line m place Unused) place r → IsBindTo a origin → Walks law (At line m place Unused) (Put line m place) (start_bind_by m.store (own_of line) place a r idle)
-  start_by_walks m place a r true g to = from (put_same (At line m place Unused) place r g) (and_then (begin_bind_walks (there g) refl a to refl r) (λ begun. answered_walks m (Some (place, line)) line place begun))
+  start_by_walks m place a r true g to = from (put_same (At line m place Unused) place r g) (and_then (begin_bind_walks (there g) refl a to refl r) (λ begun. answered_walks m (Some (place, line)) line place begun (record { was = r; found = g })))
   start_by_walks m place a r false g to = gives _ (Spends _ refl)
 
   start_at_walks : (m : Machine) (place : ℕ) (a : IpSocketAddress) (o : Option Tcp2Socket) → slice_get m.store.sockets place ≡ o → IsBindTo a origin → Walks law (At line m place Unused) (Put line m place) (start_bind_at m.store (own_of line) place a o)
@@ -148,7 +148,7 @@ module _ {contexts : List WasiSocketsCtx} {line : ℕ} {origin : Step} {law : La
   finishes m place is_it (Some r) g = by_test (is_it r.in_progress)
     where
       by_test : (b : Bool) → Walks law (Starts m Unused) (λ now. Over now) (Give (with_store m (finish_by m.store place r b)).1)
-      by_test true = move (Spends _ refl) (gives _ (Changes _ place r _ g (record { side = refl; streams = refl; listening = refl; does = refl; maker = refl; family = refl; bound = λ side d b. b })))
+      by_test true = move (Spends _ refl) (gives _ (Changes _ place r _ g (record { side = refl; streams = refl; listening = refl; does = refl; maker = refl; family = refl; bound = λ side d b. b; connects = λ e. absurd (cc) })))
       by_test false = gives _ (Spends _ refl)
 
   pub finish_on_bind : (m : Machine) (is_it : InProgress → Bool) (o : Option ℕ) → Walks law (Starts m Unused) (λ now. Over now) (Give (finish_on is_it m o).1)

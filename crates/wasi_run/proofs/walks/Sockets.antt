@@ -1,6 +1,6 @@
 -- The calls on a socket, as moves of the record that holds it.
-use Rattle.std.specs.Prelude.{◌==◌, ◌&&◌}
-use Rattle.std.proofs.Common.{◌≡◌, ℕ, Bool, true, false, if◌then◌else◌, List, Option, Some, None, Result, Ok, Err, refl, sym, ap, ◌∙◌}
+use Rattle.std.specs.Prelude.{⊤, ◌==◌, ◌&&◌}
+use Rattle.std.proofs.Common.{◌≡◌, inl, inr, ℕ, Bool, true, false, if◌then◌else◌, List, Option, Some, None, Result, Ok, Err, refl, sym, ap, ◌∙◌}
 use Rattle.wasi_addr.specs.Clamp.{clamped_backlog}
 use Rattle.wasi_addr.specs.declared.address.IpSocketAddress.{IpSocketAddress}
 use Rattle.wasi_addr.specs.declared.code.ErrorCode.{ErrorCode}
@@ -21,20 +21,19 @@ use Rattle.wasi_tcp.specs.declared.socket.TcpState.TheVariants as state
 use Rattle.wasi_tcp.specs.Addresses.{usable_side, local_side, local_from, after_peer, peer_known, remote_in, still_connected}
 use Rattle.wasi_tcp.specs.Bind.{bind_operation}
 use Rattle.wasi_tcp.specs.Connect.{connect_first, connect_operation}
-use Rattle.wasi_tcp.specs.Connecting.{with_state, is_connectable, start_connect_in, finish_in, finish_connect_asks, in_socket}
+use Rattle.wasi_tcp.specs.Connecting.{with_state, is_connectable, connect_start, start_connect_in, finish_in, finish_connect_asks, in_socket}
 use Rattle.wasi_tcp.specs.Halves.{taken_receive, taken_send, take_receive}
 use Rattle.wasi_tcp.specs.Options.{get_where, get_option_asks, zero_test, refused_before, refused_after, value_set, set_where, set_option_asks, with_backlog, after_backlog, set_backlog_in, set_backlog_asks}
 use Rattle.wasi_tcp.specs.Shape.{Socket}
 use Rattle.wasi_tcp.specs.Socket.{side_in, side_of, after_local, ask_bound, bound_asks, bind_allowed, bind_asks}
-use Rattle.wasi_host.specs.declared.socket.InProgress.{InProgress}
 use Rattle.wasi_host.specs.declared.socket.InProgress.TheVariants as doing
 use Rattle.wasi_host.specs.declared.socket.Tcp2Socket.{Tcp2Socket}
 use Rattle.wasi_host.specs.Machine.{own_of}
 use Rattle.wasi_host.specs.Store.{with_inner, left_of, bind_ended, poll_bind_asks, bind_begun, begin_bind_asks, connect_begun, begin_connect_asks, idle, tell_local_asks, tell_remote_asks, opened_send, opened_receive, connect_polled, poll_connect_asks}
 use Rattle.wasi_run.specs.declared.step.Step.{Step}
 use Rattle.wasi_run.specs.Licence.{IsBindTo, IsConnectTo, IsBacklogSet}
-use Rattle.wasi_run.proofs.walks.Moves.{NoBind, Used, Unused, Here, put, opened_by, Reconnects, Opens, BeginsConnect, OfSocket, Plain, Move, Spends, Changes, BeginsBind, Ends}
-use Rattle.wasi_run.proofs.walks.Law.{Law, HasRecord, spent, put_put, Given, Walks, give, and_then, and_given, connect, by_if, move, gives, from, poll, found, on, ask, learn, set}
+use Rattle.wasi_run.proofs.walks.Moves.{IsConnecting, NoBind, Used, Unused, Here, put, opened_by, Reconnects, Opens, BeginsConnect, OfSocket, Plain, Move, Spends, Changes, BeginsBind, Ends}
+use Rattle.wasi_run.proofs.walks.Law.{Law, HasRecord, spent, put_put, Given, given_then, Walks, give, and_then, and_given, connect, by_if, move, gives, from, poll, found, on, ask, learn, set}
 
 -- what a call on the record's socket, its reader or its writer leaves
 abbrev pub Inner : {A : Type 0} → Here → ℕ → Tcp2Socket → A × Socket → Here
@@ -65,7 +64,7 @@ usable_if s true side e = usable s side e
 usable_if s false side e = absurd (cc)
 
 same_socket : (r : Tcp2Socket) → Plain r (record r { in_progress = doing.Bind })
-same_socket r = record { side = refl; streams = refl; listening = refl; does = refl; maker = refl; family = refl; bound = λ side d b. b }
+same_socket r = record { side = refl; streams = refl; listening = refl; does = refl; maker = refl; family = refl; bound = λ side d b. b; connects = λ e. absurd (cc) }
 
 -- the line's own operation began something, or never will
 abbrev pub Spent : {A : Type 0} → Here → ℕ → Tcp2Socket → A × Socket → Here
@@ -98,8 +97,25 @@ bound_given op socket = by_test socket.bound refl
     by_test true e = (λ t. e, refl)
     by_test false e = by_state socket.state
 
-same_record : (r : Tcp2Socket) (doing : InProgress) → Plain r (record r { in_progress = doing })
-same_record r doing = record { side = refl; streams = refl; listening = refl; does = refl; maker = refl; family = refl; bound = λ side d b. b }
+idle_record : (r : Tcp2Socket) → Plain r (record r { in_progress = doing.Nothing })
+idle_record r = record { side = refl; streams = refl; listening = refl; does = refl; maker = refl; family = refl; bound = λ side d b. b; connects = λ e. absurd (cc) }
+
+-- a connect that begins leaves the socket connecting
+abbrev pub BeginsSo : Result (Unit {0}) ErrorCode × Socket → Type 0
+BeginsSo (Ok done, socket) = IsConnecting socket.state
+BeginsSo (Err c, socket) = ⊤
+
+begun_given : (op : OpId) (socket : Socket) (a : IpSocketAddress) (s : TcpState) → Given BeginsSo (start_connect_in op socket a s)
+unfolding bind
+begun_given op socket a (state.Default side) = given_then BeginsSo (λ b. connect_start op side b.1 a b.0) (λ b. by_test b (is_connectable b.1 a)) (bound_asks op socket)
+  where
+    by_test : (b : Bool × Socket) (able : Bool) → BeginsSo (if able then (Ok tt, with_state b.1 (state.Connecting (connect_operation (record { op = op; side = side; maker = b.1.maker }) (wildcard b.1.family) a (connect_first b.0)))) else (Err InvalidArgument, b.1))
+    by_test b true = tt
+    by_test b false = tt
+begun_given op socket a (state.Listening side) = tt
+begun_given op socket a (state.Connecting other) = tt
+begun_given op socket a (state.Connected c) = tt
+begun_given op socket a (state.Closed c) = tt
 
 -- the record, with its socket in this state
 abbrev pub In : Here → ℕ → Tcp2Socket → Socket → TcpState → Here
@@ -119,7 +135,7 @@ module _ {contexts : List WasiSocketsCtx} {line : ℕ} {origin : Step} {law : La
 
   -- it is in progress no more
   idles : {A : Type 0} (r : Tcp2Socket) (socket : Socket) (answer : A) → Walks law {A = A × Tcp2Socket} (put h place (with_inner r socket)) (λ done. put h place done.1) (Give (answer, idle r socket))
-  idles r socket answer = on here (with_inner r socket) _ (Changes _ _ _ _ (found here (with_inner r socket)) (same_record (with_inner r socket) doing.Nothing)) (give _)
+  idles r socket answer = on here (with_inner r socket) _ (Changes _ _ _ _ (found here (with_inner r socket)) (idle_record (with_inner r socket))) (give _)
 
   sends : (r : Tcp2Socket) (socket : Socket) (c : Connection) (taken : Bool) → c.send_taken ≡ taken
       → Walks law (In h place r socket (state.Connected c)) (λ done. put h place done.1) (Give (opened_send r (record { side = c.side }) (in_socket socket (still_connected (taken_send c taken)))))
@@ -131,7 +147,10 @@ module _ {contexts : List WasiSocketsCtx} {line : ℕ} {origin : Step} {law : La
   receives r socket c false =
       let now = with_inner r (with_state socket (state.Connected c)) in
       let next : Connection = record c { receive_taken = true } in
-      on here now (with_inner r (with_state socket (state.Connected next))) (Reconnects _ _ _ c next (found here now) refl refl (λ t. t)) (sends r (with_state socket (state.Connected next)) next next.send_taken refl)
+      let idled : Tcp2Socket = record r { in_progress = doing.Nothing } in
+      let waits = with_inner idled (with_state socket (state.Connected c)) in
+      on here now waits (Changes _ _ _ _ (found here now) (idle_record now))
+      (on here waits (with_inner idled (with_state socket (state.Connected next))) (Reconnects _ _ _ c next (found here waits) refl refl (λ t. t) (λ e. absurd (cc))) (sends idled (with_state socket (state.Connected next)) next next.send_taken refl))
 
   opens : (r : Tcp2Socket) (socket : Socket) (s : TcpState) → Walks law (In h place r socket s) (λ done. put h place done.1) (Give (opened_receive r (in_socket socket (take_receive s))))
   opens r socket (state.Connected c) = receives r socket c c.receive_taken
@@ -210,7 +229,7 @@ module _ {contexts : List WasiSocketsCtx} {line : ℕ} {origin : Step} {law : La
   peer_walks r c None = ask here (with_inner r (with_state r.inner (state.Connected c))) at (OfSocket refl) refl (λ told fits. known (told_addr told))
     where
       known : (told : Result IpSocketAddress ErrorCode) → Walks law (In h place r r.inner (state.Connected c)) (λ done. In h place r r.inner (state.Connected done.1)) (Give (after_peer c told))
-      known (Ok a) = let old = with_inner r (with_state r.inner (state.Connected c)) in on here old _ (Reconnects _ _ _ c (record c { peer = Some a }) (found here old) refl refl (λ t. t)) (give _)
+      known (Ok a) = let old = with_inner r (with_state r.inner (state.Connected c)) in on here old _ (Reconnects _ _ _ c (record c { peer = Some a }) (found here old) refl refl (λ t. t) (λ e. (refl, refl))) (give _)
       known (Err x) = give _
 
   remote_in_walks : (r : Tcp2Socket) (s : TcpState) → Walks law (In h place r r.inner s) (λ done. In h place r r.inner done.1) (remote_in (own_of n) s)
@@ -226,7 +245,7 @@ module _ {contexts : List WasiSocketsCtx} {line : ℕ} {origin : Step} {law : La
 module _ {contexts : List WasiSocketsCtx} {line : ℕ} {origin : Step} {law : Law contexts line origin} {h : Here} {place : ℕ} (here : HasRecord h place) (at : h.at ≡ Some (place, line)) where
   -- == a bind
   is_bound : (r : Tcp2Socket) → ((side : OpId) → r.inner.state ≡ state.Default side → ⊥) → Walks law (put h place r) (Inner h place r) (Give (true, record r.inner { bound = true }))
-  is_bound r other = on here r _ (Changes _ _ _ _ (found here r) (record { side = refl; streams = refl; listening = refl; does = refl; maker = refl; family = refl; bound = λ side d b. absurd (other side d) })) (give _)
+  is_bound r other = on here r _ (Changes _ _ _ _ (found here r) (record { side = refl; streams = refl; listening = refl; does = refl; maker = refl; family = refl; bound = λ side d b. absurd (other side d); connects = λ e. inl e })) (give _)
 
   bound_in : (r : Tcp2Socket) (s : TcpState) → r.inner.state ≡ s → Walks law (put h place r) (Inner h place r) (ask_bound (own_of line) r.inner s)
   unfolding bind
@@ -264,18 +283,18 @@ module _ {contexts : List WasiSocketsCtx} {line : ℕ} {origin : Step} {law : La
   start_connect_walks r a _ e to free = gives _ (Spends _ free)
 
   pub begin_connect_walks : (r : Tcp2Socket) (a : IpSocketAddress) → IsConnectTo a origin → h.own ≡ Unused → Walks law (put h place r) (λ done. record (put h place done.1) { own = Used }) (begin_connect_asks (own_of line) r a)
-  begin_connect_walks r a to free = and_then (start_connect_walks r a r.inner.state refl to free) begun
+  begin_connect_walks r a to free = and_given BeginsSo (begun_given (own_of line) r.inner a r.inner.state) (start_connect_walks r a r.inner.state refl to free) begun
     where
-      begun : (done : Result (Unit {0}) ErrorCode × Socket) → Walks law (Spent h place r done) (λ d. record (put h place d.1) { own = Used }) (Give (connect_begun r done))
-      begun (Ok d, socket) = on (spent here) (with_inner r socket) _ (Changes _ _ _ _ (found (spent here) (with_inner r socket)) (record { side = refl; streams = refl; listening = refl; does = refl; maker = refl; family = refl; bound = λ side d b. b })) (give _)
-      begun (Err c, socket) = give _
+      begun : (done : Result (Unit {0}) ErrorCode × Socket) → BeginsSo done → Walks law (Spent h place r done) (λ d. record (put h place d.1) { own = Used }) (Give (connect_begun r done))
+      begun (Ok d, socket) so = on (spent here) (with_inner r socket) _ (Changes _ _ _ _ (found (spent here) (with_inner r socket)) (record { side = refl; streams = refl; listening = refl; does = refl; maker = refl; family = refl; bound = λ side d b. b; connects = λ e. inr so })) (give _)
+      begun (Err c, socket) so = give _
 
   pub local_walks : (r : Tcp2Socket) → Walks law (put h place r) (λ done. put h place done.1) (tell_local_asks (own_of line) r)
   local_walks r = and_then (and_then (bound_walks r) (λ b. told_walks here at (with_inner r b.1) (local_side b.1 b.0) (usable_if b.1.state b.0))) (λ done. give _)
 
 -- == the backlog, and whether it is ready
 backlog_kept : (r : Tcp2Socket) (b : ℕ) → Plain r (with_inner r (with_backlog r.inner b))
-backlog_kept r b = record { side = refl; streams = refl; listening = refl; does = refl; maker = refl; family = refl; bound = λ side d e. e }
+backlog_kept r b = record { side = refl; streams = refl; listening = refl; does = refl; maker = refl; family = refl; bound = λ side d e. e; connects = λ e. inl e }
 
 module _ {contexts : List WasiSocketsCtx} {line : ℕ} {origin : Step} {law : Law contexts line origin} {h : Here} {place : ℕ} (here : HasRecord h place) (at : h.at ≡ Some (place, line)) where
   backlog_told : (r : Tcp2Socket) (b : ℕ) (told : Result (Unit {0}) ErrorCode) → Walks law (put h place r) (Inner h place r) (Give (after_backlog r.inner b told))

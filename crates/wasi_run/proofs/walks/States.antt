@@ -29,7 +29,7 @@ use Rattle.wasi_host.specs.Pending.{bind_in, waiting_bind, waiting_drop, output_
 use Rattle.wasi_host.specs.Store.{Records, standing_bind, standing_drop}
 use Rattle.wasi_run.proofs.walks.Moves.{Own, Used, Here, put, Found, record_of, Made, Past, Unmade, Joined}
 use Rattle.wasi_run.proofs.Lists.{value_front, get_seam}
-use Rattle.wasi_run.proofs.walks.Law.{HasRecord, Given}
+use Rattle.wasi_run.proofs.walks.Law.{HasRecord, Given, given_then}
 
 -- a line begins, and is over
 abbrev pub Starts : Machine → Own → Here
@@ -153,12 +153,6 @@ pub given_any : {A : Type 0} (R : A → Type 0) → ((a : A) → R a) → (asks 
 given_any R k (Give a) = k a
 given_any R k (Ask op c next) = λ told. given_any R k (next told)
 given_any R k (AskWrite op sock bytes next) = λ told. given_any R k (next told)
-
-given_then : {A B : Type 0} (R : B → Type 0) (f : A → B) → ((a : A) → R (f a)) → (asks : Asks A) → Given R (bind asks (λ a. Give (f a)))
-unfolding bind
-given_then R f k (Give a) = k a
-given_then R f k (Ask op c next) = λ told. given_then R f k (next told)
-given_then R f k (AskWrite op sock bytes next) = λ told. given_then R f k (next told)
 
 -- what joined the records is there
 pub record HasAt (store : Records) (p : ℕ) : Type 0 where
