@@ -13,7 +13,7 @@ use Rattle.wasi_host.specs.Closing.{IsFresh, HasClosedAll}
 use Rattle.wasi_run.specs.Script.{RanOver, RanScript}
 use Rattle.wasi_run.specs.Causes.{BeginsRun, DoneLines}
 use Rattle.wasi_run.specs.Headline.{RunsLicensed}
-use Rattle.wasi_run.proofs.Licences.{started_is_licensed}
+use Rattle.wasi_run.proofs.licence.Beginnings.{started_is_licensed}
 use Rattle.wasi_run.proofs.Stretches.{stays_open}
 use Rattle.wasi_host.proofs.Closings.{empty_known}
 use Rattle.wasi_run.proofs.CauseLaws.{whole_by}

@@ -109,3 +109,10 @@ value_front {K} (x ∷ live) s handle value e = by_test (x.handle == handle) (va
     by_test : (b : Bool) (o p : Option K) → (o ≡ Some value → p ≡ Some value) → (if b then Some x.value else o) ≡ Some value → (if b then Some x.value else p) ≡ Some value
     by_test true o p f e = e
     by_test false o p f e = f e
+
+-- of a list that grew by one, where it was
+pub split_place : {A : Type 0} (xs : List A) (y : A) (k : ℕ) (x : A) → slice_get (xs ++ y ∷ []) k ≡ Some x → (slice_get xs k ≡ Some x) ⊎ ((k ≡ length xs) × (y ≡ x))
+split_place [] y zero x h = inr (refl, cc)
+split_place [] y (suc k) x h = absurd (cc)
+split_place (z ∷ xs) y zero x h = inl h
+split_place (z ∷ xs) y (suc k) x h = elim (split_place xs y k x h) [ inl e ↦ inl e | inr e ↦ inr (ap suc e.0, e.1) ]

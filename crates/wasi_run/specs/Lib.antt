@@ -14,12 +14,7 @@ pub mod Program
 pub mod Parsed
 pub mod Answered
 pub mod Listens
-pub mod Options
-pub mod GivenUp
 pub mod Waiting
-pub mod Turns
-pub mod Permitted
-pub mod Order
 pub mod Generate
 pub mod Counted
 pub mod TextStreams

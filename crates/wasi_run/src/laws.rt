@@ -1,25 +1,17 @@
 //! Laws over the definitions of specs/: each is a function that does nothing, whose contract is the law.
 
-ghost use Rattle.std.specs.Prelude.{◌≡◌, ℕ, ◌+◌, ◌<◌, List, [], ◌++◌, length};
+ghost use Rattle.std.specs.Prelude.{◌≡◌, ℕ, ◌+◌, List, [], ◌++◌};
 ghost use Rattle.wasi_addr.specs.declared.address.SocketAddressFamily.{SocketAddressFamily};
 ghost use Rattle.wasi_world.specs.declared.call.Entry.{Entry};
 ghost use Rattle.wasi_world.specs.declared.ids.OpId.{OpId};
 ghost use Rattle.wasi_world.specs.declared.outcome.WasiSocketsCtx.{WasiSocketsCtx};
-ghost use Rattle.wasi_world.specs.Asks.{Asks, Give, Left};
-ghost use Rattle.wasi_world.specs.Operation.{Item, End, Operation};
-ghost use Rattle.wasi_tcp.specs.Taken.{taken_in, IsFrontOf};
+ghost use Rattle.wasi_world.specs.Asks.{Asks, Left};
 ghost use Rattle.wasi_host.specs.declared.machine.Machine.{Machine};
 ghost use Rattle.wasi_run.specs.declared.reply.Reply.{Reply};
 ghost use Rattle.wasi_run.specs.declared.step.Step.{Step};
-ghost use Rattle.wasi_run.specs.declared.reply.Reply.TheVariants as Reply;
-ghost use Rattle.wasi_run.specs.declared.step.Step.TheVariants as Step;
-ghost use Rattle.wasi_run.specs.Answered.{Answered};
 ghost use Rattle.wasi_run.specs.Licence.{IsLicensed, IsSide, IsMaker};
 ghost use Rattle.wasi_host.specs.Machine.{first_state};
-ghost use Rattle.wasi_run.specs.Machine.{machine_asks, run};
-ghost use Rattle.wasi_run.specs.Order.{IsOutward, ChecksFirst, HasGone, NoCheckLeft, operation_polled, asked_by};
-ghost use Rattle.wasi_run.specs.Permitted.{WritesTo, permitted_by, Did, IsOfSteps};
-ghost use Rattle.wasi_run.specs.Reply.{number_fields};
+ghost use Rattle.wasi_run.specs.Machine.{run};
 
 /// The log of a run is licensed for its contexts and steps, whatever is answered, and wherever the run stands.
 pub fn runs_are_licensed()
@@ -51,49 +43,4 @@ pub fn sides_have_one_maker()
         (ctx other : ℕ) (family its : SocketAddressFamily)
         → IsLicensed contexts steps log → IsMaker log ctx family side → IsMaker log other its side
         → (ctx ≡ other) × (family ≡ its) }
-{}
-
-/// The log of a run, wherever it stands, is that of the steps that were done and of the beginning of the next.
-pub fn runs_are_of_steps()
-    ensures { (contexts : List WasiSocketsCtx) (side : OpId) (steps : List Step) (log : List Entry) (rest : Asks (List Reply × Machine))
-        → Left (run contexts [] first_state 1 steps) log rest → IsOfSteps contexts side first_state 1 steps log }
-{}
-
-/// What a side took is the front of what the machine let the steps write to it: once the steps are done, and in the middle of
-/// the next one.
-pub fn taken_is_permitted()
-    ensures done { (contexts : List WasiSocketsCtx) (side : OpId) (steps : List Step) (log : List Entry) (permitted : List ℕ) (after : Machine)
-        → Did contexts side first_state 1 steps log permitted after
-        → IsFrontOf (taken_in side log) permitted }
-    ensures begun { (contexts : List WasiSocketsCtx) (side : OpId) (steps : List Step) (log : List Entry) (permitted : List ℕ) (after : Machine)
-        (s : Step) (entries : List Entry) (rest : Asks (Reply × Machine))
-        → Did contexts side first_state 1 steps log permitted after
-        → Left (machine_asks contexts after (1 + length steps) s after.store.standing) entries rest
-        → IsFrontOf (taken_in side (log ++ entries)) (permitted ++ permitted_by after side s) }
-{}
-
-/// Where a check-write on an output of a side answers a permit, the side took all that the machine let the steps write to it.
-pub fn permit_means_all_is_taken()
-    ensures { (contexts : List WasiSocketsCtx) (side : OpId) (steps : List Step) (log : List Entry) (permitted : List ℕ) (after : Machine)
-        (ctx output n : ℕ) (entries : List Entry) (next : Machine)
-        → Did contexts side first_state 1 steps log permitted after
-        → WritesTo after output side
-        → Answered contexts after (1 + length steps) (Step.CheckWrite ctx output) entries (Reply.Ok (number_fields n)) next
-        → 0 < n
-        → taken_in side (log ++ entries) ≡ permitted }
-{}
-
-/// In one poll of a bind, a connect or a listen no check follows a bind, a listen or a connect; and where one of these was
-/// asked, the poll leaves no check to a later one.
-pub fn operations_check_first()
-    ensures poll { (op : Operation) (entries : List Entry) (rest : Asks (End × List Item))
-        → IsOutward op → Left (operation_polled op) entries rest → ChecksFirst entries }
-    ensures later { (op : Operation) (entries : List Entry) (ended : End × List Item)
-        → IsOutward op → Left (operation_polled op) entries (Give ended) → HasGone entries → NoCheckLeft ended.1 }
-{}
-
-/// Wherever a run stands, each operation asked its checks before its first bind, listen or connect.
-pub fn checks_come_first()
-    ensures { (contexts : List WasiSocketsCtx) (steps : List Step) (log : List Entry) (rest : Asks (List Reply × Machine))
-        → Left (run contexts [] first_state 1 steps) log rest → (op : OpId) → ChecksFirst (asked_by op log) }
 {}

@@ -2,14 +2,11 @@
 #![tactic(auto)]
 
 mod calls;
-pub mod causes;
 pub mod counts;
 pub mod generate;
 mod growing_sink;
 pub mod laws;
 mod lines;
-pub mod listens;
-pub mod options;
 pub mod parse;
 pub mod program;
 mod replies;

@@ -1,4 +1,4 @@
-use Rattle.wasi_run.proofs.Licences.{prefix_is_licensed}
+use Rattle.wasi_run.proofs.licence.Beginnings.{prefix_is_licensed}
 use Rattle.wasi_run.proofs.laws.beginnings_are_licensed.Goals as goal
 
 pub returns : goal.returns

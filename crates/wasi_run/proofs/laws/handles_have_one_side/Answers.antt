@@ -1,4 +1,4 @@
-use Rattle.wasi_run.proofs.Meanings.{one_side}
+use Rattle.wasi_run.proofs.licence.Meanings.{one_side}
 use Rattle.wasi_run.proofs.laws.handles_have_one_side.Goals as goal
 
 pub returns : goal.returns

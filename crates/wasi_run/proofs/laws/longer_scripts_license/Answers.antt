@@ -1,4 +1,4 @@
-use Rattle.wasi_run.proofs.Licences.{longer_script}
+use Rattle.wasi_run.proofs.licence.Beginnings.{longer_script}
 use Rattle.wasi_run.proofs.laws.longer_scripts_license.Goals as goal
 
 pub returns : goal.returns

@@ -1,4 +1,4 @@
-use Rattle.wasi_run.proofs.Meanings.{one_maker}
+use Rattle.wasi_run.proofs.licence.Meanings.{one_maker}
 use Rattle.wasi_run.proofs.laws.sides_have_one_maker.Goals as goal
 
 pub returns : goal.returns

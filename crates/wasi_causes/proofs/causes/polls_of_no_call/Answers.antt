@@ -1,0 +1,14 @@
+use Rattle.wasi_causes.proofs.PollLaws.{poll_finds_none, poll_stays, poll_ends, poll_fails}
+use Rattle.wasi_causes.proofs.RunStates.{polls_never_trap}
+use Rattle.wasi_causes.proofs.TrapCauses.{finds_no_call}
+use Rattle.wasi_causes.proofs.causes.polls_of_no_call.Goals as goal
+
+pub returns : goal.returns
+returns c = record {
+  exactly = λ contexts m line n. poll_finds_none m n contexts line;
+  stays = λ contexts m line n. poll_stays m n contexts line;
+  only_polls = finds_no_call;
+  ends = λ contexts m line n. poll_ends m n contexts line;
+  refused = λ contexts m line n. poll_fails m n contexts line;
+  never_traps = λ contexts steps log replies m line n entries kind after w. polls_never_trap contexts steps log replies m w line n entries kind after;
+}

@@ -1,0 +1,5 @@
+use Rattle.wasi_causes.proofs.MayAnswers.{runs_answer, all_answer}
+use Rattle.wasi_causes.proofs.causes.replies_are_of_the_step.Goals as goal
+
+pub returns : goal.returns
+returns c = record { next = runs_answer; all = all_answer }

@@ -1,0 +1,5 @@
+use Rattle.wasi_causes.proofs.RunCauses.{runs_bind}
+use Rattle.wasi_causes.proofs.causes.runs_stand_by_binds.Goals as goal
+
+pub returns : goal.returns
+returns c = runs_bind

@@ -1,0 +1,5 @@
+pub mod GivenUp
+pub mod Options
+pub mod Turns
+pub mod MayAnswer
+pub mod Reached

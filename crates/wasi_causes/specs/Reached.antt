@@ -1,0 +1,45 @@
+-- What holds of every machine that the lines of a script lead to.
+use Rattle.std.specs.Prelude.{◌≡◌, ⊤, ℕ, true, false, List, IsSome, slice_get}
+use Rattle.wasi_world.specs.declared.call.Entry.{Entry}
+use Rattle.wasi_tcp.specs.declared.socket.TcpState.{TcpState}
+use Rattle.wasi_tcp.specs.declared.socket.TcpState.TheVariants as state
+use Rattle.wasi_host.specs.declared.kind.Kind.{Kind}
+use Rattle.wasi_host.specs.declared.kind.Kind.TheVariants.{Network, Tcp2, Input, Output, Pollable, ErrorValue}
+use Rattle.wasi_host.specs.declared.machine.Machine.{Machine}
+use Rattle.wasi_host.specs.declared.socket.Tcp2Socket.{Tcp2Socket}
+use Rattle.wasi_host.specs.Kinds.{place_in}
+use Rattle.wasi_host.specs.Store.{is_connect}
+use Rattle.wasi_run.specs.declared.reply.CodeWord.{CodeWord}
+use Rattle.wasi_run.specs.Answered.{FinishRefusal}
+
+-- == records
+abbrev pub HasRecord : Machine → ℕ → Type 0
+HasRecord m place = IsSome (slice_get m.store.sockets place)
+
+-- a handle of a socket, a stream or a pollable is of a record that is there
+abbrev pub OfItsRecord : Machine → Kind → Type 0
+OfItsRecord m Network = ⊤
+OfItsRecord m (Tcp2 place) = HasRecord m place
+OfItsRecord m (Input place) = HasRecord m place
+OfItsRecord m (Output place) = HasRecord m place
+OfItsRecord m (Pollable w) = HasRecord m (place_in w)
+OfItsRecord m ErrorValue = ⊤
+
+-- == a connect in progress
+-- it goes on, or was closed, or it is done and neither half was taken
+abbrev pub MayFinish : TcpState → Type 0
+MayFinish (state.Connecting op) = ⊤
+MayFinish (state.Closed c) = ⊤
+MayFinish (state.Connected c) = (c.receive_taken ≡ false) × (c.send_taken ≡ false)
+MayFinish _ = ⊥
+
+-- it goes on, or was closed
+abbrev pub IsUndone : TcpState → Type 0
+IsUndone (state.Connecting op) = ⊤
+IsUndone (state.Closed c) = ⊤
+IsUndone _ = ⊥
+
+-- A finish of a connect is refused in a run: of its causes those are left where no connect is in progress, or it isn't done.
+pub record RefusedInRun (m : Machine) (place : ℕ) (r : Tcp2Socket) (entries : List Entry) (word : CodeWord) (after : Machine) : Type 0 where
+  pub cause : FinishRefusal m place r entries word after
+  pub undone : is_connect r.in_progress ≡ true → IsUndone r.inner.state

@@ -1,0 +1,431 @@
+//! Laws over the definitions of specs/ that say where each answer of a step comes from, and what stands after a refusal:
+//! each is a function that does nothing, whose contract is the law.
+
+ghost use Rattle.std.specs.Prelude.{◌≡◌, ◌↔◌, ◌⊎◌, ℕ, ◌+◌, true, false, List, [], ◌∷◌, length, IsSome, IsSomeAnd, Some, None, slice_get};
+ghost use Rattle.wasi_addr.specs.declared.address.IpSocketAddress.{IpSocketAddress};
+ghost use Rattle.wasi_addr.specs.declared.address.ShutdownType.{ShutdownType};
+ghost use Rattle.wasi_addr.specs.declared.address.SocketAddressFamily.{SocketAddressFamily};
+ghost use Rattle.wasi_world.specs.declared.call.Call.{Call};
+ghost use Rattle.wasi_world.specs.declared.call.Entry.{Entry};
+ghost use Rattle.wasi_world.specs.declared.call.Told.{Told};
+ghost use Rattle.wasi_world.specs.declared.outcome.TrapKind.{TrapKind};
+ghost use Rattle.wasi_world.specs.declared.outcome.WasiSocketsCtx.{WasiSocketsCtx};
+ghost use Rattle.wasi_world.specs.Asks.{Give, Left};
+ghost use Rattle.wasi_tcp.specs.declared.writer.WriteError.{WriteError};
+ghost use Rattle.wasi_tcp.specs.Socket.{new_socket};
+ghost use Rattle.wasi_host.specs.declared.kind.Kind.{Kind};
+ghost use Rattle.wasi_host.specs.declared.machine.Machine.{Machine};
+ghost use Rattle.wasi_host.specs.declared.socket.Tcp2Socket.{Tcp2Socket};
+ghost use Rattle.wasi_run.specs.declared.reply.CodeWord.{CodeWord};
+ghost use Rattle.wasi_run.specs.declared.reply.Field.{Field};
+ghost use Rattle.wasi_run.specs.declared.reply.Reply.{Reply};
+ghost use Rattle.wasi_run.specs.declared.step.Step.{Step};
+ghost use Rattle.wasi_run.specs.Answered.{Answered, CheckFails, closing_reader, closing_writer, ConnectsAt, CreateRefusal, EndsPending, FailsWith, FinishRefusal, HasNoBindInProgress, HasNoConnectInProgress, HasOperationInProgress, IsGivenUp, IsQuiet, IsUnpermitted, IsWrite, KnowsBound, LocalRefusal, MakesHandle, MissesHandle, OfRecord, OfStreams, output_streams, Permits, putting, ReadFails, ReadsEnd, ReadsNone, ReadsTold, record_at, RefusedBind, RefusedConnect, RefusedOf, RemoteRefusal, StandsOnNothing, WasClosedWith, with_error, WriteFails};
+ghost use Rattle.wasi_causes.specs.MayAnswer.{may_answer, EachMayAnswer};
+ghost use Rattle.wasi_causes.specs.Reached.{MayFinish, OfItsRecord, RefusedInRun};
+ghost use Rattle.wasi_causes.specs.GivenUp.{GoesAtOnce, HasLiveChildren, HasNoStreams, IsDrop, IsDropped, IsGone, LooksOnce, shut_down, shutdown_entries, socket_given_up, without};
+ghost use Rattle.wasi_run.specs.Licence.{entry, Has, marks_in};
+ghost use Rattle.wasi_run.specs.Machine.{context_at, run};
+ghost use Rattle.wasi_run.specs.Steps.{context_of};
+ghost use Rattle.wasi_host.specs.Machine.{first_state, input_at, output_at, own_of, socket_at};
+ghost use Rattle.wasi_host.specs.Shutdowns.{with_streams};
+ghost use Rattle.wasi_host.specs.Kinds.{is_network, kind_at, watched_by, with_handle, without_handle};
+ghost use Rattle.wasi_host.specs.Pending.{stands_as};
+ghost use Rattle.wasi_run.specs.Reply.{bytes_fields, no_fields, number_fields, truth_fields};
+ghost use Rattle.wasi_causes.specs.Turns.{IsOfJob};
+ghost use Rattle.wasi_run.specs.Waiting.{IsFailure, IsPoll, IsUnready, left_missing, MayStand, OfWatched, OutputWaits, pollable_mark, StandingFails, StandingWaits, StandsByBind, WatchesAccept, WatchesConnect, WatchesIdle};
+ghost use Rattle.wasi_host.specs.Store.{is_connect, with_record};
+ghost use Rattle.wasi_streams.specs.Table.{children_of, is_full};
+
+/// Each reply of a run, and each that a step after it may get, is one that the table of replies names for its step: fields of the
+/// step's kinds, a word that the step may be refused with, an end or a failure for a call of a stream, a trap that the step may end by,
+/// pending under its own number, busy for a guest call, `no-such-call` for a poll. No step replies anything else.
+pub fn replies_are_of_the_step()
+    ensures next { (contexts : List WasiSocketsCtx) (steps : List Step) (log : List Entry) (replies : List Reply) (m : Machine)
+        (line : ℕ) (s : Step) (entries : List Entry) (reply : Reply) (after : Machine)
+        → Left (run contexts [] first_state 1 steps) log (Give (replies, m)) → Answered contexts m line s entries reply after → may_answer line s reply }
+    ensures all { (contexts : List WasiSocketsCtx) (steps : List Step) (log : List Entry) (replies : List Reply) (m : Machine)
+        → Left (run contexts [] first_state 1 steps) log (Give (replies, m)) → EachMayAnswer 1 steps replies }
+{}
+
+/// A step is busy exactly where a call stands and the step is a call of a guest. It asks nothing then, and the machine stays as
+/// it was.
+pub fn busy_while_a_call_stands()
+    ensures exactly { (contexts : List WasiSocketsCtx) (m : Machine) (line : ℕ) (s : Step) (entries : List Entry) (reply : Reply) (after : Machine)
+        → Answered contexts m line s entries reply after → (reply ≡ Reply.Busy) ↔ (IsSome m.store.standing × IsSome (context_of s)) }
+    ensures stays { (contexts : List WasiSocketsCtx) (m : Machine) (line : ℕ) (s : Step) (entries : List Entry) (after : Machine)
+        → Answered contexts m line s entries Reply.Busy after → (entries ≡ []) × (after ≡ m) }
+{}
+
+/// The finish of a bind asks nothing. It is refused, with `not-in-progress`, exactly where the socket is there and has no
+/// bind in progress, and the machine stays as it was.
+pub fn finish_bind_refusals()
+    ensures asks_nothing { (contexts : List WasiSocketsCtx) (m : Machine) (line ctx handle : ℕ) (entries : List Entry) (reply : Reply) (after : Machine)
+        → Answered contexts m line (Step.TcpFinishBind ctx handle) entries reply after → entries ≡ [] }
+    ensures exactly { (contexts : List WasiSocketsCtx) (m : Machine) (line ctx handle : ℕ) (entries : List Entry) (reply : Reply) (after : Machine)
+        → m.store.standing ≡ None → Answered contexts m line (Step.TcpFinishBind ctx handle) entries reply after
+        → (reply ≡ Reply.Err CodeWord.NotInProgress) ↔ HasNoBindInProgress (record_at m handle) }
+    ensures no_other { (contexts : List WasiSocketsCtx) (m : Machine) (line ctx handle : ℕ) (entries : List Entry) (word : CodeWord) (after : Machine)
+        → Answered contexts m line (Step.TcpFinishBind ctx handle) entries (Reply.Err word) after → word ≡ CodeWord.NotInProgress }
+    ensures stays { (contexts : List WasiSocketsCtx) (m : Machine) (line ctx handle : ℕ) (entries : List Entry) (word : CodeWord) (after : Machine)
+        → Answered contexts m line (Step.TcpFinishBind ctx handle) entries (Reply.Err word) after → after ≡ m }
+{}
+
+/// A step traps because a handle of it isn't live or is of another kind, and asks nothing then and leaves the machine as it
+/// was, but that a poll leaves nothing standing; or because a handle is dropped under which others are live, and asks nothing
+/// then and leaves the machine; or because the table is full, where it is to make a handle: that was the last of the step, and
+/// the marks are those of the handles that were made before it; or because a write isn't permitted.
+pub fn traps_have_causes()
+    ensures kinds { (contexts : List WasiSocketsCtx) (m : Machine) (line : ℕ) (s : Step) (entries : List Entry) (kind : TrapKind) (after : Machine)
+        → Answered contexts m line s entries (Reply.Trap kind) after → (kind ≡ TrapKind.NoSuchHandle) ⊎ ((kind ≡ TrapKind.HasChildren) ⊎ ((kind ≡ TrapKind.Full) ⊎ (kind ≡ TrapKind.NotPermitted))) }
+    ensures no_such_handle { (contexts : List WasiSocketsCtx) (m : Machine) (line : ℕ) (s : Step) (entries : List Entry) (after : Machine)
+        → Answered contexts m line s entries (Reply.Trap TrapKind.NoSuchHandle) after → MissesHandle m s }
+    ensures no_such_handle_stays { (contexts : List WasiSocketsCtx) (m : Machine) (line : ℕ) (s : Step) (entries : List Entry) (after : Machine)
+        → Answered contexts m line s entries (Reply.Trap TrapKind.NoSuchHandle) after → (entries ≡ []) × (after ≡ left_missing m s) }
+    ensures has_children { (contexts : List WasiSocketsCtx) (m : Machine) (line ctx handle : ℕ) (entries : List Entry) (reply : Reply) (after : Machine)
+        → m.store.standing ≡ None → Answered contexts m line (Step.Drop ctx handle) entries reply after → (reply ≡ Reply.Trap TrapKind.HasChildren) ↔ HasLiveChildren m handle }
+    ensures has_children_stays { (contexts : List WasiSocketsCtx) (m : Machine) (line : ℕ) (s : Step) (entries : List Entry) (after : Machine)
+        → Answered contexts m line s entries (Reply.Trap TrapKind.HasChildren) after → (entries ≡ []) × (after ≡ m) }
+    ensures only_drops { (contexts : List WasiSocketsCtx) (m : Machine) (line : ℕ) (s : Step) (entries : List Entry) (after : Machine)
+        → Answered contexts m line s entries (Reply.Trap TrapKind.HasChildren) after → IsDrop s }
+    ensures full { (contexts : List WasiSocketsCtx) (m : Machine) (line : ℕ) (s : Step) (entries : List Entry) (after : Machine)
+        → Answered contexts m line s entries (Reply.Trap TrapKind.Full) after → MakesHandle s × (is_full after.table ≡ true) }
+    ensures full_marks { (contexts : List WasiSocketsCtx) (m : Machine) (line : ℕ) (s : Step) (entries : List Entry) (after : Machine)
+        → Answered contexts m line s entries (Reply.Trap TrapKind.Full) after → after.table.next ≡ m.table.next + marks_in entries }
+    ensures not_permitted { (contexts : List WasiSocketsCtx) (m : Machine) (line : ℕ) (s : Step) (entries : List Entry) (after : Machine)
+        → Answered contexts m line s entries (Reply.Trap TrapKind.NotPermitted) after → IsWrite s }
+{}
+
+/// A poll finds no such call exactly where no call stands under its number. It asks nothing then, and the machine stays as it
+/// was; no other step is answered so. A poll of a call that stands leaves it standing, or it leaves nothing standing. It is
+/// refused with the word of the code by which the bind or the listen failed: a check was told no, or another of its asks was
+/// told the code, by its own operation, and a listen closed its side last. That is said where what stands by a bind is a bind,
+/// and by a listen a listen, as it does after any lines. In a run no poll traps.
+pub fn polls_of_no_call()
+    ensures exactly { (contexts : List WasiSocketsCtx) (m : Machine) (line n : ℕ) (entries : List Entry) (reply : Reply) (after : Machine)
+        → Answered contexts m line (Step.Poll n) entries reply after → (reply ≡ Reply.NoSuchCall) ↔ (stands_as m.store.standing n ≡ false) }
+    ensures stays { (contexts : List WasiSocketsCtx) (m : Machine) (line n : ℕ) (entries : List Entry) (after : Machine)
+        → Answered contexts m line (Step.Poll n) entries Reply.NoSuchCall after → (entries ≡ []) × (after ≡ m) }
+    ensures only_polls { (contexts : List WasiSocketsCtx) (m : Machine) (line : ℕ) (s : Step) (entries : List Entry) (after : Machine)
+        → Answered contexts m line s entries Reply.NoSuchCall after → IsPoll s }
+    ensures ends { (contexts : List WasiSocketsCtx) (m : Machine) (line n : ℕ) (entries : List Entry) (reply : Reply) (after : Machine)
+        → stands_as m.store.standing n ≡ true → Answered contexts m line (Step.Poll n) entries reply after → (reply ≡ Reply.Pending n) ⊎ (after.store.standing ≡ None) }
+    ensures refused { (contexts : List WasiSocketsCtx) (m : Machine) (line n : ℕ) (entries : List Entry) (word : CodeWord) (after : Machine)
+        → StandsByBind m → Answered contexts m line (Step.Poll n) entries (Reply.Err word) after → StandingFails m n entries word }
+    ensures never_traps { (contexts : List WasiSocketsCtx) (steps : List Step) (log : List Entry) (replies : List Reply) (m : Machine) (line n : ℕ) (entries : List Entry) (kind : TrapKind) (after : Machine)
+        → Left (run contexts [] first_state 1 steps) log (Give (replies, m)) → Answered contexts m line (Step.Poll n) entries (Reply.Trap kind) after → ⊥ }
+{}
+
+/// The start of a bind, that of a listen, the drop of an output and a poll may be pending: all but a poll under their line's
+/// number, and a poll under the number that it polls. A call stands under that number then. The last ask of a bind and of a
+/// listen was told to wait; a drop waits where its output's write goes on, or its one ask was told to wait; and a poll waits as
+/// the call does that it polls. That is said where what stands by a bind is a bind, and by a listen a listen, as it does after
+/// any lines.
+pub fn pending_where_told()
+    ensures step { (contexts : List WasiSocketsCtx) (m : Machine) (line : ℕ) (s : Step) (entries : List Entry) (number : ℕ) (after : Machine)
+        → Answered contexts m line s entries (Reply.Pending number) after → MayStand m line s number }
+    ensures stands { (contexts : List WasiSocketsCtx) (m : Machine) (line : ℕ) (s : Step) (entries : List Entry) (number : ℕ) (after : Machine)
+        → Answered contexts m line s entries (Reply.Pending number) after → IsSomeAnd after.store.standing (λ call. call.line ≡ number) }
+    ensures told { (contexts : List WasiSocketsCtx) (m : Machine) (line ctx handle network : ℕ) (a : IpSocketAddress) (entries : List Entry) (number : ℕ) (after : Machine)
+        → Answered contexts m line (Step.TcpStartBind ctx handle network a) entries (Reply.Pending number) after → EndsPending (own_of line) entries }
+    ensures listen { (contexts : List WasiSocketsCtx) (m : Machine) (line ctx handle : ℕ) (entries : List Entry) (number : ℕ) (after : Machine)
+        → Answered contexts m line (Step.TcpStartListen ctx handle) entries (Reply.Pending number) after → EndsPending (own_of line) entries }
+    ensures output { (contexts : List WasiSocketsCtx) (m : Machine) (line ctx handle : ℕ) (entries : List Entry) (number : ℕ) (after : Machine)
+        → Answered contexts m line (Step.Drop ctx handle) entries (Reply.Pending number) after → OutputWaits m (own_of line) (output_at m handle) entries }
+    ensures polled { (contexts : List WasiSocketsCtx) (m : Machine) (line n : ℕ) (entries : List Entry) (number : ℕ) (after : Machine)
+        → StandsByBind m → Answered contexts m line (Step.Poll n) entries (Reply.Pending number) after → StandingWaits m (own_of n) entries }
+{}
+
+/// A create is refused with `access-denied` where the context may not use TCP, and it asks nothing then; or with the word of
+/// the code that its one ask was told. No handle, no record and no side stands then.
+pub fn create_refusals()
+    ensures cause { (contexts : List WasiSocketsCtx) (m : Machine) (line ctx : ℕ) (family : SocketAddressFamily) (entries : List Entry) (word : CodeWord) (after : Machine)
+        → Answered contexts m line (Step.TcpCreate ctx family) entries (Reply.Err word) after
+        → CreateRefusal (own_of line) (context_at contexts ctx) family entries word }
+    ensures stays { (contexts : List WasiSocketsCtx) (m : Machine) (line ctx : ℕ) (family : SocketAddressFamily) (entries : List Entry) (word : CodeWord) (after : Machine)
+        → Answered contexts m line (Step.TcpCreate ctx family) entries (Reply.Err word) after → after ≡ m }
+{}
+
+/// A create that traps with `Full` has made its side, which stands in a record that no handle names.
+pub fn create_full()
+    ensures full { (contexts : List WasiSocketsCtx) (m : Machine) (line ctx : ℕ) (family : SocketAddressFamily) (entries : List Entry) (after : Machine)
+        → Answered contexts m line (Step.TcpCreate ctx family) entries (Reply.Trap TrapKind.Full) after → is_full m.table ≡ true }
+    ensures asked { (contexts : List WasiSocketsCtx) (m : Machine) (line ctx : ℕ) (family : SocketAddressFamily) (entries : List Entry) (after : Machine)
+        → Answered contexts m line (Step.TcpCreate ctx family) entries (Reply.Trap TrapKind.Full) after
+        → entries ≡ entry (own_of line) (Call.TcpCreate (context_at contexts ctx).name family) Told.Done ∷ [] }
+    ensures left { (contexts : List WasiSocketsCtx) (m : Machine) (line ctx : ℕ) (family : SocketAddressFamily) (entries : List Entry) (after : Machine)
+        → Answered contexts m line (Step.TcpCreate ctx family) entries (Reply.Trap TrapKind.Full) after
+        → after ≡ record m { store = with_record m.store (new_socket (own_of line) (context_at contexts ctx).name family) } }
+{}
+
+/// The start of a bind is refused with `concurrency-conflict` exactly where an operation is in progress, whichever, and else
+/// by its own tests or by what was told. The machine is as it was then, but that a socket that was found bound is known to be.
+pub fn bind_refusals()
+    ensures exactly { (contexts : List WasiSocketsCtx) (m : Machine) (line ctx handle network : ℕ) (a : IpSocketAddress) (entries : List Entry) (reply : Reply) (after : Machine)
+        → m.store.standing ≡ None → is_network (kind_at m.table network) ≡ true
+        → Answered contexts m line (Step.TcpStartBind ctx handle network a) entries reply after
+        → (reply ≡ Reply.Err CodeWord.ConcurrencyConflict) ↔ HasOperationInProgress (record_at m handle) }
+    ensures cause { (contexts : List WasiSocketsCtx) (m : Machine) (line ctx handle network : ℕ) (a : IpSocketAddress) (entries : List Entry) (word : CodeWord) (after : Machine)
+        → Answered contexts m line (Step.TcpStartBind ctx handle network a) entries (Reply.Err word) after
+        → RefusedBind m (own_of line) handle a entries word after }
+    ensures stays { (contexts : List WasiSocketsCtx) (m : Machine) (line ctx handle network : ℕ) (a : IpSocketAddress) (entries : List Entry) (word : CodeWord) (after : Machine)
+        → Answered contexts m line (Step.TcpStartBind ctx handle network a) entries (Reply.Err word) after
+        → (after ≡ m) ⊎ ((word ≡ CodeWord.InvalidState) × KnowsBound m handle after) }
+{}
+
+/// The start of a connect is refused with `concurrency-conflict` exactly where an operation is in progress, whichever, and else
+/// by its own tests. The machine is as it was then, but that a socket that was found bound is known to be.
+pub fn start_connect_refusals()
+    ensures exactly { (contexts : List WasiSocketsCtx) (m : Machine) (line ctx handle network : ℕ) (a : IpSocketAddress) (entries : List Entry) (reply : Reply) (after : Machine)
+        → m.store.standing ≡ None → is_network (kind_at m.table network) ≡ true
+        → Answered contexts m line (Step.TcpStartConnect ctx handle network a) entries reply after
+        → (reply ≡ Reply.Err CodeWord.ConcurrencyConflict) ↔ HasOperationInProgress (record_at m handle) }
+    ensures cause { (contexts : List WasiSocketsCtx) (m : Machine) (line ctx handle network : ℕ) (a : IpSocketAddress) (entries : List Entry) (word : CodeWord) (after : Machine)
+        → Answered contexts m line (Step.TcpStartConnect ctx handle network a) entries (Reply.Err word) after
+        → RefusedConnect m (own_of line) handle a entries word after }
+    ensures stays { (contexts : List WasiSocketsCtx) (m : Machine) (line ctx handle network : ℕ) (a : IpSocketAddress) (entries : List Entry) (word : CodeWord) (after : Machine)
+        → Answered contexts m line (Step.TcpStartConnect ctx handle network a) entries (Reply.Err word) after
+        → (after ≡ m) ⊎ ((word ≡ CodeWord.InvalidArgument) × KnowsBound m handle after) }
+{}
+
+/// The finish of a connect is refused with `not-in-progress` exactly where the socket is there and has no connect in progress,
+/// and it asks nothing then and leaves the machine as it was. With `would-block` the connect was told to wait and goes on; with
+/// any other word the socket is closed with that word's code, and nothing is in progress. The causes are those of a socket that
+/// connects by a connect, as all do after any lines. In a run the socket connects or was closed: the causes of other states don't
+/// come.
+pub fn finish_connect_refusals()
+    ensures exactly { (contexts : List WasiSocketsCtx) (m : Machine) (line ctx handle : ℕ) (entries : List Entry) (reply : Reply) (after : Machine)
+        → m.store.standing ≡ None → Answered contexts m line (Step.TcpFinishConnect ctx handle) entries reply after
+        → (reply ≡ Reply.Err CodeWord.NotInProgress) ↔ HasNoConnectInProgress (record_at m handle) }
+    ensures not_in_progress { (contexts : List WasiSocketsCtx) (m : Machine) (line ctx handle : ℕ) (entries : List Entry) (after : Machine)
+        → Answered contexts m line (Step.TcpFinishConnect ctx handle) entries (Reply.Err CodeWord.NotInProgress) after → (entries ≡ []) × (after ≡ m) }
+    ensures cause { (contexts : List WasiSocketsCtx) (m : Machine) (line ctx handle : ℕ) (entries : List Entry) (word : CodeWord) (after : Machine)
+        → ConnectsAt m handle → Answered contexts m line (Step.TcpFinishConnect ctx handle) entries (Reply.Err word) after
+        → RefusedOf m handle (FinishRefusal m) entries word after }
+    ensures in_runs { (contexts : List WasiSocketsCtx) (steps : List Step) (log : List Entry) (replies : List Reply) (m : Machine) (line ctx handle : ℕ) (entries : List Entry) (word : CodeWord) (after : Machine)
+        → Left (run contexts [] first_state 1 steps) log (Give (replies, m)) → Answered contexts m line (Step.TcpFinishConnect ctx handle) entries (Reply.Err word) after
+        → RefusedOf m handle (RefusedInRun m) entries word after }
+{}
+
+/// After the lines of any script, what a socket connects by is a connect: that of a handle, and one that a pollable watches.
+pub fn runs_connect_by_connects()
+    ensures handles { (contexts : List WasiSocketsCtx) (steps : List Step) (entries : List Entry) (replies : List Reply) (m : Machine)
+        → Left (run contexts [] first_state 1 steps) entries (Give (replies, m)) → (handle : ℕ) → ConnectsAt m handle }
+    ensures pollables { (contexts : List WasiSocketsCtx) (steps : List Step) (entries : List Entry) (replies : List Reply) (m : Machine)
+        → Left (run contexts [] first_state 1 steps) entries (Give (replies, m)) → (pollable : ℕ) → WatchesConnect m pollable }
+{}
+
+/// After the lines of any script: each live handle of a socket, a stream or a pollable is of a record that is there, so a number
+/// of which no socket is found isn't live or stands for something else; a call that stands is of a socket that is there; and where
+/// a connect is in progress, the socket connects, or was closed with a code, or is connected and neither half of it was taken.
+pub fn runs_keep_their_records()
+    ensures handles { (contexts : List WasiSocketsCtx) (steps : List Step) (log : List Entry) (replies : List Reply) (m : Machine) (handle : ℕ) (kind : Kind)
+        → Left (run contexts [] first_state 1 steps) log (Give (replies, m)) → kind_at m.table handle ≡ Some kind → OfItsRecord m kind }
+    ensures missing { (contexts : List WasiSocketsCtx) (steps : List Step) (log : List Entry) (replies : List Reply) (m : Machine) (handle : ℕ)
+        → Left (run contexts [] first_state 1 steps) log (Give (replies, m)) → record_at m handle ≡ None → socket_at m handle ≡ None }
+    ensures stands { (contexts : List WasiSocketsCtx) (steps : List Step) (log : List Entry) (replies : List Reply) (m : Machine) (number : ℕ)
+        → Left (run contexts [] first_state 1 steps) log (Give (replies, m)) → StandsOnNothing m number → ⊥ }
+    ensures connects { (contexts : List WasiSocketsCtx) (steps : List Step) (log : List Entry) (replies : List Reply) (m : Machine) (place : ℕ) (r : Tcp2Socket)
+        → Left (run contexts [] first_state 1 steps) log (Give (replies, m)) → slice_get m.store.sockets place ≡ Some r → is_connect r.in_progress ≡ true → MayFinish r.inner.state }
+{}
+
+/// After the lines of any script, what stands by a bind is a bind, and what stands by a listen is a listen.
+pub fn runs_stand_by_binds()
+    ensures { (contexts : List WasiSocketsCtx) (steps : List Step) (entries : List Entry) (replies : List Reply) (m : Machine)
+        → Left (run contexts [] first_state 1 steps) entries (Give (replies, m)) → StandsByBind m }
+{}
+
+/// The local address is refused where the socket isn't bound or is connecting, with the code with which it is closed, or with
+/// the code that was told of it. The machine is as it was then, but that a socket that was found bound is known to be.
+pub fn local_address_refusals()
+    ensures cause { (contexts : List WasiSocketsCtx) (m : Machine) (line ctx handle : ℕ) (entries : List Entry) (word : CodeWord) (after : Machine)
+        → Answered contexts m line (Step.TcpLocalAddress ctx handle) entries (Reply.Err word) after
+        → RefusedOf m handle (LocalRefusal m (own_of line)) entries word after }
+    ensures stays { (contexts : List WasiSocketsCtx) (m : Machine) (line ctx handle : ℕ) (entries : List Entry) (word : CodeWord) (after : Machine)
+        → Answered contexts m line (Step.TcpLocalAddress ctx handle) entries (Reply.Err word) after → (after ≡ m) ⊎ KnowsBound m handle after }
+{}
+
+/// The remote address is refused where the socket isn't connected, with the code with which it is closed, or with the code that
+/// was told of it. The machine stays as it was.
+pub fn remote_address_refusals()
+    ensures cause { (contexts : List WasiSocketsCtx) (m : Machine) (line ctx handle : ℕ) (entries : List Entry) (word : CodeWord) (after : Machine)
+        → Answered contexts m line (Step.TcpRemoteAddress ctx handle) entries (Reply.Err word) after
+        → RefusedOf m handle (RemoteRefusal m (own_of line)) entries word after }
+    ensures stays { (contexts : List WasiSocketsCtx) (m : Machine) (line ctx handle : ℕ) (entries : List Entry) (word : CodeWord) (after : Machine)
+        → Answered contexts m line (Step.TcpRemoteAddress ctx handle) entries (Reply.Err word) after → after ≡ m }
+{}
+
+/// Whether it listens and of which family it is, is never refused. It asks nothing, and the machine stays as it was.
+pub fn listening_and_family_are_never_refused()
+    ensures never { (contexts : List WasiSocketsCtx) (m : Machine) (line : ℕ) (s : Step) (entries : List Entry) (word : CodeWord) (after : Machine)
+        → IsQuiet s → Answered contexts m line s entries (Reply.Err word) after → ⊥ }
+    ensures quiet { (contexts : List WasiSocketsCtx) (m : Machine) (line : ℕ) (s : Step) (entries : List Entry) (reply : Reply) (after : Machine)
+        → IsQuiet s → Answered contexts m line s entries reply after → (entries ≡ []) × (after ≡ m) }
+{}
+
+/// Each read that hands out at least one byte hands out exactly what its one ask, a read of its open half, was told; and with
+/// bytes or none the machine stays as it was.
+pub fn reads_hand_out_what_was_told()
+    ensures told { (contexts : List WasiSocketsCtx) (m : Machine) (line ctx input len b : ℕ) (bytes : List ℕ) (entries : List Entry) (after : Machine)
+        → Answered contexts m line (Step.Read ctx input len) entries (Reply.Ok (bytes_fields (b ∷ bytes))) after
+        → OfStreams m (input_at m input) (λ place r s. ReadsTold (own_of line) len s.reader (b ∷ bytes) entries) }
+    ensures none { (contexts : List WasiSocketsCtx) (m : Machine) (line ctx input len : ℕ) (entries : List Entry) (after : Machine)
+        → Answered contexts m line (Step.Read ctx input len) entries (Reply.Ok (bytes_fields [])) after
+        → OfStreams m (input_at m input) (λ place r s. ReadsNone (own_of line) len s.reader entries) }
+    ensures stays { (contexts : List WasiSocketsCtx) (m : Machine) (line ctx input len : ℕ) (fields : List Field) (entries : List Entry) (after : Machine)
+        → Answered contexts m line (Step.Read ctx input len) entries (Reply.Ok fields) after → after ≡ m }
+{}
+
+/// A read is `closed` where the reader is, or the read was told no bytes; it failed where the read was told that code, and the
+/// error's mark is the last then. The reader is closed then, and its half was given up.
+pub fn reads_end()
+    ensures closed { (contexts : List WasiSocketsCtx) (m : Machine) (line ctx input len : ℕ) (entries : List Entry) (after : Machine)
+        → Answered contexts m line (Step.Read ctx input len) entries Reply.Closed after
+        → OfStreams m (input_at m input) (λ place r s. ReadsEnd (own_of line) len s.reader entries × (after ≡ closing_reader m place r s)) }
+    ensures failed { (contexts : List WasiSocketsCtx) (m : Machine) (line ctx input len : ℕ) (entries : List Entry) (word : CodeWord) (handle : ℕ) (after : Machine)
+        → Answered contexts m line (Step.Read ctx input len) entries (Reply.Failed word handle) after
+        → OfStreams m (input_at m input) (λ place r s. FailsWith m (own_of line) input (ReadFails (own_of line) len s.reader) entries word handle × (after ≡ with_error (closing_reader m place r s))) }
+{}
+
+/// What may be written comes of the writer and of what it was told: nothing where a write isn't finished or the writer was told
+/// to wait, and else 65536 bytes.
+pub fn permits_have_causes()
+    ensures { (contexts : List WasiSocketsCtx) (m : Machine) (line ctx output n : ℕ) (entries : List Entry) (after : Machine)
+        → Answered contexts m line (Step.CheckWrite ctx output) entries (Reply.Ok (number_fields n)) after
+        → OfStreams m (output_at m output) (λ place r s. Permits (own_of line) s.writer n entries) }
+{}
+
+/// A write traps, as not permitted, exactly where its bytes are past the permit, or a write before it wasn't collected yet. It
+/// asks nothing then, and the machine stays as it was.
+pub fn writes_past_the_permit_trap()
+    ensures exactly { (contexts : List WasiSocketsCtx) (m : Machine) (line ctx output : ℕ) (bytes : List ℕ) (entries : List Entry) (reply : Reply) (after : Machine)
+        → m.store.standing ≡ None → Answered contexts m line (Step.Write ctx output bytes) entries reply after
+        → (reply ≡ Reply.Trap TrapKind.NotPermitted) ↔ IsSomeAnd (output_streams m output) (λ s. IsUnpermitted s.writer (length bytes)) }
+    ensures stays { (contexts : List WasiSocketsCtx) (m : Machine) (line ctx output : ℕ) (bytes : List ℕ) (entries : List Entry) (after : Machine)
+        → Answered contexts m line (Step.Write ctx output bytes) entries (Reply.Trap TrapKind.NotPermitted) after → (entries ≡ []) × (after ≡ m) }
+{}
+
+/// A flush only tells the error with which the writer is closed. It asks nothing but the mark of that error.
+pub fn flushes_tell_the_kept_error()
+    ensures done { (contexts : List WasiSocketsCtx) (m : Machine) (line ctx output : ℕ) (fields : List Field) (entries : List Entry) (after : Machine)
+        → Answered contexts m line (Step.Flush ctx output) entries (Reply.Ok fields) after → (entries ≡ []) × (after ≡ m) }
+    ensures closed { (contexts : List WasiSocketsCtx) (m : Machine) (line ctx output : ℕ) (entries : List Entry) (after : Machine)
+        → Answered contexts m line (Step.Flush ctx output) entries Reply.Closed after
+        → OfStreams m (output_at m output) (λ place r s. IsGivenUp s.writer) × (entries ≡ []) × (after ≡ m) }
+    ensures failed { (contexts : List WasiSocketsCtx) (m : Machine) (line ctx output : ℕ) (entries : List Entry) (word : CodeWord) (handle : ℕ) (after : Machine)
+        → Answered contexts m line (Step.Flush ctx output) entries (Reply.Failed word handle) after
+        → OfStreams m (output_at m output) (λ place r s. FailsWith m (own_of line) output (WasClosedWith s.writer) entries word handle) × (after ≡ with_error m) }
+{}
+
+/// A look at an output is `closed`, or fails, with the error that its writer is closed with, once a write that ended is
+/// collected. It asks nothing but the mark of that error.
+pub fn checks_tell_the_kept_error()
+    ensures closed { (contexts : List WasiSocketsCtx) (m : Machine) (line ctx output : ℕ) (entries : List Entry) (after : Machine)
+        → Answered contexts m line (Step.CheckWrite ctx output) entries Reply.Closed after
+        → OfStreams m (output_at m output) (λ place r s. CheckFails WriteError.Closed s.writer entries × (after ≡ closing_writer m place r s WriteError.Closed)) }
+    ensures failed { (contexts : List WasiSocketsCtx) (m : Machine) (line ctx output : ℕ) (entries : List Entry) (word : CodeWord) (handle : ℕ) (after : Machine)
+        → Answered contexts m line (Step.CheckWrite ctx output) entries (Reply.Failed word handle) after
+        → OfStreams m (output_at m output) (λ place r s. FailsWith m (own_of line) output (λ c before. CheckFails (WriteError.LastOperationFailed c) s.writer before × (after ≡ with_error (closing_writer m place r s (WriteError.LastOperationFailed c)))) entries word handle) }
+{}
+
+/// A write is `closed`, or fails, with the error that its writer is closed with; or because it was told a code itself, and then
+/// its last asks are that write and the shutdown of its half. The writer is closed with the error then.
+pub fn writes_tell_their_error()
+    ensures closed { (contexts : List WasiSocketsCtx) (m : Machine) (line ctx output : ℕ) (bytes : List ℕ) (entries : List Entry) (after : Machine)
+        → Answered contexts m line (Step.Write ctx output bytes) entries Reply.Closed after
+        → OfStreams m (output_at m output) (λ place r s. WriteFails (own_of line) WriteError.Closed s.writer entries × (after ≡ closing_writer m place r s WriteError.Closed)) }
+    ensures failed { (contexts : List WasiSocketsCtx) (m : Machine) (line ctx output : ℕ) (bytes : List ℕ) (entries : List Entry) (word : CodeWord) (handle : ℕ) (after : Machine)
+        → Answered contexts m line (Step.Write ctx output bytes) entries (Reply.Failed word handle) after
+        → OfStreams m (output_at m output) (λ place r s. FailsWith m (own_of line) output (λ c before. WriteFails (own_of line) (WriteError.LastOperationFailed c) s.writer before × (after ≡ with_error (closing_writer m place r s (WriteError.LastOperationFailed c)))) entries word handle) }
+{}
+
+/// A drop of a socket is done, unless it traps. It gives up what is open: what it listens by, which refuses an arrival in hand
+/// and closes a connection that wasn't taken; the receiving half while that is open, then the sending half while there is one,
+/// and then the socket's side, each told done; and nothing is left of the socket. A drop of a
+/// network, an input, a pollable or an error asks nothing and takes the handle out, and a drop of an output looks once at most.
+/// Whatever was dropped, its handle is live no more.
+pub fn drops_give_up_what_is_open()
+    ensures socket { (contexts : List WasiSocketsCtx) (m : Machine) (line ctx handle place : ℕ) (entries : List Entry) (reply : Reply) (after : Machine)
+        → m.store.standing ≡ None → kind_at m.table handle ≡ Some (Kind.Tcp2 place) → children_of m.table.live handle ≡ []
+        → Answered contexts m line (Step.Drop ctx handle) entries reply after → reply ≡ Reply.Ok no_fields }
+    ensures given_up { (contexts : List WasiSocketsCtx) (m : Machine) (line ctx handle : ℕ) (r : Tcp2Socket) (fields : List Field) (entries : List Entry) (after : Machine)
+        → record_at m handle ≡ Some r → Answered contexts m line (Step.Drop ctx handle) entries (Reply.Ok fields) after
+        → entries ≡ socket_given_up (own_of line) r }
+    ensures gone { (contexts : List WasiSocketsCtx) (m : Machine) (line ctx handle : ℕ) (r : Tcp2Socket) (fields : List Field) (entries : List Entry) (after : Machine)
+        → record_at m handle ≡ Some r → Answered contexts m line (Step.Drop ctx handle) entries (Reply.Ok fields) after
+        → OfRecord m handle (λ place r. IsGone after place) }
+    ensures plain { (contexts : List WasiSocketsCtx) (m : Machine) (line ctx handle : ℕ) (kind : Kind) (entries : List Entry) (reply : Reply) (after : Machine)
+        → kind_at m.table handle ≡ Some kind → GoesAtOnce kind → Answered contexts m line (Step.Drop ctx handle) entries reply after → entries ≡ [] }
+    ensures plain_leaves { (contexts : List WasiSocketsCtx) (m : Machine) (line ctx handle : ℕ) (kind : Kind) (entries : List Entry) (reply : Reply) (after : Machine)
+        → kind_at m.table handle ≡ Some kind → GoesAtOnce kind → IsDropped reply → Answered contexts m line (Step.Drop ctx handle) entries reply after
+        → after ≡ without m handle }
+    ensures output { (contexts : List WasiSocketsCtx) (m : Machine) (line ctx handle place : ℕ) (entries : List Entry) (reply : Reply) (after : Machine)
+        → kind_at m.table handle ≡ Some (Kind.Output place) → Answered contexts m line (Step.Drop ctx handle) entries reply after → LooksOnce (own_of line) entries }
+    ensures table { (contexts : List WasiSocketsCtx) (m : Machine) (line ctx handle : ℕ) (entries : List Entry) (reply : Reply) (after : Machine)
+        → IsDropped reply → Answered contexts m line (Step.Drop ctx handle) entries reply after → after.table ≡ without_handle m.table handle }
+    ensures not_live { (contexts : List WasiSocketsCtx) (m : Machine) (line ctx handle : ℕ) (entries : List Entry) (reply : Reply) (after : Machine)
+        → IsDropped reply → Answered contexts m line (Step.Drop ctx handle) entries reply after → kind_at after.table handle ≡ None }
+{}
+
+/// A shutdown is refused, with `invalid-state`, exactly where the socket is there and its streams weren't made yet. It asks
+/// nothing then, and the machine stays as it was. Else it asks for the shutdown of the halves that are given up at once, the
+/// receiving one first, and leaves the streams shut down.
+pub fn shutdown_refusals()
+    ensures exactly { (contexts : List WasiSocketsCtx) (m : Machine) (line ctx handle : ℕ) (how : ShutdownType) (entries : List Entry) (reply : Reply) (after : Machine)
+        → m.store.standing ≡ None → Answered contexts m line (Step.TcpShutdown ctx handle how) entries reply after
+        → (reply ≡ Reply.Err CodeWord.InvalidState) ↔ HasNoStreams (record_at m handle) }
+    ensures no_other { (contexts : List WasiSocketsCtx) (m : Machine) (line ctx handle : ℕ) (how : ShutdownType) (entries : List Entry) (word : CodeWord) (after : Machine)
+        → Answered contexts m line (Step.TcpShutdown ctx handle how) entries (Reply.Err word) after → word ≡ CodeWord.InvalidState }
+    ensures stays { (contexts : List WasiSocketsCtx) (m : Machine) (line ctx handle : ℕ) (how : ShutdownType) (entries : List Entry) (word : CodeWord) (after : Machine)
+        → Answered contexts m line (Step.TcpShutdown ctx handle how) entries (Reply.Err word) after → (entries ≡ []) × (after ≡ m) }
+    ensures asked { (contexts : List WasiSocketsCtx) (m : Machine) (line ctx handle : ℕ) (how : ShutdownType) (fields : List Field) (entries : List Entry) (after : Machine)
+        → Answered contexts m line (Step.TcpShutdown ctx handle how) entries (Reply.Ok fields) after
+        → OfStreams m (socket_at m handle) (λ place r s. entries ≡ shutdown_entries (own_of line) how s) }
+    ensures left { (contexts : List WasiSocketsCtx) (m : Machine) (line ctx handle : ℕ) (how : ShutdownType) (fields : List Field) (entries : List Entry) (after : Machine)
+        → Answered contexts m line (Step.TcpShutdown ctx handle how) entries (Reply.Ok fields) after
+        → OfStreams m (socket_at m handle) (λ place r s. after ≡ putting m place (with_streams r (shut_down how s))) }
+{}
+
+/// A pollable isn't ready where the connect in progress was told to wait, or with nothing in progress the accept of a listener
+/// waits, or the input that is open was told to wait, or the output's write goes on or its writer was told to wait: that is said
+/// where a socket connects by a connect and accepts by an accept, as all do after any lines. A socket with no connect in
+/// progress, and with no listener unless another operation is in progress, is ready, which asks nothing and leaves the machine
+/// as it was. A look never fails.
+pub fn readiness_has_causes()
+    ensures values { (contexts : List WasiSocketsCtx) (m : Machine) (line ctx pollable : ℕ) (fields : List Field) (entries : List Entry) (after : Machine)
+        → Answered contexts m line (Step.Ready ctx pollable) entries (Reply.Ok fields) after → (fields ≡ truth_fields true) ⊎ (fields ≡ truth_fields false) }
+    ensures not_ready { (contexts : List WasiSocketsCtx) (m : Machine) (line ctx pollable : ℕ) (entries : List Entry) (after : Machine)
+        → WatchesConnect m pollable → WatchesAccept m pollable → Answered contexts m line (Step.Ready ctx pollable) entries (Reply.Ok (truth_fields false)) after
+        → OfWatched m pollable (λ w r. IsUnready (own_of line) r entries w) }
+    ensures idle { (contexts : List WasiSocketsCtx) (m : Machine) (line ctx pollable : ℕ) (entries : List Entry) (reply : Reply) (after : Machine)
+        → m.store.standing ≡ None → WatchesIdle m pollable → Answered contexts m line (Step.Ready ctx pollable) entries reply after
+        → (reply ≡ Reply.Ok (truth_fields true)) × (entries ≡ []) × (after ≡ m) }
+    ensures never_fails { (contexts : List WasiSocketsCtx) (m : Machine) (line ctx pollable : ℕ) (entries : List Entry) (reply : Reply) (after : Machine)
+        → Answered contexts m line (Step.Ready ctx pollable) entries reply after → IsFailure reply → ⊥ }
+{}
+
+/// A subscription answers with the number of the next handle, which its one ask marks as a pollable under the handle that it was
+/// called on, with the side of the socket; and that pollable is made. It never fails.
+pub fn subscribe_makes_a_pollable()
+    ensures number { (contexts : List WasiSocketsCtx) (m : Machine) (line ctx handle : ℕ) (fields : List Field) (entries : List Entry) (after : Machine)
+        → Answered contexts m line (Step.Subscribe ctx handle) entries (Reply.Ok fields) after → fields ≡ number_fields m.table.next }
+    ensures marked { (contexts : List WasiSocketsCtx) (m : Machine) (line ctx handle : ℕ) (fields : List Field) (entries : List Entry) (after : Machine)
+        → Answered contexts m line (Step.Subscribe ctx handle) entries (Reply.Ok fields) after
+        → IsSomeAnd (watched_by (kind_at m.table handle)) (λ w. entries ≡ pollable_mark m (own_of line) handle w ∷ []) }
+    ensures made { (contexts : List WasiSocketsCtx) (m : Machine) (line ctx handle : ℕ) (fields : List Field) (entries : List Entry) (after : Machine)
+        → Answered contexts m line (Step.Subscribe ctx handle) entries (Reply.Ok fields) after
+        → IsSomeAnd (watched_by (kind_at m.table handle)) (λ w. after ≡ record m { table = with_handle m.table (Kind.Pollable w) (Some handle) }) }
+    ensures never_fails { (contexts : List WasiSocketsCtx) (m : Machine) (line ctx handle : ℕ) (entries : List Entry) (reply : Reply) (after : Machine)
+        → Answered contexts m line (Step.Subscribe ctx handle) entries reply after → IsFailure reply → ⊥ }
+{}
+
+/// A turn is always ok, and leaves the handles as they were. Whatever it asks is asked by the operation of a write that goes on
+/// by itself, of a record with a job.
+pub fn turns_are_ok()
+    ensures ok { (contexts : List WasiSocketsCtx) (m : Machine) (line : ℕ) (entries : List Entry) (reply : Reply) (after : Machine)
+        → Answered contexts m line Step.Turn entries reply after → reply ≡ Reply.Ok no_fields }
+    ensures asked { (contexts : List WasiSocketsCtx) (m : Machine) (line : ℕ) (entries : List Entry) (reply : Reply) (after : Machine)
+        → Answered contexts m line Step.Turn entries reply after → (e : Entry) → Has entries e → IsOfJob m e.op }
+    ensures handles { (contexts : List WasiSocketsCtx) (m : Machine) (line : ℕ) (entries : List Entry) (reply : Reply) (after : Machine)
+        → Answered contexts m line Step.Turn entries reply after → after.table ≡ m.table }
+{}

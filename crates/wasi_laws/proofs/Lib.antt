@@ -1,0 +1,3 @@
+pub mod order
+pub mod permits
+pub mod sockets

@@ -1,0 +1,139 @@
+-- Along a run what a side took is the front of what was permitted; and where a check-write answers a permit, all of it.
+use Rattle.std.proofs.Common.{◌≡◌, ℕ, suc, ◌+◌, ◌<◌, nat_lt, Bool, true, false, if◌then◌else◌, List, [], ◌∷◌, ◌++◌, Option, Some, None, length, slice_get, refl, sym, ap, subst, ◌∙◌, arith, append-nil, append_assoc, inl}
+use Rattle.wasi_world.specs.declared.ids.OpId.{OpId}
+use Rattle.wasi_world.specs.declared.call.Entry.{Entry}
+use Rattle.wasi_world.specs.declared.outcome.WasiSocketsCtx.{WasiSocketsCtx}
+use Rattle.wasi_world.specs.Asks.{Asks, Give, Left}
+use Rattle.wasi_world.specs.Sides.{is_same}
+use Rattle.wasi_world.proofs.Allowed.{Allows, allows_weaker, reached, holds}
+use Rattle.wasi_tcp.specs.declared.writer.WriteState.{WriteState}
+use Rattle.wasi_tcp.specs.declared.writer.WriteState.TheVariants as writing
+use Rattle.wasi_tcp.specs.Taken.{taken_in, IsFrontOf}
+use Rattle.wasi_host.specs.declared.machine.Machine.{Machine}
+use Rattle.wasi_host.specs.declared.socket.Streams.{Streams}
+use Rattle.wasi_host.specs.declared.socket.Tcp2Socket.{Tcp2Socket}
+use Rattle.wasi_host.specs.declared.store.Standing.{Standing}
+use Rattle.wasi_host.specs.Machine.{first_state, output_at}
+use Rattle.wasi_run.specs.declared.reply.Reply.TheVariants as reply
+use Rattle.wasi_run.specs.Answered.{record_in, Answered}
+use Rattle.wasi_laws.specs.Permitted.{let_begin, permitted_in, permitted_by, writer_in, writer_of_record, WritesTo, Did, Nothing, Then}
+use Rattle.wasi_run.specs.declared.reply.Reply.{Reply}
+use Rattle.wasi_run.specs.declared.step.Step.{Step}
+use Rattle.wasi_run.specs.declared.step.Step.TheVariants as step
+use Rattle.wasi_run.specs.Machine.{machine_asks}
+use Rattle.wasi_run.specs.Reply.{number_fields}
+use Rattle.wasi_laws.proofs.permits.Standing.{StandsQuietly}
+use Rattle.wasi_laws.proofs.permits.Agreeing.{Agreeing}
+use Rattle.wasi_laws.proofs.permits.Law.{Owes, permits_along}
+use Rattle.wasi_run.proofs.walks.Moves.{Own, Used, Unused, ToWrite}
+use Rattle.wasi_run.proofs.walks.Writes.{may_begin, may_of, may_in, may_at, may, let_write}
+use Rattle.wasi_run.proofs.walks.Steps.{may_while, machine_walks}
+use Rattle.wasi_run.proofs.claims.Lines.{BaseBetween, first_base, base_starts, base_over}
+use Rattle.wasi_laws.proofs.permits.All.{all_taken}
+use Rattle.wasi_laws.proofs.permits.Steps.{taken_append}
+
+-- what a line is let write to the side, said as the machine says it
+module _ (side : OpId) where
+  within_is : (half : OpId) (permit : ℕ) (bytes : List ℕ) (past same : Bool) → is_same half side ≡ same → let_write side (if past then Unused else ToWrite half bytes) ≡ (if same then if past then [] else bytes else [])
+  within_is half permit bytes true true e = refl
+  within_is half permit bytes true false e = refl
+  within_is half permit bytes false true e = rw e refl
+  within_is half permit bytes false false e = rw e refl
+
+  none_within : (permit : ℕ) (same past : Bool) → [] ≡ (if same then if past then [] else [] else (let none : List ℕ = [] in none))
+  none_within permit true true = refl
+  none_within permit true false = refl
+  none_within permit false past = refl
+
+  writer_is : (w : WriteState) (bytes : List ℕ) → let_write side (may_begin w bytes) ≡ let_begin side bytes (Some w)
+  writer_is (writing.Ready half permit) [] = none_within permit (is_same half.side side) (nat_lt permit 0)
+  writer_is (writing.Ready half permit) (b ∷ bytes) = within_is half.side permit (b ∷ bytes) (nat_lt permit (length (b ∷ bytes))) (is_same half.side side) refl
+  writer_is (writing.Writing job) bytes = refl
+  writer_is (writing.Closing job) bytes = refl
+  writer_is (writing.Closed e) bytes = refl
+
+  streams_is : (o : Option Streams) (bytes : List ℕ) → let_write side (may_of o bytes) ≡ let_begin side bytes (writer_in o)
+  streams_is None bytes = refl
+  streams_is (Some s) bytes = writer_is s.writer bytes
+
+  record_is : (o : Option Tcp2Socket) (bytes : List ℕ) → let_write side (may_in o bytes) ≡ let_begin side bytes (writer_of_record o)
+  record_is None bytes = refl
+  record_is (Some r) bytes = streams_is r.streams bytes
+
+  place_is : (m : Machine) (o : Option ℕ) (bytes : List ℕ) → let_write side (may_at m bytes o) ≡ let_begin side bytes (writer_of_record (record_in m o))
+  place_is m None bytes = refl
+  place_is m (Some place) bytes = record_is (slice_get m.store.sockets place) bytes
+
+  step_is : (m : Machine) (s : Step) → let_write side (may m s) ≡ permitted_in m side None s
+  step_is m (step.Write c output bytes) = place_is m (output_at m output) bytes
+  step_is m _ = refl
+
+  line_is : (m : Machine) (s : Step) (o : Option Standing) → let_write side (may_while m s o) ≡ permitted_in m side o s
+  line_is m s None = step_is m s
+  line_is m s (Some c) = refl
+
+module _ (contexts : List WasiSocketsCtx) (side : OpId) where
+  -- Before the line of this number: so much was let write.
+  record Lets (line : ℕ) (given : List ℕ) (es : List Entry) (m : Machine) : Type 0 where
+    pub base : BaseBetween line m
+    pub stands : Agreeing side (taken_in side es) given m.store.sockets
+    pub quietly : StandsQuietly m.store.standing
+
+  owes : (line : ℕ) (origin : Step) (held : List ℕ) (o : Own) → Owes contexts line origin side (held ++ let_write side o) o held
+  owes line origin held Used = sym (append-nil held)
+  owes line origin held Unused = sym (append-nil held)
+  owes line origin held (ToWrite at bytes) = refl
+
+  line_lets : (line : ℕ) (s : Step) (given : List ℕ) (m : Machine) (es : List Entry) → Lets line given es m
+      → (let all = given ++ permitted_by m side s in Allows (λ fs op c. IsFrontOf (taken_in side fs) all) (λ fs done. Lets (line + 1) all fs done.1) es (machine_asks contexts m line s m.store.standing))
+  line_lets line s given m es i =
+      let o = may_while m s m.store.standing in
+      let more = let_write side o in
+      let e : given ++ more ≡ given ++ permitted_by m side s = ap (λ (x : List ℕ). given ++ x) (line_is side m s m.store.standing) in
+      subst (λ (all : List ℕ). Allows (λ fs op c. IsFrontOf (taken_in side fs) all) (λ fs done. Lets (line + 1) all fs done.1) es (machine_asks contexts m line s m.store.standing)) e
+      (allows_weaker (λ fs op c. IsFrontOf (taken_in side fs) (given ++ more)) _ (λ fs done. Lets (line + 1) (given ++ more) fs done.1)
+      (λ fs done k. record {
+        base = base_over contexts line s done.1 k.0;
+        stands = subst (λ (t : List ℕ). Agreeing side (taken_in side fs) t done.1.store.sockets) k.1.owes k.1.stands;
+        quietly = k.1.quietly;
+      }) es (machine_asks contexts m line s m.store.standing)
+      (permits_along contexts line s side (given ++ more) (machine_walks line s m m.store.standing refl) es (base_starts contexts line s m o i.base)
+      (record { held = given; stands = i.stands; quietly = i.quietly; hand = λ o a. absurd (cc); owes = owes line s given o })))
+
+  did_lets : (m : Machine) (line : ℕ) (steps : List Step) (log : List Entry) (bytes : List ℕ) (after : Machine) → Did contexts side m line steps log bytes after → (given : List ℕ) (es : List Entry) → Lets line given es m → Lets (line + length steps) (given ++ bytes) (es ++ log) after
+  did_lets _ _ _ _ _ _ (Nothing m line) given es i =
+      let z : line ≡ line + 0 = omega arith in
+      subst (λ (n : ℕ). Lets n (given ++ []) (es ++ []) m) z (subst (λ (fs : List Entry). Lets line (given ++ []) fs m) (sym (append-nil es)) (subst (λ (xs : List ℕ). Lets line xs es m) (sym (append-nil given)) i))
+  did_lets _ _ _ _ _ _ (Then m next after line s steps entries log reply bytes w d) given es i =
+      let more = permitted_by m side s in
+      let k = reached (λ fs op c. IsFrontOf (taken_in side fs) (given ++ more)) (λ fs done. Lets (line + 1) (given ++ more) fs done.1) es (machine_asks contexts m line s m.store.standing) entries (Give (reply, next)) (line_lets line s given m es i) w in
+      let f = did_lets next (line + 1) steps log bytes after d (given ++ more) (es ++ entries) k in
+      let z : line + 1 + length steps ≡ line + suc (length steps) = omega arith in
+      subst (λ (n : ℕ). Lets n (given ++ (more ++ bytes)) (es ++ (entries ++ log)) after) z
+      (subst (λ (all : List ℕ). Lets (line + 1 + length steps) all (es ++ (entries ++ log)) after) (append_assoc given more bytes)
+      (subst (λ (fs : List Entry). Lets (line + 1 + length steps) ((given ++ more) ++ bytes) fs after) (append_assoc es entries log) f))
+
+  first_lets : Lets 1 [] [] first_state
+  first_lets = record { base = first_base; stands = record { front = ([], refl); made = inl (refl, refl); lives = λ i r e. absurd (cc); records = λ i r e. absurd (cc) }; quietly = tt }
+
+  done_lets : (steps : List Step) (log : List Entry) (bytes : List ℕ) (after : Machine) → Did contexts side first_state 1 steps log bytes after → Lets (1 + length steps) bytes log after
+  done_lets steps log bytes after d = did_lets first_state 1 steps log bytes after d [] [] first_lets
+
+  pub runs_let : (steps : List Step) (log : List Entry) (bytes : List ℕ) (after : Machine) → Did contexts side first_state 1 steps log bytes after → IsFrontOf (taken_in side log) bytes
+  runs_let steps log bytes after d = (done_lets steps log bytes after d).stands.front
+
+  -- in the middle of the next one too
+  pub runs_let_begun : (steps : List Step) (log : List Entry) (bytes : List ℕ) (after : Machine) (s : Step) (entries : List Entry) (rest : Asks (Reply × Machine))
+      → Did contexts side first_state 1 steps log bytes after → Left (machine_asks contexts after (1 + length steps) s after.store.standing) entries rest → IsFrontOf (taken_in side (log ++ entries)) (bytes ++ permitted_by after side s)
+  runs_let_begun steps log bytes after s entries rest d w =
+      let all = bytes ++ permitted_by after side s in
+      let Q : List Entry → Reply × Machine → Type 0 = λ fs done. Lets (1 + length steps + 1) all fs done.1 in
+      holds (λ fs. IsFrontOf (taken_in side fs) all) Q (λ fs done k. k.stands.front) (log ++ entries) rest
+      (reached (λ fs op c. IsFrontOf (taken_in side fs) all) Q log (machine_asks contexts after (1 + length steps) s after.store.standing) entries rest (line_lets (1 + length steps) s bytes after log (done_lets steps log bytes after d)) w)
+
+  pub runs_take_all : (steps : List Step) (log : List Entry) (permitted : List ℕ) (after : Machine) (ctx output n : ℕ) (entries : List Entry) (next : Machine)
+      → Did contexts side first_state 1 steps log permitted after → WritesTo after output side
+      → Answered contexts after (1 + length steps) (step.CheckWrite ctx output) entries (reply.Ok (number_fields n)) next → 0 < n → taken_in side (log ++ entries) ≡ permitted
+  runs_take_all steps log permitted after ctx output n entries next d w walk some =
+      let k = done_lets steps log permitted after d in
+      taken_append side log entries ∙ all_taken contexts side (taken_in side log) permitted (1 + length steps) after ctx output n k.stands (λ place r g e. k.base.named.named side place r g e) w some entries next walk

@@ -1,8 +1,0 @@
-use Rattle.wasi_run.proofs.CreateCauses.{create_refused}
-use Rattle.wasi_run.proofs.causes.create_refusals.Goals as goal
-
-pub returns : goal.returns
-returns c = record {
-  cause = λ contexts m line ctx family entries word after w. (create_refused m line contexts ctx family entries word after w).0;
-  stays = λ contexts m line ctx family entries word after w. (create_refused m line contexts ctx family entries word after w).1;
-}

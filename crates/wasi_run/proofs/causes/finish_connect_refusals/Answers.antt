@@ -1,9 +1,0 @@
-use Rattle.wasi_run.proofs.FinishCauses.{finish_refused, finish_had_none, finish_none_exactly}
-use Rattle.wasi_run.proofs.causes.finish_connect_refusals.Goals as goal
-
-pub returns : goal.returns
-returns c = record {
-  exactly = λ contexts m line ctx handle. finish_none_exactly m line handle contexts ctx;
-  not_in_progress = λ contexts m line ctx handle entries after w. let h = finish_had_none m line handle contexts ctx entries after w in (h.1, h.2);
-  cause = λ contexts m line ctx handle. finish_refused m line handle contexts ctx;
-}

@@ -1,8 +1,0 @@
-use Rattle.wasi_run.proofs.ReadLaws.{read_closed, read_failed}
-use Rattle.wasi_run.proofs.causes.reads_end.Goals as goal
-
-pub returns : goal.returns
-returns c = record {
-  closed = λ contexts m line ctx input len. read_closed m line input len contexts ctx;
-  failed = λ contexts m line ctx input len. read_failed m line input len contexts ctx;
-}

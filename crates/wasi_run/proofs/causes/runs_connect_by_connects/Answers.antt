@@ -1,5 +1,0 @@
-use Rattle.wasi_run.proofs.RunCauses.{runs_connect, runs_watch}
-use Rattle.wasi_run.proofs.causes.runs_connect_by_connects.Goals as goal
-
-pub returns : goal.returns
-returns c = record { handles = runs_connect; pollables = runs_watch }

@@ -1,5 +1,0 @@
-use Rattle.wasi_run.proofs.RunCauses.{runs_bind}
-use Rattle.wasi_run.proofs.causes.runs_stand_by_binds.Goals as goal
-
-pub returns : goal.returns
-returns c = runs_bind

@@ -1,5 +1,0 @@
-use Rattle.wasi_run.proofs.WriteLaws.{write_closed, write_failed}
-use Rattle.wasi_run.proofs.causes.writes_tell_their_error.Goals as goal
-
-pub returns : goal.returns
-returns c = record { closed = λ contexts m line ctx output. write_closed m line output contexts ctx; failed = λ contexts m line ctx output. write_failed m line output contexts ctx }

@@ -1,5 +1,0 @@
-use Rattle.wasi_run.proofs.OrderOutward.{operation_checks_first, operation_leaves_none}
-use Rattle.wasi_run.proofs.laws.operations_check_first.Goals as goal
-
-pub returns : goal.returns
-returns c = record { poll = operation_checks_first; later = operation_leaves_none }

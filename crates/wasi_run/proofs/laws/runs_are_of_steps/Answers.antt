@@ -1,5 +1,0 @@
-use Rattle.wasi_run.proofs.PermitsRuns.{runs_of_steps}
-use Rattle.wasi_run.proofs.laws.runs_are_of_steps.Goals as goal
-
-pub returns : goal.returns
-returns c = runs_of_steps

@@ -1,5 +1,0 @@
-use Rattle.wasi_run.proofs.AcceptCauses.{accept_refused}
-use Rattle.wasi_run.proofs.listens.accept_refusals.Goals as goal
-
-pub returns : goal.returns
-returns c = λ contexts m line ctx handle. accept_refused m line handle contexts ctx

@@ -1,0 +1,15 @@
+-- What a line does, said once as moves; what a law of runs is; and that each step is made of moves.
+pub mod Moves
+pub mod Writes
+pub mod Law
+pub mod OnBase
+pub mod Sockets
+pub mod Streams
+pub mod Listeners
+pub mod States
+pub mod SocketSteps
+pub mod ListenSteps
+pub mod StreamSteps
+pub mod Pending
+pub mod Steps
+pub mod Runs
