@@ -22,4 +22,3 @@ pub mod Permitted
 pub mod Order
 pub mod Generate
 pub mod Counted
-pub mod TextStreams

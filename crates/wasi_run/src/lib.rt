@@ -5,7 +5,6 @@ mod calls;
 pub mod causes;
 pub mod counts;
 pub mod generate;
-mod growing_sink;
 pub mod laws;
 mod lines;
 pub mod listens;
@@ -18,7 +17,6 @@ pub mod run;
 pub mod session;
 pub mod setting;
 pub mod step;
-mod text_source;
 
 pub use lines::write_all;
 pub use counts::Counts;
