@@ -26,7 +26,7 @@ abbrev pub unread : List ℕ → Reading
 unread text = record { left = Some text; ended = false; faults = 0 }
 
 abbrev pub unwritten : Writing
-unwritten = record { written = Some []; flushed = None; faults = 0; refused = 0 }
+unwritten = record { written = Some []; flushed = Some false; faults = 0; refused = 0 }
 
 -- The run of the generated script over the empty scenario was done, and these are its counts.
 pub record CountsRun (seed steps : ℕ) (counts : Counts) : Type 0 where

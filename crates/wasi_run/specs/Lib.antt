@@ -17,4 +17,3 @@ pub mod Listens
 pub mod Waiting
 pub mod Generate
 pub mod Counted
-pub mod TextStreams

@@ -5,12 +5,12 @@ ghost use Rattle.wasi_world.specs.Lines.{lines_of};
 ghost use Rattle.wasi_run.specs.Counted.{took_count, taken_bytes, CountsRun, summary};
 
 use crate::generate::generate;
-use crate::growing_sink::GrowingSink;
 use crate::run::run_script;
-use crate::text_source::TextSource;
 use std::alloc::{AllocError, Global};
 use std::fmt::Write;
-use wasi_world::{Entry, Lists, ScriptedWorld, Told, WasiSocketsCtx};
+use wasi_world::{
+    Entry, GrowingSink, Lists, MemorySource, ScriptedWorld, Told, WasiSocketsCtx,
+};
 
 /// The context of a scenario that has no line about contexts.
 const FREE: WasiSocketsCtx = WasiSocketsCtx {
@@ -19,6 +19,9 @@ const FREE: WasiSocketsCtx = WasiSocketsCtx {
     udp: true,
     tcp: true,
 };
+
+/// How many bytes of a script are read at a time.
+const PIECE_SIZE: usize = 4096;
 
 /// What a run came to. It prints as the program's line.
 #[derive(Clone, Copy, Debug, PartialEq, Eq)]
@@ -79,7 +82,7 @@ pub fn run_generated(alloc: Global, seed: u64, steps: u32) -> Result<Counts, All
     };
     let mut world = ScriptedWorld::new(alloc, Lists::new(alloc)?);
     let mut contexts = vec![in alloc; FREE]?;
-    let mut source = TextSource::new(script);
+    let mut source = MemorySource::new(script, PIECE_SIZE, Vec::new(alloc));
     let mut sink = GrowingSink::new(alloc);
     let Ok(_) = run_script(
         alloc,

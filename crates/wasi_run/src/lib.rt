@@ -4,7 +4,6 @@
 mod calls;
 pub mod counts;
 pub mod generate;
-mod growing_sink;
 pub mod laws;
 mod lines;
 pub mod parse;
@@ -15,7 +14,6 @@ pub mod run;
 pub mod session;
 pub mod setting;
 pub mod step;
-mod text_source;
 
 pub use lines::write_all;
 pub use counts::Counts;
