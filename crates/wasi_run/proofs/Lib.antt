@@ -125,3 +125,5 @@ pub mod OrderRuns
 mod GeneratedLines
 mod Generated
 mod Newlines
+mod GeneratedSteps
+mod OwnErrors
