@@ -22,3 +22,5 @@ pub mod licence
 mod GeneratedLines
 mod Generated
 mod Newlines
+mod GeneratedSteps
+mod OwnErrors

@@ -9,6 +9,8 @@ use Rattle.wasi_world.specs.Lines.{lines_of}
 use Rattle.wasi_world.specs.Queued.{no_answers}
 use Rattle.wasi_world.specs.Scenario.{free_context}
 use Rattle.wasi_world.specs.Scripted.{at_start}
+use Rattle.wasi_run.specs.declared.run.RunError.{RunError}
+use Rattle.wasi_run.specs.declared.run.RunError.TheVariants.{Memory, WriteFault}
 use Rattle.wasi_run.specs.Causes.{DoneLines}
 use Rattle.wasi_run.specs.declared.counts.Counts.{Counts}
 use Rattle.wasi_run.specs.Generate.{generated}
@@ -38,10 +40,16 @@ pub record CountsRun (seed steps : ℕ) (counts : Counts) : Type 0 where
   pub ran : DoneLines (free_context ∷ []) (length (generated seed steps)) (unread (generated seed steps)) after unwritten sink (at_start no_answers) seen
   pub logged : seen.log ≡ Some log
   pub wrote : sink.written ≡ Some written
-  pub lines : counts.lines ≡ length (lines_of (generated seed steps))
+  pub lines : counts.lines ≡ steps
   pub replies : counts.replies ≡ length (lines_of written)
   pub entries : counts.entries ≡ length log
   pub bytes : counts.bytes ≡ min (taken_bytes log) 18446744073709551615
+
+-- the errors that such a run can end with: want of memory, and a write that found none
+abbrev pub IsOwn : RunError → Type 0
+IsOwn Memory = Unit {0}
+IsOwn WriteFault = Unit {0}
+IsOwn _ = ⊥
 
 -- the line that tells the counts
 abbrev pub summary : Counts → List ℕ

@@ -17,3 +17,4 @@ pub mod Listens
 pub mod Waiting
 pub mod Generate
 pub mod Counted
+pub mod TextStreams

@@ -2,15 +2,14 @@
 
 ghost use Rattle.std.specs.Prelude.{◌≡◌, min, IfOk, length, string_bytes, sum_by};
 ghost use Rattle.wasi_world.specs.Lines.{lines_of};
-ghost use Rattle.wasi_run.specs.Counted.{took_count, taken_bytes, CountsRun, summary};
+ghost use Rattle.wasi_run.specs.Counted.{took_count, taken_bytes, CountsRun, IsOwn, summary};
 
 use crate::generate::generate;
-use crate::run::run_script;
+use crate::run::{RunError, run_script};
+use crate::text_source::TextSource;
 use std::alloc::{AllocError, Global};
 use std::fmt::Write;
-use wasi_world::{
-    Entry, GrowingSink, Lists, MemorySource, ScriptedWorld, Told, WasiSocketsCtx,
-};
+use wasi_world::{Entry, GrowingSink, Lists, ScriptedWorld, Told, WasiSocketsCtx};
 
 /// The context of a scenario that has no line about contexts.
 const FREE: WasiSocketsCtx = WasiSocketsCtx {
@@ -19,9 +18,6 @@ const FREE: WasiSocketsCtx = WasiSocketsCtx {
     udp: true,
     tcp: true,
 };
-
-/// How many bytes of a script are read at a time.
-const PIECE_SIZE: usize = 4096;
 
 /// What a run came to. It prints as the program's line.
 #[derive(Clone, Copy, Debug, PartialEq, Eq)]
@@ -70,6 +66,17 @@ fn taken_bytes(log: &[Entry]) -> u64
     taken
 }
 
+/// A run of a generated script ends with no other error than want of memory: its lines are steps, its source doesn't fail,
+/// and its sink only for want of it.
+fn no_memory(error: RunError) -> AllocError
+    requires { IsOwn error }
+{
+    match error {
+        RunError::Memory | RunError::WriteFault => AllocError,
+        _ => unreachable!(),
+    }
+}
+
 /// Runs the script that is generated from the seed, of so many lines, and counts what it came to. Takes memory for the
 /// script, its replies and its log.
 pub fn run_generated(alloc: Global, seed: u64, steps: u32) -> Result<Counts, AllocError>
@@ -82,18 +89,18 @@ pub fn run_generated(alloc: Global, seed: u64, steps: u32) -> Result<Counts, All
     };
     let mut world = ScriptedWorld::new(alloc, Lists::new(alloc)?);
     let mut contexts = vec![in alloc; FREE]?;
-    let mut source = MemorySource::new(script, PIECE_SIZE, Vec::new(alloc));
+    let mut source = TextSource::new(script);
     let mut sink = GrowingSink::new(alloc);
-    let Ok(_) = run_script(
+    if let Err(error) = run_script(
         alloc,
         &mut world,
         &mut contexts,
         limit,
         &mut source,
         &mut sink,
-    ) else {
-        return Err(AllocError);
-    };
+    ) {
+        return Err(no_memory(error));
+    }
     Ok(Counts {
         lines,
         replies: count_lines(sink.bytes()),

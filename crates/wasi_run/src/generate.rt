@@ -1,6 +1,8 @@
 //! Scripts that are generated from a seed.
 
-ghost use Rattle.std.specs.Prelude.{◌≡◌, ◌==◌, ◌+◌, ◌<◌, ◌≤◌, ◌^◌, ◌++◌, if◌then◌else◌, IfOk, OnOk, string_bytes};
+ghost use Rattle.std.specs.Prelude.{◌≡◌, ◌==◌, ◌+◌, ◌<◌, ◌≤◌, ◌^◌, ◌++◌, if◌then◌else◌, IfOk, OnOk, length, string_bytes};
+ghost use Rattle.wasi_world.specs.Lines.{lines_of};
+ghost use Rattle.wasi_run.specs.Script.{IsValid};
 ghost use Rattle.wasi_run.specs.declared.step.Step.TheVariants as Step;
 ghost use Rattle.wasi_run.specs.Generate.{next_drawn, port_of, count_of, byte_of, step_in, generated_steps, generated, script_line, script_text};
 
@@ -95,7 +97,10 @@ fn push_line(text: &mut String, socket: u32, x: u64, place: u32) -> Result<(), A
 /// connects it to a port of 127.0.0.1, writes up to 64 bytes to it and drops all that it made; the last block is cut
 /// where the lines are used up. Port and bytes are drawn from the seed. Takes memory for the text.
 pub fn generate(alloc: Global, seed: u64, steps: u32) -> Result<Vec<u8>, AllocError>
-    ensures { IfOk result (λ text. text.items ≡ generated seed steps) }
+    ensures drawn { IfOk result (λ text. text.items ≡ generated seed steps) }
+    // Each line is a step of context 0, and there are so many.
+    ensures valid { IfOk result (λ text. IsValid 1 (length text.items) text.items) }
+    ensures count { IfOk result (λ text. length (lines_of text.items) ≡ steps) }
 {
     let mut text = String::new(alloc);
     let mut x = seed;

@@ -14,6 +14,7 @@ pub mod run;
 pub mod session;
 pub mod setting;
 pub mod step;
+mod text_source;
 
 pub use lines::write_all;
 pub use counts::Counts;

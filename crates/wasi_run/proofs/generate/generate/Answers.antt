@@ -1,5 +1,6 @@
-use Rattle.std.proofs.Common.{◌<◌, ◌∙◌, ap, sym, arith}
-use Rattle.wasi_run.specs.Generate.{drawn}
+use Rattle.std.proofs.Common.{rules, ◌≡◌, ◌<◌, ◌∙◌, ap, sym, arith}
+use Rattle.wasi_run.specs.Generate.{drawn, generated}
+use Rattle.wasi_run.proofs.GeneratedSteps.{generated_valid, generated_lines}
 use Rattle.wasi_run.proofs.Generated.{generated_first, generated_next, block_number, same_start, same_block}
 use Rattle.wasi_run.proofs.generate.generate.Goals as goal
 
@@ -17,3 +18,13 @@ loop-k-preserved c =
       text = generated_next c.args.seed c.loop-k.k c.number_at-x.result _ _ later c.loop-k.invariant.text number c.in_ok-push_line.ensures;
       drawn = number ∙ ap (drawn c.args.seed) (sym (same_block c.loop-k.k later));
     }
+
+pub returns-clause-valid : goal.returns-clause-valid
+returns-clause-valid c =
+    let is : c.into_bytes.result.items ≡ generated c.args.seed c.args.steps = search rules in
+    rw is (generated_valid c.args.seed c.args.steps (search rules) (search rules))
+
+pub returns-clause-count : goal.returns-clause-count
+returns-clause-count c =
+    let is : c.into_bytes.result.items ≡ generated c.args.seed c.args.steps = search rules in
+    rw is (generated_lines c.args.seed c.args.steps (search rules) (search rules))
