@@ -1,10 +1,10 @@
 -- The cases of a file, one after another: those that hold, and the first that doesn't.
-use Rattle.std.proofs.Common.{arith, ◌≡◌, ◌≢◌, ◌∙◌, ap, sym, refl, subst, ℕ, ◌+◌, min, Bool, true, false, List, [], ◌∷◌, ◌++◌, length, length-append, Option, Some, None, Result, Ok, Err}
+use Rattle.std.proofs.Common.{arith, ◌≡◌, ◌∙◌, ap, sym, refl, subst, ℕ, ◌+◌, min, List, [], ◌∷◌, ◌++◌, length-append, Option, Some, Result, Ok, Err}
 use Rattle.std.specs.List.{AllByRecursion}
 use Rattle.std.proofs.lemmas.Bool.{false≢true}
 use Rattle.std.specs.Option.{unwrap_or}
 use Rattle.std.specs.Result.{result_ok, is_ok}
-use Rattle.wasi_world.specs.Lines.{lines_of, rest_of}
+use Rattle.wasi_world.specs.Lines.{lines_of}
 use Rattle.wasi_world.specs.Io.{Reading, Writing}
 use Rattle.wasi_world.specs.Scenario.{plan_of, free_context}
 use Rattle.wasi_world.specs.Script.{GoesByPlan}

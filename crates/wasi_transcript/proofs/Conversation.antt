@@ -1,7 +1,6 @@
 -- The lines of a script, one after another: what was done, logged and written of them.
-use Rattle.std.proofs.Common.{◌≡◌, ◌∙◌, ap, sym, refl, subst, ℕ, suc, ◌+◌, ◌-◌, ◌<◌, ◌≤◌, Bool, true, false, List, [], ◌∷◌, ◌++◌, map, length, take, Option, Some, None, append_assoc, append-nil, length-append, length-take, add-zero, arith, inl, inr, ◌⊎◌}
+use Rattle.std.proofs.Common.{◌≡◌, ◌∙◌, ap, sym, refl, subst, ℕ, suc, ◌+◌, ◌-◌, ◌≤◌, false, List, [], ◌∷◌, ◌++◌, length, take, Option, Some, None, append_assoc, append-nil, add-zero, arith, inl, inr}
 use Rattle.std.specs.Prelude.{option_map}
-use Rattle.std.specs.List.{flat_map}
 use Rattle.std.proofs.Math.Seq.{take-append-add}
 use Rattle.std.proofs.lemmas.Bool.{cases_lt}
 use Rattle.std.proofs.lemmas.List.{flat_map_more, take_all, take-append-le}
@@ -11,7 +10,6 @@ use Rattle.wasi_world.specs.Lines.{lines_of, rest_of, lines_from, rest_from}
 use Rattle.wasi_world.specs.Seen.{Seen}
 use Rattle.wasi_world.proofs.LinesOf.{lines-append, rest-append}
 use Rattle.wasi_host.specs.declared.machine.Machine.{Machine}
-use Rattle.wasi_run.specs.declared.reply.Reply.{Reply}
 use Rattle.wasi_run.specs.Ran.{NoTrap}
 use Rattle.wasi_run.specs.Reply.{is_trap}
 use Rattle.wasi_transcript.specs.Transcript.{Exchange, exchange_text, exchanges_text, lines_in, replies_in, calls_in, IsDone, AreDone, Logged}

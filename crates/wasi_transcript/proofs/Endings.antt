@@ -1,7 +1,7 @@
 -- How a transcript ends, once its lines are done.
-use Rattle.std.proofs.Common.{◌≡◌, ◌∙◌, ap, sym, refl, ℕ, ◌+◌, ◌<◌, List, [], ◌++◌, length, take, Some, None, Result, Ok, Err, append_assoc, inl, inr, ◌⊎◌}
+use Rattle.std.proofs.Common.{◌≡◌, ◌∙◌, ap, refl, ℕ, List, [], ◌++◌, take, Result, Ok, Err, inl, inr}
 use Rattle.wasi_world.specs.declared.outcome.WasiSocketsCtx.{WasiSocketsCtx}
-use Rattle.wasi_world.specs.Io.{Reading, Writing, Took}
+use Rattle.wasi_world.specs.Io.{Reading, Writing}
 use Rattle.wasi_world.specs.Seen.{Seen}
 use Rattle.wasi_host.specs.declared.machine.Machine.{Machine}
 use Rattle.wasi_host.specs.Closing.{AsksNothing, IsFresh, HasClosedAll}
@@ -16,7 +16,6 @@ use Rattle.wasi_run.specs.Written.{TookAll, TookFront}
 use Rattle.wasi_run.proofs.Takes.{took_again, same_again, rose_again}
 use Rattle.wasi_transcript.specs.declared.show.Stop.{Stop}
 use Rattle.wasi_transcript.specs.declared.show.Stop.TheVariants as stop
-use Rattle.wasi_transcript.specs.Transcript.{exchanges_text}
 use Rattle.wasi_transcript.specs.Shown.{Done, Stops, Wrote, IsShown, outcome_of, ending_text}
 use Rattle.wasi_transcript.specs.Showing.{LinesShown, IsHalt}
 

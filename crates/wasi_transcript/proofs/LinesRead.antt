@@ -1,18 +1,14 @@
 -- How a reader goes from one line of a source to the next.
-use Rattle.std.proofs.Common.{◌≡◌, ◌∙◌, ap, sym, refl, ℕ, ◌+◌, ◌-◌, ◌<◌, ◌≤◌, ◌≢◌, Bool, true, false, List, [], ◌∷◌, ◌++◌, length, take, Ok, Err, append-nil, append_assoc, length-append, add-zero, arith}
+use Rattle.std.proofs.Common.{◌≡◌, ◌∙◌, ap, sym, refl, ℕ, ◌+◌, ◌-◌, ◌≤◌, false, List, [], ◌++◌, length, take, Ok, Err, append-nil, append_assoc, length-append, add-zero, arith}
 use Rattle.std.proofs.Math.Seq.{take-append-add, take-nil}
 use Rattle.std.proofs.lemmas.List.{take_all}
 use Rattle.std.specs.declared.alloc.AllocError.{AllocError}
-use Rattle.wasi_world.specs.Seen.{Rose}
-use Rattle.wasi_world.specs.Io.{Reading, Gave, HasEnded}
+use Rattle.wasi_world.specs.Io.{Reading, Gave}
 use Rattle.wasi_world.specs.Lines.{lines_of, rest_of, lines_from, rest_from}
 use Rattle.wasi_world.proofs.LinesOf.{lines-append, rest-append}
 use Rattle.wasi_run.proofs.Takes.{gave_again, gave_none}
-use Rattle.wasi_transcript.specs.declared.lines.NextLine.{NextLine}
-use Rattle.wasi_transcript.specs.declared.lines.NextLine.TheVariants.{Whole, End, Unfinished, TooLong, Failed}
-use Rattle.wasi_transcript.specs.declared.lines.Piece.{Piece}
 use Rattle.wasi_transcript.specs.declared.lines.Piece.TheVariants as piece
-use Rattle.wasi_transcript.specs.Reading.{Held, with_more, Found, Reads, TakesLine, GavePiece, ReadsPiece}
+use Rattle.wasi_transcript.specs.Reading.{Held, with_more, Reads, TakesLine, ReadsPiece}
 
 -- Since the reading of a line began these bytes were read, and the line so far is the front of what is to be given.
 pub record Going (s_old s_now : Reading) (old now : Held) (front : List ℕ) : Type 0 where

@@ -1,13 +1,13 @@
 -- The transcript of the lines so far, and how each line goes on from there.
-use Rattle.std.proofs.Common.{◌≡◌, ◌≢◌, ◌∙◌, ap, sym, refl, subst, ℕ, suc, ◌+◌, ◌-◌, ◌<◌, ◌≤◌, ◌^◌, Bool, true, false, List, [], ◌∷◌, ◌++◌, length, take, Some, None, Result, Ok, Err, append-nil, add-zero, length-append, length-take, arith, inl, inr, ◌⊎◌}
+use Rattle.std.proofs.Common.{◌≡◌, ◌≢◌, ◌∙◌, ap, sym, refl, subst, ℕ, suc, ◌+◌, ◌-◌, ◌<◌, ◌≤◌, ◌^◌, Bool, true, false, List, [], ◌∷◌, ◌++◌, length, take, Some, None, Result, Ok, Err, append-nil, length-append, length-take, arith, inl, inr, ◌⊎◌}
 use Rattle.std.proofs.Math.Seq.{take-nil}
 use Rattle.std.specs.declared.alloc.AllocError.{AllocError}
 use Rattle.wasi_world.specs.declared.call.Entry.{Entry}
 use Rattle.wasi_world.specs.declared.outcome.WasiSocketsCtx.{WasiSocketsCtx}
 use Rattle.wasi_world.specs.Asks.{Asks, Left}
-use Rattle.wasi_world.specs.Io.{Reading, Writing, Gave, HasEnded, Took, SameCounts, CountRose}
+use Rattle.wasi_world.specs.Io.{Reading, Writing, Gave, Took, SameCounts}
 use Rattle.wasi_world.specs.Lines.{lines_of, rest_of}
-use Rattle.wasi_world.specs.Seen.{Seen, Rose}
+use Rattle.wasi_world.specs.Seen.{Seen}
 use Rattle.wasi_world.proofs.LinesOf.{count_lines}
 use Rattle.wasi_host.specs.declared.machine.Machine.{Machine}
 use Rattle.wasi_host.specs.Machine.{first_state}
@@ -16,7 +16,7 @@ use Rattle.wasi_run.specs.declared.run.RunEnd.TheVariants as end
 use Rattle.wasi_run.specs.declared.run.RunError.{RunError}
 use Rattle.wasi_run.specs.declared.run.RunError.TheVariants.{Memory, BadStep, TooLong, ReadFault, WriteFault}
 use Rattle.wasi_run.specs.declared.session.Session.{Session}
-use Rattle.wasi_run.specs.Ran.{NoTrap, OneTrap}
+use Rattle.wasi_run.specs.Ran.{NoTrap}
 use Rattle.wasi_run.specs.declared.reply.Reply.{Reply}
 use Rattle.wasi_run.specs.declared.step.Step.{Step}
 use Rattle.wasi_run.specs.Machine.{machine_asks}
@@ -25,8 +25,8 @@ use Rattle.wasi_run.specs.Written.{TookAll, TookFront}
 use Rattle.wasi_run.proofs.Takes.{gave_again, gave_none, took_again, took_none, same_again, same_none, rose_again}
 use Rattle.wasi_transcript.specs.declared.lines.NextLine.TheVariants as next
 use Rattle.wasi_transcript.specs.Reading.{Held, with_more, Reads}
-use Rattle.wasi_transcript.specs.Transcript.{Exchange, exchange_text, exchanges_text, lines_in, replies_in, calls_in, IsDone, AreDone, Logged}
-use Rattle.wasi_transcript.specs.Done.{Exchanged, IsNoStep, Starved}
+use Rattle.wasi_transcript.specs.Transcript.{Exchange, exchanges_text, lines_in, replies_in, calls_in, IsDone, AreDone, Logged}
+use Rattle.wasi_transcript.specs.Done.{Exchanged, Starved}
 use Rattle.wasi_transcript.specs.Shown.{Done, IsMet}
 use Rattle.wasi_transcript.specs.Showing.{LinesShown}
 use Rattle.wasi_transcript.proofs.Conversation.{done_on, no_trap_on, replies_on, lines_on, calls_on, texts_on, logged_again, logged_as, logged_nothing, lines_more, rest_more}

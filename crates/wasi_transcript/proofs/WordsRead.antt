@@ -1,5 +1,5 @@
 -- The words of `check`.
-use Rattle.std.proofs.Common.{arith, ◌≡◌, ◌≢◌, ◌∙◌, ◌==◌, ap, sym, refl, ℕ, Bool, true, false, not, List, [], ◌∷◌, map, length, bytes_eq, codes}
+use Rattle.std.proofs.Common.{arith, ◌≡◌, ◌≢◌, ◌∙◌, ◌==◌, ap, refl, ℕ, Bool, true, false, not, List, [], ◌∷◌, map, length, bytes_eq, codes}
 use Rattle.std.proofs.lemmas.Bool.{false≢true}
 use Rattle.std.proofs.lemmas.Slice.Eq.{bytes_eq-Decides}
 use Rattle.wasi_transcript.specs.Words.{IsCheck}

@@ -1,5 +1,5 @@
 -- Which cases hold.
-use Rattle.std.specs.Prelude.{◌≡◌, ◌≢◌, ◌⊎◌, ℕ, Bool, false, List, [], ◌∷◌, min, length, Option, Some, None, Result, Ok, Err}
+use Rattle.std.specs.Prelude.{◌≡◌, ◌≢◌, ℕ, false, List, [], ◌∷◌, min, length, Some, None, Result, Ok, Err}
 use Rattle.std.specs.List.{AllByRecursion}
 use Rattle.wasi_world.specs.Io.{Reading, Writing}
 use Rattle.wasi_world.specs.Lines.{lines_of, rest_of}
@@ -15,7 +15,6 @@ use Rattle.wasi_transcript.specs.declared.check.Came.{Came}
 use Rattle.wasi_transcript.specs.declared.check.Came.TheVariants.{Shown, BadScenario}
 use Rattle.wasi_transcript.specs.declared.check.Checked.{Checked}
 use Rattle.wasi_transcript.specs.declared.check.Checked.TheVariants.{Holds, Fails, NotCases}
-use Rattle.wasi_transcript.specs.declared.check.Failed.{Failed}
 use Rattle.wasi_transcript.specs.CaseRead.{IsOf}
 use Rattle.wasi_transcript.specs.Cases.{CaseText, unlines, script_lines, case_at}
 use Rattle.wasi_transcript.specs.Shown.{IsShown}

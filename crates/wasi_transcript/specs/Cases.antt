@@ -1,5 +1,5 @@
 -- Files of transcripts: a list of cases, each a script over a scripted network beside its transcript.
-use Rattle.std.specs.Prelude.{◌≡◌, ◌≢◌, ℕ, Bool, true, false, if◌then◌else◌, List, [], ◌∷◌, ◌++◌, map, length, take, drop, bytes_eq, codes, Option, Some, None, option_map, option_and_then}
+use Rattle.std.specs.Prelude.{◌≡◌, ◌≢◌, ℕ, if◌then◌else◌, List, [], ◌∷◌, ◌++◌, map, length, take, drop, bytes_eq, codes, Option, Some, None, option_map, option_and_then}
 use Rattle.std.specs.List.{flat_map, filter_map, AllByRecursion}
 
 -- what follows the front of a line, if it begins so

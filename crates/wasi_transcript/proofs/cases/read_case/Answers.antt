@@ -1,7 +1,7 @@
-use Rattle.std.proofs.Common.{arith, ◌≡◌, ◌∙◌, ap, refl, ◌∷◌, codes, Some}
+use Rattle.std.proofs.Common.{arith, ◌∙◌, ap, refl}
 use Rattle.wasi_world.specs.Lines.{lines_of}
 use Rattle.wasi_transcript.specs.Cases.{planned_at, case_at}
-use Rattle.wasi_transcript.proofs.CasesRead.{case_whole, case_unfinished, case_untitled, as_shown}
+use Rattle.wasi_transcript.proofs.CasesRead.{case_whole, as_shown}
 use Rattle.wasi_transcript.proofs.cases.read_case.Goals as goal
 
 -- src/cases.rt:156:1

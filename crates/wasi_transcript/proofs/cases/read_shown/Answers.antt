@@ -1,4 +1,4 @@
-use Rattle.std.proofs.Common.{◌≢◌, [], refl, codes}
+use Rattle.std.proofs.Common.{refl, codes}
 use Rattle.wasi_transcript.specs.Cases.{after}
 use Rattle.wasi_transcript.proofs.CasesRead.{showing_on, script_on, not_empty}
 use Rattle.wasi_transcript.proofs.cases.read_shown.Goals as goal

@@ -1,4 +1,4 @@
-use Rattle.std.proofs.Common.{◌≡◌, ◌∙◌, refl, sym, []}
+use Rattle.std.proofs.Common.{◌∙◌, sym}
 use Rattle.std.proofs.lemmas.Bool.{false≢true}
 use Rattle.wasi_transcript.proofs.CasesHeld.{checking_start, checking_on, fails_next, as_read}
 use Rattle.wasi_transcript.proofs.check.check_text.Goals as goal
