@@ -1,12 +1,19 @@
 //! The write stream whose writes a worker makes.
+//!
+//! What the two sides have under one lock is in `lock`, how they wait for each other in `shared`, and what each of them
+//! knows while the other has the lock in `owner_facts` and `worker_facts`.
 #![tactic(auto)]
 
-pub mod lock;
+mod lock;
 pub mod names;
-pub mod owner_facts;
+mod owner_facts;
 pub mod put;
-pub mod shared;
+mod shared;
 pub mod stream;
-pub mod task;
+mod task;
 pub mod worker;
-pub mod worker_facts;
+mod worker_facts;
+
+pub use names::{LedgerNames, Names, WriteParts};
+pub use stream::AsyncWriteStream;
+pub use worker::WriteWorker;

@@ -32,7 +32,7 @@ pub struct Locked<N: Names> {
 }
 
 impl<N: Names> Locked<N> {
-    /// A new stream's.
+    /// What a new stream has under its lock.
     pub fn new(core: WriteCore, owner: OwnerFacts<N>, worker: WorkerFacts<N>) -> Locked<N>
         requires core { core.state ≡ fresh_state N.initial }
         requires knows { (owner ≡ nothing_yet) × (worker ≡ idle) }

@@ -14,6 +14,7 @@ pub trait Names: LedgerNames {
     ghost use Rattle.std.specs.declared.alloc.Global.{Global};
     ghost use Rattle.crossbeam_queue.specs.SegTies.{SegId};
 
+    /// Its line.
     ghost line: { SegId Global };
 
     /// The initial budget.

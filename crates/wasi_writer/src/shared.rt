@@ -27,6 +27,7 @@ pub struct Shared<N: Names> {
 }
 
 impl<N: Names> Shared<N> {
+    /// The lock, with the stream's line beside it.
     pub fn new(locked: Locked<N>, line: Line) -> Shared<N>
         requires { line ≡ N.line }
     {

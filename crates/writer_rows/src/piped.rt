@@ -16,9 +16,8 @@ use wasi_simplex::{SimplexReader, SimplexWriter, simplex};
 use wasi_spawn::{StartError, ThreadSpawner};
 use wasi_streams::StreamError;
 use wasi_world::{Failed, Sink, Source, TrapKind};
-use wasi_writer::names::{Names, WriteParts};
 use wasi_writer::put::write_all;
-use wasi_writer::stream::AsyncWriteStream;
+use wasi_writer::{AsyncWriteStream, Names, WriteParts};
 
 /// Writes all of the bytes, and lets the end go.
 fn send<R: Wait + Copy>(mut writer: SimplexWriter<R>, bytes: &[u8]) -> bool {

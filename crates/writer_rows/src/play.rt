@@ -12,8 +12,7 @@ use std::thread::Threads;
 use wasi_shared::Finished;
 use wasi_spawn::{StartError, ThreadSpawner};
 use wasi_streams::StreamError;
-use wasi_writer::names::{Names, WriteParts};
-use wasi_writer::stream::AsyncWriteStream;
+use wasi_writer::{AsyncWriteStream, Names, WriteParts};
 
 /// One call of the owner.
 #[derive(Clone, Copy)]

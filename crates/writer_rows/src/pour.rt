@@ -11,8 +11,7 @@ use std::thread::Threads;
 use wasi_shared::Finished;
 use wasi_spawn::{Spawner, StartError};
 use wasi_world::Sink;
-use wasi_writer::names::{Names, WriteParts};
-use wasi_writer::stream::AsyncWriteStream;
+use wasi_writer::{AsyncWriteStream, Names, WriteParts};
 
 /// How a stream is used.
 #[derive(Clone, Copy)]
