@@ -16,8 +16,8 @@ pub mod setting;
 pub mod step;
 mod text_source;
 
-pub use lines::write_all;
 pub use counts::Counts;
+pub use lines::write_all;
 pub use program::{Done, Status, run_main};
 pub use reply::{CodeWord, Field, Reply, ReplyFields};
 pub use run::{RunEnd, RunError, run_script};
