@@ -1,5 +1,5 @@
 -- How a stream ends, by what its two sides knew at the end.
-use Rattle.std.proofs.Common.{◌≡◌, ℕ, Bool, true, false, not, ◌||◌, List, [], ◌∷◌, ◌++◌, Result, refl, ap, ◌∙◌, sym, subst, append_assoc, append-nil, true≢false}
+use Rattle.std.proofs.Common.{◌≡◌, ℕ, Bool, true, false, not, ◌||◌, List, [], ◌++◌, Result, refl, ap, ◌∙◌, sym, subst, append_assoc, append-nil, true≢false}
 use Rattle.std.specs.List.{concat}
 use Rattle.std.proofs.lemmas.List.Folds.{concat-append}
 use Rattle.wasi_world.specs.Io.{Writing}

@@ -1,10 +1,9 @@
 -- What a sink took, step by step.
-use Rattle.std.proofs.Common.{◌≡◌, ◌<◌, ◌≤◌, ◌-◌, ◌+◌, ℕ, Bool, true, false, List, [], ◌∷◌, ◌++◌, length, take, drop, Option, None, Some, is_some, option_map, refl, ap, ◌∙◌, sym, subst, ◌⊎◌, inl, inr, append_assoc, append-nil, arith, length-drop}
+use Rattle.std.proofs.Common.{◌≡◌, ◌<◌, ◌≤◌, ◌-◌, ℕ, Bool, false, List, [], ◌++◌, length, take, drop, Option, None, Some, is_some, option_map, refl, ap, ◌∙◌, sym, subst, ◌⊎◌, inl, inr, append_assoc, append-nil, arith, length-drop}
 use Rattle.std.proofs.lemmas.List.{take_all}
-use Rattle.std.proofs.Math.Seq.{take-add}
 use Rattle.wasi_world.specs.Io.{Writing, Took, TookSome, TookNone, SameCounts, CountRose}
 use Rattle.wasi_world.specs.Seen.{Rose}
-use Rattle.wasi_writer.specs.Worked.{StillTells, TookAll, TookFront, TookFault}
+use Rattle.wasi_writer.specs.Worked.{TookAll, TookFault}
 
 written_more : (a b c : Option (List ℕ)) (xs ys : List ℕ) → b ≡ option_map (λ w. w ++ xs) a → c ≡ option_map (λ w. w ++ ys) b → c ≡ option_map (λ w. w ++ (xs ++ ys)) a
 written_more None b c xs ys first then = then ∙ ap (λ o. option_map (λ w. w ++ ys) o) first

@@ -1,10 +1,10 @@
 -- What a worker made of its sink, task by task.
-use Rattle.std.proofs.Common.{◌≡◌, ℕ, Bool, true, false, List, [], ◌∷◌, ◌++◌, Option, None, Some, IfSome, option_map, is_some, refl, ap, ◌∙◌, sym, subst, append_assoc, append-nil, true≢false}
+use Rattle.std.proofs.Common.{◌≡◌, ℕ, Bool, true, false, List, [], ◌∷◌, ◌++◌, ap, ◌∙◌, sym, subst, append_assoc, append-nil, true≢false}
 use Rattle.std.specs.List.{concat}
-use Rattle.wasi_world.specs.Io.{Writing, Flushed, FlushFailed}
+use Rattle.wasi_world.specs.Io.{Writing}
 use Rattle.wasi_writer.specs.Knows.{WorkerKnows}
 use Rattle.wasi_writer.specs.Worked.{TookAll, TookFault, TookTo, IsFlushed, Worked}
-use Rattle.wasi_writer.proofs.Took.{all_none, all_more, fault_more, took_none}
+use Rattle.wasi_writer.proofs.Took.{all_none, all_more, fault_more}
 
 pub concat_end : (chunks : List (List ℕ)) (chunk : List ℕ) → concat (chunks ++ chunk ∷ []) ≡ concat chunks ++ chunk
 concat_end [] chunk = append-nil chunk

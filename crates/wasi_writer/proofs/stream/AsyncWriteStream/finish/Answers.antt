@@ -1,4 +1,4 @@
-use Rattle.std.proofs.Common.{◌∙◌, ap, subst, not, ◌||◌, Bool}
+use Rattle.std.proofs.Common.{◌∙◌, ap, subst, not, ◌||◌}
 use Rattle.wasi_writer.specs.Knows.{OwnerKnows}
 use Rattle.wasi_writer.specs.Stream.{WriteStream, HasFinished}
 use Rattle.wasi_writer.proofs.Ends.{finished}
