@@ -1,16 +1,19 @@
 -- What holds of every machine that the lines of a script lead to.
 use Rattle.std.specs.Prelude.{◌≡◌, ⊤, ℕ, true, false, List, IsSome, slice_get}
+use Rattle.wasi_world.specs.declared.ids.OpId.{OpId}
 use Rattle.wasi_world.specs.declared.call.Entry.{Entry}
 use Rattle.wasi_tcp.specs.declared.socket.TcpState.{TcpState}
 use Rattle.wasi_tcp.specs.declared.socket.TcpState.TheVariants as state
 use Rattle.wasi_host.specs.declared.kind.Kind.{Kind}
 use Rattle.wasi_host.specs.declared.kind.Kind.TheVariants.{Network, Tcp2, Input, Output, Pollable, ErrorValue}
+use Rattle.wasi_host.specs.declared.listening.Listening.TheVariants as listening
 use Rattle.wasi_host.specs.declared.machine.Machine.{Machine}
 use Rattle.wasi_host.specs.declared.socket.Tcp2Socket.{Tcp2Socket}
 use Rattle.wasi_host.specs.Kinds.{place_in}
 use Rattle.wasi_host.specs.Store.{is_connect}
 use Rattle.wasi_run.specs.declared.reply.CodeWord.{CodeWord}
-use Rattle.wasi_run.specs.Answered.{FinishRefusal}
+use Rattle.wasi_run.specs.Answered.{FinishRefusal, StartRefusal}
+use Rattle.wasi_run.specs.Listens.{ListenRefusal}
 
 -- == records
 abbrev pub HasRecord : Machine → ℕ → Type 0
@@ -43,3 +46,13 @@ IsUndone _ = ⊥
 pub record RefusedInRun (m : Machine) (place : ℕ) (r : Tcp2Socket) (entries : List Entry) (word : CodeWord) (after : Machine) : Type 0 where
   pub cause : FinishRefusal m place r entries word after
   pub undone : is_connect r.in_progress ≡ true → IsUndone r.inner.state
+
+-- == a listen
+-- a socket that does nothing yet has no listener, and none begins
+abbrev pub ListensLate : Tcp2Socket → Type 0
+ListensLate r = (side : OpId) → r.inner.state ≡ state.Default side → r.listening ≡ listening.Not
+
+-- The start of a listen is refused in a run: of its causes those are left where the socket doesn't listen already.
+pub record ListenRefusedInRun (m : Machine) (own : OpId) (place : ℕ) (r : Tcp2Socket) (entries : List Entry) (word : CodeWord) (after : Machine) : Type 0 where
+  pub cause : StartRefusal m r (ListenRefusal m own place r) entries word after
+  pub late : ListensLate r

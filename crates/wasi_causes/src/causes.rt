@@ -22,7 +22,7 @@ ghost use Rattle.wasi_run.specs.declared.reply.Reply.{Reply};
 ghost use Rattle.wasi_run.specs.declared.step.Step.{Step};
 ghost use Rattle.wasi_run.specs.Answered.{Answered, CheckFails, closing_reader, closing_writer, ConnectsAt, CreateRefusal, EndsPending, FailsWith, FinishRefusal, HasNoBindInProgress, HasNoConnectInProgress, HasOperationInProgress, IsGivenUp, IsQuiet, IsUnpermitted, IsWrite, KnowsBound, LocalRefusal, MakesHandle, MissesHandle, OfRecord, OfStreams, output_streams, Permits, putting, ReadFails, ReadsEnd, ReadsNone, ReadsTold, record_at, RefusedBind, RefusedConnect, RefusedOf, RemoteRefusal, StandsOnNothing, WasClosedWith, with_error, WriteFails};
 ghost use Rattle.wasi_causes.specs.MayAnswer.{may_answer, EachMayAnswer};
-ghost use Rattle.wasi_causes.specs.Reached.{MayFinish, OfItsRecord, RefusedInRun};
+ghost use Rattle.wasi_causes.specs.Reached.{ListensLate, MayFinish, OfItsRecord, RefusedInRun};
 ghost use Rattle.wasi_causes.specs.GivenUp.{GoesAtOnce, HasLiveChildren, HasNoStreams, IsDrop, IsDropped, IsGone, LooksOnce, shut_down, shutdown_entries, socket_given_up, without};
 ghost use Rattle.wasi_run.specs.Licence.{entry, Has, marks_in};
 ghost use Rattle.wasi_run.specs.Machine.{context_at, run};
@@ -217,7 +217,8 @@ pub fn runs_connect_by_connects()
 
 /// After the lines of any script: each live handle of a socket, a stream or a pollable is of a record that is there, so a number
 /// of which no socket is found isn't live or stands for something else; a call that stands is of a socket that is there; and where
-/// a connect is in progress, the socket connects, or was closed with a code, or is connected and neither half of it was taken.
+/// a connect is in progress, the socket connects, or was closed with a code, or is connected and neither half of it was taken; and a
+/// socket that does nothing yet has no listener, and none begins.
 pub fn runs_keep_their_records()
     ensures handles { (contexts : List WasiSocketsCtx) (steps : List Step) (log : List Entry) (replies : List Reply) (m : Machine) (handle : ℕ) (kind : Kind)
         → Left (run contexts [] first_state 1 steps) log (Give (replies, m)) → kind_at m.table handle ≡ Some kind → OfItsRecord m kind }
@@ -227,6 +228,8 @@ pub fn runs_keep_their_records()
         → Left (run contexts [] first_state 1 steps) log (Give (replies, m)) → StandsOnNothing m number → ⊥ }
     ensures connects { (contexts : List WasiSocketsCtx) (steps : List Step) (log : List Entry) (replies : List Reply) (m : Machine) (place : ℕ) (r : Tcp2Socket)
         → Left (run contexts [] first_state 1 steps) log (Give (replies, m)) → slice_get m.store.sockets place ≡ Some r → is_connect r.in_progress ≡ true → MayFinish r.inner.state }
+    ensures listens { (contexts : List WasiSocketsCtx) (steps : List Step) (log : List Entry) (replies : List Reply) (m : Machine) (place : ℕ) (r : Tcp2Socket)
+        → Left (run contexts [] first_state 1 steps) log (Give (replies, m)) → slice_get m.store.sockets place ≡ Some r → ListensLate r }
 {}
 
 /// After the lines of any script, what stands by a bind is a bind, and what stands by a listen is a listen.

@@ -8,3 +8,4 @@ pub mod GoesOn
 pub mod GivesUp
 pub mod Law
 pub mod Runs
+pub mod Examples

@@ -1,4 +1,4 @@
-use Rattle.wasi_causes.proofs.BindCauses.{bind_refused, bind_leaves, bind_conflicts}
+use Rattle.wasi_causes.proofs.binding.Starts.{bind_refused, bind_leaves, bind_conflicts}
 use Rattle.wasi_causes.proofs.causes.bind_refusals.Goals as goal
 
 pub returns : goal.returns

@@ -1,4 +1,4 @@
-use Rattle.wasi_causes.proofs.WriteLaws.{check_closed, check_failed}
+use Rattle.wasi_causes.proofs.streams.Writes.{check_closed, check_failed}
 use Rattle.wasi_causes.proofs.causes.checks_tell_the_kept_error.Goals as goal
 
 pub returns : goal.returns

@@ -1,4 +1,4 @@
-use Rattle.wasi_causes.proofs.CreateCauses.{create_is_full}
+use Rattle.wasi_causes.proofs.steps.Creates.{create_is_full}
 use Rattle.wasi_causes.proofs.causes.create_full.Goals as goal
 
 pub returns : goal.returns

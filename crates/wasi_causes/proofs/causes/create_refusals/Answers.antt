@@ -1,4 +1,4 @@
-use Rattle.wasi_causes.proofs.CreateCauses.{create_refused}
+use Rattle.wasi_causes.proofs.steps.Creates.{create_refused}
 use Rattle.wasi_causes.proofs.causes.create_refusals.Goals as goal
 
 pub returns : goal.returns

@@ -1,4 +1,4 @@
-use Rattle.wasi_causes.proofs.DropLaws.{drop_of_socket, drop_gives_up, drop_at_once, drop_leaves, drop_looks, drop_takes_out, drop_is_gone}
+use Rattle.wasi_causes.proofs.ending.DropLaws.{drop_of_socket, drop_gives_up, drop_at_once, drop_leaves, drop_looks, drop_takes_out, drop_is_gone}
 use Rattle.wasi_causes.proofs.causes.drops_give_up_what_is_open.Goals as goal
 
 pub returns : goal.returns

@@ -1,5 +1,5 @@
-use Rattle.wasi_causes.proofs.FinishCauses.{finish_refused, finish_had_none, finish_none_exactly}
-use Rattle.wasi_causes.proofs.RunStates.{finishes_refused_in_runs}
+use Rattle.wasi_causes.proofs.connecting.Finishes.{finish_refused, finish_had_none, finish_none_exactly}
+use Rattle.wasi_causes.proofs.runs.States.{finishes_refused_in_runs}
 use Rattle.wasi_causes.proofs.causes.finish_connect_refusals.Goals as goal
 
 pub returns : goal.returns

@@ -1,4 +1,4 @@
-use Rattle.wasi_causes.proofs.WriteLaws.{flush_done, flush_closed, flush_failed}
+use Rattle.wasi_causes.proofs.streams.Writes.{flush_done, flush_closed, flush_failed}
 use Rattle.wasi_causes.proofs.causes.flushes_tell_the_kept_error.Goals as goal
 
 pub returns : goal.returns

@@ -1,4 +1,4 @@
-use Rattle.wasi_causes.proofs.QuietCauses.{quiet_never, quiet_stays}
+use Rattle.wasi_causes.proofs.questions.Quiet.{quiet_never, quiet_stays}
 use Rattle.wasi_causes.proofs.causes.listening_and_family_are_never_refused.Goals as goal
 
 pub returns : goal.returns

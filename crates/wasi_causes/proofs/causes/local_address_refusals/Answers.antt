@@ -1,4 +1,4 @@
-use Rattle.wasi_causes.proofs.AddressCauses.{local_refused, local_leaves}
+use Rattle.wasi_causes.proofs.questions.Addresses.{local_refused, local_leaves}
 use Rattle.wasi_causes.proofs.causes.local_address_refusals.Goals as goal
 
 pub returns : goal.returns

@@ -1,8 +1,8 @@
-use Rattle.wasi_causes.proofs.BindCauses.{bind_waits}
-use Rattle.wasi_causes.proofs.DropLaws.{drop_waits}
-use Rattle.wasi_causes.proofs.ListenCauses.{listen_waits}
-use Rattle.wasi_causes.proofs.PollLaws.{poll_waits}
-use Rattle.wasi_causes.proofs.TrapCauses.{stands}
+use Rattle.wasi_causes.proofs.binding.Starts.{bind_waits}
+use Rattle.wasi_causes.proofs.ending.DropLaws.{drop_waits}
+use Rattle.wasi_causes.proofs.listening.Starts.{listen_waits}
+use Rattle.wasi_causes.proofs.pending.Laws.{poll_waits}
+use Rattle.wasi_causes.proofs.steps.Traps.{stands}
 use Rattle.wasi_causes.proofs.causes.pending_where_told.Goals as goal
 
 pub returns : goal.returns

@@ -1,4 +1,4 @@
-use Rattle.wasi_causes.proofs.WriteLaws.{check_permits}
+use Rattle.wasi_causes.proofs.streams.Writes.{check_permits}
 use Rattle.wasi_causes.proofs.causes.permits_have_causes.Goals as goal
 
 pub returns : goal.returns

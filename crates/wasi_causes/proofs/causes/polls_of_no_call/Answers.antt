@@ -1,6 +1,6 @@
-use Rattle.wasi_causes.proofs.PollLaws.{poll_finds_none, poll_stays, poll_ends, poll_fails}
-use Rattle.wasi_causes.proofs.RunStates.{polls_never_trap}
-use Rattle.wasi_causes.proofs.TrapCauses.{finds_no_call}
+use Rattle.wasi_causes.proofs.pending.Laws.{poll_finds_none, poll_stays, poll_ends, poll_fails}
+use Rattle.wasi_causes.proofs.runs.States.{polls_never_trap}
+use Rattle.wasi_causes.proofs.steps.Traps.{finds_no_call}
 use Rattle.wasi_causes.proofs.causes.polls_of_no_call.Goals as goal
 
 pub returns : goal.returns

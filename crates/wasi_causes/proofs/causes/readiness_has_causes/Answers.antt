@@ -1,4 +1,4 @@
-use Rattle.wasi_causes.proofs.PollableLaws.{ready_values, ready_waits, ready_idle, ready_never}
+use Rattle.wasi_causes.proofs.pollables.Laws.{ready_values, ready_waits, ready_idle, ready_never}
 use Rattle.wasi_causes.proofs.causes.readiness_has_causes.Goals as goal
 
 pub returns : goal.returns

@@ -1,4 +1,4 @@
-use Rattle.wasi_causes.proofs.ReadLaws.{read_closed, read_failed}
+use Rattle.wasi_causes.proofs.streams.Reads.{read_closed, read_failed}
 use Rattle.wasi_causes.proofs.causes.reads_end.Goals as goal
 
 pub returns : goal.returns

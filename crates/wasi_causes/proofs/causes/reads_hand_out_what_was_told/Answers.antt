@@ -1,4 +1,4 @@
-use Rattle.wasi_causes.proofs.ReadLaws.{read_told, read_none, read_stays}
+use Rattle.wasi_causes.proofs.streams.Reads.{read_told, read_none, read_stays}
 use Rattle.wasi_causes.proofs.causes.reads_hand_out_what_was_told.Goals as goal
 
 pub returns : goal.returns

@@ -1,4 +1,4 @@
-use Rattle.wasi_causes.proofs.AddressCauses.{remote_refused, remote_leaves}
+use Rattle.wasi_causes.proofs.questions.Addresses.{remote_refused, remote_leaves}
 use Rattle.wasi_causes.proofs.causes.remote_address_refusals.Goals as goal
 
 pub returns : goal.returns

@@ -1,4 +1,4 @@
-use Rattle.wasi_causes.proofs.RunCauses.{runs_connect, runs_watch}
+use Rattle.wasi_causes.proofs.runs.Fits.{runs_connect, runs_watch}
 use Rattle.wasi_causes.proofs.causes.runs_connect_by_connects.Goals as goal
 
 pub returns : goal.returns

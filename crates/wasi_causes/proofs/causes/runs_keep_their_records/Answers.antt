@@ -1,4 +1,4 @@
-use Rattle.wasi_causes.proofs.RunStates.{runs_have_records, runs_miss_no_record, runs_stand_on_records, runs_may_finish}
+use Rattle.wasi_causes.proofs.runs.States.{runs_have_records, runs_miss_no_record, runs_stand_on_records, runs_may_finish, runs_listen_late}
 use Rattle.wasi_causes.proofs.causes.runs_keep_their_records.Goals as goal
 
 pub returns : goal.returns
@@ -7,4 +7,5 @@ returns c = record {
   missing = λ contexts steps log replies m handle w. runs_miss_no_record contexts steps log replies m w handle;
   stands = λ contexts steps log replies m number w. runs_stand_on_records contexts steps log replies m w number;
   connects = λ contexts steps log replies m place r w. runs_may_finish contexts steps log replies m w place r;
+  listens = λ contexts steps log replies m place r w. runs_listen_late contexts steps log replies m w place r;
 }

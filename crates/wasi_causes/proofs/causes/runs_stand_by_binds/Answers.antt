@@ -1,4 +1,4 @@
-use Rattle.wasi_causes.proofs.RunCauses.{runs_bind}
+use Rattle.wasi_causes.proofs.runs.Fits.{runs_bind}
 use Rattle.wasi_causes.proofs.causes.runs_stand_by_binds.Goals as goal
 
 pub returns : goal.returns

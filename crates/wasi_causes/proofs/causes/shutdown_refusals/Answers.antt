@@ -1,4 +1,4 @@
-use Rattle.wasi_causes.proofs.ShutdownLaws.{shutdown_exactly, shutdown_refused, shutdown_asks, shutdown_leaves}
+use Rattle.wasi_causes.proofs.ending.ShutdownLaws.{shutdown_exactly, shutdown_refused, shutdown_asks, shutdown_leaves}
 use Rattle.wasi_causes.proofs.causes.shutdown_refusals.Goals as goal
 
 pub returns : goal.returns

@@ -1,4 +1,4 @@
-use Rattle.wasi_causes.proofs.ConnectCauses.{connect_refused, connect_leaves, connect_conflicts}
+use Rattle.wasi_causes.proofs.connecting.Starts.{connect_refused, connect_leaves, connect_conflicts}
 use Rattle.wasi_causes.proofs.causes.start_connect_refusals.Goals as goal
 
 pub returns : goal.returns

@@ -1,4 +1,4 @@
-use Rattle.wasi_causes.proofs.PollableLaws.{subscribe_makes, subscribe_never}
+use Rattle.wasi_causes.proofs.pollables.Laws.{subscribe_makes, subscribe_never}
 use Rattle.wasi_causes.proofs.causes.subscribe_makes_a_pollable.Goals as goal
 
 pub returns : goal.returns

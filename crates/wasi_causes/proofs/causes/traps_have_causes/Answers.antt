@@ -1,5 +1,5 @@
-use Rattle.wasi_causes.proofs.DropLaws.{drop_traps}
-use Rattle.wasi_causes.proofs.TrapCauses.{misses_handle, finds_children, finds_full, is_a_write, four_kinds}
+use Rattle.wasi_causes.proofs.ending.DropLaws.{drop_traps}
+use Rattle.wasi_causes.proofs.steps.Traps.{misses_handle, finds_children, finds_full, is_a_write, four_kinds}
 use Rattle.wasi_causes.proofs.causes.traps_have_causes.Goals as goal
 
 pub returns : goal.returns

@@ -1,4 +1,4 @@
-use Rattle.wasi_causes.proofs.TurnCauses.{turn_is_ok, turn_is_by_jobs}
+use Rattle.wasi_causes.proofs.streams.Turns.{turn_is_ok, turn_is_by_jobs}
 use Rattle.wasi_causes.proofs.causes.turns_are_ok.Goals as goal
 
 pub returns : goal.returns

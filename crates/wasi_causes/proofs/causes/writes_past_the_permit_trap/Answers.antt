@@ -1,4 +1,4 @@
-use Rattle.wasi_causes.proofs.WriteLaws.{write_exactly, write_not_permitted}
+use Rattle.wasi_causes.proofs.streams.Writes.{write_exactly, write_not_permitted}
 use Rattle.wasi_causes.proofs.causes.writes_past_the_permit_trap.Goals as goal
 
 pub returns : goal.returns

@@ -1,4 +1,4 @@
-use Rattle.wasi_causes.proofs.WriteLaws.{write_closed, write_failed}
+use Rattle.wasi_causes.proofs.streams.Writes.{write_closed, write_failed}
 use Rattle.wasi_causes.proofs.causes.writes_tell_their_error.Goals as goal
 
 pub returns : goal.returns

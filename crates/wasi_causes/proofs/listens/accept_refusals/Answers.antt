@@ -1,4 +1,4 @@
-use Rattle.wasi_causes.proofs.AcceptCauses.{accept_refused}
+use Rattle.wasi_causes.proofs.listening.Accepts.{accept_refused}
 use Rattle.wasi_causes.proofs.listens.accept_refusals.Goals as goal
 
 pub returns : goal.returns

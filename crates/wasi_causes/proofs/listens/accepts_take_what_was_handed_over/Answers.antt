@@ -1,4 +1,4 @@
-use Rattle.wasi_causes.proofs.AcceptCauses.{accept_takes}
+use Rattle.wasi_causes.proofs.listening.Accepts.{accept_takes}
 use Rattle.wasi_causes.proofs.listens.accepts_take_what_was_handed_over.Goals as goal
 
 pub returns : goal.returns

@@ -1,4 +1,4 @@
-use Rattle.wasi_causes.proofs.RunCauses.{runs_accept, runs_watch_accept}
+use Rattle.wasi_causes.proofs.runs.Fits.{runs_accept, runs_watch_accept}
 use Rattle.wasi_causes.proofs.listens.runs_accept_by_accepts.Goals as goal
 
 pub returns : goal.returns

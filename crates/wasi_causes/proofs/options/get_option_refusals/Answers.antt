@@ -1,4 +1,4 @@
-use Rattle.wasi_causes.proofs.OptionCauses.{get_refused, get_leaves}
+use Rattle.wasi_causes.proofs.questions.Options.{get_refused, get_leaves}
 use Rattle.wasi_causes.proofs.options.get_option_refusals.Goals as goal
 
 pub returns : goal.returns

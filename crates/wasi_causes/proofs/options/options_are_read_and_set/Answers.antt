@@ -1,4 +1,4 @@
-use Rattle.wasi_causes.proofs.OptionCauses.{still_of, get_done, set_done}
+use Rattle.wasi_causes.proofs.questions.Options.{still_of, get_done, set_done}
 use Rattle.wasi_causes.proofs.options.options_are_read_and_set.Goals as goal
 
 pub returns : goal.returns

@@ -1,4 +1,4 @@
-use Rattle.wasi_causes.proofs.OptionCauses.{set_refused}
+use Rattle.wasi_causes.proofs.questions.Options.{set_refused}
 use Rattle.wasi_causes.proofs.options.set_option_refusals.Goals as goal
 
 pub returns : goal.returns

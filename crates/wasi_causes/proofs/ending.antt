@@ -1,0 +1,6 @@
+-- Drops and shutdowns.
+pub mod DropLaws
+pub mod Drops
+pub mod GiveUps
+pub mod ShutdownLaws
+pub mod Shutdowns

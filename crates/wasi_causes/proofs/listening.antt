@@ -1,0 +1,5 @@
+-- Listens and accepts.
+pub mod AcceptPolls
+pub mod Accepts
+pub mod Polls
+pub mod Starts

@@ -1,0 +1,3 @@
+-- Pollables: what makes one, and looks at it.
+pub mod Laws
+pub mod Looks

@@ -1,0 +1,222 @@
+-- The law of the machine's state: each live handle and what stands are of a record that is there, a connect in progress may be
+-- finished, and a socket that does nothing yet doesn't listen. It holds for whatever is asked.
+use Rattle.std.specs.Prelude.{⊤, ◌⊎◌}
+use Rattle.std.proofs.Common.{◌≡◌, inl, inr, ℕ, true, List, [], ◌∷◌, ◌++◌, Option, Some, None, Result, Ok, Err, refl, sym, ap, subst, ◌∙◌, length, slice_get, slice_set}
+use Rattle.wasi_addr.specs.declared.code.ErrorCode.{ErrorCode}
+use Rattle.wasi_world.specs.declared.outcome.WasiSocketsCtx.{WasiSocketsCtx}
+use Rattle.wasi_world.specs.declared.ids.OpId.{OpId}
+use Rattle.wasi_world.specs.declared.call.Entry.{Entry}
+use Rattle.wasi_world.specs.Asks.{Give, Left, bind}
+use Rattle.wasi_world.specs.Operation.{Operation, End, Waits, Done, Refused, Item, Who, poll_asks}
+use Rattle.wasi_world.specs.Typed.{told_addr}
+use Rattle.wasi_world.proofs.Allowed.{Allows, allows_then, allows_if}
+use Rattle.wasi_streams.proofs.Tables.{value_without}
+use Rattle.wasi_tcp.specs.declared.socket.TcpState.{TcpState}
+use Rattle.wasi_tcp.specs.declared.socket.TcpState.TheVariants as state
+use Rattle.wasi_tcp.specs.declared.listener.Accepting.{Accepting}
+use Rattle.wasi_tcp.specs.declared.listener.Accepting.TheVariants as accepting
+use Rattle.wasi_tcp.specs.Listener.{Listener, accept_ended}
+use Rattle.wasi_tcp.specs.Connecting.{with_state, connect_ended}
+use Rattle.wasi_tcp.specs.Shape.{Socket}
+use Rattle.wasi_tcp.specs.Socket.{side_of, new_asks}
+use Rattle.wasi_tcp.specs.Writer.{turn_asks}
+use Rattle.wasi_host.specs.declared.kind.Kind.{Kind}
+use Rattle.wasi_host.specs.declared.kind.Kind.TheVariants.{Tcp2, Input, Output}
+use Rattle.wasi_host.specs.declared.listening.Listening.{Listening}
+use Rattle.wasi_host.specs.declared.listening.Listening.TheVariants as listening
+use Rattle.wasi_host.specs.declared.machine.Machine.{Machine}
+use Rattle.wasi_host.specs.declared.socket.Tcp2Socket.{Tcp2Socket}
+use Rattle.wasi_host.specs.declared.store.Standing.{Standing}
+use Rattle.wasi_host.specs.declared.store.StandingCall.{StandingCall}
+use Rattle.wasi_host.specs.declared.store.StandingCall.TheVariants as standing
+use Rattle.wasi_streams.specs.Table.{is_full}
+use Rattle.wasi_host.specs.Kinds.{kind_at, make_asks, table_parent, with_handle, without_handle}
+use Rattle.wasi_host.specs.Listening.{give_up_asks, with_listening}
+use Rattle.wasi_host.specs.Machine.{own_of, side_at, created_asks, first_state}
+use Rattle.wasi_host.specs.Store.{is_connect, new_record, with_record, with_inner, with_writer}
+use Rattle.wasi_run.specs.declared.reply.Reply.{Reply}
+use Rattle.wasi_run.specs.declared.step.Step.{Step}
+use Rattle.wasi_run.specs.Listens.{IsPastNot}
+use Rattle.wasi_run.specs.Machine.{machine_asks, run}
+use Rattle.wasi_run.proofs.Lists.{get_front, get_seam, get_set, get_split, set_get, value_split}
+use Rattle.wasi_run.proofs.fits.Law.{told_same, whatever}
+use Rattle.wasi_run.proofs.fits.Polls.{Anything}
+use Rattle.wasi_run.proofs.walks.Law.{Law}
+use Rattle.wasi_run.proofs.walks.Moves.{closed_record, Held, InHand, Connects, Here, put, Move, Reaches, Leaves, Spends, Changes, ClosesReader, Writes, IsGone, Reconnects, Opens, BeginsConnect, BeginsBind, BeginsWrite, Stands, Resumes, Ends, Lists, Takes, BeginsListen, BeginsAccept, Unlistens, Forgets, Watches, Joins, StandsListen, StandsDrop, ResumesDrop, Unstands, Listens, Awaits, listen_after, accepting_now, joined, IsConnecting, Marks, ANetwork, AStream, AnAcceptedStream, APollable, AnError, record_of}
+use Rattle.wasi_run.proofs.walks.Runs.{run_ends}
+use Rattle.wasi_run.proofs.walks.Steps.{machine_walks}
+use Rattle.wasi_causes.specs.Reached.{MayFinish, ListensLate}
+
+-- == what holds of a machine
+abbrev pub IsThere : List Tcp2Socket → ℕ → Type 0
+IsThere sockets place = (r : Tcp2Socket) × (slice_get sockets place ≡ Some r)
+
+-- where a connect is in progress, it may be finished
+abbrev pub Finishes : Tcp2Socket → Type 0
+Finishes r = is_connect r.in_progress ≡ true → MayFinish r.inner.state
+
+abbrev pub Sound : Tcp2Socket → Type 0
+Sound r = Finishes r × ListensLate r
+
+abbrev pub call_place : StandingCall → ℕ
+call_place (standing.Bind place op) = place
+call_place (standing.Listen place) = place
+call_place (standing.DropOutput place) = place
+
+pub record Steady (m : Machine) : Type 0 where
+  pub records : (place : ℕ) (r : Tcp2Socket) → slice_get m.store.sockets place ≡ Some r → Sound r
+  pub handles : (handle place : ℕ) → record_of (kind_at m.table handle) ≡ Some place → IsThere m.store.sockets place
+  pub stands : (c : Standing) → m.store.standing ≡ Some c → IsThere m.store.sockets (call_place c.call)
+
+-- == one record changes, one joins, a handle is made, a call stands
+there_put : (sockets : List Tcp2Socket) (i : ℕ) (now : Tcp2Socket) (k : ℕ) → IsThere sockets k → IsThere (slice_set sockets i now) k
+there_put sockets i now k (r, g) = elim (set_get sockets i now k r g) [ inl e ↦ (r, e) | inr e ↦ (now, e.1) ]
+
+there_push : (sockets : List Tcp2Socket) (new : Tcp2Socket) (k : ℕ) → IsThere sockets k → IsThere (sockets ++ new ∷ []) k
+there_push sockets new k (r, g) = (r, get_front sockets (new ∷ []) k r g)
+
+put_steady : (h : Here) (place : ℕ) (now : Tcp2Socket) → Sound now → Steady h.machine → Steady (put h place now).machine
+put_steady h place now f i = record {
+  records = λ k r e. elim (get_set h.machine.store.sockets place now k r e) [ inl p ↦ subst Sound p.1 f | inr p ↦ i.records k r p ];
+  handles = λ handle k e. there_put h.machine.store.sockets place now k (i.handles handle k e);
+  stands = λ c e. there_put h.machine.store.sockets place now (call_place c.call) (i.stands c e);
+}
+
+push_steady : (m : Machine) (new : Tcp2Socket) → Sound new → Steady m → Steady (record m { store = record m.store { sockets = m.store.sockets ++ new ∷ [] } })
+push_steady m new f i = record {
+  records = λ k r e. elim (get_split m.store.sockets new k r e) [ inl p ↦ i.records k r p | inr p ↦ subst Sound p f ];
+  handles = λ handle k e. there_push m.store.sockets new k (i.handles handle k e);
+  stands = λ c e. there_push m.store.sockets new (call_place c.call) (i.stands c e);
+}
+
+stand_steady : (m : Machine) (s : Standing) → IsThere m.store.sockets (call_place s.call) → Steady m → Steady (record m { store = record m.store { standing = Some s } })
+stand_steady m s t i = record { records = i.records; handles = i.handles; stands = λ c e. let p : s ≡ c = cc in subst (λ (x : Standing). IsThere m.store.sockets (call_place x.call)) p t }
+
+made_steady : (es : List Entry) (m : Machine) (op : OpId) (kind : Kind) (parent : Option ℕ) (sock : Option OpId) → ((place : ℕ) → record_of (Some kind) ≡ Some place → IsThere m.store.sockets place) → Steady m
+    → Allows Anything (λ fs made. Steady (record m { table = made.1 })) es (make_asks m.table op kind parent sock)
+unfolding bind
+made_steady es m op kind parent sock t i =
+    allows_if Anything (λ fs made. Steady (record m { table = made.1 })) es (is_full m.table) _ _ (λ full. i) (λ room. (tt, λ told fits. record { records = i.records; handles = handles; stands = i.stands }))
+  where
+    live : (handle place : ℕ) (k : Option Kind) → kind_at (with_handle m.table kind parent) handle ≡ k → record_of k ≡ Some place → IsThere m.store.sockets place
+    live handle place None q e = absurd (cc)
+    live handle place (Some x) q e = elim (value_split m.table.live (record { handle = m.table.next; value = kind; parent = table_parent kind parent }) handle x q) [
+      | inl g ↦ i.handles handle place (ap record_of g ∙ e)
+      | inr g ↦ t place (ap (λ (y : Kind). record_of (Some y)) g.1 ∙ e)
+    ]
+
+    handles : (handle place : ℕ) → record_of (kind_at (with_handle m.table kind parent) handle) ≡ Some place → IsThere m.store.sockets place
+    handles handle place e = live handle place (kind_at (with_handle m.table kind parent) handle) refl e
+
+-- == moves
+connecting_may : (s : TcpState) → IsConnecting s → MayFinish s
+connecting_may (state.Connecting op) c = tt
+connecting_may _ c = absurd c
+
+connected_may : (who : Who) (end : End × List Item) → MayFinish (connect_ended who end).1
+connected_may who (Waits, left) = tt
+connected_may who (Done given, left) = (refl, refl)
+connected_may who (Refused c given, left) = tt
+
+never_default : (who : Who) (end : End × List Item) (side : OpId) → (connect_ended who end).1 ≡ state.Default side → ⊥
+never_default who (Waits, left) side e = absurd (cc)
+never_default who (Done given, left) side e = absurd (cc)
+never_default who (Refused c given, left) side e = absurd (cc)
+
+-- a record that listens, or is about to
+never_unlistened : (r : Tcp2Socket) (l : Listening) (side : OpId) → r.listening ≡ l → IsPastNot l → Sound r → r.inner.state ≡ state.Default side → ⊥
+never_unlistened r l side e p s d = subst IsPastNot (sym e ∙ s.1 side d) p
+
+listens_on : (r : Tcp2Socket) (l : Listener) (a : Accepting) → r.listening ≡ listening.Accepts l → Sound r → Sound (accepting_now r l a)
+listens_on r l a e s = (s.0, λ side d. absurd (never_unlistened r (listening.Accepts l) side e tt s d))
+
+listened_sound : (op : Operation) (r : Tcp2Socket) (end : End × List Item) → r.listening ≡ listening.Begins op → Sound r → Sound (listen_after op r end)
+listened_sound op r (Waits, left) e s = (s.0, λ side d. absurd (never_unlistened r (listening.Begins op) side e tt s d))
+listened_sound op r (Done given, left) e s = (λ c. absurd (cc), λ side d. absurd (cc))
+listened_sound op r (Refused c given, left) e s = (s.0, λ side d. refl)
+
+module _ (contexts : List WasiSocketsCtx) (line : ℕ) (origin : Step) where
+  moves_steady : (h now : Here) → Move line origin h now → Steady h.machine → Steady now.machine
+  moves_steady _ _ (Reaches h handle place n e) i = i
+  moves_steady _ _ (Leaves h) i = i
+  moves_steady _ _ (Spends h e) i = i
+  moves_steady _ _ (Changes h place r now g p) i = put_steady h place now (λ c. subst MayFinish (sym p.does) (elim (p.connects c) [ inl k ↦ (i.records place r g).0 k | inr k ↦ connecting_may r.inner.state k ]), λ side d. p.listening ∙ (i.records place r g).1 side (sym p.does ∙ d)) i
+  moves_steady _ _ (ClosesReader h place r s g e) i = put_steady h place _ (i.records place r g) i
+  moves_steady _ _ (Writes h place r s w g e m) i = put_steady h place _ (i.records place r g) i
+  moves_steady _ _ (IsGone h place r g e) i = put_steady h place _ (λ c. absurd (cc), λ side d. refl) i
+  moves_steady _ _ (Reconnects h place r c now g e s t u) i = put_steady h place _ (λ k. (let f : MayFinish (state.Connected c) = subst MayFinish e ((i.records place r g).0 k) in ((u k).0 ∙ f.0, (u k).1 ∙ f.1)), λ side d. absurd (cc)) i
+  moves_steady _ _ (Opens h place r c g e n) i = put_steady h place _ (λ k. absurd (cc), λ side d. absurd (cc)) i
+  moves_steady _ _ (BeginsConnect h place r side a bound at g d to known own) i = put_steady h place _ (λ k. tt, λ s e. absurd (cc)) i
+  moves_steady _ _ (BeginsBind h place r side a at g d to own) i = i
+  moves_steady _ _ (BeginsWrite h place r s half permit bytes at g e w within own) i = put_steady h place _ (i.records place r g) i
+  moves_steady _ _ (BeginsListen h place r side at g d bound none to own) i = put_steady h place _ (λ k. tt, λ s e. absurd (cc)) i
+  moves_steady _ _ (BeginsAccept h place r l at g e a own) i = put_steady h place _ (listens_on r l _ e (i.records place r g)) i
+  moves_steady _ _ (Unlistens h place r op g e c o) i = put_steady h place _ ((i.records place r g).0, λ side d. refl) i
+  moves_steady _ _ (Forgets h place r l c g e a) i = put_steady h place _ (listens_on r l accepting.Idle e (i.records place r g)) i
+  moves_steady _ _ (Watches h o) i = i
+  moves_steady _ _ (Joins h c handle place r l new peer is of u g e a) i =
+      let k = put_steady h place (accepting_now r l accepting.Idle) (listens_on r l accepting.Idle e (i.records place r g)) i in push_steady (put h place (accepting_now r l accepting.Idle)).machine (joined l new peer) (λ c. absurd (cc), λ side d. absurd (cc)) k
+  moves_steady _ _ (StandsListen h n place r g) i = stand_steady h.machine _ (r, g) i
+  moves_steady _ _ (StandsDrop h n place r at g) i = stand_steady h.machine _ (r, g) i
+  moves_steady _ _ (ResumesDrop h n place e) i = i
+  moves_steady _ _ (Unstands h) i = record { records = i.records; handles = i.handles; stands = λ c e. absurd (cc) }
+  moves_steady _ _ (Stands h n place r op g e) i = stand_steady h.machine _ (r, g) i
+  moves_steady _ _ (Resumes h n place op e) i = record { records = i.records; handles = i.handles; stands = λ c e. absurd (cc) }
+  moves_steady _ _ (Ends h) i = i
+  moves_steady _ _ (Lists h jobs) i = record { records = i.records; handles = i.handles; stands = i.stands }
+  moves_steady _ _ (Takes h handle) i = record { records = i.records; handles = λ k place e. i.handles k place (still k place (kind_at (without_handle h.machine.table handle) k) refl e); stands = i.stands }
+    where
+      still : (k place : ℕ) (o : Option Kind) → kind_at (without_handle h.machine.table handle) k ≡ o → record_of o ≡ Some place → record_of (kind_at h.machine.table k) ≡ Some place
+      still k place None q e = absurd (cc)
+      still k place (Some kind) q e = ap record_of (value_without h.machine.table.live handle k kind q) ∙ e
+
+  -- == what is made
+  one_of_two : (kind : Kind) (its place : ℕ) → (kind ≡ Input its) ⊎ (kind ≡ Output its) → record_of (Some kind) ≡ Some place → its ≡ place
+  one_of_two kind its place (inl e) p = let q : record_of (Some kind) ≡ Some its = ap (λ (x : Kind). record_of (Some x)) e in cc
+  one_of_two kind its place (inr e) p = let q : record_of (Some kind) ≡ Some its = ap (λ (x : Kind). record_of (Some x)) e in cc
+
+  marks_there : (h : Here) (kind : Kind) (parent : Option ℕ) (sock : Option OpId) → Marks origin h kind parent sock → Steady h.machine → (place : ℕ) → record_of (Some kind) ≡ Some place → IsThere h.machine.store.sockets place
+  marks_there h _ _ _ (ANetwork c is) i place e = absurd (cc)
+  marks_there h kind _ _ (AStream c handle its _ is two of) i place e = i.handles handle place (of ∙ ap (λ (x : ℕ). Some x) (one_of_two kind its place two e))
+  marks_there h kind _ _ (AnAcceptedStream c listener handle its _ r is two made own g) i place e = subst (IsThere h.machine.store.sockets) (one_of_two kind its place two e) (r, g)
+  marks_there h _ _ _ (APollable c handle w is of) i place e = i.handles handle place (of ∙ e)
+  marks_there h _ _ _ (AnError handle its is of) i place e = absurd (cc)
+
+  joins : (es : List Entry) (m : Machine) (op : OpId) (made : Result Socket ErrorCode) → Steady m → Allows Anything (λ fs done. Steady done.1) es (created_asks m op made)
+  joins es m op (Ok socket) i =
+      let now : Machine = record m { store = with_record m.store socket } in
+      allows_then Anything (λ fs made. Steady (record now { table = made.1 })) (λ fs done. Steady done.1) es (make_asks m.table op (Tcp2 (length m.store.sockets)) None (side_of socket)) _
+      (made_steady es now op (Tcp2 (length m.store.sockets)) None (side_of socket) (λ place e. let p : length m.store.sockets ≡ place = cc in subst (IsThere now.store.sockets) p (new_record socket, get_seam m.store.sockets (new_record socket))) (push_steady m (new_record socket) (λ c. absurd (cc), λ side d. refl) i)) (λ fs made k. k)
+  joins es m op (Err c) i = i
+
+  polls_steady : (es : List Entry) (h : Here) (op : Operation) (after : End × List Item → Here) → Held h op after → Steady h.machine → Allows Anything (λ fs ended. Steady (after ended).machine) es (poll_asks op)
+  polls_steady es h _ _ (InHand op e) i = whatever (λ end. Steady h.machine) (λ end. i) es (poll_asks op)
+  polls_steady es h _ _ (Connects place r op q g e) i = whatever (λ end. Steady (put h place (with_inner r (with_state r.inner (connect_ended op.who end).1))).machine) (λ end. put_steady h place _ (λ c. connected_may op.who end, λ side d. absurd (never_default op.who end side d)) i) es (poll_asks op)
+  polls_steady es h _ _ (Listens place r op q g e c) i = whatever (λ end. Steady (put h place (listen_after op r end)).machine) (λ end. put_steady h place _ (listened_sound op r end e (i.records place r g)) i) es (poll_asks op)
+  polls_steady es h _ _ (Awaits place r l op g e a) i = whatever (λ end. Steady (put h place (accepting_now r l (accept_ended op.who end))).machine) (λ end. put_steady h place _ (listens_on r l _ e (i.records place r g)) i) es (poll_asks op)
+
+  unfoldable steady : Law contexts line origin
+  steady = record {
+    P = Anything;
+    Inv = λ es h. Steady h.machine;
+    moves = λ es h now m i. moves_steady h now m i;
+    asks = λ es h place n r side c at g o q i. (tt, λ told fits. i);
+    sets = λ es h place r side b at g s is i. (tt, λ told fits. i);
+    learns = λ es h place r side at g e i. (tt, λ told fits. put_steady h place _ (λ c. subst MayFinish (sym (told_same r.inner (told_addr told))) ((i.records place r g).0 c), λ s d. (i.records place r g).1 s (sym (told_same r.inner (told_addr told)) ∙ d)) i);
+    closes = λ es h place r side q g e i. (tt, λ told fits. put_steady h place (closed_record r) (λ c. absurd (cc), λ s d. refl) i);
+    marks = λ es h kind parent sock m i. made_steady es h.machine (own_of line) kind parent sock (marks_there h kind parent sock m i) i;
+    creates = λ es h ctx family c a o m i. allows_then Anything (λ fs made. ⊤) (λ fs done. Steady done.1) es (new_asks (own_of line) ctx family) (created_asks h.machine (own_of line)) (whatever (λ made. ⊤) (λ made. tt) es _) (λ fs made k. joins fs h.machine (own_of line) made i);
+    accepted = λ es h c s place r is e o g i. made_steady es h.machine (own_of line) (Tcp2 place) (Some s) (side_at (slice_get h.machine.store.sockets place)) (λ k p. let q : place ≡ k = cc in subst (IsThere h.machine.store.sockets) q (r, g)) i;
+    polls = polls_steady;
+    turns = λ es h place r s g e i. whatever (λ done. Steady (put h place (with_writer r s done.1)).machine) (λ done. put_steady h place _ (i.records place r g) i) es (turn_asks s.writer);
+    gives_up = λ es h place r q g i. whatever (λ done. Steady (put h place (with_listening r listening.Not)).machine) (λ done. put_steady h place _ ((i.records place r g).0, λ side d. refl) i) es (give_up_asks r.listening);
+  }
+
+  line_steady : (m : Machine) (es : List Entry) → Steady m → Allows Anything (λ fs done. Steady done.1) es (machine_asks contexts m line origin m.store.standing)
+  unfolding steady
+  line_steady m es i = (machine_walks line origin {law = steady} m m.store.standing refl).along es i
+
+-- after the lines of any script
+pub runs_are_steady : (contexts : List WasiSocketsCtx) (steps : List Step) (es : List Entry) (replies : List Reply) (m : Machine) → Left (run contexts [] first_state 1 steps) es (Give (replies, m)) → Steady m
+runs_are_steady contexts steps es replies m w =
+    (run_ends contexts Anything (λ line fs now. Steady now) (λ line s now fs i. line_steady contexts line s now fs i) (record { records = λ place r e. absurd (cc); handles = λ handle place e. absurd (cc); stands = λ c e. absurd (cc) }) steps es replies m w).1

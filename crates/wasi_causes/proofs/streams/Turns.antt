@@ -1,0 +1,141 @@
+-- Who asks in a turn: the writes of the records with a job.
+use Rattle.std.specs.Prelude.{⊤}
+use Rattle.std.proofs.Common.{◌≡◌, ℕ, zero, suc, inl, inr, List, [], ◌∷◌, Option, Some, None, slice_get, slice_set, refl, sym, ap, subst, ◌∙◌}
+use Rattle.wasi_world.specs.declared.ids.OpId.{OpId}
+use Rattle.wasi_world.specs.declared.call.Call.{Call}
+use Rattle.wasi_world.specs.declared.call.Entry.{Entry}
+use Rattle.wasi_world.specs.declared.outcome.WasiSocketsCtx.{WasiSocketsCtx}
+use Rattle.wasi_world.specs.Asks.{Asks, Give, bind, Left}
+use Rattle.wasi_world.specs.Operation.{End, Waits, Done, Refused, poll_asks}
+use Rattle.wasi_world.proofs.Allowed.{Allows, allows_then, allows_at}
+use Rattle.wasi_tcp.specs.declared.writer.WriteState.{WriteState}
+use Rattle.wasi_tcp.specs.declared.writer.WriteState.TheVariants as writing
+use Rattle.wasi_tcp.specs.Job.{Job, job_in, job_asks}
+use Rattle.wasi_tcp.specs.Writer.{turn_asks}
+use Rattle.wasi_host.specs.declared.machine.Machine.{Machine}
+use Rattle.wasi_host.specs.declared.socket.Streams.{Streams}
+use Rattle.wasi_host.specs.declared.socket.Tcp2Socket.{Tcp2Socket}
+use Rattle.wasi_host.specs.declared.store.Standing.{Standing}
+use Rattle.wasi_host.specs.Jobs.{turned, turn_record, turn_at, turn_jobs, turn_store_asks}
+use Rattle.wasi_host.specs.Machine.{turn_machine_asks}
+use Rattle.wasi_run.specs.declared.reply.Reply.{Reply}
+use Rattle.wasi_run.specs.declared.reply.Reply.TheVariants as reply
+use Rattle.wasi_run.specs.declared.step.Step.TheVariants as step
+use Rattle.wasi_run.specs.Answered.{Answered}
+use Rattle.wasi_run.specs.Licence.{Has}
+use Rattle.wasi_run.specs.Machine.{machine_asks}
+use Rattle.wasi_run.specs.Reply.{no_fields}
+use Rattle.wasi_run.proofs.Lists.{cut_of}
+use Rattle.wasi_run.proofs.Gives.{Gives, given, allows_ask}
+use Rattle.wasi_causes.specs.Turns.{writes_by, writer_asks_by, job_of, IsOfJob}
+use Rattle.wasi_causes.proofs.pending.Marks.{AnyEnd, poll_asks_by}
+
+-- == one write
+-- it asks by its operation, which stays the same
+abbrev JobAsks : Job → List Entry → OpId → Call → Type 0
+JobAsks job es op call = op ≡ job.write.who.id
+
+abbrev SameJob : Job → List Entry → Job → Type 0
+SameJob job es now = now.write.who.id ≡ job.write.who.id
+
+job_by : (job : Job) (end : End) (es : List Entry) → Allows (JobAsks job) (SameJob job) es (job_in job end)
+job_by job Waits es = allows_then (JobAsks job) AnyEnd (SameJob job) es (poll_asks job.write) _ (poll_asks_by job.write es) (λ fs ended any. refl)
+job_by job (Done given) es = refl
+job_by job (Refused c given) es = refl
+
+abbrev WriterAsks : WriteState → List Entry → OpId → Call → Type 0
+WriterAsks writer es op call = writes_by writer ≡ Some op
+
+abbrev SameWriter : WriteState → List Entry → Unit {0} × WriteState → Type 0
+SameWriter writer es done = writes_by done.1 ≡ writes_by writer
+
+module _ (job : Job) (of : Job → WriteState) (by : (j : Job) → writes_by (of j) ≡ Some j.write.who.id) where
+  of_job : (es : List Entry) → Allows (WriterAsks (of job)) (SameWriter (of job)) es (bind (job_asks job) (λ j. Give (tt, of j)))
+  of_job es =
+      allows_then (WriterAsks (of job)) (SameJob job) (SameWriter (of job)) es (job_asks job) _
+      (allows_ask (JobAsks job) (WriterAsks (of job)) (SameJob job) (λ fs op call e. by job ∙ ap Some (sym e)) es (job_asks job) (job_by job job.end es))
+      (λ fs j e. by j ∙ (ap Some e ∙ sym (by job)))
+
+turn_by : (writer : WriteState) (es : List Entry) → Allows (WriterAsks writer) (SameWriter writer) es (turn_asks writer)
+turn_by (writing.Ready half permit) es = refl
+turn_by (writing.Writing job) es = of_job job writing.Writing (λ j. refl) es
+turn_by (writing.Closing job) es = of_job job writing.Closing (λ j. refl) es
+turn_by (writing.Closed e) es = refl
+
+-- == one record
+abbrev RecordAsks : Tcp2Socket → List Entry → OpId → Call → Type 0
+RecordAsks r es op call = job_of (Some r) ≡ Some op
+
+abbrev SameRecord : Tcp2Socket → List Entry → Tcp2Socket → Type 0
+SameRecord r es now = job_of (Some now) ≡ job_of (Some r)
+
+record_by : (r : Tcp2Socket) (o : Option Streams) → r.streams ≡ o → (es : List Entry) → Allows (RecordAsks r) (SameRecord r) es (turned r o)
+record_by r None has es = refl
+record_by r (Some s) has es =
+    allows_then (RecordAsks r) (SameWriter s.writer) (SameRecord r) es (turn_asks s.writer) _
+    (allows_ask (WriterAsks s.writer) (RecordAsks r) (SameWriter s.writer) (λ fs op call e. ap writer_asks_by has ∙ e) es (turn_asks s.writer) (turn_by s.writer es))
+    (λ fs done e. e ∙ sym (ap writer_asks_by has))
+
+-- == all of them
+-- a record that is put back with the same operation
+set_job : (xs : List Tcp2Socket) (i : ℕ) (y : Tcp2Socket) (k : ℕ) → job_of (Some y) ≡ job_of (slice_get xs i) → job_of (slice_get (slice_set xs i y) k) ≡ job_of (slice_get xs k)
+set_job [] i y k h = refl
+set_job (z ∷ xs) zero y zero h = h
+set_job (z ∷ xs) zero y (suc k) h = refl
+set_job (z ∷ xs) (suc i) y zero h = refl
+set_job (z ∷ xs) (suc i) y (suc k) h = set_job xs i y k h
+
+module _ (m : Machine) where
+  abbrev TurnAsks : List Entry → OpId → Call → Type 0
+  TurnAsks es op call = IsOfJob m op
+
+  -- each record asks by the operation by which it asked first
+  abbrev SameJobs : List Entry → List Tcp2Socket → Type 0
+  SameJobs es sockets = (place : ℕ) → job_of (slice_get sockets place) ≡ job_of (slice_get m.store.sockets place)
+
+  at_by : (sockets : List Tcp2Socket) (place : ℕ) (o : Option Tcp2Socket) → slice_get sockets place ≡ o → Has m.store.jobs place → (es : List Entry) → SameJobs es sockets → Allows TurnAsks SameJobs es (turn_at sockets place o)
+  at_by sockets place None at listed es same = same
+  at_by sockets place (Some r) at listed es same =
+      allows_then TurnAsks (SameRecord r) SameJobs es (turn_record r) _
+      (allows_ask (RecordAsks r) TurnAsks (SameRecord r) (λ fs op call e. record { place = place; listed = listed; is = sym (same place) ∙ (ap job_of at ∙ e) }) es (turn_record r) (record_by r r.streams refl es))
+      (λ fs now e k. set_job sockets place now k (e ∙ sym (ap job_of at)) ∙ same k)
+
+  jobs_by : (places : List ℕ) → ((p : ℕ) → Has places p → Has m.store.jobs p) → (sockets : List Tcp2Socket) (es : List Entry) → SameJobs es sockets → Allows TurnAsks SameJobs es (turn_jobs places sockets)
+  jobs_by [] listed sockets es same = same
+  jobs_by (place ∷ places) listed sockets es same =
+      allows_then TurnAsks SameJobs SameJobs es (turn_at sockets place (slice_get sockets place)) _
+      (at_by sockets place (slice_get sockets place) refl (listed place (inl refl)) es same)
+      (λ fs now k. jobs_by places (λ p h. listed p (inr h)) now fs k)
+
+  -- the handles stay
+  abbrev SameTable : List Entry → Reply × Machine → Type 0
+  SameTable es done = (done.0 ≡ reply.Ok no_fields) × (done.1.table ≡ m.table)
+
+  abbrev turn : Asks (Reply × Machine)
+  turn = bind (turn_machine_asks m) (λ done. Give (reply.Ok no_fields, done.1))
+
+  turn_asks_by : Allows TurnAsks SameTable [] turn
+  turn_asks_by =
+      allows_then TurnAsks (λ es done. done.1.table ≡ m.table) SameTable [] (turn_machine_asks m) _
+      (allows_then TurnAsks (λ es done. ⊤) (λ es done. done.1.table ≡ m.table) [] (turn_store_asks m.store) _
+      (allows_then TurnAsks SameJobs (λ es done. ⊤) [] (turn_jobs m.store.jobs m.store.sockets) _ (jobs_by m.store.jobs (λ p h. h) m.store.sockets [] (λ place. refl)) (λ es sockets k. tt))
+      (λ es done k. refl))
+      (λ es done k. (refl, k))
+
+  turn_gives : Gives SameTable [] turn
+  turn_gives = allows_ask TurnAsks (λ es op call. ⊤) SameTable (λ es op call h. tt) [] turn turn_asks_by
+
+  -- == of its answers
+  module _ (contexts : List WasiSocketsCtx) (line : ℕ) where
+    -- a turn is no call of a guest
+    its_own : (o : Option Standing) (es : List Entry) (rest : Asks (Reply × Machine)) → Left (machine_asks contexts m line step.Turn o) es rest → Left turn es rest
+    its_own None es rest w = w
+    its_own (Some s) es rest w = w
+
+    pub turn_is_ok : (es : List Entry) (r : Reply) (after : Machine) → Answered contexts m line step.Turn es r after → (r ≡ reply.Ok no_fields) × (after.table ≡ m.table)
+    turn_is_ok es r after w = given SameTable turn es (r, after) turn_gives (its_own m.store.standing es (Give (r, after)) w)
+
+    pub turn_is_by_jobs : (es : List Entry) (r : Reply) (after : Machine) → Answered contexts m line step.Turn es r after → (e : Entry) → Has es e → IsOfJob m e.op
+    turn_is_by_jobs es r after w e its =
+        let c = cut_of es e its in
+        allows_at TurnAsks SameTable [] turn (Give (r, after)) c.front e c.back turn_asks_by (subst (λ (fs : List Entry). Left turn fs (Give (r, after))) c.is (its_own m.store.standing es (Give (r, after)) w))
