@@ -7,3 +7,7 @@ mod calls;
 pub mod guest;
 #[cfg(test)]
 mod options;
+#[cfg(test)]
+mod sockets;
+#[cfg(test)]
+mod tables;

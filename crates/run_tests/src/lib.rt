@@ -3,6 +3,8 @@
 #![tactic(auto)]
 
 #[cfg(test)]
+mod checked_cases;
+#[cfg(test)]
 mod faults;
 #[cfg(test)]
 mod generated;

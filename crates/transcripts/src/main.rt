@@ -103,14 +103,14 @@ fn run(rt: HostRuntime, words: &[String]) -> ExitCode {
 
 /// Checks each file, and ends as the first that isn't in order.
 fn check_all(rt: HostRuntime, files: &[String]) -> ExitCode {
-    let mut worst = End::Run(Status::Ok, 0);
+    let mut first = End::Run(Status::Ok, 0);
     for file in files {
         let ended = check_file(rt, file.as_str());
-        if worst == End::Run(Status::Ok, 0) {
-            worst = ended;
+        if first == End::Run(Status::Ok, 0) {
+            first = ended;
         }
     }
-    end(&rt, worst)
+    end(&rt, first)
 }
 
 fn check_file(rt: HostRuntime, file: &str) -> End {

@@ -12,8 +12,6 @@ pub mod kind;
 pub mod lookup;
 pub mod p2;
 pub mod p3;
-#[cfg(test)]
-mod tests;
 pub mod validity;
 
 pub use address::{

@@ -10,8 +10,6 @@ ghost use Rattle.wasi_streams.specs.Entries.{slots_of, IsPlace, Rises, IsPut, Is
 use std::alloc::{AllocError, Global};
 use std::marker::Model;
 
-#[cfg(test)]
-mod tests;
 
 /// At most so many handles are live at a time.
 const MOST_LIVE: usize = 65536;

@@ -30,5 +30,3 @@ pub use socket::{Connection, TcpSocket, TcpState};
 pub use wasi_world::Opt;
 pub use writer::{WriteError, WriteState};
 
-#[cfg(test)]
-mod tests;

@@ -10,8 +10,6 @@ pub mod lines;
 pub mod program;
 mod report;
 pub mod show;
-#[cfg(test)]
-mod tests;
 
 pub use cases::Case;
 pub use check::{Came, Checked};

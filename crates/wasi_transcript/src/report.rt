@@ -13,6 +13,7 @@ struct Difference<'a> {
     came: Option<&'a [u8]>,
 }
 
+/// Where two texts differ first, counted in lines; past the last line of both where they don't.
 fn first_difference<'a>(wanted: &'a [u8], came: &'a [u8]) -> Difference<'a> {
     let mut lines = TextLines::of(wanted);
     let mut others = TextLines::of(came);
@@ -33,7 +34,7 @@ fn push_found(text: &mut Vec<u8>, what: &str, line: Option<&[u8]>) -> Result<(),
     text.extend_from_slice(b"\n")
 }
 
-/// `FILE:LINE: in `, and the title of a case.
+/// Appends the first line of what is told of a case: `FILE:LINE: ` and its title.
 fn push_place(
     alloc: Global,
     text: &mut Vec<u8>,
@@ -47,6 +48,7 @@ fn push_place(
     text.extend_from_slice(b"\n")
 }
 
+/// What is told of a case that doesn't hold: its place, and what was wanted there and came.
 fn failed_text(alloc: Global, file: &str, failed: &Failed<'_>) -> Result<Vec<u8>, AllocError> {
     let mut text = Vec::new(alloc);
     match &failed.came {

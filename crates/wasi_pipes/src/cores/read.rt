@@ -6,8 +6,6 @@ ghost use Rattle.wasi_pipes.specs.ReadRecord.{fresh, admission, take_answer, aft
 ghost use Rattle.wasi_pipes.specs.ReadState.{fresh_state, is_ready, StandsFor, Follows};
 
 pub mod laws;
-#[cfg(test)]
-mod tests;
 
 use super::fault::Fault;
 use std::alloc::AllocError;

@@ -6,8 +6,6 @@ ghost use Rattle.wasi_pipes.specs.WriteRecord.{fresh, admission, accept_answer, 
 ghost use Rattle.wasi_pipes.specs.WriteState.{fresh_state, initial_of, outstanding, with_accepted, after_pop, after_write, with_flags, is_ready, is_done, StandsFor, Follows};
 
 pub mod laws;
-#[cfg(test)]
-mod tests;
 
 use super::fault::Fault;
 use std::alloc::{AllocError, Global};

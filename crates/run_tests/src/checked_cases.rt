@@ -1,9 +1,9 @@
 //! Tests of what `check` prints of a file whose case is changed in one place.
 
-use crate::program::{End, check};
 use std::alloc::{AllocError, Global};
 use std::fmt::Write;
 use wasi_run::Status;
+use wasi_transcript::program::{End, check};
 use wasi_world::GrowingSink;
 
 const MADE: &str = "    2.0 tcp-create 0 4 = done\n    2.0 made 2 tcp2 - 2 0 = done\n";

@@ -1,10 +1,18 @@
-use super::*;
-use p2::ErrorCode as P2;
-use p3::ErrorCode as P3;
+//! The addresses and codes: rows of the tables that their definitions stand for.
+
 use std::alloc::{AllocError, Global};
 use std::error::Error;
 use std::net::{SocketAddr, SocketAddrV6};
 use std::test::Fail;
+use wasi_addr::p2::ErrorCode as P2;
+use wasi_addr::p3::ErrorCode as P3;
+use wasi_addr::{
+    ErrorCode, IpAddress, IpSocketAddress, Ipv4SocketAddress, Ipv6SocketAddress, NetKind,
+    SocketAddressFamily, clamp_backlog, clamp_keep_alive_count, clamp_keep_alive_time,
+    is_deprecated_ipv4_compatible, is_unspecified_addr, is_valid_address_family,
+    is_valid_remote_address, is_valid_unicast_address, lookup, normalize_get_buffer_size,
+    normalize_set_buffer_size, unspecified_addr,
+};
 
 const IPV4: SocketAddressFamily = SocketAddressFamily::Ipv4;
 

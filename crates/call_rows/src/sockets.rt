@@ -1,11 +1,13 @@
+//! A TCP socket over a scripted network, by its own calls.
+
 ghost use Rattle.std.specs.Prelude.{◌≡◌, IfOk, true, false};
 ghost use Rattle.wasi_world.specs.Kinds.{takes};
 ghost use Rattle.wasi_world.specs.Scripted.{seen_by};
 
-use super::*;
 use std::alloc::{AllocError, Global};
 use std::test::Fail;
 use wasi_addr::{ErrorCode, IpSocketAddress, Ipv4SocketAddress, SocketAddressFamily};
+use wasi_tcp::TcpSocket;
 use wasi_world::{Answer, Kind, Lists, OpId, Planned, Refusal, ScriptedWorld, WasiSocketsCtx};
 
 const ADDRESS: IpSocketAddress = IpSocketAddress::Ipv4(Ipv4SocketAddress {

@@ -1,8 +1,10 @@
+//! The table of handles, by its own calls.
+
 ghost use Rattle.std.specs.Prelude.{◌≡◌, OnOk};
 ghost use Rattle.wasi_streams.specs.Table.{with_value};
 
-use super::*;
 use std::test::Fail;
+use wasi_streams::{Table, TableError};
 
 /// The most handles that a table has at a time.
 const MOST: u32 = 65536;
