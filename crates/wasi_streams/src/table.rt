@@ -10,7 +10,6 @@ ghost use Rattle.wasi_streams.specs.Entries.{slots_of, IsPlace, Rises, IsPut, Is
 use std::alloc::{AllocError, Global};
 use std::marker::Model;
 
-
 /// At most so many handles are live at a time.
 const MOST_LIVE: usize = 65536;
 

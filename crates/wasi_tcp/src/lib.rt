@@ -29,4 +29,3 @@ pub use reader::ReadState;
 pub use socket::{Connection, TcpSocket, TcpState};
 pub use wasi_world::Opt;
 pub use writer::{WriteError, WriteState};
-
