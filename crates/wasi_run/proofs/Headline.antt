@@ -6,15 +6,15 @@ use Rattle.wasi_world.specs.Seen.{Seen}
 use Rattle.wasi_world.specs.Io.{Reading, Writing}
 use Rattle.wasi_host.specs.declared.machine.Machine.{Machine}
 use Rattle.wasi_run.specs.declared.run.RunEnd.{RunEnd}
-use Rattle.wasi_run.specs.declared.run.RunError.{RunError}
+use Rattle.wasi_session.specs.declared.error.RunError.{RunError}
 use Rattle.wasi_host.specs.Machine.{first_state}
 use Rattle.wasi_host.specs.Sides.{KnowsSides, ClosesAll}
 use Rattle.wasi_host.specs.Closing.{IsFresh, HasClosedAll}
 use Rattle.wasi_run.specs.Script.{RanOver, RanScript}
 use Rattle.wasi_run.specs.Causes.{BeginsRun, DoneLines}
 use Rattle.wasi_run.specs.Headline.{RunsLicensed}
-use Rattle.wasi_run.proofs.licence.Beginnings.{started_is_licensed}
-use Rattle.wasi_run.proofs.Stretches.{stays_open}
+use Rattle.wasi_walks.proofs.licence.Beginnings.{started_is_licensed}
+use Rattle.wasi_session.proofs.Stretches.{stays_open}
 use Rattle.wasi_host.proofs.Closings.{empty_known}
 use Rattle.wasi_run.proofs.CauseLaws.{whole_by}
 

@@ -3,10 +3,10 @@ use Rattle.std.specs.Prelude.{◌≡◌, ℕ, List, [], Some, IfSome, take, leng
 use Rattle.wasi_world.specs.declared.outcome.WasiSocketsCtx.{WasiSocketsCtx}
 use Rattle.wasi_world.specs.Seen.{Seen}
 use Rattle.wasi_world.specs.Io.{Reading, Gave}
-use Rattle.wasi_run.specs.declared.step.Step.{Step}
+use Rattle.wasi_steps.specs.declared.step.Step.{Step}
 use Rattle.wasi_world.specs.Lines.{lines_of}
-use Rattle.wasi_run.specs.Lines.{StartWith}
-use Rattle.wasi_run.specs.Licence.{IsLicensed}
+use Rattle.wasi_session.specs.Lines.{StartWith}
+use Rattle.wasi_walks.specs.Licence.{IsLicensed}
 
 -- The log is licensed by the first lines that the reader gave.
 pub record RunsLicensed (contexts : List WasiSocketsCtx) (limit : ℕ) (before after : Reading) (w_old w_new : Seen) : Type 0 where

@@ -5,12 +5,12 @@ use Rattle.wasi_world.specs.declared.call.Entry.{Entry}
 use Rattle.wasi_world.specs.declared.outcome.WasiSocketsCtx.{WasiSocketsCtx}
 use Rattle.wasi_world.specs.Asks.{Asks, Left}
 use Rattle.wasi_world.specs.Seen.{Seen}
-use Rattle.wasi_run.specs.declared.reply.Reply.{Reply}
-use Rattle.wasi_run.specs.declared.session.Session.{Session}
-use Rattle.wasi_run.specs.declared.step.Step.{Step}
-use Rattle.wasi_run.specs.Machine.{machine_asks}
-use Rattle.wasi_run.specs.Reply.{is_trap}
-use Rattle.wasi_run.specs.Steps.{step_of}
+use Rattle.wasi_steps.specs.declared.reply.Reply.{Reply}
+use Rattle.wasi_session.specs.declared.session.Session.{Session}
+use Rattle.wasi_steps.specs.declared.step.Step.{Step}
+use Rattle.wasi_machine.specs.Machine.{machine_asks}
+use Rattle.wasi_steps.specs.Reply.{is_trap}
+use Rattle.wasi_steps.specs.Steps.{step_of}
 use Rattle.wasi_host.specs.declared.machine.Machine.{Machine}
 use Rattle.wasi_transcript.specs.declared.exchange.LineEnd.{LineEnd}
 use Rattle.wasi_transcript.specs.declared.exchange.LineEnd.TheVariants.{Answered, Trapped, NoStep}

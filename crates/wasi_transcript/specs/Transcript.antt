@@ -7,11 +7,11 @@ use Rattle.wasi_world.specs.Asks.{Give, Left}
 use Rattle.wasi_world.specs.EntryText.{entry_text}
 use Rattle.wasi_world.specs.Seen.{Seen}
 use Rattle.wasi_host.specs.declared.machine.Machine.{Machine}
-use Rattle.wasi_run.specs.declared.reply.Reply.{Reply}
-use Rattle.wasi_run.specs.declared.step.Step.{Step}
-use Rattle.wasi_run.specs.Machine.{machine_asks}
-use Rattle.wasi_run.specs.Replies.{text_of}
-use Rattle.wasi_run.specs.Steps.{step_of}
+use Rattle.wasi_steps.specs.declared.reply.Reply.{Reply}
+use Rattle.wasi_steps.specs.declared.step.Step.{Step}
+use Rattle.wasi_machine.specs.Machine.{machine_asks}
+use Rattle.wasi_steps.specs.Replies.{text_of}
+use Rattle.wasi_steps.specs.Steps.{step_of}
 
 -- A line that was done: its step, the calls that it made on the network, and its reply.
 pub record Exchange : Type 0 where

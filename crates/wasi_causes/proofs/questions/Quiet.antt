@@ -10,14 +10,14 @@ use Rattle.wasi_host.specs.declared.store.Standing.{Standing}
 use Rattle.wasi_host.specs.Store.{is_listening_at, address_family_at}
 use Rattle.wasi_host.specs.Machine.{socket_at}
 use Rattle.wasi_p2.specs.Tcp.{is_listening_on, address_family_on}
-use Rattle.wasi_run.specs.declared.reply.CodeWord.{CodeWord}
-use Rattle.wasi_run.specs.declared.reply.Reply.{Reply}
-use Rattle.wasi_run.specs.declared.reply.Reply.TheVariants as reply
-use Rattle.wasi_run.specs.declared.step.Step.{Step}
-use Rattle.wasi_run.specs.declared.step.Step.TheVariants as step
-use Rattle.wasi_run.specs.Machine.{truth_reply, family_reply, step_asks, machine_asks}
-use Rattle.wasi_run.specs.Answered.{Answered, IsQuiet, record_in, record_at}
-use Rattle.wasi_run.proofs.Gives.{Gives, given}
+use Rattle.wasi_steps.specs.declared.reply.CodeWord.{CodeWord}
+use Rattle.wasi_steps.specs.declared.reply.Reply.{Reply}
+use Rattle.wasi_steps.specs.declared.reply.Reply.TheVariants as reply
+use Rattle.wasi_steps.specs.declared.step.Step.{Step}
+use Rattle.wasi_steps.specs.declared.step.Step.TheVariants as step
+use Rattle.wasi_machine.specs.Machine.{truth_reply, family_reply, step_asks, machine_asks}
+use Rattle.wasi_walks.specs.Answered.{Answered, IsQuiet, record_in, record_at}
+use Rattle.wasi_walks.proofs.Gives.{Gives, given}
 use Rattle.wasi_causes.proofs.steps.Settled.{settled}
 
 -- == its answers

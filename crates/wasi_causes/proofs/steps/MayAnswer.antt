@@ -17,31 +17,31 @@ use Rattle.wasi_host.specs.declared.machine.Machine.{Machine}
 use Rattle.wasi_host.specs.declared.socket.Tcp2Socket.{Tcp2Socket}
 use Rattle.wasi_host.specs.Machine.{first_state, own_of, socket_at}
 use Rattle.wasi_host.specs.Store.{is_bind, is_listen}
-use Rattle.wasi_run.specs.declared.reply.CodeWord.{CodeWord}
-use Rattle.wasi_run.specs.declared.reply.CodeWord.TheVariants as word
-use Rattle.wasi_run.specs.declared.reply.Reply.{Reply}
-use Rattle.wasi_run.specs.declared.reply.Reply.TheVariants as reply
-use Rattle.wasi_run.specs.declared.step.Step.{Step}
-use Rattle.wasi_run.specs.declared.step.Step.TheVariants as step
-use Rattle.wasi_run.specs.Answered.{Answered, CreateRefusal, StartRefusal, BindRefusal, ConnectRefusal, FinishRefusal, LocalRefusal, RemoteRefusal, ConnectsAt, MissesHandle}
-use Rattle.wasi_run.specs.Answered as refusal
-use Rattle.wasi_run.specs.Listens.{ListenRefusal, AcceptRefusal, AcceptsAt}
-use Rattle.wasi_run.specs.Listens as listens
-use Rattle.wasi_run.specs.Licence.{entry}
-use Rattle.wasi_run.specs.Machine.{machine_asks, run}
-use Rattle.wasi_run.specs.Reply.{is_trap}
-use Rattle.wasi_run.specs.Settings.{Chosen, AnOption, TheBacklog, chosen}
-use Rattle.wasi_run.specs.Steps.{context_of}
-use Rattle.wasi_run.specs.Waiting.{MayStand}
+use Rattle.wasi_steps.specs.declared.reply.CodeWord.{CodeWord}
+use Rattle.wasi_steps.specs.declared.reply.CodeWord.TheVariants as word
+use Rattle.wasi_steps.specs.declared.reply.Reply.{Reply}
+use Rattle.wasi_steps.specs.declared.reply.Reply.TheVariants as reply
+use Rattle.wasi_steps.specs.declared.step.Step.{Step}
+use Rattle.wasi_steps.specs.declared.step.Step.TheVariants as step
+use Rattle.wasi_walks.specs.Answered.{Answered, CreateRefusal, StartRefusal, BindRefusal, ConnectRefusal, FinishRefusal, LocalRefusal, RemoteRefusal, ConnectsAt, MissesHandle}
+use Rattle.wasi_walks.specs.Answered as refusal
+use Rattle.wasi_walks.specs.Listens.{ListenRefusal, AcceptRefusal, AcceptsAt}
+use Rattle.wasi_walks.specs.Listens as listens
+use Rattle.wasi_walks.specs.Licence.{entry}
+use Rattle.wasi_machine.specs.Machine.{machine_asks, run}
+use Rattle.wasi_steps.specs.Reply.{is_trap}
+use Rattle.wasi_steps.specs.Settings.{Chosen, AnOption, TheBacklog, chosen}
+use Rattle.wasi_steps.specs.Steps.{context_of}
+use Rattle.wasi_walks.specs.Waiting.{MayStand}
 use Rattle.wasi_causes.specs.MayAnswer.{IsCodeWord, IsStreamCall, MayRefuse, MayMiss, MayTrap, MayWait, may_answer, EachMayAnswer}
 use Rattle.wasi_causes.specs.Options.{GetRefusal, SetRefusal, BacklogRefusal, ChosenRefusal}
 use Rattle.wasi_causes.specs.Options as options
 use Rattle.wasi_causes.proofs.steps.Shapes.{IsShaped, step_shaped}
 use Rattle.wasi_causes.proofs.steps.Settled.{busy_exactly, settled, finish_refused as finish_none}
-use Rattle.wasi_run.proofs.Gives.{Gives, gives_then, gives_both, gives_more, given}
-use Rattle.wasi_run.proofs.walks.States.{Over}
-use Rattle.wasi_run.proofs.fits.Law.{Fit}
-use Rattle.wasi_run.proofs.fits.Lines.{first_fit}
+use Rattle.wasi_walks.proofs.Gives.{Gives, gives_then, gives_both, gives_more, given}
+use Rattle.wasi_walks.proofs.walks.States.{Over}
+use Rattle.wasi_walks.proofs.fits.Law.{Fit}
+use Rattle.wasi_walks.proofs.fits.Lines.{first_fit}
 use Rattle.wasi_causes.proofs.runs.Fits.{connects_at, accepts_at, line_fits, fits}
 use Rattle.wasi_causes.proofs.steps.Creates.{NetworkSays, network_says, create_refused}
 use Rattle.wasi_causes.proofs.binding.Starts.{bind_refused}

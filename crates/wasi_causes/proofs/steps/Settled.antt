@@ -10,16 +10,16 @@ use Rattle.wasi_host.specs.declared.store.Standing.{Standing}
 use Rattle.wasi_host.specs.declared.socket.InProgress.{InProgress}
 use Rattle.wasi_host.specs.Store.{finish_by, finish_at}
 use Rattle.wasi_p2.specs.Tcp.{finish_on}
-use Rattle.wasi_run.specs.declared.reply.CodeWord.{CodeWord}
-use Rattle.wasi_run.specs.declared.reply.CodeWord.TheVariants as word
-use Rattle.wasi_run.specs.declared.reply.Reply.{Reply}
-use Rattle.wasi_run.specs.declared.reply.Reply.TheVariants as reply
-use Rattle.wasi_run.specs.declared.step.Step.{Step}
-use Rattle.wasi_run.specs.Machine.{done_reply, step_asks, machine_asks}
-use Rattle.wasi_run.specs.Steps.{context_of}
-use Rattle.wasi_run.specs.Answered.{Answered, record_in}
-use Rattle.wasi_run.specs.Replies.{kinds_of}
-use Rattle.wasi_run.proofs.Gives.{Gives, gives_more, given}
+use Rattle.wasi_steps.specs.declared.reply.CodeWord.{CodeWord}
+use Rattle.wasi_steps.specs.declared.reply.CodeWord.TheVariants as word
+use Rattle.wasi_steps.specs.declared.reply.Reply.{Reply}
+use Rattle.wasi_steps.specs.declared.reply.Reply.TheVariants as reply
+use Rattle.wasi_steps.specs.declared.step.Step.{Step}
+use Rattle.wasi_machine.specs.Machine.{done_reply, step_asks, machine_asks}
+use Rattle.wasi_steps.specs.Steps.{context_of}
+use Rattle.wasi_walks.specs.Answered.{Answered, record_in}
+use Rattle.wasi_steps.specs.Replies.{kinds_of}
+use Rattle.wasi_walks.proofs.Gives.{Gives, gives_more, given}
 use Rattle.wasi_causes.proofs.steps.Shapes.{HasShape, MayFail, MayErr, IsShaped, step_shaped}
 
 -- == a call that stands

@@ -10,18 +10,18 @@ use Rattle.wasi_world.specs.Sides.{is_same}
 use Rattle.wasi_world.proofs.Allowed.{Allows, allows_weaker}
 use Rattle.wasi_host.specs.declared.machine.Machine.{Machine}
 use Rattle.wasi_host.specs.Machine.{first_state}
-use Rattle.wasi_run.specs.declared.reply.Reply.{Reply}
-use Rattle.wasi_run.specs.declared.step.Step.{Step}
-use Rattle.wasi_run.specs.Machine.{machine_asks, run}
+use Rattle.wasi_steps.specs.declared.reply.Reply.{Reply}
+use Rattle.wasi_steps.specs.declared.step.Step.{Step}
+use Rattle.wasi_machine.specs.Machine.{machine_asks, run}
 use Rattle.wasi_laws.specs.Order.{ChecksFirst, asked_by}
 use Rattle.wasi_laws.proofs.order.Weights.{nothing, store_weight}
 use Rattle.wasi_laws.proofs.order.Walks.{May, gone_after, gone_along, Ordered, first_asked, asked_one}
 use Rattle.wasi_laws.proofs.order.Polls.{if_ours, Within}
 use Rattle.wasi_laws.proofs.order.Law.{Kept, order_along}
-use Rattle.wasi_run.proofs.walks.Moves.{Own, Used, Unused, ToWrite}
-use Rattle.wasi_run.proofs.walks.States.{Starts, Over}
-use Rattle.wasi_run.proofs.walks.Steps.{may_while, machine_walks}
-use Rattle.wasi_run.proofs.walks.Runs.{each_entry}
+use Rattle.wasi_walks.proofs.walks.Moves.{Own, Used, Unused, ToWrite}
+use Rattle.wasi_walks.proofs.walks.States.{Starts, Over}
+use Rattle.wasi_walks.proofs.walks.Steps.{may_while, machine_walks}
+use Rattle.wasi_walks.proofs.walks.Runs.{each_entry}
 
 -- == what a line may still weigh: nothing before the operation's line
 abbrev bound : ℕ → ℕ → ℕ

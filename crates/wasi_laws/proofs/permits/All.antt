@@ -26,14 +26,14 @@ use Rattle.wasi_host.specs.Host.{CallStop, Failed, Closed, Traps}
 use Rattle.wasi_host.specs.Store.{writer_of, writer_asks, stream_at}
 use Rattle.wasi_host.specs.Machine.{with_store, output_at, own_of, side_at}
 use Rattle.wasi_host.specs.StreamCalls.{convert_asks, converted, stream_on, check_asks}
-use Rattle.wasi_run.specs.declared.reply.Reply.{Reply}
-use Rattle.wasi_run.specs.declared.reply.Reply.TheVariants as reply
-use Rattle.wasi_run.specs.declared.step.Step.TheVariants as step
-use Rattle.wasi_run.specs.Reply.{number_fields}
-use Rattle.wasi_run.specs.Machine.{permit_reply, machine_asks}
-use Rattle.wasi_run.specs.Answered.{record_in, Answered}
+use Rattle.wasi_steps.specs.declared.reply.Reply.{Reply}
+use Rattle.wasi_steps.specs.declared.reply.Reply.TheVariants as reply
+use Rattle.wasi_steps.specs.declared.step.Step.TheVariants as step
+use Rattle.wasi_steps.specs.Reply.{number_fields}
+use Rattle.wasi_machine.specs.Machine.{permit_reply, machine_asks}
+use Rattle.wasi_walks.specs.Answered.{record_in, Answered}
 use Rattle.wasi_laws.specs.Permitted.{writer_in, writer_of_record, WritesTo}
-use Rattle.wasi_run.proofs.claims.Polls.{Quiet, quiet_then, quiet_if}
+use Rattle.wasi_walks.proofs.claims.Polls.{Quiet, quiet_then, quiet_if}
 use Rattle.wasi_laws.proofs.permits.Records.{WriterIs, Agree}
 use Rattle.wasi_laws.proofs.permits.Agreeing.{Agreeing}
 use Rattle.wasi_laws.proofs.permits.Law.{some_side}

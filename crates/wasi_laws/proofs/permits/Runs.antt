@@ -14,21 +14,21 @@ use Rattle.wasi_host.specs.declared.socket.Streams.{Streams}
 use Rattle.wasi_host.specs.declared.socket.Tcp2Socket.{Tcp2Socket}
 use Rattle.wasi_host.specs.declared.store.Standing.{Standing}
 use Rattle.wasi_host.specs.Machine.{first_state, output_at}
-use Rattle.wasi_run.specs.declared.reply.Reply.TheVariants as reply
-use Rattle.wasi_run.specs.Answered.{record_in, Answered}
+use Rattle.wasi_steps.specs.declared.reply.Reply.TheVariants as reply
+use Rattle.wasi_walks.specs.Answered.{record_in, Answered}
 use Rattle.wasi_laws.specs.Permitted.{let_begin, permitted_in, permitted_by, writer_in, writer_of_record, WritesTo, Did, Nothing, Then}
-use Rattle.wasi_run.specs.declared.reply.Reply.{Reply}
-use Rattle.wasi_run.specs.declared.step.Step.{Step}
-use Rattle.wasi_run.specs.declared.step.Step.TheVariants as step
-use Rattle.wasi_run.specs.Machine.{machine_asks}
-use Rattle.wasi_run.specs.Reply.{number_fields}
+use Rattle.wasi_steps.specs.declared.reply.Reply.{Reply}
+use Rattle.wasi_steps.specs.declared.step.Step.{Step}
+use Rattle.wasi_steps.specs.declared.step.Step.TheVariants as step
+use Rattle.wasi_machine.specs.Machine.{machine_asks}
+use Rattle.wasi_steps.specs.Reply.{number_fields}
 use Rattle.wasi_laws.proofs.permits.Standing.{StandsQuietly}
 use Rattle.wasi_laws.proofs.permits.Agreeing.{Agreeing}
 use Rattle.wasi_laws.proofs.permits.Law.{Owes, permits_along}
-use Rattle.wasi_run.proofs.walks.Moves.{Own, Used, Unused, ToWrite}
-use Rattle.wasi_run.proofs.walks.Writes.{may_begin, may_of, may_in, may_at, may, let_write}
-use Rattle.wasi_run.proofs.walks.Steps.{may_while, machine_walks}
-use Rattle.wasi_run.proofs.claims.Lines.{BaseBetween, first_base, base_starts, base_over}
+use Rattle.wasi_walks.proofs.walks.Moves.{Own, Used, Unused, ToWrite}
+use Rattle.wasi_walks.proofs.walks.Writes.{may_begin, may_of, may_in, may_at, may, let_write}
+use Rattle.wasi_walks.proofs.walks.Steps.{may_while, machine_walks}
+use Rattle.wasi_walks.proofs.claims.Lines.{BaseBetween, first_base, base_starts, base_over}
 use Rattle.wasi_laws.proofs.permits.All.{all_taken}
 use Rattle.wasi_laws.proofs.permits.Steps.{taken_append}
 

@@ -7,11 +7,11 @@ use Rattle.wasi_world.specs.Asks.{Asks, Give, Ask, AskWrite, bind, Left}
 use Rattle.wasi_tcp.specs.Taken.{taken_by, taken_in}
 use Rattle.wasi_host.specs.declared.machine.Machine.{Machine}
 use Rattle.wasi_host.specs.Machine.{first_state}
-use Rattle.wasi_run.specs.declared.reply.Reply.{Reply}
-use Rattle.wasi_run.specs.declared.step.Step.{Step}
-use Rattle.wasi_run.specs.Reply.{is_trap}
-use Rattle.wasi_run.specs.Machine.{machine_asks, run}
-use Rattle.wasi_run.specs.Answered.{Answered}
+use Rattle.wasi_steps.specs.declared.reply.Reply.{Reply}
+use Rattle.wasi_steps.specs.declared.step.Step.{Step}
+use Rattle.wasi_steps.specs.Reply.{is_trap}
+use Rattle.wasi_machine.specs.Machine.{machine_asks, run}
+use Rattle.wasi_walks.specs.Answered.{Answered}
 use Rattle.wasi_laws.specs.Permitted.{permitted_by, Nothing, Then, Begun, IsOfSteps}
 
 -- == what was taken along two logs

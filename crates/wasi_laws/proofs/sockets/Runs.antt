@@ -9,17 +9,17 @@ use Rattle.wasi_world.specs.Asks.{Asks, Left}
 use Rattle.wasi_world.proofs.Allowed.{Allows, allows_weaker}
 use Rattle.wasi_host.specs.declared.machine.Machine.{Machine}
 use Rattle.wasi_host.specs.Machine.{first_state}
-use Rattle.wasi_run.specs.declared.reply.Reply.{Reply}
-use Rattle.wasi_run.specs.declared.step.Step.{Step}
-use Rattle.wasi_run.specs.Licence.{Has, entry}
-use Rattle.wasi_run.specs.Machine.{machine_asks, run}
+use Rattle.wasi_steps.specs.declared.reply.Reply.{Reply}
+use Rattle.wasi_steps.specs.declared.step.Step.{Step}
+use Rattle.wasi_walks.specs.Licence.{Has, entry}
+use Rattle.wasi_machine.specs.Machine.{machine_asks, run}
 use Rattle.wasi_laws.specs.Opened.{socket_of, IsOpen, IsAskedOpen, AsksOpenSockets}
-use Rattle.wasi_run.proofs.Lists.{cut_of, has_back}
-use Rattle.wasi_run.proofs.walks.Moves.{Own, Used, Unused, ToWrite}
-use Rattle.wasi_run.proofs.walks.States.{Starts}
-use Rattle.wasi_run.proofs.walks.Steps.{may_while, machine_walks}
-use Rattle.wasi_run.proofs.walks.Runs.{each_entry}
-use Rattle.wasi_run.proofs.claims.Lines.{BaseBetween, first_base, base_starts, base_over}
+use Rattle.wasi_walks.proofs.Lists.{cut_of, has_back}
+use Rattle.wasi_walks.proofs.walks.Moves.{Own, Used, Unused, ToWrite}
+use Rattle.wasi_walks.proofs.walks.States.{Starts}
+use Rattle.wasi_walks.proofs.walks.Steps.{may_while, machine_walks}
+use Rattle.wasi_walks.proofs.walks.Runs.{each_entry}
+use Rattle.wasi_walks.proofs.claims.Lines.{BaseBetween, first_base, base_starts, base_over}
 use Rattle.wasi_laws.proofs.sockets.Polls.{AskedOpen}
 use Rattle.wasi_laws.proofs.sockets.Opened.{Opened}
 use Rattle.wasi_laws.proofs.sockets.Law.{sockets_along}

@@ -1,0 +1,46 @@
+//! Laws over the definitions of specs/: each is a function that does nothing, whose contract is the law.
+
+ghost use Rattle.std.specs.Prelude.{◌≡◌, ℕ, ◌+◌, List, [], ◌++◌};
+ghost use Rattle.wasi_addr.specs.declared.address.SocketAddressFamily.{SocketAddressFamily};
+ghost use Rattle.wasi_world.specs.declared.call.Entry.{Entry};
+ghost use Rattle.wasi_world.specs.declared.ids.OpId.{OpId};
+ghost use Rattle.wasi_world.specs.declared.outcome.WasiSocketsCtx.{WasiSocketsCtx};
+ghost use Rattle.wasi_world.specs.Asks.{Asks, Left};
+ghost use Rattle.wasi_host.specs.declared.machine.Machine.{Machine};
+ghost use Rattle.wasi_steps.specs.declared.reply.Reply.{Reply};
+ghost use Rattle.wasi_steps.specs.declared.step.Step.{Step};
+ghost use Rattle.wasi_walks.specs.Licence.{IsLicensed, IsSide, IsMaker};
+ghost use Rattle.wasi_host.specs.Machine.{first_state};
+ghost use Rattle.wasi_machine.specs.Machine.{run};
+
+/// The log of a run is licensed for its contexts and steps, whatever is answered, and wherever the run stands.
+pub fn runs_are_licensed()
+    ensures { (contexts : List WasiSocketsCtx) (steps : List Step) (log : List Entry) (rest : Asks (List Reply × Machine))
+        → Left (run contexts [] first_state 1 steps) log rest → IsLicensed contexts steps log }
+{}
+
+/// The beginning of a licensed log is licensed.
+pub fn beginnings_are_licensed()
+    ensures { (contexts : List WasiSocketsCtx) (steps : List Step) (front back : List Entry)
+        → IsLicensed contexts steps (front ++ back) → IsLicensed contexts steps front }
+{}
+
+/// What is licensed by the steps so far is licensed by a script that goes on from them.
+pub fn longer_scripts_license()
+    ensures { (contexts : List WasiSocketsCtx) (steps more : List Step) (log : List Entry)
+        → IsLicensed contexts steps log → IsLicensed contexts (steps ++ more) log }
+{}
+
+/// In a licensed log a handle has one side.
+pub fn handles_have_one_side()
+    ensures { (contexts : List WasiSocketsCtx) (steps : List Step) (log : List Entry) (handle : ℕ) (side other : OpId)
+        → IsLicensed contexts steps log → IsSide log handle side → IsSide log handle other → side ≡ other }
+{}
+
+/// In a licensed log a side has one maker and one family.
+pub fn sides_have_one_maker()
+    ensures { (contexts : List WasiSocketsCtx) (steps : List Step) (log : List Entry) (side : OpId)
+        (ctx other : ℕ) (family its : SocketAddressFamily)
+        → IsLicensed contexts steps log → IsMaker log ctx family side → IsMaker log other its side
+        → (ctx ≡ other) × (family ≡ its) }
+{}
