@@ -66,7 +66,7 @@ pub data Did (contexts : List WasiSocketsCtx) (side : OpId) : Machine → ℕ �
 -- these are the first entries of the next step, where there is one
 abbrev pub Begun : List WasiSocketsCtx → Machine → ℕ → List Step → List Entry → Type 0
 Begun contexts m line [] entries = entries ≡ []
-Begun contexts m line (s ∷ steps) entries = (rest : Asks (Reply × Machine)) × Left (machine_asks contexts m line s m.store.standing) entries rest
+Begun contexts m line (s ∷ steps) entries = (rest : Asks (Reply × Machine)) × Left (machine_asks contexts m line s) entries rest
 
 -- The log is that of the steps that were done, and of the beginning of the next.
 pub record IsOfSteps (contexts : List WasiSocketsCtx) (side : OpId) (first : Machine) (line : ℕ) (steps : List Step) (log : List Entry) : Type 0 where

@@ -40,7 +40,7 @@ pub fn taken_is_permitted()
     ensures begun { (contexts : List WasiSocketsCtx) (side : OpId) (steps : List Step) (log : List Entry) (permitted : List ℕ) (after : Machine)
         (s : Step) (entries : List Entry) (rest : Asks (Reply × Machine))
         → Did contexts side first_state 1 steps log permitted after
-        → Left (machine_asks contexts after (1 + length steps) s after.store.standing) entries rest
+        → Left (machine_asks contexts after (1 + length steps) s) entries rest
         → IsFrontOf (taken_in side (log ++ entries)) (permitted ++ permitted_by after side s) }
 {}
 

@@ -170,15 +170,19 @@ abbrev pub is_guest_call : Step → Bool
 is_guest_call s = is_some (context_of s)
 
 -- while a call stands every guest call is busy
-abbrev pub machine_asks : List WasiSocketsCtx → Machine → ℕ → Step → Option Standing → Asks (Reply × Machine)
-machine_asks contexts m line s None = step_asks contexts m line s
-machine_asks contexts m line s (Some standing) = if is_guest_call s then Give (reply.Busy, m) else step_asks contexts m line s
+abbrev pub asks_while : List WasiSocketsCtx → Machine → ℕ → Step → Option Standing → Asks (Reply × Machine)
+asks_while contexts m line s None = step_asks contexts m line s
+asks_while contexts m line s (Some standing) = if is_guest_call s then Give (reply.Busy, m) else step_asks contexts m line s
+
+-- what a line asks, its reply, and the machine afterwards
+abbrev pub machine_asks : List WasiSocketsCtx → Machine → ℕ → Step → Asks (Reply × Machine)
+machine_asks contexts m line s = asks_while contexts m line s m.store.standing
 
 -- the lines from this one on, up to a trap; the replies so far come first
 abbrev pub run : List WasiSocketsCtx → List Reply → Machine → ℕ → List Step → Asks (List Reply × Machine)
 run contexts replies m line [] = Give (replies, m)
 run contexts replies m line (s ∷ steps) =
-    bind (machine_asks contexts m line s m.store.standing) (λ done.
+    bind (machine_asks contexts m line s) (λ done.
     if is_trap done.0
     then Give (replies ++ done.0 ∷ [], done.1)
     else run contexts (replies ++ done.0 ∷ []) done.1 (line + 1) steps)

@@ -15,18 +15,18 @@ use Rattle.wasi_host.specs.Host.{SocketError, Stop, Code, Trap, IsStop, host_out
 use Rattle.wasi_steps.specs.declared.reply.Reply.{Reply}
 use Rattle.wasi_steps.specs.declared.reply.Reply.TheVariants as reply
 use Rattle.wasi_steps.specs.declared.step.Step.{Step}
-use Rattle.wasi_machine.specs.Machine.{stop_reply, poll_on, is_guest_call, step_asks, machine_asks}
+use Rattle.wasi_machine.specs.Machine.{stop_reply, poll_on, is_guest_call, step_asks, asks_while}
 
 -- == where a call stands
 module _ (contexts : List WasiSocketsCtx) (m : Machine) (line : ℕ) (s : Step) where
   abbrev By : Bool → Asks (Reply × Machine)
   By b = if b then Give (reply.Busy, m) else step_asks contexts m line s
 
-  pub held_up : (standing : Option Standing) → (is_some standing && is_guest_call s) ≡ true → machine_asks contexts m line s standing ≡ Give (reply.Busy, m)
+  pub held_up : (standing : Option Standing) → (is_some standing && is_guest_call s) ≡ true → asks_while contexts m line s standing ≡ Give (reply.Busy, m)
   held_up None e = absurd (cc)
   held_up (Some c) e = ap By e
 
-  pub goes_on : (standing : Option Standing) → (is_some standing && is_guest_call s) ≡ false → machine_asks contexts m line s standing ≡ step_asks contexts m line s
+  pub goes_on : (standing : Option Standing) → (is_some standing && is_guest_call s) ≡ false → asks_while contexts m line s standing ≡ step_asks contexts m line s
   goes_on None e = refl
   goes_on (Some c) e = ap By e
 

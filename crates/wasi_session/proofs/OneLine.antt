@@ -83,7 +83,7 @@ one_began {state = state} {reply = reply} h so_far = record { rest = Give (so_fa
 
 module _ {contexts : List WasiSocketsCtx} {w_old w_new : Seen} {k : Writing} {first last : Machine} {line : ℕ} {l : List ℕ} {s : Step} where
   -- want of memory in doing it
-  pub one_hungry : step_of (length contexts) l ≡ Some s → Started (machine_asks contexts first line s first.store.standing) w_old w_new → (KnowsSides w_old first.store → KnowsSides w_new last.store) → LinesRan contexts w_old w_new k k first line (l ∷ []) (Err Memory) last
+  pub one_hungry : step_of (length contexts) l ≡ Some s → Started (machine_asks contexts first line s) w_old w_new → (KnowsSides w_old first.store → KnowsSides w_new last.store) → LinesRan contexts w_old w_new k k first line (l ∷ []) (Err Memory) last
   one_hungry e h held = record {
     steps = [];
     replies = [];

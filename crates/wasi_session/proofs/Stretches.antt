@@ -40,7 +40,7 @@ stretch_none contexts first line w = record { reached = reaches_none contexts fi
 
 -- One step was done, with this reply.
 pub record Stepped (contexts : List WasiSocketsCtx) (first : Machine) (line : ℕ) (s : Step) (reply : Reply) (state : Machine) (old now : Seen) : Type 0 where
-  pub asked : Reaches (machine_asks contexts first line s first.store.standing) (Give (reply, state)) old now
+  pub asked : Reaches (machine_asks contexts first line s) (Give (reply, state)) old now
   pub sides : KnowsSides old first.store → KnowsSides now state.store
 
 pub stretch_one : {contexts : List WasiSocketsCtx} {first state : Machine} {line : ℕ} {s : Step} {reply : Reply} {old now : Seen} → Stepped contexts first line s reply state old now → is_trap reply ≡ false → Stretch contexts first line (s ∷ []) (reply ∷ []) state old now

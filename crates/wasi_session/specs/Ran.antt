@@ -50,7 +50,7 @@ pub record Stretch (contexts : List WasiSocketsCtx) (first : Machine) (line : �
 -- where memory ran out: between two lines, or in a line of which the first asks were made
 abbrev pub Met : List WasiSocketsCtx → Machine → ℕ → List Step → Seen → Seen → Type 0
 Met contexts state line [] old now = now ≡ old
-Met contexts state line (s ∷ []) old now = Started (machine_asks contexts state line s state.store.standing) old now
+Met contexts state line (s ∷ []) old now = Started (machine_asks contexts state line s) old now
 Met contexts state line _ old now = ⊥
 
 -- what was asked after the lines done: nothing, but at want of memory the first asks of the line met

@@ -39,7 +39,7 @@ pub fn do_step<W: World>(
     step: Step,
 ) -> Result<Reply, AllocError>
     requires { (W.seen world.old).ended ≡ false }
-    ensures asked { AsksFor (machine_asks contexts.now machine.old line step machine.old.store.standing) (W.seen world.old) (W.seen world.new) (λ reply. (reply, machine.new)) result }
+    ensures asked { AsksFor (machine_asks contexts.now machine.old line step) (W.seen world.old) (W.seen world.new) (λ reply. (reply, machine.new)) result }
     ensures sides { KnowsSides (W.seen world.old) machine.old.store → KnowsSides (W.seen world.new) machine.new.store }
     ensures open { (W.seen world.new).ended ≡ false }
 {

@@ -44,7 +44,7 @@ impl Session {
     ) -> Result<Reply, AllocError>
         requires open { (W.seen world.old).ended ≡ false }
         requires numbers { self.old.lines + 1 < 2 ^ 32 }
-        ensures asked { AsksFor (machine_asks contexts.now self.old.machine (self.old.lines + 1) step self.old.machine.store.standing) (W.seen world.old) (W.seen world.new) (λ reply. (reply, self.new.machine)) result }
+        ensures asked { AsksFor (machine_asks contexts.now self.old.machine (self.old.lines + 1) step) (W.seen world.old) (W.seen world.new) (λ reply. (reply, self.new.machine)) result }
         ensures lines { self.new.lines ≡ self.old.lines + 1 }
         ensures sides { KnowsSides (W.seen world.old) self.old.machine.store → KnowsSides (W.seen world.new) self.new.machine.store }
     {

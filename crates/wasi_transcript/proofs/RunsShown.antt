@@ -57,7 +57,7 @@ unfolding bind
 ran contexts [] so_far m number last h may = ap (λ replies. Give (replies, m)) (sym (append-nil so_far)) ∙ gives (so_far ++ []) m last h
 ran contexts (x ∷ xs) so_far m number last h may =
     let (next, done, more) = h in
-    let asks = machine_asks contexts m number x.step m.store.standing in
+    let asks = machine_asks contexts m number x.step in
     let f = going_on contexts so_far number (steps_in xs) in
     left_then (bind asks f) (f (x.reply, next)) (Give (so_far ++ x.reply ∷ replies_in xs, last)) x.calls (calls_in xs)
     (left_in f asks (Give (x.reply, next)) x.calls done.asked)

@@ -292,10 +292,10 @@ module _ {contexts : List WasiSocketsCtx} {limit : ℕ} {s_old s_now : Reading} 
     sides = λ held. sides (s.sides held);
   }
 
-met_line : (contexts : List WasiSocketsCtx) (machine : Machine) (number n : ℕ) (line : List ℕ) (more : List (List ℕ)) (calls : List Entry) → number + 1 ≡ n → (calls ≡ []) ⊎ ((s : Step) × (step_of (length contexts) line ≡ Some s) × ((left : Asks (Reply × Machine)) × Left (machine_asks contexts machine (number + 1) s machine.store.standing) calls left)) → IsMet contexts machine n (line ∷ more) calls
+met_line : (contexts : List WasiSocketsCtx) (machine : Machine) (number n : ℕ) (line : List ℕ) (more : List (List ℕ)) (calls : List Entry) → number + 1 ≡ n → (calls ≡ []) ⊎ ((s : Step) × (step_of (length contexts) line ≡ Some s) × ((left : Asks (Reply × Machine)) × Left (machine_asks contexts machine (number + 1) s) calls left)) → IsMet contexts machine n (line ∷ more) calls
 met_line contexts machine number n line more calls e (inl none) = inl none
 met_line contexts machine number n line more calls e (inr first) =
-    inr (line, more, refl, (first.0, first.1, (let P : ℕ → Type 0 = λ n. (left : Asks (Reply × Machine)) × Left (machine_asks contexts machine n first.0 machine.store.standing) calls left in subst P e first.2)))
+    inr (line, more, refl, (first.0, first.1, (let P : ℕ → Type 0 = λ n. (left : Asks (Reply × Machine)) × Left (machine_asks contexts machine n first.0) calls left in subst P e first.2)))
 
 module _ {contexts : List WasiSocketsCtx} {limit : ℕ} {s_old s_now : Reading} {k_old k_now : Writing} {w_old w_now w_new : Seen} {machine : Machine} {number taken : ℕ} {line rest : List ℕ} {more : List (List ℕ)} where
   -- memory ran out in the line

@@ -37,7 +37,7 @@ pub record Starved (contexts : List WasiSocketsCtx) (m : Machine) (number : ℕ)
   pub calls : List Entry
   pub logged : Logged old calls new
   pub closings : new.closings ≡ old.closings
-  pub first : calls ≡ [] ⊎ ((s : Step) × (step_of (length contexts) line ≡ Some s) × ((rest : Asks (Reply × Machine)) × Left (machine_asks contexts m number s m.store.standing) calls rest))
+  pub first : calls ≡ [] ⊎ ((s : Step) × (step_of (length contexts) line ≡ Some s) × ((rest : Asks (Reply × Machine)) × Left (machine_asks contexts m number s) calls rest))
 
 -- what became of a line, by how it ended
 abbrev pub LineDone : List WasiSocketsCtx → Session → Session → List ℕ → Seen → Seen → Result LineEnd AllocError → Type 0

@@ -46,7 +46,7 @@ IsBad contexts limit text left line s_new =
 -- Memory ran out between two lines, or in the next one, of which these were the first calls.
 abbrev pub IsMet : List WasiSocketsCtx → Machine → ℕ → List (List ℕ) → List Entry → Type 0
 IsMet contexts m number left met =
-    (met ≡ []) ⊎ ((line : List ℕ) × (more : List (List ℕ)) × (left ≡ line ∷ more) × ((s : Step) × (step_of (length contexts) line ≡ Some s) × ((rest : Asks (Reply × Machine)) × Left (machine_asks contexts m number s m.store.standing) met rest)))
+    (met ≡ []) ⊎ ((line : List ℕ) × (more : List (List ℕ)) × (left ≡ line ∷ more) × ((s : Step) × (step_of (length contexts) line ≡ Some s) × ((rest : Asks (Reply × Machine)) × Left (machine_asks contexts m number s) met rest)))
 
 -- The last exchange that was done was written in part.
 pub record CutLast (exchanges : List Exchange) (written : List ℕ) : Type 0 where

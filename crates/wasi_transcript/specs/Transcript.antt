@@ -67,7 +67,7 @@ calls_in exchanges = flat_map (λ x. x.calls) exchanges
 -- The line of this number spells the step, and the step's asks with their answers are the calls: they give the reply, and leave the machine so.
 pub record IsDone (contexts : List WasiSocketsCtx) (m : Machine) (number : ℕ) (x : Exchange) (next : Machine) : Type 0 where
   pub spelled : step_of (length contexts) x.line ≡ Some x.step
-  pub asked : Left (machine_asks contexts m number x.step m.store.standing) x.calls (Give (x.reply, next))
+  pub asked : Left (machine_asks contexts m number x.step) x.calls (Give (x.reply, next))
 
 -- the lines were done one after another, the first of which has this number
 abbrev pub AreDone : List WasiSocketsCtx → Machine → ℕ → List Exchange → Machine → Type 0

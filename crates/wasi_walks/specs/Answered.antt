@@ -57,7 +57,7 @@ use Rattle.wasi_walks.specs.Licence.{Has, entry}
 
 -- the step was done: what it asked was told by these entries, and these are its reply and the machine afterwards
 abbrev pub Answered : List WasiSocketsCtx → Machine → ℕ → Step → List Entry → Reply → Machine → Type 0
-Answered contexts m line s entries reply after = Left (machine_asks contexts m line s m.store.standing) entries (Give (reply, after))
+Answered contexts m line s entries reply after = Left (machine_asks contexts m line s) entries (Give (reply, after))
 
 -- == the records that handles name
 abbrev pub record_in : Machine → Option ℕ → Option Tcp2Socket

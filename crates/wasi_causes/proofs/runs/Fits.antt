@@ -74,7 +74,7 @@ accepts_at m f handle = of_record m f _ (λ r k. accepts_so r.listening k.1) (so
 abbrev pub Between : ℕ → List Entry → Machine → Type 0
 Between line es m = Fit (Over m)
 
-pub line_fits : (contexts : List WasiSocketsCtx) (line : ℕ) (s : Step) (m : Machine) (es : List Entry) → Fit (Over m) → Allows Anything (λ fs done. Fit (Over done.1)) es (machine_asks contexts m line s m.store.standing)
+pub line_fits : (contexts : List WasiSocketsCtx) (line : ℕ) (s : Step) (m : Machine) (es : List Entry) → Fit (Over m) → Allows Anything (λ fs done. Fit (Over done.1)) es (machine_asks contexts m line s)
 line_fits contexts line s m es f = fits_along contexts line s (machine_walks line s m m.store.standing refl) es (starts_fit m (may_while m s m.store.standing) f)
 
 module _ (contexts : List WasiSocketsCtx) (steps : List Step) (es : List Entry) (replies : List Reply) (m : Machine) (w : Left (run contexts [] first_state 1 steps) es (Give (replies, m))) where

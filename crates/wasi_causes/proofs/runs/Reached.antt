@@ -212,7 +212,7 @@ module _ (contexts : List WasiSocketsCtx) (line : ℕ) (origin : Step) where
     gives_up = λ es h place r q g i. whatever (λ done. Steady (put h place (with_listening r listening.Not)).machine) (λ done. put_steady h place _ ((i.records place r g).0, λ side d. refl) i) es (give_up_asks r.listening);
   }
 
-  line_steady : (m : Machine) (es : List Entry) → Steady m → Allows Anything (λ fs done. Steady done.1) es (machine_asks contexts m line origin m.store.standing)
+  line_steady : (m : Machine) (es : List Entry) → Steady m → Allows Anything (λ fs done. Steady done.1) es (machine_asks contexts m line origin)
   unfolding steady
   line_steady m es i = (machine_walks line origin {law = steady} m m.store.standing refl).along es i
 

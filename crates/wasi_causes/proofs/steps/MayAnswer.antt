@@ -251,9 +251,9 @@ module _ (contexts : List WasiSocketsCtx) where
       → Left (run contexts [] first_state 1 steps) log (Give (replies, m)) → Answered contexts m line s es r after → may_answer line s r
   runs_answer steps log replies m line s es r after w h = answers contexts m line (fits contexts steps log replies m w) s es r after h
 
-  line_answers : (line : ℕ) (s : Step) (m : Machine) (es : List Entry) → Fit (Over m) → Gives (λ fs done. may_answer line s done.0 × Fit (Over done.1)) es (machine_asks contexts m line s m.store.standing)
+  line_answers : (line : ℕ) (s : Step) (m : Machine) (es : List Entry) → Fit (Over m) → Gives (λ fs done. may_answer line s done.0 × Fit (Over done.1)) es (machine_asks contexts m line s)
   line_answers line s m es f =
-      gives_both (λ fs done. may_answer line s done.0) (λ fs done. Fit (Over done.1)) es (machine_asks contexts m line s m.store.standing)
+      gives_both (λ fs done. may_answer line s done.0) (λ fs done. Fit (Over done.1)) es (machine_asks contexts m line s)
       (by_walks (λ done. may_answer line s done.0) es _ (λ fs done w. answers contexts m line f s fs done.0 done.1 w)) (line_fits contexts line s m es f)
 
   -- the replies so far come first, and then those of these lines
@@ -263,7 +263,7 @@ module _ (contexts : List WasiSocketsCtx) where
   run_answers : (replies : List Reply) (line : ℕ) (todo : List Step) (m : Machine) (es : List Entry) → Fit (Over m) → Gives (Adds replies line todo) es (run contexts replies m line todo)
   run_answers replies line [] m es f = ([], sym (append-nil replies), tt)
   run_answers replies line (s ∷ todo) m es f =
-      gives_then (λ fs done. may_answer line s done.0 × Fit (Over done.1)) (Adds replies line (s ∷ todo)) es (machine_asks contexts m line s m.store.standing) _ (line_answers line s m es f)
+      gives_then (λ fs done. may_answer line s done.0 × Fit (Over done.1)) (Adds replies line (s ∷ todo)) es (machine_asks contexts m line s) _ (line_answers line s m es f)
       (λ fs done k. allows_if (λ gs op call. ⊤) (Adds replies line (s ∷ todo)) fs (is_trap done.0) _ _ (λ trap. (done.0 ∷ [], refl, (k.0, tt)))
       (λ on. gives_more (Adds (replies ++ done.0 ∷ []) (line + 1) todo) (Adds replies line (s ∷ todo)) (λ gs d x. (done.0 ∷ x.0, x.1 ∙ append_assoc replies (done.0 ∷ []) x.0, (k.0, x.2))) fs _ (run_answers (replies ++ done.0 ∷ []) (line + 1) todo done.1 fs k.1)))
 

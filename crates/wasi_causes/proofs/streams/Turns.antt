@@ -23,7 +23,7 @@ use Rattle.wasi_steps.specs.declared.reply.Reply.TheVariants as reply
 use Rattle.wasi_steps.specs.declared.step.Step.TheVariants as step
 use Rattle.wasi_walks.specs.Answered.{Answered}
 use Rattle.wasi_walks.specs.Licence.{Has}
-use Rattle.wasi_machine.specs.Machine.{machine_asks}
+use Rattle.wasi_machine.specs.Machine.{asks_while}
 use Rattle.wasi_steps.specs.Reply.{no_fields}
 use Rattle.wasi_walks.proofs.Lists.{cut_of}
 use Rattle.wasi_walks.proofs.Gives.{Gives, given, allows_ask}
@@ -128,7 +128,7 @@ module _ (m : Machine) where
   -- == of its answers
   module _ (contexts : List WasiSocketsCtx) (line : ℕ) where
     -- a turn is no call of a guest
-    its_own : (o : Option Standing) (es : List Entry) (rest : Asks (Reply × Machine)) → Left (machine_asks contexts m line step.Turn o) es rest → Left turn es rest
+    its_own : (o : Option Standing) (es : List Entry) (rest : Asks (Reply × Machine)) → Left (asks_while contexts m line step.Turn o) es rest → Left turn es rest
     its_own None es rest w = w
     its_own (Some s) es rest w = w
 

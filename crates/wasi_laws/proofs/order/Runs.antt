@@ -80,12 +80,12 @@ module _ (it : OpId) (contexts : List WasiSocketsCtx) where
   abbrev Weighs : ℕ → List Entry → Machine → Type 0
   Weighs line es m = Within (bound it.step line) nothing 0 (gone_along ours 0 es) (store_weight ours m.store)
 
-  line_ordered : (line : ℕ) (s : Step) (m : Machine) (es : List Entry) → Weighs line es m → Allows Asked (λ fs done. Weighs (line + 1) fs done.1) es (machine_asks contexts m line s m.store.standing)
+  line_ordered : (line : ℕ) (s : Step) (m : Machine) (es : List Entry) → Weighs line es m → Allows Asked (λ fs done. Weighs (line + 1) fs done.1) es (machine_asks contexts m line s)
   line_ordered line s m es i =
       let b = bound it.step (line + 1) in
       let more = bound_next it.step line in let x = i.0 in let y = i.1 in
       allows_weaker Asked (λ fs now. Kept contexts line s ours b (bound_small it.step (line + 1)) (room it.step line) (room_fits it line) fs (Over now.1)) (λ fs now. Weighs (line + 1) fs now.1)
-      (λ fs now k. let p = k.0 in let q = k.1 in (omega (arith, p), omega (arith, q))) es (machine_asks contexts m line s m.store.standing)
+      (λ fs now k. let p = k.0 in let q = k.1 in (omega (arith, p), omega (arith, q))) es (machine_asks contexts m line s)
       (order_along contexts line s ours b (bound_small it.step (line + 1)) (room it.step line) (room_fits it line) (machine_walks line s m m.store.standing refl) es (starts (may_while m s m.store.standing) (omega (arith, more, x), omega (arith, more, y))))
     where
       starts : (o : Own) → Within (bound it.step (line + 1)) nothing (room it.step line) (gone_along ours 0 es) (store_weight ours m.store)

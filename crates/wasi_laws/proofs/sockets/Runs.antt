@@ -38,11 +38,11 @@ starts_opened line es m Unused i = i
 starts_opened line es m (ToWrite at bytes) i = record { records = i.records; hand = i.hand; stands = i.stands; older = i.older }
 
 module _ (contexts : List WasiSocketsCtx) where
-  line_opened : (line : ℕ) (s : Step) (m : Machine) (es : List Entry) → Between line es m → Allows AskedOpen (λ fs done. Between (line + 1) fs done.1) es (machine_asks contexts m line s m.store.standing)
+  line_opened : (line : ℕ) (s : Step) (m : Machine) (es : List Entry) → Between line es m → Allows AskedOpen (λ fs done. Between (line + 1) fs done.1) es (machine_asks contexts m line s)
   line_opened line s m es i =
       let own = may_while m s m.store.standing in
       allows_weaker AskedOpen _ (λ fs done. Between (line + 1) fs done.1)
-      (λ fs done k. record { base = base_over contexts line s done.1 k.0; opened = record { records = k.1.records; hand = k.1.hand; stands = k.1.stands; older = k.1.older } }) es (machine_asks contexts m line s m.store.standing)
+      (λ fs done k. record { base = base_over contexts line s done.1 k.0; opened = record { records = k.1.records; hand = k.1.hand; stands = k.1.stands; older = k.1.older } }) es (machine_asks contexts m line s)
       (sockets_along contexts line s (machine_walks line s m m.store.standing refl) es (base_starts contexts line s m own i.base) (starts_opened line es m own i.opened))
 
   pub runs_open : (steps : List Step) (log : List Entry) (rest : Asks (List Reply × Machine)) → Left (run contexts [] first_state 1 steps) log rest → AsksOpenSockets log

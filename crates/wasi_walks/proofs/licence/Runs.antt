@@ -54,11 +54,11 @@ next_line steps s line e = let k = length-append steps (s ∷ []) in omega arith
 
 module _ (contexts : List WasiSocketsCtx) where
   line_licensed : (steps : List Step) (line : ℕ) (s : Step) → step_at steps line ≡ Some s → (m : Machine) (es : List Entry) → IsNew es m.store.sockets line → Fine steps line es m
-      → Allows (MayAsk contexts steps) (λ fs done. Fine steps (line + 1) fs done.1) es (machine_asks contexts m line s m.store.standing)
+      → Allows (MayAsk contexts steps) (λ fs done. Fine steps (line + 1) fs done.1) es (machine_asks contexts m line s)
   line_licensed steps line s l m es n i =
       let o = may_while m s m.store.standing in
       allows_weaker (MayAsk contexts steps) _ (λ fs done. Fine steps (line + 1) fs done.1)
-      (λ fs done k. record { base = base_over contexts line s done.1 k.0; fine = k.1.fine; listens = k.1.listens }) es (machine_asks contexts m line s m.store.standing)
+      (λ fs done k. record { base = base_over contexts line s done.1 k.0; fine = k.1.fine; listens = k.1.listens }) es (machine_asks contexts m line s)
       (licence_along contexts steps line s l (machine_walks line s m m.store.standing refl) es
       (base_starts contexts line s m o i.base)
       (record {
@@ -80,7 +80,7 @@ module _ (contexts : List WasiSocketsCtx) where
       let now = before ++ s ∷ [] in
       let b : all ≡ now ++ rest = a ∙ sym (append_assoc before (s ∷ []) rest) in
       let new : IsNew es m.store.sockets line = subst (IsNew es m.store.sockets) (sym e) (next_is_new contexts before es (licensed contexts before es c) (calm m) h.fine) in
-      allows_then (MayAsk contexts all) (λ fs done. EachMayCome contexts now [] fs × Fine now (line + 1) fs done.1) (λ fs done. ⊤) es (machine_asks contexts m line s m.store.standing) _
+      allows_then (MayAsk contexts all) (λ fs done. EachMayCome contexts now [] fs × Fine now (line + 1) fs done.1) (λ fs done. ⊤) es (machine_asks contexts m line s) _
       (allows_keep (MayAsk contexts now) (MayAsk contexts all) (EachMayCome contexts now []) (λ fs done. Fine now (line + 1) fs done.1)
       (λ fs op c t fits k q. may_come contexts now fs _ k q)
       (λ fs op c q. subst (λ (steps : List Step). MayAsk contexts steps fs op c) (sym b) (may_more now rest contexts fs op c q)) es _ (come_longer contexts before (s ∷ []) [] es c)

@@ -15,7 +15,7 @@ use Rattle.wasi_steps.specs.Reply.{is_trap}
 
 -- P is what each ask must be, and Between what holds between the lines: before the line of this number.
 module _ (contexts : List WasiSocketsCtx) (P : List Entry → OpId → Call → Type 0) (Between : ℕ → List Entry → Machine → Type 0)
-    (line_keeps : (line : ℕ) (s : Step) (m : Machine) (es : List Entry) → Between line es m → Allows P (λ fs done. Between (line + 1) fs done.1) es (machine_asks contexts m line s m.store.standing)) where
+    (line_keeps : (line : ℕ) (s : Step) (m : Machine) (es : List Entry) → Between line es m → Allows P (λ fs done. Between (line + 1) fs done.1) es (machine_asks contexts m line s)) where
   -- it holds before some line
   abbrev pub Keeps : List Entry → List Reply × Machine → Type 0
   Keeps es done = (line : ℕ) × Between line es done.1
@@ -23,7 +23,7 @@ module _ (contexts : List WasiSocketsCtx) (P : List Entry → OpId → Call → 
   pub run_keeps : (replies : List Reply) (line : ℕ) (todo : List Step) (m : Machine) (es : List Entry) → Between line es m → Allows P Keeps es (run contexts replies m line todo)
   run_keeps replies line [] m es i = (line, i)
   run_keeps replies line (s ∷ todo) m es i =
-      allows_then P (λ fs done. Between (line + 1) fs done.1) Keeps es (machine_asks contexts m line s m.store.standing) _ (line_keeps line s m es i)
+      allows_then P (λ fs done. Between (line + 1) fs done.1) Keeps es (machine_asks contexts m line s) _ (line_keeps line s m es i)
       (λ fs done k. allows_if P Keeps fs (is_trap done.0) _ _ (λ trap. (line + 1, k)) (λ on. run_keeps (replies ++ done.0 ∷ []) (line + 1) todo done.1 fs k))
 
   module _ (first : Between 1 [] first_state) (steps : List Step) where

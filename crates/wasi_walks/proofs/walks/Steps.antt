@@ -9,7 +9,7 @@ use Rattle.wasi_host.specs.declared.store.Standing.{Standing}
 use Rattle.wasi_host.specs.Kinds.{kind_at, watched_by, watch_of}
 use Rattle.wasi_host.specs.Machine.{own_of, socket_at, input_at, output_at}
 use Rattle.wasi_host.specs.Store.{is_bind, flush_asks, reader_asks, writer_asks, is_listen}
-use Rattle.wasi_machine.specs.Machine.{context_at, step_asks, is_guest_call, machine_asks}
+use Rattle.wasi_machine.specs.Machine.{context_at, step_asks, is_guest_call, asks_while}
 use Rattle.wasi_steps.specs.declared.setting.TcpSetting.{TcpSetting}
 use Rattle.wasi_steps.specs.Settings.{TheBacklog, chosen}
 use Rattle.wasi_steps.specs.declared.step.Step.{Step}
@@ -78,6 +78,6 @@ goes_on line step.Turn m g = step_walks line step.Turn m (λ c. absurd (cc))
 goes_on line (step.Poll n) m g = step_walks line (step.Poll n) m (λ c. absurd (cc))
 goes_on line _ m g = absurd (cc)
 
-pub machine_walks : {contexts : List WasiSocketsCtx} (line : ℕ) (s : Step) {law : Law contexts line s} (m : Machine) (standing : Option Standing) → m.store.standing ≡ standing → Walks law (Starts m (may_while m s standing)) OverWith (machine_asks contexts m line s standing)
+pub machine_walks : {contexts : List WasiSocketsCtx} (line : ℕ) (s : Step) {law : Law contexts line s} (m : Machine) (standing : Option Standing) → m.store.standing ≡ standing → Walks law (Starts m (may_while m s standing)) OverWith (asks_while contexts m line s standing)
 machine_walks line s m None e = step_walks line s m (λ guest. e)
 machine_walks line s m (Some c) e = by_if (is_guest_call s) (λ busy. gives _ (Spends _ refl)) (λ other. goes_on line s m other)
