@@ -1,5 +1,5 @@
 -- The machine that does a script's steps: what each asks, answers and leaves, and the run of the steps.
-use Rattle.std.specs.Prelude.{ℕ, ◌+◌, Bool, false, if◌then◌else◌, List, [], ◌∷◌, ◌++◌, Option, Some, None, is_some, Result, Ok, Err, slice_get}
+use Rattle.std.specs.Prelude.{◌≡◌, ℕ, ◌+◌, length, Bool, false, if◌then◌else◌, List, [], ◌∷◌, ◌++◌, Option, Some, None, is_some, Result, Ok, Err, slice_get}
 use Rattle.wasi_addr.specs.declared.address.IpSocketAddress.{IpSocketAddress}
 use Rattle.wasi_addr.specs.declared.address.SocketAddressFamily.{SocketAddressFamily}
 use Rattle.wasi_addr.specs.Code.{p2_of_code}
@@ -8,13 +8,14 @@ use Rattle.wasi_world.specs.declared.ids.OpId.{OpId}
 use Rattle.wasi_world.specs.declared.outcome.Answer.{Answer}
 use Rattle.wasi_world.specs.declared.outcome.Answer.TheVariants.{Ready, Pending}
 use Rattle.wasi_world.specs.declared.outcome.WasiSocketsCtx.{WasiSocketsCtx}
-use Rattle.wasi_world.specs.Asks.{Asks, Give, bind}
+use Rattle.wasi_world.specs.declared.call.Entry.{Entry}
+use Rattle.wasi_world.specs.Asks.{Asks, Give, bind, Left}
 use Rattle.wasi_host.specs.declared.machine.Machine.{Machine}
 use Rattle.wasi_host.specs.declared.pending.Outcome.{Outcome}
 use Rattle.wasi_host.specs.declared.pending.Outcome.TheVariants.{Nothing}
 use Rattle.wasi_host.specs.declared.store.Standing.{Standing}
 use Rattle.wasi_host.specs.Host.{Stop, Code, Trap, CallStop, Failed, Closed, Traps}
-use Rattle.wasi_host.specs.Machine.{own_of, socket_at, create_asks, subscribe_asks, ready_asks, drop_asks, turn_machine_asks}
+use Rattle.wasi_host.specs.Machine.{first_state, own_of, socket_at, create_asks, subscribe_asks, ready_asks, drop_asks, turn_machine_asks}
 use Rattle.wasi_host.specs.StreamCalls.{read_asks, check_asks, write_asks, flushed_asks}
 use Rattle.wasi_host.specs.Pending as host
 use Rattle.wasi_host.specs.Store.{is_bind, is_listen}
@@ -186,3 +187,18 @@ run contexts replies m line (s ∷ steps) =
     if is_trap done.0
     then Give (replies ++ done.0 ∷ [], done.1)
     else run contexts (replies ++ done.0 ∷ []) done.1 (line + 1) steps)
+
+-- How far a run of the steps has come: the log is a beginning of what it asks; and its front is what the first of them asked, each
+-- of which was done whole, one after another, and answered so.
+pub record HasRun (contexts : List WasiSocketsCtx) (steps : List Step) (log : List Entry) (replies : List Reply) : Type 0 where
+  pub rest : Asks (List Reply × Machine)
+  pub begun : Left (run contexts [] first_state 1 steps) log rest
+  pub done : List Step
+  pub more : List Step
+  pub first : steps ≡ done ++ more
+  pub answered : length replies ≡ length done
+  pub front : List Entry
+  pub back : List Entry
+  pub cut : log ≡ front ++ back
+  pub state : Machine
+  pub ran : Left (run contexts [] first_state 1 done) front (Give (replies, state))

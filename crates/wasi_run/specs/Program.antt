@@ -17,7 +17,6 @@ use Rattle.wasi_run.specs.declared.program.Command.{Command}
 use Rattle.wasi_run.specs.declared.program.Command.TheVariants.{Run, Generate}
 use Rattle.wasi_run.specs.declared.program.Status.{Status}
 use Rattle.wasi_run.specs.declared.program.Status.TheVariants as status
-use Rattle.wasi_run.specs.Script.{RanScript}
 use Rattle.wasi_host.specs.Closing.{HasClosedAll}
 use Rattle.wasi_run.specs.Headline.{RunsLicensed}
 use Rattle.wasi_run.specs.Counted.{CountsRun, summary}
@@ -92,8 +91,7 @@ pub record RanPlan (plan : Plan) (contexts : List WasiSocketsCtx) (limit : ℕ) 
   pub seen : Seen  -- the world after it
   pub logged : seen.log ≡ Some log
   pub ended : seen.ended ≡ true
-  pub ran : RanScript contexts limit s_old s_new k_old k_new (at_start plan) seen result
-  pub licensed : RunsLicensed contexts limit s_old s_new (at_start plan) seen
+  pub licensed : RunsLicensed contexts limit s_old s_new k_old k_new (at_start plan) seen result
   pub closed : HasClosedAll seen
   pub scripted : IsScripted plan log
 

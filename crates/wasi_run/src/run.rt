@@ -107,10 +107,11 @@ pub fn run_script<W: World, S: Source, K: Sink>(
         (S.reading reader.old) (S.reading reader.new)
         (K.writing writer.old) (K.writing writer.new)
         (W.seen world.old) (W.seen world.new)) }
-    // Whatever it answers, the log is licensed.
+    // Whatever it answers, the log is licensed by the lines done and met, with the replies to them.
     ensures licensed { RunsLicensed contexts.old.items limit
         (S.reading reader.old) (S.reading reader.new)
-        (W.seen world.old) (W.seen world.new) }
+        (K.writing writer.old) (K.writing writer.new)
+        (W.seen world.old) (W.seen world.new) result }
     ensures complete { Completes (length contexts.old.items) limit
         (S.reading reader.old) (S.reading reader.new)
         (K.writing writer.old) (K.writing writer.new) result }

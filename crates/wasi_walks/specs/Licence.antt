@@ -1,6 +1,6 @@
--- Which calls a log may hold: a relation of the contexts, the script's steps and the log's entries, and of nothing else.
--- It knows no state of a socket, an operation or a table. Each entry is judged by those before it.
-use Rattle.std.specs.Prelude.{◌≡◌, ℕ, zero, suc, ◌+◌, ◌⊎◌, ⊤, true, false, List, [], ◌∷◌, ◌++◌, Option, Some, None, slice_get}
+-- Which calls a log may hold, and with which replies: a relation of the contexts, the script's steps, the log's entries and the
+-- replies, and of nothing else. It knows no state of a socket, an operation or a table. Each entry is judged by those before it.
+use Rattle.std.specs.Prelude.{◌≡◌, ℕ, zero, suc, ◌+◌, ◌≤◌, length, ◌⊎◌, ⊤, true, false, List, [], ◌∷◌, ◌++◌, Option, Some, None, slice_get}
 use Rattle.wasi_addr.specs.declared.address.IpSocketAddress.{IpSocketAddress}
 use Rattle.wasi_addr.specs.declared.address.SocketAddressFamily.{SocketAddressFamily}
 use Rattle.wasi_addr.specs.declared.address.SocketAddrUse.{SocketAddrUse}
@@ -16,6 +16,7 @@ use Rattle.wasi_world.specs.declared.call.Told.TheVariants.{Done, Yes, Addr, Arr
 use Rattle.wasi_world.specs.declared.call.Entry.{Entry}
 use Rattle.wasi_world.specs.declared.outcome.WasiSocketsCtx.{WasiSocketsCtx}
 use Rattle.wasi_steps.specs.declared.setting.TcpSetting.TheVariants as setting
+use Rattle.wasi_steps.specs.declared.reply.Reply.{Reply}
 use Rattle.wasi_steps.specs.declared.step.Step.{Step}
 use Rattle.wasi_steps.specs.declared.step.Step.TheVariants as step
 
@@ -299,6 +300,8 @@ MayAsk contexts steps before op (SetOption sock option value) = ReachesSide step
 MayAsk contexts steps before op (Close sock) = ⊤
 MayAsk contexts steps before op (Made handle kind parent sock) = (handle ≡ marks_in before + 1) × BeganBy steps op (IsMarkOf before op kind parent sock)
 
--- Each entry may come after those before it.
-pub record IsLicensed (contexts : List WasiSocketsCtx) (steps : List Step) (log : List Entry) : Type 0 where
+-- Each entry may come after those before it, and each reply is to the step of its line. No step that is built hands out in its reply
+-- what the network told only after a check; what such a reply may say is a row of its own, which comes with the step.
+pub record IsLicensed (contexts : List WasiSocketsCtx) (steps : List Step) (log : List Entry) (replies : List Reply) : Type 0 where
   pub each : (before : List Entry) (e : Entry) (after : List Entry) → log ≡ before ++ e ∷ after → MayAsk contexts steps before e.op e.call
+  pub replied : length replies ≤ length steps

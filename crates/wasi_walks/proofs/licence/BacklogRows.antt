@@ -29,7 +29,7 @@ use Rattle.wasi_steps.specs.declared.step.Step.TheVariants as step
 use Rattle.wasi_steps.specs.Reply.{no_fields, number_fields}
 use Rattle.wasi_machine.specs.Machine.{run}
 use Rattle.wasi_walks.specs.Licence.{entry, IsBacklogSet, IsLicensed}
-use Rattle.wasi_walks.proofs.licence.Runs.{runs_licensed}
+use Rattle.wasi_walks.proofs.licence.Runs.{whole_licensed}
 use Rattle.wasi_walks.proofs.licence.Rows.{allowed, local_80}
 use Rattle.wasi_walks.proofs.licence.Refused.{of_each, at_line}
 use Rattle.wasi_walks.proofs.licence.ListenRows.{binds}
@@ -87,15 +87,15 @@ listening = record {
 abbrev done : Reply
 done = reply.Ok no_fields
 
-abbrev ends : Asks (List Reply × Machine)
-ends = Give (reply.Ok (number_fields 1) ∷ reply.Ok (number_fields 2) ∷ done ∷ done ∷ done ∷ done ∷ done ∷ done ∷ done ∷ reply.Ok (number_fields 3) ∷ [], listening)
+abbrev replies : List Reply
+replies = reply.Ok (number_fields 1) ∷ reply.Ok (number_fields 2) ∷ done ∷ done ∷ done ∷ done ∷ done ∷ done ∷ done ∷ reply.Ok (number_fields 3) ∷ []
 
-sets_run : Left (run allowed [] first_state 1 script) sets ends
+sets_run : Left (run allowed [] first_state 1 script) sets (Give (replies, listening))
 unfolding bind polls
 sets_run = ((refl, refl, tt), ((refl, refl, tt), ((refl, refl, tt), ((refl, refl, tt), ((refl, refl, tt), ((refl, refl, tt), ((refl, refl, tt), ((refl, refl, tt), ((refl, refl, tt), ((refl, refl, tt), ((refl, refl, tt), ((refl, refl, tt), ((refl, refl, tt), refl)))))))))))))
 
-sets_licensed : IsLicensed allowed script sets
-sets_licensed = runs_licensed allowed script sets ends sets_run
+sets_licensed : IsLicensed allowed script sets replies
+sets_licensed = whole_licensed allowed script sets replies listening refl sets_run
 
 -- == the listen was told a code
 abbrev NotDone : Told → Type 0
@@ -110,18 +110,18 @@ NoListenDone _ t = ⊤
 abbrev refused : List Entry
 refused = listens (told.Code code.AddressInUse)
 
-refused_listen : IsLicensed allowed script (refused ++ set_by (own_of 8) ∷ []) → ⊥
+refused_listen : IsLicensed allowed script (refused ++ set_by (own_of 8) ∷ []) [] → ⊥
 refused_listen h =
     let may = h.each refused (set_by (own_of 8)) [] refl in
     of_each (λ e. NoListenDone e.call e.answer) refused _ (tt, (tt, (tt, (tt, (tt, (tt, (tt, (tt, (tt, (tt, tt)))))))))) may.2.told
 
 -- == the line is no set of the backlog: a bind, or a set of something else
-by_a_bind : IsLicensed allowed script (listens told.Done ++ set_by (own_of 3) ∷ []) → ⊥
+by_a_bind : IsLicensed allowed script (listens told.Done ++ set_by (own_of 3) ∷ []) [] → ⊥
 by_a_bind h =
     let may = h.each (listens told.Done) (set_by (own_of 3)) [] refl in
     at_line IsBacklogSet (step.TcpStartBind 0 2 1 local_80) may.1.origin may.1.at may.1.holds
 
-by_another_set : IsLicensed allowed script (listens told.Done ++ set_by (own_of 9) ∷ []) → ⊥
+by_another_set : IsLicensed allowed script (listens told.Done ++ set_by (own_of 9) ∷ []) [] → ⊥
 by_another_set h =
     let may = h.each (listens told.Done) (set_by (own_of 9)) [] refl in
     at_line IsBacklogSet (step.TcpSet 0 2 (setting.HopLimit 3)) may.1.origin may.1.at may.1.holds
@@ -155,7 +155,7 @@ abbrev OfSecond : Call → Type 0
 OfSecond (call.Listen side backlog) = side ≡ own_of 2
 OfSecond _ = ⊤
 
-other_listens : IsLicensed allowed two_sockets (one_listens ++ other ∷ []) → ⊥
+other_listens : IsLicensed allowed two_sockets (one_listens ++ other ∷ []) [] → ⊥
 other_listens h =
     let may = h.each one_listens other [] refl in
     let side = of_each (λ e. OfSecond e.call) one_listens _ (tt, (tt, (tt, (tt, (tt, (tt, (tt, (tt, (tt, (tt, (tt, (refl, tt)))))))))))) may.2.told in

@@ -14,6 +14,7 @@ use Rattle.wasi_tcp.specs.declared.listener.Accepting.TheVariants as accepting
 use Rattle.wasi_host.specs.declared.listening.Listening.{Listening}
 use Rattle.wasi_host.specs.declared.listening.Listening.TheVariants.{Not, Begins, Accepts, Unclosed}
 use Rattle.wasi_host.specs.declared.machine.Machine.{Machine}
+use Rattle.wasi_steps.specs.declared.reply.Reply.{Reply}
 use Rattle.wasi_steps.specs.declared.step.Step.{Step}
 use Rattle.wasi_steps.specs.declared.step.Step.TheVariants as step
 use Rattle.wasi_walks.specs.Licence.{Has, entry, step_at, BeganBy, IsMaker, Created, Handed, IsMarkOf, MayAsk, IsLicensed}
@@ -35,7 +36,7 @@ module _ (contexts : List WasiSocketsCtx) (steps : List Step) where
   began_below : (op : OpId) (P : Step → Type 0) → BeganBy steps op P → op.step ≤ length steps
   began_below op P h = step_below steps op.step h.origin h.at
 
-  module _ (log : List Entry) (h : IsLicensed contexts steps log) where
+  module _ (log : List Entry) {replies : List Reply} (h : IsLicensed contexts steps log replies) where
     may_at : (e : Entry) (c : Cut log e) → MayAsk contexts steps c.front e.op e.call
     may_at e c = h.each c.front e c.back c.is
 

@@ -1,8 +1,9 @@
 -- A log is licensed where each of its entries may come after those before it, one after the other.
 use Rattle.std.specs.Prelude.{⊤}
-use Rattle.std.proofs.Common.{List, [], ◌∷◌, ◌++◌, subst, append_assoc, append-nil}
+use Rattle.std.proofs.Common.{◌≤◌, List, [], ◌∷◌, ◌++◌, length, subst, append_assoc, append-nil, arith}
 use Rattle.wasi_world.specs.declared.call.Entry.{Entry}
 use Rattle.wasi_world.specs.declared.outcome.WasiSocketsCtx.{WasiSocketsCtx}
+use Rattle.wasi_steps.specs.declared.reply.Reply.{Reply}
 use Rattle.wasi_steps.specs.declared.step.Step.{Step}
 use Rattle.wasi_walks.specs.Licence.{MayAsk, IsLicensed}
 use Rattle.wasi_walks.proofs.licence.Longer.{may_more}
@@ -17,8 +18,12 @@ module _ (contexts : List WasiSocketsCtx) (steps : List Step) where
   may_at before [] e back h = rw append-nil h.0
   may_at before (x ∷ front) e back h = rw append_assoc at (may_at (before ++ x ∷ []) front e back h.1)
 
-  pub licensed : (log : List Entry) → EachMayCome [] log → IsLicensed contexts steps log
-  licensed log h = record { each = λ before e after cut. may_at [] before e after (subst (EachMayCome []) cut h) }
+  -- with no reply given yet, and with replies to as many lines as there are
+  pub licensed : (log : List Entry) → EachMayCome [] log → IsLicensed contexts steps log []
+  licensed log h = record { each = λ before e after cut. may_at [] before e after (subst (EachMayCome []) cut h); replied = omega arith }
+
+  pub with_replies : (log : List Entry) (replies : List Reply) → length replies ≤ length steps → IsLicensed contexts steps log [] → IsLicensed contexts steps log replies
+  with_replies log replies few h = record { each = h.each; replied = few }
 
   -- one more that may come
   come_more : (before es : List Entry) (e : Entry) → EachMayCome before es → MayAsk contexts steps (before ++ es) e.op e.call → EachMayCome before (es ++ e ∷ [])

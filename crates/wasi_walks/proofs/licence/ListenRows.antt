@@ -31,7 +31,7 @@ use Rattle.wasi_steps.specs.Reply.{no_fields, number_fields, triple_fields}
 use Rattle.wasi_machine.specs.Machine.{run}
 use Rattle.wasi_walks.specs.Licence.{Has, entry, IsBoundSide, MayListen, Created, IsMarkOf, IsLicensed}
 use Rattle.wasi_walks.proofs.Lists.{has_back, has_last}
-use Rattle.wasi_walks.proofs.licence.Runs.{runs_licensed}
+use Rattle.wasi_walks.proofs.licence.Runs.{whole_licensed}
 use Rattle.wasi_walks.proofs.licence.Rows.{allowed, local_80}
 use Rattle.wasi_walks.proofs.licence.Refused.{local_81, of_each, at_line}
 
@@ -104,15 +104,15 @@ accepted = record {
   };
 }
 
-abbrev ends : Asks (List Reply × Machine)
-ends = Give (reply.Ok (number_fields 1) ∷ reply.Ok (number_fields 2) ∷ reply.Ok no_fields ∷ reply.Ok no_fields ∷ reply.Ok no_fields ∷ reply.Ok (triple_fields 3 4 5) ∷ [], accepted)
+abbrev replies : List Reply
+replies = reply.Ok (number_fields 1) ∷ reply.Ok (number_fields 2) ∷ reply.Ok no_fields ∷ reply.Ok no_fields ∷ reply.Ok no_fields ∷ reply.Ok (triple_fields 3 4 5) ∷ []
 
-accept_run : Left (run allowed [] first_state 1 script) accepts ends
+accept_run : Left (run allowed [] first_state 1 script) accepts (Give (replies, accepted))
 unfolding bind polls
 accept_run = ((refl, refl, tt), ((refl, refl, tt), ((refl, refl, tt), ((refl, refl, tt), ((refl, refl, tt), ((refl, refl, tt), ((refl, refl, tt), ((refl, refl, tt), ((refl, refl, tt), ((refl, refl, tt), ((refl, refl, tt), ((refl, refl, tt), ((refl, refl, tt), ((refl, refl, tt), ((refl, refl, tt), ((refl, refl, tt), ((refl, refl, tt), ((refl, refl, tt), ((refl, refl, tt), refl)))))))))))))))))))
 
-accept_licensed : IsLicensed allowed script accepts
-accept_licensed = runs_licensed allowed script accepts ends accept_run
+accept_licensed : IsLicensed allowed script accepts replies
+accept_licensed = whole_licensed allowed script accepts replies accepted refl accept_run
 
 -- == what is looked for in a log
 -- no check of an arrival
@@ -149,7 +149,7 @@ arrived = listens ++ entry sixth (call.Accept (own_of 2)) (told.Arrived (peer 8)
 abbrev hand : Entry
 hand = entry sixth (call.Hand (own_of 2) (peer 8)) told.Done
 
-early_handout : IsLicensed allowed script (arrived ++ hand ∷ []) → ⊥
+early_handout : IsLicensed allowed script (arrived ++ hand ∷ []) [] → ⊥
 early_handout h =
     let a = (h.each arrived hand [] refl).1 in
     of_each (λ e. NoArrivalCheck e.call) arrived _ (tt, (tt, (tt, (tt, (tt, (tt, (tt, (tt, (tt, (tt, (tt, tt))))))))))) (of_back arrived a.front a.back _ _ a.cut a.yes.checked)
@@ -167,7 +167,7 @@ twice = checked ++ again ∷ []
 none_behind : (back : List Entry) (x : Entry) → back ≡ [] → Has back x → ⊥
 none_behind back x e i = subst (λ (es : List Entry). Has es x) e i
 
-stale_yes : IsLicensed allowed script (twice ++ hand ∷ []) → ⊥
+stale_yes : IsLicensed allowed script (twice ++ hand ∷ []) [] → ⊥
 stale_yes h =
     let a = (h.each twice hand [] refl).1 in
     elim (last_at a.front a.back checked _ again a.cut) [ inl q ↦ none_behind a.back _ q.0 a.yes.checked | inr i ↦ a.last (told.Arrived (peer 8)) i ]
@@ -176,7 +176,7 @@ stale_yes h =
 abbrev handed : List Entry
 handed = checked ++ (hand ∷ again ∷ entry sixth (call.Check 0 (peer 8) usages.TcpAccept) told.Yes ∷ [])
 
-handed_twice : IsLicensed allowed script (handed ++ hand ∷ []) → ⊥
+handed_twice : IsLicensed allowed script (handed ++ hand ∷ []) [] → ⊥
 handed_twice h = (h.each handed hand [] refl).2 (own_of 2) (peer 8) told.Done (has_back checked (hand ∷ again ∷ entry sixth (call.Check 0 (peer 8) usages.TcpAccept) told.Yes ∷ []) hand (inl refl))
 
 -- == another local address than the last was checked
@@ -207,7 +207,7 @@ is_bound = record {
 told_port : (op : OpId) (addr : IpSocketAddress) → moved ≡ entry op (call.Local (own_of 2)) (told.Addr addr) → port_of addr ≡ 81
 told_port op addr e = let p : told.Addr local_81 ≡ told.Addr addr = ap (λ (x : Entry). x.answer) e in let q : local_81 ≡ addr = cc in sym (ap port_of q)
 
-moved_away : IsLicensed allowed script (moves ++ listen ∷ []) → ⊥
+moved_away : IsLicensed allowed script (moves ++ listen ∷ []) [] → ⊥
 moved_away h = by_cases (h.each moves listen [] refl).2
   where
     checks_80 : (ctx : ℕ) (addr : IpSocketAddress) → Has moves (entry (own_of 5) (call.Check ctx addr usages.TcpListen) told.Yes) → port_of addr ≡ 80
@@ -228,7 +228,7 @@ no_mark : IsMarkOf listens (own_of 6) kind.Tcp2 (Some 2) (Some sixth) (step.TcpA
 no_mark (inl m) = of_each (λ e. NoHand e.call) listens _ (tt, (tt, (tt, (tt, (tt, (tt, (tt, (tt, (tt, (tt, tt)))))))))) m.handed
 no_mark (inr m) = elim m.stream [ inl e ↦ absurd (cc) | inr e ↦ absurd (cc) ]
 
-handed_to_nobody : IsLicensed allowed script (listens ++ unhanded ∷ []) → ⊥
+handed_to_nobody : IsLicensed allowed script (listens ++ unhanded ∷ []) [] → ⊥
 handed_to_nobody h =
     let may = h.each listens unhanded [] refl in
     no_mark (at_line (IsMarkOf listens (own_of 6) kind.Tcp2 (Some 2) (Some sixth)) (step.TcpAccept 0 2) may.1.origin may.1.at may.1.holds)

@@ -8,6 +8,7 @@ use Rattle.wasi_world.specs.declared.call.Call.TheVariants.{TcpCreate, Hand}
 use Rattle.wasi_world.specs.declared.call.Told.{Told}
 use Rattle.wasi_world.specs.declared.call.Entry.{Entry}
 use Rattle.wasi_world.specs.declared.outcome.WasiSocketsCtx.{WasiSocketsCtx}
+use Rattle.wasi_steps.specs.declared.reply.Reply.{Reply}
 use Rattle.wasi_steps.specs.declared.step.Step.{Step}
 use Rattle.wasi_steps.specs.declared.step.Step.TheVariants as step
 use Rattle.wasi_walks.specs.Licence.{Has, entry, marked_by, marks_in, handles_of, BeganBy, NamesSide, IsSide, IsMaker, Created, Handed, IsTcpCreate, MayAsk, IsLicensed}
@@ -33,7 +34,7 @@ same_mark (z ∷ f) (w ∷ g) x y b d e i j m =
     let q = ap (λ (u : Entry). marked_by u.call) p in
     same_mark f g x y b d (cc) i j (omega arith)
 
-module _ (contexts : List WasiSocketsCtx) (steps : List Step) (log : List Entry) (h : IsLicensed contexts steps log) where
+module _ (contexts : List WasiSocketsCtx) (steps : List Step) (log : List Entry) {replies : List Reply} (h : IsLicensed contexts steps log replies) where
   may_at : (e : Entry) (c : Cut log e) → MayAsk contexts steps c.front e.op e.call
   may_at e c = h.each c.front e c.back c.is
 

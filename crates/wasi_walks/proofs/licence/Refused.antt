@@ -78,14 +78,14 @@ abbrev bind_80 : Entry
 bind_80 = entry (own_of 3) (call.Bind (own_of 2) local_80) told.Done
 
 -- == the check is left out
-left_out : IsLicensed allowed bind_script (begins ++ bind_80 ∷ []) → ⊥
+left_out : IsLicensed allowed bind_script (begins ++ bind_80 ∷ []) [] → ⊥
 left_out h = let may = h.each begins bind_80 [] refl in of_each (λ e. NoCheck e.call) begins _ (tt, (tt, (tt, (tt, tt)))) may.2.checked
 
 -- == the check was told no
 abbrev told_no : List Entry
 told_no = begins ++ entry (own_of 3) (call.Check 0 local_80 usages.TcpBind) told.No ∷ []
 
-refused_check : IsLicensed allowed bind_script (told_no ++ bind_80 ∷ []) → ⊥
+refused_check : IsLicensed allowed bind_script (told_no ++ bind_80 ∷ []) [] → ⊥
 refused_check h = let may = h.each told_no bind_80 [] refl in of_each (λ e. NotYes e.answer) told_no _ (tt, (tt, (tt, (tt, (tt, tt))))) may.2.checked
 
 -- == the yes is of another line
@@ -99,7 +99,7 @@ first_bind = begins
     ∷ entry (own_of 4) (call.Local (own_of 2)) (told.Addr (wildcard family.Ipv4))
     ∷ [])
 
-reused_check : IsLicensed allowed two_binds (first_bind ++ entry (own_of 4) (call.Bind (own_of 2) local_80) told.Done ∷ []) → ⊥
+reused_check : IsLicensed allowed two_binds (first_bind ++ entry (own_of 4) (call.Bind (own_of 2) local_80) told.Done ∷ []) [] → ⊥
 reused_check h =
     let may = h.each first_bind (entry (own_of 4) (call.Bind (own_of 2) local_80) told.Done) [] refl in
     let line = of_each (λ e. ChecksByThird e.op e.call) first_bind _ (tt, (tt, (tt, (tt, (refl, (tt, (tt, tt))))))) may.2.checked in
@@ -113,7 +113,7 @@ maker_is_first : (ctx : ℕ) (f : SocketAddressFamily) (side : OpId) → IsMaker
 maker_is_first ctx f side (Created s t h) = of_each (λ e. MadeByFirst e.call) asks_other _ (tt, (refl, (tt, (tt, (tt, tt))))) h
 maker_is_first ctx f side (Handed s l p t h m) = absurd (of_each (λ e. MadeByFirst e.call) asks_other _ (tt, (refl, (tt, (tt, (tt, tt))))) h)
 
-other_context : IsLicensed two_contexts bind_script (asks_other ++ bind_80 ∷ []) → ⊥
+other_context : IsLicensed two_contexts bind_script (asks_other ++ bind_80 ∷ []) [] → ⊥
 other_context h =
     let may = h.each asks_other bind_80 [] refl in
     let maker = maker_is_first may.2.ctx may.2.family (own_of 2) may.2.maker in
@@ -127,7 +127,7 @@ created = entry (own_of 1) (call.Made 1 kind.Network None None) told.Done ∷ en
 abbrev same_number : Entry
 same_number = entry (own_of 2) (call.Made 1 kind.Tcp2 None (Some (own_of 2))) told.Done
 
-reused_handle : IsLicensed allowed bind_script (created ++ same_number ∷ []) → ⊥
+reused_handle : IsLicensed allowed bind_script (created ++ same_number ∷ []) [] → ⊥
 reused_handle h = let may = h.each created same_number [] refl in let number = may.0 in cc
 
 -- == another address than the line's is checked and bound
@@ -141,7 +141,7 @@ bind_81 = entry (own_of 3) (call.Bind (own_of 2) local_81) told.Done
 pub at_line : (P : Step → Type 0) (s x : Step) → Some s ≡ Some x → P x → P s
 at_line P s x e h = let p : x ≡ s = cc in subst P p h
 
-other_address : IsLicensed allowed bind_script (asks_81 ++ bind_81 ∷ []) → ⊥
+other_address : IsLicensed allowed bind_script (asks_81 ++ bind_81 ∷ []) [] → ⊥
 other_address h =
     let may = h.each asks_81 bind_81 [] refl in
     let same = at_line (IsBindTo local_81) (step.TcpStartBind 0 2 1 local_80) may.1.origin may.1.at may.1.holds in
@@ -149,7 +149,7 @@ other_address h =
     omega arith
 
 -- == another address than the line's is checked
-other_check : IsLicensed allowed bind_script (asks_81 ++ bind_80 ∷ []) → ⊥
+other_check : IsLicensed allowed bind_script (asks_81 ++ bind_80 ∷ []) [] → ⊥
 other_check h =
     let may = h.each asks_81 bind_80 [] refl in
     let port = of_each (λ e. Asks81 e.call) asks_81 _ (tt, (tt, (tt, (tt, (refl, tt))))) may.2.checked in
@@ -165,7 +165,7 @@ create = entry (own_of 2) (call.TcpCreate 0 family.Ipv4) told.Done
 no_tcp : (ctx : WasiSocketsCtx) → Some (record { name = 0; ip_name_lookup = true; udp = true; tcp = false }) ≡ Some ctx → ctx.tcp ≡ true → ⊥
 no_tcp ctx e t = let p : record { name = 0; ip_name_lookup = true; udp = true; tcp = false } ≡ ctx = cc in let q = ap (λ (c : WasiSocketsCtx). c.tcp) p in cc
 
-forbidden_create : IsLicensed forbidden bind_script (before_create ++ create ∷ []) → ⊥
+forbidden_create : IsLicensed forbidden bind_script (before_create ++ create ∷ []) [] → ⊥
 forbidden_create h =
     let may = h.each before_create create [] refl in
     let m = at_line (IsTcpCreate forbidden 0 family.Ipv4) (step.TcpCreate 0 family.Ipv4) may.origin may.at may.holds in
@@ -208,7 +208,7 @@ not_reached (inl b) =
     second : Some (own_of 2) ≡ Some (own_of 3) → ⊥
     second e = let p : own_of 2 ≡ own_of 3 = cc in let line = ap (λ (op : OpId). op.step) p in cc
 
-unnamed_side : IsLicensed allowed two_sockets (checked_first ++ bind_second ∷ []) → ⊥
+unnamed_side : IsLicensed allowed two_sockets (checked_first ++ bind_second ∷ []) [] → ⊥
 unnamed_side h = let may = h.each checked_first bind_second [] refl in not_reached may.0
 
 -- == a mark of a socket that wasn't created
@@ -220,14 +220,14 @@ abbrev NoCreate : Call → Type 0
 NoCreate (call.TcpCreate ctx f) = ⊥
 NoCreate _ = ⊤
 
-not_created : IsLicensed allowed bind_script (uncreated ++ entry (own_of 2) (call.Made 2 kind.Tcp2 None (Some (own_of 2))) told.Done ∷ []) → ⊥
+not_created : IsLicensed allowed bind_script (uncreated ++ entry (own_of 2) (call.Made 2 kind.Tcp2 None (Some (own_of 2))) told.Done ∷ []) [] → ⊥
 not_created h =
     let may = h.each uncreated (entry (own_of 2) (call.Made 2 kind.Tcp2 None (Some (own_of 2))) told.Done) [] refl in
     let m = at_line (IsMarkOf uncreated (own_of 2) kind.Tcp2 None (Some (own_of 2))) (step.TcpCreate 0 family.Ipv4) may.1.origin may.1.at may.1.holds in
     of_each (λ e. NoCreate e.call) uncreated _ (tt, tt) m.3.2
 
 -- == a call that no step makes
-unmade : IsLicensed allowed bind_script (begins ++ entry (own_of 3) (call.UdpBind (own_of 2) local_80) told.Done ∷ []) → ⊥
+unmade : IsLicensed allowed bind_script (begins ++ entry (own_of 3) (call.UdpBind (own_of 2) local_80) told.Done ∷ []) [] → ⊥
 unmade h = h.each begins (entry (own_of 3) (call.UdpBind (own_of 2) local_80) told.Done) [] refl
 
 -- == the backlog of a side that doesn't listen is set
@@ -236,13 +236,13 @@ abbrev NoListen : Call → Type 0
 NoListen (call.Listen side backlog) = ⊥
 NoListen _ = ⊤
 
-unasked : IsLicensed allowed bind_script (begins ++ entry (own_of 3) (call.SetBacklog (own_of 2) 128) told.Done ∷ []) → ⊥
+unasked : IsLicensed allowed bind_script (begins ++ entry (own_of 3) (call.SetBacklog (own_of 2) 128) told.Done ∷ []) [] → ⊥
 unasked h =
     let may = h.each begins (entry (own_of 3) (call.SetBacklog (own_of 2) 128) told.Done) [] refl in
     of_each (λ e. NoListen e.call) begins _ (tt, (tt, (tt, (tt, tt)))) may.2.told
 
 -- == a step that isn't a listen listens
-no_listen : IsLicensed allowed bind_script (begins ++ entry (own_of 3) (call.Listen (own_of 2) 128) told.Done ∷ []) → ⊥
+no_listen : IsLicensed allowed bind_script (begins ++ entry (own_of 3) (call.Listen (own_of 2) 128) told.Done ∷ []) [] → ⊥
 no_listen h =
     let may = h.each begins (entry (own_of 3) (call.Listen (own_of 2) 128) told.Done) [] refl in
     at_line IsListen (step.TcpStartBind 0 2 1 local_80) may.1.origin may.1.at may.1.holds

@@ -18,6 +18,7 @@ use Rattle.wasi_tcp.specs.Bind.{bind_operation}
 use Rattle.wasi_tcp.specs.Socket.{new_socket}
 use Rattle.wasi_host.specs.declared.machine.Machine.{Machine}
 use Rattle.wasi_steps.specs.declared.reply.CodeWord.TheVariants as word
+use Rattle.wasi_steps.specs.declared.reply.Reply.{Reply}
 use Rattle.wasi_steps.specs.declared.reply.Reply.TheVariants as reply
 use Rattle.wasi_steps.specs.declared.step.Step.{Step}
 use Rattle.wasi_steps.specs.declared.step.Step.TheVariants as step
@@ -29,7 +30,7 @@ use Rattle.wasi_host.specs.Machine.{own_of, first_state}
 use Rattle.wasi_machine.specs.Machine.{run}
 use Rattle.wasi_walks.specs.Licence.{Has, entry, BeganBy, NamesSide, Created, IsLicensed}
 use Rattle.wasi_walks.proofs.licence.Licensed.{licensed}
-use Rattle.wasi_walks.proofs.licence.Runs.{runs_licensed}
+use Rattle.wasi_walks.proofs.licence.Runs.{whole_licensed}
 
 -- contexts that may use all
 abbrev pub context : ℕ → WasiSocketsCtx
@@ -82,7 +83,7 @@ names_socket before h = record {
 }
 
 -- by hand
-bind_licensed : IsLicensed allowed bind_script bind_log
+bind_licensed : IsLicensed allowed bind_script bind_log []
 bind_licensed = licensed allowed bind_script bind_log (
   (refl, record { origin = step.Network 0; at = refl; holds = (refl, refl, refl) }),
   (
@@ -122,16 +123,18 @@ stands_log = entry (own_of 1) (call.Made 1 kind.Network None None) told.Done
     ∷ entry (own_of 3) (call.Check 1 local_six usages.TcpBind) told.Pending
     ∷ []
 
-stands_run : Left (run two_contexts [] first_state 1 stands_script) stands_log
-    (Give (
-      reply.Ok (number_fields 1) ∷ reply.Ok (number_fields 2) ∷ reply.Pending 3 ∷ reply.Busy ∷ reply.Busy ∷ [],
-      with_socket 1 family.Ipv6 (Some (standing_bind 3 0 (bind_operation (record { op = own_of 3; side = own_of 2; maker = 1 }) local_six Check))),
-    ))
+abbrev stands_replies : List Reply
+stands_replies = reply.Ok (number_fields 1) ∷ reply.Ok (number_fields 2) ∷ reply.Pending 3 ∷ reply.Busy ∷ reply.Busy ∷ []
+
+abbrev stands_end : Machine
+stands_end = with_socket 1 family.Ipv6 (Some (standing_bind 3 0 (bind_operation (record { op = own_of 3; side = own_of 2; maker = 1 }) local_six Check)))
+
+stands_run : Left (run two_contexts [] first_state 1 stands_script) stands_log (Give (stands_replies, stands_end))
 unfolding bind polls
 stands_run = ((refl, refl, tt), ((refl, refl, tt), ((refl, refl, tt), ((refl, refl, tt), ((refl, refl, tt), refl)))))
 
-stands_licensed : IsLicensed two_contexts stands_script stands_log
-stands_licensed = runs_licensed two_contexts stands_script stands_log _ stands_run
+stands_licensed : IsLicensed two_contexts stands_script stands_log stands_replies
+stands_licensed = whole_licensed two_contexts stands_script stands_log stands_replies stands_end refl stands_run
 
 -- == a context that may not use TCP creates nothing
 abbrev forbidden_script : List Step

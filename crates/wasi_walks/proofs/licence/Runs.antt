@@ -1,9 +1,9 @@
 -- Each ask of a run is licensed: between two lines the state fits the log, and each line is judged by the steps up to it.
 use Rattle.std.specs.Prelude.{⊤}
-use Rattle.std.proofs.Common.{◌≡◌, ℕ, ◌+◌, List, [], ◌∷◌, ◌++◌, Some, length, slice_get, refl, sym, subst, ◌∙◌, arith, append_assoc, add-one, length-append}
+use Rattle.std.proofs.Common.{◌≡◌, ℕ, ◌+◌, List, [], ◌∷◌, ◌++◌, Some, length, slice_get, refl, sym, ap, subst, ◌∙◌, arith, append_assoc, append-nil, add-one, length-append}
 use Rattle.wasi_world.specs.declared.call.Entry.{Entry}
 use Rattle.wasi_world.specs.declared.outcome.WasiSocketsCtx.{WasiSocketsCtx}
-use Rattle.wasi_world.specs.Asks.{Asks, Left}
+use Rattle.wasi_world.specs.Asks.{Asks, Give, Left}
 use Rattle.wasi_world.specs.Operation.{Operation}
 use Rattle.wasi_world.proofs.Allowed.{Allows, allows_then, allows_if, allows_keep, allows_weaker, allows_at}
 use Rattle.wasi_host.specs.declared.listening.Listening.TheVariants.{Begins}
@@ -13,12 +13,12 @@ use Rattle.wasi_host.specs.Machine.{own_of, first_state}
 use Rattle.wasi_steps.specs.declared.reply.Reply.{Reply}
 use Rattle.wasi_steps.specs.declared.step.Step.{Step}
 use Rattle.wasi_walks.specs.Licence.{IsLicensed, MayAsk, step_at}
-use Rattle.wasi_machine.specs.Machine.{machine_asks, run}
+use Rattle.wasi_machine.specs.Machine.{machine_asks, run, HasRun}
 use Rattle.wasi_steps.specs.Reply.{is_trap}
 use Rattle.wasi_walks.proofs.licence.State.{StateIsFine}
 use Rattle.wasi_walks.proofs.licence.NewNames.{IsNew}
 use Rattle.wasi_walks.proofs.licence.Fresh.{next_is_new}
-use Rattle.wasi_walks.proofs.licence.Licensed.{EachMayCome, licensed, may_come, come_longer}
+use Rattle.wasi_walks.proofs.licence.Licensed.{EachMayCome, licensed, with_replies, may_come, come_longer}
 use Rattle.wasi_walks.proofs.Lists.{get_seam}
 use Rattle.wasi_walks.proofs.licence.Longer.{may_more, state_more, listen_more}
 use Rattle.wasi_walks.proofs.licence.Line.{ListenGoesOn, calm}
@@ -87,9 +87,34 @@ module _ (contexts : List WasiSocketsCtx) where
       (line_licensed now line s (last_line before s line e) m es new (fine_more contexts before (s ∷ []) line es m h)))
       (λ fs done k. allows_if (MayAsk contexts all) (λ fs done. ⊤) fs (is_trap done.0) _ _ (λ trap. tt) (λ on. lines all (replies ++ done.0 ∷ []) done.1 (line + 1) now rest fs b (next_line before s line e) k.0 k.1))
 
-  pub runs_licensed : (steps : List Step) (log : List Entry) (rest : Asks (List Reply × Machine)) → Left (run contexts [] first_state 1 steps) log rest → IsLicensed contexts steps log
-  runs_licensed steps log rest w = record {
+  -- wherever the run stands, before a reply is given
+  pub begun_licensed : (steps : List Step) (log : List Entry) (rest : Asks (List Reply × Machine)) → Left (run contexts [] first_state 1 steps) log rest → IsLicensed contexts steps log []
+  begun_licensed steps log rest w = record {
     each = λ before e after cut.
         allows_at (MayAsk contexts steps) (λ fs done. ⊤) [] (run contexts [] first_state 1 steps) rest before e after (lines steps [] first_state 1 [] steps [] refl refl tt first_fine)
         (subst (λ (es : List Entry). Left (run contexts [] first_state 1 steps) es rest) cut w);
+    replied = omega arith;
   }
+
+  -- and with the replies that were given by then
+  pub runs_licensed : (steps : List Step) (log : List Entry) (replies : List Reply) → HasRun contexts steps log replies → IsLicensed contexts steps log replies
+  runs_licensed steps log replies h =
+      let k = ap length h.first ∙ length-append h.done h.more in
+      with_replies contexts steps log replies (omega (arith, h.answered, k)) (begun_licensed steps log h.rest h.begun)
+
+  -- a run of which each line was answered
+  pub whole_licensed : (steps : List Step) (log : List Entry) (replies : List Reply) (m : Machine) → length replies ≡ length steps → Left (run contexts [] first_state 1 steps) log (Give (replies, m)) → IsLicensed contexts steps log replies
+  whole_licensed steps log replies m all w =
+      runs_licensed steps log replies (record {
+        rest = Give (replies, m);
+        begun = w;
+        done = steps;
+        more = [];
+        first = sym (append-nil steps);
+        answered = all;
+        front = log;
+        back = [];
+        cut = sym (append-nil log);
+        state = m;
+        ran = w;
+      })
