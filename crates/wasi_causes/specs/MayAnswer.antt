@@ -4,19 +4,19 @@ use Rattle.wasi_addr.specs.declared.address.IpSocketAddress.{IpSocketAddress}
 use Rattle.wasi_addr.specs.declared.code.ErrorCode.{ErrorCode}
 use Rattle.wasi_world.specs.declared.outcome.TrapKind.{TrapKind}
 use Rattle.wasi_world.specs.declared.outcome.TrapKind.TheVariants.{NoSuchHandle, HasChildren, Full, NotPermitted}
-use Rattle.wasi_run.specs.declared.reply.CodeWord.{CodeWord}
-use Rattle.wasi_run.specs.declared.reply.CodeWord.TheVariants as word
-use Rattle.wasi_run.specs.declared.reply.Field.{Field}
-use Rattle.wasi_run.specs.declared.reply.Field.TheVariants as field
-use Rattle.wasi_run.specs.declared.reply.Reply.{Reply}
-use Rattle.wasi_run.specs.declared.reply.Reply.TheVariants as reply
-use Rattle.wasi_run.specs.declared.step.Step.{Step}
-use Rattle.wasi_run.specs.declared.step.Step.TheVariants as step
-use Rattle.wasi_run.specs.Answered.{word_of_code, MakesHandle, IsWrite}
-use Rattle.wasi_run.specs.Machine.{is_guest_call}
-use Rattle.wasi_run.specs.Replies.{FieldKind, ANumber, SomeBytes, Truth, FieldKinds, Each, AnAddress, kinds_of}
-use Rattle.wasi_run.specs.Reply.{address_values}
-use Rattle.wasi_run.specs.Waiting.{IsPoll}
+use Rattle.wasi_steps.specs.declared.reply.CodeWord.{CodeWord}
+use Rattle.wasi_steps.specs.declared.reply.CodeWord.TheVariants as word
+use Rattle.wasi_steps.specs.declared.reply.Field.{Field}
+use Rattle.wasi_steps.specs.declared.reply.Field.TheVariants as field
+use Rattle.wasi_steps.specs.declared.reply.Reply.{Reply}
+use Rattle.wasi_steps.specs.declared.reply.Reply.TheVariants as reply
+use Rattle.wasi_steps.specs.declared.step.Step.{Step}
+use Rattle.wasi_steps.specs.declared.step.Step.TheVariants as step
+use Rattle.wasi_walks.specs.Answered.{word_of_code, MakesHandle, IsWrite}
+use Rattle.wasi_machine.specs.Machine.{is_guest_call}
+use Rattle.wasi_steps.specs.Replies.{FieldKind, ANumber, SomeBytes, Truth, FieldKinds, Each, AnAddress, kinds_of}
+use Rattle.wasi_steps.specs.Reply.{address_values}
+use Rattle.wasi_walks.specs.Waiting.{IsPoll}
 use Rattle.wasi_causes.specs.GivenUp.{IsDrop}
 
 -- == the fields of a reply that is done

@@ -14,14 +14,14 @@ use Rattle.wasi_tcp.specs.Options.{largest_value, zero_test, value_set, value_to
 use Rattle.wasi_host.specs.declared.machine.Machine.{Machine}
 use Rattle.wasi_host.specs.declared.socket.Tcp2Socket.{Tcp2Socket}
 use Rattle.wasi_host.specs.Store.{with_inner}
-use Rattle.wasi_run.specs.declared.reply.CodeWord.{CodeWord}
-use Rattle.wasi_run.specs.declared.reply.CodeWord.TheVariants as word
-use Rattle.wasi_run.specs.declared.reply.Field.{Field}
-use Rattle.wasi_run.specs.declared.setting.TcpSetting.{TcpSetting}
-use Rattle.wasi_run.specs.Answered.{putting, word_of_code, RefusedOf}
-use Rattle.wasi_run.specs.Licence.{entry}
-use Rattle.wasi_run.specs.Reply.{number_fields}
-use Rattle.wasi_run.specs.Settings.{Chosen, AnOption, TheBacklog, chosen}
+use Rattle.wasi_steps.specs.declared.reply.CodeWord.{CodeWord}
+use Rattle.wasi_steps.specs.declared.reply.CodeWord.TheVariants as word
+use Rattle.wasi_steps.specs.declared.reply.Field.{Field}
+use Rattle.wasi_steps.specs.declared.setting.TcpSetting.{TcpSetting}
+use Rattle.wasi_walks.specs.Answered.{putting, word_of_code, RefusedOf}
+use Rattle.wasi_walks.specs.Licence.{entry}
+use Rattle.wasi_steps.specs.Reply.{number_fields}
+use Rattle.wasi_steps.specs.Settings.{Chosen, AnOption, TheBacklog, chosen}
 
 -- == refusals
 -- A get is refused: the socket has no side that may be asked, and nothing is; or its side told a code; or its side told a value

@@ -11,9 +11,9 @@ use Rattle.wasi_host.specs.declared.machine.Machine.{Machine}
 use Rattle.wasi_host.specs.declared.socket.Tcp2Socket.{Tcp2Socket}
 use Rattle.wasi_host.specs.Kinds.{place_in}
 use Rattle.wasi_host.specs.Store.{is_connect}
-use Rattle.wasi_run.specs.declared.reply.CodeWord.{CodeWord}
-use Rattle.wasi_run.specs.Answered.{FinishRefusal, StartRefusal}
-use Rattle.wasi_run.specs.Listens.{ListenRefusal}
+use Rattle.wasi_steps.specs.declared.reply.CodeWord.{CodeWord}
+use Rattle.wasi_walks.specs.Answered.{FinishRefusal, StartRefusal}
+use Rattle.wasi_walks.specs.Listens.{ListenRefusal}
 
 -- == records
 abbrev pub HasRecord : Machine → ℕ → Type 0

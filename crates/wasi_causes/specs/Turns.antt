@@ -6,8 +6,8 @@ use Rattle.wasi_tcp.specs.declared.writer.WriteState.TheVariants as writing
 use Rattle.wasi_host.specs.declared.machine.Machine.{Machine}
 use Rattle.wasi_host.specs.declared.socket.Streams.{Streams}
 use Rattle.wasi_host.specs.declared.socket.Tcp2Socket.{Tcp2Socket}
-use Rattle.wasi_run.specs.Answered.{streams_in}
-use Rattle.wasi_run.specs.Licence.{Has}
+use Rattle.wasi_walks.specs.Answered.{streams_in}
+use Rattle.wasi_walks.specs.Licence.{Has}
 
 -- by which operation a write asks
 abbrev pub writes_by : WriteState → Option OpId

@@ -7,18 +7,18 @@ ghost use Rattle.wasi_world.specs.declared.outcome.WasiSocketsCtx.{WasiSocketsCt
 ghost use Rattle.wasi_world.specs.Asks.{Give, Left};
 ghost use Rattle.wasi_host.specs.declared.machine.Machine.{Machine};
 ghost use Rattle.wasi_host.specs.Machine.{first_state, own_of};
-ghost use Rattle.wasi_run.specs.declared.reply.CodeWord.{CodeWord};
-ghost use Rattle.wasi_run.specs.declared.reply.CodeWord.TheVariants as CodeWord;
-ghost use Rattle.wasi_run.specs.declared.reply.Field.{Field};
-ghost use Rattle.wasi_run.specs.declared.reply.Reply.{Reply};
-ghost use Rattle.wasi_run.specs.declared.reply.Reply.TheVariants as Reply;
-ghost use Rattle.wasi_run.specs.declared.step.Step.{Step};
-ghost use Rattle.wasi_run.specs.declared.step.Step.TheVariants as Step;
-ghost use Rattle.wasi_run.specs.Answered.{Answered, HasOperationInProgress, KnowsBound, OfRecord, record_at, RefusedOf};
-ghost use Rattle.wasi_run.specs.Listens.{HasNoListenInProgress, RefusedListen, closed_by_listen, RefusedAccept, AcceptTakes, AcceptsAt};
-ghost use Rattle.wasi_run.specs.Machine.{run};
-ghost use Rattle.wasi_run.specs.Reply.{no_fields, triple_fields};
-ghost use Rattle.wasi_run.specs.Waiting.{WatchesAccept};
+ghost use Rattle.wasi_steps.specs.declared.reply.CodeWord.{CodeWord};
+ghost use Rattle.wasi_steps.specs.declared.reply.CodeWord.TheVariants as CodeWord;
+ghost use Rattle.wasi_steps.specs.declared.reply.Field.{Field};
+ghost use Rattle.wasi_steps.specs.declared.reply.Reply.{Reply};
+ghost use Rattle.wasi_steps.specs.declared.reply.Reply.TheVariants as Reply;
+ghost use Rattle.wasi_steps.specs.declared.step.Step.{Step};
+ghost use Rattle.wasi_steps.specs.declared.step.Step.TheVariants as Step;
+ghost use Rattle.wasi_walks.specs.Answered.{Answered, HasOperationInProgress, KnowsBound, OfRecord, record_at, RefusedOf};
+ghost use Rattle.wasi_walks.specs.Listens.{HasNoListenInProgress, RefusedListen, closed_by_listen, RefusedAccept, AcceptTakes, AcceptsAt};
+ghost use Rattle.wasi_machine.specs.Machine.{run};
+ghost use Rattle.wasi_steps.specs.Reply.{no_fields, triple_fields};
+ghost use Rattle.wasi_walks.specs.Waiting.{WatchesAccept};
 ghost use Rattle.wasi_causes.specs.Reached.{ListenRefusedInRun};
 
 /// The finish of a listen asks nothing. It is refused, with `not-in-progress`, exactly where the socket is there and has no

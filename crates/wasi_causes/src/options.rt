@@ -7,16 +7,16 @@ ghost use Rattle.wasi_world.specs.declared.call.Opt.{Opt};
 ghost use Rattle.wasi_world.specs.declared.outcome.WasiSocketsCtx.{WasiSocketsCtx};
 ghost use Rattle.wasi_host.specs.declared.machine.Machine.{Machine};
 ghost use Rattle.wasi_host.specs.Machine.{own_of};
-ghost use Rattle.wasi_run.specs.declared.reply.CodeWord.{CodeWord};
-ghost use Rattle.wasi_run.specs.declared.reply.Field.{Field};
-ghost use Rattle.wasi_run.specs.declared.reply.Reply.{Reply};
-ghost use Rattle.wasi_run.specs.declared.reply.Reply.TheVariants as Reply;
-ghost use Rattle.wasi_run.specs.declared.setting.TcpSetting.{TcpSetting};
-ghost use Rattle.wasi_run.specs.declared.step.Step.TheVariants as Step;
-ghost use Rattle.wasi_run.specs.Answered.{Answered, OfRecord};
+ghost use Rattle.wasi_steps.specs.declared.reply.CodeWord.{CodeWord};
+ghost use Rattle.wasi_steps.specs.declared.reply.Field.{Field};
+ghost use Rattle.wasi_steps.specs.declared.reply.Reply.{Reply};
+ghost use Rattle.wasi_steps.specs.declared.reply.Reply.TheVariants as Reply;
+ghost use Rattle.wasi_steps.specs.declared.setting.TcpSetting.{TcpSetting};
+ghost use Rattle.wasi_steps.specs.declared.step.Step.TheVariants as Step;
+ghost use Rattle.wasi_walks.specs.Answered.{Answered, OfRecord};
 ghost use Rattle.wasi_causes.specs.Options.{RefusedGet, RefusedSet, GetsOption, SetsChosen};
-ghost use Rattle.wasi_run.specs.Reply.{no_fields};
-ghost use Rattle.wasi_run.specs.Settings.{chosen};
+ghost use Rattle.wasi_steps.specs.Reply.{no_fields};
+ghost use Rattle.wasi_steps.specs.Settings.{chosen};
 
 /// A get of an option is refused with `invalid-state` while the socket connects, or with the code with which it is closed, and it
 /// asks nothing then; or with the code that its one ask was told; or with `not-supported` where that told a value that is too

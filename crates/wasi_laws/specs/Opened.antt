@@ -8,7 +8,7 @@ use Rattle.wasi_world.specs.declared.call.Call.TheVariants.{Check, Lookup, TcpCr
 use Rattle.wasi_world.specs.declared.call.Told.{Told}
 use Rattle.wasi_world.specs.declared.call.Told.TheVariants.{Done}
 use Rattle.wasi_world.specs.declared.call.Entry.{Entry}
-use Rattle.wasi_run.specs.Licence.{Has, entry}
+use Rattle.wasi_walks.specs.Licence.{Has, entry}
 
 -- the socket that is asked: none by a check, a lookup or a create, and none by a mark, which tells of a handle
 abbrev pub socket_of : Call → Option OpId

@@ -9,15 +9,15 @@ use Rattle.wasi_tcp.specs.declared.writer.WriteState.{WriteState}
 use Rattle.wasi_tcp.specs.declared.writer.WriteState.TheVariants as writing
 use Rattle.wasi_tcp.specs.Writer.{writer_side}
 use Rattle.wasi_host.specs.declared.machine.Machine.{Machine}
-use Rattle.wasi_run.specs.declared.reply.Reply.{Reply}
+use Rattle.wasi_steps.specs.declared.reply.Reply.{Reply}
 use Rattle.wasi_host.specs.declared.socket.Streams.{Streams}
 use Rattle.wasi_host.specs.declared.socket.Tcp2Socket.{Tcp2Socket}
-use Rattle.wasi_run.specs.declared.step.Step.{Step}
-use Rattle.wasi_run.specs.declared.step.Step.TheVariants as step
+use Rattle.wasi_steps.specs.declared.step.Step.{Step}
+use Rattle.wasi_steps.specs.declared.step.Step.TheVariants as step
 use Rattle.wasi_host.specs.declared.store.Standing.{Standing}
 use Rattle.wasi_host.specs.Machine.{output_at}
-use Rattle.wasi_run.specs.Machine.{machine_asks}
-use Rattle.wasi_run.specs.Answered.{record_in, Answered}
+use Rattle.wasi_machine.specs.Machine.{machine_asks}
+use Rattle.wasi_walks.specs.Answered.{record_in, Answered}
 
 -- == the writer that an output names
 abbrev pub writer_in : Option Streams → Option WriteState
@@ -66,7 +66,7 @@ pub data Did (contexts : List WasiSocketsCtx) (side : OpId) : Machine → ℕ �
 -- these are the first entries of the next step, where there is one
 abbrev pub Begun : List WasiSocketsCtx → Machine → ℕ → List Step → List Entry → Type 0
 Begun contexts m line [] entries = entries ≡ []
-Begun contexts m line (s ∷ steps) entries = (rest : Asks (Reply × Machine)) × Left (machine_asks contexts m line s m.store.standing) entries rest
+Begun contexts m line (s ∷ steps) entries = (rest : Asks (Reply × Machine)) × Left (machine_asks contexts m line s) entries rest
 
 -- The log is that of the steps that were done, and of the beginning of the next.
 pub record IsOfSteps (contexts : List WasiSocketsCtx) (side : OpId) (first : Machine) (line : ℕ) (steps : List Step) (log : List Entry) : Type 0 where

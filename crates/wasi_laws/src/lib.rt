@@ -12,18 +12,18 @@ ghost use Rattle.wasi_world.specs.Asks.{Asks, Give, Left};
 ghost use Rattle.wasi_world.specs.Operation.{Item, End, Operation};
 ghost use Rattle.wasi_tcp.specs.Taken.{taken_in, IsFrontOf};
 ghost use Rattle.wasi_host.specs.declared.machine.Machine.{Machine};
-ghost use Rattle.wasi_run.specs.declared.reply.Reply.{Reply};
-ghost use Rattle.wasi_run.specs.declared.step.Step.{Step};
-ghost use Rattle.wasi_run.specs.declared.reply.Reply.TheVariants as Reply;
-ghost use Rattle.wasi_run.specs.declared.step.Step.TheVariants as Step;
-ghost use Rattle.wasi_run.specs.Answered.{Answered};
-ghost use Rattle.wasi_run.specs.Licence.{Has, entry};
+ghost use Rattle.wasi_steps.specs.declared.reply.Reply.{Reply};
+ghost use Rattle.wasi_steps.specs.declared.step.Step.{Step};
+ghost use Rattle.wasi_steps.specs.declared.reply.Reply.TheVariants as Reply;
+ghost use Rattle.wasi_steps.specs.declared.step.Step.TheVariants as Step;
+ghost use Rattle.wasi_walks.specs.Answered.{Answered};
+ghost use Rattle.wasi_walks.specs.Licence.{Has, entry};
 ghost use Rattle.wasi_host.specs.Machine.{first_state};
-ghost use Rattle.wasi_run.specs.Machine.{machine_asks, run};
+ghost use Rattle.wasi_machine.specs.Machine.{machine_asks, run};
 ghost use Rattle.wasi_laws.specs.Opened.{socket_of, AsksOpenSockets};
 ghost use Rattle.wasi_laws.specs.Order.{IsOutward, ChecksFirst, HasGone, NoCheckLeft, operation_polled, asked_by};
 ghost use Rattle.wasi_laws.specs.Permitted.{WritesTo, permitted_by, Did, IsOfSteps};
-ghost use Rattle.wasi_run.specs.Reply.{number_fields};
+ghost use Rattle.wasi_steps.specs.Reply.{number_fields};
 
 /// The log of a run, wherever it stands, is that of the steps that were done and of the beginning of the next.
 pub fn runs_are_of_steps()
@@ -40,7 +40,7 @@ pub fn taken_is_permitted()
     ensures begun { (contexts : List WasiSocketsCtx) (side : OpId) (steps : List Step) (log : List Entry) (permitted : List ℕ) (after : Machine)
         (s : Step) (entries : List Entry) (rest : Asks (Reply × Machine))
         → Did contexts side first_state 1 steps log permitted after
-        → Left (machine_asks contexts after (1 + length steps) s after.store.standing) entries rest
+        → Left (machine_asks contexts after (1 + length steps) s) entries rest
         → IsFrontOf (taken_in side (log ++ entries)) (permitted ++ permitted_by after side s) }
 {}
 

@@ -6,17 +6,17 @@ use Rattle.wasi_world.specs.declared.outcome.WasiSocketsCtx.{WasiSocketsCtx}
 use Rattle.wasi_world.specs.Seen.{Seen, Rose}
 use Rattle.wasi_world.specs.Io.{Reading, Writing, HasEnded, CountRose}
 use Rattle.wasi_host.specs.declared.machine.Machine.{Machine}
-use Rattle.wasi_run.specs.declared.step.Step.{Step}
-use Rattle.wasi_run.specs.declared.lines.LinesEnd.{LinesEnd}
-use Rattle.wasi_run.specs.declared.lines.LinesEnd.TheVariants as lines
+use Rattle.wasi_steps.specs.declared.step.Step.{Step}
+use Rattle.wasi_session.specs.declared.lines.LinesEnd.{LinesEnd}
+use Rattle.wasi_session.specs.declared.lines.LinesEnd.TheVariants as lines
 use Rattle.wasi_run.specs.declared.run.RunEnd.{RunEnd}
-use Rattle.wasi_run.specs.declared.run.RunError.{RunError}
-use Rattle.wasi_run.specs.declared.run.RunError.TheVariants.{Memory, BadStep, TooLong, ReadFault, WriteFault}
-use Rattle.wasi_run.specs.Steps.{step_of}
+use Rattle.wasi_session.specs.declared.error.RunError.{RunError}
+use Rattle.wasi_session.specs.declared.error.RunError.TheVariants.{Memory, BadStep, TooLong, ReadFault, WriteFault}
+use Rattle.wasi_steps.specs.Steps.{step_of}
 use Rattle.wasi_host.specs.Machine.{first_state}
 use Rattle.wasi_world.specs.Lines.{lines_of, lines_from, rest_of}
-use Rattle.wasi_run.specs.Lines.{BadAfter, AllSteps}
-use Rattle.wasi_run.specs.Ran.{LinesRan}
+use Rattle.wasi_session.specs.Lines.{BadAfter, AllSteps}
+use Rattle.wasi_session.specs.Ran.{LinesRan}
 use Rattle.wasi_run.specs.Script.{Answers, RanScript, IsValid, IsOkOrMemory, Completes}
 use Rattle.wasi_world.proofs.LinesOf.{lines-append}
 

@@ -2,7 +2,7 @@
 use Rattle.std.specs.Prelude.{◌/◌, ◌%◌, if◌then◌else◌, codes, ◌==◌}
 use Rattle.std.proofs.Common.{◌≡◌, ℕ, zero, suc, ◌+◌, ◌-◌, ◌*◌, ◌<◌, Bool, true, false, List, [], ◌∷◌, ◌++◌, refl, ap, sym, ◌∙◌, append_assoc, append-nil, add-one, arith}
 use Rattle.std.proofs.lemmas.Bool.{eqb-true, eqb-false}
-use Rattle.wasi_run.specs.declared.step.Step.{Step}
+use Rattle.wasi_steps.specs.declared.step.Step.{Step}
 use Rattle.wasi_run.specs.Generate.{drawn, next_drawn, step_in, generated_step, generated_steps, generated, script_line, script_text}
 use Rattle.wasi_run.proofs.GeneratedLines.{network_line}
 

@@ -6,12 +6,12 @@ use Rattle.std.proofs.lemmas.Bool.Decides.{nat_tests}
 use Rattle.wasi_world.specs.Fields.{is_space}
 use Rattle.wasi_world.specs.Written.{is_visible, IsVisible, AreBytes}
 use Rattle.wasi_world.specs.Lines.{lines_from, lines_of, rest_from, rest_of}
-use Rattle.wasi_run.specs.declared.step.Step.{Step}
-use Rattle.wasi_run.specs.declared.step.Step.TheVariants.{Drop}
-use Rattle.wasi_run.specs.Steps.{IsStep, line_of, step_of}
-use Rattle.wasi_run.specs.Lines.{AllSteps}
+use Rattle.wasi_steps.specs.declared.step.Step.{Step}
+use Rattle.wasi_steps.specs.declared.step.Step.TheVariants.{Drop}
+use Rattle.wasi_steps.specs.Steps.{IsStep, line_of, step_of}
+use Rattle.wasi_session.specs.Lines.{AllSteps}
 use Rattle.wasi_run.specs.Script.{IsValid}
-use Rattle.wasi_run.proofs.StepLaws.{step_of_line, step_line_visible}
+use Rattle.wasi_steps.proofs.StepLaws.{step_of_line, step_line_visible}
 use Rattle.wasi_run.specs.Generate.{drawn, port_of, count_of, byte_of, block, step_in, generated_step, generated_steps, generated, script_text}
 
 -- == lines of visible characters and spaces

@@ -1,20 +1,26 @@
 -- What a script's record says of the run of its lines, and of the closings after it.
-use Rattle.std.proofs.Common.{◌∙◌, refl, ℕ, List, [], ◌++◌, Result, Ok, Err, false, ◌≡◌}
+use Rattle.std.proofs.Common.{◌∙◌, refl, ap, sym, append-nil, ℕ, List, [], ◌∷◌, ◌++◌, ◌+◌, length, Some, Result, Ok, Err, false, ◌≡◌}
 use Rattle.std.specs.Prelude.{OnOk}
+use Rattle.wasi_world.specs.declared.call.Entry.{Entry}
 use Rattle.wasi_world.specs.declared.outcome.WasiSocketsCtx.{WasiSocketsCtx}
 use Rattle.wasi_world.specs.Seen.{Seen}
 use Rattle.wasi_world.specs.Io.{Reading, Writing}
 use Rattle.wasi_host.specs.declared.machine.Machine.{Machine}
 use Rattle.wasi_run.specs.declared.run.RunEnd.{RunEnd}
-use Rattle.wasi_run.specs.declared.run.RunError.{RunError}
+use Rattle.wasi_machine.specs.Machine.{HasRun}
+use Rattle.wasi_steps.specs.declared.step.Step.{Step}
+use Rattle.wasi_session.specs.declared.error.RunError.{RunError}
+use Rattle.wasi_session.specs.declared.error.RunError.TheVariants.{Memory, BadStep, TooLong, ReadFault, WriteFault}
+use Rattle.wasi_session.specs.declared.lines.LinesEnd.{LinesEnd}
+use Rattle.wasi_session.specs.Ran.{Met, Beyond}
 use Rattle.wasi_host.specs.Machine.{first_state}
 use Rattle.wasi_host.specs.Sides.{KnowsSides, ClosesAll}
 use Rattle.wasi_host.specs.Closing.{IsFresh, HasClosedAll}
 use Rattle.wasi_run.specs.Script.{RanOver, RanScript}
 use Rattle.wasi_run.specs.Causes.{BeginsRun, DoneLines}
 use Rattle.wasi_run.specs.Headline.{RunsLicensed}
-use Rattle.wasi_run.proofs.licence.Beginnings.{started_is_licensed}
-use Rattle.wasi_run.proofs.Stretches.{stays_open}
+use Rattle.wasi_walks.proofs.licence.Runs as licence
+use Rattle.wasi_session.proofs.Stretches.{stays_open}
 use Rattle.wasi_host.proofs.Closings.{empty_known}
 use Rattle.wasi_run.proofs.CauseLaws.{whole_by}
 
@@ -30,15 +36,64 @@ begins_run h = record {
   quiet = h.quiet;
 }
 
--- at every return the log is licensed
-pub runs_licensed : {contexts : List WasiSocketsCtx} {limit : ℕ} {before after : Reading} {w_old w_new : Seen} → BeginsRun contexts limit before after w_old w_new → RunsLicensed contexts limit before after w_old w_new
-runs_licensed {contexts} h = record {
-  text = h.text;
-  gave = h.gave;
-  steps = h.steps;
-  first_lines = h.first_lines;
-  licensed = λ empty. rw h.quiet.log (started_is_licensed contexts h.steps empty h.began);
-}
+-- == the log
+-- what was asked after the lines done stands in the log after what they asked
+module _ (contexts : List WasiSocketsCtx) (state : Machine) (line : ℕ) (old now : Seen) (front : List Entry) (log : old.log ≡ Some front) where
+  abbrev Follows : Type 0
+  Follows = (back : List Entry) × (now.log ≡ Some (front ++ back))
+
+  nothing_follows : now ≡ old → Follows
+  nothing_follows same = ([], ap (λ (s : Seen). s.log) same ∙ (log ∙ ap Some (sym (append-nil front))))
+
+  met_follows : (met : List Step) → Met contexts state line met old now → Follows
+  met_follows [] h = nothing_follows h
+  met_follows (s ∷ []) h = (h.reached.entries, rw log at h.reached.passed.log)
+  met_follows (s ∷ t ∷ more) h = absurd h
+
+  follows : (outcome : Result LinesEnd RunError) (met : List Step) → Beyond contexts outcome state line met old now → Follows
+  follows (Err Memory) met h = met_follows met h
+  follows (Ok end) met h = nothing_follows h.1
+  follows (Err (BadStep n)) met h = nothing_follows h.1
+  follows (Err TooLong) met h = nothing_follows h.1
+  follows (Err ReadFault) met h = nothing_follows h.1
+  follows (Err WriteFault) met h = nothing_follows h.1
+
+module _ {contexts : List WasiSocketsCtx} {limit : ℕ} {before after : Reading} {k_old k_new : Writing} {w_old w_new : Seen} {result : Result RunEnd RunError} where
+  -- of a world that tells its log, which was empty when the run began
+  has_run : (h : RanScript contexts limit before after k_old k_new w_old w_new result) → w_old.log ≡ Some [] → (log : List Entry) × (w_new.log ≡ Some log) × HasRun contexts (h.over.ran.steps ++ h.over.ran.met) log h.over.ran.replies
+  has_run h empty =
+      let lines = h.over.ran in
+      let begun = lines.began [] in
+      let ran = lines.ran [] in
+      let log : h.stopped.log ≡ Some begun.reached.entries = rw empty at begun.reached.passed.log in
+      let front : lines.seen.log ≡ Some ran.entries = rw empty at ran.passed.log in
+      let back = follows contexts lines.state (1 + length lines.steps) lines.seen h.stopped ran.entries front h.over.outcome lines.met lines.beyond in
+      let cut : begun.reached.entries ≡ ran.entries ++ back.0 = (let other = back.1 in cc) in (
+        begun.reached.entries,
+        h.quiet.log ∙ log,
+        record {
+          rest = begun.rest;
+          begun = begun.reached.left;
+          done = lines.steps;
+          more = lines.met;
+          first = refl;
+          answered = lines.answered;
+          front = ran.entries;
+          back = back.0;
+          cut = cut;
+          state = lines.state;
+          ran = ran.left;
+        },
+      )
+
+  -- at every return the log is licensed
+  pub runs_licensed : RanScript contexts limit before after k_old k_new w_old w_new result → RunsLicensed contexts limit before after k_old k_new w_old w_new result
+  runs_licensed h = record {
+    ran = h;
+    licensed = λ empty.
+        let run = has_run h empty in
+        rw run.1 (run.2, licence.runs_licensed contexts (h.over.ran.steps ++ h.over.ran.met) run.0 h.over.ran.replies run.2);
+  }
 
 -- whole at Ok, and so are the replies
 pub whole_at_ok : {contexts : List WasiSocketsCtx} {limit : ℕ} {before after : Reading} {k_old k_new : Writing} {w_old w_new : Seen} (result : Result RunEnd RunError) → RanScript contexts limit before after k_old k_new w_old w_new result → OnOk result (DoneLines contexts limit before after k_old k_new w_old w_new)

@@ -5,11 +5,11 @@ use Rattle.std.proofs.Common.{◌≡◌, ℕ, List, length, Result, Ok, Err, inl
 use Rattle.wasi_world.specs.declared.outcome.WasiSocketsCtx.{WasiSocketsCtx}
 use Rattle.wasi_world.specs.Seen.{Seen, Rose}
 use Rattle.wasi_world.specs.Io.{Reading, Writing, SameCounts, CountRose}
-use Rattle.wasi_run.specs.declared.lines.LinesEnd.{LinesEnd}
-use Rattle.wasi_run.specs.declared.lines.LinesEnd.TheVariants as lines
-use Rattle.wasi_run.specs.declared.run.RunError.{RunError}
-use Rattle.wasi_run.specs.declared.run.RunError.TheVariants.{Memory, BadStep, TooLong, ReadFault, WriteFault}
-use Rattle.wasi_run.specs.Ran.{Counted}
+use Rattle.wasi_session.specs.declared.lines.LinesEnd.{LinesEnd}
+use Rattle.wasi_session.specs.declared.lines.LinesEnd.TheVariants as lines
+use Rattle.wasi_session.specs.declared.error.RunError.{RunError}
+use Rattle.wasi_session.specs.declared.error.RunError.TheVariants.{Memory, BadStep, TooLong, ReadFault, WriteFault}
+use Rattle.wasi_session.specs.Ran.{Counted}
 use Rattle.wasi_run.specs.Script.{Answers, RanScript, IsValid, IsOkOrMemory, Completes}
 use Rattle.wasi_run.specs.Counted.{unread, unwritten, IsOwn}
 

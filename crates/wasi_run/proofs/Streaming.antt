@@ -7,19 +7,19 @@ use Rattle.wasi_world.specs.declared.outcome.WasiSocketsCtx.{WasiSocketsCtx}
 use Rattle.wasi_world.specs.Seen.{Seen}
 use Rattle.wasi_world.specs.Io.{Reading, Writing, Gave, GaveSome, GaveNone}
 use Rattle.wasi_host.specs.declared.machine.Machine.{Machine}
-use Rattle.wasi_run.specs.declared.lines.LinesEnd.{LinesEnd}
-use Rattle.wasi_run.specs.declared.lines.LinesEnd.TheVariants as lines
+use Rattle.wasi_session.specs.declared.lines.LinesEnd.{LinesEnd}
+use Rattle.wasi_session.specs.declared.lines.LinesEnd.TheVariants as lines
 use Rattle.wasi_run.specs.declared.run.RunEnd.{RunEnd}
 use Rattle.wasi_run.specs.declared.run.RunEnd.TheVariants as end
-use Rattle.wasi_run.specs.declared.run.RunError.{RunError}
-use Rattle.wasi_run.specs.declared.run.RunError.TheVariants.{BadStep, TooLong, ReadFault}
+use Rattle.wasi_session.specs.declared.error.RunError.{RunError}
+use Rattle.wasi_session.specs.declared.error.RunError.TheVariants.{BadStep, TooLong, ReadFault}
 use Rattle.wasi_host.specs.Machine.{first_state}
 use Rattle.wasi_world.specs.Lines.{lines_of, rest_of, lines_from, rest_from}
-use Rattle.wasi_run.specs.Lines.{after_lines, KeptOf}
-use Rattle.wasi_run.specs.Ran.{LinesRan}
+use Rattle.wasi_session.specs.Lines.{after_lines, KeptOf}
+use Rattle.wasi_session.specs.Ran.{LinesRan}
 use Rattle.wasi_run.specs.Script.{RanOver}
-use Rattle.wasi_run.proofs.Takes.{gave_again, gave_none, gave_end, gave_fault, fault_rose, has_room, more_fits}
-use Rattle.wasi_run.proofs.Stretches.{lines_then, lines_none, trap_then}
+use Rattle.wasi_session.proofs.Takes.{gave_again, gave_none, gave_end, gave_fault, fault_rose, has_room, more_fits}
+use Rattle.wasi_session.proofs.Stretches.{lines_then, lines_none, trap_then}
 use Rattle.wasi_world.proofs.LinesOf.{lines-append, rest-append, count_lines}
 
 -- All whole lines of what was read were done, and the unfinished one is kept.

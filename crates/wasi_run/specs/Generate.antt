@@ -4,9 +4,9 @@ use Rattle.wasi_addr.specs.declared.address.IpSocketAddress.{IpSocketAddress}
 use Rattle.wasi_addr.specs.declared.address.IpSocketAddress.TheVariants as socket
 use Rattle.wasi_addr.specs.declared.address.ShutdownType.TheVariants.{Both}
 use Rattle.wasi_addr.specs.declared.address.SocketAddressFamily.TheVariants.{Ipv4}
-use Rattle.wasi_run.specs.declared.step.Step.{Step}
-use Rattle.wasi_run.specs.declared.step.Step.TheVariants.{Network, TcpCreate, TcpStartConnect, TcpFinishConnect, CheckWrite, Write, TcpShutdown, Drop}
-use Rattle.wasi_run.specs.Steps.{line_of}
+use Rattle.wasi_steps.specs.declared.step.Step.{Step}
+use Rattle.wasi_steps.specs.declared.step.Step.TheVariants.{Network, TcpCreate, TcpStartConnect, TcpFinishConnect, CheckWrite, Write, TcpShutdown, Drop}
+use Rattle.wasi_steps.specs.Steps.{line_of}
 
 -- the number that is drawn after another
 abbrev pub next_drawn : ℕ → ℕ

@@ -10,18 +10,17 @@ use Rattle.wasi_world.specs.Script.{IsScripted}
 use Rattle.wasi_world.specs.Scenario.{plan_of, free_context}
 use Rattle.wasi_world.specs.Scripted.{at_start}
 use Rattle.wasi_run.specs.declared.run.RunEnd.{RunEnd}
-use Rattle.wasi_run.specs.declared.run.RunError.{RunError}
-use Rattle.wasi_run.specs.declared.run.RunError.TheVariants as error
+use Rattle.wasi_session.specs.declared.error.RunError.{RunError}
+use Rattle.wasi_session.specs.declared.error.RunError.TheVariants as error
 use Rattle.wasi_run.specs.declared.counts.Counts.{Counts}
 use Rattle.wasi_run.specs.declared.program.Command.{Command}
 use Rattle.wasi_run.specs.declared.program.Command.TheVariants.{Run, Generate}
 use Rattle.wasi_run.specs.declared.program.Status.{Status}
 use Rattle.wasi_run.specs.declared.program.Status.TheVariants as status
-use Rattle.wasi_run.specs.Script.{RanScript}
 use Rattle.wasi_host.specs.Closing.{HasClosedAll}
 use Rattle.wasi_run.specs.Headline.{RunsLicensed}
 use Rattle.wasi_run.specs.Counted.{CountsRun, summary}
-use Rattle.wasi_run.specs.Written.{TookAll, TookFront}
+use Rattle.wasi_session.specs.Written.{TookAll, TookFront}
 
 -- the words are `run LIMIT`
 abbrev pub run_in : List ℕ → List ℕ → Option Command
@@ -92,8 +91,7 @@ pub record RanPlan (plan : Plan) (contexts : List WasiSocketsCtx) (limit : ℕ) 
   pub seen : Seen  -- the world after it
   pub logged : seen.log ≡ Some log
   pub ended : seen.ended ≡ true
-  pub ran : RanScript contexts limit s_old s_new k_old k_new (at_start plan) seen result
-  pub licensed : RunsLicensed contexts limit s_old s_new (at_start plan) seen
+  pub licensed : RunsLicensed contexts limit s_old s_new k_old k_new (at_start plan) seen result
   pub closed : HasClosedAll seen
   pub scripted : IsScripted plan log
 

@@ -5,10 +5,11 @@ ghost use Rattle.wasi_world.specs.Lines.{lines_of};
 ghost use Rattle.wasi_run.specs.Counted.{took_count, taken_bytes, CountsRun, IsOwn, summary};
 
 use crate::generate::generate;
-use crate::run::{RunError, run_script};
+use crate::run::run_script;
 use crate::text_source::TextSource;
 use std::alloc::{AllocError, Global};
 use std::fmt::Write;
+use wasi_session::RunError;
 use wasi_world::{Entry, GrowingSink, Lists, ScriptedWorld, Told, WasiSocketsCtx};
 
 /// The context of a scenario that has no line about contexts.

@@ -9,9 +9,9 @@ ghost use Rattle.wasi_run.specs.Parsed.{IsPlanned, IsParsed, TextEnds};
 ghost use Rattle.wasi_run.specs.Script.{AreNumbered};
 
 use crate::counts::run_generated;
-use crate::lines::write_all;
-use crate::run::{RunEnd, RunError, run_script};
+use crate::run::{RunEnd, run_script};
 use std::alloc::{AllocError, Global};
+use wasi_session::{RunError, write_all};
 use wasi_world::fields::number;
 use wasi_world::{Entry, ScenarioError, ScriptedWorld, Sink, Source, WasiSocketsCtx};
 

@@ -9,10 +9,9 @@ ghost use Rattle.wasi_run.specs.Script.{AreNumbered, RanOver, RanScript, Complet
 ghost use Rattle.wasi_run.specs.Headline.{RunsLicensed};
 ghost use Rattle.wasi_run.specs.Causes.{BeginsRun, DoneLines, ReadsAll, StopsAtTrap, StopsAtBadStep, StopsTooLong};
 
-use crate::lines::{LinesEnd, do_piece};
-use crate::session::Session;
-use std::alloc::{AllocError, Global};
-use thiserror::Error;
+use std::alloc::Global;
+use wasi_session::lines::{LinesEnd, do_piece};
+use wasi_session::{RunError, Session};
 use wasi_world::{Sink, Source, WasiSocketsCtx, World};
 
 /// How many bytes are read at a time.
@@ -25,37 +24,6 @@ pub enum RunEnd {
     AllRead,
     /// The last reply is a trap.
     Trapped,
-}
-
-/// Why a script was left. The whole lines before were done and answered.
-#[derive(Clone, Copy, Debug, PartialEq, Eq, Error)]
-pub enum RunError {
-    /// The step that it met has no reply.
-    #[error("memory ran out")]
-    Memory,
-    /// That line, counted from 1, isn't a step or names no context, or the input ended inside it.
-    #[error("line {0} is not a step")]
-    BadStep(u32),
-    /// The reader gave a byte past the limit.
-    #[error("the script is longer than its limit")]
-    TooLong,
-    /// The reader counted a fault.
-    #[error("a read failed")]
-    ReadFault,
-    /// The writer counted a fault or a refused piece; the last reply may be cut.
-    #[error("a write failed")]
-    WriteFault,
-}
-
-impl From<AllocError> for RunError {
-    ghost use Rattle.std.specs.Prelude.{◌≡◌};
-    ghost use Rattle.wasi_run.specs.declared.run.RunError.TheVariants.{Memory};
-
-    ghost from_gives = { λ _ e. e ≡ Memory };
-
-    fn from(_: AllocError) -> RunError {
-        RunError::Memory
-    }
 }
 
 /// As many of the bytes as lie within the limit.
@@ -139,10 +107,11 @@ pub fn run_script<W: World, S: Source, K: Sink>(
         (S.reading reader.old) (S.reading reader.new)
         (K.writing writer.old) (K.writing writer.new)
         (W.seen world.old) (W.seen world.new)) }
-    // Whatever it answers, the log is licensed.
+    // Whatever it answers, the log is licensed by the lines done and met, with the replies to them.
     ensures licensed { RunsLicensed contexts.old.items limit
         (S.reading reader.old) (S.reading reader.new)
-        (W.seen world.old) (W.seen world.new) }
+        (K.writing writer.old) (K.writing writer.new)
+        (W.seen world.old) (W.seen world.new) result }
     ensures complete { Completes (length contexts.old.items) limit
         (S.reading reader.old) (S.reading reader.new)
         (K.writing writer.old) (K.writing writer.new) result }

@@ -8,11 +8,11 @@ use Rattle.wasi_world.specs.declared.outcome.WasiSocketsCtx.{WasiSocketsCtx}
 use Rattle.wasi_world.specs.Asks.{Give, Reaches}
 use Rattle.wasi_world.specs.Seen.{Seen}
 use Rattle.wasi_host.specs.declared.machine.Machine.{Machine}
-use Rattle.wasi_run.specs.declared.reply.Reply.{Reply}
-use Rattle.wasi_run.specs.declared.step.Step.{Step}
-use Rattle.wasi_run.specs.Machine.{machine_asks}
-use Rattle.wasi_run.specs.Reply.{is_trap}
-use Rattle.wasi_run.specs.Steps.{step_of}
+use Rattle.wasi_steps.specs.declared.reply.Reply.{Reply}
+use Rattle.wasi_steps.specs.declared.step.Step.{Step}
+use Rattle.wasi_machine.specs.Machine.{machine_asks}
+use Rattle.wasi_steps.specs.Reply.{is_trap}
+use Rattle.wasi_steps.specs.Steps.{step_of}
 use Rattle.wasi_transcript.specs.Transcript.{answered_text}
 use Rattle.wasi_transcript.specs.Done.{Exchanged}
 
@@ -24,7 +24,7 @@ grown (Some log) log_old log_new es h k = let e : log ≡ log_old = cc in let f 
 newer : (log_old log_new es : List Entry) → log_new ≡ log_old ++ es → take (length log_new - length log_old) (drop (length log_old) log_new) ≡ es
 newer log_old log_new es e = take_rest log_new (length log_old) ∙ ap (drop (length log_old)) e ∙ drop-append_seam log_old es
 
-pub exchanged : {contexts : List WasiSocketsCtx} {m next : Machine} {number : ℕ} {line : List ℕ} {s : Step} {reply : Reply} {old new : Seen} {log_old log_new : List Entry} {text : List ℕ} {trap : Bool} → step_of (length contexts) line ≡ Some s → Reaches (machine_asks contexts m number s m.store.standing) (Give (reply, next)) old new → old.log ≡ Some log_old → new.log ≡ Some log_new → text ≡ answered_text line (take (length log_new - length log_old) (drop (length log_old) log_new)) reply → is_trap reply ≡ trap → Exchanged contexts m next number line old new text trap
+pub exchanged : {contexts : List WasiSocketsCtx} {m next : Machine} {number : ℕ} {line : List ℕ} {s : Step} {reply : Reply} {old new : Seen} {log_old log_new : List Entry} {text : List ℕ} {trap : Bool} → step_of (length contexts) line ≡ Some s → Reaches (machine_asks contexts m number s) (Give (reply, next)) old new → old.log ≡ Some log_old → new.log ≡ Some log_new → text ≡ answered_text line (take (length log_new - length log_old) (drop (length log_old) log_new)) reply → is_trap reply ≡ trap → Exchanged contexts m next number line old new text trap
 exchanged {line = line} {s = s} {reply = reply} {old = old} {log_old = log_old} {log_new = log_new} spelled h before after text trap = record {
   exchange = record { line = line; step = s; calls = h.entries; reply = reply };
   line_is = refl;

@@ -4,11 +4,11 @@ use Rattle.wasi_world.specs.declared.outcome.WasiSocketsCtx.{WasiSocketsCtx}
 use Rattle.wasi_world.specs.Asks.{Asks, Give, bind, Left}
 use Rattle.wasi_world.proofs.Walks.{left_then, left_in}
 use Rattle.wasi_host.specs.declared.machine.Machine.{Machine}
-use Rattle.wasi_run.specs.declared.reply.Reply.{Reply}
-use Rattle.wasi_run.specs.declared.step.Step.{Step}
-use Rattle.wasi_run.specs.Machine.{machine_asks, run}
-use Rattle.wasi_run.specs.Ran.{NoTrap, OneTrap}
-use Rattle.wasi_run.specs.Reply.{is_trap}
+use Rattle.wasi_steps.specs.declared.reply.Reply.{Reply}
+use Rattle.wasi_steps.specs.declared.step.Step.{Step}
+use Rattle.wasi_machine.specs.Machine.{machine_asks, run}
+use Rattle.wasi_session.specs.Ran.{NoTrap, OneTrap}
+use Rattle.wasi_steps.specs.Reply.{is_trap}
 use Rattle.wasi_transcript.specs.Transcript.{Exchange, steps_in, replies_in, calls_in, AreDone}
 
 -- no reply but the last is a trap
@@ -57,7 +57,7 @@ unfolding bind
 ran contexts [] so_far m number last h may = ap (λ replies. Give (replies, m)) (sym (append-nil so_far)) ∙ gives (so_far ++ []) m last h
 ran contexts (x ∷ xs) so_far m number last h may =
     let (next, done, more) = h in
-    let asks = machine_asks contexts m number x.step m.store.standing in
+    let asks = machine_asks contexts m number x.step in
     let f = going_on contexts so_far number (steps_in xs) in
     left_then (bind asks f) (f (x.reply, next)) (Give (so_far ++ x.reply ∷ replies_in xs, last)) x.calls (calls_in xs)
     (left_in f asks (Give (x.reply, next)) x.calls done.asked)

@@ -13,16 +13,16 @@ use Rattle.wasi_host.specs.declared.machine.Machine.{Machine}
 use Rattle.wasi_host.specs.Machine.{first_state}
 use Rattle.wasi_host.specs.Sides.{KnowsSides}
 use Rattle.wasi_run.specs.declared.run.RunEnd.TheVariants as end
-use Rattle.wasi_run.specs.declared.run.RunError.{RunError}
-use Rattle.wasi_run.specs.declared.run.RunError.TheVariants.{Memory, BadStep, TooLong, ReadFault, WriteFault}
-use Rattle.wasi_run.specs.declared.session.Session.{Session}
-use Rattle.wasi_run.specs.Ran.{NoTrap}
-use Rattle.wasi_run.specs.declared.reply.Reply.{Reply}
-use Rattle.wasi_run.specs.declared.step.Step.{Step}
-use Rattle.wasi_run.specs.Machine.{machine_asks}
-use Rattle.wasi_run.specs.Steps.{step_of}
-use Rattle.wasi_run.specs.Written.{TookAll, TookFront}
-use Rattle.wasi_run.proofs.Takes.{gave_again, gave_none, took_again, took_none, same_again, same_none, rose_again}
+use Rattle.wasi_session.specs.declared.error.RunError.{RunError}
+use Rattle.wasi_session.specs.declared.error.RunError.TheVariants.{Memory, BadStep, TooLong, ReadFault, WriteFault}
+use Rattle.wasi_session.specs.declared.session.Session.{Session}
+use Rattle.wasi_session.specs.Ran.{NoTrap}
+use Rattle.wasi_steps.specs.declared.reply.Reply.{Reply}
+use Rattle.wasi_steps.specs.declared.step.Step.{Step}
+use Rattle.wasi_machine.specs.Machine.{machine_asks}
+use Rattle.wasi_steps.specs.Steps.{step_of}
+use Rattle.wasi_session.specs.Written.{TookAll, TookFront}
+use Rattle.wasi_session.proofs.Takes.{gave_again, gave_none, took_again, took_none, same_again, same_none, rose_again}
 use Rattle.wasi_transcript.specs.declared.lines.NextLine.TheVariants as next
 use Rattle.wasi_transcript.specs.Reading.{Held, with_more, Reads}
 use Rattle.wasi_transcript.specs.Transcript.{Exchange, exchanges_text, lines_in, replies_in, calls_in, IsDone, AreDone, Logged}
@@ -292,10 +292,10 @@ module _ {contexts : List WasiSocketsCtx} {limit : ℕ} {s_old s_now : Reading} 
     sides = λ held. sides (s.sides held);
   }
 
-met_line : (contexts : List WasiSocketsCtx) (machine : Machine) (number n : ℕ) (line : List ℕ) (more : List (List ℕ)) (calls : List Entry) → number + 1 ≡ n → (calls ≡ []) ⊎ ((s : Step) × (step_of (length contexts) line ≡ Some s) × ((left : Asks (Reply × Machine)) × Left (machine_asks contexts machine (number + 1) s machine.store.standing) calls left)) → IsMet contexts machine n (line ∷ more) calls
+met_line : (contexts : List WasiSocketsCtx) (machine : Machine) (number n : ℕ) (line : List ℕ) (more : List (List ℕ)) (calls : List Entry) → number + 1 ≡ n → (calls ≡ []) ⊎ ((s : Step) × (step_of (length contexts) line ≡ Some s) × ((left : Asks (Reply × Machine)) × Left (machine_asks contexts machine (number + 1) s) calls left)) → IsMet contexts machine n (line ∷ more) calls
 met_line contexts machine number n line more calls e (inl none) = inl none
 met_line contexts machine number n line more calls e (inr first) =
-    inr (line, more, refl, (first.0, first.1, (let P : ℕ → Type 0 = λ n. (left : Asks (Reply × Machine)) × Left (machine_asks contexts machine n first.0 machine.store.standing) calls left in subst P e first.2)))
+    inr (line, more, refl, (first.0, first.1, (let P : ℕ → Type 0 = λ n. (left : Asks (Reply × Machine)) × Left (machine_asks contexts machine n first.0) calls left in subst P e first.2)))
 
 module _ {contexts : List WasiSocketsCtx} {limit : ℕ} {s_old s_now : Reading} {k_old k_now : Writing} {w_old w_now w_new : Seen} {machine : Machine} {number taken : ℕ} {line rest : List ℕ} {more : List (List ℕ)} where
   -- memory ran out in the line

@@ -5,12 +5,12 @@ use Rattle.wasi_world.specs.declared.call.Entry.{Entry}
 use Rattle.wasi_world.specs.declared.outcome.WasiSocketsCtx.{WasiSocketsCtx}
 use Rattle.wasi_world.specs.Asks.{Asks, Left}
 use Rattle.wasi_world.specs.Seen.{Seen}
-use Rattle.wasi_run.specs.declared.reply.Reply.{Reply}
-use Rattle.wasi_run.specs.declared.session.Session.{Session}
-use Rattle.wasi_run.specs.declared.step.Step.{Step}
-use Rattle.wasi_run.specs.Machine.{machine_asks}
-use Rattle.wasi_run.specs.Reply.{is_trap}
-use Rattle.wasi_run.specs.Steps.{step_of}
+use Rattle.wasi_steps.specs.declared.reply.Reply.{Reply}
+use Rattle.wasi_session.specs.declared.session.Session.{Session}
+use Rattle.wasi_steps.specs.declared.step.Step.{Step}
+use Rattle.wasi_machine.specs.Machine.{machine_asks}
+use Rattle.wasi_steps.specs.Reply.{is_trap}
+use Rattle.wasi_steps.specs.Steps.{step_of}
 use Rattle.wasi_host.specs.declared.machine.Machine.{Machine}
 use Rattle.wasi_transcript.specs.declared.exchange.LineEnd.{LineEnd}
 use Rattle.wasi_transcript.specs.declared.exchange.LineEnd.TheVariants.{Answered, Trapped, NoStep}
@@ -37,7 +37,7 @@ pub record Starved (contexts : List WasiSocketsCtx) (m : Machine) (number : ℕ)
   pub calls : List Entry
   pub logged : Logged old calls new
   pub closings : new.closings ≡ old.closings
-  pub first : calls ≡ [] ⊎ ((s : Step) × (step_of (length contexts) line ≡ Some s) × ((rest : Asks (Reply × Machine)) × Left (machine_asks contexts m number s m.store.standing) calls rest))
+  pub first : calls ≡ [] ⊎ ((s : Step) × (step_of (length contexts) line ≡ Some s) × ((rest : Asks (Reply × Machine)) × Left (machine_asks contexts m number s) calls rest))
 
 -- what became of a line, by how it ended
 abbrev pub LineDone : List WasiSocketsCtx → Session → Session → List ℕ → Seen → Seen → Result LineEnd AllocError → Type 0

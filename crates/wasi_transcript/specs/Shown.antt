@@ -8,15 +8,15 @@ use Rattle.wasi_world.specs.Lines.{lines_of, rest_of}
 use Rattle.wasi_world.specs.Seen.{Seen, Rose}
 use Rattle.wasi_host.specs.declared.machine.Machine.{Machine}
 use Rattle.wasi_host.specs.Machine.{first_state}
-use Rattle.wasi_run.specs.declared.reply.Reply.{Reply}
+use Rattle.wasi_steps.specs.declared.reply.Reply.{Reply}
 use Rattle.wasi_run.specs.declared.run.RunEnd.{RunEnd}
 use Rattle.wasi_run.specs.declared.run.RunEnd.TheVariants as end
-use Rattle.wasi_run.specs.declared.run.RunError.{RunError}
-use Rattle.wasi_run.specs.declared.run.RunError.TheVariants.{Memory, BadStep, TooLong, ReadFault, WriteFault}
-use Rattle.wasi_run.specs.declared.step.Step.{Step}
-use Rattle.wasi_run.specs.Machine.{machine_asks}
-use Rattle.wasi_run.specs.Ran.{NoTrap, OneTrap}
-use Rattle.wasi_run.specs.Steps.{step_of}
+use Rattle.wasi_session.specs.declared.error.RunError.{RunError}
+use Rattle.wasi_session.specs.declared.error.RunError.TheVariants.{Memory, BadStep, TooLong, ReadFault, WriteFault}
+use Rattle.wasi_steps.specs.declared.step.Step.{Step}
+use Rattle.wasi_machine.specs.Machine.{machine_asks}
+use Rattle.wasi_session.specs.Ran.{NoTrap, OneTrap}
+use Rattle.wasi_steps.specs.Steps.{step_of}
 use Rattle.wasi_transcript.specs.declared.show.Stop.{Stop}
 use Rattle.wasi_transcript.specs.declared.show.Stop.TheVariants as stop
 use Rattle.wasi_transcript.specs.Transcript.{Exchange, exchange_text, exchanges_text, no_step_text, closes_text, lines_in, replies_in, calls_in, AreDone, Logged}
@@ -46,7 +46,7 @@ IsBad contexts limit text left line s_new =
 -- Memory ran out between two lines, or in the next one, of which these were the first calls.
 abbrev pub IsMet : List WasiSocketsCtx → Machine → ℕ → List (List ℕ) → List Entry → Type 0
 IsMet contexts m number left met =
-    (met ≡ []) ⊎ ((line : List ℕ) × (more : List (List ℕ)) × (left ≡ line ∷ more) × ((s : Step) × (step_of (length contexts) line ≡ Some s) × ((rest : Asks (Reply × Machine)) × Left (machine_asks contexts m number s m.store.standing) met rest)))
+    (met ≡ []) ⊎ ((line : List ℕ) × (more : List (List ℕ)) × (left ≡ line ∷ more) × ((s : Step) × (step_of (length contexts) line ≡ Some s) × ((rest : Asks (Reply × Machine)) × Left (machine_asks contexts m number s) met rest)))
 
 -- The last exchange that was done was written in part.
 pub record CutLast (exchanges : List Exchange) (written : List ℕ) : Type 0 where

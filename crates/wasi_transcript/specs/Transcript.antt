@@ -7,11 +7,11 @@ use Rattle.wasi_world.specs.Asks.{Give, Left}
 use Rattle.wasi_world.specs.EntryText.{entry_text}
 use Rattle.wasi_world.specs.Seen.{Seen}
 use Rattle.wasi_host.specs.declared.machine.Machine.{Machine}
-use Rattle.wasi_run.specs.declared.reply.Reply.{Reply}
-use Rattle.wasi_run.specs.declared.step.Step.{Step}
-use Rattle.wasi_run.specs.Machine.{machine_asks}
-use Rattle.wasi_run.specs.Replies.{text_of}
-use Rattle.wasi_run.specs.Steps.{step_of}
+use Rattle.wasi_steps.specs.declared.reply.Reply.{Reply}
+use Rattle.wasi_steps.specs.declared.step.Step.{Step}
+use Rattle.wasi_machine.specs.Machine.{machine_asks}
+use Rattle.wasi_steps.specs.Replies.{text_of}
+use Rattle.wasi_steps.specs.Steps.{step_of}
 
 -- A line that was done: its step, the calls that it made on the network, and its reply.
 pub record Exchange : Type 0 where
@@ -67,7 +67,7 @@ calls_in exchanges = flat_map (λ x. x.calls) exchanges
 -- The line of this number spells the step, and the step's asks with their answers are the calls: they give the reply, and leave the machine so.
 pub record IsDone (contexts : List WasiSocketsCtx) (m : Machine) (number : ℕ) (x : Exchange) (next : Machine) : Type 0 where
   pub spelled : step_of (length contexts) x.line ≡ Some x.step
-  pub asked : Left (machine_asks contexts m number x.step m.store.standing) x.calls (Give (x.reply, next))
+  pub asked : Left (machine_asks contexts m number x.step) x.calls (Give (x.reply, next))
 
 -- the lines were done one after another, the first of which has this number
 abbrev pub AreDone : List WasiSocketsCtx → Machine → ℕ → List Exchange → Machine → Type 0

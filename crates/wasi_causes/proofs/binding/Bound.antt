@@ -15,9 +15,9 @@ use Rattle.wasi_tcp.specs.declared.socket.TcpState.{TcpState}
 use Rattle.wasi_tcp.specs.declared.socket.TcpState.TheVariants.{Default}
 use Rattle.wasi_tcp.specs.Shape.{Socket}
 use Rattle.wasi_tcp.specs.Socket.{after_local, ask_bound, bound_asks}
-use Rattle.wasi_run.specs.Licence.{entry}
-use Rattle.wasi_run.specs.Answered.{IsPastDefault, IsBound, Known, PastDefault, ToldBound, IsFree}
-use Rattle.wasi_run.proofs.Gives.{Gives}
+use Rattle.wasi_walks.specs.Licence.{entry}
+use Rattle.wasi_walks.specs.Answered.{IsPastDefault, IsBound, Known, PastDefault, ToldBound, IsFree}
+use Rattle.wasi_walks.proofs.Gives.{Gives}
 
 -- past the state Default nothing is asked
 pub asked_none : (own : OpId) (socket : Socket) (es : List Entry) → IsBound own socket es → IsPastDefault socket.state → es ≡ []

@@ -13,10 +13,10 @@ use Rattle.wasi_world.specs.Fits.{IsVerdict, IsDoneOrCode}
 use Rattle.wasi_world.specs.Asks.{Asks, bind}
 use Rattle.wasi_world.specs.Typed.{told_verdict, told_done}
 use Rattle.wasi_world.specs.Operation.{Given, Nothing, Item, Check, Bind, LastAsk, NothingLast, Operation, End, Waits, Done, Refused, last_ask, after, round, polls, poll_asks, verdict_front, done_front}
-use Rattle.wasi_run.specs.Answered.{EndsPending}
-use Rattle.wasi_run.specs.Licence.{Has, entry}
-use Rattle.wasi_run.specs.Waiting.{IsRestOfBind, IsLeftOfBind, Unchecked, Checked, Ended, BindFails, ToldNo, ToldWhy}
-use Rattle.wasi_run.proofs.Gives.{Gives}
+use Rattle.wasi_walks.specs.Answered.{EndsPending}
+use Rattle.wasi_walks.specs.Licence.{Has, entry}
+use Rattle.wasi_walks.specs.Waiting.{IsRestOfBind, IsLeftOfBind, Unchecked, Checked, Ended, BindFails, ToldNo, ToldWhy}
+use Rattle.wasi_walks.proofs.Gives.{Gives}
 
 module _ (op : Operation) where
   abbrev pub BindEnds : List Entry → End × List Item → Type 0

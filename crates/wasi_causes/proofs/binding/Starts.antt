@@ -30,15 +30,15 @@ use Rattle.wasi_host.specs.Kinds.{kind_at, is_network}
 use Rattle.wasi_host.specs.Store.{Records, is_nothing, bind_ended, bind_begun, poll_bind_asks, begin_bind_asks, bind_answered, start_bind_by, start_bind_at}
 use Rattle.wasi_host.specs.Machine.{socket_at, own_of}
 use Rattle.wasi_p2.specs.Tcp.{start_bind_on, start_bind_asks}
-use Rattle.wasi_run.specs.declared.reply.CodeWord.{CodeWord}
-use Rattle.wasi_run.specs.declared.reply.CodeWord.TheVariants as word
-use Rattle.wasi_run.specs.declared.reply.Reply.{Reply}
-use Rattle.wasi_run.specs.declared.reply.Reply.TheVariants as reply
-use Rattle.wasi_run.specs.declared.step.Step.TheVariants as step
-use Rattle.wasi_run.specs.Machine.{answer_reply}
-use Rattle.wasi_run.specs.Licence.{entry}
-use Rattle.wasi_run.specs.Answered.{Answered, record_in, record_at, putting, HasOperationInProgress, KnowsBound, EndsPending, IsFree, may_bind_to, BindRefusal, AlreadyBound, WrongAddress, Denied, Failed, StartRefusal, InProgress, Begins, RefusedBind}
-use Rattle.wasi_run.proofs.Gives.{Gives, gives_then}
+use Rattle.wasi_steps.specs.declared.reply.CodeWord.{CodeWord}
+use Rattle.wasi_steps.specs.declared.reply.CodeWord.TheVariants as word
+use Rattle.wasi_steps.specs.declared.reply.Reply.{Reply}
+use Rattle.wasi_steps.specs.declared.reply.Reply.TheVariants as reply
+use Rattle.wasi_steps.specs.declared.step.Step.TheVariants as step
+use Rattle.wasi_machine.specs.Machine.{answer_reply}
+use Rattle.wasi_walks.specs.Licence.{entry}
+use Rattle.wasi_walks.specs.Answered.{Answered, record_in, record_at, putting, HasOperationInProgress, KnowsBound, EndsPending, IsFree, may_bind_to, BindRefusal, AlreadyBound, WrongAddress, Denied, Failed, StartRefusal, InProgress, Begins, RefusedBind}
+use Rattle.wasi_walks.proofs.Gives.{Gives, gives_then}
 use Rattle.wasi_causes.proofs.steps.Settled.{settled}
 use Rattle.wasi_causes.proofs.steps.Records.{put_back, found, IsIdle, MayBeOfCode, of_code}
 use Rattle.wasi_causes.proofs.binding.Bound.{bound_says}

@@ -29,16 +29,16 @@ use Rattle.wasi_host.specs.Kinds.{with_handle, make_asks}
 use Rattle.wasi_host.specs.Store.{Records, is_connect, idle, opened_send, opened_receive, connect_polled, poll_connect_asks, with_record_put, finish_connect_by, finish_connect_at}
 use Rattle.wasi_host.specs.Machine.{socket_at, side_at, with_table, with_store, own_of}
 use Rattle.wasi_p2.specs.Tcp.{with_output, output_asks, streams_asks, connected_asks, finish_connect_on, finish_connect_asks}
-use Rattle.wasi_run.specs.declared.reply.CodeWord.{CodeWord}
-use Rattle.wasi_run.specs.declared.reply.CodeWord.TheVariants as word
-use Rattle.wasi_run.specs.declared.reply.Reply.{Reply}
-use Rattle.wasi_run.specs.declared.reply.Reply.TheVariants as reply
-use Rattle.wasi_run.specs.declared.step.Step.TheVariants as step
-use Rattle.wasi_run.specs.Machine.{pair_reply}
-use Rattle.wasi_run.specs.Licence.{entry, marks_in}
-use Rattle.wasi_run.specs.Answered.{Answered, record_in, record_at, word_of_code, RefusedOf, HasNoConnectInProgress, FinishRefusal, NoConnect, StillConnects, Closes, WasClosed, NotConnecting, ListensAlready, ReceivesAlready, SendsAlready, ConnectsAt}
-use Rattle.wasi_run.proofs.Lists.{marks_in-push}
-use Rattle.wasi_run.proofs.Gives.{Gives, gives_then, gives_both, gives_where}
+use Rattle.wasi_steps.specs.declared.reply.CodeWord.{CodeWord}
+use Rattle.wasi_steps.specs.declared.reply.CodeWord.TheVariants as word
+use Rattle.wasi_steps.specs.declared.reply.Reply.{Reply}
+use Rattle.wasi_steps.specs.declared.reply.Reply.TheVariants as reply
+use Rattle.wasi_steps.specs.declared.step.Step.TheVariants as step
+use Rattle.wasi_machine.specs.Machine.{pair_reply}
+use Rattle.wasi_walks.specs.Licence.{entry, marks_in}
+use Rattle.wasi_walks.specs.Answered.{Answered, record_in, record_at, word_of_code, RefusedOf, HasNoConnectInProgress, FinishRefusal, NoConnect, StillConnects, Closes, WasClosed, NotConnecting, ListensAlready, ReceivesAlready, SendsAlready, ConnectsAt}
+use Rattle.wasi_walks.proofs.Lists.{marks_in-push}
+use Rattle.wasi_walks.proofs.Gives.{Gives, gives_then, gives_both, gives_where}
 use Rattle.wasi_causes.proofs.steps.Settled.{settled, busy_exactly}
 use Rattle.wasi_causes.proofs.steps.Records.{found, MayBeOfCode, of_code}
 use Rattle.wasi_causes.proofs.steps.Creates.{make_gives}

@@ -15,9 +15,9 @@ use Rattle.wasi_world.specs.Asks.{Asks, bind}
 use Rattle.wasi_world.specs.Typed.{told_verdict, told_polled}
 use Rattle.wasi_world.specs.Operation.{Given, Nothing, Item, Check, Connect, LastAsk, CloseLast, Operation, End, Waits, Done, Refused, last_ask, after, round, polls, poll_asks, verdict_front, polled_front}
 use Rattle.wasi_tcp.specs.Connect.{IsConnect, IsLeftOfConnect, Unbound, Unchecked, Checked, ToClose, Ended}
-use Rattle.wasi_run.specs.Licence.{Has, entry}
-use Rattle.wasi_run.specs.Answered.{EndsPending, ClosedBy, ToldNo, ToldWhy, ClosesLast}
-use Rattle.wasi_run.proofs.Gives.{Gives}
+use Rattle.wasi_walks.specs.Licence.{Has, entry}
+use Rattle.wasi_walks.specs.Answered.{EndsPending, ClosedBy, ToldNo, ToldWhy, ClosesLast}
+use Rattle.wasi_walks.proofs.Gives.{Gives}
 
 module _ (op : Operation) where
   abbrev pub ConnectEnds : List Entry → End × List Item → Type 0

@@ -25,15 +25,15 @@ use Rattle.wasi_host.specs.Kinds.{kind_at, is_network}
 use Rattle.wasi_host.specs.Store.{Records, is_nothing, connect_begun, begin_connect_asks, put_back as answer_put, start_connect_by, start_connect_at}
 use Rattle.wasi_host.specs.Machine.{socket_at, own_of}
 use Rattle.wasi_p2.specs.Tcp.{start_connect_on, start_connect_asks}
-use Rattle.wasi_run.specs.declared.reply.CodeWord.{CodeWord}
-use Rattle.wasi_run.specs.declared.reply.CodeWord.TheVariants as word
-use Rattle.wasi_run.specs.declared.reply.Reply.{Reply}
-use Rattle.wasi_run.specs.declared.reply.Reply.TheVariants as reply
-use Rattle.wasi_run.specs.declared.step.Step.TheVariants as step
-use Rattle.wasi_run.specs.Machine.{done_reply}
-use Rattle.wasi_run.specs.Licence.{entry}
-use Rattle.wasi_run.specs.Answered.{Answered, record_in, record_at, putting, HasOperationInProgress, KnowsBound, IsBound, IsFree, ConnectRefusal, NotDefault, BoundElsewhere, Elsewhere, StartRefusal, InProgress, Begins, RefusedConnect}
-use Rattle.wasi_run.proofs.Gives.{Gives, gives_then}
+use Rattle.wasi_steps.specs.declared.reply.CodeWord.{CodeWord}
+use Rattle.wasi_steps.specs.declared.reply.CodeWord.TheVariants as word
+use Rattle.wasi_steps.specs.declared.reply.Reply.{Reply}
+use Rattle.wasi_steps.specs.declared.reply.Reply.TheVariants as reply
+use Rattle.wasi_steps.specs.declared.step.Step.TheVariants as step
+use Rattle.wasi_machine.specs.Machine.{done_reply}
+use Rattle.wasi_walks.specs.Licence.{entry}
+use Rattle.wasi_walks.specs.Answered.{Answered, record_in, record_at, putting, HasOperationInProgress, KnowsBound, IsBound, IsFree, ConnectRefusal, NotDefault, BoundElsewhere, Elsewhere, StartRefusal, InProgress, Begins, RefusedConnect}
+use Rattle.wasi_walks.proofs.Gives.{Gives, gives_then}
 use Rattle.wasi_causes.proofs.steps.Settled.{settled}
 use Rattle.wasi_causes.proofs.steps.Records.{put_back, found, IsIdle}
 use Rattle.wasi_causes.proofs.binding.Bound.{bound_says}

@@ -18,15 +18,15 @@ use Rattle.wasi_host.specs.Dropping.{gone}
 use Rattle.wasi_host.specs.Jobs.{other_jobs}
 use Rattle.wasi_host.specs.Kinds.{kind_at, place_of, output_of, none_in, has_no_child, without_handle}
 use Rattle.wasi_host.specs.Machine.{socket_at, output_at, own_of}
-use Rattle.wasi_run.specs.declared.reply.Reply.{Reply}
-use Rattle.wasi_run.specs.declared.reply.Reply.TheVariants as reply
-use Rattle.wasi_run.specs.declared.reply.Field.{Field}
-use Rattle.wasi_run.specs.declared.step.Step.TheVariants as step
-use Rattle.wasi_run.specs.Answered.{Answered, record_at, OfRecord}
-use Rattle.wasi_run.specs.Licence.{Has}
-use Rattle.wasi_run.specs.Reply.{no_fields}
-use Rattle.wasi_run.specs.Waiting.{OutputWaits, WritesOn, ToldToWait, WriterWaits}
-use Rattle.wasi_run.proofs.Lists.{set_there}
+use Rattle.wasi_steps.specs.declared.reply.Reply.{Reply}
+use Rattle.wasi_steps.specs.declared.reply.Reply.TheVariants as reply
+use Rattle.wasi_steps.specs.declared.reply.Field.{Field}
+use Rattle.wasi_steps.specs.declared.step.Step.TheVariants as step
+use Rattle.wasi_walks.specs.Answered.{Answered, record_at, OfRecord}
+use Rattle.wasi_walks.specs.Licence.{Has}
+use Rattle.wasi_steps.specs.Reply.{no_fields}
+use Rattle.wasi_walks.specs.Waiting.{OutputWaits, WritesOn, ToldToWait, WriterWaits}
+use Rattle.wasi_walks.proofs.Lists.{set_there}
 use Rattle.wasi_causes.specs.GivenUp.{HasLiveChildren, IsDropped, without, GoesAtOnce, socket_given_up, IsGone, LooksOnce, NoLook, OneLook}
 use Rattle.wasi_causes.proofs.ending.Drops.{DropAnswer, NotLive, HasUnder, AtOnce, OfNoRecord, Releases, Looks, StandsOn, DropSays, drop_says}
 use Rattle.wasi_causes.proofs.steps.Records.{found}

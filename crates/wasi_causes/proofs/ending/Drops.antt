@@ -17,12 +17,12 @@ use Rattle.wasi_host.specs.Host.{Stop, Trap}
 use Rattle.wasi_host.specs.Kinds.{kind_at, has_no_child, without_handle, taken_out}
 use Rattle.wasi_host.specs.Machine.{own_of, with_store, answered, at_once, drop_kind, drop_taken, drop_asks}
 use Rattle.wasi_host.specs.Store.{Records, standing_drop}
-use Rattle.wasi_run.specs.declared.reply.Reply.{Reply}
-use Rattle.wasi_run.specs.declared.reply.Reply.TheVariants as reply
-use Rattle.wasi_run.specs.Machine.{answer_reply}
-use Rattle.wasi_run.specs.Reply.{no_fields}
-use Rattle.wasi_run.specs.Waiting.{OutputWaits}
-use Rattle.wasi_run.proofs.Gives.{Gives, gives_then}
+use Rattle.wasi_steps.specs.declared.reply.Reply.{Reply}
+use Rattle.wasi_steps.specs.declared.reply.Reply.TheVariants as reply
+use Rattle.wasi_machine.specs.Machine.{answer_reply}
+use Rattle.wasi_steps.specs.Reply.{no_fields}
+use Rattle.wasi_walks.specs.Waiting.{OutputWaits}
+use Rattle.wasi_walks.proofs.Gives.{Gives, gives_then}
 use Rattle.wasi_causes.specs.GivenUp.{without, GoesAtOnce, socket_given_up, LooksOnce}
 use Rattle.wasi_causes.proofs.ending.GiveUps.{Released, release_gives}
 use Rattle.wasi_causes.proofs.streams.Waits.{OutputGives, output_gives}

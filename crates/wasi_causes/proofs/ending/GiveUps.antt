@@ -35,8 +35,8 @@ use Rattle.wasi_host.specs.declared.listening.Listening.TheVariants as listening
 use Rattle.wasi_host.specs.Dropping.{give_streams_up, gone, release_connection, release_asks}
 use Rattle.wasi_host.specs.Listening.{give_up_asks}
 use Rattle.wasi_host.specs.Shutdowns.{shut_receive, shut_send, shut_streams}
-use Rattle.wasi_run.specs.Licence.{entry}
-use Rattle.wasi_run.proofs.Gives.{Gives, gives_then, gives_more}
+use Rattle.wasi_walks.specs.Licence.{entry}
+use Rattle.wasi_walks.proofs.Gives.{Gives, gives_then, gives_more}
 use Rattle.wasi_causes.specs.GivenUp.{receive_given_up, send_given_up, streams_given_up, side_closed, arrival_given_up, accept_given_up, listen_given_up, listening_given_up, socket_given_up, ended_side, shut_at_once, last_write, shut_writer, shutdown_entries, shut_down}
 
 -- a call that is only done is told so

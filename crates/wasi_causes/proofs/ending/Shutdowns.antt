@@ -13,13 +13,13 @@ use Rattle.wasi_host.specs.Machine.{socket_at, own_of}
 use Rattle.wasi_host.specs.Shutdowns.{shut_streams, with_streams, shut_put, shut_record, shutdown_at}
 use Rattle.wasi_host.specs.Store.{Records}
 use Rattle.wasi_p2.specs.Tcp.{shutdown_on}
-use Rattle.wasi_run.specs.declared.reply.CodeWord.TheVariants as word
-use Rattle.wasi_run.specs.declared.reply.Reply.{Reply}
-use Rattle.wasi_run.specs.declared.reply.Reply.TheVariants as reply
-use Rattle.wasi_run.specs.Answered.{record_in, record_at, putting, OfStreams}
-use Rattle.wasi_run.specs.Machine.{done_reply}
-use Rattle.wasi_run.specs.Reply.{no_fields}
-use Rattle.wasi_run.proofs.Gives.{Gives, gives_then}
+use Rattle.wasi_steps.specs.declared.reply.CodeWord.TheVariants as word
+use Rattle.wasi_steps.specs.declared.reply.Reply.{Reply}
+use Rattle.wasi_steps.specs.declared.reply.Reply.TheVariants as reply
+use Rattle.wasi_walks.specs.Answered.{record_in, record_at, putting, OfStreams}
+use Rattle.wasi_machine.specs.Machine.{done_reply}
+use Rattle.wasi_steps.specs.Reply.{no_fields}
+use Rattle.wasi_walks.proofs.Gives.{Gives, gives_then}
 use Rattle.wasi_causes.specs.GivenUp.{shutdown_entries, shut_down}
 use Rattle.wasi_causes.proofs.ending.GiveUps.{ShutSo, shut_gives}
 use Rattle.wasi_causes.proofs.steps.Records.{put_back, found}

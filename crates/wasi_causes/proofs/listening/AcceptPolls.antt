@@ -14,9 +14,9 @@ use Rattle.wasi_world.specs.Typed.{told_verdict, told_arrival}
 use Rattle.wasi_world.specs.Operation.{Given, Nothing, Connection, Item, Accept, LastAsk, NothingLast, Who, Operation, End, Waits, Done, Refused, last_ask, after, round, polls, poll_asks, admitted_front, arrival_front, accept_front}
 use Rattle.wasi_tcp.specs.Accept.{IsAccept, IsLeftOfAccept, Unarrived, Arrived, Admitted, Unwanted, Ended}
 use Rattle.wasi_tcp.specs.Rounds.{some_left, is_going}
-use Rattle.wasi_run.specs.Licence.{entry}
-use Rattle.wasi_run.specs.Listens.{refused_by, refused_in, AcceptWaits, LastWaits, RefusedMost}
-use Rattle.wasi_run.proofs.Gives.{Gives}
+use Rattle.wasi_walks.specs.Licence.{entry}
+use Rattle.wasi_walks.specs.Listens.{refused_by, refused_in, AcceptWaits, LastWaits, RefusedMost}
+use Rattle.wasi_walks.proofs.Gives.{Gives}
 
 -- one entry more
 pub refused_in-push : (es : List Entry) (e : Entry) → refused_in (es ++ e ∷ []) ≡ refused_in es + refused_by e.call

@@ -30,19 +30,19 @@ use Rattle.wasi_host.specs.Listening.{with_listening, accept_listening, accept_r
 use Rattle.wasi_host.specs.Machine.{socket_at, side_at, own_of, with_table, with_store}
 use Rattle.wasi_host.specs.Store.{Records}
 use Rattle.wasi_p2.specs.Tcp.{with_output, output_asks, streams_asks, with_streams, accepted_streams, accepted_handles, accepted_asks, accept_on, accept_asks}
-use Rattle.wasi_run.specs.declared.reply.CodeWord.{CodeWord}
-use Rattle.wasi_run.specs.declared.reply.CodeWord.TheVariants as word
-use Rattle.wasi_run.specs.declared.reply.Field.{Field}
-use Rattle.wasi_run.specs.declared.reply.Reply.{Reply}
-use Rattle.wasi_run.specs.declared.reply.Reply.TheVariants as reply
-use Rattle.wasi_run.specs.declared.step.Step.TheVariants as step
-use Rattle.wasi_run.specs.Answered.{Answered, record_in, record_at, OfRecord, word_of_code}
-use Rattle.wasi_run.specs.Licence.{entry, marks_in}
-use Rattle.wasi_run.specs.Listens.{accept_name, AcceptFails, WasTold, IsTold, accepting_now, AcceptRefusal, NoListener, StillAccepts, AcceptFailed, RefusedAccept, AcceptGives, WasHanded, IsHanded, accepted_marks, AcceptTakes, AcceptsAt}
-use Rattle.wasi_run.specs.Machine.{triple_reply, first_ids}
-use Rattle.wasi_run.specs.Reply.{triple_fields}
-use Rattle.wasi_run.proofs.Lists.{get_seam, marks_in-push}
-use Rattle.wasi_run.proofs.Gives.{Gives, gives_then, gives_both, gives_where}
+use Rattle.wasi_steps.specs.declared.reply.CodeWord.{CodeWord}
+use Rattle.wasi_steps.specs.declared.reply.CodeWord.TheVariants as word
+use Rattle.wasi_steps.specs.declared.reply.Field.{Field}
+use Rattle.wasi_steps.specs.declared.reply.Reply.{Reply}
+use Rattle.wasi_steps.specs.declared.reply.Reply.TheVariants as reply
+use Rattle.wasi_steps.specs.declared.step.Step.TheVariants as step
+use Rattle.wasi_walks.specs.Answered.{Answered, record_in, record_at, OfRecord, word_of_code}
+use Rattle.wasi_walks.specs.Licence.{entry, marks_in}
+use Rattle.wasi_walks.specs.Listens.{accept_name, AcceptFails, WasTold, IsTold, accepting_now, AcceptRefusal, NoListener, StillAccepts, AcceptFailed, RefusedAccept, AcceptGives, WasHanded, IsHanded, accepted_marks, AcceptTakes, AcceptsAt}
+use Rattle.wasi_machine.specs.Machine.{triple_reply, first_ids}
+use Rattle.wasi_steps.specs.Reply.{triple_fields}
+use Rattle.wasi_walks.proofs.Lists.{get_seam, marks_in-push}
+use Rattle.wasi_walks.proofs.Gives.{Gives, gives_then, gives_both, gives_where}
 use Rattle.wasi_causes.proofs.listening.AcceptPolls.{HandsOver, TellsCode, AcceptEnds, poll_accept_ends}
 use Rattle.wasi_causes.proofs.steps.Creates.{make_done}
 use Rattle.wasi_causes.proofs.pending.Marks.{poll_marks_none}

@@ -15,10 +15,10 @@ use Rattle.wasi_world.specs.Asks.{Asks, bind}
 use Rattle.wasi_world.specs.Typed.{told_verdict, told_addr, told_done}
 use Rattle.wasi_world.specs.Operation.{Given, Nothing, Item, Check, CheckLocal, Bind, Listen, LastAsk, CloseLast, Operation, End, Waits, Done, Refused, last_ask, after, round, polls, poll_asks, verdict_front, local_front, done_front}
 use Rattle.wasi_tcp.specs.Listen.{IsListen, IsLeftOfListen, BoundBefore, AddressTold, Unbound, BindChecked, Checked, Bound, ToClose, Ended}
-use Rattle.wasi_run.specs.Answered.{EndsPending}
-use Rattle.wasi_run.specs.Licence.{entry}
-use Rattle.wasi_run.specs.Waiting.{ListenEnds, CheckedNo, LocalCode, BindCode, ListenCode, ListenCloses}
-use Rattle.wasi_run.proofs.Gives.{Gives}
+use Rattle.wasi_walks.specs.Answered.{EndsPending}
+use Rattle.wasi_walks.specs.Licence.{entry}
+use Rattle.wasi_walks.specs.Waiting.{ListenEnds, CheckedNo, LocalCode, BindCode, ListenCode, ListenCloses}
+use Rattle.wasi_walks.proofs.Gives.{Gives}
 
 module _ (op : Operation) where
   -- it waits, is done, or ended with a code

@@ -36,16 +36,16 @@ use Rattle.wasi_host.specs.Listening.{listen_polled, listen_begun, listen_once, 
 use Rattle.wasi_host.specs.Machine.{socket_at, own_of}
 use Rattle.wasi_host.specs.Store.{Records, with_inner, is_nothing}
 use Rattle.wasi_p2.specs.Tcp.{start_listen_on}
-use Rattle.wasi_run.specs.declared.reply.CodeWord.{CodeWord}
-use Rattle.wasi_run.specs.declared.reply.CodeWord.TheVariants as word
-use Rattle.wasi_run.specs.declared.reply.Reply.{Reply}
-use Rattle.wasi_run.specs.declared.reply.Reply.TheVariants as reply
-use Rattle.wasi_run.specs.declared.step.Step.TheVariants as step
-use Rattle.wasi_run.specs.Answered.{Answered, record_in, record_at, OfRecord, putting, word_of_code, HasOperationInProgress, KnowsBound, knowing_bound, EndsPending, IsPastDefault, IsBound, IsFree, StartRefusal, InProgress, Begins}
-use Rattle.wasi_run.specs.Licence.{entry}
-use Rattle.wasi_run.specs.Listens.{ListenFails, LocalTold, ListenDenied, ListenTold, closed_by_listen, IsPastNot, ListenRefusal, NotBound, NotDefault, ListensAlready, ListenRefused, RefusedListen}
-use Rattle.wasi_run.specs.Machine.{answer_reply}
-use Rattle.wasi_run.proofs.Gives.{Gives, gives_then}
+use Rattle.wasi_steps.specs.declared.reply.CodeWord.{CodeWord}
+use Rattle.wasi_steps.specs.declared.reply.CodeWord.TheVariants as word
+use Rattle.wasi_steps.specs.declared.reply.Reply.{Reply}
+use Rattle.wasi_steps.specs.declared.reply.Reply.TheVariants as reply
+use Rattle.wasi_steps.specs.declared.step.Step.TheVariants as step
+use Rattle.wasi_walks.specs.Answered.{Answered, record_in, record_at, OfRecord, putting, word_of_code, HasOperationInProgress, KnowsBound, knowing_bound, EndsPending, IsPastDefault, IsBound, IsFree, StartRefusal, InProgress, Begins}
+use Rattle.wasi_walks.specs.Licence.{entry}
+use Rattle.wasi_walks.specs.Listens.{ListenFails, LocalTold, ListenDenied, ListenTold, closed_by_listen, IsPastNot, ListenRefusal, NotBound, NotDefault, ListensAlready, ListenRefused, RefusedListen}
+use Rattle.wasi_machine.specs.Machine.{answer_reply}
+use Rattle.wasi_walks.proofs.Gives.{Gives, gives_then}
 use Rattle.wasi_causes.proofs.binding.Bound.{asked_none, bound_says}
 use Rattle.wasi_causes.proofs.steps.Records.{put_back, found, IsIdle, MayBeOfCode, of_code}
 use Rattle.wasi_causes.proofs.steps.Starts.{StartSays, conflict, begun, conflict_exactly}

@@ -12,12 +12,12 @@ use Rattle.wasi_host.specs.Machine.{own_of}
 use Rattle.wasi_host.specs.Pending.{stands_as}
 use Rattle.wasi_host.specs.Listening.{standing_listen}
 use Rattle.wasi_host.specs.Store.{standing_bind, standing_drop}
-use Rattle.wasi_run.specs.declared.reply.CodeWord.{CodeWord}
-use Rattle.wasi_run.specs.declared.reply.Reply.{Reply}
-use Rattle.wasi_run.specs.declared.reply.Reply.TheVariants as reply
-use Rattle.wasi_run.specs.declared.step.Step.TheVariants as step
-use Rattle.wasi_run.specs.Answered.{Answered}
-use Rattle.wasi_run.specs.Waiting.{IsRestOfBind, StandsByBind, CallWaits, StandingWaits, BindFailed, StandingFails}
+use Rattle.wasi_steps.specs.declared.reply.CodeWord.{CodeWord}
+use Rattle.wasi_steps.specs.declared.reply.Reply.{Reply}
+use Rattle.wasi_steps.specs.declared.reply.Reply.TheVariants as reply
+use Rattle.wasi_steps.specs.declared.step.Step.TheVariants as step
+use Rattle.wasi_walks.specs.Answered.{Answered}
+use Rattle.wasi_walks.specs.Waiting.{IsRestOfBind, StandsByBind, CallWaits, StandingWaits, BindFailed, StandingFails}
 use Rattle.wasi_causes.proofs.pending.Polls.{the_bind, PollAnswer, NoCall, OfNothing, BindDone, BindRefused, BindWaits, the_listen, ListensOnNothing, ListenDone, ListenRefused, ListenWaitsOn, DropDone, DropWaits, PollSays, poll_says}
 use Rattle.wasi_causes.proofs.steps.Settled.{settled, busy_exactly}
 

@@ -17,9 +17,9 @@ use Rattle.wasi_world.specs.Asks.{Asks, bind}
 use Rattle.wasi_world.specs.Typed.{told_verdict, told_addr, told_arrival, told_taken, told_datagram}
 use Rattle.wasi_world.specs.Operation.{Given, Nothing, Item, Check, CheckLocal, Bind, Connect, Listen, Accept, CheckArrival, Hand, Refuse, Write, ShutdownSend, UdpWritable, UdpBind, UdpConnect, AskPeer, Send, Receive, CheckPeer, Lookup, Last, LastAsk, NothingLast, CloseLast, ShutdownLast, Who, Operation, End, Front, Goes, Stays, Again, Ends, front, last_ask, local_front, arrival_front, admitted_front, accept_front, less_one, taken_front, write_front, ask_peer_front, send_front, is_now, check_peer_front, receive_front, poll_asks}
 use Rattle.wasi_world.proofs.Allowed.{Allows, allows_if, allows_keep, FrontKeeps, allows_polls}
-use Rattle.wasi_run.specs.Licence.{marked_by, marks_in}
-use Rattle.wasi_run.proofs.Lists.{marks_in-push}
-use Rattle.wasi_run.proofs.Gives.{Gives, gives_more, allows_ask}
+use Rattle.wasi_walks.specs.Licence.{marked_by, marks_in}
+use Rattle.wasi_walks.proofs.Lists.{marks_in-push}
+use Rattle.wasi_walks.proofs.Gives.{Gives, gives_more, allows_ask}
 
 abbrev IsOwn : Who → List Entry → OpId → Call → Type 0
 IsOwn who es op call = (op ≡ who.id) × (marked_by call ≡ 0)

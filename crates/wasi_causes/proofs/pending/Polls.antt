@@ -32,13 +32,13 @@ use Rattle.wasi_host.specs.Pending.{stands_as, output_in, waiting_drop, resume_i
 use Rattle.wasi_host.specs.Pending as host
 use Rattle.wasi_host.specs.Store.{Records, bind_ended, poll_bind_asks, bind_answered, standing_bind, standing_drop}
 use Rattle.wasi_p2.specs.Pending as p2
-use Rattle.wasi_run.specs.declared.reply.Reply.{Reply}
-use Rattle.wasi_run.specs.declared.reply.Reply.TheVariants as reply
-use Rattle.wasi_run.specs.Answered.{word_of_code, EndsPending}
-use Rattle.wasi_run.specs.Machine.{resumed_reply, poll_on, poll_asks}
-use Rattle.wasi_run.specs.Reply.{no_fields}
-use Rattle.wasi_run.specs.Waiting.{OutputWaits, IsRestOfBind, BindFails, IsListening, ListenWaits, CallWaits, CallFails, ListenFailed, NoListen, HasNoListen, StandsByBind, nothing_stands}
-use Rattle.wasi_run.proofs.Gives.{Gives, gives_then, gives_where}
+use Rattle.wasi_steps.specs.declared.reply.Reply.{Reply}
+use Rattle.wasi_steps.specs.declared.reply.Reply.TheVariants as reply
+use Rattle.wasi_walks.specs.Answered.{word_of_code, EndsPending}
+use Rattle.wasi_machine.specs.Machine.{resumed_reply, poll_on, poll_asks}
+use Rattle.wasi_steps.specs.Reply.{no_fields}
+use Rattle.wasi_walks.specs.Waiting.{OutputWaits, IsRestOfBind, BindFails, IsListening, ListenWaits, CallWaits, CallFails, ListenFailed, NoListen, HasNoListen, StandsByBind, nothing_stands}
+use Rattle.wasi_walks.proofs.Gives.{Gives, gives_then, gives_where}
 use Rattle.wasi_causes.specs.GivenUp.{LooksOnce}
 use Rattle.wasi_causes.proofs.binding.Polls.{BindEnds, poll_bind_ends}
 use Rattle.wasi_causes.proofs.listening.Polls.{ListenGives as ListenPolled, poll_listen_gives}

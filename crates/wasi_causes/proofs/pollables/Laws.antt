@@ -11,14 +11,14 @@ use Rattle.wasi_host.specs.declared.machine.Machine.{Machine}
 use Rattle.wasi_host.specs.declared.socket.Tcp2Socket.{Tcp2Socket}
 use Rattle.wasi_host.specs.Kinds.{kind_at, watched_by, watch_of, with_handle}
 use Rattle.wasi_host.specs.Machine.{own_of}
-use Rattle.wasi_run.specs.declared.reply.Field.{Field}
-use Rattle.wasi_run.specs.declared.reply.Reply.{Reply}
-use Rattle.wasi_run.specs.declared.reply.Reply.TheVariants as reply
-use Rattle.wasi_run.specs.declared.step.Step.TheVariants as step
-use Rattle.wasi_run.specs.Answered.{Answered, MissesRecord, MissesWatched}
-use Rattle.wasi_run.specs.Listens.{AcceptsIn}
-use Rattle.wasi_run.specs.Reply.{number_fields, truth_fields}
-use Rattle.wasi_run.specs.Waiting.{pollable_mark, OfWatched, IsUnready, WatchesConnect, WatchesAccept, IsIdleSocket, WatchesIdle, IsFailure}
+use Rattle.wasi_steps.specs.declared.reply.Field.{Field}
+use Rattle.wasi_steps.specs.declared.reply.Reply.{Reply}
+use Rattle.wasi_steps.specs.declared.reply.Reply.TheVariants as reply
+use Rattle.wasi_steps.specs.declared.step.Step.TheVariants as step
+use Rattle.wasi_walks.specs.Answered.{Answered, MissesRecord, MissesWatched}
+use Rattle.wasi_walks.specs.Listens.{AcceptsIn}
+use Rattle.wasi_steps.specs.Reply.{number_fields, truth_fields}
+use Rattle.wasi_walks.specs.Waiting.{pollable_mark, OfWatched, IsUnready, WatchesConnect, WatchesAccept, IsIdleSocket, WatchesIdle, IsFailure}
 use Rattle.wasi_causes.proofs.pollables.Looks.{SubscribeAnswer, NotWatchable, NoRoom, Subscribes, SubscribeSays, subscribe_says, ReadyAnswer, NothingWatched, IsReadyNow, IsNotReady, ReadySays, ready_says}
 use Rattle.wasi_causes.proofs.steps.Settled.{settled, free_to_go}
 

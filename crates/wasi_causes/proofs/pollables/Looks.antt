@@ -45,15 +45,15 @@ use Rattle.wasi_host.specs.Kinds.{Handles, kind_at, watched_by, watch_of, place_
 use Rattle.wasi_host.specs.Machine.{own_of, side_at, with_table, with_store, subscribe_on, subscribe_asks, ready_on, ready_asks}
 use Rattle.wasi_host.specs.Readiness.{is_over, is_done, connect_looked, accept_looked, ready_listening, ready_idle, ready_socket_by, ready_reader, ready_writer, ready_record, ready_put, ready_at}
 use Rattle.wasi_host.specs.Store.{Records, is_nothing, is_connect, with_reader, with_writer}
-use Rattle.wasi_run.specs.declared.reply.Reply.{Reply}
-use Rattle.wasi_run.specs.declared.reply.Reply.TheVariants as reply
-use Rattle.wasi_run.specs.Answered.{MissesRecord, MissesWatched}
-use Rattle.wasi_run.specs.Licence.{entry}
-use Rattle.wasi_run.specs.Listens.{AcceptWaits, accept_name, HasNoListener, AcceptsIn}
-use Rattle.wasi_run.specs.Machine.{handle_reply, truth_reply, first_ids}
-use Rattle.wasi_run.specs.Reply.{number_fields, truth_fields}
-use Rattle.wasi_run.specs.Waiting.{pollable_mark, OfWatched, IsIdleSocket, IsUnready, AcceptWaitsOn, ConnectWaits, InputWaits, WriteWaits}
-use Rattle.wasi_run.proofs.Gives.{Gives, gives_then, gives_where}
+use Rattle.wasi_steps.specs.declared.reply.Reply.{Reply}
+use Rattle.wasi_steps.specs.declared.reply.Reply.TheVariants as reply
+use Rattle.wasi_walks.specs.Answered.{MissesRecord, MissesWatched}
+use Rattle.wasi_walks.specs.Licence.{entry}
+use Rattle.wasi_walks.specs.Listens.{AcceptWaits, accept_name, HasNoListener, AcceptsIn}
+use Rattle.wasi_machine.specs.Machine.{handle_reply, truth_reply, first_ids}
+use Rattle.wasi_steps.specs.Reply.{number_fields, truth_fields}
+use Rattle.wasi_walks.specs.Waiting.{pollable_mark, OfWatched, IsIdleSocket, IsUnready, AcceptWaitsOn, ConnectWaits, InputWaits, WriteWaits}
+use Rattle.wasi_walks.proofs.Gives.{Gives, gives_then, gives_where}
 use Rattle.wasi_causes.proofs.listening.AcceptPolls.{AcceptEnds, poll_accept_ends}
 use Rattle.wasi_causes.proofs.connecting.Polls.{ConnectEnds, poll_connect_ends}
 use Rattle.wasi_causes.proofs.steps.Records.{put_store_same}

@@ -26,15 +26,15 @@ use Rattle.wasi_host.specs.Host.{Stop}
 use Rattle.wasi_host.specs.Store.{Records, with_inner, put_back as answer_put, inner_answered, tell_local_asks, tell_remote_asks, local_address_at, remote_address_at}
 use Rattle.wasi_host.specs.Machine.{socket_at, own_of}
 use Rattle.wasi_p2.specs.Tcp.{local_address_on, remote_address_on}
-use Rattle.wasi_run.specs.declared.reply.CodeWord.{CodeWord}
-use Rattle.wasi_run.specs.declared.reply.CodeWord.TheVariants as word
-use Rattle.wasi_run.specs.declared.reply.Reply.{Reply}
-use Rattle.wasi_run.specs.declared.reply.Reply.TheVariants as reply
-use Rattle.wasi_run.specs.declared.step.Step.TheVariants as step
-use Rattle.wasi_run.specs.Machine.{address_reply}
-use Rattle.wasi_run.specs.Licence.{entry}
-use Rattle.wasi_run.specs.Answered.{Answered, record_in, putting, word_of_code, RefusedOf, KnowsBound, IsPastDefault, IsBound, IsFree, LocalRefusal, NotBound, Connects, LocalClosed, LocalTold, RemoteRefusal, RemoteDefault, RemoteListening, RemoteConnecting, RemoteClosed, RemoteTold}
-use Rattle.wasi_run.proofs.Gives.{Gives, gives_then}
+use Rattle.wasi_steps.specs.declared.reply.CodeWord.{CodeWord}
+use Rattle.wasi_steps.specs.declared.reply.CodeWord.TheVariants as word
+use Rattle.wasi_steps.specs.declared.reply.Reply.{Reply}
+use Rattle.wasi_steps.specs.declared.reply.Reply.TheVariants as reply
+use Rattle.wasi_steps.specs.declared.step.Step.TheVariants as step
+use Rattle.wasi_machine.specs.Machine.{address_reply}
+use Rattle.wasi_walks.specs.Licence.{entry}
+use Rattle.wasi_walks.specs.Answered.{Answered, record_in, putting, word_of_code, RefusedOf, KnowsBound, IsPastDefault, IsBound, IsFree, LocalRefusal, NotBound, Connects, LocalClosed, LocalTold, RemoteRefusal, RemoteDefault, RemoteListening, RemoteConnecting, RemoteClosed, RemoteTold}
+use Rattle.wasi_walks.proofs.Gives.{Gives, gives_then}
 use Rattle.wasi_causes.proofs.steps.Settled.{settled}
 use Rattle.wasi_causes.proofs.steps.Records.{put_back, found, RecordSays}
 use Rattle.wasi_causes.proofs.binding.Bound.{asked_none, bound_says}

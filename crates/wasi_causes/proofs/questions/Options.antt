@@ -27,18 +27,18 @@ use Rattle.wasi_host.specs.Machine.{socket_at, own_of}
 use Rattle.wasi_host.specs.Options.{code_told, looked_at, set_backlog_at}
 use Rattle.wasi_host.specs.Store.{Records, put_back as answer_put, inner_answered}
 use Rattle.wasi_p2.specs.Options.{record_asks, get_option_on}
-use Rattle.wasi_run.specs.declared.reply.CodeWord.{CodeWord}
-use Rattle.wasi_run.specs.declared.reply.Field.{Field}
-use Rattle.wasi_run.specs.declared.reply.Reply.{Reply}
-use Rattle.wasi_run.specs.declared.reply.Reply.TheVariants as reply
-use Rattle.wasi_run.specs.declared.setting.TcpSetting.{TcpSetting}
-use Rattle.wasi_run.specs.declared.step.Step.TheVariants as step
-use Rattle.wasi_run.specs.Answered.{Answered, OfRecord, RefusedOf, record_in, record_at, word_of_code}
-use Rattle.wasi_run.specs.Licence.{entry}
-use Rattle.wasi_run.specs.Machine.{value_reply, done_reply, set_chosen}
-use Rattle.wasi_run.specs.Reply.{no_fields, number_fields}
-use Rattle.wasi_run.specs.Settings.{Chosen, AnOption, TheBacklog, chosen}
-use Rattle.wasi_run.proofs.Gives.{Gives, gives_more, gives_then}
+use Rattle.wasi_steps.specs.declared.reply.CodeWord.{CodeWord}
+use Rattle.wasi_steps.specs.declared.reply.Field.{Field}
+use Rattle.wasi_steps.specs.declared.reply.Reply.{Reply}
+use Rattle.wasi_steps.specs.declared.reply.Reply.TheVariants as reply
+use Rattle.wasi_steps.specs.declared.setting.TcpSetting.{TcpSetting}
+use Rattle.wasi_steps.specs.declared.step.Step.TheVariants as step
+use Rattle.wasi_walks.specs.Answered.{Answered, OfRecord, RefusedOf, record_in, record_at, word_of_code}
+use Rattle.wasi_walks.specs.Licence.{entry}
+use Rattle.wasi_machine.specs.Machine.{value_reply, done_reply, set_chosen}
+use Rattle.wasi_steps.specs.Reply.{no_fields, number_fields}
+use Rattle.wasi_steps.specs.Settings.{Chosen, AnOption, TheBacklog, chosen}
+use Rattle.wasi_walks.proofs.Gives.{Gives, gives_more, gives_then}
 use Rattle.wasi_causes.specs.Options.{GetRefusal, GetsNoSide, GetTold, ToldTooLarge, SetRefusal, ZeroBefore, SetsNoSide, ZeroAfter, SetTold, BacklogRefusal, ZeroBacklog, StillConnects, IsConnected, WasClosed, BacklogTold, RefusedHere, RefusedGet, ChosenRefusal, RefusedSet, GetsOption, SetsOption, SetsBacklog, KeptForListen, ToldListener, SetsChosen}
 use Rattle.wasi_causes.proofs.steps.Settled.{busy_is_quiet, settled}
 use Rattle.wasi_causes.proofs.steps.Records.{put_back, found, RecordSays}

@@ -10,14 +10,14 @@ use Rattle.wasi_host.specs.declared.store.Standing.{Standing}
 use Rattle.wasi_host.specs.Store.{is_listening_at, address_family_at}
 use Rattle.wasi_host.specs.Machine.{socket_at}
 use Rattle.wasi_p2.specs.Tcp.{is_listening_on, address_family_on}
-use Rattle.wasi_run.specs.declared.reply.CodeWord.{CodeWord}
-use Rattle.wasi_run.specs.declared.reply.Reply.{Reply}
-use Rattle.wasi_run.specs.declared.reply.Reply.TheVariants as reply
-use Rattle.wasi_run.specs.declared.step.Step.{Step}
-use Rattle.wasi_run.specs.declared.step.Step.TheVariants as step
-use Rattle.wasi_run.specs.Machine.{truth_reply, family_reply, step_asks, machine_asks}
-use Rattle.wasi_run.specs.Answered.{Answered, IsQuiet, record_in, record_at}
-use Rattle.wasi_run.proofs.Gives.{Gives, given}
+use Rattle.wasi_steps.specs.declared.reply.CodeWord.{CodeWord}
+use Rattle.wasi_steps.specs.declared.reply.Reply.{Reply}
+use Rattle.wasi_steps.specs.declared.reply.Reply.TheVariants as reply
+use Rattle.wasi_steps.specs.declared.step.Step.{Step}
+use Rattle.wasi_steps.specs.declared.step.Step.TheVariants as step
+use Rattle.wasi_machine.specs.Machine.{truth_reply, family_reply, step_asks, asks_while}
+use Rattle.wasi_walks.specs.Answered.{Answered, IsQuiet, record_in, record_at}
+use Rattle.wasi_walks.proofs.Gives.{Gives, given}
 use Rattle.wasi_causes.proofs.steps.Settled.{settled}
 
 -- == its answers
@@ -76,7 +76,7 @@ module _ (m : Machine) where
     not_refused (step.TcpAddressFamily ctx handle) q = no_refusal (record_at m handle) _ (family_on (socket_at m handle))
     not_refused _ q = absurd q
 
-    quiet_by : (s : Step) (standing : Option Standing) (es : List Entry) (done : Reply × Machine) → IsQuiet s → Left (machine_asks contexts m line s standing) es (Give done) → Stays es done
+    quiet_by : (s : Step) (standing : Option Standing) (es : List Entry) (done : Reply × Machine) → IsQuiet s → Left (asks_while contexts m line s standing) es (Give done) → Stays es done
     quiet_by s None es done q w = given Stays (step_asks contexts m line s) es done (stays s q) w
     quiet_by (step.TcpIsListening ctx handle) (Some c) es done q w = given Stays (Give (reply.Busy, m)) es done (refl, refl) w
     quiet_by (step.TcpAddressFamily ctx handle) (Some c) es done q w = given Stays (Give (reply.Busy, m)) es done (refl, refl) w

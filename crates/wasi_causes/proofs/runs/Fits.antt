@@ -16,19 +16,19 @@ use Rattle.wasi_host.specs.declared.store.StandingCall.{StandingCall}
 use Rattle.wasi_host.specs.declared.store.StandingCall.TheVariants as standing
 use Rattle.wasi_host.specs.Kinds.{kind_at, watch_of, place_in}
 use Rattle.wasi_host.specs.Machine.{first_state, socket_at}
-use Rattle.wasi_run.specs.declared.reply.Reply.{Reply}
-use Rattle.wasi_run.specs.Answered.{record_in, ConnectsAt}
-use Rattle.wasi_run.specs.Listens.{AcceptsIn, AcceptsAt}
-use Rattle.wasi_run.specs.Machine.{run, machine_asks}
-use Rattle.wasi_run.specs.Waiting.{watched_in, WatchesConnect, WatchesAccept, IsListening, HoldsCall, StandsByBind}
-use Rattle.wasi_run.specs.declared.step.Step.{Step}
-use Rattle.wasi_run.proofs.walks.States.{Over}
-use Rattle.wasi_run.proofs.walks.Steps.{may_while, machine_walks}
-use Rattle.wasi_run.proofs.walks.Runs.{run_ends}
-use Rattle.wasi_run.proofs.fits.Records.{FitListening, FitRecord, FitCall}
-use Rattle.wasi_run.proofs.fits.Polls.{Anything}
-use Rattle.wasi_run.proofs.fits.Law.{Fit, fits_along}
-use Rattle.wasi_run.proofs.fits.Lines.{first_fit, starts_fit}
+use Rattle.wasi_steps.specs.declared.reply.Reply.{Reply}
+use Rattle.wasi_walks.specs.Answered.{record_in, ConnectsAt}
+use Rattle.wasi_walks.specs.Listens.{AcceptsIn, AcceptsAt}
+use Rattle.wasi_machine.specs.Machine.{run, machine_asks}
+use Rattle.wasi_walks.specs.Waiting.{watched_in, WatchesConnect, WatchesAccept, IsListening, HoldsCall, StandsByBind}
+use Rattle.wasi_steps.specs.declared.step.Step.{Step}
+use Rattle.wasi_walks.proofs.walks.States.{Over}
+use Rattle.wasi_walks.proofs.walks.Steps.{may_while, machine_walks}
+use Rattle.wasi_walks.proofs.walks.Runs.{run_ends}
+use Rattle.wasi_walks.proofs.fits.Records.{FitListening, FitRecord, FitCall}
+use Rattle.wasi_walks.proofs.fits.Polls.{Anything}
+use Rattle.wasi_walks.proofs.fits.Law.{Fit, fits_along}
+use Rattle.wasi_walks.proofs.fits.Lines.{first_fit, starts_fit}
 
 -- == of a record
 accepts_so : (l : Listening) → FitListening l → AcceptsIn l
@@ -74,7 +74,7 @@ accepts_at m f handle = of_record m f _ (λ r k. accepts_so r.listening k.1) (so
 abbrev pub Between : ℕ → List Entry → Machine → Type 0
 Between line es m = Fit (Over m)
 
-pub line_fits : (contexts : List WasiSocketsCtx) (line : ℕ) (s : Step) (m : Machine) (es : List Entry) → Fit (Over m) → Allows Anything (λ fs done. Fit (Over done.1)) es (machine_asks contexts m line s m.store.standing)
+pub line_fits : (contexts : List WasiSocketsCtx) (line : ℕ) (s : Step) (m : Machine) (es : List Entry) → Fit (Over m) → Allows Anything (λ fs done. Fit (Over done.1)) es (machine_asks contexts m line s)
 line_fits contexts line s m es f = fits_along contexts line s (machine_walks line s m m.store.standing refl) es (starts_fit m (may_while m s m.store.standing) f)
 
 module _ (contexts : List WasiSocketsCtx) (steps : List Step) (es : List Entry) (replies : List Reply) (m : Machine) (w : Left (run contexts [] first_state 1 steps) es (Give (replies, m))) where

@@ -34,17 +34,17 @@ use Rattle.wasi_host.specs.Kinds.{kind_at, make_asks, table_parent, with_handle,
 use Rattle.wasi_host.specs.Listening.{give_up_asks, with_listening}
 use Rattle.wasi_host.specs.Machine.{own_of, side_at, created_asks, first_state}
 use Rattle.wasi_host.specs.Store.{is_connect, new_record, with_record, with_inner, with_writer}
-use Rattle.wasi_run.specs.declared.reply.Reply.{Reply}
-use Rattle.wasi_run.specs.declared.step.Step.{Step}
-use Rattle.wasi_run.specs.Listens.{IsPastNot}
-use Rattle.wasi_run.specs.Machine.{machine_asks, run}
-use Rattle.wasi_run.proofs.Lists.{get_front, get_seam, get_set, get_split, set_get, value_split}
-use Rattle.wasi_run.proofs.fits.Law.{told_same, whatever}
-use Rattle.wasi_run.proofs.fits.Polls.{Anything}
-use Rattle.wasi_run.proofs.walks.Law.{Law}
-use Rattle.wasi_run.proofs.walks.Moves.{closed_record, Held, InHand, Connects, Here, put, Move, Reaches, Leaves, Spends, Changes, ClosesReader, Writes, IsGone, Reconnects, Opens, BeginsConnect, BeginsBind, BeginsWrite, Stands, Resumes, Ends, Lists, Takes, BeginsListen, BeginsAccept, Unlistens, Forgets, Watches, Joins, StandsListen, StandsDrop, ResumesDrop, Unstands, Listens, Awaits, listen_after, accepting_now, joined, IsConnecting, Marks, ANetwork, AStream, AnAcceptedStream, APollable, AnError, record_of}
-use Rattle.wasi_run.proofs.walks.Runs.{run_ends}
-use Rattle.wasi_run.proofs.walks.Steps.{machine_walks}
+use Rattle.wasi_steps.specs.declared.reply.Reply.{Reply}
+use Rattle.wasi_steps.specs.declared.step.Step.{Step}
+use Rattle.wasi_walks.specs.Listens.{IsPastNot}
+use Rattle.wasi_machine.specs.Machine.{machine_asks, run}
+use Rattle.wasi_walks.proofs.Lists.{get_front, get_seam, get_set, get_split, set_get, value_split}
+use Rattle.wasi_walks.proofs.fits.Law.{told_same, whatever}
+use Rattle.wasi_walks.proofs.fits.Polls.{Anything}
+use Rattle.wasi_walks.proofs.walks.Law.{Law}
+use Rattle.wasi_walks.proofs.walks.Moves.{closed_record, Held, InHand, Connects, Here, put, Move, Reaches, Leaves, Spends, Changes, ClosesReader, Writes, IsGone, Reconnects, Opens, BeginsConnect, BeginsBind, BeginsWrite, Stands, Resumes, Ends, Lists, Takes, BeginsListen, BeginsAccept, Unlistens, Forgets, Watches, Joins, StandsListen, StandsDrop, ResumesDrop, Unstands, Listens, Awaits, listen_after, accepting_now, joined, IsConnecting, Marks, ANetwork, AStream, AnAcceptedStream, APollable, AnError, record_of}
+use Rattle.wasi_walks.proofs.walks.Runs.{run_ends}
+use Rattle.wasi_walks.proofs.walks.Steps.{machine_walks}
 use Rattle.wasi_causes.specs.Reached.{MayFinish, ListensLate}
 
 -- == what holds of a machine
@@ -212,7 +212,7 @@ module _ (contexts : List WasiSocketsCtx) (line : ℕ) (origin : Step) where
     gives_up = λ es h place r q g i. whatever (λ done. Steady (put h place (with_listening r listening.Not)).machine) (λ done. put_steady h place _ ((i.records place r g).0, λ side d. refl) i) es (give_up_asks r.listening);
   }
 
-  line_steady : (m : Machine) (es : List Entry) → Steady m → Allows Anything (λ fs done. Steady done.1) es (machine_asks contexts m line origin m.store.standing)
+  line_steady : (m : Machine) (es : List Entry) → Steady m → Allows Anything (λ fs done. Steady done.1) es (machine_asks contexts m line origin)
   unfolding steady
   line_steady m es i = (machine_walks line origin {law = steady} m m.store.standing refl).along es i
 

@@ -18,15 +18,15 @@ use Rattle.wasi_host.specs.Kinds.{kind_at}
 use Rattle.wasi_host.specs.Machine.{first_state, own_of, socket_at}
 use Rattle.wasi_host.specs.Pending.{bind_in, listen_in, waiting_bind, waiting_listen}
 use Rattle.wasi_host.specs.Store.{is_connect}
-use Rattle.wasi_run.specs.declared.reply.CodeWord.{CodeWord}
-use Rattle.wasi_run.specs.declared.reply.Reply.{Reply}
-use Rattle.wasi_run.specs.declared.reply.Reply.TheVariants as reply
-use Rattle.wasi_run.specs.declared.step.Step.{Step}
-use Rattle.wasi_run.specs.declared.step.Step.TheVariants as step
-use Rattle.wasi_run.specs.Answered.{Answered, record_in, record_at, RefusedOf, StandsOnNothing, FinishRefusal, NoConnect, StillConnects, Closes, WasClosed, NotConnecting, ListensAlready, ReceivesAlready, SendsAlready}
-use Rattle.wasi_run.specs.Machine.{run}
-use Rattle.wasi_run.proofs.walks.Moves.{record_of}
-use Rattle.wasi_run.proofs.walks.States.{socket_record}
+use Rattle.wasi_steps.specs.declared.reply.CodeWord.{CodeWord}
+use Rattle.wasi_steps.specs.declared.reply.Reply.{Reply}
+use Rattle.wasi_steps.specs.declared.reply.Reply.TheVariants as reply
+use Rattle.wasi_steps.specs.declared.step.Step.{Step}
+use Rattle.wasi_steps.specs.declared.step.Step.TheVariants as step
+use Rattle.wasi_walks.specs.Answered.{Answered, record_in, record_at, RefusedOf, StandsOnNothing, FinishRefusal, NoConnect, StillConnects, Closes, WasClosed, NotConnecting, ListensAlready, ReceivesAlready, SendsAlready}
+use Rattle.wasi_machine.specs.Machine.{run}
+use Rattle.wasi_walks.proofs.walks.Moves.{record_of}
+use Rattle.wasi_walks.proofs.walks.States.{socket_record}
 use Rattle.wasi_causes.specs.Reached.{HasRecord, OfItsRecord, MayFinish, IsUndone, RefusedInRun, ListensLate, ListenRefusedInRun}
 use Rattle.wasi_causes.proofs.connecting.Finishes.{finish_refused}
 use Rattle.wasi_causes.proofs.listening.Starts.{listen_refused}

@@ -25,14 +25,14 @@ use Rattle.wasi_host.specs.Kinds.{Handles, name_of, with_handle, make_asks}
 use Rattle.wasi_host.specs.Store.{with_record}
 use Rattle.wasi_host.specs.Machine.{created_asks, create_asks, own_of}
 use Rattle.wasi_p2.specs.Tcp.{network_asks}
-use Rattle.wasi_run.specs.declared.reply.CodeWord.{CodeWord}
-use Rattle.wasi_run.specs.declared.reply.Reply.{Reply}
-use Rattle.wasi_run.specs.declared.reply.Reply.TheVariants as reply
-use Rattle.wasi_run.specs.declared.step.Step.TheVariants as step
-use Rattle.wasi_run.specs.Machine.{handle_reply, context_at}
-use Rattle.wasi_run.specs.Licence.{entry}
-use Rattle.wasi_run.specs.Answered.{Answered, word_of_code, CreateRefusal, NotAllowed, ToldCode}
-use Rattle.wasi_run.proofs.Gives.{Gives, gives_then}
+use Rattle.wasi_steps.specs.declared.reply.CodeWord.{CodeWord}
+use Rattle.wasi_steps.specs.declared.reply.Reply.{Reply}
+use Rattle.wasi_steps.specs.declared.reply.Reply.TheVariants as reply
+use Rattle.wasi_steps.specs.declared.step.Step.TheVariants as step
+use Rattle.wasi_machine.specs.Machine.{handle_reply, context_at}
+use Rattle.wasi_walks.specs.Licence.{entry}
+use Rattle.wasi_walks.specs.Answered.{Answered, word_of_code, CreateRefusal, NotAllowed, ToldCode}
+use Rattle.wasi_walks.proofs.Gives.{Gives, gives_then}
 use Rattle.wasi_causes.proofs.steps.Settled.{settled}
 
 -- == making a handle

@@ -17,31 +17,31 @@ use Rattle.wasi_host.specs.declared.machine.Machine.{Machine}
 use Rattle.wasi_host.specs.declared.socket.Tcp2Socket.{Tcp2Socket}
 use Rattle.wasi_host.specs.Machine.{first_state, own_of, socket_at}
 use Rattle.wasi_host.specs.Store.{is_bind, is_listen}
-use Rattle.wasi_run.specs.declared.reply.CodeWord.{CodeWord}
-use Rattle.wasi_run.specs.declared.reply.CodeWord.TheVariants as word
-use Rattle.wasi_run.specs.declared.reply.Reply.{Reply}
-use Rattle.wasi_run.specs.declared.reply.Reply.TheVariants as reply
-use Rattle.wasi_run.specs.declared.step.Step.{Step}
-use Rattle.wasi_run.specs.declared.step.Step.TheVariants as step
-use Rattle.wasi_run.specs.Answered.{Answered, CreateRefusal, StartRefusal, BindRefusal, ConnectRefusal, FinishRefusal, LocalRefusal, RemoteRefusal, ConnectsAt, MissesHandle}
-use Rattle.wasi_run.specs.Answered as refusal
-use Rattle.wasi_run.specs.Listens.{ListenRefusal, AcceptRefusal, AcceptsAt}
-use Rattle.wasi_run.specs.Listens as listens
-use Rattle.wasi_run.specs.Licence.{entry}
-use Rattle.wasi_run.specs.Machine.{machine_asks, run}
-use Rattle.wasi_run.specs.Reply.{is_trap}
-use Rattle.wasi_run.specs.Settings.{Chosen, AnOption, TheBacklog, chosen}
-use Rattle.wasi_run.specs.Steps.{context_of}
-use Rattle.wasi_run.specs.Waiting.{MayStand}
+use Rattle.wasi_steps.specs.declared.reply.CodeWord.{CodeWord}
+use Rattle.wasi_steps.specs.declared.reply.CodeWord.TheVariants as word
+use Rattle.wasi_steps.specs.declared.reply.Reply.{Reply}
+use Rattle.wasi_steps.specs.declared.reply.Reply.TheVariants as reply
+use Rattle.wasi_steps.specs.declared.step.Step.{Step}
+use Rattle.wasi_steps.specs.declared.step.Step.TheVariants as step
+use Rattle.wasi_walks.specs.Answered.{Answered, CreateRefusal, StartRefusal, BindRefusal, ConnectRefusal, FinishRefusal, LocalRefusal, RemoteRefusal, ConnectsAt, MissesHandle}
+use Rattle.wasi_walks.specs.Answered as refusal
+use Rattle.wasi_walks.specs.Listens.{ListenRefusal, AcceptRefusal, AcceptsAt}
+use Rattle.wasi_walks.specs.Listens as listens
+use Rattle.wasi_walks.specs.Licence.{entry}
+use Rattle.wasi_machine.specs.Machine.{machine_asks, run}
+use Rattle.wasi_steps.specs.Reply.{is_trap}
+use Rattle.wasi_steps.specs.Settings.{Chosen, AnOption, TheBacklog, chosen}
+use Rattle.wasi_steps.specs.Steps.{context_of}
+use Rattle.wasi_walks.specs.Waiting.{MayStand}
 use Rattle.wasi_causes.specs.MayAnswer.{IsCodeWord, IsStreamCall, MayRefuse, MayMiss, MayTrap, MayWait, may_answer, EachMayAnswer}
 use Rattle.wasi_causes.specs.Options.{GetRefusal, SetRefusal, BacklogRefusal, ChosenRefusal}
 use Rattle.wasi_causes.specs.Options as options
 use Rattle.wasi_causes.proofs.steps.Shapes.{IsShaped, step_shaped}
 use Rattle.wasi_causes.proofs.steps.Settled.{busy_exactly, settled, finish_refused as finish_none}
-use Rattle.wasi_run.proofs.Gives.{Gives, gives_then, gives_both, gives_more, given}
-use Rattle.wasi_run.proofs.walks.States.{Over}
-use Rattle.wasi_run.proofs.fits.Law.{Fit}
-use Rattle.wasi_run.proofs.fits.Lines.{first_fit}
+use Rattle.wasi_walks.proofs.Gives.{Gives, gives_then, gives_both, gives_more, given}
+use Rattle.wasi_walks.proofs.walks.States.{Over}
+use Rattle.wasi_walks.proofs.fits.Law.{Fit}
+use Rattle.wasi_walks.proofs.fits.Lines.{first_fit}
 use Rattle.wasi_causes.proofs.runs.Fits.{connects_at, accepts_at, line_fits, fits}
 use Rattle.wasi_causes.proofs.steps.Creates.{NetworkSays, network_says, create_refused}
 use Rattle.wasi_causes.proofs.binding.Starts.{bind_refused}
@@ -251,9 +251,9 @@ module _ (contexts : List WasiSocketsCtx) where
       → Left (run contexts [] first_state 1 steps) log (Give (replies, m)) → Answered contexts m line s es r after → may_answer line s r
   runs_answer steps log replies m line s es r after w h = answers contexts m line (fits contexts steps log replies m w) s es r after h
 
-  line_answers : (line : ℕ) (s : Step) (m : Machine) (es : List Entry) → Fit (Over m) → Gives (λ fs done. may_answer line s done.0 × Fit (Over done.1)) es (machine_asks contexts m line s m.store.standing)
+  line_answers : (line : ℕ) (s : Step) (m : Machine) (es : List Entry) → Fit (Over m) → Gives (λ fs done. may_answer line s done.0 × Fit (Over done.1)) es (machine_asks contexts m line s)
   line_answers line s m es f =
-      gives_both (λ fs done. may_answer line s done.0) (λ fs done. Fit (Over done.1)) es (machine_asks contexts m line s m.store.standing)
+      gives_both (λ fs done. may_answer line s done.0) (λ fs done. Fit (Over done.1)) es (machine_asks contexts m line s)
       (by_walks (λ done. may_answer line s done.0) es _ (λ fs done w. answers contexts m line f s fs done.0 done.1 w)) (line_fits contexts line s m es f)
 
   -- the replies so far come first, and then those of these lines
@@ -263,7 +263,7 @@ module _ (contexts : List WasiSocketsCtx) where
   run_answers : (replies : List Reply) (line : ℕ) (todo : List Step) (m : Machine) (es : List Entry) → Fit (Over m) → Gives (Adds replies line todo) es (run contexts replies m line todo)
   run_answers replies line [] m es f = ([], sym (append-nil replies), tt)
   run_answers replies line (s ∷ todo) m es f =
-      gives_then (λ fs done. may_answer line s done.0 × Fit (Over done.1)) (Adds replies line (s ∷ todo)) es (machine_asks contexts m line s m.store.standing) _ (line_answers line s m es f)
+      gives_then (λ fs done. may_answer line s done.0 × Fit (Over done.1)) (Adds replies line (s ∷ todo)) es (machine_asks contexts m line s) _ (line_answers line s m es f)
       (λ fs done k. allows_if (λ gs op call. ⊤) (Adds replies line (s ∷ todo)) fs (is_trap done.0) _ _ (λ trap. (done.0 ∷ [], refl, (k.0, tt)))
       (λ on. gives_more (Adds (replies ++ done.0 ∷ []) (line + 1) todo) (Adds replies line (s ∷ todo)) (λ gs d x. (done.0 ∷ x.0, x.1 ∙ append_assoc replies (done.0 ∷ []) x.0, (k.0, x.2))) fs _ (run_answers (replies ++ done.0 ∷ []) (line + 1) todo done.1 fs k.1)))
 

@@ -6,14 +6,14 @@ use Rattle.wasi_addr.specs.declared.code.ErrorCode.TheVariants.{AccessDenied}
 use Rattle.wasi_world.specs.declared.call.Entry.{Entry}
 use Rattle.wasi_world.specs.declared.outcome.TrapKind.TheVariants.{NoSuchHandle}
 use Rattle.wasi_host.specs.declared.machine.Machine.{Machine}
-use Rattle.wasi_run.specs.declared.reply.CodeWord.{CodeWord}
-use Rattle.wasi_run.specs.declared.reply.CodeWord.TheVariants as word
-use Rattle.wasi_run.specs.declared.reply.Reply.{Reply}
-use Rattle.wasi_run.specs.declared.reply.Reply.TheVariants as reply
+use Rattle.wasi_steps.specs.declared.reply.CodeWord.{CodeWord}
+use Rattle.wasi_steps.specs.declared.reply.CodeWord.TheVariants as word
+use Rattle.wasi_steps.specs.declared.reply.Reply.{Reply}
+use Rattle.wasi_steps.specs.declared.reply.Reply.TheVariants as reply
 use Rattle.wasi_host.specs.declared.socket.Tcp2Socket.{Tcp2Socket}
 use Rattle.wasi_host.specs.Store.{Records, with_socket, is_nothing}
 use Rattle.wasi_host.specs.Machine.{socket_at}
-use Rattle.wasi_run.specs.Answered.{record_in, record_at, putting, word_of_code, RefusedOf}
+use Rattle.wasi_walks.specs.Answered.{record_in, record_at, putting, word_of_code, RefusedOf}
 
 -- == a record that is put back
 set_same : {A : Type 0} (xs : List A) (i : ℕ) (x : A) → slice_get xs i ≡ Some x → slice_set xs i x ≡ xs

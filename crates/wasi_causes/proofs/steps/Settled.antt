@@ -10,16 +10,16 @@ use Rattle.wasi_host.specs.declared.store.Standing.{Standing}
 use Rattle.wasi_host.specs.declared.socket.InProgress.{InProgress}
 use Rattle.wasi_host.specs.Store.{finish_by, finish_at}
 use Rattle.wasi_p2.specs.Tcp.{finish_on}
-use Rattle.wasi_run.specs.declared.reply.CodeWord.{CodeWord}
-use Rattle.wasi_run.specs.declared.reply.CodeWord.TheVariants as word
-use Rattle.wasi_run.specs.declared.reply.Reply.{Reply}
-use Rattle.wasi_run.specs.declared.reply.Reply.TheVariants as reply
-use Rattle.wasi_run.specs.declared.step.Step.{Step}
-use Rattle.wasi_run.specs.Machine.{done_reply, step_asks, machine_asks}
-use Rattle.wasi_run.specs.Steps.{context_of}
-use Rattle.wasi_run.specs.Answered.{Answered, record_in}
-use Rattle.wasi_run.specs.Replies.{kinds_of}
-use Rattle.wasi_run.proofs.Gives.{Gives, gives_more, given}
+use Rattle.wasi_steps.specs.declared.reply.CodeWord.{CodeWord}
+use Rattle.wasi_steps.specs.declared.reply.CodeWord.TheVariants as word
+use Rattle.wasi_steps.specs.declared.reply.Reply.{Reply}
+use Rattle.wasi_steps.specs.declared.reply.Reply.TheVariants as reply
+use Rattle.wasi_steps.specs.declared.step.Step.{Step}
+use Rattle.wasi_machine.specs.Machine.{done_reply, step_asks, asks_while}
+use Rattle.wasi_steps.specs.Steps.{context_of}
+use Rattle.wasi_walks.specs.Answered.{Answered, record_in}
+use Rattle.wasi_steps.specs.Replies.{kinds_of}
+use Rattle.wasi_walks.proofs.Gives.{Gives, gives_more, given}
 use Rattle.wasi_causes.proofs.steps.Shapes.{HasShape, MayFail, MayErr, IsShaped, step_shaped}
 
 -- == a call that stands
@@ -46,7 +46,7 @@ module _ (contexts : List WasiSocketsCtx) (m : Machine) (line : ℕ) where
   held s None entries r after w = (λ e. absurd (given NotBusy _ entries (r, after) (step_not_busy s) w e), λ e. absurd (cc))
   held s (Some c) entries r after w = (λ e. refl, λ e. (given (IsQuiet m) (Give (reply.Busy, m)) entries (r, after) (refl, refl, refl) w).1)
 
-  busy_by : (s : Step) (standing : Option Standing) (entries : List Entry) (r : Reply) (after : Machine) → Left (machine_asks contexts m line s standing) entries (Give (r, after)) → (r ≡ reply.Busy) ↔ IsHeldUp s standing
+  busy_by : (s : Step) (standing : Option Standing) (entries : List Entry) (r : Reply) (after : Machine) → Left (asks_while contexts m line s standing) entries (Give (r, after)) → (r ≡ reply.Busy) ↔ IsHeldUp s standing
   busy_by s None entries r after w = (λ e. absurd (given NotBusy _ entries (r, after) (step_not_busy s) w e), λ e. let none = e.0 in absurd (cc))
   busy_by s (Some c) entries r after w = let h = held s (context_of s) entries r after w in (λ e. (refl, h.0 e), λ e. h.1 e.1)
 
@@ -61,7 +61,7 @@ module _ (contexts : List WasiSocketsCtx) (m : Machine) (line : ℕ) where
   held_quiet s None entries after w = absurd (given NotBusy _ entries (reply.Busy, after) (step_not_busy s) w refl)
   held_quiet s (Some c) entries after w = let q = given (IsQuiet m) (Give (reply.Busy, m)) entries (reply.Busy, after) (refl, refl, refl) w in (q.0, q.2)
 
-  quiet_by : (s : Step) (standing : Option Standing) (entries : List Entry) (after : Machine) → Left (machine_asks contexts m line s standing) entries (Give (reply.Busy, after)) → (entries ≡ []) × (after ≡ m)
+  quiet_by : (s : Step) (standing : Option Standing) (entries : List Entry) (after : Machine) → Left (asks_while contexts m line s standing) entries (Give (reply.Busy, after)) → (entries ≡ []) × (after ≡ m)
   quiet_by s None entries after w = absurd (given NotBusy _ entries (reply.Busy, after) (step_not_busy s) w refl)
   quiet_by s (Some c) entries after w = held_quiet s (context_of s) entries after w
 
@@ -75,7 +75,7 @@ module _ (contexts : List WasiSocketsCtx) (m : Machine) (line : ℕ) where
   settled_by Q s (Some c) entries done g w n = absurd (n (given (IsQuiet m) (Give (reply.Busy, m)) entries done (refl, refl, refl) w).1)
 
   pub settled : (Q : List Entry → Reply × Machine → Type 0) (s : Step) (standing : Option Standing) (entries : List Entry) (done : Reply × Machine)
-      → Gives Q [] (step_asks contexts m line s) → Left (machine_asks contexts m line s standing) entries (Give done) → done.0 ≢ reply.Busy → Q entries done
+      → Gives Q [] (step_asks contexts m line s) → Left (asks_while contexts m line s standing) entries (Give done) → done.0 ≢ reply.Busy → Q entries done
   settled Q s None entries done g w n = given Q (step_asks contexts m line s) entries done g w
   settled Q s (Some c) entries done g w n = settled_by Q s (context_of s) entries done g w n
 

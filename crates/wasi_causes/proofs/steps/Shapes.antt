@@ -19,15 +19,15 @@ use Rattle.wasi_host.specs.StreamCalls.{read_asks, check_asks, write_asks, flush
 use Rattle.wasi_p2.specs.Options.{get_option_on}
 use Rattle.wasi_p2.specs.Pending as p2
 use Rattle.wasi_p2.specs.Tcp.{network_asks, start_bind_asks, finish_on, start_connect_asks, finish_connect_asks, start_listen_on, accept_asks, local_address_on, remote_address_on, is_listening_on, address_family_on, shutdown_on}
-use Rattle.wasi_run.specs.declared.reply.Reply.{Reply}
-use Rattle.wasi_run.specs.declared.reply.Reply.TheVariants as reply
-use Rattle.wasi_run.specs.declared.step.Step.{Step}
-use Rattle.wasi_run.specs.declared.step.Step.TheVariants as step
-use Rattle.wasi_run.specs.Machine.{stop_reply, handle_reply, value_reply, done_reply, answer_reply, pair_reply, triple_reply, address_reply, truth_reply, family_reply, call_stop_reply, bytes_reply, permit_reply, taken_reply, outcome_reply, resumed_reply, poll_on, set_chosen, context_at, first_ids, step_asks}
-use Rattle.wasi_run.specs.Reply.{no_fields}
-use Rattle.wasi_run.specs.Settings.{chosen}
-use Rattle.wasi_run.specs.Replies.{FieldKinds, Each, AnAddress, ANumber, SomeBytes, Truth, kinds_of}
-use Rattle.wasi_run.proofs.Gives.{Gives, gives_then, gives_any}
+use Rattle.wasi_steps.specs.declared.reply.Reply.{Reply}
+use Rattle.wasi_steps.specs.declared.reply.Reply.TheVariants as reply
+use Rattle.wasi_steps.specs.declared.step.Step.{Step}
+use Rattle.wasi_steps.specs.declared.step.Step.TheVariants as step
+use Rattle.wasi_machine.specs.Machine.{stop_reply, handle_reply, value_reply, done_reply, answer_reply, pair_reply, triple_reply, address_reply, truth_reply, family_reply, call_stop_reply, bytes_reply, permit_reply, taken_reply, outcome_reply, resumed_reply, poll_on, set_chosen, context_at, first_ids, step_asks}
+use Rattle.wasi_steps.specs.Reply.{no_fields}
+use Rattle.wasi_steps.specs.Settings.{chosen}
+use Rattle.wasi_steps.specs.Replies.{FieldKinds, Each, AnAddress, ANumber, SomeBytes, Truth, kinds_of}
+use Rattle.wasi_walks.proofs.Gives.{Gives, gives_then, gives_any}
 use Rattle.wasi_causes.specs.MayAnswer.{AreLike, IsCodeWord, IsStreamCall}
 
 -- by whether it may fail as a call of a stream does, whether it may be refused, and the kinds of its fields; it isn't busy

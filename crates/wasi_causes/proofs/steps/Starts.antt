@@ -8,14 +8,14 @@ use Rattle.wasi_host.specs.declared.machine.Machine.{Machine}
 use Rattle.wasi_host.specs.declared.socket.Tcp2Socket.{Tcp2Socket}
 use Rattle.wasi_host.specs.Store.{is_nothing}
 use Rattle.wasi_host.specs.Machine.{socket_at}
-use Rattle.wasi_run.specs.declared.reply.CodeWord.{CodeWord}
-use Rattle.wasi_run.specs.declared.reply.CodeWord.TheVariants as word
-use Rattle.wasi_run.specs.declared.reply.Reply.{Reply}
-use Rattle.wasi_run.specs.declared.reply.Reply.TheVariants as reply
-use Rattle.wasi_run.specs.declared.step.Step.{Step}
-use Rattle.wasi_run.specs.Machine.{step_asks}
-use Rattle.wasi_run.specs.Answered.{Answered, record_at, RefusedOf, HasOperationInProgress, StartRefusal, InProgress, Begins}
-use Rattle.wasi_run.proofs.Gives.{Gives}
+use Rattle.wasi_steps.specs.declared.reply.CodeWord.{CodeWord}
+use Rattle.wasi_steps.specs.declared.reply.CodeWord.TheVariants as word
+use Rattle.wasi_steps.specs.declared.reply.Reply.{Reply}
+use Rattle.wasi_steps.specs.declared.reply.Reply.TheVariants as reply
+use Rattle.wasi_steps.specs.declared.step.Step.{Step}
+use Rattle.wasi_machine.specs.Machine.{step_asks}
+use Rattle.wasi_walks.specs.Answered.{Answered, record_at, RefusedOf, HasOperationInProgress, StartRefusal, InProgress, Begins}
+use Rattle.wasi_walks.proofs.Gives.{Gives}
 use Rattle.wasi_causes.proofs.steps.Settled.{settled, busy_exactly}
 use Rattle.wasi_causes.proofs.steps.Records.{IsIdle, found}
 

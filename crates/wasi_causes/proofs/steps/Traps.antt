@@ -20,17 +20,17 @@ use Rattle.wasi_host.specs.Kinds.{Handles}
 use Rattle.wasi_host.specs.Store.{Records, with_reader, with_writer, is_bind, is_listen, finish_by, finish_at}
 use Rattle.wasi_host.specs.Machine.{socket_at, input_at, output_at, own_of, turn_machine_asks}
 use Rattle.wasi_p2.specs.Tcp.{finish_on}
-use Rattle.wasi_run.specs.declared.reply.CodeWord.{CodeWord}
-use Rattle.wasi_run.specs.declared.reply.Reply.{Reply}
-use Rattle.wasi_run.specs.declared.reply.Reply.TheVariants as reply
-use Rattle.wasi_run.specs.declared.step.Step.{Step}
-use Rattle.wasi_run.specs.declared.step.Step.TheVariants as step
-use Rattle.wasi_run.specs.Machine.{done_reply, call_stop_reply, bytes_reply, permit_reply, taken_reply, context_at, step_asks}
-use Rattle.wasi_run.specs.Licence.{marks_in}
-use Rattle.wasi_run.specs.Answered.{Answered, record_in, record_at, streams_in, MissesHandle, MakesHandle, IsWrite}
-use Rattle.wasi_run.specs.Settings.{chosen}
-use Rattle.wasi_run.specs.Waiting.{IsPoll, MayStand, left_missing}
-use Rattle.wasi_run.proofs.Gives.{Gives, gives_any, gives_more, gives_then}
+use Rattle.wasi_steps.specs.declared.reply.CodeWord.{CodeWord}
+use Rattle.wasi_steps.specs.declared.reply.Reply.{Reply}
+use Rattle.wasi_steps.specs.declared.reply.Reply.TheVariants as reply
+use Rattle.wasi_steps.specs.declared.step.Step.{Step}
+use Rattle.wasi_steps.specs.declared.step.Step.TheVariants as step
+use Rattle.wasi_machine.specs.Machine.{done_reply, call_stop_reply, bytes_reply, permit_reply, taken_reply, context_at, step_asks}
+use Rattle.wasi_walks.specs.Licence.{marks_in}
+use Rattle.wasi_walks.specs.Answered.{Answered, record_in, record_at, streams_in, MissesHandle, MakesHandle, IsWrite}
+use Rattle.wasi_steps.specs.Settings.{chosen}
+use Rattle.wasi_walks.specs.Waiting.{IsPoll, MayStand, left_missing}
+use Rattle.wasi_walks.proofs.Gives.{Gives, gives_any, gives_more, gives_then}
 use Rattle.wasi_causes.specs.GivenUp.{IsDrop}
 use Rattle.wasi_causes.proofs.steps.Settled.{settled}
 use Rattle.wasi_causes.proofs.steps.Records.{RecordSays}

@@ -25,9 +25,9 @@ use Rattle.wasi_host.specs.Store.{Records, with_socket, with_reader, with_writer
 use Rattle.wasi_host.specs.Machine.{side_at, with_table, with_store}
 use Rattle.wasi_host.specs.Jobs.{has_job, with_job, begins_job, write_at}
 use Rattle.wasi_host.specs.StreamCalls.{failed_made, stopped, converted, stream_on, write_on}
-use Rattle.wasi_run.specs.Licence.{entry, marks_in}
-use Rattle.wasi_run.specs.Answered.{record_in, streams_in, OfStreams}
-use Rattle.wasi_run.proofs.Gives.{Gives, gives_then}
+use Rattle.wasi_walks.specs.Licence.{entry, marks_in}
+use Rattle.wasi_walks.specs.Answered.{record_in, streams_in, OfStreams}
+use Rattle.wasi_walks.proofs.Gives.{Gives, gives_then}
 use Rattle.wasi_causes.proofs.steps.Records.{put_store_same}
 use Rattle.wasi_causes.proofs.steps.Creates.{make_gives}
 

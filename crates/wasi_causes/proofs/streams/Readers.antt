@@ -18,9 +18,9 @@ use Rattle.wasi_tcp.specs.declared.reader.ReadState.{ReadState}
 use Rattle.wasi_tcp.specs.declared.reader.ReadState.TheVariants as reading
 use Rattle.wasi_tcp.specs.Halves.{polled_answer}
 use Rattle.wasi_tcp.specs.Reader.{after_read, read_state_asks}
-use Rattle.wasi_run.specs.Licence.{entry, marks_in}
-use Rattle.wasi_run.specs.Answered.{read_entry, ReadsTold, ReadsNone, LengthZero, ToldToWait, ReadsEnd, AlreadyClosed, ToldNone, ReadFails}
-use Rattle.wasi_run.proofs.Gives.{Gives}
+use Rattle.wasi_walks.specs.Licence.{entry, marks_in}
+use Rattle.wasi_walks.specs.Answered.{read_entry, ReadsTold, ReadsNone, LengthZero, ToldToWait, ReadsEnd, AlreadyClosed, ToldNone, ReadFails}
+use Rattle.wasi_walks.proofs.Gives.{Gives}
 use Rattle.wasi_causes.proofs.streams.Calls.{IsSound}
 
 module _ (own : OpId) (len : ℕ) where

@@ -13,15 +13,15 @@ use Rattle.wasi_host.specs.Host.{CallStop}
 use Rattle.wasi_host.specs.Store.{with_reader}
 use Rattle.wasi_host.specs.Machine.{input_at, own_of}
 use Rattle.wasi_host.specs.StreamCalls.{read_asks}
-use Rattle.wasi_run.specs.declared.reply.CodeWord.{CodeWord}
-use Rattle.wasi_run.specs.declared.reply.Field.{Field}
-use Rattle.wasi_run.specs.declared.reply.Reply.{Reply}
-use Rattle.wasi_run.specs.declared.reply.Reply.TheVariants as reply
-use Rattle.wasi_run.specs.declared.step.Step.TheVariants as step
-use Rattle.wasi_run.specs.Reply.{bytes_fields}
-use Rattle.wasi_run.specs.Machine.{bytes_reply}
-use Rattle.wasi_run.specs.Answered.{Answered, putting, OfStreams, ReadsTold, ReadsNone, ReadsEnd, ReadFails, FailsWith, closing_reader, with_error}
-use Rattle.wasi_run.proofs.Gives.{Gives}
+use Rattle.wasi_steps.specs.declared.reply.CodeWord.{CodeWord}
+use Rattle.wasi_steps.specs.declared.reply.Field.{Field}
+use Rattle.wasi_steps.specs.declared.reply.Reply.{Reply}
+use Rattle.wasi_steps.specs.declared.reply.Reply.TheVariants as reply
+use Rattle.wasi_steps.specs.declared.step.Step.TheVariants as step
+use Rattle.wasi_steps.specs.Reply.{bytes_fields}
+use Rattle.wasi_machine.specs.Machine.{bytes_reply}
+use Rattle.wasi_walks.specs.Answered.{Answered, putting, OfStreams, ReadsTold, ReadsNone, ReadsEnd, ReadFails, FailsWith, closing_reader, with_error}
+use Rattle.wasi_walks.proofs.Gives.{Gives}
 use Rattle.wasi_causes.proofs.steps.Settled.{settled}
 use Rattle.wasi_causes.proofs.streams.Calls.{NotThere, ItGives, ItFails, FindsFull, ItIsClosed, ItTraps}
 use Rattle.wasi_causes.proofs.streams.Readers.{ReadGives}

@@ -12,9 +12,9 @@ use Rattle.wasi_host.specs.Host.{CallStop}
 use Rattle.wasi_host.specs.Store.{with_reader, with_writer, reader_asks, writer_asks, flush_asks}
 use Rattle.wasi_host.specs.Machine.{input_at, output_at, own_of}
 use Rattle.wasi_host.specs.StreamCalls.{read_asks, check_asks, write_asks, flushed_asks}
-use Rattle.wasi_run.specs.declared.reply.Reply.{Reply}
-use Rattle.wasi_run.specs.Answered.{record_in, streams_in, putting, OfStreams}
-use Rattle.wasi_run.proofs.Gives.{Gives, gives_then}
+use Rattle.wasi_steps.specs.declared.reply.Reply.{Reply}
+use Rattle.wasi_walks.specs.Answered.{record_in, streams_in, putting, OfStreams}
+use Rattle.wasi_walks.proofs.Gives.{Gives, gives_then}
 use Rattle.wasi_causes.proofs.steps.Records.{put_same}
 use Rattle.wasi_causes.proofs.streams.Calls.{StreamAnswer, all_kept, job_noted, on_gives, write_on_gives, reader_called, writer_called}
 use Rattle.wasi_causes.proofs.streams.Readers.{ReadGives, read_gives}

@@ -18,15 +18,15 @@ use Rattle.wasi_host.specs.declared.socket.Tcp2Socket.{Tcp2Socket}
 use Rattle.wasi_host.specs.declared.store.Standing.{Standing}
 use Rattle.wasi_host.specs.Jobs.{turned, turn_record, turn_at, turn_jobs, turn_store_asks}
 use Rattle.wasi_host.specs.Machine.{turn_machine_asks}
-use Rattle.wasi_run.specs.declared.reply.Reply.{Reply}
-use Rattle.wasi_run.specs.declared.reply.Reply.TheVariants as reply
-use Rattle.wasi_run.specs.declared.step.Step.TheVariants as step
-use Rattle.wasi_run.specs.Answered.{Answered}
-use Rattle.wasi_run.specs.Licence.{Has}
-use Rattle.wasi_run.specs.Machine.{machine_asks}
-use Rattle.wasi_run.specs.Reply.{no_fields}
-use Rattle.wasi_run.proofs.Lists.{cut_of}
-use Rattle.wasi_run.proofs.Gives.{Gives, given, allows_ask}
+use Rattle.wasi_steps.specs.declared.reply.Reply.{Reply}
+use Rattle.wasi_steps.specs.declared.reply.Reply.TheVariants as reply
+use Rattle.wasi_steps.specs.declared.step.Step.TheVariants as step
+use Rattle.wasi_walks.specs.Answered.{Answered}
+use Rattle.wasi_walks.specs.Licence.{Has}
+use Rattle.wasi_machine.specs.Machine.{asks_while}
+use Rattle.wasi_steps.specs.Reply.{no_fields}
+use Rattle.wasi_walks.proofs.Lists.{cut_of}
+use Rattle.wasi_walks.proofs.Gives.{Gives, given, allows_ask}
 use Rattle.wasi_causes.specs.Turns.{writes_by, writer_asks_by, job_of, IsOfJob}
 use Rattle.wasi_causes.proofs.pending.Marks.{AnyEnd, poll_asks_by}
 
@@ -128,7 +128,7 @@ module _ (m : Machine) where
   -- == of its answers
   module _ (contexts : List WasiSocketsCtx) (line : ℕ) where
     -- a turn is no call of a guest
-    its_own : (o : Option Standing) (es : List Entry) (rest : Asks (Reply × Machine)) → Left (machine_asks contexts m line step.Turn o) es rest → Left turn es rest
+    its_own : (o : Option Standing) (es : List Entry) (rest : Asks (Reply × Machine)) → Left (asks_while contexts m line step.Turn o) es rest → Left turn es rest
     its_own None es rest w = w
     its_own (Some s) es rest w = w
 

@@ -20,9 +20,9 @@ use Rattle.wasi_host.specs.declared.socket.Streams.{Streams}
 use Rattle.wasi_host.specs.declared.socket.Tcp2Socket.{Tcp2Socket}
 use Rattle.wasi_host.specs.Dropping.{wait_answer, wait_writer, wait_put, wait_at, waited, drop_output_at}
 use Rattle.wasi_host.specs.Store.{Records, with_writer, standing_drop}
-use Rattle.wasi_run.specs.Licence.{entry}
-use Rattle.wasi_run.specs.Waiting.{WriterWaits, WritesOn, ToldToWait, OutputWaits}
-use Rattle.wasi_run.proofs.Gives.{Gives, gives_then}
+use Rattle.wasi_walks.specs.Licence.{entry}
+use Rattle.wasi_walks.specs.Waiting.{WriterWaits, WritesOn, ToldToWait, OutputWaits}
+use Rattle.wasi_walks.proofs.Gives.{Gives, gives_then}
 use Rattle.wasi_causes.specs.GivenUp.{LooksOnce, NoLook, OneLook}
 
 -- == a look at a writer

@@ -23,10 +23,10 @@ use Rattle.wasi_tcp.specs.declared.writer.WriteState.TheVariants as writing
 use Rattle.wasi_tcp.specs.Job.{writer, new_job, job_after, job_asks}
 use Rattle.wasi_tcp.specs.Writer.{error_of_code, stop_of, collected, look_in, permitted, check_write_asks, turn_asks, begun, write_on_asks, write_half_asks, write_state_asks, flush_of}
 use Rattle.wasi_host.specs.Store.{flush_asks}
-use Rattle.wasi_run.specs.Licence.{entry, marks_in}
-use Rattle.wasi_run.specs.Answered.{Permits, GoesOn, NotReady, IsReady, IsUnpermitted, CheckFails, WriteFails, ErrorKept, CodeTold}
-use Rattle.wasi_run.proofs.Lists.{marks_in-push}
-use Rattle.wasi_run.proofs.Gives.{Gives, gives_then}
+use Rattle.wasi_walks.specs.Licence.{entry, marks_in}
+use Rattle.wasi_walks.specs.Answered.{Permits, GoesOn, NotReady, IsReady, IsUnpermitted, CheckFails, WriteFails, ErrorKept, CodeTold}
+use Rattle.wasi_walks.proofs.Lists.{marks_in-push}
+use Rattle.wasi_walks.proofs.Gives.{Gives, gives_then}
 use Rattle.wasi_causes.proofs.pending.Marks.{poll_marks_none}
 use Rattle.wasi_causes.proofs.streams.Calls.{IsSound}
 

@@ -23,16 +23,16 @@ use Rattle.wasi_host.specs.Store.{Records, with_socket, with_writer}
 use Rattle.wasi_host.specs.Jobs.{has_job, with_job, begins_job}
 use Rattle.wasi_host.specs.Machine.{output_at, own_of}
 use Rattle.wasi_host.specs.StreamCalls.{check_asks, write_asks, flushed_asks}
-use Rattle.wasi_run.specs.declared.reply.CodeWord.{CodeWord}
-use Rattle.wasi_run.specs.declared.reply.Field.{Field}
-use Rattle.wasi_run.specs.declared.reply.Reply.{Reply}
-use Rattle.wasi_run.specs.declared.reply.Reply.TheVariants as reply
-use Rattle.wasi_run.specs.declared.step.Step.TheVariants as step
-use Rattle.wasi_run.specs.Reply.{number_fields}
-use Rattle.wasi_run.specs.Machine.{permit_reply, taken_reply}
-use Rattle.wasi_run.specs.Answered.{Answered, putting, OfStreams, output_streams, Permits, IsUnpermitted, IsGivenUp, WasClosedWith, FailsWith, with_error, closing_writer, CheckFails, WriteFails}
-use Rattle.wasi_run.proofs.Gives.{Gives}
-use Rattle.wasi_run.proofs.Lists.{set_there}
+use Rattle.wasi_steps.specs.declared.reply.CodeWord.{CodeWord}
+use Rattle.wasi_steps.specs.declared.reply.Field.{Field}
+use Rattle.wasi_steps.specs.declared.reply.Reply.{Reply}
+use Rattle.wasi_steps.specs.declared.reply.Reply.TheVariants as reply
+use Rattle.wasi_steps.specs.declared.step.Step.TheVariants as step
+use Rattle.wasi_steps.specs.Reply.{number_fields}
+use Rattle.wasi_machine.specs.Machine.{permit_reply, taken_reply}
+use Rattle.wasi_walks.specs.Answered.{Answered, putting, OfStreams, output_streams, Permits, IsUnpermitted, IsGivenUp, WasClosedWith, FailsWith, with_error, closing_writer, CheckFails, WriteFails}
+use Rattle.wasi_walks.proofs.Gives.{Gives}
+use Rattle.wasi_walks.proofs.Lists.{set_there}
 use Rattle.wasi_causes.proofs.steps.Settled.{settled, busy_exactly}
 use Rattle.wasi_causes.proofs.streams.Calls.{job_noted, none_begun, NotThere, ItGives, ItFails, FindsFull, ItIsClosed, ItTraps}
 use Rattle.wasi_causes.proofs.streams.Writers.{WriteGives}

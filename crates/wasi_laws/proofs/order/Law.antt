@@ -41,15 +41,15 @@ use Rattle.wasi_host.specs.declared.listening.Listening.TheVariants.{Not}
 use Rattle.wasi_host.specs.Listening.{give_up_asks, standing_listen, with_listening}
 use Rattle.wasi_host.specs.Machine.{own_of, created_asks, create_asks, side_at}
 use Rattle.wasi_host.specs.Store.{new_record, with_record, with_inner, with_writer, left_of, standing_bind, standing_drop}
-use Rattle.wasi_run.specs.declared.step.Step.{Step}
-use Rattle.wasi_run.specs.Licence.{entry}
-use Rattle.wasi_run.proofs.walks.Moves.{closed_record, Held, InHand, Connects, Own, Used, Here, put, Found, IsQuestionOf, WriterMoves, Collects, Permits, Lasts, LastsAfter, Closes, Move, Reaches, Leaves, Spends, Changes, ClosesReader, Writes, IsGone, Reconnects, Opens, BeginsConnect, BeginsBind, BeginsWrite, Stands, Resumes, Ends, Lists, Takes, BeginsListen, BeginsAccept, Unlistens, Forgets, Watches, Joins, StandsListen, StandsDrop, ResumesDrop, Unstands, Listens, Awaits, listen_after, accepting_now, beginning_listen, new_accept, joined, joining, second_of}
-use Rattle.wasi_run.proofs.fits.Law.{told_same}
+use Rattle.wasi_steps.specs.declared.step.Step.{Step}
+use Rattle.wasi_walks.specs.Licence.{entry}
+use Rattle.wasi_walks.proofs.walks.Moves.{closed_record, Held, InHand, Connects, Own, Used, Here, put, Found, IsQuestionOf, WriterMoves, Collects, Permits, Lasts, LastsAfter, Closes, Move, Reaches, Leaves, Spends, Changes, ClosesReader, Writes, IsGone, Reconnects, Opens, BeginsConnect, BeginsBind, BeginsWrite, Stands, Resumes, Ends, Lists, Takes, BeginsListen, BeginsAccept, Unlistens, Forgets, Watches, Joins, StandsListen, StandsDrop, ResumesDrop, Unstands, Listens, Awaits, listen_after, accepting_now, beginning_listen, new_accept, joined, joining, second_of}
+use Rattle.wasi_walks.proofs.fits.Law.{told_same}
 use Rattle.wasi_laws.proofs.order.Walks.{Walks, May, gone_after, gone_along, walks_weaker}
 use Rattle.wasi_laws.proofs.order.Polls.{if_ours, op_weight, Within, poll_walks}
 use Rattle.wasi_laws.proofs.order.Weights.{Weight, nothing, Lighter, IsHalf, weight_of, state_weight, listening_weight, writer_weight, streams_weight, record_weight, standing_weight, store_weight, half_of, half_state, half_listening, half_standing, half_streams, half_store, rest, half_rest, total_at, total_set, total_push, accept_weight}
 use Rattle.wasi_laws.proofs.order.Streams.{listening_up, collected_keeps, closing_lighter, turn_keeps}
-use Rattle.wasi_run.proofs.walks.Law.{Law, Walks as Made}
+use Rattle.wasi_walks.proofs.walks.Law.{Law, Walks as Made}
 
 none_ours : (mine : Bool) → if_ours mine 0 ≤ 0
 none_ours true = omega arith

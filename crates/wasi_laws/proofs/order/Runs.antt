@@ -10,18 +10,18 @@ use Rattle.wasi_world.specs.Sides.{is_same}
 use Rattle.wasi_world.proofs.Allowed.{Allows, allows_weaker}
 use Rattle.wasi_host.specs.declared.machine.Machine.{Machine}
 use Rattle.wasi_host.specs.Machine.{first_state}
-use Rattle.wasi_run.specs.declared.reply.Reply.{Reply}
-use Rattle.wasi_run.specs.declared.step.Step.{Step}
-use Rattle.wasi_run.specs.Machine.{machine_asks, run}
+use Rattle.wasi_steps.specs.declared.reply.Reply.{Reply}
+use Rattle.wasi_steps.specs.declared.step.Step.{Step}
+use Rattle.wasi_machine.specs.Machine.{machine_asks, run}
 use Rattle.wasi_laws.specs.Order.{ChecksFirst, asked_by}
 use Rattle.wasi_laws.proofs.order.Weights.{nothing, store_weight}
 use Rattle.wasi_laws.proofs.order.Walks.{May, gone_after, gone_along, Ordered, first_asked, asked_one}
 use Rattle.wasi_laws.proofs.order.Polls.{if_ours, Within}
 use Rattle.wasi_laws.proofs.order.Law.{Kept, order_along}
-use Rattle.wasi_run.proofs.walks.Moves.{Own, Used, Unused, ToWrite}
-use Rattle.wasi_run.proofs.walks.States.{Starts, Over}
-use Rattle.wasi_run.proofs.walks.Steps.{may_while, machine_walks}
-use Rattle.wasi_run.proofs.walks.Runs.{each_entry}
+use Rattle.wasi_walks.proofs.walks.Moves.{Own, Used, Unused, ToWrite}
+use Rattle.wasi_walks.proofs.walks.States.{Starts, Over}
+use Rattle.wasi_walks.proofs.walks.Steps.{may_while, machine_walks}
+use Rattle.wasi_walks.proofs.walks.Runs.{each_entry}
 
 -- == what a line may still weigh: nothing before the operation's line
 abbrev bound : ℕ → ℕ → ℕ
@@ -80,12 +80,12 @@ module _ (it : OpId) (contexts : List WasiSocketsCtx) where
   abbrev Weighs : ℕ → List Entry → Machine → Type 0
   Weighs line es m = Within (bound it.step line) nothing 0 (gone_along ours 0 es) (store_weight ours m.store)
 
-  line_ordered : (line : ℕ) (s : Step) (m : Machine) (es : List Entry) → Weighs line es m → Allows Asked (λ fs done. Weighs (line + 1) fs done.1) es (machine_asks contexts m line s m.store.standing)
+  line_ordered : (line : ℕ) (s : Step) (m : Machine) (es : List Entry) → Weighs line es m → Allows Asked (λ fs done. Weighs (line + 1) fs done.1) es (machine_asks contexts m line s)
   line_ordered line s m es i =
       let b = bound it.step (line + 1) in
       let more = bound_next it.step line in let x = i.0 in let y = i.1 in
       allows_weaker Asked (λ fs now. Kept contexts line s ours b (bound_small it.step (line + 1)) (room it.step line) (room_fits it line) fs (Over now.1)) (λ fs now. Weighs (line + 1) fs now.1)
-      (λ fs now k. let p = k.0 in let q = k.1 in (omega (arith, p), omega (arith, q))) es (machine_asks contexts m line s m.store.standing)
+      (λ fs now k. let p = k.0 in let q = k.1 in (omega (arith, p), omega (arith, q))) es (machine_asks contexts m line s)
       (order_along contexts line s ours b (bound_small it.step (line + 1)) (room it.step line) (room_fits it line) (machine_walks line s m m.store.standing refl) es (starts (may_while m s m.store.standing) (omega (arith, more, x), omega (arith, more, y))))
     where
       starts : (o : Own) → Within (bound it.step (line + 1)) nothing (room it.step line) (gone_along ours 0 es) (store_weight ours m.store)

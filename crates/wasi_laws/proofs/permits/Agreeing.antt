@@ -7,8 +7,8 @@ use Rattle.wasi_tcp.specs.Taken.{IsFrontOf}
 use Rattle.wasi_host.specs.declared.listening.Listening.{Listening}
 use Rattle.wasi_host.specs.declared.listening.Listening.TheVariants as listening
 use Rattle.wasi_host.specs.declared.socket.Tcp2Socket.{Tcp2Socket}
-use Rattle.wasi_run.proofs.Lists.{get_set, get_split, set_there}
-use Rattle.wasi_run.proofs.claims.Law.{fresh}
+use Rattle.wasi_walks.proofs.Lists.{get_set, get_split, set_there}
+use Rattle.wasi_walks.proofs.claims.Law.{fresh}
 use Rattle.wasi_laws.proofs.permits.Records.{RecordStands, Agree, Untouched}
 
 some_record : (a b : Tcp2Socket) → Some a ≡ Some b → a ≡ b

@@ -26,14 +26,14 @@ use Rattle.wasi_host.specs.Host.{CallStop, Failed, Closed, Traps}
 use Rattle.wasi_host.specs.Store.{writer_of, writer_asks, stream_at}
 use Rattle.wasi_host.specs.Machine.{with_store, output_at, own_of, side_at}
 use Rattle.wasi_host.specs.StreamCalls.{convert_asks, converted, stream_on, check_asks}
-use Rattle.wasi_run.specs.declared.reply.Reply.{Reply}
-use Rattle.wasi_run.specs.declared.reply.Reply.TheVariants as reply
-use Rattle.wasi_run.specs.declared.step.Step.TheVariants as step
-use Rattle.wasi_run.specs.Reply.{number_fields}
-use Rattle.wasi_run.specs.Machine.{permit_reply, machine_asks}
-use Rattle.wasi_run.specs.Answered.{record_in, Answered}
+use Rattle.wasi_steps.specs.declared.reply.Reply.{Reply}
+use Rattle.wasi_steps.specs.declared.reply.Reply.TheVariants as reply
+use Rattle.wasi_steps.specs.declared.step.Step.TheVariants as step
+use Rattle.wasi_steps.specs.Reply.{number_fields}
+use Rattle.wasi_machine.specs.Machine.{permit_reply, asks_while}
+use Rattle.wasi_walks.specs.Answered.{record_in, Answered}
 use Rattle.wasi_laws.specs.Permitted.{writer_in, writer_of_record, WritesTo}
-use Rattle.wasi_run.proofs.claims.Polls.{Quiet, quiet_then, quiet_if}
+use Rattle.wasi_walks.proofs.claims.Polls.{Quiet, quiet_then, quiet_if}
 use Rattle.wasi_laws.proofs.permits.Records.{WriterIs, Agree}
 use Rattle.wasi_laws.proofs.permits.Agreeing.{Agreeing}
 use Rattle.wasi_laws.proofs.permits.Law.{some_side}
@@ -125,7 +125,7 @@ module _ (contexts : List WasiSocketsCtx) (side : OpId) (taken permitted : List 
   abbrev IsBusy : List Entry → Reply × Machine → Type 0
   IsBusy es done = done.0 ≡ reply.Busy
 
-  all_by : (standing : Option Standing) (entries : List Entry) (next : Machine) → Left (machine_asks contexts m line (step.CheckWrite ctx output) standing) entries (Give (reply.Ok (number_fields n), next)) → taken ++ taken_in side entries ≡ permitted
+  all_by : (standing : Option Standing) (entries : List Entry) (next : Machine) → Left (asks_while contexts m line (step.CheckWrite ctx output) standing) entries (Give (reply.Ok (number_fields n), next)) → taken ++ taken_in side entries ≡ permitted
   all_by None entries next walk =
       let asks = bind (check_asks m (own_of line) output) (λ done. Give (permit_reply done.0, done.1)) in
       let Q = Replies side taken permitted m (own_of line) output h named in

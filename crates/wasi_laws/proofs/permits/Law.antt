@@ -48,23 +48,23 @@ use Rattle.wasi_host.specs.Kinds.{name_of, make_asks}
 use Rattle.wasi_host.specs.Listening.{give_up_asks, with_listening}
 use Rattle.wasi_host.specs.Machine.{own_of, created_asks, create_asks, side_at}
 use Rattle.wasi_host.specs.Store.{with_record, with_inner, with_writer, left_of, new_record}
-use Rattle.wasi_run.specs.declared.step.Step.{Step}
-use Rattle.wasi_run.specs.Licence.{entry}
-use Rattle.wasi_run.proofs.licence.State.{accept_name, name_in}
-use Rattle.wasi_run.proofs.walks.OnBase.{Above}
-use Rattle.wasi_run.proofs.claims.Law.{Named, Base, on_names, on_along, fresh, taken_fresh}
+use Rattle.wasi_steps.specs.declared.step.Step.{Step}
+use Rattle.wasi_walks.specs.Licence.{entry}
+use Rattle.wasi_walks.proofs.licence.State.{accept_name, name_in}
+use Rattle.wasi_walks.proofs.walks.OnBase.{Above}
+use Rattle.wasi_walks.proofs.claims.Law.{Named, Base, on_names, on_along, fresh, taken_fresh}
 use Rattle.wasi_laws.proofs.permits.Accepted.{taken_stands}
 use Rattle.wasi_laws.proofs.permits.Listening.{StaysBare, over, polled, begun, plain_listen}
-use Rattle.wasi_run.proofs.walks.Moves.{Held, InHand, Connects, Own, Used, Unused, ToWrite, Here, put, Found, IsQuestionOf, WriterMoves, Collects, Permits, Lasts, LastsAfter, Closes, Move, Reaches, Leaves, Spends, Changes, ClosesReader, Writes, IsGone, opened_by, Reconnects, Opens, BeginsConnect, BeginsBind, BeginsWrite, Stands, Resumes, Ends, Lists, Takes, BeginsListen, BeginsAccept, Unlistens, Forgets, Watches, Joins, StandsListen, StandsDrop, ResumesDrop, Unstands, Listens, Awaits, listen_after, accepting_now, beginning_listen, new_accept, joined, made_so}
-use Rattle.wasi_run.proofs.fits.Law.{told_same}
-use Rattle.wasi_run.proofs.claims.Polls.{NoWrite, Quiet, quiet_if, none_taken, ArePlain, plain_poll}
+use Rattle.wasi_walks.proofs.walks.Moves.{Held, InHand, Connects, Own, Used, Unused, ToWrite, Here, put, Found, IsQuestionOf, WriterMoves, Collects, Permits, Lasts, LastsAfter, Closes, Move, Reaches, Leaves, Spends, Changes, ClosesReader, Writes, IsGone, opened_by, Reconnects, Opens, BeginsConnect, BeginsBind, BeginsWrite, Stands, Resumes, Ends, Lists, Takes, BeginsListen, BeginsAccept, Unlistens, Forgets, Watches, Joins, StandsListen, StandsDrop, ResumesDrop, Unstands, Listens, Awaits, listen_after, accepting_now, beginning_listen, new_accept, joined, made_so}
+use Rattle.wasi_walks.proofs.fits.Law.{told_same}
+use Rattle.wasi_walks.proofs.claims.Polls.{NoWrite, Quiet, quiet_if, none_taken, ArePlain, plain_poll}
 use Rattle.wasi_laws.proofs.permits.Quiet.{Follows, follows_connected, IsNew, quiet_new, IsPlainState, follows_equal}
 use Rattle.wasi_laws.proofs.permits.Records.{WriterIs, IsOpened, RecordStands, opened_writer, streams_record, bare_record, Agrees, Agree, IsPlainAccept, IsPlainListening, Opens as OpensTo, keeps_record, opens_record, no_some}
 use Rattle.wasi_laws.proofs.permits.Taken.{taken_push, same_side, not_same, Fronts, quiet_keep}
 use Rattle.wasi_laws.proofs.permits.Writer.{KeepsWriter, same_writer, collected_keeps, closed_keeps, left_closed, bytes_closed, same_bytes, last_keeps}
 use Rattle.wasi_laws.proofs.permits.Jobs.{WriterTakes, turn_takes}
 use Rattle.wasi_laws.proofs.permits.Standing.{StandsQuietly}
-use Rattle.wasi_run.proofs.walks.Law.{Law, Walks}
+use Rattle.wasi_walks.proofs.walks.Law.{Law, Walks}
 use Rattle.wasi_laws.proofs.permits.Agreeing.{begun_so, Lives, Agreeing, agrees_put, agrees_moved, agrees_push}
 
 pub some_side : (a b : OpId) → Some a ≡ Some b → a ≡ b

@@ -13,7 +13,7 @@ use Rattle.wasi_tcp.specs.declared.socket.TcpState.{TcpState}
 use Rattle.wasi_tcp.specs.declared.socket.TcpState.TheVariants as state
 use Rattle.wasi_tcp.specs.Shape.{Socket}
 use Rattle.wasi_tcp.specs.Socket.{side_in, after_create, new_asks}
-use Rattle.wasi_run.proofs.claims.Polls.{Quiet, quiet_if, ArePlain}
+use Rattle.wasi_walks.proofs.claims.Polls.{Quiet, quiet_if, ArePlain}
 
 -- == what a call leaves of a socket's state
 -- a connect that goes on writes nothing

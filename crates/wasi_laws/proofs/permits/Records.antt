@@ -19,7 +19,7 @@ use Rattle.wasi_host.specs.declared.listening.Listening.TheVariants as listening
 use Rattle.wasi_host.specs.declared.socket.Streams.{Streams}
 use Rattle.wasi_host.specs.declared.socket.Tcp2Socket.{Tcp2Socket}
 use Rattle.wasi_host.specs.Store.{new_streams}
-use Rattle.wasi_run.proofs.claims.Polls.{ArePlain}
+use Rattle.wasi_walks.proofs.claims.Polls.{ArePlain}
 use Rattle.wasi_laws.proofs.permits.Quiet.{IsPlainState, Follows}
 
 -- == what is left of a write

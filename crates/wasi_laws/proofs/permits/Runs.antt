@@ -14,21 +14,21 @@ use Rattle.wasi_host.specs.declared.socket.Streams.{Streams}
 use Rattle.wasi_host.specs.declared.socket.Tcp2Socket.{Tcp2Socket}
 use Rattle.wasi_host.specs.declared.store.Standing.{Standing}
 use Rattle.wasi_host.specs.Machine.{first_state, output_at}
-use Rattle.wasi_run.specs.declared.reply.Reply.TheVariants as reply
-use Rattle.wasi_run.specs.Answered.{record_in, Answered}
+use Rattle.wasi_steps.specs.declared.reply.Reply.TheVariants as reply
+use Rattle.wasi_walks.specs.Answered.{record_in, Answered}
 use Rattle.wasi_laws.specs.Permitted.{let_begin, permitted_in, permitted_by, writer_in, writer_of_record, WritesTo, Did, Nothing, Then}
-use Rattle.wasi_run.specs.declared.reply.Reply.{Reply}
-use Rattle.wasi_run.specs.declared.step.Step.{Step}
-use Rattle.wasi_run.specs.declared.step.Step.TheVariants as step
-use Rattle.wasi_run.specs.Machine.{machine_asks}
-use Rattle.wasi_run.specs.Reply.{number_fields}
+use Rattle.wasi_steps.specs.declared.reply.Reply.{Reply}
+use Rattle.wasi_steps.specs.declared.step.Step.{Step}
+use Rattle.wasi_steps.specs.declared.step.Step.TheVariants as step
+use Rattle.wasi_machine.specs.Machine.{machine_asks}
+use Rattle.wasi_steps.specs.Reply.{number_fields}
 use Rattle.wasi_laws.proofs.permits.Standing.{StandsQuietly}
 use Rattle.wasi_laws.proofs.permits.Agreeing.{Agreeing}
 use Rattle.wasi_laws.proofs.permits.Law.{Owes, permits_along}
-use Rattle.wasi_run.proofs.walks.Moves.{Own, Used, Unused, ToWrite}
-use Rattle.wasi_run.proofs.walks.Writes.{may_begin, may_of, may_in, may_at, may, let_write}
-use Rattle.wasi_run.proofs.walks.Steps.{may_while, machine_walks}
-use Rattle.wasi_run.proofs.claims.Lines.{BaseBetween, first_base, base_starts, base_over}
+use Rattle.wasi_walks.proofs.walks.Moves.{Own, Used, Unused, ToWrite}
+use Rattle.wasi_walks.proofs.walks.Writes.{may_begin, may_of, may_in, may_at, may, let_write}
+use Rattle.wasi_walks.proofs.walks.Steps.{may_while, machine_walks}
+use Rattle.wasi_walks.proofs.claims.Lines.{BaseBetween, first_base, base_starts, base_over}
 use Rattle.wasi_laws.proofs.permits.All.{all_taken}
 use Rattle.wasi_laws.proofs.permits.Steps.{taken_append}
 
@@ -85,18 +85,18 @@ module _ (contexts : List WasiSocketsCtx) (side : OpId) where
   owes line origin held (ToWrite at bytes) = refl
 
   line_lets : (line : ℕ) (s : Step) (given : List ℕ) (m : Machine) (es : List Entry) → Lets line given es m
-      → (let all = given ++ permitted_by m side s in Allows (λ fs op c. IsFrontOf (taken_in side fs) all) (λ fs done. Lets (line + 1) all fs done.1) es (machine_asks contexts m line s m.store.standing))
+      → (let all = given ++ permitted_by m side s in Allows (λ fs op c. IsFrontOf (taken_in side fs) all) (λ fs done. Lets (line + 1) all fs done.1) es (machine_asks contexts m line s))
   line_lets line s given m es i =
       let o = may_while m s m.store.standing in
       let more = let_write side o in
       let e : given ++ more ≡ given ++ permitted_by m side s = ap (λ (x : List ℕ). given ++ x) (line_is side m s m.store.standing) in
-      subst (λ (all : List ℕ). Allows (λ fs op c. IsFrontOf (taken_in side fs) all) (λ fs done. Lets (line + 1) all fs done.1) es (machine_asks contexts m line s m.store.standing)) e
+      subst (λ (all : List ℕ). Allows (λ fs op c. IsFrontOf (taken_in side fs) all) (λ fs done. Lets (line + 1) all fs done.1) es (machine_asks contexts m line s)) e
       (allows_weaker (λ fs op c. IsFrontOf (taken_in side fs) (given ++ more)) _ (λ fs done. Lets (line + 1) (given ++ more) fs done.1)
       (λ fs done k. record {
         base = base_over contexts line s done.1 k.0;
         stands = subst (λ (t : List ℕ). Agreeing side (taken_in side fs) t done.1.store.sockets) k.1.owes k.1.stands;
         quietly = k.1.quietly;
-      }) es (machine_asks contexts m line s m.store.standing)
+      }) es (machine_asks contexts m line s)
       (permits_along contexts line s side (given ++ more) (machine_walks line s m m.store.standing refl) es (base_starts contexts line s m o i.base)
       (record { held = given; stands = i.stands; quietly = i.quietly; hand = λ o a. absurd (cc); owes = owes line s given o })))
 
@@ -106,7 +106,7 @@ module _ (contexts : List WasiSocketsCtx) (side : OpId) where
       subst (λ (n : ℕ). Lets n (given ++ []) (es ++ []) m) z (subst (λ (fs : List Entry). Lets line (given ++ []) fs m) (sym (append-nil es)) (subst (λ (xs : List ℕ). Lets line xs es m) (sym (append-nil given)) i))
   did_lets _ _ _ _ _ _ (Then m next after line s steps entries log reply bytes w d) given es i =
       let more = permitted_by m side s in
-      let k = reached (λ fs op c. IsFrontOf (taken_in side fs) (given ++ more)) (λ fs done. Lets (line + 1) (given ++ more) fs done.1) es (machine_asks contexts m line s m.store.standing) entries (Give (reply, next)) (line_lets line s given m es i) w in
+      let k = reached (λ fs op c. IsFrontOf (taken_in side fs) (given ++ more)) (λ fs done. Lets (line + 1) (given ++ more) fs done.1) es (machine_asks contexts m line s) entries (Give (reply, next)) (line_lets line s given m es i) w in
       let f = did_lets next (line + 1) steps log bytes after d (given ++ more) (es ++ entries) k in
       let z : line + 1 + length steps ≡ line + suc (length steps) = omega arith in
       subst (λ (n : ℕ). Lets n (given ++ (more ++ bytes)) (es ++ (entries ++ log)) after) z
@@ -124,12 +124,12 @@ module _ (contexts : List WasiSocketsCtx) (side : OpId) where
 
   -- in the middle of the next one too
   pub runs_let_begun : (steps : List Step) (log : List Entry) (bytes : List ℕ) (after : Machine) (s : Step) (entries : List Entry) (rest : Asks (Reply × Machine))
-      → Did contexts side first_state 1 steps log bytes after → Left (machine_asks contexts after (1 + length steps) s after.store.standing) entries rest → IsFrontOf (taken_in side (log ++ entries)) (bytes ++ permitted_by after side s)
+      → Did contexts side first_state 1 steps log bytes after → Left (machine_asks contexts after (1 + length steps) s) entries rest → IsFrontOf (taken_in side (log ++ entries)) (bytes ++ permitted_by after side s)
   runs_let_begun steps log bytes after s entries rest d w =
       let all = bytes ++ permitted_by after side s in
       let Q : List Entry → Reply × Machine → Type 0 = λ fs done. Lets (1 + length steps + 1) all fs done.1 in
       holds (λ fs. IsFrontOf (taken_in side fs) all) Q (λ fs done k. k.stands.front) (log ++ entries) rest
-      (reached (λ fs op c. IsFrontOf (taken_in side fs) all) Q log (machine_asks contexts after (1 + length steps) s after.store.standing) entries rest (line_lets (1 + length steps) s bytes after log (done_lets steps log bytes after d)) w)
+      (reached (λ fs op c. IsFrontOf (taken_in side fs) all) Q log (machine_asks contexts after (1 + length steps) s) entries rest (line_lets (1 + length steps) s bytes after log (done_lets steps log bytes after d)) w)
 
   pub runs_take_all : (steps : List Step) (log : List Entry) (permitted : List ℕ) (after : Machine) (ctx output n : ℕ) (entries : List Entry) (next : Machine)
       → Did contexts side first_state 1 steps log permitted after → WritesTo after output side

@@ -4,7 +4,7 @@ use Rattle.std.proofs.Common.{Option, Some, None}
 use Rattle.wasi_host.specs.declared.store.Standing.{Standing}
 use Rattle.wasi_host.specs.declared.store.StandingCall.{StandingCall}
 use Rattle.wasi_host.specs.declared.store.StandingCall.TheVariants.{Bind, Listen, DropOutput}
-use Rattle.wasi_run.proofs.claims.Polls.{ArePlain}
+use Rattle.wasi_walks.proofs.claims.Polls.{ArePlain}
 
 -- a bind that stands writes nothing
 abbrev pub IsQuietCall : StandingCall → Type 0

@@ -7,11 +7,11 @@ use Rattle.wasi_world.specs.Asks.{Asks, Give, Ask, AskWrite, bind, Left}
 use Rattle.wasi_tcp.specs.Taken.{taken_by, taken_in}
 use Rattle.wasi_host.specs.declared.machine.Machine.{Machine}
 use Rattle.wasi_host.specs.Machine.{first_state}
-use Rattle.wasi_run.specs.declared.reply.Reply.{Reply}
-use Rattle.wasi_run.specs.declared.step.Step.{Step}
-use Rattle.wasi_run.specs.Reply.{is_trap}
-use Rattle.wasi_run.specs.Machine.{machine_asks, run}
-use Rattle.wasi_run.specs.Answered.{Answered}
+use Rattle.wasi_steps.specs.declared.reply.Reply.{Reply}
+use Rattle.wasi_steps.specs.declared.step.Step.{Step}
+use Rattle.wasi_steps.specs.Reply.{is_trap}
+use Rattle.wasi_machine.specs.Machine.{machine_asks, run}
+use Rattle.wasi_walks.specs.Answered.{Answered}
 use Rattle.wasi_laws.specs.Permitted.{permitted_by, Nothing, Then, Begun, IsOfSteps}
 
 -- == what was taken along two logs
@@ -47,7 +47,7 @@ module _ (contexts : List WasiSocketsCtx) (side : OpId) where
   begun_none : (m : Machine) (line : ℕ) (steps : List Step) (es : List Entry) → es ≡ [] → Begun contexts m line steps es
   begun_none m line [] es e = e
   begun_none m line (s ∷ steps) es e =
-      let asks = machine_asks contexts m line s m.store.standing in
+      let asks = machine_asks contexts m line s in
       let T : List Entry → Type 0 = λ fs. Left asks fs asks in
       (asks, subst T (sym e) refl)
 
@@ -83,7 +83,7 @@ module _ (contexts : List WasiSocketsCtx) (side : OpId) where
   run_of_steps : (steps : List Step) (replies : List Reply) (m : Machine) (line : ℕ) (log : List Entry) (rest : Asks (List Reply × Machine)) → Left (run contexts replies m line steps) log rest → IsOfSteps contexts side m line steps log
   run_of_steps [] replies m line log rest w = none_done m line [] log (no_more (replies, m) log rest w)
   run_of_steps (s ∷ steps) replies m line log rest w =
-      elim (split (machine_asks contexts m line s m.store.standing) _ log rest w) [
+      elim (split (machine_asks contexts m line s) _ log rest w) [
         | Within mid h ↦ none_done m line (s ∷ steps) log (mid, h)
         | Past done fs gs p h k ↦ one_done m done.1 line s steps log fs gs done.0 p h
             (after_step replies done line steps gs rest (is_trap done.0) (λ l. run_of_steps steps (replies ++ done.0 ∷ []) done.1 (line + 1) gs rest l) k)

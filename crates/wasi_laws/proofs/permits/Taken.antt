@@ -8,7 +8,7 @@ use Rattle.wasi_world.specs.Sides.{is_same}
 use Rattle.wasi_world.specs.Asks.{Asks, Give, Ask, AskWrite}
 use Rattle.wasi_world.proofs.Allowed.{Allows}
 use Rattle.wasi_tcp.specs.Taken.{taken_by, taken_in, IsFrontOf}
-use Rattle.wasi_run.proofs.claims.Polls.{Quiet, none_taken}
+use Rattle.wasi_walks.proofs.claims.Polls.{Quiet, none_taken}
 
 pub taken_push : (side : OpId) (es : List Entry) (e : Entry) → taken_by side e.call e.answer ≡ [] → taken_in side (es ++ e ∷ []) ≡ taken_in side es
 taken_push side [] e h = append-nil (taken_by side e.call e.answer) ∙ h

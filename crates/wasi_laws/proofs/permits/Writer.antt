@@ -15,7 +15,7 @@ use Rattle.wasi_tcp.specs.declared.writer.WriteState.TheVariants as writing
 use Rattle.wasi_tcp.specs.Job.{Job, then_closed}
 use Rattle.wasi_tcp.specs.Writer.{written_by, closed_by, collected, look_in, look_asks, with_permit, permitted, check_write_asks}
 use Rattle.wasi_tcp.specs.Taken.{bytes_left}
-use Rattle.wasi_run.proofs.claims.Polls.{Quiet, quiet_then}
+use Rattle.wasi_walks.proofs.claims.Polls.{Quiet, quiet_then}
 use Rattle.wasi_laws.proofs.permits.Records.{AreOfWrite, WriterIs, JobAgrees, Agrees}
 
 -- The writer writes to the same side, and agrees as before.

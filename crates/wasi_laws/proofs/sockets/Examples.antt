@@ -9,7 +9,7 @@ use Rattle.wasi_world.specs.declared.call.Call.TheVariants as call
 use Rattle.wasi_world.specs.declared.call.Told.TheVariants as told
 use Rattle.wasi_world.specs.declared.call.Entry.{Entry}
 use Rattle.wasi_host.specs.Machine.{own_of}
-use Rattle.wasi_run.specs.Licence.{Has, entry}
+use Rattle.wasi_walks.specs.Licence.{Has, entry}
 use Rattle.wasi_laws.specs.Opened.{socket_of, IsMade, Created, HandedOver, IsClosed, IsOpen, IsAskedOpen, AsksOpenSockets}
 
 -- line 1 makes the socket, line 2 asks it, line 3 closes it

@@ -17,14 +17,14 @@ use Rattle.wasi_host.specs.declared.listening.Listening.{Listening}
 use Rattle.wasi_host.specs.declared.listening.Listening.TheVariants.{Not, Begins, Accepts, Unclosed}
 use Rattle.wasi_host.specs.declared.socket.Tcp2Socket.{Tcp2Socket}
 use Rattle.wasi_host.specs.Listening.{give_up_asks, with_listening}
-use Rattle.wasi_run.specs.Licence.{entry}
+use Rattle.wasi_walks.specs.Licence.{entry}
 use Rattle.wasi_laws.specs.Opened.{IsOpen}
-use Rattle.wasi_run.proofs.walks.Moves.{Here, put, Found, NoBind, OfSocket, OfReader, OfWriter}
-use Rattle.wasi_run.proofs.licence.State.{accept_name, name_in}
-use Rattle.wasi_run.proofs.claims.Law.{Claims, Named, no_some}
+use Rattle.wasi_walks.proofs.walks.Moves.{Here, put, Found, NoBind, OfSocket, OfReader, OfWriter}
+use Rattle.wasi_walks.proofs.licence.State.{accept_name, name_in}
+use Rattle.wasi_walks.proofs.claims.Law.{Claims, Named, no_some}
 use Rattle.wasi_laws.proofs.sockets.Grown.{NoneCloses, Grows, grows_none, grows_entry}
 use Rattle.wasi_laws.proofs.sockets.Polls.{AskedOpen}
-use Rattle.wasi_run.proofs.fits.Law.{Fit}
+use Rattle.wasi_walks.proofs.fits.Law.{Fit}
 use Rattle.wasi_laws.proofs.sockets.Records.{Keeps, RecordOpen, record_more, no_streams, stops_listening, Begun, Has_it, has_none, unconnected}
 use Rattle.wasi_laws.proofs.sockets.Opened.{closed_put, one_more, Opened, opened_more, put_open}
 use Rattle.wasi_laws.proofs.sockets.GoesOn.{listener_open}

@@ -20,13 +20,13 @@ use Rattle.wasi_host.specs.declared.socket.Streams.{Streams}
 use Rattle.wasi_host.specs.declared.socket.Tcp2Socket.{Tcp2Socket}
 use Rattle.wasi_host.specs.Store.{left_of, with_inner, with_writer}
 use Rattle.wasi_laws.specs.Opened.{IsMade, IsOpen}
-use Rattle.wasi_run.proofs.walks.Moves.{Here, put, Found, NoBind, OfSocket, OfReader, OfWriter, Held, InHand, Connects, Listens, Awaits, listen_after, accepting_now}
-use Rattle.wasi_run.proofs.fits.Records.{FitListening}
-use Rattle.wasi_run.proofs.licence.State.{accept_name, name_in}
-use Rattle.wasi_run.proofs.claims.Law.{Named, no_some}
+use Rattle.wasi_walks.proofs.walks.Moves.{Here, put, Found, NoBind, OfSocket, OfReader, OfWriter, Held, InHand, Connects, Listens, Awaits, listen_after, accepting_now}
+use Rattle.wasi_walks.proofs.fits.Records.{FitListening}
+use Rattle.wasi_walks.proofs.licence.State.{accept_name, name_in}
+use Rattle.wasi_walks.proofs.claims.Law.{Named, no_some}
 use Rattle.wasi_laws.proofs.sockets.Grown.{NoneCloses, Grows, grows_none}
 use Rattle.wasi_laws.proofs.sockets.Polls.{AskedOpen, EndCloses, IsEndMade, ClosesAt, PollLeaves, poll_open}
-use Rattle.wasi_run.proofs.fits.Law.{Fit}
+use Rattle.wasi_walks.proofs.fits.Law.{Fit}
 use Rattle.wasi_laws.proofs.sockets.Records.{listener_of, Keeps, begun_of, ShutsLast, Uses, record_kept, accepts_open, waits_calm, some_same, IsConnected, bare_open, unlistening, ends_calm, record_now, done_calm, begun_side, side_on, last_had, no_streams, streams_open, Begun, InPhase, has_none, unconnected}
 use Rattle.wasi_laws.proofs.sockets.Opened.{closed_put, Opened, opened_more, put_open}
 

@@ -5,9 +5,9 @@ use Rattle.wasi_world.specs.declared.call.Call.{Call}
 use Rattle.wasi_world.specs.declared.call.Call.TheVariants as call
 use Rattle.wasi_world.specs.declared.call.Told.{Told}
 use Rattle.wasi_world.specs.declared.call.Entry.{Entry}
-use Rattle.wasi_run.specs.Licence.{entry}
+use Rattle.wasi_walks.specs.Licence.{entry}
 use Rattle.wasi_laws.specs.Opened.{IsMade, Created, HandedOver, IsClosed, IsOpen}
-use Rattle.wasi_run.proofs.Lists.{has_front, has_split}
+use Rattle.wasi_walks.proofs.Lists.{has_front, has_split}
 
 -- a close, of this socket
 abbrev pub Closes : Call → OpId → Type 0

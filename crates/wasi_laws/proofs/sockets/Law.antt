@@ -23,15 +23,15 @@ use Rattle.wasi_host.specs.declared.kind.Kind.TheVariants.{Tcp2}
 use Rattle.wasi_host.specs.Kinds.{make_asks}
 use Rattle.wasi_host.specs.Machine.{own_of, side_at, created_asks}
 use Rattle.wasi_host.specs.Store.{new_record, with_inner}
-use Rattle.wasi_run.specs.declared.step.Step.{Step}
-use Rattle.wasi_run.specs.Licence.{entry}
+use Rattle.wasi_steps.specs.declared.step.Step.{Step}
+use Rattle.wasi_walks.specs.Licence.{entry}
 use Rattle.wasi_laws.specs.Opened.{Created, IsClosed, IsOpen}
-use Rattle.wasi_run.proofs.Lists.{has_last}
-use Rattle.wasi_run.proofs.walks.Moves.{Used, Unused, Here, IsQuestionOf, OfSocket, OfReader, OfWriter, closed_record, made_so}
-use Rattle.wasi_run.proofs.walks.Law.{Law, Walks}
-use Rattle.wasi_run.proofs.walks.OnBase.{Above}
-use Rattle.wasi_run.proofs.fits.Law.{told_same}
-use Rattle.wasi_run.proofs.claims.Law.{Base, next_of, on_names, on_along, no_some}
+use Rattle.wasi_walks.proofs.Lists.{has_last}
+use Rattle.wasi_walks.proofs.walks.Moves.{Used, Unused, Here, IsQuestionOf, OfSocket, OfReader, OfWriter, closed_record, made_so}
+use Rattle.wasi_walks.proofs.walks.Law.{Law, Walks}
+use Rattle.wasi_walks.proofs.walks.OnBase.{Above}
+use Rattle.wasi_walks.proofs.fits.Law.{told_same}
+use Rattle.wasi_walks.proofs.claims.Law.{Base, next_of, on_names, on_along, no_some}
 use Rattle.wasi_laws.proofs.sockets.Grown.{Closes as ClosesSide, NoneCloses, Grows, grows_none, grows_entry, open_more, unclosed_more}
 use Rattle.wasi_laws.proofs.sockets.Polls.{AskedOpen}
 use Rattle.wasi_laws.proofs.sockets.Records.{Keeps, Uses, RecordOpen, some_same, bare_open, Begun, plain_open, has_none}

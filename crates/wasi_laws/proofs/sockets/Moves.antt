@@ -15,11 +15,11 @@ use Rattle.wasi_host.specs.declared.socket.Streams.{Streams}
 use Rattle.wasi_host.specs.declared.socket.Tcp2Socket.{Tcp2Socket}
 use Rattle.wasi_host.specs.Dropping.{gone}
 use Rattle.wasi_host.specs.Machine.{own_of}
-use Rattle.wasi_run.specs.declared.step.Step.{Step}
+use Rattle.wasi_steps.specs.declared.step.Step.{Step}
 use Rattle.wasi_laws.specs.Opened.{IsOpen}
-use Rattle.wasi_run.proofs.walks.Moves.{Here, put, NoBindStands, IsOn, OfSocket, OfReader, OfWriter, opened_by, Move, Reaches, Leaves, Spends, Changes, ClosesReader, Writes, IsGone, Reconnects, Opens, BeginsConnect, BeginsBind, BeginsWrite, BeginsListen, BeginsAccept, Unlistens, Forgets, Watches, Joins, StandsListen, StandsDrop, ResumesDrop, Unstands, Stands, Resumes, Ends, Lists, Takes, accepting_now, beginning_listen, new_accept, second_of, joined}
-use Rattle.wasi_run.proofs.licence.State.{accept_name, name_in}
-use Rattle.wasi_run.proofs.claims.Law.{next_of, no_some}
+use Rattle.wasi_walks.proofs.walks.Moves.{Here, put, NoBindStands, IsOn, OfSocket, OfReader, OfWriter, opened_by, Move, Reaches, Leaves, Spends, Changes, ClosesReader, Writes, IsGone, Reconnects, Opens, BeginsConnect, BeginsBind, BeginsWrite, BeginsListen, BeginsAccept, Unlistens, Forgets, Watches, Joins, StandsListen, StandsDrop, ResumesDrop, Unstands, Stands, Resumes, Ends, Lists, Takes, accepting_now, beginning_listen, new_accept, second_of, joined}
+use Rattle.wasi_walks.proofs.licence.State.{accept_name, name_in}
+use Rattle.wasi_walks.proofs.claims.Law.{next_of, no_some}
 use Rattle.wasi_laws.proofs.sockets.Records.{listener_of, Keeps, joined_open, begun_of, ShutsLast, Uses, record_kept, accepts_open, writer_had, some_same, stands_of, IsConnected, shuts_still, accept_uses, bare_open, record_now, begun_side, side_on, stops_listening, streams_open, Begun, plain_open, InPhase}
 use Rattle.wasi_laws.proofs.sockets.Opened.{spends_open, Opened, put_open, push_open}
 

@@ -7,11 +7,11 @@ use Rattle.wasi_world.specs.declared.call.Entry.{Entry}
 use Rattle.wasi_world.specs.Operation.{Operation}
 use Rattle.wasi_host.specs.declared.socket.Tcp2Socket.{Tcp2Socket}
 use Rattle.wasi_host.specs.Store.{standing_bind}
-use Rattle.wasi_run.specs.Licence.{entry}
+use Rattle.wasi_walks.specs.Licence.{entry}
 use Rattle.wasi_laws.specs.Opened.{IsClosed, IsOpen}
-use Rattle.wasi_run.proofs.Lists.{get_set, get_split, set_there}
-use Rattle.wasi_run.proofs.walks.Moves.{Own, Used, Unused, ToWrite, Here, put, Found, NoBind, NoBindStands}
-use Rattle.wasi_run.proofs.claims.Law.{Claims, Named, next_of, no_some}
+use Rattle.wasi_walks.proofs.Lists.{get_set, get_split, set_there}
+use Rattle.wasi_walks.proofs.walks.Moves.{Own, Used, Unused, ToWrite, Here, put, Found, NoBind, NoBindStands}
+use Rattle.wasi_walks.proofs.claims.Law.{Claims, Named, next_of, no_some}
 use Rattle.wasi_laws.proofs.sockets.Grown.{Closes as ClosesSide, NoneCloses, Grows, grows_none, grows_entry, open_more}
 use Rattle.wasi_laws.proofs.sockets.Records.{RecordOpen, some_same, record_more, Has_it}
 

@@ -19,9 +19,9 @@ use Rattle.wasi_world.specs.Asks.{Asks, bind}
 use Rattle.wasi_world.specs.Typed.{told_verdict, told_addr, told_done, told_polled, told_arrival, told_taken, told_names, told_datagram}
 use Rattle.wasi_world.specs.Operation.{Given, Nothing, Connection, Datagram, Item, Check, CheckLocal, Bind, Connect, Listen, Accept, CheckArrival, Hand, Refuse, Write, ShutdownSend, UdpWritable, UdpBind, UdpConnect, AskPeer, Send, Receive, CheckPeer, Lookup, Last, Who, LastAsk, NothingLast, CloseLast, ShutdownLast, Front, Goes, Again, Ends, End, Waits, Done, Refused, verdict_front, done_front, polled_front, check_front, local_front, hand_front, refuse_front, admitted_front, arrival_front, accept_front, write_front, taken_front, less_one, ask_peer_front, peer_front, remote_told, send_front, is_now, receive_front, received_front, check_peer_front, is_wanted, lookup_front, front, last_ask, poll_asks}
 use Rattle.wasi_world.proofs.Allowed.{Allows, FrontKeeps, allows_polls, allows_if}
-use Rattle.wasi_run.specs.Licence.{entry}
+use Rattle.wasi_walks.specs.Licence.{entry}
 use Rattle.wasi_laws.specs.Opened.{IsMade, HandedOver, IsOpen, IsAskedOpen, socket_of}
-use Rattle.wasi_run.proofs.Lists.{has_last}
+use Rattle.wasi_walks.proofs.Lists.{has_last}
 use Rattle.wasi_laws.proofs.sockets.Grown.{Closes, NoneCloses, Grows, grows_none, grows_entry, grows_weaker, open_more}
 
 abbrev pub AskedOpen : List Entry → OpId → Call → Type 0

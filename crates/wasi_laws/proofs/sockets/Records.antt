@@ -27,9 +27,9 @@ use Rattle.wasi_host.specs.declared.store.StandingCall.TheVariants as standing
 use Rattle.wasi_host.specs.Listening.{with_listening}
 use Rattle.wasi_host.specs.Store.{with_inner, standing_bind}
 use Rattle.wasi_laws.specs.Opened.{IsMade, IsClosed, IsOpen}
-use Rattle.wasi_run.proofs.walks.Moves.{IsOn, OfSocket, OfReader, OfWriter, WriterMoves, Collects, Permits, Lasts, LastsAfter, Closes, accepting_now, joined}
-use Rattle.wasi_run.proofs.licence.State.{accept_name, name_in}
-use Rattle.wasi_run.proofs.claims.Law.{no_some}
+use Rattle.wasi_walks.proofs.walks.Moves.{IsOn, OfSocket, OfReader, OfWriter, WriterMoves, Collects, Permits, Lasts, LastsAfter, Closes, accepting_now, joined}
+use Rattle.wasi_walks.proofs.licence.State.{accept_name, name_in}
+use Rattle.wasi_walks.proofs.claims.Law.{no_some}
 use Rattle.wasi_laws.proofs.sockets.Grown.{Grows, open_more, unclosed_more}
 use Rattle.wasi_laws.proofs.sockets.Polls.{EndCloses}
 

@@ -9,17 +9,17 @@ use Rattle.wasi_world.specs.Asks.{Asks, Left}
 use Rattle.wasi_world.proofs.Allowed.{Allows, allows_weaker}
 use Rattle.wasi_host.specs.declared.machine.Machine.{Machine}
 use Rattle.wasi_host.specs.Machine.{first_state}
-use Rattle.wasi_run.specs.declared.reply.Reply.{Reply}
-use Rattle.wasi_run.specs.declared.step.Step.{Step}
-use Rattle.wasi_run.specs.Licence.{Has, entry}
-use Rattle.wasi_run.specs.Machine.{machine_asks, run}
+use Rattle.wasi_steps.specs.declared.reply.Reply.{Reply}
+use Rattle.wasi_steps.specs.declared.step.Step.{Step}
+use Rattle.wasi_walks.specs.Licence.{Has, entry}
+use Rattle.wasi_machine.specs.Machine.{machine_asks, run}
 use Rattle.wasi_laws.specs.Opened.{socket_of, IsOpen, IsAskedOpen, AsksOpenSockets}
-use Rattle.wasi_run.proofs.Lists.{cut_of, has_back}
-use Rattle.wasi_run.proofs.walks.Moves.{Own, Used, Unused, ToWrite}
-use Rattle.wasi_run.proofs.walks.States.{Starts}
-use Rattle.wasi_run.proofs.walks.Steps.{may_while, machine_walks}
-use Rattle.wasi_run.proofs.walks.Runs.{each_entry}
-use Rattle.wasi_run.proofs.claims.Lines.{BaseBetween, first_base, base_starts, base_over}
+use Rattle.wasi_walks.proofs.Lists.{cut_of, has_back}
+use Rattle.wasi_walks.proofs.walks.Moves.{Own, Used, Unused, ToWrite}
+use Rattle.wasi_walks.proofs.walks.States.{Starts}
+use Rattle.wasi_walks.proofs.walks.Steps.{may_while, machine_walks}
+use Rattle.wasi_walks.proofs.walks.Runs.{each_entry}
+use Rattle.wasi_walks.proofs.claims.Lines.{BaseBetween, first_base, base_starts, base_over}
 use Rattle.wasi_laws.proofs.sockets.Polls.{AskedOpen}
 use Rattle.wasi_laws.proofs.sockets.Opened.{Opened}
 use Rattle.wasi_laws.proofs.sockets.Law.{sockets_along}
@@ -38,11 +38,11 @@ starts_opened line es m Unused i = i
 starts_opened line es m (ToWrite at bytes) i = record { records = i.records; hand = i.hand; stands = i.stands; older = i.older }
 
 module _ (contexts : List WasiSocketsCtx) where
-  line_opened : (line : ℕ) (s : Step) (m : Machine) (es : List Entry) → Between line es m → Allows AskedOpen (λ fs done. Between (line + 1) fs done.1) es (machine_asks contexts m line s m.store.standing)
+  line_opened : (line : ℕ) (s : Step) (m : Machine) (es : List Entry) → Between line es m → Allows AskedOpen (λ fs done. Between (line + 1) fs done.1) es (machine_asks contexts m line s)
   line_opened line s m es i =
       let own = may_while m s m.store.standing in
       allows_weaker AskedOpen _ (λ fs done. Between (line + 1) fs done.1)
-      (λ fs done k. record { base = base_over contexts line s done.1 k.0; opened = record { records = k.1.records; hand = k.1.hand; stands = k.1.stands; older = k.1.older } }) es (machine_asks contexts m line s m.store.standing)
+      (λ fs done k. record { base = base_over contexts line s done.1 k.0; opened = record { records = k.1.records; hand = k.1.hand; stands = k.1.stands; older = k.1.older } }) es (machine_asks contexts m line s)
       (sockets_along contexts line s (machine_walks line s m m.store.standing refl) es (base_starts contexts line s m own i.base) (starts_opened line es m own i.opened))
 
   pub runs_open : (steps : List Step) (log : List Entry) (rest : Asks (List Reply × Machine)) → Left (run contexts [] first_state 1 steps) log rest → AsksOpenSockets log

@@ -1,7 +1,7 @@
 use Rattle.std.proofs.Common.{refl}
 use Rattle.wasi_host.specs.Machine.{socket_at}
 use Rattle.wasi_host.specs.Store.{is_listen}
-use Rattle.wasi_run.specs.declared.step.Step.TheVariants as step
+use Rattle.wasi_steps.specs.declared.step.Step.TheVariants as step
 use Rattle.wasi_causes.proofs.steps.Settled.{finish_asks_nothing, finish_exactly, finish_refused}
 use Rattle.wasi_causes.proofs.listens.finish_listen_refusals.Goals as goal
 

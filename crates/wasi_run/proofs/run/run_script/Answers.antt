@@ -13,7 +13,7 @@ pub returns-clause-began : goal.returns-clause-began
 returns-clause-began g c = begins_run (returns-clause-ran g c)
 
 pub returns-clause-licensed : goal.returns-clause-licensed
-returns-clause-licensed g c = runs_licensed (returns-clause-began g c)
+returns-clause-licensed g c = runs_licensed (returns-clause-ran g c)
 
 pub returns-clause-whole : goal.returns-clause-whole
 returns-clause-whole g c = whole_at_ok c.run_lines-result.result (returns-clause-ran g c)

@@ -1,0 +1,204 @@
+-- The machine that does a script's steps: what each asks, answers and leaves, and the run of the steps.
+use Rattle.std.specs.Prelude.{◌≡◌, ℕ, ◌+◌, length, Bool, false, if◌then◌else◌, List, [], ◌∷◌, ◌++◌, Option, Some, None, is_some, Result, Ok, Err, slice_get}
+use Rattle.wasi_addr.specs.declared.address.IpSocketAddress.{IpSocketAddress}
+use Rattle.wasi_addr.specs.declared.address.SocketAddressFamily.{SocketAddressFamily}
+use Rattle.wasi_addr.specs.Code.{p2_of_code}
+use Rattle.wasi_world.specs.declared.ids.Ids.{Ids}
+use Rattle.wasi_world.specs.declared.ids.OpId.{OpId}
+use Rattle.wasi_world.specs.declared.outcome.Answer.{Answer}
+use Rattle.wasi_world.specs.declared.outcome.Answer.TheVariants.{Ready, Pending}
+use Rattle.wasi_world.specs.declared.outcome.WasiSocketsCtx.{WasiSocketsCtx}
+use Rattle.wasi_world.specs.declared.call.Entry.{Entry}
+use Rattle.wasi_world.specs.Asks.{Asks, Give, bind, Left}
+use Rattle.wasi_host.specs.declared.machine.Machine.{Machine}
+use Rattle.wasi_host.specs.declared.pending.Outcome.{Outcome}
+use Rattle.wasi_host.specs.declared.pending.Outcome.TheVariants.{Nothing}
+use Rattle.wasi_host.specs.declared.store.Standing.{Standing}
+use Rattle.wasi_host.specs.Host.{Stop, Code, Trap, CallStop, Failed, Closed, Traps}
+use Rattle.wasi_host.specs.Machine.{first_state, own_of, socket_at, create_asks, subscribe_asks, ready_asks, drop_asks, turn_machine_asks}
+use Rattle.wasi_host.specs.StreamCalls.{read_asks, check_asks, write_asks, flushed_asks}
+use Rattle.wasi_host.specs.Pending as host
+use Rattle.wasi_host.specs.Store.{is_bind, is_listen}
+use Rattle.wasi_p2.specs.Pending as p2
+use Rattle.wasi_p2.specs.Tcp.{network_asks, start_bind_asks, finish_on, start_connect_asks, finish_connect_asks, local_address_on, remote_address_on, is_listening_on, address_family_on, shutdown_on, start_listen_on, accept_asks}
+use Rattle.wasi_p2.specs.Options.{get_option_on, set_option_on, set_backlog_on}
+use Rattle.wasi_steps.specs.declared.reply.Reply.{Reply}
+use Rattle.wasi_steps.specs.declared.reply.Reply.TheVariants as reply
+use Rattle.wasi_steps.specs.declared.step.Step.{Step}
+use Rattle.wasi_steps.specs.declared.step.Step.TheVariants as step
+use Rattle.wasi_steps.specs.Reply.{word_of_p2, is_trap, no_fields, number_fields, pair_fields, triple_fields, bytes_fields, truth_fields, family_fields, address_values}
+use Rattle.wasi_steps.specs.Settings.{Chosen, AnOption, TheBacklog, chosen}
+use Rattle.wasi_steps.specs.Steps.{context_of}
+
+-- == replies
+abbrev pub stop_reply : Stop → Reply
+stop_reply (Code c) = reply.Err (word_of_p2 c)
+stop_reply (Trap kind) = reply.Trap kind
+
+abbrev pub handle_reply : Result ℕ Stop → Reply
+handle_reply (Ok h) = reply.Ok (number_fields h)
+handle_reply (Err stop) = stop_reply stop
+
+abbrev pub value_reply : Result ℕ Stop → Reply
+value_reply (Ok value) = reply.Ok (number_fields value)
+value_reply (Err stop) = stop_reply stop
+
+abbrev pub done_reply : Result (Unit {0}) Stop → Reply
+done_reply (Ok done) = reply.Ok no_fields
+done_reply (Err stop) = stop_reply stop
+
+abbrev pub pair_reply : Result (ℕ × ℕ) Stop → Reply
+pair_reply (Ok (a, b)) = reply.Ok (pair_fields a b)
+pair_reply (Err stop) = stop_reply stop
+
+abbrev pub triple_reply : Result (ℕ × ℕ × ℕ) Stop → Reply
+triple_reply (Ok (a, b, c)) = reply.Ok (triple_fields a b c)
+triple_reply (Err stop) = stop_reply stop
+
+abbrev pub address_reply : Result IpSocketAddress Stop → Reply
+address_reply (Ok a) = reply.Ok (address_values a)
+address_reply (Err stop) = stop_reply stop
+
+abbrev pub truth_reply : Result Bool Stop → Reply
+truth_reply (Ok b) = reply.Ok (truth_fields b)
+truth_reply (Err stop) = stop_reply stop
+
+abbrev pub family_reply : Result SocketAddressFamily Stop → Reply
+family_reply (Ok family) = reply.Ok (family_fields family)
+family_reply (Err stop) = stop_reply stop
+
+-- of a call of a stream
+abbrev pub call_stop_reply : CallStop → Reply
+call_stop_reply (Failed c e) = reply.Failed (word_of_p2 (p2_of_code c)) e
+call_stop_reply Closed = reply.Closed
+call_stop_reply (Traps kind) = reply.Trap kind
+
+abbrev pub bytes_reply : Result (List ℕ) CallStop → Reply
+bytes_reply (Ok bytes) = reply.Ok (bytes_fields bytes)
+bytes_reply (Err stop) = call_stop_reply stop
+
+abbrev pub permit_reply : Result ℕ CallStop → Reply
+permit_reply (Ok n) = reply.Ok (number_fields n)
+permit_reply (Err stop) = call_stop_reply stop
+
+abbrev pub taken_reply : Result (Unit {0}) CallStop → Reply
+taken_reply (Ok done) = reply.Ok no_fields
+taken_reply (Err stop) = call_stop_reply stop
+
+-- a call that is pending stands under its line's number
+abbrev pub answer_reply : ℕ → Result (Answer (Unit {0})) Stop → Reply
+answer_reply line (Ok (Ready done)) = reply.Ok no_fields
+answer_reply line (Ok Pending) = reply.Pending line
+answer_reply line (Err stop) = stop_reply stop
+
+-- of a call that was resumed
+abbrev pub outcome_reply : ℕ → Answer Outcome → Reply
+outcome_reply line (Ready Nothing) = reply.Ok no_fields
+outcome_reply line Pending = reply.Pending line
+
+abbrev pub resumed_reply : ℕ → Result (Option (Answer Outcome)) CallStop → Reply
+resumed_reply line (Ok None) = reply.NoSuchCall
+resumed_reply line (Ok (Some answer)) = outcome_reply line answer
+resumed_reply line (Err stop) = call_stop_reply stop
+
+-- == a pending call
+abbrev pub poll_on : ℕ → Result (Option (Answer Outcome)) Stop × Machine → Asks (Reply × Machine)
+poll_on line (Ok None, m) = bind (host.resume_asks m line) (λ done. Give (resumed_reply line done.0, done.1))
+poll_on line (Ok (Some answer), m) = Give (outcome_reply line answer, m)
+poll_on line (Err stop, m) = Give (stop_reply stop, m)
+
+-- polls the call that stands under this number, whichever interface it is of
+abbrev pub poll_asks : Machine → ℕ → Asks (Reply × Machine)
+poll_asks m line = bind (p2.resume_asks m line) (λ done. poll_on line done)
+
+-- == settings
+-- sets the option or the backlog that was chosen
+abbrev pub set_chosen : Machine → OpId → Option ℕ → Chosen → Asks (Result (Unit {0}) Stop × Machine)
+set_chosen m own found (AnOption option value) = set_option_on m own option value found
+set_chosen m own found (TheBacklog value) = set_backlog_on m own value found
+
+-- == steps
+-- a context that isn't there is allowed nothing
+abbrev pub context_in : Option WasiSocketsCtx → WasiSocketsCtx
+context_in (Some ctx) = ctx
+context_in None = record { name = 0; ip_name_lookup = false; udp = false; tcp = false }
+
+abbrev pub context_at : List WasiSocketsCtx → ℕ → WasiSocketsCtx
+context_at contexts n = context_in (slice_get contexts n)
+
+-- the context of the one that makes the call; a step without one has a context that is allowed nothing
+abbrev pub context_for : List WasiSocketsCtx → Option ℕ → WasiSocketsCtx
+context_for contexts (Some n) = context_at contexts n
+context_for contexts None = context_in None
+
+-- the names of a line, but its own operation's: none was taken yet
+abbrev pub first_ids : ℕ → Ids
+first_ids line = record { line = line; next_part = 1 }
+
+abbrev pub call_asks : WasiSocketsCtx → Machine → ℕ → Step → Asks (Reply × Machine)
+call_asks ctx m line (step.Network c) = bind (network_asks m (own_of line)) (λ done. Give (handle_reply done.0, done.1))
+call_asks ctx m line (step.TcpCreate c family) = bind (create_asks m (own_of line) ctx family) (λ done. Give (handle_reply done.0, done.1))
+call_asks ctx m line (step.TcpStartBind c s n a) = bind (start_bind_asks m (own_of line) s n a) (λ done. Give (answer_reply line done.0, done.1))
+call_asks ctx m line (step.TcpFinishBind c s) = let done = finish_on is_bind m (socket_at m s) in Give (done_reply done.0, done.1)
+call_asks ctx m line (step.TcpStartConnect c s n a) = bind (start_connect_asks m (own_of line) s n a) (λ done. Give (done_reply done.0, done.1))
+call_asks ctx m line (step.TcpFinishConnect c s) = bind (finish_connect_asks m (own_of line) s) (λ done. Give (pair_reply done.0, done.1))
+call_asks ctx m line (step.TcpStartListen c s) = bind (start_listen_on m (own_of line) (socket_at m s)) (λ done. Give (answer_reply line done.0, done.1))
+call_asks ctx m line (step.TcpFinishListen c s) = let done = finish_on is_listen m (socket_at m s) in Give (done_reply done.0, done.1)
+call_asks ctx m line (step.TcpAccept c s) = bind (accept_asks m (first_ids line) s) (λ done. Give (triple_reply done.0, done.1))
+call_asks ctx m line (step.TcpLocalAddress c s) = bind (local_address_on m (own_of line) (socket_at m s)) (λ done. Give (address_reply done.0, done.1))
+call_asks ctx m line (step.TcpRemoteAddress c s) = bind (remote_address_on m (own_of line) (socket_at m s)) (λ done. Give (address_reply done.0, done.1))
+call_asks ctx m line (step.TcpIsListening c s) = Give (truth_reply (is_listening_on m (socket_at m s)), m)
+call_asks ctx m line (step.TcpAddressFamily c s) = Give (family_reply (address_family_on m (socket_at m s)), m)
+call_asks ctx m line (step.TcpGet c s option) = bind (get_option_on m (own_of line) option (socket_at m s)) (λ done. Give (value_reply done.0, done.1))
+call_asks ctx m line (step.TcpSet c s setting) = bind (set_chosen m (own_of line) (socket_at m s) (chosen setting)) (λ done. Give (done_reply done.0, done.1))
+call_asks ctx m line (step.Read c input len) = bind (read_asks m (own_of line) input len) (λ done. Give (bytes_reply done.0, done.1))
+call_asks ctx m line (step.CheckWrite c output) = bind (check_asks m (own_of line) output) (λ done. Give (permit_reply done.0, done.1))
+call_asks ctx m line (step.Write c output bytes) = bind (write_asks m (own_of line) output bytes) (λ done. Give (taken_reply done.0, done.1))
+call_asks ctx m line (step.Flush c output) = bind (flushed_asks m (own_of line) output) (λ done. Give (taken_reply done.0, done.1))
+call_asks ctx m line (step.Subscribe c h) = bind (subscribe_asks m (own_of line) h) (λ done. Give (handle_reply done.0, done.1))
+call_asks ctx m line (step.Ready c p) = bind (ready_asks m (first_ids line) p) (λ done. Give (truth_reply done.0, done.1))
+call_asks ctx m line (step.Drop c h) = bind (drop_asks m (own_of line) h) (λ done. Give (answer_reply line done.0, done.1))
+call_asks ctx m line (step.TcpShutdown c s how) = bind (shutdown_on m (own_of line) how (socket_at m s)) (λ done. Give (done_reply done.0, done.1))
+call_asks ctx m line step.Turn = bind (turn_machine_asks m) (λ done. Give (reply.Ok no_fields, done.1))
+call_asks ctx m line (step.Poll n) = poll_asks m n
+
+-- what a step asks, its reply, and the machine afterwards
+abbrev pub step_asks : List WasiSocketsCtx → Machine → ℕ → Step → Asks (Reply × Machine)
+step_asks contexts m line s = call_asks (context_for contexts (context_of s)) m line s
+
+-- a turn and a poll are no calls of a guest
+abbrev pub is_guest_call : Step → Bool
+is_guest_call s = is_some (context_of s)
+
+-- while a call stands every guest call is busy
+abbrev pub asks_while : List WasiSocketsCtx → Machine → ℕ → Step → Option Standing → Asks (Reply × Machine)
+asks_while contexts m line s None = step_asks contexts m line s
+asks_while contexts m line s (Some standing) = if is_guest_call s then Give (reply.Busy, m) else step_asks contexts m line s
+
+-- what a line asks, its reply, and the machine afterwards
+abbrev pub machine_asks : List WasiSocketsCtx → Machine → ℕ → Step → Asks (Reply × Machine)
+machine_asks contexts m line s = asks_while contexts m line s m.store.standing
+
+-- the lines from this one on, up to a trap; the replies so far come first
+abbrev pub run : List WasiSocketsCtx → List Reply → Machine → ℕ → List Step → Asks (List Reply × Machine)
+run contexts replies m line [] = Give (replies, m)
+run contexts replies m line (s ∷ steps) =
+    bind (machine_asks contexts m line s) (λ done.
+    if is_trap done.0
+    then Give (replies ++ done.0 ∷ [], done.1)
+    else run contexts (replies ++ done.0 ∷ []) done.1 (line + 1) steps)
+
+-- How far a run of the steps has come: the log is a beginning of what it asks; and its front is what the first of them asked, each
+-- of which was done whole, one after another, and answered so.
+pub record HasRun (contexts : List WasiSocketsCtx) (steps : List Step) (log : List Entry) (replies : List Reply) : Type 0 where
+  pub rest : Asks (List Reply × Machine)
+  pub begun : Left (run contexts [] first_state 1 steps) log rest
+  pub done : List Step
+  pub more : List Step
+  pub first : steps ≡ done ++ more
+  pub answered : length replies ≡ length done
+  pub front : List Entry
+  pub back : List Entry
+  pub cut : log ≡ front ++ back
+  pub state : Machine
+  pub ran : Left (run contexts [] first_state 1 done) front (Give (replies, state))

@@ -1,5 +1,0 @@
-use Rattle.wasi_run.proofs.licence.Beginnings.{prefix_is_licensed}
-use Rattle.wasi_run.proofs.laws.beginnings_are_licensed.Goals as goal
-
-pub returns : goal.returns
-returns c = prefix_is_licensed

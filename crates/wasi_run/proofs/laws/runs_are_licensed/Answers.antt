@@ -1,5 +1,0 @@
-use Rattle.wasi_run.proofs.licence.Runs.{runs_licensed}
-use Rattle.wasi_run.proofs.laws.runs_are_licensed.Goals as goal
-
-pub returns : goal.returns
-returns c = runs_licensed

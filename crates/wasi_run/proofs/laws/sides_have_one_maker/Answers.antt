@@ -1,5 +1,0 @@
-use Rattle.wasi_run.proofs.licence.Meanings.{one_maker}
-use Rattle.wasi_run.proofs.laws.sides_have_one_maker.Goals as goal
-
-pub returns : goal.returns
-returns c = λ contexts steps log side ctx other family its h. one_maker contexts steps log h ctx other family its side

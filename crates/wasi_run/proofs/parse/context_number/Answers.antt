@@ -1,5 +1,0 @@
-use Rattle.std.proofs.Common.{refl, arith}
-use Rattle.wasi_run.proofs.parse.context_number.Goals as goal
-
-pub overflow_cast-result : goal.overflow_cast-result
-overflow_cast-result c = let is = (c.in_ok-number.ensures.exact c.in_ok-number.field-0).0 refl in omega arith

@@ -1,8 +1,0 @@
-use Rattle.wasi_run.specs.Settings.{option_words, option_at}
-use Rattle.wasi_world.specs.Fields.{read_then}
-use Rattle.wasi_world.proofs.Words.{no_word}
-use Rattle.wasi_run.proofs.parse.option.Goals as goal
-
-pub returns-in_default : goal.returns-in_default
-unfolding option_at read_then
-returns-in_default c = rw c.in_ok-word.ensures (no_word option_words c.in_ok-word.field-0.now c.word.new.self (assumption c))

@@ -1,8 +1,0 @@
-use Rattle.wasi_run.specs.Steps.{shutdown_words, shutdown_at}
-use Rattle.wasi_world.specs.Fields.{read_then}
-use Rattle.wasi_world.proofs.Words.{no_word}
-use Rattle.wasi_run.proofs.parse.shutdown_type.Goals as goal
-
-pub returns-in_default : goal.returns-in_default
-unfolding shutdown_at read_then
-returns-in_default c = rw c.in_ok-word.ensures (no_word shutdown_words c.in_ok-word.field-0.now c.word.new.self (assumption c))

@@ -1,7 +1,0 @@
-use Rattle.std.proofs.Common.{◌≡◌, ◌++◌, ◌∷◌, map, take, codes, string_bytes}
-use Rattle.wasi_world.specs.Fields.{line_with}
-use Rattle.wasi_run.specs.Replies.{field_text}
-use Rattle.wasi_run.proofs.reply.push_ok.Given as goal
-
-abbrev pub invariant-loop-field : goal.invariant-loop-field
-invariant-loop-field l = string_bytes l.text ≡ string_bytes l.fn.text ++ line_with (codes "ok" ∷ map field_text (take l.field-index l.fields))

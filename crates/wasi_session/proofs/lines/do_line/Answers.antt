@@ -1,0 +1,34 @@
+use Rattle.std.proofs.Common.{sym, ◌∙◌, refl}
+use Rattle.std.proofs.lemmas.Result.{err_from_is_err_and}
+use Rattle.wasi_session.proofs.OneLine.{none_done, one_bad, one_hungry, one_cut, one_trap, one_done}
+use Rattle.wasi_session.proofs.lines.do_line.Goals as goal
+
+pub returns-in_err-step-clause-ran : goal.returns-in_err-step-clause-ran
+returns-in_err-step-clause-ran g c =
+    let p = err_from_is_err_and c.from_residual.result c.from_residual.ensures.1 in
+    rw (p.1, p.2) (none_done _ _ _ _ _ _ _ refl)
+
+pub returns-in_default-clause-ran : goal.returns-in_default-clause-ran
+returns-in_default-clause-ran g c = one_bad _ _ _ _ _ _ (sym c.in_ok-step.ensures ∙ c.in_default.is)
+
+pub returns-in_err-reply-clause-ran : goal.returns-in_err-reply-clause-ran
+returns-in_err-reply-clause-ran g c =
+    let p = err_from_is_err_and c.from_residual-in_err-reply.result c.from_residual-in_err-reply.ensures.1 in
+    rw (p.1, p.2) (one_hungry (sym c.in_ok-step.ensures ∙ c.in-Some.is) c.in_err-reply.ensures.asked.err c.step.ensures.sides)
+
+pub returns-in_err-text-clause-ran : goal.returns-in_err-text-clause-ran
+returns-in_err-text-clause-ran g c =
+    let p = err_from_is_err_and c.from_residual-in_err-text.result c.from_residual-in_err-text.ensures.1 in
+    rw (p.1, p.2) (one_hungry (sym c.in_ok-step.ensures ∙ c.in-Some.is) (record { rest = _; reached = c.in_ok-reply.ensures.asked.ok }) c.step.ensures.sides)
+
+pub returns-in_default-write_all-clause-ran : goal.returns-in_default-write_all-clause-ran
+returns-in_default-write_all-clause-ran g c =
+    one_cut (sym c.in_ok-step.ensures ∙ c.in-Some.is) (record { asked = c.in_ok-reply.ensures.asked.ok; sides = c.step.ensures.sides }) (rw (c.as_slice.ensures, c.in_ok-text.ensures) at c.in_default-write_all.ensures.front)
+
+pub returns-then-is_trap-clause-ran : goal.returns-then-is_trap-clause-ran
+returns-then-is_trap-clause-ran g c =
+    one_trap (sym c.in_ok-step.ensures ∙ c.in-Some.is) (record { asked = c.in_ok-reply.ensures.asked.ok; sides = c.step.ensures.sides }) (rw (c.as_slice.ensures, c.in_ok-text.ensures) at c.in-Ok.ensures.all) (sym c.if-is_trap.ensures)
+
+pub returns-clause-ran : goal.returns-clause-ran
+returns-clause-ran g c =
+    one_done (sym c.in_ok-step.ensures ∙ c.in-Some.is) (record { asked = c.in_ok-reply.ensures.asked.ok; sides = c.step.ensures.sides }) (rw (c.as_slice.ensures, c.in_ok-text.ensures) at c.in-Ok.ensures.all) (sym c.if-is_trap.ensures)

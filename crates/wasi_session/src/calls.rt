@@ -1,0 +1,296 @@
+//! The calls that a script's steps make, over a view of the line's context, the table and the store.
+
+ghost use Rattle.std.specs.Prelude.{◌≡◌, ◌&&◌, Ok, is_some, false};
+ghost use Rattle.wasi_world.specs.Asks.{AsksFor};
+ghost use Rattle.wasi_host.specs.Host.{host_outcome};
+ghost use Rattle.wasi_host.specs.Machine.{own_of, socket_at};
+ghost use Rattle.wasi_host.specs.Sides.{KnowsSides};
+ghost use Rattle.wasi_host.specs.Views.{SameView, state_of};
+ghost use Rattle.wasi_machine.specs.Machine.{first_ids, machine_asks, set_chosen, is_guest_call, call_asks, poll_asks, poll_on, context_at, context_for};
+ghost use Rattle.wasi_steps.specs.Settings.{chosen};
+ghost use Rattle.wasi_steps.specs.Steps.{context_of};
+
+use std::alloc::{AllocError, Global};
+use wasi_host::{Kind, Machine, Outcome, SocketError, Store, WasiSocketsCtxView, of_fault};
+use wasi_machine::replies::{
+    address_reply, answer_reply, bytes_reply, done_reply, family_reply, handle_reply,
+    outcome_reply, pair_reply, permit_reply, resumed_reply, stop_reply, taken_reply, triple_reply,
+    truth_reply, value_reply,
+};
+use wasi_p2::tcp;
+use wasi_steps::{Reply, Step, TcpSetting};
+use wasi_streams::Table;
+use wasi_world::{Answer, Handle, Ids, WasiSocketsCtx, World};
+
+/// Whether the step is a guest call, and a call stands.
+fn is_held_up(store: &Store, step: &Step) -> bool
+    ensures { result ≡ (is_some store.now.standing && is_guest_call step.now) }
+{
+    store.exclusive().is_some() && step.context().is_some()
+}
+
+/// Does one step, which is the line of this number. While a call stands every guest call is busy.
+pub fn do_step<W: World>(
+    alloc: Global,
+    machine: &mut Machine,
+    world: &mut W,
+    contexts: &[WasiSocketsCtx],
+    line: u32,
+    step: Step,
+) -> Result<Reply, AllocError>
+    requires { (W.seen world.old).ended ≡ false }
+    ensures asked { AsksFor (machine_asks contexts.now machine.old line step) (W.seen world.old) (W.seen world.new) (λ reply. (reply, machine.new)) result }
+    ensures sides { KnowsSides (W.seen world.old) machine.old.store → KnowsSides (W.seen world.new) machine.new.store }
+    ensures open { (W.seen world.new).ended ≡ false }
+{
+    if is_held_up(&machine.store, &step) {
+        return Ok(Reply::Busy);
+    }
+    let mut ctx = context_for(contexts, step.context());
+    let mut ids = Ids { line, next_part: 1 };
+    let table = &mut machine.table;
+    let store = &mut machine.store;
+    do_call(alloc, &mut ctx, table, store, world, &mut ids, step)
+}
+
+/// Makes the view of a context, a table and a store, and the call in it.
+fn do_call<W: World>(
+    alloc: Global,
+    ctx: &mut WasiSocketsCtx,
+    table: &mut Table<Kind>,
+    store: &mut Store,
+    world: &mut W,
+    ids: &mut Ids,
+    step: Step,
+) -> Result<Reply, AllocError>
+    requires open { (W.seen world.old).ended ≡ false }
+    requires first { ids.old ≡ first_ids ids.old.line }
+    ensures asked { AsksFor (call_asks ctx.old (record { table = table.old; store = store.old }) ids.old.line step) (W.seen world.old) (W.seen world.new) (λ reply. (reply, record { table = table.new; store = store.new })) result }
+    ensures sides { KnowsSides (W.seen world.old) store.old → KnowsSides (W.seen world.new) store.new }
+    ensures open { (W.seen world.new).ended ≡ false }
+{
+    let mut view = WasiSocketsCtxView { ctx, table, store };
+    call(alloc, &mut view, world, ids, step)
+}
+
+/// Makes the call of a step.
+fn call<W: World>(
+    alloc: Global,
+    view: &mut WasiSocketsCtxView<'_>,
+    world: &mut W,
+    ids: &mut Ids,
+    step: Step,
+) -> Result<Reply, AllocError>
+    requires open { (W.seen world.old).ended ≡ false }
+    requires first { ids.old ≡ first_ids ids.old.line }
+    ensures asked { AsksFor (call_asks view.old.ctx.now (state_of view.old) ids.old.line step) (W.seen world.old) (W.seen world.new) (λ reply. (reply, state_of view.new)) result }
+    ensures sides { KnowsSides (W.seen world.old) view.old.store.now → KnowsSides (W.seen world.new) view.new.store.now }
+    ensures view { SameView view.old view.new }
+    ensures open { (W.seen world.new).ended ≡ false }
+{
+    match step {
+        Step::Network { .. } => {
+            let made = wasi_p2::instance_network(view, world, ids);
+            handle_reply(alloc, made)
+        }
+        Step::TcpCreate { family, .. } => {
+            let made = tcp::create_tcp_socket(view, world, ids, family);
+            handle_reply(alloc, made)
+        }
+        Step::TcpStartBind {
+            socket,
+            network,
+            addr,
+            ..
+        } => {
+            let answer = tcp::start_bind(view, world, ids, socket, network, addr);
+            answer_reply(alloc, ids.line, answer)
+        }
+        Step::TcpFinishBind { socket, .. } => {
+            let done = tcp::finish_bind(view, world, ids, socket);
+            done_reply(alloc, done)
+        }
+        Step::TcpStartConnect {
+            socket,
+            network,
+            addr,
+            ..
+        } => {
+            let done = tcp::start_connect(view, world, ids, socket, network, addr);
+            done_reply(alloc, done)
+        }
+        Step::TcpFinishConnect { socket, .. } => {
+            let made = tcp::finish_connect(view, world, ids, socket);
+            pair_reply(alloc, made)
+        }
+        Step::TcpStartListen { socket, .. } => {
+            let answer = tcp::start_listen(view, world, ids, socket);
+            answer_reply(alloc, ids.line, answer)
+        }
+        Step::TcpFinishListen { socket, .. } => {
+            let done = tcp::finish_listen(view, world, ids, socket);
+            done_reply(alloc, done)
+        }
+        Step::TcpAccept { socket, .. } => {
+            let made = tcp::accept(view, world, ids, socket);
+            triple_reply(alloc, made)
+        }
+        Step::TcpLocalAddress { socket, .. } => {
+            let told = tcp::local_address(view, world, ids, socket);
+            address_reply(alloc, told)
+        }
+        Step::TcpRemoteAddress { socket, .. } => {
+            let told = tcp::remote_address(view, world, ids, socket);
+            address_reply(alloc, told)
+        }
+        Step::TcpIsListening { socket, .. } => {
+            let told = tcp::is_listening(view, world, ids, socket);
+            truth_reply(alloc, told)
+        }
+        Step::TcpAddressFamily { socket, .. } => {
+            let told = tcp::address_family(view, world, ids, socket);
+            family_reply(alloc, told)
+        }
+        Step::TcpGet { socket, option, .. } => {
+            let told = tcp::get_option(view, world, ids, socket, option);
+            value_reply(alloc, told)
+        }
+        Step::TcpSet {
+            socket,
+            setting,
+            ..
+        } => {
+            let done = set(view, world, ids, socket, setting);
+            done_reply(alloc, done)
+        }
+        Step::TcpShutdown { socket, how, .. } => {
+            let done = tcp::shutdown(view, world, ids, socket, how);
+            done_reply(alloc, done)
+        }
+        Step::Read { input, len, .. } => {
+            let read = wasi_host::read(alloc, view, world, ids, input, len);
+            bytes_reply(alloc, read)
+        }
+        Step::CheckWrite { output, .. } => {
+            let permit = wasi_host::check_write(view, world, ids, output);
+            permit_reply(alloc, permit)
+        }
+        Step::Write { output, bytes, .. } => {
+            let written = wasi_host::write(view, world, ids, output, bytes);
+            taken_reply(alloc, written)
+        }
+        Step::Flush { output, .. } => {
+            let flushed = wasi_host::flush(view, world, ids, output);
+            taken_reply(alloc, flushed)
+        }
+        Step::Subscribe { handle, .. } => {
+            let made = wasi_host::subscribe(view, world, ids, handle);
+            handle_reply(alloc, of_fault(made))
+        }
+        Step::Ready { pollable, .. } => {
+            let ready = wasi_host::ready(view, world, ids, pollable);
+            truth_reply(alloc, of_fault(ready))
+        }
+        Step::Drop { handle, .. } => {
+            let answer = wasi_host::drop_handle(view, world, ids, handle);
+            answer_reply(alloc, ids.line, of_fault(answer))
+        }
+        Step::Turn => {
+            wasi_host::turn(view, world)?;
+            Ok(Reply::done(alloc))
+        }
+        Step::Poll { call } => poll(alloc, view, world, ids, call),
+    }
+}
+
+/// Sets an option of a socket, or its backlog.
+fn set<W: World>(
+    view: &mut WasiSocketsCtxView<'_>,
+    world: &mut W,
+    ids: &mut Ids,
+    socket: Handle,
+    setting: TcpSetting,
+) -> Result<(), SocketError>
+    requires { (W.seen world.old).ended ≡ false }
+    ensures asked { AsksFor (set_chosen (state_of view.old) (own_of ids.old.line) (socket_at (state_of view.old) socket) (chosen setting)) (W.seen world.old) (W.seen world.new) (λ done. (done, state_of view.new)) (host_outcome result) }
+    ensures sides { KnowsSides (W.seen world.old) view.old.store.now → KnowsSides (W.seen world.new) view.new.store.now }
+    ensures view { SameView view.old view.new }
+    ensures ids { ids.new ≡ ids.old }
+    ensures open { (W.seen world.new).ended ≡ false }
+{
+    use TcpSetting::*;
+    match setting {
+        KeepAliveEnabled(value) => tcp::set_keep_alive_enabled(view, world, ids, socket, value),
+        KeepAliveIdleTime(value) => tcp::set_keep_alive_idle_time(view, world, ids, socket, value),
+        KeepAliveInterval(value) => tcp::set_keep_alive_interval(view, world, ids, socket, value),
+        KeepAliveCount(value) => tcp::set_keep_alive_count(view, world, ids, socket, value),
+        HopLimit(value) => tcp::set_hop_limit(view, world, ids, socket, value),
+        ReceiveBufferSize(value) => tcp::set_receive_buffer_size(view, world, ids, socket, value),
+        SendBufferSize(value) => tcp::set_send_buffer_size(view, world, ids, socket, value),
+        ListenBacklogSize(value) => tcp::set_listen_backlog_size(view, world, ids, socket, value),
+    }
+}
+
+/// Polls the call that stands under this number, whichever interface it is of.
+fn poll<W: World>(
+    alloc: Global,
+    view: &mut WasiSocketsCtxView<'_>,
+    world: &mut W,
+    ids: &mut Ids,
+    line: u32,
+) -> Result<Reply, AllocError>
+    requires { (W.seen world.old).ended ≡ false }
+    ensures asked { AsksFor (poll_asks (state_of view.old) line) (W.seen world.old) (W.seen world.new) (λ reply. (reply, state_of view.new)) result }
+    ensures sides { KnowsSides (W.seen world.old) view.old.store.now → KnowsSides (W.seen world.new) view.new.store.now }
+    ensures view { SameView view.old view.new }
+    ensures open { (W.seen world.new).ended ≡ false }
+{
+    match wasi_p2::resume(view, world, ids, line) {
+        Ok(answer) => poll_on(alloc, view, world, ids, line, answer),
+        Err(error) => stop_reply(error),
+    }
+}
+
+/// Answers a poll, where the 0.2 interface has that call; else asks the host for it.
+fn poll_on<W: World>(
+    alloc: Global,
+    view: &mut WasiSocketsCtxView<'_>,
+    world: &mut W,
+    ids: &mut Ids,
+    line: u32,
+    answer: Option<Answer<Outcome>>,
+) -> Result<Reply, AllocError>
+    requires { (W.seen world.old).ended ≡ false }
+    ensures asked { AsksFor (poll_on line (Ok answer, state_of view.old)) (W.seen world.old) (W.seen world.new) (λ reply. (reply, state_of view.new)) result }
+    ensures sides { KnowsSides (W.seen world.old) view.old.store.now → KnowsSides (W.seen world.new) view.new.store.now }
+    ensures view { SameView view.old view.new }
+    ensures open { (W.seen world.new).ended ≡ false }
+{
+    match answer {
+        Some(answer) => Ok(outcome_reply(alloc, line, answer)),
+        None => {
+            let resumed = wasi_host::resume(view, world, ids, line);
+            resumed_reply(alloc, line, resumed)
+        }
+    }
+}
+
+/// The context of this number; one that isn't there is allowed nothing.
+fn context_at(contexts: &[WasiSocketsCtx], context: u32) -> WasiSocketsCtx
+    ensures { result ≡ context_at contexts.now context }
+{
+    match contexts.get(context as usize) {
+        Some(ctx) => *ctx,
+        None => WasiSocketsCtx::default(),
+    }
+}
+
+/// The context of a guest call; a step that is none has one that is allowed nothing.
+fn context_for(contexts: &[WasiSocketsCtx], context: Option<u32>) -> WasiSocketsCtx
+    ensures { result ≡ context_for contexts.now context }
+{
+    match context {
+        Some(context) => context_at(contexts, context),
+        None => WasiSocketsCtx::default(),
+    }
+}

@@ -1,0 +1,133 @@
+//! Does the lines of a script, and writes their replies.
+
+ghost use Rattle.std.specs.Prelude.{◌≡◌, ◌∷◌, ◌+◌, ◌<◌, ◌≤◌, ◌^◌, [], Ok, OnOk, OnErr, length, take, drop, false};
+ghost use Rattle.wasi_world.specs.Lines.{lines_of, lines_from};
+ghost use Rattle.wasi_session.specs.Lines.{LeftAt, KeptOf};
+ghost use Rattle.wasi_session.specs.Written.{TookAll, TookFront};
+ghost use Rattle.wasi_session.specs.Ran.{LinesRan};
+
+use crate::error::RunError;
+use crate::session::Session;
+use std::alloc::Global;
+use wasi_steps::parse::parse_step;
+use wasi_steps::reply::reply_text;
+use wasi_world::scenario::newline_at;
+use wasi_world::{Failed, Sink, WasiSocketsCtx, World};
+
+/// How lines ended that were done.
+#[derive(Clone, Copy, Debug, PartialEq, Eq)]
+pub enum LinesEnd {
+    AllDone,
+    Trapped,
+}
+
+/// Writes all the bytes, in as many pieces as it takes. It fails where the writer counts a fault or takes nothing of a piece.
+/// Takes no memory.
+pub fn write_all<K: Sink>(writer: &mut K, bytes: &[u8]) -> Result<(), Failed>
+    ensures all { OnOk result (TookAll (K.writing writer.old) (K.writing writer.new) bytes.now) }
+    ensures front { OnErr result (TookFront (K.writing writer.old) (K.writing writer.new) bytes.now) }
+{
+    let mut at = 0;
+    while at < bytes.len() {
+        let count = writer.write(&bytes[at..])?;
+        if count == 0 {
+            return Err(Failed);
+        }
+        at += count;
+    }
+    Ok(())
+}
+
+/// Does the next line, and writes its reply.
+fn do_line<W: World, K: Sink>(
+    alloc: Global,
+    session: &mut Session,
+    world: &mut W,
+    contexts: &[WasiSocketsCtx],
+    writer: &mut K,
+    line: &[u8],
+) -> Result<LinesEnd, RunError>
+    requires open { (W.seen world.old).ended ≡ false }
+    requires few { length contexts.now < 2 ^ 32 }
+    requires numbers { session.old.lines + 1 < 2 ^ 32 }
+    ensures ran { LinesRan contexts.now (W.seen world.old) (W.seen world.new) (K.writing writer.old) (K.writing writer.new)
+        session.old.machine (session.old.lines + 1) (line.now ∷ []) result session.new.machine }
+    ensures count { result ≡ Ok LinesEnd.AllDone → session.new.lines ≡ session.old.lines + 1 }
+{
+    let Some(step) = parse_step(alloc, line, contexts.len() as u32)? else {
+        return Err(RunError::BadStep(session.lines + 1));
+    };
+    let reply = session.step(alloc, world, contexts, step)?;
+    let text = reply_text(alloc, &reply)?;
+    let Ok(()) = write_all(writer, text.as_slice()) else {
+        return Err(RunError::WriteFault);
+    };
+    if reply.is_trap() {
+        return Ok(LinesEnd::Trapped);
+    }
+    Ok(LinesEnd::AllDone)
+}
+
+/// Does the whole lines from a place in the bytes on, and moves the place behind them.
+fn do_lines<W: World, K: Sink>(
+    alloc: Global,
+    session: &mut Session,
+    world: &mut W,
+    contexts: &[WasiSocketsCtx],
+    writer: &mut K,
+    at: &mut usize,
+    bytes: &[u8],
+) -> Result<LinesEnd, RunError>
+    requires open { (W.seen world.old).ended ≡ false }
+    requires few { length contexts.now < 2 ^ 32 }
+    requires within { at.old ≤ length bytes.now }
+    requires numbers { session.old.lines + length bytes.now < 2 ^ 32 + at.old }
+    ensures ran { LinesRan contexts.now (W.seen world.old) (W.seen world.new) (K.writing writer.old) (K.writing writer.new)
+        session.old.machine (session.old.lines + 1) (lines_of (drop at.old bytes.now)) result session.new.machine }
+    ensures place { result ≡ Ok LinesEnd.AllDone → LeftAt session.old.lines at.old bytes.now session.new.lines at.new }
+{
+    while let Some(end) = newline_at(&bytes[*at..]) {
+        let line = &bytes[*at..*at + end];
+        let LinesEnd::AllDone = do_line(alloc, session, world, contexts, writer, line)? else {
+            return Ok(LinesEnd::Trapped);
+        };
+        *at += end + 1;
+    }
+    Ok(LinesEnd::AllDone)
+}
+
+/// Does the lines that end in the piece, the first of which began before it, and keeps the unfinished one.
+pub fn do_piece<W: World, K: Sink>(
+    alloc: Global,
+    session: &mut Session,
+    world: &mut W,
+    contexts: &[WasiSocketsCtx],
+    writer: &mut K,
+    line: &mut Vec<u8>,
+    piece: &[u8],
+) -> Result<LinesEnd, RunError>
+    requires open { (W.seen world.old).ended ≡ false }
+    requires few { length contexts.now < 2 ^ 32 }
+    requires numbers { session.old.lines + length piece.now < 2 ^ 32 }
+    ensures ran { LinesRan contexts.now (W.seen world.old) (W.seen world.new) (K.writing writer.old) (K.writing writer.new)
+        session.old.machine (session.old.lines + 1) (lines_from line.old.items piece.now) result session.new.machine }
+    ensures kept { result ≡ Ok LinesEnd.AllDone → KeptOf session.old.lines line.old.items piece.now session.new.lines line.new.items }
+{
+    let Some(end) = newline_at(piece) else {
+        line.extend_from_slice(piece)?;
+        return Ok(LinesEnd::AllDone);
+    };
+    line.extend_from_slice(&piece[..end])?;
+    let LinesEnd::AllDone = do_line(alloc, session, world, contexts, writer, line.as_slice())?
+    else {
+        return Ok(LinesEnd::Trapped);
+    };
+    line.clear();
+    let mut at = end + 1;
+    let LinesEnd::AllDone = do_lines(alloc, session, world, contexts, writer, &mut at, piece)?
+    else {
+        return Ok(LinesEnd::Trapped);
+    };
+    line.extend_from_slice(&piece[at..])?;
+    Ok(LinesEnd::AllDone)
+}

@@ -1,0 +1,65 @@
+//! A run, step by step: what an embedder makes a guest's calls by, one after another.
+
+ghost use Rattle.std.specs.Prelude.{◌≡◌, ◌+◌, ◌<◌, ◌^◌, false, true};
+ghost use Rattle.wasi_world.specs.Asks.{AsksFor};
+ghost use Rattle.wasi_host.specs.Machine.{first_state};
+ghost use Rattle.wasi_host.specs.Sides.{KnowsSides, ClosesAll};
+ghost use Rattle.wasi_host.specs.Closing.{AsksNothing};
+ghost use Rattle.wasi_machine.specs.Machine.{machine_asks};
+
+use crate::calls::do_step;
+use std::alloc::{AllocError, Global};
+use wasi_host::Machine;
+use wasi_steps::{Reply, Step};
+use wasi_world::{WasiSocketsCtx, World};
+
+/// The host's state behind a guest's calls, and how many steps it has done. Each step has the number of its line, counted
+/// from 1, which names the operations that it begins.
+#[derive(Drop)]
+pub struct Session {
+    pub machine: Machine,
+    pub lines: u32,
+}
+
+impl Session {
+    /// No handle and no step yet. Takes no memory.
+    pub fn new(alloc: Global) -> Session
+        ensures machine { result.machine ≡ first_state }
+        ensures lines { result.lines ≡ 0 }
+    {
+        Session {
+            machine: Machine::new(alloc),
+            lines: 0,
+        }
+    }
+
+    /// Does a step, which is the next line. After a trap, and where memory ran out, no further step is meant to be done,
+    /// but for `finish`. Takes memory for what the step makes and for its reply.
+    pub fn step<W: World>(
+        &mut self,
+        alloc: Global,
+        world: &mut W,
+        contexts: &[WasiSocketsCtx],
+        step: Step,
+    ) -> Result<Reply, AllocError>
+        requires open { (W.seen world.old).ended ≡ false }
+        requires numbers { self.old.lines + 1 < 2 ^ 32 }
+        ensures asked { AsksFor (machine_asks contexts.now self.old.machine (self.old.lines + 1) step) (W.seen world.old) (W.seen world.new) (λ reply. (reply, self.new.machine)) result }
+        ensures lines { self.new.lines ≡ self.old.lines + 1 }
+        ensures sides { KnowsSides (W.seen world.old) self.old.machine.store → KnowsSides (W.seen world.new) self.new.machine.store }
+    {
+        self.lines += 1;
+        do_step(alloc, &mut self.machine, world, contexts, self.lines, step)
+    }
+
+    /// Sets the end mark, and then closes each socket that was made and not closed. Takes no memory.
+    pub fn finish<W: World>(self, world: &mut W)
+        requires { (W.seen world.old).ended ≡ false }
+        ensures quiet { AsksNothing (W.seen world.old) (W.seen world.new) }
+        ensures ended { (W.seen world.new).ended ≡ true }
+        ensures closed { KnowsSides (W.seen world.old) self.machine.store → ClosesAll (W.seen world.old) (W.seen world.new) }
+    {
+        world.end();
+        self.machine.store.close_all(world);
+    }
+}

@@ -1,0 +1,222 @@
+-- Each reply that a step may give is read back from its text, so no two of them have one text.
+use Rattle.std.proofs.Common.{◌≡◌, ℕ, List, [], ◌∷◌, map, codes, decimal, Option, Some, None, IsTrue, append-nil, ap, sym, ◌∙◌, refl, arith}
+use Rattle.std.specs.List.{list_all}
+use Rattle.std.proofs.lemmas.List.{append_cancel_right}
+use Rattle.wasi_world.specs.declared.outcome.TrapKind.{TrapKind}
+use Rattle.wasi_world.specs.declared.outcome.TrapKind.TheVariants as trap
+use Rattle.wasi_world.specs.Fields.{Reader, ◌>>=◌, Row, row, read_then, give, give_some, after_word, named, field_at, word_at, number_at, bytes_at, address_at, line_with, fields_of}
+use Rattle.wasi_world.specs.Written.{AreVisible, is_visible, address_numbers}
+use Rattle.wasi_world.proofs.Exactly.{All, all_give, all_some, all_then, all_both, all_end, all_last, same_found, field_exactly, number_exactly}
+use Rattle.wasi_world.proofs.ReadBack.{named_passes, u32_exactly, word_exactly, bytes_exactly, address_exactly}
+use Rattle.wasi_world.proofs.Visible.{visible_utf8, number_visible, bytes_visible, address_visible, fields_of_line}
+use Rattle.wasi_steps.specs.declared.reply.CodeWord.{CodeWord}
+use Rattle.wasi_steps.specs.declared.reply.CodeWord.TheVariants as word
+use Rattle.wasi_steps.specs.declared.reply.Field.{Field}
+use Rattle.wasi_steps.specs.declared.reply.Field.TheVariants as field
+use Rattle.wasi_steps.specs.declared.reply.Reply.{Reply}
+use Rattle.wasi_steps.specs.declared.reply.Reply.TheVariants as reply
+use Rattle.wasi_steps.specs.declared.step.Step.{Step}
+use Rattle.wasi_steps.specs.Reply.{address_values}
+use Rattle.wasi_steps.specs.Replies.{code_text, trap_text, field_text, fields_of_reply, text_of, FieldKind, ANumber, SomeBytes, Truth, FieldKinds, Each, AnAddress, kinds_of, IsOfKind, EachOfKind, AreOfKinds, Gives}
+
+code_words : List CodeWord
+code_words =
+    word.Unknown ∷ word.AccessDenied ∷ word.NotSupported ∷ word.InvalidArgument ∷ word.OutOfMemory ∷ word.Timeout ∷ word.ConcurrencyConflict
+    ∷ word.NotInProgress ∷ word.WouldBlock ∷ word.InvalidState ∷ word.NewSocketLimit ∷ word.AddressNotBindable ∷ word.AddressInUse
+    ∷ word.RemoteUnreachable ∷ word.ConnectionRefused ∷ word.ConnectionBroken ∷ word.ConnectionReset ∷ word.ConnectionAborted
+    ∷ word.DatagramTooLarge ∷ word.NameUnresolvable ∷ word.TemporaryResolverFailure ∷ word.PermanentResolverFailure ∷ word.Other ∷ []
+
+code_at : Reader CodeWord
+code_at = field_at >>= λ f. give_some (named code_text code_words f)
+
+code_back : (code : CodeWord) → named code_text code_words (code_text code) ≡ Some code
+unfolding code_words
+code_back word.Unknown = refl
+code_back word.AccessDenied = refl
+code_back word.NotSupported = refl
+code_back word.InvalidArgument = refl
+code_back word.OutOfMemory = refl
+code_back word.Timeout = refl
+code_back word.ConcurrencyConflict = refl
+code_back word.NotInProgress = refl
+code_back word.WouldBlock = refl
+code_back word.InvalidState = refl
+code_back word.NewSocketLimit = refl
+code_back word.AddressNotBindable = refl
+code_back word.AddressInUse = refl
+code_back word.RemoteUnreachable = refl
+code_back word.ConnectionRefused = refl
+code_back word.ConnectionBroken = refl
+code_back word.ConnectionReset = refl
+code_back word.ConnectionAborted = refl
+code_back word.DatagramTooLarge = refl
+code_back word.NameUnresolvable = refl
+code_back word.TemporaryResolverFailure = refl
+code_back word.PermanentResolverFailure = refl
+code_back word.Other = refl
+
+traps : List TrapKind
+traps =
+    trap.NoSuchHandle ∷ trap.HasChildren ∷ trap.Full ∷ trap.EmptyList ∷ trap.NotPermitted ∷ trap.Capacity ∷ trap.TooLong ∷ trap.StreamsAlive
+    ∷ trap.Budget ∷ trap.FlushPending ∷ []
+
+trap_at : Reader TrapKind
+trap_at = field_at >>= λ f. give_some (named trap_text traps f)
+
+trap_back : (kind : TrapKind) → named trap_text traps (trap_text kind) ≡ Some kind
+unfolding traps
+trap_back trap.NoSuchHandle = refl
+trap_back trap.HasChildren = refl
+trap_back trap.Full = refl
+trap_back trap.EmptyList = refl
+trap_back trap.NotPermitted = refl
+trap_back trap.Capacity = refl
+trap_back trap.TooLong = refl
+trap_back trap.StreamsAlive = refl
+trap_back trap.Budget = refl
+trap_back trap.FlushPending = refl
+
+-- a field of a kind
+abbrev of_kind : FieldKind → Reader Field
+of_kind ANumber = number_at 18446744073709551615 >>= λ n. give (field.Number n)
+of_kind SomeBytes = bytes_at >>= λ bytes. give (field.Bytes bytes)
+of_kind Truth = word_at >>= after_word (row (codes "true") (give field.True) ∷ row (codes "false") (give field.False) ∷ [])
+
+each_of_kind : List FieldKind → Reader (List Field)
+each_of_kind [] = give []
+each_of_kind (kind ∷ kinds) = of_kind kind >>= λ f. each_of_kind kinds >>= λ fields. give (f ∷ fields)
+
+-- the fields of a reply
+abbrev of_kinds : FieldKinds → Reader (List Field)
+of_kinds (Each kinds) = each_of_kind kinds
+of_kinds AnAddress = address_at >>= λ a. give (address_values a)
+
+rows : FieldKinds → List (Row Reply)
+rows kinds =
+    row (codes "ok") (of_kinds kinds >>= λ fields. give (reply.Ok fields))
+    ∷ row (codes "err") (code_at >>= λ code. give (reply.Err code))
+    ∷ row (codes "closed") (give reply.Closed)
+    ∷ row (codes "failed") (code_at >>= λ code. number_at 4294967295 >>= λ handle. give (reply.Failed code handle))
+    ∷ row (codes "trap") (trap_at >>= λ kind. give (reply.Trap kind))
+    ∷ row (codes "pending") (number_at 4294967295 >>= λ n. give (reply.Pending n))
+    ∷ row (codes "busy") (give reply.Busy)
+    ∷ row (codes "no-such-call") (give reply.NoSuchCall)
+    ∷ row (codes "cancelled") (give reply.Cancelled)
+    ∷ row (codes "dropped") (give reply.Dropped)
+    ∷ row (codes "unfilled") (give reply.Unfilled)
+    ∷ []
+
+-- what reads a reply whose fields are of these kinds
+reply_at : FieldKinds → Reader Reply
+reply_at kinds = word_at >>= after_word (rows kinds)
+
+all_of_kind : (kind : FieldKind) (f : Field) → IsOfKind kind f → All (of_kind kind) f (field_text f ∷ [])
+all_of_kind ANumber (field.Number n) is = all_last _ (number_exactly 18446744073709551615 (omega arith)) (omega arith) all_give
+all_of_kind SomeBytes (field.Bytes bytes) is = all_last _ bytes_exactly is all_give
+all_of_kind Truth field.True is = all_last _ word_exactly (visible_utf8 (codes "true") refl) all_give
+all_of_kind Truth field.False is = all_last _ word_exactly (visible_utf8 (codes "false") refl) all_give
+all_of_kind _ _ is = absurd is
+
+all_each : (kinds : List FieldKind) (fields : List Field) → EachOfKind kinds fields → All (each_of_kind kinds) fields (map field_text fields)
+unfolding each_of_kind
+all_each [] [] are = all_give
+all_each (kind ∷ kinds) (f ∷ fields) are =
+    all_both _ (all_of_kind kind f are.0) (all_end _ (all_each kinds fields are.1) all_give)
+all_each [] (f ∷ fields) are = absurd are
+all_each (kind ∷ kinds) [] are = absurd are
+
+-- numbers are written in decimal
+number_texts : (ns : List ℕ) → map field_text (map field.Number ns) ≡ map decimal ns
+number_texts [] = refl
+number_texts (n ∷ ns) = ap (λ texts. decimal n ∷ texts) (number_texts ns)
+
+all_of_kinds : (kinds : FieldKinds) (fields : List Field) → AreOfKinds kinds fields → All (of_kinds kinds) fields (map field_text fields)
+all_of_kinds (Each kinds) fields are = all_each kinds fields are
+all_of_kinds AnAddress fields are =
+    rw (are.numbers, number_texts (address_numbers are.address)) (all_last _ address_exactly are.fits all_give)
+
+code_all : (code : CodeWord) → All code_at code (code_text code ∷ [])
+unfolding code_at
+code_all code = all_last _ field_exactly tt (all_some _ (code_back code))
+
+trap_all : (kind : TrapKind) → All trap_at kind (trap_text kind ∷ [])
+unfolding trap_at
+trap_all kind = all_last _ field_exactly tt (all_some _ (trap_back kind))
+
+with_word : (kinds : FieldKinds) (word : List ℕ) {r : Reply} {taken : List (List ℕ)} → IsTrue (list_all is_visible word) → All (after_word (rows kinds) word) r taken → All (reply_at kinds) r (word ∷ taken)
+unfolding reply_at
+with_word kinds word visible more = all_then _ word_exactly (visible_utf8 word visible) more
+
+reply_all : (s : Step) (r : Reply) → Gives s r → All (reply_at (kinds_of s)) r (fields_of_reply r)
+unfolding rows
+reply_all s (reply.Ok fields) gives = with_word (kinds_of s) _ refl (all_end _ (all_of_kinds (kinds_of s) fields gives) all_give)
+reply_all s (reply.Err code) gives = with_word (kinds_of s) _ refl (all_end _ (code_all code) all_give)
+reply_all s reply.Closed gives = with_word (kinds_of s) _ refl all_give
+reply_all s (reply.Failed code handle) gives = with_word (kinds_of s) _ refl (all_both _ (code_all code) (all_last _ u32_exactly gives all_give))
+reply_all s (reply.Trap kind) gives = with_word (kinds_of s) _ refl (all_end _ (trap_all kind) all_give)
+reply_all s (reply.Pending n) gives = with_word (kinds_of s) _ refl (all_last _ u32_exactly gives all_give)
+reply_all s reply.Busy gives = with_word (kinds_of s) _ refl all_give
+reply_all s reply.NoSuchCall gives = with_word (kinds_of s) _ refl all_give
+reply_all s reply.Cancelled gives = with_word (kinds_of s) _ refl all_give
+reply_all s reply.Dropped gives = with_word (kinds_of s) _ refl all_give
+reply_all s reply.Unfilled gives = with_word (kinds_of s) _ refl all_give
+
+-- the fields of replies are visible
+code_visible : (code : CodeWord) → IsTrue (list_all is_visible (code_text code))
+unfolding code_words
+code_visible code = named_passes code_text (λ code. list_all is_visible (code_text code)) code_words (code_text code) code (code_back code) refl
+
+trap_visible : (kind : TrapKind) → IsTrue (list_all is_visible (trap_text kind))
+unfolding traps
+trap_visible kind = named_passes trap_text (λ kind. list_all is_visible (trap_text kind)) traps (trap_text kind) kind (trap_back kind) refl
+
+field_visible : (kind : FieldKind) (f : Field) → IsOfKind kind f → IsTrue (list_all is_visible (field_text f))
+field_visible ANumber (field.Number n) is = number_visible n is
+field_visible SomeBytes (field.Bytes bytes) is = (bytes_visible bytes is).0
+field_visible Truth field.True is = refl
+field_visible Truth field.False is = refl
+field_visible _ _ is = absurd is
+
+each_visible : (kinds : List FieldKind) (fields : List Field) → EachOfKind kinds fields → AreVisible (map field_text fields)
+each_visible [] [] are = tt
+each_visible (kind ∷ kinds) (f ∷ fields) are = (field_visible kind f are.0, each_visible kinds fields are.1)
+each_visible [] (f ∷ fields) are = absurd are
+each_visible (kind ∷ kinds) [] are = absurd are
+
+fields_visible : (kinds : FieldKinds) (fields : List Field) → AreOfKinds kinds fields → AreVisible (map field_text fields)
+fields_visible (Each kinds) fields are = each_visible kinds fields are
+fields_visible AnAddress fields are =
+    rw (are.numbers, number_texts (address_numbers are.address)) (address_visible are.address are.fits)
+
+reply_visible : (s : Step) (r : Reply) → Gives s r → AreVisible (fields_of_reply r)
+reply_visible s (reply.Ok fields) gives = (refl, fields_visible (kinds_of s) fields gives)
+reply_visible s (reply.Err code) gives = (refl, (code_visible code, tt))
+reply_visible s reply.Closed gives = (refl, tt)
+reply_visible s (reply.Failed code handle) gives = (refl, (code_visible code, (number_visible handle (omega arith), tt)))
+reply_visible s (reply.Trap kind) gives = (refl, (trap_visible kind, tt))
+reply_visible s (reply.Pending n) gives = (refl, (number_visible n (omega arith), tt))
+reply_visible s reply.Busy gives = (refl, tt)
+reply_visible s reply.NoSuchCall gives = (refl, tt)
+reply_visible s reply.Cancelled gives = (refl, tt)
+reply_visible s reply.Dropped gives = (refl, tt)
+reply_visible s reply.Unfilled gives = (refl, tt)
+
+no_reply : (kinds : FieldKinds) → reply_at kinds [] ≡ None
+unfolding reply_at read_then word_at field_at
+no_reply kinds = refl
+
+-- a reply's fields are those of its line, and it is read back from them
+line_read : (s : Step) (r : Reply) → Gives s r → reply_at (kinds_of s) (fields_of (line_with (fields_of_reply r))) ≡ Some (r, [])
+line_read s r gives =
+    let read = rw append-nil at ((reply_all s r gives).given []) in
+    let some : fields_of_reply r ≡ [] → ⊥ = λ none. let first = rw none at read in cc (no_reply (kinds_of s)) in
+    rw (fields_of_line (fields_of_reply r) some (reply_visible s r gives)) read
+
+pub texts_differ : (s : Step) (r q : Reply) → Gives s r → Gives s q → text_of r ≡ text_of q → r ≡ q
+unfolding text_of
+texts_differ s r q hr hq same =
+    let line = append_cancel_right (line_with (fields_of_reply r)) (line_with (fields_of_reply q)) (codes "\n") same in
+    let one = line_read s r hr in
+    let two = line_read s q hq in
+    let read : ◌≡◌ {A = Option (Reply × List (List ℕ))} (Some (r, [])) (Some (q, [])) = sym one ∙ (ap (λ l. reply_at (kinds_of s) (fields_of l)) line ∙ two) in
+    (same_found r q [] [] read).0

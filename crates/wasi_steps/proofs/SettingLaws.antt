@@ -1,0 +1,123 @@
+-- Each option and each setting is read from exactly its fields.
+use Rattle.std.proofs.Common.{◌≡◌, ℕ, zero, suc, ◌≤◌, ◌==◌, Bool, true, false, List, [], ◌∷◌, codes, decimal, refl, ap, arith}
+use Rattle.std.specs.Int.{from_bool}
+use Rattle.wasi_world.specs.declared.call.Opt.{Opt}
+use Rattle.wasi_world.specs.declared.call.Opt.TheVariants as opt
+use Rattle.wasi_world.specs.Fields.{◌>>=◌, give, after_word, number_at}
+use Rattle.wasi_world.specs.Written.{ReadsExactly, AreVisible, number_fields}
+use Rattle.wasi_world.proofs.ReadBack.{u32_exactly, word_exactly}
+use Rattle.wasi_world.proofs.Visible.{visible_utf8, number_visible}
+use Rattle.wasi_world.proofs.Exactly.{All, Only, exactly, all_give, only_give, all_then, only_then, all_last, only_last, number_exactly}
+use Rattle.wasi_world.proofs.Words.{only_word}
+use Rattle.wasi_steps.specs.declared.setting.TcpSetting.{TcpSetting}
+use Rattle.wasi_steps.specs.declared.setting.TcpSetting.TheVariants as setting
+use Rattle.wasi_steps.specs.Settings.{option_word, option_words, option_at, setting_fields, FitsSetting, setting_words, setting_at}
+
+-- what holds of the first of a list, and what holds of those after it
+infixr 5 ◌and◌
+abbrev pub ◌and◌ : {A B : Type 0} → A → B → A × B
+first and more = (first, more)
+
+-- the values of settings
+bit_exactly : ReadsExactly (number_at 1) number_fields (λ n. n ≤ 1)
+bit_exactly = number_exactly 1 (omega arith)
+
+byte_exactly : ReadsExactly (number_at 255) number_fields (λ n. n ≤ 255)
+byte_exactly = number_exactly 255 (omega arith)
+
+pub u64_exactly : ReadsExactly (number_at 18446744073709551615) number_fields (λ n. n ≤ 18446744073709551615)
+u64_exactly = number_exactly 18446744073709551615 (omega arith)
+
+-- == options
+pub option_visible : (option : Opt) → AreVisible (option_word option ∷ [])
+option_visible opt.KeepAliveEnabled = refl and tt
+option_visible opt.KeepAliveIdleTime = refl and tt
+option_visible opt.KeepAliveInterval = refl and tt
+option_visible opt.KeepAliveCount = refl and tt
+option_visible opt.HopLimit = refl and tt
+option_visible opt.ReceiveBufferSize = refl and tt
+option_visible opt.SendBufferSize = refl and tt
+
+option_all : (option : Opt) → All (after_word option_words (option_word option)) option []
+option_all opt.KeepAliveEnabled = all_give
+option_all opt.KeepAliveIdleTime = all_give
+option_all opt.KeepAliveInterval = all_give
+option_all opt.KeepAliveCount = all_give
+option_all opt.HopLimit = all_give
+option_all opt.ReceiveBufferSize = all_give
+option_all opt.SendBufferSize = all_give
+
+abbrev ReadsOption : List ℕ → List (List ℕ) → Opt → Type 0
+ReadsOption word taken option = Unit {0} × (word ∷ taken ≡ option_word option ∷ [])
+
+pub option_exactly : ReadsExactly option_at (λ option. option_word option ∷ []) (λ option. Unit {0})
+unfolding option_at
+option_exactly = exactly
+    (only_then _ word_exactly (λ word utf8. only_word ReadsOption option_words word
+    (only_give opt.KeepAliveEnabled (tt, refl) and only_give opt.KeepAliveIdleTime (tt, refl) and only_give opt.KeepAliveInterval (tt, refl)
+    and only_give opt.KeepAliveCount (tt, refl) and only_give opt.HopLimit (tt, refl) and only_give opt.ReceiveBufferSize (tt, refl)
+    and only_give opt.SendBufferSize (tt, refl) and tt)))
+    (λ option u. all_last _ word_exactly (visible_utf8 (option_word option) (option_visible option).0) (option_all option))
+
+-- == settings
+-- 0 and 1 are the numbers of no and yes
+bit_is : (n : ℕ) → n ≤ 1 → n ≡ from_bool (n == 1)
+bit_is zero fits = refl
+bit_is (suc zero) fits = refl
+bit_is (suc (suc n)) fits = absurd (omega arith)
+
+bit_all : (b : Bool) → All (number_at 1 >>= λ n. give (setting.KeepAliveEnabled (n == 1))) (setting.KeepAliveEnabled b) (decimal (from_bool b) ∷ [])
+bit_all true = all_last _ bit_exactly (omega arith) all_give
+bit_all false = all_last _ bit_exactly (omega arith) all_give
+
+abbrev ReadsSetting : List ℕ → List (List ℕ) → TcpSetting → Type 0
+ReadsSetting word taken s = FitsSetting s × (word ∷ taken ≡ setting_fields s)
+
+settings_only : (word : List ℕ) → Only (after_word setting_words word) (ReadsSetting word)
+settings_only word = only_word ReadsSetting setting_words word
+    (only_last (λ n. setting.KeepAliveEnabled (n == 1)) bit_exactly (λ n fits. (tt, ap (λ m. codes "keep-alive-enabled" ∷ decimal m ∷ []) (bit_is n fits)))
+    and only_last setting.KeepAliveIdleTime u64_exactly (λ n fits. (fits, refl))
+    and only_last setting.KeepAliveInterval u64_exactly (λ n fits. (fits, refl))
+    and only_last setting.KeepAliveCount u32_exactly (λ n fits. (fits, refl))
+    and only_last setting.HopLimit byte_exactly (λ n fits. (fits, refl))
+    and only_last setting.ReceiveBufferSize u64_exactly (λ n fits. (fits, refl))
+    and only_last setting.SendBufferSize u64_exactly (λ n fits. (fits, refl))
+    and only_last setting.ListenBacklogSize u64_exactly (λ n fits. (fits, refl))
+    and tt)
+
+-- a word, and what it has after it
+setting_by : (word : List ℕ) {s : TcpSetting} {taken : List (List ℕ)} → AreVisible (word ∷ []) → All (after_word setting_words word) s taken → All setting_at s (word ∷ taken)
+unfolding setting_at
+setting_by word visible value = all_then _ word_exactly (visible_utf8 word visible.0) value
+
+setting_all : (s : TcpSetting) → FitsSetting s → All setting_at s (setting_fields s)
+setting_all (setting.KeepAliveEnabled b) fits = setting_by (codes "keep-alive-enabled") (refl and tt) (bit_all b)
+setting_all (setting.KeepAliveIdleTime n) fits = setting_by (codes "keep-alive-idle-time") (refl and tt) (all_last _ u64_exactly fits all_give)
+setting_all (setting.KeepAliveInterval n) fits = setting_by (codes "keep-alive-interval") (refl and tt) (all_last _ u64_exactly fits all_give)
+setting_all (setting.KeepAliveCount n) fits = setting_by (codes "keep-alive-count") (refl and tt) (all_last _ u32_exactly fits all_give)
+setting_all (setting.HopLimit n) fits = setting_by (codes "hop-limit") (refl and tt) (all_last _ byte_exactly fits all_give)
+setting_all (setting.ReceiveBufferSize n) fits = setting_by (codes "receive-buffer-size") (refl and tt) (all_last _ u64_exactly fits all_give)
+setting_all (setting.SendBufferSize n) fits = setting_by (codes "send-buffer-size") (refl and tt) (all_last _ u64_exactly fits all_give)
+setting_all (setting.ListenBacklogSize n) fits = setting_by (codes "listen-backlog-size") (refl and tt) (all_last _ u64_exactly fits all_give)
+
+pub setting_exactly : ReadsExactly setting_at setting_fields FitsSetting
+unfolding setting_at
+setting_exactly = exactly (only_then _ word_exactly (λ word utf8. settings_only word)) setting_all
+
+-- the fields of a setting are visible
+bit_visible : (b : Bool) → AreVisible (decimal (from_bool b) ∷ [])
+bit_visible true = number_visible 1 (omega arith) and tt
+bit_visible false = number_visible 0 (omega arith) and tt
+
+value_visible : (n : ℕ) → n ≤ 18446744073709551615 → AreVisible (decimal n ∷ [])
+value_visible n fits = number_visible n (omega arith) and tt
+
+pub setting_visible : (s : TcpSetting) → FitsSetting s → AreVisible (setting_fields s)
+setting_visible (setting.KeepAliveEnabled b) fits = refl and bit_visible b
+setting_visible (setting.KeepAliveIdleTime n) fits = refl and value_visible n fits
+setting_visible (setting.KeepAliveInterval n) fits = refl and value_visible n fits
+setting_visible (setting.KeepAliveCount n) fits = refl and value_visible n (omega arith)
+setting_visible (setting.HopLimit n) fits = refl and value_visible n (omega arith)
+setting_visible (setting.ReceiveBufferSize n) fits = refl and value_visible n fits
+setting_visible (setting.SendBufferSize n) fits = refl and value_visible n fits
+setting_visible (setting.ListenBacklogSize n) fits = refl and value_visible n fits

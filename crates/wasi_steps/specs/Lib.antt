@@ -1,0 +1,4 @@
+pub mod Reply
+pub mod Settings
+pub mod Steps
+pub mod Replies

@@ -1,0 +1,149 @@
+-- The texts of replies, and which replies a step may give.
+use Rattle.std.specs.Prelude.{◌≡◌, ℕ, ◌<◌, ◌≤◌, ◌^◌, List, [], ◌∷◌, ◌++◌, map, codes, decimal}
+use Rattle.wasi_world.specs.declared.outcome.TrapKind.{TrapKind}
+use Rattle.wasi_world.specs.declared.outcome.TrapKind.TheVariants as trap
+use Rattle.wasi_world.specs.Fields.{line_with, bytes_text}
+use Rattle.wasi_addr.specs.declared.address.IpSocketAddress.{IpSocketAddress}
+use Rattle.wasi_world.specs.Written.{AreBytes, FitsAddress}
+use Rattle.wasi_steps.specs.declared.reply.CodeWord.{CodeWord}
+use Rattle.wasi_steps.specs.declared.reply.CodeWord.TheVariants as word
+use Rattle.wasi_steps.specs.declared.reply.Field.{Field}
+use Rattle.wasi_steps.specs.declared.reply.Field.TheVariants as field
+use Rattle.wasi_steps.specs.declared.reply.Reply.{Reply}
+use Rattle.wasi_steps.specs.declared.reply.Reply.TheVariants as reply
+use Rattle.wasi_steps.specs.Reply.{address_values}
+use Rattle.wasi_steps.specs.declared.step.Step.{Step}
+use Rattle.wasi_steps.specs.declared.step.Step.TheVariants as step
+
+-- the words of codes
+abbrev pub code_text : CodeWord → List ℕ
+code_text word.Unknown = codes "unknown"
+code_text word.AccessDenied = codes "access-denied"
+code_text word.NotSupported = codes "not-supported"
+code_text word.InvalidArgument = codes "invalid-argument"
+code_text word.OutOfMemory = codes "out-of-memory"
+code_text word.Timeout = codes "timeout"
+code_text word.ConcurrencyConflict = codes "concurrency-conflict"
+code_text word.NotInProgress = codes "not-in-progress"
+code_text word.WouldBlock = codes "would-block"
+code_text word.InvalidState = codes "invalid-state"
+code_text word.NewSocketLimit = codes "new-socket-limit"
+code_text word.AddressNotBindable = codes "address-not-bindable"
+code_text word.AddressInUse = codes "address-in-use"
+code_text word.RemoteUnreachable = codes "remote-unreachable"
+code_text word.ConnectionRefused = codes "connection-refused"
+code_text word.ConnectionBroken = codes "connection-broken"
+code_text word.ConnectionReset = codes "connection-reset"
+code_text word.ConnectionAborted = codes "connection-aborted"
+code_text word.DatagramTooLarge = codes "datagram-too-large"
+code_text word.NameUnresolvable = codes "name-unresolvable"
+code_text word.TemporaryResolverFailure = codes "temporary-resolver-failure"
+code_text word.PermanentResolverFailure = codes "permanent-resolver-failure"
+code_text word.Other = codes "other"
+
+-- the words of traps
+abbrev pub trap_text : TrapKind → List ℕ
+trap_text trap.NoSuchHandle = codes "no-such-handle"
+trap_text trap.HasChildren = codes "has-children"
+trap_text trap.Full = codes "full"
+trap_text trap.EmptyList = codes "empty-list"
+trap_text trap.NotPermitted = codes "not-permitted"
+trap_text trap.Capacity = codes "capacity"
+trap_text trap.TooLong = codes "too-long"
+trap_text trap.StreamsAlive = codes "streams-alive"
+trap_text trap.Budget = codes "budget"
+trap_text trap.FlushPending = codes "flush-pending"
+
+abbrev pub field_text : Field → List ℕ
+field_text (field.Number n) = decimal n
+field_text (field.Bytes bytes) = bytes_text bytes
+field_text field.True = codes "true"
+field_text field.False = codes "false"
+field_text field.Absent = codes "none"
+
+-- the words and fields of a reply
+abbrev pub fields_of_reply : Reply → List (List ℕ)
+fields_of_reply (reply.Ok fields) = codes "ok" ∷ map field_text fields
+fields_of_reply (reply.Err code) = codes "err" ∷ code_text code ∷ []
+fields_of_reply reply.Closed = codes "closed" ∷ []
+fields_of_reply (reply.Failed code handle) = codes "failed" ∷ code_text code ∷ decimal handle ∷ []
+fields_of_reply (reply.Trap kind) = codes "trap" ∷ trap_text kind ∷ []
+fields_of_reply (reply.Pending n) = codes "pending" ∷ decimal n ∷ []
+fields_of_reply reply.Busy = codes "busy" ∷ []
+fields_of_reply reply.NoSuchCall = codes "no-such-call" ∷ []
+fields_of_reply reply.Cancelled = codes "cancelled" ∷ []
+fields_of_reply reply.Dropped = codes "dropped" ∷ []
+fields_of_reply reply.Unfilled = codes "unfilled" ∷ []
+
+-- one line
+unfoldable pub text_of : Reply → List ℕ
+text_of r = line_with (fields_of_reply r) ++ codes "\n"
+
+-- what a field of a reply is: a number, bytes, or one of `true` and `false`
+pub data FieldKind : Type 0 where
+  ANumber : FieldKind
+  SomeBytes : FieldKind
+  Truth : FieldKind
+
+-- what the fields of a reply are: one of each of these kinds, or those of an address
+pub data FieldKinds : Type 0 where
+  Each : List FieldKind → FieldKinds
+  AnAddress : FieldKinds
+
+-- the fields of a step's reply when it succeeds; a poll has the reply of the call that it polls, and no call that can stand has a field in it
+abbrev pub kinds_of : Step → FieldKinds
+kinds_of (step.Network c) = Each (ANumber ∷ [])
+kinds_of (step.TcpCreate c family) = Each (ANumber ∷ [])
+kinds_of (step.TcpStartBind c socket network a) = Each []
+kinds_of (step.TcpFinishBind c socket) = Each []
+kinds_of (step.TcpStartConnect c socket network a) = Each []
+kinds_of (step.TcpFinishConnect c socket) = Each (ANumber ∷ ANumber ∷ [])
+kinds_of (step.TcpStartListen c socket) = Each []
+kinds_of (step.TcpFinishListen c socket) = Each []
+kinds_of (step.TcpAccept c socket) = Each (ANumber ∷ ANumber ∷ ANumber ∷ [])
+kinds_of (step.TcpLocalAddress c socket) = AnAddress
+kinds_of (step.TcpRemoteAddress c socket) = AnAddress
+kinds_of (step.TcpIsListening c socket) = Each (Truth ∷ [])
+kinds_of (step.TcpAddressFamily c socket) = Each (ANumber ∷ [])
+kinds_of (step.TcpGet c socket option) = Each (ANumber ∷ [])
+kinds_of (step.TcpSet c socket setting) = Each []
+kinds_of (step.TcpShutdown c socket how) = Each []
+kinds_of (step.Read c input len) = Each (SomeBytes ∷ [])
+kinds_of (step.CheckWrite c output) = Each (ANumber ∷ [])
+kinds_of (step.Write c output bytes) = Each []
+kinds_of (step.Flush c output) = Each []
+kinds_of (step.Subscribe c handle) = Each (ANumber ∷ [])
+kinds_of (step.Ready c pollable) = Each (Truth ∷ [])
+kinds_of (step.Drop c handle) = Each []
+kinds_of step.Turn = Each []
+kinds_of (step.Poll call) = Each []
+
+abbrev pub IsOfKind : FieldKind → Field → Type 0
+IsOfKind ANumber (field.Number n) = n < 2 ^ 64
+IsOfKind SomeBytes (field.Bytes bytes) = AreBytes bytes
+IsOfKind Truth field.True = Unit {0}
+IsOfKind Truth field.False = Unit {0}
+IsOfKind _ _ = ⊥
+
+abbrev pub EachOfKind : List FieldKind → List Field → Type 0
+EachOfKind [] [] = Unit {0}
+EachOfKind (kind ∷ kinds) (f ∷ fields) = IsOfKind kind f × EachOfKind kinds fields
+EachOfKind [] (f ∷ fields) = ⊥
+EachOfKind (kind ∷ kinds) [] = ⊥
+
+-- These are the numbers that an address is written as.
+pub record AreAnAddress (fields : List Field) : Type 0 where
+  pub address : IpSocketAddress
+  pub fits : FitsAddress address
+  pub numbers : fields ≡ address_values address
+
+abbrev pub AreOfKinds : FieldKinds → List Field → Type 0
+AreOfKinds (Each kinds) fields = EachOfKind kinds fields
+AreOfKinds AnAddress fields = AreAnAddress fields
+
+-- a reply that the step may give: its numbers are within their widths, and its fields are of the step's kinds
+abbrev pub Gives : Step → Reply → Type 0
+Gives s (reply.Ok fields) = AreOfKinds (kinds_of s) fields
+Gives s (reply.Failed code handle) = handle ≤ 4294967295
+Gives s (reply.Pending n) = n ≤ 4294967295
+Gives s _ = Unit {0}

@@ -1,0 +1,326 @@
+//! Reads a line of a script.
+
+ghost use Rattle.std.specs.Prelude.{◌≡◌, ◌↔◌, ◌++◌, ℕ, List, Some, IfOk};
+ghost use Rattle.wasi_world.specs.Fields.{Reads, after_word, number_in};
+ghost use Rattle.wasi_world.specs.Written.{IsVisible};
+ghost use Rattle.wasi_steps.specs.declared.step.Step.{Step};
+ghost use Rattle.wasi_steps.specs.Settings.{option_at, setting_words, setting_at};
+ghost use Rattle.wasi_steps.specs.Steps.{line_of, IsStep, steps, plain_steps, socket_steps, listener_steps, question_steps, option_steps, bare_steps, write_row, shutdown_at, guest_call_at, step_at, step_of};
+
+use crate::setting::TcpSetting;
+use crate::step::Step;
+use std::alloc::{AllocError, Global};
+use wasi_addr::ShutdownType;
+use wasi_world::fields::number;
+use wasi_world::{Fields, Opt};
+
+/// Takes the word of what is shut down.
+#[tactic(auto, unfolding(crate::specs::Steps::shutdown_at, wasi_world::specs::Fields::read_then, wasi_world::specs::Fields::give))]
+fn shutdown_type(fields: &mut Fields<'_>) -> Option<ShutdownType>
+    ensures { Reads shutdown_at fields.old result fields.new }
+{
+    match fields.word()? {
+        "receive" => Some(ShutdownType::Receive),
+        "send" => Some(ShutdownType::Send),
+        "both" => Some(ShutdownType::Both),
+        _ => None,
+    }
+}
+
+/// Takes the word of an option.
+#[tactic(auto, unfolding(crate::specs::Settings::option_at, wasi_world::specs::Fields::read_then, wasi_world::specs::Fields::give))]
+fn option(fields: &mut Fields<'_>) -> Option<Opt>
+    ensures { Reads option_at fields.old result fields.new }
+{
+    match fields.word()? {
+        "keep-alive-enabled" => Some(Opt::KeepAliveEnabled),
+        "keep-alive-idle-time" => Some(Opt::KeepAliveIdleTime),
+        "keep-alive-interval" => Some(Opt::KeepAliveInterval),
+        "keep-alive-count" => Some(Opt::KeepAliveCount),
+        "hop-limit" => Some(Opt::HopLimit),
+        "receive-buffer-size" => Some(Opt::ReceiveBufferSize),
+        "send-buffer-size" => Some(Opt::SendBufferSize),
+        _ => None,
+    }
+}
+
+/// Takes the value of what this word says is set.
+#[tactic(auto, unfolding(wasi_world::specs::Fields::read_then, wasi_world::specs::Fields::give))]
+fn setting_of(fields: &mut Fields<'_>, word: &str) -> Option<TcpSetting>
+    ensures { Reads (after_word setting_words word.now) fields.old result fields.new }
+{
+    use TcpSetting::*;
+    match word {
+        "keep-alive-enabled" => Some(KeepAliveEnabled(fields.number(1)? == 1)),
+        "keep-alive-idle-time" => Some(KeepAliveIdleTime(fields.number(u64::MAX)?)),
+        "keep-alive-interval" => Some(KeepAliveInterval(fields.number(u64::MAX)?)),
+        "keep-alive-count" => Some(KeepAliveCount(fields.u32()?)),
+        "hop-limit" => Some(HopLimit(fields.number(255)? as u8)),
+        "receive-buffer-size" => Some(ReceiveBufferSize(fields.number(u64::MAX)?)),
+        "send-buffer-size" => Some(SendBufferSize(fields.number(u64::MAX)?)),
+        "listen-backlog-size" => Some(ListenBacklogSize(fields.number(u64::MAX)?)),
+        _ => None,
+    }
+}
+
+/// Takes what is set, and its value.
+#[tactic(auto, unfolding(crate::specs::Settings::setting_at, wasi_world::specs::Fields::read_then))]
+fn setting(fields: &mut Fields<'_>) -> Option<TcpSetting>
+    ensures { Reads setting_at fields.old result fields.new }
+{
+    let word = fields.word()?;
+    setting_of(fields, word)
+}
+
+/// Takes the arguments of a step word that gets or sets an option.
+#[tactic(auto, unfolding(wasi_world::specs::Fields::read_then, wasi_world::specs::Fields::give, wasi_world::specs::Fields::give_some))]
+fn option_arguments(fields: &mut Fields<'_>, context: u32, word: &str) -> Option<Step>
+    ensures { Reads (after_word (option_steps context) word.now) fields.old result fields.new }
+{
+    match word {
+        "tcp-get" => Some(Step::TcpGet {
+            context,
+            socket: fields.u32()?,
+            option: option(fields)?,
+        }),
+        "tcp-set" => Some(Step::TcpSet {
+            context,
+            socket: fields.u32()?,
+            setting: setting(fields)?,
+        }),
+        _ => None,
+    }
+}
+
+/// Takes the arguments of a step word that asks a socket what it is, or gets or sets an option.
+#[tactic(auto, unfolding(wasi_world::specs::Fields::read_then, wasi_world::specs::Fields::give, wasi_world::specs::Fields::give_some))]
+fn question_arguments(fields: &mut Fields<'_>, context: u32, word: &str) -> Option<Step>
+    ensures { Reads (after_word (question_steps context ++ option_steps context) word.now) fields.old result fields.new }
+{
+    match word {
+        "tcp-local-address" => Some(Step::TcpLocalAddress {
+            context,
+            socket: fields.u32()?,
+        }),
+        "tcp-remote-address" => Some(Step::TcpRemoteAddress {
+            context,
+            socket: fields.u32()?,
+        }),
+        "tcp-is-listening" => Some(Step::TcpIsListening {
+            context,
+            socket: fields.u32()?,
+        }),
+        "tcp-address-family" => Some(Step::TcpAddressFamily {
+            context,
+            socket: fields.u32()?,
+        }),
+        _ => option_arguments(fields, context, word),
+    }
+}
+
+/// Takes the arguments of a step word that makes a socket listen or accepts, or asks it something.
+#[tactic(auto, unfolding(wasi_world::specs::Fields::read_then, wasi_world::specs::Fields::give, wasi_world::specs::Fields::give_some))]
+fn listener_arguments(fields: &mut Fields<'_>, context: u32, word: &str) -> Option<Step>
+    ensures { Reads (after_word (listener_steps context ++ question_steps context ++ option_steps context) word.now) fields.old result fields.new }
+{
+    match word {
+        "tcp-start-listen" => Some(Step::TcpStartListen {
+            context,
+            socket: fields.u32()?,
+        }),
+        "tcp-finish-listen" => Some(Step::TcpFinishListen {
+            context,
+            socket: fields.u32()?,
+        }),
+        "tcp-accept" => Some(Step::TcpAccept {
+            context,
+            socket: fields.u32()?,
+        }),
+        _ => question_arguments(fields, context, word),
+    }
+}
+
+/// Takes the arguments of a step word that makes a socket, binds it, connects it, shuts it down or makes it listen, or asks
+/// it something.
+#[tactic(auto, unfolding(wasi_world::specs::Fields::read_then, wasi_world::specs::Fields::give, wasi_world::specs::Fields::give_some))]
+fn socket_arguments(fields: &mut Fields<'_>, context: u32, word: &str) -> Option<Step>
+    ensures { Reads (after_word (socket_steps context ++ listener_steps context ++ question_steps context ++ option_steps context) word.now) fields.old result fields.new }
+{
+    match word {
+        "network" => Some(Step::Network { context }),
+        "tcp-create" => Some(Step::TcpCreate {
+            context,
+            family: fields.family()?,
+        }),
+        "tcp-start-bind" => Some(Step::TcpStartBind {
+            context,
+            socket: fields.u32()?,
+            network: fields.u32()?,
+            addr: fields.socket_address()?,
+        }),
+        "tcp-finish-bind" => Some(Step::TcpFinishBind {
+            context,
+            socket: fields.u32()?,
+        }),
+        "tcp-start-connect" => Some(Step::TcpStartConnect {
+            context,
+            socket: fields.u32()?,
+            network: fields.u32()?,
+            addr: fields.socket_address()?,
+        }),
+        "tcp-finish-connect" => Some(Step::TcpFinishConnect {
+            context,
+            socket: fields.u32()?,
+        }),
+        "tcp-shutdown" => Some(Step::TcpShutdown {
+            context,
+            socket: fields.u32()?,
+            how: shutdown_type(fields)?,
+        }),
+        _ => listener_arguments(fields, context, word),
+    }
+}
+
+/// Takes the arguments of a step word, where they take no memory.
+#[tactic(auto, unfolding(wasi_world::specs::Fields::read_then, wasi_world::specs::Fields::give, wasi_world::specs::Fields::give_some))]
+fn plain_arguments(fields: &mut Fields<'_>, context: u32, word: &str) -> Option<Step>
+    ensures { Reads (after_word (plain_steps context) word.now) fields.old result fields.new }
+{
+    match word {
+        "read" => Some(Step::Read {
+            context,
+            input: fields.u32()?,
+            len: fields.number(u64::MAX)?,
+        }),
+        "check-write" => Some(Step::CheckWrite {
+            context,
+            output: fields.u32()?,
+        }),
+        "flush" => Some(Step::Flush {
+            context,
+            output: fields.u32()?,
+        }),
+        "subscribe" => Some(Step::Subscribe {
+            context,
+            handle: fields.u32()?,
+        }),
+        "ready" => Some(Step::Ready {
+            context,
+            pollable: fields.u32()?,
+        }),
+        "drop" => Some(Step::Drop {
+            context,
+            handle: fields.u32()?,
+        }),
+        _ => socket_arguments(fields, context, word),
+    }
+}
+
+/// Takes the arguments of a write, whose bytes take memory.
+#[tactic(auto, unfolding(wasi_world::specs::Fields::read_then, wasi_world::specs::Fields::give, wasi_world::specs::Fields::give_some))]
+fn write_arguments(
+    alloc: Global,
+    fields: &mut Fields<'_>,
+    context: u32,
+) -> Result<Option<Step>, AllocError>
+    ensures { IfOk result (λ step. Reads (write_row context).reads fields.old step fields.new) }
+{
+    let Some(output) = fields.u32() else {
+        return Ok(None);
+    };
+    let Some(bytes) = fields.octets(alloc)? else {
+        return Ok(None);
+    };
+    Ok(Some(Step::Write {
+        context,
+        output,
+        bytes,
+    }))
+}
+
+/// Takes the arguments of a step word.
+fn arguments(
+    alloc: Global,
+    fields: &mut Fields<'_>,
+    context: u32,
+    word: &str,
+) -> Result<Option<Step>, AllocError>
+    ensures { IfOk result (λ step. Reads (after_word (steps context) word.now) fields.old step fields.new) }
+{
+    match word {
+        "write" => write_arguments(alloc, fields, context),
+        _ => Ok(plain_arguments(fields, context, word)),
+    }
+}
+
+/// Takes the guest call of this context, if it is one of so many.
+#[tactic(auto, unfolding(crate::specs::Steps::guest_call_at, wasi_world::specs::Fields::read_then, wasi_world::specs::Fields::give_some))]
+fn guest_call(
+    alloc: Global,
+    fields: &mut Fields<'_>,
+    context: u32,
+    contexts: u32,
+) -> Result<Option<Step>, AllocError>
+    ensures { IfOk result (λ step. Reads (guest_call_at contexts context) fields.old step fields.new) }
+{
+    if context >= contexts {
+        return Ok(None);
+    }
+    let Some(word) = fields.word() else {
+        return Ok(None);
+    };
+    arguments(alloc, fields, context, word)
+}
+
+/// Takes the arguments of a step word that no context's number stands before.
+#[tactic(auto, unfolding(wasi_world::specs::Fields::read_then, wasi_world::specs::Fields::give))]
+fn bare_arguments(fields: &mut Fields<'_>, word: &str) -> Option<Step>
+    ensures { Reads (after_word bare_steps word.now) fields.old result fields.new }
+{
+    match word {
+        "turn" => Some(Step::Turn),
+        "poll" => Some(Step::Poll {
+            call: fields.u32()?,
+        }),
+        _ => None,
+    }
+}
+
+/// The number of a context that the word is.
+fn context_number(word: &str) -> Option<u32>
+    ensures { result ≡ number_in word.now 4294967295 }
+{
+    Some(number(word.as_bytes(), 4294967295)? as u32)
+}
+
+/// Takes a step: a guest call of one of so many contexts, or a step that no context makes.
+#[tactic(auto, unfolding(crate::specs::Steps::step_at, wasi_world::specs::Fields::read_then))]
+fn step(alloc: Global, fields: &mut Fields<'_>, contexts: u32) -> Result<Option<Step>, AllocError>
+    ensures { IfOk result (λ step. Reads (step_at contexts) fields.old step fields.new) }
+{
+    let Some(first) = fields.word() else {
+        return Ok(None);
+    };
+    match context_number(first) {
+        Some(context) => guest_call(alloc, fields, context, contexts),
+        None => Ok(bare_arguments(fields, first)),
+    }
+}
+
+/// The step that a line is, without its newline, where there are so many contexts; none where it is no step of theirs. The
+/// bytes of a write take memory.
+#[tactic(auto, unfolding(crate::specs::Steps::step_of))]
+pub fn parse_step(alloc: Global, line: &[u8], contexts: u32) -> Result<Option<Step>, AllocError>
+    ensures { IfOk result (λ step. step ≡ step_of contexts line.now) }
+{
+    let mut fields = Fields::of(line);
+    let step = step(alloc, &mut fields, contexts)?;
+    Ok(if fields.is_done() { step } else { None })
+}
+
+/// A line is a step exactly where it is that step's line, and its context, where it has one, is one of so many. Nothing
+/// but visible ASCII characters and spaces stands in it.
+pub fn steps_are_their_lines()
+    ensures exactly { (contexts : ℕ) (line : List ℕ) (s : Step) → (step_of contexts line ≡ Some s) ↔ ((line ≡ line_of s) × IsStep contexts s) }
+    ensures visible { (contexts : ℕ) (line : List ℕ) (s : Step) → step_of contexts line ≡ Some s → IsVisible line }
+{}

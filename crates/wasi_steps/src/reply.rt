@@ -1,0 +1,369 @@
+//! The replies to steps.
+
+ghost use Rattle.std.specs.Prelude.{◌≡◌, IfOk, OnOk, [], ◌∷◌, ◌++◌, map, codes, string_bytes};
+ghost use Rattle.wasi_world.specs.Fields.{line_with};
+ghost use Rattle.wasi_steps.specs.declared.reply.Reply.{Reply};
+ghost use Rattle.wasi_steps.specs.declared.step.Step.{Step};
+ghost use Rattle.wasi_steps.specs.Replies.{Gives, code_text, trap_text, field_text, fields_of_reply, text_of};
+ghost use Rattle.wasi_steps.specs.Reply.{word_of_p2, is_trap, no_fields, number_fields, pair_fields, triple_fields, bytes_fields, truth_fields, family_fields, address_values};
+
+use std::alloc::{AllocError, Global};
+use std::fmt;
+use std::fmt::Write;
+use std::marker::Model;
+use wasi_addr::{IpSocketAddress, Ipv4SocketAddress, Ipv6SocketAddress, SocketAddressFamily, p2};
+use wasi_world::fields::push_octets;
+use wasi_world::{Handle, Octets, TrapKind};
+
+/// One field of an `ok` reply.
+#[derive(Drop)]
+pub enum Field {
+    Number(u64),
+    Bytes(Octets),
+    True,
+    False,
+    Absent,
+}
+
+/// The fields of an `ok` reply, in order, which contracts see as a list.
+#[derive(Drop)]
+pub struct ReplyFields {
+    fields: Vec<Field>,
+}
+
+impl Model for ReplyFields {
+    ghost use Rattle.std.specs.Prelude.{List};
+    ghost use Rattle.wasi_steps.specs.declared.reply.Field.{Field};
+
+    ghost Value = { List Field };
+
+    ghost view = { λ f. f.fields.items };
+}
+
+impl ReplyFields {
+    pub fn from_vec(fields: Vec<Field>) -> ReplyFields
+        ensures { result ≡ fields.items }
+    {
+        ReplyFields { fields }
+    }
+
+    pub fn as_slice(&self) -> &[Field]
+        ensures { result.now ≡ self.now }
+    {
+        self.fields.as_slice()
+    }
+}
+
+/// The word of a code: those of every generation.
+#[derive(Clone, Copy, Debug, PartialEq, Eq)]
+pub enum CodeWord {
+    Unknown,
+    AccessDenied,
+    NotSupported,
+    InvalidArgument,
+    OutOfMemory,
+    Timeout,
+    ConcurrencyConflict,
+    NotInProgress,
+    WouldBlock,
+    InvalidState,
+    NewSocketLimit,
+    AddressNotBindable,
+    AddressInUse,
+    RemoteUnreachable,
+    ConnectionRefused,
+    ConnectionBroken,
+    ConnectionReset,
+    ConnectionAborted,
+    DatagramTooLarge,
+    NameUnresolvable,
+    TemporaryResolverFailure,
+    PermanentResolverFailure,
+    Other,
+}
+
+impl CodeWord {
+    /// The word of a 0.2 code, by name.
+    pub fn from_p2(code: p2::ErrorCode) -> CodeWord
+        ensures { result ≡ word_of_p2 code }
+    {
+        match code {
+            p2::ErrorCode::Unknown => CodeWord::Unknown,
+            p2::ErrorCode::AccessDenied => CodeWord::AccessDenied,
+            p2::ErrorCode::NotSupported => CodeWord::NotSupported,
+            p2::ErrorCode::InvalidArgument => CodeWord::InvalidArgument,
+            p2::ErrorCode::OutOfMemory => CodeWord::OutOfMemory,
+            p2::ErrorCode::Timeout => CodeWord::Timeout,
+            p2::ErrorCode::ConcurrencyConflict => CodeWord::ConcurrencyConflict,
+            p2::ErrorCode::NotInProgress => CodeWord::NotInProgress,
+            p2::ErrorCode::WouldBlock => CodeWord::WouldBlock,
+            p2::ErrorCode::InvalidState => CodeWord::InvalidState,
+            p2::ErrorCode::NewSocketLimit => CodeWord::NewSocketLimit,
+            p2::ErrorCode::AddressNotBindable => CodeWord::AddressNotBindable,
+            p2::ErrorCode::AddressInUse => CodeWord::AddressInUse,
+            p2::ErrorCode::RemoteUnreachable => CodeWord::RemoteUnreachable,
+            p2::ErrorCode::ConnectionRefused => CodeWord::ConnectionRefused,
+            p2::ErrorCode::ConnectionReset => CodeWord::ConnectionReset,
+            p2::ErrorCode::ConnectionAborted => CodeWord::ConnectionAborted,
+            p2::ErrorCode::DatagramTooLarge => CodeWord::DatagramTooLarge,
+            p2::ErrorCode::NameUnresolvable => CodeWord::NameUnresolvable,
+            p2::ErrorCode::TemporaryResolverFailure => CodeWord::TemporaryResolverFailure,
+            p2::ErrorCode::PermanentResolverFailure => CodeWord::PermanentResolverFailure,
+        }
+    }
+}
+
+impl fmt::Display for CodeWord {
+    ghost use Rattle.std.specs.Prelude.{Some};
+    ghost use Rattle.wasi_steps.specs.Replies.{code_text};
+
+    ghost output = { λ code. Some (code_text code) };
+
+    fn fmt<W: fmt::Write>(&self, f: &mut fmt::Formatter<W>) -> fmt::Result {
+        write!(f, "{}", code_word(*self))
+    }
+}
+
+/// What a step answers; each reply is one line.
+#[derive(Drop)]
+pub enum Reply {
+    Ok(ReplyFields),
+    Err(CodeWord),
+    /// A stream call answered `Closed`.
+    Closed,
+    /// A stream call's last operation failed, with this code; the handle is of the new error.
+    Failed(CodeWord, Handle),
+    /// Ends the run.
+    Trap(TrapKind),
+    /// The call of this line stands pending.
+    Pending(u32),
+    /// An exclusive call stands, and this step is another guest call.
+    Busy,
+    NoSuchCall,
+    Cancelled,
+    Dropped,
+    Unfilled,
+}
+
+impl Reply {
+    pub fn is_trap(&self) -> bool
+        ensures { result ≡ is_trap self.now }
+    {
+        matches!(self, Reply::Trap(_))
+    }
+
+    /// `ok` with no field.
+    pub fn done(alloc: Global) -> Reply
+        ensures { result ≡ Reply.Ok no_fields }
+    {
+        Reply::Ok(ReplyFields::from_vec(Vec::new(alloc)))
+    }
+
+    /// `ok` with a number.
+    pub fn number(alloc: Global, number: u64) -> Result<Reply, AllocError>
+        ensures { IfOk result (λ reply. reply ≡ Reply.Ok (number_fields number)) }
+    {
+        let fields = vec![in alloc; Field::Number(number)]?;
+        Ok(Reply::Ok(ReplyFields::from_vec(fields)))
+    }
+
+    /// `ok` with two numbers.
+    pub fn pair(alloc: Global, a: u64, b: u64) -> Result<Reply, AllocError>
+        ensures { IfOk result (λ reply. reply ≡ Reply.Ok (pair_fields a b)) }
+    {
+        let fields = vec![in alloc; Field::Number(a), Field::Number(b)]?;
+        Ok(Reply::Ok(ReplyFields::from_vec(fields)))
+    }
+
+    /// `ok` with three numbers.
+    pub fn triple(alloc: Global, a: u64, b: u64, c: u64) -> Result<Reply, AllocError>
+        ensures { IfOk result (λ reply. reply ≡ Reply.Ok (triple_fields a b c)) }
+    {
+        let fields = vec![in alloc; Field::Number(a), Field::Number(b), Field::Number(c)]?;
+        Ok(Reply::Ok(ReplyFields::from_vec(fields)))
+    }
+
+    /// `ok` with bytes.
+    pub fn bytes(alloc: Global, bytes: Octets) -> Result<Reply, AllocError>
+        ensures { IfOk result (λ reply. reply ≡ Reply.Ok (bytes_fields bytes)) }
+    {
+        let fields = vec![in alloc; Field::Bytes(bytes)]?;
+        Ok(Reply::Ok(ReplyFields::from_vec(fields)))
+    }
+
+    /// `ok` with `true` or `false`.
+    pub fn truth(alloc: Global, truth: bool) -> Result<Reply, AllocError>
+        ensures { IfOk result (λ reply. reply ≡ Reply.Ok (truth_fields truth)) }
+    {
+        let field = if truth { Field::True } else { Field::False };
+        let fields = vec![in alloc; field]?;
+        Ok(Reply::Ok(ReplyFields::from_vec(fields)))
+    }
+
+    /// `ok` with a family: 4 or 6.
+    pub fn family(alloc: Global, family: SocketAddressFamily) -> Result<Reply, AllocError>
+        ensures { IfOk result (λ reply. reply ≡ Reply.Ok (family_fields family)) }
+    {
+        match family {
+            SocketAddressFamily::Ipv4 => Reply::number(alloc, 4),
+            SocketAddressFamily::Ipv6 => Reply::number(alloc, 6),
+        }
+    }
+
+    /// `ok` with an address: its family, its bytes or segments, its port, and in IPv6 its flow and its scope.
+    pub fn address(alloc: Global, address: IpSocketAddress) -> Result<Reply, AllocError>
+        ensures { IfOk result (λ reply. reply ≡ Reply.Ok (address_values address)) }
+    {
+        let fields = match address {
+            IpSocketAddress::Ipv4(address) => ipv4_fields(alloc, address)?,
+            IpSocketAddress::Ipv6(address) => ipv6_fields(alloc, address)?,
+        };
+        Ok(Reply::Ok(ReplyFields::from_vec(fields)))
+    }
+}
+
+/// The fields of an IPv4 address.
+fn ipv4_fields(alloc: Global, address: Ipv4SocketAddress) -> Result<Vec<Field>, AllocError>
+    ensures { IfOk result (λ fields. fields.items ≡ address_values (IpSocketAddress.Ipv4 address)) }
+{
+    let (a, b, c, d) = address.address;
+    let fields = vec![in alloc;
+        Field::Number(4),
+        Field::Number(u64::from(a)),
+        Field::Number(u64::from(b)),
+        Field::Number(u64::from(c)),
+        Field::Number(u64::from(d)),
+        Field::Number(u64::from(address.port)),
+    ]?;
+    Ok(fields)
+}
+
+/// The fields of an IPv6 address.
+fn ipv6_fields(alloc: Global, address: Ipv6SocketAddress) -> Result<Vec<Field>, AllocError>
+    ensures { IfOk result (λ fields. fields.items ≡ address_values (IpSocketAddress.Ipv6 address)) }
+{
+    let (a, b, c, d, e, f, g, h) = address.address;
+    let fields = vec![in alloc;
+        Field::Number(6),
+        Field::Number(u64::from(a)),
+        Field::Number(u64::from(b)),
+        Field::Number(u64::from(c)),
+        Field::Number(u64::from(d)),
+        Field::Number(u64::from(e)),
+        Field::Number(u64::from(f)),
+        Field::Number(u64::from(g)),
+        Field::Number(u64::from(h)),
+        Field::Number(u64::from(address.port)),
+        Field::Number(u64::from(address.flow_info)),
+        Field::Number(u64::from(address.scope_id)),
+    ]?;
+    Ok(fields)
+}
+
+/// The word of a code: its name, in lower case and with dashes.
+fn code_word(code: CodeWord) -> &'static str
+    ensures { result.now ≡ code_text code }
+{
+    match code {
+        CodeWord::Unknown => "unknown",
+        CodeWord::AccessDenied => "access-denied",
+        CodeWord::NotSupported => "not-supported",
+        CodeWord::InvalidArgument => "invalid-argument",
+        CodeWord::OutOfMemory => "out-of-memory",
+        CodeWord::Timeout => "timeout",
+        CodeWord::ConcurrencyConflict => "concurrency-conflict",
+        CodeWord::NotInProgress => "not-in-progress",
+        CodeWord::WouldBlock => "would-block",
+        CodeWord::InvalidState => "invalid-state",
+        CodeWord::NewSocketLimit => "new-socket-limit",
+        CodeWord::AddressNotBindable => "address-not-bindable",
+        CodeWord::AddressInUse => "address-in-use",
+        CodeWord::RemoteUnreachable => "remote-unreachable",
+        CodeWord::ConnectionRefused => "connection-refused",
+        CodeWord::ConnectionBroken => "connection-broken",
+        CodeWord::ConnectionReset => "connection-reset",
+        CodeWord::ConnectionAborted => "connection-aborted",
+        CodeWord::DatagramTooLarge => "datagram-too-large",
+        CodeWord::NameUnresolvable => "name-unresolvable",
+        CodeWord::TemporaryResolverFailure => "temporary-resolver-failure",
+        CodeWord::PermanentResolverFailure => "permanent-resolver-failure",
+        CodeWord::Other => "other",
+    }
+}
+
+/// The word of a trap: its name, in lower case and with dashes.
+fn trap_word(kind: TrapKind) -> &'static str
+    ensures { result.now ≡ trap_text kind }
+{
+    match kind {
+        TrapKind::NoSuchHandle => "no-such-handle",
+        TrapKind::HasChildren => "has-children",
+        TrapKind::Full => "full",
+        TrapKind::EmptyList => "empty-list",
+        TrapKind::NotPermitted => "not-permitted",
+        TrapKind::Capacity => "capacity",
+        TrapKind::TooLong => "too-long",
+        TrapKind::StreamsAlive => "streams-alive",
+        TrapKind::Budget => "budget",
+        TrapKind::FlushPending => "flush-pending",
+    }
+}
+
+fn push_field(text: &mut String, field: &Field) -> Result<(), AllocError>
+    ensures { OnOk result (string_bytes text.new ≡ string_bytes text.old ++ field_text field.now) }
+{
+    match field {
+        Field::Number(number) => write!(text, "{number}"),
+        Field::Bytes(bytes) => push_octets(text, bytes.as_slice()),
+        Field::True => text.push_str("true"),
+        Field::False => text.push_str("false"),
+        Field::Absent => text.push_str("none"),
+    }
+}
+
+/// Appends `ok` and the fields.
+fn push_ok(text: &mut String, fields: &[Field]) -> Result<(), AllocError>
+    ensures { OnOk result (string_bytes text.new ≡ string_bytes text.old ++ line_with (codes "ok" ∷ map field_text fields.now)) }
+{
+    text.push_str("ok")?;
+    for field in fields {
+        text.push_str(" ")?;
+        push_field(text, field)?;
+    }
+    Ok(())
+}
+
+/// Appends the reply's line, without its newline.
+fn push_reply(text: &mut String, reply: &Reply) -> Result<(), AllocError>
+    ensures { OnOk result (string_bytes text.new ≡ string_bytes text.old ++ line_with (fields_of_reply reply.now)) }
+{
+    match reply {
+        Reply::Ok(fields) => push_ok(text, fields.as_slice()),
+        Reply::Err(code) => write!(text, "err {code}"),
+        Reply::Closed => text.push_str("closed"),
+        Reply::Failed(code, handle) => write!(text, "failed {code} {handle}"),
+        Reply::Trap(kind) => write!(text, "trap {}", trap_word(*kind)),
+        Reply::Pending(line) => write!(text, "pending {line}"),
+        Reply::Busy => text.push_str("busy"),
+        Reply::NoSuchCall => text.push_str("no-such-call"),
+        Reply::Cancelled => text.push_str("cancelled"),
+        Reply::Dropped => text.push_str("dropped"),
+        Reply::Unfilled => text.push_str("unfilled"),
+    }
+}
+
+/// The text of a reply: its line, with its newline. Takes memory for it.
+#[tactic(auto, unfolding(crate::specs::Replies::text_of))]
+pub fn reply_text(alloc: Global, reply: &Reply) -> Result<Octets, AllocError>
+    ensures { IfOk result (λ text. text ≡ text_of reply.now) }
+{
+    let mut text = String::new(alloc);
+    push_reply(&mut text, reply)?;
+    text.push_str("\n")?;
+    Ok(Octets::from_vec(text.into_bytes()))
+}
+
+/// For one step two different replies have different texts.
+pub fn replies_are_told_apart()
+    ensures { (s : Step) (r q : Reply) → Gives s r → Gives s q → text_of r ≡ text_of q → r ≡ q }
+{}

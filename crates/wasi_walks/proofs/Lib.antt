@@ -1,0 +1,6 @@
+pub mod Lists
+pub mod Gives
+pub mod walks
+pub mod fits
+pub mod claims
+pub mod licence

@@ -1,0 +1,337 @@
+-- The base law: numbers and sides are claimed once, and are of older lines. A side is claimed by the record that was made with it,
+-- and the name of an accept by the record of its listener.
+use Rattle.std.specs.Prelude.{⊤}
+use Rattle.std.proofs.Common.{◌≡◌, ◌⊎◌, inl, inr, ℕ, ◌+◌, ◌≤◌, ◌<◌, List, [], ◌∷◌, ◌++◌, Option, Some, None, Result, Ok, Err, refl, sym, ap, subst, ◌∙◌, slice_get, slice_set, length, arith}
+use Rattle.wasi_addr.specs.declared.address.SocketAddressFamily.{SocketAddressFamily}
+use Rattle.wasi_addr.specs.declared.code.ErrorCode.{ErrorCode}
+use Rattle.wasi_world.specs.declared.outcome.WasiSocketsCtx.{WasiSocketsCtx}
+use Rattle.wasi_world.specs.declared.ids.OpId.{OpId}
+use Rattle.wasi_world.specs.declared.call.Entry.{Entry}
+use Rattle.wasi_world.specs.Asks.{Asks, Give, Ask, AskWrite, bind}
+use Rattle.wasi_world.specs.Operation.{Given, Connection, Operation, End, Waits, Done, Refused, Item, poll_asks}
+use Rattle.wasi_world.specs.Typed.{told_addr, told_done}
+use Rattle.wasi_world.proofs.Allowed.{Allows, allows_then, allows_if, allows_weaker}
+use Rattle.wasi_tcp.specs.Accept.{IsLeftOfAccept}
+use Rattle.wasi_tcp.specs.Accept as accept
+use Rattle.wasi_tcp.specs.declared.listener.Accepting.TheVariants as accepting
+use Rattle.wasi_tcp.specs.declared.socket.TcpState.TheVariants as state
+use Rattle.wasi_tcp.specs.Connecting.{with_state, connect_ended}
+use Rattle.wasi_tcp.specs.Listener.{Listener, HoldsAccept, IsAcceptOn, accept_ended, arrived}
+use Rattle.wasi_tcp.specs.Shape.{Socket}
+use Rattle.wasi_tcp.specs.Socket.{side_in, side_of, after_create, new_asks}
+use Rattle.wasi_tcp.specs.Writer.{turn_asks}
+use Rattle.wasi_host.specs.declared.kind.Kind.TheVariants.{Tcp2}
+use Rattle.wasi_host.specs.declared.listening.Listening.{Listening}
+use Rattle.wasi_host.specs.declared.listening.Listening.TheVariants.{Not, Begins, Accepts}
+use Rattle.wasi_host.specs.declared.socket.Tcp2Socket.{Tcp2Socket}
+use Rattle.wasi_host.specs.Dropping.{gone}
+use Rattle.wasi_host.specs.Kinds.{make_asks}
+use Rattle.wasi_host.specs.Listening.{give_up_asks, with_listening}
+use Rattle.wasi_host.specs.Machine.{own_of, created_asks, create_asks}
+use Rattle.wasi_host.specs.Store.{new_record, with_inner, with_writer, left_of}
+use Rattle.wasi_steps.specs.declared.step.Step.{Step}
+use Rattle.wasi_walks.proofs.walks.OnBase.{both, Above, stand}
+use Rattle.wasi_walks.proofs.licence.State.{name_in, accept_name}
+use Rattle.wasi_walks.proofs.fits.Polls.{Anything}
+use Rattle.wasi_walks.proofs.fits.Records.{FitListening}
+use Rattle.wasi_walks.proofs.Lists.{split_place, get_set, get_split, set_there}
+use Rattle.wasi_walks.proofs.claims.Polls.{Quietly, ArePlain, GivesOwn, own_poll}
+use Rattle.wasi_walks.proofs.walks.Moves.{closed_record, Own, Used, Unused, ToWrite, Here, put, Found, joined, second_of, new_accept, accepting_now, listen_after, beginning_listen, made_so, Held, InHand, Connects, Listens, Awaits, Move, Reaches, Leaves, Spends, Changes, ClosesReader, Writes, IsGone, Reconnects, Opens, BeginsConnect, BeginsBind, BeginsWrite, BeginsListen, BeginsAccept, Unlistens, Forgets, Watches, Joins, StandsListen, StandsDrop, ResumesDrop, Unstands, Stands, Resumes, Ends, Lists, Takes}
+use Rattle.wasi_walks.proofs.walks.Law.{Law, Walks}
+use Rattle.wasi_walks.proofs.fits.Law.{Fit, told_same, whatever, fits, moves_fit, polls_fit, put_fit, created}
+
+-- it was made with this side, or its accept has this name, by which a side will be made
+abbrev pub Claims : OpId → Tcp2Socket → Type 0
+Claims x r = (r.side ≡ Some x) ⊎ (accept_name r.listening ≡ Some x)
+
+-- the names of a line are new until its operation began something
+abbrev pub next_of : ℕ → Own → ℕ
+next_of line Used = line + 1
+next_of line _ = line
+
+pub record Named (line : ℕ) (h : Here) : Type 0 where
+  pub one : (x : OpId) (i k : ℕ) (r q : Tcp2Socket) → Found h i r → Found h k q → Claims x r → Claims x q → i ≡ k
+  pub apart : (x : OpId) (i : ℕ) (r : Tcp2Socket) → Found h i r → r.side ≡ Some x → accept_name r.listening ≡ Some x → ⊥
+  pub older : (x : OpId) (i : ℕ) (r : Tcp2Socket) → Found h i r → Claims x r → x.step < next_of line h.own
+  pub named : (x : OpId) (i : ℕ) (r : Tcp2Socket) → Found h i r → side_of r.inner ≡ Some x → r.side ≡ Some x
+  pub held : (op : Operation) (i : ℕ) (r : Tcp2Socket) → Found h i r → r.listening ≡ Begins op → (r.side ≡ Some op.who.side) × (side_of r.inner ≡ None)
+
+pub no_some : {A : Type 0} (x : A) → None ≡ Some x → ⊥
+no_some x e = absurd (cc)
+
+same_record : (a b : Tcp2Socket) → Some a ≡ Some b → a ≡ b
+same_record a b e = cc
+
+pub same_begun : (a b : Operation) → Begins a ≡ Begins b → a ≡ b
+same_begun a b e = cc
+
+-- no record claims it
+abbrev pub Fresh : Here → OpId → Type 0
+Fresh h x = (i : ℕ) (r : Tcp2Socket) → Found h i r → Claims x r → ⊥
+
+-- How a record may change: what it claims it claimed, or it is fresh.
+pub record KeepsNames (h : Here) (bound : ℕ) (r now : Tcp2Socket) : Type 0 where
+  pub side : now.side ≡ r.side
+  pub accepts : (x : OpId) → accept_name now.listening ≡ Some x → (accept_name r.listening ≡ Some x) ⊎ ((x.step < bound) × Fresh h x)
+  pub named : (x : OpId) → side_of now.inner ≡ Some x → now.side ≡ Some x
+  pub held : (op : Operation) → now.listening ≡ Begins op → (now.side ≡ Some op.who.side) × (side_of now.inner ≡ None)
+
+module _ (line : ℕ) where
+  -- a record changes
+  module _ (h : Here) (place : ℕ) (r now : Tcp2Socket) (g : Found h place r) (bound : ℕ) (k : KeepsNames h bound r now) (n : Named line h) where
+    claimed : (x : OpId) → Claims x now → Claims x r ⊎ ((x.step < bound) × Fresh h x)
+    claimed x (inl e) = inl (inl (sym k.side ∙ e))
+    claimed x (inr e) = elim (k.accepts x e) [ inl p ↦ inl (inr p) | inr p ↦ inr p ]
+
+    -- a record that claims it, among those with this one
+    at_most : (x : OpId) (i : ℕ) (q : Tcp2Socket) → Found h i q → Claims x q → Claims x now → i ≡ place
+    at_most x i q e c d = elim (claimed x d) [ inl p ↦ n.one x i place q r e g c p | inr p ↦ absurd (p.1 i q e c) ]
+
+    one_put : (x : OpId) (i j : ℕ) (a b : Tcp2Socket) → Found (put h place now) i a → Found (put h place now) j b → Claims x a → Claims x b → i ≡ j
+    one_put x i j a b e f c d = elim (get_set h.machine.store.sockets place now i a e) [
+      | inl p ↦ elim (get_set h.machine.store.sockets place now j b f) [ inl q ↦ p.0 ∙ sym q.0 | inr q ↦ p.0 ∙ sym (at_most x j b q d (subst (Claims x) (sym p.1) c)) ]
+      | inr p ↦ elim (get_set h.machine.store.sockets place now j b f) [ inl q ↦ at_most x i a p c (subst (Claims x) (sym q.1) d) ∙ sym q.0 | inr q ↦ n.one x i j a b p q c d ]
+    ]
+
+    apart_now : (x : OpId) → now.side ≡ Some x → accept_name now.listening ≡ Some x → ⊥
+    apart_now x s e = elim (k.accepts x e) [ inl p ↦ n.apart x place r g (sym k.side ∙ s) p | inr p ↦ p.1 place r g (inl (sym k.side ∙ s)) ]
+
+    pub put_by : (own : Own) → next_of line h.own ≤ next_of line own → bound ≤ next_of line own → Named line (record (put h place now) { own = own })
+    put_by own l b = record {
+      one = one_put;
+      apart = λ x i q e s a. elim (get_set h.machine.store.sockets place now i q e) [ inl p ↦ apart_now x (ap (λ (y : Tcp2Socket). y.side) p.1 ∙ s) (ap (λ (y : Tcp2Socket). accept_name y.listening) p.1 ∙ a) | inr p ↦ n.apart x i q p s a ];
+      older = λ x i q e c. elim (get_set h.machine.store.sockets place now i q e) [
+        | inl p ↦ elim (claimed x (subst (Claims x) (sym p.1) c)) [ inl d ↦ (let o = n.older x place r g d in omega (arith, o, l)) | inr d ↦ (let o = d.0 in omega (arith, o, b)) ]
+        | inr p ↦ (let o = n.older x i q p c in omega (arith, o, l))
+      ];
+      named = λ x i q e s. elim (get_set h.machine.store.sockets place now i q e) [ inl p ↦ subst (λ (y : Tcp2Socket). y.side ≡ Some x) p.1 (k.named x (ap (λ (y : Tcp2Socket). side_of y.inner) p.1 ∙ s)) | inr p ↦ n.named x i q p s ];
+      held = λ op i q e s. elim (get_set h.machine.store.sockets place now i q e) [
+        | inl p ↦ subst (λ (y : Tcp2Socket). (y.side ≡ Some op.who.side) × (side_of y.inner ≡ None)) p.1 (k.held op (ap (λ (y : Tcp2Socket). y.listening) p.1 ∙ s))
+        | inr p ↦ n.held op i q p s
+      ];
+    }
+
+  pub put_named : (h : Here) (place : ℕ) (r now : Tcp2Socket) → Found h place r → KeepsNames h 0 r now → Named line h → Named line (put h place now)
+  put_named h place r now g k n = put_by h place r now g 0 k n h.own (omega arith) (omega arith)
+
+  -- a record more, whose side is fresh
+  pub push_named : (h : Here) (now : Tcp2Socket) (own : Own) → accept_name now.listening ≡ None → ((x : OpId) → now.side ≡ Some x → (x.step < next_of line own) × Fresh h x) → ((x : OpId) → side_of now.inner ≡ Some x → now.side ≡ Some x) → ((op : Operation) → now.listening ≡ Begins op → ⊥) → next_of line h.own ≤ next_of line own
+      → Named line h → Named line (record h { machine = record h.machine { store = record h.machine.store { sockets = h.machine.store.sockets ++ now ∷ [] } }; own = own })
+  push_named h now own none fresh named held l n = record {
+    one = one;
+    apart = λ x i q e s a. elim (get_split h.machine.store.sockets now i q e) [ inl p ↦ n.apart x i q p s a | inr p ↦ no_some x (sym none ∙ (ap (λ (y : Tcp2Socket). accept_name y.listening) p ∙ a)) ];
+    older = λ x i q e c. elim (get_split h.machine.store.sockets now i q e) [ inl p ↦ (let o = n.older x i q p c in omega (arith, o, l)) | inr p ↦ (fresh x (its x q p c)).0 ];
+    named = λ x i q e s. elim (get_split h.machine.store.sockets now i q e) [ inl p ↦ n.named x i q p s | inr p ↦ subst (λ (y : Tcp2Socket). y.side ≡ Some x) p (named x (ap (λ (y : Tcp2Socket). side_of y.inner) p ∙ s)) ];
+    held = λ op i q e s. elim (get_split h.machine.store.sockets now i q e) [ inl p ↦ n.held op i q p s | inr p ↦ absurd (held op (ap (λ (y : Tcp2Socket). y.listening) p ∙ s)) ];
+  }
+    where
+      its : (x : OpId) (q : Tcp2Socket) → now ≡ q → Claims x q → now.side ≡ Some x
+      its x q p (inl e) = ap (λ (y : Tcp2Socket). y.side) p ∙ e
+      its x q p (inr e) = absurd (no_some x (sym none ∙ (ap (λ (y : Tcp2Socket). accept_name y.listening) p ∙ e)))
+
+      one : (x : OpId) (i k : ℕ) (a b : Tcp2Socket) → slice_get (h.machine.store.sockets ++ now ∷ []) i ≡ Some a → slice_get (h.machine.store.sockets ++ now ∷ []) k ≡ Some b → Claims x a → Claims x b → i ≡ k
+      one x i k a b e f c d = elim (split_place h.machine.store.sockets now i a e) [
+        | inl p ↦ elim (split_place h.machine.store.sockets now k b f) [ inl q ↦ n.one x i k a b p q c d | inr q ↦ absurd ((fresh x (its x b q.1 d)).1 i a p c) ]
+        | inr p ↦ elim (split_place h.machine.store.sockets now k b f) [ inl q ↦ absurd ((fresh x (its x a p.1 c)).1 k b q d) | inr q ↦ p.0 ∙ sym q.0 ]
+      ]
+
+none_of : {A : Type 0} (o : Option A) → ((x : A) → o ≡ Some x → ⊥) → o ≡ None
+none_of None k = refl
+none_of (Some x) k = absurd (k x refl)
+
+ended_sides : (op : Operation) (end : End × List Item) (x : OpId) → side_in (connect_ended op.who end).1 ≡ Some x → Some op.who.side ≡ Some x
+ended_sides op (Waits, items) x e = e
+ended_sides op (Done given, items) x e = e
+ended_sides op (Refused c given, items) x e = absurd (cc)
+
+pub accept_plain : (items : List Item) → IsLeftOfAccept items → ArePlain items
+accept_plain _ accept.Unarrived = (tt, tt)
+accept_plain _ (accept.Arrived peer) = (tt, tt)
+accept_plain _ (accept.Admitted peer) = (tt, tt)
+accept_plain _ (accept.Unwanted peer) = (tt, tt)
+accept_plain _ accept.Ended = tt
+
+given_name : (op : OpId) (given : Given) → GivesOwn op (Done given) → (x : OpId) → name_in (arrived given) ≡ Some x → Some op ≡ Some x
+given_name op (Connection new peer) k x e = ap (λ (o : OpId). Some o) (sym k) ∙ e
+given_name op _ k x e = absurd (cc)
+
+ended_name : (op : Operation) (end : End × List Item) → GivesOwn op.who.id end.0 → (x : OpId) → name_in (accept_ended op.who end) ≡ Some x → Some op.who.id ≡ Some x
+ended_name op (Waits, items) k x e = e
+ended_name op (Done given, items) k x e = given_name op.who.id given k x e
+ended_name op (Refused c given, items) k x e = absurd (cc)
+
+any_quiet : {A : Type 0} (Q : A → Type 0) (es : List Entry) (asks : Asks A) → Allows Quietly (λ fs a. Q a) es asks → Allows Anything (λ fs a. Q a) es asks
+any_quiet Q es (Give a) h = h
+any_quiet Q es (Ask op c next) h = (tt, λ told f. any_quiet Q _ (next told) (h.1 told f))
+any_quiet Q es (AskWrite op sock bytes next) h = (tt, λ told f g. any_quiet Q _ (next told) (h.1 told f g))
+
+module _ (contexts : List WasiSocketsCtx) (line : ℕ) (origin : Step) where
+  -- the socket changes
+  inner_names : (h : Here) (place : ℕ) (r now : Tcp2Socket) → Found h place r → now.side ≡ r.side → now.listening ≡ r.listening → ((x : OpId) → side_of now.inner ≡ Some x → side_of r.inner ≡ Some x) → Named line h → KeepsNames h 0 r now
+  inner_names h place r now g s l k n = record {
+    side = s;
+    accepts = λ x e. inl (ap accept_name (sym l) ∙ e);
+    named = λ x e. s ∙ n.named x place r g (k x e);
+    held = λ op e. let d = n.held op place r g (sym l ∙ e) in (s ∙ d.0, none_of (side_of now.inner) (λ x e. no_some x (sym d.1 ∙ k x e)));
+  }
+
+  put_inner : (h : Here) (place : ℕ) (r now : Tcp2Socket) → Found h place r → now.side ≡ r.side → now.listening ≡ r.listening → ((x : OpId) → side_of now.inner ≡ Some x → side_of r.inner ≡ Some x) → Named line h → Named line (put h place now)
+  put_inner h place r now g s l k n = put_named line h place r now g (inner_names h place r now g s l k n) n
+
+  -- the listening changes, and none begins
+  listening_names : (h : Here) (place : ℕ) (r : Tcp2Socket) (l : Listening) → Found h place r → ((x : OpId) → accept_name l ≡ Some x → accept_name r.listening ≡ Some x) → ((op : Operation) → l ≡ Begins op → ⊥) → Named line h → KeepsNames h 0 r (record r { listening = l })
+  listening_names h place r l g k none n = record { side = refl; accepts = λ x e. inl (k x e); named = λ x e. n.named x place r g e; held = λ op e. absurd (none op e) }
+
+  spends_named : (h : Here) → Named line h → next_of line h.own ≤ line + 1 → Named line (record h { own = Used })
+  spends_named h n l = record { one = n.one; apart = n.apart; older = λ x i r g c. let o = n.older x i r g c in omega (arith, o, l); named = n.named; held = n.held }
+
+  by_line : (own : Own) → next_of line own ≤ line + 1
+  by_line Used = omega arith
+  by_line Unused = omega arith
+  by_line (ToWrite side bytes) = omega arith
+
+  put_spent : (h : Here) (place : ℕ) (r now : Tcp2Socket) → Found h place r → now.side ≡ r.side → now.listening ≡ r.listening → ((x : OpId) → side_of now.inner ≡ Some x → side_of r.inner ≡ Some x) → Named line h → Named line (record (put h place now) { own = Used })
+  put_spent h place r now g s l k n = spends_named (put h place now) (put_inner h place r now g s l k n) (by_line h.own)
+
+  -- a name of the line is fresh
+  pub fresh : (h : Here) → h.own ≡ Unused → Named line h → (x : OpId) → x.step ≡ line → Fresh h x
+  fresh h u n x e i r g c = let o = n.older x i r g c in let z : next_of line h.own ≡ line = ap (next_of line) u in absurd (omega (arith, o, z, e))
+
+  -- the name of an accept is claimed by no record, once its record has it no more
+  pub taken_fresh : (h : Here) (place : ℕ) (r now : Tcp2Socket) (new : OpId) → Found h place r → accept_name r.listening ≡ Some new → now.side ≡ r.side → accept_name now.listening ≡ None → Named line h → Fresh (put h place now) new
+  taken_fresh h place r now new g a s none n i q e c = elim (get_set h.machine.store.sockets place now i q e) [
+    | inl p ↦ idle (subst (Claims new) (sym p.1) c)
+    | inr p ↦ (
+        let here : i ≡ place = n.one new i place q r p g c (inr a) in
+        let there : Found (put h place now) i now = ap (slice_get (slice_set h.machine.store.sockets place now)) here ∙ set_there h.machine.store.sockets place r now g in
+        idle (subst (Claims new) (sym (same_record now q (sym there ∙ e))) c))
+  ]
+    where
+      idle : Claims new now → ⊥
+      idle (inl t) = n.apart new place r g (sym s ∙ t) a
+      idle (inr t) = no_some new (sym none ∙ t)
+
+  pub moves_named : (h now : Here) → Move line origin h now → Named line h → Named line now
+  moves_named _ _ (Reaches h handle place k e) n = record { one = n.one; apart = n.apart; older = n.older; named = n.named; held = n.held }
+  moves_named _ _ (Leaves h) n = record { one = n.one; apart = n.apart; older = n.older; named = n.named; held = n.held }
+  moves_named _ _ (Spends h e) n = spends_named h n (by_line h.own)
+  moves_named _ _ (Changes h place r now g p) n = put_inner h place r now g p.side p.listening (λ x e. sym (ap side_in p.does) ∙ e) n
+  moves_named _ _ (ClosesReader h place r s g e) n = put_inner h place r _ g refl refl (λ x e. e) n
+  moves_named _ _ (Writes h place r s w g e m) n = put_inner h place r _ g refl refl (λ x e. e) n
+  moves_named _ _ (IsGone h place r g e) n = put_named line h place r (gone r r.inner) g (record { side = refl; accepts = λ x p. absurd (cc); named = λ x p. n.named x place r g p; held = λ op p. absurd (cc) }) n
+  moves_named _ _ (Reconnects h place r c now g e s t u) n = put_inner h place r _ g refl refl (λ x p. ap side_in e ∙ (ap (λ (y : OpId). Some y) (sym s) ∙ p)) n
+  moves_named _ _ (Opens h place r c g e k) n = put_inner h place r _ g refl refl (λ x p. ap side_in e ∙ p) n
+  moves_named _ _ (BeginsConnect h place r side a bound at g d to known own) n = put_spent h place r _ g refl refl (λ x p. ap side_in d ∙ p) n
+  moves_named _ _ (BeginsBind h place r side a at g d to own) n = let k = spends_named h n (by_line h.own) in record { one = k.one; apart = k.apart; older = k.older; named = k.named; held = k.held }
+  moves_named _ _ (BeginsWrite h place r s half permit bytes at g e w within own) n = put_spent h place r _ g refl refl (λ x p. p) n
+  moves_named _ _ (BeginsListen h place r side at g d bound none to own) n =
+      let now = beginning_listen (own_of line) side r in
+      spends_named (put h place now) (put_named line h place r now g (record { side = refl; accepts = λ x e. absurd (cc); named = λ x e. absurd (cc); held = λ op e. (let s = n.named side place r g (ap side_in d) in let p : Begins _ ≡ Begins op = e in (its side op r e s, refl)) }) n) (by_line h.own)
+    where
+      its : (side : OpId) (op : Operation) (r : Tcp2Socket) → (beginning_listen (own_of line) side r).listening ≡ Begins op → r.side ≡ Some side → r.side ≡ Some op.who.side
+      its side op r e s = s ∙ ap (λ (o : Operation). Some o.who.side) (same_begun _ op e)
+  moves_named _ _ (BeginsAccept h place r l at g e a own) n =
+      put_by line h place r (accepting_now r l (new_accept line l)) g (line + 1) (record { side = refl; accepts = λ x p. (let s = its x p in inr (omega (arith, s), fresh h own n x s)); named = λ x p. n.named x place r g p; held = λ op p. absurd (cc) }) n Used (by_line h.own) (omega arith)
+    where
+      its : (x : OpId) → Some (second_of line) ≡ Some x → x.step ≡ line
+      its x p = let q : second_of line ≡ x = cc in ap (λ (o : OpId). o.step) (sym q)
+  moves_named _ _ (Unlistens h place r op g e c o) n = put_named line h place r _ g (listening_names h place r Not g (λ x p. absurd (cc)) (λ op p. absurd (cc)) n) n
+  moves_named _ _ (Forgets h place r l c g e a) n = put_named line h place r _ g (listening_names h place r _ g (λ x p. absurd (cc)) (λ op p. absurd (cc)) n) n
+  moves_named _ _ (Watches h o) n = record { one = n.one; apart = n.apart; older = n.older; named = n.named; held = n.held }
+  moves_named _ _ (Joins h c handle place r l new peer is of u g e a) n =
+      let mid = put h place (accepting_now r l accepting.Idle) in
+      let k = put_named line h place r (accepting_now r l accepting.Idle) g (listening_names h place r _ g (λ x p. absurd (cc)) (λ op p. absurd (cc)) n) n in
+      let name : accept_name r.listening ≡ Some new = ap accept_name e ∙ ap name_in a in
+      let j = push_named line mid (joined l new peer) h.own refl (λ x p. (let s : new ≡ x = cc in subst (λ (y : OpId). (y.step < next_of line h.own) × Fresh mid y) s (n.older new place r g (inr name), taken_fresh h place r (accepting_now r l accepting.Idle) new g name refl refl n))) (λ x p. p) (λ op p. absurd (cc)) (omega arith) k in
+      record { one = j.one; apart = j.apart; older = j.older; named = j.named; held = j.held }
+  moves_named _ _ (StandsListen h k place r f) n = record { one = n.one; apart = n.apart; older = n.older; named = n.named; held = n.held }
+  moves_named _ _ (StandsDrop h k place r at g) n = record { one = n.one; apart = n.apart; older = n.older; named = n.named; held = n.held }
+  moves_named _ _ (ResumesDrop h k place e) n = record { one = n.one; apart = n.apart; older = n.older; named = n.named; held = n.held }
+  moves_named _ _ (Unstands h) n = record { one = n.one; apart = n.apart; older = n.older; named = n.named; held = n.held }
+  moves_named _ _ (Stands h k place r op f e) n = record { one = n.one; apart = n.apart; older = n.older; named = n.named; held = n.held }
+  moves_named _ _ (Resumes h k place op e) n = record { one = n.one; apart = n.apart; older = n.older; named = n.named; held = n.held }
+  moves_named _ _ (Ends h) n = record { one = n.one; apart = n.apart; older = n.older; named = n.named; held = n.held }
+  moves_named _ _ (Lists h jobs) n = record { one = n.one; apart = n.apart; older = n.older; named = n.named; held = n.held }
+  moves_named _ _ (Takes h handle) n = record { one = n.one; apart = n.apart; older = n.older; named = n.named; held = n.held }
+
+  -- the record that a listen leaves
+  listened_names : (h : Here) (place : ℕ) (r : Tcp2Socket) (op : Operation) (end : End × List Item) → Found h place r → r.listening ≡ Begins op → Named line h → KeepsNames h 0 r (listen_after op r end)
+  listened_names h place r op (Waits, items) g e n = record { side = refl; accepts = λ x p. absurd (cc); named = λ x p. n.named x place r g p; held = λ o p. (let d = n.held op place r g e in (let q : op.who.side ≡ o.who.side = cc in d.0 ∙ ap (λ (y : OpId). Some y) q, d.1)) }
+  listened_names h place r op (Done given, items) g e n = record { side = refl; accepts = λ x p. absurd (cc); named = λ x p. (n.held op place r g e).0 ∙ p; held = λ o p. absurd (cc) }
+  listened_names h place r op (Refused c given, items) g e n = record { side = refl; accepts = λ x p. absurd (cc); named = λ x p. n.named x place r g p; held = λ o p. absurd (cc) }
+
+  awaited_names : (h : Here) (place : ℕ) (r : Tcp2Socket) (l : Listener) (op : Operation) (end : End × List Item) → Found h place r → r.listening ≡ Accepts l → l.accept ≡ accepting.Asking op → GivesOwn op.who.id end.0 → Named line h → Named line (put h place (accepting_now r l (accept_ended op.who end)))
+  awaited_names h place r l op end g e a k n = put_named line h place r _ g (listening_names h place r _ g (λ x p. ap accept_name e ∙ (ap name_in a ∙ ended_name op end k x p)) (λ o p. absurd (cc)) n) n
+
+  -- == the law
+  abbrev pub Base : Here → Type 0
+  Base h = Fit h × Named line h
+
+  names_polled : (es : List Entry) (h : Here) (op : Operation) (after : End × List Item → Here) → Held h op after → Base h → Allows Anything (λ fs ended. Named line (after ended)) es (poll_asks op)
+  names_polled es h _ _ (InHand op e) n = whatever (λ ended. Named line (record h { hand = Some (left_of op ended.1) })) (λ ended. let k = n.1 in record { one = k.one; apart = k.apart; older = k.older; named = k.named; held = k.held }) es _
+  names_polled es h _ _ (Connects place r op q g e) n =
+      whatever (λ ended. Named line (put h place (with_inner r (with_state r.inner (connect_ended op.who ended).1)))) (λ ended. put_inner h place r _ g refl refl (λ x p. ap side_in e ∙ ended_sides op ended x p) n.1) es _
+  names_polled es h _ _ (Listens place r op q g e c) n = whatever (λ ended. Named line (put h place (listen_after op r ended))) (λ ended. put_named line h place r _ g (listened_names h place r op ended g e n.1) n.1) es _
+  names_polled es h _ _ (Awaits place r l op g e a) n =
+      let its : IsAcceptOn l.side l.maker op = subst (HoldsAccept l.side l.maker) a (subst FitListening e (n.0.records place r g).1) in
+      allows_weaker Anything (λ fs ended. ArePlain ended.1 × GivesOwn op.who.id ended.0) (λ fs ended. Named line (put h place (accepting_now r l (accept_ended op.who ended)))) (λ fs ended k. awaited_names h place r l op ended g e a k.1 n.1) es (poll_asks op)
+      (any_quiet (λ ended. ArePlain ended.1 × GivesOwn op.who.id ended.0) es (poll_asks op) (own_poll op es (accept_plain op.left its.accept.left)))
+
+  -- a socket that is created has the line's own name
+  abbrev MadeNamed : Result Socket ErrorCode → Type 0
+  MadeNamed (Ok socket) = socket.state ≡ state.Default (own_of line)
+  MadeNamed (Err c) = ⊤
+
+  made_named : (es : List Entry) (ctx : WasiSocketsCtx) (family : SocketAddressFamily) → Allows Anything (λ fs made. MadeNamed made) es (new_asks (own_of line) ctx family)
+  unfolding bind
+  made_named es ctx family = allows_if Anything (λ fs made. MadeNamed made) es ctx.tcp _ _ (λ tcp. (tt, λ t f. by_told (told_done t))) (λ other. tt)
+    where
+      by_told : (r : Result (Unit {0}) ErrorCode) → MadeNamed (after_create (own_of line) ctx.name family r)
+      by_told (Ok done) = refl
+      by_told (Err c) = tt
+
+  created_named : (es : List Entry) (h : Here) (ctx : WasiSocketsCtx) (family : SocketAddressFamily) → h.own ≡ Unused → Named line h → Allows Anything (λ fs done. Named line (record h { machine = done.1; own = Used })) es (create_asks h.machine (own_of line) ctx family)
+  created_named es h ctx family u n = allows_then Anything (λ fs made. MadeNamed made) (λ fs done. Named line (record h { machine = done.1; own = Used })) es (new_asks (own_of line) ctx family) (created_asks h.machine (own_of line)) (made_named es ctx family) (λ fs made k. joins fs made k)
+    where
+      same : (socket : Socket) (x : OpId) → socket.state ≡ state.Default (own_of line) → side_of socket ≡ Some x → own_of line ≡ x
+      same socket x k p = let q : Some (own_of line) ≡ Some x = ap side_in (sym k) ∙ p in cc
+
+      joins : (fs : List Entry) (made : Result Socket ErrorCode) → MadeNamed made → Allows Anything (λ fs done. Named line (record h { machine = done.1; own = Used })) fs (created_asks h.machine (own_of line) made)
+      joins fs (Err c) k = spends_named h n (by_line h.own)
+      joins fs (Ok socket) k =
+          allows_then Anything (λ fs made. ⊤) (λ fs done. Named line (record h { machine = done.1; own = Used })) fs (make_asks h.machine.table (own_of line) (Tcp2 (length h.machine.store.sockets)) None (side_of socket)) _ (whatever (λ made. ⊤) (λ made. tt) fs _)
+          (λ gs made t. let j = push_named line h (new_record socket) Used refl (λ x p. (let s : own_of line ≡ x = same socket x k p in let z : x.step ≡ line = ap (λ (o : OpId). o.step) (sym s) in (omega (arith, z), fresh h u n x z))) (λ x p. p) (λ op p. absurd (cc)) (by_line h.own) n in
+          record { one = j.one; apart = j.apart; older = j.older; named = j.named; held = j.held })
+
+  -- this and that the records fit, of which it takes that an accept is one
+  pub names : Law contexts line origin
+  unfolding fits
+  names =
+      let f = fits contexts line origin in
+      record {
+        P = Anything;
+        Inv = λ es h. Base h;
+        moves = λ es h now m i. (moves_fit contexts line origin h now m i.0, moves_named h now m i.1);
+        asks = λ es h place n r side c at g o q i. (tt, λ told k. i);
+        sets = λ es h place r side b at g s is i. (tt, λ told k. i);
+        learns = λ es h place r side at g e i. (tt, λ told k. ((f.learns es h place r side at g e i.0).1 told k, put_inner h place r _ g refl refl (λ x p. sym (ap side_in (told_same r.inner (told_addr told))) ∙ p) i.1));
+        closes = λ es h place r side q g e i. (tt, λ told k. ((f.closes es h place r side q g e i.0).1 told k, put_named line h place r (closed_record r) g (record { side = refl; accepts = λ x p. absurd (cc); named = λ x p. absurd (cc); held = λ op p. absurd (cc) }) i.1));
+        marks = λ es h kind parent sock m i. whatever (λ made. Base (record h { machine = record h.machine { table = made.1 } })) (λ made. let k = i.1 in (record { records = i.0.records; stands = i.0.stands; hand = i.0.hand }, record { one = k.one; apart = k.apart; older = k.older; named = k.named; held = k.held })) es _;
+        creates = λ es h ctx family c a o m i. both Anything Anything (λ fs done. Named line (record h { machine = done.1; own = Used })) (λ fs done. Fit (record h { machine = done.1; own = Used })) es _ (created_named es h ctx family o i.1) (created contexts line origin es h (own_of line) ctx family i.0);
+        accepted = λ es h c s place r is e o g i. whatever (λ made. Base (record h { machine = record h.machine { table = made.1 }; made = made_so place made.0 })) (λ made. let k = i.1 in (record { records = i.0.records; stands = i.0.stands; hand = i.0.hand }, record { one = k.one; apart = k.apart; older = k.older; named = k.named; held = k.held })) es _;
+        polls = λ es h op after k i. both Anything Anything (λ fs ended. Named line (after ended)) (λ fs ended. Fit (after ended)) es _ (names_polled es h op after k i) (polls_fit contexts line origin es h op after k i.0);
+        turns = λ es h place r s g e i. whatever (λ done. Base (put h place (with_writer r s done.1))) (λ done. (put_fit h place _ (i.0.records place r g) i.0, put_inner h place r _ g refl refl (λ x p. p) i.1)) es (turn_asks s.writer);
+        gives_up = λ es h place r q g i.
+            whatever (λ done. Base (put h place (with_listening r Not)))
+            (λ done. (put_fit h place _ ((i.0.records place r g).0, tt) i.0, put_named line h place r (with_listening r Not) g (listening_names h place r Not g (λ x p. absurd (cc)) (λ op p. absurd (cc)) i.1) i.1)) es (give_up_asks r.listening);
+      }
+
+  -- the laws that stand on it
+  pub on_names : Above contexts line origin (λ es h. Base h) → Law contexts line origin
+  unfolding names
+  on_names a = stand names a
+
+  -- what such a law says of a tree
+  pub on_along : (a : Above contexts line origin (λ es h. Base h)) {A : Type 0} {h : Here} {end : A → Here} {asks : Asks A} → Walks (on_names a) h end asks → (es : List Entry) → Base h → a.Inv es h → Allows a.P (λ fs x. Base (end x) × a.Inv fs (end x)) es asks
+  unfolding on_names names stand
+  on_along a w es b i = w.along es (b, i)

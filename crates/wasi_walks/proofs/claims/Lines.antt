@@ -1,0 +1,36 @@
+-- The base law between the lines.
+use Rattle.std.proofs.Common.{ℕ, ◌+◌, List, arith}
+use Rattle.wasi_world.specs.declared.outcome.WasiSocketsCtx.{WasiSocketsCtx}
+use Rattle.wasi_host.specs.declared.machine.Machine.{Machine}
+use Rattle.wasi_host.specs.Machine.{first_state}
+use Rattle.wasi_steps.specs.declared.step.Step.{Step}
+use Rattle.wasi_walks.proofs.walks.Moves.{Own, Used, Unused, ToWrite}
+use Rattle.wasi_walks.proofs.walks.States.{Starts, Over}
+use Rattle.wasi_walks.proofs.fits.Law.{Fit}
+use Rattle.wasi_walks.proofs.fits.Lines.{first_fit, starts_fit}
+use Rattle.wasi_walks.proofs.claims.Law.{Named, Base}
+
+-- Before the line of this number.
+pub record BaseBetween (line : ℕ) (m : Machine) : Type 0 where
+  pub fit : Fit (Over m)
+  pub named : Named line (Starts m Unused)
+
+pub first_base : BaseBetween 1 first_state
+first_base = record {
+  fit = first_fit;
+  named = record { one = λ x i k r q e. absurd (cc); apart = λ x i r e. absurd (cc); older = λ x i r e. absurd (cc); named = λ x i r e. absurd (cc); held = λ op i r e. absurd (cc) };
+}
+
+starts_named : (line : ℕ) (m : Machine) (own : Own) → Named line (Starts m Unused) → Named line (Starts m own)
+starts_named line m Used n = record { one = n.one; apart = n.apart; older = λ x i r g c. let k = n.older x i r g c in omega (arith, k); named = n.named; held = n.held }
+starts_named line m Unused n = record { one = n.one; apart = n.apart; older = n.older; named = n.named; held = n.held }
+starts_named line m (ToWrite at bytes) n = record { one = n.one; apart = n.apart; older = n.older; named = n.named; held = n.held }
+
+module _ (contexts : List WasiSocketsCtx) (line : ℕ) (origin : Step) (m : Machine) where
+  -- the line begins
+  pub base_starts : (own : Own) → BaseBetween line m → Base contexts line origin (Starts m own)
+  base_starts own b = (starts_fit m own b.fit, starts_named line m own b.named)
+
+  -- and is over
+  pub base_over : Base contexts line origin (Over m) → BaseBetween (line + 1) m
+  base_over b = let n = b.1 in record { fit = b.0; named = record { one = n.one; apart = n.apart; older = λ x i r g c. (let k = n.older x i r g c in omega (arith, k)); named = n.named; held = n.held } }

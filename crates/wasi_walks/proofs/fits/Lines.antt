@@ -1,0 +1,12 @@
+-- Between the lines each record fits.
+use Rattle.wasi_host.specs.declared.machine.Machine.{Machine}
+use Rattle.wasi_host.specs.Machine.{first_state}
+use Rattle.wasi_walks.proofs.walks.Moves.{Own}
+use Rattle.wasi_walks.proofs.walks.States.{Starts, Over}
+use Rattle.wasi_walks.proofs.fits.Law.{Fit}
+
+pub first_fit : Fit (Over first_state)
+first_fit = record { records = λ place r e. absurd (cc); stands = λ c e. absurd (cc); hand = λ op e. absurd (cc) }
+
+pub starts_fit : (m : Machine) (own : Own) → Fit (Over m) → Fit (Starts m own)
+starts_fit m own f = record { records = f.records; stands = f.stands; hand = λ op e. absurd (cc) }

@@ -1,0 +1,5 @@
+use Rattle.wasi_walks.proofs.licence.Beginnings.{longer_script}
+use Rattle.wasi_walks.proofs.laws.longer_scripts_license.Goals as goal
+
+pub returns : goal.returns
+returns c = longer_script

@@ -1,0 +1,133 @@
+-- What a line asks by its own operation is licensed, and what it is told fits.
+use Rattle.std.proofs.Common.{◌≡◌, inl, ℕ, List, [], ◌∷◌, ◌++◌, Some, refl, sym, ap, subst, ◌∙◌, slice_get}
+use Rattle.wasi_world.specs.declared.ids.OpId.{OpId}
+use Rattle.wasi_world.specs.declared.call.Call.{Call}
+use Rattle.wasi_world.specs.declared.call.Call.TheVariants as call
+use Rattle.wasi_world.specs.declared.call.Told.{Told}
+use Rattle.wasi_world.specs.declared.call.Entry.{Entry}
+use Rattle.wasi_world.specs.declared.outcome.WasiSocketsCtx.{WasiSocketsCtx}
+use Rattle.wasi_world.specs.Operation.{Operation, End, Waits, Done, Refused}
+use Rattle.wasi_world.specs.Fits.{IsAddr}
+use Rattle.wasi_world.specs.Typed.{told_addr}
+use Rattle.wasi_tcp.specs.declared.socket.TcpState.TheVariants as state
+use Rattle.wasi_tcp.specs.declared.writer.WriteState.{WriteState}
+use Rattle.wasi_tcp.specs.declared.writer.WriteState.TheVariants as writing
+use Rattle.wasi_tcp.specs.Socket.{side_in, side_of, after_local}
+use Rattle.wasi_tcp.specs.Writer.{writing_side, closing_side, writer_side}
+use Rattle.wasi_host.specs.declared.listening.Listening.TheVariants.{Begins}
+use Rattle.wasi_host.specs.declared.socket.Tcp2Socket.{Tcp2Socket}
+use Rattle.wasi_host.specs.Machine.{own_of}
+use Rattle.wasi_host.specs.Store.{with_inner}
+use Rattle.wasi_steps.specs.declared.step.Step.{Step}
+use Rattle.wasi_walks.specs.Licence.{entry, step_at, MayAsk, marked_by, MarksNoSocket}
+use Rattle.wasi_walks.proofs.licence.NewNames.{made_more}
+use Rattle.wasi_walks.proofs.licence.Locals.{listen_unless}
+use Rattle.wasi_walks.proofs.claims.Law.{Named, no_some}
+use Rattle.wasi_walks.proofs.walks.Moves.{Unused, Here, put, Found, IsQuestionOf, IsOn, OfSocket, OfReader, OfWriter, second_of}
+use Rattle.wasi_walks.proofs.Lists.{has_last, has_front}
+use Rattle.wasi_walks.proofs.licence.State.{ReadsOn, Names, WritesOn, RecordIsFine}
+use Rattle.wasi_walks.proofs.licence.AcceptFrames.{Touches, Spared, same_listening, unmarked_unless, handed_more}
+use Rattle.wasi_walks.proofs.licence.Frames.{NoMark, same_record, names_on, bind_more, record_kept, state_spared, maker_more, side_more, no_touch}
+use Rattle.wasi_walks.proofs.licence.Bounds.{learned_told, NoLocal}
+use Rattle.wasi_walks.proofs.licence.Line.{some_same, local_side, calm, ListenGoesOn, JoinedIsFine, Licensed, put_fine}
+use Rattle.wasi_walks.proofs.licence.Moves.{held_side, same_listen}
+
+module _ (contexts : List WasiSocketsCtx) (steps : List Step) (line : ℕ) (origin : Step) (is_line : step_at steps line ≡ Some origin) where
+  -- == asks
+  -- no listen that goes on is on a side whose local address is asked for
+  abbrev pub Spares : Here → Call → Type 0
+  Spares h c = (k : ℕ) (q : Tcp2Socket) (op : Operation) → Found h k q → q.listening ≡ Begins op → c ≡ call.Local op.who.side → ⊥
+
+  pub spares : (h : Here) (c : Call) → NoLocal c → Spares h c
+  spares h c n k q op g e p = subst NoLocal p n
+
+  pub listens_on : (es : List Entry) (h : Here) (op : OpId) (c : Call) (told : Told) → Spares h c → Licensed steps line origin es h → (k : ℕ) (q : Tcp2Socket) (o : Operation) → Found h k q → q.listening ≡ Begins o → ListenGoesOn steps (es ++ entry op c told ∷ []) q o
+  listens_on es h op c told n i k q o g e = let l = i.listens k q o g e in record { fine = listen_unless steps es op c told o (n k q o g e) l.fine; asks = l.asks; made = maker_more es _ q.inner.maker q.inner.family o.who.side l.made }
+
+  pub joined_on : (es : List Entry) (h : Here) (e : Entry) (p : ℕ) (j : JoinedIsFine origin es h p) → MarksNoSocket (es ++ e ∷ []) j.new → JoinedIsFine origin (es ++ e ∷ []) h p
+  joined_on es h e p j f = record { new = j.new; on = j.on; peer = j.peer; context = j.context; listener = j.listener; by = j.by; side = j.side; of_listener = side_more es _ j.listener j.on j.of_listener; handed = record { told = j.handed.told; hand = has_front es _ _ j.handed.hand }; fresh = f }
+
+  -- a call that is no mark
+  pub asked_by : (es : List Entry) (h : Here) (op : OpId) (c : Call) (told : Told) → marked_by c ≡ 0 → Spared h.machine.store.sockets op c → (h.own ≡ Unused → Touches op c (second_of line) → ⊥) → Spares h c → Licensed steps line origin es h → Licensed steps line origin (es ++ entry op c told ∷ []) h
+  asked_by es h op c told z sp u n i = record {
+    fine = state_spared steps es (calm h.machine) op c told z sp i.fine;
+    names = λ k j r a g side m. names_on steps es _ (own_of j) side (i.names k j r a g side m);
+    hand = λ o e. bind_more steps es _ o (i.hand o e);
+    listens = listens_on es h op c told n i;
+    new = λ o. (handed_more es op c told (second_of line) (i.new o).0 (u o), unmarked_unless es op c told (second_of line) (i.new o).1 z);
+    unmade = λ e a s is. made_more es op (own_of line) c told z (i.unmade e a s is);
+    joined = λ p e. (let j = i.joined p e in joined_on es h (entry op c told) p j (unmarked_unless es op c told j.new j.fresh z));
+    marked = λ handle p e r g. (let k = i.marked handle p e r g in record { above = k.above; told = k.told; mark = has_front es _ _ k.mark });
+  }
+
+  no_mark : (c : Call) → NoMark c → marked_by c ≡ 0
+  no_mark (call.Made handle kind parent sock) h = absurd h
+  no_mark _ h = refl
+
+  pub asked_fine : (es : List Entry) (h : Here) (op : OpId) (c : Call) (told : Told) → NoMark c → Spares h c → Licensed steps line origin es h → Licensed steps line origin (es ++ entry op c told ∷ []) h
+  asked_fine es h op c told q n i = asked_by es h op c told (no_mark c q) (λ place r x e m. no_touch op c x q) (λ o. no_touch op c (second_of line) q) n i
+
+  writer_is : (es : List Entry) (side at : OpId) (w : WriteState) → WritesOn steps es side w → writer_side w ≡ Some at → at ≡ side
+  writer_is es side at (writing.Ready half permit) on e = some_same at half.side e ∙ on
+  writer_is es side at (writing.Writing job) on e = by_end job.end e
+    where
+      by_end : (x : End) → writing_side job x ≡ Some at → at ≡ side
+      by_end Waits p = some_same at job.write.who.side p ∙ on.on
+      by_end (Done given) p = some_same at job.write.who.side p ∙ on.on
+      by_end (Refused c given) p = absurd (cc)
+  writer_is es side at (writing.Closing job) on e = by_end job.end e
+    where
+      by_end : (x : End) → closing_side job x ≡ Some at → at ≡ side
+      by_end Waits p = some_same at job.write.who.side p ∙ on.on
+      by_end (Done given) p = absurd (cc)
+      by_end (Refused c given) p = absurd (cc)
+  writer_is es side at (writing.Closed e) on p = absurd (cc)
+
+  pub on_side : (es : List Entry) (r : Tcp2Socket) (side : OpId) → IsOn r side → RecordIsFine steps es r → side_of r.inner ≡ Some side
+  on_side es r side (OfSocket e) f = e
+  on_side es r side (OfReader s half e w p) f = let t = f.streams s e in held_side contexts steps line origin is_line es r s t ∙ ap (λ (x : OpId). Some x) (sym (sym p ∙ subst (ReadsOn t.side) w t.reads))
+  on_side es r side (OfWriter s e w) f = let t = f.streams s e in held_side contexts steps line origin is_line es r s t ∙ ap (λ (x : OpId). Some x) (sym (writer_is es t.side side s.writer t.writes w))
+
+  -- a line names the side that it asks of
+  pub names_on_side : (es : List Entry) (h : Here) (place n : ℕ) (r : Tcp2Socket) (side : OpId) → h.at ≡ Some (place, n) → Found h place r → IsOn r side → Licensed steps line origin es h → Names steps es (own_of n) side
+  names_on_side es h place n r side at g o i = let f = i.fine.sockets place r g in i.names place n r at g side (f.named side (on_side es r side o f))
+
+  -- a side that a record has is not that of a listen that goes on
+  pub not_held : (h : Here) (place : ℕ) (r : Tcp2Socket) (side : OpId) → Found h place r → side_of r.inner ≡ Some side → Named line h → (k : ℕ) (q : Tcp2Socket) (op : Operation) → Found h k q → q.listening ≡ Begins op → side ≡ op.who.side → ⊥
+  not_held h place r side g p n k q op gq e eq =
+      let d = n.held op k q gq e in
+      let at : place ≡ k = n.one side place k r q g gq (inl (n.named side place r g p)) (inl (d.0 ∙ ap (λ (x : OpId). Some x) (sym eq))) in
+      let same : r ≡ q = same_record r q (sym g ∙ (ap (slice_get h.machine.store.sockets) at ∙ gq)) in
+      no_some side (sym d.1 ∙ (ap (λ (x : Tcp2Socket). side_of x.inner) (sym same) ∙ p))
+
+  pub question_local : (side x : OpId) (c : Call) → IsQuestionOf side c → c ≡ call.Local x → side ≡ x
+  question_local side x (call.Local s) q e = let p : s ≡ x = cc in sym q ∙ p
+  question_local side x (call.Peer s) q e = absurd (cc)
+  question_local side x (call.GetOption s o) q e = absurd (cc)
+  question_local side x (call.SetOption s o v) q e = absurd (cc)
+  question_local side x (call.Read s k) q e = absurd (cc)
+  question_local side x (call.ReadReady s) q e = absurd (cc)
+  question_local side x (call.WriteReady s) q e = absurd (cc)
+  question_local side x (call.Shutdown s how) q e = absurd (cc)
+  question_local side x _ q e = absurd q
+
+  pub question_may : (n : ℕ) (es : List Entry) (side : OpId) (c : Call) → IsQuestionOf side c → Names steps es (own_of n) side → MayAsk contexts steps es (own_of n) c × NoMark c
+  question_may n es side (call.Local s) q k = (inl (subst (Names steps es (own_of n)) (sym q) k), tt)
+  question_may n es side (call.Peer s) q k = (inl (subst (Names steps es (own_of n)) (sym q) k), tt)
+  question_may n es side (call.GetOption s o) q k = (inl (subst (Names steps es (own_of n)) (sym q) k), tt)
+  question_may n es side (call.SetOption s o v) q k = (inl (subst (Names steps es (own_of n)) (sym q) k), tt)
+  question_may n es side (call.Read s z) q k = (inl (subst (Names steps es (own_of n)) (sym q) k), tt)
+  question_may n es side (call.ReadReady s) q k = (inl (subst (Names steps es (own_of n)) (sym q) k), tt)
+  question_may n es side (call.WriteReady s) q k = (inl (subst (Names steps es (own_of n)) (sym q) k), tt)
+  question_may n es side (call.Shutdown s how) q k = (inl (subst (Names steps es (own_of n)) (sym q) k), tt)
+  question_may n es side _ q k = absurd q
+
+  pub learned_fine : (es : List Entry) (h : Here) (place : ℕ) (r : Tcp2Socket) (side : OpId) (told : Told) → Found h place r → r.inner.state ≡ state.Default side → IsAddr told → Named line h → Licensed steps line origin es h
+      → (let fs = es ++ entry (own_of line) (call.Local side) told ∷ [] in Licensed steps line origin fs (put h place (with_inner r (after_local r.inner (told_addr told)).1)))
+  learned_fine es h place r side told g e f b i =
+      let fs : List Entry = es ++ entry (own_of line) (call.Local side) told ∷ [] in
+      let j = asked_fine es h (own_of line) (call.Local side) told tt (λ k q op d l p. not_held h place r side g (ap side_in e) b k q op d l (local_side side op.who.side p)) i in
+      let x = j.fine.sockets place r g in
+      let l = learned_told contexts steps fs (own_of line) side r.inner told e f (has_last es _) x.socket in
+      let now : Tcp2Socket = with_inner r (after_local r.inner (told_addr told)).1 in
+      put_fine fs h place r now g refl (same_listening r.listening) (same_listen contexts steps line origin is_line r now refl l.keeps.maker l.keeps.family) (record_kept steps fs r now (record { keeps = l.keeps; side = refl; streams = refl; listening = refl }) l.fine x) j

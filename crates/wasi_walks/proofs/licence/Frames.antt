@@ -1,0 +1,376 @@
+-- The invariant under one more entry, and under changes of the state.
+use Rattle.std.specs.Prelude.{⊤}
+use Rattle.std.proofs.Common.{◌≡◌, ℕ, inl, inr, List, [], ◌∷◌, ◌++◌, Option, Some, None, slice_get, slice_set, refl, sym, ap, subst, ◌∙◌, arith}
+use Rattle.wasi_addr.specs.declared.address.IpSocketAddress.{IpSocketAddress}
+use Rattle.wasi_addr.specs.declared.address.SocketAddressFamily.{SocketAddressFamily}
+use Rattle.wasi_addr.specs.declared.address.SocketAddrUse.{SocketAddrUse}
+use Rattle.wasi_world.specs.declared.ids.OpId.{OpId}
+use Rattle.wasi_world.specs.declared.call.Call.{Call}
+use Rattle.wasi_world.specs.declared.call.Call.TheVariants.{Accept, Hand, Made}
+use Rattle.wasi_world.specs.declared.call.HandleKind.{HandleKind}
+use Rattle.wasi_world.specs.declared.call.Told.{Told}
+use Rattle.wasi_world.specs.declared.call.Entry.{Entry}
+use Rattle.wasi_world.specs.Operation.{Item, Operation}
+use Rattle.wasi_streams.proofs.Tables.{value_without}
+use Rattle.wasi_tcp.specs.declared.listener.Accepting.{Accepting}
+use Rattle.wasi_tcp.specs.declared.listener.Accepting.TheVariants as accepting
+use Rattle.wasi_tcp.specs.declared.socket.Connection.{Connection}
+use Rattle.wasi_tcp.specs.declared.socket.TcpState.TheVariants.{Connected}
+use Rattle.wasi_tcp.specs.declared.writer.WriteState.{WriteState}
+use Rattle.wasi_tcp.specs.declared.writer.WriteState.TheVariants as writing
+use Rattle.wasi_tcp.specs.Job.{Job}
+use Rattle.wasi_tcp.specs.Shape.{Socket}
+use Rattle.wasi_tcp.specs.Socket.{side_of}
+use Rattle.wasi_host.specs.declared.kind.Kind.{Kind}
+use Rattle.wasi_host.specs.declared.kind.Kind.TheVariants.{Network, Tcp2, Input, Output, Pollable, ErrorValue}
+use Rattle.wasi_host.specs.declared.listening.Listening.{Listening}
+use Rattle.wasi_host.specs.declared.listening.Listening.TheVariants.{Not, Begins, Accepts, Unclosed}
+use Rattle.wasi_host.specs.declared.machine.Machine.{Machine}
+use Rattle.wasi_host.specs.declared.socket.Streams.{Streams}
+use Rattle.wasi_host.specs.declared.socket.Tcp2Socket.{Tcp2Socket}
+use Rattle.wasi_host.specs.declared.store.Standing.{Standing}
+use Rattle.wasi_host.specs.declared.store.StandingCall.{StandingCall}
+use Rattle.wasi_host.specs.declared.store.StandingCall.TheVariants as standing
+use Rattle.wasi_host.specs.Kinds.{table_parent, with_handle, without_handle, place_in}
+use Rattle.wasi_host.specs.Machine.{own_of}
+use Rattle.wasi_host.specs.Store.{new_record, with_socket, with_record}
+use Rattle.wasi_steps.specs.declared.step.Step.{Step}
+use Rattle.wasi_walks.specs.Licence.{entry, marked_by, NamesSide, IsSide, IsMarkedWith, IsMaker, Created, Handed, HasWildcardYes, IsBoundSide, Listens, MayGoOut}
+use Rattle.wasi_walks.proofs.Lists.{has_front, marks_in-push, get_front, get_split, get_set, set_get, value_split}
+use Rattle.wasi_walks.proofs.licence.State.{NamesRecord, HandleIsFine, KnowsMaker, BindLeft, Whole, Checked, Over, ConnectLeft, Unbound, Unchecked, Allowed, ToClose, Ended, Names, WorksOn, BindIsFine, ConnectIsFine, JobIsFine, WritesOn, IsConnectedOn, StreamsAreFine, ListeningStands, accept_name, AcceptIsFine, AcceptingIsFine, ListeningIsFine, SocketIsFine, RecordIsFine, DropIsFine, CallIsFine, StandingIsFine, StateIsFine}
+use Rattle.wasi_walks.proofs.licence.AcceptFrames.{Touches, Spared, stands_more, KeepsListening, Only, stands_put, one_put, stands_push, one_push}
+
+-- == what more entries keep
+pub side_more : (es fs : List Entry) (handle : ℕ) (side : OpId) → IsSide es handle side → IsSide (es ++ fs) handle side
+side_more es fs handle side h = record { op = h.op; kind = h.kind; parent = h.parent; told = h.told; mark = has_front es fs _ h.mark }
+
+pub marked_more : (es fs : List Entry) (handle : ℕ) (sock : Option OpId) → IsMarkedWith es handle sock → IsMarkedWith (es ++ fs) handle sock
+marked_more es fs handle sock h = record { op = h.op; kind = h.kind; parent = h.parent; told = h.told; mark = has_front es fs _ h.mark }
+
+pub names_more : (es fs : List Entry) (side : OpId) (s : Step) → NamesSide es side s → NamesSide (es ++ fs) side s
+names_more es fs side s h = record { handle = h.handle; named = h.named; is = side_more es fs h.handle side h.is }
+
+pub maker_more : (es fs : List Entry) (ctx : ℕ) (family : SocketAddressFamily) (side : OpId) → IsMaker es ctx family side → IsMaker (es ++ fs) ctx family side
+maker_more es fs ctx family side (Created s t h) = Created s t (has_front es fs _ h)
+maker_more es fs ctx family side (Handed s l p t h m) = Handed s l p t (has_front es fs _ h) (maker_more es fs ctx family l m)
+
+pub names_record_more : (es fs : List Entry) (sockets : List Tcp2Socket) (handle place : ℕ) → NamesRecord es sockets handle place → NamesRecord (es ++ fs) sockets handle place
+names_record_more es fs sockets handle place h = record { found = h.found; at = h.at; marked = marked_more es fs handle h.found.side h.marked }
+
+pub handle_more : (es fs : List Entry) (sockets : List Tcp2Socket) (handle : ℕ) (kind : Kind) → HandleIsFine es sockets handle kind → HandleIsFine (es ++ fs) sockets handle kind
+handle_more es fs sockets handle Network h = tt
+handle_more es fs sockets handle (Tcp2 place) h = names_record_more es fs sockets handle place h
+handle_more es fs sockets handle (Input place) h = names_record_more es fs sockets handle place h
+handle_more es fs sockets handle (Output place) h = names_record_more es fs sockets handle place h
+handle_more es fs sockets handle (Pollable w) h = names_record_more es fs sockets handle (place_in w) h
+handle_more es fs sockets handle ErrorValue h = tt
+
+pub knows_more : (es fs : List Entry) (socket : Socket) → KnowsMaker es socket → KnowsMaker (es ++ fs) socket
+knows_more es fs socket h = record { maker = λ s e. maker_more es fs socket.maker socket.family s (h.maker s e) }
+
+pub left_more : (es fs : List Entry) (op : OpId) (maker : ℕ) (addr : IpSocketAddress) (items : List Item) → BindLeft es op maker addr items → BindLeft (es ++ fs) op maker addr items
+left_more es fs op maker addr items Whole = Whole
+left_more es fs op maker addr items (Checked h) = Checked (has_front es fs _ h)
+left_more es fs op maker addr items Over = Over
+
+wildcard_more : (es fs : List Entry) (op side : OpId) (usage : SocketAddrUse) → HasWildcardYes es op side usage → HasWildcardYes (es ++ fs) op side usage
+wildcard_more es fs op side usage h = record { ctx = h.ctx; family = h.family; maker = maker_more es fs h.ctx h.family side h.maker; checked = has_front es fs _ h.checked }
+
+pub bound_more : (es fs : List Entry) (side : OpId) → IsBoundSide es side → IsBoundSide (es ++ fs) side
+bound_more es fs side h = record { ctx = h.ctx; family = h.family; maker = maker_more es fs h.ctx h.family side h.maker; op = h.op; addr = h.addr; told = has_front es fs _ h.told; other = h.other }
+
+pub listens_more : (es fs : List Entry) (side : OpId) → Listens es side → Listens (es ++ fs) side
+listens_more es fs side h = record { op = h.op; backlog = h.backlog; told = has_front es fs _ h.told }
+
+pub out_more : (es fs : List Entry) (op side : OpId) → MayGoOut es op side → MayGoOut (es ++ fs) op side
+out_more es fs op side (inl h) = inl (bound_more es fs side h)
+out_more es fs op side (inr h) = inr (wildcard_more es fs op side _ h)
+
+pub connect_left_more : (es fs : List Entry) (op side : OpId) (maker : ℕ) (addr : IpSocketAddress) (items : List Item) → ConnectLeft es op side maker addr items → ConnectLeft (es ++ fs) op side maker addr items
+connect_left_more es fs op side maker addr items (Unbound family h) = Unbound family (maker_more es fs maker family side h)
+connect_left_more es fs op side maker addr items (Unchecked h) = Unchecked (out_more es fs op side h)
+connect_left_more es fs op side maker addr items (Allowed h y) = Allowed (out_more es fs op side h) (has_front es fs _ y)
+connect_left_more es fs op side maker addr items (ToClose c) = ToClose c
+connect_left_more es fs op side maker addr items Ended = Ended
+
+-- == marks, accepts and what is handed over are calls of their own
+-- any call but these
+abbrev pub NoMark : Call → Type 0
+NoMark (Made handle kind parent sock) = ⊥
+NoMark (Accept sock) = ⊥
+NoMark (Hand sock peer) = ⊥
+NoMark _ = ⊤
+
+pub no_touch : (op : OpId) (c : Call) (x : OpId) → NoMark c → Touches op c x → ⊥
+no_touch op (Made handle kind parent sock) x h t = h
+no_touch op (Accept sock) x h t = h
+no_touch op (Hand sock peer) x h t = h
+no_touch op _ x h t = t
+
+-- == how a socket may change
+-- It keeps its maker, its family and its connection, and has no side that it didn't have.
+pub record KeepsSide (old now : Socket) : Type 0 where
+  pub maker : now.maker ≡ old.maker
+  pub family : now.family ≡ old.family
+  pub side : (side : OpId) → side_of now ≡ Some side → side_of old ≡ Some side
+  pub connected : (c : Connection) → old.state ≡ Connected c → IsConnectedOn now c.side
+
+pub keeps_side : (socket : Socket) → KeepsSide socket socket
+keeps_side socket = record { maker = refl; family = refl; side = λ s e. e; connected = λ c e. record { connection = c; state = e; same = refl } }
+
+-- The record keeps its socket's side, the side that it was made with, its streams, and how far it is with listening.
+pub record KeepsRecord (old now : Tcp2Socket) : Type 0 where
+  pub keeps : KeepsSide old.inner now.inner
+  pub side : now.side ≡ old.side
+  pub streams : now.streams ≡ old.streams
+  pub listening : now.listening ≡ old.listening
+
+-- == the records by place
+-- The record of this place was made with this side.
+pub record IsMadeWith (sockets : List Tcp2Socket) (place : ℕ) (side : Option OpId) : Type 0 where
+  pub found : Tcp2Socket
+  pub at : slice_get sockets place ≡ Some found
+  pub same : found.side ≡ side
+
+pub same_record : (a b : Tcp2Socket) → Some a ≡ Some b → a ≡ b
+same_record a b p = cc
+
+-- among those of which one was replaced by one that was made with the same side
+made_put : (sockets : List Tcp2Socket) (i : ℕ) (old now : Tcp2Socket) (place : ℕ) (found : Tcp2Socket) → slice_get sockets i ≡ Some old → now.side ≡ old.side → slice_get sockets place ≡ Some found → IsMadeWith (slice_set sockets i now) place found.side
+made_put sockets i old now place found g k h = elim (set_get sockets i now place found h) [
+  | inl e ↦ record { found = found; at = e; same = refl }
+  | inr e ↦ (let p : found ≡ old = same_record found old (sym h ∙ (ap (slice_get sockets) e.0 ∙ g)) in record { found = now; at = e.1; same = k ∙ ap (λ (r : Tcp2Socket). r.side) (sym p) })
+]
+
+names_put : (es : List Entry) (sockets : List Tcp2Socket) (i : ℕ) (old now : Tcp2Socket) (handle place : ℕ) → slice_get sockets i ≡ Some old → now.side ≡ old.side → NamesRecord es sockets handle place → NamesRecord es (slice_set sockets i now) handle place
+names_put es sockets i old now handle place g k h =
+    let m = made_put sockets i old now place h.found g k h.at in
+    record { found = m.found; at = m.at; marked = rw m.same h.marked }
+
+handle_put : (es : List Entry) (sockets : List Tcp2Socket) (i : ℕ) (old now : Tcp2Socket) (handle : ℕ) (kind : Kind) → slice_get sockets i ≡ Some old → now.side ≡ old.side → HandleIsFine es sockets handle kind → HandleIsFine es (slice_set sockets i now) handle kind
+handle_put es sockets i old now handle Network g k h = tt
+handle_put es sockets i old now handle (Tcp2 place) g k h = names_put es sockets i old now handle place g k h
+handle_put es sockets i old now handle (Input place) g k h = names_put es sockets i old now handle place g k h
+handle_put es sockets i old now handle (Output place) g k h = names_put es sockets i old now handle place g k h
+handle_put es sockets i old now handle (Pollable w) g k h = names_put es sockets i old now handle (place_in w) g k h
+handle_put es sockets i old now handle ErrorValue g k h = tt
+
+names_push : (es : List Entry) (sockets : List Tcp2Socket) (r : Tcp2Socket) (handle place : ℕ) → NamesRecord es sockets handle place → NamesRecord es (sockets ++ r ∷ []) handle place
+names_push es sockets r handle place h = record { found = h.found; at = get_front sockets (r ∷ []) place h.found h.at; marked = h.marked }
+
+handle_push : (es : List Entry) (sockets : List Tcp2Socket) (r : Tcp2Socket) (handle : ℕ) (kind : Kind) → HandleIsFine es sockets handle kind → HandleIsFine es (sockets ++ r ∷ []) handle kind
+handle_push es sockets r handle Network h = tt
+handle_push es sockets r handle (Tcp2 place) h = names_push es sockets r handle place h
+handle_push es sockets r handle (Input place) h = names_push es sockets r handle place h
+handle_push es sockets r handle (Output place) h = names_push es sockets r handle place h
+handle_push es sockets r handle (Pollable w) h = names_push es sockets r handle (place_in w) h
+handle_push es sockets r handle ErrorValue h = tt
+
+module _ (steps : List Step) where
+  -- == what more entries keep of the operations
+  pub names_on : (es fs : List Entry) (op side : OpId) → Names steps es op side → Names steps (es ++ fs) op side
+  names_on es fs op side n = record { origin = n.origin; at = n.at; holds = names_more es fs side n.origin n.holds }
+
+  pub works_more : (es fs : List Entry) (op side : OpId) (maker : ℕ) → WorksOn steps es op side maker → WorksOn steps (es ++ fs) op side maker
+  works_more es fs op side maker h = record { family = h.family; made = maker_more es fs maker h.family side h.made; named = names_on es fs op side h.named }
+
+  pub bind_more : (es fs : List Entry) (op : Operation) → BindIsFine steps es op → BindIsFine steps (es ++ fs) op
+  bind_more es fs op h = record { addr = h.addr; to = h.to; works = works_more es fs op.who.id op.who.side op.who.context h.works; last = h.last; left = left_more es fs op.who.id op.who.context h.addr op.left h.left }
+
+  pub connect_more : (es fs : List Entry) (op : Operation) → ConnectIsFine steps es op → ConnectIsFine steps (es ++ fs) op
+  connect_more es fs op h = record {
+    addr = h.addr;
+    to = h.to;
+    works = works_more es fs op.who.id op.who.side op.who.context h.works;
+    last = h.last;
+    left = connect_left_more es fs op.who.id op.who.side op.who.context h.addr op.left h.left;
+  }
+
+  pub job_more : (es fs : List Entry) (side : OpId) (job : Job) → JobIsFine steps es side job → JobIsFine steps (es ++ fs) side job
+  job_more es fs side job h = record { named = names_on es fs job.write.who.id side h.named; on = h.on; last = h.last; left = h.left }
+
+  pub writes_more : (es fs : List Entry) (side : OpId) (w : WriteState) → WritesOn steps es side w → WritesOn steps (es ++ fs) side w
+  writes_more es fs side (writing.Ready half permit) h = h
+  writes_more es fs side (writing.Writing job) h = job_more es fs side job h
+  writes_more es fs side (writing.Closing job) h = job_more es fs side job h
+  writes_more es fs side (writing.Closed e) h = tt
+
+  pub accept_more : (es fs : List Entry) (side : OpId) (maker : ℕ) (op : Operation) → AcceptIsFine steps es side maker op → AcceptIsFine steps (es ++ fs) side maker op
+  accept_more es fs side maker op h = record { named = names_on es fs op.who.id side h.named; on = h.on; asks = h.asks; last = h.last }
+
+  accepting_more : (es fs : List Entry) (side : OpId) (maker : ℕ) (a : Accepting) → AcceptingIsFine steps es side maker a → AcceptingIsFine steps (es ++ fs) side maker a
+  accepting_more es fs side maker accepting.Idle h = tt
+  accepting_more es fs side maker (accepting.Asking op) h = accept_more es fs side maker op h
+  accepting_more es fs side maker (accepting.Arrived new peer) h = record { told = h.told; hand = has_front es fs _ h.hand }
+  accepting_more es fs side maker (accepting.Failed c) h = tt
+
+  pub listening_more : (es fs : List Entry) (made : Option OpId) (l : Listening) → ListeningIsFine steps es made l → ListeningIsFine steps (es ++ fs) made l
+  listening_more es fs made Not h = tt
+  listening_more es fs made (Begins op) h = tt
+  listening_more es fs made (Accepts l) h = record { side = h.side; maker = maker_more es fs l.maker l.family l.side h.maker; accept = accepting_more es fs l.side l.maker l.accept h.accept }
+  listening_more es fs made (Unclosed side) h = tt
+
+  -- == and of the records
+  pub socket_more : (es fs : List Entry) (socket : Socket) → SocketIsFine steps es socket → SocketIsFine steps (es ++ fs) socket
+  socket_more es fs socket h = record {
+    knows = knows_more es fs socket h.knows;
+    bound = λ side s b. bound_more es fs side (h.bound side s b);
+    listens = λ side s. listens_more es fs side (h.listens side s);
+    connect = λ op s. connect_more es fs op (h.connect op s);
+  }
+
+  pub streams_more : (es fs : List Entry) (socket : Socket) (streams : Streams) → StreamsAreFine steps es socket streams → StreamsAreFine steps (es ++ fs) socket streams
+  streams_more es fs socket streams h = record { side = h.side; connected = h.connected; reads = h.reads; writes = writes_more es fs h.side streams.writer h.writes }
+
+  pub record_more : (es fs : List Entry) (r : Tcp2Socket) → RecordIsFine steps es r → RecordIsFine steps (es ++ fs) r
+  record_more es fs r h = record {
+    socket = socket_more es fs r.inner h.socket;
+    named = h.named;
+    streams = λ streams e. streams_more es fs r.inner streams (h.streams streams e);
+    listening = listening_more es fs r.side r.listening h.listening;
+  }
+
+  drop_more : (es fs : List Entry) (sockets : List Tcp2Socket) (op : OpId) (place : ℕ) → DropIsFine steps es sockets op place → DropIsFine steps (es ++ fs) sockets op place
+  drop_more es fs sockets op place h = record { found = h.found; at = h.at; named = λ side e. names_on es fs op side (h.named side e) }
+
+  standing_more : (es fs : List Entry) (sockets : List Tcp2Socket) (line : ℕ) (c : StandingCall) → CallIsFine steps es sockets line c → CallIsFine steps (es ++ fs) sockets line c
+  standing_more es fs sockets line (standing.Bind place op) h = bind_more es fs op h
+  standing_more es fs sockets line (standing.Listen place) h = h
+  standing_more es fs sockets line (standing.DropOutput place) h = drop_more es fs sockets (own_of line) place h
+
+  -- == a record that changes
+  -- streams stay those of the socket's connection
+  pub streams_kept : (es : List Entry) (old now : Socket) (streams : Streams) → KeepsSide old now → StreamsAreFine steps es old streams → StreamsAreFine steps es now streams
+  streams_kept es old now streams k f =
+      let c = k.connected f.connected.connection f.connected.state in
+      record { side = f.side; connected = record { connection = c.connection; state = c.state; same = c.same ∙ f.connected.same }; reads = f.reads; writes = f.writes }
+
+  pub record_kept : (es : List Entry) (old now : Tcp2Socket) → KeepsRecord old now → SocketIsFine steps es now.inner → RecordIsFine steps es old → RecordIsFine steps es now
+  record_kept es old now k f h = record {
+    socket = f;
+    named = λ side e. k.side ∙ h.named side (k.keeps.side side e);
+    streams = λ streams e. streams_kept es old.inner now.inner streams k.keeps (h.streams streams (sym k.streams ∙ e));
+    listening = rw (k.side, k.listening) h.listening;
+  }
+
+  -- A call on a record leaves one that was made with the same side, has no other accept, and fits the log.
+  pub record LeavesRecord {A : Type 0} (old : Tcp2Socket) (es : List Entry) (done : A × Tcp2Socket) : Type 0 where
+    pub side : done.1.side ≡ old.side
+    pub listening : KeepsListening old.listening done.1.listening
+    pub fine : RecordIsFine steps es done.1
+
+  -- == the call that stands, where the records change
+  drop_put : (es : List Entry) (sockets : List Tcp2Socket) (i : ℕ) (old now : Tcp2Socket) (op : OpId) (place : ℕ) → slice_get sockets i ≡ Some old → now.side ≡ old.side → DropIsFine steps es sockets op place → DropIsFine steps es (slice_set sockets i now) op place
+  drop_put es sockets i old now op place g k h =
+      let m = made_put sockets i old now place h.found g k h.at in
+      record { found = m.found; at = m.at; named = λ side e. h.named side (sym m.same ∙ e) }
+
+  standing_put : (es : List Entry) (sockets : List Tcp2Socket) (i : ℕ) (old now : Tcp2Socket) (line : ℕ) (c : StandingCall) → slice_get sockets i ≡ Some old → now.side ≡ old.side → CallIsFine steps es sockets line c → CallIsFine steps es (slice_set sockets i now) line c
+  standing_put es sockets i old now line (standing.Bind place op) g k h = h
+  standing_put es sockets i old now line (standing.Listen place) g k h = h
+  standing_put es sockets i old now line (standing.DropOutput place) g k h = drop_put es sockets i old now (own_of line) place g k h
+
+  standing_push : (es : List Entry) (sockets : List Tcp2Socket) (r : Tcp2Socket) (line : ℕ) (c : StandingCall) → CallIsFine steps es sockets line c → CallIsFine steps es (sockets ++ r ∷ []) line c
+  standing_push es sockets r line (standing.Bind place op) h = h
+  standing_push es sockets r line (standing.Listen place) h = h
+  standing_push es sockets r line (standing.DropOutput place) h = record { found = h.found; at = get_front sockets (r ∷ []) place h.found h.at; named = h.named }
+
+  -- == the state
+  -- an ask that is no mark, and that touches no accept, keeps the state
+  pub state_spared : (es : List Entry) (m : Machine) (op : OpId) (c : Call) (told : Told) → marked_by c ≡ 0 → Spared m.store.sockets op c → StateIsFine steps es m → StateIsFine steps (es ++ entry op c told ∷ []) m
+  state_spared es m op c told z q h = record {
+    count = let p = marks_in-push es (entry op c told) in let k = h.count in omega arith;
+    handles = λ handle kind e. handle_more es _ m.store.sockets handle kind (h.handles handle kind e);
+    sockets = λ place r e. record_more es _ r (h.sockets place r e);
+    standing = λ s e. standing_more es _ m.store.sockets s.line s.call (h.standing s e);
+    accepts = λ place r e. stands_more es op c told r.listening (h.accepts place r e) (λ x n. q place r x e n);
+    one = h.one;
+  }
+
+  -- a mark, and the handle that it makes
+  pub state_made : (es : List Entry) (m : Machine) (op : OpId) (name : HandleKind) (parent : Option ℕ) (sock : Option OpId) (told : Told) (kind : Kind) → Spared m.store.sockets op (Made m.table.next name parent sock)
+      → HandleIsFine (es ++ entry op (Made m.table.next name parent sock) told ∷ []) m.store.sockets m.table.next kind
+      → StateIsFine steps es m → StateIsFine steps (es ++ entry op (Made m.table.next name parent sock) told ∷ []) (record m { table = with_handle m.table kind parent })
+  state_made es m op name parent sock told kind q f h = record {
+    count = let p = marks_in-push es (entry op (Made m.table.next name parent sock) told) in let k = h.count in omega arith;
+    handles = λ handle x e. elim (value_split m.table.live (record { handle = m.table.next; value = kind; parent = table_parent kind parent }) handle x e) [
+      | inl g ↦ handle_more es _ m.store.sockets handle x (h.handles handle x g)
+      | inr g ↦ (let fs = es ++ entry op (Made m.table.next name parent sock) told ∷ [] in subst (HandleIsFine fs m.store.sockets handle) g.1 (subst (λ (n : ℕ). HandleIsFine fs m.store.sockets n kind) g.0 f))
+    ];
+    sockets = λ place r e. record_more es _ r (h.sockets place r e);
+    standing = λ s e. standing_more es _ m.store.sockets s.line s.call (h.standing s e);
+    accepts = λ place r e. stands_more es op _ told r.listening (h.accepts place r e) (λ x n. q place r x e n);
+    one = h.one;
+  }
+
+  -- a handle goes
+  pub state_taken : (es : List Entry) (m : Machine) (gone : ℕ) → StateIsFine steps es m → StateIsFine steps es (record m { table = without_handle m.table gone })
+  state_taken es m gone h = record {
+    count = h.count;
+    handles = λ handle kind e. h.handles handle kind (value_without m.table.live gone handle kind e);
+    sockets = h.sockets;
+    standing = h.standing;
+    accepts = h.accepts;
+    one = h.one;
+  }
+
+  -- one record changes, and its accept may be another
+  pub state_renewed : (es : List Entry) (m : Machine) (place : ℕ) (old now : Tcp2Socket) → slice_get m.store.sockets place ≡ Some old → now.side ≡ old.side → RecordIsFine steps es now
+      → ListeningStands es now.listening → ((x : OpId) → accept_name now.listening ≡ Some x → Only m.store.sockets place x)
+      → StateIsFine steps es m → StateIsFine steps es (record m { store = with_socket m.store place now })
+  state_renewed es m place old now g k f a o h = record {
+    count = h.count;
+    handles = λ handle x e. handle_put es m.store.sockets place old now handle x g k (h.handles handle x e);
+    sockets = λ i r e. elim (get_set m.store.sockets place now i r e) [
+      | inl q ↦ subst (RecordIsFine steps es) q.1 f
+      | inr q ↦ h.sockets i r q
+    ];
+    standing = λ s e. standing_put es m.store.sockets place old now s.line s.call g k (h.standing s e);
+    accepts = stands_put es m.store.sockets place now a h.accepts;
+    one = one_put m.store.sockets place now o h.one;
+  }
+
+  -- one record changes
+  pub state_put : (es : List Entry) (m : Machine) (place : ℕ) (old now : Tcp2Socket) → slice_get m.store.sockets place ≡ Some old → now.side ≡ old.side → KeepsListening old.listening now.listening → RecordIsFine steps es now → StateIsFine steps es m
+      → StateIsFine steps es (record m { store = with_socket m.store place now })
+  state_put es m place old now g k l f h = state_renewed es m place old now g k f (l.stands es (h.accepts place old g)) (λ x n i s e o. h.one i place s old x e g o (l.names x n)) h
+
+  -- a record more, which has no accept
+  pub state_joined : (es : List Entry) (m : Machine) (now : Tcp2Socket) → RecordIsFine steps es now → ListeningStands es now.listening → accept_name now.listening ≡ None → StateIsFine steps es m
+      → StateIsFine steps es (record m { store = record m.store { sockets = m.store.sockets ++ now ∷ [] } })
+  state_joined es m now f a n h = record {
+    count = h.count;
+    handles = λ handle x e. handle_push es m.store.sockets now handle x (h.handles handle x e);
+    sockets = λ i r e. elim (get_split m.store.sockets now i r e) [
+      | inl q ↦ h.sockets i r q
+      | inr q ↦ subst (RecordIsFine steps es) q f
+    ];
+    standing = λ s e. standing_push es m.store.sockets now s.line s.call (h.standing s e);
+    accepts = stands_push es m.store.sockets now a h.accepts;
+    one = one_push m.store.sockets now n h.one;
+  }
+
+  pub state_push : (es : List Entry) (m : Machine) (socket : Socket) → SocketIsFine steps es socket → StateIsFine steps es m → StateIsFine steps es (record m { store = with_record m.store socket })
+  state_push es m socket f h = state_joined es m (new_record socket) (record { socket = f; named = λ side p. p; streams = λ streams p. absurd (cc); listening = tt }) tt refl h
+
+  -- a call stands
+  pub state_stands : (es : List Entry) (m : Machine) (c : Standing) → StandingIsFine steps es m.store.sockets c → StateIsFine steps es m → StateIsFine steps es (record m { store = record m.store { standing = Some c } })
+  state_stands es m c f h = record {
+    count = h.count;
+    handles = h.handles;
+    sockets = h.sockets;
+    standing = λ d e. subst (StandingIsFine steps es m.store.sockets) (same c d e) f;
+    accepts = h.accepts;
+    one = h.one;
+  }
+    where
+      same : (a b : Standing) → Some a ≡ Some b → a ≡ b
+      same a b p = cc
+
+  -- none stands
+  pub state_unstands : (es : List Entry) (m : Machine) → StateIsFine steps es m → StateIsFine steps es (record m { store = record m.store { standing = None } })
+  state_unstands es m h = record { count = h.count; handles = h.handles; sockets = h.sockets; standing = λ d e. absurd (cc); accepts = h.accepts; one = h.one }
+
+  -- which writes go on is nothing to it
+  pub state_jobs : (es : List Entry) (m : Machine) (jobs : List ℕ) → StateIsFine steps es m → StateIsFine steps es (record m { store = record m.store { jobs = jobs } })
+  state_jobs es m jobs h = record { count = h.count; handles = h.handles; sockets = h.sockets; standing = h.standing; accepts = h.accepts; one = h.one }

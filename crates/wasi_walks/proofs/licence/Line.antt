@@ -1,0 +1,197 @@
+-- What holds of a line: the state fits the log, and so does what the line works on.
+use Rattle.std.specs.Prelude.{⊤, ◌⊎◌}
+use Rattle.std.proofs.Common.{◌≡◌, inl, inr, ℕ, List, [], ◌∷◌, ◌++◌, Option, Some, None, refl, sym, ap, subst, ◌∙◌, slice_get, length}
+use Rattle.wasi_addr.specs.declared.address.IpSocketAddress.{IpSocketAddress}
+use Rattle.wasi_addr.specs.declared.address.SocketAddressFamily.{SocketAddressFamily}
+use Rattle.wasi_world.specs.declared.ids.OpId.{OpId}
+use Rattle.wasi_world.specs.declared.call.Call.TheVariants as call
+use Rattle.wasi_world.specs.declared.call.HandleKind.TheVariants as name
+use Rattle.wasi_world.specs.declared.call.Told.{Told}
+use Rattle.wasi_world.specs.declared.call.Entry.{Entry}
+use Rattle.wasi_world.specs.Operation.{Operation}
+use Rattle.wasi_tcp.specs.Socket.{side_in}
+use Rattle.wasi_host.specs.declared.store.StandingCall.TheVariants as standing
+use Rattle.wasi_host.specs.declared.store.StandingCall.{StandingCall}
+use Rattle.wasi_host.specs.declared.store.Standing.{Standing}
+use Rattle.wasi_host.specs.declared.machine.Machine.{Machine}
+use Rattle.wasi_host.specs.declared.kind.Kind.{Kind}
+use Rattle.wasi_host.specs.declared.kind.Kind.TheVariants.{Network, Tcp2, Input, Output, Pollable, ErrorValue}
+use Rattle.wasi_host.specs.declared.listening.Listening.TheVariants.{Not, Begins}
+use Rattle.wasi_host.specs.declared.socket.Tcp2Socket.{Tcp2Socket}
+use Rattle.wasi_host.specs.Kinds.{place_in}
+use Rattle.wasi_host.specs.Machine.{own_of}
+use Rattle.wasi_host.specs.Store.{with_socket}
+use Rattle.wasi_steps.specs.declared.step.Step.{Step}
+use Rattle.wasi_steps.specs.declared.step.Step.TheVariants as step
+use Rattle.wasi_walks.specs.Licence.{Has, entry, IsMaker, IsSide, MarksNoSocket, HandedNone}
+use Rattle.wasi_walks.proofs.licence.ListenAsks.{ListenIsFine}
+use Rattle.wasi_walks.proofs.licence.NewNames.{NoMadeBy}
+use Rattle.wasi_walks.proofs.walks.Moves.{Used, Unused, Here, put, Found, record_of, Plain, Made, Unmade, Joined, Marked, second_of}
+use Rattle.wasi_walks.proofs.Lists.{get_set, get_seam}
+use Rattle.wasi_walks.proofs.licence.State.{NamesRecord, HandleIsFine, Names, BindIsFine, RecordIsFine, StateIsFine, IsHanded}
+use Rattle.wasi_walks.proofs.licence.AcceptFrames.{KeepsListening}
+use Rattle.wasi_walks.proofs.licence.Frames.{KeepsRecord, same_record, state_put}
+
+pub names_record : (es : List Entry) (sockets : List Tcp2Socket) (handle place : ℕ) (k : Option Kind) → record_of k ≡ Some place → ((kind : Kind) → k ≡ Some kind → HandleIsFine es sockets handle kind) → NamesRecord es sockets handle place
+names_record es sockets handle place None e h = absurd (cc)
+names_record es sockets handle place (Some Network) e h = absurd (cc)
+names_record es sockets handle place (Some (Tcp2 n)) e h = let p : n ≡ place = cc in subst (NamesRecord es sockets handle) p (h (Tcp2 n) refl)
+names_record es sockets handle place (Some (Input n)) e h = let p : n ≡ place = cc in subst (NamesRecord es sockets handle) p (h (Input n) refl)
+names_record es sockets handle place (Some (Output n)) e h = let p : n ≡ place = cc in subst (NamesRecord es sockets handle) p (h (Output n) refl)
+names_record es sockets handle place (Some (Pollable w)) e h = let p : place_in w ≡ place = cc in subst (NamesRecord es sockets handle) p (h (Pollable w) refl)
+names_record es sockets handle place (Some ErrorValue) e h = absurd (cc)
+
+pub same_op : (a b : Operation) → Some a ≡ Some b → a ≡ b
+same_op a b e = cc
+
+pub some_same : (a b : OpId) → Some b ≡ Some a → a ≡ b
+some_same a b e = cc
+
+pub keeps_plain : (r now : Tcp2Socket) → Plain r now → KeepsRecord r now
+keeps_plain r now p = record {
+  keeps = record { maker = p.maker; family = p.family; side = λ side e. sym (ap side_in p.does) ∙ e; connected = λ c e. record { connection = c; state = p.does ∙ e; same = refl } };
+  side = p.side;
+  streams = p.streams;
+  listening = p.listening;
+}
+
+pub seam : (xs : List Tcp2Socket) (now : Tcp2Socket) (p : ℕ) (q : Tcp2Socket) → Joined (length xs) ≡ Joined p → slice_get (xs ++ now ∷ []) p ≡ Some q → now ≡ q
+seam xs now p q e d = let at : length xs ≡ p = cc in same_record now q (sym (get_seam xs now) ∙ (ap (slice_get (xs ++ now ∷ [])) at ∙ d))
+
+abbrev SamePair : ℕ → ℕ → ℕ → ℕ → Type 0
+SamePair a b c d = let x : Option (ℕ × ℕ) = Some (a, b) in let y : Option (ℕ × ℕ) = Some (c, d) in x ≡ y
+
+pair_of : (x y : ℕ × ℕ) → Some x ≡ Some y → x ≡ y
+pair_of x y e = cc
+
+pub pair_first : (a b c d : ℕ) → SamePair a b c d → a ≡ c
+pair_first a b c d e = ap (λ (p : ℕ × ℕ). p.0) (pair_of (a, b) (c, d) e)
+
+pub pair_second : (a b c d : ℕ) → SamePair a b c d → b ≡ d
+pair_second a b c d e = ap (λ (p : ℕ × ℕ). p.1) (pair_of (a, b) (c, d) e)
+
+pub no_listen : (op : Operation) → Not ≡ Begins op → ⊥
+no_listen op e = absurd (cc)
+
+pub local_side : (a b : OpId) → call.Local a ≡ call.Local b → a ≡ b
+local_side a b e = cc
+
+pub second_names : {steps : List Step} (es : List Entry) (line : ℕ) (side : OpId) → Names steps es (own_of line) side → Names steps es (second_of line) side
+second_names es line side n = record { origin = n.origin; at = n.at; holds = n.holds }
+
+-- a machine but for a listen that stands
+abbrev pub calm_by : Standing → StandingCall → Option Standing
+calm_by s (standing.Listen place) = None
+calm_by s _ = Some s
+
+abbrev pub calm_standing : Option Standing → Option Standing
+calm_standing None = None
+calm_standing (Some s) = calm_by s s.call
+
+abbrev pub calm : Machine → Machine
+calm m = record m { store = record m.store { standing = calm_standing m.store.standing } }
+
+-- A listen that goes on, of this record.
+pub record ListenGoesOn (steps : List Step) (es : List Entry) (r : Tcp2Socket) (op : Operation) : Type 0 where
+  pub fine : ListenIsFine steps es op
+  pub asks : op.who.context ≡ r.inner.maker
+  pub made : IsMaker es r.inner.maker r.inner.family op.who.side
+
+-- the line has made no mark of a socket
+abbrev pub NotMarked : Made → Type 0
+NotMarked Unmade = ⊤
+NotMarked (Joined place) = ⊤
+NotMarked _ = ⊥
+
+-- a line's operation names a handle of the side that the record was made with
+abbrev pub NamesMade : List Step → ℕ → List Entry → Tcp2Socket → Type 0
+NamesMade steps n es r = (side : OpId) → r.side ≡ Some side → Names steps es (own_of n) side
+
+-- A record was taken from the listener that the line names, and has no mark yet.
+pub record JoinedIsFine (origin : Step) (es : List Entry) (h : Here) (place : ℕ) : Type 0 where
+  pub new : OpId
+  pub on : OpId
+  pub peer : IpSocketAddress
+  pub context : ℕ
+  pub listener : ℕ
+  pub by : origin ≡ step.TcpAccept context listener
+  pub side : (r : Tcp2Socket) → Found h place r → r.side ≡ Some new
+  pub of_listener : IsSide es listener on
+  pub handed : IsHanded es new on peer
+  pub fresh : MarksNoSocket es new
+
+-- The handle was marked by the line, with this side.
+pub record MadeSocket (line : ℕ) (es : List Entry) (handle : ℕ) (sock : Option OpId) : Type 0 where
+  pub above : Option ℕ
+  pub told : Told
+  pub mark : Has es (entry (own_of line) (call.Made handle name.Tcp2 above sock) told)
+
+-- The state fits the log, but that a listen stands, and so do the record that the line works on, the bind in hand, each listen
+-- that goes on, and what an accept has made.
+pub record Licensed (steps : List Step) (line : ℕ) (origin : Step) (es : List Entry) (h : Here) : Type 0 where
+  pub fine : StateIsFine steps es (calm h.machine)
+  pub names : (place n : ℕ) (r : Tcp2Socket) → h.at ≡ Some (place, n) → Found h place r → NamesMade steps n es r
+  pub hand : (op : Operation) → h.hand ≡ Some op → BindIsFine steps es op
+  pub listens : (place : ℕ) (r : Tcp2Socket) (op : Operation) → Found h place r → r.listening ≡ Begins op → ListenGoesOn steps es r op
+  pub new : h.own ≡ Unused → HandedNone es (second_of line) × MarksNoSocket es (second_of line)
+  pub unmade : (h.own ≡ Unused) ⊎ NotMarked h.made → (c s : ℕ) → origin ≡ step.TcpAccept c s → NoMadeBy es (own_of line)
+  pub joined : (place : ℕ) → h.made ≡ Joined place → JoinedIsFine origin es h place
+  pub marked : (handle place : ℕ) → h.made ≡ Marked handle place → (r : Tcp2Socket) → Found h place r → MadeSocket line es handle r.side
+
+-- == a record changes
+-- == moves
+-- of a record at a place, by its side alone
+by_side : (P : Option OpId → Type 0) (h : Here) (place : ℕ) (r now : Tcp2Socket) → Found h place r → now.side ≡ r.side → (k : ℕ) → ((q : Tcp2Socket) → Found h k q → P q.side) → (q : Tcp2Socket) → Found (put h place now) k q → P q.side
+by_side P h place r now g s k f q e = elim (get_set h.machine.store.sockets place now k q e) [
+  | inl p ↦ subst P (sym s ∙ ap (λ (x : Tcp2Socket). x.side) p.1) (f r (ap (slice_get h.machine.store.sockets) p.0 ∙ g))
+  | inr p ↦ f q p
+]
+
+-- a listen of it is the one that it was
+abbrev pub KeepsListen : Tcp2Socket → Tcp2Socket → Type 0
+KeepsListen r now = (op : Operation) → now.listening ≡ Begins op → (r.listening ≡ Begins op) × ((now.inner.maker ≡ r.inner.maker) × (now.inner.family ≡ r.inner.family))
+
+module _ {steps : List Step} where
+  goes_kept : (es : List Entry) (r now : Tcp2Socket) (op : Operation) → now.inner.maker ≡ r.inner.maker → now.inner.family ≡ r.inner.family → ListenGoesOn steps es r op → ListenGoesOn steps es now op
+  goes_kept es r now op m f g = record { fine = g.fine; asks = g.asks ∙ sym m; made = subst (λ (n : ℕ). IsMaker es n now.inner.family op.who.side) (sym m) (subst (λ (x : SocketAddressFamily). IsMaker es r.inner.maker x op.who.side) (sym f) g.made) }
+
+module _ {steps : List Step} {line : ℕ} {origin : Step} where
+  -- a record changes
+  module _ (es : List Entry) (h : Here) (place : ℕ) (r now : Tcp2Socket) (g : Found h place r) (s : now.side ≡ r.side) (i : Licensed steps line origin es h) where
+    joined_put : (p : ℕ) → JoinedIsFine origin es h p → JoinedIsFine origin es (put h place now) p
+    joined_put p j = record { new = j.new; on = j.on; peer = j.peer; context = j.context; listener = j.listener; by = j.by; side = by_side (λ (o : Option OpId). o ≡ Some j.new) h place r now g s p j.side; of_listener = j.of_listener; handed = j.handed; fresh = j.fresh }
+
+    pub put_with : StateIsFine steps es (record (calm h.machine) { store = with_socket (calm h.machine).store place now }) → ((op : Operation) → now.listening ≡ Begins op → ListenGoesOn steps es now op) → Licensed steps line origin es (put h place now)
+    put_with f l = record {
+      fine = f;
+      names = λ k n q a e. by_side (λ (o : Option OpId). (side : OpId) → o ≡ Some side → Names steps es (own_of n) side) h place r now g s k (λ x d. i.names k n x a d) q e;
+      hand = i.hand;
+      listens = λ k q op e b. elim (get_set h.machine.store.sockets place now k q e) [ inl p ↦ subst (λ (x : Tcp2Socket). ListenGoesOn steps es x op) p.1 (l op (ap (λ (x : Tcp2Socket). x.listening) p.1 ∙ b)) | inr p ↦ i.listens k q op p b ];
+      new = i.new;
+      unmade = i.unmade;
+      joined = λ p e. joined_put p (i.joined p e);
+      marked = λ handle p e q d. by_side (λ (o : Option OpId). MadeSocket line es handle o) h place r now g s p (λ x u. i.marked handle p e x u) q d;
+    }
+
+  pub put_fine : (es : List Entry) (h : Here) (place : ℕ) (r now : Tcp2Socket) → Found h place r → now.side ≡ r.side → KeepsListening r.listening now.listening → KeepsListen r now → RecordIsFine steps es now → Licensed steps line origin es h → Licensed steps line origin es (put h place now)
+  put_fine es h place r now g s l k f i = put_with es h place r now g s i (state_put steps es (calm h.machine) place r now g s l f i.fine) (λ op e. let q = k op e in goes_kept es r now op q.1.0 q.1.1 (i.listens place r op g q.0))
+
+  -- its own operation began something
+  pub spent : (es : List Entry) (h : Here) → Licensed steps line origin es h → Licensed steps line origin es (record h { own = Used })
+  spent es h i = record { fine = i.fine; names = i.names; hand = i.hand; listens = i.listens; new = λ e. absurd (cc); unmade = λ e c s is. i.unmade (elim e [ inl u ↦ absurd (cc) | inr u ↦ inr u ]) c s is; joined = λ p e. (let j = i.joined p e in record { new = j.new; on = j.on; peer = j.peer; context = j.context; listener = j.listener; by = j.by; side = j.side; of_listener = j.of_listener; handed = j.handed; fresh = j.fresh }); marked = i.marked }
+
+  -- what it works on is other
+  pub elsewhere : (es : List Entry) (h now : Here) → now.machine.store.sockets ≡ h.machine.store.sockets → now.own ≡ h.own → now.made ≡ h.made → Licensed steps line origin es h → StateIsFine steps es (calm now.machine) → ((place n : ℕ) (r : Tcp2Socket) → now.at ≡ Some (place, n) → Found now place r → NamesMade steps n es r) → ((op : Operation) → now.hand ≡ Some op → BindIsFine steps es op) → Licensed steps line origin es now
+  elsewhere es h now s o m i f n d = record {
+    fine = f;
+    names = n;
+    hand = d;
+    listens = λ k r op g e. i.listens k r op (there h now s k r g) e;
+    new = λ e. i.new (sym o ∙ e);
+    unmade = λ e c t is. i.unmade (elim e [ inl u ↦ inl (sym o ∙ u) | inr u ↦ inr (subst NotMarked m u) ]) c t is;
+    joined = λ p e. (let j = i.joined p (sym m ∙ e) in record { new = j.new; on = j.on; peer = j.peer; context = j.context; listener = j.listener; by = j.by; side = λ r g. j.side r (there h now s p r g); of_listener = j.of_listener; handed = j.handed; fresh = j.fresh });
+    marked = λ handle p e r g. i.marked handle p (sym m ∙ e) r (there h now s p r g);
+  }
+    where
+      there : (h now : Here) → now.machine.store.sockets ≡ h.machine.store.sockets → (k : ℕ) (r : Tcp2Socket) → Found now k r → Found h k r
+      there h now s k r g = subst (λ (xs : List Tcp2Socket). slice_get xs k ≡ Some r) s g

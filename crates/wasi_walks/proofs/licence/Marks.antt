@@ -1,0 +1,197 @@
+-- The marks of handles are licensed.
+use Rattle.std.specs.Prelude.{◌⊎◌}
+use Rattle.std.proofs.Common.{◌≡◌, inl, inr, ℕ, List, [], ◌∷◌, ◌++◌, Option, Some, None, refl, sym, ap, subst, ◌∙◌, slice_get}
+use Rattle.wasi_world.specs.declared.ids.OpId.{OpId}
+use Rattle.wasi_world.specs.declared.call.Call.TheVariants as call
+use Rattle.wasi_world.specs.declared.call.HandleKind.{HandleKind}
+use Rattle.wasi_world.specs.declared.call.HandleKind.TheVariants as name
+use Rattle.wasi_world.specs.declared.call.Told.{Told}
+use Rattle.wasi_world.specs.declared.call.Entry.{Entry}
+use Rattle.wasi_world.specs.declared.outcome.WasiSocketsCtx.{WasiSocketsCtx}
+use Rattle.wasi_world.specs.Asks.{bind}
+use Rattle.wasi_world.proofs.Allowed.{Allows, allows_if}
+use Rattle.wasi_streams.specs.Table.{is_full}
+use Rattle.wasi_host.specs.declared.kind.Kind.{Kind}
+use Rattle.wasi_host.specs.declared.kind.Kind.TheVariants.{Network, Tcp2, Input, Output, Pollable, ErrorValue}
+use Rattle.wasi_host.specs.declared.socket.Tcp2Socket.{Tcp2Socket}
+use Rattle.wasi_host.specs.Kinds.{name_of, kind_at, place_in, make_asks}
+use Rattle.wasi_host.specs.Machine.{own_of, side_at}
+use Rattle.wasi_steps.specs.declared.step.Step.{Step}
+use Rattle.wasi_steps.specs.declared.step.Step.TheVariants as step
+use Rattle.wasi_walks.specs.Licence.{Has, entry, step_at, BeganBy, IsMarkedWith, IsMarkOf, MayAsk, IsSide, MarksNoSocket}
+use Rattle.wasi_walks.proofs.claims.Law.{Named}
+use Rattle.wasi_walks.proofs.walks.Moves.{Used, Unused, Marks, ANetwork, AStream, AnError, Here, Found, MarksError, Joined, Marked, made_so, APollable, AnAcceptedStream, second_of}
+use Rattle.wasi_walks.proofs.Lists.{has_last, has_split, has_front}
+use Rattle.wasi_walks.proofs.licence.State.{accept_name, NamesRecord, HandleIsFine}
+use Rattle.wasi_walks.proofs.licence.AcceptFrames.{Touches, Spared, handed_unless}
+use Rattle.wasi_walks.proofs.licence.Frames.{same_record, names_on, bind_more, state_made}
+use Rattle.wasi_walks.proofs.licence.Line.{names_record, calm, NotMarked, MadeSocket, Licensed, elsewhere}
+use Rattle.wasi_walks.proofs.licence.Asked.{listens_on, joined_on}
+
+module _ (contexts : List WasiSocketsCtx) (steps : List Step) (line : ℕ) (origin : Step) (is_line : step_at steps line ≡ Some origin) where
+  error_mark : (es : List Entry) (op : OpId) (handle : ℕ) (sock : Option OpId) (s : Step) → MarksError handle s → IsMarkedWith es handle sock → IsMarkOf es op name.ErrorValue (Some handle) sock s
+  error_mark es op handle sock (step.Read ctx input len) m w = (refl, (ap (λ (n : ℕ). Some n) m, subst (λ (n : ℕ). IsMarkedWith es n sock) m w))
+  error_mark es op handle sock (step.CheckWrite ctx output) m w = (refl, (ap (λ (n : ℕ). Some n) m, subst (λ (n : ℕ). IsMarkedWith es n sock) m w))
+  error_mark es op handle sock (step.Write ctx output bytes) m w = (refl, (ap (λ (n : ℕ). Some n) m, subst (λ (n : ℕ). IsMarkedWith es n sock) m w))
+  error_mark es op handle sock (step.Flush ctx output) m w = (refl, (ap (λ (n : ℕ). Some n) m, subst (λ (n : ℕ). IsMarkedWith es n sock) m w))
+  error_mark es op handle sock _ m w = absurd m
+
+  -- == marks
+  unmarked_made : (es : List Entry) (op : OpId) (n : ℕ) (k : HandleKind) (parent : Option ℕ) (sock : Option OpId) (t : Told) (x : OpId) → MarksNoSocket es x → (k ≡ name.Tcp2 → sock ≡ Some x → ⊥) → MarksNoSocket (es ++ entry op (call.Made n k parent sock) t ∷ []) x
+  unmarked_made es op n k parent sock t x m f o handle above u i = elim (has_split es (entry op (call.Made n k parent sock) t) (entry o (call.Made handle name.Tcp2 above (Some x)) u) i) [
+    | inl j ↦ m o handle above u j
+    | inr e ↦ (let p = ap (λ (y : Entry). y.call) e in let a : k ≡ name.Tcp2 = cc in let b : sock ≡ Some x = cc in f a b)
+  ]
+
+  -- a mark, and what its handle stands for
+  pub made_fine : (es : List Entry) (h : Here) (kind : Kind) (parent : Option ℕ) (sock : Option OpId) → BeganBy steps (own_of line) (IsMarkOf es (own_of line) (name_of kind) parent sock)
+      → Spared h.machine.store.sockets (own_of line) (call.Made h.machine.table.next (name_of kind) parent sock)
+      → ((c s : ℕ) → origin ≡ step.TcpAccept c s → (h.own ≡ Unused) ⊎ NotMarked h.made → ⊥)
+      → ((x : OpId) → ((h.own ≡ Unused) × (x ≡ second_of line)) ⊎ ((p : ℕ) × (h.made ≡ Joined p)) → name_of kind ≡ name.Tcp2 → sock ≡ Some x → ⊥)
+      → ((t : Told) → HandleIsFine (es ++ entry (own_of line) (call.Made h.machine.table.next (name_of kind) parent sock) t ∷ []) h.machine.store.sockets h.machine.table.next kind) → Licensed steps line origin es h
+      → Allows (MayAsk contexts steps) (λ fs made. Licensed steps line origin fs (record h { machine = record h.machine { table = made.1 } })) es (make_asks h.machine.table (own_of line) kind parent sock)
+  unfolding bind
+  made_fine es h kind parent sock o sp un ms f i =
+      allows_if (MayAsk contexts steps) (λ fs made. Licensed steps line origin fs (record h { machine = record h.machine { table = made.1 } })) es (is_full h.machine.table) _ _ (λ full. elsewhere es h (record h { machine = record h.machine { table = h.machine.table } }) refl refl refl i i.fine i.names i.hand)
+      (λ room. (
+        (i.fine.count, o),
+        λ told fits.
+            let c = call.Made h.machine.table.next (name_of kind) parent sock in
+            let e = entry (own_of line) c told in
+            record {
+              fine = state_made steps es (calm h.machine) (own_of line) (name_of kind) parent sock told kind sp (f told) i.fine;
+              names = λ k n r a g side d. names_on steps es _ (own_of n) side (i.names k n r a g side d);
+              hand = λ o d. bind_more steps es _ o (i.hand o d);
+              listens = listens_on contexts steps line origin is_line es h (own_of line) c told (λ k q op g d p. absurd (cc)) i;
+              new = λ u. (handed_unless es (own_of line) c told (second_of line) (i.new u).0 (λ l p d. absurd (cc)), unmarked_made es (own_of line) h.machine.table.next (name_of kind) parent sock told (second_of line) (i.new u).1 (ms (second_of line) (inl (u, refl))));
+              unmade = λ d a s is. absurd (un a s is d);
+              joined = λ p d. (let j = i.joined p d in let k = joined_on contexts steps line origin is_line es h e p j (unmarked_made es (own_of line) h.machine.table.next (name_of kind) parent sock told j.new j.fresh (ms j.new (inr (p, d)))) in record { new = k.new; on = k.on; peer = k.peer; context = k.context; listener = k.listener; by = k.by; side = k.side; of_listener = k.of_listener; handed = k.handed; fresh = k.fresh });
+              marked = λ handle p d r g. (let k = i.marked handle p d r g in record { above = k.above; told = k.told; mark = has_front es _ _ k.mark });
+            },
+      ))
+
+  socket_touch : (op x : OpId) (n : ℕ) (k : HandleKind) (parent : Option ℕ) (sock : Option OpId) → Touches op (call.Made n k parent sock) x → k ≡ name.Tcp2
+  socket_touch op x n name.Tcp2 parent (Some s) t = refl
+  socket_touch op x n name.Tcp2 parent None t = absurd t
+  socket_touch op x n _ parent sock t = absurd t
+
+  -- of a handle that is no socket's
+  other_fine : (es : List Entry) (h : Here) (kind : Kind) (parent : Option ℕ) (sock : Option OpId) → BeganBy steps (own_of line) (IsMarkOf es (own_of line) (name_of kind) parent sock) → (name_of kind ≡ name.Tcp2 → ⊥)
+      → ((c s : ℕ) → origin ≡ step.TcpAccept c s → (h.own ≡ Unused) ⊎ NotMarked h.made → ⊥)
+      → ((t : Told) → HandleIsFine (es ++ entry (own_of line) (call.Made h.machine.table.next (name_of kind) parent sock) t ∷ []) h.machine.store.sockets h.machine.table.next kind) → Licensed steps line origin es h
+      → Allows (MayAsk contexts steps) (λ fs made. Licensed steps line origin fs (record h { machine = record h.machine { table = made.1 } })) es (make_asks h.machine.table (own_of line) kind parent sock)
+  other_fine es h kind parent sock o none un f i = made_fine es h kind parent sock o (λ k r x e n t. none (socket_touch (own_of line) x h.machine.table.next (name_of kind) parent sock t)) un (λ x p a. absurd (none a)) f i
+
+  abbrev pub OneOfTwo : Kind → ℕ → Type 0
+  OneOfTwo kind place = (kind ≡ Input place) ⊎ (kind ≡ Output place)
+
+  stream_name : (kind : Kind) (place : ℕ) → OneOfTwo kind place → (name_of kind ≡ name.Input) ⊎ (name_of kind ≡ name.Output)
+  stream_name kind place (inl e) = inl (ap name_of e)
+  stream_name kind place (inr e) = inr (ap name_of e)
+
+  no_socket : (k : HandleKind) → (k ≡ name.Input) ⊎ (k ≡ name.Output) → k ≡ name.Tcp2 → ⊥
+  no_socket k (inl e) p = absurd (cc)
+  no_socket k (inr e) p = absurd (cc)
+
+  stream_handle : (fs : List Entry) (sockets : List Tcp2Socket) (handle place : ℕ) (kind : Kind) → OneOfTwo kind place → NamesRecord fs sockets handle place → HandleIsFine fs sockets handle kind
+  stream_handle fs sockets handle place kind (inl e) n = subst (HandleIsFine fs sockets handle) (sym e) n
+  stream_handle fs sockets handle place kind (inr e) n = subst (HandleIsFine fs sockets handle) (sym e) n
+
+  -- the new handle names the record
+  new_names : (es : List Entry) (h : Here) (n place : ℕ) (kind : HandleKind) (parent : Option ℕ) (r : Tcp2Socket) (t : Told) → Found h place r → (let sock = side_at (slice_get h.machine.store.sockets place) in NamesRecord (es ++ entry (own_of line) (call.Made n kind parent sock) t ∷ []) h.machine.store.sockets n place)
+  new_names es h n place kind parent r t g =
+      let sock = side_at (slice_get h.machine.store.sockets place) in
+      let e = entry (own_of line) (call.Made n kind parent sock) t in
+      record { found = r; at = g; marked = record { op = own_of line; kind = kind; parent = parent; told = t; mark = subst (λ (o : Option OpId). Has (es ++ e ∷ []) (entry (own_of line) (call.Made n kind parent o) t)) (ap side_at g) (has_last es e) } }
+
+  not_accept : (s : Step) → ((c k : ℕ) → s ≡ step.TcpAccept c k → ⊥) → origin ≡ s → (c k : ℕ) → origin ≡ step.TcpAccept c k → (h : Here) → (h.own ≡ Unused) ⊎ NotMarked h.made → ⊥
+  not_accept s n e c k is h u = n c k (sym e ∙ is)
+
+  error_line : (handle : ℕ) (s : Step) → MarksError handle s → (c k : ℕ) → s ≡ step.TcpAccept c k → ⊥
+  error_line handle s m c k e = subst (MarksError handle) e m
+
+  used_marked : (h : Here) (handle place : ℕ) → h.own ≡ Used → h.made ≡ Marked handle place → (h.own ≡ Unused) ⊎ NotMarked h.made → ⊥
+  used_marked h handle place o m (inl u) = absurd (let p : Used ≡ Unused = sym o ∙ u in cc)
+  used_marked h handle place o m (inr n) = subst NotMarked m n
+
+  pub marked_fine : (es : List Entry) (h : Here) (kind : Kind) (parent : Option ℕ) (sock : Option OpId) → Marks origin h kind parent sock → Licensed steps line origin es h
+      → Allows (MayAsk contexts steps) (λ fs made. Licensed steps line origin fs (record h { machine = record h.machine { table = made.1 } })) es (make_asks h.machine.table (own_of line) kind parent sock)
+  marked_fine es h _ _ _ (ANetwork c e) i =
+      other_fine es h Network None None (record { origin = origin; at = is_line; holds = subst (IsMarkOf es (own_of line) name.Network None None) (sym e) (refl, refl, refl) }) (λ p. absurd (cc)) (λ a k is. not_accept (step.Network c) (λ a k p. absurd (cc)) e a k is h) (λ t. tt) i
+  marked_fine es h kind _ _ (AStream c handle place _ is which e) i =
+      let sock = side_at (slice_get h.machine.store.sockets place) in
+      let n = names_record es h.machine.store.sockets handle place (kind_at h.machine.table handle) e (i.fine.handles handle) in
+      let w : IsMarkedWith es handle sock = subst (IsMarkedWith es handle) (sym (ap side_at n.at)) n.marked in
+      other_fine es h kind (Some handle) sock (record { origin = origin; at = is_line; holds = subst (IsMarkOf es (own_of line) (name_of kind) (Some handle) sock) (sym is) (stream_name kind place which, (refl, w)) })
+      (no_socket (name_of kind) (stream_name kind place which)) (λ a k p. not_accept (step.TcpFinishConnect c handle) (λ a k p. absurd (cc)) is a k p h)
+      (λ t. stream_handle _ h.machine.store.sockets h.machine.table.next place kind which (new_names es h h.machine.table.next place (name_of kind) (Some handle) n.found t n.at)) i
+  marked_fine es h kind _ _ (AnAcceptedStream c listener handle place _ r is which m o g) i =
+      let sock = side_at (slice_get h.machine.store.sockets place) in
+      let k = i.marked handle place m r g in
+      other_fine es h kind (Some handle) sock
+      (record { origin = origin; at = is_line; holds = subst (IsMarkOf es (own_of line) (name_of kind) (Some handle) sock) (sym is) (inr (record { stream = stream_name kind place which; socket = handle; under = refl; above = k.above; told = k.told; marked = subst (λ (x : Option OpId). Has es (entry (own_of line) (call.Made handle name.Tcp2 k.above x) k.told)) (sym (ap side_at g)) k.mark })) })
+      (no_socket (name_of kind) (stream_name kind place which)) (λ a s p. used_marked h handle place o m)
+      (λ t. stream_handle _ h.machine.store.sockets h.machine.table.next place kind which (new_names es h h.machine.table.next place (name_of kind) (Some handle) r t g)) i
+  marked_fine es h _ _ _ (APollable c handle w is e) i =
+      let place = place_in w in
+      let sock = side_at (slice_get h.machine.store.sockets place) in
+      let n = names_record es h.machine.store.sockets handle place (kind_at h.machine.table handle) e (i.fine.handles handle) in
+      let k : IsMarkedWith es handle sock = subst (IsMarkedWith es handle) (sym (ap side_at n.at)) n.marked in
+      other_fine es h (Pollable w) (Some handle) sock (record { origin = origin; at = is_line; holds = subst (IsMarkOf es (own_of line) name.Pollable (Some handle) sock) (sym is) (refl, (refl, k)) }) (λ p. absurd (cc)) (λ a s p. not_accept (step.Subscribe c handle) (λ a s p. absurd (cc)) is a s p h)
+      (λ t. new_names es h h.machine.table.next place name.Pollable (Some handle) n.found t n.at) i
+  marked_fine es h _ _ _ (AnError handle place m e) i =
+      let sock = side_at (slice_get h.machine.store.sockets place) in
+      let n = names_record es h.machine.store.sockets handle place (kind_at h.machine.table handle) e (i.fine.handles handle) in
+      let w : IsMarkedWith es handle sock = subst (IsMarkedWith es handle) (sym (ap side_at n.at)) n.marked in
+      other_fine es h ErrorValue (Some handle) sock (record { origin = origin; at = is_line; holds = error_mark es (own_of line) handle sock origin m w }) (λ p. absurd (cc)) (λ a s p u. error_line handle origin m a s p) (λ t. tt) i
+
+  -- the mark of what was accepted
+  pub accepted_fine : (es : List Entry) (h : Here) (c s place : ℕ) (r : Tcp2Socket) → origin ≡ step.TcpAccept c s → h.made ≡ Joined place → h.own ≡ Used → Found h place r → Named line h → Licensed steps line origin es h
+      → Allows (MayAsk contexts steps) (λ fs made. Licensed steps line origin fs (record h { machine = record h.machine { table = made.1 }; made = made_so place made.0 })) es (make_asks h.machine.table (own_of line) (Tcp2 place) (Some s) (side_at (slice_get h.machine.store.sockets place)))
+  unfolding bind
+  accepted_fine es h c s place r is e o g b i =
+      let j = i.joined place e in
+      let n = h.machine.table.next in
+      let sock = side_at (slice_get h.machine.store.sockets place) in
+      let its : sock ≡ Some j.new = ap side_at g ∙ j.side r g in
+      let same : j.listener ≡ s = same_listener j.context j.listener c s (sym j.by ∙ is) in
+      let past : Used ≡ h.own = sym o in
+      allows_if (MayAsk contexts steps) (λ fs made. Licensed steps line origin fs (record h { machine = record h.machine { table = made.1 }; made = made_so place made.0 })) es (is_full h.machine.table) _ _
+      (λ full. record { fine = i.fine; names = i.names; hand = i.hand; listens = i.listens; new = i.new; unmade = λ u. absurd (elim u [ inl p ↦ not_used (past ∙ p) | inr p ↦ p ]); joined = λ p d. absurd (cc); marked = λ a p d. absurd (cc) })
+      (λ room. (
+        (i.fine.count, record { origin = origin; at = is_line; holds = subst (IsMarkOf es (own_of line) name.Tcp2 (Some s) sock) (sym is) (inl (record { first = i.unmade (inr (subst NotMarked (sym e) tt)) c s is; socket = refl; under = refl; accept = j.new; side = its; on = j.on; of_listener = subst (λ (x : ℕ). IsSide es x j.on) same j.of_listener; peer = j.peer; told = j.handed.told; handed = j.handed.hand; fresh = j.fresh })) }),
+        λ told fits.
+            let k = call.Made n name.Tcp2 (Some s) sock in
+            record {
+              fine = state_made steps es (calm h.machine) (own_of line) name.Tcp2 (Some s) sock told (Tcp2 place)
+                  (λ p q x d m t. apart_there j.new p q x d m (subst (λ (y : Option OpId). Touches (own_of line) (call.Made n name.Tcp2 (Some s) y) x) its t) (j.side r g)) (new_names es h n place name.Tcp2 (Some s) r told g) i.fine;
+              names = λ p m q a d side x. names_on steps es _ (own_of m) side (i.names p m q a d side x);
+              hand = λ op d. bind_more steps es _ op (i.hand op d);
+              listens = listens_on contexts steps line origin is_line es h (own_of line) k told (λ p q op d m x. absurd (cc)) i;
+              new = λ u. absurd (not_used (past ∙ u));
+              unmade = λ u. absurd (elim u [ inl p ↦ not_used (past ∙ p) | inr p ↦ p ]);
+              joined = λ p d. absurd (cc);
+              marked = λ a p d q m. made_there told a p q d m;
+            },
+      ))
+    where
+      not_used : Used ≡ Unused → ⊥
+      not_used p = absurd (cc)
+
+      same_listener : (a b c d : ℕ) → step.TcpAccept a b ≡ step.TcpAccept c d → b ≡ d
+      same_listener a b c d p = cc
+
+      apart_there : (new : OpId) (p : ℕ) (q : Tcp2Socket) (x : OpId) → Found h p q → accept_name q.listening ≡ Some x → new ≡ x → r.side ≡ Some new → ⊥
+      apart_there new p q x d m t v =
+          let w : accept_name q.listening ≡ Some new = m ∙ ap (λ (y : OpId). Some y) (sym t) in
+          let at : place ≡ p = b.one new place p r q g d (inl v) (inr w) in
+          let same : r ≡ q = same_record r q (sym g ∙ (ap (slice_get h.machine.store.sockets) at ∙ d)) in
+          b.apart new place r g v (ap (λ (y : Tcp2Socket). accept_name y.listening) same ∙ w)
+
+      made_there : (told : Told) (a p : ℕ) (q : Tcp2Socket) → Marked h.machine.table.next place ≡ Marked a p → Found h p q → MadeSocket line (es ++ entry (own_of line) (call.Made h.machine.table.next name.Tcp2 (Some s) (side_at (slice_get h.machine.store.sockets place))) told ∷ []) a q.side
+      made_there told a p q d m =
+          let n : h.machine.table.next ≡ a = cc in let at : place ≡ p = cc in
+          let same : r ≡ q = same_record r q (sym g ∙ (ap (slice_get h.machine.store.sockets) at ∙ m)) in
+          let e = entry (own_of line) (call.Made h.machine.table.next name.Tcp2 (Some s) (side_at (slice_get h.machine.store.sockets place))) told in
+          let sides : side_at (slice_get h.machine.store.sockets place) ≡ q.side = ap side_at g ∙ ap (λ (y : Tcp2Socket). y.side) same in
+          record { above = Some s; told = told; mark = subst (λ (x : ℕ). Has (es ++ e ∷ []) (entry (own_of line) (call.Made x name.Tcp2 (Some s) q.side) told)) n (subst (λ (x : Option OpId). Has (es ++ e ∷ []) (entry (own_of line) (call.Made h.machine.table.next name.Tcp2 (Some s) x) told)) sides (has_last es e)) }

@@ -1,0 +1,298 @@
+-- Each move keeps that the state fits the log.
+use Rattle.std.proofs.Common.{◌≡◌, inl, inr, ℕ, Bool, true, false, List, Option, Some, refl, sym, ap, subst, ◌∙◌, slice_get, slice_set}
+use Rattle.wasi_addr.specs.declared.address.IpSocketAddress.{IpSocketAddress}
+use Rattle.wasi_addr.specs.declared.address.SocketAddressFamily.{SocketAddressFamily}
+use Rattle.wasi_addr.specs.Address.{wildcard}
+use Rattle.wasi_world.specs.declared.ids.OpId.{OpId}
+use Rattle.wasi_world.specs.declared.call.Entry.{Entry}
+use Rattle.wasi_world.specs.declared.outcome.WasiSocketsCtx.{WasiSocketsCtx}
+use Rattle.wasi_world.specs.Operation.{End, Waits, Done, Refused}
+use Rattle.wasi_tcp.specs.declared.listener.Accepting.{Accepting}
+use Rattle.wasi_tcp.specs.declared.listener.Accepting.TheVariants as accepting
+use Rattle.wasi_tcp.specs.declared.reader.ReadState.TheVariants as reading
+use Rattle.wasi_tcp.specs.declared.socket.Connection.{Connection}
+use Rattle.wasi_tcp.specs.declared.socket.TcpState.TheVariants as state
+use Rattle.wasi_tcp.specs.declared.writer.WriteState.{WriteState}
+use Rattle.wasi_tcp.specs.declared.writer.WriteState.TheVariants as writing
+use Rattle.wasi_tcp.specs.Connect.{connect_first, connect_operation}
+use Rattle.wasi_tcp.specs.Connecting.{with_state}
+use Rattle.wasi_tcp.specs.Job.{Job, new_job}
+use Rattle.wasi_tcp.specs.Listener.{Listener, accepted_socket}
+use Rattle.wasi_tcp.specs.Shape.{Socket}
+use Rattle.wasi_tcp.specs.Socket.{side_in, side_of}
+use Rattle.wasi_tcp.specs.Writer.{written_by, closed_by}
+use Rattle.wasi_host.specs.declared.listening.Listening.TheVariants.{Not, Accepts}
+use Rattle.wasi_host.specs.declared.socket.Streams.{Streams}
+use Rattle.wasi_host.specs.declared.socket.Tcp2Socket.{Tcp2Socket}
+use Rattle.wasi_host.specs.Dropping.{gone}
+use Rattle.wasi_host.specs.Kinds.{kind_at}
+use Rattle.wasi_host.specs.Listening.{with_listening}
+use Rattle.wasi_host.specs.Machine.{own_of}
+use Rattle.wasi_host.specs.Store.{new_streams, with_inner, standing_bind, standing_drop}
+use Rattle.wasi_steps.specs.declared.step.Step.{Step}
+use Rattle.wasi_walks.specs.Licence.{Has, step_at, IsMarkedWith, IsMaker, MayGoOut, IsSide, MarksNoSocket, Handed, handles_of}
+use Rattle.wasi_walks.proofs.licence.ListenAsks.{Whole as WholeListen}
+use Rattle.wasi_walks.proofs.claims.Law.{Base, same_begun, fresh}
+use Rattle.wasi_walks.proofs.walks.Moves.{closed_record, Used, Here, put, Found, record_of, WriterMoves, Collects, Permits, Lasts, LastsAfter, Closes, Plain, Move, Reaches, Leaves, Spends, Changes, ClosesReader, Writes, IsGone, opened_by, Reconnects, Opens, BeginsConnect, BeginsBind, BeginsWrite, Stands, Resumes, Ends, Lists, Takes, BeginsListen, BeginsAccept, Unlistens, Forgets, Watches, Joins, StandsListen, StandsDrop, ResumesDrop, Unstands, accepting_now, begun_listen, beginning_listen, new_accept, joined, second_of}
+use Rattle.wasi_walks.proofs.Lists.{get_split}
+use Rattle.wasi_walks.proofs.licence.State.{ConnectIsFine, ConnectLeft, Unbound, Unchecked, ReadsOn, Whole, ToWrite, Names, BindIsFine, JobIsFine, WritesOn, StreamsAreFine, AcceptingIsFine, ListeningIsFine, SocketIsFine, RecordIsFine, IsHanded, Unarrived, AcceptingStands, ListeningStands, ListenerIsFine, name_in, DropIsFine}
+use Rattle.wasi_walks.proofs.licence.AcceptFrames.{same_listening, listening_kept, listening_gone, Only}
+use Rattle.wasi_walks.proofs.licence.Frames.{KeepsSide, same_record, record_kept, state_taken, state_put, state_stands, state_unstands, state_jobs, state_renewed, state_joined}
+use Rattle.wasi_walks.proofs.licence.WriteJobs.{shut_after}
+use Rattle.wasi_walks.proofs.licence.Line.{put_with, names_record, same_op, keeps_plain, seam, pair_first, pair_second, no_listen, second_names, calm_standing, calm, ListenGoesOn, NotMarked, NamesMade, Licensed, KeepsListen, put_fine, spent, elsewhere}
+
+module _ (contexts : List WasiSocketsCtx) (steps : List Step) (line : ℕ) (origin : Step) (is_line : step_at steps line ≡ Some origin) where
+  plain_socket : (es : List Entry) (r now : Tcp2Socket) → Plain r now → SocketIsFine steps es r.inner → SocketIsFine steps es now.inner
+  plain_socket es r now p f = record {
+    knows = record { maker = λ side e. rw (p.maker, p.family) (f.knows.maker side (sym (ap side_in p.does) ∙ e)) };
+    bound = λ side e b. let d = sym p.does ∙ e in f.bound side d (p.bound side d b);
+    listens = λ side e. f.listens side (sym p.does ∙ e);
+    connect = λ op e. f.connect op (sym p.does ∙ e);
+  }
+
+  plain_fine : (es : List Entry) (h : Here) (place : ℕ) (r now : Tcp2Socket) → Found h place r → Plain r now → Licensed steps line origin es h → Licensed steps line origin es (put h place now)
+  plain_fine es h place r now g p i =
+      let f = i.fine.sockets place r g in
+      put_fine es h place r now g p.side (listening_kept r.listening now.listening p.listening) (λ op e. (sym p.listening ∙ e, (p.maker, p.family))) (record_kept steps es r now (keeps_plain r now p) (plain_socket es r now p f.socket) f) i
+
+  -- other streams, of the same side
+  pub streams_fine : (es : List Entry) (h : Here) (place : ℕ) (r : Tcp2Socket) (s now : Streams) → Found h place r → r.streams ≡ Some s
+      → ((f : StreamsAreFine steps es r.inner s) → ReadsOn f.side now.reader × WritesOn steps es f.side now.writer) → Licensed steps line origin es h → Licensed steps line origin es (put h place (record r { streams = Some now }))
+  streams_fine es h place r s now g e k i =
+      let x = i.fine.sockets place r g in
+      let f = x.streams s e in
+      let on = k f in
+      let it : StreamsAreFine steps es r.inner now = record { side = f.side; connected = f.connected; reads = on.0; writes = on.1 } in
+      put_fine es h place r _ g refl (same_listening r.listening) (λ op p. (p, (refl, refl)))
+      (record { socket = x.socket; named = x.named; streams = λ others p. let q : now ≡ others = cc in subst (StreamsAreFine steps es r.inner) q it; listening = x.listening }) i
+
+  written_on : (es : List Entry) (side : OpId) (job : Job) (e : End) → JobIsFine steps es side job → WritesOn steps es side (written_by job e)
+  written_on es side job Waits h = h
+  written_on es side job (Done given) h = h.on
+  written_on es side job (Refused c given) h = tt
+
+  closed_on : (es : List Entry) (side : OpId) (job : Job) (e : End) → JobIsFine steps es side job → WritesOn steps es side (closed_by job e)
+  closed_on es side job Waits h = h
+  closed_on es side job (Done given) h = tt
+  closed_on es side job (Refused c given) h = tt
+
+  writes_on : (es : List Entry) (side : OpId) (w now : WriteState) → WriterMoves w now → WritesOn steps es side w → WritesOn steps es side now
+  writes_on es side _ _ (Collects (writing.Ready half permit)) on = on
+  writes_on es side _ _ (Collects (writing.Writing job)) on = written_on es side job job.end on
+  writes_on es side _ _ (Collects (writing.Closing job)) on = closed_on es side job job.end on
+  writes_on es side _ _ (Collects (writing.Closed e)) on = on
+  writes_on es side _ _ (Permits half old) on = on
+  writes_on es side _ _ (Lasts job) on = on
+  writes_on es side _ _ (LastsAfter job) on = record { named = on.named; on = on.on; last = on.last; left = shut_after contexts steps job.write.left on.left }
+  writes_on es side _ _ (Closes w e) on = tt
+
+  pub closed_fine : (es : List Entry) (r : Tcp2Socket) → RecordIsFine steps es (closed_record r)
+  closed_fine es r = record {
+    socket = record { knows = record { maker = λ side e. absurd (cc) }; bound = λ side e b. absurd (cc); listens = λ side e. absurd (cc); connect = λ op e. absurd (cc) };
+    named = λ side e. absurd (cc);
+    streams = λ s e. absurd (cc);
+    listening = tt;
+  }
+
+  pub held_side : (es : List Entry) (r : Tcp2Socket) (s : Streams) (f : StreamsAreFine steps es r.inner s) → side_of r.inner ≡ Some f.side
+  held_side es r s f = ap side_in f.connected.state ∙ ap (λ (x : OpId). Some x) f.connected.same
+
+  names_streams : (es : List Entry) (r : Tcp2Socket) (s : Streams) → NamesMade steps line es r → RecordIsFine steps es r → (f : StreamsAreFine steps es r.inner s) → Names steps es (own_of line) f.side
+  names_streams es r s n h f = n f.side (h.named f.side (held_side es r s f))
+
+  -- another connection of the same side
+  still_connected : (r : Tcp2Socket) (c now : Connection) → r.inner.state ≡ state.Connected c → now.side ≡ c.side → KeepsSide r.inner (with_state r.inner (state.Connected now))
+  still_connected r c now e s = record {
+    maker = refl;
+    family = refl;
+    side = λ side p. ap side_in e ∙ (ap (λ (x : OpId). Some x) (sym s) ∙ p);
+    connected = λ d p. let q : state.Connected c ≡ state.Connected d = sym e ∙ p in let z : c ≡ d = cc in record { connection = now; state = refl; same = s ∙ ap (λ (x : Connection). x.side) z };
+  }
+
+  connected_fine : (es : List Entry) (socket : Socket) (c now : Connection) → socket.state ≡ state.Connected c → now.side ≡ c.side → SocketIsFine steps es socket → SocketIsFine steps es (with_state socket (state.Connected now))
+  connected_fine es socket c now e s f = record {
+    knows = record { maker = λ side p. f.knows.maker side (ap side_in e ∙ (ap (λ (x : OpId). Some x) (sym s) ∙ p)) };
+    bound = λ side p b. absurd (cc);
+    listens = λ side p. absurd (cc);
+    connect = λ op p. absurd (cc);
+  }
+
+  not_default : (side : OpId) (c : Connection) → state.Default side ≡ state.Connected c → ⊥
+  not_default side c e = absurd (cc)
+
+  first_left : (es : List Entry) (side : OpId) (maker : ℕ) (family : SocketAddressFamily) (a : IpSocketAddress) (b : Bool) → IsMaker es maker family side → (b ≡ true → MayGoOut es (own_of line) side)
+      → ConnectLeft es (own_of line) side maker a (connect_operation (record { op = own_of line; side = side; maker = maker }) (wildcard family) a (connect_first b)).left
+  first_left es side maker family a true m o = Unchecked (o refl)
+  first_left es side maker family a false m o = Unbound family m
+
+  pub same_listen : (r now : Tcp2Socket) → now.listening ≡ r.listening → now.inner.maker ≡ r.inner.maker → now.inner.family ≡ r.inner.family → KeepsListen r now
+  same_listen r now l m f op e = (sym l ∙ e, (m, f))
+
+  pub gone_maker : (r : Tcp2Socket) (socket : Socket) → KeepsListen r (gone r socket)
+  gone_maker r socket op e = absurd (cc)
+
+  no_streams : (es : List Entry) (r : Tcp2Socket) (side : OpId) (s : Streams) → r.inner.state ≡ state.Default side → RecordIsFine steps es r → r.streams ≡ Some s → ⊥
+  no_streams es r side s d f e = not_default side (f.streams s e).connected.connection (sym d ∙ (f.streams s e).connected.state)
+
+  names_at : (es : List Entry) (h : Here) (handle place : ℕ) → Has (handles_of origin) handle → record_of (kind_at h.machine.table handle) ≡ Some place → Licensed steps line origin es h → (r : Tcp2Socket) → Found h place r → NamesMade steps line es r
+  names_at es h handle place named e i r g side m =
+      let n = names_record es h.machine.store.sockets handle place (kind_at h.machine.table handle) e (i.fine.handles handle) in
+      let same : n.found.side ≡ r.side = ap (λ (x : Tcp2Socket). x.side) (same_record n.found r (sym n.at ∙ g)) in
+      let w = subst (IsMarkedWith es handle) (same ∙ m) n.marked in
+      record { origin = origin; at = is_line; holds = record { handle = handle; named = named; is = record { op = w.op; kind = w.kind; parent = w.parent; told = w.told; mark = w.mark } } }
+
+  -- the side of a record that a handle of the line is of
+  is_side : (es : List Entry) (h : Here) (handle place : ℕ) → record_of (kind_at h.machine.table handle) ≡ Some place → Licensed steps line origin es h → (r : Tcp2Socket) → Found h place r → (side : OpId) → r.side ≡ Some side → IsSide es handle side
+  is_side es h handle place e i r g side m =
+      let n = names_record es h.machine.store.sockets handle place (kind_at h.machine.table handle) e (i.fine.handles handle) in
+      let same : n.found.side ≡ r.side = ap (λ (x : Tcp2Socket). x.side) (same_record n.found r (sym n.at ∙ g)) in
+      let w = subst (IsMarkedWith es handle) (same ∙ m) n.marked in record { op = w.op; kind = w.kind; parent = w.parent; told = w.told; mark = w.mark }
+
+  pub listener_fine : (es : List Entry) (r : Tcp2Socket) (l : Listener) → r.listening ≡ Accepts l → RecordIsFine steps es r → ListenerIsFine steps es r.side l
+  listener_fine es r l e f = subst (ListeningIsFine steps es r.side) e f.listening
+
+  -- the accept of a listener is another, of a name that no other record has
+  renewed_fine : (es : List Entry) (h : Here) (place : ℕ) (r : Tcp2Socket) (l : Listener) (a : Accepting) → Found h place r → r.listening ≡ Accepts l → AcceptingIsFine steps es l.side l.maker a → AcceptingStands es l.side a → ((x : OpId) → name_in a ≡ Some x → Only h.machine.store.sockets place x) → Licensed steps line origin es h → Licensed steps line origin es (put h place (accepting_now r l a))
+  renewed_fine es h place r l a g e f s o i =
+      let x = i.fine.sockets place r g in let lf = listener_fine es r l e x in
+      put_with es h place r (accepting_now r l a) g refl i
+      (state_renewed steps es (calm h.machine) place r (accepting_now r l a) g refl (record { socket = x.socket; named = x.named; streams = x.streams; listening = record { side = lf.side; maker = lf.maker; accept = f } }) s o i.fine)
+      (λ op p. absurd (cc))
+
+  joined_record : (es : List Entry) (l : Listener) (new : OpId) (peer : IpSocketAddress) → IsMaker es l.maker l.family l.side → IsHanded es new l.side peer → RecordIsFine steps es (joined l new peer)
+  joined_record es l new peer m k =
+      let c : Connection = record { side = new; peer = Some peer; receive_taken = true; send_taken = true } in
+      let socket : Socket = accepted_socket l.family l.maker (state.Connected c) in
+      let made : IsMaker es l.maker l.family new = Handed new l.side peer k.told k.hand m in
+      let it : StreamsAreFine steps es socket (new_streams (record { side = new }) (record { side = new })) = record { side = new; connected = record { connection = c; state = refl; same = refl }; reads = refl; writes = refl } in
+      record {
+        socket = record { knows = record { maker = λ side e. (let p : new ≡ side = cc in subst (IsMaker es l.maker l.family) p made) }; bound = λ side e b. absurd (cc); listens = λ side e. absurd (cc); connect = λ op e. absurd (cc) };
+        named = λ side e. e;
+        streams = λ s e. (let p : new_streams (record { side = new }) (record { side = new }) ≡ s = cc in subst (StreamsAreFine steps es socket) p it);
+        listening = tt;
+      }
+
+  pub moves_fine : (es : List Entry) (h now : Here) → Move line origin h now → Base contexts line origin h → Licensed steps line origin es h → Licensed steps line origin es now
+  moves_fine es _ _ (Reaches h handle place named e) b i = elsewhere es h _ refl refl refl i i.fine (λ k n r a g. by_place h k n place r a g (names_at es h handle place named e i)) i.hand
+    where
+      by_place : (h : Here) (k n place : ℕ) (r : Tcp2Socket) → (let x : Option (ℕ × ℕ) = Some (place, line) in let y : Option (ℕ × ℕ) = Some (k, n) in x ≡ y) → Found h k r → ((q : Tcp2Socket) → Found h place q → NamesMade steps line es q) → NamesMade steps n es r
+      by_place h k n place r a g f = let p = pair_first place line k n a in let q = pair_second place line k n a in subst (λ (x : ℕ). NamesMade steps x es r) q (f r (ap (slice_get h.machine.store.sockets) p ∙ g))
+  moves_fine es _ _ (Leaves h) b i = record { fine = i.fine; names = λ k n r a g. absurd (cc); hand = i.hand; listens = i.listens; new = i.new; unmade = λ e c s is. i.unmade (elim e [ inl u ↦ inl u | inr u ↦ absurd u ]) c s is; joined = λ p e. absurd (cc); marked = λ handle p e. absurd (cc) }
+  moves_fine es _ _ (Spends h e) b i = spent es h i
+  moves_fine es _ _ (Changes h place r now g p) b i = plain_fine es h place r now g p i
+  moves_fine es _ _ (ClosesReader h place r s g e) b i = streams_fine es h place r s (record s { reader = reading.Closed }) g e (λ f. (tt, f.writes)) i
+  moves_fine es _ _ (Writes h place r s w g e m) b i = streams_fine es h place r s (record s { writer = w }) g e (λ f. (f.reads, writes_on es f.side s.writer w m f.writes)) i
+  moves_fine es _ _ (IsGone h place r g e) b i =
+      let f = i.fine.sockets place r g in
+      put_fine es h place r (gone r r.inner) g refl (listening_gone r.listening) (gone_maker r r.inner) (record { socket = f.socket; named = f.named; streams = λ s p. absurd (cc); listening = tt }) i
+  moves_fine es _ _ (Reconnects h place r c now g e s t u) b i =
+      let f = i.fine.sockets place r g in
+      put_fine es h place r _ g refl (same_listening r.listening) (same_listen r (with_inner r (with_state r.inner (state.Connected now))) refl refl refl) (record_kept steps es r _ (record { keeps = still_connected r c now e s; side = refl; streams = refl; listening = refl }) (connected_fine es r.inner c now e s f.socket) f) i
+  moves_fine es _ _ (Opens h place r c g e n) b i =
+      let f = i.fine.sockets place r g in let now : Connection = record c { send_taken = true } in
+      let it : StreamsAreFine steps es (with_state r.inner (state.Connected now)) (new_streams (record { side = c.side }) (record { side = c.side })) = record { side = c.side; connected = record { connection = now; state = refl; same = refl }; reads = refl; writes = refl } in
+      put_fine es h place r (opened_by r c) g refl (same_listening r.listening) (same_listen r (opened_by r c) refl refl refl)
+      (record { socket = connected_fine es r.inner c now e refl f.socket; named = λ side p. f.named side (ap side_in e ∙ p); streams = λ s p. let q : new_streams (record { side = c.side }) (record { side = c.side }) ≡ s = cc in subst (StreamsAreFine steps es (with_state r.inner (state.Connected now))) q it; listening = f.listening }) i
+  moves_fine es _ _ (BeginsConnect h place r side a bound at g d to known o) b i =
+      let f = i.fine.sockets place r g in
+      let e : side_of r.inner ≡ Some side = ap side_in d in
+      let op = connect_operation (record { op = own_of line; side = side; maker = r.inner.maker }) (wildcard r.inner.family) a (connect_first bound) in
+      let may : ConnectIsFine steps es op = record {
+        addr = a;
+        to = record { origin = origin; at = is_line; holds = to };
+        works = record { family = r.inner.family; made = f.socket.knows.maker side e; named = i.names place line r at g side (f.named side e) };
+        last = refl;
+        left = first_left es side r.inner.maker r.inner.family a bound (f.socket.knows.maker side e) (λ yes. inl (f.socket.bound side d (known yes)));
+      } in
+      let socket : SocketIsFine steps es (with_state r.inner (state.Connecting op)) = record {
+        knows = record { maker = λ s p. f.socket.knows.maker s (e ∙ p) };
+        bound = λ s p q. absurd (cc);
+        listens = λ s p. absurd (cc);
+        connect = λ x p. let same : op ≡ x = cc in subst (ConnectIsFine steps es) same may;
+      } in
+      spent es _ (put_fine es h place r (with_inner r (with_state r.inner (state.Connecting op))) g refl (same_listening r.listening) (same_listen r (with_inner r (with_state r.inner (state.Connecting op))) refl refl refl)
+      (record_kept steps es r _ (record { keeps = record { maker = refl; family = refl; side = λ s p. e ∙ p; connected = λ c p. absurd (not_default side c (sym d ∙ p)) }; side = refl; streams = refl; listening = refl }) socket f) i)
+  moves_fine es _ _ (BeginsBind h place r side a at g d to o) b i =
+      let f = i.fine.sockets place r g in
+      let e : side_of r.inner ≡ Some side = ap side_in d in
+      let begun : BindIsFine steps es _ = record {
+        addr = a;
+        to = record { origin = origin; at = is_line; holds = to };
+        works = record { family = r.inner.family; made = f.socket.knows.maker side e; named = i.names place line r at g side (f.named side e) };
+        last = refl;
+        left = Whole;
+      } in
+      let k = spent es h i in elsewhere es (record h { own = Used }) _ refl refl refl k k.fine k.names (λ op p. subst (BindIsFine steps es) (same_op _ op p) begun)
+  moves_fine es _ _ (BeginsWrite h place r s half permit bytes at g e w within o) b i =
+      spent es _ (streams_fine es h place r s (record s { writer = writing.Writing (new_job (own_of line) half.side bytes) }) g e
+      (λ f. (f.reads, record { named = names_streams es r s (i.names place line r at g) (i.fine.sockets place r g) f; on = subst (WritesOn steps es f.side) w f.writes; last = refl; left = ToWrite bytes })) i)
+  moves_fine es _ _ (BeginsListen h place r side at g d bound none to o) b i =
+      let f = i.fine.sockets place r g in
+      let e : side_of r.inner ≡ Some side = ap side_in d in
+      let now = beginning_listen (own_of line) side r in
+      let goes : ListenGoesOn steps es now (begun_listen (own_of line) side r) = record {
+        fine = record { to = record { origin = origin; at = is_line; holds = to }; works = record { family = r.inner.family; made = f.socket.knows.maker side e; named = i.names place line r at g side (f.named side e) }; bound = f.socket.bound side d bound; last = refl; so_far = WholeListen r.inner.backlog };
+        asks = refl;
+        made = f.socket.knows.maker side e;
+      } in
+      spent es _ (put_with es h place r now g refl i
+      (state_put steps es (calm h.machine) place r now g refl (record { stands = λ fs k. tt; names = λ x p. absurd (cc) })
+      (record { socket = record { knows = record { maker = λ x p. absurd (cc) }; bound = λ x p q. absurd (cc); listens = λ x p. absurd (cc); connect = λ x p. absurd (cc) }; named = λ x p. absurd (cc); streams = λ t p. absurd (no_streams es r side t d f p); listening = tt }) i.fine)
+      (λ op p. subst (ListenGoesOn steps es now) (same_begun _ op p) goes))
+  moves_fine es _ _ (BeginsAccept h place r l at g e a o) b i =
+      let x = i.fine.sockets place r g in let lf = listener_fine es r l e x in let n = i.new o in
+      spent es _ (renewed_fine es h place r l (new_accept line l) g e
+      (record { named = second_names es line l.side (i.names place line r at g l.side lf.side); on = refl; asks = refl; last = refl }) (record { handed = n.0; marked = n.1; so_far = Unarrived })
+      (λ y p k q u v. absurd (fresh contexts line origin h o b.1 y (of_line y p) k q u (inr v))) i)
+    where
+      of_line : (x : OpId) → Some (second_of line) ≡ Some x → x.step ≡ line
+      of_line x p = let q : second_of line ≡ x = cc in ap (λ (y : OpId). y.step) (sym q)
+  moves_fine es _ _ (Unlistens h place r op g e c o) b i =
+      let f = i.fine.sockets place r g in put_fine es h place r (with_listening r Not) g refl (listening_gone r.listening) (λ op p. absurd (cc)) (record { socket = f.socket; named = f.named; streams = f.streams; listening = tt }) i
+  moves_fine es _ _ (Forgets h place r l c g e a) b i = renewed_fine es h place r l accepting.Idle g e tt tt (λ x p. absurd (cc)) i
+  moves_fine es _ _ (Watches h o) b i = record { fine = i.fine; names = i.names; hand = i.hand; listens = i.listens; new = i.new; unmade = λ e c s is. i.unmade (inl o) c s is; joined = λ p e. absurd (cc); marked = λ handle p e. absurd (cc) }
+  moves_fine es _ _ (Joins h c handle place r l new peer is of u g e a) b i =
+      let idle = accepting_now r l accepting.Idle in
+      let sockets = slice_set h.machine.store.sockets place idle in
+      let x = i.fine.sockets place r g in let lf = listener_fine es r l e x in
+      let handed : IsHanded es new l.side peer = subst (AcceptingIsFine steps es l.side l.maker) a lf.accept in
+      let free : MarksNoSocket es new = subst (AcceptingStands es l.side) a (subst (ListeningStands es) e (i.fine.accepts place r g)) in
+      let k = renewed_fine es h place r l accepting.Idle g e tt tt (λ y p. absurd (cc)) i in
+      record {
+        fine = state_joined steps es (calm (put h place idle).machine) (joined l new peer) (joined_record es l new peer lf.maker handed) tt refl k.fine;
+        names = λ p n q at d. absurd (cc);
+        hand = i.hand;
+        listens = λ p q op d m. elim (get_split sockets (joined l new peer) p q d) [ inl v ↦ k.listens p q op v m | inr v ↦ absurd (no_listen op (ap (λ (y : Tcp2Socket). y.listening) v ∙ m)) ];
+        new = i.new;
+        unmade = λ t c s is. i.unmade (inr (subst NotMarked (sym u) tt)) c s is;
+        joined = λ p m. record {
+          new = new;
+          on = l.side;
+          peer = peer;
+          context = c;
+          listener = handle;
+          by = is;
+          side = λ q d. ap (λ (y : Tcp2Socket). y.side) (sym (seam sockets (joined l new peer) p q m d));
+          of_listener = is_side es h handle place of i r g l.side lf.side;
+          handed = handed;
+          fresh = free;
+        };
+        marked = λ s p m. absurd (cc);
+      }
+  moves_fine es _ _ (StandsListen h n place r f) b i = elsewhere es h _ refl refl refl i (state_unstands steps es (calm h.machine) i.fine) i.names i.hand
+  moves_fine es _ _ (StandsDrop h n place r at g) b i = elsewhere es h _ refl refl refl i (state_stands steps es (calm h.machine) (standing_drop n place) (record { found = r; at = g; named = i.names place n r at g }) i.fine) i.names i.hand
+  moves_fine es _ _ (ResumesDrop h n place e) b i =
+      let d : DropIsFine steps es h.machine.store.sockets (own_of n) place = i.fine.standing (standing_drop n place) (ap calm_standing e) in
+      elsewhere es h _ refl refl refl i i.fine (λ k j r a g. dropped h n place k j r d a g) i.hand
+    where
+      dropped : (h : Here) (n place k j : ℕ) (r : Tcp2Socket) → DropIsFine steps es h.machine.store.sockets (own_of n) place → (let x : Option (ℕ × ℕ) = Some (place, n) in let y : Option (ℕ × ℕ) = Some (k, j) in x ≡ y) → Found h k r → NamesMade steps j es r
+      dropped h n place k j r d a g =
+          let p = pair_first place n k j a in let q = pair_second place n k j a in
+          let same : d.found ≡ r = same_record d.found r (sym d.at ∙ (ap (slice_get h.machine.store.sockets) p ∙ g)) in
+          subst (λ (x : ℕ). NamesMade steps x es r) q (subst (NamesMade steps n es) same d.named)
+  moves_fine es _ _ (Unstands h) b i = elsewhere es h _ refl refl refl i (state_unstands steps es (calm h.machine) i.fine) i.names i.hand
+  moves_fine es _ _ (Stands h n place r op f e) b i = elsewhere es h _ refl refl refl i (state_stands steps es (calm h.machine) (standing_bind n place op) (i.hand op e) i.fine) i.names (λ o p. absurd (cc))
+  moves_fine es _ _ (Resumes h n place op e) b i = elsewhere es h _ refl refl refl i (state_unstands steps es (calm h.machine) i.fine) i.names (λ o p. subst (BindIsFine steps es) (same_op op o p) (i.fine.standing (standing_bind n place op) (ap calm_standing e)))
+  moves_fine es _ _ (Ends h) b i = elsewhere es h _ refl refl refl i i.fine i.names (λ o p. absurd (cc))
+  moves_fine es _ _ (Lists h jobs) b i = elsewhere es h _ refl refl refl i (state_jobs steps es (calm h.machine) jobs i.fine) i.names i.hand
+  moves_fine es _ _ (Takes h handle) b i = elsewhere es h _ refl refl refl i (state_taken steps es (calm h.machine) handle i.fine) i.names i.hand

@@ -1,0 +1,120 @@
+-- Each ask of a run is licensed: between two lines the state fits the log, and each line is judged by the steps up to it.
+use Rattle.std.specs.Prelude.{⊤}
+use Rattle.std.proofs.Common.{◌≡◌, ℕ, ◌+◌, List, [], ◌∷◌, ◌++◌, Some, length, slice_get, refl, sym, ap, subst, ◌∙◌, arith, append_assoc, append-nil, add-one, length-append}
+use Rattle.wasi_world.specs.declared.call.Entry.{Entry}
+use Rattle.wasi_world.specs.declared.outcome.WasiSocketsCtx.{WasiSocketsCtx}
+use Rattle.wasi_world.specs.Asks.{Asks, Give, Left}
+use Rattle.wasi_world.specs.Operation.{Operation}
+use Rattle.wasi_world.proofs.Allowed.{Allows, allows_then, allows_if, allows_keep, allows_weaker, allows_at}
+use Rattle.wasi_host.specs.declared.listening.Listening.TheVariants.{Begins}
+use Rattle.wasi_host.specs.declared.machine.Machine.{Machine}
+use Rattle.wasi_host.specs.declared.socket.Tcp2Socket.{Tcp2Socket}
+use Rattle.wasi_host.specs.Machine.{own_of, first_state}
+use Rattle.wasi_steps.specs.declared.reply.Reply.{Reply}
+use Rattle.wasi_steps.specs.declared.step.Step.{Step}
+use Rattle.wasi_walks.specs.Licence.{IsLicensed, MayAsk, step_at}
+use Rattle.wasi_machine.specs.Machine.{machine_asks, run, HasRun}
+use Rattle.wasi_steps.specs.Reply.{is_trap}
+use Rattle.wasi_walks.proofs.licence.State.{StateIsFine}
+use Rattle.wasi_walks.proofs.licence.NewNames.{IsNew}
+use Rattle.wasi_walks.proofs.licence.Fresh.{next_is_new}
+use Rattle.wasi_walks.proofs.licence.Licensed.{EachMayCome, licensed, with_replies, may_come, come_longer}
+use Rattle.wasi_walks.proofs.Lists.{get_seam}
+use Rattle.wasi_walks.proofs.licence.Longer.{may_more, state_more, listen_more}
+use Rattle.wasi_walks.proofs.licence.Line.{ListenGoesOn, calm}
+use Rattle.wasi_walks.proofs.licence.Law.{licence_along}
+use Rattle.wasi_walks.proofs.walks.Steps.{may_while, machine_walks}
+use Rattle.wasi_walks.proofs.claims.Lines.{BaseBetween, first_base, base_starts, base_over}
+
+-- Between two lines.
+pub record Fine (steps : List Step) (line : ℕ) (es : List Entry) (m : Machine) : Type 0 where
+  pub base : BaseBetween line m
+  pub fine : StateIsFine steps es (calm m)
+  pub listens : (place : ℕ) (r : Tcp2Socket) (op : Operation) → slice_get m.store.sockets place ≡ Some r → r.listening ≡ Begins op → ListenGoesOn steps es r op
+
+fine_more : (contexts : List WasiSocketsCtx) (steps more : List Step) (line : ℕ) (es : List Entry) (m : Machine) → Fine steps line es m → Fine (steps ++ more) line es m
+fine_more contexts steps more line es m i = record {
+  base = i.base;
+  fine = state_more steps more es (calm m) i.fine;
+  listens = λ place r op g e. (let l = i.listens place r op g e in record { fine = listen_more contexts steps more es op l.fine; asks = l.asks; made = l.made });
+}
+
+first_fine : Fine [] 1 [] first_state
+first_fine = record {
+  base = first_base;
+  fine = record { count = refl; handles = λ handle kind e. absurd (cc); sockets = λ place r e. absurd (cc); standing = λ c e. absurd (cc); accepts = λ place r e. absurd (cc); one = λ i j r s x a b c d. absurd (cc) };
+  listens = λ place r op e. absurd (cc);
+}
+
+last_line : (steps : List Step) (s : Step) (line : ℕ) → line ≡ length steps + 1 → step_at (steps ++ s ∷ []) line ≡ Some s
+last_line steps s line e = subst (λ (n : ℕ). step_at (steps ++ s ∷ []) n ≡ Some s) (sym (e ∙ add-one (length steps))) (get_seam steps s)
+
+next_line : (steps : List Step) (s : Step) (line : ℕ) → line ≡ length steps + 1 → line + 1 ≡ length (steps ++ s ∷ []) + 1
+next_line steps s line e = let k = length-append steps (s ∷ []) in omega arith
+
+module _ (contexts : List WasiSocketsCtx) where
+  line_licensed : (steps : List Step) (line : ℕ) (s : Step) → step_at steps line ≡ Some s → (m : Machine) (es : List Entry) → IsNew es m.store.sockets line → Fine steps line es m
+      → Allows (MayAsk contexts steps) (λ fs done. Fine steps (line + 1) fs done.1) es (machine_asks contexts m line s)
+  line_licensed steps line s l m es n i =
+      let o = may_while m s m.store.standing in
+      allows_weaker (MayAsk contexts steps) _ (λ fs done. Fine steps (line + 1) fs done.1)
+      (λ fs done k. record { base = base_over contexts line s done.1 k.0; fine = k.1.fine; listens = k.1.listens }) es (machine_asks contexts m line s)
+      (licence_along contexts steps line s l (machine_walks line s m m.store.standing refl) es
+      (base_starts contexts line s m o i.base)
+      (record {
+        fine = i.fine;
+        names = λ k j r a. absurd (cc);
+        hand = λ o a. absurd (cc);
+        listens = i.listens;
+        new = λ u. (n.handed (record { step = line; part = 1 }) refl, n.marked (record { step = line; part = 1 }) refl);
+        unmade = λ u c t is. n.made (own_of line) refl;
+        joined = λ p e. absurd (cc);
+        marked = λ a p e. absurd (cc);
+      }))
+
+  -- each line is judged by the steps so far, and what these license the whole script does
+  lines : (all : List Step) (replies : List Reply) (m : Machine) (line : ℕ) (before rest : List Step) (es : List Entry) → all ≡ before ++ rest → line ≡ length before + 1 → EachMayCome contexts before [] es → Fine before line es m
+      → Allows (MayAsk contexts all) (λ fs done. ⊤) es (run contexts replies m line rest)
+  lines all replies m line before [] es a e c h = tt
+  lines all replies m line before (s ∷ rest) es a e c h =
+      let now = before ++ s ∷ [] in
+      let b : all ≡ now ++ rest = a ∙ sym (append_assoc before (s ∷ []) rest) in
+      let new : IsNew es m.store.sockets line = subst (IsNew es m.store.sockets) (sym e) (next_is_new contexts before es (licensed contexts before es c) (calm m) h.fine) in
+      allows_then (MayAsk contexts all) (λ fs done. EachMayCome contexts now [] fs × Fine now (line + 1) fs done.1) (λ fs done. ⊤) es (machine_asks contexts m line s) _
+      (allows_keep (MayAsk contexts now) (MayAsk contexts all) (EachMayCome contexts now []) (λ fs done. Fine now (line + 1) fs done.1)
+      (λ fs op c t fits k q. may_come contexts now fs _ k q)
+      (λ fs op c q. subst (λ (steps : List Step). MayAsk contexts steps fs op c) (sym b) (may_more now rest contexts fs op c q)) es _ (come_longer contexts before (s ∷ []) [] es c)
+      (line_licensed now line s (last_line before s line e) m es new (fine_more contexts before (s ∷ []) line es m h)))
+      (λ fs done k. allows_if (MayAsk contexts all) (λ fs done. ⊤) fs (is_trap done.0) _ _ (λ trap. tt) (λ on. lines all (replies ++ done.0 ∷ []) done.1 (line + 1) now rest fs b (next_line before s line e) k.0 k.1))
+
+  -- wherever the run stands, before a reply is given
+  pub begun_licensed : (steps : List Step) (log : List Entry) (rest : Asks (List Reply × Machine)) → Left (run contexts [] first_state 1 steps) log rest → IsLicensed contexts steps log []
+  begun_licensed steps log rest w = record {
+    each = λ before e after cut.
+        allows_at (MayAsk contexts steps) (λ fs done. ⊤) [] (run contexts [] first_state 1 steps) rest before e after (lines steps [] first_state 1 [] steps [] refl refl tt first_fine)
+        (subst (λ (es : List Entry). Left (run contexts [] first_state 1 steps) es rest) cut w);
+    replied = omega arith;
+  }
+
+  -- and with the replies that were given by then
+  pub runs_licensed : (steps : List Step) (log : List Entry) (replies : List Reply) → HasRun contexts steps log replies → IsLicensed contexts steps log replies
+  runs_licensed steps log replies h =
+      let k = ap length h.first ∙ length-append h.done h.more in
+      with_replies contexts steps log replies (omega (arith, h.answered, k)) (begun_licensed steps log h.rest h.begun)
+
+  -- a run of which each line was answered
+  pub whole_licensed : (steps : List Step) (log : List Entry) (replies : List Reply) (m : Machine) → length replies ≡ length steps → Left (run contexts [] first_state 1 steps) log (Give (replies, m)) → IsLicensed contexts steps log replies
+  whole_licensed steps log replies m all w =
+      runs_licensed steps log replies (record {
+        rest = Give (replies, m);
+        begun = w;
+        done = steps;
+        more = [];
+        first = sym (append-nil steps);
+        answered = all;
+        front = log;
+        back = [];
+        cut = sym (append-nil log);
+        state = m;
+        ran = w;
+      })

@@ -1,0 +1,256 @@
+-- What the log says of the machine's state: the invariant that makes its next call a licensed one.
+use Rattle.std.specs.Prelude.{⊤}
+use Rattle.std.proofs.Common.{◌≡◌, ℕ, ◌+◌, true, List, [], ◌∷◌, ◌++◌, Option, Some, None, slice_get}
+use Rattle.wasi_addr.specs.declared.address.IpSocketAddress.{IpSocketAddress}
+use Rattle.wasi_addr.specs.declared.address.SocketAddressFamily.{SocketAddressFamily}
+use Rattle.wasi_addr.specs.declared.address.SocketAddrUse.TheVariants.{TcpBind, TcpConnect}
+use Rattle.wasi_addr.specs.declared.code.ErrorCode.{ErrorCode}
+use Rattle.wasi_addr.specs.Address.{wildcard}
+use Rattle.wasi_world.specs.declared.ids.OpId.{OpId}
+use Rattle.wasi_world.specs.declared.call.Call.TheVariants as call
+use Rattle.wasi_world.specs.declared.call.Told.{Told}
+use Rattle.wasi_world.specs.declared.call.Told.TheVariants.{Yes, Arrived}
+use Rattle.wasi_world.specs.declared.call.Entry.{Entry}
+use Rattle.wasi_world.specs.Operation.{Nothing, Item, Check, CheckArrival, Bind, Connect, Accept, Write, ShutdownSend, Last, NothingLast, CloseLast, ShutdownLast, Operation}
+use Rattle.wasi_tcp.specs.declared.listener.Accepting.{Accepting}
+use Rattle.wasi_tcp.specs.declared.listener.Accepting.TheVariants as accepting
+use Rattle.wasi_tcp.specs.declared.socket.Connection.{Connection}
+use Rattle.wasi_tcp.specs.declared.socket.TcpState.TheVariants as state
+use Rattle.wasi_tcp.specs.declared.reader.ReadState.{ReadState}
+use Rattle.wasi_tcp.specs.declared.reader.ReadState.TheVariants as reading
+use Rattle.wasi_tcp.specs.declared.writer.WriteState.{WriteState}
+use Rattle.wasi_tcp.specs.declared.writer.WriteState.TheVariants as writing
+use Rattle.wasi_tcp.specs.Job.{Job}
+use Rattle.wasi_tcp.specs.Listener.{Listener}
+use Rattle.wasi_tcp.specs.Shape.{Socket}
+use Rattle.wasi_tcp.specs.Socket.{side_of}
+use Rattle.wasi_host.specs.declared.kind.Kind.{Kind}
+use Rattle.wasi_host.specs.declared.kind.Kind.TheVariants.{Network, Tcp2, Input, Output, Pollable, ErrorValue}
+use Rattle.wasi_host.specs.declared.listening.Listening.{Listening}
+use Rattle.wasi_host.specs.declared.listening.Listening.TheVariants.{Not, Begins, Accepts, Unclosed}
+use Rattle.wasi_host.specs.declared.machine.Machine.{Machine}
+use Rattle.wasi_host.specs.declared.socket.Streams.{Streams}
+use Rattle.wasi_host.specs.declared.socket.Tcp2Socket.{Tcp2Socket}
+use Rattle.wasi_host.specs.declared.store.Standing.{Standing}
+use Rattle.wasi_host.specs.declared.store.StandingCall.{StandingCall}
+use Rattle.wasi_host.specs.declared.store.StandingCall.TheVariants as standing
+use Rattle.wasi_host.specs.Kinds.{kind_at, place_in}
+use Rattle.wasi_host.specs.Machine.{own_of}
+use Rattle.wasi_steps.specs.declared.step.Step.{Step}
+use Rattle.wasi_walks.specs.Licence.{Has, entry, marks_in, BeganBy, NamesSide, IsMarkedWith, IsMaker, IsBoundSide, Listens, MayGoOut, HandedNone, MarksNoSocket, IsBindTo, IsConnectTo}
+
+-- The handle stands for the record at this place, and its mark says the side that the record was made with.
+pub record NamesRecord (es : List Entry) (sockets : List Tcp2Socket) (handle place : ℕ) : Type 0 where
+  pub found : Tcp2Socket
+  pub at : slice_get sockets place ≡ Some found
+  pub marked : IsMarkedWith es handle found.side
+
+abbrev pub HandleIsFine : List Entry → List Tcp2Socket → ℕ → Kind → Type 0
+HandleIsFine es sockets handle Network = ⊤
+HandleIsFine es sockets handle (Tcp2 place) = NamesRecord es sockets handle place
+HandleIsFine es sockets handle (Input place) = NamesRecord es sockets handle place
+HandleIsFine es sockets handle (Output place) = NamesRecord es sockets handle place
+HandleIsFine es sockets handle (Pollable w) = NamesRecord es sockets handle (place_in w)
+HandleIsFine es sockets handle ErrorValue = ⊤
+
+-- The socket knows the maker of its side, and the side's family.
+pub record KnowsMaker (es : List Entry) (socket : Socket) : Type 0 where
+  pub maker : (side : OpId) → side_of socket ≡ Some side → IsMaker es socket.maker socket.family side
+
+-- The socket is connected, on this side.
+pub record IsConnectedOn (socket : Socket) (side : OpId) : Type 0 where
+  pub connection : Connection
+  pub state : socket.state ≡ state.Connected connection
+  pub same : connection.side ≡ side
+
+-- the half, while it is open, is of this side
+abbrev pub ReadsOn : OpId → ReadState → Type 0
+ReadsOn side (reading.Open half) = half.side ≡ side
+ReadsOn side reading.Closed = ⊤
+
+-- what is left of a bind to the address, and the yes that it was told
+pub data BindLeft (es : List Entry) (op : OpId) (maker : ℕ) (addr : IpSocketAddress) : List Item → Type 0 where
+  Whole : BindLeft es op maker addr (Check addr TcpBind ∷ Bind addr ∷ [])
+  Checked : Has es (entry op (call.Check maker addr TcpBind) Yes) → BindLeft es op maker addr (Bind addr ∷ [])
+  Over : BindLeft es op maker addr []
+
+-- what is left of a connect to the address, and what it was told so far
+pub data ConnectLeft (es : List Entry) (op side : OpId) (maker : ℕ) (addr : IpSocketAddress) : List Item → Type 0 where
+  Unbound : (family : SocketAddressFamily) → IsMaker es maker family side → ConnectLeft es op side maker addr (Check (wildcard family) TcpBind ∷ Check addr TcpConnect ∷ Connect addr ∷ [])
+  Unchecked : MayGoOut es op side → ConnectLeft es op side maker addr (Check addr TcpConnect ∷ Connect addr ∷ [])
+  Allowed : MayGoOut es op side → Has es (entry op (call.Check maker addr TcpConnect) Yes) → ConnectLeft es op side maker addr (Connect addr ∷ [])
+  ToClose : (c : ErrorCode) → ConnectLeft es op side maker addr (Last c Nothing ∷ [])
+  Ended : ConnectLeft es op side maker addr []
+
+-- what may be left of a write: nothing of it asks for an address
+pub data WriteLeft : List Item → Type 0 where
+  ToWrite : (rest : List ℕ) → WriteLeft (Write rest ∷ [])
+  ToWriteAndShut : (rest : List ℕ) → WriteLeft (Write rest ∷ ShutdownSend ∷ [])
+  ToShut : WriteLeft (ShutdownSend ∷ [])
+  ToRefuse : (c : ErrorCode) → WriteLeft (Last c Nothing ∷ [])
+  Written : WriteLeft []
+
+-- == an accept
+-- The operation's last `accept` on the listener told this peer.
+pub record LastAccept (es : List Entry) (op side : OpId) (peer : IpSocketAddress) : Type 0 where
+  pub front : List Entry
+  pub back : List Entry
+  pub cut : es ≡ front ++ entry op (call.Accept side) (Arrived peer) ∷ back
+  pub last : (told : Told) → Has back (entry op (call.Accept side) told) → ⊥
+
+-- The log has what the operation handed over on the listener's side.
+pub record IsHanded (es : List Entry) (op side : OpId) (peer : IpSocketAddress) : Type 0 where
+  pub told : Told
+  pub hand : Has es (entry op (call.Hand side peer) told)
+
+-- what is left of an accept that waits, and what it was told
+pub data AcceptLeft (es : List Entry) (op side : OpId) : List Item → Type 0 where
+  Unarrived : AcceptLeft es op side (Accept ∷ [])
+  ToCheck : (peer : IpSocketAddress) → LastAccept es op side peer → AcceptLeft es op side (CheckArrival peer ∷ [])
+
+-- An accept that waits has handed nothing over, its name is in no mark of a socket, and so much is left of it.
+pub record AcceptStands (es : List Entry) (op side : OpId) (left : List Item) : Type 0 where
+  pub handed : HandedNone es op
+  pub marked : MarksNoSocket es op
+  pub so_far : AcceptLeft es op side left
+
+-- what a listener's accept may rely on while nothing is asked by its name: a connection that isn't taken is in no mark
+abbrev pub AcceptingStands : List Entry → OpId → Accepting → Type 0
+AcceptingStands es side accepting.Idle = ⊤
+AcceptingStands es side (accepting.Asking op) = AcceptStands es op.who.id side op.left
+AcceptingStands es side (accepting.Arrived new peer) = MarksNoSocket es new
+AcceptingStands es side (accepting.Failed c) = ⊤
+
+abbrev pub ListeningStands : List Entry → Listening → Type 0
+ListeningStands es Not = ⊤
+ListeningStands es (Begins op) = ⊤
+ListeningStands es (Accepts l) = AcceptingStands es l.side l.accept
+ListeningStands es (Unclosed side) = ⊤
+
+-- the name of the accept that is asking, or of the connection that isn't taken
+abbrev pub name_in : Accepting → Option OpId
+name_in accepting.Idle = None
+name_in (accepting.Asking op) = Some op.who.id
+name_in (accepting.Arrived new peer) = Some new
+name_in (accepting.Failed c) = None
+
+abbrev pub accept_name : Listening → Option OpId
+accept_name Not = None
+accept_name (Begins op) = None
+accept_name (Accepts l) = name_in l.accept
+accept_name (Unclosed side) = None
+
+-- no two records have an accept of one name
+abbrev pub OneHolds : List Tcp2Socket → Type 0
+OneHolds sockets = (i j : ℕ) (r s : Tcp2Socket) (x : OpId) → slice_get sockets i ≡ Some r → slice_get sockets j ≡ Some s → accept_name r.listening ≡ Some x → accept_name s.listening ≡ Some x → i ≡ j
+
+module _ (steps : List Step) where
+  -- the operation's step names a handle of this side
+  abbrev pub Names : List Entry → OpId → OpId → Type 0
+  Names es op side = BeganBy steps op (NamesSide es side)
+
+  -- The operation is on a side that its step names, and knows the side's maker.
+  pub record WorksOn (es : List Entry) (op side : OpId) (maker : ℕ) : Type 0 where
+    pub family : SocketAddressFamily
+    pub made : IsMaker es maker family side
+    pub named : Names es op side
+
+  -- A bind that may be polled: where it came from, and what it has asked so far.
+  pub record BindIsFine (es : List Entry) (op : Operation) : Type 0 where
+    pub addr : IpSocketAddress
+    pub to : BeganBy steps op.who.id (IsBindTo addr)
+    pub works : WorksOn es op.who.id op.who.side op.who.context
+    pub last : op.who.last ≡ NothingLast
+    pub left : BindLeft es op.who.id op.who.context addr op.left
+
+  -- A connect that may be polled: where it came from, and what it has asked so far.
+  pub record ConnectIsFine (es : List Entry) (op : Operation) : Type 0 where
+    pub addr : IpSocketAddress
+    pub to : BeganBy steps op.who.id (IsConnectTo addr)
+    pub works : WorksOn es op.who.id op.who.side op.who.context
+    pub last : op.who.last ≡ CloseLast
+    pub left : ConnectLeft es op.who.id op.who.side op.who.context addr op.left
+
+  -- A write that may be polled: it is on this side, of which its own step names a handle.
+  pub record JobIsFine (es : List Entry) (side : OpId) (job : Job) : Type 0 where
+    pub named : Names es job.write.who.id side
+    pub on : job.write.who.side ≡ side
+    pub last : job.write.who.last ≡ ShutdownLast
+    pub left : WriteLeft job.write.left
+
+  -- the half, while there is one, is of this side, and a write that goes on may be polled
+  abbrev pub WritesOn : List Entry → OpId → WriteState → Type 0
+  WritesOn es side (writing.Ready half permit) = half.side ≡ side
+  WritesOn es side (writing.Writing job) = JobIsFine es side job
+  WritesOn es side (writing.Closing job) = JobIsFine es side job
+  WritesOn es side (writing.Closed e) = ⊤
+
+  -- The streams are of the socket's connection.
+  pub record StreamsAreFine (es : List Entry) (socket : Socket) (streams : Streams) : Type 0 where
+    pub side : OpId
+    pub connected : IsConnectedOn socket side
+    pub reads : ReadsOn side streams.reader
+    pub writes : WritesOn es side streams.writer
+
+  -- An accept that may be polled: it is on the listener's side, which its step names, and for the listener's maker.
+  pub record AcceptIsFine (es : List Entry) (side : OpId) (maker : ℕ) (op : Operation) : Type 0 where
+    pub named : Names es op.who.id side
+    pub on : op.who.side ≡ side
+    pub asks : op.who.context ≡ maker
+    pub last : op.who.last ≡ NothingLast
+
+  -- the listener's accept may be polled, and a connection that isn't taken was handed over
+  abbrev pub AcceptingIsFine : List Entry → OpId → ℕ → Accepting → Type 0
+  AcceptingIsFine es side maker accepting.Idle = ⊤
+  AcceptingIsFine es side maker (accepting.Asking op) = AcceptIsFine es side maker op
+  AcceptingIsFine es side maker (accepting.Arrived new peer) = IsHanded es new side peer
+  AcceptingIsFine es side maker (accepting.Failed c) = ⊤
+
+  -- A listener is on the side that its record was made with, and knows its maker.
+  pub record ListenerIsFine (es : List Entry) (made : Option OpId) (l : Listener) : Type 0 where
+    pub side : made ≡ Some l.side
+    pub maker : IsMaker es l.maker l.family l.side
+    pub accept : AcceptingIsFine es l.side l.maker l.accept
+
+  abbrev pub ListeningIsFine : List Entry → Option OpId → Listening → Type 0
+  ListeningIsFine es made Not = ⊤
+  ListeningIsFine es made (Begins op) = ⊤
+  ListeningIsFine es made (Accepts l) = ListenerIsFine es made l
+  ListeningIsFine es made (Unclosed side) = ⊤
+
+  -- A socket knows its maker; it is bound, and it listens, only where the log says so; and its connect may be polled.
+  pub record SocketIsFine (es : List Entry) (socket : Socket) : Type 0 where
+    pub knows : KnowsMaker es socket
+    pub bound : (side : OpId) → socket.state ≡ state.Default side → socket.bound ≡ true → IsBoundSide es side
+    pub listens : (side : OpId) → socket.state ≡ state.Listening side → Listens es side
+    pub connect : (op : Operation) → socket.state ≡ state.Connecting op → ConnectIsFine es op
+
+  -- A socket that still has a side has the one that its record was made with.
+  pub record RecordIsFine (es : List Entry) (r : Tcp2Socket) : Type 0 where
+    pub socket : SocketIsFine es r.inner
+    pub named : (side : OpId) → side_of r.inner ≡ Some side → r.side ≡ Some side
+    pub streams : (streams : Streams) → r.streams ≡ Some streams → StreamsAreFine es r.inner streams
+    pub listening : ListeningIsFine es r.side r.listening
+
+  -- An output's drop that waits: the operation's step names a handle of the side that the record was made with.
+  pub record DropIsFine (es : List Entry) (sockets : List Tcp2Socket) (op : OpId) (place : ℕ) : Type 0 where
+    pub found : Tcp2Socket
+    pub at : slice_get sockets place ≡ Some found
+    pub named : (side : OpId) → found.side ≡ Some side → Names es op side
+
+  -- a drop goes on by its line's own operation; where a listen stands, another invariant holds
+  abbrev pub CallIsFine : List Entry → List Tcp2Socket → ℕ → StandingCall → Type 0
+  CallIsFine es sockets line (standing.Bind place op) = BindIsFine es op
+  CallIsFine es sockets line (standing.Listen place) = ⊥
+  CallIsFine es sockets line (standing.DropOutput place) = DropIsFine es sockets (own_of line) place
+
+  abbrev pub StandingIsFine : List Entry → List Tcp2Socket → Standing → Type 0
+  StandingIsFine es sockets s = CallIsFine es sockets s.line s.call
+
+  pub record StateIsFine (es : List Entry) (m : Machine) : Type 0 where
+    pub count : m.table.next ≡ marks_in es + 1
+    pub handles : (handle : ℕ) (kind : Kind) → kind_at m.table handle ≡ Some kind → HandleIsFine es m.store.sockets handle kind
+    pub sockets : (place : ℕ) (r : Tcp2Socket) → slice_get m.store.sockets place ≡ Some r → RecordIsFine es r
+    pub standing : (c : Standing) → m.store.standing ≡ Some c → StandingIsFine es m.store.sockets c
+    pub accepts : (place : ℕ) (r : Tcp2Socket) → slice_get m.store.sockets place ≡ Some r → ListeningStands es r.listening
+    pub one : OneHolds m.store.sockets

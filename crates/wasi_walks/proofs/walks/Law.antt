@@ -1,0 +1,223 @@
+-- A law of runs: what each ask must be, what holds between the asks, and that each move keeps it.
+use Rattle.std.proofs.Common.{◌≡◌, ℕ, zero, suc, Bool, true, false, if◌then◌else◌, List, [], ◌∷◌, ◌++◌, Option, Some, None, refl, sym, ap, subst, slice_get, slice_set}
+use Rattle.wasi_addr.specs.declared.address.SocketAddressFamily.{SocketAddressFamily}
+use Rattle.wasi_world.specs.declared.outcome.WasiSocketsCtx.{WasiSocketsCtx}
+use Rattle.wasi_world.specs.declared.ids.OpId.{OpId}
+use Rattle.wasi_world.specs.declared.call.Call.{Call}
+use Rattle.wasi_world.specs.declared.call.Call.TheVariants as call
+use Rattle.wasi_world.specs.declared.call.Told.{Told}
+use Rattle.wasi_world.specs.declared.call.Entry.{Entry}
+use Rattle.wasi_world.specs.Fits.{Fits}
+use Rattle.wasi_world.specs.Asks.{Asks, Give, Ask, AskWrite, bind}
+use Rattle.wasi_world.specs.Typed.{told_addr}
+use Rattle.wasi_world.specs.Operation.{Operation, End, Item, poll_asks}
+use Rattle.wasi_world.proofs.Allowed.{Allows, allows_then, allows_weaker}
+use Rattle.wasi_tcp.specs.declared.listener.Accepting.TheVariants as accepting
+use Rattle.wasi_tcp.specs.Listener.{Listener, accept_ended}
+use Rattle.wasi_tcp.specs.declared.socket.TcpState.TheVariants as state
+use Rattle.wasi_tcp.specs.Connecting.{with_state, connect_ended}
+use Rattle.wasi_tcp.specs.Socket.{side_of, after_local}
+use Rattle.wasi_tcp.specs.Writer.{turn_asks}
+use Rattle.wasi_host.specs.declared.kind.Kind.{Kind}
+use Rattle.wasi_host.specs.declared.kind.Kind.TheVariants.{Tcp2}
+use Rattle.wasi_host.specs.declared.listening.Listening.TheVariants.{Not, Begins, Accepts}
+use Rattle.wasi_host.specs.declared.socket.Streams.{Streams}
+use Rattle.wasi_host.specs.declared.socket.Tcp2Socket.{Tcp2Socket}
+use Rattle.wasi_host.specs.Kinds.{make_asks}
+use Rattle.wasi_host.specs.Listening.{give_up_asks, with_listening}
+use Rattle.wasi_host.specs.Machine.{own_of, side_at, create_asks}
+use Rattle.wasi_host.specs.Store.{with_inner, with_writer, left_of}
+use Rattle.wasi_steps.specs.declared.step.Step.{Step}
+use Rattle.wasi_steps.specs.declared.step.Step.TheVariants as step
+use Rattle.wasi_walks.specs.Licence.{entry, IsBacklogSet}
+use Rattle.wasi_walks.proofs.walks.Moves.{Here, put, Found, NoBind, closed_record, Past, Joined, made_so, listen_after, accepting_now, Held, InHand, Connects, Listens, Awaits, IsQuestionOf, IsOn, Move, Marks, Creates, Used, Unused}
+use Rattle.wasi_walks.proofs.Lists.{set_there, set_set}
+
+pub record Law (contexts : List WasiSocketsCtx) (line : ℕ) (origin : Step) : Type 1 where
+  pub P : List Entry → OpId → Call → Type 0
+  pub Inv : List Entry → Here → Type 0
+  pub moves : (es : List Entry) (h now : Here) → Move line origin h now → Inv es h → Inv es now
+  -- what the line's own operation asks
+  pub asks : (es : List Entry) (h : Here) (place n : ℕ) (r : Tcp2Socket) (side : OpId) (c : Call) → h.at ≡ Some (place, n) → Found h place r → IsOn r side → IsQuestionOf side c → Inv es h
+      → P es (own_of n) c × ((told : Told) → Fits c told → Inv (es ++ entry (own_of n) c told ∷ []) h)
+  pub sets : (es : List Entry) (h : Here) (place : ℕ) (r : Tcp2Socket) (side : OpId) (backlog : ℕ) → h.at ≡ Some (place, line) → Found h place r → r.inner.state ≡ state.Listening side → IsBacklogSet origin → Inv es h
+      → P es (own_of line) (call.SetBacklog side backlog) × ((told : Told) → Fits (call.SetBacklog side backlog) told → Inv (es ++ entry (own_of line) (call.SetBacklog side backlog) told ∷ []) h)
+  pub learns : (es : List Entry) (h : Here) (place : ℕ) (r : Tcp2Socket) (side : OpId) → h.at ≡ Some (place, line) → Found h place r → r.inner.state ≡ state.Default side → Inv es h
+      → P es (own_of line) (call.Local side) × ((told : Told) → Fits (call.Local side) told → Inv (es ++ entry (own_of line) (call.Local side) told ∷ []) (put h place (with_inner r (after_local r.inner (told_addr told)).1)))
+  pub closes : (es : List Entry) (h : Here) (place : ℕ) (r : Tcp2Socket) (side : OpId) → NoBind h → Found h place r → side_of r.inner ≡ Some side → Inv es h
+      → P es (own_of line) (call.Close side) × ((told : Told) → Fits (call.Close side) told → Inv (es ++ entry (own_of line) (call.Close side) told ∷ []) (put h place (closed_record r)))
+  pub marks : (es : List Entry) (h : Here) (kind : Kind) (parent : Option ℕ) (sock : Option OpId) → Marks origin h kind parent sock → Inv es h
+      → Allows P (λ fs made. Inv fs (record h { machine = record h.machine { table = made.1 } })) es (make_asks h.machine.table (own_of line) kind parent sock)
+  pub creates : (es : List Entry) (h : Here) (ctx : WasiSocketsCtx) (family : SocketAddressFamily) → Creates contexts ctx family origin → h.at ≡ None → h.own ≡ Unused → h.made ≡ Past → Inv es h
+      → Allows P (λ fs done. Inv fs (record h { machine = done.1; own = Used })) es (create_asks h.machine (own_of line) ctx family)
+  pub accepted : (es : List Entry) (h : Here) (c listener place : ℕ) (r : Tcp2Socket) → origin ≡ step.TcpAccept c listener → h.made ≡ Joined place → h.own ≡ Used → Found h place r → Inv es h
+      → Allows P (λ fs made. Inv fs (record h { machine = record h.machine { table = made.1 }; made = made_so place made.0 })) es (make_asks h.machine.table (own_of line) (Tcp2 place) (Some listener) (side_at (slice_get h.machine.store.sockets place)))
+  -- what goes on
+  pub polls : (es : List Entry) (h : Here) (op : Operation) (after : End × List Item → Here) → Held h op after → Inv es h → Allows P (λ fs ended. Inv fs (after ended)) es (poll_asks op)
+  pub turns : (es : List Entry) (h : Here) (place : ℕ) (r : Tcp2Socket) (s : Streams) → Found h place r → r.streams ≡ Some s → Inv es h → Allows P (λ fs done. Inv fs (put h place (with_writer r s done.1))) es (turn_asks s.writer)
+  pub gives_up : (es : List Entry) (h : Here) (place : ℕ) (r : Tcp2Socket) → NoBind h → Found h place r → Inv es h → Allows P (λ fs done. Inv fs (put h place (with_listening r Not))) es (give_up_asks r.listening)
+
+-- A place that has a record.
+pub record HasRecord (h : Here) (place : ℕ) : Type 0 where
+  pub was : Tcp2Socket
+  pub found : Found h place was
+
+pub put_put : (h : Here) (place : ℕ) (r now : Tcp2Socket) → put (put h place r) place now ≡ put h place now
+put_put h place r now =
+    let f : List Tcp2Socket → Here = λ xs. record h { machine = record h.machine { store = record h.machine.store { sockets = xs } } } in
+    ap f (set_set h.machine.store.sockets place r now)
+
+set_same : {A : Type 0} (xs : List A) (i : ℕ) (x : A) → slice_get xs i ≡ Some x → slice_set xs i x ≡ xs
+set_same [] i x e = refl
+set_same {A} (y ∷ xs) zero x e = let p : x ≡ y = cc in ap (λ (z : A). z ∷ xs) p
+set_same {A} (y ∷ xs) (suc i) x e = ap (λ (zs : List A). y ∷ zs) (set_same xs i x e)
+
+pub put_same : (h : Here) (place : ℕ) (r : Tcp2Socket) → Found h place r → put h place r ≡ h
+put_same h place r e =
+    let f : List Tcp2Socket → Here = λ xs. record h { machine = record h.machine { store = record h.machine.store { sockets = xs } } } in
+    ap f (set_same h.machine.store.sockets place r e)
+
+-- what is known of whatever the tree gives, without the log
+abbrev pub Given : {A : Type 0} → (A → Type 0) → Asks A → Type 0
+Given R (Give a) = R a
+Given R (Ask op c next) = (told : Told) → Given R (next told)
+Given R (AskWrite op sock bytes next) = (told : Told) → Given R (next told)
+
+pub given_then : {A B : Type 0} (R : B → Type 0) (f : A → B) → ((a : A) → R (f a)) → (asks : Asks A) → Given R (bind asks (λ a. Give (f a)))
+unfolding bind
+given_then R f k (Give a) = k a
+given_then R f k (Ask op c next) = λ told. given_then R f k (next told)
+given_then R f k (AskWrite op sock bytes next) = λ told. given_then R f k (next told)
+
+given_too : {A : Type 0} (P : List Entry → OpId → Call → Type 0) (Q : List Entry → A → Type 0) (R : A → Type 0) (es : List Entry) (asks : Asks A) → Allows P Q es asks → Given R asks → Allows P (λ fs a. Q fs a × R a) es asks
+given_too P Q R es (Give a) h g = (h, g)
+given_too P Q R es (Ask op c next) h g = (h.0, λ told fits. given_too P Q R _ (next told) (h.1 told fits) (g told))
+given_too P Q R es (AskWrite op sock bytes next) h g = (h.0, λ told fits front. given_too P Q R _ (next told) (h.1 told fits front) (g told))
+
+module _ {contexts : List WasiSocketsCtx} {line : ℕ} {origin : Step} where
+  -- From here on the tree's asks are as the law wants them, and what it gives leaves the line there.
+  pub record Walks (law : Law contexts line origin) {A : Type 0} (h : Here) (end : A → Here) (asks : Asks A) : Type 0 where
+    pub along : (es : List Entry) → law.Inv es h → Allows law.P (λ fs a. law.Inv fs (end a)) es asks
+
+pub found : {h : Here} {place : ℕ} → HasRecord h place → (r : Tcp2Socket) → Found (put h place r) place r
+found {h} {place} here r = set_there h.machine.store.sockets place here.was r here.found
+
+pub spent : {h : Here} {place : ℕ} → HasRecord h place → HasRecord (record h { own = Used }) place
+spent here = record { was = here.was; found = here.found }
+
+module _ {contexts : List WasiSocketsCtx} {line : ℕ} {origin : Step} {law : Law contexts line origin} where
+  -- == how walks are put together
+  pub give : {A : Type 0} {end : A → Here} (a : A) → Walks law (end a) end (Give a)
+  give a = record { along = λ es i. i }
+
+  pub and_then : {A B : Type 0} {h : Here} {mid : A → Here} {end : B → Here} {asks : Asks A} {f : A → Asks B} → Walks law h mid asks → ((a : A) → Walks law (mid a) end (f a)) → Walks law h end (bind asks f)
+  and_then {mid} {end} {asks} {f} w k = record { along = λ es i. allows_then law.P (λ fs a. law.Inv fs (mid a)) (λ fs b. law.Inv fs (end b)) es asks f (w.along es i) (λ fs a j. (k a).along fs j) }
+
+  -- what is given is said otherwise in between
+  pub and_so : {A B C : Type 0} {h : Here} {mid : A → Here} {end : C → Here} {asks : Asks A} (f : A → B) (g : B → Asks C) → Walks law h mid asks → ((a : A) → Walks law (mid a) end (g (f a))) → Walks law h end (bind (bind asks (λ a. Give (f a))) g)
+  unfolding bind
+  and_so {A} {B} {C} {h} {mid} {end} {asks} f g w k = record {
+    along = λ es i.
+        allows_then law.P (λ fs b. Allows law.P (λ gs c. law.Inv gs (end c)) fs (g b)) (λ gs c. law.Inv gs (end c)) es (bind asks (λ a. Give (f a))) g
+        (allows_then law.P (λ fs a. law.Inv fs (mid a)) (λ fs b. Allows law.P (λ gs c. law.Inv gs (end c)) fs (g b)) es asks (λ a. Give (f a)) (w.along es i) (λ fs a j. (k a).along fs j)) (λ fs b l. l);
+  }
+
+  pub and_given : {A B : Type 0} {h : Here} {mid : A → Here} {end : B → Here} {asks : Asks A} {f : A → Asks B} (R : A → Type 0) → Given R asks → Walks law h mid asks → ((a : A) → R a → Walks law (mid a) end (f a)) → Walks law h end (bind asks f)
+  and_given {mid} {end} {asks} {f} R g w k = record {
+    along = λ es i. allows_then law.P (λ fs a. law.Inv fs (mid a) × R a) (λ fs b. law.Inv fs (end b)) es asks f (given_too law.P (λ fs a. law.Inv fs (mid a)) R es asks (w.along es i) g) (λ fs a j. (k a j.1).along fs j.0);
+  }
+
+  pub by_if : {A : Type 0} {h : Here} {end : A → Here} {asks others : Asks A} (b : Bool) → (b ≡ true → Walks law h end asks) → (b ≡ false → Walks law h end others) → Walks law h end (if b then asks else others)
+  by_if true w v = w refl
+  by_if false w v = v refl
+
+  pub move : {A : Type 0} {h now : Here} {end : A → Here} {asks : Asks A} → Move line origin h now → Walks law now end asks → Walks law h end asks
+  move {h} {now} m w = record { along = λ es i. w.along es (law.moves es h now m i) }
+
+  pub gives : {A : Type 0} {h : Here} {end : A → Here} (a : A) → Move line origin h (end a) → Walks law h end (Give a)
+  gives {h} {end} a m = move m (give {end = end} a)
+
+  -- the same state, said otherwise
+  pub from : {A : Type 0} {h now : Here} {end : A → Here} {asks : Asks A} → now ≡ h → Walks law now end asks → Walks law h end asks
+  from {end} {asks} e w = subst (λ (x : Here). Walks law x end asks) e w
+
+  pub ends : {A : Type 0} {h : Here} {mid end : A → Here} {asks : Asks A} → ((a : A) → mid a ≡ end a) → Walks law h mid asks → Walks law h end asks
+  ends {mid} {end} {asks} e w = record { along = λ es i. allows_weaker law.P (λ fs a. law.Inv fs (mid a)) (λ fs a. law.Inv fs (end a)) (λ fs a k. subst (law.Inv fs) (e a) k) es asks (w.along es i) }
+
+  pub poll : {h : Here} {op : Operation} → h.hand ≡ Some op → Walks law h (λ ended. record h { hand = Some (left_of op ended.1) }) (poll_asks op)
+  poll {h} {op} e = record { along = λ es i. law.polls es h op _ (InHand op e) i }
+
+  pub mark : {h : Here} {kind : Kind} {parent : Option ℕ} {sock : Option OpId} → Marks origin h kind parent sock → Walks law h (λ made. record h { machine = record h.machine { table = made.1 } }) (make_asks h.machine.table (own_of line) kind parent sock)
+  mark {h} {kind} {parent} {sock} m = record { along = λ es i. law.marks es h kind parent sock m i }
+
+  pub accept : {h : Here} (c listener place : ℕ) (r : Tcp2Socket) → origin ≡ step.TcpAccept c listener → h.made ≡ Joined place → h.own ≡ Used → Found h place r
+      → Walks law h (λ made. record h { machine = record h.machine { table = made.1 }; made = made_so place made.0 }) (make_asks h.machine.table (own_of line) (Tcp2 place) (Some listener) (side_at (slice_get h.machine.store.sockets place)))
+  accept {h} c listener place r is e o g = record { along = λ es i. law.accepted es h c listener place r is e o g i }
+
+  pub create : {h : Here} (ctx : WasiSocketsCtx) (family : SocketAddressFamily) → Creates contexts ctx family origin → h.at ≡ None → h.own ≡ Unused → h.made ≡ Past → Walks law h (λ done. record h { machine = done.1; own = Used }) (create_asks h.machine (own_of line) ctx family)
+  create {h} ctx family c a o m = record { along = λ es i. law.creates es h ctx family c a o m i }
+
+  -- == on the record of a place, whichever it is by now
+  module _ {h : Here} {place : ℕ} (here : HasRecord h place) where
+    pub on : {A : Type 0} {end : A → Here} {asks : Asks A} (r now : Tcp2Socket) → Move line origin (put h place r) (put (put h place r) place now) → Walks law (put h place now) end asks → Walks law (put h place r) end asks
+    on r now m w = move m (from (sym (put_put h place r now)) w)
+
+    pub ask : {A : Type 0} {n : ℕ} {end : A → Here} (r : Tcp2Socket) {side : OpId} {c : Call} {next : Told → Asks A} → h.at ≡ Some (place, n) → IsOn r side → IsQuestionOf side c → ((told : Told) → Fits c told → Walks law (put h place r) end (next told)) → Walks law (put h place r) end (Ask (own_of n) c next)
+    ask {n} r {side} {c} at o q k = record {
+      along = λ es i.
+          let a = law.asks es (put h place r) place n r side c at (found here r) o q i in
+          (a.0, λ told fits. (k told fits).along (es ++ entry (own_of n) c told ∷ []) (a.1 told fits));
+    }
+
+    pub set : {A : Type 0} {end : A → Here} (r : Tcp2Socket) {side : OpId} {backlog : ℕ} {next : Told → Asks A} → h.at ≡ Some (place, line) → r.inner.state ≡ state.Listening side → IsBacklogSet origin → ((told : Told) → Walks law (put h place r) end (next told)) → Walks law (put h place r) end (Ask (own_of line) (call.SetBacklog side backlog) next)
+    set r {side} {backlog} at s b k = record {
+      along = λ es i.
+          let a = law.sets es (put h place r) place r side backlog at (found here r) s b i in
+          (a.0, λ told fits. (k told).along (es ++ entry (own_of line) (call.SetBacklog side backlog) told ∷ []) (a.1 told fits));
+    }
+
+    pub learn : {A : Type 0} {end : A → Here} (r : Tcp2Socket) {side : OpId} {next : Told → Asks A} → h.at ≡ Some (place, line) → r.inner.state ≡ state.Default side → ((told : Told) → Walks law (put h place (with_inner r (after_local r.inner (told_addr told)).1)) end (next told)) → Walks law (put h place r) end (Ask (own_of line) (call.Local side) next)
+    learn r {side} at s k = record {
+      along = λ es i.
+          let a = law.learns es (put h place r) place r side at (found here r) s i in (
+            a.0,
+            λ told fits.
+                let fs : List Entry = es ++ entry (own_of line) (call.Local side) told ∷ [] in
+                (k told).along fs (subst (law.Inv fs) (put_put h place r (with_inner r (after_local r.inner (told_addr told)).1)) (a.1 told fits)),
+          );
+    }
+
+    -- a poll, and what becomes of the record
+    polled : (r : Tcp2Socket) {op : Operation} (now : End × List Item → Tcp2Socket) → Held (put h place r) op (λ ended. put (put h place r) place (now ended)) → Walks law (put h place r) (λ ended. put h place (now ended)) (poll_asks op)
+    polled r {op} now held = ends (λ ended. put_put h place r (now ended)) (record { along = λ es i. law.polls es (put h place r) op _ held i })
+
+    pub connect : (r : Tcp2Socket) (op : Operation) → NoBind h → r.inner.state ≡ state.Connecting op → Walks law (put h place r) (λ ended. put h place (with_inner r (with_state r.inner (connect_ended op.who ended).1))) (poll_asks op)
+    connect r op q e = polled r _ (Connects place r op q (found here r) e)
+
+    pub listen : (r : Tcp2Socket) (op : Operation) → NoBind h → r.listening ≡ Begins op → side_of r.inner ≡ None → Walks law (put h place r) (λ ended. put h place (listen_after op r ended)) (poll_asks op)
+    listen r op q e c = polled r _ (Listens place r op q (found here r) e c)
+
+    pub await : (r : Tcp2Socket) (l : Listener) (op : Operation) → r.listening ≡ Accepts l → l.accept ≡ accepting.Asking op → Walks law (put h place r) (λ ended. put h place (accepting_now r l (accept_ended op.who ended))) (poll_asks op)
+    await r l op e a = polled r _ (Awaits place r l op (found here r) e a)
+
+    pub turn : (r : Tcp2Socket) (s : Streams) → r.streams ≡ Some s → Walks law (put h place r) (λ done. put h place (with_writer r s done.1)) (turn_asks s.writer)
+    turn r s e = record {
+      along = λ es i.
+          allows_weaker law.P (λ fs done. law.Inv fs (put (put h place r) place (with_writer r s done.1))) (λ fs done. law.Inv fs (put h place (with_writer r s done.1)))
+          (λ fs done k. subst (law.Inv fs) (put_put h place r (with_writer r s done.1)) k) es (turn_asks s.writer) (law.turns es (put h place r) place r s (found here r) e i);
+    }
+
+    -- the record goes: its listening is given up, and its side is closed
+    pub give_up : (r : Tcp2Socket) → NoBind h → Walks law (put h place r) (λ done. put h place (with_listening r Not)) (give_up_asks r.listening)
+    give_up r q = ends (λ done. put_put h place r (with_listening r Not)) (record { along = λ es i. law.gives_up es (put h place r) place r q (found here r) i })
+
+    pub close : {A : Type 0} {end : A → Here} (r : Tcp2Socket) {side : OpId} {next : Told → Asks A} → NoBind h → side_of r.inner ≡ Some side → ((told : Told) → Walks law (put h place (closed_record r)) end (next told)) → Walks law (put h place r) end (Ask (own_of line) (call.Close side) next)
+    close r {side} q e k = record {
+      along = λ es i.
+          let a = law.closes es (put h place r) place r side q (found here r) e i in (
+            a.0,
+            λ told fits.
+                let fs : List Entry = es ++ entry (own_of line) (call.Close side) told ∷ [] in
+                (k told).along fs (subst (law.Inv fs) (put_put h place r (closed_record r)) (a.1 told fits)),
+          );
+    }

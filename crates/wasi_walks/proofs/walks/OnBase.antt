@@ -1,0 +1,77 @@
+-- A law that stands on another: what it asks, keeps and moves, where the other holds.
+use Rattle.std.proofs.Common.{◌≡◌, ℕ, List, [], ◌∷◌, ◌++◌, Option, Some, None, slice_get}
+use Rattle.wasi_addr.specs.declared.address.SocketAddressFamily.{SocketAddressFamily}
+use Rattle.wasi_world.specs.declared.outcome.WasiSocketsCtx.{WasiSocketsCtx}
+use Rattle.wasi_world.specs.declared.ids.OpId.{OpId}
+use Rattle.wasi_world.specs.declared.call.Call.{Call}
+use Rattle.wasi_world.specs.declared.call.Call.TheVariants as call
+use Rattle.wasi_world.specs.declared.call.Told.{Told}
+use Rattle.wasi_world.specs.declared.call.Entry.{Entry}
+use Rattle.wasi_world.specs.Fits.{Fits}
+use Rattle.wasi_world.specs.Asks.{Asks, Give, Ask, AskWrite}
+use Rattle.wasi_world.specs.Typed.{told_addr}
+use Rattle.wasi_world.specs.Operation.{Operation, End, Item, poll_asks}
+use Rattle.wasi_world.proofs.Allowed.{Allows}
+use Rattle.wasi_tcp.specs.declared.socket.TcpState.TheVariants as state
+use Rattle.wasi_tcp.specs.Socket.{side_of, after_local}
+use Rattle.wasi_tcp.specs.Writer.{turn_asks}
+use Rattle.wasi_host.specs.declared.kind.Kind.{Kind}
+use Rattle.wasi_host.specs.declared.kind.Kind.TheVariants.{Tcp2}
+use Rattle.wasi_host.specs.declared.socket.Streams.{Streams}
+use Rattle.wasi_host.specs.declared.socket.Tcp2Socket.{Tcp2Socket}
+use Rattle.wasi_host.specs.Kinds.{make_asks}
+use Rattle.wasi_host.specs.declared.listening.Listening.TheVariants.{Not}
+use Rattle.wasi_host.specs.Listening.{give_up_asks, with_listening}
+use Rattle.wasi_host.specs.Machine.{own_of, side_at, create_asks}
+use Rattle.wasi_host.specs.Store.{with_inner, with_writer}
+use Rattle.wasi_steps.specs.declared.step.Step.{Step}
+use Rattle.wasi_steps.specs.declared.step.Step.TheVariants as step
+use Rattle.wasi_walks.specs.Licence.{entry, IsBacklogSet}
+use Rattle.wasi_walks.proofs.walks.Moves.{Here, put, Found, NoBind, closed_record, Past, Joined, made_so, Held, IsQuestionOf, IsOn, Move, Marks, Creates, Used, Unused}
+use Rattle.wasi_walks.proofs.walks.Law.{Law}
+
+-- what two say of a tree
+pub both : {A : Type 0} (P S : List Entry → OpId → Call → Type 0) (Q R : List Entry → A → Type 0) (es : List Entry) (asks : Asks A) → Allows P Q es asks → Allows S R es asks → Allows P (λ fs a. R fs a × Q fs a) es asks
+both P S Q R es (Give a) h k = (k, h)
+both P S Q R es (Ask op c next) h k = (h.0, λ told f. both P S Q R _ (next told) (h.1 told f) (k.1 told f))
+both P S Q R es (AskWrite op sock bytes next) h k = (h.0, λ told f g. both P S Q R _ (next told) (h.1 told f g) (k.1 told f g))
+
+pub record Above (contexts : List WasiSocketsCtx) (line : ℕ) (origin : Step) (B : List Entry → Here → Type 0) : Type 1 where
+  pub P : List Entry → OpId → Call → Type 0
+  pub Inv : List Entry → Here → Type 0
+  pub moves : (es : List Entry) (h now : Here) → Move line origin h now → B es h → Inv es h → Inv es now
+  pub asks : (es : List Entry) (h : Here) (place n : ℕ) (r : Tcp2Socket) (side : OpId) (c : Call) → h.at ≡ Some (place, n) → Found h place r → IsOn r side → IsQuestionOf side c → B es h → Inv es h
+      → P es (own_of n) c × ((told : Told) → Fits c told → Inv (es ++ entry (own_of n) c told ∷ []) h)
+  pub sets : (es : List Entry) (h : Here) (place : ℕ) (r : Tcp2Socket) (side : OpId) (backlog : ℕ) → h.at ≡ Some (place, line) → Found h place r → r.inner.state ≡ state.Listening side → IsBacklogSet origin → B es h → Inv es h
+      → P es (own_of line) (call.SetBacklog side backlog) × ((told : Told) → Fits (call.SetBacklog side backlog) told → Inv (es ++ entry (own_of line) (call.SetBacklog side backlog) told ∷ []) h)
+  pub learns : (es : List Entry) (h : Here) (place : ℕ) (r : Tcp2Socket) (side : OpId) → h.at ≡ Some (place, line) → Found h place r → r.inner.state ≡ state.Default side → B es h → Inv es h
+      → P es (own_of line) (call.Local side) × ((told : Told) → Fits (call.Local side) told → Inv (es ++ entry (own_of line) (call.Local side) told ∷ []) (put h place (with_inner r (after_local r.inner (told_addr told)).1)))
+  pub closes : (es : List Entry) (h : Here) (place : ℕ) (r : Tcp2Socket) (side : OpId) → NoBind h → Found h place r → side_of r.inner ≡ Some side → B es h → Inv es h
+      → P es (own_of line) (call.Close side) × ((told : Told) → Fits (call.Close side) told → Inv (es ++ entry (own_of line) (call.Close side) told ∷ []) (put h place (closed_record r)))
+  pub marks : (es : List Entry) (h : Here) (kind : Kind) (parent : Option ℕ) (sock : Option OpId) → Marks origin h kind parent sock → B es h → Inv es h
+      → Allows P (λ fs made. Inv fs (record h { machine = record h.machine { table = made.1 } })) es (make_asks h.machine.table (own_of line) kind parent sock)
+  pub creates : (es : List Entry) (h : Here) (ctx : WasiSocketsCtx) (family : SocketAddressFamily) → Creates contexts ctx family origin → h.at ≡ None → h.own ≡ Unused → h.made ≡ Past → B es h → Inv es h
+      → Allows P (λ fs done. Inv fs (record h { machine = done.1; own = Used })) es (create_asks h.machine (own_of line) ctx family)
+  pub accepted : (es : List Entry) (h : Here) (c listener place : ℕ) (r : Tcp2Socket) → origin ≡ step.TcpAccept c listener → h.made ≡ Joined place → h.own ≡ Used → Found h place r → B es h → Inv es h
+      → Allows P (λ fs made. Inv fs (record h { machine = record h.machine { table = made.1 }; made = made_so place made.0 })) es (make_asks h.machine.table (own_of line) (Tcp2 place) (Some listener) (side_at (slice_get h.machine.store.sockets place)))
+  pub polls : (es : List Entry) (h : Here) (op : Operation) (after : End × List Item → Here) → Held h op after → B es h → Inv es h → Allows P (λ fs ended. Inv fs (after ended)) es (poll_asks op)
+  pub turns : (es : List Entry) (h : Here) (place : ℕ) (r : Tcp2Socket) (s : Streams) → Found h place r → r.streams ≡ Some s → B es h → Inv es h → Allows P (λ fs done. Inv fs (put h place (with_writer r s done.1))) es (turn_asks s.writer)
+  pub gives_up : (es : List Entry) (h : Here) (place : ℕ) (r : Tcp2Socket) → NoBind h → Found h place r → B es h → Inv es h → Allows P (λ fs done. Inv fs (put h place (with_listening r Not))) es (give_up_asks r.listening)
+
+-- the two as one law
+unfoldable pub stand : {contexts : List WasiSocketsCtx} {line : ℕ} {origin : Step} (base : Law contexts line origin) → Above contexts line origin base.Inv → Law contexts line origin
+stand base a = record {
+  P = a.P;
+  Inv = λ es h. base.Inv es h × a.Inv es h;
+  moves = λ es h now m i. (base.moves es h now m i.0, a.moves es h now m i.0 i.1);
+  asks = λ es h place n r side c at g o q i. let x = base.asks es h place n r side c at g o q i.0 in let y = a.asks es h place n r side c at g o q i.0 i.1 in (y.0, λ told f. (x.1 told f, y.1 told f));
+  sets = λ es h place r side b at g s is i. let x = base.sets es h place r side b at g s is i.0 in let y = a.sets es h place r side b at g s is i.0 i.1 in (y.0, λ told f. (x.1 told f, y.1 told f));
+  learns = λ es h place r side at g e i. let x = base.learns es h place r side at g e i.0 in let y = a.learns es h place r side at g e i.0 i.1 in (y.0, λ told f. (x.1 told f, y.1 told f));
+  closes = λ es h place r side q g e i. let x = base.closes es h place r side q g e i.0 in let y = a.closes es h place r side q g e i.0 i.1 in (y.0, λ told f. (x.1 told f, y.1 told f));
+  marks = λ es h kind parent sock m i. both a.P base.P _ _ es _ (a.marks es h kind parent sock m i.0 i.1) (base.marks es h kind parent sock m i.0);
+  creates = λ es h ctx family c t o m i. both a.P base.P _ _ es _ (a.creates es h ctx family c t o m i.0 i.1) (base.creates es h ctx family c t o m i.0);
+  accepted = λ es h c listener place r is e o g i. both a.P base.P _ _ es _ (a.accepted es h c listener place r is e o g i.0 i.1) (base.accepted es h c listener place r is e o g i.0);
+  polls = λ es h op after k i. both a.P base.P _ _ es _ (a.polls es h op after k i.0 i.1) (base.polls es h op after k i.0);
+  turns = λ es h place r s g e i. both a.P base.P _ _ es _ (a.turns es h place r s g e i.0 i.1) (base.turns es h place r s g e i.0);
+  gives_up = λ es h place r q g i. both a.P base.P _ _ es _ (a.gives_up es h place r q g i.0 i.1) (base.gives_up es h place r q g i.0);
+}

@@ -1,0 +1,37 @@
+-- What each line keeps holds along a run, and so does what each of its asks must be.
+use Rattle.std.proofs.Common.{◌≡◌, ℕ, ◌+◌, List, [], ◌∷◌, ◌++◌, subst}
+use Rattle.wasi_world.specs.declared.ids.OpId.{OpId}
+use Rattle.wasi_world.specs.declared.call.Call.{Call}
+use Rattle.wasi_world.specs.declared.call.Entry.{Entry}
+use Rattle.wasi_world.specs.declared.outcome.WasiSocketsCtx.{WasiSocketsCtx}
+use Rattle.wasi_world.specs.Asks.{Asks, Give, Left}
+use Rattle.wasi_world.proofs.Allowed.{Allows, allows_then, allows_if, allows_at, reached}
+use Rattle.wasi_host.specs.declared.machine.Machine.{Machine}
+use Rattle.wasi_host.specs.Machine.{first_state}
+use Rattle.wasi_steps.specs.declared.reply.Reply.{Reply}
+use Rattle.wasi_steps.specs.declared.step.Step.{Step}
+use Rattle.wasi_machine.specs.Machine.{machine_asks, run}
+use Rattle.wasi_steps.specs.Reply.{is_trap}
+
+-- P is what each ask must be, and Between what holds between the lines: before the line of this number.
+module _ (contexts : List WasiSocketsCtx) (P : List Entry → OpId → Call → Type 0) (Between : ℕ → List Entry → Machine → Type 0)
+    (line_keeps : (line : ℕ) (s : Step) (m : Machine) (es : List Entry) → Between line es m → Allows P (λ fs done. Between (line + 1) fs done.1) es (machine_asks contexts m line s)) where
+  -- it holds before some line
+  abbrev pub Keeps : List Entry → List Reply × Machine → Type 0
+  Keeps es done = (line : ℕ) × Between line es done.1
+
+  pub run_keeps : (replies : List Reply) (line : ℕ) (todo : List Step) (m : Machine) (es : List Entry) → Between line es m → Allows P Keeps es (run contexts replies m line todo)
+  run_keeps replies line [] m es i = (line, i)
+  run_keeps replies line (s ∷ todo) m es i =
+      allows_then P (λ fs done. Between (line + 1) fs done.1) Keeps es (machine_asks contexts m line s) _ (line_keeps line s m es i)
+      (λ fs done k. allows_if P Keeps fs (is_trap done.0) _ _ (λ trap. (line + 1, k)) (λ on. run_keeps (replies ++ done.0 ∷ []) (line + 1) todo done.1 fs k))
+
+  module _ (first : Between 1 [] first_state) (steps : List Step) where
+    -- each entry of the log
+    pub each_entry : (log : List Entry) (rest : Asks (List Reply × Machine)) → Left (run contexts [] first_state 1 steps) log rest → (before : List Entry) (e : Entry) (after : List Entry) → log ≡ before ++ e ∷ after → P before e.op e.call
+    each_entry log rest w before e after cut =
+        allows_at P Keeps [] (run contexts [] first_state 1 steps) rest before e after (run_keeps [] 1 steps first_state [] first) (subst (λ (es : List Entry). Left (run contexts [] first_state 1 steps) es rest) cut w)
+
+    -- the machine that a run leaves
+    pub run_ends : (log : List Entry) (replies : List Reply) (m : Machine) → Left (run contexts [] first_state 1 steps) log (Give (replies, m)) → (line : ℕ) × Between line log m
+    run_ends log replies m w = reached P Keeps [] (run contexts [] first_state 1 steps) log (Give (replies, m)) (run_keeps [] 1 steps first_state [] first) w

@@ -1,0 +1,177 @@
+-- The steps on sockets, as moves: the handle is looked up, its record does the call, and is put back.
+use Rattle.std.proofs.Common.{◌≡◌, ℕ, inl, inr, Bool, true, false, List, Option, Some, None, Result, Ok, Err, refl, sym, slice_get, ◌⊎◌}
+use Rattle.wasi_addr.specs.declared.address.IpSocketAddress.{IpSocketAddress}
+use Rattle.wasi_addr.specs.declared.address.ShutdownType.{ShutdownType}
+use Rattle.wasi_addr.specs.declared.code.ErrorCode.{ErrorCode}
+use Rattle.wasi_world.specs.declared.outcome.WasiSocketsCtx.{WasiSocketsCtx}
+use Rattle.wasi_world.specs.Asks.{Asks, Give, bind}
+use Rattle.wasi_world.specs.Operation.{Operation}
+use Rattle.wasi_tcp.specs.Options.{set_option_asks}
+use Rattle.wasi_tcp.specs.Shape.{Socket}
+use Rattle.wasi_host.specs.declared.kind.Kind.{Kind}
+use Rattle.wasi_host.specs.declared.kind.Kind.TheVariants.{Input, Output}
+use Rattle.wasi_host.specs.declared.machine.Machine.{Machine}
+use Rattle.wasi_host.specs.declared.socket.InProgress.{InProgress}
+use Rattle.wasi_host.specs.declared.socket.Streams.{Streams}
+use Rattle.wasi_host.specs.declared.socket.Tcp2Socket.{Tcp2Socket}
+use Rattle.wasi_host.specs.Host.{Stop}
+use Rattle.wasi_host.specs.Kinds.{Handles, make_asks, kind_at, is_network}
+use Rattle.wasi_host.specs.Machine.{own_of, with_store, with_table, side_at, socket_at}
+use Rattle.wasi_host.specs.Options.{looked_at, set_backlog_at}
+use Rattle.wasi_host.specs.Store.{Records, is_nothing, bind_answered, start_bind_by, start_bind_at, put_back, start_connect_by, start_connect_at, finish_by, finish_at, tell_local_asks, tell_remote_asks, local_address_at, remote_address_at, is_connect, finish_connect_by, finish_connect_at, inner_answered}
+use Rattle.wasi_host.specs.Shutdowns.{shut_record, shutdown_at}
+use Rattle.wasi_p2.specs.Options.{record_asks}
+use Rattle.wasi_p2.specs.Tcp.{start_bind_on, start_bind_asks, start_connect_on, start_connect_asks, with_output, output_asks, streams_asks, connected_asks, finish_connect_on, finish_on}
+use Rattle.wasi_machine.specs.Machine.{set_chosen}
+use Rattle.wasi_steps.specs.Settings.{Chosen, AnOption, TheBacklog}
+use Rattle.wasi_steps.specs.declared.step.Step.{Step}
+use Rattle.wasi_steps.specs.declared.step.Step.TheVariants as step
+use Rattle.wasi_walks.specs.Licence.{Has, handles_of, IsBindTo, IsConnectTo, IsBacklogSet}
+use Rattle.wasi_walks.proofs.walks.Moves.{NoBindStands, Used, Unused, Here, put, Found, record_of, AStream, Reaches, Leaves, Spends, Changes, Stands, Made, Past, Marks}
+use Rattle.wasi_walks.proofs.walks.Law.{Law, HasRecord, found, put_same, Walks, Given, give, and_then, and_given, by_if, move, gives, from, mark}
+use Rattle.wasi_walks.proofs.walks.Sockets.{Begun, set_walks, begin_bind_walks, begin_connect_walks, poll_connect_walks, local_walks, remote_walks, backlog_walks}
+use Rattle.wasi_walks.proofs.walks.Streams.{shut_walks}
+use Rattle.wasi_walks.proofs.walks.States.{OverWith, Between, socket_record, make_given, At, Starts, streams_are, Put, Over, there}
+
+module _ {contexts : List WasiSocketsCtx} {line : ℕ} {origin : Step} {law : Law contexts line origin} where
+  -- == a call on the record of a handle
+  pub on_socket : {T : Type 0} (m : Machine) (handle : ℕ) {call : ℕ → Asks (Result T Stop × Records)} (o : Option ℕ) → Has (handles_of origin) handle → ((place : ℕ) → o ≡ Some place → record_of (kind_at m.table handle) ≡ Some place)
+      → ((place : ℕ) → Walks law (At line m place Unused) (Put line m place) (call place)) → Walks law (Starts m Unused) OverWith (record_asks m call o)
+  on_socket m handle None named k c = gives _ (Spends _ refl)
+  on_socket m handle (Some place) named k c = move (Reaches _ handle place named (k place refl)) (and_then (c place) (λ done. gives _ (Leaves _)))
+
+  -- a call that leaves its record as it was
+  pub looked_walks : {T : Type 0} (m : Machine) (place : ℕ) (call : Socket → Asks (Result T ErrorCode × Socket)) (o : Option Tcp2Socket) → slice_get m.store.sockets place ≡ o
+      → ((r : Tcp2Socket) → HasRecord (At line m place Unused) place → Walks law (put (At line m place Unused) place r) (λ done. put (At line m place Unused) place r) (call r.inner)) → Walks law (At line m place Unused) (Put line m place) (looked_at m.store call o)
+  looked_walks m place call None g k = gives _ (Spends _ refl)
+  looked_walks m place call (Some r) g k =
+      let here = put_same (At line m place Unused) place r g in
+      from here (and_then (k r (there g)) (λ done. from (sym here) (gives _ (Spends _ refl))))
+
+  -- a bind that was begun
+  pub answered_walks : (m : Machine) (at : Option (ℕ × ℕ)) (n place : ℕ) (begun : Result (Option Operation) ErrorCode × Tcp2Socket) → let h : Here = record { machine = m; at = at; hand = None; made = Past; own = Used } in
+      HasRecord h place → Walks law (Begun h place begun) (λ done. record h { machine = record m { store = done.1 } }) (Give (bind_answered m.store n place begun))
+  answered_walks m at n place (Ok (Some op), r) here = gives _ (Stands _ n place r op (found here r) refl)
+  answered_walks m at n place (Ok None, r) here = give _
+  answered_walks m at n place (Err c, r) here = give _
+
+  -- == a bind
+  start_by_walks : (m : Machine) (place : ℕ) (a : IpSocketAddress) (r : Tcp2Socket) (idle : Bool) → Found (At line m place Unused) place r → IsBindTo a origin → Walks law (At line m place Unused) (Put line m place) (start_bind_by m.store (own_of line) place a r idle)
+  start_by_walks m place a r true g to = from (put_same (At line m place Unused) place r g) (and_then (begin_bind_walks (there g) refl a to refl r) (λ begun. answered_walks m (Some (place, line)) line place begun (record { was = r; found = g })))
+  start_by_walks m place a r false g to = gives _ (Spends _ refl)
+
+  start_at_walks : (m : Machine) (place : ℕ) (a : IpSocketAddress) (o : Option Tcp2Socket) → slice_get m.store.sockets place ≡ o → IsBindTo a origin → Walks law (At line m place Unused) (Put line m place) (start_bind_at m.store (own_of line) place a o)
+  start_at_walks m place a None g to = gives _ (Spends _ refl)
+  start_at_walks m place a (Some r) g to = start_by_walks m place a r (is_nothing r.in_progress) g to
+
+  start_on_walks : (m : Machine) (s : ℕ) (a : IpSocketAddress) (o : Option ℕ) → socket_at m s ≡ o → Has (handles_of origin) s → IsBindTo a origin → Walks law (Starts m Unused) OverWith (start_bind_on m (own_of line) a o)
+  start_on_walks m s a None e named to = gives _ (Spends _ refl)
+  start_on_walks m s a (Some place) e named to =
+      move (Reaches _ s place named (socket_record (kind_at m.table s) place e)) (and_then (start_at_walks m place a (slice_get m.store.sockets place) refl to) (λ done. gives _ (Leaves _)))
+
+  pub start_bind_walks : (m : Machine) (s n : ℕ) (a : IpSocketAddress) → Has (handles_of origin) s → IsBindTo a origin → Walks law (Starts m Unused) OverWith (start_bind_asks m (own_of line) s n a)
+  start_bind_walks m s n a named to = by_if (is_network (kind_at m.table n)) (λ yes. start_on_walks m s a (socket_at m s) refl named to) (λ other. gives _ (Spends _ refl))
+
+  -- == a connect
+  put_back_walks : {T : Type 0} (m : Machine) (place : ℕ) (done : Result T ErrorCode × Tcp2Socket) → Walks law (record (put (At line m place Unused) place done.1) { own = Used }) (Put line m place) (Give (put_back m.store place done))
+  put_back_walks m place (Ok value, r) = give _
+  put_back_walks m place (Err c, r) = give _
+
+  start_connect_by_walks : (m : Machine) (place : ℕ) (a : IpSocketAddress) (r : Tcp2Socket) (idle : Bool) → Found (At line m place Unused) place r → IsConnectTo a origin → Walks law (At line m place Unused) (Put line m place) (start_connect_by m.store (own_of line) place a r idle)
+  start_connect_by_walks m place a r true g to = from (put_same (At line m place Unused) place r g) (and_then (begin_connect_walks (there g) refl r a to refl) (put_back_walks m place))
+  start_connect_by_walks m place a r false g to = gives _ (Spends _ refl)
+
+  start_connect_at_walks : (m : Machine) (place : ℕ) (a : IpSocketAddress) (o : Option Tcp2Socket) → slice_get m.store.sockets place ≡ o → IsConnectTo a origin → Walks law (At line m place Unused) (Put line m place) (start_connect_at m.store (own_of line) place a o)
+  start_connect_at_walks m place a None g to = gives _ (Spends _ refl)
+  start_connect_at_walks m place a (Some r) g to = start_connect_by_walks m place a r (is_nothing r.in_progress) g to
+
+  start_connect_on_walks : (m : Machine) (s : ℕ) (a : IpSocketAddress) (o : Option ℕ) → socket_at m s ≡ o → Has (handles_of origin) s → IsConnectTo a origin → Walks law (Starts m Unused) OverWith (start_connect_on m (own_of line) a o)
+  start_connect_on_walks m s a None e named to = gives _ (Spends _ refl)
+  start_connect_on_walks m s a (Some place) e named to =
+      move (Reaches _ s place named (socket_record (kind_at m.table s) place e)) (and_then (start_connect_at_walks m place a (slice_get m.store.sockets place) refl to) (λ done. gives _ (Leaves _)))
+
+  pub start_connect_walks : (m : Machine) (s n : ℕ) (a : IpSocketAddress) → Has (handles_of origin) s → IsConnectTo a origin → Walks law (Starts m Unused) OverWith (start_connect_asks m (own_of line) s n a)
+  start_connect_walks m s n a named to = by_if (is_network (kind_at m.table n)) (λ yes. start_connect_on_walks m s a (socket_at m s) refl named to) (λ other. gives _ (Spends _ refl))
+
+  finish_by_walks : (m : Machine) (place : ℕ) (r : Tcp2Socket) (its : Bool) → Found (At line m place Unused) place r → NoBindStands m.store.standing → Walks law (At line m place Unused) (Put line m place) (finish_connect_by m.store place r its)
+  finish_by_walks m place r true g q = from (put_same (At line m place Unused) place r g) (and_then (poll_connect_walks (there g) (refl, q) r) (λ done. gives _ (Spends _ refl)))
+  finish_by_walks m place r false g q = gives _ (Spends _ refl)
+
+  finish_at_walks : (m : Machine) (place : ℕ) (o : Option Tcp2Socket) → slice_get m.store.sockets place ≡ o → NoBindStands m.store.standing → Walks law (At line m place Unused) (Put line m place) (finish_connect_at m.store place o)
+  finish_at_walks m place None g q = gives _ (Spends _ refl)
+  finish_at_walks m place (Some r) g q = finish_by_walks m place r (is_connect r.in_progress) g q
+
+  -- the two streams, under a socket's handle, by whatever is known of the table
+  module _ (at : Option (ℕ × ℕ)) (made : Made) (s place : ℕ) (m : Machine) (G : Handles → Type 0) (more : (t : Handles) (kind : Kind) → G t → Given (λ x. G x.1) (make_asks t (own_of line) kind (Some s) (side_at (slice_get m.store.sockets place))))
+      (marks : (t : Handles) (kind : Kind) → (kind ≡ Input place) ⊎ (kind ≡ Output place) → G t → Marks origin (record { machine = record m { table = t }; at = at; hand = None; made = made; own = Used }) kind (Some s) (side_at (slice_get m.store.sockets place))) where
+    second : (input : ℕ) (t : Handles) (done : Result ℕ Stop × Handles) → Walks law (Between at made (record m { table = done.1 })) OverWith (Give (with_output input (with_table (record m { table = t }) done)))
+    second input t (Ok n, x) = gives _ (Leaves _)
+    second input t (Err why, x) = gives _ (Leaves _)
+
+    output_walks : (done : Result ℕ Stop × Handles) → G done.1 → Walks law (Between at made (record m { table = done.1 })) OverWith (output_asks (own_of line) s place (side_at (slice_get m.store.sockets place)) (with_table m done))
+    output_walks (Ok input, t) g = and_then (mark (marks t (Output place) (inr refl) g)) (second input t)
+    output_walks (Err why, t) g = gives _ (Leaves _)
+
+    pub streams_walks : G m.table → Walks law (Between at made m) OverWith (streams_asks m (own_of line) s place (side_at (slice_get m.store.sockets place)))
+    streams_walks g = and_given (λ done. G done.1) (more m.table (Input place) g) (mark (marks m.table (Input place) (inl refl) g)) output_walks
+
+  connected_walks : (c s place : ℕ) (m : Machine) (done : Result (Unit {0}) Stop × Records) → origin ≡ step.TcpFinishConnect c s → record_of (kind_at m.table s) ≡ Some place → Walks law (Put line m place done) OverWith (connected_asks (own_of line) s place (with_store m done))
+  connected_walks c s place m (Ok d, store) is k =
+      let now : Machine = record m { store = store } in
+      streams_walks (Some (place, line)) Past s place now (λ t. record_of (kind_at t s) ≡ Some place) (λ t kind g. make_given t (own_of line) kind (Some s) (side_at (slice_get store.sockets place)) s place g) (λ t kind which g. AStream c s place kind is which g) k
+  connected_walks c s place m (Err why, store) is k = gives _ (Leaves _)
+
+  pub finish_on_walks : (c s : ℕ) (m : Machine) (o : Option ℕ) → socket_at m s ≡ o → Has (handles_of origin) s → origin ≡ step.TcpFinishConnect c s → NoBindStands m.store.standing → Walks law (Starts m Unused) OverWith (finish_connect_on m (own_of line) s o)
+  finish_on_walks c s m None e named is q = gives _ (Spends _ refl)
+  finish_on_walks c s m (Some place) e named is q =
+      let k = socket_record (kind_at m.table s) place e in
+      move (Reaches _ s place named k) (and_then (finish_at_walks m place (slice_get m.store.sockets place) refl q) (λ done. connected_walks c s place m done is k))
+
+  -- == the addresses, and what is finished
+  puts_back : {T : Type 0} (m : Machine) (place : ℕ) (r : Tcp2Socket) (call : Asks (Result T ErrorCode × Tcp2Socket)) → Found (At line m place Unused) place r → Walks law (put (At line m place Unused) place r) (λ done. put (At line m place Unused) place done.1) call
+      → Walks law (At line m place Unused) (Put line m place) (bind call (λ done. Give (put_back m.store place done)))
+  puts_back m place r call g w = from (put_same (At line m place Unused) place r g) (and_then w (λ done. move (Spends _ refl) (put_back_walks m place done)))
+
+  pub local_at_walks : (m : Machine) (place : ℕ) (o : Option Tcp2Socket) → slice_get m.store.sockets place ≡ o → Walks law (At line m place Unused) (Put line m place) (local_address_at m.store (own_of line) place o)
+  local_at_walks m place None g = gives _ (Spends _ refl)
+  local_at_walks m place (Some r) g = puts_back m place r (tell_local_asks (own_of line) r) g (local_walks (there g) refl r)
+
+  pub remote_at_walks : (m : Machine) (place : ℕ) (o : Option Tcp2Socket) → slice_get m.store.sockets place ≡ o → Walks law (At line m place Unused) (Put line m place) (remote_address_at m.store (own_of line) place o)
+  remote_at_walks m place None g = gives _ (Spends _ refl)
+  remote_at_walks m place (Some r) g = puts_back m place r (tell_remote_asks (own_of line) r) g (remote_walks (there g) refl r)
+
+  pub as_left : {A : Type 0} {h : Here} {x : A} {now : Machine} → Walks law h (λ m. Over m) (Give now) → Walks law h OverWith (Give (x, now))
+  as_left w = record { along = w.along }
+
+  finishes : (m : Machine) (place : ℕ) (is_it : InProgress → Bool) (o : Option Tcp2Socket) → slice_get m.store.sockets place ≡ o → Walks law (Starts m Unused) (λ now. Over now) (Give (with_store m (finish_at is_it m.store place o)).1)
+  finishes m place is_it None g = gives _ (Spends _ refl)
+  finishes m place is_it (Some r) g = by_test (is_it r.in_progress)
+    where
+      by_test : (b : Bool) → Walks law (Starts m Unused) (λ now. Over now) (Give (with_store m (finish_by m.store place r b)).1)
+      by_test true = move (Spends _ refl) (gives _ (Changes _ place r _ g (record { side = refl; streams = refl; listening = refl; does = refl; maker = refl; family = refl; bound = λ side d b. b; connects = λ e. absurd (cc) })))
+      by_test false = gives _ (Spends _ refl)
+
+  pub finish_on_bind : (m : Machine) (is_it : InProgress → Bool) (o : Option ℕ) → Walks law (Starts m Unused) (λ now. Over now) (Give (finish_on is_it m o).1)
+  finish_on_bind m is_it None = gives _ (Spends _ refl)
+  finish_on_bind m is_it (Some place) = finishes m place is_it (slice_get m.store.sockets place) refl
+
+  -- == a shutdown
+  shut_record_walks : {h : Here} {place : ℕ} (here : HasRecord h place) (at : h.at ≡ Some (place, line)) (how : ShutdownType) (r : Tcp2Socket) (o : Option Streams) → r.streams ≡ o → Walks law (put h place r) (λ done. put h place done.1) (shut_record (own_of line) how r o)
+  shut_record_walks here at how r None e = give _
+  shut_record_walks {h} {place} here at how r (Some s) e = from (streams_are h place r s e) (and_then (shut_walks here at r s how) (λ done. give _))
+
+  pub shutdown_at_walks : (m : Machine) (place : ℕ) (how : ShutdownType) (o : Option Tcp2Socket) → slice_get m.store.sockets place ≡ o → Walks law (At line m place Unused) (Put line m place) (shutdown_at m.store (own_of line) how place o)
+  shutdown_at_walks m place how None g = gives _ (Spends _ refl)
+  shutdown_at_walks m place how (Some r) g = from (put_same (At line m place Unused) place r g) (and_then (shut_record_walks (there g) refl how r r.streams refl) (λ done. gives _ (Spends _ refl)))
+
+  -- == options and the backlog
+  pub set_chosen_walks : (m : Machine) (s : ℕ) (o : Option ℕ) (c : Chosen) → Has (handles_of origin) s → ((place : ℕ) → o ≡ Some place → record_of (kind_at m.table s) ≡ Some place) → ((value : ℕ) → c ≡ TheBacklog value → IsBacklogSet origin)
+      → Walks law (Starts m Unused) OverWith (set_chosen m (own_of line) o c)
+  set_chosen_walks m s o (AnOption option value) named k b =
+      on_socket m s o named k (λ place. looked_walks m place (λ x. set_option_asks (own_of line) x option value) (slice_get m.store.sockets place) refl (λ r here. set_walks here refl r option value))
+  set_chosen_walks m s o (TheBacklog value) named k b = on_socket m s o named k (λ place. backlog_at_walks m place (slice_get m.store.sockets place) refl)
+    where
+      backlog_at_walks : (m : Machine) (place : ℕ) (o : Option Tcp2Socket) → slice_get m.store.sockets place ≡ o → Walks law (At line m place Unused) (Put line m place) (set_backlog_at m.store (own_of line) place value o)
+      backlog_at_walks m place None g = gives _ (Spends _ refl)
+      backlog_at_walks m place (Some r) g =
+          from (put_same (At line m place Unused) place r g) (and_then (backlog_walks (there g) refl r value (b value refl)) (λ done. move (Spends _ refl) (put_back_walks m place (inner_answered r done))))

@@ -1,0 +1,177 @@
+-- What a line works on where it begins, in its midst and at its end, and what is known of handles there.
+use Rattle.std.specs.Prelude.{⊤}
+use Rattle.std.proofs.Common.{◌≡◌, ℕ, ◌==◌, Bool, true, false, if◌then◌else◌, List, Option, Some, None, Result, Ok, Err, refl, sym, ap, ◌∙◌, slice_get, slice_set, eqb-true}
+use Rattle.wasi_addr.specs.declared.code.ErrorCode.{ErrorCode}
+use Rattle.wasi_world.specs.declared.ids.Ids.{Ids}
+use Rattle.wasi_world.specs.declared.outcome.Answer.TheVariants.{Ready, Pending}
+use Rattle.wasi_world.specs.declared.ids.OpId.{OpId}
+use Rattle.wasi_world.specs.declared.outcome.Answer.{Answer}
+use Rattle.wasi_world.specs.declared.outcome.TrapKind.TheVariants.{Full}
+use Rattle.wasi_world.specs.Asks.{Asks, Give, bind, Ask, AskWrite}
+use Rattle.wasi_world.specs.Typed.{ask_made}
+use Rattle.wasi_world.specs.Operation.{Operation}
+use Rattle.wasi_streams.specs.Table.{is_full}
+use Rattle.wasi_tcp.specs.Shape.{Socket}
+use Rattle.wasi_host.specs.Listening.{accepted_record, kept_accepted, with_sockets, accept_answered, accept_at, accept_record_asks}
+use Rattle.wasi_host.specs.declared.kind.Watched.TheVariants as watched
+use Rattle.wasi_host.specs.declared.kind.Watched.{Watched}
+use Rattle.wasi_host.specs.declared.kind.Kind.{Kind}
+use Rattle.wasi_host.specs.declared.kind.Kind.TheVariants.{Network, Tcp2, Input, Output, Pollable, ErrorValue}
+use Rattle.wasi_host.specs.declared.machine.Machine.{Machine}
+use Rattle.wasi_host.specs.declared.socket.Streams.{Streams}
+use Rattle.wasi_host.specs.declared.socket.Tcp2Socket.{Tcp2Socket}
+use Rattle.wasi_host.specs.declared.store.Standing.{Standing}
+use Rattle.wasi_host.specs.declared.store.StandingCall.{StandingCall}
+use Rattle.wasi_host.specs.declared.store.StandingCall.TheVariants as standing
+use Rattle.wasi_host.specs.Host.{Stop, Trap}
+use Rattle.wasi_host.specs.Kinds.{Handles, with_handle, table_parent, name_of, make_asks, kind_at, place_of, input_of, output_of, watched_by, watch_of, place_in}
+use Rattle.wasi_host.specs.Pending.{bind_in, waiting_bind, waiting_drop, output_in}
+use Rattle.wasi_host.specs.Store.{Records, standing_bind, standing_drop}
+use Rattle.wasi_walks.proofs.walks.Moves.{Own, Used, Here, put, Found, record_of, Made, Past, Unmade, Joined}
+use Rattle.wasi_walks.proofs.Lists.{value_front, get_seam}
+use Rattle.wasi_walks.proofs.walks.Law.{HasRecord, Given, given_then}
+
+-- a line begins, and is over
+abbrev pub Starts : Machine → Own → Here
+Starts m more = record { machine = m; at = None; hand = None; made = Past; own = more }
+
+abbrev pub Over : Machine → Here
+Over m = record { machine = m; at = None; hand = None; made = Past; own = Used }
+
+abbrev pub OverWith : {A : Type 0} → A × Machine → Here
+OverWith done = Over done.1
+
+-- it works on the record of this place by that line's operation, and has done so
+abbrev pub At : ℕ → Machine → ℕ → Own → Here
+At n m place more = record { machine = m; at = Some (place, n); hand = None; made = Past; own = more }
+
+abbrev pub Put : {A : Type 0} → ℕ → Machine → ℕ → A × Records → Here
+Put n m place done = At n (record m { store = done.1 }) place Used
+
+pub socket_record : (k : Option Kind) (place : ℕ) → place_of k ≡ Some place → record_of k ≡ Some place
+socket_record None place e = absurd (cc)
+socket_record (Some (Tcp2 n)) place e = e
+socket_record (Some _) place e = absurd (cc)
+
+pub input_record : (k : Option Kind) (place : ℕ) → input_of k ≡ Some place → record_of k ≡ Some place
+input_record None place e = absurd (cc)
+input_record (Some (Input n)) place e = e
+input_record (Some _) place e = absurd (cc)
+
+pub output_record : (k : Option Kind) (place : ℕ) → output_of k ≡ Some place → record_of k ≡ Some place
+output_record None place e = absurd (cc)
+output_record (Some (Output n)) place e = e
+output_record (Some _) place e = absurd (cc)
+
+pub there : {h : Here} {place : ℕ} {r : Tcp2Socket} → Found h place r → HasRecord h place
+there {r} g = record { was = r; found = g }
+
+-- one that stands
+pub record StandsSo (o : Option Standing) (place : ℕ) (op : Operation) : Type 0 where
+  pub n : ℕ
+  pub is : o ≡ Some (standing_bind n place op)
+
+pub stands_so : (o : Option Standing) (n place : ℕ) (op : Operation) → waiting_bind o n ≡ Some (place, op) → StandsSo o place op
+stands_so None n place op e = absurd (cc)
+stands_so (Some s) n place op e = by_line s.call (s.line == n) refl e
+  where
+    by_line : (call : StandingCall) (same : Bool) → s.call ≡ call → (if same then bind_in call else None) ≡ Some (place, op) → StandsSo (Some s) place op
+    by_line (standing.Bind p o) true c q =
+        let was : ℕ × Operation = (p, o) in
+        let now : ℕ × Operation = (place, op) in
+        let both : was ≡ now = cc in
+        record { n = s.line; is = ap (λ (x : StandingCall). let t : Standing = record { line = s.line; call = x } in Some t) c ∙ ap (λ (x : ℕ × Operation). Some (standing_bind s.line x.0 x.1)) both }
+    by_line (standing.Listen p) true c q = absurd (cc)
+    by_line (standing.DropOutput p) true c q = absurd (cc)
+    by_line call false c q = absurd (cc)
+
+pub streams_are : (h : Here) (place : ℕ) (r : Tcp2Socket) (s : Streams) → r.streams ≡ Some s → put h place (record r { streams = Some s }) ≡ put h place r
+streams_are h place r s e = ap (λ (o : Option Streams). put h place (record r { streams = o })) (sym e)
+
+-- the streams of a connection are made
+abbrev pub Between : Option (ℕ × ℕ) → Made → Machine → Here
+Between at made m = record { machine = m; at = at; hand = None; made = made; own = Used }
+
+-- an accept looks, and has taken what was handed over
+abbrev pub Watching : ℕ → Machine → ℕ → Own → Here
+Watching line m place own = record { machine = m; at = Some (place, line); hand = None; made = Unmade; own = own }
+
+abbrev pub AcceptedSo : ℕ → Machine → ℕ → Result ℕ Stop × Records → Here
+AcceptedSo line m place (Ok p, store) = Between None (Joined p) (record m { store = store })
+AcceptedSo line m place (Err why, store) = Between (Some (place, line)) Unmade (record m { store = store })
+
+-- with these records
+abbrev pub Sets : Machine → List Tcp2Socket → Here
+Sets m sockets = record { machine = record m { store = record m.store { sockets = sockets } }; at = None; hand = None; made = Past; own = Used }
+
+-- a handle that is live stays so where another is made
+pub make_given : (t : Handles) (op : OpId) (kind : Kind) (parent : Option ℕ) (sock : Option OpId) (handle place : ℕ) → record_of (kind_at t handle) ≡ Some place → Given (λ made. record_of (kind_at made.1 handle) ≡ Some place) (make_asks t op kind parent sock)
+unfolding bind
+make_given t op kind parent sock handle place e = by_test (is_full t)
+  where
+    stays : (k : Option Kind) → kind_at t handle ≡ k → record_of k ≡ Some place → record_of (kind_at (with_handle t kind parent) handle) ≡ Some place
+    stays None q r = absurd (cc)
+    stays (Some its) q r = ap record_of (value_front t.live (record { handle = t.next; value = kind; parent = table_parent kind parent }) handle its q) ∙ r
+
+    by_test : (b : Bool) → Given (λ (made : Result ℕ Stop × Handles). record_of (kind_at made.1 handle) ≡ Some place) (if b then Give (Err (Trap Full), t) else bind (ask_made op t.next (name_of kind) parent sock) (λ done. Give (Ok t.next, with_handle t kind parent)))
+    by_test true = e
+    by_test false = λ told. stays (kind_at t handle) refl e
+
+pub watched_record : (k : Option Kind) (w : Watched) → watched_by k ≡ Some w → record_of k ≡ Some (place_in w)
+watched_record (Some (Tcp2 n)) w e = let p : watched.Socket n ≡ w = cc in ap (λ (x : Watched). Some (place_in x)) p
+watched_record (Some (Input n)) w e = let p : watched.Input n ≡ w = cc in ap (λ (x : Watched). Some (place_in x)) p
+watched_record (Some (Output n)) w e = let p : watched.Output n ≡ w = cc in ap (λ (x : Watched). Some (place_in x)) p
+watched_record (Some Network) w e = absurd (cc)
+watched_record (Some (Pollable x)) w e = absurd (cc)
+watched_record (Some ErrorValue) w e = absurd (cc)
+watched_record None w e = absurd (cc)
+
+pub watch_record : (k : Option Kind) (w : Watched) → watch_of k ≡ Some w → record_of k ≡ Some (place_in w)
+watch_record (Some (Pollable x)) w e = let p : x ≡ w = cc in ap (λ (y : Watched). Some (place_in y)) p
+watch_record (Some Network) w e = absurd (cc)
+watch_record (Some (Tcp2 n)) w e = absurd (cc)
+watch_record (Some (Input n)) w e = absurd (cc)
+watch_record (Some (Output n)) w e = absurd (cc)
+watch_record (Some ErrorValue) w e = absurd (cc)
+watch_record None w e = absurd (cc)
+
+-- the drop that stands under a number
+pub stands_drop : (o : Option Standing) (n place : ℕ) → waiting_drop o n ≡ Some place → o ≡ Some (standing_drop n place)
+stands_drop None n place e = absurd (cc)
+stands_drop (Some s) n place e = by_line s.call (s.line == n) refl refl e
+  where
+    by_line : (call : StandingCall) (same : Bool) → s.call ≡ call → (s.line == n) ≡ same → (if same then output_in call else None) ≡ Some place → Some s ≡ Some (standing_drop n place)
+    by_line (standing.DropOutput p) true c l q =
+        let here : p ≡ place = cc in
+        let there : s.line ≡ n = eqb-true s.line n l in
+        ap (λ (x : StandingCall). let t : Standing = record { line = s.line; call = x } in Some t) c ∙ (ap (λ (x : ℕ). Some (standing_drop s.line x)) here ∙ ap (λ (x : ℕ). Some (standing_drop x place)) there)
+    by_line (standing.Bind p o) true c l q = absurd (cc)
+    by_line (standing.Listen p) true c l q = absurd (cc)
+    by_line call false c l q = absurd (cc)
+
+pub given_any : {A : Type 0} (R : A → Type 0) → ((a : A) → R a) → (asks : Asks A) → Given R asks
+given_any R k (Give a) = k a
+given_any R k (Ask op c next) = λ told. given_any R k (next told)
+given_any R k (AskWrite op sock bytes next) = λ told. given_any R k (next told)
+
+-- what joined the records is there
+pub record HasAt (store : Records) (p : ℕ) : Type 0 where
+  pub was : Tcp2Socket
+  pub found : slice_get store.sockets p ≡ Some was
+
+abbrev pub JoinedSo : Result ℕ Stop × Records → Type 0
+JoinedSo (Ok p, store) = HasAt store p
+JoinedSo (Err why, store) = ⊤
+
+pub joined_given : (store : Records) (ids : Ids) (place : ℕ) (o : Option Tcp2Socket) → Given JoinedSo (accept_at store ids place o)
+joined_given store ids place None = tt
+joined_given store ids place (Some r) = given_then JoinedSo (accept_answered store place) answered (accept_record_asks ids r)
+  where
+    kept : (sockets : List Tcp2Socket) (x : Result (Unit {0}) Stop × Tcp2Socket) → JoinedSo (with_sockets store (kept_accepted sockets x))
+    kept sockets (Ok done, now) = record { was = now; found = get_seam sockets now }
+    kept sockets (Err why, now) = tt
+
+    answered : (done : Result (Answer Socket) ErrorCode × Tcp2Socket) → JoinedSo (accept_answered store place done)
+    answered (Ok (Ready socket), r) = kept (slice_set store.sockets place r) (accepted_record socket)
+    answered (Ok Pending, r) = tt
+    answered (Err why, r) = tt

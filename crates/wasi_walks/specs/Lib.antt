@@ -1,0 +1,4 @@
+pub mod Licence
+pub mod Answered
+pub mod Listens
+pub mod Waiting

@@ -1,0 +1,307 @@
+-- Which calls a log may hold, and with which replies: a relation of the contexts, the script's steps, the log's entries and the
+-- replies, and of nothing else. It knows no state of a socket, an operation or a table. Each entry is judged by those before it.
+use Rattle.std.specs.Prelude.{◌≡◌, ℕ, zero, suc, ◌+◌, ◌≤◌, length, ◌⊎◌, ⊤, true, false, List, [], ◌∷◌, ◌++◌, Option, Some, None, slice_get}
+use Rattle.wasi_addr.specs.declared.address.IpSocketAddress.{IpSocketAddress}
+use Rattle.wasi_addr.specs.declared.address.SocketAddressFamily.{SocketAddressFamily}
+use Rattle.wasi_addr.specs.declared.address.SocketAddrUse.{SocketAddrUse}
+use Rattle.wasi_addr.specs.declared.address.SocketAddrUse.TheVariants.{TcpBind, TcpListen, TcpAccept, TcpConnect}
+use Rattle.wasi_addr.specs.Address.{is_wildcard, wildcard}
+use Rattle.wasi_world.specs.declared.ids.OpId.{OpId}
+use Rattle.wasi_world.specs.declared.call.Call.{Call}
+use Rattle.wasi_world.specs.declared.call.Call.TheVariants.{Check, Lookup, TcpCreate, UdpCreate, UdpWritable, Local, Peer, Bind, UdpBind, UdpConnect, Listen, SetBacklog, Connect, Accept, Hand, Refuse, Read, ReadReady, WriteReady, Write, Shutdown, UdpDisconnect, Send, Recv, GetOption, SetOption, Close, Made}
+use Rattle.wasi_world.specs.declared.call.HandleKind.{HandleKind}
+use Rattle.wasi_world.specs.declared.call.HandleKind.TheVariants.{Network, Tcp2, Input, Output, Pollable, ErrorValue}
+use Rattle.wasi_world.specs.declared.call.Told.{Told}
+use Rattle.wasi_world.specs.declared.call.Told.TheVariants.{Done, Yes, Addr, Arrived}
+use Rattle.wasi_world.specs.declared.call.Entry.{Entry}
+use Rattle.wasi_world.specs.declared.outcome.WasiSocketsCtx.{WasiSocketsCtx}
+use Rattle.wasi_steps.specs.declared.setting.TcpSetting.TheVariants as setting
+use Rattle.wasi_steps.specs.declared.reply.Reply.{Reply}
+use Rattle.wasi_steps.specs.declared.step.Step.{Step}
+use Rattle.wasi_steps.specs.declared.step.Step.TheVariants as step
+
+-- == entries
+-- one of them is this
+abbrev pub Has : {A : Type 0} → List A → A → Type 0
+Has [] x = ⊥
+Has (y ∷ ys) x = (y ≡ x) ⊎ Has ys x
+
+abbrev pub entry : OpId → Call → Told → Entry
+entry op call told = record { op = op; call = call; answer = told }
+
+-- how many handles the entries mark
+abbrev pub marked_by : Call → ℕ
+marked_by (Made handle kind parent sock) = 1
+marked_by _ = 0
+
+abbrev pub marks_in : List Entry → ℕ
+marks_in [] = 0
+marks_in (e ∷ es) = marked_by e.call + marks_in es
+
+-- == steps
+-- the step of this line, counted from 1
+abbrev pub step_at : List Step → ℕ → Option Step
+step_at steps zero = None
+step_at steps (suc n) = slice_get steps n
+
+-- The step whose line began the operation is one of which this holds.
+pub record BeganBy (steps : List Step) (op : OpId) (P : Step → Type 0) : Type 0 where
+  pub origin : Step
+  pub at : step_at steps op.step ≡ Some origin
+  pub holds : P origin
+
+-- the handles that a step names
+abbrev pub handles_of : Step → List ℕ
+handles_of (step.Network ctx) = []
+handles_of (step.TcpCreate ctx family) = []
+handles_of (step.TcpStartBind ctx socket network addr) = socket ∷ network ∷ []
+handles_of (step.TcpFinishBind ctx socket) = socket ∷ []
+handles_of (step.TcpStartConnect ctx socket network addr) = socket ∷ network ∷ []
+handles_of (step.TcpFinishConnect ctx socket) = socket ∷ []
+handles_of (step.TcpStartListen ctx socket) = socket ∷ []
+handles_of (step.TcpFinishListen ctx socket) = socket ∷ []
+handles_of (step.TcpAccept ctx socket) = socket ∷ []
+handles_of (step.TcpLocalAddress ctx socket) = socket ∷ []
+handles_of (step.TcpRemoteAddress ctx socket) = socket ∷ []
+handles_of (step.TcpIsListening ctx socket) = socket ∷ []
+handles_of (step.TcpAddressFamily ctx socket) = socket ∷ []
+handles_of (step.TcpGet ctx socket option) = socket ∷ []
+handles_of (step.TcpSet ctx socket setting) = socket ∷ []
+handles_of (step.Read ctx input len) = input ∷ []
+handles_of (step.CheckWrite ctx output) = output ∷ []
+handles_of (step.Write ctx output bytes) = output ∷ []
+handles_of (step.Flush ctx output) = output ∷ []
+handles_of (step.Subscribe ctx handle) = handle ∷ []
+handles_of (step.Ready ctx pollable) = pollable ∷ []
+handles_of (step.Drop ctx handle) = handle ∷ []
+handles_of (step.TcpShutdown ctx socket how) = socket ∷ []
+handles_of step.Turn = []
+handles_of (step.Poll n) = []
+
+-- == sides
+-- The side of a handle is the one in its mark.
+pub record IsSide (before : List Entry) (handle : ℕ) (side : OpId) : Type 0 where
+  pub op : OpId
+  pub kind : HandleKind
+  pub parent : Option ℕ
+  pub told : Told
+  pub mark : Has before (entry op (Made handle kind parent (Some side)) told)
+
+-- The mark of a handle says this of its side.
+pub record IsMarkedWith (before : List Entry) (handle : ℕ) (sock : Option OpId) : Type 0 where
+  pub op : OpId
+  pub kind : HandleKind
+  pub parent : Option ℕ
+  pub told : Told
+  pub mark : Has before (entry op (Made handle kind parent sock) told)
+
+-- The step names a handle of this side.
+pub record NamesSide (before : List Entry) (side : OpId) (origin : Step) : Type 0 where
+  pub handle : ℕ
+  pub named : Has (handles_of origin) handle
+  pub is : IsSide before handle side
+
+-- an operation reaches the sides that its step names, and the side that it makes itself
+abbrev pub ReachesSide : List Step → List Entry → OpId → OpId → Type 0
+ReachesSide steps before op side = BeganBy steps op (NamesSide before side) ⊎ (op ≡ side)
+
+-- The maker of a side and its family are those in its create, or where it was handed over those of the listener.
+pub data IsMaker (before : List Entry) (ctx : ℕ) (family : SocketAddressFamily) : OpId → Type 0 where
+  Created : (side : OpId) (told : Told) → Has before (entry side (TcpCreate ctx family) told) → IsMaker before ctx family side
+  Handed : (side listener : OpId) (peer : IpSocketAddress) (told : Told) → Has before (entry side (Hand listener peer) told) → IsMaker before ctx family listener → IsMaker before ctx family side
+
+-- Among these entries the operation asked the side's maker about the address and its use, and was told yes.
+pub record HasYes (before among : List Entry) (op side : OpId) (addr : IpSocketAddress) (usage : SocketAddrUse) : Type 0 where
+  pub ctx : ℕ
+  pub family : SocketAddressFamily
+  pub maker : IsMaker before ctx family side
+  pub checked : Has among (entry op (Check ctx addr usage) Yes)
+
+-- Among these entries the operation asked the side's maker about the wildcard of the side's family, and was told yes.
+pub record HasWildcardYes (before : List Entry) (op side : OpId) (usage : SocketAddrUse) : Type 0 where
+  pub ctx : ℕ
+  pub family : SocketAddressFamily
+  pub maker : IsMaker before ctx family side
+  pub checked : Has before (entry op (Check ctx (wildcard family) usage) Yes)
+
+-- The side's local address was told, and it is another than the wildcard of the side's family.
+pub record IsBoundSide (before : List Entry) (side : OpId) : Type 0 where
+  pub ctx : ℕ
+  pub family : SocketAddressFamily
+  pub maker : IsMaker before ctx family side
+  pub op : OpId
+  pub addr : IpSocketAddress
+  pub told : Has before (entry op (Local side) (Addr addr))
+  pub other : is_wildcard family addr ≡ false
+
+-- a side that was bound goes on from there; for one that wasn't the wildcard has its yes
+abbrev pub MayGoOut : List Entry → OpId → OpId → Type 0
+MayGoOut before op side = IsBoundSide before side ⊎ HasWildcardYes before op side TcpBind
+
+-- The last `local` of the side told this address.
+pub record IsLastLocal (before : List Entry) (side : OpId) (addr : IpSocketAddress) : Type 0 where
+  pub front : List Entry
+  pub op : OpId
+  pub back : List Entry
+  pub cut : before ≡ front ++ entry op (Local side) (Addr addr) ∷ back
+  pub last : (o : OpId) (told : Told) → Has back (entry o (Local side) told) → ⊥
+
+-- a side that was bound has a yes for the address that its local address was last told to be; one that wasn't has two for the
+-- wildcard
+abbrev pub MayListen : List Entry → OpId → OpId → Type 0
+MayListen before op side =
+    (IsBoundSide before side × ((addr : IpSocketAddress) × IsLastLocal before side addr × HasYes before before op side addr TcpListen))
+    ⊎ ((IsBoundSide before side → ⊥) × HasWildcardYes before op side TcpBind × HasWildcardYes before op side TcpListen)
+
+-- The side listens: a `listen` of it was told done.
+pub record Listens (before : List Entry) (side : OpId) : Type 0 where
+  pub op : OpId
+  pub backlog : ℕ
+  pub told : Has before (entry op (Listen side backlog) Done)
+
+-- The operation's last `accept` on the listener told this peer, and after it came a yes for the peer.
+pub record IsAdmitted (before : List Entry) (op listener : OpId) (peer : IpSocketAddress) : Type 0 where
+  pub front : List Entry
+  pub back : List Entry
+  pub cut : before ≡ front ++ entry op (Accept listener) (Arrived peer) ∷ back
+  pub last : (told : Told) → Has back (entry op (Accept listener) told) → ⊥
+  pub yes : HasYes before back op listener peer TcpAccept
+
+-- the operation has handed nothing over
+abbrev pub HandedNone : List Entry → OpId → Type 0
+HandedNone before op = (listener : OpId) (peer : IpSocketAddress) (told : Told) → Has before (entry op (Hand listener peer) told) → ⊥
+
+-- == which step a call begins by
+-- The context of this number has this name, and may use TCP.
+pub record MayUseTcp (contexts : List WasiSocketsCtx) (number name : ℕ) : Type 0 where
+  pub ctx : WasiSocketsCtx
+  pub at : slice_get contexts number ≡ Some ctx
+  pub named : ctx.name ≡ name
+  pub tcp : ctx.tcp ≡ true
+
+-- a create of this family, by the context of this name
+abbrev pub IsTcpCreate : List WasiSocketsCtx → ℕ → SocketAddressFamily → Step → Type 0
+IsTcpCreate contexts name family (step.TcpCreate ctx f) = MayUseTcp contexts ctx name × (f ≡ family)
+IsTcpCreate contexts name family _ = ⊥
+
+-- a bind to this address
+abbrev pub IsBindTo : IpSocketAddress → Step → Type 0
+IsBindTo addr (step.TcpStartBind ctx socket network a) = a ≡ addr
+IsBindTo addr _ = ⊥
+
+-- a connect to this address
+abbrev pub IsConnectTo : IpSocketAddress → Step → Type 0
+IsConnectTo addr (step.TcpStartConnect ctx socket network a) = a ≡ addr
+IsConnectTo addr _ = ⊥
+
+-- a listen
+abbrev pub IsListen : Step → Type 0
+IsListen (step.TcpStartListen ctx socket) = ⊤
+IsListen _ = ⊥
+
+-- a set of the backlog
+abbrev pub IsBacklogSet : Step → Type 0
+IsBacklogSet (step.TcpSet ctx socket (setting.ListenBacklogSize value)) = ⊤
+IsBacklogSet _ = ⊥
+
+-- its parent is this handle, of whose side it is
+abbrev pub IsOfParent : List Entry → ℕ → Option ℕ → Option OpId → Type 0
+IsOfParent before handle parent sock = (parent ≡ Some handle) × IsMarkedWith before handle sock
+
+-- the side stands in no mark of a socket
+abbrev pub MarksNoSocket : List Entry → OpId → Type 0
+MarksNoSocket before side = (o : OpId) (handle : ℕ) (parent : Option ℕ) (told : Told) → Has before (entry o (Made handle Tcp2 parent (Some side)) told) → ⊥
+
+-- The first mark of an accept's step is of the socket that was accepted: its parent is the listener's handle, and its side was
+-- handed over on the listener's side, and stands in no earlier mark of a socket.
+pub record IsAcceptedMark (before : List Entry) (op : OpId) (listener : ℕ) (kind : HandleKind) (parent : Option ℕ) (sock : Option OpId) : Type 0 where
+  pub first : (handle : ℕ) (name : HandleKind) (above : Option ℕ) (side : Option OpId) (told : Told) → Has before (entry op (Made handle name above side) told) → ⊥
+  pub socket : kind ≡ Tcp2
+  pub under : parent ≡ Some listener
+  pub accept : OpId
+  pub side : sock ≡ Some accept
+  pub on : OpId
+  pub of_listener : IsSide before listener on
+  pub peer : IpSocketAddress
+  pub told : Told
+  pub handed : Has before (entry accept (Hand on peer) told)
+  pub fresh : MarksNoSocket before accept
+
+-- Its later marks are of the streams of the socket that it marked first: the parent is that socket's handle, and the side is its.
+pub record IsStreamMark (before : List Entry) (op : OpId) (kind : HandleKind) (parent : Option ℕ) (sock : Option OpId) : Type 0 where
+  pub stream : (kind ≡ Input) ⊎ (kind ≡ Output)
+  pub socket : ℕ
+  pub under : parent ≡ Some socket
+  pub above : Option ℕ
+  pub told : Told
+  pub marked : Has before (entry op (Made socket Tcp2 above sock) told)
+
+-- what a mark says, by the step that makes the handle: a network has no side, a socket that was created has its own, one that
+-- was accepted has what was handed over, and the two streams of a connection, an error and a pollable are of their parent's
+abbrev pub IsMarkOf : List Entry → OpId → HandleKind → Option ℕ → Option OpId → Step → Type 0
+IsMarkOf before op kind parent sock (step.Network ctx) = (kind ≡ Network) × (parent ≡ None) × (sock ≡ None)
+IsMarkOf before op kind parent sock (step.TcpCreate ctx family) =
+    (kind ≡ Tcp2) × (parent ≡ None) × (sock ≡ Some op) × ((name : ℕ) × (f : SocketAddressFamily) × Has before (entry op (TcpCreate name f) Done))
+IsMarkOf before op kind parent sock (step.TcpStartBind ctx socket network addr) = ⊥
+IsMarkOf before op kind parent sock (step.TcpFinishBind ctx socket) = ⊥
+IsMarkOf before op kind parent sock (step.TcpStartConnect ctx socket network addr) = ⊥
+IsMarkOf before op kind parent sock (step.TcpFinishConnect ctx socket) = ((kind ≡ Input) ⊎ (kind ≡ Output)) × IsOfParent before socket parent sock
+IsMarkOf before op kind parent sock (step.TcpStartListen ctx socket) = ⊥
+IsMarkOf before op kind parent sock (step.TcpFinishListen ctx socket) = ⊥
+IsMarkOf before op kind parent sock (step.TcpAccept ctx socket) = IsAcceptedMark before op socket kind parent sock ⊎ IsStreamMark before op kind parent sock
+IsMarkOf before op kind parent sock (step.TcpLocalAddress ctx socket) = ⊥
+IsMarkOf before op kind parent sock (step.TcpRemoteAddress ctx socket) = ⊥
+IsMarkOf before op kind parent sock (step.TcpIsListening ctx socket) = ⊥
+IsMarkOf before op kind parent sock (step.TcpAddressFamily ctx socket) = ⊥
+IsMarkOf before op kind parent sock (step.TcpGet ctx socket option) = ⊥
+IsMarkOf before op kind parent sock (step.TcpSet ctx socket setting) = ⊥
+IsMarkOf before op kind parent sock (step.Read ctx input len) = (kind ≡ ErrorValue) × IsOfParent before input parent sock
+IsMarkOf before op kind parent sock (step.CheckWrite ctx output) = (kind ≡ ErrorValue) × IsOfParent before output parent sock
+IsMarkOf before op kind parent sock (step.Write ctx output bytes) = (kind ≡ ErrorValue) × IsOfParent before output parent sock
+IsMarkOf before op kind parent sock (step.Flush ctx output) = (kind ≡ ErrorValue) × IsOfParent before output parent sock
+IsMarkOf before op kind parent sock (step.Subscribe ctx handle) = (kind ≡ Pollable) × IsOfParent before handle parent sock
+IsMarkOf before op kind parent sock (step.Ready ctx pollable) = ⊥
+IsMarkOf before op kind parent sock (step.Drop ctx handle) = ⊥
+IsMarkOf before op kind parent sock (step.TcpShutdown ctx socket how) = ⊥
+IsMarkOf before op kind parent sock step.Turn = ⊥
+IsMarkOf before op kind parent sock (step.Poll n) = ⊥
+
+-- == the table
+-- What an operation may ask after these entries. Of a call whose row needs a step that isn't there yet it says that it may not
+-- be asked at all: the row comes with the step.
+abbrev pub MayAsk : List WasiSocketsCtx → List Step → List Entry → OpId → Call → Type 0
+MayAsk contexts steps before op (Check ctx addr usage) = ⊤
+MayAsk contexts steps before op (Lookup host) = ⊥
+MayAsk contexts steps before op (TcpCreate ctx family) = BeganBy steps op (IsTcpCreate contexts ctx family)
+MayAsk contexts steps before op (UdpCreate ctx family) = ⊥
+MayAsk contexts steps before op (UdpWritable sock) = ReachesSide steps before op sock
+MayAsk contexts steps before op (Local sock) = ReachesSide steps before op sock
+MayAsk contexts steps before op (Peer sock) = ReachesSide steps before op sock
+MayAsk contexts steps before op (Bind sock addr) = ReachesSide steps before op sock × BeganBy steps op (IsBindTo addr) × HasYes before before op sock addr TcpBind
+MayAsk contexts steps before op (UdpBind sock addr) = ⊥
+MayAsk contexts steps before op (UdpConnect sock addr) = ⊥
+MayAsk contexts steps before op (Listen sock backlog) = ReachesSide steps before op sock × BeganBy steps op IsListen × MayListen before op sock
+MayAsk contexts steps before op (SetBacklog sock backlog) = ReachesSide steps before op sock × BeganBy steps op IsBacklogSet × Listens before sock
+MayAsk contexts steps before op (Connect sock addr) =
+    ReachesSide steps before op sock × BeganBy steps op (IsConnectTo addr) × HasYes before before op sock addr TcpConnect × MayGoOut before op sock
+MayAsk contexts steps before op (Accept sock) = ReachesSide steps before op sock
+MayAsk contexts steps before op (Hand sock peer) = ReachesSide steps before op sock × IsAdmitted before op sock peer × HandedNone before op
+MayAsk contexts steps before op (Refuse sock peer) = ReachesSide steps before op sock
+MayAsk contexts steps before op (Read sock size) = ReachesSide steps before op sock
+MayAsk contexts steps before op (ReadReady sock) = ReachesSide steps before op sock
+MayAsk contexts steps before op (WriteReady sock) = ReachesSide steps before op sock
+MayAsk contexts steps before op (Write sock offered) = ReachesSide steps before op sock
+MayAsk contexts steps before op (Shutdown sock how) = ReachesSide steps before op sock
+MayAsk contexts steps before op (UdpDisconnect sock) = ReachesSide steps before op sock
+MayAsk contexts steps before op (Send sock addr bytes) = ⊥
+MayAsk contexts steps before op (Recv sock) = ReachesSide steps before op sock
+MayAsk contexts steps before op (GetOption sock option) = ReachesSide steps before op sock
+MayAsk contexts steps before op (SetOption sock option value) = ReachesSide steps before op sock
+MayAsk contexts steps before op (Close sock) = ⊤
+MayAsk contexts steps before op (Made handle kind parent sock) = (handle ≡ marks_in before + 1) × BeganBy steps op (IsMarkOf before op kind parent sock)
+
+-- Each entry may come after those before it, and each reply is to the step of its line. No step that is built hands out in its reply
+-- what the network told only after a check; what such a reply may say is a row of its own, which comes with the step.
+pub record IsLicensed (contexts : List WasiSocketsCtx) (steps : List Step) (log : List Entry) (replies : List Reply) : Type 0 where
+  pub each : (before : List Entry) (e : Entry) (after : List Entry) → log ≡ before ++ e ∷ after → MayAsk contexts steps before e.op e.call
+  pub replied : length replies ≤ length steps

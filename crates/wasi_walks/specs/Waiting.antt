@@ -1,0 +1,211 @@
+-- What waits: what a pollable watches and isn't ready, and a call that stands.
+use Rattle.std.specs.Prelude.{◌≡◌, ◌⊎◌, ⊤, ℕ, true, false, List, [], ◌∷◌, ◌++◌, Option, Some, None, IsSome, IsSomeAnd, IfSome, slice_get}
+use Rattle.wasi_addr.specs.declared.address.IpSocketAddress.{IpSocketAddress}
+use Rattle.wasi_addr.specs.declared.address.SocketAddrUse.{SocketAddrUse}
+use Rattle.wasi_addr.specs.declared.address.SocketAddrUse.TheVariants.{TcpBind}
+use Rattle.wasi_addr.specs.declared.code.ErrorCode.{ErrorCode}
+use Rattle.wasi_addr.specs.declared.code.ErrorCode.TheVariants.{AccessDenied, InvalidState}
+use Rattle.wasi_world.specs.declared.ids.OpId.{OpId}
+use Rattle.wasi_world.specs.declared.call.Call.TheVariants as call
+use Rattle.wasi_world.specs.declared.call.Entry.{Entry}
+use Rattle.wasi_world.specs.declared.call.HandleKind.TheVariants as name
+use Rattle.wasi_world.specs.declared.call.Told.TheVariants as told
+use Rattle.wasi_world.specs.Operation.{Item, Check, Bind, Last, Nothing, NothingLast, Operation}
+use Rattle.wasi_tcp.specs.declared.halves.TcpReceiveStream.{TcpReceiveStream}
+use Rattle.wasi_tcp.specs.declared.halves.TcpSendStream.{TcpSendStream}
+use Rattle.wasi_tcp.specs.declared.reader.ReadState.TheVariants as reading
+use Rattle.wasi_tcp.specs.declared.socket.TcpState.TheVariants as state
+use Rattle.wasi_tcp.specs.declared.writer.WriteState.{WriteState}
+use Rattle.wasi_tcp.specs.declared.writer.WriteState.TheVariants as writing
+use Rattle.wasi_tcp.specs.Connecting.{HoldsConnect}
+use Rattle.wasi_tcp.specs.Listen.{IsListen, is_over}
+use Rattle.wasi_tcp.specs.Listener.{Listener}
+use Rattle.wasi_tcp.specs.Socket.{side_of}
+use Rattle.wasi_tcp.specs.Writer.{collected}
+use Rattle.wasi_host.specs.declared.kind.Watched.{Watched}
+use Rattle.wasi_host.specs.declared.kind.Watched.TheVariants as watched
+use Rattle.wasi_host.specs.declared.listening.Listening.{Listening}
+use Rattle.wasi_host.specs.declared.listening.Listening.TheVariants as listening
+use Rattle.wasi_host.specs.declared.machine.Machine.{Machine}
+use Rattle.wasi_host.specs.declared.socket.Streams.{Streams}
+use Rattle.wasi_host.specs.declared.socket.Tcp2Socket.{Tcp2Socket}
+use Rattle.wasi_host.specs.declared.store.StandingCall.{StandingCall}
+use Rattle.wasi_host.specs.declared.store.StandingCall.TheVariants as standing
+use Rattle.wasi_host.specs.Kinds.{kind_at, watch_of, place_in}
+use Rattle.wasi_host.specs.Machine.{output_at, side_at}
+use Rattle.wasi_host.specs.Pending.{unstood}
+use Rattle.wasi_host.specs.Store.{is_nothing, is_connect}
+use Rattle.wasi_steps.specs.declared.reply.CodeWord.{CodeWord}
+use Rattle.wasi_steps.specs.declared.reply.Reply.{Reply}
+use Rattle.wasi_steps.specs.declared.reply.Reply.TheVariants as reply
+use Rattle.wasi_steps.specs.declared.step.Step.{Step}
+use Rattle.wasi_steps.specs.declared.step.Step.TheVariants as step
+use Rattle.wasi_walks.specs.Answered.{OfStreams, EndsPending, EndsClosing, IsUnfinished, word_of_code}
+use Rattle.wasi_walks.specs.Listens.{AcceptWaits, accept_name, AcceptsIn, HasNoListener}
+use Rattle.wasi_walks.specs.Licence.{Has, entry}
+
+-- == a writer
+-- A writer waits, once a write that ended is collected: its write goes on, or it was told to wait.
+pub data WriterWaits (own : OpId) (writer : WriteState) : List Entry → Type 0 where
+  WritesOn : IsUnfinished (collected writer) → WriterWaits own writer []
+  ToldToWait : (half : TcpSendStream) (permit : ℕ) → collected writer ≡ writing.Ready half permit → WriterWaits own writer (entry own (call.WriteReady half.side) told.Pending ∷ [])
+
+-- the writer of the record that is named waits
+abbrev pub OutputWaits : Machine → OpId → Option ℕ → List Entry → Type 0
+OutputWaits m own named entries = OfStreams m named (λ place r s. WriterWaits own s.writer entries)
+
+-- == pollables
+-- the mark of a pollable that watches this, under the handle by which it was made
+abbrev pub pollable_mark : Machine → OpId → ℕ → Watched → Entry
+pollable_mark m own handle w = entry own (call.Made m.table.next name.Pollable (Some handle) (side_at (slice_get m.store.sockets (place_in w)))) told.Done
+
+-- The pollable watches this in a record, and of both this holds.
+pub record OfWatched (m : Machine) (pollable : ℕ) (P : Watched → Tcp2Socket → Type 0) : Type 0 where
+  pub watch : Watched
+  pub found : Tcp2Socket
+  pub watches : watch_of (kind_at m.table pollable) ≡ Some watch
+  pub at : slice_get m.store.sockets (place_in watch) ≡ Some found
+  pub holds : P watch found
+
+-- What is watched isn't ready: the connect in progress waits, or with nothing in progress the listener's accept, or the open
+-- input was told to wait, or the output's writer waits.
+pub data IsUnready (own : OpId) (r : Tcp2Socket) (entries : List Entry) : Watched → Type 0 where
+  AcceptWaitsOn : (place : ℕ) (l : Listener) → is_nothing r.in_progress ≡ true → r.listening ≡ listening.Accepts l → AcceptWaits (accept_name own.step l.accept) entries → IsUnready own r entries (watched.Socket place)
+  ConnectWaits : (place : ℕ) (op : Operation) → is_connect r.in_progress ≡ true → r.inner.state ≡ state.Connecting op → EndsPending op.who.id entries → IsUnready own r entries (watched.Socket place)
+  InputWaits : (place : ℕ) (s : Streams) (half : TcpReceiveStream) → r.streams ≡ Some s → s.reader ≡ reading.Open half → entries ≡ entry own (call.ReadReady half.side) told.Pending ∷ []
+      → IsUnready own r entries (watched.Input place)
+  WriteWaits : (place : ℕ) (s : Streams) → r.streams ≡ Some s → WriterWaits own s.writer entries → IsUnready own r entries (watched.Output place)
+
+-- the record that the pollable watches in
+abbrev pub watched_in : Machine → Option Watched → Option Tcp2Socket
+watched_in m None = None
+watched_in m (Some w) = slice_get m.store.sockets (place_in w)
+
+-- where the pollable's socket is connecting, its operation is a connect
+abbrev pub WatchesConnect : Machine → ℕ → Type 0
+WatchesConnect m pollable = IfSome (watched_in m (watch_of (kind_at m.table pollable))) (λ r. HoldsConnect r.inner.state)
+
+-- where the pollable's socket listens, its accept is one
+abbrev pub WatchesAccept : Machine → ℕ → Type 0
+WatchesAccept m pollable = IfSome (watched_in m (watch_of (kind_at m.table pollable))) (λ r. AcceptsIn r.listening)
+
+-- it is a socket with no connect in progress, and with no listener unless another operation is in progress
+abbrev pub IsIdleSocket : Watched → Tcp2Socket → Type 0
+IsIdleSocket (watched.Socket place) r = (is_connect r.in_progress ≡ false) × ((is_nothing r.in_progress ≡ false) ⊎ HasNoListener r.listening)
+IsIdleSocket _ r = ⊥
+
+-- the pollable watches a socket of which nothing is polled
+abbrev pub WatchesIdle : Machine → ℕ → Type 0
+WatchesIdle m pollable = OfWatched m pollable IsIdleSocket
+
+-- it says that the call failed, by a code or as a stream does
+abbrev pub IsFailure : Reply → Type 0
+IsFailure (reply.Err word) = ⊤
+IsFailure reply.Closed = ⊤
+IsFailure (reply.Failed word handle) = ⊤
+IsFailure _ = ⊥
+
+-- == calls that stand
+abbrev pub IsPoll : Step → Type 0
+IsPoll (step.Poll n) = ⊤
+IsPoll _ = ⊥
+
+-- the step may be pending under this number: the start of a bind, that of a listen and the drop of an output under their line's,
+-- and a poll under the one that it polls
+abbrev pub MayStand : Machine → ℕ → Step → ℕ → Type 0
+MayStand m line (step.TcpStartBind ctx socket network a) n = n ≡ line
+MayStand m line (step.TcpStartListen ctx socket) n = n ≡ line
+MayStand m line (step.Drop ctx handle) n = IsSome (output_at m handle) × (n ≡ line)
+MayStand m line (step.Poll call) n = n ≡ call
+MayStand m line _ n = ⊥
+
+-- what may be left of a bind
+pub data IsLeftOfBind : List Item → Type 0 where
+  Unchecked : (a : IpSocketAddress) → IsLeftOfBind (Check a TcpBind ∷ Bind a ∷ [])
+  Checked : (a : IpSocketAddress) → IsLeftOfBind (Bind a ∷ [])
+  Ended : IsLeftOfBind []
+
+-- What is left to the operation is the rest of a bind, and it asks nothing last.
+pub record IsRestOfBind (op : Operation) : Type 0 where
+  pub last : op.who.last ≡ NothingLast
+  pub left : IsLeftOfBind op.left
+
+abbrev pub IsListening : Listening → Type 0
+IsListening (listening.Begins op) = IsListen op
+IsListening _ = ⊤
+
+abbrev pub HoldsCall : Machine → StandingCall → Type 0
+HoldsCall m (standing.Bind place op) = IsRestOfBind op
+HoldsCall m (standing.Listen place) = IfSome (slice_get m.store.sockets place) (λ r. IsListening r.listening)
+HoldsCall m (standing.DropOutput place) = ⊤
+
+-- where a bind stands, its operation is a bind; and where a listen stands, its is a listen
+abbrev pub StandsByBind : Machine → Type 0
+StandsByBind m = IfSome m.store.standing (λ s. HoldsCall m s.call)
+
+-- the listen that goes on was told to wait
+abbrev pub ListenWaits : Listening → List Entry → Type 0
+ListenWaits (listening.Begins op) entries = EndsPending op.who.id entries
+ListenWaits _ entries = ⊥
+
+-- the call waits: the last ask of the bind or of the listen was told to wait, or the output's writer waits
+abbrev pub CallWaits : Machine → OpId → List Entry → StandingCall → Type 0
+CallWaits m own entries (standing.Bind place op) = EndsPending op.who.id entries
+CallWaits m own entries (standing.Listen place) = IsSomeAnd (slice_get m.store.sockets place) (λ r. ListenWaits r.listening entries)
+CallWaits m own entries (standing.DropOutput place) = OutputWaits m own (Some place) entries
+
+-- the call that stands waits
+abbrev pub StandingWaits : Machine → OpId → List Entry → Type 0
+StandingWaits m own entries = IsSomeAnd m.store.standing (λ s. CallWaits m own entries s.call)
+
+-- The last of the entries is this one.
+pub record EndsWith (last : Entry) (entries : List Entry) : Type 0 where
+  pub front : List Entry
+  pub cut : entries ≡ front ++ last ∷ []
+
+-- A bind ended with a code: its check was told no, or it was told the code.
+pub data BindFails (op : Operation) (entries : List Entry) : ErrorCode → Type 0 where
+  ToldNo : (a : IpSocketAddress) → Has op.left (Check a TcpBind) → EndsWith (entry op.who.id (call.Check op.who.context a TcpBind) told.No) entries → BindFails op entries AccessDenied
+  ToldWhy : (a : IpSocketAddress) (c : ErrorCode) → Has op.left (Bind a) → EndsWith (entry op.who.id (call.Bind op.who.side a) (told.Code c)) entries → BindFails op entries c
+
+-- A listen ended with a code, and closed its side: a check was told no, or its local address wasn't told but the code, or the
+-- listen was told the code, or it was to be closed with that.
+pub data ListenEnds (op : Operation) (entries : List Entry) : ErrorCode → Type 0 where
+  CheckedNo : (a : IpSocketAddress) (usage : SocketAddrUse) → EndsClosing op.who (call.Check op.who.context a usage) told.No entries → ListenEnds op entries AccessDenied
+  LocalCode : (c : ErrorCode) → EndsClosing op.who (call.Local op.who.side) (told.Code c) entries → ListenEnds op entries c
+  BindCode : (a : IpSocketAddress) (c : ErrorCode) → EndsClosing op.who (call.Bind op.who.side a) (told.Code c) entries → ListenEnds op entries c
+  ListenCode : (backlog : ℕ) (c : ErrorCode) → EndsClosing op.who (call.Listen op.who.side backlog) (told.Code c) entries → ListenEnds op entries c
+  ListenCloses : (c : ErrorCode) → op.left ≡ Last c Nothing ∷ [] → entries ≡ entry op.who.id (call.Close op.who.side) told.Done ∷ [] → ListenEnds op entries c
+
+-- the listening isn't one that was begun and goes on
+abbrev pub IsNoListen : Listening → Type 0
+IsNoListen (listening.Begins op) = is_over op ≡ true
+IsNoListen _ = ⊤
+
+-- no listen of the record goes on: its socket has a side, which a listen would have taken, or none was begun, or it is over
+abbrev pub HasNoListen : Tcp2Socket → Type 0
+HasNoListen r = IsSome (side_of r.inner) ⊎ IsNoListen r.listening
+
+-- Why the call that stands failed with a code: its bind or its listen ended with it; or it was a listen that doesn't go on, which
+-- a poll refuses.
+pub data CallFails (m : Machine) (entries : List Entry) : StandingCall → ErrorCode → Type 0 where
+  BindFailed : (place : ℕ) (op : Operation) (c : ErrorCode) → BindFails op entries c → CallFails m entries (standing.Bind place op) c
+  ListenFailed : (place : ℕ) (r : Tcp2Socket) (op : Operation) (c : ErrorCode) → slice_get m.store.sockets place ≡ Some r → r.listening ≡ listening.Begins op → ListenEnds op entries c → CallFails m entries (standing.Listen place) c
+  NoListen : (place : ℕ) → IsSomeAnd (slice_get m.store.sockets place) HasNoListen → entries ≡ [] → CallFails m entries (standing.Listen place) InvalidState
+
+-- A call stands under this number, and failed with a code of this word.
+pub record StandingFails (m : Machine) (n : ℕ) (entries : List Entry) (word : CodeWord) : Type 0 where
+  pub call : StandingCall
+  pub code : ErrorCode
+  pub stands : m.store.standing ≡ Some (record { line = n; call = call })
+  pub cause : CallFails m entries call code
+  pub word_is : word ≡ word_of_code code
+
+-- nothing stands
+abbrev pub nothing_stands : Machine → Machine
+nothing_stands m = record m { store = unstood m.store }
+
+-- a trap for want of a handle leaves the machine, but a poll leaves nothing standing
+abbrev pub left_missing : Machine → Step → Machine
+left_missing m (step.Poll n) = nothing_stands m
+left_missing m _ = m
