@@ -46,8 +46,10 @@ impl<N: LedgerNames> Model for WorkerKeys<N> {
 impl<N: LedgerNames> WorkerFacts<N> {
     /// What is known of a worker that did nothing yet.
     pub(crate) fn open(blanks: WorkerBlanks) -> (WorkerFacts<N>, WorkerKeys<N>)
-        requires popped { (blanks.popped.name ≡ N.ledgers.popped) × (blanks.met.name ≡ N.ledgers.met) }
-        requires stage { (blanks.hand.name ≡ N.ledgers.hand) × (blanks.drained.name ≡ N.ledgers.drained) × (blanks.flushed.name ≡ N.ledgers.flushed) }
+        requires popped { blanks.popped.name ≡ N.ledgers.popped }
+        requires met { blanks.met.name ≡ N.ledgers.met }
+        requires hand { blanks.hand.name ≡ N.ledgers.hand }
+        requires sink { (blanks.drained.name ≡ N.ledgers.drained) × (blanks.flushed.name ≡ N.ledgers.flushed) }
         ensures facts { result.0 ≡ idle }
         ensures keys { result.1 ≡ idle }
     {
