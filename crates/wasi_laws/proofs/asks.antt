@@ -2,3 +2,4 @@
 pub mod Calm
 pub mod Fronts
 pub mod Trees
+pub mod Single
