@@ -3,3 +3,4 @@ pub mod Calm
 pub mod Fronts
 pub mod Trees
 pub mod Single
+pub mod Lines
