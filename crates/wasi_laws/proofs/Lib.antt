@@ -1,3 +1,5 @@
+pub mod asks
+pub mod shapes
 pub mod order
 pub mod permits
 pub mod sockets

@@ -1,8 +1,6 @@
 -- Each operation asks its checks first.
-pub mod Walks
+pub mod Ordered
+pub mod Weights
 pub mod Polls
 pub mod Outward
-pub mod Weights
-pub mod Streams
 pub mod Law
-pub mod Runs

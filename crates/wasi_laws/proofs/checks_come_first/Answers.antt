@@ -1,4 +1,4 @@
-use Rattle.wasi_laws.proofs.order.Runs.{runs_ordered}
+use Rattle.wasi_laws.proofs.order.Law.{runs_ordered}
 use Rattle.wasi_laws.proofs.checks_come_first.Goals as goal
 
 pub returns : goal.returns

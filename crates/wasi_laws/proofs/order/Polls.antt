@@ -1,252 +1,108 @@
 -- One poll of an operation: its checks come first, and once it went out none is left.
-use Rattle.std.specs.Prelude.{◌&&◌, not}
-use Rattle.std.proofs.Common.{◌≡◌, ℕ, zero, suc, ◌+◌, ◌≤◌, Bool, true, false, if◌then◌else◌, List, [], ◌∷◌, Option, Ok, Err, Result, arith}
-use Rattle.wasi_addr.specs.declared.address.IpSocketAddress.{IpSocketAddress}
-use Rattle.wasi_addr.specs.declared.address.SocketAddressFamily.{SocketAddressFamily}
-use Rattle.wasi_addr.specs.declared.address.SocketAddrUse.{SocketAddrUse}
-use Rattle.wasi_addr.specs.declared.address.IpAddress.{IpAddress}
+use Rattle.std.proofs.Common.{◌≡◌, ℕ, zero, suc, ◌+◌, ◌≤◌, Bool, true, false, List, [], ◌∷◌, ◌++◌, length, refl, sym, subst, ◌∙◌, arith}
 use Rattle.wasi_addr.specs.declared.code.ErrorCode.{ErrorCode}
 use Rattle.wasi_world.specs.declared.ids.OpId.{OpId}
-use Rattle.wasi_world.specs.declared.asks.Verdict.{Verdict}
-use Rattle.wasi_world.specs.declared.asks.Verdict.TheVariants as verdict
-use Rattle.wasi_world.specs.declared.asks.Polled.{Polled}
-use Rattle.wasi_world.specs.declared.asks.Polled.TheVariants as polled
-use Rattle.wasi_world.specs.Asks.{Asks, bind}
-use Rattle.wasi_world.specs.Typed.{told_verdict, told_done, told_polled, told_addr, told_arrival, told_taken, told_datagram, told_names}
-use Rattle.wasi_world.specs.Operation.{Given, Nothing, Datagram, Item, Check, CheckLocal, Bind, Connect, Listen, Accept, CheckArrival, Hand, Refuse, Write, ShutdownSend, UdpWritable, UdpBind, UdpConnect, AskPeer, Send, Receive, CheckPeer, Lookup, Last, Who, Operation, LastAsk, NothingLast, CloseLast, ShutdownLast, Front, Goes, Stays, Again, Ends, End, verdict_front, done_front, polled_front, check_front, local_front, admitted_front, arrival_front, accept_front, write_front, taken_front, less_one, remote_told, peer_front, ask_peer_front, is_now, send_front, is_wanted, received_front, check_peer_front, receive_front, lookup_front, front, last_ask, after, round, polls, poll_asks}
-use Rattle.wasi_laws.proofs.order.Walks.{Walks, walks_then, walks_if, out_by}
+use Rattle.wasi_world.specs.declared.call.Call.{Call}
+use Rattle.wasi_world.specs.declared.call.Call.TheVariants as call
+use Rattle.wasi_world.specs.declared.call.Told.{Told}
+use Rattle.wasi_world.specs.declared.call.Entry.{Entry}
+use Rattle.wasi_world.specs.Asks.{bind}
+use Rattle.wasi_world.specs.Operation.{Given, Item, Check, Bind, Connect, Listen, CheckArrival, CheckPeer, Write, Who, Operation, LastAsk, NothingLast, CloseLast, ShutdownLast, End, last_ask, poll_asks}
+use Rattle.wasi_world.proofs.Allowed.{Allows}
+use Rattle.wasi_walks.specs.Licence.{entry}
+use Rattle.wasi_laws.proofs.asks.Fronts.{IsToCheck, IsToGo, AsksBy, Checks, Goes, Calmly, Becomes, ToldAddress, Arrives, IsAdmitted, IsUnwanted, IsRefused, IsConnected, Comes, GoesBy, PollLaw, polls_by}
+use Rattle.wasi_laws.proofs.order.Ordered.{out_by, gone_after, gone_along, gone_push, Asked, calm_may, out_may}
+use Rattle.wasi_laws.proofs.order.Weights.{Kind, ToCheck, ToGo, kind_of, and_then, checks_of, drop_weighs, if_ours, op_weight}
 
--- == the checks that are left
-abbrev pub at_least_one : ℕ → ℕ
-at_least_one zero = 1
-at_least_one (suc n) = suc n
+-- With what the others weigh, and room kept for one more, there is one of ours at most; and where one went out none has a check left.
+abbrev pub Within : (others : Bool → ℕ) (room g : ℕ) (weight : Bool → ℕ) → Type 0
+Within others room g weight = (others false + weight false + room ≤ 1) × (others true + weight true + room + g ≤ 1)
 
-abbrev pub twice : ℕ → ℕ
-twice zero = 0
-twice (suc n) = 2
+to_check : (i : Item) → IsToCheck i → kind_of i ≡ ToCheck
+to_check (Check a usage) k = refl
+to_check (CheckArrival peer) k = refl
+to_check (CheckPeer wanted bytes a) k = refl
+to_check _ k = absurd k
 
--- 0 where no check is left, 1 where all that are come before what goes out, and 2 where one comes after
-abbrev pub checks_of : List Item → ℕ
-checks_of [] = 0
-checks_of (Check a usage ∷ items) = at_least_one (checks_of items)
-checks_of (CheckLocal usage ∷ items) = at_least_one (checks_of items)
-checks_of (Bind a ∷ items) = twice (checks_of items)
-checks_of (Connect a ∷ items) = twice (checks_of items)
-checks_of (Listen backlog ∷ items) = twice (checks_of items)
-checks_of (Accept ∷ items) = at_least_one (checks_of items)
-checks_of (CheckArrival peer ∷ items) = at_least_one (checks_of items)
-checks_of (Refuse peer ∷ items) = at_least_one (checks_of items)
-checks_of (Receive wanted ∷ items) = at_least_one (checks_of items)
-checks_of (CheckPeer wanted bytes a ∷ items) = at_least_one (checks_of items)
-checks_of (_ ∷ items) = checks_of items
+to_go : (i : Item) → IsToGo i → kind_of i ≡ ToGo
+to_go (Bind a) k = refl
+to_go (Connect a) k = refl
+to_go (Listen backlog) k = refl
+to_go _ k = absurd k
 
--- so many, where it is ours
-abbrev pub if_ours : Bool → ℕ → ℕ
-if_ours true n = n
-if_ours false n = 0
+becomes_less : (i j : Item) (items : List Item) → Becomes i j → checks_of (j ∷ items) ≤ checks_of (i ∷ items)
+becomes_less _ _ items (ToldAddress a usage) = omega arith
+becomes_less _ _ items (Arrives peer) = omega arith
+becomes_less _ _ items (IsAdmitted peer) = drop_weighs (CheckArrival peer) items
+becomes_less _ _ items (IsUnwanted peer) = omega arith
+becomes_less _ _ items (IsRefused peer) = omega arith
+becomes_less _ _ items (IsConnected family a outcome) = omega arith
+becomes_less _ _ items (Comes wanted bytes a) = omega arith
+becomes_less _ _ items (GoesBy wanted bytes a) = omega arith
 
--- what an operation weighs: whether it is ours, and what it has left
-abbrev pub op_weight : (OpId → Bool) → OpId → List Item → Bool → ℕ
-op_weight ours id items false = if_ours (ours id) 1
-op_weight ours id items true = if_ours (ours id) (checks_of items)
-
--- With what the others weigh, and so much room kept, there is one of ours at most; and where one went out none has a check left.
-abbrev pub Within : (b : ℕ) (others : Bool → ℕ) (room g : ℕ) (weight : Bool → ℕ) → Type 0
-Within b others room g weight = (others false + weight false + room ≤ b) × (others true + weight true + room + g ≤ b)
-
-module _ (ours : OpId → Bool) (b : ℕ) (small : b ≤ 1) (others : Bool → ℕ) (below : others true ≤ others false + others false) (room : ℕ) (who : Who) where
+module _ (ours : OpId → Bool) (others : Bool → ℕ) (below : others true ≤ others false + others false) (room : ℕ) where
   -- the same of numbers: whether it is ours, and what counts for the checks that are left
   abbrev Numbers : Bool → ℕ → ℕ → Type 0
-  Numbers mine g d = (others false + if_ours mine 1 + room ≤ b) × (others true + if_ours mine d + room + g ≤ b)
-
-  abbrev Before : ℕ → List Item → Type 0
-  Before g items = Within b others room g (op_weight ours who.id items)
-
-  abbrev After : ℕ → End × List Item → Type 0
-  After g ended = Before g ended.1
+  Numbers mine g d = (others false + if_ours mine 1 + room ≤ 1) × (others true + if_ours mine d + room + g ≤ 1)
 
   -- a check of ours is asked while nothing of ours is out
-  check_may : (mine : Bool) (g d : ℕ) → Numbers mine g (at_least_one d) → mine ≡ true → g ≡ 0
-  check_may true g zero h e = let k = h.1 in omega (arith, small, k)
-  check_may true g (suc d) h e = let k = h.1 in omega (arith, small, k)
+  check_may : (mine : Bool) (g d : ℕ) → Numbers mine g (and_then ToCheck d) → mine ≡ true → g ≡ 0
+  check_may true g zero h e = let k = h.1 in omega (arith, k)
+  check_may true g (suc d) h e = let k = h.1 in omega (arith, k)
   check_may false g d h e = absurd (cc)
 
-  check_next : (mine : Bool) (g d : ℕ) → Numbers mine g (at_least_one d) → Numbers mine g d
-  check_next true g zero h = let k = h.1 in (h.0, omega (arith, k))
-  check_next true g (suc d) h = h
-  check_next false g d h = h
-
-  none_next : (mine : Bool) (g d : ℕ) → Numbers mine g d → Numbers mine g 0
-  none_next true g d h = let k = h.1 in (h.0, omega (arith, k))
-  none_next false g d h = h
-
   -- what goes out leaves no check
-  out_next : (mine : Bool) (g d : ℕ) → Numbers mine g (twice d) → Numbers mine (out_by ours mine g) d
-  out_next true g zero h = let i = h.0 in (i, omega (arith, below, small, i))
-  out_next true g (suc d) h = let k = h.1 in absurd (omega (arith, small, k))
+  out_next : (mine : Bool) (g d : ℕ) → Numbers mine g (and_then ToGo d) → Numbers mine (out_by ours mine g) (and_then ToGo d)
+  out_next true g zero h = let i = h.0 in (i, omega (arith, below, i))
+  out_next true g (suc d) h = let k = h.1 in absurd (omega (arith, k))
   out_next false g d h = h
 
-  out_stays : (mine : Bool) (g d : ℕ) → Numbers mine g (twice d) → Numbers mine (out_by ours mine g) (twice d)
-  out_stays true g zero h = let i = h.0 in (i, omega (arith, below, small, i))
-  out_stays true g (suc d) h = let k = h.1 in absurd (omega (arith, small, k))
-  out_stays false g d h = h
+  fewer : (mine : Bool) (g d c : ℕ) → c ≤ d → Numbers mine g d → Numbers mine g c
+  fewer true g d c l h = let k = h.1 in (h.0, omega (arith, l, k))
+  fewer false g d c l h = h
 
-  -- the last ask of one that ends with a code
-  last_walks : (g : ℕ) (items : List Item) (last : LastAsk) (c : ErrorCode) (given : Given) → Before g items → Walks ours After g (last_ask who last c given)
-  unfolding bind
-  last_walks g items NothingLast c given h = none_next (ours who.id) g (checks_of items) h
-  last_walks g items CloseLast c given h = (tt, λ t. none_next (ours who.id) g (checks_of items) h)
-  last_walks g items ShutdownLast c given h = (tt, λ t. none_next (ours who.id) g (checks_of items) h)
+  module _ (who : Who) where
+    abbrev Left : List Entry → List Item → Type 0
+    Left es items = Within others room (gone_along ours 0 es) (op_weight ours who.id items)
 
-  -- what is known once the front ask is answered
-  abbrev FrontKeeps : List Item → ℕ → Front → Type 0
-  FrontKeeps items g (Goes given) = Before g items
-  FrontKeeps items g (Stays item) = Before g (item ∷ items)
-  FrontKeeps items g (Again item) = Before g (item ∷ items)
-  FrontKeeps items g (Ends c given) = Walks ours After g (last_ask who who.last c given)
+    abbrev After : List Entry → End × List Item → Type 0
+    After es ended = Left es ended.1
 
-  module _ (items : List Item) where
-    abbrev d : ℕ
-    d = checks_of items
+    less : (es : List Entry) (items now : List Item) → checks_of now ≤ checks_of items → Left es items → Left es now
+    less es items now l k = fewer (ours who.id) (gone_along ours 0 es) (checks_of items) (checks_of now) l k
 
-    -- before an ask that checks, and after it
-    abbrev Unchecked : ℕ → Type 0
-    Unchecked g = Numbers (ours who.id) g (at_least_one d)
+    -- so many are out after one more entry
+    then_out : (es : List Entry) (c : Call) (told : Told) (g : ℕ) (items : List Item) → gone_after ours (gone_along ours 0 es) who.id c ≡ g → Within others room g (op_weight ours who.id items) → Left (es ++ entry who.id c told ∷ []) items
+    then_out es c told g items e k = subst (λ (n : ℕ). Within others room n (op_weight ours who.id items)) (sym (gone_push ours 0 es (entry who.id c told) ∙ e)) k
 
-    may : (g : ℕ) → Unchecked g → ours who.id ≡ true → g ≡ 0
-    may g h = check_may (ours who.id) g d h
+    asks : (es : List Entry) (i : Item) (items : List Item) (c : Call) → AsksBy who i c → Left es (i ∷ items) → Asked ours es who.id c × ((told : Told) → Left (es ++ entry who.id c told ∷ []) (i ∷ items))
+    asks es i items _ (Checks a usage t) k =
+        let n : Numbers (ours who.id) (gone_along ours 0 es) (and_then ToCheck (checks_of items)) = subst (λ (x : Kind). Numbers (ours who.id) (gone_along ours 0 es) (and_then x (checks_of items))) (to_check i t) k in
+        (check_may (ours who.id) (gone_along ours 0 es) (checks_of items) n, λ told. then_out es _ told (gone_along ours 0 es) (i ∷ items) refl k)
+    asks es i items _ (Goes c t o s) k =
+        let g = gone_along ours 0 es in
+        let m = out_may ours g who.id c o in
+        let N : ℕ → Kind → Type 0 = λ n x. Numbers (ours who.id) n (and_then x (checks_of items)) in
+        (m.0, λ told. then_out es c told (out_by ours (ours who.id) g) (i ∷ items) m.1 (subst (N (out_by ours (ours who.id) g)) (sym (to_go i t)) (out_next (ours who.id) g (checks_of items) (subst (N g) (to_go i t) k))))
+    asks es i items _ (Calmly c t s) k = let m = calm_may ours (gone_along ours 0 es) who.id c t in (m.0, λ told. then_out es c told (gone_along ours 0 es) (i ∷ items) m.1 k)
 
-    over : (g : ℕ) (c : ErrorCode) → Before g items → Walks ours After g (last_ask who who.last c Nothing)
-    over g c h = last_walks g items who.last c Nothing h
-
-    checked : (g : ℕ) (a : IpSocketAddress) (usage : SocketAddrUse) (v : Verdict) → Unchecked g → FrontKeeps items g (verdict_front (Check a usage) v)
-    checked g a usage verdict.Yes h = check_next (ours who.id) g d h
-    checked g a usage verdict.No h = over g _ (check_next (ours who.id) g d h)
-    checked g a usage verdict.Pending h = h
-
-    check_walks : (g : ℕ) (a : IpSocketAddress) (usage : SocketAddrUse) → Unchecked g → Walks ours (FrontKeeps items) g (check_front who a usage)
+    last : (es : List Entry) (items : List Item) (a : LastAsk) (c : ErrorCode) (given : Given) → Left es items → Allows (Asked ours) After es (last_ask who a c given)
     unfolding bind
-    check_walks g a usage h = (may g h, λ t. checked g a usage (told_verdict t) h)
+    last es items NothingLast c given k = less es items [] (omega arith) k
+    last es items CloseLast c given k = (tt, λ told fits. then_out es _ told (gone_along ours 0 es) [] refl (less es items [] (omega arith) k))
+    last es items ShutdownLast c given k = (tt, λ told fits. then_out es _ told (gone_along ours 0 es) [] refl (less es items [] (omega arith) k))
 
-    local_walks : (g : ℕ) (usage : SocketAddrUse) (r : Result IpSocketAddress ErrorCode) → Unchecked g → Walks ours (FrontKeeps items) g (local_front who usage r)
-    local_walks g usage (Ok a) h = check_walks g a usage h
-    local_walks g usage (Err c) h = over g c (check_next (ours who.id) g d h)
+    poll_law : PollLaw (Asked ours) who Left After
+    poll_law = record {
+      asks = λ es i items c a k. let x = asks es i items c a k in (x.0, λ told fits. x.1 told);
+      writes = λ es b bytes items k. (tt, λ told fits front. then_out es (call.Write who.side (length (b ∷ bytes))) told (gone_along ours 0 es) (Write (b ∷ bytes) ∷ items) refl k);
+      becomes = λ es i j items b k. less es (i ∷ items) (j ∷ items) (becomes_less i j items b) k;
+      drops = λ es i items s k. less es (i ∷ items) items (drop_weighs i items) k;
+      ends = λ es i items c given k. last es (i ∷ items) who.last c given k;
+      waits = λ es items k. k;
+      done = λ es given m k. k;
+    }
 
-    done_keeps : (g : ℕ) (r : Result (Unit {0}) ErrorCode) → Before g items → FrontKeeps items g (done_front r)
-    done_keeps g (Ok done) h = h
-    done_keeps g (Err c) h = over g c h
-
-    polled_keeps : (g : ℕ) (item : Item) (p : Polled (Unit {0})) → Before g items → Before g (item ∷ items) → FrontKeeps items g (polled_front item p)
-    polled_keeps g item (polled.Ready done) h k = h
-    polled_keeps g item polled.Pending h k = k
-    polled_keeps g item (polled.Code c) h k = over g c h
-
-    -- an accept
-    admitted_walks : (g : ℕ) (peer : IpSocketAddress) (v : Verdict) → Unchecked g → Walks ours (FrontKeeps items) g (admitted_front who peer v)
-    unfolding bind
-    admitted_walks g peer verdict.Yes h = (tt, λ t. check_next (ours who.id) g d h)
-    admitted_walks g peer verdict.No h = (tt, λ t. h)
-    admitted_walks g peer verdict.Pending h = h
-
-    arrival_walks : (g : ℕ) (peer : IpSocketAddress) → Unchecked g → Walks ours (FrontKeeps items) g (arrival_front who peer)
-    unfolding bind
-    arrival_walks g peer h = (may g h, λ t. admitted_walks g peer (told_verdict t) h)
-
-    accept_walks : (g : ℕ) (p : Polled IpSocketAddress) → Unchecked g → Walks ours (FrontKeeps items) g (accept_front who p)
-    accept_walks g polled.Pending h = h
-    accept_walks g (polled.Ready peer) h = arrival_walks g peer h
-    accept_walks g (polled.Code c) h = over g c (check_next (ours who.id) g d h)
-
-    -- a write
-    taken_walks : (g b : ℕ) (bytes : List ℕ) (p : Polled ℕ) → ((skip : ℕ) → Walks ours (FrontKeeps items) g (write_front who bytes skip)) → Before g items → Walks ours (FrontKeeps items) g (taken_front (λ skip. write_front who bytes skip) (Write (b ∷ bytes)) p)
-    taken_walks g b bytes (polled.Ready n) k h = k (less_one n)
-    taken_walks g b bytes polled.Pending k h = h
-    taken_walks g b bytes (polled.Code c) k h = over g c h
-
-    write_walks : (g : ℕ) (bytes : List ℕ) (skip : ℕ) → Before g items → Walks ours (FrontKeeps items) g (write_front who bytes skip)
-    unfolding bind
-    write_walks g [] skip h = h
-    write_walks g (b ∷ bytes) (suc skip) h = write_walks g bytes skip h
-    write_walks g (b ∷ bytes) zero h = λ t. taken_walks g b bytes (told_taken t) (λ skip. write_walks g bytes skip h) h
-
-    -- datagrams
-    peer_keeps : (g : ℕ) (outcome : Result (Unit {0}) ErrorCode) (remote : Option IpSocketAddress) → Before g items → FrontKeeps items g (peer_front outcome remote)
-    peer_keeps g (Ok done) remote h = h
-    peer_keeps g (Err c) remote h = last_walks g items who.last c _ h
-
-    peer_walks : (g : ℕ) (family : SocketAddressFamily) (outcome : Result (Unit {0}) ErrorCode) → Before g items → Walks ours (FrontKeeps items) g (ask_peer_front who family outcome)
-    unfolding bind
-    peer_walks g family outcome h = (tt, λ t. peer_keeps g outcome (remote_told family (told_addr t)) h)
-
-    send_walks : (g : ℕ) (kept : Bool) (a : IpSocketAddress) (bytes : List ℕ) → Before g items → Walks ours (FrontKeeps items) g (send_front who kept a bytes)
-    unfolding bind
-    send_walks g kept a bytes h = walks_if ours (FrontKeeps items) g (kept && not (is_now who.remote a)) _ _ (over g _ h) (tt, λ t. polled_keeps g (Send kept a bytes) (told_polled t) h h)
-
-    wanted_keeps : (g : ℕ) (wanted : Option IpSocketAddress) (bytes : List ℕ) (a : IpSocketAddress) (yes : Bool) → Unchecked g → FrontKeeps items g (if yes then Goes (Datagram bytes a) else Again (Receive wanted))
-    wanted_keeps g wanted bytes a true h = check_next (ours who.id) g d h
-    wanted_keeps g wanted bytes a false h = h
-
-    received_keeps : (g : ℕ) (wanted : Option IpSocketAddress) (bytes : List ℕ) (a : IpSocketAddress) (v : Verdict) → Unchecked g → FrontKeeps items g (received_front wanted bytes a v)
-    received_keeps g wanted bytes a verdict.Yes h = wanted_keeps g wanted bytes a (is_wanted wanted a) h
-    received_keeps g wanted bytes a verdict.No h = h
-    received_keeps g wanted bytes a verdict.Pending h = h
-
-    check_peer_walks : (g : ℕ) (wanted : Option IpSocketAddress) (bytes : List ℕ) (a : IpSocketAddress) → Unchecked g → Walks ours (FrontKeeps items) g (check_peer_front who wanted bytes a)
-    unfolding bind
-    check_peer_walks g wanted bytes a h = (may g h, λ t. received_keeps g wanted bytes a (told_verdict t) h)
-
-    receive_walks : (g : ℕ) (wanted : Option IpSocketAddress) (p : Polled (List ℕ × IpSocketAddress)) → Unchecked g → Walks ours (FrontKeeps items) g (receive_front who wanted p)
-    receive_walks g wanted polled.Pending h = h
-    receive_walks g wanted (polled.Ready got) h = check_peer_walks g wanted got.0 got.1 h
-    receive_walks g wanted (polled.Code c) h = over g c (check_next (ours who.id) g d h)
-
-    lookup_keeps : (g : ℕ) (host : List ℕ) (p : Polled (List IpAddress)) → Before g items → FrontKeeps items g (lookup_front host p)
-    lookup_keeps g host polled.Pending h = h
-    lookup_keeps g host (polled.Ready names) h = h
-    lookup_keeps g host (polled.Code c) h = over g c h
-
-  -- the front ask
-  front_walks : (g : ℕ) (item : Item) (items : List Item) → Before g (item ∷ items) → Walks ours (FrontKeeps items) g (front who item)
-  unfolding bind
-  front_walks g (Check a usage) items h = check_walks items g a usage h
-  front_walks g (CheckLocal usage) items h = (tt, λ t. local_walks items g usage (told_addr t) h)
-  front_walks g (Bind a) items h = (tt, λ t. done_keeps items (out_by ours (ours who.id) g) (told_done t) (out_next (ours who.id) g (checks_of items) h))
-  front_walks g (Connect a) items h =
-      (tt, λ t. polled_keeps items (out_by ours (ours who.id) g) (Connect a) (told_polled t) (out_next (ours who.id) g (checks_of items) h) (out_stays (ours who.id) g (checks_of items) h))
-  front_walks g (Listen backlog) items h = (tt, λ t. done_keeps items (out_by ours (ours who.id) g) (told_done t) (out_next (ours who.id) g (checks_of items) h))
-  front_walks g Accept items h = (tt, λ t. accept_walks items g (told_arrival t) h)
-  front_walks g (CheckArrival peer) items h = arrival_walks items g peer h
-  front_walks g (Hand peer) items h = (tt, λ t. h)
-  front_walks g (Refuse peer) items h = (tt, λ t. h)
-  front_walks g (Write bytes) items h = write_walks items g bytes 0 h
-  front_walks g ShutdownSend items h = (tt, λ t. h)
-  front_walks g UdpWritable items h = (tt, λ t. polled_keeps items g UdpWritable (told_polled t) h h)
-  front_walks g (UdpBind a) items h = (tt, λ t. done_keeps items g (told_done t) h)
-  front_walks g (UdpConnect family a) items h = (tt, λ t. peer_walks items g family (told_done t) h)
-  front_walks g (AskPeer family outcome) items h = peer_walks items g family outcome h
-  front_walks g (Send kept a bytes) items h = send_walks items g kept a bytes h
-  front_walks g (Receive wanted) items h = (tt, λ t. receive_walks items g wanted (told_datagram t) h)
-  front_walks g (CheckPeer wanted bytes a) items h = check_peer_walks items g wanted bytes a h
-  front_walks g (Lookup host) items h = (tt, λ t. lookup_keeps items g host (told_names t) h)
-  front_walks g (Last c given) items h = last_walks g items who.last c given h
-
-  after_walks : (again : List Item → Asks (End × List Item)) (items : List Item) (next : Given → Asks (End × List Item)) → ((g : ℕ) (left : List Item) → Before g left → Walks ours After g (again left)) → ((g : ℕ) (given : Given) → Before g items → Walks ours After g (next given))
-      → (g : ℕ) (f : Front) → FrontKeeps items g f → Walks ours After g (after again who items next f)
-  after_walks again items next a n g (Goes given) h = n g given h
-  after_walks again items next a n g (Stays item) h = h
-  after_walks again items next a n g (Again item) h = a g (item ∷ items) h
-  after_walks again items next a n g (Ends c given) h = h
-
-  round_walks : (again : List Item → Asks (End × List Item)) → ((g : ℕ) (left : List Item) → Before g left → Walks ours After g (again left)) → (items : List Item) (g : ℕ) (given : Given) → Before g items → Walks ours After g (round again who given items)
-  round_walks again a [] g given h = h
-  round_walks again a (item ∷ items) g given h = walks_then ours (FrontKeeps items) After g (front who item) _ (front_walks g item items h) (λ i f k. after_walks again items _ a (λ j given l. round_walks again a items j given l) i f k)
-
-  polls_walk : (n : ℕ) (items : List Item) (g : ℕ) → Before g items → Walks ours After g (polls n who items)
-  unfolding polls
-  polls_walk zero items g h = h
-  polls_walk (suc n) items g h = round_walks (polls n who) (λ i left k. polls_walk n left i k) items g Nothing h
-
--- the poll keeps to its room
-pub poll_walks : (ours : OpId → Bool) (b : ℕ) → b ≤ 1 → (others : Bool → ℕ) → others true ≤ others false + others false → (room g : ℕ) (op : Operation) → Within b others room g (op_weight ours op.who.id op.left)
-    → Walks ours (λ h ended. Within b others room h (op_weight ours op.who.id ended.1)) g (poll_asks op)
-poll_walks ours b small others below room g op h = polls_walk ours b small others below room op.who 64 op.left g h
+  -- the poll keeps to its room
+  pub poll_kept : (op : Operation) (es : List Entry) → Within others room (gone_along ours 0 es) (op_weight ours op.who.id op.left) → Allows (Asked ours) (λ fs ended. Within others room (gone_along ours 0 fs) (op_weight ours op.who.id ended.1)) es (poll_asks op)
+  poll_kept op es k = polls_by (poll_law op.who) op.left es k

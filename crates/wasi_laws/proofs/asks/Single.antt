@@ -1,0 +1,159 @@
+-- A law by its single asks: what each ask of a line must be, and what its answer keeps. It stands on the base law, and on the shape of
+-- records.
+use Rattle.std.proofs.Common.{◌≡◌, ℕ, true, List, [], ◌∷◌, ◌++◌, Option, Some, None, Result, Ok, Err, refl, sym, ap, subst, ◌∙◌, slice_get, length}
+use Rattle.wasi_addr.specs.declared.address.IpSocketAddress.{IpSocketAddress}
+use Rattle.wasi_addr.specs.declared.address.SocketAddressFamily.{SocketAddressFamily}
+use Rattle.wasi_addr.specs.declared.code.ErrorCode.{ErrorCode}
+use Rattle.wasi_world.specs.declared.outcome.WasiSocketsCtx.{WasiSocketsCtx}
+use Rattle.wasi_world.specs.declared.ids.OpId.{OpId}
+use Rattle.wasi_world.specs.declared.call.Call.{Call}
+use Rattle.wasi_world.specs.declared.call.Call.TheVariants as call
+use Rattle.wasi_world.specs.declared.call.Told.{Told}
+use Rattle.wasi_world.specs.declared.call.Told.TheVariants as told
+use Rattle.wasi_world.specs.declared.call.Entry.{Entry}
+use Rattle.wasi_world.specs.Asks.{Asks, bind}
+use Rattle.wasi_world.specs.Fits.{IsDoneOrCode}
+use Rattle.wasi_world.specs.Typed.{told_addr, told_done}
+use Rattle.wasi_world.specs.Operation.{Operation, End, Item, poll_asks}
+use Rattle.wasi_world.proofs.Allowed.{Allows, allows_then, allows_if, allows_weaker}
+use Rattle.wasi_tcp.specs.declared.listener.Accepting.TheVariants as accepting
+use Rattle.wasi_tcp.specs.declared.socket.TcpState.TheVariants as state
+use Rattle.wasi_tcp.specs.declared.writer.WriteState.{WriteState}
+use Rattle.wasi_tcp.specs.Job.{Job, job_after}
+use Rattle.wasi_tcp.specs.Listener.{Listener, HoldsAccept, IsAcceptOn}
+use Rattle.wasi_tcp.specs.Shape.{Socket}
+use Rattle.wasi_tcp.specs.Socket.{side_in, side_of, after_create, new_socket, new_asks}
+use Rattle.wasi_host.specs.declared.kind.Kind.{Kind}
+use Rattle.wasi_host.specs.declared.kind.Kind.TheVariants.{Tcp2}
+use Rattle.wasi_host.specs.declared.listening.Listening.TheVariants.{Not, Begins, Accepts}
+use Rattle.wasi_host.specs.declared.socket.Streams.{Streams}
+use Rattle.wasi_host.specs.declared.socket.Tcp2Socket.{Tcp2Socket}
+use Rattle.wasi_host.specs.Kinds.{Handles, make_asks}
+use Rattle.wasi_host.specs.Listening.{with_listening}
+use Rattle.wasi_host.specs.Machine.{own_of, side_at, created_asks}
+use Rattle.wasi_host.specs.Store.{with_record, with_writer}
+use Rattle.wasi_steps.specs.declared.step.Step.{Step}
+use Rattle.wasi_walks.specs.Licence.{entry}
+use Rattle.wasi_walks.proofs.fits.Law.{told_same}
+use Rattle.wasi_walks.proofs.fits.Records.{FitListening}
+use Rattle.wasi_walks.proofs.claims.Law.{Base}
+use Rattle.wasi_walks.proofs.walks.Moves.{Here, put, Found, NoBind, Held, Move, Spends, Used, Unused, Made, closed_record, made_so}
+use Rattle.wasi_walks.proofs.walks.Law.{Walks}
+use Rattle.wasi_walks.proofs.walks.OnBase.{Above}
+use Rattle.wasi_laws.specs.Opened.{socket_of}
+use Rattle.wasi_laws.proofs.asks.Calm.{is_calm, CalmOn, question_calm}
+use Rattle.wasi_laws.proofs.asks.Trees as tree
+use Rattle.wasi_laws.proofs.asks.Trees.{GoesOn, Undoes, Then, makes_by, turns_by, gives_up_by}
+use Rattle.wasi_laws.proofs.shapes.Shape.{ListenerShape, on_socket}
+use Rattle.wasi_laws.proofs.shapes.Law.{Shaped, on_grounds, grounds_along}
+
+-- The record is as it was, as far as a law looks.
+pub record Same (r now : Tcp2Socket) : Type 0 where
+  pub side : now.side ≡ r.side
+  pub streams : now.streams ≡ r.streams
+  pub listening : now.listening ≡ r.listening
+  pub does : now.inner.state ≡ r.inner.state
+
+-- a close of this side leaves the record so
+pub data Closing (r : Tcp2Socket) : Tcp2Socket → OpId → Type 0 where
+  ClosesSocket : (side : OpId) → side_of r.inner ≡ Some side → Closing r (closed_record r) side
+  ClosesListen : (op : Operation) → r.listening ≡ Begins op → Closing r (with_listening r Not) op.who.side
+  ClosesArrived : (l : Listener) (new : OpId) (peer : IpSocketAddress) → r.listening ≡ Accepts l → l.accept ≡ accepting.Arrived new peer → Closing r (with_listening r Not) new
+
+-- a socket that is created joins the records
+abbrev pub creating : Here → OpId → WasiSocketsCtx → SocketAddressFamily → Here
+creating h own ctx family = record h { machine = record h.machine { store = with_record h.machine.store (new_socket own ctx.name family) }; own = Used }
+
+module _ (contexts : List WasiSocketsCtx) (line : ℕ) (origin : Step) where
+  abbrev pub Grounds : Here → Type 0
+  Grounds h = Base contexts line origin h × Shaped h
+
+  -- the socket that a calm call is on, where it is on one
+  pub data IsAskedOn (h : Here) (c : Call) : Type 0 where
+    OnNone : socket_of c ≡ None → IsAskedOn h c
+    OnSide : (place : ℕ) (r : Tcp2Socket) (side : OpId) → Found h place r → side_of r.inner ≡ Some side → socket_of c ≡ Some side → Grounds h → IsAskedOn h c
+
+  pub record Single (P : List Entry → OpId → Call → Type 0) (Inv : List Entry → Here → Type 0) : Type 0 where
+    pub moves : (es : List Entry) (h now : Here) → Move line origin h now → Grounds h → Inv es h → Inv es now
+    pub same : (es : List Entry) (h : Here) (place : ℕ) (r now : Tcp2Socket) → Found h place r → Same r now → Inv es h → Inv es (put h place now)
+    pub tables : (es : List Entry) (h : Here) (t : Handles) (m : Made) → Inv es h → Inv es (record h { machine = record h.machine { table = t }; made = m })
+    pub stops : (es : List Entry) (h : Here) (place : ℕ) (r : Tcp2Socket) → Found h place r → Inv es h → Inv es (put h place (with_listening r Not))
+    pub asks : (es : List Entry) (h : Here) (op : OpId) (c : Call) → is_calm c ≡ true → IsAskedOn h c → Inv es h → Then P (λ fs. Inv fs h) es op c
+    pub creates : (es : List Entry) (h : Here) (ctx : WasiSocketsCtx) (family : SocketAddressFamily) → h.own ≡ Unused → Grounds h → Inv es h → Inv (es ++ entry (own_of line) (call.TcpCreate ctx.name family) told.Done ∷ []) (creating h (own_of line) ctx family)
+    pub closes : (es : List Entry) (h : Here) (place : ℕ) (r now : Tcp2Socket) (op side : OpId) → NoBind h → Found h place r → Closing r now side → Grounds h → Inv es h → Then P (λ fs. Inv fs (put h place now)) es op (call.Close side)
+    pub polls : (es : List Entry) (h : Here) (op : Operation) (after : End × List Item → Here) → Held h op after → Grounds h → Inv es h → Allows P (λ fs ended. Inv fs (after ended)) es (poll_asks op)
+    pub turns : (es : List Entry) (h : Here) (place : ℕ) (r : Tcp2Socket) (s : Streams) (job : Job) (now : Job → WriteState) → Found h place r → r.streams ≡ Some s → GoesOn s.writer job now → Grounds h → Inv es h
+        → Allows P (λ fs ended. Inv fs (put h place (with_writer r s (now (job_after job.write.who ended))))) es (poll_asks job.write)
+
+  module _ {P : List Entry → OpId → Call → Type 0} {Inv : List Entry → Here → Type 0} (a : Single P Inv) where
+    -- a calm call on a record
+    on_record : (es : List Entry) (h : Here) (place : ℕ) (r : Tcp2Socket) (op side : OpId) (c : Call) → Found h place r → side_of r.inner ≡ Some side → CalmOn side c → Grounds h → Inv es h → Then P (λ fs. Inv fs h) es op c
+    on_record es h place r op side c g s k b i = a.asks es h op c k.calm (OnSide place r side g s k.on b) i
+
+    marked : (es : List Entry) (h : Here) (kind : Kind) (parent : Option ℕ) (sock : Option OpId) → Inv es h → Allows P (λ fs made. Inv fs h) es (make_asks h.machine.table (own_of line) kind parent sock)
+    marked es h kind parent sock i = makes_by P (λ fs. Inv fs h) es h.machine.table (own_of line) kind parent sock i (a.asks es h (own_of line) _ refl (OnNone refl) i)
+
+    -- a socket that is created
+    abbrev Created : Here → WasiSocketsCtx → SocketAddressFamily → List Entry → Result Socket ErrorCode → Type 0
+    Created h ctx family fs (Ok socket) = (socket ≡ new_socket (own_of line) ctx.name family) × Inv fs (creating h (own_of line) ctx family)
+    Created h ctx family fs (Err c) = Inv fs h
+
+    created : (es : List Entry) (h : Here) (ctx : WasiSocketsCtx) (family : SocketAddressFamily) → h.own ≡ Unused → Grounds h → Inv es h → Allows P (Created h ctx family) es (new_asks (own_of line) ctx family)
+    unfolding bind
+    created es h ctx family u b i = allows_if P (Created h ctx family) es ctx.tcp _ _ (λ tcp. (x.0, by_told)) (λ other. i)
+      where
+        x : Then P (λ fs. Inv fs h) es (own_of line) (call.TcpCreate ctx.name family)
+        x = a.asks es h (own_of line) _ refl (OnNone refl) i
+
+        by_told : (t : Told) → IsDoneOrCode t → Created h ctx family (es ++ entry (own_of line) (call.TcpCreate ctx.name family) t ∷ []) (after_create (own_of line) ctx.name family (told_done t))
+        by_told told.Done f = (refl, a.creates es h ctx family u b i)
+        by_told (told.Code c) f = x.1 (told.Code c)
+        by_told _ f = absurd f
+
+    joins : (fs : List Entry) (h : Here) (ctx : WasiSocketsCtx) (family : SocketAddressFamily) (made : Result Socket ErrorCode) → h.own ≡ Unused → Created h ctx family fs made → Grounds h → Allows P (λ gs done. Inv gs (record h { machine = done.1; own = Used })) fs (created_asks h.machine (own_of line) made)
+    joins fs h ctx family (Err c) u k b = a.moves fs h _ (Spends h u) b k
+    joins fs h ctx family (Ok socket) u k b =
+        subst (λ (x : Socket). Allows P (λ gs done. Inv gs (record h { machine = done.1; own = Used })) fs (created_asks h.machine (own_of line) (Ok x))) (sym k.0)
+        (let now = creating h (own_of line) ctx family in allows_then P (λ gs made. Inv gs now) (λ gs done. Inv gs (record h { machine = done.1; own = Used })) fs (make_asks h.machine.table (own_of line) (Tcp2 (length h.machine.store.sockets)) None (Some (own_of line))) _
+        (marked fs now (Tcp2 (length h.machine.store.sockets)) None (Some (own_of line)) k.1) (λ gs made i. a.tables gs now made.1 h.made i))
+
+    -- a listening that is given up
+    undoes : (es : List Entry) (h : Here) (place : ℕ) (r : Tcp2Socket) (op : OpId) (c : Call) → NoBind h → Found h place r → Undoes r.listening op c → Grounds h → Inv es h → Then P (λ fs. Inv fs (put h place (with_listening r Not))) es op c
+    undoes es h place r _ _ q g (tree.ClosesBegun op e) b i = a.closes es h place r _ op.who.id op.who.side q g (ClosesListen op e) b i
+    undoes es h place r _ _ q g (tree.RefusesArrival l op peer e d) b i =
+        let its : IsAcceptOn l.side l.maker op = subst (HoldsAccept l.side l.maker) d (subst FitListening e (b.0.0.records place r g).1) in
+        let listens : r.inner.state ≡ state.Listening l.side = subst (ListenerShape r.inner.state) e (b.1 place r g).1 in
+        let x = on_record es h place r op.who.id op.who.side (call.Refuse op.who.side peer) g (ap side_in listens ∙ ap (λ (y : OpId). Some y) (sym its.of_side)) (record { calm = refl; on = refl }) b i in
+        (x.0, λ told. a.stops _ h place r g (x.1 told))
+    undoes es h place r _ _ q g (tree.ClosesArrived l new peer e d) b i = a.closes es h place r _ new new q g (ClosesArrived l new peer e d) b i
+
+    pub single : Above contexts line origin (λ es h. Grounds h)
+    single = record {
+      P = P;
+      Inv = Inv;
+      moves = a.moves;
+      asks = λ es h place n r side c at g o q b i. let x = on_record es h place r (own_of n) side c g (on_socket r side (b.1 place r g) o) (question_calm side c q) b i in (x.0, λ told f. x.1 told);
+      sets = λ es h place r side backlog at g s is b i. let x = on_record es h place r (own_of line) side (call.SetBacklog side backlog) g (ap side_in s) (record { calm = refl; on = refl }) b i in (x.0, λ told f. x.1 told);
+      learns = λ es h place r side at g e b i.
+          let x = on_record es h place r (own_of line) side (call.Local side) g (ap side_in e) (record { calm = refl; on = refl }) b i in
+          (x.0, λ told f. a.same _ h place r _ g (record { side = refl; streams = refl; listening = refl; does = told_same r.inner (told_addr told) }) (x.1 told));
+      closes = λ es h place r side q g e b i. let x = a.closes es h place r _ (own_of line) side q g (ClosesSocket side e) b i in (x.0, λ told f. x.1 told);
+      marks = λ es h kind parent sock m b i. allows_weaker P (λ fs made. Inv fs h) (λ fs made. Inv fs (record h { machine = record h.machine { table = made.1 } })) (λ fs made k. a.tables fs h made.1 h.made k) es _ (marked es h kind parent sock i);
+      creates = λ es h ctx family c at u m b i.
+          allows_then P (Created h ctx family) (λ fs done. Inv fs (record h { machine = done.1; own = Used })) es (new_asks (own_of line) ctx family) (created_asks h.machine (own_of line)) (created es h ctx family u b i) (λ fs made k. joins fs h ctx family made u k b);
+      accepted = λ es h c listener place r is e o g b i.
+          allows_weaker P (λ fs made. Inv fs h) (λ fs made. Inv fs (record h { machine = record h.machine { table = made.1 }; made = made_so place made.0 })) (λ fs made k. a.tables fs h made.1 (made_so place made.0) k) es _
+          (marked es h (Tcp2 place) (Some listener) (side_at (slice_get h.machine.store.sockets place)) i);
+      polls = a.polls;
+      turns = λ es h place r s g e b i.
+          turns_by P (λ fs w. Inv fs (put h place (with_writer r s w))) es s.writer (a.same es h place r (with_writer r s s.writer) g (record { side = refl; streams = sym e; listening = refl; does = refl }) i)
+          (λ job now on. a.turns es h place r s job now g e on b i);
+      gives_up = λ es h place r q g b i.
+          gives_up_by P (λ fs. Inv fs (put h place (with_listening r Not))) es (a.stops es h place r g i) r.inner.state r.listening (b.1 place r g).1 (λ op c u. undoes es h place r op c q g u b i);
+    }
+
+    -- what it says of a tree
+    pub single_along : {A : Type 0} {h : Here} {end : A → Here} {asks : Asks A} → Walks (on_grounds contexts line origin single) h end asks → (es : List Entry) → Base contexts line origin h → Shaped h → Inv es h
+        → Allows P (λ fs x. Base contexts line origin (end x) × (Shaped (end x) × Inv fs (end x))) es asks
+    unfolding single
+    single_along w es b s i = grounds_along contexts line origin single w es b s i

@@ -1,0 +1,215 @@
+-- The law that each record has its shape.
+use Rattle.std.specs.Prelude.{⊤}
+use Rattle.std.proofs.Common.{◌≡◌, ℕ, true, List, [], ◌∷◌, ◌++◌, Option, Some, None, Result, Ok, Err, refl, sym, ap, subst, ◌∙◌, slice_get, slice_set, length, inl, inr}
+use Rattle.wasi_addr.specs.declared.address.SocketAddressFamily.{SocketAddressFamily}
+use Rattle.wasi_addr.specs.declared.code.ErrorCode.{ErrorCode}
+use Rattle.wasi_world.specs.declared.outcome.WasiSocketsCtx.{WasiSocketsCtx}
+use Rattle.wasi_world.specs.declared.call.Entry.{Entry}
+use Rattle.wasi_world.specs.declared.ids.OpId.{OpId}
+use Rattle.wasi_world.specs.Asks.{Asks, bind}
+use Rattle.wasi_world.specs.Typed.{told_addr}
+use Rattle.wasi_world.specs.Operation.{Given, Item, Who, LastAsk, NothingLast, CloseLast, ShutdownLast, Operation, End, Waits, Done, Refused, last_ask, poll_asks}
+use Rattle.wasi_world.proofs.Allowed.{Allows, allows_then, allows_weaker}
+use Rattle.wasi_tcp.specs.declared.reader.ReadState.TheVariants as reading
+use Rattle.wasi_tcp.specs.declared.socket.Connection.{Connection}
+use Rattle.wasi_tcp.specs.declared.socket.TcpState.{TcpState}
+use Rattle.wasi_tcp.specs.declared.socket.TcpState.TheVariants as state
+use Rattle.wasi_tcp.specs.declared.writer.WriteState.{WriteState}
+use Rattle.wasi_tcp.specs.Connecting.{with_state, connect_ended}
+use Rattle.wasi_tcp.specs.Job.{Job, job_after}
+use Rattle.wasi_tcp.specs.Listener.{Listener}
+use Rattle.wasi_tcp.specs.Shape.{Socket}
+use Rattle.wasi_tcp.specs.Socket.{side_of, new_asks}
+use Rattle.wasi_tcp.specs.Writer.{turn_asks}
+use Rattle.wasi_host.specs.declared.listening.Listening.{Listening}
+use Rattle.wasi_host.specs.declared.listening.Listening.TheVariants.{Not, Begins, Accepts, Unclosed}
+use Rattle.wasi_host.specs.declared.socket.Streams.{Streams}
+use Rattle.wasi_host.specs.declared.socket.Tcp2Socket.{Tcp2Socket}
+use Rattle.wasi_host.specs.Listening.{with_listening}
+use Rattle.wasi_host.specs.Kinds.{make_asks}
+use Rattle.wasi_host.specs.declared.kind.Kind.TheVariants.{Tcp2}
+use Rattle.wasi_host.specs.Machine.{own_of, created_asks, create_asks}
+use Rattle.wasi_host.specs.Store.{with_inner, with_reader, with_writer, new_record}
+use Rattle.wasi_steps.specs.declared.step.Step.{Step}
+use Rattle.wasi_walks.proofs.Lists.{get_set, get_split}
+use Rattle.wasi_walks.proofs.fits.Law.{told_same, whatever}
+use Rattle.wasi_walks.proofs.fits.Polls.{Anything}
+use Rattle.wasi_walks.proofs.claims.Law.{Base, on_names, on_along}
+use Rattle.wasi_walks.proofs.walks.Law.{Law, Walks}
+use Rattle.wasi_walks.proofs.walks.OnBase.{both, Above}
+use Rattle.wasi_walks.proofs.walks.Moves.{Here, put, Found, Used, closed_record, joined, listen_after, accepting_now, opened_by, Held, InHand, Connects, Listens, Awaits, Move, Reaches, Leaves, Spends, Changes, ClosesReader, Writes, IsGone, Reconnects, Opens, BeginsConnect, BeginsBind, BeginsWrite, BeginsListen, BeginsAccept, Unlistens, Forgets, Watches, Joins, StandsListen, StandsDrop, ResumesDrop, Unstands, Stands, Resumes, Ends, Lists, Takes}
+use Rattle.wasi_laws.proofs.asks.Fronts.{Becomes, ToldAddress, Arrives, IsAdmitted, IsUnwanted, IsRefused, IsConnected, Comes, GoesBy, PollLaw, polls_by}
+use Rattle.wasi_laws.proofs.asks.Trees.{GoesOn, InWriting, InClosing, turns_by}
+use Rattle.wasi_laws.proofs.shapes.Shape.{IsOfWrite, AreOfWrite, end_write, JobIs, WriterIs, writer_moves, HasStreams, StreamsShape, ListenerShape, RecordShape, Unconnected, bare, sideless, restated}
+
+-- what is left of a write takes no other form
+pub never : (i j : Item) → Becomes i j → IsOfWrite i → ⊥
+never _ _ (ToldAddress a usage) k = k
+never _ _ (Arrives peer) k = k
+never _ _ (IsAdmitted peer) k = k
+never _ _ (IsUnwanted peer) k = k
+never _ _ (IsRefused peer) k = k
+never _ _ (IsConnected family a outcome) k = k
+never _ _ (Comes wanted bytes a) k = k
+never _ _ (GoesBy wanted bytes a) k = k
+
+last_left : (who : Who) (es : List Entry) (a : LastAsk) (c : ErrorCode) (given : Given) → Allows Anything (λ fs ended. AreOfWrite ended.1) es (last_ask who a c given)
+unfolding bind
+last_left who es NothingLast c given = tt
+last_left who es CloseLast c given = (tt, λ told fits. tt)
+last_left who es ShutdownLast c given = (tt, λ told fits. tt)
+
+-- a poll of a write leaves a write
+left_law : (who : Who) → PollLaw Anything who (λ es items. AreOfWrite items) (λ es ended. AreOfWrite ended.1)
+left_law who = record {
+  asks = λ es i items c a k. (tt, λ told fits. k);
+  writes = λ es b bytes items k. (tt, λ told fits front. k);
+  becomes = λ es i j items b k. absurd (never i j b k.0);
+  drops = λ es i items s k. end_write items k.1;
+  ends = λ es i items c given k. last_left who es who.last c given;
+  waits = λ es items k. k;
+  done = λ es given m k. k;
+}
+
+job_now : (at : OpId) (job : Job) (ended : End × List Item) → JobIs at job → AreOfWrite ended.1 → JobIs at (job_after job.write.who ended)
+job_now at job (e, items) k l = record { side = k.side; last = k.last; left = l }
+
+turned : (at : OpId) (es : List Entry) (w : WriteState) (job : Job) (now : Job → WriteState) → GoesOn w job now → WriterIs at w → Allows Anything (λ fs ended. WriterIs at (now (job_after job.write.who ended))) es (poll_asks job.write)
+turned at es _ _ _ (InWriting job e) k = allows_weaker Anything (λ fs ended. AreOfWrite ended.1) (λ fs ended. JobIs at (job_after job.write.who ended)) (λ fs ended l. job_now at job ended k l) es _ (polls_by (left_law job.write.who) job.write.left es k.left)
+turned at es _ _ _ (InClosing job e) k = allows_weaker Anything (λ fs ended. AreOfWrite ended.1) (λ fs ended. JobIs at (job_after job.write.who ended)) (λ fs ended l. job_now at job ended k l) es _ (polls_by (left_law job.write.who) job.write.left es k.left)
+
+-- == records
+has_streams : (r : Tcp2Socket) (s : Streams) → r.streams ≡ Some s → RecordShape r → HasStreams r.inner.state s
+has_streams r s e k = subst (StreamsShape r.inner.state) e k.0
+
+writes_on : (r : Tcp2Socket) (s : Streams) (w : WriteState) (e : r.streams ≡ Some s) (k : RecordShape r) → WriterIs (has_streams r s e k).connection.side w → RecordShape (with_writer r s w)
+writes_on r s w e k is = let o = has_streams r s e k in (record { connection = o.connection; is = o.is; taken = o.taken; reader = o.reader; writer = is }, k.1)
+
+-- a connection changes, on its side
+reconnected : (c now : Connection) (o : Option Streams) (l : Listening) → now.side ≡ c.side → (c.send_taken ≡ true → now.send_taken ≡ true) → StreamsShape (state.Connected c) o × ListenerShape (state.Connected c) l → StreamsShape (state.Connected now) o × ListenerShape (state.Connected now) l
+reconnected c now o l s t k = (by_streams o k.0, by_listening l k.1)
+  where
+    by_streams : (o : Option Streams) → StreamsShape (state.Connected c) o → StreamsShape (state.Connected now) o
+    by_streams None h = tt
+    by_streams (Some x) h =
+        let same : h.connection ≡ c = cc in
+        let of : h.connection.side ≡ now.side = ap (λ (y : Connection). y.side) same ∙ sym s in
+        record { connection = now; is = refl; taken = t (sym (ap (λ (y : Connection). y.send_taken) same) ∙ h.taken); reader = λ half e. h.reader half e ∙ of; writer = subst (λ (y : OpId). WriterIs y x.writer) of h.writer }
+
+    by_listening : (l : Listening) → ListenerShape (state.Connected c) l → ListenerShape (state.Connected now) l
+    by_listening Not h = tt
+    by_listening (Begins op) h = tt
+    by_listening (Accepts l) h = absurd (cc)
+    by_listening (Unclosed x) h = h
+
+-- another socket, or another listening, of a record that has none of these
+pub restates : (r : Tcp2Socket) (t : TcpState) → Unconnected r.inner.state → ((x : OpId) → r.inner.state ≡ state.Listening x → ⊥) → RecordShape r → RecordShape (with_inner r (with_state r.inner t))
+restates r t n m k = restated r.inner.state t r.streams r.listening n m k
+
+ended_shape : (r : Tcp2Socket) (op : Operation) (end : End × List Item) → r.inner.state ≡ state.Connecting op → RecordShape r → RecordShape (with_inner r (with_state r.inner (connect_ended op.who end).1))
+ended_shape r op end e k = restates r (connect_ended op.who end).1 (λ c d. let p : state.Connecting op ≡ state.Connected c = sym e ∙ d in absurd (cc)) (λ x d. let p : state.Connecting op ≡ state.Listening x = sym e ∙ d in absurd (cc)) k
+
+listened_shape : (r : Tcp2Socket) (op : Operation) (end : End × List Item) → side_of r.inner ≡ None → RecordShape r → RecordShape (listen_after op r end)
+listened_shape r op (Waits, items) c k = (k.0, tt)
+listened_shape r op (Done given, items) c k = (subst (StreamsShape (state.Listening op.who.side)) (sym (bare r.inner.state r.streams (sideless r.inner.state c) k.0)) tt, refl)
+listened_shape r op (Refused why given, items) c k = (k.0, tt)
+
+accepts_shape : (r : Tcp2Socket) (l : Listener) → r.listening ≡ Accepts l → RecordShape r → ListenerShape r.inner.state (Accepts l)
+accepts_shape r l e k = subst (ListenerShape r.inner.state) e k.1
+
+-- each record has its shape
+abbrev pub Shaped : Here → Type 0
+Shaped h = (place : ℕ) (r : Tcp2Socket) → Found h place r → RecordShape r
+
+put_shape : (h : Here) (place : ℕ) (now : Tcp2Socket) → RecordShape now → Shaped h → Shaped (put h place now)
+put_shape h place now k i = λ n r e. elim (get_set h.machine.store.sockets place now n r e) [ inl p ↦ subst RecordShape p.1 k | inr p ↦ i n r p ]
+
+push_shape : (sockets : List Tcp2Socket) (now : Tcp2Socket) → RecordShape now → ((place : ℕ) (r : Tcp2Socket) → slice_get sockets place ≡ Some r → RecordShape r) → (place : ℕ) (r : Tcp2Socket) → slice_get (sockets ++ now ∷ []) place ≡ Some r → RecordShape r
+push_shape sockets now k i place r e = elim (get_split sockets now place r e) [ inl p ↦ i place r p | inr p ↦ subst RecordShape p k ]
+
+module _ (contexts : List WasiSocketsCtx) (line : ℕ) (origin : Step) where
+  moves_shape : (h now : Here) → Move line origin h now → Shaped h → Shaped now
+  moves_shape _ _ (Reaches h handle place n e) i = i
+  moves_shape _ _ (Leaves h) i = i
+  moves_shape _ _ (Spends h e) i = i
+  moves_shape _ _ (Changes h place r now g p) i = put_shape h place now (rw (p.does, p.streams, p.listening) (i place r g)) i
+  moves_shape _ _ (ClosesReader h place r s g e) i =
+      let k = i place r g in let o = has_streams r s e k in
+      put_shape h place (with_reader r s reading.Closed) (record { connection = o.connection; is = o.is; taken = o.taken; reader = λ half d. absurd (cc); writer = o.writer }, k.1) i
+  moves_shape _ _ (Writes h place r s w g e m) i = let k = i place r g in put_shape h place _ (writes_on r s w e k (writer_moves _ s.writer w m (has_streams r s e k).writer)) i
+  moves_shape _ _ (IsGone h place r g e) i = put_shape h place _ (tt, tt) i
+  moves_shape _ _ (Reconnects h place r c now g e s t u) i = put_shape h place _ (reconnected c now r.streams r.listening s t (subst (λ (x : TcpState). StreamsShape x r.streams × ListenerShape x r.listening) e (i place r g))) i
+  moves_shape _ _ (Opens h place r c g e n) i =
+      let now : Connection = record c { send_taken = true } in
+      let k = reconnected c now r.streams r.listening refl (λ t. refl) (subst (λ (x : TcpState). StreamsShape x r.streams × ListenerShape x r.listening) e (i place r g)) in
+      put_shape h place (opened_by r c) (record { connection = now; is = refl; taken = refl; reader = λ half d. (let q : record { side = c.side } ≡ half = cc in ap (λ y. y.side) (sym q)); writer = refl }, k.1) i
+  moves_shape _ _ (BeginsConnect h place r side a bound at g d to known own) i = put_shape h place _ (restates r _ (λ c e. let p : state.Default side ≡ state.Connected c = sym d ∙ e in absurd (cc)) (λ x e. let p : state.Default side ≡ state.Listening x = sym d ∙ e in absurd (cc)) (i place r g)) i
+  moves_shape _ _ (BeginsBind h place r side a at g d to own) i = i
+  moves_shape _ _ (BeginsWrite h place r s half permit bytes at g e w within own) i =
+      let k = i place r g in put_shape h place _ (writes_on r s _ e k (record { side = subst (WriterIs _) w (has_streams r s e k).writer; last = refl; left = (tt, tt) })) i
+  moves_shape _ _ (BeginsListen h place r side at g d bound none to own) i =
+      let k = restates r (state.Closed _) (λ c e. let p : state.Default side ≡ state.Connected c = sym d ∙ e in absurd (cc)) (λ x e. let p : state.Default side ≡ state.Listening x = sym d ∙ e in absurd (cc)) (i place r g) in put_shape h place _ (k.0, tt) i
+  moves_shape _ _ (BeginsAccept h place r l at g e a own) i = let k = i place r g in put_shape h place _ (k.0, accepts_shape r l e k) i
+  moves_shape _ _ (Unlistens h place r op g e c o) i = put_shape h place _ ((i place r g).0, tt) i
+  moves_shape _ _ (Forgets h place r l c g e a) i = let k = i place r g in put_shape h place _ (k.0, accepts_shape r l e k) i
+  moves_shape _ _ (Watches h o) i = i
+  moves_shape _ _ (Joins h c handle place r l new peer is of u g e a) i =
+      let k = i place r g in
+      let idle : Tcp2Socket = accepting_now r l _ in
+      push_shape (slice_set h.machine.store.sockets place idle) (joined l new peer) (record { connection = _; is = refl; taken = refl; reader = λ half d. (let q : record { side = new } ≡ half = cc in ap (λ y. y.side) (sym q)); writer = refl }, tt) (put_shape h place idle (k.0, accepts_shape r l e k) i)
+  moves_shape _ _ (StandsListen h n place r f) i = i
+  moves_shape _ _ (StandsDrop h n place r at g) i = i
+  moves_shape _ _ (ResumesDrop h n place e) i = i
+  moves_shape _ _ (Unstands h) i = i
+  moves_shape _ _ (Stands h n place r op f e) i = i
+  moves_shape _ _ (Resumes h n place op e) i = i
+  moves_shape _ _ (Ends h) i = i
+  moves_shape _ _ (Lists h jobs) i = i
+  moves_shape _ _ (Takes h handle) i = i
+
+  polls_shape : (es : List Entry) (h : Here) (op : Operation) (after : End × List Item → Here) → Held h op after → Shaped h → Allows Anything (λ fs ended. Shaped (after ended)) es (poll_asks op)
+  polls_shape es h _ _ (InHand op e) i = whatever (λ ended. Shaped h) (λ ended. i) es (poll_asks op)
+  polls_shape es h _ _ (Connects place r op q g e) i = whatever (λ ended. Shaped (put h place (with_inner r (with_state r.inner (connect_ended op.who ended).1)))) (λ ended. put_shape h place _ (ended_shape r op ended e (i place r g)) i) es (poll_asks op)
+  polls_shape es h _ _ (Listens place r op q g e c) i = whatever (λ ended. Shaped (put h place (listen_after op r ended))) (λ ended. put_shape h place _ (listened_shape r op ended c (i place r g)) i) es (poll_asks op)
+  polls_shape es h _ _ (Awaits place r l op g e a) i = let k = i place r g in whatever (λ ended. Shaped (put h place (accepting_now r l _))) (λ ended. put_shape h place _ (k.0, accepts_shape r l e k) i) es (poll_asks op)
+
+  turns_shape : (es : List Entry) (h : Here) (place : ℕ) (r : Tcp2Socket) (s : Streams) → Found h place r → r.streams ≡ Some s → Shaped h → Allows Anything (λ fs done. Shaped (put h place (with_writer r s done.1))) es (turn_asks s.writer)
+  turns_shape es h place r s g e i =
+      let k = i place r g in let o = has_streams r s e k in
+      turns_by Anything (λ fs w. Shaped (put h place (with_writer r s w))) es s.writer (put_shape h place _ (writes_on r s s.writer e k o.writer) i)
+      (λ job now on. allows_weaker Anything (λ fs ended. WriterIs o.connection.side (now (job_after job.write.who ended))) (λ fs ended. Shaped (put h place (with_writer r s (now (job_after job.write.who ended)))))
+      (λ fs ended l. put_shape h place _ (writes_on r s _ e k l) i) es (poll_asks job.write) (turned o.connection.side es s.writer job now on o.writer))
+
+  created_shape : (es : List Entry) (h : Here) (ctx : WasiSocketsCtx) (family : SocketAddressFamily) → Shaped h → Allows Anything (λ fs done. Shaped (record h { machine = done.1; own = Used })) es (create_asks h.machine (own_of line) ctx family)
+  created_shape es h ctx family i = allows_then Anything (λ fs made. ⊤) (λ fs done. Shaped (record h { machine = done.1; own = Used })) es (new_asks (own_of line) ctx family) (created_asks h.machine (own_of line)) (whatever (λ made. ⊤) (λ made. tt) es _) (λ fs made k. joins fs made)
+    where
+      joins : (fs : List Entry) (made : Result Socket ErrorCode) → Allows Anything (λ gs done. Shaped (record h { machine = done.1; own = Used })) fs (created_asks h.machine (own_of line) made)
+      joins fs (Err c) = i
+      joins fs (Ok socket) = allows_then Anything (λ gs made. ⊤) (λ gs done. Shaped (record h { machine = done.1; own = Used })) fs (make_asks h.machine.table (own_of line) (Tcp2 (length h.machine.store.sockets)) None (side_of socket)) _ (whatever (λ made. ⊤) (λ made. tt) fs _) (λ gs made k. push_shape h.machine.store.sockets (new_record socket) (tt, tt) i)
+
+  -- a law that stands on it, on the base law
+  on_shapes : Above contexts line origin (λ es h. Base contexts line origin h × Shaped h) → Above contexts line origin (λ es h. Base contexts line origin h)
+  on_shapes a = record {
+    P = a.P;
+    Inv = λ es h. Shaped h × a.Inv es h;
+    moves = λ es h now m b i. (moves_shape h now m i.0, a.moves es h now m (b, i.0) i.1);
+    asks = λ es h place n r side c at g o q b i. let x = a.asks es h place n r side c at g o q (b, i.0) i.1 in (x.0, λ told f. (i.0, x.1 told f));
+    sets = λ es h place r side backlog at g s is b i. let x = a.sets es h place r side backlog at g s is (b, i.0) i.1 in (x.0, λ told f. (i.0, x.1 told f));
+    learns = λ es h place r side at g e b i. let x = a.learns es h place r side at g e (b, i.0) i.1 in (x.0, λ told f. (put_shape h place _ (rw (told_same r.inner (told_addr told)) (i.0 place r g)) i.0, x.1 told f));
+    closes = λ es h place r side q g e b i. let x = a.closes es h place r side q g e (b, i.0) i.1 in (x.0, λ told f. (put_shape h place (closed_record r) (tt, tt) i.0, x.1 told f));
+    marks = λ es h kind parent sock m b i. both a.P Anything _ _ es _ (a.marks es h kind parent sock m (b, i.0) i.1) (whatever (λ made. Shaped h) (λ made. i.0) es _);
+    creates = λ es h ctx family c o u m b i. both a.P Anything _ _ es _ (a.creates es h ctx family c o u m (b, i.0) i.1) (created_shape es h ctx family i.0);
+    accepted = λ es h c listener place r is e o g b i. both a.P Anything _ _ es _ (a.accepted es h c listener place r is e o g (b, i.0) i.1) (whatever (λ made. Shaped h) (λ made. i.0) es _);
+    polls = λ es h op after k b i. both a.P Anything _ _ es _ (a.polls es h op after k (b, i.0) i.1) (polls_shape es h op after k i.0);
+    turns = λ es h place r s g e b i. both a.P Anything _ _ es _ (a.turns es h place r s g e (b, i.0) i.1) (turns_shape es h place r s g e i.0);
+    gives_up = λ es h place r q g b i. both a.P Anything _ _ es _ (a.gives_up es h place r q g (b, i.0) i.1) (whatever (λ done. Shaped (put h place (with_listening r Not))) (λ done. put_shape h place _ ((i.0 place r g).0, tt) i.0) es _);
+  }
+
+  pub on_grounds : Above contexts line origin (λ es h. Base contexts line origin h × Shaped h) → Law contexts line origin
+  on_grounds a = on_names contexts line origin (on_shapes a)
+
+  -- what such a law says of a tree
+  pub grounds_along : (a : Above contexts line origin (λ es h. Base contexts line origin h × Shaped h)) {A : Type 0} {h : Here} {end : A → Here} {asks : Asks A} → Walks (on_grounds a) h end asks → (es : List Entry) → Base contexts line origin h → Shaped h → a.Inv es h
+      → Allows a.P (λ fs x. Base contexts line origin (end x) × (Shaped (end x) × a.Inv fs (end x))) es asks
+  unfolding on_grounds on_shapes
+  grounds_along a w es b s i = on_along contexts line origin (on_shapes a) w es b (s, i)

@@ -1,0 +1,153 @@
+-- How a record stands: its streams are those of its connection, its writer writes on by itself to that side alone, and it listens
+-- by its socket's side.
+use Rattle.std.specs.Prelude.{⊤}
+use Rattle.std.proofs.Common.{◌≡◌, true, List, [], ◌∷◌, Option, Some, None, refl, sym, ap, subst, ◌∙◌}
+use Rattle.wasi_world.specs.declared.ids.OpId.{OpId}
+use Rattle.wasi_world.specs.Operation.{Item, Write, ShutdownSend, Last, ShutdownLast, End, Waits, Done, Refused}
+use Rattle.wasi_tcp.specs.declared.halves.TcpReceiveStream.{TcpReceiveStream}
+use Rattle.wasi_tcp.specs.declared.reader.ReadState.TheVariants as reading
+use Rattle.wasi_tcp.specs.declared.socket.Connection.{Connection}
+use Rattle.wasi_tcp.specs.declared.socket.TcpState.{TcpState}
+use Rattle.wasi_tcp.specs.declared.socket.TcpState.TheVariants as state
+use Rattle.wasi_tcp.specs.declared.writer.WriteState.{WriteState}
+use Rattle.wasi_tcp.specs.declared.writer.WriteState.TheVariants as writing
+use Rattle.wasi_tcp.specs.Job.{Job, then_closed}
+use Rattle.wasi_tcp.specs.Socket.{side_in, side_of}
+use Rattle.wasi_tcp.specs.Writer.{writer_side, writing_side, closing_side, written_by, closed_by}
+use Rattle.wasi_host.specs.declared.listening.Listening.{Listening}
+use Rattle.wasi_host.specs.declared.listening.Listening.TheVariants.{Not, Begins, Accepts, Unclosed}
+use Rattle.wasi_host.specs.declared.socket.Streams.{Streams}
+use Rattle.wasi_host.specs.declared.socket.Tcp2Socket.{Tcp2Socket}
+use Rattle.wasi_walks.proofs.walks.Moves.{IsOn, OfSocket, OfReader, OfWriter, WriterMoves, Collects, Permits, Lasts, LastsAfter, Closes}
+
+pub some_same : {A : Type 0} (a b : A) → Some a ≡ Some b → a ≡ b
+some_same a b e = cc
+
+-- == what is left of a write
+-- what follows its bytes: it writes nothing
+abbrev pub IsOfEnd : Item → Type 0
+IsOfEnd ShutdownSend = ⊤
+IsOfEnd (Last c given) = ⊤
+IsOfEnd _ = ⊥
+
+abbrev pub AreOfEnd : List Item → Type 0
+AreOfEnd [] = ⊤
+AreOfEnd (item ∷ items) = IsOfEnd item × AreOfEnd items
+
+abbrev pub IsOfWrite : Item → Type 0
+IsOfWrite (Write bytes) = ⊤
+IsOfWrite item = IsOfEnd item
+
+-- only the first may be a write
+abbrev pub AreOfWrite : List Item → Type 0
+AreOfWrite [] = ⊤
+AreOfWrite (item ∷ items) = IsOfWrite item × AreOfEnd items
+
+pub end_write : (items : List Item) → AreOfEnd items → AreOfWrite items
+end_write [] k = tt
+end_write (ShutdownSend ∷ items) k = k
+end_write (Last c given ∷ items) k = k
+end_write (_ ∷ items) k = absurd k.0
+
+left_closed : (items : List Item) → AreOfWrite items → AreOfWrite (then_closed items)
+left_closed [] h = h
+left_closed (Write rest ∷ items) h = (tt, (tt, tt))
+left_closed (_ ∷ items) h = h
+
+-- == a writer
+-- The write is on this side, and one that is refused shuts its half.
+pub record JobIs (at : OpId) (job : Job) : Type 0 where
+  pub side : job.write.who.side ≡ at
+  pub last : job.write.who.last ≡ ShutdownLast
+  pub left : AreOfWrite job.write.left
+
+abbrev pub WriterIs : OpId → WriteState → Type 0
+WriterIs at (writing.Ready half permit) = half.side ≡ at
+WriterIs at (writing.Writing job) = JobIs at job
+WriterIs at (writing.Closing job) = JobIs at job
+WriterIs at (writing.Closed e) = ⊤
+
+written_is : (at : OpId) (job : Job) (e : End) → JobIs at job → WriterIs at (written_by job e)
+written_is at job Waits k = k
+written_is at job (Done given) k = k.side
+written_is at job (Refused c given) k = tt
+
+closed_is : (at : OpId) (job : Job) (e : End) → JobIs at job → WriterIs at (closed_by job e)
+closed_is at job Waits k = k
+closed_is at job (Done given) k = tt
+closed_is at job (Refused c given) k = tt
+
+pub writer_moves : (at : OpId) (w now : WriteState) → WriterMoves w now → WriterIs at w → WriterIs at now
+writer_moves at _ _ (Collects (writing.Ready half permit)) k = k
+writer_moves at _ _ (Collects (writing.Writing job)) k = written_is at job job.end k
+writer_moves at _ _ (Collects (writing.Closing job)) k = closed_is at job job.end k
+writer_moves at _ _ (Collects (writing.Closed e)) k = k
+writer_moves at _ _ (Permits half old) k = k
+writer_moves at _ _ (Lasts job) k = k
+writer_moves at _ _ (LastsAfter job) k = record { side = k.side; last = k.last; left = left_closed job.write.left k.left }
+writer_moves at _ _ (Closes w e) k = tt
+
+-- a writer that has a side has that one
+module _ (at x : OpId) where
+  of_writing : (job : Job) (e : End) → JobIs at job → writing_side job e ≡ Some x → at ≡ x
+  of_writing job Waits k w = sym k.side ∙ some_same job.write.who.side x w
+  of_writing job (Done given) k w = sym k.side ∙ some_same job.write.who.side x w
+  of_writing job (Refused c given) k w = absurd (cc)
+
+  of_closing : (job : Job) (e : End) → JobIs at job → closing_side job e ≡ Some x → at ≡ x
+  of_closing job Waits k w = sym k.side ∙ some_same job.write.who.side x w
+  of_closing job _ k w = absurd (cc)
+
+  pub of_writer : (w : WriteState) → WriterIs at w → writer_side w ≡ Some x → at ≡ x
+  of_writer (writing.Ready half permit) i w = sym i ∙ some_same half.side x w
+  of_writer (writing.Writing job) i w = of_writing job job.end i w
+  of_writer (writing.Closing job) i w = of_closing job job.end i w
+  of_writer (writing.Closed e) i w = absurd (cc)
+
+-- == a record
+-- The streams are of the socket's connection, whose sending half was taken.
+pub record HasStreams (t : TcpState) (s : Streams) : Type 0 where
+  pub connection : Connection
+  pub is : t ≡ state.Connected connection
+  pub taken : connection.send_taken ≡ true
+  pub reader : (half : TcpReceiveStream) → s.reader ≡ reading.Open half → half.side ≡ connection.side
+  pub writer : WriterIs connection.side s.writer
+
+abbrev pub StreamsShape : TcpState → Option Streams → Type 0
+StreamsShape t None = ⊤
+StreamsShape t (Some s) = HasStreams t s
+
+abbrev pub ListenerShape : TcpState → Listening → Type 0
+ListenerShape t (Accepts l) = t ≡ state.Listening l.side
+ListenerShape t (Unclosed x) = ⊥
+ListenerShape t _ = ⊤
+
+abbrev pub RecordShape : Tcp2Socket → Type 0
+RecordShape r = StreamsShape r.inner.state r.streams × ListenerShape r.inner.state r.listening
+
+-- a record that isn't connected has no streams
+abbrev pub Unconnected : TcpState → Type 0
+Unconnected t = (c : Connection) → t ≡ state.Connected c → ⊥
+
+pub bare : (t : TcpState) (o : Option Streams) → Unconnected t → StreamsShape t o → o ≡ None
+bare t None n k = refl
+bare t (Some s) n k = absurd (n k.connection k.is)
+
+pub sideless : (t : TcpState) → side_in t ≡ None → Unconnected t
+sideless t e c d = let p : None ≡ Some c.side = sym e ∙ ap side_in d in absurd (cc)
+
+-- the state of one that neither is connected nor listens changes
+pub restated : (t now : TcpState) (o : Option Streams) (l : Listening) → Unconnected t → ((x : OpId) → t ≡ state.Listening x → ⊥) → StreamsShape t o × ListenerShape t l → StreamsShape now o × ListenerShape now l
+restated t now o l n m k = (subst (StreamsShape now) (sym (bare t o n k.0)) tt, by_listening l k.1)
+  where
+    by_listening : (l : Listening) → ListenerShape t l → ListenerShape now l
+    by_listening Not h = tt
+    by_listening (Begins op) h = tt
+    by_listening (Accepts l) h = absurd (m l.side h)
+    by_listening (Unclosed x) h = h
+
+-- whatever is on a side of the record is on the side of its socket
+pub on_socket : (r : Tcp2Socket) (x : OpId) → RecordShape r → IsOn r x → side_of r.inner ≡ Some x
+on_socket r x k (OfSocket e) = e
+on_socket r x k (OfReader s half e d z) = let o = subst (StreamsShape r.inner.state) e k.0 in ap side_in o.is ∙ ap (λ (y : OpId). Some y) (sym (o.reader half d) ∙ z)
+on_socket r x k (OfWriter s e d) = let o = subst (StreamsShape r.inner.state) e k.0 in ap side_in o.is ∙ ap (λ (y : OpId). Some y) (of_writer o.connection.side x s.writer o.writer d)
