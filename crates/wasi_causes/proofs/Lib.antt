@@ -1,10 +1,7 @@
-pub mod questions
-pub mod steps
-pub mod binding
-pub mod connecting
-pub mod listening
+pub mod tables
+pub mod operations
+pub mod sockets
 pub mod streams
-pub mod pending
-pub mod pollables
 pub mod ending
+pub mod machine
 pub mod runs

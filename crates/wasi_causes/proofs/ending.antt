@@ -2,5 +2,4 @@
 pub mod DropLaws
 pub mod Drops
 pub mod GiveUps
-pub mod ShutdownLaws
 pub mod Shutdowns

@@ -1,8 +1,6 @@
--- Reads, writes, and what a turn does.
-pub mod Calls
-pub mod Readers
+-- The calls of streams, and turns.
 pub mod Reads
-pub mod Steps
+pub mod Routes
 pub mod Turns
 pub mod Waits
 pub mod Writers

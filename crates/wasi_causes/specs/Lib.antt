@@ -1,5 +1,6 @@
 pub mod GivenUp
 pub mod Options
 pub mod Turns
-pub mod MayAnswer
 pub mod Reached
+pub mod Outcomes
+pub mod Polls

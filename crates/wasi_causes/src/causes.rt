@@ -21,7 +21,7 @@ ghost use Rattle.wasi_steps.specs.declared.reply.Field.{Field};
 ghost use Rattle.wasi_steps.specs.declared.reply.Reply.{Reply};
 ghost use Rattle.wasi_steps.specs.declared.step.Step.{Step};
 ghost use Rattle.wasi_walks.specs.Answered.{Answered, CheckFails, closing_reader, closing_writer, ConnectsAt, CreateRefusal, EndsPending, FailsWith, FinishRefusal, HasNoBindInProgress, HasNoConnectInProgress, HasOperationInProgress, IsGivenUp, IsQuiet, IsUnpermitted, IsWrite, KnowsBound, LocalRefusal, MakesHandle, MissesHandle, OfRecord, OfStreams, output_streams, Permits, putting, ReadFails, ReadsEnd, ReadsNone, ReadsTold, record_at, RefusedBind, RefusedConnect, RefusedOf, RemoteRefusal, StandsOnNothing, WasClosedWith, with_error, WriteFails};
-ghost use Rattle.wasi_causes.specs.MayAnswer.{may_answer, EachMayAnswer};
+ghost use Rattle.wasi_causes.specs.Outcomes.{may_answer, EachMayAnswer};
 ghost use Rattle.wasi_causes.specs.Reached.{ListensLate, MayFinish, OfItsRecord, RefusedInRun};
 ghost use Rattle.wasi_causes.specs.GivenUp.{GoesAtOnce, HasLiveChildren, HasNoStreams, IsDrop, IsDropped, IsGone, LooksOnce, shut_down, shutdown_entries, socket_given_up, without};
 ghost use Rattle.wasi_walks.specs.Licence.{entry, Has, marks_in};

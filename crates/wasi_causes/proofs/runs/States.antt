@@ -28,11 +28,10 @@ use Rattle.wasi_machine.specs.Machine.{run}
 use Rattle.wasi_walks.proofs.walks.Moves.{record_of}
 use Rattle.wasi_walks.proofs.walks.States.{socket_record}
 use Rattle.wasi_causes.specs.Reached.{HasRecord, OfItsRecord, MayFinish, IsUndone, RefusedInRun, ListensLate, ListenRefusedInRun}
-use Rattle.wasi_causes.proofs.connecting.Finishes.{finish_refused}
-use Rattle.wasi_causes.proofs.listening.Starts.{listen_refused}
 use Rattle.wasi_causes.proofs.runs.Reached.{IsThere, Finishes, call_place, Steady, runs_are_steady}
 use Rattle.wasi_causes.proofs.runs.Fits.{runs_connect}
-use Rattle.wasi_causes.proofs.steps.Traps.{misses_handle, four_kinds, finds_children, finds_full, is_a_write}
+use Rattle.wasi_causes.specs.Outcomes.{Traps}
+use Rattle.wasi_causes.proofs.tables.Steps.{its_own}
 
 module _ (m : Machine) (i : Steady m) where
   has_record : (place : ℕ) → IsThere m.store.sockets place → HasRecord m place
@@ -113,7 +112,7 @@ module _ (contexts : List WasiSocketsCtx) (steps : List Step) (log : List Entry)
 
   pub finishes_refused_in_runs : (line ctx handle : ℕ) (entries : List Entry) (word : CodeWord) (after : Machine) → Answered contexts m line (step.TcpFinishConnect ctx handle) entries (reply.Err word) after → RefusedOf m handle (RefusedInRun m) entries word after
   finishes_refused_in_runs line ctx handle entries word after a =
-      let k = finish_refused m line handle contexts ctx entries word after (runs_connect contexts steps log replies m w handle) a in
+      let k = (its_own contexts m line (step.TcpFinishConnect ctx handle) entries (reply.Err word) after a (λ e. cc)).1.1.cause (runs_connect contexts steps log replies m w handle) in
       record {
         place = k.place;
         found = k.found;
@@ -124,16 +123,15 @@ module _ (contexts : List WasiSocketsCtx) (steps : List Step) (log : List Entry)
 
   pub listens_refused_in_runs : (line ctx handle : ℕ) (entries : List Entry) (word : CodeWord) (after : Machine) → Answered contexts m line (step.TcpStartListen ctx handle) entries (reply.Err word) after → RefusedOf m handle (ListenRefusedInRun m (own_of line)) entries word after
   listens_refused_in_runs line ctx handle entries word after a =
-      let k = listen_refused m line handle contexts ctx entries word after a in
+      let k = (its_own contexts m line (step.TcpStartListen ctx handle) entries (reply.Err word) after a (λ e. cc)).1.1.0 in
       record { place = k.place; found = k.found; names = k.names; at = k.at; holds = record { cause = k.holds; late = runs_listen_late k.place k.found k.at } }
 
+  no_trap : (line n : ℕ) (entries : List Entry) (kind : TrapKind) (after : Machine) → Traps contexts m line (step.Poll n) entries kind after → ⊥
+  no_trap line n entries NoSuchHandle after h = stands_on m run_steady n h.0
+  no_trap line n entries HasChildren after h = h.0
+  no_trap line n entries Full after h = h.0
+  no_trap line n entries NotPermitted after h = h.0
+  no_trap line n entries _ after h = h
+
   pub polls_never_trap : (line n : ℕ) (entries : List Entry) (kind : TrapKind) (after : Machine) → Answered contexts m line (step.Poll n) entries (reply.Trap kind) after → ⊥
-  polls_never_trap line n entries kind after a = elim (four_kinds contexts m line (step.Poll n) entries kind after a) [
-    | inl k ↦ stands_on m run_steady n (misses_handle contexts m line (step.Poll n) entries after (so NoSuchHandle k)).0
-    | inr (inl k) ↦ (finds_children contexts m line (step.Poll n) entries after (so HasChildren k)).0
-    | inr (inr (inl k)) ↦ (finds_full contexts m line (step.Poll n) entries after (so Full k)).0
-    | inr (inr (inr k)) ↦ is_a_write contexts m line (step.Poll n) entries after (so NotPermitted k)
-  ]
-    where
-      so : (its : TrapKind) → kind ≡ its → Answered contexts m line (step.Poll n) entries (reply.Trap its) after
-      so its e = subst (λ (x : TrapKind). Answered contexts m line (step.Poll n) entries (reply.Trap x) after) e a
+  polls_never_trap line n entries kind after a = no_trap line n entries kind after (its_own contexts m line (step.Poll n) entries (reply.Trap kind) after a (λ e. cc)).1

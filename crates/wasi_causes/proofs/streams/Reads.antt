@@ -1,118 +1,101 @@
--- Where the answers of a read come from.
-use Rattle.std.specs.Prelude.{⊤}
-use Rattle.std.proofs.Common.{◌≡◌, ℕ, List, [], ◌∷◌, Result, Ok, refl, ap, subst, ◌∙◌}
+-- A read.
+use Rattle.std.proofs.Common.{◌≡◌, ◌∙◌, ℕ, min, ◌==◌, Bool, true, false, if◌then◌else◌, List, [], ◌∷◌, Result, Ok, Err, refl, ap}
+use Rattle.std.proofs.lemmas.Bool.{eqb-true}
+use Rattle.wasi_addr.specs.declared.address.ShutdownType.TheVariants.{Receive}
 use Rattle.wasi_world.specs.declared.ids.OpId.{OpId}
+use Rattle.wasi_world.specs.declared.call.Call.TheVariants as call
 use Rattle.wasi_world.specs.declared.call.Entry.{Entry}
+use Rattle.wasi_world.specs.declared.call.Told.{Told}
+use Rattle.wasi_world.specs.declared.call.Told.TheVariants as told
+use Rattle.wasi_world.specs.declared.outcome.Answer.TheVariants.{Ready}
 use Rattle.wasi_world.specs.declared.outcome.WasiSocketsCtx.{WasiSocketsCtx}
+use Rattle.wasi_world.specs.Fits.{IsRead, IsDone}
 use Rattle.wasi_world.specs.Asks.{Give, bind}
+use Rattle.wasi_world.specs.Typed.{ask_read, told_bytes}
+use Rattle.wasi_streams.specs.StreamStop.{StreamStop, Failed, Closed, Trap}
+use Rattle.wasi_tcp.specs.declared.halves.TcpReceiveStream.{TcpReceiveStream}
 use Rattle.wasi_tcp.specs.declared.reader.ReadState.{ReadState}
+use Rattle.wasi_tcp.specs.declared.reader.ReadState.TheVariants as reading
+use Rattle.wasi_tcp.specs.Halves.{polled_answer}
+use Rattle.wasi_tcp.specs.Reader.{after_read, read_state_asks}
 use Rattle.wasi_host.specs.declared.machine.Machine.{Machine}
 use Rattle.wasi_host.specs.declared.socket.Streams.{Streams}
 use Rattle.wasi_host.specs.declared.socket.Tcp2Socket.{Tcp2Socket}
 use Rattle.wasi_host.specs.Host.{CallStop}
-use Rattle.wasi_host.specs.Store.{with_reader}
 use Rattle.wasi_host.specs.Machine.{input_at, own_of}
+use Rattle.wasi_host.specs.Store.{with_socket, with_reader, reader_of}
 use Rattle.wasi_host.specs.StreamCalls.{read_asks}
-use Rattle.wasi_steps.specs.declared.reply.CodeWord.{CodeWord}
-use Rattle.wasi_steps.specs.declared.reply.Field.{Field}
-use Rattle.wasi_steps.specs.declared.reply.Reply.{Reply}
-use Rattle.wasi_steps.specs.declared.reply.Reply.TheVariants as reply
 use Rattle.wasi_steps.specs.declared.step.Step.TheVariants as step
-use Rattle.wasi_steps.specs.Reply.{bytes_fields}
+use Rattle.wasi_walks.specs.Licence.{entry, marks_in}
 use Rattle.wasi_machine.specs.Machine.{bytes_reply}
-use Rattle.wasi_walks.specs.Answered.{Answered, putting, OfStreams, ReadsTold, ReadsNone, ReadsEnd, ReadFails, FailsWith, closing_reader, with_error}
-use Rattle.wasi_walks.proofs.Gives.{Gives}
-use Rattle.wasi_causes.proofs.steps.Settled.{settled}
-use Rattle.wasi_causes.proofs.streams.Calls.{NotThere, ItGives, ItFails, FindsFull, ItIsClosed, ItTraps}
-use Rattle.wasi_causes.proofs.streams.Readers.{ReadGives}
-use Rattle.wasi_causes.proofs.streams.Steps.{answered_by, ReadAnswer, read_answers, of_more, streams_same}
+use Rattle.wasi_walks.specs.Answered.{putting, read_entry, ReadsTold, ReadsNone, LengthZero, ToldToWait, ReadsEnd, AlreadyClosed, ToldNone, ReadFails, with_error}
+use Rattle.wasi_causes.specs.Outcomes.{Outcome}
+use Rattle.wasi_causes.proofs.streams.Routes.{HasStreams, of_streams, streams_same, Told as TellsStream, on_stream}
+use Rattle.wasi_causes.proofs.tables.Meets.{Rows, Meets, ends, asks, onto, widen}
+use Rattle.wasi_causes.proofs.tables.Routes.{Says, full_so, code_word}
 
-module _ (m : Machine) (line input len : ℕ) where
+-- == of a reader
+module _ (own : OpId) (len : ℕ) where
+  abbrev pub ReadRow : ReadState → Rows (Result (List ℕ) StreamStop × ReadState)
+  ReadRow reader es (Ok [], now) = ReadsNone own len reader es × (now ≡ reader)
+  ReadRow reader es (Ok (b ∷ bytes), now) = ReadsTold own len reader (b ∷ bytes) es × (now ≡ reader)
+  ReadRow reader es (Err Closed, now) = ReadsEnd own len reader es × (now ≡ reading.Closed)
+  ReadRow reader es (Err (Failed c), now) = ReadFails own len reader c es × (now ≡ reading.Closed)
+  ReadRow reader es (Err (Trap kind), now) = ⊥
+
+  -- of an open half
+  module _ (half : TcpReceiveStream) where
+    abbrev opened : ReadState
+    opened = reading.Open half
+
+    shut : (e : Entry) (why : StreamStop) (t : Told) → IsDone t → ReadRow opened (e ∷ entry own (call.Shutdown half.side Receive) told.Done ∷ []) (Err why, reading.Closed) → ReadRow opened (e ∷ entry own (call.Shutdown half.side Receive) t ∷ []) (Err why, reading.Closed)
+    shut e why told.Done fits row = row
+    shut e why _ fits row = absurd fits
+
+    told_read : (t : Told) → IsRead (min len 65536) t → Meets (ReadRow opened) (read_entry own len half t ∷ []) (after_read own opened (polled_answer (told_bytes t)))
+    unfolding bind
+    told_read told.Pending fits = ends (ToldToWait half refl, refl)
+    told_read (told.Bytes []) fits = asks (λ t fits. ends (shut _ Closed t fits (ToldNone half refl, refl)))
+    told_read (told.Bytes (b ∷ bytes)) fits = ends (record { half = half; is_open = refl; asked = refl }, refl)
+    told_read (told.Code c) fits = asks (λ t fits. ends (shut _ (Failed c) t fits (record { half = half; is_open = refl; asked = refl }, refl)))
+    told_read _ fits = absurd fits
+
+    by_zero : (zero : Bool) → (len == 0) ≡ zero
+        → Meets (ReadRow opened) [] (if zero then Give (Ok [], opened) else bind (if zero then Give (Ok (Ready [])) else bind (ask_read own half.side (min len 65536)) (λ told. Give (polled_answer told))) (after_read own opened))
+    unfolding bind
+    by_zero true e = ends (LengthZero half refl (eqb-true len 0 e), refl)
+    by_zero false e = asks (λ t fits. told_read t fits)
+
+  reads : (reader : ReadState) → Meets (ReadRow reader) [] (read_state_asks own reader len)
+  reads (reading.Open half) = by_zero half (len == 0) refl
+  reads reading.Closed = ends (AlreadyClosed refl, refl)
+
+-- == the step
+module _ (contexts : List WasiSocketsCtx) (m : Machine) (line c input len : ℕ) where
   abbrev own : OpId
   own = own_of line
 
-  -- of the streams of the input this holds
-  abbrev Its : (ℕ → Tcp2Socket → Streams → Type 0) → Type 0
-  Its = OfStreams m (input_at m input)
+  abbrev Row : Rows (Result (List ℕ) CallStop × Machine)
+  Row es done = Outcome contexts m line (step.Read c input len) es (bytes_reply done.0) done.1
 
-  abbrev pub Ends : List Entry → Machine → Type 0
-  Ends es after = Its (λ place r s. ReadsEnd own len s.reader es × (after ≡ closing_reader m place r s))
+  module _ (place : ℕ) (r : Tcp2Socket) (s : Streams) (n : HasStreams m (input_at m input) place r s) where
+    abbrev left : ReadState → Machine
+    left reader = putting m place (with_reader r s reader)
 
-  abbrev pub Fails : List Entry → CodeWord → ℕ → Machine → Type 0
-  Fails es w handle after = Its (λ place r s. FailsWith m own input (ReadFails own len s.reader) es w handle × (after ≡ with_error (closing_reader m place r s)))
+    same : (now : ReadState) → now ≡ s.reader → left now ≡ m
+    same now e = ap left e ∙ streams_same n
 
-  abbrev ReadSays : List Entry → Reply × Machine → Type 0
-  ReadSays es (reply.Ok fields, after) =
-      ((b : ℕ) (bytes : List ℕ) → fields ≡ bytes_fields (b ∷ bytes) → Its (λ place r s. ReadsTold own len s.reader (b ∷ bytes) es))
-      × (fields ≡ bytes_fields [] → Its (λ place r s. ReadsNone own len s.reader es))
-      × (after ≡ m)
-  ReadSays es (reply.Closed, after) = Ends es after
-  ReadSays es (reply.Failed w handle, after) = Fails es w handle after
-  ReadSays es _ = ⊤
-
-  -- a read that gives bytes leaves the reader
-  stays_open : (reader now : ReadState) (es : List Entry) (bytes : List ℕ) → ReadGives own len reader es (Ok bytes, now) → now ≡ reader
-  stays_open reader now es [] h = h.1
-  stays_open reader now es (b ∷ bytes) h = h.1
-
-  module _ (es : List Entry) (value : List ℕ) (now : ReadState) (on : Its (λ place r s. ReadGives own len s.reader es (Ok value, now))) where
-    its_bytes : (bytes : List ℕ) → bytes_fields value ≡ bytes_fields bytes → Its (λ place r s. ReadGives own len s.reader es (Ok bytes, now))
-    its_bytes bytes e = let same : value ≡ bytes = cc in subst (λ (v : List ℕ). Its (λ place r s. ReadGives own len s.reader es (Ok v, now))) same on
-
-    the_same : putting m on.place (with_reader on.found on.streams now) ≡ m
-    the_same =
-        ap (λ (reader : ReadState). putting m on.place (with_reader on.found on.streams reader)) (stays_open on.streams.reader now es value on.holds)
-        ∙ streams_same m (input_at m input) _ on
-
-    gives : ReadSays es (reply.Ok (bytes_fields value), putting m on.place (with_reader on.found on.streams now))
-    gives = (
-      λ b bytes e. of_more m (input_at m input) _ _ (λ place r s h. h.0) (its_bytes (b ∷ bytes) e),
-      λ e. of_more m (input_at m input) _ _ (λ place r s h. h.0) (its_bytes [] e),
-      the_same,
+    told_as : (es : List Entry) (done : Result (List ℕ) StreamStop × ReadState) → ReadRow own len s.reader es done → TellsStream m own input Row es done.0 (with_socket m.store place (with_reader r s done.1))
+    told_as es (Ok [], now) h = (tt, ((tt, tt), (of_streams n h.0, same now h.1)))
+    told_as es (Ok (b ∷ bytes), now) h = (tt, ((tt, tt), (of_streams n h.0, same now h.1)))
+    told_as es (Err Closed, now) h = (tt, (tt, of_streams n (h.0, ap left h.1)))
+    told_as es (Err (Failed code), now) h = (
+      λ full. (tt, (tt, full_so m m es full refl (ap marks_in h.0.asked), tt)),
+      λ side. (tt, ((tt, code_word code), of_streams n (record { code = code; before = es; side = side; told = told.Done; cause = h.0; marked = refl; word_is = refl; handle_is = refl }, ap (λ (reader : ReadState). with_error (left reader)) h.1))),
     )
+    told_as es (Err (Trap kind), now) h = absurd h
 
-  of_answer : (es : List Entry) (res : Result (List ℕ) CallStop) (after : Machine) → ReadAnswer m line input len es res after → ReadSays es (bytes_reply res, after)
-  of_answer _ _ _ (NotThere none) = tt
-  of_answer _ _ _ (ItGives es value now on) = gives es value now on
-  of_answer _ _ _ (ItFails es c now on side t) = record {
-    place = on.place;
-    found = on.found;
-    streams = on.streams;
-    names = on.names;
-    at = on.at;
-    has = on.has;
-    holds = (
-      record { code = c; before = es; side = side; told = t; cause = on.holds.0; marked = refl; word_is = refl; handle_is = refl },
-      ap (λ (reader : ReadState). with_error (putting m on.place (with_reader on.found on.streams reader))) on.holds.1,
-    );
-  }
-  of_answer _ _ _ (FindsFull es c now on full) = tt
-  of_answer _ _ _ (ItIsClosed es now on) = record {
-    place = on.place;
-    found = on.found;
-    streams = on.streams;
-    names = on.names;
-    at = on.at;
-    has = on.has;
-    holds = (on.holds.0, ap (λ (reader : ReadState). putting m on.place (with_reader on.found on.streams reader)) on.holds.1);
-  }
-  of_answer _ _ _ (ItTraps es kind now on) = absurd on.holds
-
-  read_says : Gives ReadSays [] (bind (read_asks m own input len) (λ done. Give (bytes_reply done.0, done.1)))
-  read_says = answered_by (λ es done. ReadAnswer m line input len es done.0 done.1) ReadSays bytes_reply of_answer _ (read_answers m line input len)
-
-  module _ (contexts : List WasiSocketsCtx) (ctx : ℕ) where
-    pub read_told : (es : List Entry) (b : ℕ) (bytes : List ℕ) (after : Machine) → Answered contexts m line (step.Read ctx input len) es (reply.Ok (bytes_fields (b ∷ bytes))) after → Its (λ place r s. ReadsTold own len s.reader (b ∷ bytes) es)
-    read_told es b bytes after w = (settled contexts m line ReadSays (step.Read ctx input len) m.store.standing es (reply.Ok (bytes_fields (b ∷ bytes)), after) read_says w (λ e. cc)).0 b bytes refl
-
-    pub read_none : (es : List Entry) (after : Machine) → Answered contexts m line (step.Read ctx input len) es (reply.Ok (bytes_fields [])) after → Its (λ place r s. ReadsNone own len s.reader es)
-    read_none es after w = (settled contexts m line ReadSays (step.Read ctx input len) m.store.standing es (reply.Ok (bytes_fields []), after) read_says w (λ e. cc)).1 refl
-
-    pub read_stays : (es : List Entry) (fields : List Field) (after : Machine) → Answered contexts m line (step.Read ctx input len) es (reply.Ok fields) after → after ≡ m
-    read_stays es fields after w = (settled contexts m line ReadSays (step.Read ctx input len) m.store.standing es (reply.Ok fields, after) read_says w (λ e. cc)).2
-
-    pub read_closed : (es : List Entry) (after : Machine) → Answered contexts m line (step.Read ctx input len) es reply.Closed after → Ends es after
-    read_closed es after w = settled contexts m line ReadSays (step.Read ctx input len) m.store.standing es (reply.Closed, after) read_says w (λ e. cc)
-
-    pub read_failed : (es : List Entry) (word : CodeWord) (handle : ℕ) (after : Machine) → Answered contexts m line (step.Read ctx input len) es (reply.Failed word handle) after → Fails es word handle after
-    read_failed es word handle after w = settled contexts m line ReadSays (step.Read ctx input len) m.store.standing es (reply.Failed word handle, after) read_says w (λ e. cc)
+  pub read : Meets (Says contexts m line (step.Read c input len)) [] (bind (read_asks m own input len) (λ done. Give (bytes_reply done.0, done.1)))
+  read =
+      onto _ (on_stream m own input Row (λ s. s.reader) with_reader (input_at m input) (λ none. (tt, (none, refl, refl))) (λ reader. read_state_asks own reader len) (λ r o. reader_of r (λ reader. read_state_asks own reader len) o) (λ r. refl) (λ r s. refl)
+      (λ place r s n. widen (told_as place r s n) (reads own len s.reader)) (input_at m input) refl)

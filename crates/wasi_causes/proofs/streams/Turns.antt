@@ -1,13 +1,15 @@
 -- Who asks in a turn: the writes of the records with a job.
 use Rattle.std.specs.Prelude.{⊤}
-use Rattle.std.proofs.Common.{◌≡◌, ℕ, zero, suc, inl, inr, List, [], ◌∷◌, Option, Some, None, slice_get, slice_set, refl, sym, ap, subst, ◌∙◌}
+use Rattle.std.proofs.Common.{◌≡◌, ℕ, zero, suc, inl, inr, List, [], ◌∷◌, ◌++◌, Option, Some, None, slice_get, slice_set, refl, sym, ap, subst, ◌∙◌}
 use Rattle.wasi_world.specs.declared.ids.OpId.{OpId}
 use Rattle.wasi_world.specs.declared.call.Call.{Call}
 use Rattle.wasi_world.specs.declared.call.Entry.{Entry}
+use Rattle.wasi_world.specs.declared.call.Told.{Told}
 use Rattle.wasi_world.specs.declared.outcome.WasiSocketsCtx.{WasiSocketsCtx}
-use Rattle.wasi_world.specs.Asks.{Asks, Give, bind, Left}
+use Rattle.wasi_world.specs.Fits.{Fits}
+use Rattle.wasi_world.specs.Asks.{Give, bind}
 use Rattle.wasi_world.specs.Operation.{End, Waits, Done, Refused, poll_asks}
-use Rattle.wasi_world.proofs.Allowed.{Allows, allows_then, allows_at}
+use Rattle.wasi_world.proofs.Allowed.{allows_keep, Allows, allows_then}
 use Rattle.wasi_tcp.specs.declared.writer.WriteState.{WriteState}
 use Rattle.wasi_tcp.specs.declared.writer.WriteState.TheVariants as writing
 use Rattle.wasi_tcp.specs.Job.{Job, job_in, job_asks}
@@ -15,20 +17,18 @@ use Rattle.wasi_tcp.specs.Writer.{turn_asks}
 use Rattle.wasi_host.specs.declared.machine.Machine.{Machine}
 use Rattle.wasi_host.specs.declared.socket.Streams.{Streams}
 use Rattle.wasi_host.specs.declared.socket.Tcp2Socket.{Tcp2Socket}
-use Rattle.wasi_host.specs.declared.store.Standing.{Standing}
 use Rattle.wasi_host.specs.Jobs.{turned, turn_record, turn_at, turn_jobs, turn_store_asks}
 use Rattle.wasi_host.specs.Machine.{turn_machine_asks}
-use Rattle.wasi_steps.specs.declared.reply.Reply.{Reply}
 use Rattle.wasi_steps.specs.declared.reply.Reply.TheVariants as reply
 use Rattle.wasi_steps.specs.declared.step.Step.TheVariants as step
-use Rattle.wasi_walks.specs.Answered.{Answered}
 use Rattle.wasi_walks.specs.Licence.{Has}
-use Rattle.wasi_machine.specs.Machine.{asks_while}
 use Rattle.wasi_steps.specs.Reply.{no_fields}
-use Rattle.wasi_walks.proofs.Lists.{cut_of}
-use Rattle.wasi_walks.proofs.Gives.{Gives, given, allows_ask}
+use Rattle.wasi_walks.proofs.Lists.{has_split}
+use Rattle.wasi_walks.proofs.Gives.{allows_ask}
+use Rattle.wasi_causes.proofs.tables.Meets.{Meets, onto, widen}
+use Rattle.wasi_causes.proofs.tables.Routes.{Says}
 use Rattle.wasi_causes.specs.Turns.{writes_by, writer_asks_by, job_of, IsOfJob}
-use Rattle.wasi_causes.proofs.pending.Marks.{AnyEnd, poll_asks_by}
+use Rattle.wasi_causes.proofs.operations.Marks.{AnyEnd, poll_asks_by}
 
 -- == one write
 -- it asks by its operation, which stays the same
@@ -56,11 +56,11 @@ module _ (job : Job) (of : Job → WriteState) (by : (j : Job) → writes_by (of
       (allows_ask (JobAsks job) (WriterAsks (of job)) (SameJob job) (λ fs op call e. by job ∙ ap Some (sym e)) es (job_asks job) (job_by job job.end es))
       (λ fs j e. by j ∙ (ap Some e ∙ sym (by job)))
 
-turn_by : (writer : WriteState) (es : List Entry) → Allows (WriterAsks writer) (SameWriter writer) es (turn_asks writer)
-turn_by (writing.Ready half permit) es = refl
-turn_by (writing.Writing job) es = of_job job writing.Writing (λ j. refl) es
-turn_by (writing.Closing job) es = of_job job writing.Closing (λ j. refl) es
-turn_by (writing.Closed e) es = refl
+writer_by : (writer : WriteState) (es : List Entry) → Allows (WriterAsks writer) (SameWriter writer) es (turn_asks writer)
+writer_by (writing.Ready half permit) es = refl
+writer_by (writing.Writing job) es = of_job job writing.Writing (λ j. refl) es
+writer_by (writing.Closing job) es = of_job job writing.Closing (λ j. refl) es
+writer_by (writing.Closed e) es = refl
 
 -- == one record
 abbrev RecordAsks : Tcp2Socket → List Entry → OpId → Call → Type 0
@@ -73,7 +73,7 @@ record_by : (r : Tcp2Socket) (o : Option Streams) → r.streams ≡ o → (es : 
 record_by r None has es = refl
 record_by r (Some s) has es =
     allows_then (RecordAsks r) (SameWriter s.writer) (SameRecord r) es (turn_asks s.writer) _
-    (allows_ask (WriterAsks s.writer) (RecordAsks r) (SameWriter s.writer) (λ fs op call e. ap writer_asks_by has ∙ e) es (turn_asks s.writer) (turn_by s.writer es))
+    (allows_ask (WriterAsks s.writer) (RecordAsks r) (SameWriter s.writer) (λ fs op call e. ap writer_asks_by has ∙ e) es (turn_asks s.writer) (writer_by s.writer es))
     (λ fs done e. e ∙ sym (ap writer_asks_by has))
 
 -- == all of them
@@ -108,34 +108,23 @@ module _ (m : Machine) where
       (λ fs now k. jobs_by places (λ p h. listed p (inr h)) now fs k)
 
   -- the handles stay
-  abbrev SameTable : List Entry → Reply × Machine → Type 0
-  SameTable es done = (done.0 ≡ reply.Ok no_fields) × (done.1.table ≡ m.table)
+  abbrev SameTable : List Entry → Unit {0} × Machine → Type 0
+  SameTable es done = done.1.table ≡ m.table
 
-  abbrev turn : Asks (Reply × Machine)
-  turn = bind (turn_machine_asks m) (λ done. Give (reply.Ok no_fields, done.1))
-
-  turn_asks_by : Allows TurnAsks SameTable [] turn
-  turn_asks_by =
-      allows_then TurnAsks (λ es done. done.1.table ≡ m.table) SameTable [] (turn_machine_asks m) _
-      (allows_then TurnAsks (λ es done. ⊤) (λ es done. done.1.table ≡ m.table) [] (turn_store_asks m.store) _
+  turn_by : Allows TurnAsks SameTable [] (turn_machine_asks m)
+  turn_by =
+      allows_then TurnAsks (λ es done. ⊤) SameTable [] (turn_store_asks m.store) _
       (allows_then TurnAsks SameJobs (λ es done. ⊤) [] (turn_jobs m.store.jobs m.store.sockets) _ (jobs_by m.store.jobs (λ p h. h) m.store.sockets [] (λ place. refl)) (λ es sockets k. tt))
-      (λ es done k. refl))
-      (λ es done k. (refl, k))
+      (λ es done k. refl)
 
-  turn_gives : Gives SameTable [] turn
-  turn_gives = allows_ask TurnAsks (λ es op call. ⊤) SameTable (λ es op call h. tt) [] turn turn_asks_by
+  -- each entry is asked so
+  abbrev AllByJobs : List Entry → Type 0
+  AllByJobs es = (e : Entry) → Has es e → IsOfJob m e.op
 
-  -- == of its answers
-  module _ (contexts : List WasiSocketsCtx) (line : ℕ) where
-    -- a turn is no call of a guest
-    its_own : (o : Option Standing) (es : List Entry) (rest : Asks (Reply × Machine)) → Left (asks_while contexts m line step.Turn o) es rest → Left turn es rest
-    its_own None es rest w = w
-    its_own (Some s) es rest w = w
+  one_more : (es : List Entry) (op : OpId) (call : Call) (told : Told) → Fits call told → AllByJobs es → IsOfJob m op → AllByJobs (es ++ record { op = op; call = call; answer = told } ∷ [])
+  one_more es op call told fits all its e has = elim (has_split es (record { op = op; call = call; answer = told }) e has) [ inl before ↦ all e before | inr same ↦ subst (λ (x : Entry). IsOfJob m x.op) same its ]
 
-    pub turn_is_ok : (es : List Entry) (r : Reply) (after : Machine) → Answered contexts m line step.Turn es r after → (r ≡ reply.Ok no_fields) × (after.table ≡ m.table)
-    turn_is_ok es r after w = given SameTable turn es (r, after) turn_gives (its_own m.store.standing es (Give (r, after)) w)
-
-    pub turn_is_by_jobs : (es : List Entry) (r : Reply) (after : Machine) → Answered contexts m line step.Turn es r after → (e : Entry) → Has es e → IsOfJob m e.op
-    turn_is_by_jobs es r after w e its =
-        let c = cut_of es e its in
-        allows_at TurnAsks SameTable [] turn (Give (r, after)) c.front e c.back turn_asks_by (subst (λ (fs : List Entry). Left turn fs (Give (r, after))) c.is (its_own m.store.standing es (Give (r, after)) w))
+  pub turn : (contexts : List WasiSocketsCtx) (line : ℕ) → Meets (Says contexts m line step.Turn) [] (bind (turn_machine_asks m) (λ done. Give (reply.Ok no_fields, done.1)))
+  turn contexts line =
+      onto _ (widen (λ es done k. (record { ok = refl; asked = k.0; handles = k.1 }, (tt, tt)))
+      (record { along = allows_keep TurnAsks (λ es op call. ⊤) AllByJobs SameTable one_more (λ es op call its. tt) [] (turn_machine_asks m) (λ e has. absurd has) turn_by }))

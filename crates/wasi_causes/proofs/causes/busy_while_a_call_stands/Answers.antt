@@ -1,4 +1,4 @@
-use Rattle.wasi_causes.proofs.steps.Settled.{busy_exactly, busy_is_quiet}
+use Rattle.wasi_causes.proofs.tables.Steps.{busy_exactly, busy_is_quiet}
 use Rattle.wasi_causes.proofs.causes.busy_while_a_call_stands.Goals as goal
 
 pub returns : goal.returns

@@ -1,5 +1,10 @@
-use Rattle.wasi_causes.proofs.streams.Writes.{check_closed, check_failed}
+use Rattle.wasi_steps.specs.declared.step.Step.TheVariants as step
+use Rattle.wasi_steps.specs.declared.reply.Reply.TheVariants as reply
+use Rattle.wasi_causes.proofs.tables.Steps.{its_own}
 use Rattle.wasi_causes.proofs.causes.checks_tell_the_kept_error.Goals as goal
 
 pub returns : goal.returns
-returns c = record { closed = λ contexts m line ctx output. check_closed m line output contexts ctx; failed = λ contexts m line ctx output. check_failed m line output contexts ctx }
+returns c = record {
+  closed = λ contexts m line ctx output entries after w. (its_own contexts m line (step.CheckWrite ctx output) entries (reply.Closed) after w (λ e. cc)).1.1;
+  failed = λ contexts m line ctx output entries word handle after w. (its_own contexts m line (step.CheckWrite ctx output) entries (reply.Failed word handle) after w (λ e. cc)).1.1;
+}

@@ -1,9 +1,12 @@
-use Rattle.wasi_causes.proofs.steps.Creates.{create_is_full}
+use Rattle.wasi_steps.specs.declared.step.Step.TheVariants as step
+use Rattle.wasi_steps.specs.declared.reply.Reply.TheVariants as reply
+use Rattle.wasi_world.specs.declared.outcome.TrapKind.TheVariants.{Full}
+use Rattle.wasi_causes.proofs.tables.Steps.{its_own}
 use Rattle.wasi_causes.proofs.causes.create_full.Goals as goal
 
 pub returns : goal.returns
 returns c = record {
-  full = λ contexts m line ctx family entries after w. (create_is_full m line contexts ctx family entries after w).0;
-  asked = λ contexts m line ctx family entries after w. (create_is_full m line contexts ctx family entries after w).1;
-  left = λ contexts m line ctx family entries after w. (create_is_full m line contexts ctx family entries after w).2;
+  full = λ contexts m line ctx family entries after w. (its_own contexts m line (step.TcpCreate ctx family) entries (reply.Trap Full) after w (λ e. cc)).1.2.0;
+  asked = λ contexts m line ctx family entries after w. (its_own contexts m line (step.TcpCreate ctx family) entries (reply.Trap Full) after w (λ e. cc)).1.2.1;
+  left = λ contexts m line ctx family entries after w. (its_own contexts m line (step.TcpCreate ctx family) entries (reply.Trap Full) after w (λ e. cc)).1.2.2;
 }

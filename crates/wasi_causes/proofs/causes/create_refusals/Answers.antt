@@ -1,8 +1,10 @@
-use Rattle.wasi_causes.proofs.steps.Creates.{create_refused}
+use Rattle.wasi_steps.specs.declared.step.Step.TheVariants as step
+use Rattle.wasi_steps.specs.declared.reply.Reply.TheVariants as reply
+use Rattle.wasi_causes.proofs.tables.Steps.{its_own}
 use Rattle.wasi_causes.proofs.causes.create_refusals.Goals as goal
 
 pub returns : goal.returns
 returns c = record {
-  cause = λ contexts m line ctx family entries word after w. (create_refused m line contexts ctx family entries word after w).0;
-  stays = λ contexts m line ctx family entries word after w. (create_refused m line contexts ctx family entries word after w).1;
+  cause = λ contexts m line ctx family entries word after w. (its_own contexts m line (step.TcpCreate ctx family) entries (reply.Err word) after w (λ e. cc)).1.1.0;
+  stays = λ contexts m line ctx family entries word after w. (its_own contexts m line (step.TcpCreate ctx family) entries (reply.Err word) after w (λ e. cc)).1.1.1;
 }

@@ -1,14 +1,21 @@
-use Rattle.wasi_causes.proofs.ending.DropLaws.{drop_of_socket, drop_gives_up, drop_at_once, drop_leaves, drop_looks, drop_takes_out, drop_is_gone}
+use Rattle.wasi_steps.specs.declared.step.Step.TheVariants as step
+use Rattle.wasi_steps.specs.declared.reply.Reply.TheVariants as reply
+use Rattle.std.proofs.Common.{◌≡◌, [], refl}
+use Rattle.wasi_host.specs.Kinds.{kind_at}
+use Rattle.wasi_host.specs.Machine.{own_of}
+use Rattle.wasi_causes.specs.GivenUp.{LooksOnce, NoLook}
+use Rattle.wasi_causes.proofs.ending.DropLaws.{gone_at, socket_ok, gives_up, asks_nothing, leaves, takes_out, dropped_free}
+use Rattle.wasi_causes.proofs.tables.Steps.{its_own, of_answer, while_free}
 use Rattle.wasi_causes.proofs.causes.drops_give_up_what_is_open.Goals as goal
 
 pub returns : goal.returns
 returns c = record {
-  socket = λ contexts m line ctx handle place entries reply after free is under w. drop_of_socket m line handle contexts ctx entries reply after place free is under w;
-  given_up = λ contexts m line ctx handle r fields entries after at w. (drop_gives_up m line handle contexts ctx entries fields after r at w).asked;
-  gone = λ contexts m line ctx handle r fields entries after at w. (drop_gives_up m line handle contexts ctx entries fields after r at w).gone;
-  plain = λ contexts m line ctx handle kind entries reply after is plain w. drop_at_once m line handle contexts ctx entries reply after kind is plain w;
-  plain_leaves = λ contexts m line ctx handle kind entries reply after is plain dropped w. drop_leaves m line handle contexts ctx entries reply after kind is plain dropped w;
-  output = λ contexts m line ctx handle place entries reply after is w. drop_looks m line handle contexts ctx entries reply after place is w;
-  table = λ contexts m line ctx handle. drop_takes_out m line handle contexts ctx;
-  not_live = λ contexts m line ctx handle. drop_is_gone m line handle contexts ctx;
+  socket = λ contexts m line ctx handle place entries reply after free is under w. socket_ok contexts m line ctx handle place is under entries reply after (while_free contexts m line (step.Drop ctx handle) free entries reply after w);
+  given_up = λ contexts m line ctx handle r fields entries after at w. (gives_up contexts m line ctx handle r entries after (kind_at m.table handle) refl at (its_own contexts m line (step.Drop ctx handle) entries (reply.Ok fields) after w (λ e. cc)).1.1.1).asked;
+  gone = λ contexts m line ctx handle r fields entries after at w. (gives_up contexts m line ctx handle r entries after (kind_at m.table handle) refl at (its_own contexts m line (step.Drop ctx handle) entries (reply.Ok fields) after w (λ e. cc)).1.1.1).gone;
+  plain = λ contexts m line ctx handle kind entries reply after is plain. of_answer contexts m line (step.Drop ctx handle) (λ es r after. es ≡ []) refl (λ es r after row. asks_nothing contexts m line ctx handle kind plain es (rw is at row.0.1)) entries reply after;
+  plain_leaves = λ contexts m line ctx handle kind entries reply after is plain dropped w. leaves contexts m line ctx handle kind is plain entries reply after dropped (its_own contexts m line (step.Drop ctx handle) entries reply after w (dropped_free reply dropped));
+  output = λ contexts m line ctx handle place entries reply after is. of_answer contexts m line (step.Drop ctx handle) (λ es r after. LooksOnce (own_of line) es) NoLook (λ es r after row. rw is at row.0.1) entries reply after;
+  table = λ contexts m line ctx handle entries reply after dropped w. takes_out contexts m line ctx handle entries reply after dropped (its_own contexts m line (step.Drop ctx handle) entries reply after w (dropped_free reply dropped));
+  not_live = λ contexts m line ctx handle entries reply after dropped w. rw (takes_out contexts m line ctx handle entries reply after dropped (its_own contexts m line (step.Drop ctx handle) entries reply after w (dropped_free reply dropped))) (gone_at m.table.live handle);
 }

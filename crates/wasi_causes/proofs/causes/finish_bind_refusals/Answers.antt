@@ -1,14 +1,13 @@
-use Rattle.std.proofs.Common.{refl}
-use Rattle.wasi_host.specs.Machine.{socket_at}
-use Rattle.wasi_host.specs.Store.{is_bind}
 use Rattle.wasi_steps.specs.declared.step.Step.TheVariants as step
-use Rattle.wasi_causes.proofs.steps.Settled.{finish_asks_nothing, finish_exactly, finish_refused}
+use Rattle.wasi_steps.specs.declared.reply.Reply.TheVariants as reply
+use Rattle.std.proofs.Common.{◌≡◌, [], refl}
+use Rattle.wasi_causes.proofs.tables.Steps.{its_own, of_answer, while_free}
 use Rattle.wasi_causes.proofs.causes.finish_bind_refusals.Goals as goal
 
 pub returns : goal.returns
 returns c = record {
-  asks_nothing = λ contexts m line ctx handle. finish_asks_nothing contexts m line is_bind (step.TcpFinishBind ctx handle) (socket_at m handle) (refl, refl);
-  exactly = λ contexts m line ctx handle. finish_exactly contexts m line is_bind (step.TcpFinishBind ctx handle) (socket_at m handle) (refl, refl);
-  no_other = λ contexts m line ctx handle entries word after w. (finish_refused contexts m line is_bind (step.TcpFinishBind ctx handle) (socket_at m handle) (refl, refl) entries word after w).0;
-  stays = λ contexts m line ctx handle entries word after w. (finish_refused contexts m line is_bind (step.TcpFinishBind ctx handle) (socket_at m handle) (refl, refl) entries word after w).1;
+  asks_nothing = λ contexts m line ctx handle. of_answer contexts m line (step.TcpFinishBind ctx handle) (λ es r after. es ≡ []) refl (λ es r after row. row.0.0);
+  exactly = λ contexts m line ctx handle entries reply after free w. (while_free contexts m line (step.TcpFinishBind ctx handle) free entries reply after w).0.1;
+  no_other = λ contexts m line ctx handle entries word after w. (its_own contexts m line (step.TcpFinishBind ctx handle) entries (reply.Err word) after w (λ e. cc)).1.0;
+  stays = λ contexts m line ctx handle entries word after w. (its_own contexts m line (step.TcpFinishBind ctx handle) entries (reply.Err word) after w (λ e. cc)).1.1;
 }

@@ -1,11 +1,15 @@
-use Rattle.wasi_causes.proofs.connecting.Finishes.{finish_refused, finish_had_none, finish_none_exactly}
+use Rattle.wasi_steps.specs.declared.step.Step.TheVariants as step
+use Rattle.wasi_steps.specs.declared.reply.Reply.TheVariants as reply
+use Rattle.std.proofs.Common.{refl}
+use Rattle.wasi_steps.specs.declared.reply.CodeWord.TheVariants as word
 use Rattle.wasi_causes.proofs.runs.States.{finishes_refused_in_runs}
+use Rattle.wasi_causes.proofs.tables.Steps.{its_own, while_free}
 use Rattle.wasi_causes.proofs.causes.finish_connect_refusals.Goals as goal
 
 pub returns : goal.returns
 returns c = record {
-  exactly = λ contexts m line ctx handle. finish_none_exactly m line handle contexts ctx;
-  not_in_progress = λ contexts m line ctx handle entries after w. let h = finish_had_none m line handle contexts ctx entries after w in (h.1, h.2);
-  cause = λ contexts m line ctx handle. finish_refused m line handle contexts ctx;
+  exactly = λ contexts m line ctx handle entries reply after free w. (while_free contexts m line (step.TcpFinishConnect ctx handle) free entries reply after w).0;
+  not_in_progress = λ contexts m line ctx handle entries after w. (its_own contexts m line (step.TcpFinishConnect ctx handle) entries (reply.Err word.NotInProgress) after w (λ e. cc)).1.1.none refl;
+  cause = λ contexts m line ctx handle entries word after holds w. (its_own contexts m line (step.TcpFinishConnect ctx handle) entries (reply.Err word) after w (λ e. cc)).1.1.cause holds;
   in_runs = λ contexts steps log replies m line ctx handle entries word after w. finishes_refused_in_runs contexts steps log replies m w line ctx handle entries word after;
 }

@@ -1,9 +1,11 @@
-use Rattle.wasi_causes.proofs.streams.Writes.{flush_done, flush_closed, flush_failed}
+use Rattle.wasi_steps.specs.declared.step.Step.TheVariants as step
+use Rattle.wasi_steps.specs.declared.reply.Reply.TheVariants as reply
+use Rattle.wasi_causes.proofs.tables.Steps.{its_own}
 use Rattle.wasi_causes.proofs.causes.flushes_tell_the_kept_error.Goals as goal
 
 pub returns : goal.returns
 returns c = record {
-  done = λ contexts m line ctx output fields entries after w. flush_done m line output contexts ctx entries fields after w;
-  closed = λ contexts m line ctx output. flush_closed m line output contexts ctx;
-  failed = λ contexts m line ctx output. flush_failed m line output contexts ctx;
+  done = λ contexts m line ctx output fields entries after w. (its_own contexts m line (step.Flush ctx output) entries (reply.Ok fields) after w (λ e. cc)).1.1;
+  closed = λ contexts m line ctx output entries after w. let h = (its_own contexts m line (step.Flush ctx output) entries (reply.Closed) after w (λ e. cc)).1.1 in (h.0, h.1.0, h.1.1);
+  failed = λ contexts m line ctx output entries word handle after w. (its_own contexts m line (step.Flush ctx output) entries (reply.Failed word handle) after w (λ e. cc)).1.1;
 }

@@ -1,8 +1,10 @@
-use Rattle.wasi_causes.proofs.questions.Addresses.{local_refused, local_leaves}
+use Rattle.wasi_steps.specs.declared.step.Step.TheVariants as step
+use Rattle.wasi_steps.specs.declared.reply.Reply.TheVariants as reply
+use Rattle.wasi_causes.proofs.tables.Steps.{its_own}
 use Rattle.wasi_causes.proofs.causes.local_address_refusals.Goals as goal
 
 pub returns : goal.returns
 returns c = record {
-  cause = λ contexts m line ctx handle. local_refused m line handle contexts ctx;
-  stays = λ contexts m line ctx handle. local_leaves m line handle contexts ctx;
+  cause = λ contexts m line ctx handle entries word after w. (its_own contexts m line (step.TcpLocalAddress ctx handle) entries (reply.Err word) after w (λ e. cc)).1.1.0;
+  stays = λ contexts m line ctx handle entries word after w. (its_own contexts m line (step.TcpLocalAddress ctx handle) entries (reply.Err word) after w (λ e. cc)).1.1.1;
 }

@@ -1,16 +1,14 @@
-use Rattle.wasi_causes.proofs.binding.Starts.{bind_waits}
-use Rattle.wasi_causes.proofs.ending.DropLaws.{drop_waits}
-use Rattle.wasi_causes.proofs.listening.Starts.{listen_waits}
-use Rattle.wasi_causes.proofs.pending.Laws.{poll_waits}
-use Rattle.wasi_causes.proofs.steps.Traps.{stands}
+use Rattle.wasi_steps.specs.declared.step.Step.TheVariants as step
+use Rattle.wasi_steps.specs.declared.reply.Reply.TheVariants as reply
+use Rattle.wasi_causes.proofs.tables.Steps.{its_own}
 use Rattle.wasi_causes.proofs.causes.pending_where_told.Goals as goal
 
 pub returns : goal.returns
 returns c = record {
-  step = λ contexts m line s entries number after w. (stands contexts m line s entries number after w).0;
-  stands = λ contexts m line s entries number after w. (stands contexts m line s entries number after w).1;
-  told = λ contexts m line ctx handle network a. bind_waits m line handle network a contexts ctx;
-  listen = λ contexts m line ctx handle. listen_waits m line handle contexts ctx;
-  output = λ contexts m line ctx handle. drop_waits m line handle contexts ctx;
-  polled = λ contexts m line n. poll_waits m n contexts line;
+  step = λ contexts m line s entries number after w. (its_own contexts m line (s) entries (reply.Pending number) after w (λ e. cc)).1.0.0;
+  stands = λ contexts m line s entries number after w. (its_own contexts m line (s) entries (reply.Pending number) after w (λ e. cc)).1.0.1;
+  told = λ contexts m line ctx handle network a entries number after w. (its_own contexts m line (step.TcpStartBind ctx handle network a) entries (reply.Pending number) after w (λ e. cc)).1.1;
+  listen = λ contexts m line ctx handle entries number after w. (its_own contexts m line (step.TcpStartListen ctx handle) entries (reply.Pending number) after w (λ e. cc)).1.1;
+  output = λ contexts m line ctx handle entries number after w. (its_own contexts m line (step.Drop ctx handle) entries (reply.Pending number) after w (λ e. cc)).1.1.1;
+  polled = λ contexts m line n entries number after binds w. (its_own contexts m line (step.Poll n) entries (reply.Pending number) after w (λ e. cc)).1.1 binds;
 }

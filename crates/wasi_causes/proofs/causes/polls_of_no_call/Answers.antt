@@ -1,14 +1,15 @@
-use Rattle.wasi_causes.proofs.pending.Laws.{poll_finds_none, poll_stays, poll_ends, poll_fails}
+use Rattle.wasi_steps.specs.declared.step.Step.TheVariants as step
+use Rattle.wasi_steps.specs.declared.reply.Reply.TheVariants as reply
 use Rattle.wasi_causes.proofs.runs.States.{polls_never_trap}
-use Rattle.wasi_causes.proofs.steps.Traps.{finds_no_call}
+use Rattle.wasi_causes.proofs.tables.Steps.{its_own, unheld}
 use Rattle.wasi_causes.proofs.causes.polls_of_no_call.Goals as goal
 
 pub returns : goal.returns
 returns c = record {
-  exactly = λ contexts m line n. poll_finds_none m n contexts line;
-  stays = λ contexts m line n. poll_stays m n contexts line;
-  only_polls = finds_no_call;
-  ends = λ contexts m line n. poll_ends m n contexts line;
-  refused = λ contexts m line n. poll_fails m n contexts line;
+  exactly = λ contexts m line n entries reply after w. (unheld contexts m line (step.Poll n) (λ h. let none = h.1 in cc) entries reply after w).0.0;
+  stays = λ contexts m line n entries after w. (unheld contexts m line (step.Poll n) (λ h. let none = h.1 in cc) entries reply.NoSuchCall after w).1.1;
+  only_polls = λ contexts m line s entries after w. (its_own contexts m line s entries reply.NoSuchCall after w (λ e. cc)).1.0;
+  ends = λ contexts m line n entries reply after stands w. (unheld contexts m line (step.Poll n) (λ h. let none = h.1 in cc) entries reply after w).0.1 stands;
+  refused = λ contexts m line n entries word after binds w. (unheld contexts m line (step.Poll n) (λ h. let none = h.1 in cc) entries (reply.Err word) after w).1.1 binds;
   never_traps = λ contexts steps log replies m line n entries kind after w. polls_never_trap contexts steps log replies m w line n entries kind after;
 }

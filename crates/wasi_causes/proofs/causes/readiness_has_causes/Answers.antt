@@ -1,10 +1,15 @@
-use Rattle.wasi_causes.proofs.pollables.Laws.{ready_values, ready_waits, ready_idle, ready_never}
+use Rattle.wasi_steps.specs.declared.step.Step.TheVariants as step
+use Rattle.wasi_steps.specs.declared.reply.Reply.TheVariants as reply
+use Rattle.std.specs.Prelude.{false}
+use Rattle.wasi_steps.specs.Reply.{truth_fields}
+use Rattle.wasi_causes.proofs.tables.Replies.{may_be, no_failure, two_values}
+use Rattle.wasi_causes.proofs.tables.Steps.{its_own, while_free}
 use Rattle.wasi_causes.proofs.causes.readiness_has_causes.Goals as goal
 
 pub returns : goal.returns
 returns c = record {
-  values = λ contexts m line ctx pollable fields entries after w. ready_values m line pollable contexts ctx entries fields after w;
-  not_ready = λ contexts m line ctx pollable. ready_waits m line pollable contexts ctx;
-  idle = λ contexts m line ctx pollable. ready_idle m line pollable contexts ctx;
-  never_fails = λ contexts m line ctx pollable. ready_never m line pollable contexts ctx;
+  values = λ contexts m line ctx pollable fields entries after w. two_values m line pollable entries fields (its_own contexts m line (step.Ready ctx pollable) entries (reply.Ok fields) after w (λ e. cc)).1.1;
+  not_ready = λ contexts m line ctx pollable entries after connects accepts w. (its_own contexts m line (step.Ready ctx pollable) entries (reply.Ok (truth_fields false)) after w (λ e. cc)).1.1 connects accepts;
+  idle = λ contexts m line ctx pollable entries reply after free idle w. let h = (while_free contexts m line (step.Ready ctx pollable) free entries reply after w).0 idle in (h.0, h.1.0, h.1.1);
+  never_fails = λ contexts m line ctx pollable entries reply after w. no_failure line (step.Ready ctx pollable) (λ word h. h) (λ h. h) reply (may_be contexts m line (step.Ready ctx pollable) entries reply after w);
 }

@@ -1,8 +1,10 @@
-use Rattle.wasi_causes.proofs.streams.Reads.{read_closed, read_failed}
+use Rattle.wasi_steps.specs.declared.step.Step.TheVariants as step
+use Rattle.wasi_steps.specs.declared.reply.Reply.TheVariants as reply
+use Rattle.wasi_causes.proofs.tables.Steps.{its_own}
 use Rattle.wasi_causes.proofs.causes.reads_end.Goals as goal
 
 pub returns : goal.returns
 returns c = record {
-  closed = λ contexts m line ctx input len. read_closed m line input len contexts ctx;
-  failed = λ contexts m line ctx input len. read_failed m line input len contexts ctx;
+  closed = λ contexts m line ctx input len entries after w. (its_own contexts m line (step.Read ctx input len) entries (reply.Closed) after w (λ e. cc)).1.1;
+  failed = λ contexts m line ctx input len entries word handle after w. (its_own contexts m line (step.Read ctx input len) entries (reply.Failed word handle) after w (λ e. cc)).1.1;
 }

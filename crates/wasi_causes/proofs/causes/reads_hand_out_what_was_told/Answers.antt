@@ -1,9 +1,14 @@
-use Rattle.wasi_causes.proofs.streams.Reads.{read_told, read_none, read_stays}
+use Rattle.wasi_steps.specs.declared.step.Step.TheVariants as step
+use Rattle.wasi_steps.specs.declared.reply.Reply.TheVariants as reply
+use Rattle.std.proofs.Common.{[], ◌∷◌}
+use Rattle.wasi_steps.specs.Reply.{bytes_fields}
+use Rattle.wasi_causes.proofs.tables.Replies.{reads_stay}
+use Rattle.wasi_causes.proofs.tables.Steps.{its_own}
 use Rattle.wasi_causes.proofs.causes.reads_hand_out_what_was_told.Goals as goal
 
 pub returns : goal.returns
 returns c = record {
-  told = λ contexts m line ctx input len b bytes entries after w. read_told m line input len contexts ctx entries b bytes after w;
-  none = λ contexts m line ctx input len entries after w. read_none m line input len contexts ctx entries after w;
-  stays = λ contexts m line ctx input len fields entries after w. read_stays m line input len contexts ctx entries fields after w;
+  told = λ contexts m line ctx input len b bytes entries after w. (its_own contexts m line (step.Read ctx input len) entries (reply.Ok (bytes_fields (b ∷ bytes))) after w (λ e. cc)).1.1.0;
+  none = λ contexts m line ctx input len entries after w. (its_own contexts m line (step.Read ctx input len) entries (reply.Ok (bytes_fields [])) after w (λ e. cc)).1.1.0;
+  stays = λ contexts m line ctx input len fields entries after w. reads_stay m line input len entries fields after (its_own contexts m line (step.Read ctx input len) entries (reply.Ok fields) after w (λ e. cc)).1.1;
 }

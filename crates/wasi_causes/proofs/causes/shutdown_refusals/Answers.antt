@@ -1,11 +1,15 @@
-use Rattle.wasi_causes.proofs.ending.ShutdownLaws.{shutdown_exactly, shutdown_refused, shutdown_asks, shutdown_leaves}
+use Rattle.wasi_steps.specs.declared.step.Step.TheVariants as step
+use Rattle.wasi_steps.specs.declared.reply.Reply.TheVariants as reply
+use Rattle.wasi_host.specs.Machine.{socket_at}
+use Rattle.wasi_causes.proofs.streams.Routes.{more_of}
+use Rattle.wasi_causes.proofs.tables.Steps.{its_own, while_free}
 use Rattle.wasi_causes.proofs.causes.shutdown_refusals.Goals as goal
 
 pub returns : goal.returns
 returns c = record {
-  exactly = λ contexts m line ctx handle how. shutdown_exactly m line handle how contexts ctx;
-  no_other = λ contexts m line ctx handle how entries word after w. (shutdown_refused m line handle how contexts ctx entries word after w).0;
-  stays = λ contexts m line ctx handle how entries word after w. let h = shutdown_refused m line handle how contexts ctx entries word after w in (h.1, h.2);
-  asked = λ contexts m line ctx handle how fields entries after w. shutdown_asks m line handle how contexts ctx entries fields after w;
-  left = λ contexts m line ctx handle how fields entries after w. shutdown_leaves m line handle how contexts ctx entries fields after w;
+  exactly = λ contexts m line ctx handle how entries reply after free w. (while_free contexts m line (step.TcpShutdown ctx handle how) free entries reply after w).0;
+  no_other = λ contexts m line ctx handle how entries word after w. (its_own contexts m line (step.TcpShutdown ctx handle how) entries (reply.Err word) after w (λ e. cc)).1.0;
+  stays = λ contexts m line ctx handle how entries word after w. (its_own contexts m line (step.TcpShutdown ctx handle how) entries (reply.Err word) after w (λ e. cc)).1.1;
+  asked = λ contexts m line ctx handle how fields entries after w. more_of m (socket_at m handle) (λ place r s h. h.0) (its_own contexts m line (step.TcpShutdown ctx handle how) entries (reply.Ok fields) after w (λ e. cc)).1.1;
+  left = λ contexts m line ctx handle how fields entries after w. more_of m (socket_at m handle) (λ place r s h. h.1) (its_own contexts m line (step.TcpShutdown ctx handle how) entries (reply.Ok fields) after w (λ e. cc)).1.1;
 }

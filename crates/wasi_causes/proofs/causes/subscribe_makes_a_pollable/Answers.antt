@@ -1,10 +1,13 @@
-use Rattle.wasi_causes.proofs.pollables.Laws.{subscribe_makes, subscribe_never}
+use Rattle.wasi_steps.specs.declared.step.Step.TheVariants as step
+use Rattle.wasi_steps.specs.declared.reply.Reply.TheVariants as reply
+use Rattle.wasi_causes.proofs.tables.Replies.{may_be, no_failure}
+use Rattle.wasi_causes.proofs.tables.Steps.{its_own}
 use Rattle.wasi_causes.proofs.causes.subscribe_makes_a_pollable.Goals as goal
 
 pub returns : goal.returns
 returns c = record {
-  number = λ contexts m line ctx handle fields entries after w. (subscribe_makes m line handle contexts ctx entries fields after w).number;
-  marked = λ contexts m line ctx handle fields entries after w. (subscribe_makes m line handle contexts ctx entries fields after w).marked;
-  made = λ contexts m line ctx handle fields entries after w. (subscribe_makes m line handle contexts ctx entries fields after w).made;
-  never_fails = λ contexts m line ctx handle. subscribe_never m line handle contexts ctx;
+  number = λ contexts m line ctx handle fields entries after w. (its_own contexts m line (step.Subscribe ctx handle) entries (reply.Ok fields) after w (λ e. cc)).1.1.number;
+  marked = λ contexts m line ctx handle fields entries after w. (its_own contexts m line (step.Subscribe ctx handle) entries (reply.Ok fields) after w (λ e. cc)).1.1.marked;
+  made = λ contexts m line ctx handle fields entries after w. (its_own contexts m line (step.Subscribe ctx handle) entries (reply.Ok fields) after w (λ e. cc)).1.1.made;
+  never_fails = λ contexts m line ctx handle entries reply after w. no_failure line (step.Subscribe ctx handle) (λ word h. h) (λ h. h) reply (may_be contexts m line (step.Subscribe ctx handle) entries reply after w);
 }

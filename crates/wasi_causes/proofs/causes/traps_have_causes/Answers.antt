@@ -1,16 +1,19 @@
-use Rattle.wasi_causes.proofs.ending.DropLaws.{drop_traps}
-use Rattle.wasi_causes.proofs.steps.Traps.{misses_handle, finds_children, finds_full, is_a_write, four_kinds}
+use Rattle.wasi_steps.specs.declared.step.Step.TheVariants as step
+use Rattle.wasi_steps.specs.declared.reply.Reply.TheVariants as reply
+use Rattle.wasi_world.specs.declared.outcome.TrapKind.TheVariants.{NoSuchHandle, HasChildren, Full, NotPermitted}
+use Rattle.wasi_causes.proofs.tables.Replies.{trap_kinds}
+use Rattle.wasi_causes.proofs.tables.Steps.{its_own, while_free}
 use Rattle.wasi_causes.proofs.causes.traps_have_causes.Goals as goal
 
 pub returns : goal.returns
 returns c = record {
-  kinds = four_kinds;
-  no_such_handle = λ contexts m line s entries after w. (misses_handle contexts m line s entries after w).0;
-  no_such_handle_stays = λ contexts m line s entries after w. let h = misses_handle contexts m line s entries after w in (h.1, h.2);
-  has_children = λ contexts m line ctx handle. drop_traps m line handle contexts ctx;
-  has_children_stays = λ contexts m line s entries after w. let h = finds_children contexts m line s entries after w in (h.1, h.2);
-  only_drops = λ contexts m line s entries after w. (finds_children contexts m line s entries after w).0;
-  full = λ contexts m line s entries after w. let h = finds_full contexts m line s entries after w in (h.0, h.1.0);
-  full_marks = λ contexts m line s entries after w. (finds_full contexts m line s entries after w).1.1;
-  not_permitted = is_a_write;
+  kinds = λ contexts m line s entries kind after w. trap_kinds contexts m line s entries kind after (its_own contexts m line s entries (reply.Trap kind) after w (λ e. cc)).1;
+  no_such_handle = λ contexts m line s entries after w. (its_own contexts m line s entries (reply.Trap NoSuchHandle) after w (λ e. cc)).1.0;
+  no_such_handle_stays = λ contexts m line s entries after w. let h = (its_own contexts m line s entries (reply.Trap NoSuchHandle) after w (λ e. cc)).1 in (h.1, h.2);
+  has_children = λ contexts m line ctx handle entries reply after free w. (while_free contexts m line (step.Drop ctx handle) free entries reply after w).0.0;
+  has_children_stays = λ contexts m line s entries after w. (its_own contexts m line s entries (reply.Trap HasChildren) after w (λ e. cc)).1.1;
+  only_drops = λ contexts m line s entries after w. (its_own contexts m line s entries (reply.Trap HasChildren) after w (λ e. cc)).1.0;
+  full = λ contexts m line s entries after w. let h = (its_own contexts m line s entries (reply.Trap Full) after w (λ e. cc)).1 in (h.0, h.1.0);
+  full_marks = λ contexts m line s entries after w. (its_own contexts m line s entries (reply.Trap Full) after w (λ e. cc)).1.1.1;
+  not_permitted = λ contexts m line s entries after w. (its_own contexts m line s entries (reply.Trap NotPermitted) after w (λ e. cc)).1.0;
 }

@@ -1,9 +1,10 @@
-use Rattle.wasi_causes.proofs.streams.Turns.{turn_is_ok, turn_is_by_jobs}
+use Rattle.wasi_steps.specs.declared.step.Step.TheVariants as step
+use Rattle.wasi_causes.proofs.tables.Steps.{unheld}
 use Rattle.wasi_causes.proofs.causes.turns_are_ok.Goals as goal
 
 pub returns : goal.returns
 returns c = record {
-  ok = λ contexts m line entries reply after w. (turn_is_ok m contexts line entries reply after w).0;
-  asked = λ contexts m line entries reply after w. turn_is_by_jobs m contexts line entries reply after w;
-  handles = λ contexts m line entries reply after w. (turn_is_ok m contexts line entries reply after w).1;
+  ok = λ contexts m line entries reply after w. (unheld contexts m line step.Turn (λ h. let none = h.1 in cc) entries reply after w).0.ok;
+  asked = λ contexts m line entries reply after w. (unheld contexts m line step.Turn (λ h. let none = h.1 in cc) entries reply after w).0.asked;
+  handles = λ contexts m line entries reply after w. (unheld contexts m line step.Turn (λ h. let none = h.1 in cc) entries reply after w).0.handles;
 }

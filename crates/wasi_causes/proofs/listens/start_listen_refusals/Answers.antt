@@ -1,11 +1,13 @@
-use Rattle.wasi_causes.proofs.listening.Starts.{listen_refused, listen_leaves, listen_conflicts}
+use Rattle.wasi_steps.specs.declared.step.Step.TheVariants as step
+use Rattle.wasi_steps.specs.declared.reply.Reply.TheVariants as reply
 use Rattle.wasi_causes.proofs.runs.States.{listens_refused_in_runs}
+use Rattle.wasi_causes.proofs.tables.Steps.{its_own, while_free}
 use Rattle.wasi_causes.proofs.listens.start_listen_refusals.Goals as goal
 
 pub returns : goal.returns
 returns c = record {
-  exactly = λ contexts m line ctx handle. listen_conflicts m line handle contexts ctx;
-  cause = λ contexts m line ctx handle. listen_refused m line handle contexts ctx;
-  stays = λ contexts m line ctx handle. listen_leaves m line handle contexts ctx;
+  exactly = λ contexts m line ctx handle entries reply after free w. (while_free contexts m line (step.TcpStartListen ctx handle) free entries reply after w).0;
+  cause = λ contexts m line ctx handle entries word after w. (its_own contexts m line (step.TcpStartListen ctx handle) entries (reply.Err word) after w (λ e. cc)).1.1.0;
+  stays = λ contexts m line ctx handle entries word after w. (its_own contexts m line (step.TcpStartListen ctx handle) entries (reply.Err word) after w (λ e. cc)).1.1.1;
   in_runs = λ contexts steps log replies m line ctx handle entries word after w. listens_refused_in_runs contexts steps log replies m w line ctx handle entries word after;
 }

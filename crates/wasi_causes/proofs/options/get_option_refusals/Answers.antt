@@ -1,8 +1,11 @@
-use Rattle.wasi_causes.proofs.questions.Options.{get_refused, get_leaves}
+use Rattle.wasi_steps.specs.declared.step.Step.TheVariants as step
+use Rattle.wasi_steps.specs.declared.reply.Reply.TheVariants as reply
+use Rattle.std.proofs.Common.{◌≡◌, refl}
+use Rattle.wasi_causes.proofs.tables.Steps.{its_own, of_answer}
 use Rattle.wasi_causes.proofs.options.get_option_refusals.Goals as goal
 
 pub returns : goal.returns
 returns c = record {
-  cause = λ contexts m line ctx handle. get_refused m line handle contexts ctx;
-  stays = λ contexts m line ctx handle. get_leaves m line handle contexts ctx;
+  cause = λ contexts m line ctx handle option entries word after w. (its_own contexts m line (step.TcpGet ctx handle option) entries (reply.Err word) after w (λ e. cc)).1.1;
+  stays = λ contexts m line ctx handle option. of_answer contexts m line (step.TcpGet ctx handle option) (λ es r after. after ≡ m) refl (λ es r after row. row.0);
 }

@@ -1,9 +1,11 @@
-use Rattle.wasi_causes.proofs.questions.Options.{still_of, get_done, set_done}
+use Rattle.wasi_steps.specs.declared.step.Step.TheVariants as step
+use Rattle.wasi_steps.specs.declared.reply.Reply.TheVariants as reply
+use Rattle.wasi_causes.proofs.tables.Steps.{its_own}
 use Rattle.wasi_causes.proofs.options.options_are_read_and_set.Goals as goal
 
 pub returns : goal.returns
 returns c = record {
-  read = λ contexts m line ctx handle. get_done m line handle contexts ctx;
-  nothing = λ contexts m line ctx handle setting fields entries after w. (set_done m line handle contexts ctx setting fields entries after w).holds.0;
-  written = λ contexts m line ctx handle setting fields entries after w. still_of m handle (λ place r k. k.1) (set_done m line handle contexts ctx setting fields entries after w);
+  read = λ contexts m line ctx handle option fields entries after w. (its_own contexts m line (step.TcpGet ctx handle option) entries (reply.Ok fields) after w (λ e. cc)).1.1;
+  nothing = λ contexts m line ctx handle setting fields entries after w. (its_own contexts m line (step.TcpSet ctx handle setting) entries (reply.Ok fields) after w (λ e. cc)).1.1.0;
+  written = λ contexts m line ctx handle setting fields entries after w. (its_own contexts m line (step.TcpSet ctx handle setting) entries (reply.Ok fields) after w (λ e. cc)).1.1.1;
 }

@@ -1,8 +1,10 @@
-use Rattle.wasi_causes.proofs.questions.Options.{set_refused}
+use Rattle.wasi_steps.specs.declared.step.Step.TheVariants as step
+use Rattle.wasi_steps.specs.declared.reply.Reply.TheVariants as reply
+use Rattle.wasi_causes.proofs.tables.Steps.{its_own}
 use Rattle.wasi_causes.proofs.options.set_option_refusals.Goals as goal
 
 pub returns : goal.returns
 returns c = record {
-  cause = λ contexts m line ctx handle. set_refused m line handle contexts ctx;
-  stays = λ contexts m line ctx handle setting entries word after w. (set_refused m line handle contexts ctx setting entries word after w).holds.1;
+  cause = λ contexts m line ctx handle setting entries word after w. (its_own contexts m line (step.TcpSet ctx handle setting) entries (reply.Err word) after w (λ e. cc)).1.1;
+  stays = λ contexts m line ctx handle setting entries word after w. (its_own contexts m line (step.TcpSet ctx handle setting) entries (reply.Err word) after w (λ e. cc)).1.1.holds.1;
 }

@@ -1,5 +1,0 @@
--- Listens and accepts.
-pub mod AcceptPolls
-pub mod Accepts
-pub mod Polls
-pub mod Starts

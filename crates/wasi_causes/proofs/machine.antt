@@ -1,0 +1,3 @@
+-- Pollables, and the call that stands.
+pub mod Looks
+pub mod Polls

@@ -1,0 +1,5 @@
+-- Polls of operations: how each comes out and ends.
+pub mod Accepts
+pub mod Ends
+pub mod Marks
+pub mod Polls

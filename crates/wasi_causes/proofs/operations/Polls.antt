@@ -1,0 +1,144 @@
+-- A poll of an operation whose items are asked in turn is in the one table of such polls.
+use Rattle.std.specs.Prelude.{⊤}
+use Rattle.std.proofs.Common.{◌≡◌, ◌∙◌, inl, inr, List, [], ◌∷◌, ◌++◌, refl, sym, ap, subst, append_assoc, append-nil}
+use Rattle.wasi_addr.specs.declared.address.IpSocketAddress.{IpSocketAddress}
+use Rattle.wasi_addr.specs.declared.address.ShutdownType.TheVariants.{Send}
+use Rattle.wasi_addr.specs.declared.address.SocketAddrUse.{SocketAddrUse}
+use Rattle.wasi_addr.specs.declared.code.ErrorCode.{ErrorCode}
+use Rattle.wasi_addr.specs.declared.code.ErrorCode.TheVariants.{AccessDenied}
+use Rattle.wasi_world.specs.declared.call.Call.{Call}
+use Rattle.wasi_world.specs.declared.call.Call.TheVariants as call
+use Rattle.wasi_world.specs.declared.call.Entry.{Entry}
+use Rattle.wasi_world.specs.declared.call.Told.{Told}
+use Rattle.wasi_world.specs.declared.call.Told.TheVariants as told
+use Rattle.wasi_world.specs.Fits.{IsVerdict, IsAddr, IsDone, IsDoneOrCode, IsPolled}
+use Rattle.wasi_world.specs.Asks.{Asks, bind}
+use Rattle.wasi_world.specs.Typed.{told_verdict, told_addr, told_done, told_polled}
+use Rattle.wasi_world.specs.Operation.{Given, Nothing, Item, Check, CheckLocal, Bind, Connect, Listen, LastAsk, NothingLast, CloseLast, ShutdownLast, Who, Operation, End, Waits, Done, Refused, last_ask, after, round, polls, poll_asks, verdict_front, local_front, done_front, polled_front}
+use Rattle.wasi_walks.specs.Answered.{EndsPending}
+use Rattle.wasi_walks.specs.Licence.{Has, entry}
+use Rattle.wasi_causes.specs.Polls.{check_entry, local_entry, Passes, ToldYes, LocalToldYes, BindToldDone, ConnectToldDone, ListenToldDone, Holds, CheckToldPending, LocalToldPending, ConnectToldPending, Breaks, ToldNo, LocalToldNo, LocalToldCode, BindToldCode, ConnectToldCode, ListenToldCode, last_entries, Polled, WasOver, GoesOn, Stays, Stops, Broken}
+use Rattle.wasi_causes.proofs.tables.Meets.{Rows, Meets, ends, asks, widen, shifted}
+
+-- each of the items is of this kind
+abbrev pub AllOf : (Item → Type 0) → List Item → Type 0
+AllOf P [] = ⊤
+AllOf P (item ∷ items) = P item × AllOf P items
+
+pub one_of : (P : Item → Type 0) (items : List Item) (item : Item) → AllOf P items → Has items item → P item
+one_of P (x ∷ items) item all (inl same) = subst P same all.0
+one_of P (x ∷ items) item all (inr its) = one_of P items item all.1 its
+one_of P [] item all its = absurd its
+
+-- the items that are asked in turn
+abbrev pub IsAsk : Item → Type 0
+IsAsk (Check a usage) = ⊤
+IsAsk (CheckLocal usage) = ⊤
+IsAsk (Bind a) = ⊤
+IsAsk (Connect a) = ⊤
+IsAsk (Listen backlog) = ⊤
+IsAsk _ = ⊥
+
+module _ (who : Who) (again : List Item → Asks (End × List Item)) where
+  -- == the last ask
+  told_last : (es : List Entry) (last : Call) (t : Told) → IsDone t → es ++ entry who.id last t ∷ [] ≡ es ++ entry who.id last told.Done ∷ []
+  told_last es last told.Done fits = refl
+  told_last es last _ fits = absurd fits
+
+  pub lasts : (es : List Entry) (c : ErrorCode) (l : LastAsk) → Meets (λ fs end. (fs ≡ es ++ last_entries who l) × (end ≡ (Refused c Nothing, []))) es (last_ask who l c Nothing)
+  unfolding bind
+  lasts es c NothingLast = ends (sym (append-nil es), refl)
+  lasts es c CloseLast = asks (λ t fits. ends (told_last es (call.Close who.side) t fits, refl))
+  lasts es c ShutdownLast = asks (λ t fits. ends (told_last es (call.Shutdown who.side Send) t fits, refl))
+
+  -- == an item, where these follow
+  module _ (item : Item) (items : List Item) where
+    abbrev Row : Rows (End × List Item)
+    Row = Polled who (item ∷ items)
+
+    stops : (es : List Entry) (c : ErrorCode) → Breaks who item es c → Meets Row es (last_ask who who.last c Nothing)
+    stops es c broke = widen (λ fs end k. rw (k.0, k.1) (Stops item items es c broke)) (lasts es c who.last)
+
+    module _ (next : Meets (Polled who items) [] (round again who Nothing items)) where
+      passes : (es : List Entry) → Passes who item es → Meets Row es (round again who Nothing items)
+      passes es passed = widen (λ fs end k. rw k.cut (GoesOn item items es k.rest end passed k.row)) (shifted es next)
+
+      -- by what was told of it
+      verdict : (now : Item) (es : Told → List Entry) → Passes who item (es told.Yes) → Holds who item (es told.Pending) now → Breaks who item (es told.No) AccessDenied
+          → (t : Told) → IsVerdict t → Meets Row (es t) (after again who items (λ g. round again who g items) (verdict_front now (told_verdict t)))
+      verdict now es passed held broke told.Yes fits = passes _ passed
+      verdict now es passed held broke told.Pending fits = ends (Stays item now items _ held)
+      verdict now es passed held broke told.No fits = stops _ AccessDenied broke
+      verdict now es passed held broke _ fits = absurd fits
+
+      done_or_code : (es : Told → List Entry) → Passes who item (es told.Done) → ((c : ErrorCode) → Breaks who item (es (told.Code c)) c)
+          → (t : Told) → IsDoneOrCode t → Meets Row (es t) (after again who items (λ g. round again who g items) (done_front (told_done t)))
+      done_or_code es done code told.Done fits = passes _ done
+      done_or_code es done code (told.Code c) fits = stops _ c (code c)
+      done_or_code es done code _ fits = absurd fits
+
+  told_connect : (a : IpSocketAddress) (items : List Item) → Meets (Polled who items) [] (round again who Nothing items) → (t : Told) → IsPolled t
+      → Meets (Polled who (Connect a ∷ items)) (entry who.id (call.Connect who.side a) t ∷ []) (after again who items (λ g. round again who g items) (polled_front (Connect a) (told_polled t)))
+  told_connect a items next told.Done fits = passes (Connect a) items next _ (ConnectToldDone a)
+  told_connect a items next told.Pending fits = ends (Stays (Connect a) (Connect a) items _ (ConnectToldPending a))
+  told_connect a items next (told.Code c) fits = stops (Connect a) items _ c (ConnectToldCode a c)
+  told_connect a items next _ fits = absurd fits
+
+  told_local : (usage : SocketAddrUse) (items : List Item) → Meets (Polled who items) [] (round again who Nothing items) → (t : Told) → IsAddr t
+      → Meets (Polled who (CheckLocal usage ∷ items)) (local_entry who t ∷ []) (bind (local_front who usage (told_addr t)) (after again who items (λ g. round again who g items)))
+  unfolding bind
+  told_local usage items next (told.Addr a) fits =
+      asks (λ t fits. verdict (CheckLocal usage) items next (Check a usage) (λ t. local_entry who (told.Addr a) ∷ check_entry who a usage t ∷ []) (LocalToldYes a usage) (LocalToldPending a usage) (LocalToldNo a usage) t fits)
+  told_local usage items next (told.Code c) fits = stops (CheckLocal usage) items _ c (LocalToldCode usage c)
+  told_local usage items next _ fits = absurd fits
+
+  in_turn : (items : List Item) → AllOf IsAsk items → Meets (Polled who items) [] (round again who Nothing items)
+  unfolding bind
+  in_turn [] all = ends WasOver
+  in_turn (Check a usage ∷ items) all = asks (λ t fits. verdict (Check a usage) items (in_turn items all.1) (Check a usage) (λ t. check_entry who a usage t ∷ []) (ToldYes a usage) (CheckToldPending a usage) (ToldNo a usage) t fits)
+  in_turn (CheckLocal usage ∷ items) all = asks (λ t fits. told_local usage items (in_turn items all.1) t fits)
+  in_turn (Bind a ∷ items) all = asks (λ t fits. done_or_code (Bind a) items (in_turn items all.1) (λ t. entry who.id (call.Bind who.side a) t ∷ []) (BindToldDone a) (BindToldCode a) t fits)
+  in_turn (Connect a ∷ items) all = asks (λ t fits. told_connect a items (in_turn items all.1) t fits)
+  in_turn (Listen backlog ∷ items) all = asks (λ t fits. done_or_code (Listen backlog) items (in_turn items all.1) (λ t. entry who.id (call.Listen who.side backlog) t ∷ []) (ListenToldDone backlog) (ListenToldCode backlog) t fits)
+  in_turn (_ ∷ items) all = absurd all.0
+
+pub polled : (op : Operation) → AllOf IsAsk op.left → Meets (Polled op.who op.left) [] (poll_asks op)
+unfolding polls
+polled op all = in_turn op.who (polls 63 op.who) op.left all
+
+-- == how it ends
+module _ (who : Who) where
+  -- it waits, is done, or an item broke it
+  abbrev pub EndsSo : List Item → Rows (End × List Item)
+  EndsSo left es (Waits, items) = EndsPending who.id es
+  EndsSo left es (Done given, items) = ⊤
+  EndsSo left es (Refused c given, items) = Broken who left es c
+
+  holds : (item now : Item) (es : List Entry) → Holds who item es now → EndsPending who.id es
+  holds _ _ _ (CheckToldPending a usage) = record { front = []; last = _; cut = refl; op = refl; told = refl }
+  holds _ _ _ (LocalToldPending a usage) = record { front = local_entry who (told.Addr a) ∷ []; last = _; cut = refl; op = refl; told = refl }
+  holds _ _ _ (ConnectToldPending a) = record { front = []; last = _; cut = refl; op = refl; told = refl }
+
+  -- after an item that was passed
+  later : (item : Item) (items : List Item) (es fs : List Entry) (end : End × List Item) → EndsSo items fs end → EndsSo (item ∷ items) (es ++ fs) end
+  later item items es fs (Waits, left) k = record { front = es ++ k.front; last = k.last; cut = ap (λ (xs : List Entry). es ++ xs) k.cut ∙ sym (append_assoc es k.front (k.last ∷ [])); op = k.op; told = k.told }
+  later item items es fs (Done given, left) k = tt
+  later item items es fs (Refused c given, left) k =
+      record { item = k.item; its = inr k.its; front = es ++ k.front; last = k.last; cut = ap (λ (xs : List Entry). es ++ xs) k.cut ∙ sym (append_assoc es k.front (k.last ++ last_entries who who.last)); broke = k.broke }
+
+  pub ends_so : (left : List Item) (es : List Entry) (end : End × List Item) → Polled who left es end → EndsSo left es end
+  ends_so _ _ _ WasOver = tt
+  ends_so _ _ _ (GoesOn item items es fs end passed row) = later item items es fs end (ends_so items fs end row)
+  ends_so _ _ _ (Stays item now items es held) = holds item now es held
+  ends_so _ _ _ (Stops item items es c broke) = record { item = item; its = inl refl; front = []; last = es; cut = refl; broke = broke }
+
+-- nothing that is left is refused
+abbrev IsOver : End → Type 0
+IsOver (Refused c given) = ⊥
+IsOver _ = ⊤
+
+is_over : (who : Who) (es : List Entry) (end : End × List Item) → Polled who [] es end → IsOver end.0
+is_over who _ _ WasOver = tt
+
+pub not_over : {who : Who} {es : List Entry} {c : ErrorCode} {given : Given} {items : List Item} → Polled who [] es (Refused c given, items) → ⊥
+not_over {who} {es} {c} {given} {items} row = is_over who es (Refused c given, items) row

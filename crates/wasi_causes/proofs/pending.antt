@@ -1,4 +1,0 @@
--- Calls that stand, and their polls.
-pub mod Laws
-pub mod Marks
-pub mod Polls

@@ -1,3 +1,0 @@
--- Pollables: what makes one, and looks at it.
-pub mod Laws
-pub mod Looks

@@ -1,0 +1,146 @@
+-- What a socket says of itself: its addresses, whether it listens, and its family.
+use Rattle.std.proofs.Common.{◌≡◌, ◌⊎◌, inl, inr, ℕ, Bool, true, false, List, [], ◌∷◌, ◌++◌, Option, Some, None, Result, Ok, Err, slice_get, refl, sym, subst}
+use Rattle.wasi_addr.specs.declared.address.IpSocketAddress.{IpSocketAddress}
+use Rattle.wasi_addr.specs.declared.code.ErrorCode.{ErrorCode}
+use Rattle.wasi_addr.specs.declared.code.ErrorCode.TheVariants.{InvalidState}
+use Rattle.wasi_world.specs.declared.ids.OpId.{OpId}
+use Rattle.wasi_world.specs.declared.call.Call.TheVariants as call
+use Rattle.wasi_world.specs.declared.call.Entry.{Entry}
+use Rattle.wasi_world.specs.declared.call.Told.{Told}
+use Rattle.wasi_world.specs.declared.call.Told.TheVariants as told
+use Rattle.wasi_world.specs.declared.outcome.WasiSocketsCtx.{WasiSocketsCtx}
+use Rattle.wasi_world.specs.Fits.{IsAddr}
+use Rattle.wasi_world.specs.Asks.{Give, bind}
+use Rattle.wasi_world.specs.Typed.{told_addr}
+use Rattle.wasi_tcp.specs.declared.socket.Connection.{Connection}
+use Rattle.wasi_tcp.specs.declared.socket.TcpState.{TcpState}
+use Rattle.wasi_tcp.specs.declared.socket.TcpState.TheVariants as state
+use Rattle.wasi_tcp.specs.Shape.{Socket}
+use Rattle.wasi_tcp.specs.Connecting.{with_state, in_socket}
+use Rattle.wasi_tcp.specs.Addresses.{is_listening, usable_side, local_from, local_where, local_asks, after_peer, peer_known, still_connected, remote_in}
+use Rattle.wasi_host.specs.declared.machine.Machine.{Machine}
+use Rattle.wasi_host.specs.declared.socket.Tcp2Socket.{Tcp2Socket}
+use Rattle.wasi_host.specs.Store.{with_inner, put_back as answer_put, inner_answered, local_address_at, remote_address_at, is_listening_at, address_family_at}
+use Rattle.wasi_host.specs.Machine.{socket_at, own_of, with_store}
+use Rattle.wasi_p2.specs.Tcp.{local_address_on, remote_address_on, is_listening_on, address_family_on}
+use Rattle.wasi_steps.specs.declared.reply.CodeWord.{CodeWord}
+use Rattle.wasi_steps.specs.declared.reply.CodeWord.TheVariants as word
+use Rattle.wasi_steps.specs.declared.step.Step.TheVariants as step
+use Rattle.wasi_machine.specs.Machine.{address_reply, truth_reply, family_reply}
+use Rattle.wasi_walks.specs.Licence.{entry}
+use Rattle.wasi_walks.specs.Answered.{KnowsBound, putting, word_of_code, IsPastDefault, IsBound, LocalRefusal, NotBound, Connects, LocalClosed, LocalTold, RemoteRefusal, RemoteDefault, RemoteListening, RemoteConnecting, RemoteClosed, RemoteTold}
+use Rattle.wasi_steps.specs.Replies.{Each, Truth}
+use Rattle.wasi_steps.specs.Reply.{truth_fields}
+use Rattle.wasi_causes.specs.Outcomes.{AreLike, Outcome}
+use Rattle.wasi_causes.proofs.sockets.Bound.{BoundRow, ItsBound, ItsFree, asked_none, bounds}
+use Rattle.wasi_causes.proofs.tables.Meets.{Rows, Meets, ends, asks, chain, onto, widen}
+use Rattle.wasi_causes.proofs.tables.Routes.{on_number, Says, put_back, Names, here, on_record, code_word}
+
+-- a call on a socket: an address, or a code that is refused so
+abbrev pub Answers : (List Entry → CodeWord → Machine → Type 0) → Machine → ℕ → Tcp2Socket → Rows (Result IpSocketAddress ErrorCode × Socket)
+Answers Cause m place r es (Ok a, now) = Unit {0}
+Answers Cause m place r es (Err code, now) = Cause es (word_of_code code) (putting m place (with_inner r now))
+
+-- == the local address
+module _ (m : Machine) (own : OpId) (handle place : ℕ) (r : Tcp2Socket) (n : Names m handle place r) where
+  -- why it is refused, and what stands then
+  abbrev LocalRefused : List Entry → CodeWord → Machine → Type 0
+  LocalRefused es w after = LocalRefusal m own place r es w after × ((after ≡ m) ⊎ KnowsBound m handle after)
+
+  abbrev LocalRow : Rows (Result IpSocketAddress ErrorCode × Socket)
+  LocalRow = Answers LocalRefused m place r
+
+  -- of a socket that is bound
+  module _ (es : List Entry) (is : IsBound own r.inner es) where
+    abbrev bound : Socket
+    bound = record r.inner { bound = true }
+
+    -- where nothing more is asked
+    at_once : (code : ErrorCode) → IsPastDefault r.inner.state → LocalRefusal m own place r [] (word_of_code code) (putting m place (with_inner r bound)) → Meets LocalRow es (Give (Err code, bound))
+    at_once code past cause = ends (subst (λ (fs : List Entry). LocalRow fs (Err code, bound)) (sym (asked_none own r.inner es is past)) (cause, inr (here n refl)))
+
+    told_local : (side : OpId) (t : Told) → usable_side r.inner.state ≡ Ok side → IsAddr t → LocalRow (es ++ entry own (call.Local side) t ∷ []) (told_addr t, bound)
+    told_local side (told.Addr a) e fits = tt
+    told_local side (told.Code code) e fits = (LocalTold es side code is e, inr (here n refl))
+    told_local side _ e fits = absurd fits
+
+    in_state : (st : TcpState) → r.inner.state ≡ st → Meets LocalRow es (local_from own bound (usable_side st))
+    unfolding bind
+    in_state (state.Default side) e = asks (λ t fits. ends (told_local side t (rw e refl) fits))
+    in_state (state.Listening side) e = asks (λ t fits. ends (told_local side t (rw e refl) fits))
+    in_state (state.Connecting op) e = at_once InvalidState (rw e tt) (Connects op e)
+    in_state (state.Connected connection) e = asks (λ t fits. ends (told_local connection.side t (rw e refl) fits))
+    in_state (state.Closed code) e = at_once code (rw e tt) (LocalClosed code e)
+
+  by_bound : (es : List Entry) (b : Bool × Socket) → BoundRow own r.inner es b → Meets LocalRow es (local_where own b.1 b.0)
+  by_bound _ _ (ItsBound es is) = in_state es is r.inner.state refl
+  by_bound _ _ (ItsFree side local free) = ends (put_back (LocalRefused (entry own (call.Local side) local ∷ []) word.InvalidState) m place r n.at (NotBound side local free, inl refl))
+
+  local_row : Meets LocalRow [] (local_asks own r.inner)
+  local_row = chain (bounds own r.inner) by_bound
+
+-- == the remote address
+module _ (m : Machine) (own : OpId) (place : ℕ) (r : Tcp2Socket) (at : slice_get m.store.sockets place ≡ Some r) where
+  abbrev RemoteRefused : List Entry → CodeWord → Machine → Type 0
+  RemoteRefused es w after = RemoteRefusal m own place r es w after × (after ≡ m)
+
+  abbrev StateRow : Rows (Result IpSocketAddress ErrorCode × TcpState)
+  StateRow es done = Answers RemoteRefused m place r es (in_socket r.inner done)
+
+  -- a state that stays leaves the machine as it was
+  stays : (es : List Entry) (code : ErrorCode) (st : TcpState) → r.inner.state ≡ st → RemoteRefusal m own place r es (word_of_code code) m → StateRow es (Err code, st)
+  stays es code st e cause = subst (λ (s : TcpState). RemoteRefused es (word_of_code code) (putting m place (with_inner r (with_state r.inner s)))) e (put_back (RemoteRefused es (word_of_code code)) m place r at (cause, refl))
+
+  module _ (connection : Connection) (e : r.inner.state ≡ state.Connected connection) where
+    told_peer : (t : Told) → connection.peer ≡ None → IsAddr t → StateRow (entry own (call.Peer connection.side) t ∷ []) (still_connected (after_peer connection (told_addr t)))
+    told_peer (told.Addr a) none fits = tt
+    told_peer (told.Code code) none fits = stays _ code (state.Connected connection) e (RemoteTold connection code e none)
+    told_peer _ none fits = absurd fits
+
+    by_kept : (kept : Option IpSocketAddress) → connection.peer ≡ kept → Meets (λ es p. StateRow es (still_connected p)) [] (peer_known own connection kept)
+    unfolding bind
+    by_kept (Some a) known = ends tt
+    by_kept None none = asks (λ t fits. ends (told_peer t none fits))
+
+  by_state : (st : TcpState) → r.inner.state ≡ st → Meets StateRow [] (remote_in own st)
+  by_state (state.Default side) e = ends (stays [] InvalidState (state.Default side) e (RemoteDefault side e))
+  by_state (state.Listening side) e = ends (stays [] InvalidState (state.Listening side) e (RemoteListening side e))
+  by_state (state.Connecting op) e = ends (stays [] InvalidState (state.Connecting op) e (RemoteConnecting op e))
+  by_state (state.Connected connection) e = onto _ (by_kept connection e connection.peer refl)
+  by_state (state.Closed code) e = ends (stays [] code (state.Closed code) e (RemoteClosed code e))
+
+-- == the steps
+module _ (contexts : List WasiSocketsCtx) (m : Machine) (line c handle : ℕ) where
+  abbrev own : OpId
+  own = own_of line
+
+  local_said : (place : ℕ) (r : Tcp2Socket) (n : Names m handle place r) (es : List Entry) (done : Result IpSocketAddress ErrorCode × Socket) → Answers (LocalRefused m own handle place r n) m place r es done
+      → let said = with_store m (answer_put m.store place (inner_answered r done)) in Outcome contexts m line (step.TcpLocalAddress c handle) es (address_reply said.0) said.1
+  local_said place r n es (Ok a, now) h = (tt, ((a, refl), tt))
+  local_said place r n es (Err code, now) h = (tt, (code_word code, (here n h.0, h.1)))
+
+  pub local_address : Meets (Says contexts m line (step.TcpLocalAddress c handle)) [] (bind (local_address_on m own (socket_at m handle)) (λ done. Give (address_reply done.0, done.1)))
+  local_address =
+      onto _ (on_record m handle (local_address_on m own) (λ place o. local_address_at m.store own place o) refl (λ place. refl) (λ place. refl) (λ none. (tt, (none, refl, refl))) (λ place r n. onto _ (onto _ (widen (local_said place r n) (local_row m own handle place r n)))))
+
+  remote_said : (place : ℕ) (r : Tcp2Socket) (n : Names m handle place r) (es : List Entry) (done : Result IpSocketAddress ErrorCode × Socket) → Answers (RemoteRefused m own place r n.at) m place r es done
+      → let said = with_store m (answer_put m.store place (inner_answered r done)) in Outcome contexts m line (step.TcpRemoteAddress c handle) es (address_reply said.0) said.1
+  remote_said place r n es (Ok a, now) h = (tt, ((a, refl), tt))
+  remote_said place r n es (Err code, now) h = (tt, (code_word code, (here n h.0, h.1)))
+
+  pub remote_address : Meets (Says contexts m line (step.TcpRemoteAddress c handle)) [] (bind (remote_address_on m own (socket_at m handle)) (λ done. Give (address_reply done.0, done.1)))
+  remote_address =
+      onto _ (on_record m handle (remote_address_on m own) (λ place o. remote_address_at m.store own place o) refl (λ place. refl) (λ place. refl) (λ none. (tt, (none, refl, refl)))
+      (λ place r n. onto _ (onto _ (widen (remote_said place r n) (onto (in_socket r.inner) (by_state m own place r n.at r.inner.state refl))))))
+
+  -- == what is known without asking
+  truth_like : (b : Bool) → AreLike (Each (Truth ∷ [])) (truth_fields b)
+  truth_like true = (tt, tt)
+  truth_like false = (tt, tt)
+
+  pub is_listens : Meets (Says contexts m line (step.TcpIsListening c handle)) [] (Give (truth_reply (is_listening_on m (socket_at m handle)), m))
+  is_listens =
+      on_number m handle (λ o. Give (truth_reply (is_listening_on m o), m)) (λ place o. Give (truth_reply (is_listening_at o), m)) (λ place. refl) (λ none. ends ((refl, refl), (none, refl, refl))) (λ none place. ends ((refl, refl), (none, refl, refl))) (λ place r n. ends ((refl, refl), (truth_like (is_listening r.inner.state), tt)))
+
+  pub family : Meets (Says contexts m line (step.TcpAddressFamily c handle)) [] (Give (family_reply (address_family_on m (socket_at m handle)), m))
+  family = on_number m handle (λ o. Give (family_reply (address_family_on m o), m)) (λ place o. Give (family_reply (address_family_at o), m)) (λ place. refl) (λ none. ends ((refl, refl), (none, refl, refl))) (λ none place. ends ((refl, refl), (none, refl, refl))) (λ place r n. ends ((refl, refl), ((tt, tt), tt)))

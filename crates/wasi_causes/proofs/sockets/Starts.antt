@@ -1,0 +1,278 @@
+-- The starts of a bind, of a connect and of a listen.
+use Rattle.std.proofs.Common.{◌≡◌, ℕ, Bool, true, false, if◌then◌else◌, inl, inr, List, [], ◌∷◌, ◌++◌, Option, Some, None, Result, Ok, Err, refl, sym, ap, subst, ◌∙◌, append_assoc}
+use Rattle.std.specs.Prelude.{◌⊎◌}
+use Rattle.wasi_addr.specs.Address.{wildcard}
+use Rattle.wasi_addr.specs.declared.address.IpSocketAddress.{IpSocketAddress}
+use Rattle.wasi_addr.specs.declared.address.SocketAddrUse.TheVariants.{TcpBind, TcpListen}
+use Rattle.wasi_addr.specs.declared.code.ErrorCode.{ErrorCode}
+use Rattle.wasi_addr.specs.declared.code.ErrorCode.TheVariants.{InvalidArgument, InvalidState, Other}
+use Rattle.wasi_causes.proofs.operations.Polls.{polled, ends_so, not_over}
+use Rattle.wasi_causes.proofs.sockets.Bound.{BoundRow, ItsBound, ItsFree, bounds, asked_none}
+use Rattle.wasi_causes.proofs.tables.Meets.{Rows, Meets, ends, chain, onto, widen, branch, After, shifted}
+use Rattle.wasi_causes.proofs.tables.Routes.{Says, put_back, Names, here, code_word, not_of_code, in_conflict, no_conflict, none_conflicts, on_idle}
+use Rattle.wasi_causes.specs.Outcomes.{Outcome, Conflicts}
+use Rattle.wasi_causes.specs.Polls.{Passes, ToldYes, Breaks, ToldNo, BindToldCode, Polled, GoesOn, Stops, check_entry, local_entry, LocalToldYes, LocalToldNo, LocalToldCode, ListenToldCode, last_entries}
+use Rattle.wasi_host.specs.Host.{Stop}
+use Rattle.wasi_host.specs.Kinds.{kind_at, is_network}
+use Rattle.wasi_host.specs.Listening.{listen_polled, listen_begun, listen_once, listen_bound, begin_listen_asks, listen_answered, start_listen_by, start_listen_at}
+use Rattle.wasi_host.specs.Machine.{own_of, with_store, socket_at}
+use Rattle.wasi_host.specs.Store.{is_nothing, bind_ended, bind_begun, begin_bind_asks, bind_answered, start_bind_by, start_bind_at, connect_begun, put_back as answer_put, begin_connect_asks, start_connect_by, start_connect_at, with_inner}
+use Rattle.wasi_host.specs.declared.listening.Listening.{Listening}
+use Rattle.wasi_host.specs.declared.listening.Listening.TheVariants as listening
+use Rattle.wasi_host.specs.declared.machine.Machine.{Machine}
+use Rattle.wasi_host.specs.declared.socket.Tcp2Socket.{Tcp2Socket}
+use Rattle.wasi_p2.specs.Tcp.{start_bind_on, start_bind_asks, start_connect_on, start_connect_asks, start_listen_on}
+use Rattle.wasi_walks.specs.Answered.{putting, word_of_code, EndsPending, IsFree, may_bind_to, BindRefusal, AlreadyBound, WrongAddress, Denied, Failed, InProgress, Begins, ConnectRefusal, NotDefault, BoundElsewhere, Elsewhere, IsPastDefault, IsBound, knowing_bound, KnowsBound, OfRecord}
+use Rattle.wasi_walks.specs.Licence.{entry}
+use Rattle.wasi_walks.specs.Listens.{ListenFails, LocalTold, ListenDenied, ListenTold, IsPastNot, ListenRefusal, NotBound, NotDefault as ListensLate, ListensAlready, ListenRefused, closed_by_listen}
+use Rattle.wasi_machine.specs.Machine.{answer_reply, done_reply}
+use Rattle.wasi_steps.specs.declared.reply.CodeWord.{CodeWord}
+use Rattle.wasi_steps.specs.declared.reply.CodeWord.TheVariants as word
+use Rattle.wasi_steps.specs.declared.reply.Reply.TheVariants as reply
+use Rattle.wasi_steps.specs.declared.step.Step.TheVariants as step
+use Rattle.wasi_tcp.specs.Bind.{bind_operation}
+use Rattle.wasi_tcp.specs.Connecting.{is_connectable, connect_start, start_connect_in, with_state}
+use Rattle.wasi_tcp.specs.Listen.{listen_operation}
+use Rattle.wasi_tcp.specs.Listening.{listen_start, listen_ended}
+use Rattle.wasi_tcp.specs.Shape.{Socket}
+use Rattle.wasi_tcp.specs.Socket.{bind_allowed, bind_start}
+use Rattle.wasi_tcp.specs.declared.bind.Asker.{Asker}
+use Rattle.wasi_tcp.specs.declared.bind.BindStage.TheVariants as stage
+use Rattle.wasi_tcp.specs.declared.listen.ListenStage.TheVariants as listen_stage
+use Rattle.wasi_tcp.specs.declared.socket.TcpState.{TcpState}
+use Rattle.wasi_tcp.specs.declared.socket.TcpState.TheVariants as state
+use Rattle.wasi_world.specs.Asks.{Give, bind}
+use Rattle.wasi_world.specs.Operation.{Given, Item, Check, Bind, Operation, End, Waits, Done, Refused, CheckLocal, Listen, CloseLast}
+use Rattle.wasi_world.specs.declared.call.Call.TheVariants as call
+use Rattle.wasi_world.specs.declared.call.Entry.{Entry}
+use Rattle.wasi_world.specs.declared.call.Told.{Told}
+use Rattle.wasi_world.specs.declared.call.Told.TheVariants as told
+use Rattle.wasi_world.specs.declared.ids.OpId.{OpId}
+use Rattle.wasi_world.specs.declared.outcome.Answer.{Answer}
+use Rattle.wasi_world.specs.declared.outcome.Answer.TheVariants.{Ready, Pending}
+use Rattle.wasi_world.specs.declared.outcome.WasiSocketsCtx.{WasiSocketsCtx}
+
+-- == a bind
+module _ (m : Machine) (own : OpId) (handle place : ℕ) (r : Tcp2Socket) (n : Names m handle place r) (a : IpSocketAddress) where
+  -- why it is refused, and what stands then
+  abbrev BindRefused : List Entry → CodeWord → Machine → Type 0
+  BindRefused es w after = BindRefusal m own place r a es w after × ((after ≡ m) ⊎ ((w ≡ word.InvalidState) × KnowsBound m handle after))
+
+  -- a bind as it was begun: it stands, or is done, or is refused
+  abbrev BindRow : Rows (Result (Option Operation) ErrorCode × Tcp2Socket)
+  BindRow es (Ok (Some op), now) = EndsPending own es
+  BindRow es (Ok None, now) = Unit {0}
+  BindRow es (Err code, now) = BindRefused es (word_of_code code) (putting m place now)
+
+  -- a refusal that leaves the record leaves the machine
+  stays : (es : List Entry) (code : ErrorCode) → BindRefusal m own place r a es (word_of_code code) m → BindRow es (Err code, r)
+  stays es code cause = put_back (BindRefused es (word_of_code code)) m place r n.at (cause, inl refl)
+
+  -- of a socket that is free
+  module _ (side : OpId) (local : Told) (free : IsFree r.inner side local) where
+    abbrev asked : Entry
+    asked = entry own (call.Local side) local
+
+    abbrev its : Operation
+    its = bind_operation (record { op = own; side = side; maker = r.inner.maker }) a stage.Check
+
+    -- what a poll that was refused says
+    by_check : (es : List Entry) (code : ErrorCode) → may_bind_to r.inner.family a ≡ true → Breaks its.who (Check a TcpBind) es code → BindRefusal m own place r a (asked ∷ es ++ []) (word_of_code code) m
+    by_check _ _ may (ToldNo _ _) = Denied side local free may
+
+    by_bind : (es : List Entry) (code : ErrorCode) → may_bind_to r.inner.family a ≡ true → Breaks its.who (Bind a) es code → BindRefusal m own place r a (asked ∷ entry own (call.Check r.inner.maker a TcpBind) told.Yes ∷ es ++ []) (word_of_code code) m
+    by_bind _ _ may (BindToldCode _ code) = Failed side local code free may
+
+    then_bind : (es fs : List Entry) (code : ErrorCode) (given : Given) (items : List Item) → may_bind_to r.inner.family a ≡ true → Passes its.who (Check a TcpBind) es → Polled its.who (Bind a ∷ []) fs (Refused code given, items) → BindRefusal m own place r a (asked ∷ es ++ fs) (word_of_code code) m
+    then_bind _ _ code _ _ may (ToldYes _ _) (Stops _ _ es _ broke) = by_bind es code may broke
+    then_bind _ _ code _ _ may (ToldYes _ _) (GoesOn _ _ es fs end passed row) = absurd (not_over row)
+
+    refused : (es : List Entry) (code : ErrorCode) (given : Given) (items : List Item) → may_bind_to r.inner.family a ≡ true → Polled its.who its.left es (Refused code given, items) → BindRefusal m own place r a (asked ∷ es) (word_of_code code) m
+    refused _ code _ _ may (Stops _ _ es _ broke) = by_check es code may broke
+    refused _ code given items may (GoesOn _ _ es fs _ passed row) = then_bind es fs code given items may passed row
+
+    ended : may_bind_to r.inner.family a ≡ true → (es : List Entry) (end : End × List Item) → After (Polled its.who its.left) (asked ∷ []) es end → BindRow es (bind_ended its r end)
+    ended may es (Waits, items) k = let w = ends_so its.who its.left k.rest (Waits, items) k.row in record { front = asked ∷ w.front; last = w.last; cut = k.cut ∙ ap (λ (xs : List Entry). asked ∷ xs) w.cut; op = w.op; told = w.told }
+    ended may es (Done given, items) k = tt
+    ended may es (Refused code given, items) k = stays es code (rw k.cut (refused k.rest code given items may k.row))
+
+    tested : (b : Bool) → may_bind_to r.inner.family a ≡ b → Meets BindRow (asked ∷ []) (bind_begun r (if b then Ok its else Err InvalidArgument, r.inner))
+    tested true may = onto (bind_ended its r) (widen (ended may) (shifted (asked ∷ []) (polled its (tt, (tt, tt)))))
+    tested false e = ends (stays _ InvalidArgument (WrongAddress side local free e))
+
+  by_bound : (es : List Entry) (b : Bool × Socket) → BoundRow own r.inner es b → Meets BindRow es (bind_begun r (bind_start own b.1 a b.0, b.1))
+  by_bound _ _ (ItsBound es is) = ends (AlreadyBound es is, inr (refl, here n refl))
+  by_bound _ _ (ItsFree side local free) = subst (λ (st : TcpState). Meets BindRow (asked side local free ∷ []) (bind_begun r (bind_allowed own r.inner a st, r.inner))) (sym free.open_side) (tested side local free (may_bind_to r.inner.family a) refl)
+
+  bind_begins : Meets BindRow [] (begin_bind_asks own r a)
+  bind_begins = chain {Mid = λ es start. Meets BindRow es (bind_begun r start)} (onto _ (widen by_bound (bounds own r.inner))) (λ es start k. k)
+
+-- == a connect
+module _ (m : Machine) (own : OpId) (handle place : ℕ) (r : Tcp2Socket) (n : Names m handle place r) (a : IpSocketAddress) where
+  -- why it is refused, and what stands then
+  abbrev ConnectRefused : List Entry → CodeWord → Machine → Type 0
+  ConnectRefused es w after = ConnectRefusal m own place r a es w after × ((after ≡ m) ⊎ ((w ≡ word.InvalidArgument) × KnowsBound m handle after))
+
+  -- a connect as it was begun: it goes on, or is refused
+  abbrev ConnectRow : Rows (Result (Unit {0}) ErrorCode × Tcp2Socket)
+  ConnectRow es (Ok done, now) = Unit {0}
+  ConnectRow es (Err code, now) = ConnectRefused es (word_of_code code) (putting m place now)
+
+  connect_stays : (es : List Entry) (code : ErrorCode) → ConnectRefusal m own place r a es (word_of_code code) m → ConnectRow es (Err code, r)
+  connect_stays es code cause = put_back (ConnectRefused es (word_of_code code)) m place r n.at (cause, inl refl)
+
+  connect_tested : (side : OpId) (socket : Socket) (bound : Bool) (es : List Entry) (b : Bool) → is_connectable socket a ≡ b → (b ≡ false → ConnectRow es (connect_begun r (Err InvalidArgument, socket))) → ConnectRow es (connect_begun r (connect_start own side socket a bound))
+  connect_tested side socket bound es true e other = rw e tt
+  connect_tested side socket bound es false e other = rw e (other refl)
+
+  connect_by_bound : (side : OpId) → r.inner.state ≡ state.Default side → (es : List Entry) (b : Bool × Socket) → BoundRow own r.inner es b → ConnectRow es (connect_begun r (connect_start own side b.1 a b.0))
+  connect_by_bound side e _ _ (ItsBound es is) = connect_tested side (record r.inner { bound = true }) true es (is_connectable r.inner a) refl (λ no. (BoundElsewhere side es e is no, inr (refl, here n refl)))
+  connect_by_bound side e _ _ (ItsFree other local free) = connect_tested side r.inner false _ (is_connectable r.inner a) refl (λ no. connect_stays _ InvalidArgument (Elsewhere other local free no))
+
+  connect_in : (st : TcpState) → r.inner.state ≡ st → Meets (λ es done. ConnectRow es (connect_begun r done)) [] (start_connect_in own r.inner a st)
+  connect_in (state.Default side) e = onto _ (widen (connect_by_bound side e) (bounds own r.inner))
+  connect_in _ e = ends (connect_stays [] InvalidState (NotDefault (rw e tt)))
+
+  connect_begins : Meets ConnectRow [] (begin_connect_asks own r a)
+  connect_begins = onto (connect_begun r) (connect_in r.inner.state refl)
+
+-- == the first poll of a listen, of a socket that is bound
+module _ (asker : Asker) (any : IpSocketAddress) (backlog : ℕ) where
+  abbrev listens : Operation
+  listens = listen_operation asker any backlog listen_stage.Local
+
+  abbrev Fails : List Entry → ErrorCode → Type 0
+  Fails = ListenFails asker.op asker.side asker.maker backlog
+
+  by_local : (es : List Entry) (c : ErrorCode) → Breaks listens.who (CheckLocal TcpListen) es c → Fails (es ++ last_entries listens.who CloseLast) c
+  by_local _ _ (LocalToldNo a _) = ListenDenied a
+  by_local _ _ (LocalToldCode _ c) = LocalTold c
+
+  by_listen : (a : IpSocketAddress) (es : List Entry) (c : ErrorCode) → Breaks listens.who (Listen backlog) es c → Fails (local_entry listens.who (told.Addr a) ∷ check_entry listens.who a TcpListen told.Yes ∷ es ++ last_entries listens.who CloseLast) c
+  by_listen a _ _ (ListenToldCode _ c) = ListenTold a c
+
+  then_listen : (es fs : List Entry) (c : ErrorCode) (given : Given) (items : List Item) → Passes listens.who (CheckLocal TcpListen) es → Polled listens.who (Listen backlog ∷ []) fs (Refused c given, items) → Fails (es ++ fs) c
+  then_listen _ _ c _ _ (LocalToldYes a _) (Stops _ _ es _ broke) = by_listen a es c broke
+  then_listen _ _ c _ _ (LocalToldYes a _) (GoesOn _ _ es fs end passed row) = absurd (not_over row)
+
+  listen_refused : (es : List Entry) (c : ErrorCode) (given : Given) (items : List Item) → Polled listens.who listens.left es (Refused c given, items) → Fails es c
+  listen_refused _ c _ _ (Stops _ _ es _ broke) = by_local es c broke
+  listen_refused _ c given items (GoesOn _ _ es fs _ passed row) = then_listen es fs c given items passed row
+
+-- == a listen
+module _ (m : Machine) (own : OpId) (handle place : ℕ) (r : Tcp2Socket) (n : Names m handle place r) where
+  -- why it is refused, and what stands then
+  abbrev ListenRefusedSo : List Entry → CodeWord → Machine → Type 0
+  ListenRefusedSo es w after = ListenRefusal m own place r es w after × ((after ≡ m) ⊎ (KnowsBound m handle after ⊎ OfRecord m handle (λ place r. after ≡ closed_by_listen m place r)))
+
+  -- a listen as it was begun: it stands, or is done, or is refused
+  abbrev ListenRow : Rows (Result (Answer (Unit {0})) ErrorCode × Tcp2Socket)
+  ListenRow es (Ok Pending, now) = EndsPending own es
+  ListenRow es (Ok (Ready done), now) = Unit {0}
+  ListenRow es (Err code, now) = ListenRefusedSo es (word_of_code code) (putting m place now)
+
+  abbrev bound : Socket
+  bound = record r.inner { bound = true }
+
+  abbrev known : Tcp2Socket
+  known = with_inner r bound
+
+  -- of a socket that is bound
+  module _ (es : List Entry) (is : IsBound own r.inner es) where
+    past_default : IsPastDefault r.inner.state → ListenRow es (Err InvalidState, known)
+    past_default past = (subst (λ (fs : List Entry). ListenRefusal m own place r fs word.InvalidState (knowing_bound m place r)) (sym (asked_none own r.inner es is past)) (ListensLate past), inr (inl (here n refl)))
+
+    module _ (side : OpId) (open_side : r.inner.state ≡ state.Default side) (nothing : r.listening ≡ listening.Not) where
+      abbrev asker : Asker
+      asker = record { op = own; side = side; maker = r.inner.maker }
+
+      abbrev op : Operation
+      op = listens asker (wildcard r.inner.family) r.inner.backlog
+
+      abbrev taken : Socket
+      taken = with_state bound (state.Closed Other)
+
+      abbrev began : Tcp2Socket
+      began = record known { inner = taken; listening = listening.Begins op }
+
+      listen_poll_ended : (fs : List Entry) (end : End × List Item) → After (Polled op.who op.left) es fs end → ListenRow fs (listen_polled began (listen_ended op.who taken end))
+      listen_poll_ended fs (Waits, items) k =
+          let w = ends_so op.who op.left k.rest (Waits, items) k.row in
+          record { front = es ++ w.front; last = w.last; cut = k.cut ∙ (ap (λ (xs : List Entry). es ++ xs) w.cut ∙ sym (append_assoc es w.front (w.last ∷ []))); op = w.op; told = w.told }
+      listen_poll_ended fs (Done given, items) k = tt
+      listen_poll_ended fs (Refused c given, items) k = (rw k.cut (ListenRefused side es k.rest c open_side nothing is (listen_refused asker (wildcard r.inner.family) r.inner.backlog k.rest c given items k.row)), inr (inr (here n refl)))
+
+    by_state : (st : TcpState) → r.inner.state ≡ st → r.listening ≡ listening.Not → Meets ListenRow es (listen_begun known (listen_start own bound true st))
+    by_state (state.Default side) e nothing = onto _ (onto _ (widen (listen_poll_ended side e nothing) (shifted es (polled (op side e nothing) (tt, (tt, tt))))))
+    by_state _ e nothing = ends (past_default (rw e tt))
+
+    already : (st : TcpState) → r.inner.state ≡ st → IsPastNot r.listening → ListenRow es (Err InvalidState, known)
+    already (state.Default side) e past = (ListensAlready side es e is past, inr (inl (here n refl)))
+    already _ e past = past_default (rw e tt)
+
+    by_listening : (l : Listening) → r.listening ≡ l → Meets ListenRow es (listen_once own known l)
+    unfolding bind
+    by_listening listening.Not e = by_state r.inner.state refl e
+    by_listening _ e = ends (already r.inner.state refl (rw e tt))
+
+  listen_by_bound : (es : List Entry) (b : Bool × Socket) → BoundRow own r.inner es b → Meets ListenRow es (listen_bound own (with_inner r b.1) b.0)
+  listen_by_bound _ _ (ItsBound es is) = by_listening es is r.listening refl
+  listen_by_bound _ _ (ItsFree side local free) = ends (put_back (ListenRefusedSo (entry own (call.Local side) local ∷ []) word.InvalidState) m place r n.at (NotBound side local free, inl refl))
+
+  listen_begins : Meets ListenRow [] (begin_listen_asks own r)
+  listen_begins = chain (bounds own r.inner) listen_by_bound
+
+-- == the steps
+module _ (contexts : List WasiSocketsCtx) (m : Machine) (line c handle : ℕ) where
+  abbrev own : OpId
+  own = own_of line
+
+  -- with no operation in progress a code of what was begun is none of the start itself
+  no_code : {place : ℕ} {r : Tcp2Socket} → Names m handle place r → is_nothing r.in_progress ≡ true → (code : ErrorCode) → Conflicts m handle (reply.Err (word_of_code code))
+  no_code n idle code = no_conflict n idle _ (not_of_code code word.ConcurrencyConflict (λ no. no))
+
+  module _ (network : ℕ) (a : IpSocketAddress) where
+    -- == a bind
+    abbrev BindSays : Rows (Result (Answer (Unit {0})) Stop × Machine)
+    BindSays es done = Outcome contexts m line (step.TcpStartBind c handle network a) es (answer_reply line done.0) done.1
+
+    bind_said : (place : ℕ) (r : Tcp2Socket) (n : Names m handle place r) → is_nothing r.in_progress ≡ true → (es : List Entry) (ended : Result (Option Operation) ErrorCode × Tcp2Socket) → BindRow m own handle place r n a es ended → BindSays es (with_store m (bind_answered m.store line place ended))
+    bind_said place r n idle es (Ok (Some op), now) h = (λ is. no_conflict n idle _ (λ e. cc), ((refl, refl), h))
+    bind_said place r n idle es (Ok None, now) h = (λ is. no_conflict n idle _ (λ e. cc), (tt, tt))
+    bind_said place r n idle es (Err code, now) h = (λ is. no_code n idle code, (inr (code_word code), (here n (Begins idle h.0), h.1)))
+
+    pub start_bind : Meets (Says contexts m line (step.TcpStartBind c handle network a)) [] (bind (start_bind_asks m own handle network a) (λ done. Give (answer_reply line done.0, done.1)))
+    start_bind =
+        onto _ (branch (is_network (kind_at m.table network))
+        (λ is. on_idle m handle (start_bind_on m own a) (λ place o. start_bind_at m.store own place a o) (λ place r b. start_bind_by m.store own place a r b) refl (λ place. refl) (λ place. refl) (λ place r. refl) (λ place r. refl)
+        (λ none. (λ is. none_conflicts m handle _ none (λ e. cc), (inr none, refl, refl))) (λ place r n e. (λ is. in_conflict n e, (inl refl, (here n (InProgress e refl refl refl), inl refl)))) (λ place r n idle. onto _ (widen (bind_said place r n idle) (bind_begins m own handle place r n a))))
+        (λ no. ends (λ is. absurd (cc), (inl no, refl, refl))))
+
+    -- == a connect
+    abbrev ConnectSays : Rows (Result (Unit {0}) Stop × Machine)
+    ConnectSays es done = Outcome contexts m line (step.TcpStartConnect c handle network a) es (done_reply done.0) done.1
+
+    connect_said : (place : ℕ) (r : Tcp2Socket) (n : Names m handle place r) → is_nothing r.in_progress ≡ true → (es : List Entry) (done : Result (Unit {0}) ErrorCode × Tcp2Socket) → ConnectRow m own handle place r n a es done → ConnectSays es (with_store m (answer_put m.store place done))
+    connect_said place r n idle es (Ok done, now) h = (λ is. no_conflict n idle _ (λ e. cc), (tt, tt))
+    connect_said place r n idle es (Err code, now) h = (λ is. no_code n idle code, (inr (code_word code), (here n (Begins idle h.0), h.1)))
+
+    pub start_connect : Meets (Says contexts m line (step.TcpStartConnect c handle network a)) [] (bind (start_connect_asks m own handle network a) (λ done. Give (done_reply done.0, done.1)))
+    start_connect =
+        onto _ (branch (is_network (kind_at m.table network))
+        (λ is. on_idle m handle (start_connect_on m own a) (λ place o. start_connect_at m.store own place a o) (λ place r b. start_connect_by m.store own place a r b) refl (λ place. refl) (λ place. refl) (λ place r. refl) (λ place r. refl)
+        (λ none. (λ is. none_conflicts m handle _ none (λ e. cc), (inr none, refl, refl))) (λ place r n e. (λ is. in_conflict n e, (inl refl, (here n (InProgress e refl refl refl), inl refl)))) (λ place r n idle. onto _ (widen (connect_said place r n idle) (connect_begins m own handle place r n a))))
+        (λ no. ends (λ is. absurd (cc), (inl no, refl, refl))))
+
+  -- == a listen
+  abbrev ListenSays : Rows (Result (Answer (Unit {0})) Stop × Machine)
+  ListenSays es done = Outcome contexts m line (step.TcpStartListen c handle) es (answer_reply line done.0) done.1
+
+  listen_said : (place : ℕ) (r : Tcp2Socket) (n : Names m handle place r) → is_nothing r.in_progress ≡ true → (es : List Entry) (done : Result (Answer (Unit {0})) ErrorCode × Tcp2Socket) → ListenRow m own handle place r n es done → ListenSays es (with_store m (listen_answered m.store line place done))
+  listen_said place r n idle es (Ok Pending, now) h = (no_conflict n idle _ (λ e. cc), ((refl, refl), h))
+  listen_said place r n idle es (Ok (Ready done), now) h = (no_conflict n idle _ (λ e. cc), (tt, tt))
+  listen_said place r n idle es (Err code, now) h = (no_code n idle code, (inr (code_word code), (here n (Begins idle h.0), h.1)))
+
+  pub start_listen : Meets (Says contexts m line (step.TcpStartListen c handle)) [] (bind (start_listen_on m own (socket_at m handle)) (λ done. Give (answer_reply line done.0, done.1)))
+  start_listen =
+      onto _ (on_idle m handle (start_listen_on m own) (λ place o. start_listen_at m.store own place o) (λ place r b. start_listen_by m.store own place r b) refl (λ place. refl) (λ place. refl) (λ place r. refl) (λ place r. refl)
+      (λ none. (none_conflicts m handle _ none (λ e. cc), (none, refl, refl))) (λ place r n e. (in_conflict n e, (inl refl, (here n (InProgress e refl refl refl), inl refl)))) (λ place r n idle. onto _ (widen (listen_said place r n idle) (listen_begins m own handle place r n))))

@@ -1,0 +1,7 @@
+-- Tables of outcomes: how a tree meets one, the routes that steps share, each step, and what is read off.
+pub mod Creates
+pub mod Examples
+pub mod Meets
+pub mod Replies
+pub mod Routes
+pub mod Steps

@@ -1,0 +1,166 @@
+-- How a call finds its record, and how a handle is made: what every step shares that does so.
+use Rattle.std.specs.Prelude.{◌↔◌, IsSomeAnd}
+use Rattle.std.proofs.Common.{Bool, ◌≡◌, ◌≢◌, ◌∙◌, ℕ, zero, suc, true, false, List, [], ◌∷◌, ◌++◌, Option, Some, None, Result, Ok, Err, slice_get, slice_set, refl, sym, ap, subst, arith}
+use Rattle.wasi_addr.specs.declared.code.ErrorCode.{ErrorCode}
+use Rattle.wasi_addr.specs.declared.code.ErrorCode.TheVariants.{AccessDenied}
+use Rattle.wasi_world.specs.declared.ids.OpId.{OpId}
+use Rattle.wasi_world.specs.declared.call.Call.TheVariants as call
+use Rattle.wasi_world.specs.declared.call.Entry.{Entry}
+use Rattle.wasi_world.specs.declared.call.Told.{Told}
+use Rattle.wasi_world.specs.declared.call.Told.TheVariants as told
+use Rattle.wasi_world.specs.declared.outcome.TrapKind.TheVariants.{NoSuchHandle, Full}
+use Rattle.wasi_world.specs.declared.outcome.WasiSocketsCtx.{WasiSocketsCtx}
+use Rattle.wasi_world.specs.Fits.{IsDone}
+use Rattle.wasi_world.specs.Asks.{Asks, Give, bind}
+use Rattle.wasi_streams.specs.Table.{is_full}
+use Rattle.wasi_host.specs.declared.kind.Kind.{Kind}
+use Rattle.wasi_host.specs.declared.machine.Machine.{Machine}
+use Rattle.wasi_host.specs.declared.socket.Tcp2Socket.{Tcp2Socket}
+use Rattle.wasi_addr.specs.declared.p2.ErrorCode.TheVariants as p2
+use Rattle.wasi_host.specs.Host.{Stop, Code, Trap}
+use Rattle.wasi_host.specs.Kinds.{Handles, name_of, with_handle, make_asks}
+use Rattle.wasi_host.specs.Machine.{socket_at, no_such_handle, with_store}
+use Rattle.wasi_host.specs.Store.{Records, with_socket, is_nothing}
+use Rattle.wasi_steps.specs.declared.reply.CodeWord.{CodeWord}
+use Rattle.wasi_steps.specs.declared.reply.CodeWord.TheVariants as word
+use Rattle.wasi_steps.specs.declared.reply.Reply.{Reply}
+use Rattle.wasi_steps.specs.declared.reply.Reply.TheVariants as reply
+use Rattle.wasi_steps.specs.declared.step.Step.{Step}
+use Rattle.wasi_walks.specs.Answered.{record_in, record_at, putting, word_of_code, OfRecord}
+use Rattle.wasi_walks.specs.Licence.{entry, marks_in}
+use Rattle.wasi_causes.specs.Outcomes.{IsCodeWord, FullAfter, Conflicts, Outcome}
+use Rattle.wasi_causes.proofs.tables.Meets.{Rows, Meets, ends, asks, chain, widen, branch}
+
+-- what the step of this line may answer, as its table says
+abbrev pub Says : List WasiSocketsCtx → Machine → ℕ → Step → Rows (Reply × Machine)
+Says contexts m line s es done = Outcome contexts m line s es done.0 done.1
+
+-- == a record that is put back
+set_same : {A : Type 0} (xs : List A) (i : ℕ) (x : A) → slice_get xs i ≡ Some x → slice_set xs i x ≡ xs
+set_same [] i x e = absurd (cc)
+set_same (y ∷ xs) zero x e = let p : y ≡ x = cc in ap (λ (z : _). z ∷ xs) (sym p)
+set_same (y ∷ xs) (suc i) x e = ap (λ (ys : List _). y ∷ ys) (set_same xs i x e)
+
+pub put_store_same : (store : Records) (place : ℕ) (r : Tcp2Socket) → slice_get store.sockets place ≡ Some r → with_socket store place r ≡ store
+put_store_same store place r at = ap (λ (rs : List Tcp2Socket). let left : Records = record store { sockets = rs } in left) (set_same store.sockets place r at)
+
+pub put_same : (m : Machine) (place : ℕ) (r : Tcp2Socket) → slice_get m.store.sockets place ≡ Some r → putting m place r ≡ m
+put_same m place r at = ap (λ (store : Records). let left : Machine = record m { store = store } in left) (put_store_same m.store place r at)
+
+-- what leaves the machine
+pub put_back : (P : Machine → Type 0) (m : Machine) (place : ℕ) (r : Tcp2Socket) → slice_get m.store.sockets place ≡ Some r → P m → P (putting m place r)
+put_back P m place r at h = subst P (sym (put_same m place r at)) h
+
+-- == the record that a handle names
+-- The handle names this record, at this place.
+pub record Names (m : Machine) (handle place : ℕ) (r : Tcp2Socket) : Type 0 where
+  pub names : socket_at m handle ≡ Some place
+  pub at : slice_get m.store.sockets place ≡ Some r
+
+pub its : {m : Machine} {handle place : ℕ} {r : Tcp2Socket} → Names m handle place r → record_at m handle ≡ Some r
+its {m} n = ap (record_in m) n.names ∙ n.at
+
+pub here : {m : Machine} {handle place : ℕ} {r : Tcp2Socket} {P : ℕ → Tcp2Socket → Type 0} → Names m handle place r → P place r → OfRecord m handle P
+here {place} {r} n h = record { place = place; found = r; names = n.names; at = n.at; holds = h }
+
+-- by the record, whatever is made of it
+pub on_number : {B : Type 0} {Row : Rows B} (m : Machine) (handle : ℕ) (on : Option ℕ → Asks B) (call : ℕ → Option Tcp2Socket → Asks B) → ((place : ℕ) → on (Some place) ≡ call place (slice_get m.store.sockets place))
+    → (record_at m handle ≡ None → Meets Row [] (on None)) → (record_at m handle ≡ None → (place : ℕ) → Meets Row [] (call place None)) → ((place : ℕ) (r : Tcp2Socket) → Names m handle place r → Meets Row [] (call place (Some r)))
+    → Meets Row [] (on (socket_at m handle))
+on_number {B} {Row} m handle on call calls none lost rows = by_number (socket_at m handle) refl
+  where
+    by_place : (place : ℕ) (o : Option Tcp2Socket) → socket_at m handle ≡ Some place → slice_get m.store.sockets place ≡ o → Meets Row [] (call place o)
+    by_place place None names at = lost (ap (record_in m) names ∙ at) place
+    by_place place (Some r) names at = rows place r (record { names = names; at = at })
+
+    by_number : (o : Option ℕ) → socket_at m handle ≡ o → Meets Row [] (on o)
+    by_number None names = none (ap (record_in m) names)
+    by_number (Some place) names = subst (Meets Row []) (sym (calls place)) (by_place place (slice_get m.store.sockets place) names refl)
+
+-- a call on it, and what follows it
+pub through_record : {A B : Type 0} {Row : Rows B} (m : Machine) (handle : ℕ) (on : Option ℕ → Asks B) (call : ℕ → Option Tcp2Socket → Asks (Result A Stop × Records)) (next : ℕ → Result A Stop × Machine → Asks B)
+    → ((place : ℕ) → on (Some place) ≡ bind (call place (slice_get m.store.sockets place)) (λ done. next place (with_store m done))) → ((place : ℕ) → call place None ≡ Give (Err (Trap NoSuchHandle), m.store))
+    → (record_at m handle ≡ None → Meets Row [] (on None)) → (record_at m handle ≡ None → (place : ℕ) → Meets Row [] (next place (Err (Trap NoSuchHandle), m)))
+    → ((place : ℕ) (r : Tcp2Socket) → Names m handle place r → Meets (λ es done. Meets Row es (next place (with_store m done))) [] (call place (Some r))) → Meets Row [] (on (socket_at m handle))
+through_record {A} {B} {Row} m handle on call next calls lost none missing rows =
+    on_number m handle on (λ place o. bind (call place o) (λ done. next place (with_store m done))) calls none
+    (λ gone place. then place (subst (Meets (λ es done. Meets Row es (next place (with_store m done))) []) (sym (lost place)) (ends (missing gone place)))) (λ place r n. then place (rows place r n))
+  where
+    then : (place : ℕ) {first : Asks (Result A Stop × Records)} → Meets (λ es done. Meets Row es (next place (with_store m done))) [] first → Meets Row [] (bind first (λ done. next place (with_store m done)))
+    then place first = chain {Mid = λ es done. Meets Row es (next place (with_store m done))} first (λ es done k. k)
+
+-- a call on it alone, which traps where the handle or its record isn't there
+pub on_record : {A : Type 0} {Row : Rows (Result A Stop × Machine)} (m : Machine) (handle : ℕ) (on : Option ℕ → Asks (Result A Stop × Machine)) (call : ℕ → Option Tcp2Socket → Asks (Result A Stop × Records))
+    → on None ≡ no_such_handle m → ((place : ℕ) → on (Some place) ≡ bind (call place (slice_get m.store.sockets place)) (λ done. Give (with_store m done))) → ((place : ℕ) → call place None ≡ Give (Err (Trap NoSuchHandle), m.store))
+    → (record_at m handle ≡ None → Row [] (Err (Trap NoSuchHandle), m)) → ((place : ℕ) (r : Tcp2Socket) → Names m handle place r → Meets (λ es done. Row es (with_store m done)) [] (call place (Some r))) → Meets Row [] (on (socket_at m handle))
+on_record {A} {Row} m handle on call gone calls lost missing rows =
+    through_record m handle on call (λ place done. Give done) calls lost (λ none. subst (Meets Row []) (sym gone) (ends (missing none))) (λ none place. ends (missing none)) (λ place r n. widen (λ es done row. ends row) (rows place r n))
+
+-- one that begins an operation, which is refused while another is in progress
+pub on_idle : {A : Type 0} {Row : Rows (Result A Stop × Machine)} (m : Machine) (handle : ℕ) (on : Option ℕ → Asks (Result A Stop × Machine)) (call : ℕ → Option Tcp2Socket → Asks (Result A Stop × Records)) (by : ℕ → Tcp2Socket → Bool → Asks (Result A Stop × Records))
+    → on None ≡ no_such_handle m → ((place : ℕ) → on (Some place) ≡ bind (call place (slice_get m.store.sockets place)) (λ done. Give (with_store m done))) → ((place : ℕ) → call place None ≡ Give (Err (Trap NoSuchHandle), m.store))
+    → ((place : ℕ) (r : Tcp2Socket) → call place (Some r) ≡ by place r (is_nothing r.in_progress)) → ((place : ℕ) (r : Tcp2Socket) → by place r false ≡ Give (Err (Code p2.ConcurrencyConflict), m.store))
+    → (record_at m handle ≡ None → Row [] (Err (Trap NoSuchHandle), m)) → ((place : ℕ) (r : Tcp2Socket) → Names m handle place r → is_nothing r.in_progress ≡ false → Row [] (Err (Code p2.ConcurrencyConflict), m))
+    → ((place : ℕ) (r : Tcp2Socket) → Names m handle place r → is_nothing r.in_progress ≡ true → Meets (λ es done. Row es (with_store m done)) [] (by place r true)) → Meets Row [] (on (socket_at m handle))
+on_idle {A} {Row} m handle on call by gone calls lost goes conflicts missing busy begun = on_record m handle on call gone calls lost missing (λ place r n. subst (Meets (λ es done. Row es (with_store m done)) []) (sym (goes place r)) (by_progress place r n (is_nothing r.in_progress) refl))
+  where
+    by_progress : (place : ℕ) (r : Tcp2Socket) → Names m handle place r → (b : Bool) → is_nothing r.in_progress ≡ b → Meets (λ es done. Row es (with_store m done)) [] (by place r b)
+    by_progress place r n false e = subst (Meets (λ es done. Row es (with_store m done)) []) (sym (conflicts place r)) (ends (busy place r n e))
+    by_progress place r n true e = begun place r n e
+
+-- == a handle that is made
+pub makes : {Row : Rows (Result ℕ Stop × Handles)} {es : List Entry} (t : Handles) (op : OpId) (made : Kind) (parent : Option ℕ) (side : Option OpId)
+    → (is_full t ≡ true → Row es (Err (Trap Full), t)) → Row (es ++ entry op (call.Made t.next (name_of made) parent side) told.Done ∷ []) (Ok t.next, with_handle t made parent) → Meets Row es (make_asks t op made parent side)
+unfolding bind
+makes {Row} {es} t op made parent side full row = branch (is_full t) (λ e. ends (full e)) (λ room. asks (λ u fits. by_told u fits))
+  where
+    by_told : (u : Told) → IsDone u → Meets Row (es ++ entry op (call.Made t.next (name_of made) parent side) u ∷ []) (Give (Ok t.next, with_handle t made parent))
+    by_told told.Done fits = ends row
+    by_told _ fits = absurd fits
+
+-- no handle was made since
+pub full_so : (m after : Machine) (es : List Entry) → is_full after.table ≡ true → after.table ≡ m.table → marks_in es ≡ 0 → FullAfter m es after
+full_so m after es full same none = (full, let next = ap (λ (t : Handles). t.next) same in omega (arith, next, none))
+
+-- == one reply that comes of one thing
+-- neither is so
+pub apart : {A B : Type 0} → (A → ⊥) → (B → ⊥) → A ↔ B
+apart a b = (λ x. absurd (a x), λ y. absurd (b y))
+
+-- of a record that isn't there nothing is said
+pub none_has : {A : Type 0} (P : A → Type 0) (o : Option A) → o ≡ None → IsSomeAnd o P → ⊥
+none_has P None e h = h
+none_has P (Some x) e h = cc
+
+-- == words
+pub code_word : (c : ErrorCode) → IsCodeWord (word_of_code c)
+code_word c = record { code = c; is = refl }
+
+-- the words that no code has
+abbrev pub MayBeOfCode : CodeWord → Type 0
+MayBeOfCode word.ConcurrencyConflict = ⊥
+MayBeOfCode word.NotInProgress = ⊥
+MayBeOfCode word.WouldBlock = ⊥
+MayBeOfCode _ = Unit {0}
+
+of_code : (c : ErrorCode) → MayBeOfCode (word_of_code c)
+of_code AccessDenied = tt
+of_code _ = tt
+
+-- a refusal with a code isn't with one of those
+pub not_of_code : (c : ErrorCode) (w : CodeWord) → (MayBeOfCode w → ⊥) → reply.Err (word_of_code c) ≢ reply.Err w
+not_of_code c w none e = let same : word_of_code c ≡ w = cc in none (subst MayBeOfCode same (of_code c))
+
+-- == starts
+module _ {m : Machine} {handle place : ℕ} {r : Tcp2Socket} (n : Names m handle place r) where
+  -- with an operation in progress
+  pub in_conflict : is_nothing r.in_progress ≡ false → Conflicts m handle (reply.Err word.ConcurrencyConflict)
+  in_conflict e = (λ same. rw (its n) e, λ k. refl)
+
+  -- with none
+  pub no_conflict : is_nothing r.in_progress ≡ true → (said : Reply) → said ≢ reply.Err word.ConcurrencyConflict → Conflicts m handle said
+  no_conflict idle said other = apart other (λ k. let busy : is_nothing r.in_progress ≡ false = rw (its n) at k in cc)
+
+-- with no record
+pub none_conflicts : (m : Machine) (handle : ℕ) (said : Reply) → record_at m handle ≡ None → said ≢ reply.Err word.ConcurrencyConflict → Conflicts m handle said
+none_conflicts m handle said none other = apart other (none_has _ (record_at m handle) none)

@@ -1,0 +1,300 @@
+-- How each step is answered: which replies it may give; and by the kind of its reply, where that comes from, and what stands afterwards.
+use Rattle.std.specs.Prelude.{◌≡◌, ◌⊎◌, ⊤, ℕ, ◌+◌, true, List, [], ◌∷◌, ◌↔◌, false, length, Option, Some, None, IsSomeAnd, slice_get}
+use Rattle.wasi_addr.specs.declared.address.IpSocketAddress.{IpSocketAddress}
+use Rattle.wasi_addr.specs.declared.code.ErrorCode.{ErrorCode}
+use Rattle.wasi_world.specs.declared.outcome.TrapKind.{TrapKind}
+use Rattle.wasi_world.specs.declared.outcome.TrapKind.TheVariants.{NoSuchHandle, HasChildren, Full, NotPermitted}
+use Rattle.wasi_steps.specs.declared.reply.CodeWord.{CodeWord}
+use Rattle.wasi_steps.specs.declared.reply.CodeWord.TheVariants as word
+use Rattle.wasi_steps.specs.declared.reply.Field.{Field}
+use Rattle.wasi_steps.specs.declared.reply.Field.TheVariants as field
+use Rattle.wasi_steps.specs.declared.reply.Reply.{Reply}
+use Rattle.wasi_steps.specs.declared.reply.Reply.TheVariants as reply
+use Rattle.wasi_steps.specs.declared.step.Step.{Step}
+use Rattle.wasi_steps.specs.declared.step.Step.TheVariants as step
+use Rattle.wasi_walks.specs.Answered.{word_of_code, MakesHandle, IsWrite, CheckFails, closing_reader, closing_writer, ConnectsAt, CreateRefusal, EndsPending, FailsWith, FinishRefusal, HasNoBindInProgress, HasNoConnectInProgress, HasOperationInProgress, KnowsBound, IsGivenUp, IsUnpermitted, LocalRefusal, MissesHandle, OfRecord, OfStreams, output_streams, Permits, putting, ReadFails, ReadsEnd, ReadsNone, ReadsTold, record_at, RefusedBind, RefusedConnect, RefusedOf, RemoteRefusal, WasClosedWith, with_error, WriteFails}
+use Rattle.wasi_machine.specs.Machine.{is_guest_call, context_at}
+use Rattle.wasi_steps.specs.Replies.{FieldKind, ANumber, SomeBytes, Truth, FieldKinds, Each, AnAddress, kinds_of}
+use Rattle.wasi_steps.specs.Reply.{address_values, no_fields, number_fields, triple_fields, truth_fields}
+use Rattle.wasi_walks.specs.Waiting.{IsPoll, IsUnready, left_missing, MayStand, OfWatched, OutputWaits, pollable_mark, StandingFails, StandingWaits, StandsByBind, WatchesAccept, WatchesConnect, WatchesIdle}
+use Rattle.wasi_causes.specs.GivenUp.{IsDrop, HasLiveChildren, HasNoStreams, IsGone, LooksOnce, shut_down, shutdown_entries, socket_given_up, without}
+use Rattle.wasi_world.specs.declared.call.Call.TheVariants as call
+use Rattle.wasi_world.specs.declared.call.Entry.{Entry}
+use Rattle.wasi_world.specs.declared.call.Told.TheVariants as told
+use Rattle.wasi_world.specs.declared.outcome.WasiSocketsCtx.{WasiSocketsCtx}
+use Rattle.wasi_streams.specs.Table.{is_full}
+use Rattle.wasi_tcp.specs.declared.writer.WriteError.TheVariants as error
+use Rattle.wasi_tcp.specs.Socket.{new_socket}
+use Rattle.wasi_host.specs.declared.kind.Kind.{Kind}
+use Rattle.wasi_host.specs.declared.kind.Kind.TheVariants as kind
+use Rattle.wasi_host.specs.declared.machine.Machine.{Machine}
+use Rattle.wasi_host.specs.declared.socket.Tcp2Socket.{Tcp2Socket}
+use Rattle.wasi_host.specs.Kinds.{kind_at, is_network, watched_by, with_handle, without_handle}
+use Rattle.wasi_host.specs.Machine.{input_at, output_at, own_of, socket_at}
+use Rattle.wasi_host.specs.Pending.{stands_as}
+use Rattle.wasi_host.specs.Shutdowns.{with_streams}
+use Rattle.wasi_host.specs.Store.{with_record}
+use Rattle.wasi_walks.specs.Licence.{entry, Has, marks_in}
+use Rattle.wasi_walks.specs.Listens.{AcceptsAt, closed_by_listen, AcceptTakes, HasNoListenInProgress, RefusedAccept, RefusedListen}
+use Rattle.wasi_steps.specs.Settings.{chosen}
+use Rattle.wasi_causes.specs.Options.{GetsOption, RefusedGet, RefusedSet, SetsChosen}
+use Rattle.wasi_causes.specs.Turns.{IsOfJob}
+
+-- == the fields of a reply that is done
+abbrev pub IsLike : FieldKind → Field → Type 0
+IsLike ANumber (field.Number n) = ⊤
+IsLike SomeBytes (field.Bytes bytes) = ⊤
+IsLike Truth field.True = ⊤
+IsLike Truth field.False = ⊤
+IsLike _ _ = ⊥
+
+abbrev pub EachLike : List FieldKind → List Field → Type 0
+EachLike [] [] = ⊤
+EachLike (kind ∷ kinds) (f ∷ fields) = IsLike kind f × EachLike kinds fields
+EachLike _ _ = ⊥
+
+-- one of each of these kinds, or the numbers of an address; nothing is said of widths
+abbrev pub AreLike : FieldKinds → List Field → Type 0
+AreLike (Each kinds) fields = EachLike kinds fields
+AreLike AnAddress fields = (a : IpSocketAddress) × (fields ≡ address_values a)
+
+-- == the words of refusals
+-- The word of a code that the network may tell, or a test of the host's own answers.
+pub record IsCodeWord (w : CodeWord) : Type 0 where
+  pub code : ErrorCode
+  pub is : w ≡ word_of_code code
+
+-- by which word a step may be refused; beside codes the host has three words of its own
+abbrev pub MayRefuse : Step → CodeWord → Type 0
+MayRefuse (step.TcpCreate ctx family) w = IsCodeWord w
+MayRefuse (step.TcpStartBind ctx socket network a) w = (w ≡ word.ConcurrencyConflict) ⊎ IsCodeWord w
+MayRefuse (step.TcpFinishBind ctx socket) w = w ≡ word.NotInProgress
+MayRefuse (step.TcpStartConnect ctx socket network a) w = (w ≡ word.ConcurrencyConflict) ⊎ IsCodeWord w
+MayRefuse (step.TcpFinishConnect ctx socket) w = (w ≡ word.NotInProgress) ⊎ ((w ≡ word.WouldBlock) ⊎ IsCodeWord w)
+MayRefuse (step.TcpStartListen ctx socket) w = (w ≡ word.ConcurrencyConflict) ⊎ IsCodeWord w
+MayRefuse (step.TcpFinishListen ctx socket) w = w ≡ word.NotInProgress
+MayRefuse (step.TcpAccept ctx socket) w = (w ≡ word.WouldBlock) ⊎ IsCodeWord w
+MayRefuse (step.TcpLocalAddress ctx socket) w = IsCodeWord w
+MayRefuse (step.TcpRemoteAddress ctx socket) w = IsCodeWord w
+MayRefuse (step.TcpGet ctx socket option) w = IsCodeWord w
+MayRefuse (step.TcpSet ctx socket setting) w = IsCodeWord w
+MayRefuse (step.TcpShutdown ctx socket how) w = w ≡ word.InvalidState
+MayRefuse (step.Poll n) w = IsCodeWord w
+MayRefuse _ w = ⊥
+
+-- == the other replies
+-- a call of a stream, which may end, or fail and hand an error out
+abbrev pub IsStreamCall : Step → Type 0
+IsStreamCall (step.Read ctx input len) = ⊤
+IsStreamCall (step.CheckWrite ctx output) = ⊤
+IsStreamCall (step.Write ctx output bytes) = ⊤
+IsStreamCall (step.Flush ctx output) = ⊤
+IsStreamCall _ = ⊥
+
+-- a step that names no handle misses none
+abbrev pub MayMiss : Step → Type 0
+MayMiss (step.Network ctx) = ⊥
+MayMiss (step.TcpCreate ctx family) = ⊥
+MayMiss step.Turn = ⊥
+MayMiss _ = ⊤
+
+abbrev pub MayTrap : Step → TrapKind → Type 0
+MayTrap s NoSuchHandle = MayMiss s
+MayTrap s HasChildren = IsDrop s
+MayTrap s Full = MakesHandle s
+MayTrap s NotPermitted = IsWrite s
+MayTrap s _ = ⊥
+
+-- under which number it may be pending
+abbrev pub MayWait : ℕ → Step → ℕ → Type 0
+MayWait line (step.TcpStartBind ctx socket network a) n = n ≡ line
+MayWait line (step.TcpStartListen ctx socket) n = n ≡ line
+MayWait line (step.Drop ctx handle) n = n ≡ line
+MayWait line (step.Poll call) n = n ≡ call
+MayWait line _ n = ⊥
+
+-- what the step of this line may reply
+abbrev pub may_answer : ℕ → Step → Reply → Type 0
+may_answer line s (reply.Ok fields) = AreLike (kinds_of s) fields
+may_answer line s (reply.Err w) = MayRefuse s w
+may_answer line s reply.Closed = IsStreamCall s
+may_answer line s (reply.Failed w handle) = IsStreamCall s × IsCodeWord w
+may_answer line s (reply.Trap kind) = MayTrap s kind
+may_answer line s (reply.Pending n) = MayWait line s n
+may_answer line s reply.Busy = is_guest_call s ≡ true
+may_answer line s reply.NoSuchCall = IsPoll s
+may_answer line s _ = ⊥
+
+-- these are replies of the first of these steps, one each, from this line on
+abbrev pub EachMayAnswer : ℕ → List Step → List Reply → Type 0
+EachMayAnswer line steps [] = ⊤
+EachMayAnswer line (s ∷ steps) (r ∷ replies) = may_answer line s r × EachMayAnswer (line + 1) steps replies
+EachMayAnswer line [] (r ∷ replies) = ⊥
+
+-- == what holds whatever the reply is
+-- nothing was asked, and the machine is as it was
+abbrev pub Quiet : Machine → List Entry → Machine → Type 0
+Quiet m es after = (es ≡ []) × (after ≡ m)
+
+-- a start is refused so exactly where an operation is in progress
+abbrev pub Conflicts : Machine → ℕ → Reply → Type 0
+Conflicts m handle r = (r ≡ reply.Err word.ConcurrencyConflict) ↔ HasOperationInProgress (record_at m handle)
+
+-- what the drop of a handle of this kind asks, unless that is a socket's
+abbrev pub AsksOnce : ℕ → Option Kind → List Entry → Type 0
+AsksOnce line (Some (kind.Tcp2 place)) es = ⊤
+AsksOnce line (Some (kind.Output place)) es = LooksOnce (own_of line) es
+AsksOnce line _ es = es ≡ []
+
+-- What a turn leaves: the handles as they were; and who asks in it.
+pub record Turns (m : Machine) (es : List Entry) (r : Reply) (after : Machine) : Type 0 where
+  pub ok : r ≡ reply.Ok no_fields
+  pub asked : (e : Entry) → Has es e → IsOfJob m e.op
+  pub handles : after.table ≡ m.table
+
+-- one reply comes of this and of nothing else; or some of these things stay
+abbrev pub Always : Machine → ℕ → Step → List Entry → Reply → Machine → Type 0
+Always m line (step.TcpStartBind c s n a) es r after = is_network (kind_at m.table n) ≡ true → Conflicts m s r
+Always m line (step.TcpFinishBind c s) es r after = (es ≡ []) × ((r ≡ reply.Err word.NotInProgress) ↔ HasNoBindInProgress (record_at m s))
+Always m line (step.TcpStartConnect c s n a) es r after = is_network (kind_at m.table n) ≡ true → Conflicts m s r
+Always m line (step.TcpFinishConnect c s) es r after = (r ≡ reply.Err word.NotInProgress) ↔ HasNoConnectInProgress (record_at m s)
+Always m line (step.TcpStartListen c s) es r after = Conflicts m s r
+Always m line (step.TcpFinishListen c s) es r after = (es ≡ []) × ((r ≡ reply.Err word.NotInProgress) ↔ HasNoListenInProgress (record_at m s))
+Always m line (step.TcpIsListening c s) es r after = Quiet m es after
+Always m line (step.TcpAddressFamily c s) es r after = Quiet m es after
+Always m line (step.TcpGet c s option) es r after = after ≡ m
+Always m line (step.Write c output bytes) es r after = (r ≡ reply.Trap NotPermitted) ↔ IsSomeAnd (output_streams m output) (λ s. IsUnpermitted s.writer (length bytes))
+Always m line (step.Ready c p) es r after = WatchesIdle m p → (r ≡ reply.Ok (truth_fields true)) × Quiet m es after
+Always m line (step.Drop c h) es r after = ((r ≡ reply.Trap HasChildren) ↔ HasLiveChildren m h) × AsksOnce line (kind_at m.table h) es
+Always m line (step.TcpShutdown c s how) es r after = (r ≡ reply.Err word.InvalidState) ↔ HasNoStreams (record_at m s)
+Always m line step.Turn es r after = Turns m es r after
+Always m line (step.Poll n) es r after = ((r ≡ reply.NoSuchCall) ↔ (stands_as m.store.standing n ≡ false)) × (stands_as m.store.standing n ≡ true → (r ≡ reply.Pending n) ⊎ (after.store.standing ≡ None))
+Always m line _ es r after = ⊤
+
+-- == done
+-- The connection was taken, and its three handles are the next ones.
+pub record Accepts (m : Machine) (line handle : ℕ) (es : List Entry) (fields : List Field) (after : Machine) : Type 0 where
+  pub numbers : fields ≡ triple_fields m.table.next (m.table.next + 1) (m.table.next + 2)
+  pub takes : AcceptsAt m handle → OfRecord m handle (λ place r. AcceptTakes m (own_of line) line handle place r es after)
+
+-- bytes were read, or none, and the machine is as it was
+abbrev pub Reads : Machine → ℕ → ℕ → ℕ → List Entry → List Field → Machine → Type 0
+Reads m line input len es (field.Bytes [] ∷ []) after = OfStreams m (input_at m input) (λ place r s. ReadsNone (own_of line) len s.reader es) × (after ≡ m)
+Reads m line input len es (field.Bytes (b ∷ bytes) ∷ []) after = OfStreams m (input_at m input) (λ place r s. ReadsTold (own_of line) len s.reader (b ∷ bytes) es) × (after ≡ m)
+Reads m line input len es _ after = ⊥
+
+-- so many bytes may be written
+abbrev pub Permitted : Machine → ℕ → ℕ → List Entry → List Field → Type 0
+Permitted m line output es (field.Number n ∷ []) = OfStreams m (output_at m output) (λ place r s. Permits (own_of line) s.writer n es)
+Permitted m line output es _ = ⊥
+
+-- A pollable is made, with the next number, and was marked.
+pub record Subscribes (m : Machine) (line handle : ℕ) (es : List Entry) (fields : List Field) (after : Machine) : Type 0 where
+  pub number : fields ≡ number_fields m.table.next
+  pub marked : IsSomeAnd (watched_by (kind_at m.table handle)) (λ w. es ≡ pollable_mark m (own_of line) handle w ∷ [])
+  pub made : IsSomeAnd (watched_by (kind_at m.table handle)) (λ w. after ≡ record m { table = with_handle m.table (kind.Pollable w) (Some handle) })
+
+-- it is ready or it isn't
+abbrev pub Looks : Machine → ℕ → ℕ → List Entry → List Field → Type 0
+Looks m line pollable es (field.True ∷ []) = ⊤
+Looks m line pollable es (field.False ∷ []) = WatchesConnect m pollable → WatchesAccept m pollable → OfWatched m pollable (λ w r. IsUnready (own_of line) r es w)
+Looks m line pollable es _ = ⊥
+
+-- what is left where the handle that was dropped is of this kind
+abbrev pub Gone : Machine → ℕ → ℕ → Option Kind → List Entry → Machine → Type 0
+Gone m line handle (Some (kind.Tcp2 place)) es after = (r : Tcp2Socket) → slice_get m.store.sockets place ≡ Some r → (es ≡ socket_given_up (own_of line) r) × IsGone after place
+Gone m line handle (Some (kind.Output place)) es after = ⊤
+Gone m line handle _ es after = after ≡ without m handle
+
+abbrev pub Done : Machine → ℕ → Step → List Entry → List Field → Machine → Type 0
+Done m line (step.TcpAccept c s) es fields after = Accepts m line s es fields after
+Done m line (step.TcpGet c s option) es fields after = OfRecord m s (λ place r. GetsOption (own_of line) option r fields es)
+Done m line (step.TcpSet c s setting) es fields after = (fields ≡ no_fields) × OfRecord m s (λ place r. SetsChosen m (own_of line) (chosen setting) place r es after)
+Done m line (step.Read c input len) es fields after = Reads m line input len es fields after
+Done m line (step.CheckWrite c output) es fields after = Permitted m line output es fields
+Done m line (step.Flush c output) es fields after = Quiet m es after
+Done m line (step.Subscribe c h) es fields after = Subscribes m line h es fields after
+Done m line (step.Ready c p) es fields after = Looks m line p es fields
+Done m line (step.Drop c h) es fields after = (after.table ≡ without_handle m.table h) × Gone m line h (kind_at m.table h) es after
+Done m line (step.TcpShutdown c s how) es fields after = OfStreams m (socket_at m s) (λ place r st. (es ≡ shutdown_entries (own_of line) how st) × (after ≡ putting m place (with_streams r (shut_down how st))))
+Done m line s es fields after = ⊤
+
+-- == refused
+-- Why the finish of a connect is refused.
+pub record FinishRefused (m : Machine) (handle : ℕ) (es : List Entry) (w : CodeWord) (after : Machine) : Type 0 where
+  pub none : w ≡ word.NotInProgress → Quiet m es after
+  pub cause : ConnectsAt m handle → RefusedOf m handle (FinishRefusal m) es w after
+
+abbrev pub Refused : List WasiSocketsCtx → Machine → ℕ → Step → List Entry → CodeWord → Machine → Type 0
+Refused contexts m line (step.TcpCreate c family) es w after = CreateRefusal (own_of line) (context_at contexts c) family es w × (after ≡ m)
+Refused contexts m line (step.TcpStartBind c s n a) es w after = RefusedBind m (own_of line) s a es w after × ((after ≡ m) ⊎ ((w ≡ word.InvalidState) × KnowsBound m s after))
+Refused contexts m line (step.TcpFinishBind c s) es w after = after ≡ m
+Refused contexts m line (step.TcpStartConnect c s n a) es w after = RefusedConnect m (own_of line) s a es w after × ((after ≡ m) ⊎ ((w ≡ word.InvalidArgument) × KnowsBound m s after))
+Refused contexts m line (step.TcpFinishConnect c s) es w after = FinishRefused m s es w after
+Refused contexts m line (step.TcpStartListen c s) es w after = RefusedListen m (own_of line) s es w after × ((after ≡ m) ⊎ (KnowsBound m s after ⊎ OfRecord m s (λ place r. after ≡ closed_by_listen m place r)))
+Refused contexts m line (step.TcpFinishListen c s) es w after = after ≡ m
+Refused contexts m line (step.TcpAccept c s) es w after = AcceptsAt m s → RefusedAccept m line s es w after
+Refused contexts m line (step.TcpLocalAddress c s) es w after = RefusedOf m s (LocalRefusal m (own_of line)) es w after × ((after ≡ m) ⊎ KnowsBound m s after)
+Refused contexts m line (step.TcpRemoteAddress c s) es w after = RefusedOf m s (RemoteRefusal m (own_of line)) es w after × (after ≡ m)
+Refused contexts m line (step.TcpGet c s option) es w after = RefusedGet m (own_of line) s option es w after
+Refused contexts m line (step.TcpSet c s setting) es w after = RefusedSet m (own_of line) s setting es w after
+Refused contexts m line (step.TcpShutdown c s how) es w after = Quiet m es after
+Refused contexts m line (step.Poll n) es w after = StandsByBind m → StandingFails m n es w
+Refused contexts m line s es w after = ⊤
+
+-- == the ends of a stream's call
+abbrev pub Ends : Machine → ℕ → Step → List Entry → Machine → Type 0
+Ends m line (step.Read c input len) es after = OfStreams m (input_at m input) (λ place r s. ReadsEnd (own_of line) len s.reader es × (after ≡ closing_reader m place r s))
+Ends m line (step.CheckWrite c output) es after = OfStreams m (output_at m output) (λ place r s. CheckFails error.Closed s.writer es × (after ≡ closing_writer m place r s error.Closed))
+Ends m line (step.Write c output bytes) es after = OfStreams m (output_at m output) (λ place r s. WriteFails (own_of line) error.Closed s.writer es × (after ≡ closing_writer m place r s error.Closed))
+Ends m line (step.Flush c output) es after = OfStreams m (output_at m output) (λ place r s. IsGivenUp s.writer) × Quiet m es after
+Ends m line s es after = ⊤
+
+abbrev pub Fails : Machine → ℕ → Step → List Entry → CodeWord → ℕ → Machine → Type 0
+Fails m line (step.Read c input len) es w handle after = OfStreams m (input_at m input) (λ place r s. FailsWith m (own_of line) input (ReadFails (own_of line) len s.reader) es w handle × (after ≡ with_error (closing_reader m place r s)))
+Fails m line (step.CheckWrite c output) es w handle after =
+    OfStreams m (output_at m output) (λ place r s. FailsWith m (own_of line) output (λ c before. CheckFails (error.LastOperationFailed c) s.writer before × (after ≡ with_error (closing_writer m place r s (error.LastOperationFailed c)))) es w handle)
+Fails m line (step.Write c output bytes) es w handle after =
+    OfStreams m (output_at m output) (λ place r s. FailsWith m (own_of line) output (λ c before. WriteFails (own_of line) (error.LastOperationFailed c) s.writer before × (after ≡ with_error (closing_writer m place r s (error.LastOperationFailed c)))) es w handle)
+Fails m line (step.Flush c output) es w handle after = OfStreams m (output_at m output) (λ place r s. FailsWith m (own_of line) output (WasClosedWith s.writer) es w handle) × (after ≡ with_error m)
+Fails m line s es w handle after = ⊤
+
+-- == pending
+abbrev pub Pends : Machine → ℕ → Step → List Entry → Machine → Type 0
+Pends m line (step.TcpStartBind c s n a) es after = EndsPending (own_of line) es
+Pends m line (step.TcpStartListen c s) es after = EndsPending (own_of line) es
+Pends m line (step.Drop c h) es after = (after.table ≡ without_handle m.table h) × OutputWaits m (own_of line) (output_at m h) es
+Pends m line (step.Poll n) es after = StandsByBind m → StandingWaits m (own_of n) es
+Pends m line s es after = ⊤
+
+-- == traps
+-- the table is full, after the handles that the entries mark
+abbrev pub FullAfter : Machine → List Entry → Machine → Type 0
+FullAfter m es after = (is_full after.table ≡ true) × (after.table.next ≡ m.table.next + marks_in es)
+
+-- what a create leaves then: the side and its record
+abbrev pub LeftFull : List WasiSocketsCtx → Machine → ℕ → Step → List Entry → Machine → Type 0
+LeftFull contexts m line (step.TcpCreate c family) es after =
+    (is_full m.table ≡ true) × (es ≡ entry (own_of line) (call.TcpCreate (context_at contexts c).name family) told.Done ∷ []) × (after ≡ record m { store = with_record m.store (new_socket (own_of line) (context_at contexts c).name family) })
+LeftFull contexts m line s es after = ⊤
+
+abbrev pub Traps : List WasiSocketsCtx → Machine → ℕ → Step → List Entry → TrapKind → Machine → Type 0
+Traps contexts m line s es NoSuchHandle after = MissesHandle m s × (es ≡ []) × (after ≡ left_missing m s)
+Traps contexts m line s es HasChildren after = IsDrop s × Quiet m es after
+Traps contexts m line s es Full after = MakesHandle s × FullAfter m es after × LeftFull contexts m line s es after
+Traps contexts m line s es NotPermitted after = IsWrite s × Quiet m es after
+Traps contexts m line s es _ after = ⊥
+
+-- == the table: what the step of this line was told, what it replies, and the machine afterwards
+abbrev pub Replies : List WasiSocketsCtx → Machine → ℕ → Step → List Entry → Reply → Machine → Type 0
+Replies contexts m line s es (reply.Ok fields) after = AreLike (kinds_of s) fields × Done m line s es fields after
+Replies contexts m line s es (reply.Err w) after = MayRefuse s w × Refused contexts m line s es w after
+Replies contexts m line s es reply.Closed after = IsStreamCall s × Ends m line s es after
+Replies contexts m line s es (reply.Failed w handle) after = (IsStreamCall s × IsCodeWord w) × Fails m line s es w handle after
+Replies contexts m line s es (reply.Trap kind) after = Traps contexts m line s es kind after
+Replies contexts m line s es (reply.Pending n) after = (MayStand m line s n × IsSomeAnd after.store.standing (λ call. call.line ≡ n)) × Pends m line s es after
+Replies contexts m line s es reply.NoSuchCall after = IsPoll s × Quiet m es after
+Replies contexts m line s es _ after = ⊥
+
+abbrev pub Outcome : List WasiSocketsCtx → Machine → ℕ → Step → List Entry → Reply → Machine → Type 0
+Outcome contexts m line s es r after = Always m line s es r after × Replies contexts m line s es r after
