@@ -10,7 +10,7 @@ use Rattle.wasi_steps.specs.declared.reply.Reply.TheVariants as reply
 use Rattle.wasi_steps.specs.declared.step.Step.{Step}
 use Rattle.wasi_steps.specs.declared.step.Step.TheVariants as step
 use Rattle.wasi_walks.specs.Answered.{Answered}
-use Rattle.wasi_machine.specs.Machine.{is_guest_call, step_asks, machine_asks}
+use Rattle.wasi_machine.specs.Machine.{is_guest_call, step_asks, machine_asks, asks_while}
 use Rattle.wasi_steps.specs.Steps.{context_of}
 use Rattle.wasi_causes.specs.Outcomes.{Outcome, Quiet}
 use Rattle.wasi_causes.proofs.ending.Drops.{drop}
@@ -70,7 +70,7 @@ module _ (contexts : List WasiSocketsCtx) (m : Machine) (line : ℕ) where
   its_context None guest e its = absurd (cc)
   its_context (Some c) guest e its = refl
 
-  pub by_standing : (s : Step) (o : Option Standing) → m.store.standing ≡ o → Meets (λ es done. Answers s es done.0 done.1) [] (machine_asks contexts m line s o)
+  pub by_standing : (s : Step) (o : Option Standing) → m.store.standing ≡ o → Meets (λ es done. Answers s es done.0 done.1) [] (asks_while contexts m line s o)
   by_standing s None e = widen (λ es done row. IsItsOwn es done.0 done.1 (λ h. let stands : IsSome {T = Standing} None = rw e at h.0 in cc) row) (rows s)
   by_standing s (Some call) e =
       branch (is_guest_call s) (λ guest. ends (IsBusy (rw e refl, its_context (context_of s) (is_guest_call s) refl guest)))

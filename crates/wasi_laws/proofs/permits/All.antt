@@ -30,7 +30,7 @@ use Rattle.wasi_steps.specs.declared.reply.Reply.{Reply}
 use Rattle.wasi_steps.specs.declared.reply.Reply.TheVariants as reply
 use Rattle.wasi_steps.specs.declared.step.Step.TheVariants as step
 use Rattle.wasi_steps.specs.Reply.{number_fields}
-use Rattle.wasi_machine.specs.Machine.{permit_reply, machine_asks}
+use Rattle.wasi_machine.specs.Machine.{permit_reply, machine_asks, asks_while}
 use Rattle.wasi_walks.specs.Answered.{record_in, Answered}
 use Rattle.wasi_laws.specs.Permitted.{writer_in, writer_of_record, WritesTo}
 use Rattle.wasi_walks.proofs.claims.Polls.{Quiet, quiet_then, quiet_if}
@@ -125,7 +125,7 @@ module _ (contexts : List WasiSocketsCtx) (side : OpId) (taken permitted : List 
   abbrev IsBusy : List Entry → Reply × Machine → Type 0
   IsBusy es done = done.0 ≡ reply.Busy
 
-  all_by : (standing : Option Standing) (entries : List Entry) (next : Machine) → Left (machine_asks contexts m line (step.CheckWrite ctx output) standing) entries (Give (reply.Ok (number_fields n), next)) → taken ++ taken_in side entries ≡ permitted
+  all_by : (standing : Option Standing) (entries : List Entry) (next : Machine) → Left (asks_while contexts m line (step.CheckWrite ctx output) standing) entries (Give (reply.Ok (number_fields n), next)) → taken ++ taken_in side entries ≡ permitted
   all_by None entries next walk =
       let asks = bind (check_asks m (own_of line) output) (λ done. Give (permit_reply done.0, done.1)) in
       let Q = Replies side taken permitted m (own_of line) output h named in
