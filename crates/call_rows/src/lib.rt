@@ -8,6 +8,4 @@ pub mod guest;
 #[cfg(test)]
 mod options;
 #[cfg(test)]
-mod sockets;
-#[cfg(test)]
 mod tables;
