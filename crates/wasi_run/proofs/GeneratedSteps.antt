@@ -66,7 +66,7 @@ fits_in (s ∷ steps) zero d h k = h.0
 fits_in (s ∷ steps) (suc i) d h k = fits_in steps i d h.1 k
 
 drop_fits : (h : ℕ) → h ≤ 4294967295 → IsStep 1 (Drop 0 h)
-drop_fits h e = record { context = omega arith; width = omega arith; arguments = e }
+drop_fits h e = record { context = omega arith; width = omega arith; arguments = (e, tt) }
 
 port_fits : (x : ℕ) → port_of x ≤ 65535
 port_fits x = omega arith
@@ -76,17 +76,17 @@ block_fits s x place room wide = fits_in (block s x) place (Drop 0 s) steps (dro
   where
     steps : AreSteps (block s x)
     steps = (
-      record { context = omega arith; width = omega arith; arguments = tt },
+      record { context = omega arith; width = omega arith; arguments = (tt, tt) },
       (
-        record { context = omega arith; width = omega arith; arguments = (omega (arith, room), omega arith, ((omega arith, omega arith, omega arith, omega arith), port_fits x)) },
+        record { context = omega arith; width = omega arith; arguments = (omega (arith, room), (omega arith, (((omega arith, omega arith, omega arith, omega arith), port_fits x), tt))) },
         (
-          record { context = omega arith; width = omega arith; arguments = omega (arith, room) },
+          record { context = omega arith; width = omega arith; arguments = (omega (arith, room), tt) },
           (
-            record { context = omega arith; width = omega arith; arguments = room },
+            record { context = omega arith; width = omega arith; arguments = (room, tt) },
             (
-              record { context = omega arith; width = omega arith; arguments = (room, are_bytes (count_of x) (byte_of x) (omega (arith, wide))) },
+              record { context = omega arith; width = omega arith; arguments = (room, (are_bytes (count_of x) (byte_of x) (omega (arith, wide)), tt)) },
               (
-                record { context = omega arith; width = omega arith; arguments = omega (arith, room) },
+                record { context = omega arith; width = omega arith; arguments = (omega (arith, room), (tt, tt)) },
                 (
                   drop_fits (s + 1) (omega (arith, room)),
                   (

@@ -1,49 +1,21 @@
 -- Each step is read from exactly its line.
-use Rattle.std.proofs.Common.{◌≡◌, ℕ, ◌<◌, ◌≤◌, List, [], ◌∷◌, slice_index, codes, decimal, Option, Some, None, refl, arith, inl, inr, Bool, true, false, cond, nat_lt, IsTrue, append-nil, ap, ◌∙◌}
-use Rattle.wasi_world.specs.Fields.{Reader, ◌>>=◌, read_then, give, give_some, after_word, whole, fields_of, field_at, number_in, word_at, address_at, BeginsPlain}
+use Rattle.std.proofs.Common.{◌≡◌, ℕ, ◌<◌, ◌≤◌, List, [], ◌∷◌, ◌++◌, slice_index, codes, decimal, Option, Some, None, refl, arith, inl, inr, Bool, true, false, cond, nat_lt, IsTrue, append-nil, ap, sym, subst, ◌∙◌}
+use Rattle.wasi_world.specs.Fields.{Reader, ◌>>=◌, read_then, give, give_some, after_word, whole, Row, fields_of, field_at, number_in, word_at, BeginsPlain}
+use Rattle.std.specs.Prelude.{IfSome}
 use Rattle.std.specs.List.{AllByRecursion, list_all}
 use Rattle.std.proofs.lemmas.Bool.{ltb-true, lt-ltb}
-use Rattle.wasi_world.specs.Written.{ReadsExactly, AreVisible, IsVisible, is_visible, address_fields, FitsAddress}
+use Rattle.wasi_world.specs.Written.{ReadsExactly, AreVisible, IsVisible, is_visible}
 use Rattle.wasi_world.proofs.Numbers.{number_in_is, number_in_decimal, begins_otherwise}
 use Rattle.wasi_world.proofs.ReadBack.{u32_exactly, family_exactly, address_exactly, bytes_exactly, word_exactly}
 use Rattle.wasi_world.proofs.Visible.{visible_utf8, visible_line, number_visible, family_visible, address_visible, bytes_visible, fields_of_line, line_of_fields}
-use Rattle.wasi_world.proofs.Exactly.{All, Only, exactly, all_give, only_give, only_some, all_then, only_then, all_last, only_last}
+use Rattle.wasi_world.proofs.Exactly.{All, Only, exactly, all_give, only_give, only_some, all_then, only_then, all_last}
 use Rattle.wasi_world.proofs.Words.{only_word}
-use Rattle.wasi_addr.specs.declared.address.IpSocketAddress.{IpSocketAddress}
 use Rattle.wasi_addr.specs.declared.address.ShutdownType.{ShutdownType}
 use Rattle.wasi_addr.specs.declared.address.ShutdownType.TheVariants.{Receive, Send, Both}
 use Rattle.wasi_steps.specs.declared.step.Step.{Step}
-use Rattle.wasi_steps.specs.declared.step.Step.TheVariants.{Network, TcpCreate, TcpStartBind, TcpFinishBind, TcpStartConnect, TcpFinishConnect, TcpStartListen, TcpFinishListen, TcpAccept, TcpLocalAddress, TcpRemoteAddress, TcpIsListening, TcpAddressFamily, TcpGet, TcpSet, TcpShutdown, Read, CheckWrite, Write, Flush, Subscribe, Ready, Drop, Turn, Poll}
-use Rattle.wasi_steps.specs.Steps.{shutdown_fields, fields_of_step, line_of, context_of, FitsArguments, IsStep, shutdown_words, shutdown_at, handle_at, steps, bare_steps, guest_call_at, after_first, step_at, step_of}
+use Rattle.wasi_steps.specs.declared.step.Step.TheVariants as step
+use Rattle.wasi_steps.specs.Steps.{Kind, HandleOf, ALine, ACount, AFamily, ASocketAddress, AnOption, ASetting, AHalf, AllBytes, Value, value_at, value_fields, FitsValue, Values, values_fields, FitsValues, Takes, made, values_at, Written, fields_of_written, signature, context_fields, shutdown_fields, shutdown_words, shutdown_at, context_of, fields_of_step, line_of, IsStep, row_of, rows_of, steps, bare_steps, guest_call_at, after_first, step_at, step_of}
 use Rattle.wasi_steps.proofs.SettingLaws.{◌and◌, u64_exactly, option_exactly, option_visible, setting_exactly, setting_visible}
-
--- a row reads the steps of a context that are written with its word
-abbrev ReadsStep : ℕ → ℕ → List ℕ → List (List ℕ) → Step → Type 0
-ReadsStep contexts c word taken s = IsStep contexts s × (decimal c ∷ word ∷ taken ≡ fields_of_step s)
-
--- and a row of the steps that no context makes reads those
-abbrev ReadsBare : ℕ → List ℕ → List (List ℕ) → Step → Type 0
-ReadsBare contexts word taken s = IsStep contexts s × (word ∷ taken ≡ fields_of_step s)
-
--- what more than one step reads as its arguments: a handle; a socket, a network and an address
-handle_only : (make : ℕ → Step) {Q : List (List ℕ) → Step → Type 0} → ((h : ℕ) → h ≤ 4294967295 → Q (decimal h ∷ []) (make h)) → Only (handle_at >>= λ h. give (make h)) Q
-handle_only make q = only_last make u32_exactly q
-
-handle_all : (make : ℕ → Step) {h : ℕ} → h ≤ 4294967295 → All (handle_at >>= λ h. give (make h)) (make h) (decimal h ∷ [])
-handle_all make fits = all_last _ u32_exactly fits all_give
-
-abbrev FitsPlace : ℕ → ℕ → IpSocketAddress → Type 0
-FitsPlace socket network a = (socket ≤ 4294967295) × (network ≤ 4294967295) × FitsAddress a
-
-abbrev place_at : (ℕ → ℕ → IpSocketAddress → Step) → Reader Step
-place_at make = handle_at >>= λ socket. handle_at >>= λ network. address_at >>= λ a. give (make socket network a)
-
-place_only : (make : ℕ → ℕ → IpSocketAddress → Step) {Q : List (List ℕ) → Step → Type 0} → ((socket network : ℕ) (a : IpSocketAddress) → FitsPlace socket network a → Q (decimal socket ∷ decimal network ∷ address_fields a) (make socket network a)) → Only (place_at make) Q
-place_only make q =
-    only_then _ u32_exactly (λ socket fs. only_then _ u32_exactly (λ network fn. only_last _ address_exactly (λ a fa. q socket network a (fs, fn, fa))))
-
-place_all : (make : ℕ → ℕ → IpSocketAddress → Step) {socket network : ℕ} {a : IpSocketAddress} → FitsPlace socket network a → All (place_at make) (make socket network a) (decimal socket ∷ decimal network ∷ address_fields a)
-place_all make fits = all_then _ u32_exactly fits.0 (all_then _ u32_exactly fits.1 (all_last _ address_exactly fits.2 all_give))
 
 -- the word of what is shut down is read exactly
 shutdown_all : (how : ShutdownType) → All shutdown_at how (shutdown_fields how)
@@ -59,49 +31,123 @@ shutdown_exactly = exactly
     (only_give Receive (tt, refl) and only_give Send (tt, refl) and only_give Both (tt, refl) and tt)))
     (λ how u. shutdown_all how)
 
-rows_only : (contexts c : ℕ) → c < contexts → c ≤ 4294967295 → AllByRecursion (λ r. Only r.reads (ReadsStep contexts c r.word)) (steps c)
-rows_only contexts c context width =
-    let is : (s : Step) → context_of s ≡ Some c → FitsArguments s → IsStep contexts s = λ s same arguments. record { context = rw same context; width = rw same width; arguments = arguments } in
-    only_then _ u32_exactly (λ output fo. only_last _ bytes_exactly (λ bytes are. (is _ refl (fo, are), refl)))
-    and only_then _ u32_exactly (λ input fi. only_last (Read c input) u64_exactly (λ len fl. (is _ refl (fi, fl), refl)))
-    and handle_only (CheckWrite c) (λ output fits. (is _ refl fits, refl))
-    and handle_only (Flush c) (λ output fits. (is _ refl fits, refl))
-    and handle_only (Subscribe c) (λ handle fits. (is _ refl fits, refl))
-    and handle_only (Ready c) (λ pollable fits. (is _ refl fits, refl))
-    and handle_only (Drop c) (λ handle fits. (is _ refl fits, refl))
-    and only_give (Network c) (is _ refl tt, refl)
-    and only_last (TcpCreate c) family_exactly (λ family u. (is _ refl tt, refl))
-    and place_only (TcpStartBind c) (λ socket network a fits. (is _ refl fits, refl))
-    and handle_only (TcpFinishBind c) (λ socket fits. (is _ refl fits, refl))
-    and place_only (TcpStartConnect c) (λ socket network a fits. (is _ refl fits, refl))
-    and handle_only (TcpFinishConnect c) (λ socket fits. (is _ refl fits, refl))
-    and only_then _ u32_exactly (λ socket fs. only_last (TcpShutdown c socket) shutdown_exactly (λ how u. (is _ refl fs, refl)))
-    and handle_only (TcpStartListen c) (λ socket fits. (is _ refl fits, refl))
-    and handle_only (TcpFinishListen c) (λ socket fits. (is _ refl fits, refl))
-    and handle_only (TcpAccept c) (λ socket fits. (is _ refl fits, refl))
-    and handle_only (TcpLocalAddress c) (λ socket fits. (is _ refl fits, refl))
-    and handle_only (TcpRemoteAddress c) (λ socket fits. (is _ refl fits, refl))
-    and handle_only (TcpIsListening c) (λ socket fits. (is _ refl fits, refl))
-    and handle_only (TcpAddressFamily c) (λ socket fits. (is _ refl fits, refl))
-    and only_then _ u32_exactly (λ socket fs. only_last (TcpGet c socket) option_exactly (λ option u. (is _ refl fs, refl)))
-    and only_then _ u32_exactly (λ socket fs. only_last (TcpSet c socket) setting_exactly (λ s fits. (is _ refl (fs, fits), refl)))
-    and tt
+-- == arguments
+kind_exactly : (kind : Kind) → ReadsExactly (value_at kind) (value_fields kind) (FitsValue kind)
+kind_exactly (HandleOf target) = u32_exactly
+kind_exactly ALine = u32_exactly
+kind_exactly ACount = u64_exactly
+kind_exactly AFamily = family_exactly
+kind_exactly ASocketAddress = address_exactly
+kind_exactly AnOption = option_exactly
+kind_exactly ASetting = setting_exactly
+kind_exactly AHalf = shutdown_exactly
+kind_exactly AllBytes = bytes_exactly
 
-bare_only : (contexts : ℕ) → AllByRecursion (λ r. Only r.reads (ReadsBare contexts r.word)) bare_steps
-bare_only contexts =
-    only_give Turn (record { context = tt; width = tt; arguments = tt }, refl)
-    and only_last Poll u32_exactly (λ call fits. (record { context = tt; width = tt; arguments = fits }, refl))
-    and tt
+values_only : (kinds : List Kind) (makes : Takes kinds) {Q : List (List ℕ) → Step → Type 0} → ((values : Values kinds) → FitsValues kinds values → Q (values_fields kinds values) (made kinds makes values)) → Only (values_at kinds makes) Q
+values_only [] s q = only_give s (q tt tt)
+values_only (kind ∷ kinds) makes q = only_then _ (kind_exactly kind) (λ value fits. values_only kinds (makes value) (λ values more. q (value, values) (fits, more)))
+
+values_all : (kinds : List Kind) (makes : Takes kinds) (values : Values kinds) → FitsValues kinds values → All (values_at kinds makes) (made kinds makes values) (values_fields kinds values)
+values_all [] s values fits = all_give
+values_all (kind ∷ kinds) makes values fits = all_then _ (kind_exactly kind) fits.0 (values_all kinds (makes values.0) values.1 fits.1)
+
+-- == rows
+-- what a step's maker makes of any values is written with its word and these values, as the step is
+abbrev IsMade : Step → Type 0
+IsMade s = let is = signature s in (values : Values is.written.kinds) → (signature (made is.written.kinds is.makes values)).written ≡ record is.written { values = values }
+
+all_made : (c : ℕ) → AllByRecursion IsMade (steps c)
+all_made c = search
+
+bare_made : AllByRecursion IsMade bare_steps
+bare_made = search
+
+-- all of a list are made in this context, or in none
+abbrev AreOf : Option ℕ → List Step → Type 0
+AreOf context todo = AllByRecursion (λ s. context_of s ≡ context) todo
+
+all_of : (c : ℕ) → AreOf (Some c) (steps c)
+all_of c = search
+
+bare_of : AreOf None bare_steps
+bare_of = search
+
+-- what a row reads is a step that is written so
+abbrev ReadsStep : ℕ → Option ℕ → List ℕ → List (List ℕ) → Step → Type 0
+ReadsStep contexts context word taken s = IsStep contexts s × (context_fields context (word ∷ taken) ≡ fields_of_step s)
+
+abbrev IsWritten : ℕ → Option ℕ → List ℕ → List (List ℕ) → Written → Type 0
+IsWritten contexts context word taken w = IfSome w.context (λ c. c < contexts) × IfSome w.context (λ c. c ≤ 4294967295) × FitsValues w.kinds w.values × (context_fields context (word ∷ taken) ≡ fields_of_written w)
+
+step_is_written : (contexts : ℕ) (context : Option ℕ) (word : List ℕ) (taken : List (List ℕ)) (s : Step) → IsWritten contexts context word taken (signature s).written → ReadsStep contexts context word taken s
+step_is_written contexts context word taken s h = (record { context = h.0; width = h.1; arguments = h.2 }, h.3)
+
+-- a context is one of so many
+abbrev IsContext : ℕ → Option ℕ → Type 0
+IsContext contexts context = IfSome context (λ c. c < contexts) × IfSome context (λ c. c ≤ 4294967295)
+
+row_only : (contexts : ℕ) (s : Step) → IsMade s → IsContext contexts (context_of s) → Only (row_of s).reads (ReadsStep contexts (context_of s) (row_of s).word)
+row_only contexts s is context =
+    let it = signature s in
+    values_only it.written.kinds it.makes (λ values fits. step_is_written contexts it.written.context it.written.word (values_fields it.written.kinds values) (made it.written.kinds it.makes values)
+    (subst (IsWritten contexts it.written.context it.written.word (values_fields it.written.kinds values)) (sym (is values)) (context.0, context.1, fits, refl)))
+
+rows_only : (contexts : ℕ) (context : Option ℕ) → IsContext contexts context → (todo : List Step) → AllByRecursion IsMade todo → AreOf context todo → AllByRecursion (λ r. Only r.reads (ReadsStep contexts context r.word)) (rows_of todo)
+rows_only contexts context is [] made of = tt
+rows_only contexts context is (s ∷ todo) made of =
+    subst (λ o. Only (row_of s).reads (ReadsStep contexts o (row_of s).word)) of.0 (row_only contexts s made.0 (rw of.0 is))
+    and rows_only contexts context is todo made.1 of.1
 
 -- what a guest call and a first word read is a step
-call_by : (contexts c : ℕ) (below : Bool) → nat_lt c contexts ≡ below → c ≤ 4294967295 → Only (cond below (read_then word_at (λ word. after_word (steps c) word)) (give_some None)) (λ taken s. IsStep contexts s × (decimal c ∷ taken ≡ fields_of_step s))
-call_by contexts c true e width = only_then _ word_exactly (λ word utf8. only_word (ReadsStep contexts c) (steps c) word (rows_only contexts c (ltb-true _ _ e) width))
+call_by : (contexts c : ℕ) (below : Bool) → nat_lt c contexts ≡ below → c ≤ 4294967295 → Only (cond below (read_then word_at (λ word. after_word (rows_of (steps c)) word)) (give_some None)) (λ taken s. IsStep contexts s × (decimal c ∷ taken ≡ fields_of_step s))
+call_by contexts c true e width = only_then _ word_exactly (λ word utf8. only_word (ReadsStep contexts (Some c)) (rows_of (steps c)) word (rows_only contexts (Some c) (ltb-true _ _ e, width) (steps c) (all_made c) (all_of c)))
 call_by contexts c false e width = only_some None (λ s h. cc)
 
-first_only : (contexts : ℕ) (first : List ℕ) (number : Option ℕ) → number_in first 4294967295 ≡ number → Only (after_first contexts first number) (ReadsBare contexts first)
+first_only : (contexts : ℕ) (first : List ℕ) (number : Option ℕ) → number_in first 4294967295 ≡ number → Only (after_first contexts first number) (ReadsStep contexts None first)
 unfolding guest_call_at
 first_only contexts first (Some c) e = let is = number_in_is first 4294967295 c e in rw is.0 (call_by contexts c (nat_lt c contexts) refl is.1)
-first_only contexts first None e = only_word (ReadsBare contexts) bare_steps first (bare_only contexts)
+first_only contexts first None e = only_word (ReadsStep contexts None) (rows_of bare_steps) first (rows_only contexts None (tt, tt) bare_steps bare_made bare_of)
+
+-- == a step's own row
+abbrev rows_by : Option ℕ → List (Row Step)
+rows_by None = rows_of bare_steps
+rows_by (Some c) = rows_of (steps c)
+
+-- its maker makes it, and its word's row is its own
+told : (s : Step) → (let is = signature s in (made is.written.kinds is.makes is.written.values ≡ s) × (after_word (rows_by is.written.context) is.written.word ≡ (row_of s).reads))
+told (step.Network c) = (refl, refl)
+told (step.TcpCreate c family) = (refl, refl)
+told (step.TcpStartBind c socket network a) = (refl, refl)
+told (step.TcpFinishBind c socket) = (refl, refl)
+told (step.TcpStartConnect c socket network a) = (refl, refl)
+told (step.TcpFinishConnect c socket) = (refl, refl)
+told (step.TcpStartListen c socket) = (refl, refl)
+told (step.TcpFinishListen c socket) = (refl, refl)
+told (step.TcpAccept c socket) = (refl, refl)
+told (step.TcpLocalAddress c socket) = (refl, refl)
+told (step.TcpRemoteAddress c socket) = (refl, refl)
+told (step.TcpIsListening c socket) = (refl, refl)
+told (step.TcpAddressFamily c socket) = (refl, refl)
+told (step.TcpGet c socket option) = (refl, refl)
+told (step.TcpSet c socket setting) = (refl, refl)
+told (step.TcpShutdown c socket how) = (refl, refl)
+told (step.Read c input len) = (refl, refl)
+told (step.CheckWrite c output) = (refl, refl)
+told (step.Write c output bytes) = (refl, refl)
+told (step.Flush c output) = (refl, refl)
+told (step.Subscribe c handle) = (refl, refl)
+told (step.Ready c pollable) = (refl, refl)
+told (step.Drop c handle) = (refl, refl)
+told step.Turn = (refl, refl)
+told (step.Poll call) = (refl, refl)
+
+row_reads : (s : Step) → FitsValues (signature s).written.kinds (signature s).written.values → All (after_word (rows_by (context_of s)) (signature s).written.word) s (values_fields (signature s).written.kinds (signature s).written.values)
+row_reads s fits =
+    let it = signature s in
+    rw (told s).1 (subst (λ t. All (row_of s).reads t (values_fields it.written.kinds it.written.values)) (told s).0 (values_all it.written.kinds it.makes it.written.values fits))
+
+visible_word : (s : Step) → IsTrue (list_all is_visible (signature s).written.word)
+visible_word s = grind arith
 
 -- a word that begins with a letter is no number
 letter_begins : (b : ℕ) (word : List ℕ) → 57 < b → BeginsPlain (b ∷ word) → ⊥
@@ -111,52 +157,27 @@ letter_begins b word letter (inr r) = omega arith
 no_number : (b : ℕ) (word : List ℕ) → 57 < b → number_in (b ∷ word) 4294967295 ≡ None
 no_number b word letter = begins_otherwise (b ∷ word) 4294967295 (omega arith) (letter_begins b word letter)
 
--- what follows a context and a word is read after them
-call_all : {contexts c : ℕ} {s : Step} {word : List ℕ} {taken : List (List ℕ)} → c < contexts → IsTrue (list_all is_visible word) → All (after_word (steps c) word) s taken → All (guest_call_at contexts c) s (word ∷ taken)
+bare_word : (s : Step) → context_of s ≡ None → number_in (signature s).written.word 4294967295 ≡ None
+bare_word step.Turn e = no_number _ _ (omega arith)
+bare_word (step.Poll call) e = no_number _ _ (omega arith)
+bare_word _ e = absurd (cc)
+
+-- what follows a context and a word is read after them, and what follows the word of a step that no context makes
+call_all : {contexts c : ℕ} {s : Step} {word : List ℕ} {taken : List (List ℕ)} → c < contexts → IsTrue (list_all is_visible word) → All (after_word (rows_of (steps c)) word) s taken → All (guest_call_at contexts c) s (word ∷ taken)
 unfolding guest_call_at
 call_all {contexts} {c} {word = word} below visible arguments =
     rw (lt-ltb c contexts below) (all_then _ word_exactly (visible_utf8 word visible) arguments)
 
-after : {contexts c : ℕ} {s : Step} {word : List ℕ} {taken : List (List ℕ)} → context_of s ≡ Some c → IsStep contexts s → IsTrue (list_all is_visible word) → All (after_word (steps c) word) s taken → All (step_at contexts) s (decimal c ∷ word ∷ taken)
+after : (contexts : ℕ) (context : Option ℕ) (word : List ℕ) (s : Step) {taken : List (List ℕ)} → IsContext contexts context → (context ≡ None → number_in word 4294967295 ≡ None) → IsTrue (list_all is_visible word) → All (after_word (rows_by context) word) s taken
+    → All (step_at contexts) s (context_fields context (word ∷ taken))
 unfolding step_at
-after {contexts} {c} makes is visible arguments =
-    let below : c < contexts = rw makes at is.context in
-    let width : c ≤ 4294967295 = rw makes at is.width in
-    all_then _ word_exactly (visible_utf8 (decimal c) (number_visible c (omega arith)))
-    (rw (number_in_decimal (decimal c) 4294967295 c (omega arith) refl width) (call_all below visible arguments))
-
--- and what follows the word of a step that no context makes
-bare : (contexts : ℕ) {b : ℕ} {s : Step} {word : List ℕ} {taken : List (List ℕ)} → 57 < b → IsTrue (list_all is_visible (b ∷ word)) → All (after_word bare_steps (b ∷ word)) s taken → All (step_at contexts) s ((b ∷ word) ∷ taken)
-unfolding step_at
-bare contexts {b} {word = word} letter visible arguments =
-    all_then _ word_exactly (visible_utf8 (b ∷ word) visible) (rw (no_number b word letter) arguments)
+after contexts (Some c) word s is other visible arguments =
+    all_then _ word_exactly (visible_utf8 (decimal c) (number_visible c (let width = is.1 in omega arith)))
+    (rw (number_in_decimal (decimal c) 4294967295 c (omega arith) refl is.1) (call_all is.0 visible arguments))
+after contexts None word s is other visible arguments = all_then _ word_exactly (visible_utf8 word visible) (rw (other refl) arguments)
 
 step_all : (contexts : ℕ) (s : Step) → IsStep contexts s → All (step_at contexts) s (fields_of_step s)
-step_all n (Network c) is = after refl is refl all_give
-step_all n (TcpCreate c family) is = after refl is refl (all_last _ family_exactly tt all_give)
-step_all n (TcpStartBind c socket network a) is = after refl is refl (place_all (TcpStartBind c) is.arguments)
-step_all n (TcpFinishBind c socket) is = after refl is refl (handle_all (TcpFinishBind c) is.arguments)
-step_all n (TcpStartConnect c socket network a) is = after refl is refl (place_all (TcpStartConnect c) is.arguments)
-step_all n (TcpFinishConnect c socket) is = after refl is refl (handle_all (TcpFinishConnect c) is.arguments)
-step_all n (TcpStartListen c socket) is = after refl is refl (handle_all (TcpStartListen c) is.arguments)
-step_all n (TcpFinishListen c socket) is = after refl is refl (handle_all (TcpFinishListen c) is.arguments)
-step_all n (TcpAccept c socket) is = after refl is refl (handle_all (TcpAccept c) is.arguments)
-step_all n (TcpLocalAddress c socket) is = after refl is refl (handle_all (TcpLocalAddress c) is.arguments)
-step_all n (TcpRemoteAddress c socket) is = after refl is refl (handle_all (TcpRemoteAddress c) is.arguments)
-step_all n (TcpIsListening c socket) is = after refl is refl (handle_all (TcpIsListening c) is.arguments)
-step_all n (TcpAddressFamily c socket) is = after refl is refl (handle_all (TcpAddressFamily c) is.arguments)
-step_all n (TcpGet c socket option) is = after refl is refl (all_then _ u32_exactly is.arguments (all_last _ option_exactly tt all_give))
-step_all n (TcpSet c socket setting) is = after refl is refl (all_then _ u32_exactly is.arguments.0 (all_last _ setting_exactly is.arguments.1 all_give))
-step_all n (TcpShutdown c socket how) is = after refl is refl (all_then _ u32_exactly is.arguments (all_last _ shutdown_exactly tt all_give))
-step_all n (Read c input len) is = after refl is refl (all_then _ u32_exactly is.arguments.0 (all_last _ u64_exactly is.arguments.1 all_give))
-step_all n (CheckWrite c output) is = after refl is refl (handle_all (CheckWrite c) is.arguments)
-step_all n (Write c output bytes) is = after refl is refl (all_then _ u32_exactly is.arguments.0 (all_last _ bytes_exactly is.arguments.1 all_give))
-step_all n (Flush c output) is = after refl is refl (handle_all (Flush c) is.arguments)
-step_all n (Subscribe c handle) is = after refl is refl (handle_all (Subscribe c) is.arguments)
-step_all n (Ready c pollable) is = after refl is refl (handle_all (Ready c) is.arguments)
-step_all n (Drop c handle) is = after refl is refl (handle_all (Drop c) is.arguments)
-step_all n Turn is = bare n (omega arith) refl all_give
-step_all n (Poll call) is = bare n (omega arith) refl (all_last _ u32_exactly is.arguments all_give)
+step_all contexts s is = after contexts (context_of s) (signature s).written.word s (is.context, is.width) (bare_word s) (visible_word s) (row_reads s is.arguments)
 
 pub step_exactly : (contexts : ℕ) → ReadsExactly (step_at contexts) fields_of_step (IsStep contexts)
 unfolding step_at
@@ -164,42 +185,39 @@ step_exactly contexts = exactly
     (only_then _ word_exactly (λ first utf8. first_only contexts first (number_in first 4294967295) refl))
     (step_all contexts)
 
--- a line has a step's fields exactly where it is that step's line
-small : (n : ℕ) → n ≤ 4294967295 → IsTrue (list_all is_visible (decimal n))
-small n fits = number_visible n (omega arith)
-
+-- == visible characters
 shutdown_visible : (how : ShutdownType) → AreVisible (shutdown_fields how)
 shutdown_visible Receive = refl and tt
 shutdown_visible Send = refl and tt
 shutdown_visible Both = refl and tt
 
-step_visible : {contexts : ℕ} (s : Step) → IsStep contexts s → AreVisible (fields_of_step s)
-step_visible (Network c) is = small c is.width and refl and tt
-step_visible (TcpCreate c family) is = small c is.width and refl and family_visible family
-step_visible (TcpStartBind c socket network a) is = small c is.width and refl and small socket is.arguments.0 and small network is.arguments.1 and address_visible a is.arguments.2
-step_visible (TcpFinishBind c socket) is = small c is.width and refl and small socket is.arguments and tt
-step_visible (TcpStartConnect c socket network a) is = small c is.width and refl and small socket is.arguments.0 and small network is.arguments.1 and address_visible a is.arguments.2
-step_visible (TcpFinishConnect c socket) is = small c is.width and refl and small socket is.arguments and tt
-step_visible (TcpStartListen c socket) is = small c is.width and refl and small socket is.arguments and tt
-step_visible (TcpFinishListen c socket) is = small c is.width and refl and small socket is.arguments and tt
-step_visible (TcpAccept c socket) is = small c is.width and refl and small socket is.arguments and tt
-step_visible (TcpLocalAddress c socket) is = small c is.width and refl and small socket is.arguments and tt
-step_visible (TcpRemoteAddress c socket) is = small c is.width and refl and small socket is.arguments and tt
-step_visible (TcpIsListening c socket) is = small c is.width and refl and small socket is.arguments and tt
-step_visible (TcpAddressFamily c socket) is = small c is.width and refl and small socket is.arguments and tt
-step_visible (TcpGet c socket option) is = small c is.width and refl and small socket is.arguments and option_visible option
-step_visible (TcpSet c socket setting) is = small c is.width and refl and small socket is.arguments.0 and setting_visible setting is.arguments.1
-step_visible (TcpShutdown c socket how) is = small c is.width and refl and small socket is.arguments and shutdown_visible how
-step_visible (Read c input len) is = small c is.width and refl and small input is.arguments.0 and number_visible len (omega arith) and tt
-step_visible (CheckWrite c output) is = small c is.width and refl and small output is.arguments and tt
-step_visible (Write c output bytes) is = small c is.width and refl and small output is.arguments.0 and bytes_visible bytes is.arguments.1
-step_visible (Flush c output) is = small c is.width and refl and small output is.arguments and tt
-step_visible (Subscribe c handle) is = small c is.width and refl and small handle is.arguments and tt
-step_visible (Ready c pollable) is = small c is.width and refl and small pollable is.arguments and tt
-step_visible (Drop c handle) is = small c is.width and refl and small handle is.arguments and tt
-step_visible Turn is = refl and tt
-step_visible (Poll call) is = refl and small call is.arguments and tt
+value_visible : (kind : Kind) (value : Value kind) → FitsValue kind value → AreVisible (value_fields kind value)
+value_visible (HandleOf target) n fits = number_visible n (omega arith) and tt
+value_visible ALine n fits = number_visible n (omega arith) and tt
+value_visible ACount n fits = number_visible n (omega arith) and tt
+value_visible AFamily family fits = family_visible family
+value_visible ASocketAddress a fits = address_visible a fits
+value_visible AnOption option fits = option_visible option
+value_visible ASetting setting fits = setting_visible setting fits
+value_visible AHalf how fits = shutdown_visible how
+value_visible AllBytes bytes fits = bytes_visible bytes fits
 
+both_visible : (fields more : List (List ℕ)) → AreVisible fields → AreVisible more → AreVisible (fields ++ more)
+both_visible [] more h k = k
+both_visible (field ∷ fields) more h k = h.0 and both_visible fields more h.1 k
+
+values_visible : (kinds : List Kind) (values : Values kinds) → FitsValues kinds values → AreVisible (values_fields kinds values)
+values_visible [] values fits = tt
+values_visible (kind ∷ kinds) values fits = both_visible (value_fields kind values.0) (values_fields kinds values.1) (value_visible kind values.0 fits.0) (values_visible kinds values.1 fits.1)
+
+context_visible : (contexts : ℕ) (context : Option ℕ) (fields : List (List ℕ)) → IsContext contexts context → AreVisible fields → AreVisible (context_fields context fields)
+context_visible contexts None fields is h = h
+context_visible contexts (Some c) fields is h = number_visible c (let width = is.1 in omega arith) and h
+
+step_visible : {contexts : ℕ} (s : Step) → IsStep contexts s → AreVisible (fields_of_step s)
+step_visible {contexts} s is = context_visible contexts (context_of s) _ (is.context, is.width) (visible_word s and values_visible (signature s).written.kinds (signature s).written.values is.arguments)
+
+-- == lines
 no_step : (contexts : ℕ) → step_at contexts [] ≡ None
 unfolding step_at read_then word_at field_at
 no_step contexts = refl

@@ -13,7 +13,7 @@ use Rattle.wasi_steps.specs.declared.reply.Reply.{Reply}
 use Rattle.wasi_steps.specs.declared.reply.Reply.TheVariants as reply
 use Rattle.wasi_steps.specs.Reply.{address_values}
 use Rattle.wasi_steps.specs.declared.step.Step.{Step}
-use Rattle.wasi_steps.specs.declared.step.Step.TheVariants as step
+pub use Rattle.wasi_steps.specs.Steps.{FieldKind, ANumber, SomeBytes, Truth, FieldKinds, Each, AnAddress, kinds_of}
 
 -- the words of codes
 abbrev pub code_text : CodeWord → List ℕ
@@ -78,45 +78,6 @@ fields_of_reply reply.Unfilled = codes "unfilled" ∷ []
 -- one line
 unfoldable pub text_of : Reply → List ℕ
 text_of r = line_with (fields_of_reply r) ++ codes "\n"
-
--- what a field of a reply is: a number, bytes, or one of `true` and `false`
-pub data FieldKind : Type 0 where
-  ANumber : FieldKind
-  SomeBytes : FieldKind
-  Truth : FieldKind
-
--- what the fields of a reply are: one of each of these kinds, or those of an address
-pub data FieldKinds : Type 0 where
-  Each : List FieldKind → FieldKinds
-  AnAddress : FieldKinds
-
--- the fields of a step's reply when it succeeds; a poll has the reply of the call that it polls, and no call that can stand has a field in it
-abbrev pub kinds_of : Step → FieldKinds
-kinds_of (step.Network c) = Each (ANumber ∷ [])
-kinds_of (step.TcpCreate c family) = Each (ANumber ∷ [])
-kinds_of (step.TcpStartBind c socket network a) = Each []
-kinds_of (step.TcpFinishBind c socket) = Each []
-kinds_of (step.TcpStartConnect c socket network a) = Each []
-kinds_of (step.TcpFinishConnect c socket) = Each (ANumber ∷ ANumber ∷ [])
-kinds_of (step.TcpStartListen c socket) = Each []
-kinds_of (step.TcpFinishListen c socket) = Each []
-kinds_of (step.TcpAccept c socket) = Each (ANumber ∷ ANumber ∷ ANumber ∷ [])
-kinds_of (step.TcpLocalAddress c socket) = AnAddress
-kinds_of (step.TcpRemoteAddress c socket) = AnAddress
-kinds_of (step.TcpIsListening c socket) = Each (Truth ∷ [])
-kinds_of (step.TcpAddressFamily c socket) = Each (ANumber ∷ [])
-kinds_of (step.TcpGet c socket option) = Each (ANumber ∷ [])
-kinds_of (step.TcpSet c socket setting) = Each []
-kinds_of (step.TcpShutdown c socket how) = Each []
-kinds_of (step.Read c input len) = Each (SomeBytes ∷ [])
-kinds_of (step.CheckWrite c output) = Each (ANumber ∷ [])
-kinds_of (step.Write c output bytes) = Each []
-kinds_of (step.Flush c output) = Each []
-kinds_of (step.Subscribe c handle) = Each (ANumber ∷ [])
-kinds_of (step.Ready c pollable) = Each (Truth ∷ [])
-kinds_of (step.Drop c handle) = Each []
-kinds_of step.Turn = Each []
-kinds_of (step.Poll call) = Each []
 
 abbrev pub IsOfKind : FieldKind → Field → Type 0
 IsOfKind ANumber (field.Number n) = n < 2 ^ 64

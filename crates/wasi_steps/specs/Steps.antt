@@ -1,114 +1,27 @@
--- How steps are written, and which step a line is.
-use Rattle.std.specs.Prelude.{ℕ, ◌<◌, ◌≤◌, nat_lt, if◌then◌else◌, List, [], ◌∷◌, ◌++◌, codes, decimal, Option, Some, None, IfSome}
+-- What each step is, said once: how it is written and read, who makes it, what it names, and what it gives.
+use Rattle.std.specs.Prelude.{ℕ, ◌<◌, ◌≤◌, nat_lt, if◌then◌else◌, List, [], ◌∷◌, ◌++◌, map, codes, decimal, Option, Some, None, IfSome}
+use Rattle.wasi_addr.specs.declared.address.IpSocketAddress.{IpSocketAddress}
+use Rattle.wasi_addr.specs.declared.address.IpSocketAddress.TheVariants as socket
 use Rattle.wasi_addr.specs.declared.address.ShutdownType.{ShutdownType}
 use Rattle.wasi_addr.specs.declared.address.ShutdownType.TheVariants.{Receive, Send, Both}
+use Rattle.wasi_addr.specs.declared.address.SocketAddressFamily.{SocketAddressFamily}
+use Rattle.wasi_addr.specs.declared.address.SocketAddressFamily.TheVariants.{Ipv4}
+use Rattle.wasi_world.specs.declared.call.Opt.{Opt}
+use Rattle.wasi_world.specs.declared.call.Opt.TheVariants.{HopLimit}
 use Rattle.wasi_world.specs.Fields.{Reader, Row, row, after_word, ◌>>=◌, give, give_some, whole, fields_of, line_with, number_in, number_at, word_at, family_at, address_at, bytes_at}
-use Rattle.wasi_world.specs.Written.{family_fields, address_fields, bytes_fields, FitsAddress, AreBytes}
+use Rattle.wasi_world.specs.Written.{number_fields, family_fields, address_fields, bytes_fields, FitsAddress, AreBytes}
+use Rattle.wasi_steps.specs.declared.setting.TcpSetting.{TcpSetting}
 use Rattle.wasi_steps.specs.declared.step.Step.{Step}
-use Rattle.wasi_steps.specs.declared.step.Step.TheVariants.{Network, TcpCreate, TcpStartBind, TcpFinishBind, TcpStartConnect, TcpFinishConnect, TcpStartListen, TcpFinishListen, TcpAccept, TcpLocalAddress, TcpRemoteAddress, TcpIsListening, TcpAddressFamily, TcpGet, TcpSet, TcpShutdown, Read, CheckWrite, Write, Flush, Subscribe, Ready, Drop, Turn, Poll}
+use Rattle.wasi_steps.specs.declared.step.Step.TheVariants as step
+use Rattle.wasi_steps.specs.declared.setting.TcpSetting.TheVariants as setting
 use Rattle.wasi_steps.specs.Settings.{option_word, option_at, setting_fields, FitsSetting, setting_at}
 
--- the word of what is shut down
+-- == what is shut down
 abbrev pub shutdown_fields : ShutdownType → List (List ℕ)
 shutdown_fields Receive = codes "receive" ∷ []
 shutdown_fields Send = codes "send" ∷ []
 shutdown_fields Both = codes "both" ∷ []
 
--- the fields of a step: its context where it has one, its word and its arguments
-abbrev pub fields_of_step : Step → List (List ℕ)
-fields_of_step (Network c) = decimal c ∷ codes "network" ∷ []
-fields_of_step (TcpCreate c family) = decimal c ∷ codes "tcp-create" ∷ family_fields family
-fields_of_step (TcpStartBind c socket network a) = decimal c ∷ codes "tcp-start-bind" ∷ decimal socket ∷ decimal network ∷ address_fields a
-fields_of_step (TcpFinishBind c socket) = decimal c ∷ codes "tcp-finish-bind" ∷ decimal socket ∷ []
-fields_of_step (TcpStartConnect c socket network a) = decimal c ∷ codes "tcp-start-connect" ∷ decimal socket ∷ decimal network ∷ address_fields a
-fields_of_step (TcpFinishConnect c socket) = decimal c ∷ codes "tcp-finish-connect" ∷ decimal socket ∷ []
-fields_of_step (TcpStartListen c socket) = decimal c ∷ codes "tcp-start-listen" ∷ decimal socket ∷ []
-fields_of_step (TcpFinishListen c socket) = decimal c ∷ codes "tcp-finish-listen" ∷ decimal socket ∷ []
-fields_of_step (TcpAccept c socket) = decimal c ∷ codes "tcp-accept" ∷ decimal socket ∷ []
-fields_of_step (TcpLocalAddress c socket) = decimal c ∷ codes "tcp-local-address" ∷ decimal socket ∷ []
-fields_of_step (TcpRemoteAddress c socket) = decimal c ∷ codes "tcp-remote-address" ∷ decimal socket ∷ []
-fields_of_step (TcpIsListening c socket) = decimal c ∷ codes "tcp-is-listening" ∷ decimal socket ∷ []
-fields_of_step (TcpAddressFamily c socket) = decimal c ∷ codes "tcp-address-family" ∷ decimal socket ∷ []
-fields_of_step (TcpGet c socket option) = decimal c ∷ codes "tcp-get" ∷ decimal socket ∷ option_word option ∷ []
-fields_of_step (TcpSet c socket setting) = decimal c ∷ codes "tcp-set" ∷ decimal socket ∷ setting_fields setting
-fields_of_step (TcpShutdown c socket how) = decimal c ∷ codes "tcp-shutdown" ∷ decimal socket ∷ shutdown_fields how
-fields_of_step (Read c input len) = decimal c ∷ codes "read" ∷ decimal input ∷ decimal len ∷ []
-fields_of_step (CheckWrite c output) = decimal c ∷ codes "check-write" ∷ decimal output ∷ []
-fields_of_step (Write c output bytes) = decimal c ∷ codes "write" ∷ decimal output ∷ bytes_fields bytes
-fields_of_step (Flush c output) = decimal c ∷ codes "flush" ∷ decimal output ∷ []
-fields_of_step (Subscribe c handle) = decimal c ∷ codes "subscribe" ∷ decimal handle ∷ []
-fields_of_step (Ready c pollable) = decimal c ∷ codes "ready" ∷ decimal pollable ∷ []
-fields_of_step (Drop c handle) = decimal c ∷ codes "drop" ∷ decimal handle ∷ []
-fields_of_step Turn = codes "turn" ∷ []
-fields_of_step (Poll call) = codes "poll" ∷ decimal call ∷ []
-
--- the line of a step, without its newline
-abbrev pub line_of : Step → List ℕ
-line_of s = line_with (fields_of_step s)
-
--- the context that makes the call, where one makes it
-abbrev pub context_of : Step → Option ℕ
-context_of (Network c) = Some c
-context_of (TcpCreate c family) = Some c
-context_of (TcpStartBind c socket network a) = Some c
-context_of (TcpFinishBind c socket) = Some c
-context_of (TcpStartConnect c socket network a) = Some c
-context_of (TcpFinishConnect c socket) = Some c
-context_of (TcpStartListen c socket) = Some c
-context_of (TcpFinishListen c socket) = Some c
-context_of (TcpAccept c socket) = Some c
-context_of (TcpLocalAddress c socket) = Some c
-context_of (TcpRemoteAddress c socket) = Some c
-context_of (TcpIsListening c socket) = Some c
-context_of (TcpAddressFamily c socket) = Some c
-context_of (TcpGet c socket option) = Some c
-context_of (TcpSet c socket setting) = Some c
-context_of (TcpShutdown c socket how) = Some c
-context_of (Read c input len) = Some c
-context_of (CheckWrite c output) = Some c
-context_of (Write c output bytes) = Some c
-context_of (Flush c output) = Some c
-context_of (Subscribe c handle) = Some c
-context_of (Ready c pollable) = Some c
-context_of (Drop c handle) = Some c
-context_of Turn = None
-context_of (Poll call) = None
-
--- the numbers of the arguments are within their widths
-abbrev pub FitsArguments : Step → Type 0
-FitsArguments (Network c) = Unit {0}
-FitsArguments (TcpCreate c family) = Unit {0}
-FitsArguments (TcpStartBind c socket network a) = (socket ≤ 4294967295) × (network ≤ 4294967295) × FitsAddress a
-FitsArguments (TcpFinishBind c socket) = socket ≤ 4294967295
-FitsArguments (TcpStartConnect c socket network a) = (socket ≤ 4294967295) × (network ≤ 4294967295) × FitsAddress a
-FitsArguments (TcpFinishConnect c socket) = socket ≤ 4294967295
-FitsArguments (TcpStartListen c socket) = socket ≤ 4294967295
-FitsArguments (TcpFinishListen c socket) = socket ≤ 4294967295
-FitsArguments (TcpAccept c socket) = socket ≤ 4294967295
-FitsArguments (TcpLocalAddress c socket) = socket ≤ 4294967295
-FitsArguments (TcpRemoteAddress c socket) = socket ≤ 4294967295
-FitsArguments (TcpIsListening c socket) = socket ≤ 4294967295
-FitsArguments (TcpAddressFamily c socket) = socket ≤ 4294967295
-FitsArguments (TcpGet c socket option) = socket ≤ 4294967295
-FitsArguments (TcpSet c socket setting) = (socket ≤ 4294967295) × FitsSetting setting
-FitsArguments (TcpShutdown c socket how) = socket ≤ 4294967295
-FitsArguments (Read c input len) = (input ≤ 4294967295) × (len ≤ 18446744073709551615)
-FitsArguments (CheckWrite c output) = output ≤ 4294967295
-FitsArguments (Write c output bytes) = (output ≤ 4294967295) × AreBytes bytes
-FitsArguments (Flush c output) = output ≤ 4294967295
-FitsArguments (Subscribe c handle) = handle ≤ 4294967295
-FitsArguments (Ready c pollable) = pollable ≤ 4294967295
-FitsArguments (Drop c handle) = handle ≤ 4294967295
-FitsArguments Turn = Unit {0}
-FitsArguments (Poll call) = call ≤ 4294967295
-
--- A step of one of so many contexts, or of none.
-pub record IsStep (contexts : ℕ) (s : Step) : Type 0 where
-  pub context : IfSome (context_of s) (λ c. c < contexts)
-  pub width : IfSome (context_of s) (λ c. c ≤ 4294967295)
-  pub arguments : FitsArguments s
-
--- what is shut down, by its word
 abbrev pub shutdown_words : List (Row ShutdownType)
 shutdown_words = row (codes "receive") (give Receive) ∷ row (codes "send") (give Send) ∷ row (codes "both") (give Both) ∷ []
 
@@ -117,83 +30,262 @@ shutdown_at = do
   word ← word_at
   after_word shutdown_words word
 
-abbrev pub handle_at : Reader ℕ
-handle_at = number_at 4294967295
+-- == arguments
+-- what a handle has to be of: a network, a socket, an input, an output, what can be watched, a pollable, or anything
+pub data Target : Type 0 where
+  ANetwork : Target
+  ASocket : Target
+  AnInput : Target
+  AnOutput : Target
+  Watchable : Target
+  APollable : Target
+  Anything : Target
 
--- a write, whose bytes take memory
-abbrev pub write_row : ℕ → Row Step
-write_row c = row (codes "write") (handle_at >>= λ output. bytes_at >>= λ bytes. give (Write c output bytes))
+-- what an argument is: a handle, the number of a line, a count of bytes, a family, an address, an option, what is set, what is
+-- shut down, bytes
+pub data Kind : Type 0 where
+  HandleOf : Target → Kind
+  ALine : Kind
+  ACount : Kind
+  AFamily : Kind
+  ASocketAddress : Kind
+  AnOption : Kind
+  ASetting : Kind
+  AHalf : Kind
+  AllBytes : Kind
+
+abbrev pub Value : Kind → Type 0
+Value (HandleOf target) = ℕ
+Value ALine = ℕ
+Value ACount = ℕ
+Value AFamily = SocketAddressFamily
+Value ASocketAddress = IpSocketAddress
+Value AnOption = Opt
+Value ASetting = TcpSetting
+Value AHalf = ShutdownType
+Value AllBytes = List ℕ
+
+-- how it is read
+abbrev pub value_at : (kind : Kind) → Reader (Value kind)
+value_at (HandleOf target) = number_at 4294967295
+value_at ALine = number_at 4294967295
+value_at ACount = number_at 18446744073709551615
+value_at AFamily = family_at
+value_at ASocketAddress = address_at
+value_at AnOption = option_at
+value_at ASetting = setting_at
+value_at AHalf = shutdown_at
+value_at AllBytes = bytes_at
+
+-- how it is written
+abbrev pub value_fields : (kind : Kind) → Value kind → List (List ℕ)
+value_fields (HandleOf target) n = number_fields n
+value_fields ALine n = number_fields n
+value_fields ACount n = number_fields n
+value_fields AFamily family = family_fields family
+value_fields ASocketAddress a = address_fields a
+value_fields AnOption option = option_word option ∷ []
+value_fields ASetting setting = setting_fields setting
+value_fields AHalf how = shutdown_fields how
+value_fields AllBytes bytes = bytes_fields bytes
+
+-- its numbers are within their widths
+abbrev pub FitsValue : (kind : Kind) → Value kind → Type 0
+FitsValue (HandleOf target) n = n ≤ 4294967295
+FitsValue ALine n = n ≤ 4294967295
+FitsValue ACount n = n ≤ 18446744073709551615
+FitsValue ASocketAddress a = FitsAddress a
+FitsValue ASetting setting = FitsSetting setting
+FitsValue AllBytes bytes = AreBytes bytes
+FitsValue _ value = Unit {0}
+
+-- the handles that it names
+abbrev pub handles_in : (kind : Kind) → Value kind → List ℕ
+handles_in (HandleOf target) n = n ∷ []
+handles_in _ value = []
+
+-- a context's number before other fields
+abbrev pub context_fields : Option ℕ → List (List ℕ) → List (List ℕ)
+context_fields None fields = fields
+context_fields (Some c) fields = decimal c ∷ fields
+
+-- the values of some arguments
+abbrev pub Values : List Kind → Type 0
+Values [] = Unit {0}
+Values (kind ∷ kinds) = Value kind × Values kinds
+
+abbrev pub values_fields : (kinds : List Kind) → Values kinds → List (List ℕ)
+values_fields [] values = []
+values_fields (kind ∷ kinds) values = value_fields kind values.0 ++ values_fields kinds values.1
+
+abbrev pub FitsValues : (kinds : List Kind) → Values kinds → Type 0
+FitsValues [] values = Unit {0}
+FitsValues (kind ∷ kinds) values = FitsValue kind values.0 × FitsValues kinds values.1
+
+abbrev pub handles_among : (kinds : List Kind) → Values kinds → List ℕ
+handles_among [] values = []
+handles_among (kind ∷ kinds) values = handles_in kind values.0 ++ handles_among kinds values.1
+
+-- what takes such values, one after another, and makes a step of them
+abbrev pub Takes : List Kind → Type 0
+Takes [] = Step
+Takes (kind ∷ kinds) = Value kind → Takes kinds
+
+abbrev pub made : (kinds : List Kind) → Takes kinds → Values kinds → Step
+made [] s values = s
+made (kind ∷ kinds) makes values = made kinds (makes values.0) values.1
+
+abbrev pub values_at : (kinds : List Kind) → Takes kinds → Reader Step
+values_at [] s = give s
+values_at (kind ∷ kinds) makes = value_at kind >>= λ value. values_at kinds (makes value)
+
+-- == what a step gives
+-- what a field of a reply is: a number, bytes, or one of `true` and `false`
+pub data FieldKind : Type 0 where
+  ANumber : FieldKind
+  SomeBytes : FieldKind
+  Truth : FieldKind
+
+-- what the fields of a reply are: one of each of these kinds, or those of an address
+pub data FieldKinds : Type 0 where
+  Each : List FieldKind → FieldKinds
+  AnAddress : FieldKinds
+
+-- == signatures
+-- How a step is written: the context that makes it, where one does, its word, and its arguments.
+pub record Written : Type 0 where
+  pub context : Option ℕ
+  pub word : List ℕ
+  pub kinds : List Kind
+  pub values : Values kinds
+
+-- What a step is: how it is written, what makes it of its arguments, and the fields of its reply when it succeeds.
+pub record Signature : Type 0 where
+  pub written : Written
+  pub makes : Takes written.kinds
+  pub gives : FieldKinds
+
+abbrev pub guest_call : ℕ → List ℕ → (kinds : List Kind) → Takes kinds → Values kinds → FieldKinds → Signature
+guest_call c word kinds makes values gives = record { written = record { context = Some c; word = word; kinds = kinds; values = values }; makes = makes; gives = gives }
+
+abbrev pub bare : List ℕ → (kinds : List Kind) → Takes kinds → Values kinds → FieldKinds → Signature
+bare word kinds makes values gives = record { written = record { context = None; word = word; kinds = kinds; values = values }; makes = makes; gives = gives }
+
+-- a poll has the reply of the call that it polls, and no call that can stand has a field in it
+abbrev pub signature : Step → Signature
+signature (step.Network c) = guest_call c (codes "network") [] (step.Network c) tt (Each (ANumber ∷ []))
+signature (step.TcpCreate c family) = guest_call c (codes "tcp-create") (AFamily ∷ []) (step.TcpCreate c) (family, tt) (Each (ANumber ∷ []))
+signature (step.TcpStartBind c socket network a) = guest_call c (codes "tcp-start-bind") (HandleOf ASocket ∷ HandleOf ANetwork ∷ ASocketAddress ∷ []) (step.TcpStartBind c) (socket, (network, (a, tt))) (Each [])
+signature (step.TcpFinishBind c socket) = guest_call c (codes "tcp-finish-bind") (HandleOf ASocket ∷ []) (step.TcpFinishBind c) (socket, tt) (Each [])
+signature (step.TcpStartConnect c socket network a) = guest_call c (codes "tcp-start-connect") (HandleOf ASocket ∷ HandleOf ANetwork ∷ ASocketAddress ∷ []) (step.TcpStartConnect c) (socket, (network, (a, tt))) (Each [])
+signature (step.TcpFinishConnect c socket) = guest_call c (codes "tcp-finish-connect") (HandleOf ASocket ∷ []) (step.TcpFinishConnect c) (socket, tt) (Each (ANumber ∷ ANumber ∷ []))
+signature (step.TcpStartListen c socket) = guest_call c (codes "tcp-start-listen") (HandleOf ASocket ∷ []) (step.TcpStartListen c) (socket, tt) (Each [])
+signature (step.TcpFinishListen c socket) = guest_call c (codes "tcp-finish-listen") (HandleOf ASocket ∷ []) (step.TcpFinishListen c) (socket, tt) (Each [])
+signature (step.TcpAccept c socket) = guest_call c (codes "tcp-accept") (HandleOf ASocket ∷ []) (step.TcpAccept c) (socket, tt) (Each (ANumber ∷ ANumber ∷ ANumber ∷ []))
+signature (step.TcpLocalAddress c socket) = guest_call c (codes "tcp-local-address") (HandleOf ASocket ∷ []) (step.TcpLocalAddress c) (socket, tt) AnAddress
+signature (step.TcpRemoteAddress c socket) = guest_call c (codes "tcp-remote-address") (HandleOf ASocket ∷ []) (step.TcpRemoteAddress c) (socket, tt) AnAddress
+signature (step.TcpIsListening c socket) = guest_call c (codes "tcp-is-listening") (HandleOf ASocket ∷ []) (step.TcpIsListening c) (socket, tt) (Each (Truth ∷ []))
+signature (step.TcpAddressFamily c socket) = guest_call c (codes "tcp-address-family") (HandleOf ASocket ∷ []) (step.TcpAddressFamily c) (socket, tt) (Each (ANumber ∷ []))
+signature (step.TcpGet c socket option) = guest_call c (codes "tcp-get") (HandleOf ASocket ∷ AnOption ∷ []) (step.TcpGet c) (socket, (option, tt)) (Each (ANumber ∷ []))
+signature (step.TcpSet c socket setting) = guest_call c (codes "tcp-set") (HandleOf ASocket ∷ ASetting ∷ []) (step.TcpSet c) (socket, (setting, tt)) (Each [])
+signature (step.TcpShutdown c socket how) = guest_call c (codes "tcp-shutdown") (HandleOf ASocket ∷ AHalf ∷ []) (step.TcpShutdown c) (socket, (how, tt)) (Each [])
+signature (step.Read c input len) = guest_call c (codes "read") (HandleOf AnInput ∷ ACount ∷ []) (step.Read c) (input, (len, tt)) (Each (SomeBytes ∷ []))
+signature (step.CheckWrite c output) = guest_call c (codes "check-write") (HandleOf AnOutput ∷ []) (step.CheckWrite c) (output, tt) (Each (ANumber ∷ []))
+signature (step.Write c output bytes) = guest_call c (codes "write") (HandleOf AnOutput ∷ AllBytes ∷ []) (step.Write c) (output, (bytes, tt)) (Each [])
+signature (step.Flush c output) = guest_call c (codes "flush") (HandleOf AnOutput ∷ []) (step.Flush c) (output, tt) (Each [])
+signature (step.Subscribe c handle) = guest_call c (codes "subscribe") (HandleOf Watchable ∷ []) (step.Subscribe c) (handle, tt) (Each (ANumber ∷ []))
+signature (step.Ready c pollable) = guest_call c (codes "ready") (HandleOf APollable ∷ []) (step.Ready c) (pollable, tt) (Each (Truth ∷ []))
+signature (step.Drop c handle) = guest_call c (codes "drop") (HandleOf Anything ∷ []) (step.Drop c) (handle, tt) (Each [])
+signature step.Turn = bare (codes "turn") [] step.Turn tt (Each [])
+signature (step.Poll call) = bare (codes "poll") (ALine ∷ []) step.Poll (call, tt) (Each [])
+
+-- the context that makes the call, where one makes it
+abbrev pub context_of : Step → Option ℕ
+context_of s = (signature s).written.context
+
+-- the handles that a step names
+abbrev pub handles_of : Step → List ℕ
+handles_of s = handles_among (signature s).written.kinds (signature s).written.values
+
+-- the fields of its reply when it succeeds
+abbrev pub kinds_of : Step → FieldKinds
+kinds_of s = (signature s).gives
+
+-- the fields of a step: its context where it has one, its word and its arguments
+abbrev pub fields_of_written : Written → List (List ℕ)
+fields_of_written w = context_fields w.context (w.word ∷ values_fields w.kinds w.values)
+
+abbrev pub fields_of_step : Step → List (List ℕ)
+fields_of_step s = fields_of_written (signature s).written
+
+-- the line of a step, without its newline
+abbrev pub line_of : Step → List ℕ
+line_of s = line_with (fields_of_step s)
+
+-- A step of one of so many contexts, or of none.
+pub record IsStep (contexts : ℕ) (s : Step) : Type 0 where
+  pub context : IfSome (context_of s) (λ c. c < contexts)
+  pub width : IfSome (context_of s) (λ c. c ≤ 4294967295)
+  pub arguments : FitsValues (signature s).written.kinds (signature s).written.values
+
+-- == the grammar
+-- the row that reads each step that is written as this one, whatever its arguments
+abbrev pub row_of : Step → Row Step
+row_of s = let is = signature s in row is.written.word (values_at is.written.kinds is.makes)
+
+abbrev pub rows_of : List Step → List (Row Step)
+rows_of steps = map row_of steps
+
+-- an address, where which one it is doesn't matter
+abbrev pub nowhere : IpSocketAddress
+nowhere = socket.Ipv4 (record { port = 0; address = (0, 0, 0, 0) })
+
+-- one step of each form: a write, whose bytes take memory
+abbrev pub write_step : ℕ → Step
+write_step c = step.Write c 0 []
 
 -- the other steps of a context on streams, on pollables and on any handle
-abbrev pub stream_steps : ℕ → List (Row Step)
-stream_steps c =
-    row (codes "read") (handle_at >>= λ input. number_at 18446744073709551615 >>= λ len. give (Read c input len))
-    ∷ row (codes "check-write") (handle_at >>= λ output. give (CheckWrite c output))
-    ∷ row (codes "flush") (handle_at >>= λ output. give (Flush c output))
-    ∷ row (codes "subscribe") (handle_at >>= λ handle. give (Subscribe c handle))
-    ∷ row (codes "ready") (handle_at >>= λ pollable. give (Ready c pollable))
-    ∷ row (codes "drop") (handle_at >>= λ handle. give (Drop c handle))
-    ∷ []
+abbrev pub stream_steps : ℕ → List Step
+stream_steps c = step.Read c 0 0 ∷ step.CheckWrite c 0 ∷ step.Flush c 0 ∷ step.Subscribe c 0 ∷ step.Ready c 0 ∷ step.Drop c 0 ∷ []
 
 -- those that make sockets, bind them, connect them and shut them down
-abbrev pub socket_steps : ℕ → List (Row Step)
+abbrev pub socket_steps : ℕ → List Step
 socket_steps c =
-    row (codes "network") (give (Network c))
-    ∷ row (codes "tcp-create") (family_at >>= λ family. give (TcpCreate c family))
-    ∷ row (codes "tcp-start-bind") (handle_at >>= λ socket. handle_at >>= λ network. address_at >>= λ a. give (TcpStartBind c socket network a))
-    ∷ row (codes "tcp-finish-bind") (handle_at >>= λ socket. give (TcpFinishBind c socket))
-    ∷ row (codes "tcp-start-connect") (handle_at >>= λ socket. handle_at >>= λ network. address_at >>= λ a. give (TcpStartConnect c socket network a))
-    ∷ row (codes "tcp-finish-connect") (handle_at >>= λ socket. give (TcpFinishConnect c socket))
-    ∷ row (codes "tcp-shutdown") (handle_at >>= λ socket. shutdown_at >>= λ how. give (TcpShutdown c socket how))
-    ∷ []
+    step.Network c ∷ step.TcpCreate c Ipv4 ∷ step.TcpStartBind c 0 0 nowhere ∷ step.TcpFinishBind c 0
+    ∷ step.TcpStartConnect c 0 0 nowhere ∷ step.TcpFinishConnect c 0 ∷ step.TcpShutdown c 0 Both ∷ []
 
 -- those that make a socket listen, and accept
-abbrev pub listener_steps : ℕ → List (Row Step)
-listener_steps c =
-    row (codes "tcp-start-listen") (handle_at >>= λ socket. give (TcpStartListen c socket))
-    ∷ row (codes "tcp-finish-listen") (handle_at >>= λ socket. give (TcpFinishListen c socket))
-    ∷ row (codes "tcp-accept") (handle_at >>= λ socket. give (TcpAccept c socket))
-    ∷ []
+abbrev pub listener_steps : ℕ → List Step
+listener_steps c = step.TcpStartListen c 0 ∷ step.TcpFinishListen c 0 ∷ step.TcpAccept c 0 ∷ []
 
 -- those that ask a socket what it is
-abbrev pub question_steps : ℕ → List (Row Step)
-question_steps c =
-    row (codes "tcp-local-address") (handle_at >>= λ socket. give (TcpLocalAddress c socket))
-    ∷ row (codes "tcp-remote-address") (handle_at >>= λ socket. give (TcpRemoteAddress c socket))
-    ∷ row (codes "tcp-is-listening") (handle_at >>= λ socket. give (TcpIsListening c socket))
-    ∷ row (codes "tcp-address-family") (handle_at >>= λ socket. give (TcpAddressFamily c socket))
-    ∷ []
+abbrev pub question_steps : ℕ → List Step
+question_steps c = step.TcpLocalAddress c 0 ∷ step.TcpRemoteAddress c 0 ∷ step.TcpIsListening c 0 ∷ step.TcpAddressFamily c 0 ∷ []
 
 -- those that get and set a socket's options, and set its backlog
-abbrev pub option_steps : ℕ → List (Row Step)
-option_steps c =
-    row (codes "tcp-get") (handle_at >>= λ socket. option_at >>= λ option. give (TcpGet c socket option))
-    ∷ row (codes "tcp-set") (handle_at >>= λ socket. setting_at >>= λ setting. give (TcpSet c socket setting))
-    ∷ []
+abbrev pub option_steps : ℕ → List Step
+option_steps c = step.TcpGet c 0 HopLimit ∷ step.TcpSet c 0 (setting.HopLimit 1) ∷ []
 
 -- the steps of a context whose arguments take no memory
-abbrev pub plain_steps : ℕ → List (Row Step)
+abbrev pub plain_steps : ℕ → List Step
 plain_steps c = stream_steps c ++ socket_steps c ++ listener_steps c ++ question_steps c ++ option_steps c
 
 -- the steps of a context
-abbrev pub steps : ℕ → List (Row Step)
-steps c = write_row c ∷ plain_steps c
+abbrev pub steps : ℕ → List Step
+steps c = write_step c ∷ plain_steps c
 
 -- the steps that no context makes
-abbrev pub bare_steps : List (Row Step)
-bare_steps =
-    row (codes "turn") (give Turn)
-    ∷ row (codes "poll") (number_at 4294967295 >>= λ call. give (Poll call))
-    ∷ []
+abbrev pub bare_steps : List Step
+bare_steps = step.Turn ∷ step.Poll 0 ∷ []
 
 -- a guest call of this context, where it is one of so many
 unfoldable pub guest_call_at : ℕ → ℕ → Reader Step
-guest_call_at contexts c = if nat_lt c contexts then (word_at >>= λ word. after_word (steps c) word) else give_some None
+guest_call_at contexts c = if nat_lt c contexts then (word_at >>= λ word. after_word (rows_of (steps c)) word) else give_some None
 
 -- what follows the first word: a guest call where that is a context's number, else the arguments of a step that no context makes
 abbrev pub after_first : ℕ → List ℕ → Option ℕ → Reader Step
 after_first contexts first (Some c) = guest_call_at contexts c
-after_first contexts first None = after_word bare_steps first
+after_first contexts first None = after_word (rows_of bare_steps) first
 
 unfoldable pub step_at : ℕ → Reader Step
 step_at contexts = do

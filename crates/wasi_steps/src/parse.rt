@@ -5,7 +5,7 @@ ghost use Rattle.wasi_world.specs.Fields.{Reads, after_word, number_in};
 ghost use Rattle.wasi_world.specs.Written.{IsVisible};
 ghost use Rattle.wasi_steps.specs.declared.step.Step.{Step};
 ghost use Rattle.wasi_steps.specs.Settings.{option_at, setting_words, setting_at};
-ghost use Rattle.wasi_steps.specs.Steps.{line_of, IsStep, steps, plain_steps, socket_steps, listener_steps, question_steps, option_steps, bare_steps, write_row, shutdown_at, guest_call_at, step_at, step_of};
+ghost use Rattle.wasi_steps.specs.Steps.{line_of, IsStep, steps, plain_steps, socket_steps, listener_steps, question_steps, option_steps, bare_steps, write_step, row_of, rows_of, shutdown_at, guest_call_at, step_at, step_of};
 
 use crate::setting::TcpSetting;
 use crate::step::Step;
@@ -75,7 +75,7 @@ fn setting(fields: &mut Fields<'_>) -> Option<TcpSetting>
 /// Takes the arguments of a step word that gets or sets an option.
 #[tactic(auto, unfolding(wasi_world::specs::Fields::read_then, wasi_world::specs::Fields::give, wasi_world::specs::Fields::give_some))]
 fn option_arguments(fields: &mut Fields<'_>, context: u32, word: &str) -> Option<Step>
-    ensures { Reads (after_word (option_steps context) word.now) fields.old result fields.new }
+    ensures { Reads (after_word (rows_of (option_steps context)) word.now) fields.old result fields.new }
 {
     match word {
         "tcp-get" => Some(Step::TcpGet {
@@ -95,7 +95,7 @@ fn option_arguments(fields: &mut Fields<'_>, context: u32, word: &str) -> Option
 /// Takes the arguments of a step word that asks a socket what it is, or gets or sets an option.
 #[tactic(auto, unfolding(wasi_world::specs::Fields::read_then, wasi_world::specs::Fields::give, wasi_world::specs::Fields::give_some))]
 fn question_arguments(fields: &mut Fields<'_>, context: u32, word: &str) -> Option<Step>
-    ensures { Reads (after_word (question_steps context ++ option_steps context) word.now) fields.old result fields.new }
+    ensures { Reads (after_word (rows_of (question_steps context ++ option_steps context)) word.now) fields.old result fields.new }
 {
     match word {
         "tcp-local-address" => Some(Step::TcpLocalAddress {
@@ -121,7 +121,7 @@ fn question_arguments(fields: &mut Fields<'_>, context: u32, word: &str) -> Opti
 /// Takes the arguments of a step word that makes a socket listen or accepts, or asks it something.
 #[tactic(auto, unfolding(wasi_world::specs::Fields::read_then, wasi_world::specs::Fields::give, wasi_world::specs::Fields::give_some))]
 fn listener_arguments(fields: &mut Fields<'_>, context: u32, word: &str) -> Option<Step>
-    ensures { Reads (after_word (listener_steps context ++ question_steps context ++ option_steps context) word.now) fields.old result fields.new }
+    ensures { Reads (after_word (rows_of (listener_steps context ++ question_steps context ++ option_steps context)) word.now) fields.old result fields.new }
 {
     match word {
         "tcp-start-listen" => Some(Step::TcpStartListen {
@@ -144,7 +144,7 @@ fn listener_arguments(fields: &mut Fields<'_>, context: u32, word: &str) -> Opti
 /// it something.
 #[tactic(auto, unfolding(wasi_world::specs::Fields::read_then, wasi_world::specs::Fields::give, wasi_world::specs::Fields::give_some))]
 fn socket_arguments(fields: &mut Fields<'_>, context: u32, word: &str) -> Option<Step>
-    ensures { Reads (after_word (socket_steps context ++ listener_steps context ++ question_steps context ++ option_steps context) word.now) fields.old result fields.new }
+    ensures { Reads (after_word (rows_of (socket_steps context ++ listener_steps context ++ question_steps context ++ option_steps context)) word.now) fields.old result fields.new }
 {
     match word {
         "network" => Some(Step::Network { context }),
@@ -184,7 +184,7 @@ fn socket_arguments(fields: &mut Fields<'_>, context: u32, word: &str) -> Option
 /// Takes the arguments of a step word, where they take no memory.
 #[tactic(auto, unfolding(wasi_world::specs::Fields::read_then, wasi_world::specs::Fields::give, wasi_world::specs::Fields::give_some))]
 fn plain_arguments(fields: &mut Fields<'_>, context: u32, word: &str) -> Option<Step>
-    ensures { Reads (after_word (plain_steps context) word.now) fields.old result fields.new }
+    ensures { Reads (after_word (rows_of (plain_steps context)) word.now) fields.old result fields.new }
 {
     match word {
         "read" => Some(Step::Read {
@@ -223,7 +223,7 @@ fn write_arguments(
     fields: &mut Fields<'_>,
     context: u32,
 ) -> Result<Option<Step>, AllocError>
-    ensures { IfOk result (λ step. Reads (write_row context).reads fields.old step fields.new) }
+    ensures { IfOk result (λ step. Reads (row_of (write_step context)).reads fields.old step fields.new) }
 {
     let Some(output) = fields.u32() else {
         return Ok(None);
@@ -245,7 +245,7 @@ fn arguments(
     context: u32,
     word: &str,
 ) -> Result<Option<Step>, AllocError>
-    ensures { IfOk result (λ step. Reads (after_word (steps context) word.now) fields.old step fields.new) }
+    ensures { IfOk result (λ step. Reads (after_word (rows_of (steps context)) word.now) fields.old step fields.new) }
 {
     match word {
         "write" => write_arguments(alloc, fields, context),
@@ -275,7 +275,7 @@ fn guest_call(
 /// Takes the arguments of a step word that no context's number stands before.
 #[tactic(auto, unfolding(wasi_world::specs::Fields::read_then, wasi_world::specs::Fields::give))]
 fn bare_arguments(fields: &mut Fields<'_>, word: &str) -> Option<Step>
-    ensures { Reads (after_word bare_steps word.now) fields.old result fields.new }
+    ensures { Reads (after_word (rows_of bare_steps) word.now) fields.old result fields.new }
 {
     match word {
         "turn" => Some(Step::Turn),

@@ -48,6 +48,7 @@ use Rattle.wasi_host.specs.declared.kind.Watched.TheVariants as watched
 use Rattle.wasi_host.specs.Kinds.{watched_by, watch_of, place_in}
 use Rattle.wasi_host.specs.Pending.{waiting_bind, waiting_listen}
 use Rattle.wasi_steps.specs.Reply.{word_of_p2}
+use Rattle.wasi_steps.specs.Steps.{Kind, HandleOf, ALine, ANetwork, ASocket, AnInput, AnOutput, Watchable, APollable, Anything, Value, Values, signature}
 use Rattle.wasi_host.specs.Kinds.{kind_at, with_handle}
 use Rattle.wasi_host.specs.Store.{with_inner, with_reader, with_writer, with_socket, left_of, is_nothing, is_bind, is_connect, idle}
 use Rattle.wasi_host.specs.Machine.{socket_at, input_at, output_at}
@@ -132,33 +133,27 @@ StandsOnNothing m n =
     ⊎ IsSomeAnd (waiting_listen m.store.standing n) (λ place. slice_get m.store.sockets place ≡ None)
 
 -- == traps
--- a handle of the step isn't live, or is of another kind
+-- an argument misses what it names: a handle that isn't live, or is of something else; or the call of a line that stands on nothing
+abbrev pub MissesValue : Machine → (kind : Kind) → Value kind → Type 0
+MissesValue m (HandleOf ANetwork) h = is_network (kind_at m.table h) ≡ false
+MissesValue m (HandleOf ASocket) h = record_at m h ≡ None
+MissesValue m (HandleOf AnInput) h = input_streams m h ≡ None
+MissesValue m (HandleOf AnOutput) h = output_streams m h ≡ None
+MissesValue m (HandleOf Watchable) h = watched_by (kind_at m.table h) ≡ None
+MissesValue m (HandleOf APollable) h = MissesWatched m (watch_of (kind_at m.table h))
+MissesValue m (HandleOf Anything) h = kind_at m.table h ≡ None
+MissesValue m ALine n = StandsOnNothing m n
+MissesValue m _ value = ⊥
+
+abbrev pub MissesFirst : Machine → (kinds : List Kind) → Values kinds → Type 0
+MissesFirst m [] values = ⊥
+MissesFirst m (kind ∷ kinds) values = MissesValue m kind values.0
+
+-- a handle of the step isn't live, or is of another kind; it is the first argument, and that of a network beside it
 abbrev pub MissesHandle : Machine → Step → Type 0
-MissesHandle m (step.Network ctx) = ⊥
-MissesHandle m (step.TcpCreate ctx family) = ⊥
 MissesHandle m (step.TcpStartBind ctx socket network a) = (is_network (kind_at m.table network) ≡ false) ⊎ (record_at m socket ≡ None)
-MissesHandle m (step.TcpFinishBind ctx socket) = record_at m socket ≡ None
 MissesHandle m (step.TcpStartConnect ctx socket network a) = (is_network (kind_at m.table network) ≡ false) ⊎ (record_at m socket ≡ None)
-MissesHandle m (step.TcpFinishConnect ctx socket) = record_at m socket ≡ None
-MissesHandle m (step.TcpStartListen ctx socket) = record_at m socket ≡ None
-MissesHandle m (step.TcpFinishListen ctx socket) = record_at m socket ≡ None
-MissesHandle m (step.TcpAccept ctx socket) = record_at m socket ≡ None
-MissesHandle m (step.TcpLocalAddress ctx socket) = record_at m socket ≡ None
-MissesHandle m (step.TcpRemoteAddress ctx socket) = record_at m socket ≡ None
-MissesHandle m (step.TcpIsListening ctx socket) = record_at m socket ≡ None
-MissesHandle m (step.TcpAddressFamily ctx socket) = record_at m socket ≡ None
-MissesHandle m (step.TcpGet ctx socket option) = record_at m socket ≡ None
-MissesHandle m (step.TcpSet ctx socket setting) = record_at m socket ≡ None
-MissesHandle m (step.Read ctx input len) = input_streams m input ≡ None
-MissesHandle m (step.CheckWrite ctx output) = output_streams m output ≡ None
-MissesHandle m (step.Write ctx output bytes) = output_streams m output ≡ None
-MissesHandle m (step.Flush ctx output) = output_streams m output ≡ None
-MissesHandle m (step.Subscribe ctx handle) = watched_by (kind_at m.table handle) ≡ None
-MissesHandle m (step.Ready ctx pollable) = MissesWatched m (watch_of (kind_at m.table pollable))
-MissesHandle m (step.Drop ctx handle) = kind_at m.table handle ≡ None
-MissesHandle m (step.TcpShutdown ctx socket how) = record_at m socket ≡ None
-MissesHandle m step.Turn = ⊥
-MissesHandle m (step.Poll n) = StandsOnNothing m n
+MissesHandle m s = MissesFirst m (signature s).written.kinds (signature s).written.values
 
 -- the step makes a handle, the two of a connection's streams, those of an accepted connection, or the one of a stream's error
 abbrev pub MakesHandle : Step → Type 0

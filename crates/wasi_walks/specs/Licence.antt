@@ -19,6 +19,7 @@ use Rattle.wasi_steps.specs.declared.setting.TcpSetting.TheVariants as setting
 use Rattle.wasi_steps.specs.declared.reply.Reply.{Reply}
 use Rattle.wasi_steps.specs.declared.step.Step.{Step}
 use Rattle.wasi_steps.specs.declared.step.Step.TheVariants as step
+pub use Rattle.wasi_steps.specs.Steps.{handles_of}
 
 -- == entries
 -- one of them is this
@@ -49,34 +50,6 @@ pub record BeganBy (steps : List Step) (op : OpId) (P : Step → Type 0) : Type 
   pub origin : Step
   pub at : step_at steps op.step ≡ Some origin
   pub holds : P origin
-
--- the handles that a step names
-abbrev pub handles_of : Step → List ℕ
-handles_of (step.Network ctx) = []
-handles_of (step.TcpCreate ctx family) = []
-handles_of (step.TcpStartBind ctx socket network addr) = socket ∷ network ∷ []
-handles_of (step.TcpFinishBind ctx socket) = socket ∷ []
-handles_of (step.TcpStartConnect ctx socket network addr) = socket ∷ network ∷ []
-handles_of (step.TcpFinishConnect ctx socket) = socket ∷ []
-handles_of (step.TcpStartListen ctx socket) = socket ∷ []
-handles_of (step.TcpFinishListen ctx socket) = socket ∷ []
-handles_of (step.TcpAccept ctx socket) = socket ∷ []
-handles_of (step.TcpLocalAddress ctx socket) = socket ∷ []
-handles_of (step.TcpRemoteAddress ctx socket) = socket ∷ []
-handles_of (step.TcpIsListening ctx socket) = socket ∷ []
-handles_of (step.TcpAddressFamily ctx socket) = socket ∷ []
-handles_of (step.TcpGet ctx socket option) = socket ∷ []
-handles_of (step.TcpSet ctx socket setting) = socket ∷ []
-handles_of (step.Read ctx input len) = input ∷ []
-handles_of (step.CheckWrite ctx output) = output ∷ []
-handles_of (step.Write ctx output bytes) = output ∷ []
-handles_of (step.Flush ctx output) = output ∷ []
-handles_of (step.Subscribe ctx handle) = handle ∷ []
-handles_of (step.Ready ctx pollable) = pollable ∷ []
-handles_of (step.Drop ctx handle) = handle ∷ []
-handles_of (step.TcpShutdown ctx socket how) = socket ∷ []
-handles_of step.Turn = []
-handles_of (step.Poll n) = []
 
 -- == sides
 -- The side of a handle is the one in its mark.
@@ -237,34 +210,20 @@ pub record IsStreamMark (before : List Entry) (op : OpId) (kind : HandleKind) (p
   pub marked : Has before (entry op (Made socket Tcp2 above sock) told)
 
 -- what a mark says, by the step that makes the handle: a network has no side, a socket that was created has its own, one that
--- was accepted has what was handed over, and the two streams of a connection, an error and a pollable are of their parent's
+-- was accepted has what was handed over, and the two streams of a connection, an error and a pollable are of their parent's; no
+-- other step makes a handle
 abbrev pub IsMarkOf : List Entry → OpId → HandleKind → Option ℕ → Option OpId → Step → Type 0
 IsMarkOf before op kind parent sock (step.Network ctx) = (kind ≡ Network) × (parent ≡ None) × (sock ≡ None)
 IsMarkOf before op kind parent sock (step.TcpCreate ctx family) =
     (kind ≡ Tcp2) × (parent ≡ None) × (sock ≡ Some op) × ((name : ℕ) × (f : SocketAddressFamily) × Has before (entry op (TcpCreate name f) Done))
-IsMarkOf before op kind parent sock (step.TcpStartBind ctx socket network addr) = ⊥
-IsMarkOf before op kind parent sock (step.TcpFinishBind ctx socket) = ⊥
-IsMarkOf before op kind parent sock (step.TcpStartConnect ctx socket network addr) = ⊥
 IsMarkOf before op kind parent sock (step.TcpFinishConnect ctx socket) = ((kind ≡ Input) ⊎ (kind ≡ Output)) × IsOfParent before socket parent sock
-IsMarkOf before op kind parent sock (step.TcpStartListen ctx socket) = ⊥
-IsMarkOf before op kind parent sock (step.TcpFinishListen ctx socket) = ⊥
 IsMarkOf before op kind parent sock (step.TcpAccept ctx socket) = IsAcceptedMark before op socket kind parent sock ⊎ IsStreamMark before op kind parent sock
-IsMarkOf before op kind parent sock (step.TcpLocalAddress ctx socket) = ⊥
-IsMarkOf before op kind parent sock (step.TcpRemoteAddress ctx socket) = ⊥
-IsMarkOf before op kind parent sock (step.TcpIsListening ctx socket) = ⊥
-IsMarkOf before op kind parent sock (step.TcpAddressFamily ctx socket) = ⊥
-IsMarkOf before op kind parent sock (step.TcpGet ctx socket option) = ⊥
-IsMarkOf before op kind parent sock (step.TcpSet ctx socket setting) = ⊥
 IsMarkOf before op kind parent sock (step.Read ctx input len) = (kind ≡ ErrorValue) × IsOfParent before input parent sock
 IsMarkOf before op kind parent sock (step.CheckWrite ctx output) = (kind ≡ ErrorValue) × IsOfParent before output parent sock
 IsMarkOf before op kind parent sock (step.Write ctx output bytes) = (kind ≡ ErrorValue) × IsOfParent before output parent sock
 IsMarkOf before op kind parent sock (step.Flush ctx output) = (kind ≡ ErrorValue) × IsOfParent before output parent sock
 IsMarkOf before op kind parent sock (step.Subscribe ctx handle) = (kind ≡ Pollable) × IsOfParent before handle parent sock
-IsMarkOf before op kind parent sock (step.Ready ctx pollable) = ⊥
-IsMarkOf before op kind parent sock (step.Drop ctx handle) = ⊥
-IsMarkOf before op kind parent sock (step.TcpShutdown ctx socket how) = ⊥
-IsMarkOf before op kind parent sock step.Turn = ⊥
-IsMarkOf before op kind parent sock (step.Poll n) = ⊥
+IsMarkOf before op kind parent sock _ = ⊥
 
 -- == the table
 -- What an operation may ask after these entries. Of a call whose row needs a step that isn't there yet it says that it may not

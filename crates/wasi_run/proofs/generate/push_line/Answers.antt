@@ -22,3 +22,9 @@ returns-in-7 c = rw c.in-7.is (written c.write-in-7.result _ _ _ _ c.write-in-7.
 
 pub returns-in-8 : goal.returns-in-8
 returns-in-8 c = rw c.in-8.is (written c.write-in-8.result _ _ _ _ c.write-in-8.ensures.bytes (drop_line c.args.socket))
+
+pub returns-in-1 : goal.returns-in-1
+returns-in-1 c = rw c.in-1.is c.push_connect.ensures
+
+pub returns-in-4 : goal.returns-in-4
+returns-in-4 c = rw c.in-4.is c.push_write.ensures
