@@ -2,6 +2,6 @@ pub mod tables
 pub mod operations
 pub mod sockets
 pub mod streams
-pub mod ending
-pub mod machine
+pub mod Ending
+pub mod Machine
 pub mod runs

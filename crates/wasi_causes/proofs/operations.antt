@@ -1,5 +1,4 @@
 -- Polls of operations: how each comes out and ends.
 pub mod Accepts
-pub mod Ends
 pub mod Marks
 pub mod Polls

@@ -1,4 +1,3 @@
 -- What holds of the machines that the lines of a script lead to.
-pub mod Fits
 pub mod Reached
 pub mod States

@@ -1,7 +1,5 @@
 -- The calls of streams, and turns.
-pub mod Reads
+pub mod Halves
 pub mod Routes
 pub mod Turns
 pub mod Waits
-pub mod Writers
-pub mod Writes

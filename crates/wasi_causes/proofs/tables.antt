@@ -2,6 +2,5 @@
 pub mod Creates
 pub mod Examples
 pub mod Meets
-pub mod Replies
 pub mod Routes
 pub mod Steps

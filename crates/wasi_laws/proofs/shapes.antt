@@ -1,3 +1,4 @@
 -- How records stand between the asks.
 pub mod Shape
+pub mod Lives
 pub mod Law

@@ -7,8 +7,6 @@ pub mod fact;
 pub mod finished;
 pub mod line;
 pub mod rule;
-#[cfg(test)]
-mod tests;
 
 pub use count::{Count, Counter};
 pub use fact::{Fact, Keeper};

@@ -7,8 +7,6 @@ pub mod job;
 mod run;
 pub mod spawner;
 pub mod start;
-#[cfg(test)]
-mod tests;
 pub mod thread;
 
 pub use fake::FakeSpawner;

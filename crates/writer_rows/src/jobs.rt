@@ -1,7 +1,9 @@
-use crate::{FakeSpawner, Job, Spawner, StartError, ThreadSpawner};
+//! Jobs in threads of their own, and refused ones.
+
 use std::sync::Wait;
 use std::test::*;
 use std::thread::Threads;
+use wasi_spawn::{FakeSpawner, Job, Spawner, StartError, ThreadSpawner};
 
 /// Adds two numbers.
 #[derive(Debug, PartialEq, Eq, Drop)]

@@ -1,5 +1,5 @@
-//! The write stream with its worker in a real thread. These tests stand in a crate of their own, since a crate with tests
-//! is proved twice.
+//! The write stream with its worker in a real thread, and what it stands on. These tests stand in a crate of their own,
+//! since a crate with tests is proved twice.
 #![tactic(auto)]
 
 #[cfg(test)]
@@ -8,6 +8,10 @@ mod ends;
 mod gate;
 #[cfg(test)]
 mod gated;
+#[cfg(test)]
+mod jobs;
+#[cfg(test)]
+mod line;
 #[cfg(test)]
 mod pieces;
 #[cfg(test)]

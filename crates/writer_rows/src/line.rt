@@ -1,10 +1,12 @@
+//! A line of chunks, in one thread.
+
 ghost use Rattle.std.specs.Prelude.{◌≡◌};
 
-use crate::{Line, PushEnd, count_left, make_line};
 use bytes::Bytes;
 use std::alloc::{AllocError, Global};
 use std::sync::Wait;
 use std::test::*;
+use wasi_shared::{Line, PushEnd, count_left, make_line};
 
 fn push_all<R: Wait>(
     rt: &R,

@@ -1,12 +1,14 @@
 -- What the state law says to a reader: which records are there, and which causes of a refusal are left, after the lines of a script.
-use Rattle.std.specs.Prelude.{◌⊎◌, IsSome, IsSomeAnd}
 use Rattle.std.proofs.Common.{◌≡◌, inl, inr, ℕ, Bool, true, false, if◌then◌else◌, ◌==◌, List, [], Option, Some, None, refl, sym, ap, subst, slice_get}
-use Rattle.wasi_world.specs.declared.call.Entry.{Entry}
-use Rattle.wasi_world.specs.declared.outcome.TrapKind.{TrapKind}
-use Rattle.wasi_world.specs.declared.outcome.TrapKind.TheVariants.{NoSuchHandle, HasChildren, Full, NotPermitted}
-use Rattle.wasi_world.specs.declared.outcome.WasiSocketsCtx.{WasiSocketsCtx}
-use Rattle.wasi_world.specs.Asks.{Give, Left}
-use Rattle.wasi_tcp.specs.declared.socket.TcpState.TheVariants as state
+use Rattle.std.specs.Prelude.{◌⊎◌, IsSome, IsSomeAnd}
+use Rattle.wasi_causes.proofs.runs.Reached.{IsThere, Finishes, call_place, Steady, runs_are_steady, runs_connect}
+use Rattle.wasi_causes.proofs.tables.Steps.{its_own}
+use Rattle.wasi_causes.specs.Outcomes.{Traps}
+use Rattle.wasi_causes.specs.Reached.{HasRecord, OfItsRecord, MayFinish, IsUndone, RefusedInRun, ListensLate, ListenRefusedInRun}
+use Rattle.wasi_host.specs.Kinds.{kind_at}
+use Rattle.wasi_host.specs.Machine.{first_state, own_of, socket_at}
+use Rattle.wasi_host.specs.Pending.{bind_in, listen_in, waiting_bind, waiting_listen}
+use Rattle.wasi_host.specs.Store.{is_connect}
 use Rattle.wasi_host.specs.declared.kind.Kind.{Kind}
 use Rattle.wasi_host.specs.declared.kind.Kind.TheVariants.{Network, Tcp2, Input, Output, Pollable, ErrorValue}
 use Rattle.wasi_host.specs.declared.machine.Machine.{Machine}
@@ -14,24 +16,21 @@ use Rattle.wasi_host.specs.declared.socket.Tcp2Socket.{Tcp2Socket}
 use Rattle.wasi_host.specs.declared.store.Standing.{Standing}
 use Rattle.wasi_host.specs.declared.store.StandingCall.{StandingCall}
 use Rattle.wasi_host.specs.declared.store.StandingCall.TheVariants as standing
-use Rattle.wasi_host.specs.Kinds.{kind_at}
-use Rattle.wasi_host.specs.Machine.{first_state, own_of, socket_at}
-use Rattle.wasi_host.specs.Pending.{bind_in, listen_in, waiting_bind, waiting_listen}
-use Rattle.wasi_host.specs.Store.{is_connect}
+use Rattle.wasi_walks.proofs.walks.Moves.{record_of}
+use Rattle.wasi_walks.proofs.walks.States.{socket_record}
+use Rattle.wasi_walks.specs.Answered.{Answered, record_in, record_at, RefusedOf, StandsOnNothing, FinishRefusal, NoConnect, StillConnects, Closes, WasClosed, NotConnecting, ListensAlready, ReceivesAlready, SendsAlready}
+use Rattle.wasi_machine.specs.Machine.{run}
 use Rattle.wasi_steps.specs.declared.reply.CodeWord.{CodeWord}
 use Rattle.wasi_steps.specs.declared.reply.Reply.{Reply}
 use Rattle.wasi_steps.specs.declared.reply.Reply.TheVariants as reply
 use Rattle.wasi_steps.specs.declared.step.Step.{Step}
 use Rattle.wasi_steps.specs.declared.step.Step.TheVariants as step
-use Rattle.wasi_walks.specs.Answered.{Answered, record_in, record_at, RefusedOf, StandsOnNothing, FinishRefusal, NoConnect, StillConnects, Closes, WasClosed, NotConnecting, ListensAlready, ReceivesAlready, SendsAlready}
-use Rattle.wasi_machine.specs.Machine.{run}
-use Rattle.wasi_walks.proofs.walks.Moves.{record_of}
-use Rattle.wasi_walks.proofs.walks.States.{socket_record}
-use Rattle.wasi_causes.specs.Reached.{HasRecord, OfItsRecord, MayFinish, IsUndone, RefusedInRun, ListensLate, ListenRefusedInRun}
-use Rattle.wasi_causes.proofs.runs.Reached.{IsThere, Finishes, call_place, Steady, runs_are_steady}
-use Rattle.wasi_causes.proofs.runs.Fits.{runs_connect}
-use Rattle.wasi_causes.specs.Outcomes.{Traps}
-use Rattle.wasi_causes.proofs.tables.Steps.{its_own}
+use Rattle.wasi_tcp.specs.declared.socket.TcpState.TheVariants as state
+use Rattle.wasi_world.specs.Asks.{Give, Left}
+use Rattle.wasi_world.specs.declared.call.Entry.{Entry}
+use Rattle.wasi_world.specs.declared.outcome.TrapKind.{TrapKind}
+use Rattle.wasi_world.specs.declared.outcome.TrapKind.TheVariants.{NoSuchHandle, HasChildren, Full, NotPermitted}
+use Rattle.wasi_world.specs.declared.outcome.WasiSocketsCtx.{WasiSocketsCtx}
 
 module _ (m : Machine) (i : Steady m) where
   has_record : (place : ℕ) → IsThere m.store.sockets place → HasRecord m place

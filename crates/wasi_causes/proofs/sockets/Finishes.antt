@@ -1,51 +1,51 @@
 -- The finish of a connect, and that of a bind and of a listen.
-use Rattle.std.specs.Prelude.{IsSomeAnd}
 use Rattle.std.proofs.Common.{◌≡◌, ◌≢◌, ℕ, ◌+◌, Bool, true, false, inr, inl, List, [], Option, Some, None, Result, Ok, Err, slice_get, refl, ap, subst, arith}
+use Rattle.std.specs.Prelude.{IsSomeAnd}
 use Rattle.wasi_addr.specs.declared.code.ErrorCode.{ErrorCode}
 use Rattle.wasi_addr.specs.declared.code.ErrorCode.TheVariants.{InvalidState}
-use Rattle.wasi_world.specs.declared.ids.OpId.{OpId}
-use Rattle.wasi_world.specs.declared.call.Call.TheVariants as call
-use Rattle.wasi_world.specs.declared.call.Entry.{Entry}
-use Rattle.wasi_world.specs.declared.call.HandleKind.TheVariants as name
-use Rattle.wasi_world.specs.declared.call.Told.TheVariants as told
-use Rattle.wasi_world.specs.declared.outcome.Answer.{Answer}
-use Rattle.wasi_world.specs.declared.outcome.TrapKind.TheVariants.{NoSuchHandle}
-use Rattle.wasi_world.specs.declared.outcome.WasiSocketsCtx.{WasiSocketsCtx}
-use Rattle.wasi_world.specs.Asks.{Give, bind}
-use Rattle.wasi_world.specs.Operation.{Item, Operation, End, Waits, Done, Refused}
-use Rattle.wasi_tcp.specs.declared.socket.Connection.{Connection}
-use Rattle.wasi_tcp.specs.declared.socket.TcpState.{TcpState}
-use Rattle.wasi_tcp.specs.declared.socket.TcpState.TheVariants as state
-use Rattle.wasi_tcp.specs.Shape.{Socket}
-use Rattle.wasi_tcp.specs.Connect.{IsConnect}
-use Rattle.wasi_tcp.specs.Connecting.{with_state, connect_ended, finish_in, in_socket}
-use Rattle.wasi_tcp.specs.Addresses.{still_connected}
-use Rattle.wasi_tcp.specs.Halves.{taken_receive, taken_send}
+use Rattle.wasi_causes.proofs.operations.Marks.{poll_marks_none}
+use Rattle.wasi_causes.proofs.operations.Polls.{EndsFor, connect_ends}
+use Rattle.wasi_causes.proofs.tables.Meets.{Rows, Meets, ends, chain, onto, widen, both, granted}
+use Rattle.wasi_causes.proofs.tables.Routes.{Says, on_number, Names, its, here, through_record, makes, apart, none_has, code_word, not_of_code}
+use Rattle.wasi_causes.specs.Outcomes.{Outcome}
+use Rattle.wasi_host.specs.Host.{Stop, Trap, code_stop}
+use Rattle.wasi_host.specs.Kinds.{with_handle}
+use Rattle.wasi_host.specs.Machine.{socket_at, side_at, with_store, own_of}
+use Rattle.wasi_host.specs.Store.{Records, with_socket, is_bind, is_listen, is_connect, idle, opened_send, opened_receive, connect_polled, with_record_put, finish_by, finish_at, finish_connect_by, finish_connect_at}
+use Rattle.wasi_host.specs.declared.kind.Kind.TheVariants.{Input, Output}
 use Rattle.wasi_host.specs.declared.machine.Machine.{Machine}
 use Rattle.wasi_host.specs.declared.socket.InProgress.{InProgress}
 use Rattle.wasi_host.specs.declared.socket.Tcp2Socket.{Tcp2Socket}
-use Rattle.wasi_host.specs.declared.kind.Kind.TheVariants.{Input, Output}
-use Rattle.wasi_host.specs.Host.{Stop, Trap, code_stop}
-use Rattle.wasi_host.specs.Kinds.{with_handle}
-use Rattle.wasi_host.specs.Store.{Records, with_socket, is_bind, is_listen, is_connect, idle, opened_send, opened_receive, connect_polled, with_record_put, finish_by, finish_at, finish_connect_by, finish_connect_at}
-use Rattle.wasi_host.specs.Machine.{socket_at, side_at, with_store, own_of}
 use Rattle.wasi_p2.specs.Tcp.{finish_on, output_asks, streams_asks, connected_asks, finish_connect_on, finish_connect_asks}
+use Rattle.wasi_walks.proofs.Lists.{marks_in-push}
+use Rattle.wasi_walks.specs.Answered.{record_at, word_of_code, HasNoConnectInProgress, ClosedBy, FinishRefusal, NoConnect, StillConnects, Closes, WasClosed, NotConnecting, ListensAlready, ReceivesAlready, SendsAlready, ConnectsAt}
+use Rattle.wasi_walks.specs.Licence.{entry, marks_in}
+use Rattle.wasi_machine.specs.Machine.{done_reply, pair_reply}
+use Rattle.wasi_steps.specs.Reply.{no_fields}
 use Rattle.wasi_steps.specs.declared.reply.CodeWord.{CodeWord}
 use Rattle.wasi_steps.specs.declared.reply.CodeWord.TheVariants as word
 use Rattle.wasi_steps.specs.declared.reply.Reply.{Reply}
 use Rattle.wasi_steps.specs.declared.reply.Reply.TheVariants as reply
 use Rattle.wasi_steps.specs.declared.step.Step.{Step}
 use Rattle.wasi_steps.specs.declared.step.Step.TheVariants as step
-use Rattle.wasi_machine.specs.Machine.{done_reply, pair_reply}
-use Rattle.wasi_walks.specs.Licence.{entry, marks_in}
-use Rattle.wasi_walks.specs.Answered.{record_at, word_of_code, HasNoConnectInProgress, ClosedBy, FinishRefusal, NoConnect, StillConnects, Closes, WasClosed, NotConnecting, ListensAlready, ReceivesAlready, SendsAlready, ConnectsAt}
-use Rattle.wasi_walks.proofs.Lists.{marks_in-push}
-use Rattle.wasi_steps.specs.Reply.{no_fields}
-use Rattle.wasi_causes.specs.Outcomes.{Outcome}
-use Rattle.wasi_causes.proofs.operations.Ends.{EndsFor, connect_ends}
-use Rattle.wasi_causes.proofs.operations.Marks.{poll_marks_none}
-use Rattle.wasi_causes.proofs.tables.Meets.{Rows, Meets, ends, chain, onto, widen, both, granted}
-use Rattle.wasi_causes.proofs.tables.Routes.{Says, on_number, Names, its, here, through_record, makes, apart, none_has, code_word, not_of_code}
+use Rattle.wasi_tcp.specs.Addresses.{still_connected}
+use Rattle.wasi_tcp.specs.Connect.{IsConnect}
+use Rattle.wasi_tcp.specs.Connecting.{with_state, connect_ended, finish_in, in_socket}
+use Rattle.wasi_tcp.specs.Halves.{taken_receive, taken_send}
+use Rattle.wasi_tcp.specs.Shape.{Socket}
+use Rattle.wasi_tcp.specs.declared.socket.Connection.{Connection}
+use Rattle.wasi_tcp.specs.declared.socket.TcpState.{TcpState}
+use Rattle.wasi_tcp.specs.declared.socket.TcpState.TheVariants as state
+use Rattle.wasi_world.specs.Asks.{Give, bind}
+use Rattle.wasi_world.specs.Operation.{Item, Operation, End, Waits, Done, Refused}
+use Rattle.wasi_world.specs.declared.call.Call.TheVariants as call
+use Rattle.wasi_world.specs.declared.call.Entry.{Entry}
+use Rattle.wasi_world.specs.declared.call.HandleKind.TheVariants as name
+use Rattle.wasi_world.specs.declared.call.Told.TheVariants as told
+use Rattle.wasi_world.specs.declared.ids.OpId.{OpId}
+use Rattle.wasi_world.specs.declared.outcome.Answer.{Answer}
+use Rattle.wasi_world.specs.declared.outcome.TrapKind.TheVariants.{NoSuchHandle}
+use Rattle.wasi_world.specs.declared.outcome.WasiSocketsCtx.{WasiSocketsCtx}
 
 -- == a connect
 module _ (contexts : List WasiSocketsCtx) (m : Machine) (line c handle : ℕ) where

@@ -1,40 +1,50 @@
--- What a socket says of itself: its addresses, whether it listens, and its family.
-use Rattle.std.proofs.Common.{◌≡◌, ◌⊎◌, inl, inr, ℕ, Bool, true, false, List, [], ◌∷◌, ◌++◌, Option, Some, None, Result, Ok, Err, slice_get, refl, sym, subst}
+-- What a socket says of itself: its addresses, whether it listens, its family, and its options and backlog, which are set too.
+use Rattle.std.proofs.Common.{◌≡◌, ◌⊎◌, inl, inr, ℕ, Bool, true, false, List, [], ◌∷◌, ◌++◌, Option, Some, None, Result, Ok, Err, slice_get, refl, sym, subst, ◌<◌, ◌==◌, if◌then◌else◌, nat_le, arith}
+use Rattle.std.proofs.lemmas.Bool.{eqb-true, eqb-false, leb-true, leb-false}
+use Rattle.wasi_addr.specs.Clamp.{clamped_backlog}
 use Rattle.wasi_addr.specs.declared.address.IpSocketAddress.{IpSocketAddress}
 use Rattle.wasi_addr.specs.declared.code.ErrorCode.{ErrorCode}
-use Rattle.wasi_addr.specs.declared.code.ErrorCode.TheVariants.{InvalidState}
-use Rattle.wasi_world.specs.declared.ids.OpId.{OpId}
-use Rattle.wasi_world.specs.declared.call.Call.TheVariants as call
-use Rattle.wasi_world.specs.declared.call.Entry.{Entry}
-use Rattle.wasi_world.specs.declared.call.Told.{Told}
-use Rattle.wasi_world.specs.declared.call.Told.TheVariants as told
-use Rattle.wasi_world.specs.declared.outcome.WasiSocketsCtx.{WasiSocketsCtx}
-use Rattle.wasi_world.specs.Fits.{IsAddr}
-use Rattle.wasi_world.specs.Asks.{Give, bind}
-use Rattle.wasi_world.specs.Typed.{told_addr}
+use Rattle.wasi_addr.specs.declared.code.ErrorCode.TheVariants.{InvalidState, NotSupported}
+use Rattle.wasi_causes.proofs.sockets.Starts.{BoundRow, ItsBound, ItsFree, asked_none, bounds}
+use Rattle.wasi_causes.proofs.tables.Meets.{Rows, Meets, ends, asks, chain, onto, widen, branch}
+use Rattle.wasi_causes.proofs.tables.Routes.{on_number, Says, put_back, Names, here, on_record, code_word}
+use Rattle.wasi_causes.specs.Options.{GetRefusal, GetsNoSide, GetTold, ToldTooLarge, SetRefusal, ZeroBefore, SetsNoSide, ZeroAfter, SetTold, BacklogRefusal, ZeroBacklog, StillConnects, IsConnected, WasClosed, BacklogTold, GetsOption, SetsOption, SetsBacklog, KeptForListen, ToldListener}
+use Rattle.wasi_causes.specs.Outcomes.{AreLike, Outcome}
+use Rattle.wasi_host.specs.Host.{Stop}
+use Rattle.wasi_host.specs.Machine.{socket_at, own_of, with_store}
+use Rattle.wasi_host.specs.Options.{code_told, get_option_at, set_option_at, set_backlog_at}
+use Rattle.wasi_host.specs.Store.{with_inner, put_back as answer_put, inner_answered, local_address_at, remote_address_at, is_listening_at, address_family_at}
+use Rattle.wasi_host.specs.declared.machine.Machine.{Machine}
+use Rattle.wasi_host.specs.declared.socket.Tcp2Socket.{Tcp2Socket}
+use Rattle.wasi_p2.specs.Options.{get_option_on, set_option_on, set_backlog_on}
+use Rattle.wasi_p2.specs.Tcp.{local_address_on, remote_address_on, is_listening_on, address_family_on}
+use Rattle.wasi_walks.specs.Answered.{KnowsBound, putting, word_of_code, IsPastDefault, IsBound, LocalRefusal, NotBound, Connects, LocalClosed, LocalTold, RemoteRefusal, RemoteDefault, RemoteListening, RemoteConnecting, RemoteClosed, RemoteTold}
+use Rattle.wasi_walks.specs.Licence.{entry}
+use Rattle.wasi_machine.specs.Machine.{address_reply, truth_reply, family_reply, value_reply, done_reply, set_chosen}
+use Rattle.wasi_steps.specs.Replies.{Each, Truth}
+use Rattle.wasi_steps.specs.Reply.{truth_fields, number_fields}
+use Rattle.wasi_steps.specs.Settings.{Chosen, AnOption, TheBacklog, chosen}
+use Rattle.wasi_steps.specs.declared.reply.CodeWord.{CodeWord}
+use Rattle.wasi_steps.specs.declared.reply.CodeWord.TheVariants as word
+use Rattle.wasi_steps.specs.declared.setting.TcpSetting.{TcpSetting}
+use Rattle.wasi_steps.specs.declared.step.Step.TheVariants as step
+use Rattle.wasi_tcp.specs.Addresses.{is_listening, usable_side, local_from, local_where, local_asks, after_peer, peer_known, still_connected, remote_in}
+use Rattle.wasi_tcp.specs.Connecting.{with_state, in_socket}
+use Rattle.wasi_tcp.specs.Options.{largest_value, zero_test, value_set, value_told, refused_before, refused_after, option_side, option_answer, get_where, set_where, set_option_asks, with_backlog, after_backlog, set_backlog_in, set_backlog_asks}
+use Rattle.wasi_tcp.specs.Shape.{Socket}
 use Rattle.wasi_tcp.specs.declared.socket.Connection.{Connection}
 use Rattle.wasi_tcp.specs.declared.socket.TcpState.{TcpState}
 use Rattle.wasi_tcp.specs.declared.socket.TcpState.TheVariants as state
-use Rattle.wasi_tcp.specs.Shape.{Socket}
-use Rattle.wasi_tcp.specs.Connecting.{with_state, in_socket}
-use Rattle.wasi_tcp.specs.Addresses.{is_listening, usable_side, local_from, local_where, local_asks, after_peer, peer_known, still_connected, remote_in}
-use Rattle.wasi_host.specs.declared.machine.Machine.{Machine}
-use Rattle.wasi_host.specs.declared.socket.Tcp2Socket.{Tcp2Socket}
-use Rattle.wasi_host.specs.Store.{with_inner, put_back as answer_put, inner_answered, local_address_at, remote_address_at, is_listening_at, address_family_at}
-use Rattle.wasi_host.specs.Machine.{socket_at, own_of, with_store}
-use Rattle.wasi_p2.specs.Tcp.{local_address_on, remote_address_on, is_listening_on, address_family_on}
-use Rattle.wasi_steps.specs.declared.reply.CodeWord.{CodeWord}
-use Rattle.wasi_steps.specs.declared.reply.CodeWord.TheVariants as word
-use Rattle.wasi_steps.specs.declared.step.Step.TheVariants as step
-use Rattle.wasi_machine.specs.Machine.{address_reply, truth_reply, family_reply}
-use Rattle.wasi_walks.specs.Licence.{entry}
-use Rattle.wasi_walks.specs.Answered.{KnowsBound, putting, word_of_code, IsPastDefault, IsBound, LocalRefusal, NotBound, Connects, LocalClosed, LocalTold, RemoteRefusal, RemoteDefault, RemoteListening, RemoteConnecting, RemoteClosed, RemoteTold}
-use Rattle.wasi_steps.specs.Replies.{Each, Truth}
-use Rattle.wasi_steps.specs.Reply.{truth_fields}
-use Rattle.wasi_causes.specs.Outcomes.{AreLike, Outcome}
-use Rattle.wasi_causes.proofs.sockets.Bound.{BoundRow, ItsBound, ItsFree, asked_none, bounds}
-use Rattle.wasi_causes.proofs.tables.Meets.{Rows, Meets, ends, asks, chain, onto, widen}
-use Rattle.wasi_causes.proofs.tables.Routes.{on_number, Says, put_back, Names, here, on_record, code_word}
+use Rattle.wasi_world.specs.Asks.{Give, bind}
+use Rattle.wasi_world.specs.Fits.{IsAddr, IsDoneOrCode, IsValue}
+use Rattle.wasi_world.specs.Typed.{told_addr, told_done, told_value}
+use Rattle.wasi_world.specs.declared.call.Call.TheVariants as call
+use Rattle.wasi_world.specs.declared.call.Entry.{Entry}
+use Rattle.wasi_world.specs.declared.call.Opt.{Opt}
+use Rattle.wasi_world.specs.declared.call.Told.{Told}
+use Rattle.wasi_world.specs.declared.call.Told.TheVariants as told
+use Rattle.wasi_world.specs.declared.ids.OpId.{OpId}
+use Rattle.wasi_world.specs.declared.outcome.WasiSocketsCtx.{WasiSocketsCtx}
 
 -- a call on a socket: an address, or a code that is refused so
 abbrev pub Answers : (List Entry → CodeWord → Machine → Type 0) → Machine → ℕ → Tcp2Socket → Rows (Result IpSocketAddress ErrorCode × Socket)
@@ -109,6 +119,74 @@ module _ (m : Machine) (own : OpId) (place : ℕ) (r : Tcp2Socket) (at : slice_g
   by_state (state.Connected connection) e = onto _ (by_kept connection e connection.peer refl)
   by_state (state.Closed code) e = ends (stays [] code (state.Closed code) e (RemoteClosed code e))
 
+-- == the options and the backlog
+module _ (own : OpId) (r : Tcp2Socket) where
+  -- a get
+  module _ (option : Opt) where
+    abbrev GetRow : Rows (Result ℕ ErrorCode)
+    GetRow es (Ok value) = GetsOption own option r (number_fields value) es
+    GetRow es (Err code) = GetRefusal own option r es (word_of_code code)
+
+    abbrev got : OpId → Told → List Entry
+    got side t = entry own (call.GetOption side option) t ∷ []
+
+    -- by whether the value is too large
+    by_size : (side : OpId) (v : ℕ) (b : Bool) → option_side r.inner ≡ Ok side → nat_le (value_told option v) (largest_value option) ≡ b → GetRow (got side (told.Value v)) (if b then Ok (value_told option v) else Err NotSupported)
+    by_size side v true e size = record { side = side; value = v; has = e; asked = refl; within = leb-true _ _ size; gives = refl }
+    by_size side v false e size = ToldTooLarge side v e (leb-false _ _ size)
+
+    told_got : (side : OpId) (t : Told) → option_side r.inner ≡ Ok side → IsValue t → GetRow (got side t) (option_answer option (told_value t))
+    told_got side (told.Value v) e fits = by_size side v (nat_le (value_told option v) (largest_value option)) e refl
+    told_got side (told.Code code) e fits = GetTold side code e
+    told_got side _ e fits = absurd fits
+
+    gets_where : (o : Result OpId ErrorCode) → option_side r.inner ≡ o → Meets (λ es done. GetRow es done.0) [] (get_where own r.inner option o)
+    unfolding bind
+    gets_where (Ok side) e = asks (λ t fits. ends (told_got side t e fits))
+    gets_where (Err code) e = ends (GetsNoSide code e)
+
+  -- a set
+  module _ (option : Opt) (value : ℕ) where
+    abbrev SetRow : Rows (Result (Unit {0}) ErrorCode)
+    SetRow es (Ok done) = SetsOption own option value r es
+    SetRow es (Err code) = SetRefusal own option value r es (word_of_code code)
+
+    module _ (early : refused_before (zero_test option) value ≡ false) where
+      told_set : (side : OpId) (t : Told) → option_side r.inner ≡ Ok side → refused_after (zero_test option) value ≡ false → IsDoneOrCode t → SetRow (entry own (call.SetOption side option (value_set option value)) t ∷ []) (told_done t)
+      told_set side told.Done e late fits = record { side = side; has = e; before = early; after = late; asked = refl }
+      told_set side (told.Code code) e late fits = SetTold side code early e late
+      told_set side _ e late fits = absurd fits
+
+      sets_where : (o : Result OpId ErrorCode) → option_side r.inner ≡ o → Meets (λ es done. SetRow es done.0) [] (set_where own r.inner option value o)
+      sets_where (Ok side) e = onto _ (branch (refused_after (zero_test option) value) (λ late. ends (ZeroAfter side early e late)) (λ late. asks (λ t fits. ends (told_set side t e late fits))))
+      sets_where (Err code) e = ends (SetsNoSide code early e)
+
+    sets : Meets (λ es done. SetRow es done.0) [] (set_option_asks own r.inner option value)
+    sets = branch (refused_before (zero_test option) value) (λ zero. ends (ZeroBefore zero)) (λ early. sets_where early (option_side r.inner) refl)
+
+  -- a set of the backlog: refused, the socket is as it was
+  module _ (value : ℕ) where
+    abbrev BacklogRow : Rows (Result (Unit {0}) ErrorCode × Socket)
+    BacklogRow es (Ok done, now) = (0 < value) × SetsBacklog own value r es × (now ≡ with_backlog r.inner (clamped_backlog value))
+    BacklogRow es (Err code, now) = BacklogRefusal own value r es (word_of_code code) × (now ≡ r.inner)
+
+    module _ (some : 0 < value) where
+      told_backlog : (side : OpId) (t : Told) → r.inner.state ≡ state.Listening side → IsDoneOrCode t → BacklogRow (entry own (call.SetBacklog side (clamped_backlog value)) t ∷ []) (after_backlog r.inner (clamped_backlog value) (told_done t))
+      told_backlog side told.Done e fits = (some, ToldListener side e, refl)
+      told_backlog side (told.Code code) e fits = (BacklogTold side code some e, refl)
+      told_backlog side _ e fits = absurd fits
+
+      keeps_in : (st : TcpState) → r.inner.state ≡ st → Meets BacklogRow [] (set_backlog_in own r.inner (clamped_backlog value) st)
+      unfolding bind
+      keeps_in (state.Default side) e = ends (some, KeptForListen side e, refl)
+      keeps_in (state.Listening side) e = asks (λ t fits. ends (told_backlog side t e fits))
+      keeps_in (state.Connecting op) e = ends (StillConnects op some e, refl)
+      keeps_in (state.Connected connection) e = ends (IsConnected connection some e, refl)
+      keeps_in (state.Closed code) e = ends (WasClosed code some e, refl)
+
+    keeps : Meets BacklogRow [] (set_backlog_asks own r.inner value)
+    keeps = branch (value == 0) (λ zero. ends (ZeroBacklog (eqb-true value 0 zero), refl)) (λ more. let some = eqb-false value 0 more in keeps_in (omega (arith, some)) r.inner.state refl)
+
 -- == the steps
 module _ (contexts : List WasiSocketsCtx) (m : Machine) (line c handle : ℕ) where
   abbrev own : OpId
@@ -144,3 +222,32 @@ module _ (contexts : List WasiSocketsCtx) (m : Machine) (line c handle : ℕ) wh
 
   pub family : Meets (Says contexts m line (step.TcpAddressFamily c handle)) [] (Give (family_reply (address_family_on m (socket_at m handle)), m))
   family = on_number m handle (λ o. Give (family_reply (address_family_on m o), m)) (λ place o. Give (family_reply (address_family_at o), m)) (λ place. refl) (λ none. ends ((refl, refl), (none, refl, refl))) (λ none place. ends ((refl, refl), (none, refl, refl))) (λ place r n. ends ((refl, refl), ((tt, tt), tt)))
+
+  module _ (option : Opt) where
+    got_so : (place : ℕ) (r : Tcp2Socket) → Names m handle place r → (es : List Entry) (done : Result ℕ ErrorCode × Socket) → GetRow own r option es done.0 → Outcome contexts m line (step.TcpGet c handle option) es (value_reply (code_told done.0)) m
+    got_so place r n es (Ok value, now) h = (refl, ((tt, tt), here n h))
+    got_so place r n es (Err code, now) h = (refl, (code_word code, here n (h, refl)))
+
+    pub get : Meets (Says contexts m line (step.TcpGet c handle option)) [] (bind (get_option_on m own option (socket_at m handle)) (λ done. Give (value_reply done.0, done.1)))
+    get = onto _ (on_record m handle (get_option_on m own option) (λ place o. get_option_at m.store own option o) refl (λ place. refl) (λ place. refl) (λ none. (refl, (none, refl, refl))) (λ place r n. onto _ (widen (got_so place r n) (gets_where own r option (option_side r.inner) refl))))
+
+  module _ (setting : TcpSetting) where
+    abbrev Row : Rows (Result (Unit {0}) Stop × Machine)
+    Row es done = Outcome contexts m line (step.TcpSet c handle setting) es (done_reply done.0) done.1
+
+    set_so : (place : ℕ) (r : Tcp2Socket) (n : Names m handle place r) (option : Opt) (value : ℕ) → chosen setting ≡ AnOption option value → (es : List Entry) (done : Result (Unit {0}) ErrorCode × Socket) → SetRow own r option value es done.0 → Row es (code_told done.0, m)
+    set_so place r n option value e es (Ok done, now) h = (tt, (tt, (refl, here n (rw e (h, refl)))))
+    set_so place r n option value e es (Err code, now) h = (tt, (code_word code, here n (rw e (h, refl))))
+
+    kept_so : (place : ℕ) (r : Tcp2Socket) (n : Names m handle place r) (value : ℕ) → chosen setting ≡ TheBacklog value → (es : List Entry) (done : Result (Unit {0}) ErrorCode × Socket) → BacklogRow own r value es done → Row es (with_store m (answer_put m.store place (inner_answered r done)))
+    kept_so place r n value e es (Ok done, now) h = (tt, (tt, (refl, here n (rw e (h.0, h.1, rw h.2 refl)))))
+    kept_so place r n value e es (Err code, now) h = rw h.1 (put_back (λ (after : Machine). Row es (code_told (Err code), after)) m place r n.at (tt, (code_word code, here n (rw e (h.0, refl)))))
+
+    by_chosen : (what : Chosen) → chosen setting ≡ what → Meets Row [] (set_chosen m own (socket_at m handle) what)
+    by_chosen (AnOption option value) e =
+        on_record m handle (set_option_on m own option value) (λ place o. set_option_at m.store own option value o) refl (λ place. refl) (λ place. refl) (λ none. (tt, (none, refl, refl))) (λ place r n. onto _ (widen (set_so place r n option value e) (sets own r option value)))
+    by_chosen (TheBacklog value) e =
+        on_record m handle (set_backlog_on m own value) (λ place o. set_backlog_at m.store own place value o) refl (λ place. refl) (λ place. refl) (λ none. (tt, (none, refl, refl))) (λ place r n. onto _ (widen (kept_so place r n value e) (keeps own r value)))
+
+    pub set : Meets (Says contexts m line (step.TcpSet c handle setting)) [] (bind (set_chosen m own (socket_at m handle) (chosen setting)) (λ done. Give (done_reply done.0, done.1)))
+    set = onto _ (by_chosen (chosen setting) refl)

@@ -1,14 +1,13 @@
 -- The starts of a bind, of a connect and of a listen.
-use Rattle.std.proofs.Common.{◌≡◌, ℕ, Bool, true, false, if◌then◌else◌, inl, inr, List, [], ◌∷◌, ◌++◌, Option, Some, None, Result, Ok, Err, refl, sym, ap, subst, ◌∙◌, append_assoc}
+use Rattle.std.proofs.Common.{◌≡◌, Bool, true, false, not, if◌then◌else◌, List, [], ◌∷◌, refl, sym, ap, subst, ℕ, inl, inr, ◌++◌, Option, Some, None, Result, Ok, Err, ◌∙◌, append_assoc}
 use Rattle.std.specs.Prelude.{◌⊎◌}
-use Rattle.wasi_addr.specs.Address.{wildcard}
+use Rattle.wasi_addr.specs.Address.{is_wildcard, wildcard}
 use Rattle.wasi_addr.specs.declared.address.IpSocketAddress.{IpSocketAddress}
 use Rattle.wasi_addr.specs.declared.address.SocketAddrUse.TheVariants.{TcpBind, TcpListen}
 use Rattle.wasi_addr.specs.declared.code.ErrorCode.{ErrorCode}
 use Rattle.wasi_addr.specs.declared.code.ErrorCode.TheVariants.{InvalidArgument, InvalidState, Other}
 use Rattle.wasi_causes.proofs.operations.Polls.{polled, ends_so, not_over}
-use Rattle.wasi_causes.proofs.sockets.Bound.{BoundRow, ItsBound, ItsFree, bounds, asked_none}
-use Rattle.wasi_causes.proofs.tables.Meets.{Rows, Meets, ends, chain, onto, widen, branch, After, shifted}
+use Rattle.wasi_causes.proofs.tables.Meets.{Meets, ends, asks, branch, Rows, chain, onto, widen, After, shifted}
 use Rattle.wasi_causes.proofs.tables.Routes.{Says, put_back, Names, here, code_word, not_of_code, in_conflict, no_conflict, none_conflicts, on_idle}
 use Rattle.wasi_causes.specs.Outcomes.{Outcome, Conflicts}
 use Rattle.wasi_causes.specs.Polls.{Passes, ToldYes, Breaks, ToldNo, BindToldCode, Polled, GoesOn, Stops, check_entry, local_entry, LocalToldYes, LocalToldNo, LocalToldCode, ListenToldCode, last_entries}
@@ -22,7 +21,7 @@ use Rattle.wasi_host.specs.declared.listening.Listening.TheVariants as listening
 use Rattle.wasi_host.specs.declared.machine.Machine.{Machine}
 use Rattle.wasi_host.specs.declared.socket.Tcp2Socket.{Tcp2Socket}
 use Rattle.wasi_p2.specs.Tcp.{start_bind_on, start_bind_asks, start_connect_on, start_connect_asks, start_listen_on}
-use Rattle.wasi_walks.specs.Answered.{putting, word_of_code, EndsPending, IsFree, may_bind_to, BindRefusal, AlreadyBound, WrongAddress, Denied, Failed, InProgress, Begins, ConnectRefusal, NotDefault, BoundElsewhere, Elsewhere, IsPastDefault, IsBound, knowing_bound, KnowsBound, OfRecord}
+use Rattle.wasi_walks.specs.Answered.{IsPastDefault, IsBound, Known, PastDefault, ToldBound, IsFree, putting, word_of_code, EndsPending, may_bind_to, BindRefusal, AlreadyBound, WrongAddress, Denied, Failed, InProgress, Begins, ConnectRefusal, NotDefault, BoundElsewhere, Elsewhere, knowing_bound, KnowsBound, OfRecord}
 use Rattle.wasi_walks.specs.Licence.{entry}
 use Rattle.wasi_walks.specs.Listens.{ListenFails, LocalTold, ListenDenied, ListenTold, IsPastNot, ListenRefusal, NotBound, NotDefault as ListensLate, ListensAlready, ListenRefused, closed_by_listen}
 use Rattle.wasi_machine.specs.Machine.{answer_reply, done_reply}
@@ -35,14 +34,17 @@ use Rattle.wasi_tcp.specs.Connecting.{is_connectable, connect_start, start_conne
 use Rattle.wasi_tcp.specs.Listen.{listen_operation}
 use Rattle.wasi_tcp.specs.Listening.{listen_start, listen_ended}
 use Rattle.wasi_tcp.specs.Shape.{Socket}
-use Rattle.wasi_tcp.specs.Socket.{bind_allowed, bind_start}
+use Rattle.wasi_tcp.specs.Socket.{after_local, ask_bound, bound_asks, bind_allowed, bind_start}
 use Rattle.wasi_tcp.specs.declared.bind.Asker.{Asker}
 use Rattle.wasi_tcp.specs.declared.bind.BindStage.TheVariants as stage
 use Rattle.wasi_tcp.specs.declared.listen.ListenStage.TheVariants as listen_stage
 use Rattle.wasi_tcp.specs.declared.socket.TcpState.{TcpState}
+use Rattle.wasi_tcp.specs.declared.socket.TcpState.TheVariants.{Default}
 use Rattle.wasi_tcp.specs.declared.socket.TcpState.TheVariants as state
-use Rattle.wasi_world.specs.Asks.{Give, bind}
+use Rattle.wasi_world.specs.Asks.{bind, Give}
+use Rattle.wasi_world.specs.Fits.{IsAddr}
 use Rattle.wasi_world.specs.Operation.{Given, Item, Check, Bind, Operation, End, Waits, Done, Refused, CheckLocal, Listen, CloseLast}
+use Rattle.wasi_world.specs.Typed.{told_addr}
 use Rattle.wasi_world.specs.declared.call.Call.TheVariants as call
 use Rattle.wasi_world.specs.declared.call.Entry.{Entry}
 use Rattle.wasi_world.specs.declared.call.Told.{Told}
@@ -51,6 +53,41 @@ use Rattle.wasi_world.specs.declared.ids.OpId.{OpId}
 use Rattle.wasi_world.specs.declared.outcome.Answer.{Answer}
 use Rattle.wasi_world.specs.declared.outcome.Answer.TheVariants.{Ready, Pending}
 use Rattle.wasi_world.specs.declared.outcome.WasiSocketsCtx.{WasiSocketsCtx}
+
+-- The socket is bound, which is kept; or it is free, and stays as it was.
+pub data BoundRow (own : OpId) (socket : Socket) : List Entry → Bool × Socket → Type 0 where
+  ItsBound : (es : List Entry) → IsBound own socket es → BoundRow own socket es (true, record socket { bound = true })
+  ItsFree : (side : OpId) (local : Told) → IsFree socket side local → BoundRow own socket (entry own (call.Local side) local ∷ []) (false, socket)
+
+-- past the state Default nothing is asked
+pub asked_none : (own : OpId) (socket : Socket) (es : List Entry) → IsBound own socket es → IsPastDefault socket.state → es ≡ []
+asked_none own socket _ (Known known) past = refl
+asked_none own socket _ (PastDefault p) past = refl
+asked_none own socket _ (ToldBound side told at_side says) past = absurd (subst IsPastDefault at_side past)
+
+module _ (own : OpId) (socket : Socket) where
+  is_known : socket.bound ≡ true → BoundRow own socket [] (true, socket)
+  is_known e =
+      let same = ap (λ (b : Bool). let now : Socket = record socket { bound = b } in now) e in
+      subst (λ (now : Socket). BoundRow own socket [] (true, now)) (sym same) (ItsBound [] (Known e))
+
+  said : (side : OpId) (b : IpSocketAddress) (wild : Bool) → is_wildcard socket.family b ≡ wild → socket.bound ≡ false → socket.state ≡ Default side
+      → BoundRow own socket (entry own (call.Local side) (told.Addr b) ∷ []) (if wild then (false, socket) else (true, record socket { bound = true }))
+  said side b true e unknown at_side = ItsFree side (told.Addr b) (record { unknown = unknown; open_side = at_side; free = ap not e })
+  said side b false e unknown at_side = ItsBound _ (ToldBound side (told.Addr b) at_side (ap not e))
+
+  told_local : (side : OpId) (t : Told) → IsAddr t → socket.bound ≡ false → socket.state ≡ Default side → BoundRow own socket (entry own (call.Local side) t ∷ []) (after_local socket (told_addr t))
+  told_local side (told.Addr b) fits unknown at_side = said side b (is_wildcard socket.family b) refl unknown at_side
+  told_local side (told.Code c) fits unknown at_side = ItsFree side (told.Code c) (record { unknown = unknown; open_side = at_side; free = refl })
+  told_local side _ fits unknown at_side = absurd fits
+
+  asks_side : (st : TcpState) → socket.state ≡ st → socket.bound ≡ false → Meets (BoundRow own socket) [] (ask_bound own socket st)
+  unfolding bind
+  asks_side (Default side) e unknown = asks (λ t fits. ends (told_local side t fits unknown e))
+  asks_side _ e unknown = ends (ItsBound [] (PastDefault (rw e tt)))
+
+  pub bounds : Meets (BoundRow own socket) [] (bound_asks own socket)
+  bounds = branch socket.bound (λ e. ends (is_known e)) (λ unknown. asks_side socket.state refl unknown)
 
 -- == a bind
 module _ (m : Machine) (own : OpId) (handle place : ℕ) (r : Tcp2Socket) (n : Names m handle place r) (a : IpSocketAddress) where

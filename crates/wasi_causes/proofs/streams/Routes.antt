@@ -1,5 +1,6 @@
 -- How a call finds the stream of its handle, and how what the stream gives is told.
 use Rattle.std.proofs.Common.{◌≡◌, ◌∙◌, ℕ, Bool, true, false, not, ◌&&◌, List, [], ◌∷◌, ◌++◌, Option, Some, None, Result, Ok, Err, slice_get, refl, sym, ap, subst}
+use Rattle.wasi_addr.specs.declared.code.ErrorCode.{ErrorCode}
 use Rattle.wasi_world.specs.declared.ids.OpId.{OpId}
 use Rattle.wasi_world.specs.declared.call.Call.TheVariants as call
 use Rattle.wasi_world.specs.declared.call.Entry.{Entry}
@@ -21,7 +22,7 @@ use Rattle.wasi_host.specs.Machine.{side_at, with_store}
 use Rattle.wasi_host.specs.Jobs.{has_job, with_job, begins_job}
 use Rattle.wasi_host.specs.StreamCalls.{converted, stream_on, write_on}
 use Rattle.wasi_walks.specs.Licence.{entry}
-use Rattle.wasi_walks.specs.Answered.{record_in, streams_in, putting, OfStreams}
+use Rattle.wasi_walks.specs.Answered.{FailsWith, word_of_code, record_in, streams_in, putting, OfStreams}
 use Rattle.wasi_causes.proofs.tables.Meets.{Rows, Meets, ends, chain, onto, widen}
 use Rattle.wasi_causes.proofs.tables.Routes.{put_store_same, put_same, makes}
 
@@ -46,6 +47,11 @@ module _ {m : Machine} {named : Option ℕ} {place : ℕ} {r : Tcp2Socket} {s : 
 -- what is weaker of them
 pub more_of : {P Q : ℕ → Tcp2Socket → Streams → Type 0} (m : Machine) (named : Option ℕ) → ((place : ℕ) (r : Tcp2Socket) (s : Streams) → P place r s → Q place r s) → OfStreams m named P → OfStreams m named Q
 more_of m named weak on = record { place = on.place; found = on.found; streams = on.streams; names = on.names; at = on.at; has = on.has; holds = weak on.place on.found on.streams on.holds }
+
+-- a call that failed marked the handle of its error
+pub failed_so : {m : Machine} {own : OpId} {handle : ℕ} {Cause : ErrorCode → List Entry → Type 0} (code : ErrorCode) (es : List Entry) (side : Option OpId) → Cause code es
+    → FailsWith m own handle Cause (es ++ entry own (call.Made m.table.next name.ErrorValue (Some handle) side) told.Done ∷ []) (word_of_code code) m.table.next
+failed_so code es side cause = record { code = code; before = es; side = side; told = told.Done; cause = cause; marked = refl; word_is = refl; handle_is = refl }
 
 -- == what is kept of a record that was called
 -- a call that begins no job keeps all

@@ -1,33 +1,38 @@
--- Each step is answered as its table says.
+-- Each step is answered as its table says, and which replies it may give.
+use Rattle.std.proofs.Common.{◌≡◌, ◌≢◌, ℕ, Bool, true, List, [], Option, Some, None, refl, subst, ◌⊎◌, inl, inr, ◌+◌, ◌∷◌, ◌++◌, append-nil, append_assoc, false, sym, ◌∙◌}
 use Rattle.std.specs.Prelude.{◌↔◌, IsSome, is_some}
-use Rattle.std.proofs.Common.{◌≡◌, ◌≢◌, ℕ, Bool, true, List, [], Option, Some, None, refl, subst}
-use Rattle.wasi_world.specs.declared.call.Entry.{Entry}
-use Rattle.wasi_world.specs.declared.outcome.WasiSocketsCtx.{WasiSocketsCtx}
+use Rattle.wasi_causes.proofs.Ending.{drop, shutdown}
+use Rattle.wasi_causes.proofs.Machine.{subscribe, ready, poll}
+use Rattle.wasi_causes.proofs.sockets.Accepts.{accept}
+use Rattle.wasi_causes.proofs.sockets.Finishes.{finish_bind, finish_connect, finish_listen}
+use Rattle.wasi_causes.proofs.sockets.Questions.{get, set, local_address, remote_address, is_listens, family}
+use Rattle.wasi_causes.proofs.sockets.Starts.{start_bind, start_connect, start_listen}
+use Rattle.wasi_causes.proofs.streams.Halves.{read, check_write, write, flush}
+use Rattle.wasi_causes.proofs.streams.Turns.{turn}
+use Rattle.wasi_causes.proofs.tables.Creates.{network, create}
+use Rattle.wasi_causes.proofs.tables.Meets.{Meets, ends, widen, branch, met, Rows, chain, shifted}
+use Rattle.wasi_causes.proofs.tables.Routes.{Says}
+use Rattle.wasi_causes.specs.Outcomes.{Outcome, Quiet, IsStreamCall, MayRefuse, MayMiss, MayTrap, MayWait, may_answer, EachMayAnswer, Reads, Looks, Traps}
+use Rattle.wasi_host.specs.Machine.{first_state}
 use Rattle.wasi_host.specs.declared.machine.Machine.{Machine}
 use Rattle.wasi_host.specs.declared.store.Standing.{Standing}
+use Rattle.wasi_walks.specs.Answered.{Answered, IsQuiet, MissesHandle}
+use Rattle.wasi_machine.specs.Machine.{is_guest_call, step_asks, machine_asks, asks_while, run}
+use Rattle.wasi_steps.specs.Reply.{is_trap, truth_fields}
+use Rattle.wasi_steps.specs.Steps.{context_of}
+use Rattle.wasi_walks.specs.Waiting.{IsFailure, MayStand}
+use Rattle.wasi_steps.specs.declared.reply.CodeWord.{CodeWord}
+use Rattle.wasi_steps.specs.declared.reply.Field.{Field}
+use Rattle.wasi_steps.specs.declared.reply.Field.TheVariants as field
 use Rattle.wasi_steps.specs.declared.reply.Reply.{Reply}
 use Rattle.wasi_steps.specs.declared.reply.Reply.TheVariants as reply
 use Rattle.wasi_steps.specs.declared.step.Step.{Step}
 use Rattle.wasi_steps.specs.declared.step.Step.TheVariants as step
-use Rattle.wasi_walks.specs.Answered.{Answered}
-use Rattle.wasi_machine.specs.Machine.{is_guest_call, step_asks, machine_asks, asks_while}
-use Rattle.wasi_steps.specs.Steps.{context_of}
-use Rattle.wasi_causes.specs.Outcomes.{Outcome, Quiet}
-use Rattle.wasi_causes.proofs.ending.Drops.{drop}
-use Rattle.wasi_causes.proofs.ending.Shutdowns.{shutdown}
-use Rattle.wasi_causes.proofs.machine.Polls.{poll}
-use Rattle.wasi_causes.proofs.machine.Looks.{subscribe, ready}
-use Rattle.wasi_causes.proofs.sockets.Accepts.{accept}
-use Rattle.wasi_causes.proofs.sockets.Finishes.{finish_bind, finish_connect, finish_listen}
-use Rattle.wasi_causes.proofs.sockets.Starts.{start_bind, start_connect, start_listen}
-use Rattle.wasi_causes.proofs.sockets.Options.{get, set}
-use Rattle.wasi_causes.proofs.sockets.Questions.{local_address, remote_address, is_listens, family}
-use Rattle.wasi_causes.proofs.streams.Reads.{read}
-use Rattle.wasi_causes.proofs.streams.Turns.{turn}
-use Rattle.wasi_causes.proofs.streams.Writes.{check_write, write, flush}
-use Rattle.wasi_causes.proofs.tables.Creates.{network, create}
-use Rattle.wasi_causes.proofs.tables.Meets.{Meets, ends, widen, branch, met}
-use Rattle.wasi_causes.proofs.tables.Routes.{Says}
+use Rattle.wasi_world.specs.Asks.{Give, Left}
+use Rattle.wasi_world.specs.declared.call.Entry.{Entry}
+use Rattle.wasi_world.specs.declared.outcome.TrapKind.{TrapKind}
+use Rattle.wasi_world.specs.declared.outcome.TrapKind.TheVariants as trap
+use Rattle.wasi_world.specs.declared.outcome.WasiSocketsCtx.{WasiSocketsCtx}
 
 module _ (contexts : List WasiSocketsCtx) (m : Machine) (line : ℕ) where
   rows : (s : Step) → Meets (Says contexts m line s) [] (step_asks contexts m line s)
@@ -111,3 +116,95 @@ module _ (contexts : List WasiSocketsCtx) (m : Machine) (line : ℕ) where
 
   pub busy_is_quiet : (s : Step) (es : List Entry) (after : Machine) → Answered contexts m line s es reply.Busy after → Quiet m es after
   busy_is_quiet s es after w = of_answer s (λ es r after. r ≡ reply.Busy → Quiet m es after) (λ e. (refl, refl)) (λ es r after row e. absurd (no_row s es r after row e)) es reply.Busy after w refl
+
+misses : (m : Machine) (s : Step) → MissesHandle m s → MayMiss s
+misses m (step.Network ctx) h = h
+misses m (step.TcpCreate ctx family) h = h
+misses m step.Turn h = h
+misses m _ h = tt
+
+waits : (m : Machine) (line n : ℕ) (s : Step) → MayStand m line s n → MayWait line s n
+waits m line n (step.TcpStartBind ctx socket network a) h = h
+waits m line n (step.TcpStartListen ctx socket) h = h
+waits m line n (step.Drop ctx handle) h = h.1
+waits m line n (step.Poll call) h = h
+waits m line n _ h = absurd h
+
+some_is : (o : Option ℕ) → IsSome o → is_some o ≡ true
+some_is None h = absurd (cc)
+some_is (Some n) h = refl
+
+module _ (contexts : List WasiSocketsCtx) (m : Machine) (line : ℕ) where
+  traps : (s : Step) (es : List Entry) (kind : TrapKind) (after : Machine) → Traps contexts m line s es kind after → MayTrap s kind
+  traps s es trap.NoSuchHandle after h = misses m s h.0
+  traps s es trap.HasChildren after h = h.0
+  traps s es trap.Full after h = h.0
+  traps s es trap.NotPermitted after h = h.0
+  traps s es _ after h = absurd h
+
+  by_row : (s : Step) (es : List Entry) (r : Reply) (after : Machine) → Outcome contexts m line s es r after → may_answer line s r
+  by_row s es (reply.Ok fields) after row = row.1.0
+  by_row s es (reply.Err w) after row = row.1.0
+  by_row s es reply.Closed after row = row.1.0
+  by_row s es (reply.Failed w handle) after row = row.1.0
+  by_row s es (reply.Trap kind) after row = traps s es kind after row.1
+  by_row s es (reply.Pending n) after row = waits m line n s row.1.0.0
+  by_row s es reply.NoSuchCall after row = row.1.0
+  by_row s es _ after row = absurd row.1
+
+  may : {s : Step} {es : List Entry} {r : Reply} {after : Machine} → Answers contexts m line s es r after → may_answer line s r
+  may {s} (IsBusy held) = some_is (context_of s) held.1
+  may {s} (IsItsOwn es r after free row) = by_row s es r after row
+
+  pub may_be : (s : Step) (es : List Entry) (r : Reply) (after : Machine) → Answered contexts m line s es r after → may_answer line s r
+  may_be s es r after w = may (answers contexts m line s es r after w)
+
+-- == of a run
+module _ (contexts : List WasiSocketsCtx) where
+  -- the replies so far come first, and then those of these lines
+  abbrev Adds : List Reply → ℕ → List Step → Rows (List Reply × Machine)
+  Adds replies line todo es done = (more : List Reply) × (done.0 ≡ replies ++ more) × EachMayAnswer line todo more
+
+  adds : (replies : List Reply) (line : ℕ) (todo : List Step) (m : Machine) (es : List Entry) → Meets (Adds replies line todo) es (run contexts replies m line todo)
+  adds replies line [] m es = ends ([], sym (append-nil replies), tt)
+  adds replies line (s ∷ todo) m es =
+      chain (shifted es (by_standing contexts m line s m.store.standing refl)) (λ fs done k. branch (is_trap done.0) (λ trap. ends (done.0 ∷ [], refl, (may contexts m line k.row, tt)))
+      (λ on. widen (λ gs d x. (done.0 ∷ x.0, x.1 ∙ append_assoc replies (done.0 ∷ []) x.0, (may contexts m line k.row, x.2))) (adds (replies ++ done.0 ∷ []) (line + 1) todo done.1 fs)))
+
+  pub all_may_be : (steps : List Step) (log : List Entry) (replies : List Reply) (m : Machine) → Left (run contexts [] first_state 1 steps) log (Give (replies, m)) → EachMayAnswer 1 steps replies
+  all_may_be steps log replies m w = let x = met (adds [] 1 steps first_state []) w in subst (EachMayAnswer 1 steps) (sym x.1) x.2
+
+-- of a step that is refused with no word, and is no call of a stream
+pub no_failure : (line : ℕ) (s : Step) → ((w : CodeWord) → MayRefuse s w → ⊥) → (IsStreamCall s → ⊥) → (r : Reply) → may_answer line s r → IsFailure r → ⊥
+no_failure line s words stream (reply.Err w) h f = words w h
+no_failure line s words stream reply.Closed h f = stream h
+no_failure line s words stream (reply.Failed w handle) h f = stream h.0
+no_failure line s words stream _ h f = f
+
+-- == what is read off for a reader
+pub trap_kinds : (contexts : List WasiSocketsCtx) (m : Machine) (line : ℕ) (s : Step) (es : List Entry) (kind : TrapKind) (after : Machine) → Traps contexts m line s es kind after → (kind ≡ trap.NoSuchHandle) ⊎ ((kind ≡ trap.HasChildren) ⊎ ((kind ≡ trap.Full) ⊎ (kind ≡ trap.NotPermitted)))
+trap_kinds contexts m line s es trap.NoSuchHandle after h = inl refl
+trap_kinds contexts m line s es trap.HasChildren after h = inr (inl refl)
+trap_kinds contexts m line s es trap.Full after h = inr (inr (inl refl))
+trap_kinds contexts m line s es trap.NotPermitted after h = inr (inr (inr refl))
+trap_kinds contexts m line s es _ after h = absurd h
+
+pub quiet_never : (contexts : List WasiSocketsCtx) (m : Machine) (line : ℕ) (s : Step) (es : List Entry) (w : CodeWord) (after : Machine) → IsQuiet s → Answered contexts m line s es (reply.Err w) after → ⊥
+quiet_never contexts m line (step.TcpIsListening c handle) es w after q h = may_be contexts m line (step.TcpIsListening c handle) es (reply.Err w) after h
+quiet_never contexts m line (step.TcpAddressFamily c handle) es w after q h = may_be contexts m line (step.TcpAddressFamily c handle) es (reply.Err w) after h
+quiet_never contexts m line _ es w after q h = absurd q
+
+pub quiet_stays : (contexts : List WasiSocketsCtx) (m : Machine) (line : ℕ) (s : Step) (es : List Entry) (r : Reply) (after : Machine) → IsQuiet s → Answered contexts m line s es r after → Quiet m es after
+quiet_stays contexts m line (step.TcpIsListening c handle) es r after q = of_answer contexts m line (step.TcpIsListening c handle) (λ es r after. Quiet m es after) (refl, refl) (λ es r after row. row.0) es r after
+quiet_stays contexts m line (step.TcpAddressFamily c handle) es r after q = of_answer contexts m line (step.TcpAddressFamily c handle) (λ es r after. Quiet m es after) (refl, refl) (λ es r after row. row.0) es r after
+quiet_stays contexts m line _ es r after q = absurd q
+
+pub reads_stay : (m : Machine) (line input len : ℕ) (es : List Entry) (fields : List Field) (after : Machine) → Reads m line input len es fields after → after ≡ m
+reads_stay m line input len es (field.Bytes [] ∷ []) after h = h.1
+reads_stay m line input len es (field.Bytes (b ∷ bytes) ∷ []) after h = h.1
+reads_stay m line input len es _ after h = absurd h
+
+pub two_values : (m : Machine) (line pollable : ℕ) (es : List Entry) (fields : List Field) → Looks m line pollable es fields → (fields ≡ truth_fields true) ⊎ (fields ≡ truth_fields false)
+two_values m line pollable es (field.True ∷ []) h = inl refl
+two_values m line pollable es (field.False ∷ []) h = inr refl
+two_values m line pollable es _ h = absurd h

@@ -45,14 +45,8 @@ use Rattle.wasi_laws.proofs.asks.Calm.{is_calm, CalmOn, question_calm}
 use Rattle.wasi_laws.proofs.asks.Trees as tree
 use Rattle.wasi_laws.proofs.asks.Trees.{GoesOn, Undoes, Then, makes_by, turns_by, gives_up_by}
 use Rattle.wasi_laws.proofs.shapes.Shape.{ListenerShape, on_socket}
+use Rattle.wasi_laws.proofs.shapes.Lives.{Same}
 use Rattle.wasi_laws.proofs.shapes.Law.{Shaped, on_grounds, grounds_along}
-
--- The record is as it was, as far as a law looks.
-pub record Same (r now : Tcp2Socket) : Type 0 where
-  pub side : now.side ≡ r.side
-  pub streams : now.streams ≡ r.streams
-  pub listening : now.listening ≡ r.listening
-  pub does : now.inner.state ≡ r.inner.state
 
 -- a close of this side leaves the record so
 pub data Closing (r : Tcp2Socket) : Tcp2Socket → OpId → Type 0 where

@@ -47,8 +47,9 @@ use Rattle.wasi_walks.proofs.walks.Moves.{Held, InHand, Connects, Listens, Await
 use Rattle.wasi_walks.proofs.walks.States.{Starts}
 use Rattle.wasi_laws.specs.Order.{ChecksFirst, asked_by}
 use Rattle.wasi_laws.proofs.asks.Lines.{each_ask}
-use Rattle.wasi_laws.proofs.asks.Single.{Single, Same, Closing, ClosesSocket, ClosesListen, ClosesArrived, creating}
+use Rattle.wasi_laws.proofs.asks.Single.{Single, Closing, ClosesSocket, ClosesListen, ClosesArrived, creating}
 use Rattle.wasi_laws.proofs.asks.Trees.{GoesOn, InWriting, InClosing}
+use Rattle.wasi_laws.proofs.shapes.Lives.{Same}
 use Rattle.wasi_laws.proofs.order.Ordered.{Asked, gone_after, gone_along, gone_push, calm_may, asked_first, asked_one}
 use Rattle.wasi_laws.proofs.order.Weights.{checks_of, if_ours, op_weight, state_ops, accept_ops, listening_ops, writer_ops, streams_ops, standing_ops, hand_ops, total, half, record_weight, sockets_weight, half_sockets, sockets_push, beside, weight}
 use Rattle.wasi_laws.proofs.order.Polls.{Within, poll_kept}

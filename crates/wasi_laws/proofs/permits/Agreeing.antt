@@ -1,40 +1,40 @@
 -- What was taken and what was permitted, by the side that a record was made with.
 use Rattle.std.specs.Prelude.{⊤}
-use Rattle.std.proofs.Common.{◌≡◌, ℕ, List, [], ◌∷◌, ◌++◌, Some, refl, sym, ap, subst, ◌∙◌, slice_set, slice_get, inl, inr, zero, suc, ◌⊎◌}
+use Rattle.std.proofs.Common.{◌≡◌, ◌⊎◌, inl, inr, ℕ, List, [], ◌∷◌, ◌++◌, Option, Some, None, sym, ap, subst, ◌∙◌, slice_set, slice_get}
 use Rattle.wasi_world.specs.declared.ids.OpId.{OpId}
-use Rattle.wasi_tcp.specs.Socket.{side_of}
-use Rattle.wasi_tcp.specs.Taken.{IsFrontOf}
-use Rattle.wasi_host.specs.declared.listening.Listening.{Listening}
-use Rattle.wasi_host.specs.declared.listening.Listening.TheVariants as listening
+use Rattle.wasi_world.specs.Operation.{Item, End, Waits, Done, Refused}
+use Rattle.wasi_tcp.specs.declared.writer.WriteState.{WriteState}
+use Rattle.wasi_tcp.specs.declared.writer.WriteState.TheVariants as writing
+use Rattle.wasi_tcp.specs.Taken.{IsFrontOf, bytes_left}
+use Rattle.wasi_host.specs.declared.socket.Streams.{Streams}
 use Rattle.wasi_host.specs.declared.socket.Tcp2Socket.{Tcp2Socket}
-use Rattle.wasi_walks.proofs.Lists.{get_set, get_split, set_there}
-use Rattle.wasi_walks.proofs.claims.Law.{fresh}
-use Rattle.wasi_laws.proofs.permits.Records.{RecordStands, Agree, Untouched}
+use Rattle.wasi_walks.proofs.Lists.{get_front, get_set, get_split, set_get, set_there}
+use Rattle.wasi_laws.proofs.shapes.Shape.{some_same}
+use Rattle.wasi_laws.proofs.shapes.Lives.{Lives}
 
-some_record : (a b : Tcp2Socket) → Some a ≡ Some b → a ≡ b
-some_record a b e = cc
+-- what was taken, with what a job is still to write, is what was permitted; after a code it is the front, of any length
+abbrev pub JobAgrees : List ℕ → List ℕ → List Item → End → Type 0
+JobAgrees taken permitted left Waits = taken ++ bytes_left left ≡ permitted
+JobAgrees taken permitted left (Done given) = taken ≡ permitted
+JobAgrees taken permitted left (Refused c given) = ⊤
 
-abbrev pub begun_so : Listening → Type 0
-begun_so (listening.Begins op) = ⊤
-begun_so _ = ⊥
+-- of a half that is ready all was taken
+abbrev pub Agrees : List ℕ → List ℕ → WriteState → Type 0
+Agrees taken permitted (writing.Ready half permit) = taken ≡ permitted
+Agrees taken permitted (writing.Writing job) = JobAgrees taken permitted job.write.left job.end
+Agrees taken permitted (writing.Closing job) = JobAgrees taken permitted job.write.left job.end
+Agrees taken permitted (writing.Closed e) = ⊤
 
-set_get : (xs : List Tcp2Socket) (i k : ℕ) (x y : Tcp2Socket) → slice_get xs k ≡ Some x → y.side ≡ x.side ⊎ (i ≡ k → y.side ≡ x.side) → (z : Tcp2Socket) × (slice_get (slice_set xs i y) k ≡ Some z) × (z.side ≡ x.side)
-set_get [] i k x y e s = absurd (cc)
-set_get (z ∷ xs) zero zero x y e s = (y, refl, elim s [ inl p ↦ p | inr p ↦ p refl ])
-set_get (z ∷ xs) zero (suc k) x y e s = (x, e, refl)
-set_get (z ∷ xs) (suc i) zero x y e s = (x, e, refl)
-set_get (z ∷ xs) (suc i) (suc k) x y e s = set_get xs i k x y e (elim s [ inl p ↦ inl p | inr p ↦ inr (λ q. p (ap suc q)) ])
+-- nothing was taken, and nothing permitted
+abbrev pub Untouched : List ℕ → List ℕ → Type 0
+Untouched taken permitted = (taken ≡ []) × (permitted ≡ [])
 
-get_front : (xs : List Tcp2Socket) (y : Tcp2Socket) (k : ℕ) (x : Tcp2Socket) → slice_get xs k ≡ Some x → slice_get (xs ++ y ∷ []) k ≡ Some x
-get_front [] y k x e = absurd (cc)
-get_front (z ∷ xs) y zero x e = e
-get_front (z ∷ xs) y (suc k) x e = get_front xs y k x e
+-- with no streams yet there is nothing
+abbrev pub Agree : List ℕ → List ℕ → Option Streams → Type 0
+Agree taken permitted None = Untouched taken permitted
+Agree taken permitted (Some s) = Agrees taken permitted s.writer
 
 module _ (side : OpId) where
-  -- it has the side, or its listen has
-  abbrev pub Lives : Tcp2Socket → Type 0
-  Lives r = (r.side ≡ Some side) × ((side_of r.inner ≡ Some side) ⊎ begun_so r.listening)
-
   pub record MadeWith (sockets : List Tcp2Socket) : Type 0 where
     pub place : ℕ
     pub was : Tcp2Socket
@@ -45,24 +45,20 @@ module _ (side : OpId) where
   pub record Agreeing (taken permitted : List ℕ) (sockets : List Tcp2Socket) : Type 0 where
     pub front : IsFrontOf taken permitted
     pub made : Untouched taken permitted ⊎ MadeWith sockets
-    pub lives : (i : ℕ) (r : Tcp2Socket) → slice_get sockets i ≡ Some r → Lives r → Agree taken permitted r.streams
-    pub records : (i : ℕ) (r : Tcp2Socket) → slice_get sockets i ≡ Some r → RecordStands r
+    pub lives : (i : ℕ) (r : Tcp2Socket) → slice_get sockets i ≡ Some r → Lives side r → Agree taken permitted r.streams
 
-  module _ (sockets : List Tcp2Socket) (place : ℕ) (old now : Tcp2Socket) (g : slice_get sockets place ≡ Some old) (s : now.side ≡ old.side) (stands : RecordStands now) where
+  module _ (sockets : List Tcp2Socket) (place : ℕ) (old now : Tcp2Socket) (g : slice_get sockets place ≡ Some old) (s : now.side ≡ old.side) where
     made_put : MadeWith sockets → MadeWith (slice_set sockets place now)
-    made_put m =
-        let x = set_get sockets place m.place m.was now m.at (inr (λ e. s ∙ ap (λ (r : Tcp2Socket). r.side) (some_record old m.was (sym g ∙ (ap (slice_get sockets) e ∙ m.at))))) in
-        record { place = m.place; was = x.0; at = x.1; of = x.2 ∙ m.of }
+    made_put m = elim (set_get sockets place now m.place m.was m.at) [
+      | inl e ↦ record { place = m.place; was = m.was; at = e; of = m.of }
+      | inr e ↦ record { place = m.place; was = now; at = e.1; of = s ∙ (ap (λ (r : Tcp2Socket). r.side) (some_same old m.was (sym g ∙ (ap (slice_get sockets) (sym e.0) ∙ m.at))) ∙ m.of) }
+    ]
 
-    records_put : (taken permitted : List ℕ) → Agreeing taken permitted sockets → (i : ℕ) (r : Tcp2Socket) → slice_get (slice_set sockets place now) i ≡ Some r → RecordStands r
-    records_put taken permitted h i r e = elim (get_set sockets place now i r e) [ inl p ↦ subst RecordStands p.1 stands | inr p ↦ h.records i r p ]
-
-    pub agrees_put : (taken permitted : List ℕ) → (Lives now → Agree taken permitted now.streams) → Agreeing taken permitted sockets → Agreeing taken permitted (slice_set sockets place now)
+    pub agrees_put : (taken permitted : List ℕ) → (Lives side now → Agree taken permitted now.streams) → Agreeing taken permitted sockets → Agreeing taken permitted (slice_set sockets place now)
     agrees_put taken permitted f h = record {
       front = h.front;
       made = elim h.made [ inl u ↦ inl u | inr m ↦ inr (made_put m) ];
-      lives = λ i r e. elim (get_set sockets place now i r e) [ inl p ↦ subst (λ (x : Tcp2Socket). Lives x → Agree taken permitted x.streams) p.1 f | inr p ↦ h.lives i r p ];
-      records = records_put taken permitted h;
+      lives = λ i r e. elim (get_set sockets place now i r e) [ inl p ↦ subst (λ (x : Tcp2Socket). Lives side x → Agree taken permitted x.streams) p.1 f | inr p ↦ h.lives i r p ];
     }
 
     -- the record of the side changes, and with it what was taken and permitted
@@ -72,17 +68,14 @@ module _ (side : OpId) where
       made = inr (made_put (record { place = place; was = old; at = g; of = sym s ∙ its }));
       lives = λ i r e l. elim (get_set sockets place now i r e) [
         | inl p ↦ subst (λ (x : Tcp2Socket). Agree more bytes x.streams) p.1 f
-        | inr p ↦ (let at = ap (slice_get (slice_set sockets place now)) (one i r p l.0) ∙ set_there sockets place old now g in subst (λ (x : Tcp2Socket). Agree more bytes x.streams) (some_record now r (sym at ∙ e)) f)
+        | inr p ↦ (let at = ap (slice_get (slice_set sockets place now)) (one i r p l.0) ∙ set_there sockets place old now g in subst (λ (x : Tcp2Socket). Agree more bytes x.streams) (some_same now r (sym at ∙ e)) f)
       ];
-      records = records_put taken permitted h;
     }
 
   -- a record more: where it is of the side, no other is
-  pub agrees_push : (taken permitted : List ℕ) (sockets : List Tcp2Socket) (now : Tcp2Socket) → RecordStands now → (now.side ≡ Some side → (i : ℕ) (r : Tcp2Socket) → slice_get sockets i ≡ Some r → r.side ≡ Some side → ⊥) → (Untouched taken permitted → Agree taken permitted now.streams)
-      → Agreeing taken permitted sockets → Agreeing taken permitted (sockets ++ now ∷ [])
-  agrees_push taken permitted sockets now stands fresh f h = record {
+  pub agrees_push : (taken permitted : List ℕ) (sockets : List Tcp2Socket) (now : Tcp2Socket) → (now.side ≡ Some side → (i : ℕ) (r : Tcp2Socket) → slice_get sockets i ≡ Some r → r.side ≡ Some side → ⊥) → (Untouched taken permitted → Agree taken permitted now.streams) → Agreeing taken permitted sockets → Agreeing taken permitted (sockets ++ now ∷ [])
+  agrees_push taken permitted sockets now fresh f h = record {
     front = h.front;
-    made = elim h.made [ inl u ↦ inl u | inr m ↦ inr (record { place = m.place; was = m.was; at = get_front sockets now m.place m.was m.at; of = m.of }) ];
+    made = elim h.made [ inl u ↦ inl u | inr m ↦ inr (record { place = m.place; was = m.was; at = get_front sockets (now ∷ []) m.place m.was m.at; of = m.of }) ];
     lives = λ i r e l. elim (get_split sockets now i r e) [ inl p ↦ h.lives i r p l | inr p ↦ subst (λ (x : Tcp2Socket). Agree taken permitted x.streams) p (f (elim h.made [ inl u ↦ u | inr m ↦ absurd (fresh (ap (λ (x : Tcp2Socket). x.side) p ∙ l.0) m.place m.was m.at m.of) ])) ];
-    records = λ i r e. elim (get_split sockets now i r e) [ inl p ↦ h.records i r p | inr p ↦ subst RecordStands p stands ];
   }

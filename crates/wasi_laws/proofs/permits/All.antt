@@ -5,17 +5,14 @@ use Rattle.wasi_world.specs.declared.ids.OpId.{OpId}
 use Rattle.wasi_world.specs.declared.call.Entry.{Entry}
 use Rattle.wasi_world.specs.declared.outcome.WasiSocketsCtx.{WasiSocketsCtx}
 use Rattle.wasi_world.specs.Asks.{Give, bind, Left}
-use Rattle.wasi_world.specs.Operation.{End, Waits, Done, Refused}
 use Rattle.wasi_world.proofs.Allowed.{reached}
 use Rattle.wasi_streams.specs.StreamStop.{StreamStop}
 use Rattle.wasi_streams.specs.StreamStop as stop
 use Rattle.wasi_streams.specs.Table.{is_full}
 use Rattle.wasi_tcp.specs.Socket.{side_of, side_in}
 use Rattle.wasi_tcp.specs.declared.writer.WriteState.{WriteState}
-use Rattle.wasi_tcp.specs.declared.writer.WriteState.TheVariants as writing
-use Rattle.wasi_tcp.specs.Job.{Job}
-use Rattle.wasi_tcp.specs.Writer.{writing_side, closing_side, writer_side, check_write_asks}
-use Rattle.wasi_tcp.specs.Taken.{taken_in, IsFrontOf}
+use Rattle.wasi_tcp.specs.Writer.{writer_side, check_write_asks}
+use Rattle.wasi_tcp.specs.Taken.{taken_in}
 use Rattle.wasi_host.specs.declared.kind.Kind.TheVariants.{ErrorValue}
 use Rattle.wasi_host.specs.Kinds.{make_asks}
 use Rattle.wasi_host.specs.declared.machine.Machine.{Machine}
@@ -34,38 +31,16 @@ use Rattle.wasi_machine.specs.Machine.{permit_reply, machine_asks, asks_while}
 use Rattle.wasi_walks.specs.Answered.{record_in, Answered}
 use Rattle.wasi_laws.specs.Permitted.{writer_in, writer_of_record, WritesTo}
 use Rattle.wasi_walks.proofs.claims.Polls.{Quiet, quiet_then, quiet_if}
-use Rattle.wasi_laws.proofs.permits.Records.{WriterIs, Agree}
-use Rattle.wasi_laws.proofs.permits.Agreeing.{Agreeing}
-use Rattle.wasi_laws.proofs.permits.Law.{some_side}
-use Rattle.wasi_laws.proofs.permits.Writer.{SaysAll, Checked, quiet_check}
+use Rattle.wasi_walks.proofs.claims.Law.{Named}
+use Rattle.wasi_walks.proofs.walks.Moves.{Unused}
+use Rattle.wasi_walks.proofs.walks.States.{Starts, Over}
+use Rattle.wasi_laws.proofs.shapes.Shape.{HasStreams, StreamsShape, of_writer}
+use Rattle.wasi_laws.proofs.shapes.Law.{Shaped}
+use Rattle.wasi_laws.proofs.permits.Agreeing.{Agree, Agreeing}
+use Rattle.wasi_laws.proofs.permits.Writer.{SaysAll, quiet_check}
 use Rattle.wasi_laws.proofs.permits.Taken.{Fronts, quiet_keep}
 
--- == a writer that writes to a side is of that side
-module _ (side at : OpId) where
-  none_of : None ≡ Some side → at ≡ side
-  none_of e = absurd (cc)
-
-  writing_of : (job : Job) (e : End) → job.write.who.side ≡ at → writing_side job e ≡ Some side → at ≡ side
-  writing_of job Waits s w = sym s ∙ some_side job.write.who.side side w
-  writing_of job (Done given) s w = sym s ∙ some_side job.write.who.side side w
-  writing_of job (Refused c given) s w = none_of w
-
-  closing_of : (job : Job) (e : End) → job.write.who.side ≡ at → closing_side job e ≡ Some side → at ≡ side
-  closing_of job Waits s w = sym s ∙ some_side job.write.who.side side w
-  closing_of job (Done given) s w = none_of w
-  closing_of job (Refused c given) s w = none_of w
-
-  writer_of_side : (w : WriteState) → WriterIs at w → writer_side w ≡ Some side → at ≡ side
-  writer_of_side (writing.Ready half permit) i w = sym i ∙ some_side half.side side w
-  writer_of_side (writing.Writing job) i w = writing_of job job.end i.0 w
-  writer_of_side (writing.Closing job) i w = closing_of job job.end i.0 w
-  writer_of_side (writing.Closed e) i w = none_of w
-
--- of each record of the side
-abbrev pub NamesSides : OpId → List Tcp2Socket → Type 0
-NamesSides side sockets = (place : ℕ) (r : Tcp2Socket) → slice_get sockets place ≡ Some r → side_of r.inner ≡ Some side → r.side ≡ Some side
-
-module _ (side : OpId) (taken permitted : List ℕ) (m : Machine) (own : OpId) (output : ℕ) (h : Agreeing side taken permitted m.store.sockets) (named : NamesSides side m.store.sockets) where
+module _ (side : OpId) (taken permitted : List ℕ) (m : Machine) (own : OpId) (output : ℕ) (line : ℕ) (h : Agreeing side taken permitted m.store.sockets) (shaped : Shaped (Over m)) (named : Named line (Starts m Unused)) where
   -- the writer of the output writes to the side
   abbrev Writes : Option WriteState → Type 0
   Writes found = IsSomeAnd found (λ w. writer_side w ≡ Some side)
@@ -94,9 +69,9 @@ module _ (side : OpId) (taken permitted : List ℕ) (m : Machine) (own : OpId) (
   says_of : (place : ℕ) (r : Tcp2Socket) (o : Option Streams) → slice_get m.store.sockets place ≡ Some r → r.streams ≡ o → Writes (writer_in o) → Quiet Says [] (writer_of r (check_write_asks own) o)
   says_of place r None g e w = absurd w
   says_of place r (Some s) g e w =
-      let o = (h.records place r g).opened s e in
-      let held : side_of r.inner ≡ Some side = ap side_in o.is ∙ ap (λ (x : OpId). Some x) (writer_of_side side o.connection.side s.writer o.writer w) in
-      quiet_then (Checked s.writer) Says [] (check_write_asks own s.writer) _ (quiet_check [] own s.writer) (λ fs done k. k.says taken permitted (subst (Agree taken permitted) e (h.lives place r g (named place r g held, inl held))))
+      let o : HasStreams r.inner.state s = subst (StreamsShape r.inner.state) e (shaped place r g).0 in
+      let held : side_of r.inner ≡ Some side = ap side_in o.is ∙ ap (λ (x : OpId). Some x) (of_writer o.connection.side side s.writer o.writer w) in
+      quiet_then (λ done. SaysAll taken permitted done.0) Says [] (check_write_asks own s.writer) _ (quiet_check taken permitted [] own s.writer (subst (Agree taken permitted) e (h.lives place r g (named.named side place r g held, inl held)))) (λ fs done k. k)
 
   says_at : (place : ℕ) (o : Option Tcp2Socket) → slice_get m.store.sockets place ≡ o → Writes (writer_of_record o) → Quiet Says [] (stream_at m.store place (writer_asks (check_write_asks own)) o)
   says_at place None g w = absurd w
@@ -121,16 +96,16 @@ module _ (side : OpId) (taken permitted : List ℕ) (m : Machine) (own : OpId) (
   check_replies : WritesTo m output side → Quiet Replies [] (bind (check_asks m own output) (λ done. Give (permit_reply done.0, done.1)))
   check_replies w = quiet_then Tells Replies [] (check_asks m own output) _ (tells_on (output_at m output) w) (λ fs done k. replies done k)
 
-module _ (contexts : List WasiSocketsCtx) (side : OpId) (taken permitted : List ℕ) (line : ℕ) (m : Machine) (ctx output n : ℕ) (h : Agreeing side taken permitted m.store.sockets) (named : NamesSides side m.store.sockets) (w : WritesTo m output side) (some : 0 < n) where
+module _ (contexts : List WasiSocketsCtx) (side : OpId) (taken permitted : List ℕ) (line : ℕ) (m : Machine) (ctx output n : ℕ) (h : Agreeing side taken permitted m.store.sockets) (shaped : Shaped (Over m)) (named : Named line (Starts m Unused)) (w : WritesTo m output side) (some : 0 < n) where
   abbrev IsBusy : List Entry → Reply × Machine → Type 0
   IsBusy es done = done.0 ≡ reply.Busy
 
   all_by : (standing : Option Standing) (entries : List Entry) (next : Machine) → Left (asks_while contexts m line (step.CheckWrite ctx output) standing) entries (Give (reply.Ok (number_fields n), next)) → taken ++ taken_in side entries ≡ permitted
   all_by None entries next walk =
       let asks = bind (check_asks m (own_of line) output) (λ done. Give (permit_reply done.0, done.1)) in
-      let Q = Replies side taken permitted m (own_of line) output h named in
-      let k = reached (λ es o c. Fronts side taken permitted es) (λ es done. (taken_in side es ≡ []) × Q done) [] asks entries (Give (reply.Ok (number_fields n), next))
-      (quiet_keep side taken permitted Q [] [] asks (subst (λ t. IsFrontOf t permitted) (sym (append-nil taken)) h.front) refl (check_replies side taken permitted m (own_of line) output h named w)) walk in
+      let Q = Replies side taken permitted m (own_of line) output line h shaped named in
+      let k = reached (Fronts side permitted) (λ es done. (taken_in side es ≡ []) × Q done) [] asks entries (Give (reply.Ok (number_fields n), next))
+      (quiet_keep side permitted Q [] [] asks (permitted, refl) refl (check_replies side taken permitted m (own_of line) output line h shaped named w)) walk in
       ap (λ more. taken ++ more) k.0 ∙ (append-nil taken ∙ k.1 n refl some)
   all_by (Some c) entries next walk =
       let e : reply.Ok (number_fields n) ≡ reply.Busy = reached (λ es o c. ⊤) IsBusy [] (Give (reply.Busy, m)) entries (Give (reply.Ok (number_fields n), next)) refl walk in absurd (cc)

@@ -22,15 +22,17 @@ use Rattle.wasi_steps.specs.declared.step.Step.{Step}
 use Rattle.wasi_steps.specs.declared.step.Step.TheVariants as step
 use Rattle.wasi_machine.specs.Machine.{machine_asks}
 use Rattle.wasi_steps.specs.Reply.{number_fields}
-use Rattle.wasi_laws.proofs.permits.Standing.{StandsQuietly}
 use Rattle.wasi_laws.proofs.permits.Agreeing.{Agreeing}
-use Rattle.wasi_laws.proofs.permits.Law.{Owes, permits_along}
+use Rattle.wasi_laws.proofs.asks.Single.{single_along}
+use Rattle.wasi_laws.proofs.shapes.Law.{Shaped}
+use Rattle.wasi_laws.proofs.permits.Law.{Owes, permits}
 use Rattle.wasi_walks.proofs.walks.Moves.{Own, Used, Unused, ToWrite}
+use Rattle.wasi_walks.proofs.walks.States.{Over}
 use Rattle.wasi_walks.proofs.walks.Writes.{may_begin, may_of, may_in, may_at, may, let_write}
 use Rattle.wasi_walks.proofs.walks.Steps.{may_while, machine_walks}
 use Rattle.wasi_walks.proofs.claims.Lines.{BaseBetween, first_base, base_starts, base_over}
 use Rattle.wasi_laws.proofs.permits.All.{all_taken}
-use Rattle.wasi_laws.proofs.permits.Steps.{taken_append}
+use Rattle.wasi_laws.proofs.permits.Taken.{taken_append}
 
 -- what a line is let write to the side, said as the machine says it
 module _ (side : OpId) where
@@ -76,13 +78,13 @@ module _ (contexts : List WasiSocketsCtx) (side : OpId) where
   -- Before the line of this number: so much was let write.
   record Lets (line : ℕ) (given : List ℕ) (es : List Entry) (m : Machine) : Type 0 where
     pub base : BaseBetween line m
+    pub shaped : Shaped (Over m)
     pub stands : Agreeing side (taken_in side es) given m.store.sockets
-    pub quietly : StandsQuietly m.store.standing
 
-  owes : (line : ℕ) (origin : Step) (held : List ℕ) (o : Own) → Owes contexts line origin side (held ++ let_write side o) o held
-  owes line origin held Used = sym (append-nil held)
-  owes line origin held Unused = sym (append-nil held)
-  owes line origin held (ToWrite at bytes) = refl
+  owes : (held : List ℕ) (o : Own) → Owes side (held ++ let_write side o) o held
+  owes held Used = sym (append-nil held)
+  owes held Unused = sym (append-nil held)
+  owes held (ToWrite at bytes) = refl
 
   line_lets : (line : ℕ) (s : Step) (given : List ℕ) (m : Machine) (es : List Entry) → Lets line given es m
       → (let all = given ++ permitted_by m side s in Allows (λ fs op c. IsFrontOf (taken_in side fs) all) (λ fs done. Lets (line + 1) all fs done.1) es (machine_asks contexts m line s))
@@ -94,11 +96,10 @@ module _ (contexts : List WasiSocketsCtx) (side : OpId) where
       (allows_weaker (λ fs op c. IsFrontOf (taken_in side fs) (given ++ more)) _ (λ fs done. Lets (line + 1) (given ++ more) fs done.1)
       (λ fs done k. record {
         base = base_over contexts line s done.1 k.0;
-        stands = subst (λ (t : List ℕ). Agreeing side (taken_in side fs) t done.1.store.sockets) k.1.owes k.1.stands;
-        quietly = k.1.quietly;
+        shaped = k.1.0;
+        stands = subst (λ (t : List ℕ). Agreeing side (taken_in side fs) t done.1.store.sockets) k.1.1.owes k.1.1.stands;
       }) es (machine_asks contexts m line s)
-      (permits_along contexts line s side (given ++ more) (machine_walks line s m m.store.standing refl) es (base_starts contexts line s m o i.base)
-      (record { held = given; stands = i.stands; quietly = i.quietly; hand = λ o a. absurd (cc); owes = owes line s given o })))
+      (single_along contexts line s (permits side (given ++ more) line contexts s) (machine_walks line s m m.store.standing refl) es (base_starts contexts line s m o i.base) i.shaped (record { held = given; stands = i.stands; owes = owes given o })))
 
   did_lets : (m : Machine) (line : ℕ) (steps : List Step) (log : List Entry) (bytes : List ℕ) (after : Machine) → Did contexts side m line steps log bytes after → (given : List ℕ) (es : List Entry) → Lets line given es m → Lets (line + length steps) (given ++ bytes) (es ++ log) after
   did_lets _ _ _ _ _ _ (Nothing m line) given es i =
@@ -114,7 +115,7 @@ module _ (contexts : List WasiSocketsCtx) (side : OpId) where
       (subst (λ (fs : List Entry). Lets (line + 1 + length steps) ((given ++ more) ++ bytes) fs after) (append_assoc es entries log) f))
 
   first_lets : Lets 1 [] [] first_state
-  first_lets = record { base = first_base; stands = record { front = ([], refl); made = inl (refl, refl); lives = λ i r e. absurd (cc); records = λ i r e. absurd (cc) }; quietly = tt }
+  first_lets = record { base = first_base; shaped = λ place r e. absurd (cc); stands = record { front = ([], refl); made = inl (refl, refl); lives = λ i r e. absurd (cc) } }
 
   done_lets : (steps : List Step) (log : List Entry) (bytes : List ℕ) (after : Machine) → Did contexts side first_state 1 steps log bytes after → Lets (1 + length steps) bytes log after
   done_lets steps log bytes after d = did_lets first_state 1 steps log bytes after d [] [] first_lets
@@ -136,4 +137,4 @@ module _ (contexts : List WasiSocketsCtx) (side : OpId) where
       → Answered contexts after (1 + length steps) (step.CheckWrite ctx output) entries (reply.Ok (number_fields n)) next → 0 < n → taken_in side (log ++ entries) ≡ permitted
   runs_take_all steps log permitted after ctx output n entries next d w walk some =
       let k = done_lets steps log permitted after d in
-      taken_append side log entries ∙ all_taken contexts side (taken_in side log) permitted (1 + length steps) after ctx output n k.stands (λ place r g e. k.base.named.named side place r g e) w some entries next walk
+      taken_append side log entries ∙ all_taken contexts side (taken_in side log) permitted (1 + length steps) after ctx output n k.stands k.shaped k.base.named w some entries next walk

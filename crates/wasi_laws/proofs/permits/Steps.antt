@@ -4,7 +4,6 @@ use Rattle.wasi_world.specs.declared.ids.OpId.{OpId}
 use Rattle.wasi_world.specs.declared.call.Entry.{Entry}
 use Rattle.wasi_world.specs.declared.outcome.WasiSocketsCtx.{WasiSocketsCtx}
 use Rattle.wasi_world.specs.Asks.{Asks, Give, Ask, AskWrite, bind, Left}
-use Rattle.wasi_tcp.specs.Taken.{taken_by, taken_in}
 use Rattle.wasi_host.specs.declared.machine.Machine.{Machine}
 use Rattle.wasi_host.specs.Machine.{first_state}
 use Rattle.wasi_steps.specs.declared.reply.Reply.{Reply}
@@ -13,11 +12,6 @@ use Rattle.wasi_steps.specs.Reply.{is_trap}
 use Rattle.wasi_machine.specs.Machine.{machine_asks, run}
 use Rattle.wasi_walks.specs.Answered.{Answered}
 use Rattle.wasi_laws.specs.Permitted.{permitted_by, Nothing, Then, Begun, IsOfSteps}
-
--- == what was taken along two logs
-pub taken_append : (side : OpId) (es fs : List Entry) → taken_in side (es ++ fs) ≡ taken_in side es ++ taken_in side fs
-taken_append side [] fs = refl
-taken_append side (e ∷ es) fs = ap (λ more. taken_by side e.call e.answer ++ more) (taken_append side es fs) ∙ sym (append_assoc (taken_by side e.call e.answer) (taken_in side es) (taken_in side fs))
 
 -- == the run
 -- where a walk of one tree after another stands

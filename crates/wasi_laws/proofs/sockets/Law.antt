@@ -1,143 +1,269 @@
--- The law that what is asked of a socket is asked while it is open, on the base law.
-use Rattle.std.specs.Prelude.{⊤}
-use Rattle.std.proofs.Common.{◌≡◌, inl, ℕ, List, [], ◌∷◌, ◌++◌, Option, Some, None, Result, Ok, Err, refl, sym, ap, subst, ◌∙◌, slice_get, length, arith}
+-- The law that what is asked of a socket is asked while it is open.
+use Rattle.std.proofs.Common.{◌≡◌, ◌⊎◌, true, inl, inr, ℕ, ◌+◌, ◌≤◌, List, [], ◌∷◌, ◌++◌, Some, None, refl, sym, ap, subst, ◌∙◌, append_assoc, arith}
+use Rattle.wasi_addr.specs.declared.address.IpSocketAddress.{IpSocketAddress}
 use Rattle.wasi_addr.specs.declared.address.SocketAddressFamily.{SocketAddressFamily}
-use Rattle.wasi_addr.specs.declared.code.ErrorCode.{ErrorCode}
+use Rattle.wasi_world.specs.declared.outcome.WasiSocketsCtx.{WasiSocketsCtx}
 use Rattle.wasi_world.specs.declared.ids.OpId.{OpId}
 use Rattle.wasi_world.specs.declared.call.Call.{Call}
 use Rattle.wasi_world.specs.declared.call.Call.TheVariants as call
 use Rattle.wasi_world.specs.declared.call.Told.{Told}
 use Rattle.wasi_world.specs.declared.call.Told.TheVariants as told
 use Rattle.wasi_world.specs.declared.call.Entry.{Entry}
-use Rattle.wasi_world.specs.declared.outcome.WasiSocketsCtx.{WasiSocketsCtx}
-use Rattle.wasi_world.specs.Asks.{Asks, bind}
-use Rattle.wasi_world.specs.Typed.{told_addr, told_done}
-use Rattle.wasi_world.specs.Fits.{IsDoneOrCode}
-use Rattle.wasi_world.proofs.Allowed.{Allows, allows_then, allows_if, allows_weaker}
-use Rattle.wasi_streams.specs.Table.{is_full}
+use Rattle.wasi_world.specs.Asks.{Asks, Left}
+use Rattle.wasi_world.specs.Operation.{Operation, End, Waits, Done, Refused, Item, CloseLast, NothingLast, ShutdownLast, Given, Connection, poll_asks}
+use Rattle.wasi_world.proofs.Allowed.{Allows}
+use Rattle.wasi_tcp.specs.declared.listener.Accepting.{Accepting}
+use Rattle.wasi_tcp.specs.declared.listener.Accepting.TheVariants as accepting
 use Rattle.wasi_tcp.specs.declared.socket.TcpState.TheVariants as state
-use Rattle.wasi_tcp.specs.Shape.{Socket}
-use Rattle.wasi_tcp.specs.Socket.{side_in, side_of, after_local, after_create, new_asks}
-use Rattle.wasi_host.specs.declared.kind.Kind.{Kind}
-use Rattle.wasi_host.specs.declared.kind.Kind.TheVariants.{Tcp2}
-use Rattle.wasi_host.specs.Kinds.{make_asks}
-use Rattle.wasi_host.specs.Machine.{own_of, side_at, created_asks}
-use Rattle.wasi_host.specs.Store.{new_record, with_inner}
+use Rattle.wasi_tcp.specs.declared.writer.WriteState.{WriteState}
+use Rattle.wasi_tcp.specs.Connecting.{with_state, connect_ended}
+use Rattle.wasi_tcp.specs.Job.{Job, job_after}
+use Rattle.wasi_tcp.specs.Listener.{Listener, HoldsAccept, IsAcceptOn, accept_ended, arrived}
+use Rattle.wasi_tcp.specs.Socket.{side_in, side_of, new_socket}
+use Rattle.wasi_host.specs.declared.listening.Listening.{Listening}
+use Rattle.wasi_host.specs.declared.listening.Listening.TheVariants.{Not, Begins, Accepts}
+use Rattle.wasi_host.specs.declared.machine.Machine.{Machine}
+use Rattle.wasi_host.specs.declared.socket.Streams.{Streams}
+use Rattle.wasi_host.specs.declared.socket.Tcp2Socket.{Tcp2Socket}
+use Rattle.wasi_host.specs.declared.store.Standing.{Standing}
+use Rattle.wasi_host.specs.declared.store.StandingCall.TheVariants as standing
+use Rattle.wasi_host.specs.Listening.{with_listening}
+use Rattle.wasi_host.specs.Machine.{own_of, first_state}
+use Rattle.wasi_host.specs.Store.{left_of, new_record, standing_bind, with_inner, with_writer}
+use Rattle.wasi_steps.specs.declared.reply.Reply.{Reply}
 use Rattle.wasi_steps.specs.declared.step.Step.{Step}
-use Rattle.wasi_walks.specs.Licence.{entry}
-use Rattle.wasi_laws.specs.Opened.{Created, IsClosed, IsOpen}
-use Rattle.wasi_walks.proofs.Lists.{has_last}
-use Rattle.wasi_walks.proofs.walks.Moves.{Used, Unused, Here, IsQuestionOf, OfSocket, OfReader, OfWriter, closed_record, made_so}
-use Rattle.wasi_walks.proofs.walks.Law.{Law, Walks}
-use Rattle.wasi_walks.proofs.walks.OnBase.{Above}
-use Rattle.wasi_walks.proofs.fits.Law.{told_same}
-use Rattle.wasi_walks.proofs.claims.Law.{Base, next_of, on_names, on_along, no_some}
-use Rattle.wasi_laws.proofs.sockets.Grown.{Closes as ClosesSide, NoneCloses, Grows, grows_none, grows_entry, open_more, unclosed_more}
-use Rattle.wasi_laws.proofs.sockets.Polls.{AskedOpen}
-use Rattle.wasi_laws.proofs.sockets.Records.{Keeps, Uses, RecordOpen, some_same, bare_open, Begun, plain_open, has_none}
-use Rattle.wasi_laws.proofs.sockets.Opened.{spends_open, closed_put, one_more, Opened, asked_more, opened_more, put_open, push_open}
-use Rattle.wasi_laws.proofs.sockets.Moves.{moves_open}
-use Rattle.wasi_laws.proofs.sockets.GoesOn.{polls_open, turned_open}
-use Rattle.wasi_laws.proofs.sockets.GivesUp.{gives_up_open}
+use Rattle.wasi_walks.specs.Licence.{Has, entry}
+use Rattle.wasi_machine.specs.Machine.{run}
+use Rattle.wasi_walks.proofs.Lists.{cut_of, has_back, has_last}
+use Rattle.wasi_walks.proofs.fits.Law.{Fit}
+use Rattle.wasi_walks.proofs.fits.Records.{FitListening}
+use Rattle.wasi_walks.proofs.licence.State.{accept_name, name_in}
+use Rattle.wasi_walks.proofs.claims.Law.{Named, next_of, no_some}
+use Rattle.wasi_walks.proofs.walks.States.{Starts}
+use Rattle.wasi_walks.proofs.walks.Moves.{Here, put, Own, Used, Unused, ToWrite, Found, NoBind, NoBindStands, Held, InHand, Connects, Listens, Awaits, listen_after, accepting_now, closed_record, new_accept, second_of, joined, Move, Reaches, Leaves, Spends, Changes, ClosesReader, Writes, IsGone, Reconnects, Opens, BeginsConnect, BeginsBind, BeginsWrite, BeginsListen, BeginsAccept, Unlistens, Forgets, Watches, Joins, StandsListen, StandsDrop, ResumesDrop, Unstands, Stands, Resumes, Ends, Lists, Takes}
+use Rattle.wasi_laws.specs.Opened.{socket_of, IsMade, Created, IsOpen, IsAskedOpen, AsksOpenSockets}
+use Rattle.wasi_laws.proofs.asks.Calm.{is_calm}
+use Rattle.wasi_laws.proofs.asks.Fronts.{IsGivenMade}
+use Rattle.wasi_laws.proofs.asks.Lines.{each_ask}
+use Rattle.wasi_laws.proofs.asks.Single.{Single, Closing, ClosesSocket, ClosesListen, ClosesArrived, IsAskedOn, OnNone, OnSide, creating}
+use Rattle.wasi_laws.proofs.asks.Trees.{GoesOn, InWriting, InClosing}
+use Rattle.wasi_laws.proofs.shapes.Shape.{some_same, JobIs, WriterIs, HasStreams, StreamsShape, ListenerShape}
+use Rattle.wasi_laws.proofs.shapes.Lives.{IsBegun, Follows, follows_same, follows_state, follows_quiet, follows_begun, gone_lacks, follows_gone}
+use Rattle.wasi_laws.proofs.sockets.Grown.{Grows, grows_none, grows_entry}
+use Rattle.wasi_laws.proofs.sockets.Opened.{RecordOpen, name_of, changed, HasIt, one_more, opened_more, put_open, push_open, later, Kept, closed_put}
+use Rattle.wasi_laws.proofs.sockets.Polls.{AskedOpen, calm_closes, PollLeaves, polled, calm_end}
 
-question_open : (es : List Entry) (op side : OpId) (c : Call) → IsQuestionOf side c → IsOpen es side → AskedOpen es op c × ((x : OpId) → ClosesSide c x → ⊥)
-question_open es op side (call.Local s) q o = (subst (IsOpen es) (sym q) o, λ x n. n)
-question_open es op side (call.Peer s) q o = (subst (IsOpen es) (sym q) o, λ x n. n)
-question_open es op side (call.GetOption s option) q o = (subst (IsOpen es) (sym q) o, λ x n. n)
-question_open es op side (call.SetOption s option value) q o = (subst (IsOpen es) (sym q) o, λ x n. n)
-question_open es op side (call.Read s size) q o = (subst (IsOpen es) (sym q) o, λ x n. n)
-question_open es op side (call.ReadReady s) q o = (subst (IsOpen es) (sym q) o, λ x n. n)
-question_open es op side (call.WriteReady s) q o = (subst (IsOpen es) (sym q) o, λ x n. n)
-question_open es op side (call.Shutdown s how) q o = (subst (IsOpen es) (sym q) o, λ x n. n)
-question_open es op side _ q o = absurd q
+abbrev accept_of : Listening → Accepting
+accept_of (Accepts k) = k.accept
+accept_of _ = accepting.Idle
 
-module _ (contexts : List WasiSocketsCtx) (line : ℕ) (origin : Step) where
-  -- a mark
-  marked : (es : List Entry) (h : Here) (kind : Kind) (parent : Option ℕ) (sock : Option OpId) → Allows AskedOpen (λ fs made. Grows NoneCloses es fs) es (make_asks h.machine.table (own_of line) kind parent sock)
-  unfolding bind
-  marked es h kind parent sock = allows_if AskedOpen (λ fs made. Grows NoneCloses es fs) es (is_full h.machine.table) _ _ (λ full. grows_none NoneCloses es) (λ room. (tt, λ t fits. one_more es (own_of line) _ t (λ x n. n)))
+-- the job that a writer goes on with is of its side
+job_of : {at : OpId} (w : WriteState) (job : Job) (now : Job → WriteState) → GoesOn w job now → WriterIs at w → JobIs at job
+job_of _ _ _ (InWriting job e) k = k
+job_of _ _ _ (InClosing job e) k = k
 
-  -- == a socket that is created
-  abbrev MadeOpen : List Entry → Result Socket ErrorCode → Type 0
-  MadeOpen fs (Ok socket) = (socket.state ≡ state.Default (own_of line)) × IsOpen fs (own_of line)
-  MadeOpen fs (Err c) = ⊤
+one_close : (es : List Entry) (op side : OpId) (told : Told) → Grows (λ x. side ≡ x) es (es ++ entry op (call.Close side) told ∷ [])
+one_close es op side told = grows_entry (λ x. side ≡ x) es es op (call.Close side) told (λ x c. c) (grows_none (λ x. side ≡ x) es)
 
-  new_open : (es : List Entry) (h : Here) (ctx : WasiSocketsCtx) (family : SocketAddressFamily) → h.own ≡ Unused → Opened line es h → Allows AskedOpen (λ fs made. Opened line fs h × MadeOpen fs made) es (new_asks (own_of line) ctx family)
-  unfolding bind
-  new_open es h ctx family u i = allows_if AskedOpen (λ fs made. Opened line fs h × MadeOpen fs made) es ctx.tcp _ _ (λ tcp. (tt, by_told)) (λ other. (i, tt))
+module _ (line : ℕ) where
+  -- a record that has its side alive has it open
+  socket_open : (es : List Entry) (h : Here) (place : ℕ) (r : Tcp2Socket) (x : OpId) → Found h place r → side_of r.inner ≡ Some x → Named line h → Kept line es h → IsOpen es x
+  socket_open es h place r x g e n i = (i.records place r g).lives x (n.named x place r g e, inl e)
+
+  begun_open : (es : List Entry) (h : Here) (place : ℕ) (r : Tcp2Socket) (op : Operation) → Found h place r → r.listening ≡ Begins op → Named line h → Kept line es h → IsOpen es op.who.side
+  begun_open es h place r op g e n i = (i.records place r g).lives op.who.side ((n.held op place r g e).0, inr (subst IsBegun (sym e) tt))
+
+  arrived_open : (es : List Entry) (h : Here) (place : ℕ) (r : Tcp2Socket) (l : Listener) (new : OpId) (peer : IpSocketAddress) → Found h place r → r.listening ≡ Accepts l → l.accept ≡ accepting.Arrived new peer → Kept line es h → IsOpen es new
+  arrived_open es h place r l new peer g e a i = let k = i.records place r g in record { made = k.arrived l new peer e a; unclosed = k.named new (name_of r l new peer e a) }
+
+  put_kept : (es : List Entry) (h : Here) (place : ℕ) (r now : Tcp2Socket) → Found h place r → Follows r now → Kept line es h → now.listening ≡ r.listening → Kept line es (put h place now)
+  put_kept es h place r now g f i l = put_open es place now (changed es r now f (inl l) (i.records place r g)) i
+
+  put_quiet : (es : List Entry) (h : Here) (place : ℕ) (r now : Tcp2Socket) → Found h place r → Follows r now → accept_name now.listening ≡ None → Kept line es h → Kept line es (put h place now)
+  put_quiet es h place r now g f l i = put_open es place now (changed es r now f (inr l) (i.records place r g)) i
+
+  by_own : (o : Own) → next_of line o ≤ line + 1
+  by_own Used = omega arith
+  by_own Unused = omega arith
+  by_own (ToWrite at bytes) = omega arith
+
+  spends : (es : List Entry) (h : Here) → Kept line es h → Kept line es (record h { own = Used })
+  spends es h i = later es (line + 1) (by_own h.own) i
+
+  module _ {origin : Step} where
+    moves : (es : List Entry) (h now : Here) → Move line origin h now → Named line h → Kept line es h → Kept line es now
+    moves es _ _ (Reaches h handle place k e) n i = i
+    moves es _ _ (Leaves h) n i = i
+    moves es _ _ (Spends h e) n i = spends es h i
+    moves es _ _ (Changes h place r now g p) n i = put_kept es h place r now g (follows_same r now (record { side = p.side; streams = p.streams; listening = p.listening; does = p.does })) i p.listening
+    moves es _ _ (ClosesReader h place r s g e) n i = put_kept es h place r _ g (record { side = refl; lives = λ x v. v }) i refl
+    moves es _ _ (Writes h place r s w g e m) n i = put_kept es h place r _ g (record { side = refl; lives = λ x v. v }) i refl
+    moves es _ _ (IsGone h place r g e) n i = put_quiet es h place r _ g (follows_gone r _ refl e (λ b. b)) refl i
+    moves es _ _ (Reconnects h place r c now g e s t u) n i = put_kept es h place r _ g (follows_state r _ refl refl (λ x p. ap side_in e ∙ (ap (λ (y : OpId). Some y) (sym s) ∙ p))) i refl
+    moves es _ _ (Opens h place r c g e k) n i = put_kept es h place r _ g (follows_state r _ refl refl (λ x p. ap side_in e ∙ p)) i refl
+    moves es _ _ (BeginsConnect h place r side a bound at g d to known own) n i = later es (line + 1) (by_own h.own) (put_kept es h place r _ g (follows_state r _ refl refl (λ x p. ap side_in d ∙ p)) i refl)
+    moves es _ _ (BeginsBind h place r side a at g d to own) n i =
+        let k = spends es h i in
+        record { records = k.records; hand = λ op e. subst (λ (o : Operation). IsOpen es o.who.side) (some_same _ op e) (socket_open es h place r side g (ap side_in d) n i); stands = k.stands; older = k.older }
+    moves es _ _ (BeginsWrite h place r s half permit bytes at g e w within own) n i = later es (line + 1) (by_own h.own) (put_kept es h place r _ g (record { side = refl; lives = λ x v. v }) i refl)
+    moves es _ _ (BeginsListen h place r side at g d bound none to own) n i = later es (line + 1) (by_own h.own) (put_quiet es h place r _ g (follows_begun line h place r side g d n) refl i)
+    moves es _ _ (BeginsAccept h place r l at g e a own) n i =
+        let k = i.records place r g in
+        later es (line + 1) (by_own h.own) (put_open es place (accepting_now r l (new_accept line l)) (record {
+          lives = λ x v. k.lives x ((follows_quiet r (accepting_now r l (new_accept line l)) refl refl (λ b. b)).lives x v);
+          named = λ x p c. (let o = i.older x c in let z : next_of line h.own ≡ line = ap (next_of line) own in let s : x.step ≡ line = sym (ap (λ (y : OpId). y.step) (some_same (second_of line) x p)) in omega (arith, o, z, s));
+          arrived = λ m new peer p q. (let s : new_accept line l ≡ accepting.Arrived new peer = ap accept_of p ∙ q in absurd (cc));
+        }) i)
+    moves es _ _ (Unlistens h place r op g e c o) n i = put_quiet es h place r _ g (follows_quiet r _ refl refl (λ b. b)) refl i
+    moves es _ _ (Forgets h place r l c g e a) n i = put_quiet es h place r _ g (follows_quiet r _ refl refl (λ b. b)) refl i
+    moves es _ _ (Watches h o) n i = i
+    moves es _ _ (Joins h c handle place r l new peer is of u g e a) n i =
+        let o = arrived_open es h place r l new peer g e a i in
+        push_open es (joined l new peer) (record { lives = λ x v. subst (IsOpen es) (some_same new x v.0) o; named = λ x p. absurd (no_some x p); arrived = λ k x y p q. absurd (cc) })
+        (put_quiet es h place r (accepting_now r l accepting.Idle) g (follows_quiet r _ refl refl (λ b. b)) refl i)
+    moves es _ _ (StandsListen h m place r f) n i = record { records = i.records; hand = i.hand; stands = λ k p op e. absurd (subst NoBindStands e tt); older = i.older }
+    moves es _ _ (StandsDrop h m place r at g) n i = record { records = i.records; hand = i.hand; stands = λ k p op e. absurd (subst NoBindStands e tt); older = i.older }
+    moves es _ _ (ResumesDrop h m place e) n i = i
+    moves es _ _ (Unstands h) n i = record { records = i.records; hand = i.hand; stands = λ k p op e. absurd (cc); older = i.older }
+    moves es _ _ (Stands h m place r op f e) n i = record { records = i.records; hand = λ o p. absurd (cc); stands = λ k p o q. subst (λ (x : Operation). IsOpen es x.who.side) (stood m k place p op o q) (i.hand op e); older = i.older }
+      where
+        stood : (m k place p : ℕ) (op o : Operation) → Some (standing_bind m place op) ≡ Some (standing_bind k p o) → op ≡ o
+        stood m k place p op o q = let s : standing_bind m place op ≡ standing_bind k p o = cc in let c : standing.Bind place op ≡ standing.Bind p o = ap (λ (x : Standing). x.call) s in cc
+    moves es _ _ (Resumes h m place op e) n i = record { records = i.records; hand = λ o p. subst (λ (x : Operation). IsOpen es x.who.side) (some_same op o p) (i.stands m place op e); stands = λ k p o q. absurd (cc); older = i.older }
+    moves es _ _ (Ends h) n i = record { records = i.records; hand = λ o p. absurd (cc); stands = i.stands; older = i.older }
+    moves es _ _ (Lists h jobs) n i = i
+    moves es _ _ (Takes h handle) n i = i
+
+  -- == what goes on
+  -- a side of the record is closed by these entries, and it is so then
+  closes_so : (es fs : List Entry) (C : OpId → Type 0) (h : Here) (place : ℕ) (r now : Tcp2Socket) (side : OpId) → Found h place r → Follows r now → (now.listening ≡ r.listening) ⊎ (accept_name now.listening ≡ None) → (r.side ≡ Some side) ⊎ (accept_name r.listening ≡ Some side) → (HasIt now side → ⊥)
+      → ((x : OpId) → C x → side ≡ x) → Grows C es fs → NoBind h → Named line h → Kept line es h → Kept line fs (put h place now)
+  closes_so es fs C h place r now side g f l claims none of grows q n i = closed_put line C es fs h place r now side g claims of none grows q n (changed es r now f l (i.records place r g)) i
+
+  -- one that has the side of a socket listens by none
+  unbegun : (h : Here) (place : ℕ) (r : Tcp2Socket) (x : OpId) → Found h place r → side_of r.inner ≡ Some x → Named line h → IsBegun r.listening → ⊥
+  unbegun h place r x g e n b = by_listening r.listening refl b
     where
-      own : OpId
-      own = own_of line
+      by_listening : (l : Listening) → r.listening ≡ l → IsBegun l → ⊥
+      by_listening (Begins op) p b = no_some x (sym (n.held op place r g p).1 ∙ e)
+      by_listening _ p b = b
 
-      unclosed : IsClosed es own → ⊥
-      unclosed c = let o = i.older own c in let z : next_of line h.own ≡ line = ap (next_of line) u in omega (arith, o, z)
+  connect_so : (es fs : List Entry) (h : Here) (place : ℕ) (r : Tcp2Socket) (op : Operation) (ended : End × List Item) → NoBind h → Found h place r → r.inner.state ≡ state.Connecting op → Named line h → Kept line es h → PollLeaves op.who es fs ended → Kept line fs (put h place (with_inner r (with_state r.inner (connect_ended op.who ended).1)))
+  connect_so es fs h place r op (Waits, items) q g e n i k = put_kept fs h place r _ g (follows_state r _ refl refl (λ x p. ap side_in e ∙ p)) (opened_more es fs (calm_end op.who es fs (Waits, items) (λ z. z.1) k) i) refl
+  connect_so es fs h place r op (Done given, items) q g e n i k = put_kept fs h place r _ g (follows_state r _ refl refl (λ x p. ap side_in e ∙ p)) (opened_more es fs (calm_end op.who es fs (Done given, items) (λ z. z.1) k) i) refl
+  connect_so es fs h place r op (Refused c given, items) q g e n i k =
+      let now = with_inner r (with_state r.inner (state.Closed c)) in
+      let its = n.named op.who.side place r g (ap side_in e) in
+      let none = unbegun h place r op.who.side g (ap side_in e) n in
+      closes_so es fs _ h place r now op.who.side g (follows_gone r now refl refl none) (inl refl) (inl its) (λ u. elim u [ inl v ↦ gone_lacks now refl none op.who.side v | inr a ↦ n.apart op.who.side place r g its a ]) (λ x d. d.0) k.grows q n i
 
-      by_told : (t : Told) → IsDoneOrCode t → Opened line (es ++ entry own (call.TcpCreate ctx.name family) t ∷ []) h × MadeOpen (es ++ entry own (call.TcpCreate ctx.name family) t ∷ []) (after_create own ctx.name family (told_done t))
-      by_told told.Done f =
-          let calm = one_more es own (call.TcpCreate ctx.name family) told.Done (λ x n. n) in
-          (opened_more es _ h calm i, (refl, record { made = Created ctx.name family (has_last es _); unclosed = unclosed_more NoneCloses es _ own calm (λ n. n) unclosed }))
-      by_told (told.Code c) f = (asked_more es h own (call.TcpCreate ctx.name family) (told.Code c) (λ x n. n) i, tt)
-      by_told _ f = absurd f
+  listen_so : (es fs : List Entry) (h : Here) (place : ℕ) (r : Tcp2Socket) (op : Operation) (ended : End × List Item) → NoBind h → Found h place r → r.listening ≡ Begins op → side_of r.inner ≡ None → Named line h → Kept line es h → PollLeaves op.who es fs ended → Kept line fs (put h place (listen_after op r ended))
+  listen_so es fs h place r op (Waits, items) q g e c n i k = put_quiet fs h place r _ g (record { side = refl; lives = λ x v. (v.0, inr (subst IsBegun (sym e) tt)) }) refl (opened_more es fs (calm_end op.who es fs (Waits, items) (λ z. z.1) k) i)
+  listen_so es fs h place r op (Done given, items) q g e c n i k = put_quiet fs h place r _ g (record { side = refl; lives = λ x v. (v.0, inr (subst IsBegun (sym e) tt)) }) refl (opened_more es fs (calm_end op.who es fs (Done given, items) (λ z. z.1) k) i)
+  listen_so es fs h place r op (Refused why given, items) q g e c n i k =
+      let now = listen_after op r (Refused why given, items) in let gone = follows_gone r now refl c (λ b. b) in
+      closes_so es fs _ h place r now op.who.side g gone (inr refl) (inl (n.held op place r g e).0) (λ u. elim u [ inl v ↦ gone_lacks now c (λ b. b) op.who.side v | inr a ↦ no_some op.who.side a ]) (λ x d. d.0) k.grows q n i
 
-  created_open : (es : List Entry) (socket : Socket) → socket.state ≡ state.Default (own_of line) → IsOpen es (own_of line) → RecordOpen es (new_record socket)
-  created_open es socket d o = record {
-    phase = record { streams = λ s e. absurd (no_some s e); accepts = λ l e. absurd (cc); closing = λ x e. absurd (cc) };
-    uses = λ x u. let same = its x u in (subst (IsOpen es) same o, ap side_in d ∙ ap (λ (y : OpId). Some y) same);
-    named = λ x e. absurd (no_some x e);
-    arrived = λ l new peer e a. absurd (cc);
-  }
+  -- an accept: what it gives was made, and has its name
+  module _ (es fs : List Entry) (r : Tcp2Socket) (l : Listener) (op : Operation) (e : r.listening ≡ Accepts l) (a : l.accept ≡ accepting.Asking op) where
+    given_so : (given : Given) → IsGivenMade op.who.id fs given → RecordOpen fs r → RecordOpen fs (accepting_now r l (arrived given))
+    given_so (Connection new peer) m k = record {
+      lives = λ x v. k.lives x ((follows_quiet r (accepting_now r l (accepting.Arrived new peer)) refl refl (λ b. b)).lives x v);
+      named = λ x p. k.named x (ap accept_name e ∙ (ap name_in a ∙ (ap (λ (y : OpId). Some y) (sym m.1) ∙ p)));
+      arrived = λ j x y p q. (let same : Some new ≡ Some x = ap accept_name p ∙ ap name_in q in subst (IsMade fs) (some_same new x same) m.0);
+    }
+    given_so _ m k = changed fs r (accepting_now r l accepting.Idle) (follows_quiet r (accepting_now r l accepting.Idle) refl refl (λ b. b)) (inr refl) k
+
+    accept_so : (ended : End × List Item) → PollLeaves op.who es fs ended → RecordOpen fs r → RecordOpen fs (accepting_now r l (accept_ended op.who ended))
+    accept_so (Waits, items) m k = record {
+      lives = λ x v. k.lives x ((follows_quiet r (accepting_now r l (accept_ended op.who (Waits, items))) refl refl (λ b. b)).lives x v);
+      named = λ x p. k.named x (ap accept_name e ∙ (ap name_in a ∙ p));
+      arrived = λ j x y p q. absurd (let s : accept_ended op.who (Waits, items) ≡ accepting.Arrived x y = ap accept_of p ∙ q in cc);
+    }
+    accept_so (Done given, items) m k = given_so given m.made k
+    accept_so (Refused c given, items) m k = changed fs r (accepting_now r l (accepting.Failed c)) (follows_quiet r (accepting_now r l (accepting.Failed c)) refl refl (λ b. b)) (inr refl) k
+
+  polls : (es : List Entry) (h : Here) (op : Operation) (after : End × List Item → Here) → Held h op after → Fit h → ((place : ℕ) (r : Tcp2Socket) → Found h place r → ListenerShape r.inner.state r.listening) → Named line h → Kept line es h → Allows AskedOpen (λ fs ended. Kept line fs (after ended)) es (poll_asks op)
+  polls es h _ _ (InHand op e) f s n i = polled op es _ (i.hand op e) (λ fs ended k.
+      let m = opened_more es fs (calm_end op.who es fs ended (λ z. let p : NothingLast ≡ CloseLast = sym (f.hand op e).last ∙ z.0 in absurd (cc)) k) i in
+      record { records = m.records; hand = λ o p. subst (λ (x : Operation). IsOpen fs x.who.side) (some_same (left_of op ended.1) o p) (m.hand op e); stands = m.stands; older = m.older })
+  polls es h _ _ (Connects place r op q g e) f s n i = polled op es _ (socket_open es h place r op.who.side g (ap side_in e) n i) (λ fs ended k. connect_so es fs h place r op ended q g e n i k)
+  polls es h _ _ (Listens place r op q g e c) f s n i = polled op es _ (begun_open es h place r op g e n i) (λ fs ended k. listen_so es fs h place r op ended q g e c n i k)
+  polls es h _ _ (Awaits place r l op g e a) f s n i =
+      let its : IsAcceptOn l.side l.maker op = subst (HoldsAccept l.side l.maker) a (subst FitListening e (f.records place r g).1) in
+      let at : side_of r.inner ≡ Some op.who.side = ap side_in (subst (ListenerShape r.inner.state) e (s place r g)) ∙ ap (λ (x : OpId). Some x) (sym its.of_side) in
+      polled op es _ (socket_open es h place r op.who.side g at n i) (λ fs ended k.
+      let m = opened_more es fs (calm_end op.who es fs ended (λ z. let p : NothingLast ≡ CloseLast = sym its.accept.last ∙ z.0 in absurd (cc)) k) i in
+      put_open fs place _ (accept_so es fs r l op e a ended k (m.records place r g)) m)
+
+  -- a write closes nothing
+  turns : (es : List Entry) (h : Here) (place : ℕ) (r : Tcp2Socket) (s : Streams) (w : WriteState) (job : Job) (now : Job → WriteState) → Found h place r → HasStreams r.inner.state s → s.writer ≡ w → GoesOn w job now → Named line h → Kept line es h → Allows AskedOpen (λ fs ended. Kept line fs (put h place (with_writer r s (now (job_after job.write.who ended))))) es (poll_asks job.write)
+  turns es h place r s w job now g o e on n i =
+      let k = job_of w job now on (subst (WriterIs o.connection.side) e o.writer) in
+      polled job.write es _ (subst (IsOpen es) (sym k.side) (socket_open es h place r o.connection.side g (ap side_in o.is) n i)) (λ fs ended m.
+      put_kept fs h place r _ g (record { side = refl; lives = λ x v. v }) (opened_more es fs (calm_end job.write.who es fs ended (λ z. let p : ShutdownLast ≡ CloseLast = sym k.last ∙ z.0 in absurd (cc)) m) i) refl)
+
+  closes : (es : List Entry) (h : Here) (place : ℕ) (r now : Tcp2Socket) (op side : OpId) → NoBind h → Found h place r → Closing r now side → Named line h → Kept line es h → IsOpen es side × ((told : Told) → Kept line (es ++ entry op (call.Close side) told ∷ []) (put h place now))
+  closes es h place r _ op _ q g (ClosesSocket side e) n i = (
+    socket_open es h place r side g e n i,
+    λ told. closes_so es _ (λ x. side ≡ x) h place r (closed_record r) side g (follows_gone r (closed_record r) refl refl (λ b. b)) (inr refl) (inl (n.named side place r g e)) (λ u. elim u [ inl v ↦ gone_lacks (closed_record r) refl (λ b. b) side v | inr a ↦ no_some side a ]) (λ x d. d) (one_close es op side told) q n i,
+  )
+  closes es h place r _ op _ q g (ClosesListen o e) n i =
+      let d = n.held o place r g e in (
+        begun_open es h place r o g e n i,
+        λ told. closes_so es _ (λ x. o.who.side ≡ x) h place r (with_listening r Not) o.who.side g (follows_gone r (with_listening r Not) refl d.1 (λ b. b)) (inr refl) (inl d.0) (λ u. elim u [ inl v ↦ gone_lacks (with_listening r Not) d.1 (λ b. b) o.who.side v | inr a ↦ no_some o.who.side a ]) (λ x z. z) (one_close es op o.who.side told) q n i,
+      )
+  closes es h place r _ op _ q g (ClosesArrived l new peer e a) n i =
+      let name = name_of r l new peer e a in (
+        arrived_open es h place r l new peer g e a i,
+        λ told. closes_so es _ (λ x. new ≡ x) h place r (with_listening r Not) new g (follows_quiet r (with_listening r Not) refl refl (λ b. b)) (inr refl) (inr name) (λ u. elim u [ inl v ↦ n.apart new place r g v.0 name | inr z ↦ no_some new z ]) (λ x z. z) (one_close es op new told) q n i,
+      )
+
+  -- a calm call closes nothing
+  calmly : (es : List Entry) (h : Here) (op : OpId) (c : Call) (told : Told) → is_calm c ≡ true → Kept line es h → Kept line (es ++ entry op c told ∷ []) h
+  calmly es h op c told e i = opened_more es _ (one_more es op c told (λ x k. calm_closes c x e k)) i
+
+  module _ (contexts : List WasiSocketsCtx) (origin : Step) where
+    asked : (es : List Entry) (h : Here) (c : Call) → IsAskedOn contexts line origin h c → Kept line es h → IsAskedOpen es (socket_of c)
+    asked es h c (OnNone e) i = subst (IsAskedOpen es) (sym e) tt
+    asked es h c (OnSide place r side g s e b) i = subst (IsAskedOpen es) (sym e) (socket_open es h place r side g s b.0.1 i)
+
+    -- a socket that is created is open, for what is closed is older
+    created : (es : List Entry) (h : Here) (ctx : WasiSocketsCtx) (family : SocketAddressFamily) → h.own ≡ Unused → Kept line es h → Kept line (es ++ entry (own_of line) (call.TcpCreate ctx.name family) told.Done ∷ []) (creating h (own_of line) ctx family)
+    created es h ctx family u i =
+        let own = own_of line in
+        let k = calmly es h own (call.TcpCreate ctx.name family) told.Done refl i in
+        let o : IsOpen _ own = (record { made = Created ctx.name family (has_last es _); unclosed = λ c. (let x = k.older own c in let z : next_of line h.own ≡ line = ap (next_of line) u in omega (arith, x, z)) }) in
+        later _ (line + 1) (by_own h.own) (push_open _ (new_record (new_socket own ctx.name family)) (record { lives = λ x v. subst (IsOpen _) (some_same own x v.0) o; named = λ x e. absurd (no_some x e); arrived = λ l new peer e a. absurd (cc) }) k)
+
+    pub sockets : Single contexts line origin AskedOpen (Kept line)
+    sockets = record {
+      moves = λ es h now m b i. moves es h now m b.0.1 i;
+      same = λ es h place r now g s i. put_kept es h place r now g (follows_same r now s) i s.listening;
+      tables = λ es h t m i. i;
+      stops = λ es h place r g i. put_quiet es h place r _ g (follows_quiet r _ refl refl (λ b. b)) refl i;
+      asks = λ es h op c calm on i. (asked es h c on i, λ told. calmly es h op c told calm i);
+      creates = λ es h ctx family u b i. created es h ctx family u i;
+      closes = λ es h place r now op side q g c b i. closes es h place r now op side q g c b.0.1 i;
+      polls = λ es h op after k b i. polls es h op after k b.0.0 (λ place r g. (b.1 place r g).1) b.0.1 i;
+      turns = λ es h place r s job now g e on b i. turns es h place r s s.writer job now g (subst (StreamsShape r.inner.state) e (b.1 place r g).0) refl on b.0.1 i;
+    }
+
+module _ (contexts : List WasiSocketsCtx) where
+  pub runs_open : (steps : List Step) (log : List Entry) (rest : Asks (List Reply × Machine)) → Left (run contexts [] first_state 1 steps) log rest → AsksOpenSockets log
+  runs_open steps log rest w = record { each = each_ask contexts Kept (λ line origin. sockets line contexts origin) starts (λ line es m i. i) (record { records = λ place r e. absurd (cc); hand = λ op e. absurd (cc); stands = λ n place op e. absurd (cc); older = λ x c. absurd c.closed }) steps log rest w }
     where
-      its : (x : OpId) → Uses (new_record socket) x → own_of line ≡ x
-      its x (Keeps (OfSocket e)) = some_same (own_of line) x (sym (ap side_in d) ∙ e)
-      its x (Keeps (OfReader t half e k z)) = absurd (no_some t e)
-      its x (Keeps (OfWriter t e k)) = absurd (no_some t e)
-      its x (Begun op e k) = absurd (cc)
+      starts : (line : ℕ) (es : List Entry) (m : Machine) (own : Own) → Kept line es (Starts m Unused) → Kept line es (Starts m own)
+      starts line es m Used i = spends line es (Starts m Unused) i
+      starts line es m Unused i = i
+      starts line es m (ToWrite at bytes) i = i
 
-  joins_open : (fs : List Entry) (h : Here) (made : Result Socket ErrorCode) → Opened line fs h → MadeOpen fs made → Allows AskedOpen (λ gs done. Opened line gs (record h { machine = done.1; own = Used })) fs (created_asks h.machine (own_of line) made)
-  joins_open fs h (Err c) i k = spends_open fs h i
-  joins_open fs h (Ok socket) i k =
-      allows_then AskedOpen (λ gs made. Grows NoneCloses fs gs) (λ gs done. Opened line gs (record h { machine = done.1; own = Used })) fs (make_asks h.machine.table (own_of line) (Tcp2 (length h.machine.store.sockets)) None (side_of socket)) _ (marked fs h (Tcp2 (length h.machine.store.sockets)) None (side_of socket))
-      (λ gs made calm.
-      let j = spends_open gs _ (push_open gs h (new_record socket) (created_open gs socket k.0 (open_more NoneCloses fs gs (own_of line) calm (λ n. n) k.1)) (opened_more fs gs h calm i)) in
-      record { records = j.records; hand = j.hand; stands = j.stands; older = j.older })
-
-  -- == the law
-  open_sockets : Above contexts line origin (λ es h. Base contexts line origin h)
-  open_sockets = record {
-    P = AskedOpen;
-    Inv = Opened line;
-    moves = λ es h now m b i. moves_open es h now m i;
-    asks = λ es h place n r side c at g o q b i. let k = question_open es (own_of n) side c q ((i.records place r g).uses side (Keeps o)).0 in (k.0, λ told f. asked_more es h (own_of n) c told k.1 i);
-    sets = λ es h place r side backlog at g s is b i. (((i.records place r g).uses side (Keeps (OfSocket (ap side_in s)))).0, λ told f. asked_more es h (own_of line) (call.SetBacklog side backlog) told (λ x n. n) i);
-    learns = λ es h place r side at g e b i. (
-      ((i.records place r g).uses side (Keeps (OfSocket (ap side_in e)))).0,
-      λ told f.
-          let m = asked_more es h (own_of line) (call.Local side) told (λ x n. n) i in
-          put_open _ h place _ (plain_open _ r (with_inner r (after_local r.inner (told_addr told)).1) refl refl (told_same r.inner (told_addr told)) refl (m.records place r g)) m,
-    );
-    closes = λ es h place r side q g e b i. (
-      ((i.records place r g).uses side (Keeps (OfSocket e))).0,
-      λ told f.
-          closed_put (λ x. side ≡ x) es _ h place r (closed_record r) side g (inl (b.1.named side place r g e)) (λ x d. d) (has_none (closed_record r) refl refl refl side)
-          (grows_entry (λ x. side ≡ x) es es (own_of line) (call.Close side) told (λ x c. c) (grows_none (λ x. side ≡ x) es)) q b.1 (bare_open _ (closed_record r) refl refl refl) i,
-    );
-    marks = λ es h kind parent sock m b i.
-        allows_weaker AskedOpen (λ fs made. Grows NoneCloses es fs) (λ fs made. Opened line fs (record h { machine = record h.machine { table = made.1 } }))
-        (λ fs made calm. let k = opened_more es fs h calm i in record { records = k.records; hand = k.hand; stands = k.stands; older = k.older }) es _ (marked es h kind parent sock);
-    creates = λ es h ctx family c a o m b i.
-        allows_then AskedOpen (λ fs made. Opened line fs h × MadeOpen fs made) (λ fs done. Opened line fs (record h { machine = done.1; own = Used })) es (new_asks (own_of line) ctx family) (created_asks h.machine (own_of line)) (new_open es h ctx family o i) (λ fs made k. joins_open fs h made k.0 k.1);
-    accepted = λ es h c s place r is e o g b i.
-        allows_weaker AskedOpen (λ fs made. Grows NoneCloses es fs) (λ fs made. Opened line fs (record h { machine = record h.machine { table = made.1 }; made = made_so place made.0 }))
-        (λ fs made calm. let k = opened_more es fs h calm i in record { records = k.records; hand = k.hand; stands = k.stands; older = k.older }) es _ (marked es h (Tcp2 place) (Some s) (side_at (slice_get h.machine.store.sockets place)));
-    polls = λ es h op after k b i. polls_open es h op after k b.0 b.1 i;
-    turns = λ es h place r s g e b i. turned_open es h place r s g e i;
-    gives_up = λ es h place r q g b i. gives_up_open es h place r q g b.0 b.1 i r.listening refl;
-  }
-
-  pub sockets : Law contexts line origin
-  sockets = on_names contexts line origin open_sockets
-
-  -- what it says of a tree
-  pub sockets_along : {A : Type 0} {h : Here} {end : A → Here} {asks : Asks A} → Walks sockets h end asks → (es : List Entry) → Base contexts line origin h → Opened line es h → Allows AskedOpen (λ fs a. Base contexts line origin (end a) × Opened line fs (end a)) es asks
-  unfolding sockets open_sockets
-  sockets_along w es b i = on_along contexts line origin open_sockets w es b i
+-- after a close of a socket nothing is asked of it
+pub nothing_follows : (log : List Entry) → AsksOpenSockets log → (before : List Entry) (op side : OpId) (told : Told) (after : List Entry) (e : Entry) → log ≡ before ++ entry op (call.Close side) told ∷ after → Has after e → socket_of e.call ≡ Some side → ⊥
+nothing_follows log h before op side told after e cut has s =
+    let k = cut_of after e has in
+    let closed = entry op (call.Close side) told in
+    let front : List Entry = before ++ closed ∷ k.front in
+    let at : log ≡ front ++ e ∷ k.back = cut ∙ (ap (λ (es : List Entry). before ++ closed ∷ es) k.is ∙ sym (append_assoc before (closed ∷ k.front) (e ∷ k.back))) in
+    let opened : IsOpen front side = subst (IsAskedOpen front) s (h.each front e k.back at) in
+    opened.unclosed (record { op = op; told = told; closed = has_back before (closed ∷ k.front) closed (inl refl) })

@@ -1,87 +1,104 @@
--- What holds between the asks of a line: each record has what is open, and what is closed is of older lines.
-use Rattle.std.proofs.Common.{◌≡◌, inl, inr, ℕ, ◌+◌, ◌<◌, ◌≤◌, List, [], ◌∷◌, ◌++◌, Some, sym, ap, subst, ◌∙◌, slice_get, slice_set, arith}
+-- What holds between the asks of a line: each side that is alive is open, and what is closed is of older lines.
+use Rattle.std.proofs.Common.{◌≡◌, ◌⊎◌, inl, inr, ℕ, ◌<◌, ◌≤◌, List, [], ◌∷◌, ◌++◌, Option, Some, None, sym, ap, subst, ◌∙◌, slice_get, slice_set, arith}
+use Rattle.wasi_addr.specs.declared.address.IpSocketAddress.{IpSocketAddress}
 use Rattle.wasi_world.specs.declared.ids.OpId.{OpId}
 use Rattle.wasi_world.specs.declared.call.Call.{Call}
 use Rattle.wasi_world.specs.declared.call.Told.{Told}
 use Rattle.wasi_world.specs.declared.call.Entry.{Entry}
 use Rattle.wasi_world.specs.Operation.{Operation}
+use Rattle.wasi_tcp.specs.declared.listener.Accepting.TheVariants as accepting
+use Rattle.wasi_tcp.specs.Listener.{Listener}
+use Rattle.wasi_host.specs.declared.listening.Listening.TheVariants.{Accepts}
 use Rattle.wasi_host.specs.declared.socket.Tcp2Socket.{Tcp2Socket}
+use Rattle.wasi_host.specs.declared.store.Standing.{Standing}
 use Rattle.wasi_host.specs.Store.{standing_bind}
 use Rattle.wasi_walks.specs.Licence.{entry}
-use Rattle.wasi_laws.specs.Opened.{IsClosed, IsOpen}
 use Rattle.wasi_walks.proofs.Lists.{get_set, get_split, set_there}
-use Rattle.wasi_walks.proofs.walks.Moves.{Own, Used, Unused, ToWrite, Here, put, Found, NoBind, NoBindStands}
 use Rattle.wasi_walks.proofs.claims.Law.{Claims, Named, next_of, no_some}
-use Rattle.wasi_laws.proofs.sockets.Grown.{Closes as ClosesSide, NoneCloses, Grows, grows_none, grows_entry, open_more}
-use Rattle.wasi_laws.proofs.sockets.Records.{RecordOpen, some_same, record_more, Has_it}
+use Rattle.wasi_walks.proofs.licence.State.{accept_name, name_in}
+use Rattle.wasi_walks.proofs.walks.Moves.{Here, put, Found, NoBind, NoBindStands}
+use Rattle.wasi_laws.specs.Opened.{IsMade, IsClosed, IsOpen}
+use Rattle.wasi_laws.proofs.shapes.Shape.{some_same}
+use Rattle.wasi_laws.proofs.shapes.Lives.{Lives, Follows}
+use Rattle.wasi_laws.proofs.sockets.Grown.{Closes, NoneCloses, Grows, grows_none, grows_entry, open_more, unclosed_more}
 
--- == what holds of a line
--- Each record has what is open, and so have the bind in hand and the one that stands; what is closed is of older lines.
-pub record Opened (line : ℕ) (es : List Entry) (h : Here) : Type 0 where
-  pub records : (place : ℕ) (r : Tcp2Socket) → Found h place r → RecordOpen es r
-  pub hand : (op : Operation) → h.hand ≡ Some op → IsOpen es op.who.side
-  pub stands : (n place : ℕ) (op : Operation) → h.machine.store.standing ≡ Some (standing_bind n place op) → IsOpen es op.who.side
-  pub older : (x : OpId) → IsClosed es x → x.step < next_of line h.own
+-- Each side that is alive in it is open; the name of its accept isn't closed, and what arrived was made.
+pub record RecordOpen (es : List Entry) (r : Tcp2Socket) : Type 0 where
+  pub lives : (x : OpId) → Lives x r → IsOpen es x
+  pub named : (x : OpId) → accept_name r.listening ≡ Some x → IsClosed es x → ⊥
+  pub arrived : (l : Listener) (new : OpId) (peer : IpSocketAddress) → r.listening ≡ Accepts l → l.accept ≡ accepting.Arrived new peer → IsMade es new
 
-pub one_more : (es : List Entry) (op : OpId) (c : Call) (t : Told) → ((x : OpId) → ClosesSide c x → ⊥) → Grows NoneCloses es (es ++ entry op c t ∷ [])
+pub name_of : (r : Tcp2Socket) (l : Listener) (new : OpId) (peer : IpSocketAddress) → r.listening ≡ Accepts l → l.accept ≡ accepting.Arrived new peer → accept_name r.listening ≡ Some new
+name_of r l new peer e a = ap accept_name e ∙ ap name_in a
+
+-- it changes: it listens as it did, or accepts nothing
+pub changed : (es : List Entry) (r now : Tcp2Socket) → Follows r now → (now.listening ≡ r.listening) ⊎ (accept_name now.listening ≡ None) → RecordOpen es r → RecordOpen es now
+changed es r now f (inl l) i = record { lives = λ x v. i.lives x (f.lives x v); named = λ x e. i.named x (ap accept_name (sym l) ∙ e); arrived = λ k new peer e a. i.arrived k new peer (sym l ∙ e) a }
+changed es r now f (inr n) i = record { lives = λ x v. i.lives x (f.lives x v); named = λ x e. absurd (no_some x (sym n ∙ e)); arrived = λ k new peer e a. absurd (no_some new (sym n ∙ name_of now k new peer e a)) }
+
+-- it has the side, or its accept has the name
+abbrev pub HasIt : Tcp2Socket → OpId → Type 0
+HasIt r x = Lives x r ⊎ (accept_name r.listening ≡ Some x)
+
+-- the log grows, and closes nothing that the record has
+record_more : (C : OpId → Type 0) (es fs : List Entry) (r : Tcp2Socket) → Grows C es fs → ((x : OpId) → HasIt r x → C x → ⊥) → RecordOpen es r → RecordOpen fs r
+record_more C es fs r g n i = record {
+  lives = λ x v. open_more C es fs x g (n x (inl v)) (i.lives x v);
+  named = λ x e. unclosed_more C es fs x g (n x (inr e)) (i.named x e);
+  arrived = λ l new peer e a. g.made new (i.arrived l new peer e a);
+}
+
+pub record Opened (bound : ℕ) (es : List Entry) (sockets : List Tcp2Socket) (held : Option Operation) (standing : Option Standing) : Type 0 where
+  pub records : (place : ℕ) (r : Tcp2Socket) → slice_get sockets place ≡ Some r → RecordOpen es r
+  pub hand : (op : Operation) → held ≡ Some op → IsOpen es op.who.side
+  pub stands : (n place : ℕ) (op : Operation) → standing ≡ Some (standing_bind n place op) → IsOpen es op.who.side
+  pub older : (x : OpId) → IsClosed es x → x.step < bound
+
+pub one_more : (es : List Entry) (op : OpId) (c : Call) (t : Told) → ((x : OpId) → Closes c x → ⊥) → Grows NoneCloses es (es ++ entry op c t ∷ [])
 one_more es op c t n = grows_entry NoneCloses es es op c t n (grows_none NoneCloses es)
 
-module _ {line : ℕ} where
+module _ {bound : ℕ} {sockets : List Tcp2Socket} {held : Option Operation} {standing : Option Standing} where
   -- asks that close nothing
-  pub opened_more : (es fs : List Entry) (h : Here) → Grows NoneCloses es fs → Opened line es h → Opened line fs h
-  opened_more es fs h g i = record {
+  pub opened_more : (es fs : List Entry) → Grows NoneCloses es fs → Opened bound es sockets held standing → Opened bound fs sockets held standing
+  opened_more es fs g i = record {
     records = λ place r e. record_more NoneCloses es fs r g (λ x u n. n) (i.records place r e);
     hand = λ op e. open_more NoneCloses es fs op.who.side g (λ n. n) (i.hand op e);
     stands = λ n place op e. open_more NoneCloses es fs op.who.side g (λ n. n) (i.stands n place op e);
     older = λ x c. elim (g.closed x c) [ inl a ↦ i.older x a | inr n ↦ absurd n ];
   }
 
-  pub asked_more : (es : List Entry) (h : Here) (op : OpId) (c : Call) (t : Told) → ((x : OpId) → ClosesSide c x → ⊥) → Opened line es h → Opened line (es ++ entry op c t ∷ []) h
-  asked_more es h op c t n i = opened_more es _ h (one_more es op c t n) i
-
   -- a record changes, or there is one more
-  pub put_open : (es : List Entry) (h : Here) (place : ℕ) (now : Tcp2Socket) → RecordOpen es now → Opened line es h → Opened line es (put h place now)
-  put_open es h place now k i = record {
-    records = λ n r e. elim (get_set h.machine.store.sockets place now n r e) [ inl p ↦ subst (RecordOpen es) p.1 k | inr p ↦ i.records n r p ];
-    hand = i.hand;
-    stands = i.stands;
-    older = i.older;
-  }
+  pub put_open : (es : List Entry) (place : ℕ) (now : Tcp2Socket) → RecordOpen es now → Opened bound es sockets held standing → Opened bound es (slice_set sockets place now) held standing
+  put_open es place now k i = record { records = λ n r e. elim (get_set sockets place now n r e) [ inl p ↦ subst (RecordOpen es) p.1 k | inr p ↦ i.records n r p ]; hand = i.hand; stands = i.stands; older = i.older }
 
-  pub push_open : (es : List Entry) (h : Here) (now : Tcp2Socket) → RecordOpen es now → Opened line es h → Opened line es (record h { machine = record h.machine { store = record h.machine.store { sockets = h.machine.store.sockets ++ now ∷ [] } } })
-  push_open es h now k i = record {
-    records = λ n r e. elim (get_split h.machine.store.sockets now n r e) [ inl p ↦ i.records n r p | inr p ↦ subst (RecordOpen es) p k ];
-    hand = i.hand;
-    stands = i.stands;
-    older = i.older;
-  }
+  pub push_open : (es : List Entry) (now : Tcp2Socket) → RecordOpen es now → Opened bound es sockets held standing → Opened bound es (sockets ++ now ∷ []) held standing
+  push_open es now k i = record { records = λ n r e. elim (get_split sockets now n r e) [ inl p ↦ i.records n r p | inr p ↦ subst (RecordOpen es) p k ]; hand = i.hand; stands = i.stands; older = i.older }
 
-  -- the line's operation began something
-  pub spends_open : (es : List Entry) (h : Here) → Opened line es h → Opened line es (record h { own = Used })
-  spends_open es h i = record { records = i.records; hand = i.hand; stands = i.stands; older = λ x c. let o = i.older x c in let l = by_own h.own in omega (arith, o, l) }
-    where
-      by_own : (o : Own) → next_of line o ≤ line + 1
-      by_own Used = omega arith
-      by_own Unused = omega arith
-      by_own (ToWrite at bytes) = omega arith
+  -- more may be closed by now
+  pub later : (es : List Entry) (more : ℕ) → bound ≤ more → Opened bound es sockets held standing → Opened more es sockets held standing
+  later es more l i = record { records = i.records; hand = i.hand; stands = i.stands; older = λ x c. let o = i.older x c in omega (arith, o, l) }
 
-  -- a side is closed: the record that claims it has it no more
-  pub closed_put : (C : OpId → Type 0) (es fs : List Entry) (h : Here) (place : ℕ) (r now : Tcp2Socket) (side : OpId) → Found h place r → Claims side r → ((x : OpId) → C x → side ≡ x) → (Has_it now side → ⊥) → Grows C es fs → NoBind h → Named line h → RecordOpen fs now → Opened line es h → Opened line fs (put h place now)
-  closed_put C es fs h place r now side g claims of none grows quiet named k i = record {
-    records = λ n q e. elim (get_set h.machine.store.sockets place now n q e) [ inl p ↦ subst (RecordOpen fs) p.1 k | inr p ↦ record_more C es fs q grows (other n q e p) (i.records n q p) ];
-    hand = λ op e. absurd (no_some op (sym quiet.0 ∙ e));
-    stands = λ n p op e. absurd (subst NoBindStands e quiet.1);
-    older = λ x c. elim (grows.closed x c) [ inl a ↦ i.older x a | inr d ↦ subst (λ (y : OpId). y.step < next_of line h.own) (of x d) (named.older side place r g claims) ];
-  }
-    where
-      its : (x : OpId) (n : ℕ) (q : Tcp2Socket) → Found h n q → Has_it q x → Claims x q
-      its x n q p (inl u) = inl ((i.records n q p).uses x u).1
-      its x n q p (inr a) = inr a
+abbrev pub Kept : ℕ → List Entry → Here → Type 0
+Kept line es h = Opened (next_of line h.own) es h.machine.store.sockets h.hand h.machine.store.standing
 
-      other : (n : ℕ) (q : Tcp2Socket) → Found (put h place now) n q → Found h n q → (x : OpId) → Has_it q x → C x → ⊥
-      other n q e p x u d =
-          let same : side ≡ x = of x d in
-          let v : Has_it q side = subst (Has_it q) (sym same) u in
-          let at : n ≡ place = named.one side n place q r p g (its side n q p v) claims in
-          let is : now ≡ q = some_same now q (sym (ap (slice_get (slice_set h.machine.store.sockets place now)) at ∙ set_there h.machine.store.sockets place r now g) ∙ e) in
-          none (subst (λ (y : Tcp2Socket). Has_it y side) (sym is) v)
+-- a side is closed: the record that claims it has it no more
+pub closed_put : (line : ℕ) (C : OpId → Type 0) (es fs : List Entry) (h : Here) (place : ℕ) (r now : Tcp2Socket) (side : OpId) → Found h place r → Claims side r → ((x : OpId) → C x → side ≡ x) → (HasIt now side → ⊥) → Grows C es fs → NoBind h → Named line h → RecordOpen es now → Kept line es h → Kept line fs (put h place now)
+closed_put line C es fs h place r now side g claims of none grows quiet named k i = record {
+  records = λ n q e. record_more C es fs q grows (λ x u d. lacks n q e (subst (HasIt q) (sym (of x d)) u)) ((put_open es place now k i).records n q e);
+  hand = λ op e. absurd (no_some op (sym quiet.0 ∙ e));
+  stands = λ n p op e. absurd (subst NoBindStands e quiet.1);
+  older = λ x c. elim (grows.closed x c) [ inl a ↦ i.older x a | inr d ↦ subst (λ (y : OpId). y.step < next_of line h.own) (of x d) (named.older side place r g claims) ];
+}
+  where
+    its : (q : Tcp2Socket) → HasIt q side → Claims side q
+    its q (inl v) = inl v.0
+    its q (inr a) = inr a
+
+    other : (n : ℕ) (q : Tcp2Socket) → Found (put h place now) n q → Found h n q → HasIt q side → ⊥
+    other n q e p u =
+        let at : n ≡ place = named.one side n place q r p g (its q u) claims in
+        let is : now ≡ q = some_same now q (sym (ap (slice_get (slice_set h.machine.store.sockets place now)) at ∙ set_there h.machine.store.sockets place r now g) ∙ e) in
+        none (subst (λ (y : Tcp2Socket). HasIt y side) (sym is) u)
+
+    lacks : (n : ℕ) (q : Tcp2Socket) → Found (put h place now) n q → HasIt q side → ⊥
+    lacks n q e u = elim (get_set h.machine.store.sockets place now n q e) [ inl p ↦ none (subst (λ (y : Tcp2Socket). HasIt y side) (sym p.1) u) | inr p ↦ other n q e p u ]

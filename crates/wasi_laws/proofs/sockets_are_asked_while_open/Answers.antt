@@ -1,4 +1,4 @@
-use Rattle.wasi_laws.proofs.sockets.Runs.{runs_open, nothing_follows}
+use Rattle.wasi_laws.proofs.sockets.Law.{runs_open, nothing_follows}
 use Rattle.wasi_laws.proofs.sockets_are_asked_while_open.Goals as goal
 
 pub returns : goal.returns

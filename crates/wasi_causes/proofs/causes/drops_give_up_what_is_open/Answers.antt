@@ -1,12 +1,13 @@
-use Rattle.wasi_steps.specs.declared.step.Step.TheVariants as step
-use Rattle.wasi_steps.specs.declared.reply.Reply.TheVariants as reply
 use Rattle.std.proofs.Common.{◌≡◌, [], refl}
+use Rattle.wasi_streams.proofs.Tables.{value_without_it}
+use Rattle.wasi_causes.proofs.Ending.{socket_ok, gives_up, asks_nothing, leaves, takes_out, dropped_free}
+use Rattle.wasi_causes.proofs.causes.drops_give_up_what_is_open.Goals as goal
+use Rattle.wasi_causes.proofs.tables.Steps.{its_own, of_answer, while_free}
+use Rattle.wasi_causes.specs.GivenUp.{LooksOnce, NoLook}
 use Rattle.wasi_host.specs.Kinds.{kind_at}
 use Rattle.wasi_host.specs.Machine.{own_of}
-use Rattle.wasi_causes.specs.GivenUp.{LooksOnce, NoLook}
-use Rattle.wasi_causes.proofs.ending.DropLaws.{gone_at, socket_ok, gives_up, asks_nothing, leaves, takes_out, dropped_free}
-use Rattle.wasi_causes.proofs.tables.Steps.{its_own, of_answer, while_free}
-use Rattle.wasi_causes.proofs.causes.drops_give_up_what_is_open.Goals as goal
+use Rattle.wasi_steps.specs.declared.reply.Reply.TheVariants as reply
+use Rattle.wasi_steps.specs.declared.step.Step.TheVariants as step
 
 pub returns : goal.returns
 returns c = record {
@@ -17,5 +18,5 @@ returns c = record {
   plain_leaves = λ contexts m line ctx handle kind entries reply after is plain dropped w. leaves contexts m line ctx handle kind is plain entries reply after dropped (its_own contexts m line (step.Drop ctx handle) entries reply after w (dropped_free reply dropped));
   output = λ contexts m line ctx handle place entries reply after is. of_answer contexts m line (step.Drop ctx handle) (λ es r after. LooksOnce (own_of line) es) NoLook (λ es r after row. rw is at row.0.1) entries reply after;
   table = λ contexts m line ctx handle entries reply after dropped w. takes_out contexts m line ctx handle entries reply after dropped (its_own contexts m line (step.Drop ctx handle) entries reply after w (dropped_free reply dropped));
-  not_live = λ contexts m line ctx handle entries reply after dropped w. rw (takes_out contexts m line ctx handle entries reply after dropped (its_own contexts m line (step.Drop ctx handle) entries reply after w (dropped_free reply dropped))) (gone_at m.table.live handle);
+  not_live = λ contexts m line ctx handle entries reply after dropped w. rw (takes_out contexts m line ctx handle entries reply after dropped (its_own contexts m line (step.Drop ctx handle) entries reply after w (dropped_free reply dropped))) (value_without_it m.table.live handle);
 }

@@ -1,5 +1,5 @@
-use Rattle.wasi_causes.proofs.tables.Replies.{quiet_never, quiet_stays}
 use Rattle.wasi_causes.proofs.causes.listening_and_family_are_never_refused.Goals as goal
+use Rattle.wasi_causes.proofs.tables.Steps.{quiet_never, quiet_stays}
 
 pub returns : goal.returns
 returns c = record { never = quiet_never; quiet = quiet_stays }

@@ -1,8 +1,7 @@
-use Rattle.wasi_steps.specs.declared.step.Step.TheVariants as step
-use Rattle.wasi_steps.specs.declared.reply.Reply.TheVariants as reply
-use Rattle.wasi_causes.proofs.tables.Replies.{may_be, no_failure}
-use Rattle.wasi_causes.proofs.tables.Steps.{its_own}
 use Rattle.wasi_causes.proofs.causes.subscribe_makes_a_pollable.Goals as goal
+use Rattle.wasi_causes.proofs.tables.Steps.{may_be, no_failure, its_own}
+use Rattle.wasi_steps.specs.declared.reply.Reply.TheVariants as reply
+use Rattle.wasi_steps.specs.declared.step.Step.TheVariants as step
 
 pub returns : goal.returns
 returns c = record {

@@ -1,0 +1,339 @@
+-- What is given up: by a shutdown, by a drop of a handle, and what a drop leaves.
+use Rattle.std.proofs.Common.{◌≡◌, Bool, true, false, if◌then◌else◌, List, [], ◌∷◌, ◌++◌, Option, Some, None, refl, sym, ap, ◌∙◌, append-nil, append_assoc, ℕ, Result, ◌==◌, inl, inr, Ok, Err, slice_get, subst, ◌≢◌}
+use Rattle.std.proofs.lemmas.Bool.{eq-eqb}
+use Rattle.std.specs.Prelude.{IsSome}
+use Rattle.wasi_addr.specs.declared.address.IpSocketAddress.{IpSocketAddress}
+use Rattle.wasi_addr.specs.declared.address.ShutdownType.{ShutdownType}
+use Rattle.wasi_addr.specs.declared.address.ShutdownType.TheVariants.{Receive, Send, Both}
+use Rattle.wasi_causes.proofs.streams.Waits.{OutputRow, outputs}
+use Rattle.wasi_causes.proofs.tables.Meets.{Rows, Meets, ends, asks, chain, onto, widen}
+use Rattle.wasi_causes.proofs.tables.Routes.{Says, put_back, Names, its, on_record, apart, none_has}
+use Rattle.wasi_causes.specs.GivenUp.{receive_given_up, send_given_up, streams_given_up, side_closed, arrival_given_up, accept_given_up, listen_given_up, listening_given_up, socket_given_up, ended_side, shut_at_once, last_write, shut_writer, shutdown_entries, shut_down, HasLiveChildren, without, LooksOnce, NoLook, OneLook, IsDropped, GoesAtOnce, IsGone}
+use Rattle.wasi_causes.specs.Outcomes.{Outcome, AsksOnce, AreLike, Gone}
+use Rattle.wasi_host.specs.Dropping.{give_streams_up, gone, release_asks, released, release_at}
+use Rattle.wasi_host.specs.Host.{Stop, Trap}
+use Rattle.wasi_host.specs.Jobs.{other_jobs}
+use Rattle.wasi_host.specs.Kinds.{kind_at, output_of, none_in, has_no_child, without_handle, taken_out, place_of}
+use Rattle.wasi_host.specs.Listening.{give_up_asks}
+use Rattle.wasi_host.specs.Machine.{socket_at, own_of, with_store, answered, at_once, drop_kind, drop_taken, drop_asks}
+use Rattle.wasi_host.specs.Shutdowns.{shut_receive, shut_send, shut_streams, with_streams, shut_put, shut_record, shutdown_at}
+use Rattle.wasi_host.specs.Store.{Records}
+use Rattle.wasi_host.specs.declared.kind.Kind.{Kind}
+use Rattle.wasi_host.specs.declared.kind.Kind.TheVariants.{Tcp2, Output}
+use Rattle.wasi_host.specs.declared.listening.Listening.{Listening}
+use Rattle.wasi_host.specs.declared.listening.Listening.TheVariants as listening
+use Rattle.wasi_host.specs.declared.machine.Machine.{Machine}
+use Rattle.wasi_host.specs.declared.socket.Streams.{Streams}
+use Rattle.wasi_host.specs.declared.socket.Tcp2Socket.{Tcp2Socket}
+use Rattle.wasi_p2.specs.Tcp.{shutdown_on}
+use Rattle.wasi_walks.proofs.Lists.{set_there}
+use Rattle.wasi_walks.specs.Answered.{record_at, putting, record_in, OfRecord}
+use Rattle.wasi_walks.specs.Licence.{entry, Has}
+use Rattle.wasi_machine.specs.Machine.{done_reply, answer_reply}
+use Rattle.wasi_steps.specs.Replies.{Each}
+use Rattle.wasi_steps.specs.Reply.{no_fields}
+use Rattle.wasi_walks.specs.Waiting.{OutputWaits, WritesOn, ToldToWait, WriterWaits}
+use Rattle.wasi_steps.specs.declared.reply.CodeWord.TheVariants as word
+use Rattle.wasi_steps.specs.declared.reply.Field.{Field}
+use Rattle.wasi_steps.specs.declared.reply.Reply.{Reply}
+use Rattle.wasi_steps.specs.declared.reply.Reply.TheVariants as reply
+use Rattle.wasi_steps.specs.declared.step.Step.TheVariants as step
+use Rattle.wasi_streams.specs.Table.{children_of}
+use Rattle.wasi_tcp.specs.Accept.{in_hand, refuse_in}
+use Rattle.wasi_tcp.specs.Closing.{close_in}
+use Rattle.wasi_tcp.specs.Job.{Job, finish_in}
+use Rattle.wasi_tcp.specs.Listen.{is_over, held_side}
+use Rattle.wasi_tcp.specs.Listener.{give_up_in}
+use Rattle.wasi_tcp.specs.Reader.{reader_shutdown_asks}
+use Rattle.wasi_tcp.specs.Shape.{Socket}
+use Rattle.wasi_tcp.specs.Socket.{side_of}
+use Rattle.wasi_tcp.specs.Writer.{writer_side, writer_shutdown_asks, side_up_asks}
+use Rattle.wasi_tcp.specs.declared.listener.Accepting.{Accepting}
+use Rattle.wasi_tcp.specs.declared.listener.Accepting.TheVariants as accepting
+use Rattle.wasi_tcp.specs.declared.reader.ReadState.{ReadState}
+use Rattle.wasi_tcp.specs.declared.reader.ReadState.TheVariants as reading
+use Rattle.wasi_tcp.specs.declared.writer.WriteState.{WriteState}
+use Rattle.wasi_tcp.specs.declared.writer.WriteState.TheVariants as writing
+use Rattle.wasi_world.specs.Asks.{Give, bind}
+use Rattle.wasi_world.specs.Fits.{IsDone}
+use Rattle.wasi_world.specs.Operation.{End, Waits, Done, Refused, Who, Operation}
+use Rattle.wasi_world.specs.Typed.{ask_close}
+use Rattle.wasi_world.specs.declared.call.Call.{Call}
+use Rattle.wasi_world.specs.declared.call.Call.TheVariants as call
+use Rattle.wasi_world.specs.declared.call.Entry.{Entry}
+use Rattle.wasi_world.specs.declared.call.Told.{Told}
+use Rattle.wasi_world.specs.declared.call.Told.TheVariants as told
+use Rattle.wasi_world.specs.declared.ids.OpId.{OpId}
+use Rattle.wasi_world.specs.declared.outcome.Answer.{Answer}
+use Rattle.wasi_world.specs.declared.outcome.Answer.TheVariants.{Ready, Pending}
+use Rattle.wasi_world.specs.declared.outcome.TrapKind.TheVariants.{HasChildren, NoSuchHandle, Full, NotPermitted}
+use Rattle.wasi_world.specs.declared.outcome.WasiSocketsCtx.{WasiSocketsCtx}
+
+-- what is asked after these entries
+abbrev Adds : {A : Type 0} → List Entry → List Entry → Rows A
+Adds es more fs done = fs ≡ es ++ more
+
+-- a call that is only done is told so
+told_so : (op : OpId) (es : List Entry) (c : Call) (t : Told) → IsDone t → es ++ entry op c t ∷ [] ≡ es ++ entry op c told.Done ∷ []
+told_so op es c told.Done fits = refl
+told_so op es c _ fits = absurd fits
+
+-- two, one after the other
+then_so : (es one two fs gs : List Entry) → fs ≡ es ++ one → gs ≡ fs ++ two → gs ≡ es ++ (one ++ two)
+then_so es one two fs gs e h = h ∙ (ap (λ (xs : List Entry). xs ++ two) e ∙ append_assoc es one two)
+
+-- == what a socket listens by
+refuses : (who : Who) (o : Option IpSocketAddress) → Meets (λ es done. es ≡ arrival_given_up who o) [] (refuse_in who o)
+unfolding bind
+refuses who (Some peer) = asks (λ t fits. ends (told_so who.id [] (call.Refuse who.side peer) t fits))
+refuses who None = ends refl
+
+accept_up : (a : Accepting) → Meets (λ es done. es ≡ accept_given_up a) [] (give_up_in a)
+unfolding bind
+accept_up accepting.Idle = ends refl
+accept_up (accepting.Asking op) = refuses op.who (in_hand op.left)
+accept_up (accepting.Arrived new peer) = asks (λ t fits. ends (told_so new [] (call.Close new) t fits))
+accept_up (accepting.Failed c) = ends refl
+
+cancels : (op : Operation) (over : Bool) → is_over op ≡ over → Meets (λ es done. es ≡ listen_given_up op (held_side op)) [] (if over then Give tt else ask_close op.who.id op.who.side)
+unfolding bind
+cancels op true e = ends (rw e refl)
+cancels op false e = asks (λ t fits. ends (rw e (told_so op.who.id [] (call.Close op.who.side) t fits)))
+
+listening_up : (l : Listening) → Meets (λ es done. es ≡ listening_given_up l) [] (give_up_asks l)
+unfolding bind
+listening_up listening.Not = ends refl
+listening_up (listening.Begins op) = cancels op (is_over op) refl
+listening_up (listening.Accepts l) = accept_up l.accept
+listening_up (listening.Unclosed side) = asks (λ t fits. ends (told_so side [] (call.Close side) t fits))
+
+module _ (own : OpId) where
+  -- == the halves
+  reader_up : (es : List Entry) (reader : ReadState) → Meets (λ fs done. Adds es (receive_given_up own reader) fs done × (done.1 ≡ reading.Closed)) es (reader_shutdown_asks own reader)
+  unfolding bind
+  reader_up es (reading.Open half) = asks (λ t fits. ends (told_so own es (call.Shutdown half.side Receive) t fits, refl))
+  reader_up es reading.Closed = ends (sym (append-nil es), refl)
+
+  side_up : (es : List Entry) (side : Option OpId) → Meets (Adds es (send_given_up own side)) es (side_up_asks own side)
+  side_up es (Some side) = asks (λ t fits. ends (told_so own es (call.Shutdown side Send) t fits))
+  side_up es None = ends (sym (append-nil es))
+
+  -- == a socket that goes
+  streams_up : (es : List Entry) (o : Option Streams) → Meets (Adds es (streams_given_up own o)) es (give_streams_up own o)
+  streams_up es None = ends (sym (append-nil es))
+  streams_up es (Some s) = chain (reader_up es s.reader) (λ fs done k. widen (λ gs done h. then_so es (receive_given_up own s.reader) (send_given_up own (writer_side s.writer)) fs gs k.0 h) (side_up fs (writer_side s.writer)))
+
+  closes : (es : List Entry) (socket : Socket) (side : Option OpId) → side_of socket ≡ side → Meets (λ fs done. Adds es (side_closed own side) fs done × (side_of done.1 ≡ None)) es (close_in own socket side)
+  unfolding bind
+  closes es socket None e = ends (sym (append-nil es), e)
+  closes es socket (Some side) e = asks (λ t fits. ends (told_so own es (call.Close side) t fits, refl))
+
+  -- of the record only its place is left, with a socket that has no side
+  pub record Released (r : Tcp2Socket) (es : List Entry) (now : Tcp2Socket) : Type 0 where
+    pub socket : Socket
+    pub asked : es ≡ socket_given_up own r
+    pub no_side : side_of socket ≡ None
+    pub is : now ≡ gone r socket
+
+  pub releases : (r : Tcp2Socket) → Meets (λ es done. Released r es done.1) [] (release_asks own r)
+  releases r =
+      chain (listening_up r.listening) (λ es done first. chain (streams_up es r.streams) (λ fs done second. onto _ (widen (λ gs closed third. record {
+        socket = closed.1;
+        asked = third.0 ∙ (ap (λ (xs : List Entry). xs ++ side_closed own (side_of r.inner)) second ∙ ap (λ (xs : List Entry). xs ++ streams_given_up own r.streams ++ side_closed own (side_of r.inner)) first);
+        no_side = third.1;
+        is = refl;
+      }) (closes fs r.inner (side_of r.inner) refl))))
+
+  -- == a shutdown
+  finishes : (es : List Entry) (job : Job) (end : End) → Meets (λ fs done. Adds es (send_given_up own (ended_side job end)) fs done × (done.1 ≡ last_write job end)) es (finish_in own job end)
+  unfolding bind
+  finishes es job Waits = ends (sym (append-nil es), refl)
+  finishes es job (Done given) = asks (λ t fits. ends (told_so own es (call.Shutdown job.write.who.side Send) t fits, refl))
+  finishes es job (Refused c given) = ends (sym (append-nil es), refl)
+
+  writer_up : (es : List Entry) (writer : WriteState) → Meets (λ fs done. Adds es (send_given_up own (shut_at_once writer)) fs done × (done.1 ≡ shut_writer writer)) es (writer_shutdown_asks own writer)
+  unfolding bind
+  writer_up es (writing.Ready half permit) = asks (λ t fits. ends (told_so own es (call.Shutdown half.side Send) t fits, refl))
+  writer_up es (writing.Writing job) = onto _ (widen (λ fs done k. (k.0, ap writing.Closing k.1)) (finishes es job job.end))
+  writer_up es (writing.Closing job) = ends (sym (append-nil es), refl)
+  writer_up es (writing.Closed e) = ends (sym (append-nil es), refl)
+
+  abbrev pub ShutSo : ShutdownType → Streams → Rows (Unit {0} × Streams)
+  ShutSo how s es done = (es ≡ shutdown_entries own how s) × (done.1 ≡ shut_down how s)
+
+  receives : (s : Streams) → Meets (ShutSo Receive s) [] (shut_receive own s)
+  receives s = onto _ (widen (λ es done k. (k.0, ap (λ (reader : ReadState). let now : Streams = record s { reader = reader } in now) k.1)) (reader_up [] s.reader))
+
+  sends : (s : Streams) (es : List Entry) → Meets (λ fs done. Adds es (send_given_up own (shut_at_once s.writer)) fs done × (done.1 ≡ shut_down Send s)) es (shut_send own s)
+  sends s es = onto _ (widen (λ fs done k. (k.0, ap (λ (writer : WriteState). let now : Streams = record s { writer = writer } in now) k.1)) (writer_up es s.writer))
+
+  -- the sending half of streams that are those of s but for the reader
+  then_sends : (s : Streams) (es : List Entry) (done : Unit {0} × Streams) → ShutSo Receive s es done → Meets (ShutSo Both s) es (shut_send own done.1)
+  then_sends s es (done, now) k =
+      let same : now ≡ shut_down Receive s = k.1 in
+      rw same (widen (λ fs done h. (h.0 ∙ ap (λ (gs : List Entry). gs ++ send_given_up own (shut_at_once s.writer)) k.0, h.1)) (sends (shut_down Receive s) es))
+
+  pub shuts : (how : ShutdownType) (s : Streams) → Meets (ShutSo how s) [] (shut_streams own how s)
+  shuts Receive s = receives s
+  shuts Send s = sends s []
+  shuts Both s = chain {Mid = ShutSo Receive s} (receives s) (then_sends s)
+
+-- a job that is over is taken out of the list
+no_job : (place : ℕ) (places : List ℕ) → Has (other_jobs place places) place → ⊥
+no_job place [] h = h
+no_job place (p ∷ places) h = by_same (p == place) refl (no_job place places) h
+  where
+    by_same : (same : Bool) → (p == place) ≡ same → (Has (other_jobs place places) place → ⊥) → Has (if same then other_jobs place places else p ∷ other_jobs place places) place → ⊥
+    by_same true e rest k = rest k
+    by_same false e rest (inl is) = let k = eq-eqb p place is in cc
+    by_same false e rest (inr k) = rest k
+
+none_there : (hs : List ℕ) → none_in hs ≡ true → hs ≡ []
+none_there [] e = refl
+none_there (h ∷ hs) e = absurd (cc)
+
+not_live : (o : Option Kind) → o ≡ None → IsSome o → ⊥
+not_live None e h = cc
+not_live (Some kind) e h = cc
+
+no_fields_so : (fields : List Field) → AreLike (Each []) fields → fields ≡ no_fields
+no_fields_so [] h = refl
+no_fields_so (f ∷ fields) h = absurd h
+
+-- it is none that is busy
+pub dropped_free : (r : Reply) → IsDropped r → r ≢ reply.Busy
+dropped_free r d e = let k : IsDropped reply.Busy = subst IsDropped e d in k
+
+module _ (contexts : List WasiSocketsCtx) (m : Machine) (line c handle : ℕ) where
+  abbrev own : OpId
+  own = own_of line
+
+  -- == a shutdown
+  module _ (how : ShutdownType) where
+    abbrev ShutRow : Rows (Result (Unit {0}) Stop × Machine)
+    ShutRow es done = Outcome contexts m line (step.TcpShutdown c handle how) es (done_reply done.0) done.1
+
+    module _ (place : ℕ) (r : Tcp2Socket) (n : Names m handle place r) where
+      by_streams : (o : Option Streams) → r.streams ≡ o → Meets (λ es done. ShutRow es (with_store m (shut_put m.store place done))) [] (shut_record own how r o)
+      by_streams None has = ends (put_back (λ (after : Machine). Outcome contexts m line (step.TcpShutdown c handle how) [] (reply.Err word.InvalidState) after) m place r n.at ((λ e. rw (its n) has, λ k. refl), (refl, (refl, refl))))
+      by_streams (Some s) has =
+          onto _ (widen (λ es done k. (
+            apart (λ e. cc) (λ h. let none : r.streams ≡ None = rw (its n) at h in cc),
+            (tt, record { place = place; found = r; streams = s; names = n.names; at = n.at; has = has; holds = (k.0, ap (λ (now : Streams). putting m place (with_streams r now)) k.1) }),
+          )) (shuts own how s))
+
+    pub shutdown : Meets (Says contexts m line (step.TcpShutdown c handle how)) [] (bind (shutdown_on m own how (socket_at m handle)) (λ done. Give (done_reply done.0, done.1)))
+    shutdown =
+        onto _ (on_record m handle (shutdown_on m own how) (λ place o. shutdown_at m.store own how place o) refl (λ place. refl) (λ place. refl) (λ none. (apart (λ e. cc) (none_has _ (record_at m handle) none), (none, refl, refl))) (λ place r n. onto _ (by_streams place r n r.streams refl)))
+
+  -- == a drop
+  abbrev DropRow : Rows (Result (Answer (Unit {0})) Stop × Machine)
+  DropRow es done = Outcome contexts m line (step.Drop c handle) es (answer_reply line done.0) done.1
+
+  abbrev IsKind : Kind → Type 0
+  IsKind kind = kind_at m.table handle ≡ Some kind
+
+  asks_none : (o : Option Kind) → AsksOnce line o []
+  asks_none (Some (Tcp2 place)) = tt
+  asks_none (Some (Output place)) = NoLook
+  asks_none _ = refl
+
+  module _ (childless : has_no_child m.table handle ≡ true) where
+    no_children : HasLiveChildren m handle → ⊥
+    no_children h = h.children (none_there (children_of m.table.live handle) childless)
+
+    -- == of a socket
+    module _ (place : ℕ) (is : IsKind (Tcp2 place)) where
+      abbrev ReleaseRow : Rows (Unit {0} × Records)
+      ReleaseRow es done = DropRow es (answered (with_store (without m handle) (at_once done)))
+
+      left : (r : Tcp2Socket) → slice_get m.store.sockets place ≡ Some r → (es : List Entry) (done : Unit {0} × Tcp2Socket) → Released own r es done.1 → ReleaseRow es (tt, released m.store place done.1)
+      left r at es (done, now) k =
+          let same : now ≡ gone r k.socket = k.is in
+          rw same (
+            (apart (λ e. cc) no_children, rw is tt),
+            (tt, (refl, rw is (λ q there. let its : r ≡ q = cc in (rw (sym its) k.asked, record { found = gone r k.socket; at = set_there m.store.sockets place r (gone r k.socket) at; side = k.no_side; listening = refl; streams = refl; idle = refl; job = no_job place m.store.jobs })))),
+          )
+
+      by_record : (o : Option Tcp2Socket) → slice_get m.store.sockets place ≡ o → Meets ReleaseRow [] (release_at m.store own place o)
+      by_record None at = ends ((apart (λ e. cc) no_children, rw is tt), (tt, (refl, rw is (λ r there. absurd (cc)))))
+      by_record (Some r) at = onto _ (widen (left r at) (releases own r))
+
+    -- == of an output
+    waits_once : (writer : WriteState) (es : List Entry) → WriterWaits own writer es → LooksOnce own es
+    waits_once writer _ (WritesOn on) = NoLook
+    waits_once writer _ (ToldToWait half permit e) = OneLook half.side told.Pending
+
+    of_output : (place : ℕ) → IsKind (Output place) → (es : List Entry) (done : Answer (Unit {0}) × Records) → OutputRow m own place es done → DropRow es (answered (with_store (without m handle) done))
+    of_output place is es (Ready done, store) k = ((apart (λ e. cc) no_children, rw is k.0), (tt, (refl, rw is tt)))
+    of_output place is es (Pending, store) k =
+        ((apart (λ e. cc) no_children, rw is (waits_once k.0.streams.writer es k.0.holds)), (((rw is refl, refl), rw k.1 refl), (refl, subst (λ (o : Option ℕ). OutputWaits m own o es) (sym (ap output_of is)) k.0)))
+
+    by_kind : (kind : Kind) → IsKind kind → Meets DropRow [] (drop_kind (without m handle) own kind)
+    by_kind (Tcp2 place) is = onto _ (by_record place is (slice_get m.store.sockets place) refl)
+    by_kind (Output place) is = onto _ (widen (of_output place is) (outputs m own place (slice_get m.store.sockets place) refl))
+    by_kind _ is = ends ((apart (λ e. cc) no_children, asks_none (kind_at m.table handle)), (tt, (refl, rw is refl)))
+
+  by_children : (kind : Kind) → IsKind kind → (b : Bool) → has_no_child m.table handle ≡ b → Meets DropRow [] (drop_taken m own (if b then (Ok kind, without_handle m.table handle) else (Err (Trap HasChildren), m.table)))
+  by_children kind is true e = by_kind e kind is
+  by_children kind is false e =
+      ends (((λ same. record { live = rw is refl; children = λ none. let k : has_no_child m.table handle ≡ true = ap none_in none in cc }, λ k. refl), asks_none (kind_at m.table handle)), (tt, (refl, refl)))
+
+  by_live : (o : Option Kind) → kind_at m.table handle ≡ o → Meets DropRow [] (drop_taken m own (taken_out m.table handle o))
+  by_live None is = ends ((apart (λ e. cc) (λ h. not_live (kind_at m.table handle) is h.live), asks_none (kind_at m.table handle)), (is, refl, refl))
+  by_live (Some kind) is = by_children kind is (has_no_child m.table handle) refl
+
+  pub drop : Meets (Says contexts m line (step.Drop c handle)) [] (bind (drop_asks m own handle) (λ done. Give (answer_reply line done.0, done.1)))
+  drop = onto _ (by_live (kind_at m.table handle) refl)
+
+  -- == what a drop leaves
+  abbrev DropSays : List Entry → Reply → Machine → Type 0
+  DropSays = Outcome contexts m line (step.Drop c handle)
+
+  -- a socket with nothing under it
+  pub socket_ok : (place : ℕ) → kind_at m.table handle ≡ Some (Tcp2 place) → children_of m.table.live handle ≡ [] → (es : List Entry) (r : Reply) (after : Machine) → DropSays es r after → r ≡ reply.Ok no_fields
+  socket_ok place is free es (reply.Ok fields) after row = ap reply.Ok (no_fields_so fields row.1.0)
+  socket_ok place is free es (reply.Pending n) after row = let out : IsSome (output_of (kind_at m.table handle)) = row.1.0.0.0 in let none : IsSome {T = ℕ} None = rw is at out in absurd (cc)
+  socket_ok place is free es (reply.Trap NoSuchHandle) after row = let none : kind_at m.table handle ≡ None = row.1.0 in absurd (cc)
+  socket_ok place is free es (reply.Trap HasChildren) after row = absurd ((row.0.0.0 refl).children free)
+  socket_ok place is free es (reply.Trap Full) after row = absurd row.1.0
+  socket_ok place is free es (reply.Trap NotPermitted) after row = absurd row.1.0
+  socket_ok place is free es (reply.Err w) after row = absurd row.1.0
+  socket_ok place is free es reply.Closed after row = absurd row.1.0
+  socket_ok place is free es (reply.Failed w h) after row = absurd row.1.0.0
+  socket_ok place is free es reply.NoSuchCall after row = absurd row.1.0
+  socket_ok place is free es _ after row = absurd row.1
+
+  -- what it gave up, and what is left
+  pub record GivesUp (r : Tcp2Socket) (es : List Entry) (after : Machine) : Type 0 where
+    pub asked : es ≡ socket_given_up (own_of line) r
+    pub gone : OfRecord m handle (λ place r. IsGone after place)
+
+  pub gives_up : (r : Tcp2Socket) (es : List Entry) (after : Machine) (o : Option Kind) → kind_at m.table handle ≡ o → record_in m (place_of o) ≡ Some r → Gone m line handle o es after → GivesUp r es after
+  gives_up r es after (Some (Tcp2 place)) is at gone = let k = gone r at in record { asked = k.0; gone = record { place = place; found = r; names = ap place_of is; at = at; holds = k.1 } }
+  gives_up r es after _ is at gone = absurd (cc)
+
+  -- of the others
+  pub asks_nothing : (kind : Kind) → GoesAtOnce kind → (es : List Entry) → AsksOnce line (Some kind) es → es ≡ []
+  asks_nothing (Tcp2 place) plain es h = absurd plain
+  asks_nothing (Output place) plain es h = absurd plain
+  asks_nothing _ plain es h = h
+
+  plain_left : (kind : Kind) → GoesAtOnce kind → (es : List Entry) (after : Machine) → Gone m line handle (Some kind) es after → after ≡ without m handle
+  plain_left (Tcp2 place) plain es after h = absurd plain
+  plain_left (Output place) plain es after h = absurd plain
+  plain_left _ plain es after h = h
+
+  no_output : (kind : Kind) → GoesAtOnce kind → IsSome (output_of (Some kind)) → ⊥
+  no_output (Output place) plain some = plain
+  no_output _ plain some = cc
+
+  pub leaves : (kind : Kind) → kind_at m.table handle ≡ Some kind → GoesAtOnce kind → (es : List Entry) (r : Reply) (after : Machine) → IsDropped r → DropSays es r after → after ≡ without m handle
+  leaves kind is plain es (reply.Ok fields) after d row = plain_left kind plain es after (rw is at row.1.1.1)
+  leaves kind is plain es (reply.Pending n) after d row = absurd (no_output kind plain (rw is at row.1.0.0.0))
+  leaves kind is plain es _ after d row = absurd d
+
+  pub takes_out : (es : List Entry) (r : Reply) (after : Machine) → IsDropped r → DropSays es r after → after.table ≡ without_handle m.table handle
+  takes_out es (reply.Ok fields) after d row = row.1.1.0
+  takes_out es (reply.Pending n) after d row = row.1.1.0
+  takes_out es _ after d row = absurd d

@@ -1,5 +1,0 @@
--- Drops and shutdowns.
-pub mod DropLaws
-pub mod Drops
-pub mod GiveUps
-pub mod Shutdowns

@@ -1,3 +1,0 @@
--- Pollables, and the call that stands.
-pub mod Looks
-pub mod Polls

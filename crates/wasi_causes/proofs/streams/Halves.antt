@@ -1,0 +1,359 @@
+-- What the halves of a connection give: reads, and looks at what may be written, writes and flushes.
+use Rattle.std.proofs.Common.{◌≡◌, ◌∙◌, ℕ, min, ◌==◌, Bool, true, false, if◌then◌else◌, List, [], ◌∷◌, Result, Ok, Err, refl, ap, zero, suc, nat_lt, ◌++◌, length, sym, subst, append_assoc, arith, not, ◌&&◌, Option, Some, None, slice_get}
+use Rattle.std.proofs.lemmas.Bool.{eqb-true, ltb-true, ltb-false}
+use Rattle.std.specs.Prelude.{⊤, IsSomeAnd}
+use Rattle.wasi_addr.specs.declared.address.ShutdownType.TheVariants.{Receive, Send}
+use Rattle.wasi_addr.specs.declared.code.ErrorCode.{ErrorCode}
+use Rattle.wasi_causes.proofs.operations.Marks.{poll_marks_none}
+use Rattle.wasi_causes.proofs.streams.Routes.{failed_so, HasStreams, of_streams, streams_same, Told as TellsStream, on_stream, the_streams, job_noted, none_begun, on_write}
+use Rattle.wasi_causes.proofs.tables.Meets.{Rows, Meets, ends, asks, onto, widen, chain, branch, both}
+use Rattle.wasi_causes.proofs.tables.Routes.{Says, full_so, code_word, apart, none_has}
+use Rattle.wasi_causes.specs.Outcomes.{Outcome}
+use Rattle.wasi_host.specs.Host.{CallStop}
+use Rattle.wasi_host.specs.Jobs.{has_job, with_job, begins_job}
+use Rattle.wasi_host.specs.Machine.{input_at, own_of, output_at}
+use Rattle.wasi_host.specs.Store.{with_socket, with_reader, reader_of, flush_asks, Records, with_writer, writer_of}
+use Rattle.wasi_host.specs.StreamCalls.{read_asks, check_asks, write_asks, flushed_asks}
+use Rattle.wasi_host.specs.declared.machine.Machine.{Machine}
+use Rattle.wasi_host.specs.declared.socket.Streams.{Streams}
+use Rattle.wasi_host.specs.declared.socket.Tcp2Socket.{Tcp2Socket}
+use Rattle.wasi_walks.proofs.Lists.{marks_in-push, set_there}
+use Rattle.wasi_walks.specs.Answered.{putting, read_entry, ReadsTold, ReadsNone, LengthZero, ToldToWait, ReadsEnd, AlreadyClosed, ToldNone, ReadFails, with_error, Permits, GoesOn, NotReady, IsReady, IsUnpermitted, CheckFails, WriteFails, ErrorKept, CodeTold, output_streams, closing_writer}
+use Rattle.wasi_walks.specs.Licence.{entry, marks_in}
+use Rattle.wasi_machine.specs.Machine.{bytes_reply, permit_reply, taken_reply}
+use Rattle.wasi_steps.specs.declared.step.Step.TheVariants as step
+use Rattle.wasi_streams.specs.StreamStop.{StreamStop, Failed, Closed, Trap}
+use Rattle.wasi_streams.specs.StreamStop as stop
+use Rattle.wasi_tcp.specs.Halves.{polled_answer}
+use Rattle.wasi_tcp.specs.Job.{writer, new_job, job_after}
+use Rattle.wasi_tcp.specs.Reader.{after_read, read_state_asks}
+use Rattle.wasi_tcp.specs.Writer.{error_of_code, stop_of, collected, look_in, permitted, check_write_asks, begun, write_on_asks, write_half_asks, write_state_asks, look_asks}
+use Rattle.wasi_tcp.specs.declared.halves.TcpReceiveStream.{TcpReceiveStream}
+use Rattle.wasi_tcp.specs.declared.halves.TcpSendStream.{TcpSendStream}
+use Rattle.wasi_tcp.specs.declared.reader.ReadState.{ReadState}
+use Rattle.wasi_tcp.specs.declared.reader.ReadState.TheVariants as reading
+use Rattle.wasi_tcp.specs.declared.writer.WriteError.{WriteError}
+use Rattle.wasi_tcp.specs.declared.writer.WriteError.TheVariants as error
+use Rattle.wasi_tcp.specs.declared.writer.WriteState.{WriteState}
+use Rattle.wasi_tcp.specs.declared.writer.WriteState.TheVariants as writing
+use Rattle.wasi_world.specs.Asks.{Give, bind, Asks}
+use Rattle.wasi_world.specs.Fits.{IsRead, IsDone, IsReady as FitsReady}
+use Rattle.wasi_world.specs.Operation.{Item, Write, Front, Goes, Stays, Again, Ends, End, Waits, Done, Refused, write_front, taken_front, less_one, after, round, polls, poll_asks}
+use Rattle.wasi_world.specs.Typed.{ask_read, told_bytes, told_ready, told_taken}
+use Rattle.wasi_world.specs.declared.call.Call.TheVariants as call
+use Rattle.wasi_world.specs.declared.call.Entry.{Entry}
+use Rattle.wasi_world.specs.declared.call.Told.{Told}
+use Rattle.wasi_world.specs.declared.call.Told.TheVariants as told
+use Rattle.wasi_world.specs.declared.ids.OpId.{OpId}
+use Rattle.wasi_world.specs.declared.outcome.Answer.TheVariants.{Ready}
+use Rattle.wasi_world.specs.declared.outcome.TrapKind.TheVariants.{NotPermitted}
+use Rattle.wasi_world.specs.declared.outcome.WasiSocketsCtx.{WasiSocketsCtx}
+
+-- == of a reader
+module _ (own : OpId) (len : ℕ) where
+  abbrev pub ReadRow : ReadState → Rows (Result (List ℕ) StreamStop × ReadState)
+  ReadRow reader es (Ok [], now) = ReadsNone own len reader es × (now ≡ reader)
+  ReadRow reader es (Ok (b ∷ bytes), now) = ReadsTold own len reader (b ∷ bytes) es × (now ≡ reader)
+  ReadRow reader es (Err Closed, now) = ReadsEnd own len reader es × (now ≡ reading.Closed)
+  ReadRow reader es (Err (Failed c), now) = ReadFails own len reader c es × (now ≡ reading.Closed)
+  ReadRow reader es (Err (Trap kind), now) = ⊥
+
+  -- of an open half
+  module _ (half : TcpReceiveStream) where
+    abbrev opened : ReadState
+    opened = reading.Open half
+
+    shut : (e : Entry) (why : StreamStop) (t : Told) → IsDone t → ReadRow opened (e ∷ entry own (call.Shutdown half.side Receive) told.Done ∷ []) (Err why, reading.Closed) → ReadRow opened (e ∷ entry own (call.Shutdown half.side Receive) t ∷ []) (Err why, reading.Closed)
+    shut e why told.Done fits row = row
+    shut e why _ fits row = absurd fits
+
+    told_read : (t : Told) → IsRead (min len 65536) t → Meets (ReadRow opened) (read_entry own len half t ∷ []) (after_read own opened (polled_answer (told_bytes t)))
+    unfolding bind
+    told_read told.Pending fits = ends (ToldToWait half refl, refl)
+    told_read (told.Bytes []) fits = asks (λ t fits. ends (shut _ Closed t fits (ToldNone half refl, refl)))
+    told_read (told.Bytes (b ∷ bytes)) fits = ends (record { half = half; is_open = refl; asked = refl }, refl)
+    told_read (told.Code c) fits = asks (λ t fits. ends (shut _ (Failed c) t fits (record { half = half; is_open = refl; asked = refl }, refl)))
+    told_read _ fits = absurd fits
+
+    by_zero : (zero : Bool) → (len == 0) ≡ zero
+        → Meets (ReadRow opened) [] (if zero then Give (Ok [], opened) else bind (if zero then Give (Ok (Ready [])) else bind (ask_read own half.side (min len 65536)) (λ told. Give (polled_answer told))) (after_read own opened))
+    unfolding bind
+    by_zero true e = ends (LengthZero half refl (eqb-true len 0 e), refl)
+    by_zero false e = asks (λ t fits. told_read t fits)
+
+  reads : (reader : ReadState) → Meets (ReadRow reader) [] (read_state_asks own reader len)
+  reads (reading.Open half) = by_zero half (len == 0) refl
+  reads reading.Closed = ends (AlreadyClosed refl, refl)
+
+-- == the step
+module _ (contexts : List WasiSocketsCtx) (m : Machine) (line c input len : ℕ) where
+  abbrev ReadSays : Rows (Result (List ℕ) CallStop × Machine)
+  ReadSays es done = Outcome contexts m line (step.Read c input len) es (bytes_reply done.0) done.1
+
+  module _ (place : ℕ) (r : Tcp2Socket) (s : Streams) (n : HasStreams m (input_at m input) place r s) where
+    abbrev left_reading : ReadState → Machine
+    left_reading reader = putting m place (with_reader r s reader)
+
+    same_reading : (now : ReadState) → now ≡ s.reader → left_reading now ≡ m
+    same_reading now e = ap left_reading e ∙ streams_same n
+
+    told_as : (es : List Entry) (done : Result (List ℕ) StreamStop × ReadState) → ReadRow (own_of line) len s.reader es done → TellsStream m (own_of line) input ReadSays es done.0 (with_socket m.store place (with_reader r s done.1))
+    told_as es (Ok [], now) h = (tt, ((tt, tt), (of_streams n h.0, same_reading now h.1)))
+    told_as es (Ok (b ∷ bytes), now) h = (tt, ((tt, tt), (of_streams n h.0, same_reading now h.1)))
+    told_as es (Err Closed, now) h = (tt, (tt, of_streams n (h.0, ap left_reading h.1)))
+    told_as es (Err (Failed code), now) h = (
+      λ full. (tt, (tt, full_so m m es full refl (ap marks_in h.0.asked), tt)),
+      λ side. (tt, ((tt, code_word code), of_streams n (failed_so code es side h.0, ap (λ (reader : ReadState). with_error (left_reading reader)) h.1))),
+    )
+    told_as es (Err (Trap kind), now) h = absurd h
+
+  pub read : Meets (Says contexts m line (step.Read c input len)) [] (bind (read_asks m (own_of line) input len) (λ done. Give (bytes_reply done.0, done.1)))
+  read =
+      onto _ (on_stream m (own_of line) input ReadSays (λ s. s.reader) with_reader (input_at m input) (λ none. (tt, (none, refl, refl))) (λ reader. read_state_asks (own_of line) reader len) (λ r o. reader_of r (λ reader. read_state_asks (own_of line) reader len) o) (λ r. refl) (λ r s. refl)
+      (λ place r s n. widen (told_as place r s n) (reads (own_of line) len s.reader)) (input_at m input) refl)
+
+module _ (own : OpId) where
+  -- == a look at what may be written
+  abbrev pub CheckRow : WriteState → Rows (Result ℕ StreamStop × WriteState)
+  CheckRow writer es (Ok n, now) = Permits own writer n es
+  CheckRow writer es (Err (Failed c), now) = CheckFails (error.LastOperationFailed c) writer es × (now ≡ writing.Closed (error.LastOperationFailed c))
+  CheckRow writer es (Err Closed, now) = CheckFails error.Closed writer es × (now ≡ writing.Closed error.Closed)
+  CheckRow writer es (Err (Trap kind), now) = ⊥
+
+  told_check : (writer : WriteState) (half : TcpSendStream) (permit : ℕ) (t : Told) → collected writer ≡ writing.Ready half permit → FitsReady t → CheckRow writer (entry own (call.WriteReady half.side) t ∷ []) (permitted (Ok (told_ready t), writing.Ready half permit))
+  told_check writer half permit told.Done e fits = IsReady half permit e
+  told_check writer half permit told.Pending e fits = NotReady half permit e
+  told_check writer half permit _ e fits = absurd fits
+
+  told_kept : (writer : WriteState) (kept : WriteError) → collected writer ≡ writing.Closed kept → CheckRow writer [] (Err (stop_of kept), writing.Closed kept)
+  told_kept writer error.Closed e = ((e, refl), refl)
+  told_kept writer (error.LastOperationFailed c) e = ((e, refl), refl)
+
+  checks_as : (writer now : WriteState) → collected writer ≡ now → Meets (CheckRow writer) [] (bind (look_in own now) (λ looked. Give (permitted looked)))
+  unfolding bind
+  checks_as writer (writing.Ready half permit) e = asks (λ t fits. ends (told_check writer half permit t e fits))
+  checks_as writer (writing.Writing job) e = ends (GoesOn (rw e tt))
+  checks_as writer (writing.Closing job) e = ends (GoesOn (rw e tt))
+  checks_as writer (writing.Closed kept) e = ends (told_kept writer kept e)
+
+  pub checks : (writer : WriteState) → Meets (CheckRow writer) [] (check_write_asks own writer)
+  checks writer = checks_as writer (collected writer) refl
+
+-- == a poll of a write, which ends with a code where that was told to its last write, and the half was given up then
+module _ (own side : OpId) where
+  -- what comes of the front ask: a code was told to the last write
+  pub record WasTold (es : List Entry) (c : ErrorCode) : Type 0 where
+    pub front : List Entry
+    pub offered : ℕ
+    pub cut : es ≡ front ++ entry own (call.Write side offered) (told.Code c) ∷ []
+
+  -- and the half was given up
+  pub record WasGivenUp (es : List Entry) (c : ErrorCode) : Type 0 where
+    pub front : List Entry
+    pub offered : ℕ
+    pub cut : es ≡ front ++ entry own (call.Write side offered) (told.Code c) ∷ entry own (call.Shutdown side Send) told.Done ∷ []
+
+  abbrev FrontRow : Rows Front
+  FrontRow es (Ends c given) = WasTold es c
+  FrontRow es (Again item) = ⊥
+  FrontRow es _ = ⊤
+
+  abbrev PollRow : Rows (End × List Item)
+  PollRow es (Refused c given, items) = WasGivenUp es c
+  PollRow es _ = ⊤
+
+  taken : (es : List Entry) (offered : ℕ) (bytes : List ℕ) (item : Item) (t : Told) → ((skip : ℕ) → Meets FrontRow (es ++ entry own (call.Write side offered) t ∷ []) (write_front (writer own side) bytes skip))
+      → Meets FrontRow (es ++ entry own (call.Write side offered) t ∷ []) (taken_front (λ skip. write_front (writer own side) bytes skip) item (told_taken t))
+  taken es offered bytes item (told.Took took) h = h (less_one (length took))
+  taken es offered bytes item (told.Code c) h = ends (record { front = es; offered = offered; cut = refl })
+  taken es offered bytes item _ h = ends tt
+
+  fronts : (bytes : List ℕ) (skip : ℕ) (es : List Entry) → Meets FrontRow es (write_front (writer own side) bytes skip)
+  unfolding bind
+  fronts [] skip es = ends tt
+  fronts (b ∷ bytes) (suc skip) es = fronts bytes skip es
+  fronts (b ∷ bytes) zero es =
+      record { along = (tt, λ t fits front. (taken es (length (b ∷ bytes)) bytes (Write (b ∷ bytes)) t (λ skip. fronts bytes skip (es ++ entry own (call.Write side (length (b ∷ bytes))) t ∷ []))).along) }
+
+  given_up : (es : List Entry) (c : ErrorCode) (t : Told) → IsDone t → WasTold es c → WasGivenUp (es ++ entry own (call.Shutdown side Send) t ∷ []) c
+  given_up es c told.Done fits w = record {
+    front = w.front;
+    offered = w.offered;
+    cut = ap (λ (fs : List Entry). fs ++ entry own (call.Shutdown side Send) told.Done ∷ []) w.cut ∙ append_assoc w.front (entry own (call.Write side w.offered) (told.Code c) ∷ []) (entry own (call.Shutdown side Send) told.Done ∷ []);
+  }
+  given_up es c _ fits w = absurd fits
+
+  after_front : (again : List Item → Asks (End × List Item)) (es : List Entry) (f : Front) → FrontRow es f → Meets PollRow es (after again (writer own side) [] (λ g. round again (writer own side) g []) f)
+  unfolding bind
+  after_front again es (Goes given) h = ends tt
+  after_front again es (Stays item) h = ends tt
+  after_front again es (Again item) h = absurd h
+  after_front again es (Ends c given) h = asks (λ t fits. ends (given_up es c t fits h))
+
+  write_polls : (bytes : List ℕ) → Meets PollRow [] (poll_asks (new_job own side bytes).write)
+  unfolding polls
+  write_polls bytes = chain {Mid = FrontRow} (fronts bytes 0 []) (λ es f k. after_front (polls 63 (writer own side)) es f k)
+
+-- == a write
+-- where it is permitted or the writer is closed, it doesn't trap, and marks no handle
+abbrev pub WriteRow : OpId → ℕ → WriteState → Rows (Result (Unit {0}) StreamStop × WriteState)
+WriteRow own n writer es (Ok done, now) = (IsUnpermitted writer n → ⊥) × (marks_in es ≡ 0)
+WriteRow own n writer es (Err (Failed c), now) = (IsUnpermitted writer n → ⊥) × (marks_in es ≡ 0) × WriteFails own (error.LastOperationFailed c) writer es × (now ≡ writing.Closed (error.LastOperationFailed c))
+WriteRow own n writer es (Err Closed, now) = (IsUnpermitted writer n → ⊥) × (marks_in es ≡ 0) × WriteFails own error.Closed writer es × (now ≡ writing.Closed error.Closed)
+WriteRow own n writer es (Err (Trap NotPermitted), now) = IsUnpermitted writer n × (es ≡ []) × (now ≡ writer)
+WriteRow own n writer es (Err (Trap _), now) = ⊥
+
+module _ (own : OpId) where
+  -- with an error that the writer is closed with then
+  of_kept : (n : ℕ) (writer : WriteState) (es : List Entry) (e : WriteError) → (IsUnpermitted writer n → ⊥) → marks_in es ≡ 0 → WriteFails own e writer es → WriteRow own n writer es (Err (stop_of e), writing.Closed e)
+  of_kept n writer es error.Closed may none fails = (may, none, fails, refl)
+  of_kept n writer es (error.LastOperationFailed c) may none fails = (may, none, fails, refl)
+
+  module _ (half : TcpSendStream) (permit : ℕ) (bytes : List ℕ) (may : IsUnpermitted (writing.Ready half permit) (length bytes) → ⊥) where
+    abbrev was : WriteState
+    was = writing.Ready half permit
+
+    abbrev Row : Rows (Result (Unit {0}) StreamStop × WriteState)
+    Row = WriteRow own (length bytes) was
+
+    -- by how the poll ended, the job is collected and looked at
+    looked : (es : List Entry) (ended : End × List Item) → (marks_in es ≡ 0) × PollRow own half.side es ended → Meets Row es (bind (look_asks own (writing.Writing (job_after (writer own half.side) ended))) (λ looked. Give (begun looked)))
+    unfolding bind
+    looked es (Waits, items) k = ends (may, k.0)
+    looked es (Done given, items) k = asks (λ t fits. ends (may, let p = marks_in-push es (entry own (call.WriteReady half.side) t) in let none = k.0 in omega (arith, none)))
+    looked es (Refused c given, items) k = ends (of_kept (length bytes) was es (error_of_code c) may k.0 (subst (WriteFails own (error_of_code c) was) (sym k.1.cut) (CodeTold half permit k.1.offered c k.1.front refl)))
+
+    goes_on : Meets Row [] (write_on_asks own (writing.Writing (new_job own half.side bytes)))
+    goes_on =
+        chain {Mid = λ es turned. Meets Row es (bind (look_asks own turned.1) (λ looked. Give (begun looked)))}
+        (onto _ (onto _ (widen looked (both (record { along = poll_marks_none (new_job own half.side bytes).write }) (write_polls own half.side bytes)))))
+        (λ es turned k. k)
+
+  of_half : (half : TcpSendStream) (permit : ℕ) (bytes : List ℕ) → Meets (WriteRow own (length bytes) (writing.Ready half permit)) [] (write_half_asks own half permit bytes)
+  of_half half permit [] = ends (λ over. omega (arith, over), refl)
+  of_half half permit (b ∷ bytes) =
+      branch (nat_lt permit (length (b ∷ bytes))) (λ over. ends (ltb-true permit _ over, refl, refl)) (λ within. goes_on half permit (b ∷ bytes) (λ over. let k = ltb-false permit (length (b ∷ bytes)) within in omega (arith, k, over)))
+
+  pub writes : (bytes : List ℕ) (writer : WriteState) → Meets (WriteRow own (length bytes) writer) [] (write_state_asks own writer bytes)
+  writes bytes (writing.Ready half permit) = of_half half permit bytes
+  writes bytes (writing.Writing job) = ends (tt, refl, refl)
+  writes bytes (writing.Closing job) = ends (tt, refl, refl)
+  writes bytes (writing.Closed e) = ends (of_kept (length bytes) (writing.Closed e) [] e (λ over. over) refl ErrorKept)
+
+-- == a flush
+-- it asks nothing, and tells the kept error
+abbrev pub FlushRow : WriteState → Rows (Result (Unit {0}) StreamStop × WriteState)
+FlushRow writer es (Ok done, now) = (es ≡ []) × (now ≡ writer)
+FlushRow writer es (Err Closed, now) = (es ≡ []) × (now ≡ writer) × (writer ≡ writing.Closed error.Closed)
+FlushRow writer es (Err (Failed c), now) = (es ≡ []) × (now ≡ writer) × (writer ≡ writing.Closed (error.LastOperationFailed c))
+FlushRow writer es (Err (Trap kind), now) = ⊥
+
+pub flushes : (writer : WriteState) → Meets (FlushRow writer) [] (flush_asks writer)
+flushes (writing.Closed error.Closed) = ends (refl, refl, refl)
+flushes (writing.Closed (error.LastOperationFailed c)) = ends (refl, refl, refl)
+flushes _ = ends (refl, refl)
+
+module _ (contexts : List WasiSocketsCtx) (m : Machine) (line c output : ℕ) where
+  abbrev own : OpId
+  own = own_of line
+
+  module _ (place : ℕ) (r : Tcp2Socket) (s : Streams) (n : HasStreams m (output_at m output) place r s) where
+    abbrev left : WriteState → Machine
+    left writer = putting m place (with_writer r s writer)
+
+    -- a writer that is as it was leaves the machine so
+    same : (now : WriteState) → now ≡ s.writer → left now ≡ m
+    same now e = ap left e ∙ streams_same n
+
+  -- == a look at what may be written
+  abbrev CheckSays : Rows (Result ℕ CallStop × Machine)
+  CheckSays es done = Outcome contexts m line (step.CheckWrite c output) es (permit_reply done.0) done.1
+
+  check_so : (place : ℕ) (r : Tcp2Socket) (s : Streams) → HasStreams m (output_at m output) place r s → (es : List Entry) (done : Result ℕ StreamStop × WriteState) → CheckRow own s.writer es done
+      → TellsStream m own output CheckSays es done.0 (with_socket m.store place (with_writer r s done.1))
+  check_so place r s n es (Ok k, now) h = (tt, ((tt, tt), of_streams n h))
+  check_so place r s n es (Err stop.Closed, now) h = (tt, (tt, of_streams n (h.0, ap (left place r s n) h.1)))
+  check_so place r s n es (Err (stop.Failed code), now) h = (
+    λ full. (tt, (tt, full_so m m es full refl (ap marks_in h.0.1), tt)),
+    λ side. (tt, ((tt, code_word code), of_streams n (failed_so code es side (h.0, ap (λ (writer : WriteState). with_error (left place r s n writer)) h.1)))),
+  )
+  check_so place r s n es (Err (stop.Trap kind), now) h = absurd h
+
+  pub check_write : Meets (Says contexts m line (step.CheckWrite c output)) [] (bind (check_asks m own output) (λ done. Give (permit_reply done.0, done.1)))
+  check_write =
+      onto _ (on_stream m own output CheckSays (λ s. s.writer) with_writer (output_at m output) (λ none. (tt, (none, refl, refl))) (check_write_asks own) (λ r o. writer_of r (check_write_asks own) o) (λ r. refl) (λ r s. refl)
+      (λ place r s n. widen (check_so place r s n) (checks own s.writer)) (output_at m output) refl)
+
+  -- == a write
+  module _ (bytes : List ℕ) where
+    abbrev WriteSays : Rows (Result (Unit {0}) CallStop × Machine)
+    WriteSays es done = Outcome contexts m line (step.Write c output bytes) es (taken_reply done.0) done.1
+
+    abbrev Unpermitted : Type 0
+    Unpermitted = IsSomeAnd (output_streams m output) (λ s. IsUnpermitted s.writer (length bytes))
+
+    module _ (place : ℕ) (r : Tcp2Socket) (s : Streams) (n : HasStreams m (output_at m output) place r s) where
+      -- the machine after a write that left the writer so
+      abbrev written : WriteState → Machine
+      written now = record m { store = job_noted place (Some r) (with_socket m.store place (with_writer r s now)) }
+
+      -- a write that leaves the writer leaves the machine
+      written_same : (now : WriteState) → now ≡ s.writer → written now ≡ m
+      written_same now e =
+          ap (λ (x : Machine). let after : Machine = record m { store = job_noted place (Some r) x.store } in after) (same place r s n now e)
+          ∙ ap (λ (store : Records). let after : Machine = record m { store = store } in after) (none_begun m.store place (Some r) n.at)
+
+      and_not : (b : Bool) → (b && false) ≡ false
+      and_not true = refl
+      and_not false = refl
+
+      -- and one that closed the writer leaves no job
+      written_closed : (now : WriteState) (e : WriteError) → now ≡ writing.Closed e → written now ≡ closing_writer m place r s e
+      written_closed now e p =
+          let closed : Tcp2Socket = with_writer r s (writing.Closed e) in
+          let store : Records = with_socket m.store place closed in
+          let there : slice_get store.sockets place ≡ Some closed = set_there m.store.sockets place r closed n.at in
+          ap written p
+          ∙ ap (λ (kept : Records). let after : Machine = record m { store = kept } in after)
+          (ap (λ (o : Option Tcp2Socket). with_job store place (begins_job (Some r) o)) there ∙ ap (with_job store place) (and_not (not (has_job (Some r)))))
+
+      -- with another reply, it was permitted
+      was_permitted : (IsUnpermitted s.writer (length bytes) → ⊥) → Unpermitted → ⊥
+      was_permitted may u = let k : IsUnpermitted s.writer (length bytes) = rw (the_streams n) at u in may k
+
+      write_so : (es : List Entry) (done : Result (Unit {0}) StreamStop × WriteState) → WriteRow own (length bytes) s.writer es done → TellsStream m own output WriteSays es done.0 (job_noted place (Some r) (with_socket m.store place (with_writer r s done.1)))
+      write_so es (Ok done, now) h = (apart (λ e. cc) (was_permitted h.0), (tt, tt))
+      write_so es (Err stop.Closed, now) h = (apart (λ e. cc) (was_permitted h.0), (tt, of_streams n (h.2, written_closed now error.Closed h.3)))
+      write_so es (Err (stop.Failed code), now) h = (
+        λ full. (apart (λ e. cc) (was_permitted h.0), (tt, full_so m (written now) es full refl h.1, tt)),
+        λ side. (apart (λ e. cc) (was_permitted h.0), ((tt, code_word code), of_streams n (failed_so code es side (h.2, ap with_error (written_closed now (error.LastOperationFailed code) h.3))))),
+      )
+      write_so es (Err (stop.Trap NotPermitted), now) h = ((λ e. rw (the_streams n) h.0, λ u. refl), (tt, (h.1, written_same now h.2)))
+      write_so es (Err (stop.Trap _), now) h = absurd h
+
+    none_there : output_streams m output ≡ None → Unpermitted → ⊥
+    none_there none = none_has _ (output_streams m output) none
+
+    pub write : Meets (Says contexts m line (step.Write c output bytes)) [] (bind (write_asks m own output bytes) (λ done. Give (taken_reply done.0, done.1)))
+    write =
+        onto _ (on_write m own output WriteSays (λ s. s.writer) with_writer (output_at m output) (λ none. (apart (λ e. cc) (none_there none), (none, refl, refl))) (λ w. write_state_asks own w bytes) (λ r o. writer_of r (λ w. write_state_asks own w bytes) o) (λ r. refl) (λ r s. refl)
+        (λ place r s n. widen (write_so place r s n) (writes own bytes s.writer)) (output_at m output) refl)
+
+  -- == a flush
+  abbrev FlushSays : Rows (Result (Unit {0}) CallStop × Machine)
+  FlushSays es done = Outcome contexts m line (step.Flush c output) es (taken_reply done.0) done.1
+
+  flush_so : (place : ℕ) (r : Tcp2Socket) (s : Streams) → HasStreams m (output_at m output) place r s → (es : List Entry) (done : Result (Unit {0}) StreamStop × WriteState) → FlushRow s.writer es done
+      → TellsStream m own output FlushSays es done.0 (with_socket m.store place (with_writer r s done.1))
+  flush_so place r s n es (Ok done, now) h = (tt, (tt, (h.0, same place r s n now h.1)))
+  flush_so place r s n es (Err stop.Closed, now) h = (tt, (tt, (of_streams n h.2, (h.0, same place r s n now h.1))))
+  flush_so place r s n es (Err (stop.Failed code), now) h = (
+    λ full. (tt, (tt, full_so m m es full refl (ap marks_in h.0), tt)),
+    λ side. (tt, ((tt, code_word code), (of_streams n (failed_so code es side (h.2, h.0)), ap with_error (same place r s n now h.1)))),
+  )
+  flush_so place r s n es (Err (stop.Trap kind), now) h = absurd h
+
+  pub flush : Meets (Says contexts m line (step.Flush c output)) [] (bind (flushed_asks m own output) (λ done. Give (taken_reply done.0, done.1)))
+  flush =
+      onto _ (on_stream m own output FlushSays (λ s. s.writer) with_writer (output_at m output) (λ none. (tt, (none, refl, refl))) flush_asks (λ r o. writer_of r flush_asks o) (λ r. refl) (λ r s. refl)
+      (λ place r s n. widen (flush_so place r s n) (flushes s.writer)) (output_at m output) refl)
