@@ -22,11 +22,12 @@ use Rattle.wasi_host.specs.Store.{is_bind, is_listen}
 use Rattle.wasi_p2.specs.Pending as p2
 use Rattle.wasi_p2.specs.Tcp.{network_asks, start_bind_asks, finish_on, start_connect_asks, finish_connect_asks, local_address_on, remote_address_on, is_listening_on, address_family_on, shutdown_on, start_listen_on, accept_asks}
 use Rattle.wasi_p2.specs.Options.{get_option_on, set_option_on, set_backlog_on}
+use Rattle.wasi_steps.specs.declared.reply.Field.{Field}
 use Rattle.wasi_steps.specs.declared.reply.Reply.{Reply}
 use Rattle.wasi_steps.specs.declared.reply.Reply.TheVariants as reply
 use Rattle.wasi_steps.specs.declared.step.Step.{Step}
 use Rattle.wasi_steps.specs.declared.step.Step.TheVariants as step
-use Rattle.wasi_steps.specs.Reply.{word_of_p2, is_trap, no_fields, number_fields, pair_fields, triple_fields, bytes_fields, truth_fields, family_fields, address_values}
+use Rattle.wasi_steps.specs.Reply.{word_of_p2, is_trap, no_fields, no_values, number_fields, pair_values, triple_values, bytes_fields, truth_fields, family_fields, address_values}
 use Rattle.wasi_steps.specs.Settings.{Chosen, AnOption, TheBacklog, chosen}
 use Rattle.wasi_steps.specs.Steps.{context_of}
 
@@ -35,37 +36,34 @@ abbrev pub stop_reply : Stop → Reply
 stop_reply (Code c) = reply.Err (word_of_p2 c)
 stop_reply (Trap kind) = reply.Trap kind
 
+-- of a call, by the fields that tell what it gives
+abbrev pub reply_of : {A : Type 0} → (A → List Field) → Result A Stop → Reply
+reply_of fields (Ok value) = reply.Ok (fields value)
+reply_of fields (Err stop) = stop_reply stop
+
 abbrev pub handle_reply : Result ℕ Stop → Reply
-handle_reply (Ok h) = reply.Ok (number_fields h)
-handle_reply (Err stop) = stop_reply stop
+handle_reply = reply_of number_fields
 
 abbrev pub value_reply : Result ℕ Stop → Reply
-value_reply (Ok value) = reply.Ok (number_fields value)
-value_reply (Err stop) = stop_reply stop
+value_reply = reply_of number_fields
 
 abbrev pub done_reply : Result (Unit {0}) Stop → Reply
-done_reply (Ok done) = reply.Ok no_fields
-done_reply (Err stop) = stop_reply stop
+done_reply = reply_of no_values
 
 abbrev pub pair_reply : Result (ℕ × ℕ) Stop → Reply
-pair_reply (Ok (a, b)) = reply.Ok (pair_fields a b)
-pair_reply (Err stop) = stop_reply stop
+pair_reply = reply_of pair_values
 
 abbrev pub triple_reply : Result (ℕ × ℕ × ℕ) Stop → Reply
-triple_reply (Ok (a, b, c)) = reply.Ok (triple_fields a b c)
-triple_reply (Err stop) = stop_reply stop
+triple_reply = reply_of triple_values
 
 abbrev pub address_reply : Result IpSocketAddress Stop → Reply
-address_reply (Ok a) = reply.Ok (address_values a)
-address_reply (Err stop) = stop_reply stop
+address_reply = reply_of address_values
 
 abbrev pub truth_reply : Result Bool Stop → Reply
-truth_reply (Ok b) = reply.Ok (truth_fields b)
-truth_reply (Err stop) = stop_reply stop
+truth_reply = reply_of truth_fields
 
 abbrev pub family_reply : Result SocketAddressFamily Stop → Reply
-family_reply (Ok family) = reply.Ok (family_fields family)
-family_reply (Err stop) = stop_reply stop
+family_reply = reply_of family_fields
 
 -- of a call of a stream
 abbrev pub call_stop_reply : CallStop → Reply
@@ -73,17 +71,18 @@ call_stop_reply (Failed c e) = reply.Failed (word_of_p2 (p2_of_code c)) e
 call_stop_reply Closed = reply.Closed
 call_stop_reply (Traps kind) = reply.Trap kind
 
+abbrev pub stream_reply_of : {A : Type 0} → (A → List Field) → Result A CallStop → Reply
+stream_reply_of fields (Ok value) = reply.Ok (fields value)
+stream_reply_of fields (Err stop) = call_stop_reply stop
+
 abbrev pub bytes_reply : Result (List ℕ) CallStop → Reply
-bytes_reply (Ok bytes) = reply.Ok (bytes_fields bytes)
-bytes_reply (Err stop) = call_stop_reply stop
+bytes_reply = stream_reply_of bytes_fields
 
 abbrev pub permit_reply : Result ℕ CallStop → Reply
-permit_reply (Ok n) = reply.Ok (number_fields n)
-permit_reply (Err stop) = call_stop_reply stop
+permit_reply = stream_reply_of number_fields
 
 abbrev pub taken_reply : Result (Unit {0}) CallStop → Reply
-taken_reply (Ok done) = reply.Ok no_fields
-taken_reply (Err stop) = call_stop_reply stop
+taken_reply = stream_reply_of no_values
 
 -- a call that is pending stands under its line's number
 abbrev pub answer_reply : ℕ → Result (Answer (Unit {0})) Stop → Reply
@@ -136,29 +135,29 @@ abbrev pub first_ids : ℕ → Ids
 first_ids line = record { line = line; next_part = 1 }
 
 abbrev pub call_asks : WasiSocketsCtx → Machine → ℕ → Step → Asks (Reply × Machine)
-call_asks ctx m line (step.Network c) = bind (network_asks m (own_of line)) (λ done. Give (handle_reply done.0, done.1))
-call_asks ctx m line (step.TcpCreate c family) = bind (create_asks m (own_of line) ctx family) (λ done. Give (handle_reply done.0, done.1))
+call_asks ctx m line (step.Network c) = bind (network_asks m (own_of line)) (λ done. Give (reply_of number_fields done.0, done.1))
+call_asks ctx m line (step.TcpCreate c family) = bind (create_asks m (own_of line) ctx family) (λ done. Give (reply_of number_fields done.0, done.1))
 call_asks ctx m line (step.TcpStartBind c s n a) = bind (start_bind_asks m (own_of line) s n a) (λ done. Give (answer_reply line done.0, done.1))
-call_asks ctx m line (step.TcpFinishBind c s) = let done = finish_on is_bind m (socket_at m s) in Give (done_reply done.0, done.1)
-call_asks ctx m line (step.TcpStartConnect c s n a) = bind (start_connect_asks m (own_of line) s n a) (λ done. Give (done_reply done.0, done.1))
-call_asks ctx m line (step.TcpFinishConnect c s) = bind (finish_connect_asks m (own_of line) s) (λ done. Give (pair_reply done.0, done.1))
+call_asks ctx m line (step.TcpFinishBind c s) = let done = finish_on is_bind m (socket_at m s) in Give (reply_of no_values done.0, done.1)
+call_asks ctx m line (step.TcpStartConnect c s n a) = bind (start_connect_asks m (own_of line) s n a) (λ done. Give (reply_of no_values done.0, done.1))
+call_asks ctx m line (step.TcpFinishConnect c s) = bind (finish_connect_asks m (own_of line) s) (λ done. Give (reply_of pair_values done.0, done.1))
 call_asks ctx m line (step.TcpStartListen c s) = bind (start_listen_on m (own_of line) (socket_at m s)) (λ done. Give (answer_reply line done.0, done.1))
-call_asks ctx m line (step.TcpFinishListen c s) = let done = finish_on is_listen m (socket_at m s) in Give (done_reply done.0, done.1)
-call_asks ctx m line (step.TcpAccept c s) = bind (accept_asks m (first_ids line) s) (λ done. Give (triple_reply done.0, done.1))
-call_asks ctx m line (step.TcpLocalAddress c s) = bind (local_address_on m (own_of line) (socket_at m s)) (λ done. Give (address_reply done.0, done.1))
-call_asks ctx m line (step.TcpRemoteAddress c s) = bind (remote_address_on m (own_of line) (socket_at m s)) (λ done. Give (address_reply done.0, done.1))
-call_asks ctx m line (step.TcpIsListening c s) = Give (truth_reply (is_listening_on m (socket_at m s)), m)
-call_asks ctx m line (step.TcpAddressFamily c s) = Give (family_reply (address_family_on m (socket_at m s)), m)
-call_asks ctx m line (step.TcpGet c s option) = bind (get_option_on m (own_of line) option (socket_at m s)) (λ done. Give (value_reply done.0, done.1))
-call_asks ctx m line (step.TcpSet c s setting) = bind (set_chosen m (own_of line) (socket_at m s) (chosen setting)) (λ done. Give (done_reply done.0, done.1))
-call_asks ctx m line (step.Read c input len) = bind (read_asks m (own_of line) input len) (λ done. Give (bytes_reply done.0, done.1))
-call_asks ctx m line (step.CheckWrite c output) = bind (check_asks m (own_of line) output) (λ done. Give (permit_reply done.0, done.1))
-call_asks ctx m line (step.Write c output bytes) = bind (write_asks m (own_of line) output bytes) (λ done. Give (taken_reply done.0, done.1))
-call_asks ctx m line (step.Flush c output) = bind (flushed_asks m (own_of line) output) (λ done. Give (taken_reply done.0, done.1))
-call_asks ctx m line (step.Subscribe c h) = bind (subscribe_asks m (own_of line) h) (λ done. Give (handle_reply done.0, done.1))
-call_asks ctx m line (step.Ready c p) = bind (ready_asks m (first_ids line) p) (λ done. Give (truth_reply done.0, done.1))
+call_asks ctx m line (step.TcpFinishListen c s) = let done = finish_on is_listen m (socket_at m s) in Give (reply_of no_values done.0, done.1)
+call_asks ctx m line (step.TcpAccept c s) = bind (accept_asks m (first_ids line) s) (λ done. Give (reply_of triple_values done.0, done.1))
+call_asks ctx m line (step.TcpLocalAddress c s) = bind (local_address_on m (own_of line) (socket_at m s)) (λ done. Give (reply_of address_values done.0, done.1))
+call_asks ctx m line (step.TcpRemoteAddress c s) = bind (remote_address_on m (own_of line) (socket_at m s)) (λ done. Give (reply_of address_values done.0, done.1))
+call_asks ctx m line (step.TcpIsListening c s) = Give (reply_of truth_fields (is_listening_on m (socket_at m s)), m)
+call_asks ctx m line (step.TcpAddressFamily c s) = Give (reply_of family_fields (address_family_on m (socket_at m s)), m)
+call_asks ctx m line (step.TcpGet c s option) = bind (get_option_on m (own_of line) option (socket_at m s)) (λ done. Give (reply_of number_fields done.0, done.1))
+call_asks ctx m line (step.TcpSet c s setting) = bind (set_chosen m (own_of line) (socket_at m s) (chosen setting)) (λ done. Give (reply_of no_values done.0, done.1))
+call_asks ctx m line (step.Read c input len) = bind (read_asks m (own_of line) input len) (λ done. Give (stream_reply_of bytes_fields done.0, done.1))
+call_asks ctx m line (step.CheckWrite c output) = bind (check_asks m (own_of line) output) (λ done. Give (stream_reply_of number_fields done.0, done.1))
+call_asks ctx m line (step.Write c output bytes) = bind (write_asks m (own_of line) output bytes) (λ done. Give (stream_reply_of no_values done.0, done.1))
+call_asks ctx m line (step.Flush c output) = bind (flushed_asks m (own_of line) output) (λ done. Give (stream_reply_of no_values done.0, done.1))
+call_asks ctx m line (step.Subscribe c h) = bind (subscribe_asks m (own_of line) h) (λ done. Give (reply_of number_fields done.0, done.1))
+call_asks ctx m line (step.Ready c p) = bind (ready_asks m (first_ids line) p) (λ done. Give (reply_of truth_fields done.0, done.1))
 call_asks ctx m line (step.Drop c h) = bind (drop_asks m (own_of line) h) (λ done. Give (answer_reply line done.0, done.1))
-call_asks ctx m line (step.TcpShutdown c s how) = bind (shutdown_on m (own_of line) how (socket_at m s)) (λ done. Give (done_reply done.0, done.1))
+call_asks ctx m line (step.TcpShutdown c s how) = bind (shutdown_on m (own_of line) how (socket_at m s)) (λ done. Give (reply_of no_values done.0, done.1))
 call_asks ctx m line step.Turn = bind (turn_machine_asks m) (λ done. Give (reply.Ok no_fields, done.1))
 call_asks ctx m line (step.Poll n) = poll_asks m n
 

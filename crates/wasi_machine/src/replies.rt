@@ -2,108 +2,44 @@
 
 ghost use Rattle.std.specs.Prelude.{◌≡◌, IfOk, IsOkAnd};
 ghost use Rattle.wasi_host.specs.Host.{host_outcome, call_outcome, IsStop, IsCallStop};
-ghost use Rattle.wasi_machine.specs.Machine.{handle_reply, value_reply, done_reply, answer_reply, pair_reply, triple_reply, address_reply, truth_reply, family_reply, stop_reply, bytes_reply, permit_reply, taken_reply, call_stop_reply, outcome_reply, resumed_reply};
+ghost use Rattle.wasi_machine.specs.Machine.{reply_of, stream_reply_of, answer_reply, stop_reply, call_stop_reply, outcome_reply, resumed_reply};
 
 use std::alloc::{AllocError, Global};
-use wasi_addr::{IpSocketAddress, SocketAddressFamily, p2};
+use wasi_addr::p2;
 use wasi_host::{CallError, Outcome, SocketError};
-use wasi_steps::{CodeWord, Reply};
-use wasi_world::{Answer, Handle, Octets};
+use wasi_steps::{CodeWord, IntoFields, Reply};
+use wasi_world::Answer;
 
-/// The reply of a call that makes a handle.
-pub fn handle_reply(alloc: Global, made: Result<Handle, SocketError>) -> Result<Reply, AllocError>
-    ensures { IfOk result (λ reply. IsOkAnd (host_outcome made) (λ x. reply ≡ handle_reply x)) }
+/// `ok` with the fields that tell this.
+fn ok<T: IntoFields>(alloc: Global, value: T) -> Result<Reply, AllocError>
+    ensures { IfOk result (λ reply. reply ≡ Reply.Ok (T.fields value)) }
 {
-    match made {
-        Ok(handle) => Reply::number(alloc, u64::from(handle)),
-        Err(error) => stop_reply(error),
-    }
+    Ok(Reply::Ok(value.into_fields(alloc)?))
 }
 
-/// The reply of a call that tells a number.
-pub fn value_reply(alloc: Global, told: Result<u64, SocketError>) -> Result<Reply, AllocError>
-    ensures { IfOk result (λ reply. IsOkAnd (host_outcome told) (λ x. reply ≡ value_reply x)) }
-{
-    match told {
-        Ok(value) => Reply::number(alloc, value),
-        Err(error) => stop_reply(error),
-    }
-}
-
-/// The reply of a call that gives nothing.
-pub fn done_reply(alloc: Global, done: Result<(), SocketError>) -> Result<Reply, AllocError>
-    ensures { IfOk result (λ reply. IsOkAnd (host_outcome done) (λ x. reply ≡ done_reply x)) }
-{
-    match done {
-        Ok(()) => Ok(Reply::done(alloc)),
-        Err(error) => stop_reply(error),
-    }
-}
-
-/// The reply of a call that makes two handles.
-pub fn pair_reply(
+/// The reply of a call, by what it gives.
+pub fn reply_of<T: IntoFields>(
     alloc: Global,
-    made: Result<(Handle, Handle), SocketError>,
+    answer: Result<T, SocketError>,
 ) -> Result<Reply, AllocError>
-    ensures { IfOk result (λ reply. IsOkAnd (host_outcome made) (λ x. reply ≡ pair_reply x)) }
+    ensures { IfOk result (λ reply. IsOkAnd (host_outcome answer) (λ x. reply ≡ reply_of T.fields x)) }
 {
-    match made {
-        Ok((first, second)) => Reply::pair(alloc, u64::from(first), u64::from(second)),
+    match answer {
+        Ok(value) => ok(alloc, value),
         Err(error) => stop_reply(error),
     }
 }
 
-/// The reply of a call that makes three handles.
-pub fn triple_reply(
+/// The reply of a call of a stream, by what it gives.
+pub fn stream_reply_of<T: IntoFields>(
     alloc: Global,
-    made: Result<(Handle, Handle, Handle), SocketError>,
+    answer: Result<T, CallError>,
 ) -> Result<Reply, AllocError>
-    ensures { IfOk result (λ reply. IsOkAnd (host_outcome made) (λ x. reply ≡ triple_reply x)) }
+    ensures { IfOk result (λ reply. IsOkAnd (call_outcome answer) (λ x. reply ≡ stream_reply_of T.fields x)) }
 {
-    match made {
-        Ok((first, second, third)) => Reply::triple(
-            alloc,
-            u64::from(first),
-            u64::from(second),
-            u64::from(third),
-        ),
-        Err(error) => stop_reply(error),
-    }
-}
-
-/// The reply of a call that tells an address.
-pub fn address_reply(
-    alloc: Global,
-    told: Result<IpSocketAddress, SocketError>,
-) -> Result<Reply, AllocError>
-    ensures { IfOk result (λ reply. IsOkAnd (host_outcome told) (λ x. reply ≡ address_reply x)) }
-{
-    match told {
-        Ok(addr) => Reply::address(alloc, addr),
-        Err(error) => stop_reply(error),
-    }
-}
-
-/// The reply of a call that says whether something holds.
-pub fn truth_reply(alloc: Global, told: Result<bool, SocketError>) -> Result<Reply, AllocError>
-    ensures { IfOk result (λ reply. IsOkAnd (host_outcome told) (λ x. reply ≡ truth_reply x)) }
-{
-    match told {
-        Ok(truth) => Reply::truth(alloc, truth),
-        Err(error) => stop_reply(error),
-    }
-}
-
-/// The reply of a call that tells a family.
-pub fn family_reply(
-    alloc: Global,
-    told: Result<SocketAddressFamily, SocketError>,
-) -> Result<Reply, AllocError>
-    ensures { IfOk result (λ reply. IsOkAnd (host_outcome told) (λ x. reply ≡ family_reply x)) }
-{
-    match told {
-        Ok(family) => Reply::family(alloc, family),
-        Err(error) => stop_reply(error),
+    match answer {
+        Ok(value) => ok(alloc, value),
+        Err(error) => call_stop_reply(error),
     }
 }
 
@@ -130,36 +66,6 @@ pub fn stop_reply(error: SocketError) -> Result<Reply, AllocError>
         SocketError::Code(code) => Ok(Reply::Err(CodeWord::from_p2(code))),
         SocketError::Trap(kind) => Ok(Reply::Trap(kind)),
         SocketError::Memory(e) => Err(e),
-    }
-}
-
-/// The reply of a call that reads.
-pub fn bytes_reply(alloc: Global, read: Result<Octets, CallError>) -> Result<Reply, AllocError>
-    ensures { IfOk result (λ reply. IsOkAnd (call_outcome read) (λ x. reply ≡ bytes_reply x)) }
-{
-    match read {
-        Ok(bytes) => Reply::bytes(alloc, bytes),
-        Err(error) => call_stop_reply(error),
-    }
-}
-
-/// The reply of a call that permits a number of bytes.
-pub fn permit_reply(alloc: Global, permit: Result<u64, CallError>) -> Result<Reply, AllocError>
-    ensures { IfOk result (λ reply. IsOkAnd (call_outcome permit) (λ x. reply ≡ permit_reply x)) }
-{
-    match permit {
-        Ok(bytes) => Reply::number(alloc, bytes),
-        Err(error) => call_stop_reply(error),
-    }
-}
-
-/// The reply of a call of a stream that gives nothing.
-pub fn taken_reply(alloc: Global, taken: Result<(), CallError>) -> Result<Reply, AllocError>
-    ensures { IfOk result (λ reply. IsOkAnd (call_outcome taken) (λ x. reply ≡ taken_reply x)) }
-{
-    match taken {
-        Ok(()) => Ok(Reply::done(alloc)),
-        Err(error) => call_stop_reply(error),
     }
 }
 

@@ -13,9 +13,7 @@ ghost use Rattle.wasi_steps.specs.Steps.{context_of};
 use std::alloc::{AllocError, Global};
 use wasi_host::{Kind, Machine, Outcome, SocketError, Store, WasiSocketsCtxView, of_fault};
 use wasi_machine::replies::{
-    address_reply, answer_reply, bytes_reply, done_reply, family_reply, handle_reply,
-    outcome_reply, pair_reply, permit_reply, resumed_reply, stop_reply, taken_reply, triple_reply,
-    truth_reply, value_reply,
+    answer_reply, outcome_reply, reply_of, resumed_reply, stop_reply, stream_reply_of,
 };
 use wasi_p2::tcp;
 use wasi_steps::{Reply, Step, TcpSetting};
@@ -91,11 +89,11 @@ fn call<W: World>(
     match step {
         Step::Network { .. } => {
             let made = wasi_p2::instance_network(view, world, ids);
-            handle_reply(alloc, made)
+            reply_of(alloc, made)
         }
         Step::TcpCreate { family, .. } => {
             let made = tcp::create_tcp_socket(view, world, ids, family);
-            handle_reply(alloc, made)
+            reply_of(alloc, made)
         }
         Step::TcpStartBind {
             socket,
@@ -108,7 +106,7 @@ fn call<W: World>(
         }
         Step::TcpFinishBind { socket, .. } => {
             let done = tcp::finish_bind(view, world, ids, socket);
-            done_reply(alloc, done)
+            reply_of(alloc, done)
         }
         Step::TcpStartConnect {
             socket,
@@ -117,11 +115,11 @@ fn call<W: World>(
             ..
         } => {
             let done = tcp::start_connect(view, world, ids, socket, network, addr);
-            done_reply(alloc, done)
+            reply_of(alloc, done)
         }
         Step::TcpFinishConnect { socket, .. } => {
             let made = tcp::finish_connect(view, world, ids, socket);
-            pair_reply(alloc, made)
+            reply_of(alloc, made)
         }
         Step::TcpStartListen { socket, .. } => {
             let answer = tcp::start_listen(view, world, ids, socket);
@@ -129,31 +127,31 @@ fn call<W: World>(
         }
         Step::TcpFinishListen { socket, .. } => {
             let done = tcp::finish_listen(view, world, ids, socket);
-            done_reply(alloc, done)
+            reply_of(alloc, done)
         }
         Step::TcpAccept { socket, .. } => {
             let made = tcp::accept(view, world, ids, socket);
-            triple_reply(alloc, made)
+            reply_of(alloc, made)
         }
         Step::TcpLocalAddress { socket, .. } => {
             let told = tcp::local_address(view, world, ids, socket);
-            address_reply(alloc, told)
+            reply_of(alloc, told)
         }
         Step::TcpRemoteAddress { socket, .. } => {
             let told = tcp::remote_address(view, world, ids, socket);
-            address_reply(alloc, told)
+            reply_of(alloc, told)
         }
         Step::TcpIsListening { socket, .. } => {
             let told = tcp::is_listening(view, world, ids, socket);
-            truth_reply(alloc, told)
+            reply_of(alloc, told)
         }
         Step::TcpAddressFamily { socket, .. } => {
             let told = tcp::address_family(view, world, ids, socket);
-            family_reply(alloc, told)
+            reply_of(alloc, told)
         }
         Step::TcpGet { socket, option, .. } => {
             let told = tcp::get_option(view, world, ids, socket, option);
-            value_reply(alloc, told)
+            reply_of(alloc, told)
         }
         Step::TcpSet {
             socket,
@@ -161,35 +159,35 @@ fn call<W: World>(
             ..
         } => {
             let done = set(view, world, ids, socket, setting);
-            done_reply(alloc, done)
+            reply_of(alloc, done)
         }
         Step::TcpShutdown { socket, how, .. } => {
             let done = tcp::shutdown(view, world, ids, socket, how);
-            done_reply(alloc, done)
+            reply_of(alloc, done)
         }
         Step::Read { input, len, .. } => {
             let read = wasi_host::read(alloc, view, world, ids, input, len);
-            bytes_reply(alloc, read)
+            stream_reply_of(alloc, read)
         }
         Step::CheckWrite { output, .. } => {
             let permit = wasi_host::check_write(view, world, ids, output);
-            permit_reply(alloc, permit)
+            stream_reply_of(alloc, permit)
         }
         Step::Write { output, bytes, .. } => {
             let written = wasi_host::write(view, world, ids, output, bytes);
-            taken_reply(alloc, written)
+            stream_reply_of(alloc, written)
         }
         Step::Flush { output, .. } => {
             let flushed = wasi_host::flush(view, world, ids, output);
-            taken_reply(alloc, flushed)
+            stream_reply_of(alloc, flushed)
         }
         Step::Subscribe { handle, .. } => {
             let made = wasi_host::subscribe(view, world, ids, handle);
-            handle_reply(alloc, of_fault(made))
+            reply_of(alloc, of_fault(made))
         }
         Step::Ready { pollable, .. } => {
             let ready = wasi_host::ready(view, world, ids, pollable);
-            truth_reply(alloc, of_fault(ready))
+            reply_of(alloc, of_fault(ready))
         }
         Step::Drop { handle, .. } => {
             let answer = wasi_host::drop_handle(view, world, ids, handle);

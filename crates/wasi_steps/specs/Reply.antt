@@ -44,6 +44,10 @@ is_trap _ = false
 abbrev pub no_fields : List Field
 no_fields = []
 
+-- of a call that gives nothing
+abbrev pub no_values : Unit {0} → List Field
+no_values done = no_fields
+
 abbrev pub number_fields : ℕ → List Field
 number_fields n = Number n ∷ []
 
@@ -54,6 +58,13 @@ pair_fields a b = Number a ∷ Number b ∷ []
 -- the socket that was accepted, and its two streams
 abbrev pub triple_fields : ℕ → ℕ → ℕ → List Field
 triple_fields a b c = Number a ∷ Number b ∷ Number c ∷ []
+
+-- the same of values that stand together
+abbrev pub pair_values : ℕ × ℕ → List Field
+pair_values (a, b) = pair_fields a b
+
+abbrev pub triple_values : ℕ × ℕ × ℕ → List Field
+triple_values (a, b, c) = triple_fields a b c
 
 abbrev pub bytes_fields : List ℕ → List Field
 bytes_fields bytes = Bytes bytes ∷ []

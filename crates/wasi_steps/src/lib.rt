@@ -1,11 +1,13 @@
 //! The steps of a script and their replies: how they are written and read, and, in specs/, what a machine does with them.
 #![tactic(auto)]
 
+pub mod fields;
 pub mod parse;
 pub mod reply;
 pub mod setting;
 pub mod step;
 
+pub use fields::IntoFields;
 pub use reply::{CodeWord, Field, Reply, ReplyFields};
 pub use setting::TcpSetting;
 pub use step::Step;

@@ -5,13 +5,13 @@ ghost use Rattle.wasi_world.specs.Fields.{line_with};
 ghost use Rattle.wasi_steps.specs.declared.reply.Reply.{Reply};
 ghost use Rattle.wasi_steps.specs.declared.step.Step.{Step};
 ghost use Rattle.wasi_steps.specs.Replies.{Gives, code_text, trap_text, field_text, fields_of_reply, text_of};
-ghost use Rattle.wasi_steps.specs.Reply.{word_of_p2, is_trap, no_fields, number_fields, pair_fields, triple_fields, bytes_fields, truth_fields, family_fields, address_values};
+ghost use Rattle.wasi_steps.specs.Reply.{word_of_p2, is_trap, no_fields};
 
 use std::alloc::{AllocError, Global};
 use std::fmt;
 use std::fmt::Write;
 use std::marker::Model;
-use wasi_addr::{IpSocketAddress, Ipv4SocketAddress, Ipv6SocketAddress, SocketAddressFamily, p2};
+use wasi_addr::p2;
 use wasi_world::fields::push_octets;
 use wasi_world::{Handle, Octets, TrapKind};
 
@@ -158,106 +158,6 @@ impl Reply {
     {
         Reply::Ok(ReplyFields::from_vec(Vec::new(alloc)))
     }
-
-    /// `ok` with a number.
-    pub fn number(alloc: Global, number: u64) -> Result<Reply, AllocError>
-        ensures { IfOk result (λ reply. reply ≡ Reply.Ok (number_fields number)) }
-    {
-        let fields = vec![in alloc; Field::Number(number)]?;
-        Ok(Reply::Ok(ReplyFields::from_vec(fields)))
-    }
-
-    /// `ok` with two numbers.
-    pub fn pair(alloc: Global, a: u64, b: u64) -> Result<Reply, AllocError>
-        ensures { IfOk result (λ reply. reply ≡ Reply.Ok (pair_fields a b)) }
-    {
-        let fields = vec![in alloc; Field::Number(a), Field::Number(b)]?;
-        Ok(Reply::Ok(ReplyFields::from_vec(fields)))
-    }
-
-    /// `ok` with three numbers.
-    pub fn triple(alloc: Global, a: u64, b: u64, c: u64) -> Result<Reply, AllocError>
-        ensures { IfOk result (λ reply. reply ≡ Reply.Ok (triple_fields a b c)) }
-    {
-        let fields = vec![in alloc; Field::Number(a), Field::Number(b), Field::Number(c)]?;
-        Ok(Reply::Ok(ReplyFields::from_vec(fields)))
-    }
-
-    /// `ok` with bytes.
-    pub fn bytes(alloc: Global, bytes: Octets) -> Result<Reply, AllocError>
-        ensures { IfOk result (λ reply. reply ≡ Reply.Ok (bytes_fields bytes)) }
-    {
-        let fields = vec![in alloc; Field::Bytes(bytes)]?;
-        Ok(Reply::Ok(ReplyFields::from_vec(fields)))
-    }
-
-    /// `ok` with `true` or `false`.
-    pub fn truth(alloc: Global, truth: bool) -> Result<Reply, AllocError>
-        ensures { IfOk result (λ reply. reply ≡ Reply.Ok (truth_fields truth)) }
-    {
-        let field = if truth { Field::True } else { Field::False };
-        let fields = vec![in alloc; field]?;
-        Ok(Reply::Ok(ReplyFields::from_vec(fields)))
-    }
-
-    /// `ok` with a family: 4 or 6.
-    pub fn family(alloc: Global, family: SocketAddressFamily) -> Result<Reply, AllocError>
-        ensures { IfOk result (λ reply. reply ≡ Reply.Ok (family_fields family)) }
-    {
-        match family {
-            SocketAddressFamily::Ipv4 => Reply::number(alloc, 4),
-            SocketAddressFamily::Ipv6 => Reply::number(alloc, 6),
-        }
-    }
-
-    /// `ok` with an address: its family, its bytes or segments, its port, and in IPv6 its flow and its scope.
-    pub fn address(alloc: Global, address: IpSocketAddress) -> Result<Reply, AllocError>
-        ensures { IfOk result (λ reply. reply ≡ Reply.Ok (address_values address)) }
-    {
-        let fields = match address {
-            IpSocketAddress::Ipv4(address) => ipv4_fields(alloc, address)?,
-            IpSocketAddress::Ipv6(address) => ipv6_fields(alloc, address)?,
-        };
-        Ok(Reply::Ok(ReplyFields::from_vec(fields)))
-    }
-}
-
-/// The fields of an IPv4 address.
-fn ipv4_fields(alloc: Global, address: Ipv4SocketAddress) -> Result<Vec<Field>, AllocError>
-    ensures { IfOk result (λ fields. fields.items ≡ address_values (IpSocketAddress.Ipv4 address)) }
-{
-    let (a, b, c, d) = address.address;
-    let fields = vec![in alloc;
-        Field::Number(4),
-        Field::Number(u64::from(a)),
-        Field::Number(u64::from(b)),
-        Field::Number(u64::from(c)),
-        Field::Number(u64::from(d)),
-        Field::Number(u64::from(address.port)),
-    ]?;
-    Ok(fields)
-}
-
-/// The fields of an IPv6 address.
-fn ipv6_fields(alloc: Global, address: Ipv6SocketAddress) -> Result<Vec<Field>, AllocError>
-    ensures { IfOk result (λ fields. fields.items ≡ address_values (IpSocketAddress.Ipv6 address)) }
-{
-    let (a, b, c, d, e, f, g, h) = address.address;
-    let fields = vec![in alloc;
-        Field::Number(6),
-        Field::Number(u64::from(a)),
-        Field::Number(u64::from(b)),
-        Field::Number(u64::from(c)),
-        Field::Number(u64::from(d)),
-        Field::Number(u64::from(e)),
-        Field::Number(u64::from(f)),
-        Field::Number(u64::from(g)),
-        Field::Number(u64::from(h)),
-        Field::Number(u64::from(address.port)),
-        Field::Number(u64::from(address.flow_info)),
-        Field::Number(u64::from(address.scope_id)),
-    ]?;
-    Ok(fields)
 }
 
 /// The word of a code: its name, in lower case and with dashes.

@@ -1,73 +1,74 @@
 use Rattle.std.proofs.Common.{refl}
 use Rattle.wasi_world.proofs.Walks.{asks_answered, given_answered, asks_end, asks_exit}
-use Rattle.wasi_machine.specs.Machine.{handle_reply, answer_reply, done_reply, pair_reply, triple_reply, address_reply, truth_reply, family_reply, value_reply, bytes_reply, permit_reply, taken_reply}
+use Rattle.wasi_machine.specs.Machine.{reply_of, stream_reply_of, answer_reply}
+use Rattle.wasi_steps.specs.Reply.{no_values, number_fields, pair_values, triple_values, bytes_fields, truth_fields, family_fields, address_values}
 use Rattle.wasi_session.proofs.calls.call.Goals as goal
 
 pub returns-in-Network-clause-asked : goal.returns-in-Network-clause-asked
-returns-in-Network-clause-asked g c = rw c.in-Network.is (asks_answered handle_reply _ _ c.instance_network-made.ensures.asked c.handle_reply.ensures)
+returns-in-Network-clause-asked g c = rw c.in-Network.is (asks_answered (reply_of number_fields) _ _ c.instance_network-made.ensures.asked c.reply_of.ensures)
 
 pub returns-in-TcpCreate-clause-asked : goal.returns-in-TcpCreate-clause-asked
-returns-in-TcpCreate-clause-asked g c = rw c.in-TcpCreate.is (asks_answered handle_reply _ _ c.create_tcp_socket-made.ensures.asked c.handle_reply-in-TcpCreate.ensures)
+returns-in-TcpCreate-clause-asked g c = rw c.in-TcpCreate.is (asks_answered (reply_of number_fields) _ _ c.create_tcp_socket-made.ensures.asked c.reply_of-in-TcpCreate.ensures)
 
 pub returns-in-TcpStartBind-clause-asked : goal.returns-in-TcpStartBind-clause-asked
 returns-in-TcpStartBind-clause-asked g c = rw c.in-TcpStartBind.is (asks_answered (answer_reply c.args.ids.now.line) _ _ c.start_bind-answer.ensures.asked (rw c.start_bind-answer.ensures.ids at c.answer_reply.ensures))
 
 pub returns-in-TcpFinishBind-clause-asked : goal.returns-in-TcpFinishBind-clause-asked
-returns-in-TcpFinishBind-clause-asked g c = rw (c.in-TcpFinishBind.is, c.finish_bind-done.ensures.state, c.finish_bind-done.ensures.quiet) (given_answered done_reply _ _ _ c.finish_bind-done.ensures.answer c.done_reply.ensures)
+returns-in-TcpFinishBind-clause-asked g c = rw (c.in-TcpFinishBind.is, c.finish_bind-done.ensures.state, c.finish_bind-done.ensures.quiet) (given_answered (reply_of no_values) _ _ _ c.finish_bind-done.ensures.answer c.reply_of-in-TcpFinishBind.ensures)
 
 pub returns-in-TcpStartConnect-clause-asked : goal.returns-in-TcpStartConnect-clause-asked
-returns-in-TcpStartConnect-clause-asked g c = rw c.in-TcpStartConnect.is (asks_answered done_reply _ _ c.start_connect-done.ensures.asked c.done_reply-in-TcpStartConnect.ensures)
+returns-in-TcpStartConnect-clause-asked g c = rw c.in-TcpStartConnect.is (asks_answered (reply_of no_values) _ _ c.start_connect-done.ensures.asked c.reply_of-in-TcpStartConnect.ensures)
 
 pub returns-in-TcpFinishConnect-clause-asked : goal.returns-in-TcpFinishConnect-clause-asked
-returns-in-TcpFinishConnect-clause-asked g c = rw c.in-TcpFinishConnect.is (asks_answered pair_reply _ _ c.finish_connect-made.ensures.asked c.pair_reply.ensures)
+returns-in-TcpFinishConnect-clause-asked g c = rw c.in-TcpFinishConnect.is (asks_answered (reply_of pair_values) _ _ c.finish_connect-made.ensures.asked c.reply_of-in-TcpFinishConnect.ensures)
 
 pub returns-in-TcpStartListen-clause-asked : goal.returns-in-TcpStartListen-clause-asked
 returns-in-TcpStartListen-clause-asked g c = rw c.in-TcpStartListen.is (asks_answered (answer_reply c.args.ids.now.line) _ _ c.start_listen-answer.ensures.asked (rw c.start_listen-answer.ensures.ids at c.answer_reply-in-TcpStartListen.ensures))
 
 pub returns-in-TcpFinishListen-clause-asked : goal.returns-in-TcpFinishListen-clause-asked
-returns-in-TcpFinishListen-clause-asked g c = rw (c.in-TcpFinishListen.is, c.finish_listen-done.ensures.state, c.finish_listen-done.ensures.quiet) (given_answered done_reply _ _ _ c.finish_listen-done.ensures.answer c.done_reply-in-TcpFinishListen.ensures)
+returns-in-TcpFinishListen-clause-asked g c = rw (c.in-TcpFinishListen.is, c.finish_listen-done.ensures.state, c.finish_listen-done.ensures.quiet) (given_answered (reply_of no_values) _ _ _ c.finish_listen-done.ensures.answer c.reply_of-in-TcpFinishListen.ensures)
 
 pub returns-in-TcpAccept-clause-asked : goal.returns-in-TcpAccept-clause-asked
-returns-in-TcpAccept-clause-asked g c = rw c.in-TcpAccept.is (asks_answered triple_reply _ _ (rw c.requires.first at c.accept-made.ensures.asked) c.triple_reply.ensures)
+returns-in-TcpAccept-clause-asked g c = rw c.in-TcpAccept.is (asks_answered (reply_of triple_values) _ _ (rw c.requires.first at c.accept-made.ensures.asked) c.reply_of-in-TcpAccept.ensures)
 
 pub returns-in-TcpLocalAddress-clause-asked : goal.returns-in-TcpLocalAddress-clause-asked
-returns-in-TcpLocalAddress-clause-asked g c = rw c.in-TcpLocalAddress.is (asks_answered address_reply _ _ c.local_address-told.ensures.asked c.address_reply.ensures)
+returns-in-TcpLocalAddress-clause-asked g c = rw c.in-TcpLocalAddress.is (asks_answered (reply_of address_values) _ _ c.local_address-told.ensures.asked c.reply_of-in-TcpLocalAddress.ensures)
 
 pub returns-in-TcpRemoteAddress-clause-asked : goal.returns-in-TcpRemoteAddress-clause-asked
-returns-in-TcpRemoteAddress-clause-asked g c = rw c.in-TcpRemoteAddress.is (asks_answered address_reply _ _ c.remote_address-told.ensures.asked c.address_reply-in-TcpRemoteAddress.ensures)
+returns-in-TcpRemoteAddress-clause-asked g c = rw c.in-TcpRemoteAddress.is (asks_answered (reply_of address_values) _ _ c.remote_address-told.ensures.asked c.reply_of-in-TcpRemoteAddress.ensures)
 
 pub returns-in-TcpIsListening-clause-asked : goal.returns-in-TcpIsListening-clause-asked
-returns-in-TcpIsListening-clause-asked g c = rw (c.in-TcpIsListening.is, c.is_listening-told.ensures.state, c.is_listening-told.ensures.quiet) (given_answered truth_reply _ _ _ c.is_listening-told.ensures.answer c.truth_reply.ensures)
+returns-in-TcpIsListening-clause-asked g c = rw (c.in-TcpIsListening.is, c.is_listening-told.ensures.state, c.is_listening-told.ensures.quiet) (given_answered (reply_of truth_fields) _ _ _ c.is_listening-told.ensures.answer c.reply_of-in-TcpIsListening.ensures)
 
 pub returns-in-TcpAddressFamily-clause-asked : goal.returns-in-TcpAddressFamily-clause-asked
-returns-in-TcpAddressFamily-clause-asked g c = rw (c.in-TcpAddressFamily.is, c.address_family-told.ensures.state, c.address_family-told.ensures.quiet) (given_answered family_reply _ _ _ c.address_family-told.ensures.answer c.family_reply.ensures)
+returns-in-TcpAddressFamily-clause-asked g c = rw (c.in-TcpAddressFamily.is, c.address_family-told.ensures.state, c.address_family-told.ensures.quiet) (given_answered (reply_of family_fields) _ _ _ c.address_family-told.ensures.answer c.reply_of-in-TcpAddressFamily.ensures)
 
 pub returns-in-TcpGet-clause-asked : goal.returns-in-TcpGet-clause-asked
-returns-in-TcpGet-clause-asked g c = rw c.in-TcpGet.is (asks_answered value_reply _ _ c.get_option-told.ensures.asked c.value_reply.ensures)
+returns-in-TcpGet-clause-asked g c = rw c.in-TcpGet.is (asks_answered (reply_of number_fields) _ _ c.get_option-told.ensures.asked c.reply_of-in-TcpGet.ensures)
 
 pub returns-in-TcpSet-clause-asked : goal.returns-in-TcpSet-clause-asked
-returns-in-TcpSet-clause-asked g c = rw c.in-TcpSet.is (asks_answered done_reply _ _ c.set-done.ensures.asked c.done_reply-in-TcpSet.ensures)
+returns-in-TcpSet-clause-asked g c = rw c.in-TcpSet.is (asks_answered (reply_of no_values) _ _ c.set-done.ensures.asked c.reply_of-in-TcpSet.ensures)
 
 pub returns-in-TcpShutdown-clause-asked : goal.returns-in-TcpShutdown-clause-asked
-returns-in-TcpShutdown-clause-asked g c = rw c.in-TcpShutdown.is (asks_answered done_reply _ _ c.shutdown-done.ensures.asked c.done_reply-in-TcpShutdown.ensures)
+returns-in-TcpShutdown-clause-asked g c = rw c.in-TcpShutdown.is (asks_answered (reply_of no_values) _ _ c.shutdown-done.ensures.asked c.reply_of-in-TcpShutdown.ensures)
 
 pub returns-in-Read-clause-asked : goal.returns-in-Read-clause-asked
-returns-in-Read-clause-asked g c = rw c.in-Read.is (asks_answered bytes_reply _ _ c.read-read.ensures.asked c.bytes_reply.ensures)
+returns-in-Read-clause-asked g c = rw c.in-Read.is (asks_answered (stream_reply_of bytes_fields) _ _ c.read-read.ensures.asked c.stream_reply_of.ensures)
 
 pub returns-in-CheckWrite-clause-asked : goal.returns-in-CheckWrite-clause-asked
-returns-in-CheckWrite-clause-asked g c = rw c.in-CheckWrite.is (asks_answered permit_reply _ _ c.check_write-permit.ensures.asked c.permit_reply.ensures)
+returns-in-CheckWrite-clause-asked g c = rw c.in-CheckWrite.is (asks_answered (stream_reply_of number_fields) _ _ c.check_write-permit.ensures.asked c.stream_reply_of-in-CheckWrite.ensures)
 
 pub returns-in-Write-clause-asked : goal.returns-in-Write-clause-asked
-returns-in-Write-clause-asked g c = rw c.in-Write.is (asks_answered taken_reply _ _ c.write-written.ensures.asked c.taken_reply.ensures)
+returns-in-Write-clause-asked g c = rw c.in-Write.is (asks_answered (stream_reply_of no_values) _ _ c.write-written.ensures.asked c.stream_reply_of-in-Write.ensures)
 
 pub returns-in-Flush-clause-asked : goal.returns-in-Flush-clause-asked
-returns-in-Flush-clause-asked g c = rw c.in-Flush.is (asks_answered taken_reply _ _ c.flush-flushed.ensures.asked c.taken_reply-in-Flush.ensures)
+returns-in-Flush-clause-asked g c = rw c.in-Flush.is (asks_answered (stream_reply_of no_values) _ _ c.flush-flushed.ensures.asked c.stream_reply_of-in-Flush.ensures)
 
 pub returns-in-Subscribe-clause-asked : goal.returns-in-Subscribe-clause-asked
-returns-in-Subscribe-clause-asked g c = rw c.in-Subscribe.is (asks_answered handle_reply _ _ (rw (← c.of_fault.ensures) at c.subscribe-made.ensures.asked) c.handle_reply-in-Subscribe.ensures)
+returns-in-Subscribe-clause-asked g c = rw c.in-Subscribe.is (asks_answered (reply_of number_fields) _ _ (rw (← c.of_fault.ensures) at c.subscribe-made.ensures.asked) c.reply_of-in-Subscribe.ensures)
 
 pub returns-in-Ready-clause-asked : goal.returns-in-Ready-clause-asked
-returns-in-Ready-clause-asked g c = rw c.in-Ready.is (asks_answered truth_reply _ _ (rw (← c.of_fault-in-Ready.ensures, c.requires.first) at c.ready-ready.ensures.asked) c.truth_reply-in-Ready.ensures)
+returns-in-Ready-clause-asked g c = rw c.in-Ready.is (asks_answered (reply_of truth_fields) _ _ (rw (← c.of_fault-in-Ready.ensures, c.requires.first) at c.ready-ready.ensures.asked) c.reply_of-in-Ready.ensures)
 
 pub returns-in-Drop-clause-asked : goal.returns-in-Drop-clause-asked
 returns-in-Drop-clause-asked g c = rw c.in-Drop.is (asks_answered (answer_reply c.args.ids.now.line) _ _ (rw (← c.of_fault-in-Drop.ensures) at c.drop_handle-answer.ensures.asked) (rw c.drop_handle-answer.ensures.ids at c.answer_reply-in-Drop.ensures))

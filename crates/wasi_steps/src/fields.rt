@@ -1,0 +1,178 @@
+//! What a call gives, told as the fields of its reply.
+
+ghost use Rattle.std.specs.Prelude.{◌≡◌, IfOk};
+ghost use Rattle.wasi_steps.specs.Reply.{address_values};
+
+use crate::reply::{Field, ReplyFields};
+use std::alloc::{AllocError, Global};
+use wasi_addr::{IpSocketAddress, Ipv4SocketAddress, Ipv6SocketAddress, SocketAddressFamily};
+use wasi_world::Octets;
+
+/// A value that the fields of an `ok` reply tell.
+pub trait IntoFields {
+    ghost use Rattle.std.specs.Prelude.{◌≡◌, IfOk, List};
+    ghost use Rattle.wasi_steps.specs.declared.reply.Field.{Field};
+
+    /// The fields that tell it.
+    ghost fields: { Self → List Field };
+
+    /// Takes memory for the fields.
+    fn into_fields(self, alloc: Global) -> Result<ReplyFields, AllocError>
+        ensures { IfOk result (λ it. it ≡ fields self) };
+}
+
+/// No field.
+impl IntoFields for () {
+    ghost use Rattle.wasi_steps.specs.Reply.{no_values};
+
+    ghost fields = { no_values };
+
+    fn into_fields(self, alloc: Global) -> Result<ReplyFields, AllocError> {
+        Ok(ReplyFields::from_vec(Vec::new(alloc)))
+    }
+}
+
+/// A handle.
+impl IntoFields for u32 {
+    ghost use Rattle.wasi_steps.specs.Reply.{number_fields};
+
+    ghost fields = { number_fields };
+
+    fn into_fields(self, alloc: Global) -> Result<ReplyFields, AllocError> {
+        u64::from(self).into_fields(alloc)
+    }
+}
+
+/// A number.
+impl IntoFields for u64 {
+    ghost use Rattle.wasi_steps.specs.Reply.{number_fields};
+
+    ghost fields = { number_fields };
+
+    fn into_fields(self, alloc: Global) -> Result<ReplyFields, AllocError> {
+        let fields = vec![in alloc; Field::Number(self)]?;
+        Ok(ReplyFields::from_vec(fields))
+    }
+}
+
+/// Two handles: the streams of a connection.
+impl IntoFields for (u32, u32) {
+    ghost use Rattle.wasi_steps.specs.Reply.{pair_values};
+
+    ghost fields = { pair_values };
+
+    fn into_fields(self, alloc: Global) -> Result<ReplyFields, AllocError> {
+        let (a, b) = self;
+        let fields = vec![in alloc; Field::Number(u64::from(a)), Field::Number(u64::from(b))]?;
+        Ok(ReplyFields::from_vec(fields))
+    }
+}
+
+/// Three handles: a socket and its streams.
+impl IntoFields for (u32, u32, u32) {
+    ghost use Rattle.wasi_steps.specs.Reply.{triple_values};
+
+    ghost fields = { triple_values };
+
+    fn into_fields(self, alloc: Global) -> Result<ReplyFields, AllocError> {
+        let (a, b, c) = self;
+        let fields = vec![in alloc;
+            Field::Number(u64::from(a)),
+            Field::Number(u64::from(b)),
+            Field::Number(u64::from(c)),
+        ]?;
+        Ok(ReplyFields::from_vec(fields))
+    }
+}
+
+/// Bytes.
+impl IntoFields for Octets {
+    ghost use Rattle.wasi_steps.specs.Reply.{bytes_fields};
+
+    ghost fields = { bytes_fields };
+
+    fn into_fields(self, alloc: Global) -> Result<ReplyFields, AllocError> {
+        let fields = vec![in alloc; Field::Bytes(self)]?;
+        Ok(ReplyFields::from_vec(fields))
+    }
+}
+
+/// `true` or `false`.
+impl IntoFields for bool {
+    ghost use Rattle.wasi_steps.specs.Reply.{truth_fields};
+
+    ghost fields = { truth_fields };
+
+    fn into_fields(self, alloc: Global) -> Result<ReplyFields, AllocError> {
+        let field = if self { Field::True } else { Field::False };
+        let fields = vec![in alloc; field]?;
+        Ok(ReplyFields::from_vec(fields))
+    }
+}
+
+/// A family: 4 or 6.
+impl IntoFields for SocketAddressFamily {
+    ghost use Rattle.wasi_steps.specs.Reply.{family_fields};
+
+    ghost fields = { family_fields };
+
+    fn into_fields(self, alloc: Global) -> Result<ReplyFields, AllocError> {
+        match self {
+            SocketAddressFamily::Ipv4 => 4u64.into_fields(alloc),
+            SocketAddressFamily::Ipv6 => 6u64.into_fields(alloc),
+        }
+    }
+}
+
+/// An address: its family, its bytes or segments, its port, and in IPv6 its flow and its scope.
+impl IntoFields for IpSocketAddress {
+    ghost use Rattle.wasi_steps.specs.Reply.{address_values};
+
+    ghost fields = { address_values };
+
+    fn into_fields(self, alloc: Global) -> Result<ReplyFields, AllocError> {
+        let fields = match self {
+            IpSocketAddress::Ipv4(address) => ipv4_fields(alloc, address)?,
+            IpSocketAddress::Ipv6(address) => ipv6_fields(alloc, address)?,
+        };
+        Ok(ReplyFields::from_vec(fields))
+    }
+}
+
+/// The fields of an IPv4 address.
+fn ipv4_fields(alloc: Global, address: Ipv4SocketAddress) -> Result<Vec<Field>, AllocError>
+    ensures { IfOk result (λ fields. fields.items ≡ address_values (IpSocketAddress.Ipv4 address)) }
+{
+    let (a, b, c, d) = address.address;
+    let fields = vec![in alloc;
+        Field::Number(4),
+        Field::Number(u64::from(a)),
+        Field::Number(u64::from(b)),
+        Field::Number(u64::from(c)),
+        Field::Number(u64::from(d)),
+        Field::Number(u64::from(address.port)),
+    ]?;
+    Ok(fields)
+}
+
+/// The fields of an IPv6 address.
+fn ipv6_fields(alloc: Global, address: Ipv6SocketAddress) -> Result<Vec<Field>, AllocError>
+    ensures { IfOk result (λ fields. fields.items ≡ address_values (IpSocketAddress.Ipv6 address)) }
+{
+    let (a, b, c, d, e, f, g, h) = address.address;
+    let fields = vec![in alloc;
+        Field::Number(6),
+        Field::Number(u64::from(a)),
+        Field::Number(u64::from(b)),
+        Field::Number(u64::from(c)),
+        Field::Number(u64::from(d)),
+        Field::Number(u64::from(e)),
+        Field::Number(u64::from(f)),
+        Field::Number(u64::from(g)),
+        Field::Number(u64::from(h)),
+        Field::Number(u64::from(address.port)),
+        Field::Number(u64::from(address.flow_info)),
+        Field::Number(u64::from(address.scope_id)),
+    ]?;
+    Ok(fields)
+}
