@@ -1,14 +1,25 @@
 -- How a stream ends, by what its two sides knew at the end.
-use Rattle.std.proofs.Common.{◌≡◌, ℕ, Bool, true, false, not, ◌||◌, List, [], ◌++◌, Result, refl, ap, ◌∙◌, sym, subst, append_assoc, append-nil, true≢false}
+use Rattle.std.proofs.Common.{◌≡◌, ℕ, Bool, true, false, not, ◌||◌, List, [], ◌++◌, Result, refl, ap, ◌∙◌, sym, subst, append_assoc, append-nil, true≢false, length, length-append, arith}
 use Rattle.std.specs.List.{concat}
 use Rattle.std.proofs.lemmas.List.Folds.{concat-append}
+use Rattle.std.proofs.lemmas.List.{nil_from_length}
 use Rattle.wasi_world.specs.Io.{Writing}
+use Rattle.wasi_shared.specs.Ends.{IsLeft}
 use Rattle.wasi_shared.specs.declared.finished.Ended.{Ended}
 use Rattle.wasi_writer.specs.Knows.{OwnerKnows, WorkerKnows}
 use Rattle.wasi_writer.specs.Answers.{Settled, HasLeft}
 use Rattle.wasi_writer.specs.Worked.{TookAll, TookFront, TookFault, TookTo, Worked}
 use Rattle.wasi_writer.specs.Stream.{WriteStream, HasFinished, outcome_of}
 use Rattle.wasi_writer.proofs.Works.{all_of}
+
+-- what is left of a line, by what its two sides knew at the end
+pub left_of : {o : OwnerKnows} {w : WorkerKnows} {pushed popped : List (List ℕ)} {count : ℕ} → IsLeft pushed popped count → Settled o w
+    → o.pushed ≡ length pushed → w.popped ≡ length popped → HasLeft pushed popped (o.done ≡ true) (w.met ≡ false)
+left_of {popped = popped} left settled pushes pops = record {
+  items = left.items;
+  in_order = left.in_order;
+  none = λ done fine. nil_from_length left.items (omega (arith, pushes, pops, settled.popped done fine, ap length left.in_order, length-append popped left.items));
+}
 
 -- what was taken of the front is taken of all
 front_of : (began now : Writing) (chunks popped : List (List ℕ)) {Done NoFault : Type 0} → HasLeft chunks popped Done NoFault → TookFront began (concat popped) now → TookFront began (concat chunks) now
