@@ -1,3 +1,4 @@
+pub mod Words
 pub mod asks
 pub mod shapes
 pub mod order

@@ -2,5 +2,4 @@
 pub mod Ordered
 pub mod Weights
 pub mod Polls
-pub mod Outward
 pub mod Law

@@ -1,4 +1,3 @@
 -- How records stand between the asks.
 pub mod Shape
-pub mod Lives
 pub mod Law

@@ -1,5 +1,4 @@
 -- What is asked of a socket is asked while it is open.
-pub mod Grown
 pub mod Opened
 pub mod Polls
 pub mod Law

@@ -1,33 +1,45 @@
--- One poll of an operation by its single asks: what each of them may be, and what is known of the items that are left.
-use Rattle.std.specs.Prelude.{⊤, not, ◌&&◌}
-use Rattle.std.proofs.Common.{◌≡◌, ℕ, zero, suc, Bool, true, false, if◌then◌else◌, List, [], ◌∷◌, ◌++◌, drop, length, Option, Some, None, Result, Ok, Err, refl}
+-- Calls that are calm; and one poll of an operation by its single asks: what each may be, and what is known of the items that are left.
+use Rattle.std.proofs.Common.{◌≡◌, Bool, true, false, Some, refl, ap, ℕ, zero, suc, if◌then◌else◌, List, [], ◌∷◌, ◌++◌, drop, length, Option, None, Result, Ok, Err}
 use Rattle.std.proofs.Math.Seq.{drop-nil}
+use Rattle.wasi_world.specs.declared.call.Call.TheVariants as call
 use Rattle.wasi_addr.specs.declared.address.IpAddress.{IpAddress}
-use Rattle.wasi_addr.specs.declared.address.IpSocketAddress.{IpSocketAddress}
-use Rattle.wasi_addr.specs.declared.address.SocketAddressFamily.{SocketAddressFamily}
 use Rattle.wasi_addr.specs.declared.address.SocketAddrUse.{SocketAddrUse}
 use Rattle.wasi_addr.specs.declared.address.ShutdownType.TheVariants as half
-use Rattle.wasi_addr.specs.declared.code.ErrorCode.{ErrorCode}
-use Rattle.wasi_world.specs.declared.ids.OpId.{OpId}
-use Rattle.wasi_world.specs.declared.call.Call.{Call}
-use Rattle.wasi_world.specs.declared.call.Call.TheVariants as call
-use Rattle.wasi_world.specs.declared.call.Told.{Told}
-use Rattle.wasi_world.specs.declared.call.Entry.{Entry}
 use Rattle.wasi_world.specs.declared.asks.Verdict.{Verdict}
 use Rattle.wasi_world.specs.declared.asks.Verdict.TheVariants as verdict
 use Rattle.wasi_world.specs.declared.asks.Polled.{Polled}
 use Rattle.wasi_world.specs.declared.asks.Polled.TheVariants as polled
-use Rattle.wasi_world.specs.Asks.{Asks, bind, IsFront}
-use Rattle.wasi_world.specs.Fits.{Fits}
-use Rattle.wasi_world.specs.Typed.{told_verdict, told_done, told_polled, told_addr, told_arrival, told_taken, told_datagram, told_names}
 use Rattle.wasi_world.specs.Operation as item
-use Rattle.wasi_world.specs.Operation.{Given, Connection, Nothing, Item, Check, CheckLocal, Bind, Connect, Listen, Accept, CheckArrival, Hand, Refuse, Write, ShutdownSend, UdpWritable, UdpBind, UdpConnect, AskPeer, Send, Receive, CheckPeer, Lookup, Last, Who, Front, Ends, End, Waits, Done, verdict_front, done_front, polled_front, check_front, local_front, hand_front, refuse_front, admitted_front, arrival_front, accept_front, write_front, taken_front, less_one, ask_peer_front, peer_front, remote_told, send_front, is_now, receive_front, received_front, check_peer_front, is_wanted, lookup_front, front, last_ask, poll_asks}
-use Rattle.wasi_world.proofs.Allowed.{Allows, FrontKeeps, allows_polls, allows_if}
-use Rattle.wasi_walks.specs.Licence.{entry}
-use Rattle.wasi_walks.proofs.Lists.{has_last}
-use Rattle.wasi_laws.specs.Opened.{IsMade, HandedOver, socket_of}
-use Rattle.wasi_laws.specs.Order.{GoesOut}
-use Rattle.wasi_laws.proofs.asks.Calm.{is_calm}
+use Rattle.wasi_laws.proofs.Words.{⊤, not, ◌&&◌, OpId, Call, socket_of, NoWrite, IsQuestionOf, IpSocketAddress, SocketAddressFamily, ErrorCode, Told, Entry, Asks, bind, IsFront, Fits, told_verdict, told_done, told_polled, told_addr, told_arrival, told_taken, told_datagram, told_names, Given, Connection, Nothing, Item, Check, CheckLocal, Bind, Connect, Listen, Accept, CheckArrival, Hand, Refuse, Write, ShutdownSend, UdpWritable, UdpBind, UdpConnect, AskPeer, Send, Receive, CheckPeer, Lookup, Last, Who, Front, Ends, End, Waits, Done, verdict_front, done_front, polled_front, check_front, local_front, hand_front, refuse_front, admitted_front, arrival_front, accept_front, write_front, taken_front, less_one, ask_peer_front, peer_front, remote_told, send_front, is_now, receive_front, received_front, check_peer_front, is_wanted, lookup_front, front, last_ask, poll_asks, Allows, FrontKeeps, allows_polls, allows_if, entry, has_last, IsMade, HandedOver, GoesOut}
+
+abbrev pub is_calm : Call → Bool
+is_calm (call.Check ctx addr usage) = false
+is_calm (call.Bind sock addr) = false
+is_calm (call.Listen sock backlog) = false
+is_calm (call.Connect sock addr) = false
+is_calm (call.Write sock offered) = false
+is_calm (call.Close sock) = false
+is_calm _ = true
+
+-- A calm call on the side.
+pub record CalmOn (side : OpId) (c : Call) : Type 0 where
+  pub calm : is_calm c ≡ true
+  pub on : socket_of c ≡ Some side
+
+pub question_calm : (side : OpId) (c : Call) → IsQuestionOf side c → CalmOn side c
+question_calm side (call.Local s) q = record { calm = refl; on = ap (λ (x : OpId). Some x) q }
+question_calm side (call.Peer s) q = record { calm = refl; on = ap (λ (x : OpId). Some x) q }
+question_calm side (call.GetOption s option) q = record { calm = refl; on = ap (λ (x : OpId). Some x) q }
+question_calm side (call.SetOption s option value) q = record { calm = refl; on = ap (λ (x : OpId). Some x) q }
+question_calm side (call.Read s size) q = record { calm = refl; on = ap (λ (x : OpId). Some x) q }
+question_calm side (call.ReadReady s) q = record { calm = refl; on = ap (λ (x : OpId). Some x) q }
+question_calm side (call.WriteReady s) q = record { calm = refl; on = ap (λ (x : OpId). Some x) q }
+question_calm side (call.Shutdown s how) q = record { calm = refl; on = ap (λ (x : OpId). Some x) q }
+question_calm side _ q = absurd q
+
+pub unwritten : (c : Call) → is_calm c ≡ true → NoWrite c
+unwritten (call.Write sock offered) e = absurd (cc)
+unwritten _ e = tt
 
 abbrev pub IsToCheck : Item → Type 0
 IsToCheck (Check a usage) = ⊤

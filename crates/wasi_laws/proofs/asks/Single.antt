@@ -1,51 +1,16 @@
 -- A law by its single asks: what each ask of a line must be, and what its answer keeps. It stands on the base law, and on the shape of
 -- records.
-use Rattle.std.proofs.Common.{◌≡◌, ℕ, true, List, [], ◌∷◌, ◌++◌, Option, Some, None, Result, Ok, Err, refl, sym, ap, subst, ◌∙◌, slice_get, length}
-use Rattle.wasi_addr.specs.declared.address.IpSocketAddress.{IpSocketAddress}
-use Rattle.wasi_addr.specs.declared.address.SocketAddressFamily.{SocketAddressFamily}
-use Rattle.wasi_addr.specs.declared.code.ErrorCode.{ErrorCode}
-use Rattle.wasi_world.specs.declared.outcome.WasiSocketsCtx.{WasiSocketsCtx}
-use Rattle.wasi_world.specs.declared.ids.OpId.{OpId}
-use Rattle.wasi_world.specs.declared.call.Call.{Call}
+use Rattle.std.proofs.Common.{◌≡◌, ℕ, true, List, [], ◌∷◌, ◌++◌, Option, Some, None, Result, Ok, Err, refl, sym, ap, subst, ◌∙◌, slice_get, length, ◌+◌}
 use Rattle.wasi_world.specs.declared.call.Call.TheVariants as call
-use Rattle.wasi_world.specs.declared.call.Told.{Told}
 use Rattle.wasi_world.specs.declared.call.Told.TheVariants as told
-use Rattle.wasi_world.specs.declared.call.Entry.{Entry}
-use Rattle.wasi_world.specs.Asks.{Asks, bind}
-use Rattle.wasi_world.specs.Fits.{IsDoneOrCode}
-use Rattle.wasi_world.specs.Typed.{told_addr, told_done}
-use Rattle.wasi_world.specs.Operation.{Operation, End, Item, poll_asks}
-use Rattle.wasi_world.proofs.Allowed.{Allows, allows_then, allows_if, allows_weaker}
 use Rattle.wasi_tcp.specs.declared.listener.Accepting.TheVariants as accepting
 use Rattle.wasi_tcp.specs.declared.socket.TcpState.TheVariants as state
-use Rattle.wasi_tcp.specs.declared.writer.WriteState.{WriteState}
-use Rattle.wasi_tcp.specs.Job.{Job, job_after}
-use Rattle.wasi_tcp.specs.Listener.{Listener, HoldsAccept, IsAcceptOn}
-use Rattle.wasi_tcp.specs.Shape.{Socket}
-use Rattle.wasi_tcp.specs.Socket.{side_in, side_of, after_create, new_socket, new_asks}
-use Rattle.wasi_host.specs.declared.kind.Kind.{Kind}
-use Rattle.wasi_host.specs.declared.kind.Kind.TheVariants.{Tcp2}
-use Rattle.wasi_host.specs.declared.listening.Listening.TheVariants.{Not, Begins, Accepts}
-use Rattle.wasi_host.specs.declared.socket.Streams.{Streams}
-use Rattle.wasi_host.specs.declared.socket.Tcp2Socket.{Tcp2Socket}
-use Rattle.wasi_host.specs.Kinds.{Handles, make_asks}
-use Rattle.wasi_host.specs.Listening.{with_listening}
-use Rattle.wasi_host.specs.Machine.{own_of, side_at, created_asks}
-use Rattle.wasi_host.specs.Store.{with_record, with_writer}
-use Rattle.wasi_steps.specs.declared.step.Step.{Step}
-use Rattle.wasi_walks.specs.Licence.{entry}
-use Rattle.wasi_walks.proofs.fits.Law.{told_same}
-use Rattle.wasi_walks.proofs.fits.Records.{FitListening}
-use Rattle.wasi_walks.proofs.claims.Law.{Base}
-use Rattle.wasi_walks.proofs.walks.Moves.{Here, put, Found, NoBind, Held, Move, Spends, Used, Unused, Made, closed_record, made_so}
-use Rattle.wasi_walks.proofs.walks.Law.{Walks}
-use Rattle.wasi_walks.proofs.walks.OnBase.{Above}
-use Rattle.wasi_laws.specs.Opened.{socket_of}
-use Rattle.wasi_laws.proofs.asks.Calm.{is_calm, CalmOn, question_calm}
+use Rattle.wasi_walks.proofs.walks.Runs.{each_entry}
+use Rattle.wasi_laws.proofs.Words.{IpSocketAddress, SocketAddressFamily, ErrorCode, WasiSocketsCtx, OpId, Call, Told, Entry, Asks, bind, IsDoneOrCode, told_addr, told_done, Operation, End, Item, poll_asks, Allows, allows_then, allows_if, allows_weaker, WriteState, Job, job_after, Listener, HoldsAccept, IsAcceptOn, Socket, side_in, side_of, after_create, new_socket, new_asks, Kind, Tcp2, Not, Begins, Accepts, Streams, Tcp2Socket, Handles, make_asks, with_listening, own_of, side_at, created_asks, with_record, with_writer, Step, entry, told_same, FitListening, Base, Here, put, Found, NoBind, Held, Move, Spends, Used, Unused, Made, closed_record, made_so, Walks, Above, socket_of, Left, Machine, first_state, Reply, machine_asks, run, Own, Starts, Over, may_while, machine_walks, BaseBetween, first_base, base_starts, base_over}
+use Rattle.wasi_laws.proofs.asks.Fronts.{is_calm, CalmOn, question_calm}
 use Rattle.wasi_laws.proofs.asks.Trees as tree
 use Rattle.wasi_laws.proofs.asks.Trees.{GoesOn, Undoes, Then, makes_by, turns_by, gives_up_by}
-use Rattle.wasi_laws.proofs.shapes.Shape.{ListenerShape, on_socket}
-use Rattle.wasi_laws.proofs.shapes.Lives.{Same}
+use Rattle.wasi_laws.proofs.shapes.Shape.{ListenerShape, on_socket, Same}
 use Rattle.wasi_laws.proofs.shapes.Law.{Shaped, on_grounds, grounds_along}
 
 -- a close of this side leaves the record so
@@ -151,3 +116,20 @@ module _ (contexts : List WasiSocketsCtx) (line : ℕ) (origin : Step) where
         → Allows P (λ fs x. Base contexts line origin (end x) × (Shaped (end x) × Inv fs (end x))) es asks
     unfolding single
     single_along w es b s i = grounds_along contexts line origin single w es b s i
+
+module _ (contexts : List WasiSocketsCtx) {P : List Entry → OpId → Call → Type 0} (Inv : ℕ → List Entry → Here → Type 0) (law : (line : ℕ) (origin : Step) → Single contexts line origin P (Inv line)) where
+  -- Before the line of this number.
+  record Between (line : ℕ) (es : List Entry) (m : Machine) : Type 0 where
+    pub base : BaseBetween line m
+    pub shaped : Shaped (Over m)
+    pub kept : Inv line es (Starts m Unused)
+
+  module _ (starts : (line : ℕ) (es : List Entry) (m : Machine) (own : Own) → Inv line es (Starts m Unused) → Inv line es (Starts m own)) (next : (line : ℕ) (es : List Entry) (m : Machine) → Inv line es (Over m) → Inv (line + 1) es (Starts m Unused)) where
+    line_kept : (line : ℕ) (s : Step) (m : Machine) (es : List Entry) → Between line es m → Allows P (λ fs done. Between (line + 1) fs done.1) es (machine_asks contexts m line s)
+    line_kept line s m es i =
+        let own = may_while m s m.store.standing in
+        allows_weaker P _ (λ fs done. Between (line + 1) fs done.1) (λ fs done k. record { base = base_over contexts line s done.1 k.0; shaped = k.1.0; kept = next line fs done.1 k.1.1 }) es (machine_asks contexts m line s)
+        (single_along contexts line s (law line s) (machine_walks line s m m.store.standing refl) es (base_starts contexts line s m own i.base) i.shaped (starts line es m own i.kept))
+
+    pub each_ask : Inv 1 [] (Starts first_state Unused) → (steps : List Step) (log : List Entry) (rest : Asks (List Reply × Machine)) → Left (run contexts [] first_state 1 steps) log rest → (before : List Entry) (e : Entry) (after : List Entry) → log ≡ before ++ e ∷ after → P before e.op e.call
+    each_ask first steps log rest w before e after cut = each_entry contexts P Between line_kept (record { base = first_base; shaped = λ place r e. absurd (cc); kept = first }) steps log rest w before e after cut

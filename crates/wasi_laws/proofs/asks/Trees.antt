@@ -1,31 +1,9 @@
 -- The trees that each law walks, by their single asks: a handle that is made, a writer's turn, and a listening that is given up.
 use Rattle.std.proofs.Common.{◌≡◌, ℕ, List, [], ◌∷◌, ◌++◌, Option, Some, None, refl}
-use Rattle.wasi_addr.specs.declared.address.IpSocketAddress.{IpSocketAddress}
-use Rattle.wasi_world.specs.declared.ids.OpId.{OpId}
-use Rattle.wasi_world.specs.declared.call.Call.{Call}
 use Rattle.wasi_world.specs.declared.call.Call.TheVariants as call
-use Rattle.wasi_world.specs.declared.call.Told.{Told}
-use Rattle.wasi_world.specs.declared.call.Entry.{Entry}
-use Rattle.wasi_world.specs.Asks.{bind}
-use Rattle.wasi_world.specs.Operation.{End, Waits, Operation, Who, poll_asks}
-use Rattle.wasi_world.proofs.Allowed.{Allows, allows_then, allows_if}
-use Rattle.wasi_streams.specs.Table.{is_full}
-use Rattle.wasi_tcp.specs.declared.listener.Accepting.{Accepting}
 use Rattle.wasi_tcp.specs.declared.listener.Accepting.TheVariants as accepting
-use Rattle.wasi_tcp.specs.declared.socket.TcpState.{TcpState}
-use Rattle.wasi_tcp.specs.declared.writer.WriteState.{WriteState}
 use Rattle.wasi_tcp.specs.declared.writer.WriteState.TheVariants as writing
-use Rattle.wasi_tcp.specs.Accept.{in_hand, refuse_in}
-use Rattle.wasi_tcp.specs.Job.{Job, job_after, job_in, job_asks}
-use Rattle.wasi_tcp.specs.Listen.{is_over}
-use Rattle.wasi_tcp.specs.Listener.{Listener, give_up_in}
-use Rattle.wasi_tcp.specs.Writer.{turn_asks}
-use Rattle.wasi_host.specs.declared.kind.Kind.{Kind}
-use Rattle.wasi_host.specs.declared.listening.Listening.{Listening}
-use Rattle.wasi_host.specs.declared.listening.Listening.TheVariants.{Not, Begins, Accepts, Unclosed}
-use Rattle.wasi_host.specs.Kinds.{Handles, name_of, make_asks}
-use Rattle.wasi_host.specs.Listening.{give_up_asks}
-use Rattle.wasi_walks.specs.Licence.{entry}
+use Rattle.wasi_laws.proofs.Words.{IpSocketAddress, OpId, Call, Told, Entry, bind, End, Waits, Operation, Who, poll_asks, Allows, allows_then, allows_if, is_full, Accepting, TcpState, WriteState, in_hand, refuse_in, Job, job_after, job_in, job_asks, is_over, Listener, give_up_in, turn_asks, Kind, Listening, Not, Begins, Accepts, Unclosed, Handles, name_of, make_asks, give_up_asks, entry}
 use Rattle.wasi_laws.proofs.shapes.Shape.{ListenerShape}
 
 -- a write that a writer goes on with, and the writer that has such a job

@@ -1,4 +1,4 @@
-use Rattle.wasi_laws.proofs.order.Outward.{operation_checks_first, operation_leaves_none}
+use Rattle.wasi_laws.proofs.order.Polls.{operation_checks_first, operation_leaves_none}
 use Rattle.wasi_laws.proofs.operations_check_first.Goals as goal
 
 pub returns : goal.returns

@@ -1,90 +1,38 @@
 -- The law that an operation asks its checks before it goes out: what all that is kept weighs.
-use Rattle.std.proofs.Common.{◌≡◌, ◌==◌, ◌&&◌, ℕ, zero, suc, ◌+◌, ◌≤◌, Bool, true, false, List, [], ◌∷◌, ◌++◌, Option, Some, None, refl, sym, ap, subst, ◌∙◌, arith, slice_set}
-use Rattle.std.proofs.lemmas.Bool.{eqb-true}
-use Rattle.wasi_addr.specs.declared.address.IpSocketAddress.{IpSocketAddress}
+use Rattle.std.proofs.lemmas.Bool.Decides.{nat_tests}
+use Rattle.std.proofs.Common.{if◌then◌else◌, nat_lt, ◌≡◌, ℕ, ◌+◌, ◌≤◌, Bool, true, false, List, [], ◌∷◌, ◌++◌, Option, Some, None, refl, sym, ap, subst, ◌∙◌, arith, slice_set}
 use Rattle.wasi_addr.specs.Address.{wildcard}
-use Rattle.wasi_world.specs.declared.outcome.WasiSocketsCtx.{WasiSocketsCtx}
-use Rattle.wasi_world.specs.declared.ids.OpId.{OpId}
-use Rattle.wasi_world.specs.declared.call.Call.{Call}
 use Rattle.wasi_world.specs.declared.call.Call.TheVariants as call
-use Rattle.wasi_world.specs.declared.call.Told.{Told}
 use Rattle.wasi_world.specs.declared.call.Told.TheVariants as told
-use Rattle.wasi_world.specs.declared.call.Entry.{Entry}
-use Rattle.wasi_world.specs.Asks.{Asks, Left}
-use Rattle.wasi_world.specs.Operation.{Operation, End, Waits, Done, Refused, Item, Write, poll_asks, Given, Connection}
-use Rattle.wasi_world.specs.Sides.{is_same}
-use Rattle.wasi_world.proofs.Allowed.{Allows, allows_weaker}
-use Rattle.wasi_tcp.specs.declared.listener.Accepting.{Accepting}
 use Rattle.wasi_tcp.specs.declared.listener.Accepting.TheVariants as accepting
-use Rattle.wasi_tcp.specs.declared.socket.TcpState.{TcpState}
-use Rattle.wasi_tcp.specs.declared.writer.WriteState.{WriteState}
 use Rattle.wasi_tcp.specs.declared.writer.WriteState.TheVariants as writing
 use Rattle.wasi_tcp.specs.declared.accept.AcceptStage.TheVariants as accept
 use Rattle.wasi_tcp.specs.declared.bind.BindStage.TheVariants.{Check}
 use Rattle.wasi_tcp.specs.declared.socket.TcpState.TheVariants as state
-use Rattle.wasi_tcp.specs.Accept.{accept_operation}
-use Rattle.wasi_tcp.specs.Bind.{bind_operation}
-use Rattle.wasi_tcp.specs.Connect.{connect_first, connect_left, connect_operation}
-use Rattle.wasi_tcp.specs.Connecting.{with_state, connect_ended}
-use Rattle.wasi_tcp.specs.Job.{Job, job_after, new_job, then_closed}
-use Rattle.wasi_tcp.specs.Listener.{accept_ended, arrived}
-use Rattle.wasi_tcp.specs.Socket.{new_socket}
-use Rattle.wasi_tcp.specs.Writer.{written_by, closed_by}
-use Rattle.wasi_host.specs.declared.listening.Listening.{Listening}
-use Rattle.wasi_host.specs.declared.machine.Machine.{Machine}
-use Rattle.wasi_host.specs.declared.socket.Streams.{Streams}
-use Rattle.wasi_host.specs.declared.socket.Tcp2Socket.{Tcp2Socket}
-use Rattle.wasi_host.specs.declared.store.Standing.{Standing}
-use Rattle.wasi_host.specs.Machine.{own_of, first_state}
-use Rattle.wasi_host.specs.Listening.{standing_listen}
-use Rattle.wasi_host.specs.Store.{standing_bind, standing_drop, left_of, new_record, with_inner, with_writer}
-use Rattle.wasi_steps.specs.declared.reply.Reply.{Reply}
-use Rattle.wasi_steps.specs.declared.step.Step.{Step}
-use Rattle.wasi_walks.specs.Licence.{entry}
-use Rattle.wasi_machine.specs.Machine.{run}
-use Rattle.wasi_walks.proofs.claims.Law.{next_of}
-use Rattle.wasi_walks.proofs.walks.Moves.{Held, InHand, Connects, Listens, Awaits, Own, Used, Unused, ToWrite, Here, put, Found, WriterMoves, Collects, Permits, Lasts, LastsAfter, Closes, Move, Reaches, Leaves, Spends, Changes, ClosesReader, Writes, IsGone, Reconnects, Opens, BeginsConnect, BeginsBind, BeginsWrite, BeginsListen, BeginsAccept, Unlistens, Forgets, Watches, Joins, StandsListen, StandsDrop, ResumesDrop, Unstands, Stands, Resumes, Ends, Lists, Takes, listen_after, accepting_now, joined, joining, begun_listen, beginning_listen, new_accept, second_of}
-use Rattle.wasi_walks.proofs.walks.States.{Starts}
-use Rattle.wasi_laws.specs.Order.{ChecksFirst, asked_by}
-use Rattle.wasi_laws.proofs.asks.Lines.{each_ask}
-use Rattle.wasi_laws.proofs.asks.Single.{Single, Closing, ClosesSocket, ClosesListen, ClosesArrived, creating}
+use Rattle.wasi_walks.proofs.walks.Moves.{Ends}
+use Rattle.wasi_laws.proofs.Words.{IpSocketAddress, WasiSocketsCtx, OpId, Call, Told, Entry, Asks, Left, Operation, End, Waits, Done, Refused, Item, Write, poll_asks, Given, Connection, is_same, Allows, allows_weaker, Accepting, TcpState, WriteState, accept_operation, bind_operation, connect_first, connect_left, connect_operation, with_state, connect_ended, Job, job_after, new_job, then_closed, accept_ended, arrived, new_socket, written_by, closed_by, Listening, Machine, Streams, Tcp2Socket, Standing, own_of, first_state, standing_listen, standing_bind, standing_drop, left_of, new_record, with_inner, with_writer, Reply, Step, entry, run, next_of, Held, InHand, Connects, Listens, Awaits, Own, Used, Unused, ToWrite, Here, put, Found, WriterMoves, Collects, Permits, Lasts, LastsAfter, Closes, Move, Reaches, Leaves, Spends, Changes, ClosesReader, Writes, IsGone, Reconnects, Opens, BeginsConnect, BeginsBind, BeginsWrite, BeginsListen, BeginsAccept, Unlistens, Forgets, Watches, Joins, StandsListen, StandsDrop, ResumesDrop, Unstands, Stands, Resumes, Lists, Takes, listen_after, accepting_now, joined, joining, begun_listen, beginning_listen, new_accept, second_of, Starts, ChecksFirst, asked_by}
+use Rattle.wasi_laws.proofs.asks.Single.{each_ask, Single, Closing, ClosesSocket, ClosesListen, ClosesArrived, creating}
 use Rattle.wasi_laws.proofs.asks.Trees.{GoesOn, InWriting, InClosing}
-use Rattle.wasi_laws.proofs.shapes.Lives.{Same}
+use Rattle.wasi_laws.proofs.shapes.Shape.{same_side, Same}
 use Rattle.wasi_laws.proofs.order.Ordered.{Asked, gone_after, gone_along, gone_push, calm_may, asked_first, asked_one}
 use Rattle.wasi_laws.proofs.order.Weights.{checks_of, if_ours, op_weight, state_ops, accept_ops, listening_ops, writer_ops, streams_ops, standing_ops, hand_ops, total, half, record_weight, sockets_weight, half_sockets, sockets_push, beside, weight}
 use Rattle.wasi_laws.proofs.order.Polls.{Within, poll_kept}
 
 -- 1 up to the line of this number: its operations may still begin
 abbrev future : ℕ → ℕ → ℕ
-future step zero = 1
-future zero (suc line) = 0
-future (suc step) (suc line) = future step line
+future step line = if nat_lt step line then 0 else 1
 
 future_small : (step line : ℕ) → future step line ≤ 1
-future_small step zero = omega arith
-future_small zero (suc line) = omega arith
-future_small (suc step) (suc line) = future_small step line
+future_small step line = grind (arith, nat_tests)
 
-future_less : (step line : ℕ) → future step (suc line) ≤ future step line
-future_less zero zero = omega arith
-future_less zero (suc line) = omega arith
-future_less (suc step) zero = future_small step 0
-future_less (suc step) (suc line) = future_less step line
+future_less : (step line : ℕ) → future step (line + 1) ≤ future step line
+future_less step line = grind (arith, nat_tests)
 
 future_here : (step : ℕ) → future step step ≡ 1
-future_here zero = refl
-future_here (suc step) = future_here step
+future_here step = grind (arith, nat_tests)
 
-future_past : (step : ℕ) → future step (suc step) ≡ 0
-future_past zero = refl
-future_past (suc step) = future_past step
-
-same_step : (a it : OpId) → is_same a it ≡ true → a.step ≡ it.step
-same_step a it h = by_tests (a.step == it.step) (a.part == it.part) (eqb-true a.step it.step) h
-  where
-    by_tests : (x y : Bool) → (x ≡ true → a.step ≡ it.step) → (x && y) ≡ true → a.step ≡ it.step
-    by_tests true y f e = f refl
-    by_tests false y f e = absurd (cc)
+future_past : (step : ℕ) → future step (step + 1) ≡ 0
+future_past step = grind (arith, nat_tests)
 
 module _ (it : OpId) where
   abbrev ours : OpId → Bool
@@ -92,7 +40,7 @@ module _ (it : OpId) where
 
   -- an operation of a line takes that line's room
   takes_room : (id : OpId) (items : List Item) (i : Bool) → checks_of items ≤ 1 → op_weight ours id items i + future it.step (id.step + 1) ≤ future it.step id.step
-  takes_room id items i c = let e : suc id.step ≡ id.step + 1 = omega arith in subst (λ (n : ℕ). op_weight ours id items i + future it.step n ≤ future it.step id.step) e (by_test (ours id) i refl)
+  takes_room id items i c = by_test (ours id) i refl
     where
       weighs : (mine i : Bool) → ours id ≡ mine → op_weight ours id items i ≤ if_ours mine 1
       weighs true true e = rw e (omega (arith, c))
@@ -100,10 +48,10 @@ module _ (it : OpId) where
       weighs false true e = rw e (omega arith)
       weighs false false e = rw e (omega arith)
 
-      by_test : (mine i : Bool) → ours id ≡ mine → op_weight ours id items i + future it.step (suc id.step) ≤ future it.step id.step
+      by_test : (mine i : Bool) → ours id ≡ mine → op_weight ours id items i + future it.step (id.step + 1) ≤ future it.step id.step
       by_test true i e =
-          let s = same_step id it e in
-          let a : future it.step (suc id.step) ≡ 0 = ap (λ (n : ℕ). future it.step (suc n)) s ∙ future_past it.step in
+          let s : id.step ≡ it.step = ap (λ (x : OpId). x.step) (same_side id it e) in
+          let a : future it.step (id.step + 1) ≡ 0 = ap (λ (n : ℕ). future it.step (n + 1)) s ∙ future_past it.step in
           let b : future it.step id.step ≡ 1 = ap (future it.step) s ∙ future_here it.step in
           let w = weighs true i e in omega (arith, w, a, b)
       by_test false i e = let w = weighs false i e in let l = future_less it.step id.step in omega (arith, w, l)
@@ -120,12 +68,9 @@ module _ (it : OpId) where
     lighter es h now l r k = let p = l false in let q = l true in let x = k.0 in let y = k.1 in (omega (arith, p, r, x), omega (arith, q, r, y))
 
     less_room : (own : Own) → room line Used ≤ room line own
-    less_room own = let e : suc line ≡ line + 1 = omega arith in let l = future_less it.step line in let s = subst (λ (n : ℕ). future it.step n ≤ future it.step line) e l in by_own own s
-      where
-        by_own : (own : Own) → room line Used ≤ future it.step line → room line Used ≤ room line own
-        by_own Used s = omega arith
-        by_own Unused s = s
-        by_own (ToWrite at bytes) s = s
+    less_room Used = omega arith
+    less_room Unused = future_less it.step line
+    less_room (ToWrite at bytes) = future_less it.step line
 
     put_kept : (es : List Entry) (h : Here) (place : ℕ) (r now : Tcp2Socket) → Found h place r → ((i : Bool) → record_weight ours now i ≤ record_weight ours r i) → Kept line es h → Kept line es (put h place now)
     put_kept es h place r now g l k = let b = beside ours h.machine.store.sockets place r g in lighter es h (put h place now) (λ i. let p = l i in let x = b.was i in let y = b.now now i in omega (arith, p, x, y)) (omega arith) k

@@ -1,13 +1,8 @@
 -- Logs in order: no check of ours comes after our first bind, listen or connect.
-use Rattle.std.specs.Prelude.{⊤}
 use Rattle.std.proofs.Common.{◌≡◌, inl, inr, ℕ, Bool, true, false, if◌then◌else◌, List, [], ◌∷◌, ◌++◌, refl, sym, ap, subst, ◌∙◌, append_assoc}
-use Rattle.wasi_world.specs.declared.ids.OpId.{OpId}
-use Rattle.wasi_world.specs.declared.call.Call.{Call}
 use Rattle.wasi_world.specs.declared.call.Call.TheVariants as call
-use Rattle.wasi_world.specs.declared.call.Entry.{Entry}
-use Rattle.wasi_world.specs.Sides.{is_same}
-use Rattle.wasi_laws.specs.Order.{GoesOut, IsCheck, ChecksNone, ChecksFirst, HasGone, asked_by}
-use Rattle.wasi_laws.proofs.asks.Calm.{is_calm}
+use Rattle.wasi_laws.proofs.Words.{⊤, OpId, Call, Entry, is_same, GoesOut, IsCheck, ChecksNone, ChecksFirst, HasGone, asked_by}
+use Rattle.wasi_laws.proofs.asks.Fronts.{is_calm}
 
 module _ (ours : OpId → Bool) where
   -- 1 once one of ours went out

@@ -1,18 +1,15 @@
 -- One poll of an operation: its checks come first, and once it went out none is left.
 use Rattle.std.proofs.Common.{◌≡◌, ℕ, zero, suc, ◌+◌, ◌≤◌, Bool, true, false, List, [], ◌∷◌, ◌++◌, length, refl, sym, subst, ◌∙◌, arith}
-use Rattle.wasi_addr.specs.declared.code.ErrorCode.{ErrorCode}
-use Rattle.wasi_world.specs.declared.ids.OpId.{OpId}
-use Rattle.wasi_world.specs.declared.call.Call.{Call}
 use Rattle.wasi_world.specs.declared.call.Call.TheVariants as call
-use Rattle.wasi_world.specs.declared.call.Told.{Told}
-use Rattle.wasi_world.specs.declared.call.Entry.{Entry}
-use Rattle.wasi_world.specs.Asks.{bind}
-use Rattle.wasi_world.specs.Operation.{Given, Item, Check, Bind, Connect, Listen, CheckArrival, CheckPeer, Write, Who, Operation, LastAsk, NothingLast, CloseLast, ShutdownLast, End, last_ask, poll_asks}
-use Rattle.wasi_world.proofs.Allowed.{Allows}
-use Rattle.wasi_walks.specs.Licence.{entry}
+use Rattle.wasi_tcp.specs.declared.bind.BindStage.{BindStage}
+use Rattle.wasi_tcp.specs.declared.bind.BindStage.TheVariants as stage
+use Rattle.wasi_tcp.specs.Connect as connect
+use Rattle.wasi_tcp.specs.Listen as listen
+use Rattle.wasi_laws.proofs.Words.{ErrorCode, OpId, Call, Told, Entry, bind, Given, Item, Check, Bind, Connect, Listen, CheckArrival, CheckPeer, Write, Who, Operation, LastAsk, NothingLast, CloseLast, ShutdownLast, End, last_ask, poll_asks, Allows, entry, Asks, Give, Left, CheckLocal, allows_at, reached, bind_left, IsLeftOfConnect, IsLeftOfListen, IsOutward, Binds, ChecksFirst, HasGone, NoCheckLeft, operation_polled}
 use Rattle.wasi_laws.proofs.asks.Fronts.{IsToCheck, IsToGo, AsksBy, Checks, Goes, Calmly, Becomes, ToldAddress, Arrives, IsAdmitted, IsUnwanted, IsRefused, IsConnected, Comes, GoesBy, PollLaw, polls_by}
-use Rattle.wasi_laws.proofs.order.Ordered.{out_by, gone_after, gone_along, gone_push, Asked, calm_may, out_may}
-use Rattle.wasi_laws.proofs.order.Weights.{Kind, ToCheck, ToGo, kind_of, and_then, checks_of, drop_weighs, if_ours, op_weight}
+use Rattle.wasi_laws.proofs.order.Ordered.{out_by, gone_after, gone_along, gone_push, Asked, calm_may, out_may, asked_all, asked_first, gone_out}
+use Rattle.wasi_laws.proofs.order.Weights.{Kind, ToCheck, ToGo, kind_of, and_then, checks_of, drop_weighs, if_ours, op_weight, Plain}
+use Rattle.wasi_laws.specs.Order.{Connects, Listens}
 
 -- With what the others weigh, and room kept for one more, there is one of ours at most; and where one went out none has a check left.
 abbrev pub Within : (others : Bool → ℕ) (room g : ℕ) (weight : Bool → ℕ) → Type 0
@@ -62,20 +59,20 @@ module _ (ours : OpId → Bool) (others : Bool → ℕ) (below : others true ≤
   fewer false g d c l h = h
 
   module _ (who : Who) where
-    abbrev Left : List Entry → List Item → Type 0
-    Left es items = Within others room (gone_along ours 0 es) (op_weight ours who.id items)
+    abbrev Weighs : List Entry → List Item → Type 0
+    Weighs es items = Within others room (gone_along ours 0 es) (op_weight ours who.id items)
 
     abbrev After : List Entry → End × List Item → Type 0
-    After es ended = Left es ended.1
+    After es ended = Weighs es ended.1
 
-    less : (es : List Entry) (items now : List Item) → checks_of now ≤ checks_of items → Left es items → Left es now
+    less : (es : List Entry) (items now : List Item) → checks_of now ≤ checks_of items → Weighs es items → Weighs es now
     less es items now l k = fewer (ours who.id) (gone_along ours 0 es) (checks_of items) (checks_of now) l k
 
     -- so many are out after one more entry
-    then_out : (es : List Entry) (c : Call) (told : Told) (g : ℕ) (items : List Item) → gone_after ours (gone_along ours 0 es) who.id c ≡ g → Within others room g (op_weight ours who.id items) → Left (es ++ entry who.id c told ∷ []) items
+    then_out : (es : List Entry) (c : Call) (told : Told) (g : ℕ) (items : List Item) → gone_after ours (gone_along ours 0 es) who.id c ≡ g → Within others room g (op_weight ours who.id items) → Weighs (es ++ entry who.id c told ∷ []) items
     then_out es c told g items e k = subst (λ (n : ℕ). Within others room n (op_weight ours who.id items)) (sym (gone_push ours 0 es (entry who.id c told) ∙ e)) k
 
-    asks : (es : List Entry) (i : Item) (items : List Item) (c : Call) → AsksBy who i c → Left es (i ∷ items) → Asked ours es who.id c × ((told : Told) → Left (es ++ entry who.id c told ∷ []) (i ∷ items))
+    asks : (es : List Entry) (i : Item) (items : List Item) (c : Call) → AsksBy who i c → Weighs es (i ∷ items) → Asked ours es who.id c × ((told : Told) → Weighs (es ++ entry who.id c told ∷ []) (i ∷ items))
     asks es i items _ (Checks a usage t) k =
         let n : Numbers (ours who.id) (gone_along ours 0 es) (and_then ToCheck (checks_of items)) = subst (λ (x : Kind). Numbers (ours who.id) (gone_along ours 0 es) (and_then x (checks_of items))) (to_check i t) k in
         (check_may (ours who.id) (gone_along ours 0 es) (checks_of items) n, λ told. then_out es _ told (gone_along ours 0 es) (i ∷ items) refl k)
@@ -86,13 +83,13 @@ module _ (ours : OpId → Bool) (others : Bool → ℕ) (below : others true ≤
         (m.0, λ told. then_out es c told (out_by ours (ours who.id) g) (i ∷ items) m.1 (subst (N (out_by ours (ours who.id) g)) (sym (to_go i t)) (out_next (ours who.id) g (checks_of items) (subst (N g) (to_go i t) k))))
     asks es i items _ (Calmly c t s) k = let m = calm_may ours (gone_along ours 0 es) who.id c t in (m.0, λ told. then_out es c told (gone_along ours 0 es) (i ∷ items) m.1 k)
 
-    last : (es : List Entry) (items : List Item) (a : LastAsk) (c : ErrorCode) (given : Given) → Left es items → Allows (Asked ours) After es (last_ask who a c given)
+    last : (es : List Entry) (items : List Item) (a : LastAsk) (c : ErrorCode) (given : Given) → Weighs es items → Allows (Asked ours) After es (last_ask who a c given)
     unfolding bind
     last es items NothingLast c given k = less es items [] (omega arith) k
     last es items CloseLast c given k = (tt, λ told fits. then_out es _ told (gone_along ours 0 es) [] refl (less es items [] (omega arith) k))
     last es items ShutdownLast c given k = (tt, λ told fits. then_out es _ told (gone_along ours 0 es) [] refl (less es items [] (omega arith) k))
 
-    poll_law : PollLaw (Asked ours) who Left After
+    poll_law : PollLaw (Asked ours) who Weighs After
     poll_law = record {
       asks = λ es i items c a k. let x = asks es i items c a k in (x.0, λ told fits. x.1 told);
       writes = λ es b bytes items k. (tt, λ told fits front. then_out es (call.Write who.side (length (b ∷ bytes))) told (gone_along ours 0 es) (Write (b ∷ bytes) ∷ items) refl k);
@@ -106,3 +103,75 @@ module _ (ours : OpId → Bool) (others : Bool → ℕ) (below : others true ≤
   -- the poll keeps to its room
   pub poll_kept : (op : Operation) (es : List Entry) → Within others room (gone_along ours 0 es) (op_weight ours op.who.id op.left) → Allows (Asked ours) (λ fs ended. Within others room (gone_along ours 0 fs) (op_weight ours op.who.id ended.1)) es (poll_asks op)
   poll_kept op es k = polls_by (poll_law op.who) op.left es k
+
+-- its checks are the first that is left
+begins : (op : Operation) → IsOutward op → checks_of op.left ≤ 1
+begins op (Binds k) = subst (λ (o : Operation). checks_of o.left ≤ 1) (sym k.is) (by_stage k.stage)
+  where
+    by_stage : (s : BindStage) → checks_of (bind_left k.addr s) ≤ 1
+    by_stage stage.Check = omega arith
+    by_stage stage.Bind = omega arith
+    by_stage stage.Over = omega arith
+begins op (Connects k) = by_left op.left k.left
+  where
+    by_left : (items : List Item) → IsLeftOfConnect items → checks_of items ≤ 1
+    by_left _ (connect.Unbound wildcard a) = omega arith
+    by_left _ (connect.Unchecked a) = omega arith
+    by_left _ (connect.Checked a) = omega arith
+    by_left _ (connect.ToClose c) = omega arith
+    by_left _ connect.Ended = omega arith
+begins op (Listens k) = by_left op.left k.left
+  where
+    by_left : (items : List Item) → IsLeftOfListen items → checks_of items ≤ 1
+    by_left _ (listen.BoundBefore backlog) = omega arith
+    by_left _ (listen.AddressTold a backlog) = omega arith
+    by_left _ (listen.Unbound wildcard backlog) = omega arith
+    by_left _ (listen.BindChecked wildcard backlog) = omega arith
+    by_left _ (listen.Checked wildcard backlog) = omega arith
+    by_left _ (listen.Bound backlog) = omega arith
+    by_left _ (listen.ToClose c) = omega arith
+    by_left _ listen.Ended = omega arith
+
+-- nothing that checks is left
+none_kind : (k : Kind) (n : ℕ) → and_then k n ≡ 0 → n ≡ 0
+none_kind ToCheck zero h = absurd (cc)
+none_kind ToCheck (suc n) h = absurd (cc)
+none_kind ToGo zero h = refl
+none_kind ToGo (suc n) h = absurd (cc)
+none_kind Plain n h = h
+
+not_none : (n : ℕ) → and_then ToCheck n ≡ 0 → ⊥
+not_none zero h = absurd (cc)
+not_none (suc n) h = absurd (cc)
+
+none_left : (items : List Item) → checks_of items ≡ 0 → NoCheckLeft items
+none_left [] h = tt
+none_left (Check a usage ∷ items) h = not_none (checks_of items) h
+none_left (CheckLocal usage ∷ items) h = not_none (checks_of items) h
+none_left (item ∷ items) h = none_left items (none_kind (kind_of item) (checks_of items) h)
+
+module _ (op : Operation) (out : IsOutward op) where
+  abbrev all : OpId → Bool
+  all id = true
+
+  abbrev Ended : List Entry → End × List Item → Type 0
+  Ended es ended = Within (λ i. 0) 0 (gone_along all 0 es) (op_weight all op.who.id ended.1)
+
+  of_poll : Allows (Asked all) Ended [] (poll_asks op)
+  of_poll = let k = begins op out in poll_kept all (λ i. 0) (omega arith) 0 op [] (omega arith, omega (arith, k))
+
+  first : (entries : List Entry) (rest : Asks (End × List Item)) → Left (operation_polled op) entries rest → ChecksFirst entries
+  first entries rest w = subst (λ (es : List Entry). ChecksFirst es) (asked_all entries) (asked_first all entries (λ before e after cut. allows_at (Asked all) Ended [] (poll_asks op) rest before e after of_poll (subst (λ (es : List Entry). Left (poll_asks op) es rest) cut w)))
+
+  none_later : (entries : List Entry) (ended : End × List Item) → Left (operation_polled op) entries (Give ended) → HasGone entries → NoCheckLeft ended.1
+  none_later entries ended w gone =
+      let k = reached (Asked all) Ended [] (poll_asks op) entries (Give ended) of_poll w in
+      let one = gone_out all (λ id. refl) 0 entries gone in
+      let c = k.1 in
+      none_left ended.1 (omega (arith, c, one))
+
+pub operation_checks_first : (op : Operation) (entries : List Entry) (rest : Asks (End × List Item)) → IsOutward op → Left (operation_polled op) entries rest → ChecksFirst entries
+operation_checks_first op entries rest out w = first op out entries rest w
+
+pub operation_leaves_none : (op : Operation) (entries : List Entry) (ended : End × List Item) → IsOutward op → Left (operation_polled op) entries (Give ended) → HasGone entries → NoCheckLeft ended.1
+operation_leaves_none op entries ended out w gone = none_later op out entries ended w gone

@@ -1,21 +1,12 @@
 -- What operations weigh: whether each is ours, and what it has left to check.
 use Rattle.std.proofs.Common.{◌≡◌, ℕ, zero, suc, ◌+◌, ◌≤◌, Bool, true, false, List, [], ◌∷◌, ◌++◌, Option, Some, None, slice_get, slice_set, ap, arith}
-use Rattle.wasi_world.specs.declared.ids.OpId.{OpId}
-use Rattle.wasi_world.specs.Operation.{Item, Check, CheckLocal, Bind, Connect, Listen, Accept, CheckArrival, Refuse, Receive, CheckPeer, Operation}
-use Rattle.wasi_tcp.specs.declared.socket.TcpState.{TcpState}
 use Rattle.wasi_tcp.specs.declared.socket.TcpState.TheVariants as state
-use Rattle.wasi_tcp.specs.declared.listener.Accepting.{Accepting}
 use Rattle.wasi_tcp.specs.declared.listener.Accepting.TheVariants as accepting
-use Rattle.wasi_tcp.specs.declared.writer.WriteState.{WriteState}
 use Rattle.wasi_tcp.specs.declared.writer.WriteState.TheVariants as writing
-use Rattle.wasi_host.specs.declared.listening.Listening.{Listening}
 use Rattle.wasi_host.specs.declared.listening.Listening.TheVariants as listening
-use Rattle.wasi_host.specs.declared.socket.Streams.{Streams}
-use Rattle.wasi_host.specs.declared.socket.Tcp2Socket.{Tcp2Socket}
-use Rattle.wasi_host.specs.declared.store.Standing.{Standing}
 use Rattle.wasi_host.specs.declared.store.StandingCall.{StandingCall}
 use Rattle.wasi_host.specs.declared.store.StandingCall.TheVariants as standing
-use Rattle.wasi_walks.proofs.walks.Moves.{Here}
+use Rattle.wasi_laws.proofs.Words.{OpId, Item, Check, CheckLocal, Bind, Connect, Listen, Accept, CheckArrival, Refuse, Receive, CheckPeer, Operation, TcpState, Accepting, WriteState, Listening, Streams, Tcp2Socket, Standing, Here}
 
 -- == the checks that are left
 -- what an item is to the checks of an operation: one, what they come before, or nothing
@@ -49,26 +40,20 @@ abbrev pub checks_of : List Item → ℕ
 checks_of [] = 0
 checks_of (item ∷ items) = and_then (kind_of item) (checks_of items)
 
-two_at_most : (k : Kind) (n : ℕ) → n ≤ 2 → and_then k n ≤ 2
-two_at_most ToCheck zero h = omega arith
-two_at_most ToCheck (suc n) h = h
-two_at_most ToGo zero h = omega arith
-two_at_most ToGo (suc n) h = omega arith
-two_at_most Plain n h = h
+-- an item counts for no less than what follows it, and all for 2 at most
+kind_counts : (k : Kind) (n : ℕ) → n ≤ 2 → (and_then k n ≤ 2) × (n ≤ and_then k n)
+kind_counts ToCheck zero h = (omega arith, omega arith)
+kind_counts ToCheck (suc n) h = (h, omega arith)
+kind_counts ToGo zero h = (omega arith, omega arith)
+kind_counts ToGo (suc n) h = (omega arith, h)
+kind_counts Plain n h = (h, omega arith)
 
 checks_at_most : (items : List Item) → checks_of items ≤ 2
 checks_at_most [] = omega arith
-checks_at_most (item ∷ items) = two_at_most (kind_of item) (checks_of items) (checks_at_most items)
-
-drop_kind : (k : Kind) (n : ℕ) → n ≤ 2 → n ≤ and_then k n
-drop_kind ToCheck zero h = omega arith
-drop_kind ToCheck (suc n) h = omega arith
-drop_kind ToGo zero h = omega arith
-drop_kind ToGo (suc n) h = h
-drop_kind Plain n h = omega arith
+checks_at_most (item ∷ items) = (kind_counts (kind_of item) (checks_of items) (checks_at_most items)).0
 
 pub drop_weighs : (item : Item) (items : List Item) → checks_of items ≤ checks_of (item ∷ items)
-drop_weighs item items = drop_kind (kind_of item) (checks_of items) (checks_at_most items)
+drop_weighs item items = (kind_counts (kind_of item) (checks_of items) (checks_at_most items)).1
 
 -- so many, where it is ours
 abbrev pub if_ours : Bool → ℕ → ℕ

@@ -1,61 +1,25 @@
 -- The law that what a side takes is the front of what it is let write.
-use Rattle.std.specs.Prelude.{⊤}
 use Rattle.std.proofs.Common.{◌≡◌, inl, inr, ℕ, Bool, true, false, if◌then◌else◌, List, [], ◌∷◌, ◌++◌, Option, Some, None, refl, sym, ap, subst, ◌∙◌, slice_set, append-nil, append_assoc}
-use Rattle.wasi_addr.specs.declared.address.SocketAddressFamily.{SocketAddressFamily}
-use Rattle.wasi_world.specs.declared.outcome.WasiSocketsCtx.{WasiSocketsCtx}
-use Rattle.wasi_world.specs.declared.ids.OpId.{OpId}
-use Rattle.wasi_world.specs.declared.call.Call.{Call}
 use Rattle.wasi_world.specs.declared.call.Call.TheVariants as call
-use Rattle.wasi_world.specs.declared.call.Told.{Told}
 use Rattle.wasi_world.specs.declared.call.Told.TheVariants as told
-use Rattle.wasi_world.specs.declared.call.Entry.{Entry}
-use Rattle.wasi_world.specs.Asks.{Asks}
-use Rattle.wasi_world.specs.Operation.{Operation, End, Waits, Done, Refused, Item, poll_asks}
-use Rattle.wasi_world.specs.Sides.{is_same}
-use Rattle.wasi_world.proofs.Allowed.{Allows, allows_weaker, allows_keep}
 use Rattle.wasi_tcp.specs.declared.halves.TcpSendStream.{TcpSendStream}
 use Rattle.wasi_tcp.specs.declared.listener.Accepting.TheVariants as accepting
 use Rattle.wasi_tcp.specs.declared.reader.ReadState.TheVariants as reading
 use Rattle.wasi_tcp.specs.declared.socket.Connection.{Connection}
-use Rattle.wasi_tcp.specs.declared.socket.TcpState.{TcpState}
 use Rattle.wasi_tcp.specs.declared.socket.TcpState.TheVariants as state
-use Rattle.wasi_tcp.specs.declared.writer.WriteState.{WriteState}
 use Rattle.wasi_tcp.specs.declared.writer.WriteState.TheVariants as writing
-use Rattle.wasi_tcp.specs.Connect.{IsConnect, IsLeftOfConnect}
 use Rattle.wasi_tcp.specs.Connect as connect
-use Rattle.wasi_tcp.specs.Connecting.{HoldsConnect, with_state, connect_ended}
-use Rattle.wasi_tcp.specs.Job.{Job, job_after, new_job}
-use Rattle.wasi_tcp.specs.Listen.{IsListen, IsLeftOfListen}
 use Rattle.wasi_tcp.specs.Listen as listen
-use Rattle.wasi_tcp.specs.Listener.{HoldsAccept, IsAcceptOn, accept_ended}
-use Rattle.wasi_tcp.specs.Socket.{side_in, side_of, new_socket}
-use Rattle.wasi_tcp.specs.Taken.{taken_in, IsFrontOf, bytes_left}
-use Rattle.wasi_host.specs.declared.listening.Listening.TheVariants.{Not, Begins}
-use Rattle.wasi_host.specs.declared.socket.Streams.{Streams}
-use Rattle.wasi_host.specs.declared.socket.Tcp2Socket.{Tcp2Socket}
-use Rattle.wasi_host.specs.Listening.{with_listening}
-use Rattle.wasi_host.specs.Machine.{own_of}
-use Rattle.wasi_host.specs.Store.{new_record, with_inner, with_reader, with_writer}
-use Rattle.wasi_steps.specs.declared.step.Step.{Step}
-use Rattle.wasi_walks.specs.Licence.{entry}
 use Rattle.wasi_walks.specs.Waiting.{IsLeftOfBind}
 use Rattle.wasi_walks.specs.Waiting as binding
-use Rattle.wasi_walks.proofs.fits.Records.{FitListening}
-use Rattle.wasi_walks.proofs.fits.Law.{Fit}
-use Rattle.wasi_walks.proofs.licence.State.{accept_name, name_in}
-use Rattle.wasi_walks.proofs.claims.Law.{Named, fresh, taken_fresh, accept_plain}
-use Rattle.wasi_walks.proofs.claims.Polls.{NoWrite, none_taken, Quiet, ArePlain, plain_poll}
-use Rattle.wasi_walks.proofs.walks.Moves.{Held, InHand, Connects, Listens, Awaits, Own, Used, Unused, ToWrite, Here, put, Found, Move, Reaches, Leaves, Spends, Changes, ClosesReader, Writes, IsGone, opened_by, Reconnects, Opens, BeginsConnect, BeginsBind, BeginsWrite, Stands, Resumes, Ends, Lists, Takes, BeginsListen, BeginsAccept, Unlistens, Forgets, Watches, Joins, StandsListen, StandsDrop, ResumesDrop, Unstands, listen_after, accepting_now, closed_record, new_accept, joined}
-use Rattle.wasi_laws.proofs.asks.Calm.{unwritten}
-use Rattle.wasi_laws.proofs.asks.Fronts.{polls_by}
+use Rattle.wasi_walks.proofs.walks.Moves.{Ends}
+use Rattle.wasi_laws.proofs.Words.{⊤, SocketAddressFamily, WasiSocketsCtx, OpId, Call, Told, Entry, Asks, Operation, End, Waits, Done, Refused, Item, poll_asks, is_same, Allows, allows_weaker, allows_keep, TcpState, WriteState, IsConnect, IsLeftOfConnect, HoldsConnect, with_state, connect_ended, Job, job_after, new_job, IsListen, IsLeftOfListen, HoldsAccept, IsAcceptOn, accept_ended, side_in, side_of, new_socket, taken_in, IsFrontOf, bytes_left, Not, Begins, Streams, Tcp2Socket, with_listening, own_of, new_record, with_inner, with_reader, with_writer, Step, entry, FitListening, Fit, accept_name, name_in, Named, fresh, taken_fresh, accept_plain, NoWrite, none_taken, Quiet, ArePlain, plain_poll, Held, InHand, Connects, Listens, Awaits, Own, Used, Unused, ToWrite, Here, put, Found, Move, Reaches, Leaves, Spends, Changes, ClosesReader, Writes, IsGone, opened_by, Reconnects, Opens, BeginsConnect, BeginsBind, BeginsWrite, Stands, Resumes, Lists, Takes, BeginsListen, BeginsAccept, Unlistens, Forgets, Watches, Joins, StandsListen, StandsDrop, ResumesDrop, Unstands, listen_after, accepting_now, closed_record, new_accept, joined}
+use Rattle.wasi_laws.proofs.asks.Fronts.{unwritten, polls_by}
 use Rattle.wasi_laws.proofs.asks.Single.{Single, Grounds, Closing, ClosesSocket, ClosesListen, ClosesArrived, creating}
 use Rattle.wasi_laws.proofs.asks.Trees.{GoesOn, InWriting, InClosing}
-use Rattle.wasi_laws.proofs.shapes.Shape.{some_same, JobIs, WriterIs, HasStreams, StreamsShape}
-use Rattle.wasi_laws.proofs.shapes.Lives.{IsBegun, Lives, Follows, follows_same, follows_state, follows_quiet, follows_begun, follows_gone, gone_lacks}
-use Rattle.wasi_laws.proofs.permits.Agreeing.{JobAgrees, Agrees, Agree, Agreeing, agrees_put, agrees_moved, agrees_push}
-use Rattle.wasi_laws.proofs.permits.Jobs.{After, write_law}
-use Rattle.wasi_laws.proofs.permits.Taken.{taken_push, same_side, not_same, Fronts, quiet_keep, Accounts}
-use Rattle.wasi_laws.proofs.permits.Writer.{writer_agrees}
+use Rattle.wasi_laws.proofs.shapes.Shape.{same_side, not_same, some_same, JobIs, WriterIs, HasStreams, StreamsShape, IsBegun, Lives, Follows, follows_same, follows_state, follows_quiet, follows_begun, follows_gone, gone_lacks}
+use Rattle.wasi_laws.proofs.permits.Agreeing.{JobAgrees, Agrees, Agree, Agreeing, agrees_put, agrees_moved, agrees_push, writer_agrees}
+use Rattle.wasi_laws.proofs.permits.Taken.{After, write_law, taken_push, Fronts, quiet_keep, Accounts}
 
 -- == what goes on besides a write writes nothing
 bind_plain : (items : List Item) → IsLeftOfBind items → ArePlain items

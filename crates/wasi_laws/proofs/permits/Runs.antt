@@ -1,38 +1,93 @@
 -- Along a run what a side took is the front of what was permitted; and where a check-write answers a permit, all of it.
-use Rattle.std.proofs.Common.{◌≡◌, ℕ, suc, ◌+◌, ◌<◌, nat_lt, Bool, true, false, if◌then◌else◌, List, [], ◌∷◌, ◌++◌, Option, Some, None, length, slice_get, refl, sym, ap, subst, ◌∙◌, arith, append-nil, append_assoc, inl}
-use Rattle.wasi_world.specs.declared.ids.OpId.{OpId}
-use Rattle.wasi_world.specs.declared.call.Entry.{Entry}
-use Rattle.wasi_world.specs.declared.outcome.WasiSocketsCtx.{WasiSocketsCtx}
-use Rattle.wasi_world.specs.Asks.{Asks, Give, Left}
-use Rattle.wasi_world.specs.Sides.{is_same}
-use Rattle.wasi_world.proofs.Allowed.{Allows, allows_weaker, reached, holds}
-use Rattle.wasi_tcp.specs.declared.writer.WriteState.{WriteState}
-use Rattle.wasi_tcp.specs.declared.writer.WriteState.TheVariants as writing
-use Rattle.wasi_tcp.specs.Taken.{taken_in, IsFrontOf}
-use Rattle.wasi_host.specs.declared.machine.Machine.{Machine}
-use Rattle.wasi_host.specs.declared.socket.Streams.{Streams}
-use Rattle.wasi_host.specs.declared.socket.Tcp2Socket.{Tcp2Socket}
-use Rattle.wasi_host.specs.declared.store.Standing.{Standing}
-use Rattle.wasi_host.specs.Machine.{first_state, output_at}
+use Rattle.std.proofs.Common.{◌≡◌, ℕ, ◌<◌, List, [], ◌++◌, Option, Some, None, Ok, Err, Result, slice_get, refl, sym, ap, subst, ◌∙◌, append-nil, inl, suc, ◌+◌, nat_lt, Bool, true, false, if◌then◌else◌, ◌∷◌, length, arith, append_assoc}
+use Rattle.wasi_streams.specs.StreamStop as stop
+use Rattle.wasi_host.specs.Host.{CallStop, Failed, Closed, Traps}
+use Rattle.wasi_host.specs.StreamCalls.{convert_asks, converted, stream_on, check_asks}
 use Rattle.wasi_steps.specs.declared.reply.Reply.TheVariants as reply
-use Rattle.wasi_walks.specs.Answered.{record_in, Answered}
-use Rattle.wasi_laws.specs.Permitted.{let_begin, permitted_in, permitted_by, writer_in, writer_of_record, WritesTo, Did, Nothing, Then}
-use Rattle.wasi_steps.specs.declared.reply.Reply.{Reply}
-use Rattle.wasi_steps.specs.declared.step.Step.{Step}
 use Rattle.wasi_steps.specs.declared.step.Step.TheVariants as step
-use Rattle.wasi_machine.specs.Machine.{machine_asks}
-use Rattle.wasi_steps.specs.Reply.{number_fields}
-use Rattle.wasi_laws.proofs.permits.Agreeing.{Agreeing}
-use Rattle.wasi_laws.proofs.asks.Single.{single_along}
-use Rattle.wasi_laws.proofs.shapes.Law.{Shaped}
-use Rattle.wasi_laws.proofs.permits.Law.{Owes, permits}
-use Rattle.wasi_walks.proofs.walks.Moves.{Own, Used, Unused, ToWrite}
-use Rattle.wasi_walks.proofs.walks.States.{Over}
+use Rattle.wasi_tcp.specs.declared.writer.WriteState.TheVariants as writing
 use Rattle.wasi_walks.proofs.walks.Writes.{may_begin, may_of, may_in, may_at, may, let_write}
-use Rattle.wasi_walks.proofs.walks.Steps.{may_while, machine_walks}
-use Rattle.wasi_walks.proofs.claims.Lines.{BaseBetween, first_base, base_starts, base_over}
-use Rattle.wasi_laws.proofs.permits.All.{all_taken}
-use Rattle.wasi_laws.proofs.permits.Taken.{taken_append}
+use Rattle.wasi_laws.proofs.Words.{⊤, IsSomeAnd, OpId, Entry, WasiSocketsCtx, Give, bind, Left, reached, StreamStop, is_full, side_of, side_in, WriteState, writer_side, check_write_asks, taken_in, ErrorValue, make_asks, Machine, Streams, Tcp2Socket, Standing, writer_of, writer_asks, stream_at, with_store, output_at, own_of, side_at, Reply, number_fields, permit_reply, machine_asks, record_in, Answered, writer_in, writer_of_record, WritesTo, Quiet, quiet_then, quiet_if, Named, Unused, Starts, Over, Asks, is_same, Allows, allows_weaker, holds, IsFrontOf, first_state, let_begin, permitted_in, permitted_by, Did, Then, Step, Own, Used, ToWrite, may_while, machine_walks, BaseBetween, first_base, base_starts, base_over}
+use Rattle.wasi_laws.proofs.shapes.Shape.{HasStreams, StreamsShape, of_writer}
+use Rattle.wasi_laws.proofs.shapes.Law.{Shaped}
+use Rattle.wasi_laws.proofs.permits.Agreeing.{Agree, Agreeing, SaysAll, quiet_check}
+use Rattle.wasi_laws.proofs.permits.Taken.{Fronts, quiet_keep, taken_append}
+use Rattle.wasi_laws.specs.Permitted.{Nothing}
+use Rattle.wasi_laws.proofs.asks.Single.{single_along}
+use Rattle.wasi_laws.proofs.permits.Law.{Owes, permits}
+
+module _ (side : OpId) (taken permitted : List ℕ) (m : Machine) (own : OpId) (output : ℕ) (line : ℕ) (h : Agreeing side taken permitted m.store.sockets) (shaped : Shaped (Over m)) (named : Named line (Starts m Unused)) where
+  -- the writer of the output writes to the side
+  abbrev Writes : Option WriteState → Type 0
+  Writes found = IsSomeAnd found (λ w. writer_side w ≡ Some side)
+
+  abbrev Says : {A : Type 0} → Result ℕ StreamStop × A → Type 0
+  Says done = SaysAll taken permitted done.0
+
+  abbrev Tells : Result ℕ CallStop × Machine → Type 0
+  Tells (Ok n, now) = 0 < n → taken ≡ permitted
+  Tells (Err stop, now) = ⊤
+
+  marks : (es : List Entry) (now : Machine) (place : ℕ) → Quiet (λ made. ⊤) es (make_asks now.table own ErrorValue (Some output) (side_at (slice_get now.store.sockets place)))
+  unfolding bind
+  marks es now place = quiet_if (λ made. ⊤) es (is_full now.table) _ _ (λ full. tt) (λ room. (tt, λ told fits. tt))
+
+  converts : (es : List Entry) (now : Machine) (place : ℕ) (why : StreamStop) → Quiet (λ c. ⊤) es (convert_asks now own output place why)
+  converts es now place (stop.Failed c) = quiet_then (λ made. ⊤) (λ c. ⊤) es (make_asks now.table own ErrorValue (Some output) (side_at (slice_get now.store.sockets place))) _ (marks es now place) (λ fs made k. tt)
+  converts es now place stop.Closed = tt
+  converts es now place (stop.Trap kind) = tt
+
+  tells : (es : List Entry) (place : ℕ) (done : Result ℕ StreamStop × Machine) → Says done → Quiet Tells es (converted own output place done)
+  tells es place (Ok n, now) k = k
+  tells es place (Err why, now) k =
+      quiet_then (λ c. ⊤) Tells es (convert_asks now own output place why) _ (converts es now place why) (λ fs c q. tt)
+
+  says_of : (place : ℕ) (r : Tcp2Socket) (o : Option Streams) → slice_get m.store.sockets place ≡ Some r → r.streams ≡ o → Writes (writer_in o) → Quiet Says [] (writer_of r (check_write_asks own) o)
+  says_of place r None g e w = absurd w
+  says_of place r (Some s) g e w =
+      let o : HasStreams r.inner.state s = subst (StreamsShape r.inner.state) e (shaped place r g).0 in
+      let held : side_of r.inner ≡ Some side = ap side_in o.is ∙ ap (λ (x : OpId). Some x) (of_writer o.connection.side side s.writer o.writer w) in
+      quiet_then (λ done. SaysAll taken permitted done.0) Says [] (check_write_asks own s.writer) _ (quiet_check taken permitted [] own s.writer (subst (Agree taken permitted) e (h.lives place r g (named.named side place r g held, inl held)))) (λ fs done k. k)
+
+  says_at : (place : ℕ) (o : Option Tcp2Socket) → slice_get m.store.sockets place ≡ o → Writes (writer_of_record o) → Quiet Says [] (stream_at m.store place (writer_asks (check_write_asks own)) o)
+  says_at place None g w = absurd w
+  says_at place (Some r) g w = quiet_then Says Says [] (writer_asks (check_write_asks own) r) _ (says_of place r r.streams g refl w) (λ fs done k. k)
+
+  tells_on : (o : Option ℕ) → Writes (writer_of_record (record_in m o)) → Quiet Tells [] (stream_on m own output (writer_asks (check_write_asks own)) o)
+  tells_on None w = absurd w
+  tells_on (Some place) w =
+      let o = slice_get m.store.sockets place in
+      quiet_then Says Tells [] (stream_at m.store place (writer_asks (check_write_asks own)) o) _ (says_at place o refl w) (λ fs done k. tells fs place (with_store m done) k)
+
+  -- of the reply
+  abbrev Replies : Reply × Machine → Type 0
+  Replies done = (n : ℕ) → done.0 ≡ reply.Ok (number_fields n) → 0 < n → taken ≡ permitted
+
+  replies : (done : Result ℕ CallStop × Machine) → Tells done → Replies (permit_reply done.0, done.1)
+  replies (Ok v, now) k n e l = let same : v ≡ n = cc in k (subst (λ (x : ℕ). 0 < x) (sym same) l)
+  replies (Err (Failed c why), now) k n e l = absurd (cc)
+  replies (Err Closed, now) k n e l = absurd (cc)
+  replies (Err (Traps kind), now) k n e l = absurd (cc)
+
+  check_replies : WritesTo m output side → Quiet Replies [] (bind (check_asks m own output) (λ done. Give (permit_reply done.0, done.1)))
+  check_replies w = quiet_then Tells Replies [] (check_asks m own output) _ (tells_on (output_at m output) w) (λ fs done k. replies done k)
+
+module _ (contexts : List WasiSocketsCtx) (side : OpId) (taken permitted : List ℕ) (line : ℕ) (m : Machine) (ctx output n : ℕ) (h : Agreeing side taken permitted m.store.sockets) (shaped : Shaped (Over m)) (named : Named line (Starts m Unused)) (w : WritesTo m output side) (some : 0 < n) where
+  abbrev IsBusy : List Entry → Reply × Machine → Type 0
+  IsBusy es done = done.0 ≡ reply.Busy
+
+  all_by : (standing : Option Standing) (entries : List Entry) (next : Machine) → Left (asks_while contexts m line (step.CheckWrite ctx output) standing) entries (Give (reply.Ok (number_fields n), next)) → taken ++ taken_in side entries ≡ permitted
+  all_by None entries next walk =
+      let asks = bind (check_asks m (own_of line) output) (λ done. Give (permit_reply done.0, done.1)) in
+      let Q = Replies side taken permitted m (own_of line) output line h shaped named in
+      let k = reached (Fronts side permitted) (λ es done. (taken_in side es ≡ []) × Q done) [] asks entries (Give (reply.Ok (number_fields n), next))
+      (quiet_keep side permitted Q [] [] asks (permitted, refl) refl (check_replies side taken permitted m (own_of line) output line h shaped named w)) walk in
+      ap (λ more. taken ++ more) k.0 ∙ (append-nil taken ∙ k.1 n refl some)
+  all_by (Some c) entries next walk =
+      let e : reply.Ok (number_fields n) ≡ reply.Busy = reached (λ es o c. ⊤) IsBusy [] (Give (reply.Busy, m)) entries (Give (reply.Ok (number_fields n), next)) refl walk in absurd (cc)
+
+  pub all_taken : (entries : List Entry) (next : Machine) → Answered contexts m line (step.CheckWrite ctx output) entries (reply.Ok (number_fields n)) next → taken ++ taken_in side entries ≡ permitted
+  all_taken entries next walk = all_by m.store.standing entries next walk
 
 -- what a line is let write to the side, said as the machine says it
 module _ (side : OpId) where

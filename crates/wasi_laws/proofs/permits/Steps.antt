@@ -1,17 +1,7 @@
 -- The log of a run is that of the steps that were done, and of the beginning of the next.
 use Rattle.std.proofs.Common.{◌≡◌, ℕ, suc, ◌+◌, Bool, true, false, if◌then◌else◌, List, [], ◌∷◌, ◌++◌, length, refl, sym, ap, subst, ◌∙◌, arith, append_assoc}
-use Rattle.wasi_world.specs.declared.ids.OpId.{OpId}
-use Rattle.wasi_world.specs.declared.call.Entry.{Entry}
-use Rattle.wasi_world.specs.declared.outcome.WasiSocketsCtx.{WasiSocketsCtx}
-use Rattle.wasi_world.specs.Asks.{Asks, Give, Ask, AskWrite, bind, Left}
-use Rattle.wasi_host.specs.declared.machine.Machine.{Machine}
-use Rattle.wasi_host.specs.Machine.{first_state}
-use Rattle.wasi_steps.specs.declared.reply.Reply.{Reply}
-use Rattle.wasi_steps.specs.declared.step.Step.{Step}
-use Rattle.wasi_steps.specs.Reply.{is_trap}
-use Rattle.wasi_machine.specs.Machine.{machine_asks, run}
-use Rattle.wasi_walks.specs.Answered.{Answered}
-use Rattle.wasi_laws.specs.Permitted.{permitted_by, Nothing, Then, Begun, IsOfSteps}
+use Rattle.wasi_laws.proofs.Words.{OpId, Entry, WasiSocketsCtx, Asks, Give, Ask, AskWrite, bind, Left, Machine, first_state, Reply, Step, is_trap, machine_asks, run, Answered, permitted_by, Then, Begun, IsOfSteps}
+use Rattle.wasi_laws.specs.Permitted.{Nothing}
 
 -- == the run
 -- where a walk of one tree after another stands

@@ -1,43 +1,11 @@
 -- The law that each record has its shape.
-use Rattle.std.specs.Prelude.{⊤}
 use Rattle.std.proofs.Common.{◌≡◌, ℕ, true, List, [], ◌∷◌, ◌++◌, Option, Some, None, Result, Ok, Err, refl, sym, ap, subst, ◌∙◌, slice_get, slice_set, length, inl, inr}
-use Rattle.wasi_addr.specs.declared.address.SocketAddressFamily.{SocketAddressFamily}
-use Rattle.wasi_addr.specs.declared.code.ErrorCode.{ErrorCode}
-use Rattle.wasi_world.specs.declared.outcome.WasiSocketsCtx.{WasiSocketsCtx}
-use Rattle.wasi_world.specs.declared.call.Entry.{Entry}
-use Rattle.wasi_world.specs.declared.ids.OpId.{OpId}
-use Rattle.wasi_world.specs.Asks.{Asks, bind}
-use Rattle.wasi_world.specs.Typed.{told_addr}
-use Rattle.wasi_world.specs.Operation.{Given, Item, Who, LastAsk, NothingLast, CloseLast, ShutdownLast, Operation, End, Waits, Done, Refused, last_ask, poll_asks}
-use Rattle.wasi_world.proofs.Allowed.{Allows, allows_then, allows_weaker}
 use Rattle.wasi_tcp.specs.declared.reader.ReadState.TheVariants as reading
 use Rattle.wasi_tcp.specs.declared.socket.Connection.{Connection}
-use Rattle.wasi_tcp.specs.declared.socket.TcpState.{TcpState}
 use Rattle.wasi_tcp.specs.declared.socket.TcpState.TheVariants as state
-use Rattle.wasi_tcp.specs.declared.writer.WriteState.{WriteState}
-use Rattle.wasi_tcp.specs.Connecting.{with_state, connect_ended}
-use Rattle.wasi_tcp.specs.Job.{Job, job_after}
-use Rattle.wasi_tcp.specs.Listener.{Listener}
-use Rattle.wasi_tcp.specs.Shape.{Socket}
-use Rattle.wasi_tcp.specs.Socket.{side_of, new_asks}
-use Rattle.wasi_tcp.specs.Writer.{turn_asks}
-use Rattle.wasi_host.specs.declared.listening.Listening.{Listening}
-use Rattle.wasi_host.specs.declared.listening.Listening.TheVariants.{Not, Begins, Accepts, Unclosed}
-use Rattle.wasi_host.specs.declared.socket.Streams.{Streams}
-use Rattle.wasi_host.specs.declared.socket.Tcp2Socket.{Tcp2Socket}
-use Rattle.wasi_host.specs.Listening.{with_listening}
-use Rattle.wasi_host.specs.Kinds.{make_asks}
-use Rattle.wasi_host.specs.declared.kind.Kind.TheVariants.{Tcp2}
-use Rattle.wasi_host.specs.Machine.{own_of, created_asks, create_asks}
-use Rattle.wasi_host.specs.Store.{with_inner, with_reader, with_writer, new_record}
-use Rattle.wasi_steps.specs.declared.step.Step.{Step}
-use Rattle.wasi_walks.proofs.Lists.{get_set, get_split}
-use Rattle.wasi_walks.proofs.fits.Law.{told_same, whatever}
 use Rattle.wasi_walks.proofs.fits.Polls.{Anything}
-use Rattle.wasi_walks.proofs.claims.Law.{Base, on_names, on_along}
-use Rattle.wasi_walks.proofs.walks.Law.{Law, Walks}
-use Rattle.wasi_walks.proofs.walks.OnBase.{both, Above}
-use Rattle.wasi_walks.proofs.walks.Moves.{Here, put, Found, Used, closed_record, joined, listen_after, accepting_now, opened_by, Held, InHand, Connects, Listens, Awaits, Move, Reaches, Leaves, Spends, Changes, ClosesReader, Writes, IsGone, Reconnects, Opens, BeginsConnect, BeginsBind, BeginsWrite, BeginsListen, BeginsAccept, Unlistens, Forgets, Watches, Joins, StandsListen, StandsDrop, ResumesDrop, Unstands, Stands, Resumes, Ends, Lists, Takes}
+use Rattle.wasi_walks.proofs.walks.Moves.{Ends}
+use Rattle.wasi_laws.proofs.Words.{⊤, SocketAddressFamily, ErrorCode, WasiSocketsCtx, Entry, OpId, Asks, bind, told_addr, Given, Item, Who, LastAsk, NothingLast, CloseLast, ShutdownLast, Operation, End, Waits, Done, Refused, last_ask, poll_asks, Allows, allows_then, allows_weaker, TcpState, WriteState, with_state, connect_ended, Job, job_after, Listener, Socket, side_of, new_asks, turn_asks, Listening, Not, Begins, Accepts, Unclosed, Streams, Tcp2Socket, with_listening, make_asks, Tcp2, own_of, created_asks, create_asks, with_inner, with_reader, with_writer, new_record, Step, get_set, get_split, told_same, whatever, Base, on_names, on_along, Law, Walks, both, Above, Here, put, Found, Used, closed_record, joined, listen_after, accepting_now, opened_by, Held, InHand, Connects, Listens, Awaits, Move, Reaches, Leaves, Spends, Changes, ClosesReader, Writes, IsGone, Reconnects, Opens, BeginsConnect, BeginsBind, BeginsWrite, BeginsListen, BeginsAccept, Unlistens, Forgets, Watches, Joins, StandsListen, StandsDrop, ResumesDrop, Unstands, Stands, Resumes, Lists, Takes}
 use Rattle.wasi_laws.proofs.asks.Fronts.{Becomes, ToldAddress, Arrives, IsAdmitted, IsUnwanted, IsRefused, IsConnected, Comes, GoesBy, PollLaw, polls_by}
 use Rattle.wasi_laws.proofs.asks.Trees.{GoesOn, InWriting, InClosing, turns_by}
 use Rattle.wasi_laws.proofs.shapes.Shape.{IsOfWrite, AreOfWrite, end_write, JobIs, WriterIs, writer_moves, HasStreams, StreamsShape, ListenerShape, RecordShape, Unconnected, bare, sideless, restated}

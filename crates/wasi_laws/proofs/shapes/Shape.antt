@@ -1,27 +1,35 @@
 -- How a record stands: its streams are those of its connection, its writer writes on by itself to that side alone, and it listens
 -- by its socket's side.
-use Rattle.std.specs.Prelude.{⊤}
-use Rattle.std.proofs.Common.{◌≡◌, true, List, [], ◌∷◌, Option, Some, None, refl, sym, ap, subst, ◌∙◌}
-use Rattle.wasi_world.specs.declared.ids.OpId.{OpId}
-use Rattle.wasi_world.specs.Operation.{Item, Write, ShutdownSend, Last, ShutdownLast, End, Waits, Done, Refused}
+use Rattle.std.proofs.lemmas.Bool.{eqb-true}
+use Rattle.std.proofs.Common.{◌==◌, ◌&&◌, Bool, false, arith, ◌≡◌, true, List, [], ◌∷◌, Option, Some, None, refl, sym, ap, subst, ◌∙◌, ◌⊎◌, inl, inr, ℕ}
 use Rattle.wasi_tcp.specs.declared.halves.TcpReceiveStream.{TcpReceiveStream}
 use Rattle.wasi_tcp.specs.declared.reader.ReadState.TheVariants as reading
 use Rattle.wasi_tcp.specs.declared.socket.Connection.{Connection}
-use Rattle.wasi_tcp.specs.declared.socket.TcpState.{TcpState}
 use Rattle.wasi_tcp.specs.declared.socket.TcpState.TheVariants as state
-use Rattle.wasi_tcp.specs.declared.writer.WriteState.{WriteState}
 use Rattle.wasi_tcp.specs.declared.writer.WriteState.TheVariants as writing
-use Rattle.wasi_tcp.specs.Job.{Job, then_closed}
-use Rattle.wasi_tcp.specs.Socket.{side_in, side_of}
-use Rattle.wasi_tcp.specs.Writer.{writer_side, writing_side, closing_side, written_by, closed_by}
-use Rattle.wasi_host.specs.declared.listening.Listening.{Listening}
-use Rattle.wasi_host.specs.declared.listening.Listening.TheVariants.{Not, Begins, Accepts, Unclosed}
-use Rattle.wasi_host.specs.declared.socket.Streams.{Streams}
-use Rattle.wasi_host.specs.declared.socket.Tcp2Socket.{Tcp2Socket}
-use Rattle.wasi_walks.proofs.walks.Moves.{IsOn, OfSocket, OfReader, OfWriter, WriterMoves, Collects, Permits, Lasts, LastsAfter, Closes}
+use Rattle.wasi_laws.proofs.Words.{is_same, ⊤, OpId, Item, Write, ShutdownSend, Last, ShutdownLast, End, Waits, Done, Refused, TcpState, WriteState, Job, then_closed, side_in, side_of, writer_side, writing_side, closing_side, written_by, closed_by, Listening, Not, Begins, Accepts, Unclosed, Streams, Tcp2Socket, IsOn, OfSocket, OfReader, OfWriter, WriterMoves, Collects, Permits, Lasts, LastsAfter, Closes, own_of, Named, no_some, Here, Found, beginning_listen}
 
 pub some_same : {A : Type 0} (a b : A) → Some a ≡ Some b → a ≡ b
 some_same a b e = cc
+
+-- == whether two sides are the same
+pub same_side : (a b : OpId) → is_same a b ≡ true → a ≡ b
+same_side a b h = by_tests (a.step == b.step) (a.part == b.part) (eqb-true a.step b.step) (eqb-true a.part b.part) h
+  where
+    by_tests : (x y : Bool) → (x ≡ true → a.step ≡ b.step) → (y ≡ true → a.part ≡ b.part) → (x && y) ≡ true → a ≡ b
+    by_tests true true f g e =
+        ap (λ (n : ℕ). let o : OpId = record { step = n; part = a.part } in o) (f refl) ∙ ap (λ (n : ℕ). let o : OpId = record { step = b.step; part = n } in o) (g refl)
+    by_tests true false f g e = absurd (cc)
+    by_tests false y f g e = absurd (cc)
+
+same_number : (n : ℕ) → (n == n) ≡ true
+same_number n = grind arith
+
+pub not_same : (a b : OpId) → a ≡ b → is_same a b ≡ false → ⊥
+not_same a b e h =
+    let p : is_same a a ≡ true = rw (same_number a.step, same_number a.part) refl in
+    let q : true ≡ false = sym p ∙ (ap (λ (x : OpId). is_same a x) e ∙ h) in
+    absurd (cc)
 
 -- == what is left of a write
 -- what follows its bytes: it writes nothing
@@ -151,3 +159,44 @@ pub on_socket : (r : Tcp2Socket) (x : OpId) → RecordShape r → IsOn r x → s
 on_socket r x k (OfSocket e) = e
 on_socket r x k (OfReader s half e d z) = let o = subst (StreamsShape r.inner.state) e k.0 in ap side_in o.is ∙ ap (λ (y : OpId). Some y) (sym (o.reader half d) ∙ z)
 on_socket r x k (OfWriter s e d) = let o = subst (StreamsShape r.inner.state) e k.0 in ap side_in o.is ∙ ap (λ (y : OpId). Some y) (of_writer o.connection.side x s.writer o.writer d)
+
+-- The record is as it was, as far as a law looks.
+pub record Same (r now : Tcp2Socket) : Type 0 where
+  pub side : now.side ≡ r.side
+  pub streams : now.streams ≡ r.streams
+  pub listening : now.listening ≡ r.listening
+  pub does : now.inner.state ≡ r.inner.state
+
+abbrev pub IsBegun : Listening → Type 0
+IsBegun (Begins op) = ⊤
+IsBegun _ = ⊥
+
+abbrev pub Lives : OpId → Tcp2Socket → Type 0
+Lives x r = (r.side ≡ Some x) × ((side_of r.inner ≡ Some x) ⊎ IsBegun r.listening)
+
+-- A record changes, and no side comes alive.
+pub record Follows (r now : Tcp2Socket) : Type 0 where
+  pub side : now.side ≡ r.side
+  pub lives : (x : OpId) → Lives x now → Lives x r
+
+pub follows_same : (r now : Tcp2Socket) → Same r now → Follows r now
+follows_same r now s = record { side = s.side; lives = λ x v. (sym s.side ∙ v.0, elim v.1 [ inl p ↦ inl (sym (ap side_in s.does) ∙ p) | inr p ↦ inr (subst IsBegun s.listening p) ]) }
+
+-- another state of the same side, or of none
+pub follows_state : (r now : Tcp2Socket) → now.side ≡ r.side → now.listening ≡ r.listening → ((x : OpId) → side_of now.inner ≡ Some x → side_of r.inner ≡ Some x) → Follows r now
+follows_state r now s l f = record { side = s; lives = λ x v. (sym s ∙ v.0, elim v.1 [ inl p ↦ inl (f x p) | inr p ↦ inr (subst IsBegun l p) ]) }
+
+-- a listen that doesn't go on
+pub follows_quiet : (r now : Tcp2Socket) → now.side ≡ r.side → side_of now.inner ≡ side_of r.inner → (IsBegun now.listening → ⊥) → Follows r now
+follows_quiet r now s d n = record { side = s; lives = λ x v. (sym s ∙ v.0, elim v.1 [ inl p ↦ inl (sym d ∙ p) | inr p ↦ absurd (n p) ]) }
+
+-- what has no side any more
+pub gone_lacks : (now : Tcp2Socket) → side_of now.inner ≡ None → (IsBegun now.listening → ⊥) → (x : OpId) → Lives x now → ⊥
+gone_lacks now d n x v = elim v.1 [ inl p ↦ no_some x (sym d ∙ p) | inr p ↦ n p ]
+
+pub follows_gone : (r now : Tcp2Socket) → now.side ≡ r.side → side_of now.inner ≡ None → (IsBegun now.listening → ⊥) → Follows r now
+follows_gone r now s d n = record { side = s; lives = λ x v. absurd (gone_lacks now d n x v) }
+
+-- the listen that begins has the side that its socket had
+pub follows_begun : (line : ℕ) (h : Here) (place : ℕ) (r : Tcp2Socket) (side : OpId) → Found h place r → r.inner.state ≡ state.Default side → Named line h → Follows r (beginning_listen (own_of line) side r)
+follows_begun line h place r side g d n = record { side = refl; lives = λ x v. (v.0, inl (ap side_in d ∙ (sym (n.named side place r g (ap side_in d)) ∙ v.0))) }

@@ -1,16 +1,10 @@
 -- The definitions on small logs: one that asks an open socket and closes it, and those that don't.
 use Rattle.std.proofs.Common.{◌≡◌, ℕ, inl, inr, List, [], ◌∷◌, ◌++◌, refl, ap, subst}
-use Rattle.std.specs.Prelude.{⊤}
 use Rattle.wasi_addr.specs.declared.address.SocketAddressFamily.TheVariants as family
 use Rattle.wasi_addr.specs.declared.code.ErrorCode.TheVariants as code
-use Rattle.wasi_world.specs.declared.ids.OpId.{OpId}
-use Rattle.wasi_world.specs.declared.call.Call.{Call}
 use Rattle.wasi_world.specs.declared.call.Call.TheVariants as call
 use Rattle.wasi_world.specs.declared.call.Told.TheVariants as told
-use Rattle.wasi_world.specs.declared.call.Entry.{Entry}
-use Rattle.wasi_host.specs.Machine.{own_of}
-use Rattle.wasi_walks.specs.Licence.{Has, entry}
-use Rattle.wasi_laws.specs.Opened.{socket_of, IsMade, Created, HandedOver, IsClosed, IsOpen, IsAskedOpen, AsksOpenSockets}
+use Rattle.wasi_laws.proofs.Words.{⊤, OpId, Call, Entry, own_of, Has, entry, socket_of, IsMade, Created, HandedOver, IsClosed, IsOpen, IsAskedOpen, AsksOpenSockets}
 
 -- line 1 makes the socket, line 2 asks it, line 3 closes it
 abbrev side : OpId

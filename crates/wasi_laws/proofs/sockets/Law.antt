@@ -1,56 +1,17 @@
 -- The law that what is asked of a socket is asked while it is open.
 use Rattle.std.proofs.Common.{◌≡◌, ◌⊎◌, true, inl, inr, ℕ, ◌+◌, ◌≤◌, List, [], ◌∷◌, ◌++◌, Some, None, refl, sym, ap, subst, ◌∙◌, append_assoc, arith}
-use Rattle.wasi_addr.specs.declared.address.IpSocketAddress.{IpSocketAddress}
-use Rattle.wasi_addr.specs.declared.address.SocketAddressFamily.{SocketAddressFamily}
-use Rattle.wasi_world.specs.declared.outcome.WasiSocketsCtx.{WasiSocketsCtx}
-use Rattle.wasi_world.specs.declared.ids.OpId.{OpId}
-use Rattle.wasi_world.specs.declared.call.Call.{Call}
 use Rattle.wasi_world.specs.declared.call.Call.TheVariants as call
-use Rattle.wasi_world.specs.declared.call.Told.{Told}
 use Rattle.wasi_world.specs.declared.call.Told.TheVariants as told
-use Rattle.wasi_world.specs.declared.call.Entry.{Entry}
-use Rattle.wasi_world.specs.Asks.{Asks, Left}
-use Rattle.wasi_world.specs.Operation.{Operation, End, Waits, Done, Refused, Item, CloseLast, NothingLast, ShutdownLast, Given, Connection, poll_asks}
-use Rattle.wasi_world.proofs.Allowed.{Allows}
-use Rattle.wasi_tcp.specs.declared.listener.Accepting.{Accepting}
 use Rattle.wasi_tcp.specs.declared.listener.Accepting.TheVariants as accepting
 use Rattle.wasi_tcp.specs.declared.socket.TcpState.TheVariants as state
-use Rattle.wasi_tcp.specs.declared.writer.WriteState.{WriteState}
-use Rattle.wasi_tcp.specs.Connecting.{with_state, connect_ended}
-use Rattle.wasi_tcp.specs.Job.{Job, job_after}
-use Rattle.wasi_tcp.specs.Listener.{Listener, HoldsAccept, IsAcceptOn, accept_ended, arrived}
-use Rattle.wasi_tcp.specs.Socket.{side_in, side_of, new_socket}
-use Rattle.wasi_host.specs.declared.listening.Listening.{Listening}
-use Rattle.wasi_host.specs.declared.listening.Listening.TheVariants.{Not, Begins, Accepts}
-use Rattle.wasi_host.specs.declared.machine.Machine.{Machine}
-use Rattle.wasi_host.specs.declared.socket.Streams.{Streams}
-use Rattle.wasi_host.specs.declared.socket.Tcp2Socket.{Tcp2Socket}
-use Rattle.wasi_host.specs.declared.store.Standing.{Standing}
 use Rattle.wasi_host.specs.declared.store.StandingCall.TheVariants as standing
-use Rattle.wasi_host.specs.Listening.{with_listening}
-use Rattle.wasi_host.specs.Machine.{own_of, first_state}
-use Rattle.wasi_host.specs.Store.{left_of, new_record, standing_bind, with_inner, with_writer}
-use Rattle.wasi_steps.specs.declared.reply.Reply.{Reply}
-use Rattle.wasi_steps.specs.declared.step.Step.{Step}
-use Rattle.wasi_walks.specs.Licence.{Has, entry}
-use Rattle.wasi_machine.specs.Machine.{run}
-use Rattle.wasi_walks.proofs.Lists.{cut_of, has_back, has_last}
-use Rattle.wasi_walks.proofs.fits.Law.{Fit}
-use Rattle.wasi_walks.proofs.fits.Records.{FitListening}
-use Rattle.wasi_walks.proofs.licence.State.{accept_name, name_in}
-use Rattle.wasi_walks.proofs.claims.Law.{Named, next_of, no_some}
-use Rattle.wasi_walks.proofs.walks.States.{Starts}
-use Rattle.wasi_walks.proofs.walks.Moves.{Here, put, Own, Used, Unused, ToWrite, Found, NoBind, NoBindStands, Held, InHand, Connects, Listens, Awaits, listen_after, accepting_now, closed_record, new_accept, second_of, joined, Move, Reaches, Leaves, Spends, Changes, ClosesReader, Writes, IsGone, Reconnects, Opens, BeginsConnect, BeginsBind, BeginsWrite, BeginsListen, BeginsAccept, Unlistens, Forgets, Watches, Joins, StandsListen, StandsDrop, ResumesDrop, Unstands, Stands, Resumes, Ends, Lists, Takes}
-use Rattle.wasi_laws.specs.Opened.{socket_of, IsMade, Created, IsOpen, IsAskedOpen, AsksOpenSockets}
-use Rattle.wasi_laws.proofs.asks.Calm.{is_calm}
-use Rattle.wasi_laws.proofs.asks.Fronts.{IsGivenMade}
-use Rattle.wasi_laws.proofs.asks.Lines.{each_ask}
-use Rattle.wasi_laws.proofs.asks.Single.{Single, Closing, ClosesSocket, ClosesListen, ClosesArrived, IsAskedOn, OnNone, OnSide, creating}
+use Rattle.wasi_walks.proofs.walks.Moves.{Ends}
+use Rattle.wasi_laws.proofs.Words.{IpSocketAddress, SocketAddressFamily, WasiSocketsCtx, OpId, Call, Told, Entry, Asks, Left, Operation, End, Waits, Done, Refused, Item, CloseLast, NothingLast, ShutdownLast, Given, Connection, poll_asks, Allows, Accepting, WriteState, with_state, connect_ended, Job, job_after, Listener, HoldsAccept, IsAcceptOn, accept_ended, arrived, side_in, side_of, new_socket, Listening, Not, Begins, Accepts, Machine, Streams, Tcp2Socket, Standing, with_listening, own_of, first_state, left_of, new_record, standing_bind, with_inner, with_writer, Reply, Step, Has, entry, run, cut_of, has_back, has_last, Fit, FitListening, accept_name, name_in, Named, next_of, no_some, Starts, Here, put, Own, Used, Unused, ToWrite, Found, NoBind, NoBindStands, Held, InHand, Connects, Listens, Awaits, listen_after, accepting_now, closed_record, new_accept, second_of, joined, Move, Reaches, Leaves, Spends, Changes, ClosesReader, Writes, IsGone, Reconnects, Opens, BeginsConnect, BeginsBind, BeginsWrite, BeginsListen, BeginsAccept, Unlistens, Forgets, Watches, Joins, StandsListen, StandsDrop, ResumesDrop, Unstands, Stands, Resumes, Lists, Takes, socket_of, IsMade, Created, IsOpen, IsAskedOpen, AsksOpenSockets}
+use Rattle.wasi_laws.proofs.asks.Fronts.{is_calm, IsGivenMade}
+use Rattle.wasi_laws.proofs.asks.Single.{each_ask, Single, Closing, ClosesSocket, ClosesListen, ClosesArrived, IsAskedOn, OnNone, OnSide, creating}
 use Rattle.wasi_laws.proofs.asks.Trees.{GoesOn, InWriting, InClosing}
-use Rattle.wasi_laws.proofs.shapes.Shape.{some_same, JobIs, WriterIs, HasStreams, StreamsShape, ListenerShape}
-use Rattle.wasi_laws.proofs.shapes.Lives.{IsBegun, Follows, follows_same, follows_state, follows_quiet, follows_begun, gone_lacks, follows_gone}
-use Rattle.wasi_laws.proofs.sockets.Grown.{Grows, grows_none, grows_entry}
-use Rattle.wasi_laws.proofs.sockets.Opened.{RecordOpen, name_of, changed, HasIt, one_more, opened_more, put_open, push_open, later, Kept, closed_put}
+use Rattle.wasi_laws.proofs.shapes.Shape.{some_same, JobIs, WriterIs, HasStreams, StreamsShape, ListenerShape, IsBegun, Follows, follows_same, follows_state, follows_quiet, follows_begun, gone_lacks, follows_gone}
+use Rattle.wasi_laws.proofs.sockets.Opened.{Grows, grows_none, grows_entry, RecordOpen, name_of, changed, HasIt, one_more, opened_more, put_open, push_open, later, Kept, closed_put}
 use Rattle.wasi_laws.proofs.sockets.Polls.{AskedOpen, calm_closes, PollLeaves, polled, calm_end}
 
 abbrev accept_of : Listening → Accepting

@@ -1,19 +1,9 @@
 -- One poll of an operation asks of its own side alone, and closes it only last, where it is refused.
-use Rattle.std.specs.Prelude.{⊤}
 use Rattle.std.proofs.Common.{◌≡◌, true, inl, inr, List, Option, Some, None, refl, sym, subst}
-use Rattle.wasi_addr.specs.declared.code.ErrorCode.{ErrorCode}
-use Rattle.wasi_world.specs.declared.ids.OpId.{OpId}
-use Rattle.wasi_world.specs.declared.call.Call.{Call}
 use Rattle.wasi_world.specs.declared.call.Call.TheVariants as call
-use Rattle.wasi_world.specs.declared.call.Entry.{Entry}
-use Rattle.wasi_world.specs.Asks.{bind}
-use Rattle.wasi_world.specs.Operation.{Given, Item, Who, Operation, LastAsk, NothingLast, CloseLast, ShutdownLast, End, Waits, Done, Refused, last_ask, poll_asks}
-use Rattle.wasi_world.proofs.Allowed.{Allows, allows_weaker}
-use Rattle.wasi_laws.specs.Opened.{IsOpen, IsAskedOpen, socket_of}
-use Rattle.wasi_laws.specs.Order.{GoesOut}
-use Rattle.wasi_laws.proofs.asks.Calm.{is_calm}
-use Rattle.wasi_laws.proofs.asks.Fronts.{IsOfSide, AsksBy, Checks, Goes, Calmly, of_side, IsGivenMade, PollLaw, polls_by}
-use Rattle.wasi_laws.proofs.sockets.Grown.{Closes, NoneCloses, Grows, grows_none, grows_entry, grows_weaker, open_more}
+use Rattle.wasi_laws.proofs.Words.{⊤, ErrorCode, OpId, Call, Entry, bind, Given, Item, Who, Operation, LastAsk, NothingLast, CloseLast, ShutdownLast, End, Waits, Done, Refused, last_ask, poll_asks, Allows, allows_weaker, IsOpen, IsAskedOpen, socket_of, GoesOut}
+use Rattle.wasi_laws.proofs.asks.Fronts.{is_calm, IsOfSide, AsksBy, Checks, Goes, Calmly, of_side, IsGivenMade, PollLaw, polls_by}
+use Rattle.wasi_laws.proofs.sockets.Opened.{Closes, NoneCloses, Grows, grows_none, grows_entry, grows_weaker, open_more}
 
 abbrev pub AskedOpen : List Entry → OpId → Call → Type 0
 AskedOpen es op c = IsAskedOpen es (socket_of c)
