@@ -69,7 +69,6 @@ use Rattle.wasi_world.specs.declared.outcome.Answer.TheVariants.{Ready, Pending}
 use Rattle.wasi_world.specs.declared.outcome.TrapKind.TheVariants.{HasChildren, NoSuchHandle, Full, NotPermitted}
 use Rattle.wasi_world.specs.declared.outcome.WasiSocketsCtx.{WasiSocketsCtx}
 
--- what is asked after these entries
 abbrev Adds : {A : Type 0} → List Entry → List Entry → Rows A
 Adds es more fs done = fs ≡ es ++ more
 
@@ -78,7 +77,6 @@ told_so : (op : OpId) (es : List Entry) (c : Call) (t : Told) → IsDone t → e
 told_so op es c told.Done fits = refl
 told_so op es c _ fits = absurd fits
 
--- two, one after the other
 then_so : (es one two fs gs : List Entry) → fs ≡ es ++ one → gs ≡ fs ++ two → gs ≡ es ++ (one ++ two)
 then_so es one two fs gs e h = h ∙ (ap (λ (xs : List Entry). xs ++ two) e ∙ append_assoc es one two)
 
@@ -200,7 +198,6 @@ no_fields_so : (fields : List Field) → AreLike (Each []) fields → fields ≡
 no_fields_so [] h = refl
 no_fields_so (f ∷ fields) h = absurd h
 
--- it is none that is busy
 pub dropped_free : (r : Reply) → IsDropped r → r ≢ reply.Busy
 dropped_free r d e = let k : IsDropped reply.Busy = subst IsDropped e d in k
 
@@ -290,7 +287,6 @@ module _ (contexts : List WasiSocketsCtx) (m : Machine) (line c handle : ℕ) wh
   abbrev DropSays : List Entry → Reply → Machine → Type 0
   DropSays = Outcome contexts m line (step.Drop c handle)
 
-  -- a socket with nothing under it
   pub socket_ok : (place : ℕ) → kind_at m.table handle ≡ Some (Tcp2 place) → children_of m.table.live handle ≡ [] → (es : List Entry) (r : Reply) (after : Machine) → DropSays es r after → r ≡ reply.Ok no_fields
   socket_ok place is free es (reply.Ok fields) after row = ap reply.Ok (no_fields_so fields row.1.0)
   socket_ok place is free es (reply.Pending n) after row = let out : IsSome (output_of (kind_at m.table handle)) = row.1.0.0.0 in let none : IsSome {T = ℕ} None = rw is at out in absurd (cc)
@@ -304,7 +300,6 @@ module _ (contexts : List WasiSocketsCtx) (m : Machine) (line c handle : ℕ) wh
   socket_ok place is free es reply.NoSuchCall after row = absurd row.1.0
   socket_ok place is free es _ after row = absurd row.1
 
-  -- what it gave up, and what is left
   pub record GivesUp (r : Tcp2Socket) (es : List Entry) (after : Machine) : Type 0 where
     pub asked : es ≡ socket_given_up (own_of line) r
     pub gone : OfRecord m handle (λ place r. IsGone after place)
@@ -313,7 +308,6 @@ module _ (contexts : List WasiSocketsCtx) (m : Machine) (line c handle : ℕ) wh
   gives_up r es after (Some (Tcp2 place)) is at gone = let k = gone r at in record { asked = k.0; gone = record { place = place; found = r; names = ap place_of is; at = at; holds = k.1 } }
   gives_up r es after _ is at gone = absurd (cc)
 
-  -- of the others
   pub asks_nothing : (kind : Kind) → GoesAtOnce kind → (es : List Entry) → AsksOnce line (Some kind) es → es ≡ []
   asks_nothing (Tcp2 place) plain es h = absurd plain
   asks_nothing (Output place) plain es h = absurd plain

@@ -94,7 +94,6 @@ module _ (line : ℕ) (r : Tcp2Socket) where
   abbrev IsAtWork : Watched → Type 0
   IsAtWork w = IsIdleSocket w r → ⊥
 
-  -- of such a socket it asks nothing
   abbrev IsIdle : List Entry → Tcp2Socket → Watched → Type 0
   IsIdle es now w = IsIdleSocket w r → (es ≡ []) × (now ≡ r)
 
@@ -120,7 +119,6 @@ module _ (line : ℕ) (r : Tcp2Socket) where
       connecting : IsAtWork (watched.Socket place)
       connecting idle = let none = idle.0 in cc
 
-      -- it is ready
       over : (es : List Entry) (now : Tcp2Socket) → IsIdle es now (watched.Socket place)
       over es now idle = absurd (connecting idle)
 
@@ -148,11 +146,9 @@ module _ (line : ℕ) (r : Tcp2Socket) where
       accepting_on : IsAtWork (watched.Socket place)
       accepting_on i = not_idle i.1
 
-      -- it has its result
       has_result : (es : List Entry) (now : Tcp2Socket) → IsIdle es now (watched.Socket place)
       has_result es now i = absurd (accepting_on i)
 
-      -- it waits
       waits_on : (es : List Entry) → (HoldsAccept l.side l.maker l.accept → AcceptWaits (accept_name line l.accept) es) → IsUnreadySo es (watched.Socket place)
       waits_on es h holds accepts = AcceptWaitsOn place l idle is (h (rw is at accepts))
 
@@ -218,7 +214,6 @@ module _ (contexts : List WasiSocketsCtx) (m : Machine) (line c pollable : ℕ) 
     none_there (watched.Input place) = refl
     none_there (watched.Output place) = refl
 
-    -- the record that it watches in is the one
     the_record : {P : Watched → Tcp2Socket → Type 0} (on : OfWatched m pollable P) → slice_get m.store.sockets (place_in w) ≡ Some on.found
     the_record on = let p = on.watches in let same : on.watch ≡ w = cc in rw (sym same) on.at
 
@@ -276,7 +271,6 @@ module _ (contexts : List WasiSocketsCtx) (m : Machine) (line n : ℕ) where
     stands_so : stands_as m.store.standing n ≡ false → ⊥
     stands_so none = let same : stands_as m.store.standing n ≡ true = ap (λ (o : Option Standing). stands_as o n) stands ∙ eq-eqb n n refl in cc
 
-    -- it is over
     it_ends : (es : List Entry) (r : Reply) (after : Machine) → r ≢ reply.NoSuchCall → after.store.standing ≡ None → Always m line (step.Poll n) es r after
     it_ends es r after other none = (apart other stands_so, λ same. inr none)
 
@@ -301,7 +295,6 @@ module _ (contexts : List WasiSocketsCtx) (m : Machine) (line n : ℕ) where
   abbrev DropRow : Rows (Result (Option (Answer Given)) CallStop × Machine)
   DropRow es done = Row es (resumed_reply n done.0, done.1)
 
-  -- what follows
   abbrev NextRow : Rows (Result (Option (Answer Given)) Stop × Machine)
   NextRow es done = Meets Row es (poll_on n done)
 
@@ -317,7 +310,6 @@ module _ (contexts : List WasiSocketsCtx) (m : Machine) (line n : ℕ) where
       abbrev BegunRow : Rows (Result (Answer (Unit {0})) ErrorCode × Tcp2Socket)
       BegunRow es begun = ListenRow es (listen_answered (unstood m.store) n place begun)
 
-      -- it doesn't go on
       gives_up : HasNoListen r → BegunRow [] (Err InvalidState, r)
       gives_up none = fails (Listen place) stands_listening InvalidState refl (λ binds. NoListen place (rw at none) refl)
 
@@ -325,7 +317,6 @@ module _ (contexts : List WasiSocketsCtx) (m : Machine) (line n : ℕ) where
         abbrev PolledRow : Rows (Result (Answer Listener) ErrorCode × (Operation × Socket))
         PolledRow es done = BegunRow es (listen_polled r done)
 
-        -- what stands by a listen is one
         is_listen : StandsByBind m → IsListen op
         is_listen binds =
             let k : IfSome (slice_get m.store.sockets place) (λ q. IsListening q.listening) = rw stands_listening at binds in

@@ -1,5 +1,4 @@
 -- The calls on a socket.
-pub mod Accepts
-pub mod Finishes
+pub mod Makes
 pub mod Questions
 pub mod Starts

@@ -1,5 +1,4 @@
 -- Tables of outcomes: how a tree meets one, the routes that steps share, each step, and what is read off.
-pub mod Creates
 pub mod Examples
 pub mod Meets
 pub mod Routes

@@ -25,7 +25,6 @@ use Rattle.wasi_world.specs.declared.call.Told.{Told}
 use Rattle.wasi_world.specs.declared.call.Told.TheVariants as told
 use Rattle.wasi_world.specs.declared.ids.OpId.{OpId}
 
--- one entry more
 pub refused_in-push : (es : List Entry) (e : Entry) → refused_in (es ++ e ∷ []) ≡ refused_in es + refused_by e.call
 refused_in-push [] e = omega arith
 refused_in-push (x ∷ es) e = let k = refused_in-push es e in omega arith
@@ -42,7 +41,6 @@ module _ (who : Who) where
     pub front : List Entry
     pub is : es ≡ front ++ entry who.id (call.Accept who.side) (told.Code c) ∷ []
 
-  -- nothing but a connection is given
   abbrev pub IsGivenOver : List Entry → Given → Type 0
   IsGivenOver es (Connection new peer) = HandsOver es new peer
   IsGivenOver es _ = ⊥
@@ -54,7 +52,6 @@ module _ (who : Who) where
   AcceptEnds es (Refused c given, items) = TellsCode es c
 
   module _ (last : who.last ≡ NothingLast) where
-    -- one that is told a code asks nothing more
     code_ends : (es : List Entry) (c : ErrorCode) → TellsCode es c → Gives AcceptEnds es (last_ask who who.last c Nothing)
     code_ends es c cause = subst (λ (l : LastAsk). Gives AcceptEnds es (last_ask who l c Nothing)) (sym last) cause
 
@@ -64,16 +61,13 @@ module _ (who : Who) where
       abbrev next : Given → Asks (End × List Item)
       next g = round again who g []
 
-      -- a connection is handed over
       hands : (es : List Entry) (peer : IpSocketAddress) (t : Told) → IsDone t → AcceptEnds (es ++ entry who.id (call.Hand who.side peer) t ∷ []) (Done (Connection who.id peer), [])
       hands es peer told.Done fits = record { front = es; is = refl; its = refl }
       hands es peer _ fits = absurd fits
 
-      -- an arrival is refused, and a new round begins
       refuses : (es : List Entry) (peer : IpSocketAddress) (t : Told) → refused_in es + suc n ≡ 64 → Gives AcceptEnds (es ++ entry who.id (call.Refuse who.side peer) t ∷ []) (again (Accept ∷ []))
       refuses es peer t count = more _ (let p = refused_in-push es (entry who.id (call.Refuse who.side peer) t) in omega (arith, p, count))
 
-      -- an arrival was checked
       told_check : (es : List Entry) (peer : IpSocketAddress) (t : Told) → IsVerdict t → refused_in es + suc n ≡ 64
           → Gives AcceptEnds (es ++ entry who.id (call.Check who.context peer TcpAccept) t ∷ []) (bind (admitted_front who peer (told_verdict t)) (after again who [] next))
       unfolding bind
@@ -82,12 +76,10 @@ module _ (who : Who) where
       told_check es peer told.Pending fits count = LastWaits (record { front = es; last = _; cut = refl; op = refl; told = refl })
       told_check es peer _ fits count = absurd fits
 
-      -- an arrival is checked
       arrives : (es : List Entry) (peer : IpSocketAddress) → refused_in es + suc n ≡ 64 → Gives AcceptEnds es (bind (arrival_front who peer) (after again who [] next))
       unfolding bind
       arrives es peer count = (tt, λ t fits. told_check es peer t fits count)
 
-      -- the accept was told
       told_accept : (es : List Entry) (t : Told) → IsArrival t → refused_in es + suc n ≡ 64
           → Gives AcceptEnds (es ++ entry who.id (call.Accept who.side) t ∷ []) (bind (accept_front who (told_arrival t)) (after again who [] next))
       unfolding bind
@@ -96,12 +88,10 @@ module _ (who : Who) where
       told_accept es (told.Code c) fits count = code_ends _ c (record { front = es; is = refl })
       told_accept es _ fits count = absurd fits
 
-      -- a round that begins
       round_accepts : (es : List Entry) → refused_in es + suc n ≡ 64 → Gives AcceptEnds es (round again who Nothing (Accept ∷ []))
       unfolding bind
       round_accepts es count = (tt, λ t fits. told_accept es t fits count)
 
-      -- a round of what is left of it
       by_left : (items : List Item) → IsLeftOfAccept items → some_left items ≡ true → (es : List Entry) → refused_in es + suc n ≡ 64 → Gives AcceptEnds es (round again who Nothing items)
       unfolding bind
       by_left _ Unarrived some es count = round_accepts es count
@@ -110,7 +100,6 @@ module _ (who : Who) where
       by_left _ (Unwanted peer) some es count = (tt, λ t fits. refuses es peer t count)
       by_left _ Ended some es count = absurd (cc)
 
-    -- so many rounds more, after so many refusals
     by_rounds : (n : ℕ) (es : List Entry) → refused_in es + n ≡ 64 → Gives AcceptEnds es (polls n who (Accept ∷ []))
     unfolding polls
     by_rounds zero es count = RefusedMost (omega (arith, count))

@@ -121,7 +121,6 @@ module _ (who : Who) where
     fronts es (Lookup host) = ((refl, refl), λ t fits. keeps _ _)
     fronts es (Last c given) = keeps es (Ends c given)
 
--- of any operation
 owned : (op : Operation) (before : List Entry) → Allows (IsOwn op.who) AnyEnd before (poll_asks op)
 owned op before = allows_polls (IsOwn op.who) op.who AnyLeft AnyEnd (λ es given item items any. fronts op.who items es item) (λ es items any. tt) (λ es given any. tt) 64 op.left before tt
 

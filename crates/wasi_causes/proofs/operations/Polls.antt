@@ -28,7 +28,6 @@ use Rattle.wasi_world.specs.declared.call.Entry.{Entry}
 use Rattle.wasi_world.specs.declared.call.Told.{Told}
 use Rattle.wasi_world.specs.declared.call.Told.TheVariants as told
 
--- each of the items is of this kind
 abbrev pub AllOf : (Item → Type 0) → List Item → Type 0
 AllOf P [] = ⊤
 AllOf P (item ∷ items) = P item × AllOf P items
@@ -38,7 +37,6 @@ one_of P (x ∷ items) item all (inl same) = subst P same all.0
 one_of P (x ∷ items) item all (inr its) = one_of P items item all.1 its
 one_of P [] item all its = absurd its
 
--- the items that are asked in turn
 abbrev pub IsAsk : Item → Type 0
 IsAsk (Check a usage) = ⊤
 IsAsk (CheckLocal usage) = ⊤
@@ -71,7 +69,6 @@ module _ (who : Who) (again : List Item → Asks (End × List Item)) where
       passes : (es : List Entry) → Passes who item es → Meets Row es (round again who Nothing items)
       passes es passed = widen (λ fs end k. rw k.cut (GoesOn item items es k.rest end passed k.row)) (shifted es next)
 
-      -- by what was told of it
       verdict : (now : Item) (es : Told → List Entry) → Passes who item (es told.Yes) → Holds who item (es told.Pending) now → Breaks who item (es told.No) AccessDenied
           → (t : Told) → IsVerdict t → Meets Row (es t) (after again who items (λ g. round again who g items) (verdict_front now (told_verdict t)))
       verdict now es passed held broke told.Yes fits = passes _ passed
@@ -127,7 +124,6 @@ module _ (who : Who) where
   holds _ _ _ (LocalToldPending a usage) = record { front = local_entry who (told.Addr a) ∷ []; last = _; cut = refl; op = refl; told = refl }
   holds _ _ _ (ConnectToldPending a) = record { front = []; last = _; cut = refl; op = refl; told = refl }
 
-  -- after an item that was passed
   later : (item : Item) (items : List Item) (es fs : List Entry) (end : End × List Item) → EndsSo items fs end → EndsSo (item ∷ items) (es ++ fs) end
   later item items es fs (Waits, left) k = record { front = es ++ k.front; last = k.last; cut = ap (λ (xs : List Entry). es ++ xs) k.cut ∙ sym (append_assoc es k.front (k.last ∷ [])); op = k.op; told = k.told }
   later item items es fs (Done given, left) k = tt
@@ -140,7 +136,6 @@ module _ (who : Who) where
   ends_so _ _ _ (Stays item now items es held) = holds item now es held
   ends_so _ _ _ (Stops item items es c broke) = record { item = item; its = inl refl; front = []; last = es; cut = refl; broke = broke }
 
--- nothing that is left is refused
 abbrev IsOver : End → Type 0
 IsOver (Refused c given) = ⊥
 IsOver _ = ⊤
@@ -151,7 +146,6 @@ is_over who _ _ WasOver = tt
 pub not_over : {who : Who} {es : List Entry} {c : ErrorCode} {given : Given} {items : List Item} → Polled who [] es (Refused c given, items) → ⊥
 not_over {who} {es} {c} {given} {items} row = is_over who es (Refused c given, items) row
 
--- the items are of this kind
 all_more : (P Q : Item → Type 0) → ((item : Item) → P item → Q item) → (items : List Item) → AllOf P items → AllOf Q items
 all_more P Q more [] all = tt
 all_more P Q more (item ∷ items) all = (more item all.0, all_more P Q more items all.1)
@@ -181,7 +175,6 @@ module _ (op : Operation) where
     ends_for last (inl all) = widen (reads all) (polled op (all_more (λ item. IsAsk item × P item) IsAsk (λ item p. p.0) op.left all))
     ends_for last (inr (c, e)) = subst (λ (items : List Item). Meets (EndsFor Why) [] (polls 64 op.who items)) (sym e) (closes c (last c e))
 
-  -- what was asked at the end, by what is asked last
   at_end : (es : List Entry) (c : ErrorCode) (k : Broken op.who op.left es c) (l : LastAsk) → op.who.last ≡ l → es ≡ k.front ++ (k.last ++ last_entries op.who l)
   at_end es c k l last = subst (λ (l : LastAsk). es ≡ k.front ++ (k.last ++ last_entries op.who l)) last k.cut
 
@@ -202,7 +195,6 @@ module _ (op : Operation) where
   bind_broken es front _ _ _ of has (BindToldCode a c) cut = waiting.ToldWhy a c has (record { front = front; cut = cut })
   bind_broken es front _ _ _ of has _ cut = absurd of
 
-  -- a code isn't left of a bind
   bind_keeps : (c : ErrorCode) (items : List Item) → IsLeftOfBind items → items ≡ Last c Nothing ∷ [] → ⊥
   bind_keeps c _ (Unchecked a) e = cc
   bind_keeps c _ (Checked a) e = cc

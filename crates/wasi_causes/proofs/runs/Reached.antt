@@ -62,7 +62,6 @@ listens_so (listening.Begins op) h = h
 listens_so _ h = tt
 
 module _ (m : Machine) (f : Fit (Over m)) where
-  -- of the record at a place, where there is one
   module _ (P : Tcp2Socket → Type 0) (so : (r : Tcp2Socket) → FitRecord r → P r) where
     at_place : (place : ℕ) (o : Option Tcp2Socket) → slice_get m.store.sockets place ≡ o → IfSome o P
     at_place place None at = tt
@@ -122,7 +121,6 @@ module _ (contexts : List WasiSocketsCtx) (steps : List Step) (es : List Entry) 
 abbrev pub IsThere : List Tcp2Socket → ℕ → Type 0
 IsThere sockets place = (r : Tcp2Socket) × (slice_get sockets place ≡ Some r)
 
--- where a connect is in progress, it may be finished
 abbrev pub Finishes : Tcp2Socket → Type 0
 Finishes r = is_connect r.in_progress ≡ true → MayFinish r.inner.state
 
@@ -194,7 +192,6 @@ never_default who (Waits, left) side e = absurd (cc)
 never_default who (Done given, left) side e = absurd (cc)
 never_default who (Refused c given, left) side e = absurd (cc)
 
--- a record that listens, or is about to
 never_unlistened : (r : Tcp2Socket) (l : Listening) (side : OpId) → r.listening ≡ l → IsPastNot l → Sound r → r.inner.state ≡ state.Default side → ⊥
 never_unlistened r l side e p s d = subst IsPastNot (sym e ∙ s.1 side d) p
 
@@ -287,7 +284,6 @@ module _ (contexts : List WasiSocketsCtx) (line : ℕ) (origin : Step) where
   unfolding steady
   line_steady m es i = (machine_walks line origin {law = steady} m m.store.standing refl).along es i
 
--- after the lines of any script
 pub runs_are_steady : (contexts : List WasiSocketsCtx) (steps : List Step) (es : List Entry) (replies : List Reply) (m : Machine) → Left (run contexts [] first_state 1 steps) es (Give (replies, m)) → Steady m
 runs_are_steady contexts steps es replies m w =
     (run_ends contexts Anything (λ line fs now. Steady now) (λ line s now fs i. line_steady contexts line s now fs i) (record { records = λ place r e. absurd (cc); handles = λ handle place e. absurd (cc); stands = λ c e. absurd (cc) }) steps es replies m w).1

@@ -44,7 +44,6 @@ module _ (m : Machine) (i : Steady m) where
   of_its_record handle (Pollable w) e = has_record _ (i.handles handle _ (ap record_of e))
   of_its_record handle ErrorValue e = tt
 
-  -- no record is missing
   not_none : (place : ℕ) → IsThere m.store.sockets place → slice_get m.store.sockets place ≡ None → ⊥
   not_none place (r, g) e = absurd (cc)
 

@@ -60,12 +60,10 @@ module _ (m : Machine) (own : OpId) (handle place : ℕ) (r : Tcp2Socket) (n : N
   abbrev LocalRow : Rows (Result IpSocketAddress ErrorCode × Socket)
   LocalRow = Answers LocalRefused m place r
 
-  -- of a socket that is bound
   module _ (es : List Entry) (is : IsBound own r.inner es) where
     abbrev bound : Socket
     bound = record r.inner { bound = true }
 
-    -- where nothing more is asked
     at_once : (code : ErrorCode) → IsPastDefault r.inner.state → LocalRefusal m own place r [] (word_of_code code) (putting m place (with_inner r bound)) → Meets LocalRow es (Give (Err code, bound))
     at_once code past cause = ends (subst (λ (fs : List Entry). LocalRow fs (Err code, bound)) (sym (asked_none own r.inner es is past)) (cause, inr (here n refl)))
 
@@ -97,7 +95,6 @@ module _ (m : Machine) (own : OpId) (place : ℕ) (r : Tcp2Socket) (at : slice_g
   abbrev StateRow : Rows (Result IpSocketAddress ErrorCode × TcpState)
   StateRow es done = Answers RemoteRefused m place r es (in_socket r.inner done)
 
-  -- a state that stays leaves the machine as it was
   stays : (es : List Entry) (code : ErrorCode) (st : TcpState) → r.inner.state ≡ st → RemoteRefusal m own place r es (word_of_code code) m → StateRow es (Err code, st)
   stays es code st e cause = subst (λ (s : TcpState). RemoteRefused es (word_of_code code) (putting m place (with_inner r (with_state r.inner s)))) e (put_back (RemoteRefused es (word_of_code code)) m place r at (cause, refl))
 
@@ -121,7 +118,6 @@ module _ (m : Machine) (own : OpId) (place : ℕ) (r : Tcp2Socket) (at : slice_g
 
 -- == the options and the backlog
 module _ (own : OpId) (r : Tcp2Socket) where
-  -- a get
   module _ (option : Opt) where
     abbrev GetRow : Rows (Result ℕ ErrorCode)
     GetRow es (Ok value) = GetsOption own option r (number_fields value) es
@@ -130,7 +126,6 @@ module _ (own : OpId) (r : Tcp2Socket) where
     abbrev got : OpId → Told → List Entry
     got side t = entry own (call.GetOption side option) t ∷ []
 
-    -- by whether the value is too large
     by_size : (side : OpId) (v : ℕ) (b : Bool) → option_side r.inner ≡ Ok side → nat_le (value_told option v) (largest_value option) ≡ b → GetRow (got side (told.Value v)) (if b then Ok (value_told option v) else Err NotSupported)
     by_size side v true e size = record { side = side; value = v; has = e; asked = refl; within = leb-true _ _ size; gives = refl }
     by_size side v false e size = ToldTooLarge side v e (leb-false _ _ size)
@@ -145,7 +140,6 @@ module _ (own : OpId) (r : Tcp2Socket) where
     gets_where (Ok side) e = asks (λ t fits. ends (told_got side t e fits))
     gets_where (Err code) e = ends (GetsNoSide code e)
 
-  -- a set
   module _ (option : Opt) (value : ℕ) where
     abbrev SetRow : Rows (Result (Unit {0}) ErrorCode)
     SetRow es (Ok done) = SetsOption own option value r es

@@ -1,32 +1,34 @@
--- The starts of a bind, of a connect and of a listen.
+-- The starts and the finishes of a bind and of a listen, and the start of a connect.
 use Rattle.std.proofs.Common.{◌≡◌, Bool, true, false, not, if◌then◌else◌, List, [], ◌∷◌, refl, sym, ap, subst, ℕ, inl, inr, ◌++◌, Option, Some, None, Result, Ok, Err, ◌∙◌, append_assoc}
-use Rattle.std.specs.Prelude.{◌⊎◌}
+use Rattle.std.specs.Prelude.{◌⊎◌, IsSomeAnd}
 use Rattle.wasi_addr.specs.Address.{is_wildcard, wildcard}
 use Rattle.wasi_addr.specs.declared.address.IpSocketAddress.{IpSocketAddress}
-use Rattle.wasi_addr.specs.declared.address.SocketAddrUse.TheVariants.{TcpBind, TcpListen}
 use Rattle.wasi_addr.specs.declared.code.ErrorCode.{ErrorCode}
 use Rattle.wasi_addr.specs.declared.code.ErrorCode.TheVariants.{InvalidArgument, InvalidState, Other}
 use Rattle.wasi_causes.proofs.operations.Polls.{polled, ends_so, not_over}
 use Rattle.wasi_causes.proofs.tables.Meets.{Meets, ends, asks, branch, Rows, chain, onto, widen, After, shifted}
-use Rattle.wasi_causes.proofs.tables.Routes.{Says, put_back, Names, here, code_word, not_of_code, in_conflict, no_conflict, none_conflicts, on_idle}
+use Rattle.wasi_causes.proofs.tables.Routes.{Says, put_back, Names, here, code_word, not_of_code, in_conflict, no_conflict, none_conflicts, on_idle, on_number, its as found_in, apart, none_has}
 use Rattle.wasi_causes.specs.Outcomes.{Outcome, Conflicts}
-use Rattle.wasi_causes.specs.Polls.{Passes, ToldYes, Breaks, ToldNo, BindToldCode, Polled, GoesOn, Stops, check_entry, local_entry, LocalToldYes, LocalToldNo, LocalToldCode, ListenToldCode, last_entries}
+use Rattle.wasi_causes.specs.Polls.{ToldYes, ToldNo, BindToldCode, Polled, GoesOn, Stops, LocalToldYes, LocalToldNo, LocalToldCode, ListenToldCode}
 use Rattle.wasi_host.specs.Host.{Stop}
 use Rattle.wasi_host.specs.Kinds.{kind_at, is_network}
 use Rattle.wasi_host.specs.Listening.{listen_polled, listen_begun, listen_once, listen_bound, begin_listen_asks, listen_answered, start_listen_by, start_listen_at}
 use Rattle.wasi_host.specs.Machine.{own_of, with_store, socket_at}
-use Rattle.wasi_host.specs.Store.{is_nothing, bind_ended, bind_begun, begin_bind_asks, bind_answered, start_bind_by, start_bind_at, connect_begun, put_back as answer_put, begin_connect_asks, start_connect_by, start_connect_at, with_inner}
+use Rattle.wasi_host.specs.Store.{is_nothing, bind_ended, bind_begun, begin_bind_asks, bind_answered, start_bind_by, start_bind_at, connect_begun, put_back as answer_put, begin_connect_asks, start_connect_by, start_connect_at, with_inner, is_bind, is_listen, idle, finish_by, finish_at}
 use Rattle.wasi_host.specs.declared.listening.Listening.{Listening}
 use Rattle.wasi_host.specs.declared.listening.Listening.TheVariants as listening
 use Rattle.wasi_host.specs.declared.machine.Machine.{Machine}
+use Rattle.wasi_host.specs.declared.socket.InProgress.{InProgress as Doing}
 use Rattle.wasi_host.specs.declared.socket.Tcp2Socket.{Tcp2Socket}
-use Rattle.wasi_p2.specs.Tcp.{start_bind_on, start_bind_asks, start_connect_on, start_connect_asks, start_listen_on}
-use Rattle.wasi_walks.specs.Answered.{IsPastDefault, IsBound, Known, PastDefault, ToldBound, IsFree, putting, word_of_code, EndsPending, may_bind_to, BindRefusal, AlreadyBound, WrongAddress, Denied, Failed, InProgress, Begins, ConnectRefusal, NotDefault, BoundElsewhere, Elsewhere, knowing_bound, KnowsBound, OfRecord}
+use Rattle.wasi_p2.specs.Tcp.{start_bind_on, start_bind_asks, start_connect_on, start_connect_asks, start_listen_on, finish_on}
+use Rattle.wasi_walks.specs.Answered.{IsPastDefault, IsBound, Known, PastDefault, ToldBound, IsFree, putting, word_of_code, EndsPending, may_bind_to, BindRefusal, AlreadyBound, WrongAddress, Denied, Failed, InProgress, Begins, ConnectRefusal, NotDefault, BoundElsewhere, Elsewhere, knowing_bound, KnowsBound, OfRecord, record_at, ListensAlready}
 use Rattle.wasi_walks.specs.Licence.{entry}
 use Rattle.wasi_walks.specs.Listens.{ListenFails, LocalTold, ListenDenied, ListenTold, IsPastNot, ListenRefusal, NotBound, NotDefault as ListensLate, ListensAlready, ListenRefused, closed_by_listen}
 use Rattle.wasi_machine.specs.Machine.{answer_reply, done_reply}
+use Rattle.wasi_steps.specs.Reply.{no_fields}
 use Rattle.wasi_steps.specs.declared.reply.CodeWord.{CodeWord}
 use Rattle.wasi_steps.specs.declared.reply.CodeWord.TheVariants as word
+use Rattle.wasi_steps.specs.declared.reply.Reply.{Reply}
 use Rattle.wasi_steps.specs.declared.reply.Reply.TheVariants as reply
 use Rattle.wasi_steps.specs.declared.step.Step.TheVariants as step
 use Rattle.wasi_tcp.specs.Bind.{bind_operation}
@@ -43,7 +45,7 @@ use Rattle.wasi_tcp.specs.declared.socket.TcpState.TheVariants.{Default}
 use Rattle.wasi_tcp.specs.declared.socket.TcpState.TheVariants as state
 use Rattle.wasi_world.specs.Asks.{bind, Give}
 use Rattle.wasi_world.specs.Fits.{IsAddr}
-use Rattle.wasi_world.specs.Operation.{Given, Item, Check, Bind, Operation, End, Waits, Done, Refused, CheckLocal, Listen, CloseLast}
+use Rattle.wasi_world.specs.Operation.{Given, Item, Operation, End, Waits, Done, Refused}
 use Rattle.wasi_world.specs.Typed.{told_addr}
 use Rattle.wasi_world.specs.declared.call.Call.TheVariants as call
 use Rattle.wasi_world.specs.declared.call.Entry.{Entry}
@@ -52,6 +54,7 @@ use Rattle.wasi_world.specs.declared.call.Told.TheVariants as told
 use Rattle.wasi_world.specs.declared.ids.OpId.{OpId}
 use Rattle.wasi_world.specs.declared.outcome.Answer.{Answer}
 use Rattle.wasi_world.specs.declared.outcome.Answer.TheVariants.{Ready, Pending}
+use Rattle.wasi_world.specs.declared.outcome.TrapKind.TheVariants.{NoSuchHandle}
 use Rattle.wasi_world.specs.declared.outcome.WasiSocketsCtx.{WasiSocketsCtx}
 
 -- The socket is bound, which is kept; or it is free, and stays as it was.
@@ -59,7 +62,6 @@ pub data BoundRow (own : OpId) (socket : Socket) : List Entry → Bool × Socket
   ItsBound : (es : List Entry) → IsBound own socket es → BoundRow own socket es (true, record socket { bound = true })
   ItsFree : (side : OpId) (local : Told) → IsFree socket side local → BoundRow own socket (entry own (call.Local side) local ∷ []) (false, socket)
 
--- past the state Default nothing is asked
 pub asked_none : (own : OpId) (socket : Socket) (es : List Entry) → IsBound own socket es → IsPastDefault socket.state → es ≡ []
 asked_none own socket _ (Known known) past = refl
 asked_none own socket _ (PastDefault p) past = refl
@@ -101,11 +103,9 @@ module _ (m : Machine) (own : OpId) (handle place : ℕ) (r : Tcp2Socket) (n : N
   BindRow es (Ok None, now) = Unit {0}
   BindRow es (Err code, now) = BindRefused es (word_of_code code) (putting m place now)
 
-  -- a refusal that leaves the record leaves the machine
   stays : (es : List Entry) (code : ErrorCode) → BindRefusal m own place r a es (word_of_code code) m → BindRow es (Err code, r)
   stays es code cause = put_back (BindRefused es (word_of_code code)) m place r n.at (cause, inl refl)
 
-  -- of a socket that is free
   module _ (side : OpId) (local : Told) (free : IsFree r.inner side local) where
     abbrev asked : Entry
     asked = entry own (call.Local side) local
@@ -113,20 +113,10 @@ module _ (m : Machine) (own : OpId) (handle place : ℕ) (r : Tcp2Socket) (n : N
     abbrev its : Operation
     its = bind_operation (record { op = own; side = side; maker = r.inner.maker }) a stage.Check
 
-    -- what a poll that was refused says
-    by_check : (es : List Entry) (code : ErrorCode) → may_bind_to r.inner.family a ≡ true → Breaks its.who (Check a TcpBind) es code → BindRefusal m own place r a (asked ∷ es ++ []) (word_of_code code) m
-    by_check _ _ may (ToldNo _ _) = Denied side local free may
-
-    by_bind : (es : List Entry) (code : ErrorCode) → may_bind_to r.inner.family a ≡ true → Breaks its.who (Bind a) es code → BindRefusal m own place r a (asked ∷ entry own (call.Check r.inner.maker a TcpBind) told.Yes ∷ es ++ []) (word_of_code code) m
-    by_bind _ _ may (BindToldCode _ code) = Failed side local code free may
-
-    then_bind : (es fs : List Entry) (code : ErrorCode) (given : Given) (items : List Item) → may_bind_to r.inner.family a ≡ true → Passes its.who (Check a TcpBind) es → Polled its.who (Bind a ∷ []) fs (Refused code given, items) → BindRefusal m own place r a (asked ∷ es ++ fs) (word_of_code code) m
-    then_bind _ _ code _ _ may (ToldYes _ _) (Stops _ _ es _ broke) = by_bind es code may broke
-    then_bind _ _ code _ _ may (ToldYes _ _) (GoesOn _ _ es fs end passed row) = absurd (not_over row)
-
     refused : (es : List Entry) (code : ErrorCode) (given : Given) (items : List Item) → may_bind_to r.inner.family a ≡ true → Polled its.who its.left es (Refused code given, items) → BindRefusal m own place r a (asked ∷ es) (word_of_code code) m
-    refused _ code _ _ may (Stops _ _ es _ broke) = by_check es code may broke
-    refused _ code given items may (GoesOn _ _ es fs _ passed row) = then_bind es fs code given items may passed row
+    refused _ _ _ _ may (Stops _ _ _ _ (ToldNo _ _)) = Denied side local free may
+    refused _ _ _ _ may (GoesOn _ _ _ _ _ (ToldYes _ _) (Stops _ _ _ _ (BindToldCode _ code))) = Failed side local code free may
+    refused _ _ _ _ may (GoesOn _ _ _ _ _ (ToldYes _ _) (GoesOn _ _ _ _ _ passed row)) = absurd (not_over row)
 
     ended : may_bind_to r.inner.family a ≡ true → (es : List Entry) (end : End × List Item) → After (Polled its.who its.left) (asked ∷ []) es end → BindRow es (bind_ended its r end)
     ended may es (Waits, items) k = let w = ends_so its.who its.left k.rest (Waits, items) k.row in record { front = asked ∷ w.front; last = w.last; cut = k.cut ∙ ap (λ (xs : List Entry). asked ∷ xs) w.cut; op = w.op; told = w.told }
@@ -178,23 +168,11 @@ module _ (asker : Asker) (any : IpSocketAddress) (backlog : ℕ) where
   abbrev listens : Operation
   listens = listen_operation asker any backlog listen_stage.Local
 
-  abbrev Fails : List Entry → ErrorCode → Type 0
-  Fails = ListenFails asker.op asker.side asker.maker backlog
-
-  by_local : (es : List Entry) (c : ErrorCode) → Breaks listens.who (CheckLocal TcpListen) es c → Fails (es ++ last_entries listens.who CloseLast) c
-  by_local _ _ (LocalToldNo a _) = ListenDenied a
-  by_local _ _ (LocalToldCode _ c) = LocalTold c
-
-  by_listen : (a : IpSocketAddress) (es : List Entry) (c : ErrorCode) → Breaks listens.who (Listen backlog) es c → Fails (local_entry listens.who (told.Addr a) ∷ check_entry listens.who a TcpListen told.Yes ∷ es ++ last_entries listens.who CloseLast) c
-  by_listen a _ _ (ListenToldCode _ c) = ListenTold a c
-
-  then_listen : (es fs : List Entry) (c : ErrorCode) (given : Given) (items : List Item) → Passes listens.who (CheckLocal TcpListen) es → Polled listens.who (Listen backlog ∷ []) fs (Refused c given, items) → Fails (es ++ fs) c
-  then_listen _ _ c _ _ (LocalToldYes a _) (Stops _ _ es _ broke) = by_listen a es c broke
-  then_listen _ _ c _ _ (LocalToldYes a _) (GoesOn _ _ es fs end passed row) = absurd (not_over row)
-
-  listen_refused : (es : List Entry) (c : ErrorCode) (given : Given) (items : List Item) → Polled listens.who listens.left es (Refused c given, items) → Fails es c
-  listen_refused _ c _ _ (Stops _ _ es _ broke) = by_local es c broke
-  listen_refused _ c given items (GoesOn _ _ es fs _ passed row) = then_listen es fs c given items passed row
+  listen_refused : (es : List Entry) (c : ErrorCode) (given : Given) (items : List Item) → Polled listens.who listens.left es (Refused c given, items) → ListenFails asker.op asker.side asker.maker backlog es c
+  listen_refused _ _ _ _ (Stops _ _ _ _ (LocalToldNo a _)) = ListenDenied a
+  listen_refused _ _ _ _ (Stops _ _ _ _ (LocalToldCode _ c)) = LocalTold c
+  listen_refused _ _ _ _ (GoesOn _ _ _ _ _ (LocalToldYes a _) (Stops _ _ _ _ (ListenToldCode _ c))) = ListenTold a c
+  listen_refused _ _ _ _ (GoesOn _ _ _ _ _ (LocalToldYes a _) (GoesOn _ _ _ _ _ passed row)) = absurd (not_over row)
 
 -- == a listen
 module _ (m : Machine) (own : OpId) (handle place : ℕ) (r : Tcp2Socket) (n : Names m handle place r) where
@@ -214,7 +192,6 @@ module _ (m : Machine) (own : OpId) (handle place : ℕ) (r : Tcp2Socket) (n : N
   abbrev known : Tcp2Socket
   known = with_inner r bound
 
-  -- of a socket that is bound
   module _ (es : List Entry) (is : IsBound own r.inner es) where
     past_default : IsPastDefault r.inner.state → ListenRow es (Err InvalidState, known)
     past_default past = (subst (λ (fs : List Entry). ListenRefusal m own place r fs word.InvalidState (knowing_bound m place r)) (sym (asked_none own r.inner es is past)) (ListensLate past), inr (inl (here n refl)))
@@ -258,6 +235,19 @@ module _ (m : Machine) (own : OpId) (handle place : ℕ) (r : Tcp2Socket) (n : N
 
   listen_begins : Meets ListenRow [] (begin_listen_asks own r)
   listen_begins = chain (bounds own r.inner) listen_by_bound
+
+-- == a finish of a bind, or of a listen
+-- it isn't in progress, and is refused; or it is, and is done; or there is no socket
+finishes : {Row : Rows (Reply × Machine)} (is_it : Doing → Bool) (m : Machine) (handle : ℕ) → let HasNot : Type 0 = IsSomeAnd (record_at m handle) (λ r. is_it r.in_progress ≡ false) in
+    (record_at m handle ≡ None → Row [] (reply.Trap NoSuchHandle, m)) → (HasNot → Row [] (reply.Err word.NotInProgress, m)) → ((HasNot → ⊥) → (after : Machine) → Row [] (reply.Ok no_fields, after))
+    → let done = finish_on is_it m (socket_at m handle) in Meets Row [] (Give (done_reply done.0, done.1))
+finishes {Row} is_it m handle gone refused done =
+    on_number m handle (λ o. let given = finish_on is_it m o in Give (done_reply given.0, given.1)) (λ place o. let given = with_store m (finish_at is_it m.store place o) in Give (done_reply given.0, given.1)) (λ place. refl) (λ none. ends (gone none)) (λ none place. ends (gone none))
+    (λ place r n. by_it place r n (is_it r.in_progress) refl)
+  where
+    by_it : (place : ℕ) (r : Tcp2Socket) → Names m handle place r → (b : Bool) → is_it r.in_progress ≡ b → let given = with_store m (finish_by m.store place r b) in Meets Row [] (Give (done_reply given.0, given.1))
+    by_it place r n false e = ends (refused (rw (found_in n) e))
+    by_it place r n true e = ends (done (λ k. let none : is_it r.in_progress ≡ false = rw (found_in n) at k in cc) _)
 
 -- == the steps
 module _ (contexts : List WasiSocketsCtx) (m : Machine) (line c handle : ℕ) where
@@ -313,3 +303,11 @@ module _ (contexts : List WasiSocketsCtx) (m : Machine) (line c handle : ℕ) wh
   start_listen =
       onto _ (on_idle m handle (start_listen_on m own) (λ place o. start_listen_at m.store own place o) (λ place r b. start_listen_by m.store own place r b) refl (λ place. refl) (λ place. refl) (λ place r. refl) (λ place r. refl)
       (λ none. (none_conflicts m handle _ none (λ e. cc), (none, refl, refl))) (λ place r n e. (in_conflict n e, (inl refl, (here n (InProgress e refl refl refl), inl refl)))) (λ place r n idle. onto _ (widen (listen_said place r n idle) (listen_begins m own handle place r n))))
+
+  pub finish_bind : let done = finish_on is_bind m (socket_at m handle) in Meets (Says contexts m line (step.TcpFinishBind c handle)) [] (Give (done_reply done.0, done.1))
+  finish_bind =
+      finishes is_bind m handle (λ none. ((refl, apart (λ e. cc) (none_has _ (record_at m handle) none)), (none, refl, refl))) (λ none. ((refl, (λ e. none, λ k. refl)), (refl, refl))) (λ some after. ((refl, apart (λ e. cc) some), (tt, tt)))
+
+  pub finish_listen : let done = finish_on is_listen m (socket_at m handle) in Meets (Says contexts m line (step.TcpFinishListen c handle)) [] (Give (done_reply done.0, done.1))
+  finish_listen =
+      finishes is_listen m handle (λ none. ((refl, apart (λ e. cc) (none_has _ (record_at m handle) none)), (none, refl, refl))) (λ none. ((refl, (λ e. none, λ k. refl)), (refl, refl))) (λ some after. ((refl, apart (λ e. cc) some), (tt, tt)))

@@ -58,7 +58,6 @@ module _ (own : OpId) (len : ℕ) where
   ReadRow reader es (Err (Failed c), now) = ReadFails own len reader c es × (now ≡ reading.Closed)
   ReadRow reader es (Err (Trap kind), now) = ⊥
 
-  -- of an open half
   module _ (half : TcpReceiveStream) where
     abbrev opened : ReadState
     opened = reading.Open half
@@ -141,13 +140,11 @@ module _ (own : OpId) where
 
 -- == a poll of a write, which ends with a code where that was told to its last write, and the half was given up then
 module _ (own side : OpId) where
-  -- what comes of the front ask: a code was told to the last write
   pub record WasTold (es : List Entry) (c : ErrorCode) : Type 0 where
     pub front : List Entry
     pub offered : ℕ
     pub cut : es ≡ front ++ entry own (call.Write side offered) (told.Code c) ∷ []
 
-  -- and the half was given up
   pub record WasGivenUp (es : List Entry) (c : ErrorCode) : Type 0 where
     pub front : List Entry
     pub offered : ℕ
@@ -204,7 +201,6 @@ WriteRow own n writer es (Err (Trap NotPermitted), now) = IsUnpermitted writer n
 WriteRow own n writer es (Err (Trap _), now) = ⊥
 
 module _ (own : OpId) where
-  -- with an error that the writer is closed with then
   of_kept : (n : ℕ) (writer : WriteState) (es : List Entry) (e : WriteError) → (IsUnpermitted writer n → ⊥) → marks_in es ≡ 0 → WriteFails own e writer es → WriteRow own n writer es (Err (stop_of e), writing.Closed e)
   of_kept n writer es error.Closed may none fails = (may, none, fails, refl)
   of_kept n writer es (error.LastOperationFailed c) may none fails = (may, none, fails, refl)
@@ -216,7 +212,6 @@ module _ (own : OpId) where
     abbrev Row : Rows (Result (Unit {0}) StreamStop × WriteState)
     Row = WriteRow own (length bytes) was
 
-    -- by how the poll ended, the job is collected and looked at
     looked : (es : List Entry) (ended : End × List Item) → (marks_in es ≡ 0) × PollRow own half.side es ended → Meets Row es (bind (look_asks own (writing.Writing (job_after (writer own half.side) ended))) (λ looked. Give (begun looked)))
     unfolding bind
     looked es (Waits, items) k = ends (may, k.0)
@@ -261,7 +256,6 @@ module _ (contexts : List WasiSocketsCtx) (m : Machine) (line c output : ℕ) wh
     abbrev left : WriteState → Machine
     left writer = putting m place (with_writer r s writer)
 
-    -- a writer that is as it was leaves the machine so
     same : (now : WriteState) → now ≡ s.writer → left now ≡ m
     same now e = ap left e ∙ streams_same n
 
@@ -293,11 +287,9 @@ module _ (contexts : List WasiSocketsCtx) (m : Machine) (line c output : ℕ) wh
     Unpermitted = IsSomeAnd (output_streams m output) (λ s. IsUnpermitted s.writer (length bytes))
 
     module _ (place : ℕ) (r : Tcp2Socket) (s : Streams) (n : HasStreams m (output_at m output) place r s) where
-      -- the machine after a write that left the writer so
       abbrev written : WriteState → Machine
       written now = record m { store = job_noted place (Some r) (with_socket m.store place (with_writer r s now)) }
 
-      -- a write that leaves the writer leaves the machine
       written_same : (now : WriteState) → now ≡ s.writer → written now ≡ m
       written_same now e =
           ap (λ (x : Machine). let after : Machine = record m { store = job_noted place (Some r) x.store } in after) (same place r s n now e)
@@ -307,7 +299,6 @@ module _ (contexts : List WasiSocketsCtx) (m : Machine) (line c output : ℕ) wh
       and_not true = refl
       and_not false = refl
 
-      -- and one that closed the writer leaves no job
       written_closed : (now : WriteState) (e : WriteError) → now ≡ writing.Closed e → written now ≡ closing_writer m place r s e
       written_closed now e p =
           let closed : Tcp2Socket = with_writer r s (writing.Closed e) in
@@ -317,7 +308,6 @@ module _ (contexts : List WasiSocketsCtx) (m : Machine) (line c output : ℕ) wh
           ∙ ap (λ (kept : Records). let after : Machine = record m { store = kept } in after)
           (ap (λ (o : Option Tcp2Socket). with_job store place (begins_job (Some r) o)) there ∙ ap (with_job store place) (and_not (not (has_job (Some r)))))
 
-      -- with another reply, it was permitted
       was_permitted : (IsUnpermitted s.writer (length bytes) → ⊥) → Unpermitted → ⊥
       was_permitted may u = let k : IsUnpermitted s.writer (length bytes) = rw (the_streams n) at u in may k
 

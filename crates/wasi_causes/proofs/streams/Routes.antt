@@ -40,11 +40,9 @@ module _ {m : Machine} {named : Option ℕ} {place : ℕ} {r : Tcp2Socket} {s : 
   pub the_streams : streams_in (record_in m named) ≡ Some s
   the_streams = ap streams_in (ap (record_in m) n.names ∙ n.at) ∙ n.has
 
-  -- streams that are put back leave the machine as it was
   pub streams_same : putting m place (record r { streams = Some s }) ≡ m
   streams_same = sym (ap (λ (o : Option Streams). let now : Tcp2Socket = record r { streams = o } in putting m place now) n.has) ∙ put_same m place r n.at
 
--- what is weaker of them
 pub more_of : {P Q : ℕ → Tcp2Socket → Streams → Type 0} (m : Machine) (named : Option ℕ) → ((place : ℕ) (r : Tcp2Socket) (s : Streams) → P place r s → Q place r s) → OfStreams m named P → OfStreams m named Q
 more_of m named weak on = record { place = on.place; found = on.found; streams = on.streams; names = on.names; at = on.at; has = on.has; holds = weak on.place on.found on.streams on.holds }
 
@@ -66,7 +64,6 @@ not_and : (b : Bool) → (not b && b) ≡ false
 not_and true = refl
 not_and false = refl
 
--- a record that stays begins none
 pub none_begun : (store : Records) (place : ℕ) (o : Option Tcp2Socket) → slice_get store.sockets place ≡ o → job_noted place o store ≡ store
 none_begun store place o at = ap (λ (now : Option Tcp2Socket). with_job store place (begins_job o now)) at ∙ ap (with_job store place) (not_and (has_job o))
 
@@ -93,7 +90,6 @@ module _ {T : Type 0} (m : Machine) (own : OpId) (handle : ℕ) (Row : Rows (Res
       (asks : S → Asks (Result T StreamStop × S)) (by : Tcp2Socket → Option Streams → Asks (Result T StreamStop × Tcp2Socket))
       (lost : (r : Tcp2Socket) → by r None ≡ Give (Err (stop.Trap NoSuchHandle), r)) (found : (r : Tcp2Socket) (s : Streams) → by r (Some s) ≡ bind (asks (of s)) (λ done. Give (done.0, put r s done.1)))
       (rows : (place : ℕ) (r : Tcp2Socket) (s : Streams) → HasStreams m named place r s → Meets (λ es done. Told es done.0 (keep place (Some r) (with_socket m.store place (put r s done.1)))) [] (asks (of s))) where
-    -- what a call on the record gave, as the handle's answer
     abbrev Answered : ℕ → Option Tcp2Socket → Rows (Result T StreamStop × Records)
     Answered place o es done = Meets Row es (converted own handle place (done.0, record m { store = keep place o done.1 }))
 

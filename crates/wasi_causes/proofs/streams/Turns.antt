@@ -77,7 +77,6 @@ record_by r (Some s) has es =
     (λ fs done e. e ∙ sym (ap writer_asks_by has))
 
 -- == all of them
--- a record that is put back with the same operation
 set_job : (xs : List Tcp2Socket) (i : ℕ) (y : Tcp2Socket) (k : ℕ) → job_of (Some y) ≡ job_of (slice_get xs i) → job_of (slice_get (slice_set xs i y) k) ≡ job_of (slice_get xs k)
 set_job [] i y k h = refl
 set_job (z ∷ xs) zero y zero h = h
@@ -107,7 +106,6 @@ module _ (m : Machine) where
       (at_by sockets place (slice_get sockets place) refl (listed place (inl refl)) es same)
       (λ fs now k. jobs_by places (λ p h. listed p (inr h)) now fs k)
 
-  -- the handles stay
   abbrev SameTable : List Entry → Unit {0} × Machine → Type 0
   SameTable es done = done.1.table ≡ m.table
 
@@ -117,7 +115,6 @@ module _ (m : Machine) where
       (allows_then TurnAsks SameJobs (λ es done. ⊤) [] (turn_jobs m.store.jobs m.store.sockets) _ (jobs_by m.store.jobs (λ p h. h) m.store.sockets [] (λ place. refl)) (λ es sockets k. tt))
       (λ es done k. refl)
 
-  -- each entry is asked so
   abbrev AllByJobs : List Entry → Type 0
   AllByJobs es = (e : Entry) → Has es e → IsOfJob m e.op
 

@@ -9,7 +9,6 @@ use Rattle.wasi_steps.specs.declared.step.Step.{Step}
 use Rattle.wasi_steps.specs.declared.step.Step.TheVariants as step
 use Rattle.wasi_causes.specs.Outcomes.{may_answer}
 
--- words of calls of another generation, and of no step
 cancelled : (line : ℕ) (s : Step) → may_answer line s reply.Cancelled → ⊥
 cancelled line s h = h
 
@@ -29,7 +28,6 @@ poll_of_a_handle h = h
 closed_poll : may_answer 7 (step.Poll 3) reply.Closed → ⊥
 closed_poll h = h
 
--- a finish of a bind waits for nothing
 waiting_finish : may_answer 7 (step.TcpFinishBind 0 1) (reply.Err word.WouldBlock) → ⊥
 waiting_finish h = absurd (cc)
 
@@ -40,7 +38,6 @@ pending_connect line n c s network a h = h
 pending_bind : (c s network : ℕ) (a : IpSocketAddress) → may_answer 7 (step.TcpStartBind c s network a) (reply.Pending 6) → ⊥
 pending_bind c s network a h = absurd (let e : 6 ≡ 7 = h in cc)
 
--- traps of other steps
 network_misses : may_answer 1 (step.Network 0) (reply.Trap NoSuchHandle) → ⊥
 network_misses h = h
 
@@ -53,7 +50,6 @@ full_drop h = h
 unpermitted_read : may_answer 7 (step.Read 0 1 10) (reply.Trap NotPermitted) → ⊥
 unpermitted_read h = h
 
--- a look at a pollable answers with one truth value
 two_values : may_answer 7 (step.Ready 0 1) (reply.Ok (field.True ∷ field.True ∷ [])) → ⊥
 two_values h = h.1
 

@@ -10,7 +10,6 @@ use Rattle.wasi_world.specs.Asks.{Asks, Give, Ask, AskWrite, bind, Left}
 use Rattle.wasi_walks.specs.Licence.{entry}
 use Rattle.wasi_walks.proofs.Gives.{Gives, gives_then, gives_more, gives_any, gives_both, gives_where, given}
 
--- of what was asked and told, and what is given then
 abbrev pub Rows : Type 0 → Type 1
 Rows A = List Entry → A → Type 0
 
@@ -27,7 +26,6 @@ asks k = record { along = (tt, λ t fits. (k t fits).along) }
 pub chain : {A B : Type 0} {Mid : Rows A} {Row : Rows B} {before : List Entry} {first : Asks A} {f : A → Asks B} → Meets Mid before first → ((es : List Entry) (a : A) → Mid es a → Meets Row es (f a)) → Meets Row before (bind first f)
 chain {Mid} {Row} {before} {first} {f} t k = record { along = gives_then Mid Row before first f t.along (λ es a row. (k es a row).along) }
 
--- what is given is told otherwise
 pub onto : {A B : Type 0} {Row : Rows B} {before : List Entry} {first : Asks A} (f : A → B) → Meets (λ es a. Row es (f a)) before first → Meets Row before (bind first (λ a. Give (f a)))
 onto {Row} f t = chain t (λ es a row. ends row)
 
@@ -44,11 +42,9 @@ whatever first = record { along = gives_any (λ es a. ⊤) (λ es a. tt) [] firs
 pub both : {A : Type 0} {One Two : Rows A} {before : List Entry} {first : Asks A} → Meets One before first → Meets Two before first → Meets (λ es a. One es a × Two es a) before first
 both {One} {Two} {before} {first} t u = record { along = gives_both One Two before first t.along u.along }
 
--- under a premise
 pub granted : {A : Type 0} {P : Type 0} {Row : Rows A} {before : List Entry} {first : Asks A} → (P → Meets Row before first) → Meets (λ es a. P → Row es a) before first
 granted {P} {Row} {before} {first} t = record { along = gives_where P Row before first (λ p. (t p).along) }
 
--- of a walk of the tree
 pub met : {A : Type 0} {Row : Rows A} {first : Asks A} {es : List Entry} {a : A} → Meets Row [] first → Left first es (Give a) → Row es a
 met {Row} {first} {es} {a} t w = given Row first es a t.along w
 

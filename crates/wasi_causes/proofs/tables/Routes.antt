@@ -1,6 +1,10 @@
 -- How a call finds its record, and how a handle is made: what every step shares that does so.
+use Rattle.wasi_p2.specs.Tcp.{output_asks, streams_asks}
+use Rattle.wasi_walks.proofs.Lists.{marks_in-push}
+use Rattle.wasi_host.specs.declared.kind.Kind.TheVariants.{Input, Output}
+use Rattle.wasi_world.specs.declared.call.HandleKind.TheVariants as name
 use Rattle.std.specs.Prelude.{◌↔◌, IsSomeAnd}
-use Rattle.std.proofs.Common.{Bool, ◌≡◌, ◌≢◌, ◌∙◌, ℕ, zero, suc, true, false, List, [], ◌∷◌, ◌++◌, Option, Some, None, Result, Ok, Err, slice_get, slice_set, refl, sym, ap, subst, arith}
+use Rattle.std.proofs.Common.{◌+◌, Bool, ◌≡◌, ◌≢◌, ◌∙◌, ℕ, zero, suc, true, false, List, [], ◌∷◌, ◌++◌, Option, Some, None, Result, Ok, Err, slice_get, slice_set, refl, sym, ap, subst, arith}
 use Rattle.wasi_addr.specs.declared.code.ErrorCode.{ErrorCode}
 use Rattle.wasi_addr.specs.declared.code.ErrorCode.TheVariants.{AccessDenied}
 use Rattle.wasi_world.specs.declared.ids.OpId.{OpId}
@@ -29,9 +33,8 @@ use Rattle.wasi_steps.specs.declared.step.Step.{Step}
 use Rattle.wasi_walks.specs.Answered.{record_in, record_at, putting, word_of_code, OfRecord}
 use Rattle.wasi_walks.specs.Licence.{entry, marks_in}
 use Rattle.wasi_causes.specs.Outcomes.{IsCodeWord, FullAfter, Conflicts, Outcome}
-use Rattle.wasi_causes.proofs.tables.Meets.{Rows, Meets, ends, asks, chain, widen, branch}
+use Rattle.wasi_causes.proofs.tables.Meets.{onto, Rows, Meets, ends, asks, chain, widen, branch}
 
--- what the step of this line may answer, as its table says
 abbrev pub Says : List WasiSocketsCtx → Machine → ℕ → Step → Rows (Reply × Machine)
 Says contexts m line s es done = Outcome contexts m line s es done.0 done.1
 
@@ -47,7 +50,6 @@ put_store_same store place r at = ap (λ (rs : List Tcp2Socket). let left : Reco
 pub put_same : (m : Machine) (place : ℕ) (r : Tcp2Socket) → slice_get m.store.sockets place ≡ Some r → putting m place r ≡ m
 put_same m place r at = ap (λ (store : Records). let left : Machine = record m { store = store } in left) (put_store_same m.store place r at)
 
--- what leaves the machine
 pub put_back : (P : Machine → Type 0) (m : Machine) (place : ℕ) (r : Tcp2Socket) → slice_get m.store.sockets place ≡ Some r → P m → P (putting m place r)
 put_back P m place r at h = subst P (sym (put_same m place r at)) h
 
@@ -63,7 +65,6 @@ its {m} n = ap (record_in m) n.names ∙ n.at
 pub here : {m : Machine} {handle place : ℕ} {r : Tcp2Socket} {P : ℕ → Tcp2Socket → Type 0} → Names m handle place r → P place r → OfRecord m handle P
 here {place} {r} n h = record { place = place; found = r; names = n.names; at = n.at; holds = h }
 
--- by the record, whatever is made of it
 pub on_number : {B : Type 0} {Row : Rows B} (m : Machine) (handle : ℕ) (on : Option ℕ → Asks B) (call : ℕ → Option Tcp2Socket → Asks B) → ((place : ℕ) → on (Some place) ≡ call place (slice_get m.store.sockets place))
     → (record_at m handle ≡ None → Meets Row [] (on None)) → (record_at m handle ≡ None → (place : ℕ) → Meets Row [] (call place None)) → ((place : ℕ) (r : Tcp2Socket) → Names m handle place r → Meets Row [] (call place (Some r)))
     → Meets Row [] (on (socket_at m handle))
@@ -118,12 +119,24 @@ makes {Row} {es} t op made parent side full row = branch (is_full t) (λ e. ends
     by_told told.Done fits = ends row
     by_told _ fits = absurd fits
 
--- no handle was made since
+-- the two streams of a connection, under its socket's handle; so many handles were made before
+pub makes_streams : {Row : Rows (Result (ℕ × ℕ) Stop × Machine)} (now : Machine) (es : List Entry) (own : OpId) (handle place : ℕ) (side : Option OpId) (start : ℕ) → now.table.next ≡ start + marks_in es
+    → ((fs : List Entry) (table : Handles) → is_full table ≡ true → table.next ≡ start + marks_in fs → Row fs (Err (Trap Full), record now { table = table }))
+    → let one : Handles = with_handle now.table (Input place) (Some handle) in
+    Row ((es ++ entry own (call.Made now.table.next name.Input (Some handle) side) told.Done ∷ []) ++ entry own (call.Made one.next name.Output (Some handle) side) told.Done ∷ []) (Ok (now.table.next, one.next), record now { table = with_handle one (Output place) (Some handle) })
+    → Meets Row es (streams_asks now own handle place side)
+makes_streams {Row} now es own handle place side start count full row =
+    chain {Mid = λ fs made. Meets Row fs (output_asks own handle place side (made.0, record now { table = made.1 }))}
+    (makes now.table own (Input place) (Some handle) side (λ f. ends (full es now.table f count)) (onto _ (makes (with_handle now.table (Input place) (Some handle)) own (Output place) (Some handle) side (λ f. full _ _ f next) row)))
+    (λ fs made k. k)
+  where
+    next : now.table.next + 1 ≡ start + marks_in (es ++ entry own (call.Made now.table.next name.Input (Some handle) side) told.Done ∷ [])
+    next = let p = marks_in-push es (entry own (call.Made now.table.next name.Input (Some handle) side) told.Done) in omega arith
+
 pub full_so : (m after : Machine) (es : List Entry) → is_full after.table ≡ true → after.table ≡ m.table → marks_in es ≡ 0 → FullAfter m es after
 full_so m after es full same none = (full, let next = ap (λ (t : Handles). t.next) same in omega (arith, next, none))
 
 -- == one reply that comes of one thing
--- neither is so
 pub apart : {A B : Type 0} → (A → ⊥) → (B → ⊥) → A ↔ B
 apart a b = (λ x. absurd (a x), λ y. absurd (b y))
 
@@ -136,7 +149,6 @@ none_has P (Some x) e h = cc
 pub code_word : (c : ErrorCode) → IsCodeWord (word_of_code c)
 code_word c = record { code = c; is = refl }
 
--- the words that no code has
 abbrev pub MayBeOfCode : CodeWord → Type 0
 MayBeOfCode word.ConcurrencyConflict = ⊥
 MayBeOfCode word.NotInProgress = ⊥
@@ -153,14 +165,11 @@ not_of_code c w none e = let same : word_of_code c ≡ w = cc in none (subst May
 
 -- == starts
 module _ {m : Machine} {handle place : ℕ} {r : Tcp2Socket} (n : Names m handle place r) where
-  -- with an operation in progress
   pub in_conflict : is_nothing r.in_progress ≡ false → Conflicts m handle (reply.Err word.ConcurrencyConflict)
   in_conflict e = (λ same. rw (its n) e, λ k. refl)
 
-  -- with none
   pub no_conflict : is_nothing r.in_progress ≡ true → (said : Reply) → said ≢ reply.Err word.ConcurrencyConflict → Conflicts m handle said
   no_conflict idle said other = apart other (λ k. let busy : is_nothing r.in_progress ≡ false = rw (its n) at k in cc)
 
--- with no record
 pub none_conflicts : (m : Machine) (handle : ℕ) (said : Reply) → record_at m handle ≡ None → said ≢ reply.Err word.ConcurrencyConflict → Conflicts m handle said
 none_conflicts m handle said none other = apart other (none_has _ (record_at m handle) none)

@@ -3,13 +3,11 @@ use Rattle.std.proofs.Common.{◌≡◌, ◌≢◌, ℕ, Bool, true, List, [], O
 use Rattle.std.specs.Prelude.{◌↔◌, IsSome, is_some}
 use Rattle.wasi_causes.proofs.Ending.{drop, shutdown}
 use Rattle.wasi_causes.proofs.Machine.{subscribe, ready, poll}
-use Rattle.wasi_causes.proofs.sockets.Accepts.{accept}
-use Rattle.wasi_causes.proofs.sockets.Finishes.{finish_bind, finish_connect, finish_listen}
+use Rattle.wasi_causes.proofs.sockets.Makes.{network, create, finish_connect, accept}
 use Rattle.wasi_causes.proofs.sockets.Questions.{get, set, local_address, remote_address, is_listens, family}
-use Rattle.wasi_causes.proofs.sockets.Starts.{start_bind, start_connect, start_listen}
+use Rattle.wasi_causes.proofs.sockets.Starts.{finish_bind, finish_listen, start_bind, start_connect, start_listen}
 use Rattle.wasi_causes.proofs.streams.Halves.{read, check_write, write, flush}
 use Rattle.wasi_causes.proofs.streams.Turns.{turn}
-use Rattle.wasi_causes.proofs.tables.Creates.{network, create}
 use Rattle.wasi_causes.proofs.tables.Meets.{Meets, ends, widen, branch, met, Rows, chain, shifted}
 use Rattle.wasi_causes.proofs.tables.Routes.{Says}
 use Rattle.wasi_causes.specs.Outcomes.{Outcome, Quiet, IsStreamCall, MayRefuse, MayMiss, MayTrap, MayWait, may_answer, EachMayAnswer, Reads, Looks, Traps}
@@ -86,7 +84,6 @@ module _ (contexts : List WasiSocketsCtx) (m : Machine) (line : ℕ) where
 
   -- == of an answer
   module _ (s : Step) where
-    -- what holds of the busy and of its own
     of_either : (P : List Entry → Reply → Machine → Type 0) → (IsHeldUp s → P [] reply.Busy m) → ((es : List Entry) (r : Reply) (after : Machine) → (IsHeldUp s → ⊥) → Outcome contexts m line s es r after → P es r after)
         → (es : List Entry) (r : Reply) (after : Machine) → Answers s es r after → P es r after
     of_either P busy own _ _ _ (IsBusy held) = busy held
@@ -96,11 +93,9 @@ module _ (contexts : List WasiSocketsCtx) (m : Machine) (line : ℕ) where
         → (es : List Entry) (r : Reply) (after : Machine) → Answered contexts m line s es r after → P es r after
     of_answer P busy own es r after w = of_either P (λ held. busy) (λ es r after free row. own es r after row) es r after (answers s es r after w)
 
-    -- its own, where it isn't busy
     pub its_own : (es : List Entry) (r : Reply) (after : Machine) → Answered contexts m line s es r after → r ≢ reply.Busy → Outcome contexts m line s es r after
     its_own es r after w other = of_answer (λ es r after. r ≢ reply.Busy → Outcome contexts m line s es r after) (λ no. absurd (no refl)) (λ es r after row no. row) es r after w other
 
-    -- its own, where it isn't held up
     pub unheld : (IsHeldUp s → ⊥) → (es : List Entry) (r : Reply) (after : Machine) → Answered contexts m line s es r after → Outcome contexts m line s es r after
     unheld none es r after w = of_either (λ es r after. Outcome contexts m line s es r after) (λ held. absurd (none held)) (λ es r after free row. row) es r after (answers s es r after w)
 

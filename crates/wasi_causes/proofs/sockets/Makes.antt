@@ -1,0 +1,315 @@
+-- The steps that make handles of sockets and of streams: a network, a create, the finish of a connect, and an accept.
+use Rattle.std.proofs.Common.{◌≡◌, ℕ, true, List, [], ◌∷◌, None, Result, Ok, Err, length, refl, ap, ◌≢◌, Bool, false, inr, inl, slice_get, subst, arith, ◌∙◌, ◌+◌, ◌++◌, Option, Some, slice_set, sym, append_assoc}
+use Rattle.wasi_addr.specs.declared.address.IpSocketAddress.{IpSocketAddress}
+use Rattle.wasi_addr.specs.declared.address.SocketAddressFamily.{SocketAddressFamily}
+use Rattle.wasi_addr.specs.declared.code.ErrorCode.{ErrorCode}
+use Rattle.wasi_addr.specs.declared.code.ErrorCode.TheVariants.{InvalidState}
+use Rattle.wasi_causes.proofs.operations.Accepts.{AcceptRow, accepts}
+use Rattle.wasi_causes.proofs.operations.Marks.{poll_marks_none}
+use Rattle.wasi_causes.proofs.operations.Polls.{EndsFor, connect_ends}
+use Rattle.wasi_causes.proofs.tables.Meets.{Rows, Meets, ends, asks, chain, onto, branch, widen, both, granted}
+use Rattle.wasi_causes.proofs.tables.Routes.{Says, makes, full_so, code_word, makes_streams, Names, its, here, through_record, apart, none_has, not_of_code, put_back}
+use Rattle.wasi_causes.specs.Outcomes.{Outcome}
+use Rattle.wasi_host.specs.Host.{Stop, Trap, code_stop}
+use Rattle.wasi_host.specs.Kinds.{Handles, with_handle}
+use Rattle.wasi_host.specs.Listening.{with_listening, accept_listening, accepted_record, accept_answered, accept_at}
+use Rattle.wasi_host.specs.Machine.{created_asks, create_asks, own_of, side_at, with_store}
+use Rattle.wasi_host.specs.Store.{with_record, Records, with_socket, is_connect, idle, opened_send, opened_receive, connect_polled, with_record_put, finish_connect_by, finish_connect_at}
+use Rattle.wasi_host.specs.declared.kind.Kind.TheVariants.{Network, Tcp2, Input, Output}
+use Rattle.wasi_host.specs.declared.listening.Listening.{Listening}
+use Rattle.wasi_host.specs.declared.listening.Listening.TheVariants as listening
+use Rattle.wasi_host.specs.declared.machine.Machine.{Machine}
+use Rattle.wasi_host.specs.declared.socket.Tcp2Socket.{Tcp2Socket}
+use Rattle.wasi_p2.specs.Tcp.{network_asks, connected_asks, finish_connect_on, finish_connect_asks, streams_asks, with_streams, accepted_streams, accepted_handles, accepted_asks, accept_on, accept_asks}
+use Rattle.wasi_walks.proofs.Lists.{get_seam, marks_in-push}
+use Rattle.wasi_walks.specs.Answered.{word_of_code, CreateRefusal, NotAllowed, ToldCode, record_at, HasNoConnectInProgress, ClosedBy, FinishRefusal, NoConnect, StillConnects, Closes, WasClosed, NotConnecting, ListensAlready, ReceivesAlready, SendsAlready, ConnectsAt}
+use Rattle.wasi_walks.specs.Licence.{entry, marks_in}
+use Rattle.wasi_walks.specs.Listens.{accept_name, AcceptWaits, accepting_now, NoListener, StillAccepts, AcceptFailed, AcceptGives, accepted_marks, AcceptsAt}
+use Rattle.wasi_machine.specs.Machine.{handle_reply, context_at, pair_reply, triple_reply, first_ids}
+use Rattle.wasi_steps.specs.Reply.{triple_fields}
+use Rattle.wasi_steps.specs.declared.reply.CodeWord.{CodeWord}
+use Rattle.wasi_steps.specs.declared.reply.CodeWord.TheVariants as word
+use Rattle.wasi_steps.specs.declared.reply.Reply.TheVariants as reply
+use Rattle.wasi_steps.specs.declared.step.Step.TheVariants as step
+use Rattle.wasi_tcp.specs.Addresses.{still_connected}
+use Rattle.wasi_tcp.specs.Connect.{IsConnect}
+use Rattle.wasi_tcp.specs.Connecting.{with_state, connect_ended, finish_in, in_socket}
+use Rattle.wasi_tcp.specs.Halves.{taken_receive, taken_send}
+use Rattle.wasi_tcp.specs.Listener.{Listener, accept_end, accepted_socket, accepted_state, HoldsAccept}
+use Rattle.wasi_tcp.specs.Shape.{Socket}
+use Rattle.wasi_tcp.specs.Socket.{side_of, new_socket, after_create, new_asks}
+use Rattle.wasi_tcp.specs.declared.listener.Accepting.{Accepting}
+use Rattle.wasi_tcp.specs.declared.listener.Accepting.TheVariants as accepting
+use Rattle.wasi_tcp.specs.declared.socket.Connection.{Connection}
+use Rattle.wasi_tcp.specs.declared.socket.TcpState.{TcpState}
+use Rattle.wasi_tcp.specs.declared.socket.TcpState.TheVariants as state
+use Rattle.wasi_world.specs.Asks.{Give, bind}
+use Rattle.wasi_world.specs.Fits.{IsDoneOrCode}
+use Rattle.wasi_world.specs.Operation.{Item, Operation, End, Waits, Done, Refused}
+use Rattle.wasi_world.specs.Typed.{told_done}
+use Rattle.wasi_world.specs.declared.call.Call.TheVariants as call
+use Rattle.wasi_world.specs.declared.call.Entry.{Entry}
+use Rattle.wasi_world.specs.declared.call.HandleKind.TheVariants as name
+use Rattle.wasi_world.specs.declared.call.Told.{Told}
+use Rattle.wasi_world.specs.declared.call.Told.TheVariants as told
+use Rattle.wasi_world.specs.declared.ids.OpId.{OpId}
+use Rattle.wasi_world.specs.declared.outcome.Answer.{Answer}
+use Rattle.wasi_world.specs.declared.outcome.TrapKind.TheVariants.{NoSuchHandle}
+use Rattle.wasi_world.specs.declared.outcome.WasiSocketsCtx.{WasiSocketsCtx}
+
+-- == a network, and a create
+module _ (contexts : List WasiSocketsCtx) (m : Machine) (line c : ℕ) where
+  abbrev NetworkRow : Rows (Result ℕ Stop × Machine)
+  NetworkRow es done = Outcome contexts m line (step.Network c) es (handle_reply done.0) done.1
+
+  pub network : Meets (Says contexts m line (step.Network c)) [] (bind (network_asks m (own_of line)) (λ done. Give (handle_reply done.0, done.1)))
+  network = onto _ (onto _ (makes m.table (own_of line) Network None None (λ full. (tt, (tt, full_so m m [] full refl refl, tt))) (tt, ((tt, tt), tt))))
+
+  module _ (family : SocketAddressFamily) where
+    abbrev ctx : WasiSocketsCtx
+    ctx = context_at contexts c
+
+    abbrev is_made : List Entry
+    is_made = entry (own_of line) (call.TcpCreate ctx.name family) told.Done ∷ []
+
+    abbrev CreateRow : Rows (Result ℕ Stop × Machine)
+    CreateRow es done = Outcome contexts m line (step.TcpCreate c family) es (handle_reply done.0) done.1
+
+    abbrev SocketRow : Rows (Result Socket ErrorCode)
+    SocketRow es (Ok socket) = (socket ≡ new_socket (own_of line) ctx.name family) × (es ≡ is_made)
+    SocketRow es (Err code) = CreateRefusal (own_of line) ctx family es (word_of_code code)
+
+    told_create : ctx.tcp ≡ true → (t : Told) → IsDoneOrCode t → SocketRow (entry (own_of line) (call.TcpCreate ctx.name family) t ∷ []) (after_create (own_of line) ctx.name family (told_done t))
+    told_create tcp told.Done fits = (refl, refl)
+    told_create tcp (told.Code code) fits = ToldCode code tcp
+    told_create tcp _ fits = absurd fits
+
+    makes_socket : Meets SocketRow [] (new_asks (own_of line) ctx family)
+    unfolding bind
+    makes_socket = branch ctx.tcp (λ tcp. asks (λ t fits. ends (told_create tcp t fits))) (λ no. ends (NotAllowed no))
+
+    created : (es : List Entry) (made : Result Socket ErrorCode) → SocketRow es made → Meets CreateRow es (created_asks m (own_of line) made)
+    created es (Err code) k = ends (tt, (code_word code, (k, refl)))
+    created es (Ok socket) k =
+        let with_it : Machine = record m { store = with_record m.store socket } in
+        onto _ (makes m.table (own_of line) (Tcp2 (length m.store.sockets)) None (side_of socket)
+        (λ full. (tt, (tt, full_so m with_it es full refl (ap marks_in k.1), (full, k.1, ap (λ (made : Socket). let left : Machine = record m { store = with_record m.store made } in left) k.0))))
+        (tt, ((tt, tt), tt)))
+
+    pub create : Meets (Says contexts m line (step.TcpCreate c family)) [] (bind (create_asks m (own_of line) ctx family) (λ done. Give (handle_reply done.0, done.1)))
+    create = onto _ (chain {Mid = SocketRow} makes_socket created)
+
+module _ (contexts : List WasiSocketsCtx) (m : Machine) (line c handle : ℕ) where
+  abbrev own : OpId
+  own = own_of line
+
+  -- == the finish of a connect
+  abbrev FinishSays : Rows (Result (ℕ × ℕ) Stop × Machine)
+  FinishSays es done = Outcome contexts m line (step.TcpFinishConnect c handle) es (pair_reply done.0) done.1
+
+  abbrev HasNone : Type 0
+  HasNone = HasNoConnectInProgress (record_at m handle)
+
+  abbrev PollRow : Rows (Result (Unit {0}) Stop × Records)
+  PollRow es (Ok done, store) = (HasNone → ⊥) × (marks_in es ≡ 0)
+  PollRow es (Err stop, store) = FinishSays es (Err stop, record m { store = store })
+
+  -- == of the record that the handle names
+  module _ (place : ℕ) (r : Tcp2Socket) (n : Names m handle place r) (connects : is_connect r.in_progress ≡ true) where
+    some : HasNone → ⊥
+    some k = let none : is_connect r.in_progress ≡ false = rw (its n) at k in cc
+
+    abbrev RecordRow : Rows (Result (Unit {0}) Stop × Tcp2Socket)
+    RecordRow es done = PollRow es (with_record_put m.store place done)
+
+    abbrev StateRow : Rows (Result (Answer (Unit {0})) ErrorCode × TcpState)
+    StateRow es done = RecordRow es (connect_polled r (in_socket r.inner done))
+
+    abbrev Cause : List Entry → CodeWord → Tcp2Socket → Type 0
+    Cause es w now = ConnectsAt m handle → FinishRefusal m place r es w (record m { store = with_socket m.store place now })
+
+    fails : (es : List Entry) (code : ErrorCode) (now : Tcp2Socket) → Cause es (word_of_code code) now → RecordRow es (Err (code_stop code), now)
+    fails es code now cause =
+        let other : reply.Err (word_of_code code) ≢ reply.Err word.NotInProgress = not_of_code code word.NotInProgress (λ no. no) in
+        (apart other some, (inr (inr (code_word code)), record { none = λ e. absurd (other (ap reply.Err e)); cause = λ holds. here n (cause holds) }))
+
+    module _ (op : Operation) (at_state : r.inner.state ≡ state.Connecting op) where
+      is_one : ConnectsAt m handle → IsConnect op
+      is_one h = let k = rw (its n) at h in rw at_state at k
+
+      ended : (es : List Entry) (end : End × List Item) → (marks_in es ≡ 0) × (ConnectsAt m handle → EndsFor op (ClosedBy op) es end) → StateRow es (connect_ended op.who end)
+      ended es (Waits, items) k = (apart (λ e. cc) some, (inr (inl refl), record { none = λ e. absurd (cc); cause = λ h. here n (StillConnects op items connects at_state (k.1 h)) }))
+      ended es (Done given, items) k = (some, k.0)
+      ended es (Refused code given, items) k = fails es code _ (λ h. Closes op code connects at_state (k.1 h))
+
+      polled : Meets StateRow [] (finish_in (state.Connecting op))
+      polled = onto _ (widen ended (both (record { along = poll_marks_none op }) (granted (λ h. connect_ends op (is_one h)))))
+
+    module _ (connection : Connection) (at_state : r.inner.state ≡ state.Connected connection) where
+      abbrev connected_socket : Connection → Socket
+      connected_socket now = with_state r.inner (state.Connected now)
+
+      opens_send : (taken : Bool) → connection.send_taken ≡ taken
+          → RecordRow [] (opened_send r (record { side = connection.side }) (in_socket (connected_socket connection) (still_connected (taken_send (record connection { receive_taken = true }) taken))))
+      opens_send false e = (some, refl)
+      opens_send true e = fails [] InvalidState _ (λ h. SendsAlready connection connects at_state e refl)
+
+      opens_receive : (taken : Bool) → connection.receive_taken ≡ taken → RecordRow [] (opened_receive r (in_socket (connected_socket connection) (still_connected (taken_receive connection taken))))
+      opens_receive false e = opens_send connection.send_taken refl
+      opens_receive true e =
+          subst (λ (st : TcpState). RecordRow [] (Err (code_stop InvalidState), idle r (with_state r.inner st))) at_state (fails [] InvalidState _ (λ h. ReceivesAlready connection connects at_state e refl))
+
+    by_state : (st : TcpState) → r.inner.state ≡ st → Meets StateRow [] (finish_in st)
+    by_state (state.Default side) e = ends (subst (λ (st : TcpState). StateRow [] (Err InvalidState, st)) e (fails [] InvalidState _ (λ h. NotConnecting side connects e refl)))
+    by_state (state.Listening side) e = ends (subst (λ (st : TcpState). StateRow [] (Err InvalidState, st)) e (fails [] InvalidState _ (λ h. ListensAlready side connects e refl)))
+    by_state (state.Connecting op) e = polled op e
+    by_state (state.Connected connection) e = ends (opens_receive connection e connection.receive_taken refl)
+    by_state (state.Closed code) e = ends (fails [] code _ (λ h. WasClosed code connects e refl))
+
+  by_progress : (place : ℕ) (r : Tcp2Socket) → Names m handle place r → (b : Bool) → is_connect r.in_progress ≡ b → Meets PollRow [] (finish_connect_by m.store place r b)
+  by_progress place r n false e = ends ((λ same. rw (its n) e, λ k. refl), (inl refl, record { none = λ same. (refl, refl); cause = λ holds. here n (NoConnect e refl) }))
+  by_progress place r n true e = onto _ (onto _ (onto _ (by_state place r n e r.inner.state refl)))
+
+  -- == the streams
+  connected : (place : ℕ) (es : List Entry) (done : Result (Unit {0}) Stop × Records) → PollRow es done → Meets FinishSays es (connected_asks own handle place (with_store m done))
+  connected place es (Ok done, store) k =
+      makes_streams (record m { store = store }) es own handle place (side_at (slice_get store.sockets place)) m.table.next (let none = k.1 in omega arith) (λ fs table full count. (apart (λ e. cc) k.0, (tt, (full, count), tt))) (apart (λ e. cc) k.0, ((tt, (tt, tt)), tt))
+  connected place es (Err stop, store) k = ends k
+
+  pub finish_connect : Meets (Says contexts m line (step.TcpFinishConnect c handle)) [] (bind (finish_connect_asks m own handle) (λ done. Give (pair_reply done.0, done.1)))
+  finish_connect =
+      onto _ (through_record m handle (finish_connect_on m own handle) (λ place o. finish_connect_at m.store place o) (λ place done. connected_asks own handle place done) (λ place. refl) (λ place. refl) (λ none. ends (missing none)) (λ none place. ends (missing none))
+      (λ place r n. widen (connected place) (by_progress place r n (is_connect r.in_progress) refl)))
+    where
+      missing : record_at m handle ≡ None → FinishSays [] (Err (Trap NoSuchHandle), m)
+      missing none = (apart (λ e. cc) (none_has _ (record_at m handle) none), (none, refl, refl))
+
+  -- == an accept
+  abbrev AcceptSays : Rows (Result (ℕ × ℕ × ℕ) Stop × Machine)
+  AcceptSays es done = Outcome contexts m line (step.TcpAccept c handle) es (triple_reply done.0) done.1
+
+  -- the records, where this connection was taken from the listener
+  abbrev taking : ℕ → Tcp2Socket → Listener → OpId → IpSocketAddress → Records
+  taking place r l side peer = let left = accepting_now m place r l accepting.Idle in record left.store { sockets = left.store.sockets ++ (accepted_record (accepted_socket l.family l.maker (accepted_state side peer))).1 ∷ [] }
+
+  -- A connection was taken from the handle's listener, and stands at this place.
+  record Took (es : List Entry) (place : ℕ) (store : Records) : Type 0 where
+    of : ℕ
+    found : Tcp2Socket
+    named : Names m handle of found
+    listener : Listener
+    listens : found.listening ≡ listening.Accepts listener
+    side : OpId
+    peer : IpSocketAddress
+    given : AcceptsAt m handle → AcceptGives (accept_name line listener.accept) listener.side listener.accept side peer es
+    left : store ≡ taking of found listener side peer
+    its_side : side_at (slice_get store.sockets place) ≡ Some side
+    none : marks_in es ≡ 0
+
+  abbrev StoreRow : Rows (Result ℕ Stop × Records)
+  StoreRow es (Ok place, store) = Took es place store
+  StoreRow es (Err stop, store) = AcceptSays es (Err stop, record m { store = store })
+
+  -- == of the record that the handle names
+  module _ (place : ℕ) (r : Tcp2Socket) (n : Names m handle place r) where
+    abbrev TakingRow : Rows (Result (Answer Socket) ErrorCode × Tcp2Socket)
+    TakingRow es done = StoreRow es (accept_answered m.store place done)
+
+    module _ (l : Listener) (is : r.listening ≡ listening.Accepts l) where
+      abbrev ListenerRow : Rows (Answer Socket × Listener)
+      ListenerRow es done = TakingRow es (Ok done.0, with_listening r (listening.Accepts done.1))
+
+      holds_accept : AcceptsAt m handle → HoldsAccept l.side l.maker l.accept
+      holds_accept h = let k = rw (its n) at h in rw is at k
+
+      taken : (es : List Entry) (new : OpId) (peer : IpSocketAddress) → marks_in es ≡ 0 → (AcceptsAt m handle → AcceptGives (accept_name line l.accept) l.side l.accept new peer es) → ListenerRow es (accept_end l (accepting.Arrived new peer))
+      taken es new peer none given = record {
+        of = place;
+        found = r;
+        named = n;
+        listener = l;
+        listens = is;
+        side = new;
+        peer = peer;
+        given = given;
+        left = refl;
+        its_side = ap side_at (get_seam (slice_set m.store.sockets place (with_listening r (listening.Accepts (accept_end l (accepting.Arrived new peer)).1))) (accepted_record (accepted_socket l.family l.maker (accepted_state new peer))).1);
+        none = none;
+      }
+
+      made_of_it : (es : List Entry) (a : Accepting) → marks_in es ≡ 0 → AcceptRow line l es a → ListenerRow es (accept_end l a)
+      made_of_it es accepting.Idle none h = (tt, (inl refl, λ holds. absurd (h (holds_accept holds))))
+      made_of_it es (accepting.Asking op) none h = (tt, (inl refl, λ holds. here n (StillAccepts l op is h.0 (subst (λ (id : OpId). AcceptWaits id es) (sym h.0) (h.1 (holds_accept holds))))))
+      made_of_it es (accepting.Arrived new peer) none h = taken es new peer none (λ holds. h (holds_accept holds))
+      made_of_it es (accepting.Failed code) none h = (tt, (inr (code_word code), λ holds. here n (AcceptFailed l code is (h (holds_accept holds)))))
+
+    by_listening : (o : Listening) → r.listening ≡ o → Meets TakingRow [] (accept_listening (first_ids line) r o)
+    by_listening (listening.Accepts l) e = onto _ (accepts line l (accept_end l) (made_of_it l e))
+    by_listening _ e = ends (put_back (λ (after : Machine). Outcome contexts m line (step.TcpAccept c handle) [] (triple_reply (Err (code_stop InvalidState))) after) m place r n.at (tt, (inr (code_word InvalidState), λ holds. here n (NoListener (rw e tt) refl))))
+
+  -- == the three handles
+  module _ (es : List Entry) (place : ℕ) (store : Records) (t : Took es place store) where
+    abbrev next : ℕ
+    next = m.table.next
+
+    abbrev side : Option OpId
+    side = Some t.side
+
+    abbrev one : Handles
+    one = with_handle m.table (Tcp2 place) (Some handle)
+
+    abbrev two : Handles
+    two = with_handle one (Input place) (Some next)
+
+    abbrev three : Handles
+    three = with_handle two (Output place) (Some next)
+
+    abbrev now : Handles → Machine
+    now table = record m { store = store; table = table }
+
+    abbrev first : Entry
+    first = entry own (call.Made next name.Tcp2 (Some handle) side) told.Done
+
+    abbrev second : Entry
+    second = entry own (call.Made one.next name.Input (Some next) side) told.Done
+
+    abbrev third : Entry
+    third = entry own (call.Made two.next name.Output (Some next) side) told.Done
+
+    after_two : two.next ≡ next + 2
+    after_two = omega arith
+
+    three_marks : ((es ++ first ∷ []) ++ second ∷ []) ++ third ∷ [] ≡ es ++ accepted_marks own handle next t.side
+    three_marks =
+        (ap (λ (xs : List Entry). xs ++ third ∷ []) (append_assoc es (first ∷ []) (second ∷ [])) ∙ append_assoc es (first ∷ second ∷ []) (third ∷ []))
+        ∙ ap (λ (k : ℕ). es ++ first ∷ second ∷ entry own (call.Made k name.Output (Some next) side) told.Done ∷ []) after_two
+
+    all_made : AcceptSays (((es ++ first ∷ []) ++ second ∷ []) ++ third ∷ []) (Ok (next, one.next, two.next), now three)
+    all_made = (
+      tt,
+      (
+        (tt, (tt, (tt, tt))),
+        record {
+          numbers = ap (λ (k : ℕ). triple_fields next (next + 1) k) after_two;
+          takes = λ holds. here t.named (record { listener = t.listener; listens = t.listens; side = t.side; peer = t.peer; front = es; given = t.given holds; asked = three_marks; store = t.left });
+        },
+      ),
+    )
+
+    handles : Meets AcceptSays es (accepted_handles (now m.table) own handle place side)
+    handles =
+        chain {Mid = λ fs made. Meets AcceptSays fs (accepted_streams own place side (made.0, now made.1))}
+        (makes m.table own (Tcp2 place) (Some handle) side (λ full. ends (tt, (tt, (full, let none = t.none in omega arith), tt))) (onto _ streams))
+        (λ fs made k. k)
+      where
+        streams : Meets (λ fs made. AcceptSays fs (with_streams next made)) (es ++ first ∷ []) (streams_asks (now one) own next place side)
+        streams = makes_streams (now one) (es ++ first ∷ []) own next place side next (let p = marks_in-push es first in let none = t.none in omega arith) (λ fs table full count. (tt, (tt, (full, count), tt))) all_made
+
+  accepted : (es : List Entry) (done : Result ℕ Stop × Records) → StoreRow es done → Meets AcceptSays es (accepted_asks own handle (with_store m done))
+  accepted es (Ok place, store) t = subst (λ (o : Option OpId). Meets AcceptSays es (accepted_handles (record m { store = store }) own handle place o)) (sym t.its_side) (handles es place store t)
+  accepted es (Err stop, store) k = ends k
+
+  pub accept : Meets (Says contexts m line (step.TcpAccept c handle)) [] (bind (accept_asks m (first_ids line) handle) (λ done. Give (triple_reply done.0, done.1)))
+  accept =
+      onto _ (through_record m handle (accept_on m (first_ids line) handle) (λ place o. accept_at m.store (first_ids line) place o) (λ place done. accepted_asks own handle done) (λ place. refl) (λ place. refl) (λ none. ends (tt, (none, refl, refl))) (λ none place. ends (tt, (none, refl, refl)))
+      (λ place r n. widen accepted (onto _ (by_listening place r n r.listening refl))))
