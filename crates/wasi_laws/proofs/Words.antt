@@ -1,5 +1,6 @@
 -- The words that the laws speak, passed on from the crates below.
 pub use Rattle.std.specs.Prelude.{IsSomeAnd, not, ⊤, ◌&&◌}
+pub use Rattle.std.proofs.Common.{Bool, Err, List, None, Ok, Option, Result, Some, [], ap, append-nil, append_assoc, arith, drop, false, if◌then◌else◌, inl, inr, length, nat_lt, refl, slice_get, slice_set, subst, suc, sym, take, true, zero, ℕ, ◌&&◌, ◌++◌, ◌+◌, ◌<◌, ◌==◌, ◌∙◌, ◌∷◌, ◌≡◌, ◌≤◌, ◌⊎◌}
 pub use Rattle.wasi_addr.specs.declared.address.IpSocketAddress.{IpSocketAddress}
 pub use Rattle.wasi_addr.specs.declared.address.SocketAddressFamily.{SocketAddressFamily}
 pub use Rattle.wasi_addr.specs.declared.code.ErrorCode.{ErrorCode}
@@ -57,7 +58,7 @@ pub use Rattle.wasi_walks.proofs.walks.States.{Over, Starts}
 pub use Rattle.wasi_walks.proofs.walks.Steps.{machine_walks, may_while}
 pub use Rattle.wasi_walks.specs.Answered.{Answered, record_in}
 pub use Rattle.wasi_walks.specs.Licence.{Has, entry}
-pub use Rattle.wasi_machine.specs.Machine.{machine_asks, permit_reply, run}
+pub use Rattle.wasi_machine.specs.Machine.{machine_asks, asks_while, permit_reply, run}
 pub use Rattle.wasi_steps.specs.Reply.{is_trap, number_fields}
 pub use Rattle.wasi_steps.specs.declared.reply.Reply.{Reply}
 pub use Rattle.wasi_steps.specs.declared.step.Step.{Step}

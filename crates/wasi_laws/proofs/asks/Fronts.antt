@@ -1,5 +1,4 @@
 -- Calls that are calm; and one poll of an operation by its single asks: what each may be, and what is known of the items that are left.
-use Rattle.std.proofs.Common.{◌≡◌, Bool, true, false, Some, refl, ap, ℕ, zero, suc, if◌then◌else◌, List, [], ◌∷◌, ◌++◌, drop, length, Option, None, Result, Ok, Err}
 use Rattle.std.proofs.Math.Seq.{drop-nil}
 use Rattle.wasi_world.specs.declared.call.Call.TheVariants as call
 use Rattle.wasi_addr.specs.declared.address.IpAddress.{IpAddress}
@@ -10,7 +9,7 @@ use Rattle.wasi_world.specs.declared.asks.Verdict.TheVariants as verdict
 use Rattle.wasi_world.specs.declared.asks.Polled.{Polled}
 use Rattle.wasi_world.specs.declared.asks.Polled.TheVariants as polled
 use Rattle.wasi_world.specs.Operation as item
-use Rattle.wasi_laws.proofs.Words.{⊤, not, ◌&&◌, OpId, Call, socket_of, NoWrite, IsQuestionOf, IpSocketAddress, SocketAddressFamily, ErrorCode, Told, Entry, Asks, bind, IsFront, Fits, told_verdict, told_done, told_polled, told_addr, told_arrival, told_taken, told_datagram, told_names, Given, Connection, Nothing, Item, Check, CheckLocal, Bind, Connect, Listen, Accept, CheckArrival, Hand, Refuse, Write, ShutdownSend, UdpWritable, UdpBind, UdpConnect, AskPeer, Send, Receive, CheckPeer, Lookup, Last, Who, Front, Ends, End, Waits, Done, verdict_front, done_front, polled_front, check_front, local_front, hand_front, refuse_front, admitted_front, arrival_front, accept_front, write_front, taken_front, less_one, ask_peer_front, peer_front, remote_told, send_front, is_now, receive_front, received_front, check_peer_front, is_wanted, lookup_front, front, last_ask, poll_asks, Allows, FrontKeeps, allows_polls, allows_if, entry, has_last, IsMade, HandedOver, GoesOut}
+use Rattle.wasi_laws.proofs.Words.{◌≡◌, Bool, true, false, Some, refl, ap, ℕ, zero, suc, if◌then◌else◌, List, [], ◌∷◌, ◌++◌, drop, length, Option, None, Result, Ok, Err, ⊤, not, ◌&&◌, OpId, Call, socket_of, NoWrite, IsQuestionOf, IpSocketAddress, SocketAddressFamily, ErrorCode, Told, Entry, Asks, bind, IsFront, Fits, told_verdict, told_done, told_polled, told_addr, told_arrival, told_taken, told_datagram, told_names, Given, Connection, Nothing, Item, Check, CheckLocal, Bind, Connect, Listen, Accept, CheckArrival, Hand, Refuse, Write, ShutdownSend, UdpWritable, UdpBind, UdpConnect, AskPeer, Send, Receive, CheckPeer, Lookup, Last, Who, Front, Ends, End, Waits, Done, verdict_front, done_front, polled_front, check_front, local_front, hand_front, refuse_front, admitted_front, arrival_front, accept_front, write_front, taken_front, less_one, ask_peer_front, peer_front, remote_told, send_front, is_now, receive_front, received_front, check_peer_front, is_wanted, lookup_front, front, last_ask, poll_asks, Allows, FrontKeeps, allows_polls, allows_if, entry, has_last, IsMade, HandedOver, GoesOut}
 
 abbrev pub is_calm : Call → Bool
 is_calm (call.Check ctx addr usage) = false

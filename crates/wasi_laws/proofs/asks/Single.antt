@@ -1,17 +1,17 @@
 -- A law by its single asks: what each ask of a line must be, and what its answer keeps. It stands on the base law, and on the shape of
 -- records.
-use Rattle.std.proofs.Common.{◌≡◌, ℕ, true, List, [], ◌∷◌, ◌++◌, Option, Some, None, Result, Ok, Err, refl, sym, ap, subst, ◌∙◌, slice_get, length, ◌+◌}
 use Rattle.wasi_world.specs.declared.call.Call.TheVariants as call
 use Rattle.wasi_world.specs.declared.call.Told.TheVariants as told
 use Rattle.wasi_tcp.specs.declared.listener.Accepting.TheVariants as accepting
 use Rattle.wasi_tcp.specs.declared.socket.TcpState.TheVariants as state
 use Rattle.wasi_walks.proofs.walks.Runs.{each_entry}
-use Rattle.wasi_laws.proofs.Words.{IpSocketAddress, SocketAddressFamily, ErrorCode, WasiSocketsCtx, OpId, Call, Told, Entry, Asks, bind, IsDoneOrCode, told_addr, told_done, Operation, End, Item, poll_asks, Allows, allows_then, allows_if, allows_weaker, WriteState, Job, job_after, Listener, HoldsAccept, IsAcceptOn, Socket, side_in, side_of, after_create, new_socket, new_asks, Kind, Tcp2, Not, Begins, Accepts, Streams, Tcp2Socket, Handles, make_asks, with_listening, own_of, side_at, created_asks, with_record, with_writer, Step, entry, told_same, FitListening, Base, Here, put, Found, NoBind, Held, Move, Spends, Used, Unused, Made, closed_record, made_so, Walks, Above, socket_of, Left, Machine, first_state, Reply, machine_asks, run, Own, Starts, Over, may_while, machine_walks, BaseBetween, first_base, base_starts, base_over}
+use Rattle.wasi_walks.proofs.fits.Polls.{Anything}
+use Rattle.wasi_laws.proofs.Words.{◌≡◌, ℕ, true, List, [], ◌∷◌, ◌++◌, Option, Some, None, Result, Ok, Err, refl, sym, ap, subst, ◌∙◌, slice_get, length, ◌+◌, Law, both, on_names, on_along, IpSocketAddress, SocketAddressFamily, ErrorCode, WasiSocketsCtx, OpId, Call, Told, Entry, Asks, bind, IsDoneOrCode, told_addr, told_done, Operation, End, Item, poll_asks, Allows, allows_then, allows_if, allows_weaker, WriteState, Job, job_after, Listener, HoldsAccept, IsAcceptOn, Socket, side_in, side_of, after_create, new_socket, new_asks, Kind, Tcp2, Not, Begins, Accepts, Streams, Tcp2Socket, Handles, make_asks, with_listening, own_of, side_at, created_asks, with_record, with_writer, Step, entry, told_same, FitListening, Base, Here, put, Found, NoBind, Held, Move, Spends, Used, Unused, Made, closed_record, made_so, Walks, Above, socket_of, Left, Machine, first_state, Reply, machine_asks, run, Own, Starts, Over, may_while, machine_walks, BaseBetween, first_base, base_starts, base_over}
 use Rattle.wasi_laws.proofs.asks.Fronts.{is_calm, CalmOn, question_calm}
 use Rattle.wasi_laws.proofs.asks.Trees as tree
 use Rattle.wasi_laws.proofs.asks.Trees.{GoesOn, Undoes, Then, makes_by, turns_by, gives_up_by}
 use Rattle.wasi_laws.proofs.shapes.Shape.{ListenerShape, on_socket, Same}
-use Rattle.wasi_laws.proofs.shapes.Law.{Shaped, on_grounds, grounds_along}
+use Rattle.wasi_laws.proofs.shapes.Law.{Shaped, put_shape, moves_shape, polls_shape, turns_shape, created_shape}
 
 -- a close of this side leaves the record so
 pub data Closing (r : Tcp2Socket) : Tcp2Socket → OpId → Type 0 where
@@ -86,36 +86,40 @@ module _ (contexts : List WasiSocketsCtx) (line : ℕ) (origin : Step) where
         (x.0, λ told. a.stops _ h place r g (x.1 told))
     undoes es h place r _ _ q g (tree.ClosesArrived l new peer e d) b i = a.closes es h place r _ new new q g (ClosesArrived l new peer e d) b i
 
-    pub single : Above contexts line origin (λ es h. Grounds h)
+    -- the law, and with it that the records have their shape
+    single : Above contexts line origin (λ es h. Base contexts line origin h)
     single = record {
       P = P;
-      Inv = Inv;
-      moves = a.moves;
-      asks = λ es h place n r side c at g o q b i. let x = on_record es h place r (own_of n) side c g (on_socket r side (b.1 place r g) o) (question_calm side c q) b i in (x.0, λ told f. x.1 told);
-      sets = λ es h place r side backlog at g s is b i. let x = on_record es h place r (own_of line) side (call.SetBacklog side backlog) g (ap side_in s) (record { calm = refl; on = refl }) b i in (x.0, λ told f. x.1 told);
+      Inv = λ es h. Shaped h × Inv es h;
+      moves = λ es h now m b i. (moves_shape contexts line origin h now m i.0, a.moves es h now m (b, i.0) i.1);
+      asks = λ es h place n r side c at g o q b i. let x = on_record es h place r (own_of n) side c g (on_socket r side (i.0 place r g) o) (question_calm side c q) (b, i.0) i.1 in (x.0, λ told f. (i.0, x.1 told));
+      sets = λ es h place r side backlog at g s is b i. let x = on_record es h place r (own_of line) side (call.SetBacklog side backlog) g (ap side_in s) (record { calm = refl; on = refl }) (b, i.0) i.1 in (x.0, λ told f. (i.0, x.1 told));
       learns = λ es h place r side at g e b i.
-          let x = on_record es h place r (own_of line) side (call.Local side) g (ap side_in e) (record { calm = refl; on = refl }) b i in
-          (x.0, λ told f. a.same _ h place r _ g (record { side = refl; streams = refl; listening = refl; does = told_same r.inner (told_addr told) }) (x.1 told));
-      closes = λ es h place r side q g e b i. let x = a.closes es h place r _ (own_of line) side q g (ClosesSocket side e) b i in (x.0, λ told f. x.1 told);
-      marks = λ es h kind parent sock m b i. allows_weaker P (λ fs made. Inv fs h) (λ fs made. Inv fs (record h { machine = record h.machine { table = made.1 } })) (λ fs made k. a.tables fs h made.1 h.made k) es _ (marked es h kind parent sock i);
+          let x = on_record es h place r (own_of line) side (call.Local side) g (ap side_in e) (record { calm = refl; on = refl }) (b, i.0) i.1 in
+          (x.0, λ told f. (put_shape h place _ (rw (told_same r.inner (told_addr told)) (i.0 place r g)) i.0, a.same _ h place r _ g (record { side = refl; streams = refl; listening = refl; does = told_same r.inner (told_addr told) }) (x.1 told)));
+      closes = λ es h place r side q g e b i. let x = a.closes es h place r _ (own_of line) side q g (ClosesSocket side e) (b, i.0) i.1 in (x.0, λ told f. (put_shape h place (closed_record r) (tt, tt) i.0, x.1 told));
+      marks = λ es h kind parent sock m b i. allows_weaker P (λ fs made. Inv fs h) (λ fs made. Shaped h × Inv fs (record h { machine = record h.machine { table = made.1 } })) (λ fs made k. (i.0, a.tables fs h made.1 h.made k)) es _ (marked es h kind parent sock i.1);
       creates = λ es h ctx family c at u m b i.
-          allows_then P (Created h ctx family) (λ fs done. Inv fs (record h { machine = done.1; own = Used })) es (new_asks (own_of line) ctx family) (created_asks h.machine (own_of line)) (created es h ctx family u b i) (λ fs made k. joins fs h ctx family made u k b);
+          both P Anything _ _ es _ (allows_then P (Created h ctx family) (λ fs done. Inv fs (record h { machine = done.1; own = Used })) es (new_asks (own_of line) ctx family) (created_asks h.machine (own_of line)) (created es h ctx family u (b, i.0) i.1) (λ fs made k. joins fs h ctx family made u k (b, i.0)))
+          (created_shape contexts line origin es h ctx family i.0);
       accepted = λ es h c listener place r is e o g b i.
-          allows_weaker P (λ fs made. Inv fs h) (λ fs made. Inv fs (record h { machine = record h.machine { table = made.1 }; made = made_so place made.0 })) (λ fs made k. a.tables fs h made.1 (made_so place made.0) k) es _
-          (marked es h (Tcp2 place) (Some listener) (side_at (slice_get h.machine.store.sockets place)) i);
-      polls = a.polls;
-      turns = λ es h place r s g e b i.
-          turns_by P (λ fs w. Inv fs (put h place (with_writer r s w))) es s.writer (a.same es h place r (with_writer r s s.writer) g (record { side = refl; streams = sym e; listening = refl; does = refl }) i)
-          (λ job now on. a.turns es h place r s job now g e on b i);
-      gives_up = λ es h place r q g b i.
-          gives_up_by P (λ fs. Inv fs (put h place (with_listening r Not))) es (a.stops es h place r g i) r.inner.state r.listening (b.1 place r g).1 (λ op c u. undoes es h place r op c q g u b i);
+          allows_weaker P (λ fs made. Inv fs h) (λ fs made. Shaped h × Inv fs (record h { machine = record h.machine { table = made.1 }; made = made_so place made.0 })) (λ fs made k. (i.0, a.tables fs h made.1 (made_so place made.0) k)) es _
+          (marked es h (Tcp2 place) (Some listener) (side_at (slice_get h.machine.store.sockets place)) i.1);
+      polls = λ es h op after k b i. both P Anything _ _ es _ (a.polls es h op after k (b, i.0) i.1) (polls_shape contexts line origin es h op after k i.0);
+      turns = λ es h place r s g e b i. both P Anything _ _ es _ (turns_by P (λ fs w. Inv fs (put h place (with_writer r s w))) es s.writer (a.same es h place r (with_writer r s s.writer) g (record { side = refl; streams = sym e; listening = refl; does = refl }) i.1)
+          (λ job now on. a.turns es h place r s job now g e on (b, i.0) i.1)) (turns_shape contexts line origin es h place r s g e i.0);
+      gives_up = λ es h place r q g b i. let k = i.0 place r g in let now = put h place (with_listening r Not) in
+          allows_weaker P (λ fs done. Inv fs now) (λ fs done. Shaped now × Inv fs now) (λ fs done m. (put_shape h place (with_listening r Not) (k.0, tt) i.0, m)) es _
+          (gives_up_by P (λ fs. Inv fs now) es (a.stops es h place r g i.1) r.inner.state r.listening k.1 (λ op c u. undoes es h place r op c q g u (b, i.0) i.1));
     }
 
     -- what it says of a tree
-    pub single_along : {A : Type 0} {h : Here} {end : A → Here} {asks : Asks A} → Walks (on_grounds contexts line origin single) h end asks → (es : List Entry) → Base contexts line origin h → Shaped h → Inv es h
-        → Allows P (λ fs x. Base contexts line origin (end x) × (Shaped (end x) × Inv fs (end x))) es asks
-    unfolding single
-    single_along w es b s i = grounds_along contexts line origin single w es b s i
+    pub single_law : Law contexts line origin
+    single_law = on_names contexts line origin single
+
+    pub single_along : {A : Type 0} {h : Here} {end : A → Here} {asks : Asks A} → Walks single_law h end asks → (es : List Entry) → Base contexts line origin h → Shaped h → Inv es h → Allows P (λ fs x. Base contexts line origin (end x) × (Shaped (end x) × Inv fs (end x))) es asks
+    unfolding single_law single
+    single_along w es b s i = on_along contexts line origin single w es b (s, i)
 
 module _ (contexts : List WasiSocketsCtx) {P : List Entry → OpId → Call → Type 0} (Inv : ℕ → List Entry → Here → Type 0) (law : (line : ℕ) (origin : Step) → Single contexts line origin P (Inv line)) where
   -- Before the line of this number.

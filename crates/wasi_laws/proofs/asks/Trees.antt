@@ -1,9 +1,8 @@
 -- The trees that each law walks, by their single asks: a handle that is made, a writer's turn, and a listening that is given up.
-use Rattle.std.proofs.Common.{◌≡◌, ℕ, List, [], ◌∷◌, ◌++◌, Option, Some, None, refl}
 use Rattle.wasi_world.specs.declared.call.Call.TheVariants as call
 use Rattle.wasi_tcp.specs.declared.listener.Accepting.TheVariants as accepting
 use Rattle.wasi_tcp.specs.declared.writer.WriteState.TheVariants as writing
-use Rattle.wasi_laws.proofs.Words.{IpSocketAddress, OpId, Call, Told, Entry, bind, End, Waits, Operation, Who, poll_asks, Allows, allows_then, allows_if, is_full, Accepting, TcpState, WriteState, in_hand, refuse_in, Job, job_after, job_in, job_asks, is_over, Listener, give_up_in, turn_asks, Kind, Listening, Not, Begins, Accepts, Unclosed, Handles, name_of, make_asks, give_up_asks, entry}
+use Rattle.wasi_laws.proofs.Words.{◌≡◌, ℕ, List, [], ◌∷◌, ◌++◌, Option, Some, None, refl, IpSocketAddress, OpId, Call, Told, Entry, bind, End, Waits, Operation, Who, poll_asks, Allows, allows_then, allows_if, is_full, Accepting, TcpState, WriteState, in_hand, refuse_in, Job, job_after, job_in, job_asks, is_over, Listener, give_up_in, turn_asks, Kind, Listening, Not, Begins, Accepts, Unclosed, Handles, name_of, make_asks, give_up_asks, entry}
 use Rattle.wasi_laws.proofs.shapes.Shape.{ListenerShape}
 
 -- a write that a writer goes on with, and the writer that has such a job

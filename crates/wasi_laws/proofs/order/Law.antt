@@ -1,6 +1,5 @@
 -- The law that an operation asks its checks before it goes out: what all that is kept weighs.
 use Rattle.std.proofs.lemmas.Bool.Decides.{nat_tests}
-use Rattle.std.proofs.Common.{if◌then◌else◌, nat_lt, ◌≡◌, ℕ, ◌+◌, ◌≤◌, Bool, true, false, List, [], ◌∷◌, ◌++◌, Option, Some, None, refl, sym, ap, subst, ◌∙◌, arith, slice_set}
 use Rattle.wasi_addr.specs.Address.{wildcard}
 use Rattle.wasi_world.specs.declared.call.Call.TheVariants as call
 use Rattle.wasi_world.specs.declared.call.Told.TheVariants as told
@@ -10,7 +9,7 @@ use Rattle.wasi_tcp.specs.declared.accept.AcceptStage.TheVariants as accept
 use Rattle.wasi_tcp.specs.declared.bind.BindStage.TheVariants.{Check}
 use Rattle.wasi_tcp.specs.declared.socket.TcpState.TheVariants as state
 use Rattle.wasi_walks.proofs.walks.Moves.{Ends}
-use Rattle.wasi_laws.proofs.Words.{IpSocketAddress, WasiSocketsCtx, OpId, Call, Told, Entry, Asks, Left, Operation, End, Waits, Done, Refused, Item, Write, poll_asks, Given, Connection, is_same, Allows, allows_weaker, Accepting, TcpState, WriteState, accept_operation, bind_operation, connect_first, connect_left, connect_operation, with_state, connect_ended, Job, job_after, new_job, then_closed, accept_ended, arrived, new_socket, written_by, closed_by, Listening, Machine, Streams, Tcp2Socket, Standing, own_of, first_state, standing_listen, standing_bind, standing_drop, left_of, new_record, with_inner, with_writer, Reply, Step, entry, run, next_of, Held, InHand, Connects, Listens, Awaits, Own, Used, Unused, ToWrite, Here, put, Found, WriterMoves, Collects, Permits, Lasts, LastsAfter, Closes, Move, Reaches, Leaves, Spends, Changes, ClosesReader, Writes, IsGone, Reconnects, Opens, BeginsConnect, BeginsBind, BeginsWrite, BeginsListen, BeginsAccept, Unlistens, Forgets, Watches, Joins, StandsListen, StandsDrop, ResumesDrop, Unstands, Stands, Resumes, Lists, Takes, listen_after, accepting_now, joined, joining, begun_listen, beginning_listen, new_accept, second_of, Starts, ChecksFirst, asked_by}
+use Rattle.wasi_laws.proofs.Words.{if◌then◌else◌, nat_lt, ◌≡◌, ℕ, ◌+◌, ◌≤◌, Bool, true, false, List, [], ◌∷◌, ◌++◌, Option, Some, None, refl, sym, ap, subst, ◌∙◌, arith, slice_set, IpSocketAddress, WasiSocketsCtx, OpId, Call, Told, Entry, Asks, Left, Operation, End, Waits, Done, Refused, Item, Write, poll_asks, Given, Connection, is_same, Allows, allows_weaker, Accepting, TcpState, WriteState, accept_operation, bind_operation, connect_first, connect_left, connect_operation, with_state, connect_ended, Job, job_after, new_job, then_closed, accept_ended, arrived, new_socket, written_by, closed_by, Listening, Machine, Streams, Tcp2Socket, Standing, own_of, first_state, standing_listen, standing_bind, standing_drop, left_of, new_record, with_inner, with_writer, Reply, Step, entry, run, next_of, Held, InHand, Connects, Listens, Awaits, Own, Used, Unused, ToWrite, Here, put, Found, WriterMoves, Collects, Permits, Lasts, LastsAfter, Closes, Move, Reaches, Leaves, Spends, Changes, ClosesReader, Writes, IsGone, Reconnects, Opens, BeginsConnect, BeginsBind, BeginsWrite, BeginsListen, BeginsAccept, Unlistens, Forgets, Watches, Joins, StandsListen, StandsDrop, ResumesDrop, Unstands, Stands, Resumes, Lists, Takes, listen_after, accepting_now, joined, joining, begun_listen, beginning_listen, new_accept, second_of, Starts, ChecksFirst, asked_by}
 use Rattle.wasi_laws.proofs.asks.Single.{each_ask, Single, Closing, ClosesSocket, ClosesListen, ClosesArrived, creating}
 use Rattle.wasi_laws.proofs.asks.Trees.{GoesOn, InWriting, InClosing}
 use Rattle.wasi_laws.proofs.shapes.Shape.{same_side, Same}
@@ -196,13 +195,11 @@ module _ (it : OpId) where
 
     ended_weighs : (op : Operation) (end : End × List Item) (i : Bool) → total ours (state_ops (connect_ended op.who end).1) i ≤ op_weight ours op.who.id end.1 i
     ended_weighs op (Waits, items) i = omega arith
-    ended_weighs op (Done given, items) i = omega arith
-    ended_weighs op (Refused c given, items) i = omega arith
+    ended_weighs op (_, items) i = omega arith
 
     listened_weighs : (op : Operation) (r : Tcp2Socket) (end : End × List Item) (i : Bool) → record_weight ours (listen_after op r end) i ≤ total ours (state_ops r.inner.state) i + total ours (streams_ops r.streams) i + op_weight ours op.who.id end.1 i
     listened_weighs op r (Waits, items) i = omega arith
-    listened_weighs op r (Done given, items) i = omega arith
-    listened_weighs op r (Refused c given, items) i = omega arith
+    listened_weighs op r (_, items) i = omega arith
 
     given_weighs : (given : Given) (i : Bool) → total ours (accept_ops (arrived given)) i ≡ 0
     given_weighs (Connection new peer) i = refl

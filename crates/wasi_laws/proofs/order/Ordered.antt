@@ -1,7 +1,6 @@
 -- Logs in order: no check of ours comes after our first bind, listen or connect.
-use Rattle.std.proofs.Common.{◌≡◌, inl, inr, ℕ, Bool, true, false, if◌then◌else◌, List, [], ◌∷◌, ◌++◌, refl, sym, ap, subst, ◌∙◌, append_assoc}
 use Rattle.wasi_world.specs.declared.call.Call.TheVariants as call
-use Rattle.wasi_laws.proofs.Words.{⊤, OpId, Call, Entry, is_same, GoesOut, IsCheck, ChecksNone, ChecksFirst, HasGone, asked_by}
+use Rattle.wasi_laws.proofs.Words.{◌≡◌, inl, inr, ℕ, Bool, true, false, if◌then◌else◌, List, [], ◌∷◌, ◌++◌, refl, sym, ap, subst, ◌∙◌, append_assoc, ⊤, OpId, Call, Entry, is_same, GoesOut, IsCheck, ChecksNone, ChecksFirst, HasGone, asked_by}
 use Rattle.wasi_laws.proofs.asks.Fronts.{is_calm}
 
 module _ (ours : OpId → Bool) where
@@ -81,22 +80,22 @@ module _ (ours : OpId → Bool) where
   no_check op (call.Check ctx addr usage) e h k = let z = h e in absurd (cc)
   no_check op _ e h k = absurd k
 
+  -- by whether an entry is ours
+  by_ours : (P : List Entry → Type 0) (e : Entry) (es : List Entry) → (ours e.op ≡ true → P (e ∷ asked es)) → P (asked es) → P (asked (e ∷ es))
+  by_ours P e es mine other = by_test (ours e.op) mine
+    where
+      by_test : (b : Bool) → (b ≡ true → P (e ∷ asked es)) → (let all : List Entry = if b then e ∷ asked es else asked es in P all)
+      by_test true now = now refl
+      by_test false now = other
+
   -- no check of ours comes after
   none_after : (es : List Entry) → Ordered 1 es → ChecksNone (asked es)
   none_after [] h = tt
-  none_after (e ∷ es) h = by_test (ours e.op) refl (none_after es (subst (λ (g : ℕ). Ordered g es) (still_gone e.op e.call) h.1))
-    where
-      by_test : (b : Bool) → ours e.op ≡ b → ChecksNone (asked es) → (let all : List Entry = if b then e ∷ asked es else asked es in ChecksNone all)
-      by_test true p later = (no_check e.op e.call p h.0, later)
-      by_test false p later = later
+  none_after (e ∷ es) h = let later = none_after es (subst (λ (g : ℕ). Ordered g es) (still_gone e.op e.call) h.1) in by_ours ChecksNone e es (λ p. (no_check e.op e.call p h.0, later)) later
 
   first_asked : (g : ℕ) (es : List Entry) → Ordered g es → ChecksFirst (asked es)
   first_asked g [] h = tt
-  first_asked g (e ∷ es) h = by_test (ours e.op) refl (first_asked (gone_after g e.op e.call) es h.1)
-    where
-      by_test : (b : Bool) → ours e.op ≡ b → ChecksFirst (asked es) → (let all : List Entry = if b then e ∷ asked es else asked es in ChecksFirst all)
-      by_test true p later = (λ out. none_after es (subst (λ (n : ℕ). Ordered n es) (now_gone g e.op e.call p out) h.1), later)
-      by_test false p later = later
+  first_asked g (e ∷ es) h = let later = first_asked (gone_after g e.op e.call) es h.1 in by_ours ChecksFirst e es (λ p. (λ out. none_after es (subst (λ (n : ℕ). Ordered n es) (now_gone g e.op e.call p out) h.1), later)) later
 
   -- a log of which each entry may come there
   pub asked_first : (log : List Entry) → ((before : List Entry) (e : Entry) (after : List Entry) → log ≡ before ++ e ∷ after → Asked before e.op e.call) → ChecksFirst (asked log)

@@ -1,11 +1,10 @@
 -- One poll of an operation: its checks come first, and once it went out none is left.
-use Rattle.std.proofs.Common.{◌≡◌, ℕ, zero, suc, ◌+◌, ◌≤◌, Bool, true, false, List, [], ◌∷◌, ◌++◌, length, refl, sym, subst, ◌∙◌, arith}
 use Rattle.wasi_world.specs.declared.call.Call.TheVariants as call
 use Rattle.wasi_tcp.specs.declared.bind.BindStage.{BindStage}
 use Rattle.wasi_tcp.specs.declared.bind.BindStage.TheVariants as stage
 use Rattle.wasi_tcp.specs.Connect as connect
 use Rattle.wasi_tcp.specs.Listen as listen
-use Rattle.wasi_laws.proofs.Words.{ErrorCode, OpId, Call, Told, Entry, bind, Given, Item, Check, Bind, Connect, Listen, CheckArrival, CheckPeer, Write, Who, Operation, LastAsk, NothingLast, CloseLast, ShutdownLast, End, last_ask, poll_asks, Allows, entry, Asks, Give, Left, CheckLocal, allows_at, reached, bind_left, IsLeftOfConnect, IsLeftOfListen, IsOutward, Binds, ChecksFirst, HasGone, NoCheckLeft, operation_polled}
+use Rattle.wasi_laws.proofs.Words.{◌≡◌, ℕ, zero, suc, ◌+◌, ◌≤◌, Bool, true, false, List, [], ◌∷◌, ◌++◌, length, refl, sym, subst, ◌∙◌, arith, ErrorCode, OpId, Call, Told, Entry, bind, Given, Item, Check, Bind, Connect, Listen, CheckArrival, CheckPeer, Write, Who, Operation, LastAsk, NothingLast, CloseLast, ShutdownLast, End, last_ask, poll_asks, Allows, entry, Asks, Give, Left, CheckLocal, allows_at, reached, bind_left, IsLeftOfConnect, IsLeftOfListen, IsOutward, Binds, ChecksFirst, HasGone, NoCheckLeft, operation_polled}
 use Rattle.wasi_laws.proofs.asks.Fronts.{IsToCheck, IsToGo, AsksBy, Checks, Goes, Calmly, Becomes, ToldAddress, Arrives, IsAdmitted, IsUnwanted, IsRefused, IsConnected, Comes, GoesBy, PollLaw, polls_by}
 use Rattle.wasi_laws.proofs.order.Ordered.{out_by, gone_after, gone_along, gone_push, Asked, calm_may, out_may, asked_all, asked_first, gone_out}
 use Rattle.wasi_laws.proofs.order.Weights.{Kind, ToCheck, ToGo, kind_of, and_then, checks_of, drop_weighs, if_ours, op_weight, Plain}
@@ -133,22 +132,18 @@ begins op (Listens k) = by_left op.left k.left
     by_left _ listen.Ended = omega arith
 
 -- nothing that checks is left
-none_kind : (k : Kind) (n : ℕ) → and_then k n ≡ 0 → n ≡ 0
+none_kind : (k : Kind) (n : ℕ) → and_then k n ≡ 0 → (n ≡ 0) × (k ≡ ToCheck → ⊥)
 none_kind ToCheck zero h = absurd (cc)
 none_kind ToCheck (suc n) h = absurd (cc)
-none_kind ToGo zero h = refl
+none_kind ToGo zero h = (refl, λ e. absurd (cc))
 none_kind ToGo (suc n) h = absurd (cc)
-none_kind Plain n h = h
-
-not_none : (n : ℕ) → and_then ToCheck n ≡ 0 → ⊥
-not_none zero h = absurd (cc)
-not_none (suc n) h = absurd (cc)
+none_kind Plain n h = (h, λ e. absurd (cc))
 
 none_left : (items : List Item) → checks_of items ≡ 0 → NoCheckLeft items
 none_left [] h = tt
-none_left (Check a usage ∷ items) h = not_none (checks_of items) h
-none_left (CheckLocal usage ∷ items) h = not_none (checks_of items) h
-none_left (item ∷ items) h = none_left items (none_kind (kind_of item) (checks_of items) h)
+none_left (Check a usage ∷ items) h = (none_kind ToCheck (checks_of items) h).1 refl
+none_left (CheckLocal usage ∷ items) h = (none_kind ToCheck (checks_of items) h).1 refl
+none_left (item ∷ items) h = none_left items (none_kind (kind_of item) (checks_of items) h).0
 
 module _ (op : Operation) (out : IsOutward op) where
   abbrev all : OpId → Bool

@@ -1,12 +1,11 @@
 -- What operations weigh: whether each is ours, and what it has left to check.
-use Rattle.std.proofs.Common.{◌≡◌, ℕ, zero, suc, ◌+◌, ◌≤◌, Bool, true, false, List, [], ◌∷◌, ◌++◌, Option, Some, None, slice_get, slice_set, ap, arith}
 use Rattle.wasi_tcp.specs.declared.socket.TcpState.TheVariants as state
 use Rattle.wasi_tcp.specs.declared.listener.Accepting.TheVariants as accepting
 use Rattle.wasi_tcp.specs.declared.writer.WriteState.TheVariants as writing
 use Rattle.wasi_host.specs.declared.listening.Listening.TheVariants as listening
 use Rattle.wasi_host.specs.declared.store.StandingCall.{StandingCall}
 use Rattle.wasi_host.specs.declared.store.StandingCall.TheVariants as standing
-use Rattle.wasi_laws.proofs.Words.{OpId, Item, Check, CheckLocal, Bind, Connect, Listen, Accept, CheckArrival, Refuse, Receive, CheckPeer, Operation, TcpState, Accepting, WriteState, Listening, Streams, Tcp2Socket, Standing, Here}
+use Rattle.wasi_laws.proofs.Words.{◌≡◌, ℕ, zero, suc, ◌+◌, ◌≤◌, Bool, true, false, List, [], ◌∷◌, ◌++◌, Option, Some, None, slice_get, slice_set, ap, arith, OpId, Item, Check, CheckLocal, Bind, Connect, Listen, Accept, CheckArrival, Refuse, Receive, CheckPeer, Operation, TcpState, Accepting, WriteState, Listening, Streams, Tcp2Socket, Standing, Here}
 
 -- == the checks that are left
 -- what an item is to the checks of an operation: one, what they come before, or nothing

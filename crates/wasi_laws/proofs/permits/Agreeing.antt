@@ -1,9 +1,8 @@
 -- What was taken and what was permitted, by the side that a record was made with.
-use Rattle.std.proofs.Common.{◌≡◌, ◌⊎◌, inl, inr, ℕ, List, [], ◌∷◌, ◌++◌, Option, Some, None, sym, ap, subst, ◌∙◌, slice_set, slice_get, ◌<◌, Ok, Err, Result, refl, arith}
 use Rattle.wasi_tcp.specs.declared.writer.WriteState.TheVariants as writing
 use Rattle.wasi_world.specs.declared.outcome.Answer.{Answer}
 use Rattle.wasi_world.specs.declared.outcome.Answer.TheVariants.{Ready, Pending}
-use Rattle.wasi_laws.proofs.Words.{⊤, OpId, Item, End, Waits, Done, Refused, WriteState, IsFrontOf, bytes_left, Streams, Tcp2Socket, get_front, get_set, get_split, set_get, set_there, Entry, bind, told_ready, Write, StreamStop, Job, then_closed, written_by, closed_by, collected, look_in, look_asks, permitted, check_write_asks, Quiet, quiet_then, WriterMoves, Collects, Permits, Lasts, LastsAfter, Closes}
+use Rattle.wasi_laws.proofs.Words.{◌≡◌, ◌⊎◌, inl, inr, ℕ, List, [], ◌∷◌, ◌++◌, Option, Some, None, sym, ap, subst, ◌∙◌, slice_set, slice_get, ◌<◌, Ok, Err, Result, refl, arith, ⊤, OpId, Item, End, Waits, Done, Refused, WriteState, IsFrontOf, bytes_left, Streams, Tcp2Socket, get_front, get_set, get_split, set_get, set_there, Entry, bind, told_ready, Write, StreamStop, Job, then_closed, written_by, closed_by, collected, look_in, look_asks, permitted, check_write_asks, Quiet, quiet_then, WriterMoves, Collects, Permits, Lasts, LastsAfter, Closes}
 use Rattle.wasi_laws.proofs.shapes.Shape.{some_same, Lives}
 
 -- what was taken, with what a job is still to write, is what was permitted; after a code it is the front, of any length

@@ -1,5 +1,4 @@
 -- The law that what a side takes is the front of what it is let write.
-use Rattle.std.proofs.Common.{◌≡◌, inl, inr, ℕ, Bool, true, false, if◌then◌else◌, List, [], ◌∷◌, ◌++◌, Option, Some, None, refl, sym, ap, subst, ◌∙◌, slice_set, append-nil, append_assoc}
 use Rattle.wasi_world.specs.declared.call.Call.TheVariants as call
 use Rattle.wasi_world.specs.declared.call.Told.TheVariants as told
 use Rattle.wasi_tcp.specs.declared.halves.TcpSendStream.{TcpSendStream}
@@ -13,11 +12,12 @@ use Rattle.wasi_tcp.specs.Listen as listen
 use Rattle.wasi_walks.specs.Waiting.{IsLeftOfBind}
 use Rattle.wasi_walks.specs.Waiting as binding
 use Rattle.wasi_walks.proofs.walks.Moves.{Ends}
-use Rattle.wasi_laws.proofs.Words.{⊤, SocketAddressFamily, WasiSocketsCtx, OpId, Call, Told, Entry, Asks, Operation, End, Waits, Done, Refused, Item, poll_asks, is_same, Allows, allows_weaker, allows_keep, TcpState, WriteState, IsConnect, IsLeftOfConnect, HoldsConnect, with_state, connect_ended, Job, job_after, new_job, IsListen, IsLeftOfListen, HoldsAccept, IsAcceptOn, accept_ended, side_in, side_of, new_socket, taken_in, IsFrontOf, bytes_left, Not, Begins, Streams, Tcp2Socket, with_listening, own_of, new_record, with_inner, with_reader, with_writer, Step, entry, FitListening, Fit, accept_name, name_in, Named, fresh, taken_fresh, accept_plain, NoWrite, none_taken, Quiet, ArePlain, plain_poll, Held, InHand, Connects, Listens, Awaits, Own, Used, Unused, ToWrite, Here, put, Found, Move, Reaches, Leaves, Spends, Changes, ClosesReader, Writes, IsGone, opened_by, Reconnects, Opens, BeginsConnect, BeginsBind, BeginsWrite, Stands, Resumes, Lists, Takes, BeginsListen, BeginsAccept, Unlistens, Forgets, Watches, Joins, StandsListen, StandsDrop, ResumesDrop, Unstands, listen_after, accepting_now, closed_record, new_accept, joined}
+use Rattle.wasi_laws.proofs.Words.{◌≡◌, inl, inr, ℕ, Bool, true, false, if◌then◌else◌, List, [], ◌∷◌, ◌++◌, Option, Some, None, refl, sym, ap, subst, ◌∙◌, slice_set, append-nil, append_assoc, ⊤, SocketAddressFamily, WasiSocketsCtx, OpId, Call, Told, Entry, Asks, Operation, End, Waits, Done, Refused, Item, poll_asks, is_same, Allows, allows_weaker, allows_keep, TcpState, WriteState, IsConnect, IsLeftOfConnect, HoldsConnect, with_state, connect_ended, Job, job_after, new_job, IsListen, IsLeftOfListen, HoldsAccept, IsAcceptOn, accept_ended, side_in, side_of, new_socket, taken_in, IsFrontOf, bytes_left, Not, Begins, Streams, Tcp2Socket, with_listening, own_of, new_record, with_inner, with_reader, with_writer, Step, entry, FitListening, Fit, accept_name, name_in, Named, fresh, taken_fresh, accept_plain, NoWrite, none_taken, Quiet, ArePlain, plain_poll, Held, InHand, Connects, Listens, Awaits, Own, Used, Unused, ToWrite, Here, put, Found, Move, Reaches, Leaves, Spends, Changes, ClosesReader, Writes, IsGone, opened_by, Reconnects, Opens, BeginsConnect, BeginsBind, BeginsWrite, Stands, Resumes, Lists, Takes, BeginsListen, BeginsAccept, Unlistens, Forgets, Watches, Joins, StandsListen, StandsDrop, ResumesDrop, Unstands, listen_after, accepting_now, closed_record, new_accept, joined}
 use Rattle.wasi_laws.proofs.asks.Fronts.{unwritten, polls_by}
 use Rattle.wasi_laws.proofs.asks.Single.{Single, Grounds, Closing, ClosesSocket, ClosesListen, ClosesArrived, creating}
 use Rattle.wasi_laws.proofs.asks.Trees.{GoesOn, InWriting, InClosing}
-use Rattle.wasi_laws.proofs.shapes.Shape.{same_side, not_same, some_same, JobIs, WriterIs, HasStreams, StreamsShape, IsBegun, Lives, Follows, follows_same, follows_state, follows_quiet, follows_begun, follows_gone, gone_lacks}
+use Rattle.wasi_laws.proofs.shapes.Shape.{same_side, not_same, some_same, WriterIs, HasStreams, StreamsShape, IsBegun, Lives, Follows, follows_same, follows_state, follows_quiet, follows_begun, follows_gone, gone_lacks}
+use Rattle.wasi_laws.proofs.shapes.Law.{job_of}
 use Rattle.wasi_laws.proofs.permits.Agreeing.{JobAgrees, Agrees, Agree, Agreeing, agrees_put, agrees_moved, agrees_push, writer_agrees}
 use Rattle.wasi_laws.proofs.permits.Taken.{After, write_law, taken_push, Fronts, quiet_keep, Accounts}
 
@@ -56,10 +56,10 @@ ended_side op (Waits, items) x e = e
 ended_side op (Done given, items) x e = e
 ended_side op (Refused c given, items) x e = absurd (cc)
 
--- the job that a writer goes on with, and what it still owes
-goes_on : {at : OpId} (w : WriteState) (job : Job) (now : Job → WriteState) → GoesOn w job now → WriterIs at w → JobIs at job × ((taken bytes : List ℕ) → Agrees taken bytes w → taken ++ bytes_left job.write.left ≡ bytes)
-goes_on _ _ _ (InWriting job e) k = (k, λ taken bytes a. subst (JobAgrees taken bytes job.write.left) e a)
-goes_on _ _ _ (InClosing job e) k = (k, λ taken bytes a. subst (JobAgrees taken bytes job.write.left) e a)
+-- what the job that a writer goes on with still owes
+owes_still : (w : WriteState) (job : Job) (now : Job → WriteState) → GoesOn w job now → (taken bytes : List ℕ) → Agrees taken bytes w → taken ++ bytes_left job.write.left ≡ bytes
+owes_still _ _ _ (InWriting job e) taken bytes a = subst (JobAgrees taken bytes job.write.left) e a
+owes_still _ _ _ (InClosing job e) taken bytes a = subst (JobAgrees taken bytes job.write.left) e a
 
 agrees_now : (w : WriteState) (job : Job) (now : Job → WriteState) → GoesOn w job now → (taken bytes : List ℕ) (ended : End × List Item) → JobAgrees taken bytes ended.1 ended.0 → Agrees taken bytes (now (job_after job.write.who ended))
 agrees_now _ _ _ (InWriting job e) taken bytes ended k = k
@@ -205,18 +205,18 @@ module _ (side : OpId) (given : List ℕ) where
       turns : (es : List Entry) (h : Here) (place : ℕ) (r : Tcp2Socket) (s : Streams) (w : WriteState) (job : Job) (now : Job → WriteState) → Found h place r → r.streams ≡ Some s → HasStreams r.inner.state s → s.writer ≡ w → GoesOn w job now → Named line h → Kept es h
           → Allows (Fronts side given) (λ fs ended. Kept fs (put h place (with_writer r s (now (job_after job.write.who ended))))) es (poll_asks job.write)
       turns es h place r s w job now g e o d on n k =
-          let j = goes_on w job now on (subst (WriterIs o.connection.side) d o.writer) in
-          let held_there : side_of r.inner ≡ Some job.write.who.side = ap side_in o.is ∙ ap (λ (x : OpId). Some x) (sym j.0.side) in
+          let j = (job_of w job now on (subst (WriterIs o.connection.side) d o.writer)).0 in
+          let held_there : side_of r.inner ≡ Some job.write.who.side = ap side_in o.is ∙ ap (λ (x : OpId). Some x) (sym j.side) in
           let its = n.named job.write.who.side place r g held_there in
           let begun : Accounts side k.held job.write.who.side (taken_in side es) (λ all. all ++ bytes_left job.write.left ≡ k.held) (taken_in side es) = (record {
             front = k.stands.front;
-            ours = λ x. j.1 (taken_in side es) k.held (subst (Agrees (taken_in side es) k.held) d (subst (Agree (taken_in side es) k.held) e (k.stands.lives place r g (its ∙ ap (λ (y : OpId). Some y) x, inl (held_there ∙ ap (λ (y : OpId). Some y) x)))));
+            ours = λ x. owes_still w job now on (taken_in side es) k.held (subst (Agrees (taken_in side es) k.held) d (subst (Agree (taken_in side es) k.held) e (k.stands.lives place r g (its ∙ ap (λ (y : OpId). Some y) x, inl (held_there ∙ ap (λ (y : OpId). Some y) x)))));
             theirs = λ x. refl;
           }) in
           allows_weaker (Fronts side given) (λ fs ended. ⊤ × After side k.held (taken_in side es) job.write.who fs ended) (λ fs ended. Kept fs (put h place (with_writer r s (now (job_after job.write.who ended)))))
           (λ fs ended x. record { held = k.held; stands = turned fs ended (is_same job.write.who.side side) refl its x.1; owes = k.owes }) es (poll_asks job.write)
           (allows_keep (Fronts side k.held) (Fronts side given) (λ fs. ⊤) (After side k.held (taken_in side es) job.write.who) (λ fs op c t f x m. tt) (λ fs op c m. front_by (taken_in side fs) k.held h.own k.owes m) es (poll_asks job.write) tt
-          (polls_by (write_law side k.held (taken_in side es) job.write.who) job.write.left es (j.0.left, begun)))
+          (polls_by (write_law side k.held (taken_in side es) job.write.who) job.write.left es (j.left, begun)))
         where
           turned : (fs : List Entry) (ended : End × List Item) (ours : Bool) → is_same job.write.who.side side ≡ ours → r.side ≡ Some job.write.who.side → After side k.held (taken_in side es) job.write.who fs ended → Agreeing side (taken_in side fs) k.held (slice_set h.machine.store.sockets place (with_writer r s (now (job_after job.write.who ended))))
           turned fs ended true b its x =

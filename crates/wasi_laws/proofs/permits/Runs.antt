@@ -1,5 +1,4 @@
 -- Along a run what a side took is the front of what was permitted; and where a check-write answers a permit, all of it.
-use Rattle.std.proofs.Common.{◌≡◌, ℕ, ◌<◌, List, [], ◌++◌, Option, Some, None, Ok, Err, Result, slice_get, refl, sym, ap, subst, ◌∙◌, append-nil, inl, suc, ◌+◌, nat_lt, Bool, true, false, if◌then◌else◌, ◌∷◌, length, arith, append_assoc}
 use Rattle.wasi_streams.specs.StreamStop as stop
 use Rattle.wasi_host.specs.Host.{CallStop, Failed, Closed, Traps}
 use Rattle.wasi_host.specs.StreamCalls.{convert_asks, converted, stream_on, check_asks}
@@ -7,7 +6,7 @@ use Rattle.wasi_steps.specs.declared.reply.Reply.TheVariants as reply
 use Rattle.wasi_steps.specs.declared.step.Step.TheVariants as step
 use Rattle.wasi_tcp.specs.declared.writer.WriteState.TheVariants as writing
 use Rattle.wasi_walks.proofs.walks.Writes.{may_begin, may_of, may_in, may_at, may, let_write}
-use Rattle.wasi_laws.proofs.Words.{⊤, IsSomeAnd, OpId, Entry, WasiSocketsCtx, Give, bind, Left, reached, StreamStop, is_full, side_of, side_in, WriteState, writer_side, check_write_asks, taken_in, ErrorValue, make_asks, Machine, Streams, Tcp2Socket, Standing, writer_of, writer_asks, stream_at, with_store, output_at, own_of, side_at, Reply, number_fields, permit_reply, machine_asks, record_in, Answered, writer_in, writer_of_record, WritesTo, Quiet, quiet_then, quiet_if, Named, Unused, Starts, Over, Asks, is_same, Allows, allows_weaker, holds, IsFrontOf, first_state, let_begin, permitted_in, permitted_by, Did, Then, Step, Own, Used, ToWrite, may_while, machine_walks, BaseBetween, first_base, base_starts, base_over}
+use Rattle.wasi_laws.proofs.Words.{◌≡◌, ℕ, ◌<◌, List, [], ◌++◌, Option, Some, None, Ok, Err, Result, slice_get, refl, sym, ap, subst, ◌∙◌, append-nil, inl, suc, ◌+◌, nat_lt, Bool, true, false, if◌then◌else◌, ◌∷◌, length, arith, append_assoc, ⊤, IsSomeAnd, OpId, Entry, WasiSocketsCtx, Give, bind, Left, reached, StreamStop, is_full, side_of, side_in, WriteState, writer_side, check_write_asks, taken_in, ErrorValue, make_asks, Machine, Streams, Tcp2Socket, Standing, writer_of, writer_asks, stream_at, with_store, output_at, own_of, side_at, Reply, number_fields, permit_reply, machine_asks, asks_while, record_in, Answered, writer_in, writer_of_record, WritesTo, Quiet, quiet_then, quiet_if, Named, Unused, Starts, Over, Asks, is_same, Allows, allows_weaker, holds, IsFrontOf, first_state, let_begin, permitted_in, permitted_by, Did, Then, Step, Own, Used, ToWrite, may_while, machine_walks, BaseBetween, first_base, base_starts, base_over}
 use Rattle.wasi_laws.proofs.shapes.Shape.{HasStreams, StreamsShape, of_writer}
 use Rattle.wasi_laws.proofs.shapes.Law.{Shaped}
 use Rattle.wasi_laws.proofs.permits.Agreeing.{Agree, Agreeing, SaysAll, quiet_check}

@@ -1,6 +1,5 @@
 -- The log of a run is that of the steps that were done, and of the beginning of the next.
-use Rattle.std.proofs.Common.{◌≡◌, ℕ, suc, ◌+◌, Bool, true, false, if◌then◌else◌, List, [], ◌∷◌, ◌++◌, length, refl, sym, ap, subst, ◌∙◌, arith, append_assoc}
-use Rattle.wasi_laws.proofs.Words.{OpId, Entry, WasiSocketsCtx, Asks, Give, Ask, AskWrite, bind, Left, Machine, first_state, Reply, Step, is_trap, machine_asks, run, Answered, permitted_by, Then, Begun, IsOfSteps}
+use Rattle.wasi_laws.proofs.Words.{◌≡◌, ℕ, suc, ◌+◌, Bool, true, false, if◌then◌else◌, List, [], ◌∷◌, ◌++◌, length, refl, sym, ap, subst, ◌∙◌, arith, append_assoc, OpId, Entry, WasiSocketsCtx, Asks, Give, Ask, AskWrite, bind, Left, Machine, first_state, Reply, Step, is_trap, machine_asks, run, Answered, permitted_by, Then, Begun, IsOfSteps}
 use Rattle.wasi_laws.specs.Permitted.{Nothing}
 
 -- == the run

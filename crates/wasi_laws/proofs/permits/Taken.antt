@@ -1,9 +1,8 @@
 -- What a side takes along a log, and by one poll of a write that goes on.
-use Rattle.std.proofs.Common.{◌≡◌, ℕ, Bool, true, false, List, [], ◌∷◌, ◌++◌, refl, sym, ap, subst, ◌∙◌, append-nil, append_assoc, arith, ◌≤◌, if◌then◌else◌, length, take, drop}
 use Rattle.std.proofs.lemmas.List.{take-append-drop}
 use Rattle.wasi_world.specs.declared.call.Call.TheVariants as call
 use Rattle.wasi_world.specs.declared.call.Told.TheVariants as told
-use Rattle.wasi_laws.proofs.Words.{⊤, OpId, Call, Entry, Asks, Give, Ask, AskWrite, is_same, Allows, Quiet, none_taken, taken_by, taken_in, IsFrontOf, ErrorCode, Told, Fits, told_taken, bind, IsFront, Given, Item, Write, ShutdownSend, Last, Who, LastAsk, NothingLast, CloseLast, ShutdownLast, End, less_one, last_ask, bytes_left, entry, NoWrite, GoesOut}
+use Rattle.wasi_laws.proofs.Words.{◌≡◌, ℕ, Bool, true, false, List, [], ◌∷◌, ◌++◌, refl, sym, ap, subst, ◌∙◌, append-nil, append_assoc, arith, ◌≤◌, if◌then◌else◌, length, take, drop, ⊤, OpId, Call, Entry, Asks, Give, Ask, AskWrite, is_same, Allows, Quiet, none_taken, taken_by, taken_in, IsFrontOf, ErrorCode, Told, Fits, told_taken, bind, IsFront, Given, Item, Write, ShutdownSend, Last, Who, LastAsk, NothingLast, CloseLast, ShutdownLast, End, less_one, last_ask, bytes_left, entry, NoWrite, GoesOut}
 use Rattle.wasi_laws.proofs.asks.Fronts.{unwritten, AsksBy, Checks, Goes, Calmly, IsSpent, still, PollLaw}
 use Rattle.wasi_laws.proofs.shapes.Shape.{same_side, not_same, IsOfWrite, AreOfEnd, AreOfWrite, end_write}
 use Rattle.wasi_laws.proofs.shapes.Law.{never}

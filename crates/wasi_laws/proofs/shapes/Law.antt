@@ -1,11 +1,10 @@
 -- The law that each record has its shape.
-use Rattle.std.proofs.Common.{◌≡◌, ℕ, true, List, [], ◌∷◌, ◌++◌, Option, Some, None, Result, Ok, Err, refl, sym, ap, subst, ◌∙◌, slice_get, slice_set, length, inl, inr}
 use Rattle.wasi_tcp.specs.declared.reader.ReadState.TheVariants as reading
 use Rattle.wasi_tcp.specs.declared.socket.Connection.{Connection}
 use Rattle.wasi_tcp.specs.declared.socket.TcpState.TheVariants as state
 use Rattle.wasi_walks.proofs.fits.Polls.{Anything}
 use Rattle.wasi_walks.proofs.walks.Moves.{Ends}
-use Rattle.wasi_laws.proofs.Words.{⊤, SocketAddressFamily, ErrorCode, WasiSocketsCtx, Entry, OpId, Asks, bind, told_addr, Given, Item, Who, LastAsk, NothingLast, CloseLast, ShutdownLast, Operation, End, Waits, Done, Refused, last_ask, poll_asks, Allows, allows_then, allows_weaker, TcpState, WriteState, with_state, connect_ended, Job, job_after, Listener, Socket, side_of, new_asks, turn_asks, Listening, Not, Begins, Accepts, Unclosed, Streams, Tcp2Socket, with_listening, make_asks, Tcp2, own_of, created_asks, create_asks, with_inner, with_reader, with_writer, new_record, Step, get_set, get_split, told_same, whatever, Base, on_names, on_along, Law, Walks, both, Above, Here, put, Found, Used, closed_record, joined, listen_after, accepting_now, opened_by, Held, InHand, Connects, Listens, Awaits, Move, Reaches, Leaves, Spends, Changes, ClosesReader, Writes, IsGone, Reconnects, Opens, BeginsConnect, BeginsBind, BeginsWrite, BeginsListen, BeginsAccept, Unlistens, Forgets, Watches, Joins, StandsListen, StandsDrop, ResumesDrop, Unstands, Stands, Resumes, Lists, Takes}
+use Rattle.wasi_laws.proofs.Words.{◌≡◌, ℕ, true, List, [], ◌∷◌, ◌++◌, Option, Some, None, Result, Ok, Err, refl, sym, ap, subst, ◌∙◌, slice_get, slice_set, length, inl, inr, ⊤, SocketAddressFamily, ErrorCode, WasiSocketsCtx, Entry, OpId, bind, Given, Item, Who, LastAsk, NothingLast, CloseLast, ShutdownLast, Operation, End, Waits, Done, Refused, last_ask, poll_asks, Allows, allows_then, allows_weaker, TcpState, WriteState, with_state, connect_ended, Job, job_after, Listener, Socket, side_of, new_asks, turn_asks, Listening, Not, Begins, Accepts, Unclosed, Streams, Tcp2Socket, make_asks, Tcp2, own_of, created_asks, create_asks, with_inner, with_reader, with_writer, new_record, Step, get_set, get_split, whatever, Here, put, Found, Used, joined, listen_after, accepting_now, opened_by, Held, InHand, Connects, Listens, Awaits, Move, Reaches, Leaves, Spends, Changes, ClosesReader, Writes, IsGone, Reconnects, Opens, BeginsConnect, BeginsBind, BeginsWrite, BeginsListen, BeginsAccept, Unlistens, Forgets, Watches, Joins, StandsListen, StandsDrop, ResumesDrop, Unstands, Stands, Resumes, Lists, Takes}
 use Rattle.wasi_laws.proofs.asks.Fronts.{Becomes, ToldAddress, Arrives, IsAdmitted, IsUnwanted, IsRefused, IsConnected, Comes, GoesBy, PollLaw, polls_by}
 use Rattle.wasi_laws.proofs.asks.Trees.{GoesOn, InWriting, InClosing, turns_by}
 use Rattle.wasi_laws.proofs.shapes.Shape.{IsOfWrite, AreOfWrite, end_write, JobIs, WriterIs, writer_moves, HasStreams, StreamsShape, ListenerShape, RecordShape, Unconnected, bare, sideless, restated}
@@ -42,9 +41,15 @@ left_law who = record {
 job_now : (at : OpId) (job : Job) (ended : End × List Item) → JobIs at job → AreOfWrite ended.1 → JobIs at (job_after job.write.who ended)
 job_now at job (e, items) k l = record { side = k.side; last = k.last; left = l }
 
+-- the job that a writer goes on with, and the writer with another
+pub job_of : {at : OpId} (w : WriteState) (job : Job) (now : Job → WriteState) → GoesOn w job now → WriterIs at w → JobIs at job × ((j : Job) → JobIs at j → WriterIs at (now j))
+job_of _ _ _ (InWriting job e) k = (k, λ j l. l)
+job_of _ _ _ (InClosing job e) k = (k, λ j l. l)
+
 turned : (at : OpId) (es : List Entry) (w : WriteState) (job : Job) (now : Job → WriteState) → GoesOn w job now → WriterIs at w → Allows Anything (λ fs ended. WriterIs at (now (job_after job.write.who ended))) es (poll_asks job.write)
-turned at es _ _ _ (InWriting job e) k = allows_weaker Anything (λ fs ended. AreOfWrite ended.1) (λ fs ended. JobIs at (job_after job.write.who ended)) (λ fs ended l. job_now at job ended k l) es _ (polls_by (left_law job.write.who) job.write.left es k.left)
-turned at es _ _ _ (InClosing job e) k = allows_weaker Anything (λ fs ended. AreOfWrite ended.1) (λ fs ended. JobIs at (job_after job.write.who ended)) (λ fs ended l. job_now at job ended k l) es _ (polls_by (left_law job.write.who) job.write.left es k.left)
+turned at es w job now on k =
+    let j = job_of w job now on k in
+    allows_weaker Anything (λ fs ended. AreOfWrite ended.1) (λ fs ended. WriterIs at (now (job_after job.write.who ended))) (λ fs ended l. j.1 _ (job_now at job ended j.0 l)) es _ (polls_by (left_law job.write.who) job.write.left es j.0.left)
 
 -- == records
 has_streams : (r : Tcp2Socket) (s : Streams) → r.streams ≡ Some s → RecordShape r → HasStreams r.inner.state s
@@ -89,14 +94,14 @@ accepts_shape r l e k = subst (ListenerShape r.inner.state) e k.1
 abbrev pub Shaped : Here → Type 0
 Shaped h = (place : ℕ) (r : Tcp2Socket) → Found h place r → RecordShape r
 
-put_shape : (h : Here) (place : ℕ) (now : Tcp2Socket) → RecordShape now → Shaped h → Shaped (put h place now)
+pub put_shape : (h : Here) (place : ℕ) (now : Tcp2Socket) → RecordShape now → Shaped h → Shaped (put h place now)
 put_shape h place now k i = λ n r e. elim (get_set h.machine.store.sockets place now n r e) [ inl p ↦ subst RecordShape p.1 k | inr p ↦ i n r p ]
 
 push_shape : (sockets : List Tcp2Socket) (now : Tcp2Socket) → RecordShape now → ((place : ℕ) (r : Tcp2Socket) → slice_get sockets place ≡ Some r → RecordShape r) → (place : ℕ) (r : Tcp2Socket) → slice_get (sockets ++ now ∷ []) place ≡ Some r → RecordShape r
 push_shape sockets now k i place r e = elim (get_split sockets now place r e) [ inl p ↦ i place r p | inr p ↦ subst RecordShape p k ]
 
 module _ (contexts : List WasiSocketsCtx) (line : ℕ) (origin : Step) where
-  moves_shape : (h now : Here) → Move line origin h now → Shaped h → Shaped now
+  pub moves_shape : (h now : Here) → Move line origin h now → Shaped h → Shaped now
   moves_shape _ _ (Reaches h handle place n e) i = i
   moves_shape _ _ (Leaves h) i = i
   moves_shape _ _ (Spends h e) i = i
@@ -135,49 +140,22 @@ module _ (contexts : List WasiSocketsCtx) (line : ℕ) (origin : Step) where
   moves_shape _ _ (Lists h jobs) i = i
   moves_shape _ _ (Takes h handle) i = i
 
-  polls_shape : (es : List Entry) (h : Here) (op : Operation) (after : End × List Item → Here) → Held h op after → Shaped h → Allows Anything (λ fs ended. Shaped (after ended)) es (poll_asks op)
+  pub polls_shape : (es : List Entry) (h : Here) (op : Operation) (after : End × List Item → Here) → Held h op after → Shaped h → Allows Anything (λ fs ended. Shaped (after ended)) es (poll_asks op)
   polls_shape es h _ _ (InHand op e) i = whatever (λ ended. Shaped h) (λ ended. i) es (poll_asks op)
   polls_shape es h _ _ (Connects place r op q g e) i = whatever (λ ended. Shaped (put h place (with_inner r (with_state r.inner (connect_ended op.who ended).1)))) (λ ended. put_shape h place _ (ended_shape r op ended e (i place r g)) i) es (poll_asks op)
   polls_shape es h _ _ (Listens place r op q g e c) i = whatever (λ ended. Shaped (put h place (listen_after op r ended))) (λ ended. put_shape h place _ (listened_shape r op ended c (i place r g)) i) es (poll_asks op)
   polls_shape es h _ _ (Awaits place r l op g e a) i = let k = i place r g in whatever (λ ended. Shaped (put h place (accepting_now r l _))) (λ ended. put_shape h place _ (k.0, accepts_shape r l e k) i) es (poll_asks op)
 
-  turns_shape : (es : List Entry) (h : Here) (place : ℕ) (r : Tcp2Socket) (s : Streams) → Found h place r → r.streams ≡ Some s → Shaped h → Allows Anything (λ fs done. Shaped (put h place (with_writer r s done.1))) es (turn_asks s.writer)
+  pub turns_shape : (es : List Entry) (h : Here) (place : ℕ) (r : Tcp2Socket) (s : Streams) → Found h place r → r.streams ≡ Some s → Shaped h → Allows Anything (λ fs done. Shaped (put h place (with_writer r s done.1))) es (turn_asks s.writer)
   turns_shape es h place r s g e i =
       let k = i place r g in let o = has_streams r s e k in
       turns_by Anything (λ fs w. Shaped (put h place (with_writer r s w))) es s.writer (put_shape h place _ (writes_on r s s.writer e k o.writer) i)
       (λ job now on. allows_weaker Anything (λ fs ended. WriterIs o.connection.side (now (job_after job.write.who ended))) (λ fs ended. Shaped (put h place (with_writer r s (now (job_after job.write.who ended)))))
       (λ fs ended l. put_shape h place _ (writes_on r s _ e k l) i) es (poll_asks job.write) (turned o.connection.side es s.writer job now on o.writer))
 
-  created_shape : (es : List Entry) (h : Here) (ctx : WasiSocketsCtx) (family : SocketAddressFamily) → Shaped h → Allows Anything (λ fs done. Shaped (record h { machine = done.1; own = Used })) es (create_asks h.machine (own_of line) ctx family)
+  pub created_shape : (es : List Entry) (h : Here) (ctx : WasiSocketsCtx) (family : SocketAddressFamily) → Shaped h → Allows Anything (λ fs done. Shaped (record h { machine = done.1; own = Used })) es (create_asks h.machine (own_of line) ctx family)
   created_shape es h ctx family i = allows_then Anything (λ fs made. ⊤) (λ fs done. Shaped (record h { machine = done.1; own = Used })) es (new_asks (own_of line) ctx family) (created_asks h.machine (own_of line)) (whatever (λ made. ⊤) (λ made. tt) es _) (λ fs made k. joins fs made)
     where
       joins : (fs : List Entry) (made : Result Socket ErrorCode) → Allows Anything (λ gs done. Shaped (record h { machine = done.1; own = Used })) fs (created_asks h.machine (own_of line) made)
       joins fs (Err c) = i
       joins fs (Ok socket) = allows_then Anything (λ gs made. ⊤) (λ gs done. Shaped (record h { machine = done.1; own = Used })) fs (make_asks h.machine.table (own_of line) (Tcp2 (length h.machine.store.sockets)) None (side_of socket)) _ (whatever (λ made. ⊤) (λ made. tt) fs _) (λ gs made k. push_shape h.machine.store.sockets (new_record socket) (tt, tt) i)
-
-  -- a law that stands on it, on the base law
-  on_shapes : Above contexts line origin (λ es h. Base contexts line origin h × Shaped h) → Above contexts line origin (λ es h. Base contexts line origin h)
-  on_shapes a = record {
-    P = a.P;
-    Inv = λ es h. Shaped h × a.Inv es h;
-    moves = λ es h now m b i. (moves_shape h now m i.0, a.moves es h now m (b, i.0) i.1);
-    asks = λ es h place n r side c at g o q b i. let x = a.asks es h place n r side c at g o q (b, i.0) i.1 in (x.0, λ told f. (i.0, x.1 told f));
-    sets = λ es h place r side backlog at g s is b i. let x = a.sets es h place r side backlog at g s is (b, i.0) i.1 in (x.0, λ told f. (i.0, x.1 told f));
-    learns = λ es h place r side at g e b i. let x = a.learns es h place r side at g e (b, i.0) i.1 in (x.0, λ told f. (put_shape h place _ (rw (told_same r.inner (told_addr told)) (i.0 place r g)) i.0, x.1 told f));
-    closes = λ es h place r side q g e b i. let x = a.closes es h place r side q g e (b, i.0) i.1 in (x.0, λ told f. (put_shape h place (closed_record r) (tt, tt) i.0, x.1 told f));
-    marks = λ es h kind parent sock m b i. both a.P Anything _ _ es _ (a.marks es h kind parent sock m (b, i.0) i.1) (whatever (λ made. Shaped h) (λ made. i.0) es _);
-    creates = λ es h ctx family c o u m b i. both a.P Anything _ _ es _ (a.creates es h ctx family c o u m (b, i.0) i.1) (created_shape es h ctx family i.0);
-    accepted = λ es h c listener place r is e o g b i. both a.P Anything _ _ es _ (a.accepted es h c listener place r is e o g (b, i.0) i.1) (whatever (λ made. Shaped h) (λ made. i.0) es _);
-    polls = λ es h op after k b i. both a.P Anything _ _ es _ (a.polls es h op after k (b, i.0) i.1) (polls_shape es h op after k i.0);
-    turns = λ es h place r s g e b i. both a.P Anything _ _ es _ (a.turns es h place r s g e (b, i.0) i.1) (turns_shape es h place r s g e i.0);
-    gives_up = λ es h place r q g b i. both a.P Anything _ _ es _ (a.gives_up es h place r q g (b, i.0) i.1) (whatever (λ done. Shaped (put h place (with_listening r Not))) (λ done. put_shape h place _ ((i.0 place r g).0, tt) i.0) es _);
-  }
-
-  pub on_grounds : Above contexts line origin (λ es h. Base contexts line origin h × Shaped h) → Law contexts line origin
-  on_grounds a = on_names contexts line origin (on_shapes a)
-
-  -- what such a law says of a tree
-  pub grounds_along : (a : Above contexts line origin (λ es h. Base contexts line origin h × Shaped h)) {A : Type 0} {h : Here} {end : A → Here} {asks : Asks A} → Walks (on_grounds a) h end asks → (es : List Entry) → Base contexts line origin h → Shaped h → a.Inv es h
-      → Allows a.P (λ fs x. Base contexts line origin (end x) × (Shaped (end x) × a.Inv fs (end x))) es asks
-  unfolding on_grounds on_shapes
-  grounds_along a w es b s i = on_along contexts line origin (on_shapes a) w es b (s, i)

@@ -1,13 +1,12 @@
 -- How a record stands: its streams are those of its connection, its writer writes on by itself to that side alone, and it listens
 -- by its socket's side.
 use Rattle.std.proofs.lemmas.Bool.{eqb-true}
-use Rattle.std.proofs.Common.{◌==◌, ◌&&◌, Bool, false, arith, ◌≡◌, true, List, [], ◌∷◌, Option, Some, None, refl, sym, ap, subst, ◌∙◌, ◌⊎◌, inl, inr, ℕ}
 use Rattle.wasi_tcp.specs.declared.halves.TcpReceiveStream.{TcpReceiveStream}
 use Rattle.wasi_tcp.specs.declared.reader.ReadState.TheVariants as reading
 use Rattle.wasi_tcp.specs.declared.socket.Connection.{Connection}
 use Rattle.wasi_tcp.specs.declared.socket.TcpState.TheVariants as state
 use Rattle.wasi_tcp.specs.declared.writer.WriteState.TheVariants as writing
-use Rattle.wasi_laws.proofs.Words.{is_same, ⊤, OpId, Item, Write, ShutdownSend, Last, ShutdownLast, End, Waits, Done, Refused, TcpState, WriteState, Job, then_closed, side_in, side_of, writer_side, writing_side, closing_side, written_by, closed_by, Listening, Not, Begins, Accepts, Unclosed, Streams, Tcp2Socket, IsOn, OfSocket, OfReader, OfWriter, WriterMoves, Collects, Permits, Lasts, LastsAfter, Closes, own_of, Named, no_some, Here, Found, beginning_listen}
+use Rattle.wasi_laws.proofs.Words.{◌==◌, ◌&&◌, Bool, false, arith, ◌≡◌, true, List, [], ◌∷◌, Option, Some, None, refl, sym, ap, subst, ◌∙◌, ◌⊎◌, inl, inr, ℕ, is_same, ⊤, OpId, Item, Write, ShutdownSend, Last, ShutdownLast, End, Waits, Done, Refused, TcpState, WriteState, Job, then_closed, side_in, side_of, writer_side, writing_side, closing_side, written_by, closed_by, Listening, Not, Begins, Accepts, Unclosed, Streams, Tcp2Socket, IsOn, OfSocket, OfReader, OfWriter, WriterMoves, Collects, Permits, Lasts, LastsAfter, Closes, own_of, Named, no_some, Here, Found, beginning_listen}
 
 pub some_same : {A : Type 0} (a b : A) → Some a ≡ Some b → a ≡ b
 some_same a b e = cc

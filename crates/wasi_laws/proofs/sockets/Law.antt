@@ -1,27 +1,22 @@
 -- The law that what is asked of a socket is asked while it is open.
-use Rattle.std.proofs.Common.{◌≡◌, ◌⊎◌, true, inl, inr, ℕ, ◌+◌, ◌≤◌, List, [], ◌∷◌, ◌++◌, Some, None, refl, sym, ap, subst, ◌∙◌, append_assoc, arith}
 use Rattle.wasi_world.specs.declared.call.Call.TheVariants as call
 use Rattle.wasi_world.specs.declared.call.Told.TheVariants as told
 use Rattle.wasi_tcp.specs.declared.listener.Accepting.TheVariants as accepting
 use Rattle.wasi_tcp.specs.declared.socket.TcpState.TheVariants as state
 use Rattle.wasi_host.specs.declared.store.StandingCall.TheVariants as standing
 use Rattle.wasi_walks.proofs.walks.Moves.{Ends}
-use Rattle.wasi_laws.proofs.Words.{IpSocketAddress, SocketAddressFamily, WasiSocketsCtx, OpId, Call, Told, Entry, Asks, Left, Operation, End, Waits, Done, Refused, Item, CloseLast, NothingLast, ShutdownLast, Given, Connection, poll_asks, Allows, Accepting, WriteState, with_state, connect_ended, Job, job_after, Listener, HoldsAccept, IsAcceptOn, accept_ended, arrived, side_in, side_of, new_socket, Listening, Not, Begins, Accepts, Machine, Streams, Tcp2Socket, Standing, with_listening, own_of, first_state, left_of, new_record, standing_bind, with_inner, with_writer, Reply, Step, Has, entry, run, cut_of, has_back, has_last, Fit, FitListening, accept_name, name_in, Named, next_of, no_some, Starts, Here, put, Own, Used, Unused, ToWrite, Found, NoBind, NoBindStands, Held, InHand, Connects, Listens, Awaits, listen_after, accepting_now, closed_record, new_accept, second_of, joined, Move, Reaches, Leaves, Spends, Changes, ClosesReader, Writes, IsGone, Reconnects, Opens, BeginsConnect, BeginsBind, BeginsWrite, BeginsListen, BeginsAccept, Unlistens, Forgets, Watches, Joins, StandsListen, StandsDrop, ResumesDrop, Unstands, Stands, Resumes, Lists, Takes, socket_of, IsMade, Created, IsOpen, IsAskedOpen, AsksOpenSockets}
+use Rattle.wasi_laws.proofs.Words.{◌≡◌, ◌⊎◌, true, inl, inr, ℕ, ◌+◌, ◌≤◌, List, [], ◌∷◌, ◌++◌, Some, None, refl, sym, ap, subst, ◌∙◌, append_assoc, arith, IpSocketAddress, SocketAddressFamily, WasiSocketsCtx, OpId, Call, Told, Entry, Asks, Left, Operation, End, Waits, Done, Refused, Item, CloseLast, NothingLast, ShutdownLast, Given, Connection, poll_asks, Allows, Accepting, WriteState, with_state, connect_ended, Job, job_after, Listener, HoldsAccept, IsAcceptOn, accept_ended, arrived, side_in, side_of, new_socket, Listening, Not, Begins, Accepts, Machine, Streams, Tcp2Socket, Standing, with_listening, own_of, first_state, left_of, new_record, standing_bind, with_inner, with_writer, Reply, Step, Has, entry, run, cut_of, has_back, has_last, Fit, FitListening, accept_name, name_in, Named, next_of, no_some, Starts, Here, put, Own, Used, Unused, ToWrite, Found, NoBind, NoBindStands, Held, InHand, Connects, Listens, Awaits, listen_after, accepting_now, closed_record, new_accept, second_of, joined, Move, Reaches, Leaves, Spends, Changes, ClosesReader, Writes, IsGone, Reconnects, Opens, BeginsConnect, BeginsBind, BeginsWrite, BeginsListen, BeginsAccept, Unlistens, Forgets, Watches, Joins, StandsListen, StandsDrop, ResumesDrop, Unstands, Stands, Resumes, Lists, Takes, socket_of, IsMade, Created, IsOpen, IsAskedOpen, AsksOpenSockets}
 use Rattle.wasi_laws.proofs.asks.Fronts.{is_calm, IsGivenMade}
 use Rattle.wasi_laws.proofs.asks.Single.{each_ask, Single, Closing, ClosesSocket, ClosesListen, ClosesArrived, IsAskedOn, OnNone, OnSide, creating}
-use Rattle.wasi_laws.proofs.asks.Trees.{GoesOn, InWriting, InClosing}
-use Rattle.wasi_laws.proofs.shapes.Shape.{some_same, JobIs, WriterIs, HasStreams, StreamsShape, ListenerShape, IsBegun, Follows, follows_same, follows_state, follows_quiet, follows_begun, gone_lacks, follows_gone}
+use Rattle.wasi_laws.proofs.asks.Trees.{GoesOn}
+use Rattle.wasi_laws.proofs.shapes.Shape.{some_same, WriterIs, HasStreams, StreamsShape, ListenerShape, IsBegun, Follows, follows_same, follows_state, follows_quiet, follows_begun, gone_lacks, follows_gone}
+use Rattle.wasi_laws.proofs.shapes.Law.{job_of}
 use Rattle.wasi_laws.proofs.sockets.Opened.{Grows, grows_none, grows_entry, RecordOpen, name_of, changed, HasIt, one_more, opened_more, put_open, push_open, later, Kept, closed_put}
 use Rattle.wasi_laws.proofs.sockets.Polls.{AskedOpen, calm_closes, PollLeaves, polled, calm_end}
 
 abbrev accept_of : Listening → Accepting
 accept_of (Accepts k) = k.accept
 accept_of _ = accepting.Idle
-
--- the job that a writer goes on with is of its side
-job_of : {at : OpId} (w : WriteState) (job : Job) (now : Job → WriteState) → GoesOn w job now → WriterIs at w → JobIs at job
-job_of _ _ _ (InWriting job e) k = k
-job_of _ _ _ (InClosing job e) k = k
 
 one_close : (es : List Entry) (op side : OpId) (told : Told) → Grows (λ x. side ≡ x) es (es ++ entry op (call.Close side) told ∷ [])
 one_close es op side told = grows_entry (λ x. side ≡ x) es es op (call.Close side) told (λ x c. c) (grows_none (λ x. side ≡ x) es)
@@ -37,37 +32,32 @@ module _ (line : ℕ) where
   arrived_open : (es : List Entry) (h : Here) (place : ℕ) (r : Tcp2Socket) (l : Listener) (new : OpId) (peer : IpSocketAddress) → Found h place r → r.listening ≡ Accepts l → l.accept ≡ accepting.Arrived new peer → Kept line es h → IsOpen es new
   arrived_open es h place r l new peer g e a i = let k = i.records place r g in record { made = k.arrived l new peer e a; unclosed = k.named new (name_of r l new peer e a) }
 
-  put_kept : (es : List Entry) (h : Here) (place : ℕ) (r now : Tcp2Socket) → Found h place r → Follows r now → Kept line es h → now.listening ≡ r.listening → Kept line es (put h place now)
-  put_kept es h place r now g f i l = put_open es place now (changed es r now f (inl l) (i.records place r g)) i
-
-  put_quiet : (es : List Entry) (h : Here) (place : ℕ) (r now : Tcp2Socket) → Found h place r → Follows r now → accept_name now.listening ≡ None → Kept line es h → Kept line es (put h place now)
-  put_quiet es h place r now g f l i = put_open es place now (changed es r now f (inr l) (i.records place r g)) i
+  -- a record changes: it listens as it did, or accepts nothing
+  put_kept : (es : List Entry) (h : Here) (place : ℕ) (r now : Tcp2Socket) → Found h place r → Follows r now → (now.listening ≡ r.listening) ⊎ (accept_name now.listening ≡ None) → Kept line es h → Kept line es (put h place now)
+  put_kept es h place r now g f l i = put_open es place now (changed es r now f l (i.records place r g)) i
 
   by_own : (o : Own) → next_of line o ≤ line + 1
   by_own Used = omega arith
   by_own Unused = omega arith
   by_own (ToWrite at bytes) = omega arith
 
-  spends : (es : List Entry) (h : Here) → Kept line es h → Kept line es (record h { own = Used })
-  spends es h i = later es (line + 1) (by_own h.own) i
-
   module _ {origin : Step} where
     moves : (es : List Entry) (h now : Here) → Move line origin h now → Named line h → Kept line es h → Kept line es now
     moves es _ _ (Reaches h handle place k e) n i = i
     moves es _ _ (Leaves h) n i = i
-    moves es _ _ (Spends h e) n i = spends es h i
-    moves es _ _ (Changes h place r now g p) n i = put_kept es h place r now g (follows_same r now (record { side = p.side; streams = p.streams; listening = p.listening; does = p.does })) i p.listening
-    moves es _ _ (ClosesReader h place r s g e) n i = put_kept es h place r _ g (record { side = refl; lives = λ x v. v }) i refl
-    moves es _ _ (Writes h place r s w g e m) n i = put_kept es h place r _ g (record { side = refl; lives = λ x v. v }) i refl
-    moves es _ _ (IsGone h place r g e) n i = put_quiet es h place r _ g (follows_gone r _ refl e (λ b. b)) refl i
-    moves es _ _ (Reconnects h place r c now g e s t u) n i = put_kept es h place r _ g (follows_state r _ refl refl (λ x p. ap side_in e ∙ (ap (λ (y : OpId). Some y) (sym s) ∙ p))) i refl
-    moves es _ _ (Opens h place r c g e k) n i = put_kept es h place r _ g (follows_state r _ refl refl (λ x p. ap side_in e ∙ p)) i refl
-    moves es _ _ (BeginsConnect h place r side a bound at g d to known own) n i = later es (line + 1) (by_own h.own) (put_kept es h place r _ g (follows_state r _ refl refl (λ x p. ap side_in d ∙ p)) i refl)
+    moves es _ _ (Spends h e) n i = later es (line + 1) (by_own h.own) i
+    moves es _ _ (Changes h place r now g p) n i = put_kept es h place r now g (follows_same r now (record { side = p.side; streams = p.streams; listening = p.listening; does = p.does })) (inl p.listening) i
+    moves es _ _ (ClosesReader h place r s g e) n i = put_kept es h place r _ g (record { side = refl; lives = λ x v. v }) (inl refl) i
+    moves es _ _ (Writes h place r s w g e m) n i = put_kept es h place r _ g (record { side = refl; lives = λ x v. v }) (inl refl) i
+    moves es _ _ (IsGone h place r g e) n i = put_kept es h place r _ g (follows_gone r _ refl e (λ b. b)) (inr refl) i
+    moves es _ _ (Reconnects h place r c now g e s t u) n i = put_kept es h place r _ g (follows_state r _ refl refl (λ x p. ap side_in e ∙ (ap (λ (y : OpId). Some y) (sym s) ∙ p))) (inl refl) i
+    moves es _ _ (Opens h place r c g e k) n i = put_kept es h place r _ g (follows_state r _ refl refl (λ x p. ap side_in e ∙ p)) (inl refl) i
+    moves es _ _ (BeginsConnect h place r side a bound at g d to known own) n i = later es (line + 1) (by_own h.own) (put_kept es h place r _ g (follows_state r _ refl refl (λ x p. ap side_in d ∙ p)) (inl refl) i)
     moves es _ _ (BeginsBind h place r side a at g d to own) n i =
-        let k = spends es h i in
+        let k = later es (line + 1) (by_own h.own) i in
         record { records = k.records; hand = λ op e. subst (λ (o : Operation). IsOpen es o.who.side) (some_same _ op e) (socket_open es h place r side g (ap side_in d) n i); stands = k.stands; older = k.older }
-    moves es _ _ (BeginsWrite h place r s half permit bytes at g e w within own) n i = later es (line + 1) (by_own h.own) (put_kept es h place r _ g (record { side = refl; lives = λ x v. v }) i refl)
-    moves es _ _ (BeginsListen h place r side at g d bound none to own) n i = later es (line + 1) (by_own h.own) (put_quiet es h place r _ g (follows_begun line h place r side g d n) refl i)
+    moves es _ _ (BeginsWrite h place r s half permit bytes at g e w within own) n i = later es (line + 1) (by_own h.own) (put_kept es h place r _ g (record { side = refl; lives = λ x v. v }) (inl refl) i)
+    moves es _ _ (BeginsListen h place r side at g d bound none to own) n i = later es (line + 1) (by_own h.own) (put_kept es h place r _ g (follows_begun line h place r side g d n) (inr refl) i)
     moves es _ _ (BeginsAccept h place r l at g e a own) n i =
         let k = i.records place r g in
         later es (line + 1) (by_own h.own) (put_open es place (accepting_now r l (new_accept line l)) (record {
@@ -75,13 +65,13 @@ module _ (line : ℕ) where
           named = λ x p c. (let o = i.older x c in let z : next_of line h.own ≡ line = ap (next_of line) own in let s : x.step ≡ line = sym (ap (λ (y : OpId). y.step) (some_same (second_of line) x p)) in omega (arith, o, z, s));
           arrived = λ m new peer p q. (let s : new_accept line l ≡ accepting.Arrived new peer = ap accept_of p ∙ q in absurd (cc));
         }) i)
-    moves es _ _ (Unlistens h place r op g e c o) n i = put_quiet es h place r _ g (follows_quiet r _ refl refl (λ b. b)) refl i
-    moves es _ _ (Forgets h place r l c g e a) n i = put_quiet es h place r _ g (follows_quiet r _ refl refl (λ b. b)) refl i
+    moves es _ _ (Unlistens h place r op g e c o) n i = put_kept es h place r _ g (follows_quiet r _ refl refl (λ b. b)) (inr refl) i
+    moves es _ _ (Forgets h place r l c g e a) n i = put_kept es h place r _ g (follows_quiet r _ refl refl (λ b. b)) (inr refl) i
     moves es _ _ (Watches h o) n i = i
     moves es _ _ (Joins h c handle place r l new peer is of u g e a) n i =
         let o = arrived_open es h place r l new peer g e a i in
         push_open es (joined l new peer) (record { lives = λ x v. subst (IsOpen es) (some_same new x v.0) o; named = λ x p. absurd (no_some x p); arrived = λ k x y p q. absurd (cc) })
-        (put_quiet es h place r (accepting_now r l accepting.Idle) g (follows_quiet r _ refl refl (λ b. b)) refl i)
+        (put_kept es h place r (accepting_now r l accepting.Idle) g (follows_quiet r _ refl refl (λ b. b)) (inr refl) i)
     moves es _ _ (StandsListen h m place r f) n i = record { records = i.records; hand = i.hand; stands = λ k p op e. absurd (subst NoBindStands e tt); older = i.older }
     moves es _ _ (StandsDrop h m place r at g) n i = record { records = i.records; hand = i.hand; stands = λ k p op e. absurd (subst NoBindStands e tt); older = i.older }
     moves es _ _ (ResumesDrop h m place e) n i = i
@@ -110,8 +100,8 @@ module _ (line : ℕ) where
       by_listening _ p b = b
 
   connect_so : (es fs : List Entry) (h : Here) (place : ℕ) (r : Tcp2Socket) (op : Operation) (ended : End × List Item) → NoBind h → Found h place r → r.inner.state ≡ state.Connecting op → Named line h → Kept line es h → PollLeaves op.who es fs ended → Kept line fs (put h place (with_inner r (with_state r.inner (connect_ended op.who ended).1)))
-  connect_so es fs h place r op (Waits, items) q g e n i k = put_kept fs h place r _ g (follows_state r _ refl refl (λ x p. ap side_in e ∙ p)) (opened_more es fs (calm_end op.who es fs (Waits, items) (λ z. z.1) k) i) refl
-  connect_so es fs h place r op (Done given, items) q g e n i k = put_kept fs h place r _ g (follows_state r _ refl refl (λ x p. ap side_in e ∙ p)) (opened_more es fs (calm_end op.who es fs (Done given, items) (λ z. z.1) k) i) refl
+  connect_so es fs h place r op (Waits, items) q g e n i k = put_kept fs h place r _ g (follows_state r _ refl refl (λ x p. ap side_in e ∙ p)) (inl refl) (opened_more es fs (calm_end op.who es fs (Waits, items) (λ z. z.1) k) i)
+  connect_so es fs h place r op (Done given, items) q g e n i k = put_kept fs h place r _ g (follows_state r _ refl refl (λ x p. ap side_in e ∙ p)) (inl refl) (opened_more es fs (calm_end op.who es fs (Done given, items) (λ z. z.1) k) i)
   connect_so es fs h place r op (Refused c given, items) q g e n i k =
       let now = with_inner r (with_state r.inner (state.Closed c)) in
       let its = n.named op.who.side place r g (ap side_in e) in
@@ -119,8 +109,8 @@ module _ (line : ℕ) where
       closes_so es fs _ h place r now op.who.side g (follows_gone r now refl refl none) (inl refl) (inl its) (λ u. elim u [ inl v ↦ gone_lacks now refl none op.who.side v | inr a ↦ n.apart op.who.side place r g its a ]) (λ x d. d.0) k.grows q n i
 
   listen_so : (es fs : List Entry) (h : Here) (place : ℕ) (r : Tcp2Socket) (op : Operation) (ended : End × List Item) → NoBind h → Found h place r → r.listening ≡ Begins op → side_of r.inner ≡ None → Named line h → Kept line es h → PollLeaves op.who es fs ended → Kept line fs (put h place (listen_after op r ended))
-  listen_so es fs h place r op (Waits, items) q g e c n i k = put_quiet fs h place r _ g (record { side = refl; lives = λ x v. (v.0, inr (subst IsBegun (sym e) tt)) }) refl (opened_more es fs (calm_end op.who es fs (Waits, items) (λ z. z.1) k) i)
-  listen_so es fs h place r op (Done given, items) q g e c n i k = put_quiet fs h place r _ g (record { side = refl; lives = λ x v. (v.0, inr (subst IsBegun (sym e) tt)) }) refl (opened_more es fs (calm_end op.who es fs (Done given, items) (λ z. z.1) k) i)
+  listen_so es fs h place r op (Waits, items) q g e c n i k = put_kept fs h place r _ g (record { side = refl; lives = λ x v. (v.0, inr (subst IsBegun (sym e) tt)) }) (inr refl) (opened_more es fs (calm_end op.who es fs (Waits, items) (λ z. z.1) k) i)
+  listen_so es fs h place r op (Done given, items) q g e c n i k = put_kept fs h place r _ g (record { side = refl; lives = λ x v. (v.0, inr (subst IsBegun (sym e) tt)) }) (inr refl) (opened_more es fs (calm_end op.who es fs (Done given, items) (λ z. z.1) k) i)
   listen_so es fs h place r op (Refused why given, items) q g e c n i k =
       let now = listen_after op r (Refused why given, items) in let gone = follows_gone r now refl c (λ b. b) in
       closes_so es fs _ h place r now op.who.side g gone (inr refl) (inl (n.held op place r g e).0) (λ u. elim u [ inl v ↦ gone_lacks now c (λ b. b) op.who.side v | inr a ↦ no_some op.who.side a ]) (λ x d. d.0) k.grows q n i
@@ -160,9 +150,9 @@ module _ (line : ℕ) where
   -- a write closes nothing
   turns : (es : List Entry) (h : Here) (place : ℕ) (r : Tcp2Socket) (s : Streams) (w : WriteState) (job : Job) (now : Job → WriteState) → Found h place r → HasStreams r.inner.state s → s.writer ≡ w → GoesOn w job now → Named line h → Kept line es h → Allows AskedOpen (λ fs ended. Kept line fs (put h place (with_writer r s (now (job_after job.write.who ended))))) es (poll_asks job.write)
   turns es h place r s w job now g o e on n i =
-      let k = job_of w job now on (subst (WriterIs o.connection.side) e o.writer) in
+      let k = (job_of w job now on (subst (WriterIs o.connection.side) e o.writer)).0 in
       polled job.write es _ (subst (IsOpen es) (sym k.side) (socket_open es h place r o.connection.side g (ap side_in o.is) n i)) (λ fs ended m.
-      put_kept fs h place r _ g (record { side = refl; lives = λ x v. v }) (opened_more es fs (calm_end job.write.who es fs ended (λ z. let p : ShutdownLast ≡ CloseLast = sym k.last ∙ z.0 in absurd (cc)) m) i) refl)
+      put_kept fs h place r _ g (record { side = refl; lives = λ x v. v }) (inl refl) (opened_more es fs (calm_end job.write.who es fs ended (λ z. let p : ShutdownLast ≡ CloseLast = sym k.last ∙ z.0 in absurd (cc)) m) i))
 
   closes : (es : List Entry) (h : Here) (place : ℕ) (r now : Tcp2Socket) (op side : OpId) → NoBind h → Found h place r → Closing r now side → Named line h → Kept line es h → IsOpen es side × ((told : Told) → Kept line (es ++ entry op (call.Close side) told ∷ []) (put h place now))
   closes es h place r _ op _ q g (ClosesSocket side e) n i = (
@@ -200,9 +190,9 @@ module _ (line : ℕ) where
     pub sockets : Single contexts line origin AskedOpen (Kept line)
     sockets = record {
       moves = λ es h now m b i. moves es h now m b.0.1 i;
-      same = λ es h place r now g s i. put_kept es h place r now g (follows_same r now s) i s.listening;
+      same = λ es h place r now g s i. put_kept es h place r now g (follows_same r now s) (inl s.listening) i;
       tables = λ es h t m i. i;
-      stops = λ es h place r g i. put_quiet es h place r _ g (follows_quiet r _ refl refl (λ b. b)) refl i;
+      stops = λ es h place r g i. put_kept es h place r _ g (follows_quiet r _ refl refl (λ b. b)) (inr refl) i;
       asks = λ es h op c calm on i. (asked es h c on i, λ told. calmly es h op c told calm i);
       creates = λ es h ctx family u b i. created es h ctx family u i;
       closes = λ es h place r now op side q g c b i. closes es h place r now op side q g c b.0.1 i;
@@ -215,7 +205,7 @@ module _ (contexts : List WasiSocketsCtx) where
   runs_open steps log rest w = record { each = each_ask contexts Kept (λ line origin. sockets line contexts origin) starts (λ line es m i. i) (record { records = λ place r e. absurd (cc); hand = λ op e. absurd (cc); stands = λ n place op e. absurd (cc); older = λ x c. absurd c.closed }) steps log rest w }
     where
       starts : (line : ℕ) (es : List Entry) (m : Machine) (own : Own) → Kept line es (Starts m Unused) → Kept line es (Starts m own)
-      starts line es m Used i = spends line es (Starts m Unused) i
+      starts line es m Used i = later es (line + 1) (by_own line Unused) i
       starts line es m Unused i = i
       starts line es m (ToWrite at bytes) i = i
 

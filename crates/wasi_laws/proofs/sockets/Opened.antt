@@ -1,8 +1,7 @@
 -- A log that grows, and what holds of it between the asks of a line: each side that is alive is open, and what is closed is older.
-use Rattle.std.proofs.Common.{◌≡◌, ◌⊎◌, inl, inr, List, [], ◌∷◌, ◌++◌, refl, sym, ap, subst, ℕ, ◌<◌, ◌≤◌, Option, Some, None, ◌∙◌, slice_get, slice_set, arith}
 use Rattle.wasi_world.specs.declared.call.Call.TheVariants as call
 use Rattle.wasi_tcp.specs.declared.listener.Accepting.TheVariants as accepting
-use Rattle.wasi_laws.proofs.Words.{OpId, Call, Told, Entry, entry, IsMade, Created, HandedOver, IsClosed, IsOpen, has_front, has_split, IpSocketAddress, Operation, Listener, Accepts, Tcp2Socket, Standing, standing_bind, get_set, get_split, set_there, Claims, Named, next_of, no_some, accept_name, name_in, Here, put, Found, NoBind, NoBindStands}
+use Rattle.wasi_laws.proofs.Words.{◌≡◌, ◌⊎◌, inl, inr, List, [], ◌∷◌, ◌++◌, refl, sym, ap, subst, ℕ, ◌<◌, ◌≤◌, Option, Some, None, ◌∙◌, slice_get, slice_set, arith, OpId, Call, Told, Entry, entry, IsMade, Created, HandedOver, IsClosed, IsOpen, has_front, has_split, IpSocketAddress, Operation, Listener, Accepts, Tcp2Socket, Standing, standing_bind, get_set, get_split, set_there, Claims, Named, next_of, no_some, accept_name, name_in, Here, put, Found, NoBind, NoBindStands}
 use Rattle.wasi_laws.proofs.shapes.Shape.{some_same, Lives, Follows}
 
 -- a close, of this socket

@@ -1,7 +1,6 @@
 -- One poll of an operation asks of its own side alone, and closes it only last, where it is refused.
-use Rattle.std.proofs.Common.{◌≡◌, true, inl, inr, List, Option, Some, None, refl, sym, subst}
 use Rattle.wasi_world.specs.declared.call.Call.TheVariants as call
-use Rattle.wasi_laws.proofs.Words.{⊤, ErrorCode, OpId, Call, Entry, bind, Given, Item, Who, Operation, LastAsk, NothingLast, CloseLast, ShutdownLast, End, Waits, Done, Refused, last_ask, poll_asks, Allows, allows_weaker, IsOpen, IsAskedOpen, socket_of, GoesOut}
+use Rattle.wasi_laws.proofs.Words.{◌≡◌, true, inl, inr, List, Option, Some, None, refl, sym, subst, ⊤, ErrorCode, OpId, Call, Entry, bind, Given, Item, Who, Operation, LastAsk, NothingLast, CloseLast, ShutdownLast, End, Waits, Done, Refused, last_ask, poll_asks, Allows, allows_weaker, IsOpen, IsAskedOpen, socket_of, GoesOut}
 use Rattle.wasi_laws.proofs.asks.Fronts.{is_calm, IsOfSide, AsksBy, Checks, Goes, Calmly, of_side, IsGivenMade, PollLaw, polls_by}
 use Rattle.wasi_laws.proofs.sockets.Opened.{Closes, NoneCloses, Grows, grows_none, grows_entry, grows_weaker, open_more}
 
