@@ -1,6 +1,6 @@
 //! Generated scripts, and the words `gen SEED STEPS`.
 
-use crate::given::Given;
+use crate::given::{Given, PLAIN};
 use std::test::Fail;
 use wasi_run::generate::generate;
 
@@ -21,50 +21,53 @@ fn a_seed_gives_its_lines(rt: HostRuntime) -> Result<(), Fail> {
     Ok(())
 }
 
+/// The words.
+fn given<'a>(words: &'a [&'a str]) -> Given<'a> {
+    Given { words, ..PLAIN }
+}
+
 #[test]
 fn gen_tells_what_its_run_came_to(rt: HostRuntime) -> Result<(), Fail> {
     let rows = [
-        (
-            "1",
-            "10",
-            b"lines 10 replies 10 entries 15 bytes 61\n".as_slice(),
-        ),
-        ("7", "0", b"lines 0 replies 0 entries 0 bytes 0\n"),
-        ("1", "1", b"lines 1 replies 1 entries 1 bytes 0\n"),
+        ("1", "10", "0 0: lines 10 replies 10 entries 15 bytes 61\n"),
+        ("7", "0", "0 0: lines 0 replies 0 entries 0 bytes 0\n"),
+        ("1", "1", "0 0: lines 1 replies 1 entries 1 bytes 0\n"),
     ];
-    for (seed, steps, line) in rows {
-        let done = Given::script(&["gen", seed, steps], b"not read").run(rt.alloc())?;
-        assert_eq!(rt; (done.status, done.line, done.log.len()), (0, 0, 0));
-        assert_eq!(rt; done.sink.bytes(), line);
+    for (seed, steps, end) in rows {
+        given(&["gen", seed, steps]).ends(&rt, rt.alloc(), end)?;
     }
     Ok(())
 }
 
 #[test]
+fn gen_gives_no_log(rt: HostRuntime) -> Result<(), Fail> {
+    let done = given(&["gen", "1", "10"]).run(rt.alloc())?;
+    assert!(rt; done.log.is_empty());
+    Ok(())
+}
+
+#[test]
 fn gen_has_a_seed_and_a_number_of_lines(rt: HostRuntime) -> Result<(), Fail> {
-    let rows = [
-        ("1", "100001"),
-        ("18446744073709551616", "1"),
-        ("-1", "1"),
-        ("01", "1"),
-        ("1", ""),
+    let rows: [&[&str]; 6] = [
+        &["gen", "1", "100001"],
+        &["gen", "18446744073709551616", "1"],
+        &["gen", "-1", "1"],
+        &["gen", "01", "1"],
+        &["gen", "1", ""],
+        &["gen", "1"],
     ];
-    for (seed, steps) in rows {
-        let done = Given::script(&["gen", seed, steps], b"").run(rt.alloc())?;
-        assert_eq!(rt; (done.status, done.sink.bytes().len()), (1, 0));
+    for words in rows {
+        given(words).ends(&rt, rt.alloc(), "1 0: ")?;
     }
-    let done = Given::script(&["gen", "1"], b"").run(rt.alloc())?;
-    assert_eq!(rt; done.status, 1);
     Ok(())
 }
 
 #[test]
 fn gen_tells_a_write_that_failed(rt: HostRuntime) -> Result<(), Fail> {
     let given = Given {
+        words: &["gen", "1", "1"],
         room: 5,
-        ..Given::script(&["gen", "1", "1"], b"")
+        ..PLAIN
     };
-    let done = given.run(rt.alloc())?;
-    assert_eq!(rt; (done.status, done.sink.bytes()), (6, b"lines".as_slice()));
-    Ok(())
+    given.ends(&rt, rt.alloc(), "6 0: lines")
 }

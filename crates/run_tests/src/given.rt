@@ -1,6 +1,8 @@
-//! A run of the program over streams in memory.
+//! A run of the program over streams in memory, and what it came to, as text.
 
-use std::alloc::Global;
+use std::alloc::{AllocError, Global};
+use std::fmt::Write;
+use std::process::Abort;
 use std::test::Fail;
 use wasi_run::{Done, run_main};
 use wasi_world::{MemorySink, MemorySource};
@@ -22,38 +24,88 @@ pub struct Given<'a> {
     pub most: usize,
     /// The sink has room for so many bytes.
     pub room: usize,
-    /// The numbers of the reads and writes that fail, counted from 1.
+    /// The numbers of the reads of the scenario and of the script, and of the writes, that fail, counted from 1.
+    pub failing_scenario: &'a [u32],
     pub failing_reads: &'a [u32],
     pub failing_writes: &'a [u32],
 }
 
-impl<'a> Given<'a> {
-    /// These words and this script, an empty scenario and streams without faults.
-    pub fn script(words: &'a [&'a str], script: &'a [u8]) -> Given<'a> {
-        Given {
-            words,
-            scenario: b"",
-            script,
-            most: 4096,
-            room: 4096,
-            failing_reads: &[],
-            failing_writes: &[],
-        }
-    }
+/// The script above, an empty scenario and streams without faults.
+pub const PLAIN: Given<'static> = Given {
+    words: &["run", "1000"],
+    scenario: b"",
+    script: BIND,
+    most: 4096,
+    room: 4096,
+    failing_scenario: &[],
+    failing_reads: &[],
+    failing_writes: &[],
+};
 
+fn source(
+    alloc: Global,
+    bytes: &[u8],
+    most: usize,
+    fails: &[u32],
+) -> Result<MemorySource, AllocError> {
+    let bytes = bytes.to_vec(alloc)?;
+    let fails = fails.to_vec(alloc)?;
+    Ok(MemorySource::new(bytes, most.max(1), fails))
+}
+
+fn owned(alloc: Global, words: &[&str]) -> Result<Vec<String>, AllocError> {
+    let mut all = Vec::new(alloc);
+    for word in words {
+        all.push(word.to_string(alloc)?)?;
+    }
+    Ok(all)
+}
+
+impl<'a> Given<'a> {
     /// Runs the program over them.
     pub fn run(&self, alloc: Global) -> Result<Done<MemorySource, MemorySink>, Fail> {
-        let mut words = Vec::new(alloc);
-        for word in self.words {
-            words.push(word.to_string(alloc)?)?;
-        }
-        let most = self.most.max(1);
-        let scenario = self.scenario.to_vec(alloc)?;
-        let mut scenario = MemorySource::new(scenario, most, Vec::new(alloc));
-        let fails = self.failing_reads.to_vec(alloc)?;
-        let source = MemorySource::new(self.script.to_vec(alloc)?, most, fails);
+        let words = owned(alloc, self.words)?;
+        let mut scenario = source(alloc, self.scenario, self.most, self.failing_scenario)?;
+        let script = source(alloc, self.script, self.most, self.failing_reads)?;
         let fails = self.failing_writes.to_vec(alloc)?;
-        let sink = MemorySink::new(alloc, most, self.room, fails)?;
-        Ok(run_main(alloc, words.as_slice(), &mut scenario, source, sink))
+        let sink = MemorySink::new(alloc, self.most.max(1), self.room, fails)?;
+        Ok(run_main(alloc, words.as_slice(), &mut scenario, script, sink))
+    }
+
+    /// Its status, its line and what it wrote.
+    fn end(&self, alloc: Global) -> Result<String, Fail> {
+        let done = self.run(alloc)?;
+        let wrote = str::from_utf8(done.sink.bytes()).unwrap_or("no text");
+        let (status, line) = (done.status, done.line);
+        Ok(format!(in alloc; "{status} {line}: {wrote}")?)
+    }
+
+    /// The faults of its source and of its sink, and the pieces that the sink refused.
+    fn faults(&self, alloc: Global) -> Result<(u64, u64, u64), Fail> {
+        let done = self.run(alloc)?;
+        Ok((
+            done.source.faults(),
+            done.sink.faults(),
+            done.sink.refused(),
+        ))
+    }
+
+    /// The run ends so.
+    pub fn ends(&self, rt: &impl Abort, alloc: Global, end: &str) -> Result<(), Fail> {
+        let came = self.end(alloc)?;
+        assert_eq!(rt; came.as_str(), end);
+        Ok(())
+    }
+
+    /// Its streams count so many faults, and so many refused pieces.
+    pub fn counts(
+        &self,
+        rt: &impl Abort,
+        alloc: Global,
+        faults: (u64, u64, u64),
+    ) -> Result<(), Fail> {
+        let came = self.faults(alloc)?;
+        assert_eq!(rt; came, faults);
+        Ok(())
     }
 }
