@@ -5,9 +5,9 @@ use Rattle.std.specs.Prelude.{IsSome}
 use Rattle.wasi_addr.specs.declared.address.IpSocketAddress.{IpSocketAddress}
 use Rattle.wasi_addr.specs.declared.address.ShutdownType.{ShutdownType}
 use Rattle.wasi_addr.specs.declared.address.ShutdownType.TheVariants.{Receive, Send, Both}
-use Rattle.wasi_causes.proofs.streams.Waits.{OutputRow, outputs}
+use Rattle.wasi_causes.proofs.streams.Halves.{OutputRow, outputs}
 use Rattle.wasi_causes.proofs.tables.Meets.{Rows, Meets, ends, asks, chain, onto, widen}
-use Rattle.wasi_causes.proofs.tables.Routes.{Says, put_back, Names, its, on_record, apart, none_has}
+use Rattle.wasi_causes.proofs.tables.Routes.{Replied, Says, put_back, Names, its, on_record, apart, none_has}
 use Rattle.wasi_causes.specs.GivenUp.{receive_given_up, send_given_up, streams_given_up, side_closed, arrival_given_up, accept_given_up, listen_given_up, listening_given_up, socket_given_up, ended_side, shut_at_once, last_write, shut_writer, shutdown_entries, shut_down, HasLiveChildren, without, LooksOnce, NoLook, OneLook, IsDropped, GoesAtOnce, IsGone}
 use Rattle.wasi_causes.specs.Outcomes.{Outcome, AsksOnce, AreLike, Gone}
 use Rattle.wasi_host.specs.Dropping.{give_streams_up, gone, release_asks, released, release_at}
@@ -56,7 +56,7 @@ use Rattle.wasi_tcp.specs.declared.writer.WriteState.{WriteState}
 use Rattle.wasi_tcp.specs.declared.writer.WriteState.TheVariants as writing
 use Rattle.wasi_world.specs.Asks.{Give, bind}
 use Rattle.wasi_world.specs.Fits.{IsDone}
-use Rattle.wasi_world.specs.Operation.{End, Waits, Done, Refused, Who, Operation}
+use Rattle.wasi_world.specs.Operation.{End, Done, Who, Operation}
 use Rattle.wasi_world.specs.Typed.{ask_close}
 use Rattle.wasi_world.specs.declared.call.Call.{Call}
 use Rattle.wasi_world.specs.declared.call.Call.TheVariants as call
@@ -88,10 +88,9 @@ refuses who None = ends refl
 
 accept_up : (a : Accepting) → Meets (λ es done. es ≡ accept_given_up a) [] (give_up_in a)
 unfolding bind
-accept_up accepting.Idle = ends refl
 accept_up (accepting.Asking op) = refuses op.who (in_hand op.left)
 accept_up (accepting.Arrived new peer) = asks (λ t fits. ends (told_so new [] (call.Close new) t fits))
-accept_up (accepting.Failed c) = ends refl
+accept_up _ = ends refl
 
 cancels : (op : Operation) (over : Bool) → is_over op ≡ over → Meets (λ es done. es ≡ listen_given_up op (held_side op)) [] (if over then Give tt else ask_close op.who.id op.who.side)
 unfolding bind
@@ -145,16 +144,14 @@ module _ (own : OpId) where
   -- == a shutdown
   finishes : (es : List Entry) (job : Job) (end : End) → Meets (λ fs done. Adds es (send_given_up own (ended_side job end)) fs done × (done.1 ≡ last_write job end)) es (finish_in own job end)
   unfolding bind
-  finishes es job Waits = ends (sym (append-nil es), refl)
   finishes es job (Done given) = asks (λ t fits. ends (told_so own es (call.Shutdown job.write.who.side Send) t fits, refl))
-  finishes es job (Refused c given) = ends (sym (append-nil es), refl)
+  finishes es job _ = ends (sym (append-nil es), refl)
 
   writer_up : (es : List Entry) (writer : WriteState) → Meets (λ fs done. Adds es (send_given_up own (shut_at_once writer)) fs done × (done.1 ≡ shut_writer writer)) es (writer_shutdown_asks own writer)
   unfolding bind
   writer_up es (writing.Ready half permit) = asks (λ t fits. ends (told_so own es (call.Shutdown half.side Send) t fits, refl))
   writer_up es (writing.Writing job) = onto _ (widen (λ fs done k. (k.0, ap writing.Closing k.1)) (finishes es job job.end))
-  writer_up es (writing.Closing job) = ends (sym (append-nil es), refl)
-  writer_up es (writing.Closed e) = ends (sym (append-nil es), refl)
+  writer_up es _ = ends (sym (append-nil es), refl)
 
   abbrev pub ShutSo : ShutdownType → Streams → Rows (Unit {0} × Streams)
   ShutSo how s es done = (es ≡ shutdown_entries own how s) × (done.1 ≡ shut_down how s)
@@ -207,11 +204,8 @@ module _ (contexts : List WasiSocketsCtx) (m : Machine) (line c handle : ℕ) wh
 
   -- == a shutdown
   module _ (how : ShutdownType) where
-    abbrev ShutRow : Rows (Result (Unit {0}) Stop × Machine)
-    ShutRow es done = Outcome contexts m line (step.TcpShutdown c handle how) es (done_reply done.0) done.1
-
     module _ (place : ℕ) (r : Tcp2Socket) (n : Names m handle place r) where
-      by_streams : (o : Option Streams) → r.streams ≡ o → Meets (λ es done. ShutRow es (with_store m (shut_put m.store place done))) [] (shut_record own how r o)
+      by_streams : (o : Option Streams) → r.streams ≡ o → Meets (λ es done. (Replied contexts m line (step.TcpShutdown c handle how) done_reply) es (with_store m (shut_put m.store place done))) [] (shut_record own how r o)
       by_streams None has = ends (put_back (λ (after : Machine). Outcome contexts m line (step.TcpShutdown c handle how) [] (reply.Err word.InvalidState) after) m place r n.at ((λ e. rw (its n) has, λ k. refl), (refl, (refl, refl))))
       by_streams (Some s) has =
           onto _ (widen (λ es done k. (

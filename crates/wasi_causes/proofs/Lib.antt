@@ -4,4 +4,4 @@ pub mod sockets
 pub mod streams
 pub mod Ending
 pub mod Machine
-pub mod runs
+pub mod Runs

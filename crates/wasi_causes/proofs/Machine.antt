@@ -6,9 +6,9 @@ use Rattle.wasi_addr.specs.declared.code.ErrorCode.{ErrorCode}
 use Rattle.wasi_addr.specs.declared.code.ErrorCode.TheVariants.{InvalidState}
 use Rattle.wasi_causes.proofs.operations.Accepts.{AcceptRow, accepts}
 use Rattle.wasi_causes.proofs.operations.Polls.{EndsFor, connect_ends, bind_ends as bind_polls, listen_ends as listen_polls}
-use Rattle.wasi_causes.proofs.streams.Waits.{LookRow, looks, OutputRow, outputs}
+use Rattle.wasi_causes.proofs.streams.Halves.{LookRow, looks, OutputRow, outputs}
 use Rattle.wasi_causes.proofs.tables.Meets.{Rows, Meets, ends, asks, onto, widen, granted, chain, branch}
-use Rattle.wasi_causes.proofs.tables.Routes.{Says, put_store_same, makes, full_so, apart, code_word}
+use Rattle.wasi_causes.proofs.tables.Routes.{Replied, Says, put_store_same, makes, full_so, apart, code_word}
 use Rattle.wasi_causes.specs.Outcomes.{Outcome, Always}
 use Rattle.wasi_host.specs.Host.{Stop, Trap, CallStop}
 use Rattle.wasi_host.specs.Kinds.{kind_at, watched_by, watch_of, place_in}
@@ -73,10 +73,7 @@ use Rattle.wasi_world.specs.declared.outcome.WasiSocketsCtx.{WasiSocketsCtx}
 
 -- == a subscription
 module _ (contexts : List WasiSocketsCtx) (m : Machine) (line c handle : ℕ) where
-  abbrev SubscribeRow : Rows (Result ℕ Stop × Machine)
-  SubscribeRow es done = Outcome contexts m line (step.Subscribe c handle) es (handle_reply done.0) done.1
-
-  on_subscribe : (o : Option Watched) → watched_by (kind_at m.table handle) ≡ o → Meets SubscribeRow [] (subscribe_on m (own_of line) handle o)
+  on_subscribe : (o : Option Watched) → watched_by (kind_at m.table handle) ≡ o → Meets (Replied contexts m line (step.Subscribe c handle) handle_reply) [] (subscribe_on m (own_of line) handle o)
   on_subscribe None is = ends (tt, (is, refl, refl))
   on_subscribe (Some w) is =
       onto _ (makes m.table (own_of line) (Pollable w) (Some handle) (side_at (slice_get m.store.sockets (place_in w))) (λ full. (tt, (tt, full_so m m [] full refl refl, tt)))
@@ -124,15 +121,11 @@ module _ (line : ℕ) (r : Tcp2Socket) where
 
       ended : (op : Operation) → r.inner.state ≡ state.Connecting op → (es : List Entry) (end : End × List Item) → (HoldsConnect (state.Connecting op) → EndsFor op (ClosedBy op) es end) → StateRow es (connect_ended op.who end)
       ended op e es (Waits, items) h = (connecting, λ holds accepts. ConnectWaits place op connects e (h (rw e at holds)))
-      ended op e es (Done given, items) h = over es _
-      ended op e es (Refused code given, items) h = over es _
+      ended op e es (_, items) h = over es _
 
       by_state : (st : TcpState) → r.inner.state ≡ st → Meets StateRow [] (finish_in st)
-      by_state (state.Default side) e = ends (over [] _)
-      by_state (state.Listening side) e = ends (over [] _)
       by_state (state.Connecting op) e = onto _ (widen (ended op e) (granted (connect_ends op)))
-      by_state (state.Connected connection) e = ends (over [] _)
-      by_state (state.Closed code) e = ends (over [] _)
+      by_state _ e = ends (over [] _)
 
     -- == a listener
     module _ (idle : is_nothing r.in_progress ≡ true) (l : Listener) (is : r.listening ≡ listening.Accepts l) where
@@ -155,8 +148,7 @@ module _ (line : ℕ) (r : Tcp2Socket) where
       looked : (es : List Entry) (a : Accepting) → marks_in es ≡ 0 → AcceptRow line l es a → ListenerRow es (ready_end l a)
       looked es accepting.Idle none h = (accepting_on, waits_on es (λ own. absurd (h own)))
       looked es (accepting.Asking op) none h = (accepting_on, waits_on es h.1)
-      looked es (accepting.Arrived new peer) none h = has_result es _
-      looked es (accepting.Failed code) none h = has_result es _
+      looked es _ none h = has_result es _
 
     by_listening : (o : Listening) → is_nothing r.in_progress ≡ true → r.listening ≡ o → Meets SocketRow [] (ready_listening (first_ids line) r o)
     by_listening (listening.Accepts l) idle e = onto _ (accepts line l (ready_end l) (looked idle l e))
@@ -188,8 +180,7 @@ module _ (line : ℕ) (r : Tcp2Socket) where
     -- == an output
     of_look : (s : Streams) → r.streams ≡ Some s → (es : List Entry) (looked : Result (Answer (Unit {0})) StreamStop × WriteState) → LookRow its s.writer es looked → RecordRow (watched.Output place) es (Ok (is_over looked.0), with_writer r s looked.1)
     of_look s has es (Ok answer.Pending, now) k = (λ i. i, λ holds accepts. WriteWaits place s has k)
-    of_look s has es (Ok (answer.Ready done), now) k = λ i. absurd i
-    of_look s has es (Err stop, now) k = λ i. absurd i
+    of_look s has es (_, now) k = λ i. absurd i
 
     by_output : (o : Option Streams) → r.streams ≡ o → Meets (RecordRow (watched.Output place)) [] (ready_writer its r o)
     by_output None has = ends (has, refl, refl)
@@ -258,7 +249,7 @@ module _ (contexts : List WasiSocketsCtx) (m : Machine) (line c pollable : ℕ) 
   pub ready : Meets (Says contexts m line (step.Ready c pollable)) [] (bind (ready_asks m (first_ids line) pollable) (λ done. Give (truth_reply done.0, done.1)))
   ready = onto _ (by_watch (watch_of (kind_at m.table pollable)) refl)
 
--- == the answers
+-- == a poll of the call that stands
 module _ (contexts : List WasiSocketsCtx) (m : Machine) (line n : ℕ) where
   abbrev Row : Rows (Reply × Machine)
   Row es done = Outcome contexts m line (step.Poll n) es done.0 done.1

@@ -2,4 +2,3 @@
 pub mod Halves
 pub mod Routes
 pub mod Turns
-pub mod Waits

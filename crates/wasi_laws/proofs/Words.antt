@@ -1,6 +1,6 @@
 -- The words that the laws speak, passed on from the crates below.
 pub use Rattle.std.specs.Prelude.{IsSomeAnd, not, ⊤, ◌&&◌}
-pub use Rattle.std.proofs.Common.{Bool, Err, List, None, Ok, Option, Result, Some, [], ap, append-nil, append_assoc, arith, drop, false, if◌then◌else◌, inl, inr, length, nat_lt, refl, slice_get, slice_set, subst, suc, sym, take, true, zero, ℕ, ◌&&◌, ◌++◌, ◌+◌, ◌<◌, ◌==◌, ◌∙◌, ◌∷◌, ◌≡◌, ◌≤◌, ◌⊎◌}
+pub use Rattle.std.proofs.Common.{rules, Bool, Err, List, None, Ok, Option, Result, Some, [], ap, append-nil, append_assoc, arith, drop, false, if◌then◌else◌, inl, inr, length, nat_lt, refl, slice_get, slice_set, subst, suc, sym, take, true, zero, ℕ, ◌&&◌, ◌++◌, ◌+◌, ◌<◌, ◌==◌, ◌∙◌, ◌∷◌, ◌≡◌, ◌≤◌, ◌⊎◌}
 pub use Rattle.wasi_addr.specs.declared.address.IpSocketAddress.{IpSocketAddress}
 pub use Rattle.wasi_addr.specs.declared.address.SocketAddressFamily.{SocketAddressFamily}
 pub use Rattle.wasi_addr.specs.declared.code.ErrorCode.{ErrorCode}

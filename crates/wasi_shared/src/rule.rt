@@ -81,6 +81,8 @@ impl Lesson<Bytes, Log> for Left {
     ghost fact = { λ v items. v.pushed ≡ v.popped ++ items };
 }
 
+/// The queue of a line.
 pub type Queue = RuledSegQueue<Bytes, Log, InOrder>;
 
+/// What an end of a line has of its queue.
 pub type Pass = SegPass<Bytes, Log>;

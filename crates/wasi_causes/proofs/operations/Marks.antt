@@ -15,7 +15,7 @@ use Rattle.wasi_world.specs.declared.asks.Polled.{Polled}
 use Rattle.wasi_world.specs.declared.asks.Polled.TheVariants as polled
 use Rattle.wasi_world.specs.Asks.{Asks, bind}
 use Rattle.wasi_world.specs.Typed.{told_verdict, told_addr, told_arrival, told_taken, told_datagram}
-use Rattle.wasi_world.specs.Operation.{Given, Nothing, Item, Check, CheckLocal, Bind, Connect, Listen, Accept, CheckArrival, Hand, Refuse, Write, ShutdownSend, UdpWritable, UdpBind, UdpConnect, AskPeer, Send, Receive, CheckPeer, Lookup, Last, LastAsk, NothingLast, CloseLast, ShutdownLast, Who, Operation, End, Front, Goes, Stays, Again, Ends, front, last_ask, local_front, arrival_front, admitted_front, accept_front, less_one, taken_front, write_front, ask_peer_front, send_front, is_now, check_peer_front, receive_front, poll_asks}
+use Rattle.wasi_world.specs.Operation.{Given, Nothing, Item, CheckLocal, Accept, CheckArrival, Hand, Refuse, Write, ShutdownSend, UdpConnect, AskPeer, Send, Receive, CheckPeer, Last, LastAsk, NothingLast, Who, Operation, End, Front, Ends, front, last_ask, local_front, arrival_front, admitted_front, accept_front, less_one, taken_front, write_front, ask_peer_front, send_front, is_now, check_peer_front, receive_front, poll_asks}
 use Rattle.wasi_world.proofs.Allowed.{Allows, allows_if, allows_keep, FrontKeeps, allows_polls}
 use Rattle.wasi_walks.specs.Licence.{marked_by, marks_in}
 use Rattle.wasi_walks.proofs.Lists.{marks_in-push}
@@ -27,25 +27,19 @@ IsOwn who es op call = (op ≡ who.id) × (marked_by call ≡ 0)
 abbrev pub AnyEnd : List Entry → End × List Item → Type 0
 AnyEnd es ended = ⊤
 
-abbrev AnyLeft : List Entry → Given → List Item → Type 0
-AnyLeft es given items = ⊤
-
 module _ (who : Who) where
   last_unmarked : (last : LastAsk) (es : List Entry) (c : ErrorCode) (given : Given) → Allows (IsOwn who) AnyEnd es (last_ask who last c given)
   unfolding bind
   last_unmarked NothingLast es c given = tt
-  last_unmarked CloseLast es c given = ((refl, refl), λ t fits. tt)
-  last_unmarked ShutdownLast es c given = ((refl, refl), λ t fits. tt)
+  last_unmarked _ es c given = ((refl, refl), λ t fits. tt)
 
   module _ (items : List Item) where
     abbrev Keeps : List Entry → Front → Type 0
-    Keeps = FrontKeeps (IsOwn who) who AnyLeft AnyEnd items
+    Keeps = FrontKeeps (IsOwn who) who (λ es given items. ⊤) AnyEnd items
 
     keeps : (es : List Entry) (f : Front) → Keeps es f
-    keeps es (Goes given) = tt
-    keeps es (Stays item) = tt
-    keeps es (Again item) = tt
     keeps es (Ends c given) = last_unmarked who.last es c given
+    keeps es _ = tt
 
     abbrev FrontUnmarked : List Entry → Asks Front → Type 0
     FrontUnmarked es asks = Allows (IsOwn who) Keeps es asks
@@ -57,9 +51,8 @@ module _ (who : Who) where
 
     admitted : (es : List Entry) (peer : IpSocketAddress) (v : Verdict) → FrontUnmarked es (admitted_front who peer v)
     unfolding bind
-    admitted es peer verdict.Yes = ((refl, refl), λ t fits. tt)
-    admitted es peer verdict.No = ((refl, refl), λ t fits. tt)
     admitted es peer verdict.Pending = tt
+    admitted es peer _ = ((refl, refl), λ t fits. tt)
 
     arrival : (es : List Entry) (peer : IpSocketAddress) → FrontUnmarked es (arrival_front who peer)
     unfolding bind
@@ -100,29 +93,23 @@ module _ (who : Who) where
 
     fronts : (es : List Entry) (item : Item) → FrontUnmarked es (front who item)
     unfolding bind
-    fronts es (Check a usage) = ((refl, refl), λ t fits. keeps _ _)
     fronts es (CheckLocal usage) = ((refl, refl), λ t fits. after_local _ usage (told_addr t))
-    fronts es (Bind a) = ((refl, refl), λ t fits. keeps _ _)
-    fronts es (Connect a) = ((refl, refl), λ t fits. keeps _ _)
-    fronts es (Listen backlog) = ((refl, refl), λ t fits. keeps _ _)
     fronts es Accept = ((refl, refl), λ t fits. accepted _ (told_arrival t))
     fronts es (CheckArrival peer) = arrival es peer
     fronts es (Hand peer) = ((refl, refl), λ t fits. tt)
     fronts es (Refuse peer) = ((refl, refl), λ t fits. tt)
     fronts es (Write bytes) = written bytes es 0
     fronts es ShutdownSend = ((refl, refl), λ t fits. tt)
-    fronts es UdpWritable = ((refl, refl), λ t fits. keeps _ _)
-    fronts es (UdpBind a) = ((refl, refl), λ t fits. keeps _ _)
     fronts es (UdpConnect family a) = ((refl, refl), λ t fits. asked_peer _ family _)
     fronts es (AskPeer family r) = asked_peer es family r
     fronts es (Send kept a bytes) = sent es kept a bytes
     fronts es (Receive wanted) = ((refl, refl), λ t fits. received _ wanted (told_datagram t))
     fronts es (CheckPeer wanted bytes a) = checked_peer es wanted bytes a
-    fronts es (Lookup host) = ((refl, refl), λ t fits. keeps _ _)
     fronts es (Last c given) = keeps es (Ends c given)
+    fronts es _ = ((refl, refl), λ t fits. keeps _ _)
 
 owned : (op : Operation) (before : List Entry) → Allows (IsOwn op.who) AnyEnd before (poll_asks op)
-owned op before = allows_polls (IsOwn op.who) op.who AnyLeft AnyEnd (λ es given item items any. fronts op.who items es item) (λ es items any. tt) (λ es given any. tt) 64 op.left before tt
+owned op before = allows_polls (IsOwn op.who) op.who (λ es given items. ⊤) AnyEnd (λ es given item items any. fronts op.who items es item) (λ es items any. tt) (λ es given any. tt) 64 op.left before tt
 
 pub poll_asks_by : (op : Operation) (before : List Entry) → Allows (λ es o call. o ≡ op.who.id) AnyEnd before (poll_asks op)
 poll_asks_by op before = allows_ask (IsOwn op.who) (λ es o call. o ≡ op.who.id) AnyEnd (λ es o call h. h.0) before (poll_asks op) (owned op before)

@@ -8,7 +8,7 @@ use Rattle.wasi_causes.proofs.operations.Accepts.{AcceptRow, accepts}
 use Rattle.wasi_causes.proofs.operations.Marks.{poll_marks_none}
 use Rattle.wasi_causes.proofs.operations.Polls.{EndsFor, connect_ends}
 use Rattle.wasi_causes.proofs.tables.Meets.{Rows, Meets, ends, asks, chain, onto, branch, widen, both, granted}
-use Rattle.wasi_causes.proofs.tables.Routes.{Says, makes, full_so, code_word, makes_streams, Names, its, here, through_record, apart, none_has, not_of_code, put_back}
+use Rattle.wasi_causes.proofs.tables.Routes.{Replied, Says, makes, full_so, code_word, makes_streams, Names, its, here, through_record, apart, none_has, not_of_code, put_back}
 use Rattle.wasi_causes.specs.Outcomes.{Outcome}
 use Rattle.wasi_host.specs.Host.{Stop, Trap, code_stop}
 use Rattle.wasi_host.specs.Kinds.{Handles, with_handle}
@@ -59,9 +59,6 @@ use Rattle.wasi_world.specs.declared.outcome.WasiSocketsCtx.{WasiSocketsCtx}
 
 -- == a network, and a create
 module _ (contexts : List WasiSocketsCtx) (m : Machine) (line c : ℕ) where
-  abbrev NetworkRow : Rows (Result ℕ Stop × Machine)
-  NetworkRow es done = Outcome contexts m line (step.Network c) es (handle_reply done.0) done.1
-
   pub network : Meets (Says contexts m line (step.Network c)) [] (bind (network_asks m (own_of line)) (λ done. Give (handle_reply done.0, done.1)))
   network = onto _ (onto _ (makes m.table (own_of line) Network None None (λ full. (tt, (tt, full_so m m [] full refl refl, tt))) (tt, ((tt, tt), tt))))
 
@@ -69,14 +66,8 @@ module _ (contexts : List WasiSocketsCtx) (m : Machine) (line c : ℕ) where
     abbrev ctx : WasiSocketsCtx
     ctx = context_at contexts c
 
-    abbrev is_made : List Entry
-    is_made = entry (own_of line) (call.TcpCreate ctx.name family) told.Done ∷ []
-
-    abbrev CreateRow : Rows (Result ℕ Stop × Machine)
-    CreateRow es done = Outcome contexts m line (step.TcpCreate c family) es (handle_reply done.0) done.1
-
     abbrev SocketRow : Rows (Result Socket ErrorCode)
-    SocketRow es (Ok socket) = (socket ≡ new_socket (own_of line) ctx.name family) × (es ≡ is_made)
+    SocketRow es (Ok socket) = (socket ≡ new_socket (own_of line) ctx.name family) × (es ≡ entry (own_of line) (call.TcpCreate ctx.name family) told.Done ∷ [])
     SocketRow es (Err code) = CreateRefusal (own_of line) ctx family es (word_of_code code)
 
     told_create : ctx.tcp ≡ true → (t : Told) → IsDoneOrCode t → SocketRow (entry (own_of line) (call.TcpCreate ctx.name family) t ∷ []) (after_create (own_of line) ctx.name family (told_done t))
@@ -88,7 +79,7 @@ module _ (contexts : List WasiSocketsCtx) (m : Machine) (line c : ℕ) where
     unfolding bind
     makes_socket = branch ctx.tcp (λ tcp. asks (λ t fits. ends (told_create tcp t fits))) (λ no. ends (NotAllowed no))
 
-    created : (es : List Entry) (made : Result Socket ErrorCode) → SocketRow es made → Meets CreateRow es (created_asks m (own_of line) made)
+    created : (es : List Entry) (made : Result Socket ErrorCode) → SocketRow es made → Meets (Replied contexts m line (step.TcpCreate c family) handle_reply) es (created_asks m (own_of line) made)
     created es (Err code) k = ends (tt, (code_word code, (k, refl)))
     created es (Ok socket) k =
         let with_it : Machine = record m { store = with_record m.store socket } in
@@ -247,7 +238,7 @@ module _ (contexts : List WasiSocketsCtx) (m : Machine) (line c handle : ℕ) wh
     by_listening (listening.Accepts l) e = onto _ (accepts line l (accept_end l) (made_of_it l e))
     by_listening _ e = ends (put_back (λ (after : Machine). Outcome contexts m line (step.TcpAccept c handle) [] (triple_reply (Err (code_stop InvalidState))) after) m place r n.at (tt, (inr (code_word InvalidState), λ holds. here n (NoListener (rw e tt) refl))))
 
-  -- == the three handles
+  -- == the (with_handle two (Output place) (Some next)) handles
   module _ (es : List Entry) (place : ℕ) (store : Records) (t : Took es place store) where
     abbrev next : ℕ
     next = m.table.next
@@ -260,9 +251,6 @@ module _ (contexts : List WasiSocketsCtx) (m : Machine) (line c handle : ℕ) wh
 
     abbrev two : Handles
     two = with_handle one (Input place) (Some next)
-
-    abbrev three : Handles
-    three = with_handle two (Output place) (Some next)
 
     abbrev now : Handles → Machine
     now table = record m { store = store; table = table }
@@ -284,7 +272,7 @@ module _ (contexts : List WasiSocketsCtx) (m : Machine) (line c handle : ℕ) wh
         (ap (λ (xs : List Entry). xs ++ third ∷ []) (append_assoc es (first ∷ []) (second ∷ [])) ∙ append_assoc es (first ∷ second ∷ []) (third ∷ []))
         ∙ ap (λ (k : ℕ). es ++ first ∷ second ∷ entry own (call.Made k name.Output (Some next) side) told.Done ∷ []) after_two
 
-    all_made : AcceptSays (((es ++ first ∷ []) ++ second ∷ []) ++ third ∷ []) (Ok (next, one.next, two.next), now three)
+    all_made : AcceptSays (((es ++ first ∷ []) ++ second ∷ []) ++ third ∷ []) (Ok (next, one.next, two.next), now (with_handle two (Output place) (Some next)))
     all_made = (
       tt,
       (

@@ -7,10 +7,9 @@ use Rattle.wasi_addr.specs.declared.code.ErrorCode.{ErrorCode}
 use Rattle.wasi_addr.specs.declared.code.ErrorCode.TheVariants.{InvalidArgument, InvalidState, Other}
 use Rattle.wasi_causes.proofs.operations.Polls.{polled, ends_so, not_over}
 use Rattle.wasi_causes.proofs.tables.Meets.{Meets, ends, asks, branch, Rows, chain, onto, widen, After, shifted}
-use Rattle.wasi_causes.proofs.tables.Routes.{Says, put_back, Names, here, code_word, not_of_code, in_conflict, no_conflict, none_conflicts, on_idle, on_number, its as found_in, apart, none_has}
-use Rattle.wasi_causes.specs.Outcomes.{Outcome, Conflicts}
+use Rattle.wasi_causes.proofs.tables.Routes.{Replied, Says, put_back, Names, here, code_word, not_of_code, in_conflict, no_conflict, none_conflicts, on_idle, on_number, its as found_in, apart, none_has}
+use Rattle.wasi_causes.specs.Outcomes.{Conflicts}
 use Rattle.wasi_causes.specs.Polls.{ToldYes, ToldNo, BindToldCode, Polled, GoesOn, Stops, LocalToldYes, LocalToldNo, LocalToldCode, ListenToldCode}
-use Rattle.wasi_host.specs.Host.{Stop}
 use Rattle.wasi_host.specs.Kinds.{kind_at, is_network}
 use Rattle.wasi_host.specs.Listening.{listen_polled, listen_begun, listen_once, listen_bound, begin_listen_asks, listen_answered, start_listen_by, start_listen_at}
 use Rattle.wasi_host.specs.Machine.{own_of, with_store, socket_at}
@@ -260,10 +259,7 @@ module _ (contexts : List WasiSocketsCtx) (m : Machine) (line c handle : ℕ) wh
 
   module _ (network : ℕ) (a : IpSocketAddress) where
     -- == a bind
-    abbrev BindSays : Rows (Result (Answer (Unit {0})) Stop × Machine)
-    BindSays es done = Outcome contexts m line (step.TcpStartBind c handle network a) es (answer_reply line done.0) done.1
-
-    bind_said : (place : ℕ) (r : Tcp2Socket) (n : Names m handle place r) → is_nothing r.in_progress ≡ true → (es : List Entry) (ended : Result (Option Operation) ErrorCode × Tcp2Socket) → BindRow m own handle place r n a es ended → BindSays es (with_store m (bind_answered m.store line place ended))
+    bind_said : (place : ℕ) (r : Tcp2Socket) (n : Names m handle place r) → is_nothing r.in_progress ≡ true → (es : List Entry) (ended : Result (Option Operation) ErrorCode × Tcp2Socket) → BindRow m own handle place r n a es ended → (Replied contexts m line (step.TcpStartBind c handle network a) (answer_reply line)) es (with_store m (bind_answered m.store line place ended))
     bind_said place r n idle es (Ok (Some op), now) h = (λ is. no_conflict n idle _ (λ e. cc), ((refl, refl), h))
     bind_said place r n idle es (Ok None, now) h = (λ is. no_conflict n idle _ (λ e. cc), (tt, tt))
     bind_said place r n idle es (Err code, now) h = (λ is. no_code n idle code, (inr (code_word code), (here n (Begins idle h.0), h.1)))
@@ -276,10 +272,7 @@ module _ (contexts : List WasiSocketsCtx) (m : Machine) (line c handle : ℕ) wh
         (λ no. ends (λ is. absurd (cc), (inl no, refl, refl))))
 
     -- == a connect
-    abbrev ConnectSays : Rows (Result (Unit {0}) Stop × Machine)
-    ConnectSays es done = Outcome contexts m line (step.TcpStartConnect c handle network a) es (done_reply done.0) done.1
-
-    connect_said : (place : ℕ) (r : Tcp2Socket) (n : Names m handle place r) → is_nothing r.in_progress ≡ true → (es : List Entry) (done : Result (Unit {0}) ErrorCode × Tcp2Socket) → ConnectRow m own handle place r n a es done → ConnectSays es (with_store m (answer_put m.store place done))
+    connect_said : (place : ℕ) (r : Tcp2Socket) (n : Names m handle place r) → is_nothing r.in_progress ≡ true → (es : List Entry) (done : Result (Unit {0}) ErrorCode × Tcp2Socket) → ConnectRow m own handle place r n a es done → (Replied contexts m line (step.TcpStartConnect c handle network a) done_reply) es (with_store m (answer_put m.store place done))
     connect_said place r n idle es (Ok done, now) h = (λ is. no_conflict n idle _ (λ e. cc), (tt, tt))
     connect_said place r n idle es (Err code, now) h = (λ is. no_code n idle code, (inr (code_word code), (here n (Begins idle h.0), h.1)))
 
@@ -291,10 +284,7 @@ module _ (contexts : List WasiSocketsCtx) (m : Machine) (line c handle : ℕ) wh
         (λ no. ends (λ is. absurd (cc), (inl no, refl, refl))))
 
   -- == a listen
-  abbrev ListenSays : Rows (Result (Answer (Unit {0})) Stop × Machine)
-  ListenSays es done = Outcome contexts m line (step.TcpStartListen c handle) es (answer_reply line done.0) done.1
-
-  listen_said : (place : ℕ) (r : Tcp2Socket) (n : Names m handle place r) → is_nothing r.in_progress ≡ true → (es : List Entry) (done : Result (Answer (Unit {0})) ErrorCode × Tcp2Socket) → ListenRow m own handle place r n es done → ListenSays es (with_store m (listen_answered m.store line place done))
+  listen_said : (place : ℕ) (r : Tcp2Socket) (n : Names m handle place r) → is_nothing r.in_progress ≡ true → (es : List Entry) (done : Result (Answer (Unit {0})) ErrorCode × Tcp2Socket) → ListenRow m own handle place r n es done → (Replied contexts m line (step.TcpStartListen c handle) (answer_reply line)) es (with_store m (listen_answered m.store line place done))
   listen_said place r n idle es (Ok Pending, now) h = (no_conflict n idle _ (λ e. cc), ((refl, refl), h))
   listen_said place r n idle es (Ok (Ready done), now) h = (no_conflict n idle _ (λ e. cc), (tt, tt))
   listen_said place r n idle es (Err code, now) h = (no_code n idle code, (inr (code_word code), (here n (Begins idle h.0), h.1)))

@@ -1,5 +1,6 @@
--- What the halves of a connection give: reads, and looks at what may be written, writes and flushes.
-use Rattle.std.proofs.Common.{◌≡◌, ◌∙◌, ℕ, min, ◌==◌, Bool, true, false, if◌then◌else◌, List, [], ◌∷◌, Result, Ok, Err, refl, ap, zero, suc, nat_lt, ◌++◌, length, sym, subst, append_assoc, arith, not, ◌&&◌, Option, Some, None, slice_get}
+-- What the halves of a connection give: reads, and looks at what may be written, writes and flushes; and why an output waits
+-- that is dropped.
+use Rattle.std.proofs.Common.{◌≡◌, ℕ, List, [], ◌∷◌, Option, Some, None, Result, Ok, slice_get, refl, ◌∙◌, min, ◌==◌, Bool, true, false, if◌then◌else◌, Err, ap, zero, suc, nat_lt, ◌++◌, length, sym, subst, append_assoc, arith, not, ◌&&◌}
 use Rattle.std.proofs.lemmas.Bool.{eqb-true, ltb-true, ltb-false}
 use Rattle.std.specs.Prelude.{⊤, IsSomeAnd}
 use Rattle.wasi_addr.specs.declared.address.ShutdownType.TheVariants.{Receive, Send}
@@ -7,12 +8,12 @@ use Rattle.wasi_addr.specs.declared.code.ErrorCode.{ErrorCode}
 use Rattle.wasi_causes.proofs.operations.Marks.{poll_marks_none}
 use Rattle.wasi_causes.proofs.streams.Routes.{failed_so, HasStreams, of_streams, streams_same, Told as TellsStream, on_stream, the_streams, job_noted, none_begun, on_write}
 use Rattle.wasi_causes.proofs.tables.Meets.{Rows, Meets, ends, asks, onto, widen, chain, branch, both}
-use Rattle.wasi_causes.proofs.tables.Routes.{Says, full_so, code_word, apart, none_has}
-use Rattle.wasi_causes.specs.Outcomes.{Outcome}
-use Rattle.wasi_host.specs.Host.{CallStop}
+use Rattle.wasi_causes.proofs.tables.Routes.{Replied, Says, full_so, code_word, apart, none_has}
+use Rattle.wasi_causes.specs.GivenUp.{LooksOnce, NoLook, OneLook}
+use Rattle.wasi_host.specs.Dropping.{wait_answer, wait_writer, wait_put, wait_at, waited, drop_output_at}
 use Rattle.wasi_host.specs.Jobs.{has_job, with_job, begins_job}
 use Rattle.wasi_host.specs.Machine.{input_at, own_of, output_at}
-use Rattle.wasi_host.specs.Store.{with_socket, with_reader, reader_of, flush_asks, Records, with_writer, writer_of}
+use Rattle.wasi_host.specs.Store.{Records, with_writer, standing_drop, with_socket, with_reader, reader_of, flush_asks, writer_of}
 use Rattle.wasi_host.specs.StreamCalls.{read_asks, check_asks, write_asks, flushed_asks}
 use Rattle.wasi_host.specs.declared.machine.Machine.{Machine}
 use Rattle.wasi_host.specs.declared.socket.Streams.{Streams}
@@ -21,13 +22,14 @@ use Rattle.wasi_walks.proofs.Lists.{marks_in-push, set_there}
 use Rattle.wasi_walks.specs.Answered.{putting, read_entry, ReadsTold, ReadsNone, LengthZero, ToldToWait, ReadsEnd, AlreadyClosed, ToldNone, ReadFails, with_error, Permits, GoesOn, NotReady, IsReady, IsUnpermitted, CheckFails, WriteFails, ErrorKept, CodeTold, output_streams, closing_writer}
 use Rattle.wasi_walks.specs.Licence.{entry, marks_in}
 use Rattle.wasi_machine.specs.Machine.{bytes_reply, permit_reply, taken_reply}
+use Rattle.wasi_walks.specs.Waiting.{WriterWaits, WritesOn, ToldToWait, OutputWaits}
 use Rattle.wasi_steps.specs.declared.step.Step.TheVariants as step
 use Rattle.wasi_streams.specs.StreamStop.{StreamStop, Failed, Closed, Trap}
 use Rattle.wasi_streams.specs.StreamStop as stop
 use Rattle.wasi_tcp.specs.Halves.{polled_answer}
 use Rattle.wasi_tcp.specs.Job.{writer, new_job, job_after}
 use Rattle.wasi_tcp.specs.Reader.{after_read, read_state_asks}
-use Rattle.wasi_tcp.specs.Writer.{error_of_code, stop_of, collected, look_in, permitted, check_write_asks, begun, write_on_asks, write_half_asks, write_state_asks, look_asks}
+use Rattle.wasi_tcp.specs.Writer.{collected, look_in, look_asks, error_of_code, stop_of, permitted, check_write_asks, begun, write_on_asks, write_half_asks, write_state_asks}
 use Rattle.wasi_tcp.specs.declared.halves.TcpReceiveStream.{TcpReceiveStream}
 use Rattle.wasi_tcp.specs.declared.halves.TcpSendStream.{TcpSendStream}
 use Rattle.wasi_tcp.specs.declared.reader.ReadState.{ReadState}
@@ -36,18 +38,70 @@ use Rattle.wasi_tcp.specs.declared.writer.WriteError.{WriteError}
 use Rattle.wasi_tcp.specs.declared.writer.WriteError.TheVariants as error
 use Rattle.wasi_tcp.specs.declared.writer.WriteState.{WriteState}
 use Rattle.wasi_tcp.specs.declared.writer.WriteState.TheVariants as writing
-use Rattle.wasi_world.specs.Asks.{Give, bind, Asks}
-use Rattle.wasi_world.specs.Fits.{IsRead, IsDone, IsReady as FitsReady}
-use Rattle.wasi_world.specs.Operation.{Item, Write, Front, Goes, Stays, Again, Ends, End, Waits, Done, Refused, write_front, taken_front, less_one, after, round, polls, poll_asks}
-use Rattle.wasi_world.specs.Typed.{ask_read, told_bytes, told_ready, told_taken}
+use Rattle.wasi_world.specs.Asks.{bind, Give, Asks}
+use Rattle.wasi_world.specs.Fits.{IsReady as FitsReady, IsRead, IsDone}
+use Rattle.wasi_world.specs.Operation.{Item, Write, Front, Again, Ends, End, Waits, Done, Refused, write_front, taken_front, less_one, after, round, polls, poll_asks}
+use Rattle.wasi_world.specs.Typed.{told_ready, ask_read, told_bytes, told_taken}
 use Rattle.wasi_world.specs.declared.call.Call.TheVariants as call
 use Rattle.wasi_world.specs.declared.call.Entry.{Entry}
 use Rattle.wasi_world.specs.declared.call.Told.{Told}
 use Rattle.wasi_world.specs.declared.call.Told.TheVariants as told
 use Rattle.wasi_world.specs.declared.ids.OpId.{OpId}
-use Rattle.wasi_world.specs.declared.outcome.Answer.TheVariants.{Ready}
+use Rattle.wasi_world.specs.declared.outcome.Answer.{Answer}
+use Rattle.wasi_world.specs.declared.outcome.Answer.TheVariants.{Ready, Pending}
 use Rattle.wasi_world.specs.declared.outcome.TrapKind.TheVariants.{NotPermitted}
 use Rattle.wasi_world.specs.declared.outcome.WasiSocketsCtx.{WasiSocketsCtx}
+
+-- == a look at a writer
+module _ (own : OpId) (writer : WriteState) where
+  abbrev pub LookRow : Rows (Result (Answer (Unit {0})) StreamStop × WriteState)
+  LookRow es (Ok Pending, now) = WriterWaits own writer es
+  LookRow es (_, now) = LooksOnce own es
+
+  told_look : (half : TcpSendStream) (permit : ℕ) (t : Told) → collected writer ≡ writing.Ready half permit → FitsReady t → LookRow (entry own (call.WriteReady half.side) t ∷ []) (Ok (told_ready t), writing.Ready half permit)
+  told_look half permit told.Done e fits = OneLook half.side told.Done
+  told_look half permit told.Pending e fits = ToldToWait half permit e
+  told_look half permit _ e fits = absurd fits
+
+  looks_as : (now : WriteState) → collected writer ≡ now → Meets LookRow [] (look_in own now)
+  unfolding bind
+  looks_as (writing.Ready half permit) e = asks (λ t fits. ends (told_look half permit t e fits))
+  looks_as (writing.Closed kept) e = ends NoLook
+  looks_as _ e = ends (WritesOn (rw e tt))
+
+  pub looks : Meets LookRow [] (look_asks own writer)
+  looks = looks_as (collected writer) refl
+
+-- == an output that goes
+module _ (m : Machine) (own : OpId) (place : ℕ) where
+  -- one that waits stands under its line's number, and else nothing stands
+  abbrev pub OutputRow : Rows (Answer (Unit {0}) × Records)
+  OutputRow es (Pending, store) = OutputWaits m own (Some place) es × (store.standing ≡ Some (standing_drop own.step place))
+  OutputRow es (Ready done, store) = LooksOnce own es × (store.standing ≡ None)
+
+  abbrev WaitRow : Rows (Answer (Unit {0}) × Records)
+  WaitRow es (Pending, store) = OutputWaits m own (Some place) es
+  WaitRow es (Ready done, store) = LooksOnce own es
+
+  module _ (r : Tcp2Socket) (at : slice_get m.store.sockets place ≡ Some r) where
+    of_look : (s : Streams) → r.streams ≡ Some s → (es : List Entry) (looked : Result (Answer (Unit {0})) StreamStop × WriteState) → LookRow own s.writer es looked → WaitRow es (wait_put m.store place (wait_answer looked.0, with_writer r s looked.1))
+    of_look s has es (Ok Pending, now) k = record { place = place; found = r; streams = s; names = refl; at = at; has = has; holds = k }
+    of_look s has es (_, now) k = k
+
+    by_streams : (o : Option Streams) → r.streams ≡ o → Meets (λ es done. WaitRow es (wait_put m.store place done)) [] (wait_writer own r o)
+    by_streams None has = ends NoLook
+    by_streams (Some s) has = onto _ (widen (of_look s has) (looks own s.writer))
+
+  waits_at : (o : Option Tcp2Socket) → slice_get m.store.sockets place ≡ o → Meets WaitRow [] (wait_at m.store own place o)
+  waits_at None at = ends NoLook
+  waits_at (Some r) at = onto _ (by_streams r at r.streams refl)
+
+  waits : (es : List Entry) (done : Answer (Unit {0}) × Records) → WaitRow es done → OutputRow es (waited own.step place done)
+  waits es (Ready done, store) k = (k, refl)
+  waits es (Pending, store) k = (k, refl)
+
+  pub outputs : (o : Option Tcp2Socket) → slice_get m.store.sockets place ≡ o → Meets OutputRow [] (drop_output_at m.store own place o)
+  outputs o at = onto _ (widen waits (waits_at o at))
 
 -- == of a reader
 module _ (own : OpId) (len : ℕ) where
@@ -86,9 +140,6 @@ module _ (own : OpId) (len : ℕ) where
 
 -- == the step
 module _ (contexts : List WasiSocketsCtx) (m : Machine) (line c input len : ℕ) where
-  abbrev ReadSays : Rows (Result (List ℕ) CallStop × Machine)
-  ReadSays es done = Outcome contexts m line (step.Read c input len) es (bytes_reply done.0) done.1
-
   module _ (place : ℕ) (r : Tcp2Socket) (s : Streams) (n : HasStreams m (input_at m input) place r s) where
     abbrev left_reading : ReadState → Machine
     left_reading reader = putting m place (with_reader r s reader)
@@ -96,7 +147,7 @@ module _ (contexts : List WasiSocketsCtx) (m : Machine) (line c input len : ℕ)
     same_reading : (now : ReadState) → now ≡ s.reader → left_reading now ≡ m
     same_reading now e = ap left_reading e ∙ streams_same n
 
-    told_as : (es : List Entry) (done : Result (List ℕ) StreamStop × ReadState) → ReadRow (own_of line) len s.reader es done → TellsStream m (own_of line) input ReadSays es done.0 (with_socket m.store place (with_reader r s done.1))
+    told_as : (es : List Entry) (done : Result (List ℕ) StreamStop × ReadState) → ReadRow (own_of line) len s.reader es done → TellsStream m (own_of line) input (Replied contexts m line (step.Read c input len) bytes_reply) es done.0 (with_socket m.store place (with_reader r s done.1))
     told_as es (Ok [], now) h = (tt, ((tt, tt), (of_streams n h.0, same_reading now h.1)))
     told_as es (Ok (b ∷ bytes), now) h = (tt, ((tt, tt), (of_streams n h.0, same_reading now h.1)))
     told_as es (Err Closed, now) h = (tt, (tt, of_streams n (h.0, ap left_reading h.1)))
@@ -108,7 +159,7 @@ module _ (contexts : List WasiSocketsCtx) (m : Machine) (line c input len : ℕ)
 
   pub read : Meets (Says contexts m line (step.Read c input len)) [] (bind (read_asks m (own_of line) input len) (λ done. Give (bytes_reply done.0, done.1)))
   read =
-      onto _ (on_stream m (own_of line) input ReadSays (λ s. s.reader) with_reader (input_at m input) (λ none. (tt, (none, refl, refl))) (λ reader. read_state_asks (own_of line) reader len) (λ r o. reader_of r (λ reader. read_state_asks (own_of line) reader len) o) (λ r. refl) (λ r s. refl)
+      onto _ (on_stream m (own_of line) input (Replied contexts m line (step.Read c input len) bytes_reply) (λ s. s.reader) with_reader (input_at m input) (λ none. (tt, (none, refl, refl))) (λ reader. read_state_asks (own_of line) reader len) (λ r o. reader_of r (λ reader. read_state_asks (own_of line) reader len) o) (λ r. refl) (λ r s. refl)
       (λ place r s n. widen (told_as place r s n) (reads (own_of line) len s.reader)) (input_at m input) refl)
 
 module _ (own : OpId) where
@@ -131,9 +182,8 @@ module _ (own : OpId) where
   checks_as : (writer now : WriteState) → collected writer ≡ now → Meets (CheckRow writer) [] (bind (look_in own now) (λ looked. Give (permitted looked)))
   unfolding bind
   checks_as writer (writing.Ready half permit) e = asks (λ t fits. ends (told_check writer half permit t e fits))
-  checks_as writer (writing.Writing job) e = ends (GoesOn (rw e tt))
-  checks_as writer (writing.Closing job) e = ends (GoesOn (rw e tt))
   checks_as writer (writing.Closed kept) e = ends (told_kept writer kept e)
+  checks_as writer _ e = ends (GoesOn (rw e tt))
 
   pub checks : (writer : WriteState) → Meets (CheckRow writer) [] (check_write_asks own writer)
   checks writer = checks_as writer (collected writer) refl
@@ -182,10 +232,9 @@ module _ (own side : OpId) where
 
   after_front : (again : List Item → Asks (End × List Item)) (es : List Entry) (f : Front) → FrontRow es f → Meets PollRow es (after again (writer own side) [] (λ g. round again (writer own side) g []) f)
   unfolding bind
-  after_front again es (Goes given) h = ends tt
-  after_front again es (Stays item) h = ends tt
   after_front again es (Again item) h = absurd h
   after_front again es (Ends c given) h = asks (λ t fits. ends (given_up es c t fits h))
+  after_front again es _ h = ends tt
 
   write_polls : (bytes : List ℕ) → Meets PollRow [] (poll_asks (new_job own side bytes).write)
   unfolding polls
@@ -231,9 +280,8 @@ module _ (own : OpId) where
 
   pub writes : (bytes : List ℕ) (writer : WriteState) → Meets (WriteRow own (length bytes) writer) [] (write_state_asks own writer bytes)
   writes bytes (writing.Ready half permit) = of_half half permit bytes
-  writes bytes (writing.Writing job) = ends (tt, refl, refl)
-  writes bytes (writing.Closing job) = ends (tt, refl, refl)
   writes bytes (writing.Closed e) = ends (of_kept (length bytes) (writing.Closed e) [] e (λ over. over) refl ErrorKept)
+  writes bytes _ = ends (tt, refl, refl)
 
 -- == a flush
 -- it asks nothing, and tells the kept error
@@ -260,11 +308,8 @@ module _ (contexts : List WasiSocketsCtx) (m : Machine) (line c output : ℕ) wh
     same now e = ap left e ∙ streams_same n
 
   -- == a look at what may be written
-  abbrev CheckSays : Rows (Result ℕ CallStop × Machine)
-  CheckSays es done = Outcome contexts m line (step.CheckWrite c output) es (permit_reply done.0) done.1
-
   check_so : (place : ℕ) (r : Tcp2Socket) (s : Streams) → HasStreams m (output_at m output) place r s → (es : List Entry) (done : Result ℕ StreamStop × WriteState) → CheckRow own s.writer es done
-      → TellsStream m own output CheckSays es done.0 (with_socket m.store place (with_writer r s done.1))
+      → TellsStream m own output (Replied contexts m line (step.CheckWrite c output) permit_reply) es done.0 (with_socket m.store place (with_writer r s done.1))
   check_so place r s n es (Ok k, now) h = (tt, ((tt, tt), of_streams n h))
   check_so place r s n es (Err stop.Closed, now) h = (tt, (tt, of_streams n (h.0, ap (left place r s n) h.1)))
   check_so place r s n es (Err (stop.Failed code), now) h = (
@@ -275,14 +320,11 @@ module _ (contexts : List WasiSocketsCtx) (m : Machine) (line c output : ℕ) wh
 
   pub check_write : Meets (Says contexts m line (step.CheckWrite c output)) [] (bind (check_asks m own output) (λ done. Give (permit_reply done.0, done.1)))
   check_write =
-      onto _ (on_stream m own output CheckSays (λ s. s.writer) with_writer (output_at m output) (λ none. (tt, (none, refl, refl))) (check_write_asks own) (λ r o. writer_of r (check_write_asks own) o) (λ r. refl) (λ r s. refl)
+      onto _ (on_stream m own output (Replied contexts m line (step.CheckWrite c output) permit_reply) (λ s. s.writer) with_writer (output_at m output) (λ none. (tt, (none, refl, refl))) (check_write_asks own) (λ r o. writer_of r (check_write_asks own) o) (λ r. refl) (λ r s. refl)
       (λ place r s n. widen (check_so place r s n) (checks own s.writer)) (output_at m output) refl)
 
   -- == a write
   module _ (bytes : List ℕ) where
-    abbrev WriteSays : Rows (Result (Unit {0}) CallStop × Machine)
-    WriteSays es done = Outcome contexts m line (step.Write c output bytes) es (taken_reply done.0) done.1
-
     abbrev Unpermitted : Type 0
     Unpermitted = IsSomeAnd (output_streams m output) (λ s. IsUnpermitted s.writer (length bytes))
 
@@ -311,7 +353,7 @@ module _ (contexts : List WasiSocketsCtx) (m : Machine) (line c output : ℕ) wh
       was_permitted : (IsUnpermitted s.writer (length bytes) → ⊥) → Unpermitted → ⊥
       was_permitted may u = let k : IsUnpermitted s.writer (length bytes) = rw (the_streams n) at u in may k
 
-      write_so : (es : List Entry) (done : Result (Unit {0}) StreamStop × WriteState) → WriteRow own (length bytes) s.writer es done → TellsStream m own output WriteSays es done.0 (job_noted place (Some r) (with_socket m.store place (with_writer r s done.1)))
+      write_so : (es : List Entry) (done : Result (Unit {0}) StreamStop × WriteState) → WriteRow own (length bytes) s.writer es done → TellsStream m own output (Replied contexts m line (step.Write c output bytes) taken_reply) es done.0 (job_noted place (Some r) (with_socket m.store place (with_writer r s done.1)))
       write_so es (Ok done, now) h = (apart (λ e. cc) (was_permitted h.0), (tt, tt))
       write_so es (Err stop.Closed, now) h = (apart (λ e. cc) (was_permitted h.0), (tt, of_streams n (h.2, written_closed now error.Closed h.3)))
       write_so es (Err (stop.Failed code), now) h = (
@@ -326,15 +368,12 @@ module _ (contexts : List WasiSocketsCtx) (m : Machine) (line c output : ℕ) wh
 
     pub write : Meets (Says contexts m line (step.Write c output bytes)) [] (bind (write_asks m own output bytes) (λ done. Give (taken_reply done.0, done.1)))
     write =
-        onto _ (on_write m own output WriteSays (λ s. s.writer) with_writer (output_at m output) (λ none. (apart (λ e. cc) (none_there none), (none, refl, refl))) (λ w. write_state_asks own w bytes) (λ r o. writer_of r (λ w. write_state_asks own w bytes) o) (λ r. refl) (λ r s. refl)
+        onto _ (on_write m own output (Replied contexts m line (step.Write c output bytes) taken_reply) (λ s. s.writer) with_writer (output_at m output) (λ none. (apart (λ e. cc) (none_there none), (none, refl, refl))) (λ w. write_state_asks own w bytes) (λ r o. writer_of r (λ w. write_state_asks own w bytes) o) (λ r. refl) (λ r s. refl)
         (λ place r s n. widen (write_so place r s n) (writes own bytes s.writer)) (output_at m output) refl)
 
   -- == a flush
-  abbrev FlushSays : Rows (Result (Unit {0}) CallStop × Machine)
-  FlushSays es done = Outcome contexts m line (step.Flush c output) es (taken_reply done.0) done.1
-
   flush_so : (place : ℕ) (r : Tcp2Socket) (s : Streams) → HasStreams m (output_at m output) place r s → (es : List Entry) (done : Result (Unit {0}) StreamStop × WriteState) → FlushRow s.writer es done
-      → TellsStream m own output FlushSays es done.0 (with_socket m.store place (with_writer r s done.1))
+      → TellsStream m own output (Replied contexts m line (step.Flush c output) taken_reply) es done.0 (with_socket m.store place (with_writer r s done.1))
   flush_so place r s n es (Ok done, now) h = (tt, (tt, (h.0, same place r s n now h.1)))
   flush_so place r s n es (Err stop.Closed, now) h = (tt, (tt, (of_streams n h.2, (h.0, same place r s n now h.1))))
   flush_so place r s n es (Err (stop.Failed code), now) h = (
@@ -345,5 +384,5 @@ module _ (contexts : List WasiSocketsCtx) (m : Machine) (line c output : ℕ) wh
 
   pub flush : Meets (Says contexts m line (step.Flush c output)) [] (bind (flushed_asks m own output) (λ done. Give (taken_reply done.0, done.1)))
   flush =
-      onto _ (on_stream m own output FlushSays (λ s. s.writer) with_writer (output_at m output) (λ none. (tt, (none, refl, refl))) flush_asks (λ r o. writer_of r flush_asks o) (λ r. refl) (λ r s. refl)
+      onto _ (on_stream m own output (Replied contexts m line (step.Flush c output) taken_reply) (λ s. s.writer) with_writer (output_at m output) (λ none. (tt, (none, refl, refl))) flush_asks (λ r o. writer_of r flush_asks o) (λ r. refl) (λ r s. refl)
       (λ place r s n. widen (flush_so place r s n) (flushes s.writer)) (output_at m output) refl)

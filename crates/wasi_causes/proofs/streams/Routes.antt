@@ -80,10 +80,8 @@ module _ {T : Type 0} (m : Machine) (own : OpId) (handle : ℕ) (Row : Rows (Res
 
   converts : (place : ℕ) (es : List Entry) (res : Result T StreamStop) (store : Records) → Told es res store → Meets Row es (converted own handle place (res, record m { store = store }))
   unfolding bind
-  converts place es (Ok value) store k = ends k
-  converts place es (Err stop.Closed) store k = ends k
-  converts place es (Err (stop.Trap kind)) store k = ends k
   converts place es (Err (stop.Failed c)) store k = onto _ (onto _ (makes m.table own ErrorValue (Some handle) (side_at (slice_get store.sockets place)) k.0 (k.1 (side_at (slice_get store.sockets place)))))
+  converts place es _ store k = ends k
 
   module _ {S : Type 0} (of : Streams → S) (put : Tcp2Socket → Streams → S → Tcp2Socket) (keep : ℕ → Option Tcp2Socket → Records → Records) (named : Option ℕ)
       (kept : (place : ℕ) (o : Option Tcp2Socket) → slice_get m.store.sockets place ≡ o → keep place o m.store ≡ m.store) (missing : streams_in (record_in m named) ≡ None → Row [] (Err (Traps NoSuchHandle), m))

@@ -8,7 +8,7 @@ use Rattle.wasi_world.specs.declared.call.Told.{Told}
 use Rattle.wasi_world.specs.declared.outcome.WasiSocketsCtx.{WasiSocketsCtx}
 use Rattle.wasi_world.specs.Fits.{Fits}
 use Rattle.wasi_world.specs.Asks.{Give, bind}
-use Rattle.wasi_world.specs.Operation.{End, Waits, Done, Refused, poll_asks}
+use Rattle.wasi_world.specs.Operation.{End, Waits, poll_asks}
 use Rattle.wasi_world.proofs.Allowed.{allows_keep, Allows, allows_then}
 use Rattle.wasi_tcp.specs.declared.writer.WriteState.{WriteState}
 use Rattle.wasi_tcp.specs.declared.writer.WriteState.TheVariants as writing
@@ -40,8 +40,7 @@ SameJob job es now = now.write.who.id ≡ job.write.who.id
 
 job_by : (job : Job) (end : End) (es : List Entry) → Allows (JobAsks job) (SameJob job) es (job_in job end)
 job_by job Waits es = allows_then (JobAsks job) AnyEnd (SameJob job) es (poll_asks job.write) _ (poll_asks_by job.write es) (λ fs ended any. refl)
-job_by job (Done given) es = refl
-job_by job (Refused c given) es = refl
+job_by job _ es = refl
 
 abbrev WriterAsks : WriteState → List Entry → OpId → Call → Type 0
 WriterAsks writer es op call = writes_by writer ≡ Some op
@@ -57,10 +56,9 @@ module _ (job : Job) (of : Job → WriteState) (by : (j : Job) → writes_by (of
       (λ fs j e. by j ∙ (ap Some e ∙ sym (by job)))
 
 writer_by : (writer : WriteState) (es : List Entry) → Allows (WriterAsks writer) (SameWriter writer) es (turn_asks writer)
-writer_by (writing.Ready half permit) es = refl
 writer_by (writing.Writing job) es = of_job job writing.Writing (λ j. refl) es
 writer_by (writing.Closing job) es = of_job job writing.Closing (λ j. refl) es
-writer_by (writing.Closed e) es = refl
+writer_by _ es = refl
 
 -- == one record
 abbrev RecordAsks : Tcp2Socket → List Entry → OpId → Call → Type 0

@@ -4,54 +4,29 @@ use Rattle.wasi_addr.specs.declared.address.IpSocketAddress.{IpSocketAddress}
 use Rattle.wasi_world.specs.declared.outcome.TrapKind.TheVariants.{NoSuchHandle, HasChildren, Full, NotPermitted}
 use Rattle.wasi_steps.specs.declared.reply.CodeWord.TheVariants as word
 use Rattle.wasi_steps.specs.declared.reply.Field.TheVariants as field
+use Rattle.wasi_steps.specs.declared.reply.Reply.{Reply}
 use Rattle.wasi_steps.specs.declared.reply.Reply.TheVariants as reply
 use Rattle.wasi_steps.specs.declared.step.Step.{Step}
 use Rattle.wasi_steps.specs.declared.step.Step.TheVariants as step
 use Rattle.wasi_causes.specs.Outcomes.{may_answer}
 
-cancelled : (line : ℕ) (s : Step) → may_answer line s reply.Cancelled → ⊥
-cancelled line s h = h
+abbrev Never : ℕ → Step → Reply → Type 0
+Never line s r = may_answer line s r → ⊥
 
-dropped : (line : ℕ) (s : Step) → may_answer line s reply.Dropped → ⊥
-dropped line s h = h
+of_no_step : (line : ℕ) (s : Step) → Never line s reply.Cancelled × Never line s reply.Dropped
+of_no_step line s = (λ h. h, λ h. h)
 
 -- a poll answers for the call that it polls, and is no guest call
-pending_by_another : may_answer 7 (step.Poll 3) (reply.Pending 7) → ⊥
-pending_by_another h = absurd (let e : 7 ≡ 3 = h in cc)
+of_no_poll : Never 7 (step.Poll 3) (reply.Pending 7) × Never 7 (step.Poll 3) reply.Busy × Never 7 (step.Poll 3) (reply.Ok (field.Number 1 ∷ [])) × Never 7 (step.Poll 3) reply.Closed
+of_no_poll = (λ h. absurd (let e : 7 ≡ 3 = h in cc), λ h. absurd (cc), λ h. h, λ h. h)
 
-busy_poll : may_answer 7 (step.Poll 3) reply.Busy → ⊥
-busy_poll h = absurd (cc)
+-- a finish of a bind waits for nothing, a start of a connect isn't pending, and that of a bind is so under its own line
+of_no_start : (c s network n : ℕ) (a : IpSocketAddress) → Never 7 (step.TcpFinishBind c s) (reply.Err word.WouldBlock) × Never 7 (step.TcpStartConnect c s network a) (reply.Pending n) × Never 7 (step.TcpStartBind c s network a) (reply.Pending 6)
+of_no_start c s network n a = (λ h. absurd (cc), λ h. h, λ h. absurd (let e : 6 ≡ 7 = h in cc))
 
-poll_of_a_handle : may_answer 7 (step.Poll 3) (reply.Ok (field.Number 1 ∷ [])) → ⊥
-poll_of_a_handle h = h
+traps_of_others : Never 1 (step.Network 0) (reply.Trap NoSuchHandle) × Never 7 (step.Read 0 1 10) (reply.Trap HasChildren) × Never 7 (step.Drop 0 1) (reply.Trap Full) × Never 7 (step.Read 0 1 10) (reply.Trap NotPermitted)
+traps_of_others = (λ h. h, λ h. h, λ h. h, λ h. h)
 
-closed_poll : may_answer 7 (step.Poll 3) reply.Closed → ⊥
-closed_poll h = h
-
-waiting_finish : may_answer 7 (step.TcpFinishBind 0 1) (reply.Err word.WouldBlock) → ⊥
-waiting_finish h = absurd (cc)
-
--- a start of a connect isn't pending, and that of a bind is so under its own line
-pending_connect : (line n : ℕ) (c s network : ℕ) (a : IpSocketAddress) → may_answer line (step.TcpStartConnect c s network a) (reply.Pending n) → ⊥
-pending_connect line n c s network a h = h
-
-pending_bind : (c s network : ℕ) (a : IpSocketAddress) → may_answer 7 (step.TcpStartBind c s network a) (reply.Pending 6) → ⊥
-pending_bind c s network a h = absurd (let e : 6 ≡ 7 = h in cc)
-
-network_misses : may_answer 1 (step.Network 0) (reply.Trap NoSuchHandle) → ⊥
-network_misses h = h
-
-read_of_children : may_answer 7 (step.Read 0 1 10) (reply.Trap HasChildren) → ⊥
-read_of_children h = h
-
-full_drop : may_answer 7 (step.Drop 0 1) (reply.Trap Full) → ⊥
-full_drop h = h
-
-unpermitted_read : may_answer 7 (step.Read 0 1 10) (reply.Trap NotPermitted) → ⊥
-unpermitted_read h = h
-
-two_values : may_answer 7 (step.Ready 0 1) (reply.Ok (field.True ∷ field.True ∷ [])) → ⊥
-two_values h = h.1
-
-number_of_a_look : may_answer 7 (step.Ready 0 1) (reply.Ok (field.Number 1 ∷ [])) → ⊥
-number_of_a_look h = h.0
+-- a look at a pollable answers with one truth value
+of_no_look : Never 7 (step.Ready 0 1) (reply.Ok (field.True ∷ field.True ∷ [])) × Never 7 (step.Ready 0 1) (reply.Ok (field.Number 1 ∷ []))
+of_no_look = (λ h. h.1, λ h. h.0)

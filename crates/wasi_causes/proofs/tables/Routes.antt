@@ -35,6 +35,10 @@ use Rattle.wasi_walks.specs.Licence.{entry, marks_in}
 use Rattle.wasi_causes.specs.Outcomes.{IsCodeWord, FullAfter, Conflicts, Outcome}
 use Rattle.wasi_causes.proofs.tables.Meets.{onto, Rows, Meets, ends, asks, chain, widen, branch}
 
+-- the step's replies, where what it gives is told so
+abbrev pub Replied : {T : Type 0} → List WasiSocketsCtx → Machine → ℕ → Step → (T → Reply) → Rows (T × Machine)
+Replied contexts m line s tell es done = Outcome contexts m line s es (tell done.0) done.1
+
 abbrev pub Says : List WasiSocketsCtx → Machine → ℕ → Step → Rows (Reply × Machine)
 Says contexts m line s es done = Outcome contexts m line s es done.0 done.1
 

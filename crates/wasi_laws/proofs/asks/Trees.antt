@@ -31,10 +31,9 @@ module _ (P : List Entry → OpId → Call → Type 0) where
     job_by job put _ e q f = q
 
     pub turns_by : (w : WriteState) → Q es w → ((job : Job) (put : Job → WriteState) → GoesOn w job put → Allows P (λ fs ended. Q fs (put (job_after job.write.who ended))) es (poll_asks job.write)) → Allows P (λ fs done. Q fs done.1) es (turn_asks w)
-    turns_by (writing.Ready half permit) q f = q
     turns_by (writing.Writing job) q f = allows_then P (λ fs j. Q fs (writing.Writing j)) (λ fs done. Q fs done.1) es (job_asks job) _ (job_by job (λ j. writing.Writing j) job.end refl q (λ e. f job _ (InWriting job e))) (λ fs j k. k)
     turns_by (writing.Closing job) q f = allows_then P (λ fs j. Q fs (writing.Closing j)) (λ fs done. Q fs done.1) es (job_asks job) _ (job_by job (λ j. writing.Closing j) job.end refl q (λ e. f job _ (InClosing job e))) (λ fs j k. k)
-    turns_by (writing.Closed e) q f = q
+    turns_by _ q f = q
 
   module _ (Q : List Entry → Type 0) (es : List Entry) (q : Q es) where
     refuses_by : (who : Who) (o : Option IpSocketAddress) → ((peer : IpSocketAddress) → Then Q es who.id (call.Refuse who.side peer)) → Allows P (λ fs done. Q fs) es (refuse_in who o)

@@ -9,7 +9,7 @@ use Rattle.wasi_tcp.specs.declared.accept.AcceptStage.TheVariants as accept
 use Rattle.wasi_tcp.specs.declared.bind.BindStage.TheVariants.{Check}
 use Rattle.wasi_tcp.specs.declared.socket.TcpState.TheVariants as state
 use Rattle.wasi_walks.proofs.walks.Moves.{Ends}
-use Rattle.wasi_laws.proofs.Words.{if◌then◌else◌, nat_lt, ◌≡◌, ℕ, ◌+◌, ◌≤◌, Bool, true, false, List, [], ◌∷◌, ◌++◌, Option, Some, None, refl, sym, ap, subst, ◌∙◌, arith, slice_set, IpSocketAddress, WasiSocketsCtx, OpId, Call, Told, Entry, Asks, Left, Operation, End, Waits, Done, Refused, Item, Write, poll_asks, Given, Connection, is_same, Allows, allows_weaker, Accepting, TcpState, WriteState, accept_operation, bind_operation, connect_first, connect_left, connect_operation, with_state, connect_ended, Job, job_after, new_job, then_closed, accept_ended, arrived, new_socket, written_by, closed_by, Listening, Machine, Streams, Tcp2Socket, Standing, own_of, first_state, standing_listen, standing_bind, standing_drop, left_of, new_record, with_inner, with_writer, Reply, Step, entry, run, next_of, Held, InHand, Connects, Listens, Awaits, Own, Used, Unused, ToWrite, Here, put, Found, WriterMoves, Collects, Permits, Lasts, LastsAfter, Closes, Move, Reaches, Leaves, Spends, Changes, ClosesReader, Writes, IsGone, Reconnects, Opens, BeginsConnect, BeginsBind, BeginsWrite, BeginsListen, BeginsAccept, Unlistens, Forgets, Watches, Joins, StandsListen, StandsDrop, ResumesDrop, Unstands, Stands, Resumes, Lists, Takes, listen_after, accepting_now, joined, joining, begun_listen, beginning_listen, new_accept, second_of, Starts, ChecksFirst, asked_by}
+use Rattle.wasi_laws.proofs.Words.{if◌then◌else◌, nat_lt, ◌≡◌, ℕ, ◌+◌, ◌≤◌, Bool, true, false, List, [], ◌∷◌, ◌++◌, Option, Some, None, refl, sym, ap, subst, ◌∙◌, arith, slice_set, IpSocketAddress, WasiSocketsCtx, OpId, Call, Told, Entry, Asks, Left, Operation, End, Waits, Done, Item, Write, poll_asks, Given, Connection, is_same, Allows, allows_weaker, Accepting, TcpState, WriteState, accept_operation, bind_operation, connect_first, connect_left, connect_operation, with_state, connect_ended, Job, job_after, new_job, then_closed, accept_ended, arrived, new_socket, written_by, closed_by, Listening, Machine, Streams, Tcp2Socket, Standing, own_of, first_state, standing_listen, standing_bind, standing_drop, left_of, new_record, with_inner, with_writer, Reply, Step, entry, run, next_of, Held, InHand, Connects, Listens, Awaits, Own, Used, Unused, ToWrite, Here, put, Found, WriterMoves, Collects, Permits, Lasts, LastsAfter, Closes, Move, Spends, Changes, ClosesReader, Writes, IsGone, Reconnects, Opens, BeginsConnect, BeginsBind, BeginsWrite, BeginsListen, BeginsAccept, Unlistens, Forgets, Joins, StandsListen, StandsDrop, Unstands, Stands, Resumes, listen_after, accepting_now, joined, joining, begun_listen, beginning_listen, new_accept, second_of, Starts, ChecksFirst, asked_by}
 use Rattle.wasi_laws.proofs.asks.Single.{each_ask, Single, Closing, ClosesSocket, ClosesListen, ClosesArrived, creating}
 use Rattle.wasi_laws.proofs.asks.Trees.{GoesOn, InWriting, InClosing}
 use Rattle.wasi_laws.proofs.shapes.Shape.{same_side, Same}
@@ -137,8 +137,6 @@ module _ (it : OpId) where
     -- == moves
     module _ {origin : Step} where
       moves : (es : List Entry) (h now : Here) → Move line origin h now → Kept line es h → Kept line es now
-      moves es _ _ (Reaches h handle place n e) k = k
-      moves es _ _ (Leaves h) k = k
       moves es _ _ (Spends h e) k = lighter es h (record h { own = Used }) (λ i. omega arith) (less_room h.own) k
       moves es _ _ (Changes h place r now g p) k = put_kept es h place r now g (same_weight r now (record { side = p.side; streams = p.streams; listening = p.listening; does = p.does })) k
       moves es _ _ (ClosesReader h place r s g e) k = put_kept es h place r _ g (λ i. let x = streams_are r s i e in omega (arith, x)) k
@@ -160,20 +158,18 @@ module _ (it : OpId) where
           put_begins es h place r (accepting_now r l (new_accept line l)) op g (ap (next_of line) own) refl (omega arith) (λ i. omega arith) k
       moves es _ _ (Unlistens h place r op g e c o) k = put_kept es h place r _ g (λ i. omega arith) k
       moves es _ _ (Forgets h place r l c g e a) k = put_kept es h place r _ g (λ i. omega arith) k
-      moves es _ _ (Watches h o) k = k
       moves es _ _ (Joins h c handle place r l new peer is of u g e a) k =
           let idle : Tcp2Socket = accepting_now r l accepting.Idle in
           let m = put_kept es h place r idle g (λ i. omega arith) k in
           lighter es (put h place idle) (joining h (slice_set h.machine.store.sockets place idle) (joined l new peer)) (λ i. let z = sockets_push ours (slice_set h.machine.store.sockets place idle) (joined l new peer) i in omega (arith, z)) (omega arith) m
       moves es _ _ (StandsListen h n place r f) k = restands es h (Some (standing_listen n place)) h.hand (λ i. omega arith) k
       moves es _ _ (StandsDrop h n place r at g) k = restands es h (Some (standing_drop n place)) h.hand (λ i. omega arith) k
-      moves es _ _ (ResumesDrop h n place e) k = k
       moves es _ _ (Unstands h) k = restands es h None h.hand (λ i. omega arith) k
       moves es _ _ (Stands h n place r op f e) k = restands es h (Some (standing_bind n place op)) None (λ i. let x : total ours (hand_ops h.hand) i ≡ total ours (op ∷ []) i = ap (λ (o : Option Operation). total ours (hand_ops o) i) e in omega (arith, x)) k
       moves es _ _ (Resumes h n place op e) k = restands es h None (Some op) (λ i. let x : total ours (standing_ops h.machine.store.standing) i ≡ total ours (op ∷ []) i = ap (λ (o : Option Standing). total ours (standing_ops o) i) e in omega (arith, x)) k
       moves es _ _ (Ends h) k = restands es h h.machine.store.standing None (λ i. omega arith) k
-      moves es _ _ (Lists h jobs) k = k
-      moves es _ _ (Takes h handle) k = k
+      -- the others leave all that is looked at
+      moves es _ _ _ k = k
 
     -- == polls: what is beside the operation weighs so much
     held : (es : List Entry) (h : Here) (op : Operation) (after : End × List Item → Here) (others : Bool → ℕ) → others true ≤ others false + others false → ((i : Bool) → weight ours h i ≡ others i + op_weight ours op.who.id op.left i)
@@ -206,9 +202,8 @@ module _ (it : OpId) where
     given_weighs _ i = refl
 
     awaited_weighs : (op : Operation) (end : End × List Item) (i : Bool) → total ours (accept_ops (accept_ended op.who end)) i ≤ op_weight ours op.who.id end.1 i
-    awaited_weighs op (Waits, items) i = omega arith
     awaited_weighs op (Done given, items) i = let k = given_weighs given i in omega (arith, k)
-    awaited_weighs op (Refused c given, items) i = omega arith
+    awaited_weighs op (_, items) i = omega arith
 
     polls : (es : List Entry) (h : Here) (op : Operation) (after : End × List Item → Here) → Held h op after → Kept line es h → Allows (Asked ours) (λ fs ended. Kept line fs (after ended)) es (poll_asks op)
     polls es h _ _ (InHand op e) k =

@@ -5,7 +5,7 @@ use Rattle.wasi_tcp.specs.declared.bind.BindStage.TheVariants as stage
 use Rattle.wasi_tcp.specs.Connect as connect
 use Rattle.wasi_tcp.specs.Listen as listen
 use Rattle.wasi_laws.proofs.Words.{◌≡◌, ℕ, zero, suc, ◌+◌, ◌≤◌, Bool, true, false, List, [], ◌∷◌, ◌++◌, length, refl, sym, subst, ◌∙◌, arith, ErrorCode, OpId, Call, Told, Entry, bind, Given, Item, Check, Bind, Connect, Listen, CheckArrival, CheckPeer, Write, Who, Operation, LastAsk, NothingLast, CloseLast, ShutdownLast, End, last_ask, poll_asks, Allows, entry, Asks, Give, Left, CheckLocal, allows_at, reached, bind_left, IsLeftOfConnect, IsLeftOfListen, IsOutward, Binds, ChecksFirst, HasGone, NoCheckLeft, operation_polled}
-use Rattle.wasi_laws.proofs.asks.Fronts.{IsToCheck, IsToGo, AsksBy, Checks, Goes, Calmly, Becomes, ToldAddress, Arrives, IsAdmitted, IsUnwanted, IsRefused, IsConnected, Comes, GoesBy, PollLaw, polls_by}
+use Rattle.wasi_laws.proofs.asks.Fronts.{IsToCheck, IsToGo, AsksBy, Checks, Goes, Calmly, Becomes, IsAdmitted, PollLaw, polls_by}
 use Rattle.wasi_laws.proofs.order.Ordered.{out_by, gone_after, gone_along, gone_push, Asked, calm_may, out_may, asked_all, asked_first, gone_out}
 use Rattle.wasi_laws.proofs.order.Weights.{Kind, ToCheck, ToGo, kind_of, and_then, checks_of, drop_weighs, if_ours, op_weight, Plain}
 use Rattle.wasi_laws.specs.Order.{Connects, Listens}
@@ -27,14 +27,8 @@ to_go (Listen backlog) k = refl
 to_go _ k = absurd k
 
 becomes_less : (i j : Item) (items : List Item) → Becomes i j → checks_of (j ∷ items) ≤ checks_of (i ∷ items)
-becomes_less _ _ items (ToldAddress a usage) = omega arith
-becomes_less _ _ items (Arrives peer) = omega arith
 becomes_less _ _ items (IsAdmitted peer) = drop_weighs (CheckArrival peer) items
-becomes_less _ _ items (IsUnwanted peer) = omega arith
-becomes_less _ _ items (IsRefused peer) = omega arith
-becomes_less _ _ items (IsConnected family a outcome) = omega arith
-becomes_less _ _ items (Comes wanted bytes a) = omega arith
-becomes_less _ _ items (GoesBy wanted bytes a) = omega arith
+becomes_less _ _ items _ = omega arith
 
 module _ (ours : OpId → Bool) (others : Bool → ℕ) (below : others true ≤ others false + others false) (room : ℕ) where
   -- the same of numbers: whether it is ours, and what counts for the checks that are left
@@ -108,28 +102,18 @@ begins : (op : Operation) → IsOutward op → checks_of op.left ≤ 1
 begins op (Binds k) = subst (λ (o : Operation). checks_of o.left ≤ 1) (sym k.is) (by_stage k.stage)
   where
     by_stage : (s : BindStage) → checks_of (bind_left k.addr s) ≤ 1
-    by_stage stage.Check = omega arith
-    by_stage stage.Bind = omega arith
     by_stage stage.Over = omega arith
+    by_stage _ = omega arith
 begins op (Connects k) = by_left op.left k.left
   where
     by_left : (items : List Item) → IsLeftOfConnect items → checks_of items ≤ 1
-    by_left _ (connect.Unbound wildcard a) = omega arith
-    by_left _ (connect.Unchecked a) = omega arith
-    by_left _ (connect.Checked a) = omega arith
-    by_left _ (connect.ToClose c) = omega arith
     by_left _ connect.Ended = omega arith
+    by_left _ _ = omega arith
 begins op (Listens k) = by_left op.left k.left
   where
     by_left : (items : List Item) → IsLeftOfListen items → checks_of items ≤ 1
-    by_left _ (listen.BoundBefore backlog) = omega arith
-    by_left _ (listen.AddressTold a backlog) = omega arith
-    by_left _ (listen.Unbound wildcard backlog) = omega arith
-    by_left _ (listen.BindChecked wildcard backlog) = omega arith
-    by_left _ (listen.Checked wildcard backlog) = omega arith
-    by_left _ (listen.Bound backlog) = omega arith
-    by_left _ (listen.ToClose c) = omega arith
     by_left _ listen.Ended = omega arith
+    by_left _ _ = omega arith
 
 -- nothing that checks is left
 none_kind : (k : Kind) (n : ℕ) → and_then k n ≡ 0 → (n ≡ 0) × (k ≡ ToCheck → ⊥)

@@ -120,9 +120,7 @@ module _ (taken bytes : List ℕ) where
   looked : (es : List Entry) (op : OpId) (w : WriteState) → Agrees taken bytes w → Quiet (λ done. SaysReady done.0) es (look_in op w)
   unfolding bind
   looked es op (writing.Ready half permit) h = (tt, λ t fits. says_ready (told_ready t) h)
-  looked es op (writing.Writing job) h = tt
-  looked es op (writing.Closing job) h = tt
-  looked es op (writing.Closed e) h = tt
+  looked es op _ h = tt
 
   -- == a check-write: where it permits something, all was taken
   abbrev pub SaysAll : Result ℕ StreamStop → Type 0

@@ -11,8 +11,7 @@ use Rattle.wasi_tcp.specs.Connect as connect
 use Rattle.wasi_tcp.specs.Listen as listen
 use Rattle.wasi_walks.specs.Waiting.{IsLeftOfBind}
 use Rattle.wasi_walks.specs.Waiting as binding
-use Rattle.wasi_walks.proofs.walks.Moves.{Ends}
-use Rattle.wasi_laws.proofs.Words.{◌≡◌, inl, inr, ℕ, Bool, true, false, if◌then◌else◌, List, [], ◌∷◌, ◌++◌, Option, Some, None, refl, sym, ap, subst, ◌∙◌, slice_set, append-nil, append_assoc, ⊤, SocketAddressFamily, WasiSocketsCtx, OpId, Call, Told, Entry, Asks, Operation, End, Waits, Done, Refused, Item, poll_asks, is_same, Allows, allows_weaker, allows_keep, TcpState, WriteState, IsConnect, IsLeftOfConnect, HoldsConnect, with_state, connect_ended, Job, job_after, new_job, IsListen, IsLeftOfListen, HoldsAccept, IsAcceptOn, accept_ended, side_in, side_of, new_socket, taken_in, IsFrontOf, bytes_left, Not, Begins, Streams, Tcp2Socket, with_listening, own_of, new_record, with_inner, with_reader, with_writer, Step, entry, FitListening, Fit, accept_name, name_in, Named, fresh, taken_fresh, accept_plain, NoWrite, none_taken, Quiet, ArePlain, plain_poll, Held, InHand, Connects, Listens, Awaits, Own, Used, Unused, ToWrite, Here, put, Found, Move, Reaches, Leaves, Spends, Changes, ClosesReader, Writes, IsGone, opened_by, Reconnects, Opens, BeginsConnect, BeginsBind, BeginsWrite, Stands, Resumes, Lists, Takes, BeginsListen, BeginsAccept, Unlistens, Forgets, Watches, Joins, StandsListen, StandsDrop, ResumesDrop, Unstands, listen_after, accepting_now, closed_record, new_accept, joined}
+use Rattle.wasi_laws.proofs.Words.{rules, ◌≡◌, inl, inr, ℕ, Bool, true, false, if◌then◌else◌, List, [], ◌∷◌, ◌++◌, Option, Some, None, refl, sym, ap, subst, ◌∙◌, slice_set, append-nil, append_assoc, ⊤, SocketAddressFamily, WasiSocketsCtx, OpId, Call, Told, Entry, Asks, Operation, End, Waits, Done, Refused, Item, poll_asks, is_same, Allows, allows_weaker, allows_keep, TcpState, WriteState, IsConnect, IsLeftOfConnect, HoldsConnect, with_state, connect_ended, Job, job_after, new_job, IsListen, IsLeftOfListen, HoldsAccept, IsAcceptOn, accept_ended, side_in, side_of, new_socket, taken_in, IsFrontOf, bytes_left, Not, Begins, Streams, Tcp2Socket, with_listening, own_of, new_record, with_inner, with_reader, with_writer, Step, entry, FitListening, Fit, accept_name, name_in, Named, fresh, taken_fresh, accept_plain, NoWrite, none_taken, Quiet, ArePlain, plain_poll, Held, InHand, Connects, Listens, Awaits, Own, Used, Unused, ToWrite, Here, put, Found, Move, Spends, Changes, ClosesReader, Writes, IsGone, opened_by, Reconnects, Opens, BeginsConnect, BeginsBind, BeginsWrite, BeginsListen, BeginsAccept, Unlistens, Forgets, Joins, accepting_now, closed_record, new_accept, joined}
 use Rattle.wasi_laws.proofs.asks.Fronts.{unwritten, polls_by}
 use Rattle.wasi_laws.proofs.asks.Single.{Single, Grounds, Closing, ClosesSocket, ClosesListen, ClosesArrived, creating}
 use Rattle.wasi_laws.proofs.asks.Trees.{GoesOn, InWriting, InClosing}
@@ -23,26 +22,16 @@ use Rattle.wasi_laws.proofs.permits.Taken.{After, write_law, taken_push, Fronts,
 
 -- == what goes on besides a write writes nothing
 bind_plain : (items : List Item) → IsLeftOfBind items → ArePlain items
-bind_plain _ (binding.Unchecked a) = (tt, (tt, tt))
-bind_plain _ (binding.Checked a) = (tt, tt)
 bind_plain _ binding.Ended = tt
+bind_plain _ _ = search rules
 
 connect_plain : (items : List Item) → IsLeftOfConnect items → ArePlain items
-connect_plain _ (connect.Unbound any a) = (tt, (tt, (tt, tt)))
-connect_plain _ (connect.Unchecked a) = (tt, (tt, tt))
-connect_plain _ (connect.Checked a) = (tt, tt)
-connect_plain _ (connect.ToClose c) = (tt, tt)
 connect_plain _ connect.Ended = tt
+connect_plain _ _ = search rules
 
 listen_plain : (items : List Item) → IsLeftOfListen items → ArePlain items
-listen_plain _ (listen.BoundBefore backlog) = (tt, (tt, tt))
-listen_plain _ (listen.AddressTold a backlog) = (tt, (tt, tt))
-listen_plain _ (listen.Unbound any backlog) = (tt, (tt, (tt, (tt, tt))))
-listen_plain _ (listen.BindChecked any backlog) = (tt, (tt, (tt, tt)))
-listen_plain _ (listen.Checked any backlog) = (tt, (tt, tt))
-listen_plain _ (listen.Bound backlog) = (tt, tt)
-listen_plain _ (listen.ToClose c) = (tt, tt)
 listen_plain _ listen.Ended = tt
+listen_plain _ _ = search rules
 
 held_plain : (h : Here) (op : Operation) (after : End × List Item → Here) → Held h op after → Fit h → ArePlain op.left
 held_plain h _ _ (InHand op e) f = bind_plain op.left (f.hand op e).left
@@ -50,11 +39,14 @@ held_plain h _ _ (Connects place r op q g e) f = let its : IsConnect op = subst 
 held_plain h _ _ (Listens place r op q g e c) f = let its : IsListen op = subst FitListening e (f.records place r g).1 in listen_plain op.left its.left
 held_plain h _ _ (Awaits place r l op g e a) f = let its : IsAcceptOn l.side l.maker op = subst (HoldsAccept l.side l.maker) a (subst FitListening e (f.records place r g).1) in accept_plain op.left its.accept.left
 
+-- what becomes of a listen that goes on
+listen_follows : (r now : Tcp2Socket) (op : Operation) → r.listening ≡ Begins op → now.side ≡ r.side → Follows r now
+listen_follows r now op e s = record { side = s; lives = λ x v. (sym s ∙ v.0, inr (subst IsBegun (sym e) tt)) }
+
 -- a connect keeps its side, or ends it
 ended_side : (op : Operation) (end : End × List Item) (x : OpId) → side_in (connect_ended op.who end).1 ≡ Some x → Some op.who.side ≡ Some x
-ended_side op (Waits, items) x e = e
-ended_side op (Done given, items) x e = e
 ended_side op (Refused c given, items) x e = absurd (cc)
+ended_side op (_, items) x e = e
 
 -- what the job that a writer goes on with still owes
 owes_still : (w : WriteState) (job : Job) (now : Job → WriteState) → GoesOn w job now → (taken bytes : List ℕ) → Agrees taken bytes w → taken ++ bytes_left job.write.left ≡ bytes
@@ -144,8 +136,6 @@ module _ (side : OpId) (given : List ℕ) where
 
     module _ (contexts : List WasiSocketsCtx) (origin : Step) where
       moves : (es : List Entry) (h now : Here) → Move line origin h now → Grounds contexts line origin h → Kept es h → Kept es now
-      moves es _ _ (Reaches h handle place n e) b k = k
-      moves es _ _ (Leaves h) b k = k
       moves es _ _ (Spends h e) b k = spends es _ h.own e k
       moves es _ _ (Changes h place r now g p) b k = put_same es h place r now g (follows_same r now (record { side = p.side; streams = p.streams; listening = p.listening; does = p.does })) p.streams k
       moves es _ _ (ClosesReader h place r s g e) b k = put_kept es h place r (with_reader r s reading.Closed) g (record { side = refl; lives = λ x v. v }) (λ held v a. subst (Agree (taken_in side es) held) e a) k
@@ -163,7 +153,6 @@ module _ (side : OpId) (given : List ℕ) where
       moves es _ _ (BeginsAccept h place r l p g e a o) b k = spends es _ h.own o (put_same es h place r _ g (follows_quiet r (accepting_now r l (new_accept line l)) refl refl (λ b. b)) refl k)
       moves es _ _ (Unlistens h place r op g e c o) b k = put_same es h place r _ g (follows_quiet r _ refl refl (λ b. b)) refl k
       moves es _ _ (Forgets h place r l c g e a) b k = put_same es h place r _ g (follows_quiet r (accepting_now r l accepting.Idle) refl refl (λ b. b)) refl k
-      moves es _ _ (Watches h o) b k = k
       moves es _ _ (Joins h c handle place r l new peer is of u g e a) b k =
           let idle = accepting_now r l accepting.Idle in
           let i = put_same es h place r idle g (follows_quiet r idle refl refl (λ b. b)) refl k in
@@ -172,15 +161,8 @@ module _ (side : OpId) (given : List ℕ) where
             stands = agrees_push side (taken_in side es) i.held (slice_set h.machine.store.sockets place idle) (joined l new peer) (λ q j x d v. taken_fresh contexts line origin h place r idle new g (ap accept_name e ∙ ap name_in a) refl refl b.0.1 j x d (inl (v ∙ sym q))) (λ t. t.0 ∙ sym t.1) i.stands;
             owes = i.owes;
           }
-      moves es _ _ (StandsListen h i place r f) b k = k
-      moves es _ _ (StandsDrop h i place r p g) b k = k
-      moves es _ _ (ResumesDrop h i place e) b k = k
-      moves es _ _ (Unstands h) b k = k
-      moves es _ _ (Stands h i place r op f e) b k = k
-      moves es _ _ (Resumes h i place op e) b k = k
-      moves es _ _ (Ends h) b k = k
-      moves es _ _ (Lists h jobs) b k = k
-      moves es _ _ (Takes h handle) b k = k
+      -- the others leave all that is looked at
+      moves es _ _ _ b k = k
 
       -- what writes nothing leaves it so
       quiet_kept : {A : Type 0} (Q : A → Type 0) (es : List Entry) (h : Here) (asks : Asks A) → Kept es h → Quiet Q es asks → Allows (Fronts side given) (λ fs a. Kept fs h × Q a) es asks
@@ -190,15 +172,9 @@ module _ (side : OpId) (given : List ℕ) where
       ended_kept : (es : List Entry) (h : Here) (op : Operation) (after : End × List Item → Here) (ended : End × List Item) → Held h op after → Named line h → Kept es h → Kept es (after ended)
       ended_kept es h _ _ ended (InHand op e) n k = k
       ended_kept es h _ _ ended (Connects place r op q g e) n k = put_same es h place r _ g (follows_state r (with_inner r (with_state r.inner (connect_ended op.who ended).1)) refl refl (λ x p. ap side_in e ∙ ended_side op ended x p)) refl k
-      ended_kept es h _ _ ended (Listens place r op q g e c) n k = listened es h place r op ended g e k
-        where
-          follows : (r : Tcp2Socket) (op : Operation) (now : Tcp2Socket) → r.listening ≡ Begins op → now.side ≡ r.side → Follows r now
-          follows r op now e s = record { side = s; lives = λ x v. (sym s ∙ v.0, inr (subst IsBegun (sym e) tt)) }
-
-          listened : (es : List Entry) (h : Here) (place : ℕ) (r : Tcp2Socket) (op : Operation) (ended : End × List Item) → Found h place r → r.listening ≡ Begins op → Kept es h → Kept es (put h place (listen_after op r ended))
-          listened es h place r op (Waits, items) g e k = put_same es h place r _ g (follows r op _ e refl) refl k
-          listened es h place r op (Done given, items) g e k = put_same es h place r _ g (follows r op _ e refl) refl k
-          listened es h place r op (Refused c given, items) g e k = put_same es h place r _ g (follows r op _ e refl) refl k
+      ended_kept es h _ _ (Waits, items) (Listens place r op q g e c) n k = put_same es h place r _ g (listen_follows r _ op e refl) refl k
+      ended_kept es h _ _ (Done given, items) (Listens place r op q g e c) n k = put_same es h place r _ g (listen_follows r _ op e refl) refl k
+      ended_kept es h _ _ (Refused c given, items) (Listens place r op q g e _) n k = put_same es h place r _ g (listen_follows r _ op e refl) refl k
       ended_kept es h _ _ ended (Awaits place r l op g e a) n k = put_same es h place r _ g (follows_quiet r (accepting_now r l (accept_ended op.who ended)) refl refl (λ b. b)) refl k
 
       -- a write goes on

@@ -33,8 +33,7 @@ module _ (side : OpId) (taken permitted : List ℕ) (m : Machine) (own : OpId) (
 
   converts : (es : List Entry) (now : Machine) (place : ℕ) (why : StreamStop) → Quiet (λ c. ⊤) es (convert_asks now own output place why)
   converts es now place (stop.Failed c) = quiet_then (λ made. ⊤) (λ c. ⊤) es (make_asks now.table own ErrorValue (Some output) (side_at (slice_get now.store.sockets place))) _ (marks es now place) (λ fs made k. tt)
-  converts es now place stop.Closed = tt
-  converts es now place (stop.Trap kind) = tt
+  converts es now place _ = tt
 
   tells : (es : List Entry) (place : ℕ) (done : Result ℕ StreamStop × Machine) → Says done → Quiet Tells es (converted own output place done)
   tells es place (Ok n, now) k = k
@@ -104,9 +103,7 @@ module _ (side : OpId) where
   writer_is : (w : WriteState) (bytes : List ℕ) → let_write side (may_begin w bytes) ≡ let_begin side bytes (Some w)
   writer_is (writing.Ready half permit) [] = none_within permit (is_same half.side side) (nat_lt permit 0)
   writer_is (writing.Ready half permit) (b ∷ bytes) = within_is half.side permit (b ∷ bytes) (nat_lt permit (length (b ∷ bytes))) (is_same half.side side) refl
-  writer_is (writing.Writing job) bytes = refl
-  writer_is (writing.Closing job) bytes = refl
-  writer_is (writing.Closed e) bytes = refl
+  writer_is _ bytes = refl
 
   streams_is : (o : Option Streams) (bytes : List ℕ) → let_write side (may_of o bytes) ≡ let_begin side bytes (writer_in o)
   streams_is None bytes = refl

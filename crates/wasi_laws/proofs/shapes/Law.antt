@@ -3,22 +3,15 @@ use Rattle.wasi_tcp.specs.declared.reader.ReadState.TheVariants as reading
 use Rattle.wasi_tcp.specs.declared.socket.Connection.{Connection}
 use Rattle.wasi_tcp.specs.declared.socket.TcpState.TheVariants as state
 use Rattle.wasi_walks.proofs.fits.Polls.{Anything}
-use Rattle.wasi_walks.proofs.walks.Moves.{Ends}
-use Rattle.wasi_laws.proofs.Words.{◌≡◌, ℕ, true, List, [], ◌∷◌, ◌++◌, Option, Some, None, Result, Ok, Err, refl, sym, ap, subst, ◌∙◌, slice_get, slice_set, length, inl, inr, ⊤, SocketAddressFamily, ErrorCode, WasiSocketsCtx, Entry, OpId, bind, Given, Item, Who, LastAsk, NothingLast, CloseLast, ShutdownLast, Operation, End, Waits, Done, Refused, last_ask, poll_asks, Allows, allows_then, allows_weaker, TcpState, WriteState, with_state, connect_ended, Job, job_after, Listener, Socket, side_of, new_asks, turn_asks, Listening, Not, Begins, Accepts, Unclosed, Streams, Tcp2Socket, make_asks, Tcp2, own_of, created_asks, create_asks, with_inner, with_reader, with_writer, new_record, Step, get_set, get_split, whatever, Here, put, Found, Used, joined, listen_after, accepting_now, opened_by, Held, InHand, Connects, Listens, Awaits, Move, Reaches, Leaves, Spends, Changes, ClosesReader, Writes, IsGone, Reconnects, Opens, BeginsConnect, BeginsBind, BeginsWrite, BeginsListen, BeginsAccept, Unlistens, Forgets, Watches, Joins, StandsListen, StandsDrop, ResumesDrop, Unstands, Stands, Resumes, Lists, Takes}
-use Rattle.wasi_laws.proofs.asks.Fronts.{Becomes, ToldAddress, Arrives, IsAdmitted, IsUnwanted, IsRefused, IsConnected, Comes, GoesBy, PollLaw, polls_by}
+use Rattle.wasi_laws.proofs.Words.{◌≡◌, ℕ, true, List, [], ◌∷◌, ◌++◌, Option, Some, None, Result, Ok, Err, refl, sym, ap, subst, ◌∙◌, slice_get, slice_set, length, inl, inr, ⊤, SocketAddressFamily, ErrorCode, WasiSocketsCtx, Entry, OpId, bind, Given, Item, Who, LastAsk, NothingLast, CloseLast, ShutdownLast, Operation, End, Done, last_ask, poll_asks, Allows, allows_then, allows_weaker, TcpState, WriteState, with_state, connect_ended, Job, job_after, Listener, Socket, side_of, new_asks, turn_asks, Listening, Accepts, Unclosed, Streams, Tcp2Socket, make_asks, Tcp2, own_of, created_asks, create_asks, with_inner, with_reader, with_writer, new_record, Step, get_set, get_split, whatever, Here, put, Found, Used, joined, listen_after, accepting_now, opened_by, Held, InHand, Connects, Listens, Awaits, Move, Changes, ClosesReader, Writes, IsGone, Reconnects, Opens, BeginsConnect, BeginsWrite, BeginsListen, BeginsAccept, Unlistens, Forgets, Joins}
+use Rattle.wasi_laws.proofs.asks.Fronts.{Becomes, ToldAddress, PollLaw, polls_by}
 use Rattle.wasi_laws.proofs.asks.Trees.{GoesOn, InWriting, InClosing, turns_by}
 use Rattle.wasi_laws.proofs.shapes.Shape.{IsOfWrite, AreOfWrite, end_write, JobIs, WriterIs, writer_moves, HasStreams, StreamsShape, ListenerShape, RecordShape, Unconnected, bare, sideless, restated}
 
 -- what is left of a write takes no other form
 pub never : (i j : Item) → Becomes i j → IsOfWrite i → ⊥
 never _ _ (ToldAddress a usage) k = k
-never _ _ (Arrives peer) k = k
-never _ _ (IsAdmitted peer) k = k
-never _ _ (IsUnwanted peer) k = k
-never _ _ (IsRefused peer) k = k
-never _ _ (IsConnected family a outcome) k = k
-never _ _ (Comes wanted bytes a) k = k
-never _ _ (GoesBy wanted bytes a) k = k
+never _ _ _ k = k
 
 last_left : (who : Who) (es : List Entry) (a : LastAsk) (c : ErrorCode) (given : Given) → Allows Anything (λ fs ended. AreOfWrite ended.1) es (last_ask who a c given)
 unfolding bind
@@ -70,10 +63,9 @@ reconnected c now o l s t k = (by_streams o k.0, by_listening l k.1)
         record { connection = now; is = refl; taken = t (sym (ap (λ (y : Connection). y.send_taken) same) ∙ h.taken); reader = λ half e. h.reader half e ∙ of; writer = subst (λ (y : OpId). WriterIs y x.writer) of h.writer }
 
     by_listening : (l : Listening) → ListenerShape (state.Connected c) l → ListenerShape (state.Connected now) l
-    by_listening Not h = tt
-    by_listening (Begins op) h = tt
     by_listening (Accepts l) h = absurd (cc)
     by_listening (Unclosed x) h = h
+    by_listening _ h = tt
 
 -- another socket, or another listening, of a record that has none of these
 pub restates : (r : Tcp2Socket) (t : TcpState) → Unconnected r.inner.state → ((x : OpId) → r.inner.state ≡ state.Listening x → ⊥) → RecordShape r → RecordShape (with_inner r (with_state r.inner t))
@@ -83,9 +75,8 @@ ended_shape : (r : Tcp2Socket) (op : Operation) (end : End × List Item) → r.i
 ended_shape r op end e k = restates r (connect_ended op.who end).1 (λ c d. let p : state.Connecting op ≡ state.Connected c = sym e ∙ d in absurd (cc)) (λ x d. let p : state.Connecting op ≡ state.Listening x = sym e ∙ d in absurd (cc)) k
 
 listened_shape : (r : Tcp2Socket) (op : Operation) (end : End × List Item) → side_of r.inner ≡ None → RecordShape r → RecordShape (listen_after op r end)
-listened_shape r op (Waits, items) c k = (k.0, tt)
 listened_shape r op (Done given, items) c k = (subst (StreamsShape (state.Listening op.who.side)) (sym (bare r.inner.state r.streams (sideless r.inner.state c) k.0)) tt, refl)
-listened_shape r op (Refused why given, items) c k = (k.0, tt)
+listened_shape r op (_, items) c k = (k.0, tt)
 
 accepts_shape : (r : Tcp2Socket) (l : Listener) → r.listening ≡ Accepts l → RecordShape r → ListenerShape r.inner.state (Accepts l)
 accepts_shape r l e k = subst (ListenerShape r.inner.state) e k.1
@@ -102,9 +93,6 @@ push_shape sockets now k i place r e = elim (get_split sockets now place r e) [ 
 
 module _ (contexts : List WasiSocketsCtx) (line : ℕ) (origin : Step) where
   pub moves_shape : (h now : Here) → Move line origin h now → Shaped h → Shaped now
-  moves_shape _ _ (Reaches h handle place n e) i = i
-  moves_shape _ _ (Leaves h) i = i
-  moves_shape _ _ (Spends h e) i = i
   moves_shape _ _ (Changes h place r now g p) i = put_shape h place now (rw (p.does, p.streams, p.listening) (i place r g)) i
   moves_shape _ _ (ClosesReader h place r s g e) i =
       let k = i place r g in let o = has_streams r s e k in
@@ -117,7 +105,6 @@ module _ (contexts : List WasiSocketsCtx) (line : ℕ) (origin : Step) where
       let k = reconnected c now r.streams r.listening refl (λ t. refl) (subst (λ (x : TcpState). StreamsShape x r.streams × ListenerShape x r.listening) e (i place r g)) in
       put_shape h place (opened_by r c) (record { connection = now; is = refl; taken = refl; reader = λ half d. (let q : record { side = c.side } ≡ half = cc in ap (λ y. y.side) (sym q)); writer = refl }, k.1) i
   moves_shape _ _ (BeginsConnect h place r side a bound at g d to known own) i = put_shape h place _ (restates r _ (λ c e. let p : state.Default side ≡ state.Connected c = sym d ∙ e in absurd (cc)) (λ x e. let p : state.Default side ≡ state.Listening x = sym d ∙ e in absurd (cc)) (i place r g)) i
-  moves_shape _ _ (BeginsBind h place r side a at g d to own) i = i
   moves_shape _ _ (BeginsWrite h place r s half permit bytes at g e w within own) i =
       let k = i place r g in put_shape h place _ (writes_on r s _ e k (record { side = subst (WriterIs _) w (has_streams r s e k).writer; last = refl; left = (tt, tt) })) i
   moves_shape _ _ (BeginsListen h place r side at g d bound none to own) i =
@@ -125,20 +112,12 @@ module _ (contexts : List WasiSocketsCtx) (line : ℕ) (origin : Step) where
   moves_shape _ _ (BeginsAccept h place r l at g e a own) i = let k = i place r g in put_shape h place _ (k.0, accepts_shape r l e k) i
   moves_shape _ _ (Unlistens h place r op g e c o) i = put_shape h place _ ((i place r g).0, tt) i
   moves_shape _ _ (Forgets h place r l c g e a) i = let k = i place r g in put_shape h place _ (k.0, accepts_shape r l e k) i
-  moves_shape _ _ (Watches h o) i = i
   moves_shape _ _ (Joins h c handle place r l new peer is of u g e a) i =
       let k = i place r g in
       let idle : Tcp2Socket = accepting_now r l _ in
       push_shape (slice_set h.machine.store.sockets place idle) (joined l new peer) (record { connection = _; is = refl; taken = refl; reader = λ half d. (let q : record { side = new } ≡ half = cc in ap (λ y. y.side) (sym q)); writer = refl }, tt) (put_shape h place idle (k.0, accepts_shape r l e k) i)
-  moves_shape _ _ (StandsListen h n place r f) i = i
-  moves_shape _ _ (StandsDrop h n place r at g) i = i
-  moves_shape _ _ (ResumesDrop h n place e) i = i
-  moves_shape _ _ (Unstands h) i = i
-  moves_shape _ _ (Stands h n place r op f e) i = i
-  moves_shape _ _ (Resumes h n place op e) i = i
-  moves_shape _ _ (Ends h) i = i
-  moves_shape _ _ (Lists h jobs) i = i
-  moves_shape _ _ (Takes h handle) i = i
+  -- the others leave all that is looked at
+  moves_shape _ _ _ i = i
 
   pub polls_shape : (es : List Entry) (h : Here) (op : Operation) (after : End × List Item → Here) → Held h op after → Shaped h → Allows Anything (λ fs ended. Shaped (after ended)) es (poll_asks op)
   polls_shape es h _ _ (InHand op e) i = whatever (λ ended. Shaped h) (λ ended. i) es (poll_asks op)

@@ -6,7 +6,7 @@ use Rattle.wasi_tcp.specs.declared.reader.ReadState.TheVariants as reading
 use Rattle.wasi_tcp.specs.declared.socket.Connection.{Connection}
 use Rattle.wasi_tcp.specs.declared.socket.TcpState.TheVariants as state
 use Rattle.wasi_tcp.specs.declared.writer.WriteState.TheVariants as writing
-use Rattle.wasi_laws.proofs.Words.{◌==◌, ◌&&◌, Bool, false, arith, ◌≡◌, true, List, [], ◌∷◌, Option, Some, None, refl, sym, ap, subst, ◌∙◌, ◌⊎◌, inl, inr, ℕ, is_same, ⊤, OpId, Item, Write, ShutdownSend, Last, ShutdownLast, End, Waits, Done, Refused, TcpState, WriteState, Job, then_closed, side_in, side_of, writer_side, writing_side, closing_side, written_by, closed_by, Listening, Not, Begins, Accepts, Unclosed, Streams, Tcp2Socket, IsOn, OfSocket, OfReader, OfWriter, WriterMoves, Collects, Permits, Lasts, LastsAfter, Closes, own_of, Named, no_some, Here, Found, beginning_listen}
+use Rattle.wasi_laws.proofs.Words.{◌==◌, ◌&&◌, Bool, false, arith, ◌≡◌, true, List, [], ◌∷◌, Option, Some, None, refl, sym, ap, subst, ◌∙◌, ◌⊎◌, inl, inr, ℕ, is_same, ⊤, OpId, Item, Write, ShutdownSend, Last, ShutdownLast, End, Waits, Done, Refused, TcpState, WriteState, Job, then_closed, side_in, side_of, writer_side, writing_side, closing_side, written_by, closed_by, Listening, Begins, Accepts, Unclosed, Streams, Tcp2Socket, IsOn, OfSocket, OfReader, OfWriter, WriterMoves, Collects, Permits, Lasts, LastsAfter, Closes, own_of, Named, no_some, Here, Found, beginning_listen}
 
 pub some_same : {A : Type 0} (a b : A) → Some a ≡ Some b → a ≡ b
 some_same a b e = cc
@@ -81,8 +81,7 @@ written_is at job (Refused c given) k = tt
 
 closed_is : (at : OpId) (job : Job) (e : End) → JobIs at job → WriterIs at (closed_by job e)
 closed_is at job Waits k = k
-closed_is at job (Done given) k = tt
-closed_is at job (Refused c given) k = tt
+closed_is at job _ k = tt
 
 pub writer_moves : (at : OpId) (w now : WriteState) → WriterMoves w now → WriterIs at w → WriterIs at now
 writer_moves at _ _ (Collects (writing.Ready half permit)) k = k
@@ -97,9 +96,8 @@ writer_moves at _ _ (Closes w e) k = tt
 -- a writer that has a side has that one
 module _ (at x : OpId) where
   of_writing : (job : Job) (e : End) → JobIs at job → writing_side job e ≡ Some x → at ≡ x
-  of_writing job Waits k w = sym k.side ∙ some_same job.write.who.side x w
-  of_writing job (Done given) k w = sym k.side ∙ some_same job.write.who.side x w
   of_writing job (Refused c given) k w = absurd (cc)
+  of_writing job _ k w = sym k.side ∙ some_same job.write.who.side x w
 
   of_closing : (job : Job) (e : End) → JobIs at job → closing_side job e ≡ Some x → at ≡ x
   of_closing job Waits k w = sym k.side ∙ some_same job.write.who.side x w
@@ -148,10 +146,9 @@ pub restated : (t now : TcpState) (o : Option Streams) (l : Listening) → Uncon
 restated t now o l n m k = (subst (StreamsShape now) (sym (bare t o n k.0)) tt, by_listening l k.1)
   where
     by_listening : (l : Listening) → ListenerShape t l → ListenerShape now l
-    by_listening Not h = tt
-    by_listening (Begins op) h = tt
     by_listening (Accepts l) h = absurd (m l.side h)
     by_listening (Unclosed x) h = h
+    by_listening _ h = tt
 
 -- whatever is on a side of the record is on the side of its socket
 pub on_socket : (r : Tcp2Socket) (x : OpId) → RecordShape r → IsOn r x → side_of r.inner ≡ Some x

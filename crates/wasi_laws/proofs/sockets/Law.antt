@@ -5,7 +5,7 @@ use Rattle.wasi_tcp.specs.declared.listener.Accepting.TheVariants as accepting
 use Rattle.wasi_tcp.specs.declared.socket.TcpState.TheVariants as state
 use Rattle.wasi_host.specs.declared.store.StandingCall.TheVariants as standing
 use Rattle.wasi_walks.proofs.walks.Moves.{Ends}
-use Rattle.wasi_laws.proofs.Words.{◌≡◌, ◌⊎◌, true, inl, inr, ℕ, ◌+◌, ◌≤◌, List, [], ◌∷◌, ◌++◌, Some, None, refl, sym, ap, subst, ◌∙◌, append_assoc, arith, IpSocketAddress, SocketAddressFamily, WasiSocketsCtx, OpId, Call, Told, Entry, Asks, Left, Operation, End, Waits, Done, Refused, Item, CloseLast, NothingLast, ShutdownLast, Given, Connection, poll_asks, Allows, Accepting, WriteState, with_state, connect_ended, Job, job_after, Listener, HoldsAccept, IsAcceptOn, accept_ended, arrived, side_in, side_of, new_socket, Listening, Not, Begins, Accepts, Machine, Streams, Tcp2Socket, Standing, with_listening, own_of, first_state, left_of, new_record, standing_bind, with_inner, with_writer, Reply, Step, Has, entry, run, cut_of, has_back, has_last, Fit, FitListening, accept_name, name_in, Named, next_of, no_some, Starts, Here, put, Own, Used, Unused, ToWrite, Found, NoBind, NoBindStands, Held, InHand, Connects, Listens, Awaits, listen_after, accepting_now, closed_record, new_accept, second_of, joined, Move, Reaches, Leaves, Spends, Changes, ClosesReader, Writes, IsGone, Reconnects, Opens, BeginsConnect, BeginsBind, BeginsWrite, BeginsListen, BeginsAccept, Unlistens, Forgets, Watches, Joins, StandsListen, StandsDrop, ResumesDrop, Unstands, Stands, Resumes, Lists, Takes, socket_of, IsMade, Created, IsOpen, IsAskedOpen, AsksOpenSockets}
+use Rattle.wasi_laws.proofs.Words.{◌≡◌, ◌⊎◌, true, inl, inr, ℕ, ◌+◌, ◌≤◌, List, [], ◌∷◌, ◌++◌, Some, None, refl, sym, ap, subst, ◌∙◌, append_assoc, arith, IpSocketAddress, SocketAddressFamily, WasiSocketsCtx, OpId, Call, Told, Entry, Asks, Left, Operation, End, Waits, Done, Refused, Item, CloseLast, NothingLast, ShutdownLast, Given, Connection, poll_asks, Allows, Accepting, WriteState, with_state, connect_ended, Job, job_after, Listener, HoldsAccept, IsAcceptOn, accept_ended, arrived, side_in, side_of, new_socket, Listening, Not, Begins, Accepts, Machine, Streams, Tcp2Socket, Standing, with_listening, own_of, first_state, left_of, new_record, standing_bind, with_inner, with_writer, Reply, Step, Has, entry, run, cut_of, has_back, has_last, Fit, FitListening, accept_name, name_in, Named, next_of, no_some, Starts, Here, put, Own, Used, Unused, ToWrite, Found, NoBind, NoBindStands, Held, InHand, Connects, Listens, Awaits, listen_after, accepting_now, closed_record, new_accept, second_of, joined, Move, Spends, Changes, ClosesReader, Writes, IsGone, Reconnects, Opens, BeginsConnect, BeginsBind, BeginsWrite, BeginsListen, BeginsAccept, Unlistens, Forgets, Joins, StandsListen, StandsDrop, Unstands, Stands, Resumes, socket_of, IsMade, Created, IsOpen, IsAskedOpen, AsksOpenSockets}
 use Rattle.wasi_laws.proofs.asks.Fronts.{is_calm, IsGivenMade}
 use Rattle.wasi_laws.proofs.asks.Single.{each_ask, Single, Closing, ClosesSocket, ClosesListen, ClosesArrived, IsAskedOn, OnNone, OnSide, creating}
 use Rattle.wasi_laws.proofs.asks.Trees.{GoesOn}
@@ -43,8 +43,6 @@ module _ (line : ℕ) where
 
   module _ {origin : Step} where
     moves : (es : List Entry) (h now : Here) → Move line origin h now → Named line h → Kept line es h → Kept line es now
-    moves es _ _ (Reaches h handle place k e) n i = i
-    moves es _ _ (Leaves h) n i = i
     moves es _ _ (Spends h e) n i = later es (line + 1) (by_own h.own) i
     moves es _ _ (Changes h place r now g p) n i = put_kept es h place r now g (follows_same r now (record { side = p.side; streams = p.streams; listening = p.listening; does = p.does })) (inl p.listening) i
     moves es _ _ (ClosesReader h place r s g e) n i = put_kept es h place r _ g (record { side = refl; lives = λ x v. v }) (inl refl) i
@@ -67,14 +65,12 @@ module _ (line : ℕ) where
         }) i)
     moves es _ _ (Unlistens h place r op g e c o) n i = put_kept es h place r _ g (follows_quiet r _ refl refl (λ b. b)) (inr refl) i
     moves es _ _ (Forgets h place r l c g e a) n i = put_kept es h place r _ g (follows_quiet r _ refl refl (λ b. b)) (inr refl) i
-    moves es _ _ (Watches h o) n i = i
     moves es _ _ (Joins h c handle place r l new peer is of u g e a) n i =
         let o = arrived_open es h place r l new peer g e a i in
         push_open es (joined l new peer) (record { lives = λ x v. subst (IsOpen es) (some_same new x v.0) o; named = λ x p. absurd (no_some x p); arrived = λ k x y p q. absurd (cc) })
         (put_kept es h place r (accepting_now r l accepting.Idle) g (follows_quiet r _ refl refl (λ b. b)) (inr refl) i)
     moves es _ _ (StandsListen h m place r f) n i = record { records = i.records; hand = i.hand; stands = λ k p op e. absurd (subst NoBindStands e tt); older = i.older }
     moves es _ _ (StandsDrop h m place r at g) n i = record { records = i.records; hand = i.hand; stands = λ k p op e. absurd (subst NoBindStands e tt); older = i.older }
-    moves es _ _ (ResumesDrop h m place e) n i = i
     moves es _ _ (Unstands h) n i = record { records = i.records; hand = i.hand; stands = λ k p op e. absurd (cc); older = i.older }
     moves es _ _ (Stands h m place r op f e) n i = record { records = i.records; hand = λ o p. absurd (cc); stands = λ k p o q. subst (λ (x : Operation). IsOpen es x.who.side) (stood m k place p op o q) (i.hand op e); older = i.older }
       where
@@ -82,8 +78,8 @@ module _ (line : ℕ) where
         stood m k place p op o q = let s : standing_bind m place op ≡ standing_bind k p o = cc in let c : standing.Bind place op ≡ standing.Bind p o = ap (λ (x : Standing). x.call) s in cc
     moves es _ _ (Resumes h m place op e) n i = record { records = i.records; hand = λ o p. subst (λ (x : Operation). IsOpen es x.who.side) (some_same op o p) (i.stands m place op e); stands = λ k p o q. absurd (cc); older = i.older }
     moves es _ _ (Ends h) n i = record { records = i.records; hand = λ o p. absurd (cc); stands = i.stands; older = i.older }
-    moves es _ _ (Lists h jobs) n i = i
-    moves es _ _ (Takes h handle) n i = i
+    -- the others leave all that is looked at
+    moves es _ _ _ n i = i
 
   -- == what goes on
   -- a side of the record is closed by these entries, and it is so then

@@ -1,10 +1,10 @@
-use Rattle.wasi_steps.specs.declared.step.Step.TheVariants as step
-use Rattle.wasi_steps.specs.declared.reply.Reply.TheVariants as reply
 use Rattle.std.proofs.Common.{refl}
-use Rattle.wasi_steps.specs.declared.reply.CodeWord.TheVariants as word
-use Rattle.wasi_causes.proofs.runs.States.{finishes_refused_in_runs}
-use Rattle.wasi_causes.proofs.tables.Steps.{its_own, while_free}
+use Rattle.wasi_causes.proofs.Runs.{finishes_refused_in_runs}
 use Rattle.wasi_causes.proofs.causes.finish_connect_refusals.Goals as goal
+use Rattle.wasi_causes.proofs.tables.Steps.{its_own, while_free}
+use Rattle.wasi_steps.specs.declared.reply.CodeWord.TheVariants as word
+use Rattle.wasi_steps.specs.declared.reply.Reply.TheVariants as reply
+use Rattle.wasi_steps.specs.declared.step.Step.TheVariants as step
 
 pub returns : goal.returns
 returns c = record {

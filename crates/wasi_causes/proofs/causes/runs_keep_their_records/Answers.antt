@@ -1,4 +1,4 @@
-use Rattle.wasi_causes.proofs.runs.States.{runs_have_records, runs_miss_no_record, runs_stand_on_records, runs_may_finish, runs_listen_late}
+use Rattle.wasi_causes.proofs.Runs.{runs_have_records, runs_miss_no_record, runs_stand_on_records, runs_may_finish, runs_listen_late}
 use Rattle.wasi_causes.proofs.causes.runs_keep_their_records.Goals as goal
 
 pub returns : goal.returns

@@ -1,8 +1,8 @@
-use Rattle.wasi_steps.specs.declared.step.Step.TheVariants as step
-use Rattle.wasi_steps.specs.declared.reply.Reply.TheVariants as reply
-use Rattle.wasi_causes.proofs.runs.States.{listens_refused_in_runs}
-use Rattle.wasi_causes.proofs.tables.Steps.{its_own, while_free}
+use Rattle.wasi_causes.proofs.Runs.{listens_refused_in_runs}
 use Rattle.wasi_causes.proofs.listens.start_listen_refusals.Goals as goal
+use Rattle.wasi_causes.proofs.tables.Steps.{its_own, while_free}
+use Rattle.wasi_steps.specs.declared.reply.Reply.TheVariants as reply
+use Rattle.wasi_steps.specs.declared.step.Step.TheVariants as step
 
 pub returns : goal.returns
 returns c = record {

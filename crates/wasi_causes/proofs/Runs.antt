@@ -1,14 +1,19 @@
--- Of the machines that runs lead to: what a socket connects by is a connect, what a listener accepts by an accept, what stands by a bind is a bind, and by a listen a listen; each live handle and what stands are of a record that is there, a connect in progress may be finished, and a socket that does nothing yet doesn't listen.
-use Rattle.std.proofs.Common.{◌≡◌, ℕ, List, [], Option, Some, None, slice_get, refl, inl, inr, true, ◌∷◌, ◌++◌, Result, Ok, Err, sym, ap, subst, ◌∙◌, length, slice_set}
-use Rattle.std.specs.Prelude.{IfSome, ⊤, ◌⊎◌}
+-- Of the machines that runs lead to: what a socket connects by is a connect, what a listener accepts by an accept, what stands
+-- by a bind is a bind, and by a listen a listen; each live handle and what stands are of a record that is there, a connect in
+-- progress may be finished, and a socket that does nothing yet doesn't listen.
+use Rattle.std.proofs.Common.{◌≡◌, ℕ, List, [], Option, Some, None, slice_get, refl, inl, inr, true, ◌∷◌, ◌++◌, Result, Ok, Err, sym, ap, subst, ◌∙◌, length, slice_set, Bool, false, if◌then◌else◌, ◌==◌}
+use Rattle.std.specs.Prelude.{IfSome, ⊤, ◌⊎◌, IsSome, IsSomeAnd}
 use Rattle.wasi_addr.specs.declared.code.ErrorCode.{ErrorCode}
-use Rattle.wasi_causes.specs.Reached.{MayFinish, ListensLate}
+use Rattle.wasi_causes.proofs.tables.Steps.{its_own}
+use Rattle.wasi_causes.specs.Outcomes.{Traps}
+use Rattle.wasi_causes.specs.Reached.{MayFinish, ListensLate, HasRecord, OfItsRecord, IsUndone, RefusedInRun, ListenRefusedInRun}
 use Rattle.wasi_host.specs.Kinds.{kind_at, watch_of, place_in, make_asks, table_parent, with_handle, without_handle}
 use Rattle.wasi_host.specs.Listening.{give_up_asks, with_listening}
 use Rattle.wasi_host.specs.Machine.{first_state, socket_at, own_of, side_at, created_asks}
+use Rattle.wasi_host.specs.Pending.{bind_in, listen_in, waiting_bind, waiting_listen}
 use Rattle.wasi_host.specs.Store.{is_connect, new_record, with_record, with_inner, with_writer}
 use Rattle.wasi_host.specs.declared.kind.Kind.{Kind}
-use Rattle.wasi_host.specs.declared.kind.Kind.TheVariants.{Tcp2, Input, Output}
+use Rattle.wasi_host.specs.declared.kind.Kind.TheVariants.{Tcp2, Input, Output, Pollable}
 use Rattle.wasi_host.specs.declared.kind.Watched.{Watched}
 use Rattle.wasi_host.specs.declared.listening.Listening.{Listening}
 use Rattle.wasi_host.specs.declared.listening.Listening.TheVariants as listening
@@ -23,16 +28,19 @@ use Rattle.wasi_walks.proofs.fits.Lines.{first_fit, starts_fit}
 use Rattle.wasi_walks.proofs.fits.Polls.{Anything}
 use Rattle.wasi_walks.proofs.fits.Records.{FitListening, FitRecord, FitCall}
 use Rattle.wasi_walks.proofs.walks.Law.{Law}
-use Rattle.wasi_walks.proofs.walks.Moves.{closed_record, Held, InHand, Connects, Here, put, Move, Reaches, Leaves, Spends, Changes, ClosesReader, Writes, IsGone, Reconnects, Opens, BeginsConnect, BeginsBind, BeginsWrite, Stands, Resumes, Ends, Lists, Takes, BeginsListen, BeginsAccept, Unlistens, Forgets, Watches, Joins, StandsListen, StandsDrop, ResumesDrop, Unstands, Listens, Awaits, listen_after, accepting_now, joined, IsConnecting, Marks, ANetwork, AStream, AnAcceptedStream, APollable, AnError, record_of}
+use Rattle.wasi_walks.proofs.walks.Moves.{closed_record, Held, InHand, Connects, Here, put, Move, Changes, ClosesReader, Writes, IsGone, Reconnects, Opens, BeginsConnect, BeginsWrite, Stands, Resumes, Lists, Takes, BeginsListen, BeginsAccept, Unlistens, Forgets, Joins, StandsListen, StandsDrop, Unstands, Listens, Awaits, listen_after, accepting_now, joined, IsConnecting, Marks, AStream, AnAcceptedStream, APollable, record_of}
 use Rattle.wasi_walks.proofs.walks.Runs.{run_ends}
-use Rattle.wasi_walks.proofs.walks.States.{Over}
+use Rattle.wasi_walks.proofs.walks.States.{Over, socket_record}
 use Rattle.wasi_walks.proofs.walks.Steps.{may_while, machine_walks}
-use Rattle.wasi_walks.specs.Answered.{record_in, ConnectsAt}
+use Rattle.wasi_walks.specs.Answered.{record_in, ConnectsAt, Answered, record_at, RefusedOf, StandsOnNothing, FinishRefusal, NoConnect, StillConnects, Closes, WasClosed, NotConnecting, ListensAlready, ReceivesAlready, SendsAlready}
 use Rattle.wasi_walks.specs.Listens.{AcceptsIn, AcceptsAt, IsPastNot}
 use Rattle.wasi_machine.specs.Machine.{run, machine_asks}
 use Rattle.wasi_walks.specs.Waiting.{watched_in, WatchesConnect, WatchesAccept, IsListening, HoldsCall, StandsByBind}
+use Rattle.wasi_steps.specs.declared.reply.CodeWord.{CodeWord}
 use Rattle.wasi_steps.specs.declared.reply.Reply.{Reply}
+use Rattle.wasi_steps.specs.declared.reply.Reply.TheVariants as reply
 use Rattle.wasi_steps.specs.declared.step.Step.{Step}
+use Rattle.wasi_steps.specs.declared.step.Step.TheVariants as step
 use Rattle.wasi_streams.proofs.Tables.{value_without}
 use Rattle.wasi_streams.specs.Table.{is_full}
 use Rattle.wasi_tcp.specs.Connecting.{with_state, connect_ended}
@@ -50,6 +58,8 @@ use Rattle.wasi_world.specs.Operation.{Operation, End, Waits, Done, Refused, Ite
 use Rattle.wasi_world.specs.Typed.{told_addr}
 use Rattle.wasi_world.specs.declared.call.Entry.{Entry}
 use Rattle.wasi_world.specs.declared.ids.OpId.{OpId}
+use Rattle.wasi_world.specs.declared.outcome.TrapKind.{TrapKind}
+use Rattle.wasi_world.specs.declared.outcome.TrapKind.TheVariants.{NoSuchHandle, HasChildren, Full, NotPermitted}
 use Rattle.wasi_world.specs.declared.outcome.WasiSocketsCtx.{WasiSocketsCtx}
 
 -- == of a record
@@ -183,9 +193,8 @@ connecting_may (state.Connecting op) c = tt
 connecting_may _ c = absurd c
 
 connected_may : (who : Who) (end : End × List Item) → MayFinish (connect_ended who end).1
-connected_may who (Waits, left) = tt
 connected_may who (Done given, left) = (refl, refl)
-connected_may who (Refused c given, left) = tt
+connected_may who (_, left) = tt
 
 never_default : (who : Who) (end : End × List Item) (side : OpId) → (connect_ended who end).1 ≡ state.Default side → ⊥
 never_default who (Waits, left) side e = absurd (cc)
@@ -205,9 +214,6 @@ listened_sound op r (Refused c given, left) e s = (s.0, λ side d. refl)
 
 module _ (contexts : List WasiSocketsCtx) (line : ℕ) (origin : Step) where
   moves_steady : (h now : Here) → Move line origin h now → Steady h.machine → Steady now.machine
-  moves_steady _ _ (Reaches h handle place n e) i = i
-  moves_steady _ _ (Leaves h) i = i
-  moves_steady _ _ (Spends h e) i = i
   moves_steady _ _ (Changes h place r now g p) i = put_steady h place now (λ c. subst MayFinish (sym p.does) (elim (p.connects c) [ inl k ↦ (i.records place r g).0 k | inr k ↦ connecting_may r.inner.state k ]), λ side d. p.listening ∙ (i.records place r g).1 side (sym p.does ∙ d)) i
   moves_steady _ _ (ClosesReader h place r s g e) i = put_steady h place _ (i.records place r g) i
   moves_steady _ _ (Writes h place r s w g e m) i = put_steady h place _ (i.records place r g) i
@@ -215,28 +221,25 @@ module _ (contexts : List WasiSocketsCtx) (line : ℕ) (origin : Step) where
   moves_steady _ _ (Reconnects h place r c now g e s t u) i = put_steady h place _ (λ k. (let f : MayFinish (state.Connected c) = subst MayFinish e ((i.records place r g).0 k) in ((u k).0 ∙ f.0, (u k).1 ∙ f.1)), λ side d. absurd (cc)) i
   moves_steady _ _ (Opens h place r c g e n) i = put_steady h place _ (λ k. absurd (cc), λ side d. absurd (cc)) i
   moves_steady _ _ (BeginsConnect h place r side a bound at g d to known own) i = put_steady h place _ (λ k. tt, λ s e. absurd (cc)) i
-  moves_steady _ _ (BeginsBind h place r side a at g d to own) i = i
   moves_steady _ _ (BeginsWrite h place r s half permit bytes at g e w within own) i = put_steady h place _ (i.records place r g) i
   moves_steady _ _ (BeginsListen h place r side at g d bound none to own) i = put_steady h place _ (λ k. tt, λ s e. absurd (cc)) i
   moves_steady _ _ (BeginsAccept h place r l at g e a own) i = put_steady h place _ (listens_on r l _ e (i.records place r g)) i
   moves_steady _ _ (Unlistens h place r op g e c o) i = put_steady h place _ ((i.records place r g).0, λ side d. refl) i
   moves_steady _ _ (Forgets h place r l c g e a) i = put_steady h place _ (listens_on r l accepting.Idle e (i.records place r g)) i
-  moves_steady _ _ (Watches h o) i = i
   moves_steady _ _ (Joins h c handle place r l new peer is of u g e a) i =
       let k = put_steady h place (accepting_now r l accepting.Idle) (listens_on r l accepting.Idle e (i.records place r g)) i in push_steady (put h place (accepting_now r l accepting.Idle)).machine (joined l new peer) (λ c. absurd (cc), λ side d. absurd (cc)) k
   moves_steady _ _ (StandsListen h n place r g) i = stand_steady h.machine _ (r, g) i
   moves_steady _ _ (StandsDrop h n place r at g) i = stand_steady h.machine _ (r, g) i
-  moves_steady _ _ (ResumesDrop h n place e) i = i
   moves_steady _ _ (Unstands h) i = record { records = i.records; handles = i.handles; stands = λ c e. absurd (cc) }
   moves_steady _ _ (Stands h n place r op g e) i = stand_steady h.machine _ (r, g) i
   moves_steady _ _ (Resumes h n place op e) i = record { records = i.records; handles = i.handles; stands = λ c e. absurd (cc) }
-  moves_steady _ _ (Ends h) i = i
   moves_steady _ _ (Lists h jobs) i = record { records = i.records; handles = i.handles; stands = i.stands }
   moves_steady _ _ (Takes h handle) i = record { records = i.records; handles = λ k place e. i.handles k place (still k place (kind_at (without_handle h.machine.table handle) k) refl e); stands = i.stands }
     where
       still : (k place : ℕ) (o : Option Kind) → kind_at (without_handle h.machine.table handle) k ≡ o → record_of o ≡ Some place → record_of (kind_at h.machine.table k) ≡ Some place
       still k place None q e = absurd (cc)
       still k place (Some kind) q e = ap record_of (value_without h.machine.table.live handle k kind q) ∙ e
+  moves_steady _ _ _ i = i
 
   -- == what is made
   one_of_two : (kind : Kind) (its place : ℕ) → (kind ≡ Input its) ⊎ (kind ≡ Output its) → record_of (Some kind) ≡ Some place → its ≡ place
@@ -244,11 +247,10 @@ module _ (contexts : List WasiSocketsCtx) (line : ℕ) (origin : Step) where
   one_of_two kind its place (inr e) p = let q : record_of (Some kind) ≡ Some its = ap (λ (x : Kind). record_of (Some x)) e in cc
 
   marks_there : (h : Here) (kind : Kind) (parent : Option ℕ) (sock : Option OpId) → Marks origin h kind parent sock → Steady h.machine → (place : ℕ) → record_of (Some kind) ≡ Some place → IsThere h.machine.store.sockets place
-  marks_there h _ _ _ (ANetwork c is) i place e = absurd (cc)
   marks_there h kind _ _ (AStream c handle its _ is two of) i place e = i.handles handle place (of ∙ ap (λ (x : ℕ). Some x) (one_of_two kind its place two e))
   marks_there h kind _ _ (AnAcceptedStream c listener handle its _ r is two made own g) i place e = subst (IsThere h.machine.store.sockets) (one_of_two kind its place two e) (r, g)
   marks_there h _ _ _ (APollable c handle w is of) i place e = i.handles handle place (of ∙ e)
-  marks_there h _ _ _ (AnError handle its is of) i place e = absurd (cc)
+  marks_there h _ _ _ _ i place e = absurd (cc)
 
   joins : (es : List Entry) (m : Machine) (op : OpId) (made : Result Socket ErrorCode) → Steady m → Allows Anything (λ fs done. Steady done.1) es (created_asks m op made)
   joins es m op (Ok socket) i =
@@ -287,3 +289,104 @@ module _ (contexts : List WasiSocketsCtx) (line : ℕ) (origin : Step) where
 pub runs_are_steady : (contexts : List WasiSocketsCtx) (steps : List Step) (es : List Entry) (replies : List Reply) (m : Machine) → Left (run contexts [] first_state 1 steps) es (Give (replies, m)) → Steady m
 runs_are_steady contexts steps es replies m w =
     (run_ends contexts Anything (λ line fs now. Steady now) (λ line s now fs i. line_steady contexts line s now fs i) (record { records = λ place r e. absurd (cc); handles = λ handle place e. absurd (cc); stands = λ c e. absurd (cc) }) steps es replies m w).1
+
+module _ (m : Machine) (i : Steady m) where
+  has_record : (place : ℕ) → IsThere m.store.sockets place → HasRecord m place
+  has_record place (r, g) = subst IsSome (sym g) refl
+
+  of_its_record : (handle : ℕ) (kind : Kind) → kind_at m.table handle ≡ Some kind → OfItsRecord m kind
+  of_its_record handle (Tcp2 place) e = has_record place (i.handles handle place (ap record_of e))
+  of_its_record handle (Input place) e = has_record place (i.handles handle place (ap record_of e))
+  of_its_record handle (Output place) e = has_record place (i.handles handle place (ap record_of e))
+  of_its_record handle (Pollable w) e = has_record _ (i.handles handle _ (ap record_of e))
+  of_its_record handle _ e = tt
+
+  not_none : (place : ℕ) → IsThere m.store.sockets place → slice_get m.store.sockets place ≡ None → ⊥
+  not_none place (r, g) e = absurd (cc)
+
+  is_no_socket : (handle : ℕ) → record_at m handle ≡ None → socket_at m handle ≡ None
+  is_no_socket handle e = by_place (socket_at m handle) refl e
+    where
+      by_place : (o : Option ℕ) → socket_at m handle ≡ o → record_in m o ≡ None → o ≡ None
+      by_place None q k = refl
+      by_place (Some place) q k = absurd (not_none place (i.handles handle place (socket_record (kind_at m.table handle) place q)) k)
+
+  module _ (s : Standing) (e : m.store.standing ≡ Some s) where
+    there : (call : StandingCall) → s.call ≡ call → IsThere m.store.sockets (call_place call)
+    there call c = subst (λ (x : StandingCall). IsThere m.store.sockets (call_place x)) c (i.stands s e)
+
+    on_nothing : (call : StandingCall) (same : Bool) → s.call ≡ call
+        → IsSomeAnd (if same then bind_in call else None) (λ b. slice_get m.store.sockets b.0 ≡ None) ⊎ IsSomeAnd (if same then listen_in call else None) (λ place. slice_get m.store.sockets place ≡ None) → ⊥
+    on_nothing (standing.Bind place op) true c (inl none) = not_none place (there _ c) none
+    on_nothing (standing.Bind place op) true c (inr none) = absurd none
+    on_nothing (standing.Listen place) true c (inl none) = absurd none
+    on_nothing (standing.Listen place) true c (inr none) = not_none place (there _ c) none
+    on_nothing (standing.DropOutput place) true c (inl none) = absurd none
+    on_nothing (standing.DropOutput place) true c (inr none) = absurd none
+    on_nothing call false c (inl none) = absurd none
+    on_nothing call false c (inr none) = absurd none
+
+  stands_on : (n : ℕ) → StandsOnNothing m n → ⊥
+  stands_on n k = by_standing m.store.standing refl k
+    where
+      by_standing : (o : Option Standing) → m.store.standing ≡ o
+          → IsSomeAnd (waiting_bind o n) (λ b. slice_get m.store.sockets b.0 ≡ None) ⊎ IsSomeAnd (waiting_listen o n) (λ place. slice_get m.store.sockets place ≡ None) → ⊥
+      by_standing None e (inl none) = absurd none
+      by_standing None e (inr none) = absurd none
+      by_standing (Some s) e none = on_nothing s e s.call (s.line == n) refl none
+
+  -- == a finish of a connect
+  undone : (place : ℕ) (r : Tcp2Socket) (entries : List Entry) (w : CodeWord) (after : Machine) → Finishes r → FinishRefusal m place r entries w after → is_connect r.in_progress ≡ true → IsUndone r.inner.state
+  undone place r _ _ _ f (NoConnect n e) k = absurd (cc)
+  undone place r _ _ _ f (StillConnects op left c s e) k = subst IsUndone (sym s) tt
+  undone place r _ _ _ f (Closes op why c s e) k = subst IsUndone (sym s) tt
+  undone place r _ _ _ f (WasClosed why c s e) k = subst IsUndone (sym s) tt
+  undone place r _ _ _ f (NotConnecting side c s e) k = absurd (subst MayFinish s (f k))
+  undone place r _ _ _ f (ListensAlready side c s e) k = absurd (subst MayFinish s (f k))
+  undone place r _ _ _ f (ReceivesAlready connection c s t e) k = let q : MayFinish (state.Connected connection) = subst MayFinish s (f k) in let p : connection.receive_taken ≡ false = q.0 in absurd (cc)
+  undone place r _ _ _ f (SendsAlready connection c s t e) k = let q : MayFinish (state.Connected connection) = subst MayFinish s (f k) in let p : connection.send_taken ≡ false = q.1 in absurd (cc)
+
+module _ (contexts : List WasiSocketsCtx) (steps : List Step) (log : List Entry) (replies : List Reply) (m : Machine) (w : Left (run contexts [] first_state 1 steps) log (Give (replies, m))) where
+  run_steady : Steady m
+  run_steady = runs_are_steady contexts steps log replies m w
+
+  pub runs_have_records : (handle : ℕ) (kind : Kind) → kind_at m.table handle ≡ Some kind → OfItsRecord m kind
+  runs_have_records = of_its_record m run_steady
+
+  pub runs_miss_no_record : (handle : ℕ) → record_at m handle ≡ None → socket_at m handle ≡ None
+  runs_miss_no_record = is_no_socket m run_steady
+
+  pub runs_stand_on_records : (n : ℕ) → StandsOnNothing m n → ⊥
+  runs_stand_on_records = stands_on m run_steady
+
+  pub runs_may_finish : (place : ℕ) (r : Tcp2Socket) → slice_get m.store.sockets place ≡ Some r → is_connect r.in_progress ≡ true → MayFinish r.inner.state
+  runs_may_finish place r g = (run_steady.records place r g).0
+
+  pub runs_listen_late : (place : ℕ) (r : Tcp2Socket) → slice_get m.store.sockets place ≡ Some r → ListensLate r
+  runs_listen_late place r g = (run_steady.records place r g).1
+
+  pub finishes_refused_in_runs : (line ctx handle : ℕ) (entries : List Entry) (word : CodeWord) (after : Machine) → Answered contexts m line (step.TcpFinishConnect ctx handle) entries (reply.Err word) after → RefusedOf m handle (RefusedInRun m) entries word after
+  finishes_refused_in_runs line ctx handle entries word after a =
+      let k = (its_own contexts m line (step.TcpFinishConnect ctx handle) entries (reply.Err word) after a (λ e. cc)).1.1.cause (runs_connect contexts steps log replies m w handle) in
+      record {
+        place = k.place;
+        found = k.found;
+        names = k.names;
+        at = k.at;
+        holds = record { cause = k.holds; undone = undone m run_steady k.place k.found entries word after (run_steady.records k.place k.found k.at).0 k.holds };
+      }
+
+  pub listens_refused_in_runs : (line ctx handle : ℕ) (entries : List Entry) (word : CodeWord) (after : Machine) → Answered contexts m line (step.TcpStartListen ctx handle) entries (reply.Err word) after → RefusedOf m handle (ListenRefusedInRun m (own_of line)) entries word after
+  listens_refused_in_runs line ctx handle entries word after a =
+      let k = (its_own contexts m line (step.TcpStartListen ctx handle) entries (reply.Err word) after a (λ e. cc)).1.1.0 in
+      record { place = k.place; found = k.found; names = k.names; at = k.at; holds = record { cause = k.holds; late = runs_listen_late k.place k.found k.at } }
+
+  no_trap : (line n : ℕ) (entries : List Entry) (kind : TrapKind) (after : Machine) → Traps contexts m line (step.Poll n) entries kind after → ⊥
+  no_trap line n entries NoSuchHandle after h = stands_on m run_steady n h.0
+  no_trap line n entries HasChildren after h = h.0
+  no_trap line n entries Full after h = h.0
+  no_trap line n entries NotPermitted after h = h.0
+  no_trap line n entries _ after h = h
+
+  pub polls_never_trap : (line n : ℕ) (entries : List Entry) (kind : TrapKind) (after : Machine) → Answered contexts m line (step.Poll n) entries (reply.Trap kind) after → ⊥
+  polls_never_trap line n entries kind after a = no_trap line n entries kind after (its_own contexts m line (step.Poll n) entries (reply.Trap kind) after a (λ e. cc)).1
