@@ -235,10 +235,7 @@ module _ (contexts : List WasiSocketsCtx) (m : Machine) (line c handle : ℕ) wh
 
     -- == of a socket
     module _ (place : ℕ) (is : IsKind (Tcp2 place)) where
-      abbrev ReleaseRow : Rows (Unit {0} × Records)
-      ReleaseRow es done = DropRow es (answered (with_store (without m handle) (at_once done)))
-
-      left : (r : Tcp2Socket) → slice_get m.store.sockets place ≡ Some r → (es : List Entry) (done : Unit {0} × Tcp2Socket) → Released own r es done.1 → ReleaseRow es (tt, released m.store place done.1)
+      left : (r : Tcp2Socket) → slice_get m.store.sockets place ≡ Some r → (es : List Entry) (done : Unit {0} × Tcp2Socket) → Released own r es done.1 → DropRow es (answered (with_store (without m handle) (at_once (tt, released m.store place done.1))))
       left r at es (done, now) k =
           let same : now ≡ gone r k.socket = k.is in
           rw same (
@@ -246,7 +243,7 @@ module _ (contexts : List WasiSocketsCtx) (m : Machine) (line c handle : ℕ) wh
             (tt, (refl, rw is (λ q there. let its : r ≡ q = cc in (rw (sym its) k.asked, record { found = gone r k.socket; at = set_there m.store.sockets place r (gone r k.socket) at; side = k.no_side; listening = refl; streams = refl; idle = refl; job = no_job place m.store.jobs })))),
           )
 
-      by_record : (o : Option Tcp2Socket) → slice_get m.store.sockets place ≡ o → Meets ReleaseRow [] (release_at m.store own place o)
+      by_record : (o : Option Tcp2Socket) → slice_get m.store.sockets place ≡ o → Meets (λ es done. DropRow es (answered (with_store (without m handle) (at_once done)))) [] (release_at m.store own place o)
       by_record None at = ends ((apart (λ e. cc) no_children, rw is tt), (tt, (refl, rw is (λ r there. absurd (cc)))))
       by_record (Some r) at = onto _ (widen (left r at) (releases own r))
 

@@ -46,7 +46,6 @@ use Rattle.wasi_tcp.specs.Listen.{IsListen, is_over as listen_over}
 use Rattle.wasi_tcp.specs.Listener.{Listener, ready_end, HoldsAccept}
 use Rattle.wasi_tcp.specs.Listening.{listen_ended}
 use Rattle.wasi_tcp.specs.Reader.{reader_ready_asks}
-use Rattle.wasi_tcp.specs.Shape.{Socket}
 use Rattle.wasi_tcp.specs.Socket.{side_of}
 use Rattle.wasi_tcp.specs.declared.halves.TcpReceiveStream.{TcpReceiveStream}
 use Rattle.wasi_tcp.specs.declared.listener.Accepting.{Accepting}
@@ -110,28 +109,22 @@ module _ (line : ℕ) (r : Tcp2Socket) where
     SocketRow = RecordRow (watched.Socket place)
 
     module _ (connects : is_connect r.in_progress ≡ true) where
-      abbrev StateRow : Rows (Result (Answer (Unit {0})) ErrorCode × TcpState)
-      StateRow es done = SocketRow es (connect_looked r (in_socket r.inner done))
-
       connecting : IsAtWork (watched.Socket place)
       connecting idle = let none = idle.0 in cc
 
       over : (es : List Entry) (now : Tcp2Socket) → IsIdle es now (watched.Socket place)
       over es now idle = absurd (connecting idle)
 
-      ended : (op : Operation) → r.inner.state ≡ state.Connecting op → (es : List Entry) (end : End × List Item) → (HoldsConnect (state.Connecting op) → EndsFor op (ClosedBy op) es end) → StateRow es (connect_ended op.who end)
+      ended : (op : Operation) → r.inner.state ≡ state.Connecting op → (es : List Entry) (end : End × List Item) → (HoldsConnect (state.Connecting op) → EndsFor op (ClosedBy op) es end) → SocketRow es (connect_looked r (in_socket r.inner (connect_ended op.who end)))
       ended op e es (Waits, items) h = (connecting, λ holds accepts. ConnectWaits place op connects e (h (rw e at holds)))
       ended op e es (_, items) h = over es _
 
-      by_state : (st : TcpState) → r.inner.state ≡ st → Meets StateRow [] (finish_in st)
+      by_state : (st : TcpState) → r.inner.state ≡ st → Meets (λ es done. SocketRow es (connect_looked r (in_socket r.inner done))) [] (finish_in st)
       by_state (state.Connecting op) e = onto _ (widen (ended op e) (granted (connect_ends op)))
       by_state _ e = ends (over [] _)
 
     -- == a listener
     module _ (idle : is_nothing r.in_progress ≡ true) (l : Listener) (is : r.listening ≡ listening.Accepts l) where
-      abbrev ListenerRow : Rows (Answer (Unit {0}) × Listener)
-      ListenerRow es done = SocketRow es (accept_looked r done)
-
       not_idle : (is_nothing r.in_progress ≡ false) ⊎ HasNoListener r.listening → ⊥
       not_idle (inl busy) = cc
       not_idle (inr none) = rw is at none
@@ -145,7 +138,7 @@ module _ (line : ℕ) (r : Tcp2Socket) where
       waits_on : (es : List Entry) → (HoldsAccept l.side l.maker l.accept → AcceptWaits (accept_name line l.accept) es) → IsUnreadySo es (watched.Socket place)
       waits_on es h holds accepts = AcceptWaitsOn place l idle is (h (rw is at accepts))
 
-      looked : (es : List Entry) (a : Accepting) → marks_in es ≡ 0 → AcceptRow line l es a → ListenerRow es (ready_end l a)
+      looked : (es : List Entry) (a : Accepting) → marks_in es ≡ 0 → AcceptRow line l es a → SocketRow es (accept_looked r (ready_end l a))
       looked es accepting.Idle none h = (accepting_on, waits_on es (λ own. absurd (h own)))
       looked es (accepting.Asking op) none h = (accepting_on, waits_on es h.1)
       looked es _ none h = has_result es _
@@ -305,9 +298,6 @@ module _ (contexts : List WasiSocketsCtx) (m : Machine) (line n : ℕ) where
       gives_up none = fails (Listen place) stands_listening InvalidState refl (λ binds. NoListen place (rw at none) refl)
 
       module _ (op : Operation) (is : r.listening ≡ listening.Begins op) where
-        abbrev PolledRow : Rows (Result (Answer Listener) ErrorCode × (Operation × Socket))
-        PolledRow es done = BegunRow es (listen_polled r done)
-
         is_listen : StandsByBind m → IsListen op
         is_listen binds =
             let k : IfSome (slice_get m.store.sockets place) (λ q. IsListening q.listening) = rw stands_listening at binds in
@@ -317,7 +307,7 @@ module _ (contexts : List WasiSocketsCtx) (m : Machine) (line n : ℕ) where
         waits_so : (es : List Entry) → EndsPending op.who.id es → CallWaits m (own_of n) es (Listen place)
         waits_so es h = let k : ListenWaits r.listening es = rw is h in rw at k
 
-        listen_ends : (es : List Entry) (end : End × List Item) → (IsListen op → EndsFor op (ListenEnds op) es end) → PolledRow es (listen_ended op.who r.inner end)
+        listen_ends : (es : List Entry) (end : End × List Item) → (IsListen op → EndsFor op (ListenEnds op) es end) → BegunRow es (listen_polled r (listen_ended op.who r.inner end))
         listen_ends es (Waits, items) h = waits (Listen place) stands_listening (Listen place) refl (λ binds. waits_so es (h (is_listen binds)))
         listen_ends es (Done given, items) h = done (Listen place) stands_listening refl
         listen_ends es (Refused code given, items) h = fails (Listen place) stands_listening code refl (λ binds. ListenFailed place r op code at is (h (is_listen binds)))

@@ -27,7 +27,6 @@ use Rattle.wasi_walks.specs.Licence.{entry, marks_in}
 use Rattle.wasi_walks.specs.Listens.{accept_name, AcceptWaits, accepting_now, NoListener, StillAccepts, AcceptFailed, AcceptGives, accepted_marks, AcceptsAt}
 use Rattle.wasi_machine.specs.Machine.{handle_reply, context_at, pair_reply, triple_reply, first_ids}
 use Rattle.wasi_steps.specs.Reply.{triple_fields}
-use Rattle.wasi_steps.specs.declared.reply.CodeWord.{CodeWord}
 use Rattle.wasi_steps.specs.declared.reply.CodeWord.TheVariants as word
 use Rattle.wasi_steps.specs.declared.reply.Reply.TheVariants as reply
 use Rattle.wasi_steps.specs.declared.step.Step.TheVariants as step
@@ -98,16 +97,13 @@ module _ (contexts : List WasiSocketsCtx) (m : Machine) (line c handle : ℕ) wh
   abbrev FinishSays : Rows (Result (ℕ × ℕ) Stop × Machine)
   FinishSays es done = Outcome contexts m line (step.TcpFinishConnect c handle) es (pair_reply done.0) done.1
 
-  abbrev HasNone : Type 0
-  HasNone = HasNoConnectInProgress (record_at m handle)
-
   abbrev PollRow : Rows (Result (Unit {0}) Stop × Records)
-  PollRow es (Ok done, store) = (HasNone → ⊥) × (marks_in es ≡ 0)
+  PollRow es (Ok done, store) = (HasNoConnectInProgress (record_at m handle) → ⊥) × (marks_in es ≡ 0)
   PollRow es (Err stop, store) = FinishSays es (Err stop, record m { store = store })
 
   -- == of the record that the handle names
   module _ (place : ℕ) (r : Tcp2Socket) (n : Names m handle place r) (connects : is_connect r.in_progress ≡ true) where
-    some : HasNone → ⊥
+    some : HasNoConnectInProgress (record_at m handle) → ⊥
     some k = let none : is_connect r.in_progress ≡ false = rw (its n) at k in cc
 
     abbrev RecordRow : Rows (Result (Unit {0}) Stop × Tcp2Socket)
@@ -116,10 +112,7 @@ module _ (contexts : List WasiSocketsCtx) (m : Machine) (line c handle : ℕ) wh
     abbrev StateRow : Rows (Result (Answer (Unit {0})) ErrorCode × TcpState)
     StateRow es done = RecordRow es (connect_polled r (in_socket r.inner done))
 
-    abbrev Cause : List Entry → CodeWord → Tcp2Socket → Type 0
-    Cause es w now = ConnectsAt m handle → FinishRefusal m place r es w (record m { store = with_socket m.store place now })
-
-    fails : (es : List Entry) (code : ErrorCode) (now : Tcp2Socket) → Cause es (word_of_code code) now → RecordRow es (Err (code_stop code), now)
+    fails : (es : List Entry) (code : ErrorCode) (now : Tcp2Socket) → (ConnectsAt m handle → FinishRefusal m place r es (word_of_code code) (record m { store = with_socket m.store place now })) → RecordRow es (Err (code_stop code), now)
     fails es code now cause =
         let other : reply.Err (word_of_code code) ≢ reply.Err word.NotInProgress = not_of_code code word.NotInProgress (λ no. no) in
         (apart other some, (inr (inr (code_word code)), record { none = λ e. absurd (other (ap reply.Err e)); cause = λ holds. here n (cause holds) }))
@@ -137,15 +130,12 @@ module _ (contexts : List WasiSocketsCtx) (m : Machine) (line c handle : ℕ) wh
       polled = onto _ (widen ended (both (record { along = poll_marks_none op }) (granted (λ h. connect_ends op (is_one h)))))
 
     module _ (connection : Connection) (at_state : r.inner.state ≡ state.Connected connection) where
-      abbrev connected_socket : Connection → Socket
-      connected_socket now = with_state r.inner (state.Connected now)
-
       opens_send : (taken : Bool) → connection.send_taken ≡ taken
-          → RecordRow [] (opened_send r (record { side = connection.side }) (in_socket (connected_socket connection) (still_connected (taken_send (record connection { receive_taken = true }) taken))))
+          → RecordRow [] (opened_send r (record { side = connection.side }) (in_socket (with_state r.inner (state.Connected connection)) (still_connected (taken_send (record connection { receive_taken = true }) taken))))
       opens_send false e = (some, refl)
       opens_send true e = fails [] InvalidState _ (λ h. SendsAlready connection connects at_state e refl)
 
-      opens_receive : (taken : Bool) → connection.receive_taken ≡ taken → RecordRow [] (opened_receive r (in_socket (connected_socket connection) (still_connected (taken_receive connection taken))))
+      opens_receive : (taken : Bool) → connection.receive_taken ≡ taken → RecordRow [] (opened_receive r (in_socket (with_state r.inner (state.Connected connection)) (still_connected (taken_receive connection taken))))
       opens_receive false e = opens_send connection.send_taken refl
       opens_receive true e =
           subst (λ (st : TcpState). RecordRow [] (Err (code_stop InvalidState), idle r (with_state r.inner st))) at_state (fails [] InvalidState _ (λ h. ReceivesAlready connection connects at_state e refl))

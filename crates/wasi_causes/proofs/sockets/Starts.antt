@@ -205,10 +205,7 @@ module _ (m : Machine) (own : OpId) (handle place : ℕ) (r : Tcp2Socket) (n : N
       abbrev taken : Socket
       taken = with_state bound (state.Closed Other)
 
-      abbrev began : Tcp2Socket
-      began = record known { inner = taken; listening = listening.Begins op }
-
-      listen_poll_ended : (fs : List Entry) (end : End × List Item) → After (Polled op.who op.left) es fs end → ListenRow fs (listen_polled began (listen_ended op.who taken end))
+      listen_poll_ended : (fs : List Entry) (end : End × List Item) → After (Polled op.who op.left) es fs end → ListenRow fs (listen_polled (record known { inner = taken; listening = listening.Begins op }) (listen_ended op.who taken end))
       listen_poll_ended fs (Waits, items) k =
           let w = ends_so op.who op.left k.rest (Waits, items) k.row in
           record { front = es ++ w.front; last = w.last; cut = k.cut ∙ (ap (λ (xs : List Entry). es ++ xs) w.cut ∙ sym (append_assoc es w.front (w.last ∷ []))); op = w.op; told = w.told }

@@ -325,9 +325,6 @@ module _ (contexts : List WasiSocketsCtx) (m : Machine) (line c output : ℕ) wh
 
   -- == a write
   module _ (bytes : List ℕ) where
-    abbrev Unpermitted : Type 0
-    Unpermitted = IsSomeAnd (output_streams m output) (λ s. IsUnpermitted s.writer (length bytes))
-
     module _ (place : ℕ) (r : Tcp2Socket) (s : Streams) (n : HasStreams m (output_at m output) place r s) where
       abbrev written : WriteState → Machine
       written now = record m { store = job_noted place (Some r) (with_socket m.store place (with_writer r s now)) }
@@ -350,7 +347,7 @@ module _ (contexts : List WasiSocketsCtx) (m : Machine) (line c output : ℕ) wh
           ∙ ap (λ (kept : Records). let after : Machine = record m { store = kept } in after)
           (ap (λ (o : Option Tcp2Socket). with_job store place (begins_job (Some r) o)) there ∙ ap (with_job store place) (and_not (not (has_job (Some r)))))
 
-      was_permitted : (IsUnpermitted s.writer (length bytes) → ⊥) → Unpermitted → ⊥
+      was_permitted : (IsUnpermitted s.writer (length bytes) → ⊥) → IsSomeAnd (output_streams m output) (λ s. IsUnpermitted s.writer (length bytes)) → ⊥
       was_permitted may u = let k : IsUnpermitted s.writer (length bytes) = rw (the_streams n) at u in may k
 
       write_so : (es : List Entry) (done : Result (Unit {0}) StreamStop × WriteState) → WriteRow own (length bytes) s.writer es done → TellsStream m own output (Replied contexts m line (step.Write c output bytes) taken_reply) es done.0 (job_noted place (Some r) (with_socket m.store place (with_writer r s done.1)))
@@ -363,7 +360,7 @@ module _ (contexts : List WasiSocketsCtx) (m : Machine) (line c output : ℕ) wh
       write_so es (Err (stop.Trap NotPermitted), now) h = ((λ e. rw (the_streams n) h.0, λ u. refl), (tt, (h.1, written_same now h.2)))
       write_so es (Err (stop.Trap _), now) h = absurd h
 
-    none_there : output_streams m output ≡ None → Unpermitted → ⊥
+    none_there : output_streams m output ≡ None → IsSomeAnd (output_streams m output) (λ s. IsUnpermitted s.writer (length bytes)) → ⊥
     none_there none = none_has _ (output_streams m output) none
 
     pub write : Meets (Says contexts m line (step.Write c output bytes)) [] (bind (write_asks m own output bytes) (λ done. Give (taken_reply done.0, done.1)))

@@ -8,7 +8,7 @@ use Rattle.wasi_causes.proofs.sockets.Questions.{get, set, local_address, remote
 use Rattle.wasi_causes.proofs.sockets.Starts.{finish_bind, finish_listen, start_bind, start_connect, start_listen}
 use Rattle.wasi_causes.proofs.streams.Halves.{read, check_write, write, flush}
 use Rattle.wasi_causes.proofs.streams.Turns.{turn}
-use Rattle.wasi_causes.proofs.tables.Meets.{Meets, ends, widen, branch, met, Rows, chain, shifted}
+use Rattle.wasi_causes.proofs.tables.Meets.{Meets, ends, widen, branch, met, chain, shifted}
 use Rattle.wasi_causes.proofs.tables.Routes.{Says}
 use Rattle.wasi_causes.specs.Outcomes.{Outcome, Quiet, IsStreamCall, MayRefuse, MayMiss, MayTrap, MayWait, may_answer, EachMayAnswer, Reads, Looks, Traps}
 use Rattle.wasi_host.specs.Machine.{first_state}
@@ -157,10 +157,7 @@ module _ (contexts : List WasiSocketsCtx) (m : Machine) (line : ℕ) where
 -- == of a run
 module _ (contexts : List WasiSocketsCtx) where
   -- the replies so far come first, and then those of these lines
-  abbrev Adds : List Reply → ℕ → List Step → Rows (List Reply × Machine)
-  Adds replies line todo es done = (more : List Reply) × (done.0 ≡ replies ++ more) × EachMayAnswer line todo more
-
-  adds : (replies : List Reply) (line : ℕ) (todo : List Step) (m : Machine) (es : List Entry) → Meets (Adds replies line todo) es (run contexts replies m line todo)
+  adds : (replies : List Reply) (line : ℕ) (todo : List Step) (m : Machine) (es : List Entry) → Meets (λ es done. (more : List Reply) × (done.0 ≡ replies ++ more) × EachMayAnswer line todo more) es (run contexts replies m line todo)
   adds replies line [] m es = ends ([], sym (append-nil replies), tt)
   adds replies line (s ∷ todo) m es =
       chain (shifted es (by_standing contexts m line s m.store.standing refl)) (λ fs done k. branch (is_trap done.0) (λ trap. ends (done.0 ∷ [], refl, (may contexts m line k.row, tt)))
