@@ -52,7 +52,7 @@ pub use Rattle.wasi_walks.proofs.fits.Law.{Fit, told_same, whatever}
 pub use Rattle.wasi_walks.proofs.fits.Records.{FitListening}
 pub use Rattle.wasi_walks.proofs.licence.State.{accept_name, name_in}
 pub use Rattle.wasi_walks.proofs.walks.Law.{Law, Walks}
-pub use Rattle.wasi_walks.proofs.walks.Moves.{Awaits, BeginsAccept, BeginsBind, BeginsConnect, BeginsListen, BeginsWrite, Changes, Closes, ClosesReader, Collects, Connects, Forgets, Found, Held, Here, InHand, IsGone, IsOn, IsQuestionOf, Joins, Lasts, LastsAfter, Leaves, Listens, Lists, Made, Move, NoBind, NoBindStands, OfReader, OfSocket, OfWriter, Opens, Own, Permits, Reaches, Reconnects, Resumes, ResumesDrop, Spends, Stands, StandsDrop, StandsListen, Takes, ToWrite, Unlistens, Unstands, Unused, Used, Watches, WriterMoves, Writes, accepting_now, beginning_listen, begun_listen, closed_record, joined, joining, listen_after, made_so, new_accept, opened_by, put, second_of}
+pub use Rattle.wasi_walks.proofs.walks.Moves.{Awaits, BeginsAccept, BeginsBind, BeginsConnect, BeginsListen, BeginsWrite, Changes, Closes, ClosesReader, Collects, Connects, Forgets, Found, Held, Here, InHand, IsGone, IsOn, IsQuestionOf, Joins, Lasts, LastsAfter, Listens, Made, Move, NoBind, NoBindStands, OfReader, OfSocket, OfWriter, Opens, Own, Permits, Reconnects, Resumes, Spends, Stands, StandsDrop, StandsListen, ToWrite, Unlistens, Unstands, Unused, Used, WriterMoves, Writes, accepting_now, beginning_listen, begun_listen, closed_record, joined, joining, listen_after, made_so, new_accept, opened_by, put, second_of}
 pub use Rattle.wasi_walks.proofs.walks.OnBase.{Above, both}
 pub use Rattle.wasi_walks.proofs.walks.States.{Over, Starts}
 pub use Rattle.wasi_walks.proofs.walks.Steps.{machine_walks, may_while}

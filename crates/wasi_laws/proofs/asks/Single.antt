@@ -32,14 +32,18 @@ module _ (contexts : List WasiSocketsCtx) (line : ℕ) (origin : Step) where
     OnNone : socket_of c ≡ None → IsAskedOn h c
     OnSide : (place : ℕ) (r : Tcp2Socket) (side : OpId) → Found h place r → side_of r.inner ≡ Some side → socket_of c ≡ Some side → Grounds h → IsAskedOn h c
 
+  -- P is what each ask must be, and Inv what holds between the asks.
   pub record Single (P : List Entry → OpId → Call → Type 0) (Inv : List Entry → Here → Type 0) : Type 0 where
+    -- what asks nothing: the moves; a record that is as it was; another table; a listening that is over
     pub moves : (es : List Entry) (h now : Here) → Move line origin h now → Grounds h → Inv es h → Inv es now
     pub same : (es : List Entry) (h : Here) (place : ℕ) (r now : Tcp2Socket) → Found h place r → Same r now → Inv es h → Inv es (put h place now)
     pub tables : (es : List Entry) (h : Here) (t : Handles) (m : Made) → Inv es h → Inv es (record h { machine = record h.machine { table = t }; made = m })
     pub stops : (es : List Entry) (h : Here) (place : ℕ) (r : Tcp2Socket) → Found h place r → Inv es h → Inv es (put h place (with_listening r Not))
+    -- what is asked: a calm call; a create that is told done; a close
     pub asks : (es : List Entry) (h : Here) (op : OpId) (c : Call) → is_calm c ≡ true → IsAskedOn h c → Inv es h → Then P (λ fs. Inv fs h) es op c
     pub creates : (es : List Entry) (h : Here) (ctx : WasiSocketsCtx) (family : SocketAddressFamily) → h.own ≡ Unused → Grounds h → Inv es h → Inv (es ++ entry (own_of line) (call.TcpCreate ctx.name family) told.Done ∷ []) (creating h (own_of line) ctx family)
     pub closes : (es : List Entry) (h : Here) (place : ℕ) (r now : Tcp2Socket) (op side : OpId) → NoBind h → Found h place r → Closing r now side → Grounds h → Inv es h → Then P (λ fs. Inv fs (put h place now)) es op (call.Close side)
+    -- what goes on: an operation, and a write
     pub polls : (es : List Entry) (h : Here) (op : Operation) (after : End × List Item → Here) → Held h op after → Grounds h → Inv es h → Allows P (λ fs ended. Inv fs (after ended)) es (poll_asks op)
     pub turns : (es : List Entry) (h : Here) (place : ℕ) (r : Tcp2Socket) (s : Streams) (job : Job) (now : Job → WriteState) → Found h place r → r.streams ≡ Some s → GoesOn s.writer job now → Grounds h → Inv es h
         → Allows P (λ fs ended. Inv fs (put h place (with_writer r s (now (job_after job.write.who ended))))) es (poll_asks job.write)

@@ -5,7 +5,7 @@ use Rattle.wasi_world.specs.declared.call.Call.TheVariants as call
 use Rattle.wasi_world.specs.declared.call.Told.TheVariants as told
 use Rattle.wasi_laws.proofs.Words.{◌≡◌, ℕ, inl, inr, List, [], ◌∷◌, ◌++◌, refl, ap, subst, OpId, Told, Entry, own_of, Has, entry, socket_of, IsMade, Created, HandedOver, IsOpen, IsAskedOpen, AsksOpenSockets}
 
--- line 1 makes the socket, line 2 asks it, line 3 closes it
+-- line 1 makes the socket
 abbrev side : OpId
 side = own_of 1
 
@@ -25,22 +25,28 @@ closed line = entry (own_of line) (call.Close side) told.Done
 open_in : (before : List Entry) → Has before made → ((op : OpId) (t : Told) → Has before (entry op (call.Close side) t) → ⊥) → IsOpen before side
 open_in before h none = record { made = Created 0 family.Ipv4 h; unclosed = λ c. none c.op c.told c.closed }
 
-good : AsksOpenSockets (made ∷ asked 2 ∷ closed 3 ∷ [])
+abbrev second : Entry
+second = asked 2
+
+abbrev third : Entry
+third = closed 3
+
+good : AsksOpenSockets (made ∷ second ∷ third ∷ [])
 good = record { each = each }
   where
     first : (op : OpId) (t : Told) → Has (made ∷ []) (entry op (call.Close side) t) → ⊥
     first op t (inl h) = absurd (let k = ap (λ (x : Entry). x.call) h in cc)
     first op t (inr h) = h
 
-    two : (op : OpId) (t : Told) → Has (made ∷ asked 2 ∷ []) (entry op (call.Close side) t) → ⊥
+    two : (op : OpId) (t : Told) → Has (made ∷ second ∷ []) (entry op (call.Close side) t) → ⊥
     two op t (inl h) = absurd (let k = ap (λ (x : Entry). x.call) h in cc)
     two op t (inr (inl h)) = absurd (let k = ap (λ (x : Entry). x.call) h in cc)
     two op t (inr (inr h)) = h
 
-    each : (before : List Entry) (e : Entry) (after : List Entry) → made ∷ asked 2 ∷ closed 3 ∷ [] ≡ before ++ e ∷ after → IsAskedOpen before (socket_of e.call)
+    each : (before : List Entry) (e : Entry) (after : List Entry) → made ∷ second ∷ third ∷ [] ≡ before ++ e ∷ after → IsAskedOpen before (socket_of e.call)
     each [] e after q = let p : made ≡ e = cc in subst (λ (x : Entry). IsAskedOpen [] (socket_of x.call)) p tt
-    each (a ∷ []) e after q = let f : made ≡ a = cc in let p : asked 2 ≡ e = cc in rw (← f, ← p) (open_in (made ∷ []) (inl refl) first)
-    each (a ∷ b ∷ []) e after q = let f : made ≡ a = cc in let g : asked 2 ≡ b = cc in let p : closed 3 ≡ e = cc in rw (← f, ← g, ← p) (open_in (made ∷ asked 2 ∷ []) (inl refl) two)
+    each (a ∷ []) e after q = let f : made ≡ a = cc in let p : second ≡ e = cc in rw (← f, ← p) (open_in (made ∷ []) (inl refl) first)
+    each (a ∷ b ∷ []) e after q = let f : made ≡ a = cc in let g : second ≡ b = cc in let p : third ≡ e = cc in rw (← f, ← g, ← p) (open_in (made ∷ second ∷ []) (inl refl) two)
     each (a ∷ b ∷ c ∷ []) e after q = absurd (cc)
     each (a ∷ b ∷ c ∷ d ∷ before) e after q = absurd (cc)
 
