@@ -7,10 +7,10 @@ use Rattle.wasi_addr.specs.declared.code.ErrorCode.{ErrorCode}
 use Rattle.wasi_addr.specs.declared.code.ErrorCode.TheVariants.{InvalidState, NotSupported}
 use Rattle.wasi_causes.proofs.sockets.Starts.{BoundRow, ItsBound, ItsFree, asked_none, bounds}
 use Rattle.wasi_causes.proofs.tables.Meets.{Rows, Meets, ends, asks, chain, onto, widen, branch}
-use Rattle.wasi_causes.proofs.tables.Routes.{on_number, Says, put_back, Names, here, on_record, code_word}
+use Rattle.wasi_causes.proofs.tables.Routes.{Replied, on_number, Says, put_back, Names, here, on_record, code_word}
 use Rattle.wasi_causes.specs.Options.{GetRefusal, GetsNoSide, GetTold, ToldTooLarge, SetRefusal, ZeroBefore, SetsNoSide, ZeroAfter, SetTold, BacklogRefusal, ZeroBacklog, StillConnects, IsConnected, WasClosed, BacklogTold, GetsOption, SetsOption, SetsBacklog, KeptForListen, ToldListener}
 use Rattle.wasi_causes.specs.Outcomes.{AreLike, Outcome}
-use Rattle.wasi_host.specs.Host.{Stop}
+use Rattle.wasi_host.specs.Host.{Stop, code_stop}
 use Rattle.wasi_host.specs.Machine.{socket_at, own_of, with_store}
 use Rattle.wasi_host.specs.Options.{code_told, get_option_at, set_option_at, set_backlog_at}
 use Rattle.wasi_host.specs.Store.{with_inner, put_back as answer_put, inner_answered, local_address_at, remote_address_at, is_listening_at, address_family_at}
@@ -186,24 +186,21 @@ module _ (contexts : List WasiSocketsCtx) (m : Machine) (line c handle : ℕ) wh
   abbrev own : OpId
   own = own_of line
 
-  local_said : (place : ℕ) (r : Tcp2Socket) (n : Names m handle place r) (es : List Entry) (done : Result IpSocketAddress ErrorCode × Socket) → Answers (LocalRefused m own handle place r n) m place r es done
-      → let said = with_store m (answer_put m.store place (inner_answered r done)) in Outcome contexts m line (step.TcpLocalAddress c handle) es (address_reply said.0) said.1
-  local_said place r n es (Ok a, now) h = (tt, ((a, refl), tt))
-  local_said place r n es (Err code, now) h = (tt, (code_word code, (here n h.0, h.1)))
+  address_said : (Row : Rows (Result IpSocketAddress Stop × Machine)) (Cause : List Entry → CodeWord → Machine → Type 0) (place : ℕ) (r : Tcp2Socket) → ((es : List Entry) (a : IpSocketAddress) (after : Machine) → Row es (Ok a, after))
+      → ((es : List Entry) (code : ErrorCode) (after : Machine) → Cause es (word_of_code code) after → Row es (Err (code_stop code), after))
+      → (es : List Entry) (done : Result IpSocketAddress ErrorCode × Socket) → Answers Cause m place r es done → Row es (with_store m (answer_put m.store place (inner_answered r done)))
+  address_said Row Cause place r told refused es (Ok a, now) h = told es a _
+  address_said Row Cause place r told refused es (Err code, now) h = refused es code _ h
 
   pub local_address : Meets (Says contexts m line (step.TcpLocalAddress c handle)) [] (bind (local_address_on m own (socket_at m handle)) (λ done. Give (address_reply done.0, done.1)))
   local_address =
-      onto _ (on_record m handle (local_address_on m own) (λ place o. local_address_at m.store own place o) refl (λ place. refl) (λ place. refl) (λ none. (tt, (none, refl, refl))) (λ place r n. onto _ (onto _ (widen (local_said place r n) (local_row m own handle place r n)))))
-
-  remote_said : (place : ℕ) (r : Tcp2Socket) (n : Names m handle place r) (es : List Entry) (done : Result IpSocketAddress ErrorCode × Socket) → Answers (RemoteRefused m own place r n.at) m place r es done
-      → let said = with_store m (answer_put m.store place (inner_answered r done)) in Outcome contexts m line (step.TcpRemoteAddress c handle) es (address_reply said.0) said.1
-  remote_said place r n es (Ok a, now) h = (tt, ((a, refl), tt))
-  remote_said place r n es (Err code, now) h = (tt, (code_word code, (here n h.0, h.1)))
+      onto _ (on_record m handle (local_address_on m own) (λ place o. local_address_at m.store own place o) refl (λ place. refl) (λ place. refl) (λ none. (tt, (none, refl, refl)))
+      (λ place r n. onto _ (onto _ (widen (address_said (Replied contexts m line (step.TcpLocalAddress c handle) address_reply) (LocalRefused m own handle place r n) place r (λ es a after. (tt, ((a, refl), tt))) (λ es code after h. (tt, (code_word code, (here n h.0, h.1))))) (local_row m own handle place r n)))))
 
   pub remote_address : Meets (Says contexts m line (step.TcpRemoteAddress c handle)) [] (bind (remote_address_on m own (socket_at m handle)) (λ done. Give (address_reply done.0, done.1)))
   remote_address =
       onto _ (on_record m handle (remote_address_on m own) (λ place o. remote_address_at m.store own place o) refl (λ place. refl) (λ place. refl) (λ none. (tt, (none, refl, refl)))
-      (λ place r n. onto _ (onto _ (widen (remote_said place r n) (onto (in_socket r.inner) (by_state m own place r n.at r.inner.state refl))))))
+      (λ place r n. onto _ (onto _ (widen (address_said (Replied contexts m line (step.TcpRemoteAddress c handle) address_reply) (RemoteRefused m own place r n.at) place r (λ es a after. (tt, ((a, refl), tt))) (λ es code after h. (tt, (code_word code, (here n h.0, h.1))))) (onto (in_socket r.inner) (by_state m own place r n.at r.inner.state refl))))))
 
   -- == what is known without asking
   truth_like : (b : Bool) → AreLike (Each (Truth ∷ [])) (truth_fields b)
