@@ -16,9 +16,12 @@ const SIZES: [(usize, usize); 7] = [
     (4096, 700),
 ];
 
+/// How many bytes go through the stream in each size.
+const BYTES: usize = 1_000_000;
+
 #[test]
 fn the_sink_gets_all_bytes_in_order(rt: HostRuntime) -> Result<(), Fail> {
-    let bytes = pattern(rt.alloc(), 20_000)?;
+    let bytes = pattern(rt.alloc(), BYTES)?;
     let mut spawner = ThreadSpawner::new();
     for (piece, most) in SIZES {
         let how = Use {
@@ -26,7 +29,7 @@ fn the_sink_gets_all_bytes_in_order(rt: HostRuntime) -> Result<(), Fail> {
             piece,
             cancel_after: None,
         };
-        let sink = MemorySink::new(rt.alloc(), most, 20_000, Vec::new(rt.alloc()))?;
+        let sink = MemorySink::new(rt.alloc(), most, BYTES, Vec::new(rt.alloc()))?;
         let Ok((finished, accepted)) = pour(
             &rt,
             rt.alloc(),
@@ -37,7 +40,7 @@ fn the_sink_gets_all_bytes_in_order(rt: HostRuntime) -> Result<(), Fail> {
         ) else {
             return Err(Fail::new("no worker"));
         };
-        assert_eq!(rt; accepted, 20_000, "pieces of {piece}");
+        assert_eq!(rt; accepted, BYTES, "pieces of {piece}");
         assert_eq!(rt; finished.outcome, Ok(()));
         assert!(rt;
             finished.inner.bytes() == bytes.as_slice(),
