@@ -1,5 +1,5 @@
 -- The run of a generated script, and its counts.
-use Rattle.std.specs.Prelude.{◌≡◌, ℕ, min, List, [], ◌∷◌, ◌++◌, Some, None, false, codes, decimal, length, sum_by}
+use Rattle.std.specs.Prelude.{◌≡◌, ℕ, min, List, [], ◌∷◌, ◌++◌, Some, false, codes, decimal, length, sum_by}
 use Rattle.wasi_world.specs.declared.call.Told.{Told}
 use Rattle.wasi_world.specs.declared.call.Told.TheVariants.{Took}
 use Rattle.wasi_world.specs.declared.call.Entry.{Entry}

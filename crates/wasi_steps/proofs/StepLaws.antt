@@ -1,6 +1,6 @@
 -- Each step is read from exactly its line.
 use Rattle.std.proofs.Common.{◌≡◌, ℕ, ◌<◌, ◌≤◌, List, [], ◌∷◌, ◌++◌, slice_index, codes, decimal, Option, Some, None, refl, arith, inl, inr, Bool, true, false, cond, nat_lt, IsTrue, append-nil, ap, sym, subst, ◌∙◌}
-use Rattle.wasi_world.specs.Fields.{Reader, ◌>>=◌, read_then, give, give_some, after_word, whole, Row, fields_of, field_at, number_in, word_at, BeginsPlain}
+use Rattle.wasi_world.specs.Fields.{read_then, give_some, after_word, whole, fields_of, field_at, number_in, word_at, BeginsPlain}
 use Rattle.std.specs.Prelude.{IfSome}
 use Rattle.std.specs.List.{AllByRecursion, list_all}
 use Rattle.std.proofs.lemmas.Bool.{ltb-true, lt-ltb}
@@ -14,7 +14,7 @@ use Rattle.wasi_addr.specs.declared.address.ShutdownType.{ShutdownType}
 use Rattle.wasi_addr.specs.declared.address.ShutdownType.TheVariants.{Receive, Send, Both}
 use Rattle.wasi_steps.specs.declared.step.Step.{Step}
 use Rattle.wasi_steps.specs.declared.step.Step.TheVariants as step
-use Rattle.wasi_steps.specs.Steps.{Kind, HandleOf, ALine, ACount, AFamily, ASocketAddress, AnOption, ASetting, AHalf, AllBytes, Value, value_at, value_fields, FitsValue, Values, values_fields, FitsValues, Takes, made, values_at, Written, fields_of_written, signature, context_fields, shutdown_fields, shutdown_words, shutdown_at, context_of, fields_of_step, line_of, IsStep, row_of, rows_of, steps, bare_steps, guest_call_at, after_first, step_at, step_of}
+use Rattle.wasi_steps.specs.Steps.{Kind, HandleOf, ALine, ACount, AFamily, ASocketAddress, AnOption, ASetting, AHalf, AllBytes, Value, value_at, value_fields, FitsValue, Values, values_fields, FitsValues, Takes, made, values_at, Written, fields_of_written, signature, context_fields, shutdown_fields, shutdown_words, shutdown_at, context_of, fields_of_step, line_of, IsStep, row_of, rows_of, rows_by, is_read, steps, bare_steps, guest_call_at, after_first, step_at, step_of}
 use Rattle.wasi_steps.proofs.SettingLaws.{◌and◌, u64_exactly, option_exactly, option_visible, setting_exactly, setting_visible}
 
 -- the word of what is shut down is read exactly
@@ -108,43 +108,10 @@ unfolding guest_call_at
 first_only contexts first (Some c) e = let is = number_in_is first 4294967295 c e in rw is.0 (call_by contexts c (nat_lt c contexts) refl is.1)
 first_only contexts first None e = only_word (ReadsStep contexts None) (rows_of bare_steps) first (rows_only contexts None (tt, tt) bare_steps bare_made bare_of)
 
--- == a step's own row
-abbrev rows_by : Option ℕ → List (Row Step)
-rows_by None = rows_of bare_steps
-rows_by (Some c) = rows_of (steps c)
-
--- its maker makes it, and its word's row is its own
-told : (s : Step) → (let is = signature s in (made is.written.kinds is.makes is.written.values ≡ s) × (after_word (rows_by is.written.context) is.written.word ≡ (row_of s).reads))
-told (step.Network c) = (refl, refl)
-told (step.TcpCreate c family) = (refl, refl)
-told (step.TcpStartBind c socket network a) = (refl, refl)
-told (step.TcpFinishBind c socket) = (refl, refl)
-told (step.TcpStartConnect c socket network a) = (refl, refl)
-told (step.TcpFinishConnect c socket) = (refl, refl)
-told (step.TcpStartListen c socket) = (refl, refl)
-told (step.TcpFinishListen c socket) = (refl, refl)
-told (step.TcpAccept c socket) = (refl, refl)
-told (step.TcpLocalAddress c socket) = (refl, refl)
-told (step.TcpRemoteAddress c socket) = (refl, refl)
-told (step.TcpIsListening c socket) = (refl, refl)
-told (step.TcpAddressFamily c socket) = (refl, refl)
-told (step.TcpGet c socket option) = (refl, refl)
-told (step.TcpSet c socket setting) = (refl, refl)
-told (step.TcpShutdown c socket how) = (refl, refl)
-told (step.Read c input len) = (refl, refl)
-told (step.CheckWrite c output) = (refl, refl)
-told (step.Write c output bytes) = (refl, refl)
-told (step.Flush c output) = (refl, refl)
-told (step.Subscribe c handle) = (refl, refl)
-told (step.Ready c pollable) = (refl, refl)
-told (step.Drop c handle) = (refl, refl)
-told step.Turn = (refl, refl)
-told (step.Poll call) = (refl, refl)
-
 row_reads : (s : Step) → FitsValues (signature s).written.kinds (signature s).written.values → All (after_word (rows_by (context_of s)) (signature s).written.word) s (values_fields (signature s).written.kinds (signature s).written.values)
 row_reads s fits =
     let it = signature s in
-    rw (told s).1 (subst (λ t. All (row_of s).reads t (values_fields it.written.kinds it.written.values)) (told s).0 (values_all it.written.kinds it.makes it.written.values fits))
+    rw (is_read s).1 (subst (λ t. All (row_of s).reads t (values_fields it.written.kinds it.written.values)) (is_read s).0 (values_all it.written.kinds it.makes it.written.values fits))
 
 visible_word : (s : Step) → IsTrue (list_all is_visible (signature s).written.word)
 visible_word s = grind arith

@@ -1,5 +1,5 @@
 -- What each step is, said once: how it is written and read, who makes it, what it names, and what it gives.
-use Rattle.std.specs.Prelude.{ℕ, ◌<◌, ◌≤◌, nat_lt, if◌then◌else◌, List, [], ◌∷◌, ◌++◌, map, codes, decimal, Option, Some, None, IfSome}
+use Rattle.std.specs.Prelude.{◌≡◌, refl, ℕ, ◌<◌, ◌≤◌, nat_lt, if◌then◌else◌, List, [], ◌∷◌, ◌++◌, map, codes, decimal, Option, Some, None, IfSome}
 use Rattle.wasi_addr.specs.declared.address.IpSocketAddress.{IpSocketAddress}
 use Rattle.wasi_addr.specs.declared.address.IpSocketAddress.TheVariants as socket
 use Rattle.wasi_addr.specs.declared.address.ShutdownType.{ShutdownType}
@@ -277,6 +277,42 @@ steps c = write_step c ∷ plain_steps c
 -- the steps that no context makes
 abbrev pub bare_steps : List Step
 bare_steps = step.Turn ∷ step.Poll 0 ∷ []
+
+-- the rows of the steps that a context makes, or that none does
+abbrev pub rows_by : Option ℕ → List (Row Step)
+rows_by None = rows_of bare_steps
+rows_by (Some c) = rows_of (steps c)
+
+-- each step is made by its maker of its own values, and its word's row is its own
+abbrev pub IsRead : Step → Type 0
+IsRead s = let is = signature s in (made is.written.kinds is.makes is.written.values ≡ s) × (after_word (rows_by is.written.context) is.written.word ≡ (row_of s).reads)
+
+pub is_read : (s : Step) → IsRead s
+is_read (step.Network c) = (refl, refl)
+is_read (step.TcpCreate c family) = (refl, refl)
+is_read (step.TcpStartBind c socket network a) = (refl, refl)
+is_read (step.TcpFinishBind c socket) = (refl, refl)
+is_read (step.TcpStartConnect c socket network a) = (refl, refl)
+is_read (step.TcpFinishConnect c socket) = (refl, refl)
+is_read (step.TcpStartListen c socket) = (refl, refl)
+is_read (step.TcpFinishListen c socket) = (refl, refl)
+is_read (step.TcpAccept c socket) = (refl, refl)
+is_read (step.TcpLocalAddress c socket) = (refl, refl)
+is_read (step.TcpRemoteAddress c socket) = (refl, refl)
+is_read (step.TcpIsListening c socket) = (refl, refl)
+is_read (step.TcpAddressFamily c socket) = (refl, refl)
+is_read (step.TcpGet c socket option) = (refl, refl)
+is_read (step.TcpSet c socket setting) = (refl, refl)
+is_read (step.TcpShutdown c socket how) = (refl, refl)
+is_read (step.Read c input len) = (refl, refl)
+is_read (step.CheckWrite c output) = (refl, refl)
+is_read (step.Write c output bytes) = (refl, refl)
+is_read (step.Flush c output) = (refl, refl)
+is_read (step.Subscribe c handle) = (refl, refl)
+is_read (step.Ready c pollable) = (refl, refl)
+is_read (step.Drop c handle) = (refl, refl)
+is_read step.Turn = (refl, refl)
+is_read (step.Poll call) = (refl, refl)
 
 -- a guest call of this context, where it is one of so many
 unfoldable pub guest_call_at : ℕ → ℕ → Reader Step

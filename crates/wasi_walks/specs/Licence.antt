@@ -259,8 +259,8 @@ MayAsk contexts steps before op (SetOption sock option value) = ReachesSide step
 MayAsk contexts steps before op (Close sock) = ⊤
 MayAsk contexts steps before op (Made handle kind parent sock) = (handle ≡ marks_in before + 1) × BeganBy steps op (IsMarkOf before op kind parent sock)
 
--- Each entry may come after those before it, and each reply is to the step of its line. No step that is built hands out in its reply
--- what the network told only after a check; what such a reply may say is a row of its own, which comes with the step.
+-- Each entry may come after those before it, and each reply is to the step of its line. No step that is built hands out a datagram;
+-- what a reply that does may say is a row of its own, which comes with the step.
 pub record IsLicensed (contexts : List WasiSocketsCtx) (steps : List Step) (log : List Entry) (replies : List Reply) : Type 0 where
   pub each : (before : List Entry) (e : Entry) (after : List Entry) → log ≡ before ++ e ∷ after → MayAsk contexts steps before e.op e.call
   pub replied : length replies ≤ length steps

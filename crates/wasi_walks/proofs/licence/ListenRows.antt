@@ -12,7 +12,7 @@ use Rattle.wasi_world.specs.declared.call.Call.TheVariants as call
 use Rattle.wasi_world.specs.declared.call.HandleKind.TheVariants as kind
 use Rattle.wasi_world.specs.declared.call.Told.TheVariants as told
 use Rattle.wasi_world.specs.declared.call.Entry.{Entry}
-use Rattle.wasi_world.specs.Asks.{Asks, Give, bind, Left}
+use Rattle.wasi_world.specs.Asks.{Give, bind, Left}
 use Rattle.wasi_world.specs.Operation.{polls}
 use Rattle.wasi_tcp.specs.declared.listener.Accepting.TheVariants as accepting
 use Rattle.wasi_tcp.specs.declared.socket.TcpState.TheVariants as state
