@@ -1,35 +1,13 @@
 -- The base law: numbers and sides are claimed once, and are of older lines. A side is claimed by the record that was made with it,
 -- and the name of an accept by the record of its listener.
-use Rattle.std.specs.Prelude.{⊤}
-use Rattle.std.proofs.Common.{◌≡◌, ◌⊎◌, inl, inr, ℕ, ◌+◌, ◌≤◌, ◌<◌, List, [], ◌∷◌, ◌++◌, Option, Some, None, Result, Ok, Err, refl, sym, ap, subst, ◌∙◌, slice_get, slice_set, length, arith}
-use Rattle.wasi_addr.specs.declared.address.SocketAddressFamily.{SocketAddressFamily}
-use Rattle.wasi_addr.specs.declared.code.ErrorCode.{ErrorCode}
-use Rattle.wasi_world.specs.declared.outcome.WasiSocketsCtx.{WasiSocketsCtx}
-use Rattle.wasi_world.specs.declared.ids.OpId.{OpId}
-use Rattle.wasi_world.specs.declared.call.Entry.{Entry}
-use Rattle.wasi_world.specs.Asks.{Asks, Give, Ask, AskWrite, bind}
-use Rattle.wasi_world.specs.Operation.{Given, Connection, Operation, End, Waits, Done, Refused, Item, poll_asks}
-use Rattle.wasi_world.specs.Typed.{told_addr, told_done}
-use Rattle.wasi_world.proofs.Allowed.{Allows, allows_then, allows_if, allows_weaker}
-use Rattle.wasi_tcp.specs.Accept.{IsLeftOfAccept}
-use Rattle.wasi_tcp.specs.Accept as accept
-use Rattle.wasi_tcp.specs.declared.listener.Accepting.TheVariants as accepting
-use Rattle.wasi_tcp.specs.declared.socket.TcpState.TheVariants as state
-use Rattle.wasi_tcp.specs.Connecting.{with_state, connect_ended}
-use Rattle.wasi_tcp.specs.Listener.{Listener, HoldsAccept, IsAcceptOn, accept_ended, arrived}
-use Rattle.wasi_tcp.specs.Shape.{Socket}
-use Rattle.wasi_tcp.specs.Socket.{side_in, side_of, after_create, new_asks}
-use Rattle.wasi_tcp.specs.Writer.{turn_asks}
-use Rattle.wasi_host.specs.declared.kind.Kind.TheVariants.{Tcp2}
-use Rattle.wasi_host.specs.declared.listening.Listening.{Listening}
-use Rattle.wasi_host.specs.declared.listening.Listening.TheVariants.{Not, Begins, Accepts}
-use Rattle.wasi_host.specs.declared.socket.Tcp2Socket.{Tcp2Socket}
-use Rattle.wasi_host.specs.Dropping.{gone}
-use Rattle.wasi_host.specs.Kinds.{make_asks}
-use Rattle.wasi_host.specs.Listening.{give_up_asks, with_listening}
-use Rattle.wasi_host.specs.Machine.{own_of, created_asks, create_asks}
-use Rattle.wasi_host.specs.Store.{new_record, with_inner, with_writer, left_of}
-use Rattle.wasi_steps.specs.declared.step.Step.{Step}
+use Rattle.wasi_walks.proofs.Words.{Accepting, Accepts, Allows, Ask, AskWrite, Asks, Begins, Done, End, Entry, Err, ErrorCode, Give, Given}
+use Rattle.wasi_walks.proofs.Words.{HoldsAccept, IsAcceptOn, IsLeftOfAccept, Item, List, Listener, Listening, None, Not, Ok, OpId, Operation, Option}
+use Rattle.wasi_walks.proofs.Words.{Refused, Result, Socket, SocketAddressFamily, Some, Step, Tcp2, Tcp2Socket, TcpState, Waits, WasiSocketsCtx, []}
+use Rattle.wasi_walks.proofs.Words.{accept_ended, after_create, allows_if, allows_then, allows_weaker, ap, arith, arrived, bind, connect_ended}
+use Rattle.wasi_walks.proofs.Words.{create_asks, created_asks, give_up_asks, gone, inl, inr, left_of, length, make_asks, new_asks, new_record, own_of}
+use Rattle.wasi_walks.proofs.Words.{poll_asks, refl, side_in, side_of, slice_get, slice_set, subst, sym, told_addr, told_done, turn_asks, with_inner}
+use Rattle.wasi_walks.proofs.Words.{with_listening, with_state, with_writer, ℕ, ⊤, ◌++◌, ◌+◌, ◌<◌, ◌∙◌, ◌∷◌, ◌≡◌, ◌≤◌, ◌⊎◌}
+use Rattle.wasi_world.specs.Operation.{Connection}
 use Rattle.wasi_walks.proofs.walks.OnBase.{both, Above, stand}
 use Rattle.wasi_walks.proofs.licence.State.{name_in, accept_name}
 use Rattle.wasi_walks.proofs.fits.Polls.{Anything}
@@ -39,6 +17,7 @@ use Rattle.wasi_walks.proofs.claims.Polls.{Quietly, ArePlain, GivesOwn, own_poll
 use Rattle.wasi_walks.proofs.walks.Moves.{closed_record, Own, Used, Unused, ToWrite, Here, put, Found, joined, second_of, new_accept, accepting_now, listen_after, beginning_listen, made_so, Held, InHand, Connects, Listens, Awaits, Move, Reaches, Leaves, Spends, Changes, ClosesReader, Writes, IsGone, Reconnects, Opens, BeginsConnect, BeginsBind, BeginsWrite, BeginsListen, BeginsAccept, Unlistens, Forgets, Watches, Joins, StandsListen, StandsDrop, ResumesDrop, Unstands, Stands, Resumes, Ends, Lists, Takes}
 use Rattle.wasi_walks.proofs.walks.Law.{Law, Walks}
 use Rattle.wasi_walks.proofs.fits.Law.{Fit, told_same, whatever, fits, moves_fit, polls_fit, put_fit, created}
+use Rattle.wasi_tcp.specs.Accept as accept
 
 -- it was made with this side, or its accept has this name, by which a side will be made
 abbrev pub Claims : OpId → Tcp2Socket → Type 0
@@ -239,10 +218,10 @@ module _ (contexts : List WasiSocketsCtx) (line : ℕ) (origin : Step) where
   moves_named _ _ (Forgets h place r l c g e a) n = put_named line h place r _ g (listening_names h place r _ g (λ x p. absurd (cc)) (λ op p. absurd (cc)) n) n
   moves_named _ _ (Watches h o) n = record { one = n.one; apart = n.apart; older = n.older; named = n.named; held = n.held }
   moves_named _ _ (Joins h c handle place r l new peer is of u g e a) n =
-      let mid = put h place (accepting_now r l accepting.Idle) in
-      let k = put_named line h place r (accepting_now r l accepting.Idle) g (listening_names h place r _ g (λ x p. absurd (cc)) (λ op p. absurd (cc)) n) n in
+      let mid = put h place (accepting_now r l Accepting.Idle) in
+      let k = put_named line h place r (accepting_now r l Accepting.Idle) g (listening_names h place r _ g (λ x p. absurd (cc)) (λ op p. absurd (cc)) n) n in
       let name : accept_name r.listening ≡ Some new = ap accept_name e ∙ ap name_in a in
-      let j = push_named line mid (joined l new peer) h.own refl (λ x p. (let s : new ≡ x = cc in subst (λ (y : OpId). (y.step < next_of line h.own) × Fresh mid y) s (n.older new place r g (inr name), taken_fresh h place r (accepting_now r l accepting.Idle) new g name refl refl n))) (λ x p. p) (λ op p. absurd (cc)) (omega arith) k in
+      let j = push_named line mid (joined l new peer) h.own refl (λ x p. (let s : new ≡ x = cc in subst (λ (y : OpId). (y.step < next_of line h.own) × Fresh mid y) s (n.older new place r g (inr name), taken_fresh h place r (accepting_now r l Accepting.Idle) new g name refl refl n))) (λ x p. p) (λ op p. absurd (cc)) (omega arith) k in
       record { one = j.one; apart = j.apart; older = j.older; named = j.named; held = j.held }
   moves_named _ _ (StandsListen h k place r f) n = record { one = n.one; apart = n.apart; older = n.older; named = n.named; held = n.held }
   moves_named _ _ (StandsDrop h k place r at g) n = record { one = n.one; apart = n.apart; older = n.older; named = n.named; held = n.held }
@@ -260,7 +239,7 @@ module _ (contexts : List WasiSocketsCtx) (line : ℕ) (origin : Step) where
   listened_names h place r op (Done given, items) g e n = record { side = refl; accepts = λ x p. absurd (cc); named = λ x p. (n.held op place r g e).0 ∙ p; held = λ o p. absurd (cc) }
   listened_names h place r op (Refused c given, items) g e n = record { side = refl; accepts = λ x p. absurd (cc); named = λ x p. n.named x place r g p; held = λ o p. absurd (cc) }
 
-  awaited_names : (h : Here) (place : ℕ) (r : Tcp2Socket) (l : Listener) (op : Operation) (end : End × List Item) → Found h place r → r.listening ≡ Accepts l → l.accept ≡ accepting.Asking op → GivesOwn op.who.id end.0 → Named line h → Named line (put h place (accepting_now r l (accept_ended op.who end)))
+  awaited_names : (h : Here) (place : ℕ) (r : Tcp2Socket) (l : Listener) (op : Operation) (end : End × List Item) → Found h place r → r.listening ≡ Accepts l → l.accept ≡ Accepting.Asking op → GivesOwn op.who.id end.0 → Named line h → Named line (put h place (accepting_now r l (accept_ended op.who end)))
   awaited_names h place r l op end g e a k n = put_named line h place r _ g (listening_names h place r _ g (λ x p. ap accept_name e ∙ (ap name_in a ∙ ended_name op end k x p)) (λ o p. absurd (cc)) n) n
 
   -- == the law
@@ -279,7 +258,7 @@ module _ (contexts : List WasiSocketsCtx) (line : ℕ) (origin : Step) where
 
   -- a socket that is created has the line's own name
   abbrev MadeNamed : Result Socket ErrorCode → Type 0
-  MadeNamed (Ok socket) = socket.state ≡ state.Default (own_of line)
+  MadeNamed (Ok socket) = socket.state ≡ TcpState.Default (own_of line)
   MadeNamed (Err c) = ⊤
 
   made_named : (es : List Entry) (ctx : WasiSocketsCtx) (family : SocketAddressFamily) → Allows Anything (λ fs made. MadeNamed made) es (new_asks (own_of line) ctx family)
@@ -293,7 +272,7 @@ module _ (contexts : List WasiSocketsCtx) (line : ℕ) (origin : Step) where
   created_named : (es : List Entry) (h : Here) (ctx : WasiSocketsCtx) (family : SocketAddressFamily) → h.own ≡ Unused → Named line h → Allows Anything (λ fs done. Named line (record h { machine = done.1; own = Used })) es (create_asks h.machine (own_of line) ctx family)
   created_named es h ctx family u n = allows_then Anything (λ fs made. MadeNamed made) (λ fs done. Named line (record h { machine = done.1; own = Used })) es (new_asks (own_of line) ctx family) (created_asks h.machine (own_of line)) (made_named es ctx family) (λ fs made k. joins fs made k)
     where
-      same : (socket : Socket) (x : OpId) → socket.state ≡ state.Default (own_of line) → side_of socket ≡ Some x → own_of line ≡ x
+      same : (socket : Socket) (x : OpId) → socket.state ≡ TcpState.Default (own_of line) → side_of socket ≡ Some x → own_of line ≡ x
       same socket x k p = let q : Some (own_of line) ≡ Some x = ap side_in (sym k) ∙ p in cc
 
       joins : (fs : List Entry) (made : Result Socket ErrorCode) → MadeNamed made → Allows Anything (λ fs done. Named line (record h { machine = done.1; own = Used })) fs (created_asks h.machine (own_of line) made)

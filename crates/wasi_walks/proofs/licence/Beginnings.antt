@@ -1,5 +1,5 @@
 -- Of a licensed log: its beginnings are licensed, and so it is with fewer replies, and by a longer script.
-use Rattle.std.proofs.Common.{◌≡◌, ◌≤◌, List, [], ◌∷◌, ◌++◌, length, length-append, ap, ◌∙◌, append_assoc, arith}
+use Rattle.std.proofs.Common.{List, [], ◌∷◌, ◌++◌, length-append, ap, ◌∙◌, append_assoc, arith}
 use Rattle.wasi_world.specs.declared.call.Entry.{Entry}
 use Rattle.wasi_world.specs.declared.outcome.WasiSocketsCtx.{WasiSocketsCtx}
 use Rattle.wasi_steps.specs.declared.reply.Reply.{Reply}

@@ -1,30 +1,9 @@
 -- A create is licensed, and what it makes fits.
-use Rattle.std.specs.Prelude.{⊤}
-use Rattle.std.proofs.Common.{◌≡◌, inl, inr, ℕ, true, List, [], ◌∷◌, ◌++◌, Option, Some, None, Result, Ok, Err, refl, sym, ap, subst, ◌∙◌, slice_get, length}
-use Rattle.wasi_addr.specs.declared.address.SocketAddressFamily.{SocketAddressFamily}
-use Rattle.wasi_addr.specs.declared.code.ErrorCode.{ErrorCode}
-use Rattle.wasi_world.specs.declared.ids.OpId.{OpId}
-use Rattle.wasi_world.specs.declared.call.Call.TheVariants as call
-use Rattle.wasi_world.specs.declared.call.HandleKind.TheVariants as name
-use Rattle.wasi_world.specs.declared.call.Told.{Told}
-use Rattle.wasi_world.specs.declared.call.Told.TheVariants as told
-use Rattle.wasi_world.specs.declared.call.Entry.{Entry}
-use Rattle.wasi_world.specs.declared.outcome.WasiSocketsCtx.{WasiSocketsCtx}
-use Rattle.wasi_world.specs.Asks.{bind}
-use Rattle.wasi_world.specs.Fits.{IsDoneOrCode}
-use Rattle.wasi_world.specs.Typed.{told_done}
-use Rattle.wasi_world.proofs.Allowed.{Allows, allows_then, allows_if}
-use Rattle.wasi_tcp.specs.Shape.{Socket}
-use Rattle.wasi_tcp.specs.Socket.{new_socket, after_create, new_asks}
-use Rattle.wasi_host.specs.declared.kind.Kind.TheVariants.{Tcp2}
-use Rattle.wasi_host.specs.declared.socket.Tcp2Socket.{Tcp2Socket}
-use Rattle.wasi_host.specs.Kinds.{make_asks}
-use Rattle.wasi_host.specs.Machine.{own_of, create_handle, created_asks}
-use Rattle.wasi_host.specs.Store.{new_record, with_record}
-use Rattle.wasi_machine.specs.Machine.{context_in}
-use Rattle.wasi_steps.specs.declared.step.Step.{Step}
-use Rattle.wasi_steps.specs.declared.step.Step.TheVariants as step
-use Rattle.wasi_walks.specs.Licence.{Has, entry, step_at, IsMarkOf, IsMaker, Created, MayUseTcp, IsTcpCreate, MayAsk}
+use Rattle.wasi_walks.proofs.Words.{Allows, Call, Created, Entry, Err, ErrorCode, Has, IsDoneOrCode, IsMaker, IsMarkOf, IsTcpCreate, List, MayAsk}
+use Rattle.wasi_walks.proofs.Words.{MayUseTcp, None, Ok, OpId, Option, Result, Socket, SocketAddressFamily, Some, Step, Tcp2, Tcp2Socket, Told}
+use Rattle.wasi_walks.proofs.Words.{WasiSocketsCtx, [], after_create, allows_if, allows_then, ap, bind, context_in, create_handle, created_asks}
+use Rattle.wasi_walks.proofs.Words.{entry, inl, inr, length, make_asks, new_asks, new_record, new_socket, own_of, refl, slice_get, step_at, subst}
+use Rattle.wasi_walks.proofs.Words.{sym, told_done, true, with_record, ℕ, ⊤, ◌++◌, ◌∙◌, ◌∷◌, ◌≡◌}
 use Rattle.wasi_walks.proofs.claims.Law.{Named, fresh}
 use Rattle.wasi_walks.proofs.walks.Moves.{Used, Unused, Creates, Here, Past, Joined, Marked}
 use Rattle.wasi_walks.proofs.Lists.{has_last, get_split, get_seam}
@@ -33,6 +12,7 @@ use Rattle.wasi_walks.proofs.licence.Frames.{state_push}
 use Rattle.wasi_walks.proofs.licence.Bounds.{MayQuietly}
 use Rattle.wasi_walks.proofs.licence.Line.{some_same, no_listen, calm, Licensed, spent}
 use Rattle.wasi_walks.proofs.licence.Marks.{made_fine}
+use Rattle.wasi_world.specs.declared.call.HandleKind.TheVariants as name
 
 module _ (contexts : List WasiSocketsCtx) (steps : List Step) (line : ℕ) (origin : Step) (is_line : step_at steps line ≡ Some origin) where
   -- == a socket that is created
@@ -41,18 +21,18 @@ module _ (contexts : List WasiSocketsCtx) (steps : List Step) (line : ℕ) (orig
   may_use n (Some ctx) e t = record { ctx = ctx; at = e; named = refl; tcp = t }
 
   may_create : (ctx : WasiSocketsCtx) (family : SocketAddressFamily) (s : Step) → Creates contexts ctx family s → ctx.tcp ≡ true → IsTcpCreate contexts ctx.name family s
-  may_create ctx family (step.TcpCreate n f) c t =
+  may_create ctx family (Step.TcpCreate n f) c t =
       let T : WasiSocketsCtx → Type 0 = λ x. x.tcp ≡ true → MayUseTcp contexts n x.name in
       (subst T c.0 (may_use n (slice_get contexts n) refl) t, c.1)
   may_create ctx family _ c t = absurd c
 
   abbrev pub CreatedIsFine : ℕ → SocketAddressFamily → List Entry → Result Socket ErrorCode → Type 0
-  CreatedIsFine maker family es (Ok socket) = Has es (entry (own_of line) (call.TcpCreate maker family) told.Done) × (socket ≡ new_socket (own_of line) maker family)
+  CreatedIsFine maker family es (Ok socket) = Has es (entry (own_of line) (Call.TcpCreate maker family) Told.Done) × (socket ≡ new_socket (own_of line) maker family)
   CreatedIsFine maker family es (Err c) = ⊤
 
-  fine_told : (es : List Entry) (maker : ℕ) (family : SocketAddressFamily) (t : Told) → IsDoneOrCode t → CreatedIsFine maker family (es ++ entry (own_of line) (call.TcpCreate maker family) t ∷ []) (after_create (own_of line) maker family (told_done t))
-  fine_told es maker family told.Done fits = (has_last es _, refl)
-  fine_told es maker family (told.Code c) fits = tt
+  fine_told : (es : List Entry) (maker : ℕ) (family : SocketAddressFamily) (t : Told) → IsDoneOrCode t → CreatedIsFine maker family (es ++ entry (own_of line) (Call.TcpCreate maker family) t ∷ []) (after_create (own_of line) maker family (told_done t))
+  fine_told es maker family Told.Done fits = (has_last es _, refl)
+  fine_told es maker family (Told.Code c) fits = tt
   fine_told es maker family _ fits = absurd fits
 
   pub new_fine : (es : List Entry) (ctx : WasiSocketsCtx) (family : SocketAddressFamily) → Creates contexts ctx family origin → Allows (MayQuietly contexts steps) (CreatedIsFine ctx.name family) es (new_asks (own_of line) ctx family)
@@ -60,14 +40,14 @@ module _ (contexts : List WasiSocketsCtx) (steps : List Step) (line : ℕ) (orig
   new_fine es ctx family c =
       allows_if (MayQuietly contexts steps) (CreatedIsFine ctx.name family) es ctx.tcp _ _ (λ t. (((record { origin = origin; at = is_line; holds = may_create ctx family origin c t }, tt), tt), λ u fits. fine_told es ctx.name family u fits)) (λ t. tt)
 
-  created_mark : (es : List Entry) (maker : ℕ) (family : SocketAddressFamily) (ctx : WasiSocketsCtx) (its : SocketAddressFamily) (s : Step) → Creates contexts ctx its s → Has es (entry (own_of line) (call.TcpCreate maker family) told.Done) → IsMarkOf es (own_of line) name.Tcp2 None (Some (own_of line)) s
-  created_mark es maker family ctx its (step.TcpCreate n f) c k = (refl, refl, refl, (maker, family, k))
+  created_mark : (es : List Entry) (maker : ℕ) (family : SocketAddressFamily) (ctx : WasiSocketsCtx) (its : SocketAddressFamily) (s : Step) → Creates contexts ctx its s → Has es (entry (own_of line) (Call.TcpCreate maker family) Told.Done) → IsMarkOf es (own_of line) name.Tcp2 None (Some (own_of line)) s
+  created_mark es maker family ctx its (Step.TcpCreate n f) c k = (refl, refl, refl, (maker, family, k))
   created_mark es maker family ctx its _ c k = absurd c
 
   maker_is : (es : List Entry) (maker : ℕ) (family : SocketAddressFamily) (side : OpId) → Some (own_of line) ≡ Some side → IsMaker es maker family (own_of line) → IsMaker es maker family side
   maker_is es maker family side e i = subst (IsMaker es maker family) (sym (some_same side (own_of line) e)) i
 
-  creates_only : (ctx : WasiSocketsCtx) (family : SocketAddressFamily) → Creates contexts ctx family origin → (c s : ℕ) → origin ≡ step.TcpAccept c s → ⊥
+  creates_only : (ctx : WasiSocketsCtx) (family : SocketAddressFamily) → Creates contexts ctx family origin → (c s : ℕ) → origin ≡ Step.TcpAccept c s → ⊥
   creates_only ctx family k c s e = subst (Creates contexts ctx family) e k
 
   pub joins : (es : List Entry) (h : Here) (ctx : WasiSocketsCtx) (family : SocketAddressFamily) (made : Result Socket ErrorCode) → Creates contexts ctx family origin → h.at ≡ None → h.own ≡ Unused → h.made ≡ Past → CreatedIsFine ctx.name family es made → Named line h → Licensed steps line origin es h
@@ -78,7 +58,7 @@ module _ (contexts : List WasiSocketsCtx) (steps : List Step) (line : ℕ) (orig
       let now = new_socket own ctx.name family in
       let next : Here = record h { machine = record h.machine { store = with_record h.machine.store now }; own = Used } in
       let made_it : SocketIsFine steps es now = record {
-        knows = record { maker = λ side e. maker_is es ctx.name family side e (Created own told.Done k.0) };
+        knows = record { maker = λ side e. maker_is es ctx.name family side e (Created own Told.Done k.0) };
         bound = λ side e b. absurd (cc);
         listens = λ side e. absurd (cc);
         connect = λ op e. absurd (cc);

@@ -1,41 +1,14 @@
 -- The invariant under one more entry, and under changes of the state.
-use Rattle.std.specs.Prelude.{⊤}
-use Rattle.std.proofs.Common.{◌≡◌, ℕ, inl, inr, List, [], ◌∷◌, ◌++◌, Option, Some, None, slice_get, slice_set, refl, sym, ap, subst, ◌∙◌, arith}
-use Rattle.wasi_addr.specs.declared.address.IpSocketAddress.{IpSocketAddress}
-use Rattle.wasi_addr.specs.declared.address.SocketAddressFamily.{SocketAddressFamily}
-use Rattle.wasi_addr.specs.declared.address.SocketAddrUse.{SocketAddrUse}
-use Rattle.wasi_world.specs.declared.ids.OpId.{OpId}
-use Rattle.wasi_world.specs.declared.call.Call.{Call}
-use Rattle.wasi_world.specs.declared.call.Call.TheVariants.{Accept, Hand, Made}
-use Rattle.wasi_world.specs.declared.call.HandleKind.{HandleKind}
-use Rattle.wasi_world.specs.declared.call.Told.{Told}
-use Rattle.wasi_world.specs.declared.call.Entry.{Entry}
-use Rattle.wasi_world.specs.Operation.{Item, Operation}
+use Rattle.wasi_walks.proofs.Words.{Accepting, Accepts, Begins, Call, Connection, Created, Entry, ErrorValue, Hand, Handed, HandleKind}
+use Rattle.wasi_walks.proofs.Words.{HasWildcardYes, Input, IpSocketAddress, IsBoundSide, IsMaker, IsMarkedWith, IsSide, Item, Job, Kind, List}
+use Rattle.wasi_walks.proofs.Words.{Listening, Listens, Machine, Made, MayGoOut, NamesSide, Network, None, Not, OpId, Operation, Option, Output}
+use Rattle.wasi_walks.proofs.Words.{Pollable, Socket, SocketAddrUse, SocketAddressFamily, Some, Standing, StandingCall, Step, Streams, Tcp2}
+use Rattle.wasi_walks.proofs.Words.{Tcp2Socket, Told, Unclosed, WriteState, [], ap, arith, entry, inl, inr, marked_by, new_record, own_of, place_in}
+use Rattle.wasi_walks.proofs.Words.{refl, side_of, slice_get, slice_set, subst, sym, table_parent, with_handle, with_record, with_socket}
+use Rattle.wasi_walks.proofs.Words.{without_handle, ℕ, ⊤, ◌++◌, ◌∙◌, ◌∷◌, ◌≡◌}
+use Rattle.wasi_world.specs.declared.call.Call.TheVariants.{Accept}
 use Rattle.wasi_streams.proofs.Tables.{value_without}
-use Rattle.wasi_tcp.specs.declared.listener.Accepting.{Accepting}
-use Rattle.wasi_tcp.specs.declared.listener.Accepting.TheVariants as accepting
-use Rattle.wasi_tcp.specs.declared.socket.Connection.{Connection}
 use Rattle.wasi_tcp.specs.declared.socket.TcpState.TheVariants.{Connected}
-use Rattle.wasi_tcp.specs.declared.writer.WriteState.{WriteState}
-use Rattle.wasi_tcp.specs.declared.writer.WriteState.TheVariants as writing
-use Rattle.wasi_tcp.specs.Job.{Job}
-use Rattle.wasi_tcp.specs.Shape.{Socket}
-use Rattle.wasi_tcp.specs.Socket.{side_of}
-use Rattle.wasi_host.specs.declared.kind.Kind.{Kind}
-use Rattle.wasi_host.specs.declared.kind.Kind.TheVariants.{Network, Tcp2, Input, Output, Pollable, ErrorValue}
-use Rattle.wasi_host.specs.declared.listening.Listening.{Listening}
-use Rattle.wasi_host.specs.declared.listening.Listening.TheVariants.{Not, Begins, Accepts, Unclosed}
-use Rattle.wasi_host.specs.declared.machine.Machine.{Machine}
-use Rattle.wasi_host.specs.declared.socket.Streams.{Streams}
-use Rattle.wasi_host.specs.declared.socket.Tcp2Socket.{Tcp2Socket}
-use Rattle.wasi_host.specs.declared.store.Standing.{Standing}
-use Rattle.wasi_host.specs.declared.store.StandingCall.{StandingCall}
-use Rattle.wasi_host.specs.declared.store.StandingCall.TheVariants as standing
-use Rattle.wasi_host.specs.Kinds.{table_parent, with_handle, without_handle, place_in}
-use Rattle.wasi_host.specs.Machine.{own_of}
-use Rattle.wasi_host.specs.Store.{new_record, with_socket, with_record}
-use Rattle.wasi_steps.specs.declared.step.Step.{Step}
-use Rattle.wasi_walks.specs.Licence.{entry, marked_by, NamesSide, IsSide, IsMarkedWith, IsMaker, Created, Handed, HasWildcardYes, IsBoundSide, Listens, MayGoOut}
 use Rattle.wasi_walks.proofs.Lists.{has_front, marks_in-push, get_front, get_split, get_set, set_get, value_split}
 use Rattle.wasi_walks.proofs.licence.State.{NamesRecord, HandleIsFine, KnowsMaker, BindLeft, Whole, Checked, Over, ConnectLeft, Unbound, Unchecked, Allowed, ToClose, Ended, Names, WorksOn, BindIsFine, ConnectIsFine, JobIsFine, WritesOn, IsConnectedOn, StreamsAreFine, ListeningStands, accept_name, AcceptIsFine, AcceptingIsFine, ListeningIsFine, SocketIsFine, RecordIsFine, DropIsFine, CallIsFine, StandingIsFine, StateIsFine}
 use Rattle.wasi_walks.proofs.licence.AcceptFrames.{Touches, Spared, stands_more, KeepsListening, Only, stands_put, one_put, stands_push, one_push}
@@ -190,19 +163,19 @@ module _ (steps : List Step) where
   job_more es fs side job h = record { named = names_on es fs job.write.who.id side h.named; on = h.on; last = h.last; left = h.left }
 
   pub writes_more : (es fs : List Entry) (side : OpId) (w : WriteState) → WritesOn steps es side w → WritesOn steps (es ++ fs) side w
-  writes_more es fs side (writing.Ready half permit) h = h
-  writes_more es fs side (writing.Writing job) h = job_more es fs side job h
-  writes_more es fs side (writing.Closing job) h = job_more es fs side job h
-  writes_more es fs side (writing.Closed e) h = tt
+  writes_more es fs side (WriteState.Ready half permit) h = h
+  writes_more es fs side (WriteState.Writing job) h = job_more es fs side job h
+  writes_more es fs side (WriteState.Closing job) h = job_more es fs side job h
+  writes_more es fs side (WriteState.Closed e) h = tt
 
   pub accept_more : (es fs : List Entry) (side : OpId) (maker : ℕ) (op : Operation) → AcceptIsFine steps es side maker op → AcceptIsFine steps (es ++ fs) side maker op
   accept_more es fs side maker op h = record { named = names_on es fs op.who.id side h.named; on = h.on; asks = h.asks; last = h.last }
 
   accepting_more : (es fs : List Entry) (side : OpId) (maker : ℕ) (a : Accepting) → AcceptingIsFine steps es side maker a → AcceptingIsFine steps (es ++ fs) side maker a
-  accepting_more es fs side maker accepting.Idle h = tt
-  accepting_more es fs side maker (accepting.Asking op) h = accept_more es fs side maker op h
-  accepting_more es fs side maker (accepting.Arrived new peer) h = record { told = h.told; hand = has_front es fs _ h.hand }
-  accepting_more es fs side maker (accepting.Failed c) h = tt
+  accepting_more es fs side maker Accepting.Idle h = tt
+  accepting_more es fs side maker (Accepting.Asking op) h = accept_more es fs side maker op h
+  accepting_more es fs side maker (Accepting.Arrived new peer) h = record { told = h.told; hand = has_front es fs _ h.hand }
+  accepting_more es fs side maker (Accepting.Failed c) h = tt
 
   pub listening_more : (es fs : List Entry) (made : Option OpId) (l : Listening) → ListeningIsFine steps es made l → ListeningIsFine steps (es ++ fs) made l
   listening_more es fs made Not h = tt
@@ -234,9 +207,9 @@ module _ (steps : List Step) where
   drop_more es fs sockets op place h = record { found = h.found; at = h.at; named = λ side e. names_on es fs op side (h.named side e) }
 
   standing_more : (es fs : List Entry) (sockets : List Tcp2Socket) (line : ℕ) (c : StandingCall) → CallIsFine steps es sockets line c → CallIsFine steps (es ++ fs) sockets line c
-  standing_more es fs sockets line (standing.Bind place op) h = bind_more es fs op h
-  standing_more es fs sockets line (standing.Listen place) h = h
-  standing_more es fs sockets line (standing.DropOutput place) h = drop_more es fs sockets (own_of line) place h
+  standing_more es fs sockets line (StandingCall.Bind place op) h = bind_more es fs op h
+  standing_more es fs sockets line (StandingCall.Listen place) h = h
+  standing_more es fs sockets line (StandingCall.DropOutput place) h = drop_more es fs sockets (own_of line) place h
 
   -- == a record that changes
   -- streams stay those of the socket's connection
@@ -266,14 +239,14 @@ module _ (steps : List Step) where
       record { found = m.found; at = m.at; named = λ side e. h.named side (sym m.same ∙ e) }
 
   standing_put : (es : List Entry) (sockets : List Tcp2Socket) (i : ℕ) (old now : Tcp2Socket) (line : ℕ) (c : StandingCall) → slice_get sockets i ≡ Some old → now.side ≡ old.side → CallIsFine steps es sockets line c → CallIsFine steps es (slice_set sockets i now) line c
-  standing_put es sockets i old now line (standing.Bind place op) g k h = h
-  standing_put es sockets i old now line (standing.Listen place) g k h = h
-  standing_put es sockets i old now line (standing.DropOutput place) g k h = drop_put es sockets i old now (own_of line) place g k h
+  standing_put es sockets i old now line (StandingCall.Bind place op) g k h = h
+  standing_put es sockets i old now line (StandingCall.Listen place) g k h = h
+  standing_put es sockets i old now line (StandingCall.DropOutput place) g k h = drop_put es sockets i old now (own_of line) place g k h
 
   standing_push : (es : List Entry) (sockets : List Tcp2Socket) (r : Tcp2Socket) (line : ℕ) (c : StandingCall) → CallIsFine steps es sockets line c → CallIsFine steps es (sockets ++ r ∷ []) line c
-  standing_push es sockets r line (standing.Bind place op) h = h
-  standing_push es sockets r line (standing.Listen place) h = h
-  standing_push es sockets r line (standing.DropOutput place) h = record { found = h.found; at = get_front sockets (r ∷ []) place h.found h.at; named = h.named }
+  standing_push es sockets r line (StandingCall.Bind place op) h = h
+  standing_push es sockets r line (StandingCall.Listen place) h = h
+  standing_push es sockets r line (StandingCall.DropOutput place) h = record { found = h.found; at = get_front sockets (r ∷ []) place h.found h.at; named = h.named }
 
   -- == the state
   -- an ask that is no mark, and that touches no accept, keeps the state

@@ -1,42 +1,12 @@
 -- What goes on is licensed: a bind, a connect, a listen, an accept, a write; and what is given up.
-use Rattle.std.specs.Prelude.{⊤}
-use Rattle.std.proofs.Common.{◌≡◌, inl, inr, ℕ, Bool, true, false, if◌then◌else◌, List, Option, Some, None, refl, sym, ap, subst, ◌∙◌, slice_get, arith, slice_set}
-use Rattle.wasi_addr.specs.declared.address.IpSocketAddress.{IpSocketAddress}
-use Rattle.wasi_world.specs.declared.ids.OpId.{OpId}
-use Rattle.wasi_world.specs.declared.call.Call.{Call}
-use Rattle.wasi_world.specs.declared.call.Call.TheVariants as call
-use Rattle.wasi_world.specs.declared.call.Entry.{Entry}
-use Rattle.wasi_world.specs.declared.outcome.WasiSocketsCtx.{WasiSocketsCtx}
-use Rattle.wasi_world.specs.Asks.{Asks, Give}
-use Rattle.wasi_world.specs.Operation.{Item, Operation, End, Waits, Done, Refused, Who, poll_asks}
-use Rattle.wasi_world.specs.Typed.{ask_close}
-use Rattle.wasi_world.proofs.Allowed.{Allows, allows_then, allows_keep, allows_weaker}
-use Rattle.wasi_tcp.specs.Listen as listen
-use Rattle.wasi_tcp.specs.Accept as accept
-use Rattle.wasi_tcp.specs.Connect as connecting
-use Rattle.wasi_tcp.specs.declared.listener.Accepting.{Accepting}
-use Rattle.wasi_tcp.specs.declared.listener.Accepting.TheVariants as accepting
-use Rattle.wasi_tcp.specs.declared.socket.TcpState.TheVariants as state
-use Rattle.wasi_tcp.specs.declared.writer.WriteState.{WriteState}
-use Rattle.wasi_tcp.specs.declared.writer.WriteState.TheVariants as writing
-use Rattle.wasi_tcp.specs.Connect.{IsConnect, IsLeftOfConnect}
-use Rattle.wasi_tcp.specs.Connecting.{with_state, connect_ended, HoldsConnect}
-use Rattle.wasi_tcp.specs.Accept.{in_hand, refuse_in, IsLeftOfAccept}
-use Rattle.wasi_tcp.specs.Job.{job_asks}
-use Rattle.wasi_tcp.specs.Listen.{is_over, IsListen, IsLeftOfListen}
-use Rattle.wasi_tcp.specs.Listener.{give_up_in, Listener, accept_ended, HoldsAccept, IsAcceptOn}
-use Rattle.wasi_tcp.specs.Socket.{side_of}
-use Rattle.wasi_tcp.specs.Writer.{turn_asks}
-use Rattle.wasi_host.specs.declared.listening.Listening.{Listening}
-use Rattle.wasi_host.specs.declared.listening.Listening.TheVariants.{Not, Begins, Accepts, Unclosed}
-use Rattle.wasi_host.specs.declared.socket.Streams.{Streams}
-use Rattle.wasi_host.specs.declared.socket.Tcp2Socket.{Tcp2Socket}
-use Rattle.wasi_host.specs.Listening.{give_up_asks, with_listening}
-use Rattle.wasi_host.specs.Store.{with_inner, with_writer, left_of}
-use Rattle.wasi_walks.specs.Waiting as binding
-use Rattle.wasi_walks.specs.Waiting.{IsLeftOfBind}
-use Rattle.wasi_steps.specs.declared.step.Step.{Step}
-use Rattle.wasi_walks.specs.Licence.{step_at, IsMaker, MayAsk, marked_by}
+use Rattle.wasi_walks.proofs.Words.{Accepting, Accepts, Allows, Asks, Begins, Bool, Call, Done, End, Entry, Give, HoldsAccept, HoldsConnect}
+use Rattle.wasi_walks.proofs.Words.{IpSocketAddress, IsAcceptOn, IsConnect, IsLeftOfAccept, IsLeftOfBind, IsLeftOfConnect, IsLeftOfListen, IsMaker}
+use Rattle.wasi_walks.proofs.Words.{Item, List, Listener, Listening, MayAsk, None, Not, OpId, Operation, Option, Refused, Some, Step, Streams}
+use Rattle.wasi_walks.proofs.Words.{Tcp2Socket, TcpState, Unclosed, Waits, WasiSocketsCtx, Who, WriteState, accept_ended, allows_keep, allows_then}
+use Rattle.wasi_walks.proofs.Words.{allows_weaker, ap, arith, ask_close, connect_ended, false, give_up_asks, give_up_in, if◌then◌else◌, in_hand, inl}
+use Rattle.wasi_walks.proofs.Words.{inr, is_over, job_asks, left_of, marked_by, poll_asks, refl, refuse_in, side_of, slice_get, slice_set, step_at}
+use Rattle.wasi_walks.proofs.Words.{subst, sym, true, turn_asks, with_inner, with_listening, with_state, with_writer, ℕ, ⊤, ◌∙◌, ◌≡◌}
+use Rattle.wasi_tcp.specs.Listen.{IsListen}
 use Rattle.wasi_walks.proofs.licence.AcceptAsks.{MayAs, StandsAfter, polled as polled_accept}
 use Rattle.wasi_walks.proofs.licence.Listening.{ended as listen_ended_fine}
 use Rattle.wasi_walks.proofs.fits.Law.{Fit}
@@ -58,6 +28,10 @@ use Rattle.wasi_walks.proofs.walks.Law.{put_put}
 use Rattle.wasi_walks.proofs.licence.Line.{put_with, same_op, some_same, no_listen, local_side, calm, ListenGoesOn, Licensed, put_fine, elsewhere}
 use Rattle.wasi_walks.proofs.licence.Moves.{streams_fine, held_side, same_listen, listener_fine}
 use Rattle.wasi_walks.proofs.licence.Asked.{Spares, spares, asked_by, asked_fine}
+use Rattle.wasi_tcp.specs.Listen as listen
+use Rattle.wasi_tcp.specs.Accept as accept
+use Rattle.wasi_tcp.specs.Connect as connecting
+use Rattle.wasi_walks.specs.Waiting as binding
 
 module _ (contexts : List WasiSocketsCtx) (steps : List Step) (line : ℕ) (origin : Step) (is_line : step_at steps line ≡ Some origin) where
   -- == what goes on
@@ -89,12 +63,12 @@ module _ (contexts : List WasiSocketsCtx) (steps : List Step) (line : ℕ) (orig
 
   -- the local address of its own side alone
   abbrev Its : OpId → Call → Type 0
-  Its side c = (x : OpId) → c ≡ call.Local x → side ≡ x
+  Its side c = (x : OpId) → c ≡ Call.Local x → side ≡ x
 
   its_quiet : (side : OpId) (c : Call) → NoLocal c → Its side c
   its_quiet side c n x e = absurd (subst NoLocal e n)
 
-  its_own : (side : OpId) → Its side (call.Local side)
+  its_own : (side : OpId) → Its side (Call.Local side)
   its_own side x e = local_side side x e
 
   listen_quiet : (who : Who) (items : List Item) → IsLeftOfListen items → AllAsk (Its who.side) (its_quiet who.side) who items
@@ -113,7 +87,7 @@ module _ (contexts : List WasiSocketsCtx) (steps : List Step) (line : ℕ) (orig
       (λ fs ended k. elsewhere fs h (record h { hand = Some (left_of op ended.1) }) refl refl refl k.0 k.0.fine k.0.names (λ o p. subst (BindIsFine steps fs) (same_op _ o p) k.1)) es (poll_asks op)
       (kept h (λ fs ended. BindIsFine steps fs (left_of op ended.1)) es (poll_asks op) i (quietly (λ fs ended. BindIsFine steps fs (left_of op ended.1)) es op (bind_quiet op.who op.left (b.hand op e).left) (fine_poll contexts steps op es (i.hand op e))))
 
-  connected_on : (es : List Entry) (h : Here) (place : ℕ) (r : Tcp2Socket) (op : Operation) → Found h place r → r.inner.state ≡ state.Connecting op → Fit h → Licensed steps line origin es h
+  connected_on : (es : List Entry) (h : Here) (place : ℕ) (r : Tcp2Socket) (op : Operation) → Found h place r → r.inner.state ≡ TcpState.Connecting op → Fit h → Licensed steps line origin es h
       → Allows (MayAsk contexts steps) (λ fs ended. Licensed steps line origin fs (put h place (with_inner r (with_state r.inner (connect_ended op.who ended).1)))) es (poll_asks op)
   connected_on es h place r op g e b i =
       let its : IsConnect op = subst HoldsConnect e (b.records place r g).0 in
@@ -174,12 +148,12 @@ module _ (contexts : List WasiSocketsCtx) (steps : List Step) (line : ℕ) (orig
 
   -- an accept asks by its own name, and marks nothing
   touch_as : (op x : OpId) (c : Call) → marked_by c ≡ 0 → Touches op c x → op ≡ x
-  touch_as op x (call.Made handle kind parent sock) z t = absurd (omega (arith, z))
-  touch_as op x (call.Accept s) z t = t
-  touch_as op x (call.Hand s p) z t = t
+  touch_as op x (Call.Made handle kind parent sock) z t = absurd (omega (arith, z))
+  touch_as op x (Call.Accept s) z t = t
+  touch_as op x (Call.Hand s p) z t = t
   touch_as op x _ z t = absurd t
 
-  awaited_on : (es : List Entry) (h : Here) (place : ℕ) (r : Tcp2Socket) (l : Listener) (op : Operation) → Found h place r → r.listening ≡ Accepts l → l.accept ≡ accepting.Asking op → Fit h → Named line h → Licensed steps line origin es h
+  awaited_on : (es : List Entry) (h : Here) (place : ℕ) (r : Tcp2Socket) (l : Listener) (op : Operation) → Found h place r → r.listening ≡ Accepts l → l.accept ≡ Accepting.Asking op → Fit h → Named line h → Licensed steps line origin es h
       → Allows (MayAsk contexts steps) (λ fs ended. Licensed steps line origin fs (put h place (accepting_now r l (accept_ended op.who ended)))) es (poll_asks op)
   awaited_on es h place r l op g e a b n i =
       let x = i.fine.sockets place r g in let lf = listener_fine contexts steps line origin is_line es r l e x in
@@ -217,10 +191,10 @@ module _ (contexts : List WasiSocketsCtx) (steps : List Step) (line : ℕ) (orig
           (λ y z p v w u. absurd (free p v w (inr (u ∙ ap (λ (o : OpId). Some o) (q.name y z))))) k.fine) (λ o p. absurd (cc)))
 
   turn_on : (es : List Entry) (side : OpId) (w : WriteState) → WritesOn steps es side w → Allows (MayQuietly contexts steps) (λ fs done. WritesOn steps fs side done.1) es (turn_asks w)
-  turn_on es side (writing.Ready half permit) on = on
-  turn_on es side (writing.Writing job) on = allows_then (MayQuietly contexts steps) (λ fs j. JobIsFine steps fs side j) (λ fs done. WritesOn steps fs side done.1) es (job_asks job) _ (fine_job contexts steps es side job on) (λ fs j k. k)
-  turn_on es side (writing.Closing job) on = allows_then (MayQuietly contexts steps) (λ fs j. JobIsFine steps fs side j) (λ fs done. WritesOn steps fs side done.1) es (job_asks job) _ (fine_job contexts steps es side job on) (λ fs j k. k)
-  turn_on es side (writing.Closed e) on = on
+  turn_on es side (WriteState.Ready half permit) on = on
+  turn_on es side (WriteState.Writing job) on = allows_then (MayQuietly contexts steps) (λ fs j. JobIsFine steps fs side j) (λ fs done. WritesOn steps fs side done.1) es (job_asks job) _ (fine_job contexts steps es side job on) (λ fs j k. k)
+  turn_on es side (WriteState.Closing job) on = allows_then (MayQuietly contexts steps) (λ fs j. JobIsFine steps fs side j) (λ fs done. WritesOn steps fs side done.1) es (job_asks job) _ (fine_job contexts steps es side job on) (λ fs j k. k)
+  turn_on es side (WriteState.Closed e) on = on
 
   -- the connection has one side
   one_side : (fs es : List Entry) (r : Tcp2Socket) (s : Streams) (f : StreamsAreFine steps es r.inner s) (x : StreamsAreFine steps fs r.inner s) → f.side ≡ x.side
@@ -248,10 +222,10 @@ module _ (contexts : List WasiSocketsCtx) (steps : List Step) (line : ℕ) (orig
       refuses who (Some peer) n = (((inl n, tt), tt), λ t fits. tt)
 
       by_accept : (a : Accepting) → AcceptingIsFine steps es l.side l.maker a → Allows (MayQuietly contexts steps) (λ fs done. ⊤) es (give_up_in a)
-      by_accept accepting.Idle k = tt
-      by_accept (accepting.Asking op) k = refuses op.who (in_hand op.left) (subst (Names steps es op.who.id) (sym k.on) k.named)
-      by_accept (accepting.Arrived new peer) k = (((tt, tt), tt), λ t fits. tt)
-      by_accept (accepting.Failed c) k = tt
+      by_accept Accepting.Idle k = tt
+      by_accept (Accepting.Asking op) k = refuses op.who (in_hand op.left) (subst (Names steps es op.who.id) (sym k.on) k.named)
+      by_accept (Accepting.Arrived new peer) k = (((tt, tt), tt), λ t fits. tt)
+      by_accept (Accepting.Failed c) k = tt
   given_up es made (Unclosed side) f = (((tt, tt), tt), λ t fits. tt)
 
   pub polls_fine : (es : List Entry) (h : Here) (op : Operation) (after : End × List Item → Here) → Held h op after → Base contexts line origin h → Licensed steps line origin es h → Allows (MayAsk contexts steps) (λ fs ended. Licensed steps line origin fs (after ended)) es (poll_asks op)

@@ -1,17 +1,7 @@
 -- The law that each ask is licensed, on the base law.
-use Rattle.std.specs.Prelude.{⊤}
-use Rattle.std.proofs.Common.{◌≡◌, inl, ℕ, List, [], ◌∷◌, ◌++◌, Some, refl, ap}
-use Rattle.wasi_world.specs.declared.call.Call.TheVariants as call
-use Rattle.wasi_world.specs.declared.call.Entry.{Entry}
-use Rattle.wasi_world.specs.declared.outcome.WasiSocketsCtx.{WasiSocketsCtx}
-use Rattle.wasi_world.specs.Asks.{Asks}
-use Rattle.wasi_world.proofs.Allowed.{Allows, allows_then, allows_weaker}
-use Rattle.wasi_tcp.specs.Socket.{side_in, new_asks}
-use Rattle.wasi_host.specs.declared.listening.Listening.TheVariants.{Not}
-use Rattle.wasi_host.specs.Listening.{give_up_asks, with_listening}
-use Rattle.wasi_host.specs.Machine.{own_of, created_asks}
-use Rattle.wasi_steps.specs.declared.step.Step.{Step}
-use Rattle.wasi_walks.specs.Licence.{entry, step_at, MayAsk}
+use Rattle.wasi_walks.proofs.Words.{Allows, Asks, Call, Entry, List, MayAsk, Not, Some, Step, WasiSocketsCtx, [], allows_then, allows_weaker, ap}
+use Rattle.wasi_walks.proofs.Words.{created_asks, entry, give_up_asks, inl, new_asks, own_of, refl, side_in, step_at, with_listening, ℕ, ⊤, ◌++◌, ◌∷◌}
+use Rattle.wasi_walks.proofs.Words.{◌≡◌}
 use Rattle.wasi_walks.proofs.walks.OnBase.{Above}
 use Rattle.wasi_walks.proofs.claims.Law.{Base, on_names, on_along}
 use Rattle.wasi_walks.proofs.walks.Moves.{closed_record, Used, Here, put, OfSocket}
@@ -36,13 +26,13 @@ module _ (contexts : List WasiSocketsCtx) (steps : List Step) (line : ℕ) (orig
         (k.0, λ told fits. asked_fine contexts steps line origin is_line es h (own_of n) c told k.1 (λ p z op d l e. not_held contexts steps line origin is_line h place r side g s b.1 p z op d l (question_local contexts steps line origin is_line side op.who.side c q e)) i);
     sets = λ es h place r side backlog at g s is b i.
         let f = i.fine.sockets place r g in
-        ((inl (i.names place line r at g side (f.named side (ap side_in s))), record { origin = origin; at = is_line; holds = is }, f.socket.listens side s), λ told fits. asked_fine contexts steps line origin is_line es h (own_of line) (call.SetBacklog side backlog) told tt (spares contexts steps line origin is_line h (call.SetBacklog side backlog) tt) i);
+        ((inl (i.names place line r at g side (f.named side (ap side_in s))), record { origin = origin; at = is_line; holds = is }, f.socket.listens side s), λ told fits. asked_fine contexts steps line origin is_line es h (own_of line) (Call.SetBacklog side backlog) told tt (spares contexts steps line origin is_line h (Call.SetBacklog side backlog) tt) i);
     learns = λ es h place r side at g e b i. (inl (names_on_side contexts steps line origin is_line es h place line r side at g (OfSocket (ap side_in e)) i), λ told fits. learned_fine contexts steps line origin is_line es h place r side told g e fits b.1 i);
     closes = λ es h place r side q g e b i. (
       tt,
       λ told fits.
-          let fs = es ++ entry (own_of line) (call.Close side) told ∷ [] in
-          put_fine fs h place r (closed_record r) g refl (listening_gone r.listening) (gone_maker contexts steps line origin is_line r (closed_record r).inner) (closed_fine contexts steps line origin is_line fs r) (asked_fine contexts steps line origin is_line es h (own_of line) (call.Close side) told tt (spares contexts steps line origin is_line h (call.Close side) tt) i),
+          let fs = es ++ entry (own_of line) (Call.Close side) told ∷ [] in
+          put_fine fs h place r (closed_record r) g refl (listening_gone r.listening) (gone_maker contexts steps line origin is_line r (closed_record r).inner) (closed_fine contexts steps line origin is_line fs r) (asked_fine contexts steps line origin is_line es h (own_of line) (Call.Close side) told tt (spares contexts steps line origin is_line h (Call.Close side) tt) i),
     );
     marks = λ es h kind parent sock m b i. marked_fine contexts steps line origin is_line es h kind parent sock m i;
     creates = λ es h ctx family c a o past b i.

@@ -1,24 +1,9 @@
 -- A listen: each of its asks is allowed, what it leaves may be polled on, and where it is done its side listens.
-use Rattle.std.specs.Prelude.{⊤}
-use Rattle.std.proofs.Common.{◌≡◌, inl, inr, List, [], ◌∷◌, ◌++◌, ℕ, refl, sym, ap, subst, ◌∙◌, append_assoc}
-use Rattle.wasi_addr.specs.declared.address.IpSocketAddress.{IpSocketAddress}
-use Rattle.wasi_addr.specs.declared.address.SocketAddrUse.TheVariants.{TcpListen}
-use Rattle.wasi_addr.specs.declared.code.ErrorCode.{ErrorCode}
-use Rattle.wasi_addr.specs.declared.code.ErrorCode.TheVariants.{AccessDenied}
-use Rattle.wasi_world.specs.declared.ids.OpId.{OpId}
-use Rattle.wasi_world.specs.declared.call.Call.{Call}
-use Rattle.wasi_world.specs.declared.call.Call.TheVariants as call
-use Rattle.wasi_world.specs.declared.call.Told.{Told}
-use Rattle.wasi_world.specs.declared.call.Told.TheVariants as told
-use Rattle.wasi_world.specs.declared.call.Entry.{Entry}
-use Rattle.wasi_world.specs.declared.outcome.WasiSocketsCtx.{WasiSocketsCtx}
-use Rattle.wasi_world.specs.Asks.{bind}
-use Rattle.wasi_world.specs.Fits.{IsAddr, IsDoneOrCode}
-use Rattle.wasi_world.specs.Typed.{told_verdict, told_done, told_addr}
-use Rattle.wasi_world.specs.Operation.{Given, Nothing, Item, Check, CheckLocal, Listen, LastAsk, CloseLast, Who, Operation, End, Waits, Done, Refused, front, last_ask, poll_asks, verdict_front, done_front, check_front, local_front}
-use Rattle.wasi_world.proofs.Allowed.{Allows, FrontKeeps, allows_polls}
-use Rattle.wasi_steps.specs.declared.step.Step.{Step}
-use Rattle.wasi_walks.specs.Licence.{Has, entry, BeganBy, IsBoundSide, IsLastLocal, Listens, IsListen}
+use Rattle.wasi_walks.proofs.Words.{AccessDenied, Allows, BeganBy, Call, Check, CheckLocal, CloseLast, Done, End, Entry, ErrorCode, FrontKeeps, Given}
+use Rattle.wasi_walks.proofs.Words.{Has, IpSocketAddress, IsAddr, IsBoundSide, IsDoneOrCode, IsLastLocal, IsListen, Item, LastAsk, List, Listen}
+use Rattle.wasi_walks.proofs.Words.{Listens, Nothing, OpId, Operation, Refused, Step, TcpListen, Told, Waits, WasiSocketsCtx, Who, [], allows_polls}
+use Rattle.wasi_walks.proofs.Words.{ap, append_assoc, bind, check_front, done_front, entry, front, inl, inr, last_ask, local_front, poll_asks, refl}
+use Rattle.wasi_walks.proofs.Words.{subst, sym, told_addr, told_done, told_verdict, verdict_front, ℕ, ⊤, ◌++◌, ◌∙◌, ◌∷◌, ◌≡◌}
 use Rattle.wasi_walks.proofs.Lists.{has_last, has_split}
 use Rattle.wasi_walks.proofs.licence.Bounds.{NoLocal, May}
 use Rattle.wasi_walks.proofs.licence.State.{WorksOn}
@@ -34,21 +19,21 @@ local_more es op c t side a n h = record {
   front = h.front;
   op = h.op;
   back = h.back ++ entry op c t ∷ [];
-  cut = ap (λ (fs : List Entry). fs ++ entry op c t ∷ []) h.cut ∙ append_assoc h.front (entry h.op (call.Local side) (told.Addr a) ∷ h.back) (entry op c t ∷ []);
-  last = λ o u i. elim (has_split h.back (entry op c t) (entry o (call.Local side) u) i) [
+  cut = ap (λ (fs : List Entry). fs ++ entry op c t ∷ []) h.cut ∙ append_assoc h.front (entry h.op (Call.Local side) (Told.Addr a) ∷ h.back) (entry op c t ∷ []);
+  last = λ o u i. elim (has_split h.back (entry op c t) (entry o (Call.Local side) u) i) [
     | inl j ↦ h.last o u j
-    | inr e ↦ no_local c (call.Local side) (ap (λ (x : Entry). x.call) e) n
+    | inr e ↦ no_local c (Call.Local side) (ap (λ (x : Entry). x.call) e) n
   ];
 }
 
-pub local_told : (es : List Entry) (op side : OpId) (a : IpSocketAddress) → IsLastLocal (es ++ entry op (call.Local side) (told.Addr a) ∷ []) side a
+pub local_told : (es : List Entry) (op side : OpId) (a : IpSocketAddress) → IsLastLocal (es ++ entry op (Call.Local side) (Told.Addr a) ∷ []) side a
 local_told es op side a = record { front = es; op = op; back = []; cut = refl; last = λ o u i. i }
 
 -- == what is left of a listen, and what it was told so far
 pub data ListenLeft (es : List Entry) (op side : OpId) (maker : ℕ) : List Item → Type 0 where
   Whole : (backlog : ℕ) → ListenLeft es op side maker (CheckLocal TcpListen ∷ Listen backlog ∷ [])
   Untold : (a : IpSocketAddress) (backlog : ℕ) → IsLastLocal es side a → ListenLeft es op side maker (Check a TcpListen ∷ Listen backlog ∷ [])
-  Allowed : (a : IpSocketAddress) (backlog : ℕ) → IsLastLocal es side a → Has es (entry op (call.Check maker a TcpListen) told.Yes) → ListenLeft es op side maker (Listen backlog ∷ [])
+  Allowed : (a : IpSocketAddress) (backlog : ℕ) → IsLastLocal es side a → Has es (entry op (Call.Check maker a TcpListen) Told.Yes) → ListenLeft es op side maker (Listen backlog ∷ [])
   Over : Listens es side → ListenLeft es op side maker []
 
 -- with nothing left its `listen` was told done
@@ -101,9 +86,9 @@ module _ (contexts : List WasiSocketsCtx) (steps : List Step) where
 
       -- the check of the address that was told
       asked_check : (es : List Entry) (a : IpSocketAddress) (backlog : ℕ) (t : Told) → Works es → IsLastLocal es who.side a
-          → FrontKeeps (May contexts steps) who StandsBefore StandsAfter (Listen backlog ∷ []) (es ++ entry who.id (call.Check who.context a TcpListen) t ∷ []) (verdict_front (Check a TcpListen) (told_verdict t))
-      asked_check es a backlog told.Yes w h = stands _ _ (works_on es _ told.Yes w) (Allowed a backlog (local_more es who.id _ told.Yes who.side a tt h) (has_last es _))
-      asked_check es a backlog told.No w h = ends_last _ AccessDenied Nothing
+          → FrontKeeps (May contexts steps) who StandsBefore StandsAfter (Listen backlog ∷ []) (es ++ entry who.id (Call.Check who.context a TcpListen) t ∷ []) (verdict_front (Check a TcpListen) (told_verdict t))
+      asked_check es a backlog Told.Yes w h = stands _ _ (works_on es _ Told.Yes w) (Allowed a backlog (local_more es who.id _ Told.Yes who.side a tt h) (has_last es _))
+      asked_check es a backlog Told.No w h = ends_last _ AccessDenied Nothing
       asked_check es a backlog t w h = stands _ _ (works_on es _ t w) (Untold a backlog (local_more es who.id _ t who.side a tt h))
 
       checks : (es : List Entry) (a : IpSocketAddress) (backlog : ℕ) → Works es → IsLastLocal es who.side a → Allows (May contexts steps) (FrontKeeps (May contexts steps) who StandsBefore StandsAfter (Listen backlog ∷ [])) es (check_front who a TcpListen)
@@ -112,15 +97,15 @@ module _ (contexts : List WasiSocketsCtx) (steps : List Step) where
 
       -- the local address
       asked_local : (es : List Entry) (backlog : ℕ) (t : Told) → IsAddr t → Works es
-          → Allows (May contexts steps) (FrontKeeps (May contexts steps) who StandsBefore StandsAfter (Listen backlog ∷ [])) (es ++ entry who.id (call.Local who.side) t ∷ []) (local_front who TcpListen (told_addr t))
-      asked_local es backlog (told.Addr a) fits w = checks _ a backlog (works_on es _ (told.Addr a) w) (local_told es who.id who.side a)
-      asked_local es backlog (told.Code c) fits w = ends_last _ c Nothing
+          → Allows (May contexts steps) (FrontKeeps (May contexts steps) who StandsBefore StandsAfter (Listen backlog ∷ [])) (es ++ entry who.id (Call.Local who.side) t ∷ []) (local_front who TcpListen (told_addr t))
+      asked_local es backlog (Told.Addr a) fits w = checks _ a backlog (works_on es _ (Told.Addr a) w) (local_told es who.id who.side a)
+      asked_local es backlog (Told.Code c) fits w = ends_last _ c Nothing
       asked_local es backlog _ fits w = absurd fits
 
       -- the listen itself
-      asked_listen : (es : List Entry) (backlog : ℕ) (t : Told) → IsDoneOrCode t → Works es → FrontKeeps (May contexts steps) who StandsBefore StandsAfter [] (es ++ entry who.id (call.Listen who.side backlog) t ∷ []) (done_front (told_done t))
-      asked_listen es backlog told.Done fits w = stands _ _ (works_on es _ told.Done w) (Over (record { op = who.id; backlog = backlog; told = has_last es _ }))
-      asked_listen es backlog (told.Code c) fits w = ends_last _ c Nothing
+      asked_listen : (es : List Entry) (backlog : ℕ) (t : Told) → IsDoneOrCode t → Works es → FrontKeeps (May contexts steps) who StandsBefore StandsAfter [] (es ++ entry who.id (Call.Listen who.side backlog) t ∷ []) (done_front (told_done t))
+      asked_listen es backlog Told.Done fits w = stands _ _ (works_on es _ Told.Done w) (Over (record { op = who.id; backlog = backlog; told = has_last es _ }))
+      asked_listen es backlog (Told.Code c) fits w = ends_last _ c Nothing
       asked_listen es backlog _ fits w = absurd fits
 
       fine_front : (es : List Entry) (item : Item) (items : List Item) → Works es → ListenLeft es who.id who.side who.context (item ∷ items) → Allows (May contexts steps) (FrontKeeps (May contexts steps) who StandsBefore StandsAfter items) es (front who item)

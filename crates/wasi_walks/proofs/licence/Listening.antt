@@ -1,26 +1,8 @@
 -- A socket begins to listen, and a listen that stands goes on: what is asked is allowed, and the state fits the log.
-use Rattle.std.specs.Prelude.{⊤}
-use Rattle.std.proofs.Common.{◌≡◌, ℕ, List, Some, None, Ok, Result, refl, sym, ap, subst, ◌∙◌}
-use Rattle.wasi_addr.specs.declared.code.ErrorCode.{ErrorCode}
-use Rattle.wasi_world.specs.declared.call.Entry.{Entry}
-use Rattle.wasi_world.specs.declared.outcome.Answer.{Answer}
-use Rattle.wasi_world.specs.declared.outcome.Answer.TheVariants.{Pending}
-use Rattle.wasi_world.specs.declared.outcome.WasiSocketsCtx.{WasiSocketsCtx}
-use Rattle.wasi_world.specs.Operation.{Item, Operation, End, Waits, Done, Refused}
-use Rattle.wasi_tcp.specs.declared.socket.TcpState.TheVariants as state
-use Rattle.wasi_tcp.specs.Socket.{side_in, side_of}
-use Rattle.wasi_tcp.specs.Connecting.{with_state}
-use Rattle.wasi_tcp.specs.Listening.{listen_ended}
-use Rattle.wasi_tcp.specs.Listener.{new_listener}
-use Rattle.wasi_host.specs.declared.listening.Listening.{Listening}
-use Rattle.wasi_host.specs.declared.listening.Listening.TheVariants.{Not, Begins, Accepts}
-use Rattle.wasi_host.specs.declared.socket.InProgress.TheVariants as doing
-use Rattle.wasi_host.specs.declared.socket.Streams.{Streams}
-use Rattle.wasi_host.specs.declared.socket.Tcp2Socket.{Tcp2Socket}
-use Rattle.wasi_host.specs.Listening.{listen_polled}
-use Rattle.wasi_host.specs.Store.{left_of}
-use Rattle.wasi_steps.specs.declared.step.Step.{Step}
-use Rattle.wasi_walks.specs.Licence.{IsMaker, Listens}
+use Rattle.wasi_walks.proofs.Words.{Accepts, Answer, Begins, Done, End, Entry, ErrorCode, InProgress, IsMaker, Item, List, Listening, Listens, None}
+use Rattle.wasi_walks.proofs.Words.{Not, Ok, Operation, Pending, Refused, Result, Some, Step, Streams, Tcp2Socket, TcpState, Waits, WasiSocketsCtx}
+use Rattle.wasi_walks.proofs.Words.{ap, left_of, listen_ended, listen_polled, new_listener, refl, side_in, side_of, subst, sym, with_state, ℕ, ⊤, ◌∙◌}
+use Rattle.wasi_walks.proofs.Words.{◌≡◌}
 use Rattle.wasi_walks.proofs.licence.AcceptFrames.{KeepsListening}
 use Rattle.wasi_walks.proofs.licence.State.{ListeningStands, accept_name, RecordIsFine}
 use Rattle.wasi_walks.proofs.licence.Frames.{LeavesRecord}
@@ -56,7 +38,7 @@ module _ (contexts : List WasiSocketsCtx) (steps : List Step) where
 
   -- one that is done listens
   listens_now : (es : List Entry) (r : Tcp2Socket) (op : Operation) → r.side ≡ Some op.who.side → side_of r.inner ≡ None → op.who.context ≡ r.inner.maker → IsMaker es r.inner.maker r.inner.family op.who.side → Listens es op.who.side → RecordIsFine steps es r
-      → RecordIsFine steps es (record r { inner = with_state r.inner (state.Listening op.who.side); in_progress = doing.Listen; listening = Accepts (new_listener op.who.side op.who.context r.inner.family) })
+      → RecordIsFine steps es (record r { inner = with_state r.inner (TcpState.Listening op.who.side); in_progress = InProgress.Listen; listening = Accepts (new_listener op.who.side op.who.context r.inner.family) })
   listens_now es r op s c a m l h = record {
     socket = record {
       knows = record { maker = λ side e. let p : op.who.side ≡ side = cc in subst (IsMaker es r.inner.maker r.inner.family) p m };

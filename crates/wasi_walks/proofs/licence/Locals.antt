@@ -1,26 +1,12 @@
 -- Which local addresses are asked for: what listens that go on rely on.
-use Rattle.std.specs.Prelude.{⊤}
-use Rattle.std.proofs.Common.{◌≡◌, ℕ, inl, inr, List, [], ◌∷◌, ◌++◌, Result, Ok, Err, ap, ◌∙◌, append_assoc}
-use Rattle.wasi_addr.specs.declared.address.IpSocketAddress.{IpSocketAddress}
-use Rattle.wasi_addr.specs.declared.address.SocketAddrUse.{SocketAddrUse}
-use Rattle.wasi_addr.specs.declared.code.ErrorCode.{ErrorCode}
-use Rattle.wasi_addr.specs.declared.code.ErrorCode.TheVariants.{AccessDenied}
-use Rattle.wasi_world.specs.declared.ids.OpId.{OpId}
-use Rattle.wasi_world.specs.declared.call.Call.{Call}
-use Rattle.wasi_world.specs.declared.call.Call.TheVariants as call
-use Rattle.wasi_world.specs.declared.call.Told.{Told}
-use Rattle.wasi_world.specs.declared.call.Told.TheVariants as told
-use Rattle.wasi_world.specs.declared.call.Entry.{Entry}
-use Rattle.wasi_world.specs.declared.asks.Verdict.{Verdict}
-use Rattle.wasi_world.specs.declared.asks.Verdict.TheVariants as verdict
-use Rattle.wasi_world.specs.declared.asks.Polled.{Polled}
-use Rattle.wasi_world.specs.declared.asks.Polled.TheVariants as polled
-use Rattle.wasi_world.specs.Asks.{Asks, Give, Ask, AskWrite, bind}
-use Rattle.wasi_world.specs.Typed.{told_verdict, told_addr, told_done, told_polled, told_arrival}
-use Rattle.wasi_world.specs.Operation.{Given, Nothing, Item, Check, CheckLocal, Bind, Connect, Listen, Accept, CheckArrival, Hand, Refuse, Last, Who, Operation, LastAsk, NothingLast, CloseLast, ShutdownLast, Front, End, verdict_front, done_front, polled_front, check_front, local_front, hand_front, refuse_front, admitted_front, arrival_front, accept_front, front, last_ask, poll_asks}
-use Rattle.wasi_world.proofs.Allowed.{Allows, FrontKeeps, allows_polls}
-use Rattle.wasi_steps.specs.declared.step.Step.{Step}
-use Rattle.wasi_walks.specs.Licence.{entry, IsLastLocal}
+use Rattle.wasi_walks.proofs.Words.{Accept, AccessDenied, Allows, Ask, AskWrite, Asks, Bind, Call, Check, CheckArrival, CheckLocal, CloseLast}
+use Rattle.wasi_walks.proofs.Words.{Connect, End, Entry, Err, ErrorCode, Front, FrontKeeps, Give, Given, IpSocketAddress, IsLastLocal, Item, Last}
+use Rattle.wasi_walks.proofs.Words.{LastAsk, List, Listen, Nothing, NothingLast, Ok, OpId, Operation, Polled, Refuse, Result, ShutdownLast}
+use Rattle.wasi_walks.proofs.Words.{SocketAddrUse, Step, Told, Verdict, Who, [], accept_front, admitted_front, allows_polls, ap, append_assoc}
+use Rattle.wasi_walks.proofs.Words.{arrival_front, bind, check_front, done_front, entry, front, hand_front, inl, inr, last_ask, local_front}
+use Rattle.wasi_walks.proofs.Words.{poll_asks, polled_front, refuse_front, told_addr, told_arrival, told_done, told_polled, told_verdict}
+use Rattle.wasi_walks.proofs.Words.{verdict_front, ℕ, ⊤, ◌++◌, ◌∙◌, ◌∷◌, ◌≡◌}
+use Rattle.wasi_world.specs.Operation.{Hand}
 use Rattle.wasi_walks.proofs.licence.Bounds.{NoLocal}
 use Rattle.wasi_walks.proofs.licence.Frames.{works_more, bound_more, listens_more}
 use Rattle.wasi_walks.proofs.Lists.{has_front, has_split}
@@ -35,7 +21,7 @@ also P R Q S es (AskWrite op sock bytes next) h k = ((h.0, k.0), λ told f g. al
 -- == a poll asks for the local address of its own side, where it asks for one
 module _ (L : Call → Type 0) (l : (c : Call) → NoLocal c → L c) (who : Who) where
   abbrev pub Says_so : Item → Type 0
-  Says_so (CheckLocal usage) = L (call.Local who.side)
+  Says_so (CheckLocal usage) = L (Call.Local who.side)
   Says_so (Check a usage) = ⊤
   Says_so (Bind a) = ⊤
   Says_so (Connect a) = ⊤
@@ -71,8 +57,8 @@ module _ (L : Call → Type 0) (l : (c : Call) → NoLocal c → L c) (who : Who
     Leads es asks = Allows Says (FrontKeeps Says who Before After items) es asks
 
     checked : (es : List Entry) (a : IpSocketAddress) (usage : SocketAddrUse) (t : Told) → FrontKeeps Says who Before After items es (verdict_front (Check a usage) (told_verdict t))
-    checked es a usage told.Yes = k
-    checked es a usage told.No = last_says es who.last AccessDenied Nothing
+    checked es a usage Told.Yes = k
+    checked es a usage Told.No = last_says es who.last AccessDenied Nothing
     checked es a usage t = (tt, k)
 
     check_says : (es : List Entry) (a : IpSocketAddress) (usage : SocketAddrUse) → Leads es (check_front who a usage)
@@ -84,12 +70,12 @@ module _ (L : Call → Type 0) (l : (c : Call) → NoLocal c → L c) (who : Who
     local_says es usage (Err c) = last_says es who.last c Nothing
 
     told_bind : (es : List Entry) (t : Told) → FrontKeeps Says who Before After items es (done_front (told_done t))
-    told_bind es (told.Code c) = last_says es who.last c Nothing
+    told_bind es (Told.Code c) = last_says es who.last c Nothing
     told_bind es t = k
 
     told_connect : (es : List Entry) (a : IpSocketAddress) (t : Told) → FrontKeeps Says who Before After items es (polled_front (Connect a) (told_polled t))
-    told_connect es a told.Done = k
-    told_connect es a (told.Code c) = last_says es who.last c Nothing
+    told_connect es a Told.Done = k
+    told_connect es a (Told.Code c) = last_says es who.last c Nothing
     told_connect es a t = (tt, k)
 
     hand_says : (es : List Entry) (peer : IpSocketAddress) → Leads es (hand_front who peer)
@@ -101,18 +87,18 @@ module _ (L : Call → Type 0) (l : (c : Call) → NoLocal c → L c) (who : Who
     refuse_says es peer = (l _ tt, λ t fits. (tt, k))
 
     admitted_says : (es : List Entry) (peer : IpSocketAddress) (v : Verdict) → Leads es (admitted_front who peer v)
-    admitted_says es peer verdict.Yes = hand_says es peer
-    admitted_says es peer verdict.No = refuse_says es peer
-    admitted_says es peer verdict.Pending = (tt, k)
+    admitted_says es peer Verdict.Yes = hand_says es peer
+    admitted_says es peer Verdict.No = refuse_says es peer
+    admitted_says es peer Verdict.Pending = (tt, k)
 
     arrival_says : (es : List Entry) (peer : IpSocketAddress) → Leads es (arrival_front who peer)
     unfolding bind
     arrival_says es peer = (l _ tt, λ t fits. admitted_says _ peer (told_verdict t))
 
     accept_says : (es : List Entry) (p : Polled IpSocketAddress) → Leads es (accept_front who p)
-    accept_says es polled.Pending = (tt, k)
-    accept_says es (polled.Ready peer) = arrival_says es peer
-    accept_says es (polled.Code c) = last_says es who.last c Nothing
+    accept_says es Polled.Pending = (tt, k)
+    accept_says es (Polled.Ready peer) = arrival_says es peer
+    accept_says es (Polled.Code c) = last_says es who.last c Nothing
 
   front_says : (es : List Entry) (given : Given) (item : Item) (items : List Item) → AllAsk (item ∷ items) → Allows Says (FrontKeeps Says who Before After items) es (front who item)
   unfolding bind
@@ -132,22 +118,22 @@ module _ (L : Call → Type 0) (l : (c : Call) → NoLocal c → L c) (who : Who
   poll_says items es k = allows_polls Says who Before After (λ fs given item its q. front_says fs given item its q) (λ fs left q. tt) (λ fs given q. tt) 64 items es k
 
 -- == what was told last stays the last, where the side isn't asked
-local_unless : (es : List Entry) (op : OpId) (c : Call) (t : Told) (side : OpId) (a : IpSocketAddress) → (c ≡ call.Local side → ⊥) → IsLastLocal es side a → IsLastLocal (es ++ entry op c t ∷ []) side a
+local_unless : (es : List Entry) (op : OpId) (c : Call) (t : Told) (side : OpId) (a : IpSocketAddress) → (c ≡ Call.Local side → ⊥) → IsLastLocal es side a → IsLastLocal (es ++ entry op c t ∷ []) side a
 local_unless es op c t side a n h = record {
   front = h.front;
   op = h.op;
   back = h.back ++ entry op c t ∷ [];
-  cut = ap (λ (fs : List Entry). fs ++ entry op c t ∷ []) h.cut ∙ append_assoc h.front (entry h.op (call.Local side) (told.Addr a) ∷ h.back) (entry op c t ∷ []);
-  last = λ o u i. elim (has_split h.back (entry op c t) (entry o (call.Local side) u) i) [ inl j ↦ h.last o u j | inr e ↦ n (ap (λ (x : Entry). x.call) e) ];
+  cut = ap (λ (fs : List Entry). fs ++ entry op c t ∷ []) h.cut ∙ append_assoc h.front (entry h.op (Call.Local side) (Told.Addr a) ∷ h.back) (entry op c t ∷ []);
+  last = λ o u i. elim (has_split h.back (entry op c t) (entry o (Call.Local side) u) i) [ inl j ↦ h.last o u j | inr e ↦ n (ap (λ (x : Entry). x.call) e) ];
 }
 
-left_unless : (es : List Entry) (o op side : OpId) (maker : ℕ) (c : Call) (t : Told) (items : List Item) → (c ≡ call.Local side → ⊥) → ListenLeft es op side maker items → ListenLeft (es ++ entry o c t ∷ []) op side maker items
+left_unless : (es : List Entry) (o op side : OpId) (maker : ℕ) (c : Call) (t : Told) (items : List Item) → (c ≡ Call.Local side → ⊥) → ListenLeft es op side maker items → ListenLeft (es ++ entry o c t ∷ []) op side maker items
 left_unless es o op side maker c t _ n (Whole backlog) = Whole backlog
 left_unless es o op side maker c t _ n (Untold a backlog h) = Untold a backlog (local_unless es o c t side a n h)
 left_unless es o op side maker c t _ n (Allowed a backlog h y) = Allowed a backlog (local_unless es o c t side a n h) (has_front es (entry o c t ∷ []) _ y)
 left_unless es o op side maker c t _ n (Over h) = Over (listens_more es _ side h)
 
-pub listen_unless : (steps : List Step) (es : List Entry) (o : OpId) (c : Call) (t : Told) (op : Operation) → (c ≡ call.Local op.who.side → ⊥) → ListenIsFine steps es op → ListenIsFine steps (es ++ entry o c t ∷ []) op
+pub listen_unless : (steps : List Step) (es : List Entry) (o : OpId) (c : Call) (t : Told) (op : Operation) → (c ≡ Call.Local op.who.side → ⊥) → ListenIsFine steps es op → ListenIsFine steps (es ++ entry o c t ∷ []) op
 listen_unless steps es o c t op n h = record {
   to = h.to;
   works = works_more steps es _ op.who.id op.who.side op.who.context h.works;

@@ -1,26 +1,7 @@
 -- What holds for the steps so far holds for a script that goes on from them.
-use Rattle.std.proofs.Common.{◌≡◌, inl, inr, ℕ, zero, suc, List, ◌++◌, Option, Some}
-use Rattle.wasi_world.specs.declared.ids.OpId.{OpId}
-use Rattle.wasi_world.specs.declared.call.Call.{Call}
-use Rattle.wasi_world.specs.declared.call.Call.TheVariants as call
-use Rattle.wasi_world.specs.declared.call.Entry.{Entry}
-use Rattle.wasi_world.specs.declared.outcome.WasiSocketsCtx.{WasiSocketsCtx}
-use Rattle.wasi_world.specs.Operation.{Operation}
-use Rattle.wasi_tcp.specs.declared.listener.Accepting.{Accepting}
-use Rattle.wasi_tcp.specs.declared.listener.Accepting.TheVariants as accepting
-use Rattle.wasi_tcp.specs.declared.writer.WriteState.{WriteState}
-use Rattle.wasi_tcp.specs.declared.writer.WriteState.TheVariants as writing
-use Rattle.wasi_tcp.specs.Job.{Job}
-use Rattle.wasi_tcp.specs.Shape.{Socket}
-use Rattle.wasi_host.specs.declared.listening.Listening.{Listening}
-use Rattle.wasi_host.specs.declared.listening.Listening.TheVariants.{Not, Begins, Accepts, Unclosed}
-use Rattle.wasi_host.specs.declared.machine.Machine.{Machine}
-use Rattle.wasi_host.specs.declared.socket.Streams.{Streams}
-use Rattle.wasi_host.specs.declared.socket.Tcp2Socket.{Tcp2Socket}
-use Rattle.wasi_host.specs.declared.store.StandingCall.{StandingCall}
-use Rattle.wasi_host.specs.declared.store.StandingCall.TheVariants as standing
-use Rattle.wasi_steps.specs.declared.step.Step.{Step}
-use Rattle.wasi_walks.specs.Licence.{BeganBy, NamesSide, ReachesSide, step_at, MayAsk}
+use Rattle.wasi_walks.proofs.Words.{Accepting, Accepts, BeganBy, Begins, Call, Entry, Job, List, Listening, Machine, MayAsk, NamesSide, Not, OpId}
+use Rattle.wasi_walks.proofs.Words.{Operation, Option, ReachesSide, Socket, Some, StandingCall, Step, Streams, Tcp2Socket, Unclosed, WasiSocketsCtx}
+use Rattle.wasi_walks.proofs.Words.{WriteState, inl, inr, step_at, suc, zero, ℕ, ◌++◌, ◌≡◌}
 use Rattle.wasi_walks.proofs.Lists.{get_front}
 use Rattle.wasi_walks.proofs.licence.State.{Names, WorksOn, BindIsFine, ConnectIsFine, JobIsFine, WritesOn, StreamsAreFine, AcceptingIsFine, ListeningIsFine, SocketIsFine, RecordIsFine, CallIsFine, StateIsFine}
 use Rattle.wasi_walks.proofs.licence.ListenAsks.{ListenIsFine}
@@ -39,20 +20,20 @@ module _ (steps more : List Step) where
   reach_more before op side (inr h) = inr h
 
   pub may_more : (contexts : List WasiSocketsCtx) (before : List Entry) (op : OpId) (c : Call) → MayAsk contexts steps before op c → MayAsk contexts (steps ++ more) before op c
-  may_more contexts before op (call.Check ctx addr usage) h = h
-  may_more contexts before op (call.Lookup host) h = h
-  may_more contexts before op (call.TcpCreate ctx family) h = began_more op _ h
-  may_more contexts before op (call.UdpCreate ctx family) h = h
-  may_more contexts before op (call.Bind sock addr) h = (reach_more before op sock h.0, began_more op _ h.1, h.2)
-  may_more contexts before op (call.UdpBind sock addr) h = h
-  may_more contexts before op (call.UdpConnect sock addr) h = h
-  may_more contexts before op (call.Listen sock backlog) h = (reach_more before op sock h.0, began_more op _ h.1, h.2)
-  may_more contexts before op (call.SetBacklog sock backlog) h = (reach_more before op sock h.0, began_more op _ h.1, h.2)
-  may_more contexts before op (call.Connect sock addr) h = (reach_more before op sock h.0, began_more op _ h.1, h.2, h.3)
-  may_more contexts before op (call.Hand sock peer) h = (reach_more before op sock h.0, h.1, h.2)
-  may_more contexts before op (call.Send sock addr bytes) h = h
-  may_more contexts before op (call.Close sock) h = h
-  may_more contexts before op (call.Made handle kind parent sock) h = (h.0, began_more op _ h.1)
+  may_more contexts before op (Call.Check ctx addr usage) h = h
+  may_more contexts before op (Call.Lookup host) h = h
+  may_more contexts before op (Call.TcpCreate ctx family) h = began_more op _ h
+  may_more contexts before op (Call.UdpCreate ctx family) h = h
+  may_more contexts before op (Call.Bind sock addr) h = (reach_more before op sock h.0, began_more op _ h.1, h.2)
+  may_more contexts before op (Call.UdpBind sock addr) h = h
+  may_more contexts before op (Call.UdpConnect sock addr) h = h
+  may_more contexts before op (Call.Listen sock backlog) h = (reach_more before op sock h.0, began_more op _ h.1, h.2)
+  may_more contexts before op (Call.SetBacklog sock backlog) h = (reach_more before op sock h.0, began_more op _ h.1, h.2)
+  may_more contexts before op (Call.Connect sock addr) h = (reach_more before op sock h.0, began_more op _ h.1, h.2, h.3)
+  may_more contexts before op (Call.Hand sock peer) h = (reach_more before op sock h.0, h.1, h.2)
+  may_more contexts before op (Call.Send sock addr bytes) h = h
+  may_more contexts before op (Call.Close sock) h = h
+  may_more contexts before op (Call.Made handle kind parent sock) h = (h.0, began_more op _ h.1)
   may_more contexts before op _ h = reach_more before op _ h
 
   -- == the state
@@ -73,10 +54,10 @@ module _ (steps more : List Step) where
     job_more side job h = record { named = names_more job.write.who.id side h.named; on = h.on; last = h.last; left = h.left }
 
     writes_more : (side : OpId) (w : WriteState) → WritesOn steps es side w → WritesOn (steps ++ more) es side w
-    writes_more side (writing.Ready half permit) h = h
-    writes_more side (writing.Writing job) h = job_more side job h
-    writes_more side (writing.Closing job) h = job_more side job h
-    writes_more side (writing.Closed e) h = tt
+    writes_more side (WriteState.Ready half permit) h = h
+    writes_more side (WriteState.Writing job) h = job_more side job h
+    writes_more side (WriteState.Closing job) h = job_more side job h
+    writes_more side (WriteState.Closed e) h = tt
 
     socket_more : (socket : Socket) → SocketIsFine steps es socket → SocketIsFine (steps ++ more) es socket
     socket_more socket h = record { knows = h.knows; bound = h.bound; listens = h.listens; connect = λ op s. connect_more op (h.connect op s) }
@@ -85,10 +66,10 @@ module _ (steps more : List Step) where
     streams_more socket streams h = record { side = h.side; connected = h.connected; reads = h.reads; writes = writes_more h.side streams.writer h.writes }
 
     accepting_more : (side : OpId) (maker : ℕ) (a : Accepting) → AcceptingIsFine steps es side maker a → AcceptingIsFine (steps ++ more) es side maker a
-    accepting_more side maker accepting.Idle h = tt
-    accepting_more side maker (accepting.Asking op) h = record { named = names_more op.who.id side h.named; on = h.on; asks = h.asks; last = h.last }
-    accepting_more side maker (accepting.Arrived new peer) h = h
-    accepting_more side maker (accepting.Failed c) h = tt
+    accepting_more side maker Accepting.Idle h = tt
+    accepting_more side maker (Accepting.Asking op) h = record { named = names_more op.who.id side h.named; on = h.on; asks = h.asks; last = h.last }
+    accepting_more side maker (Accepting.Arrived new peer) h = h
+    accepting_more side maker (Accepting.Failed c) h = tt
 
     listening_more : (made : Option OpId) (l : Listening) → ListeningIsFine steps es made l → ListeningIsFine (steps ++ more) es made l
     listening_more made Not h = tt
@@ -105,9 +86,9 @@ module _ (steps more : List Step) where
     }
 
     call_more : (sockets : List Tcp2Socket) (line : ℕ) (c : StandingCall) → CallIsFine steps es sockets line c → CallIsFine (steps ++ more) es sockets line c
-    call_more sockets line (standing.Bind place op) h = bind_more op h
-    call_more sockets line (standing.Listen place) h = h
-    call_more sockets line (standing.DropOutput place) h = record { found = h.found; at = h.at; named = λ side e. names_more _ side (h.named side e) }
+    call_more sockets line (StandingCall.Bind place op) h = bind_more op h
+    call_more sockets line (StandingCall.Listen place) h = h
+    call_more sockets line (StandingCall.DropOutput place) h = record { found = h.found; at = h.at; named = λ side e. names_more _ side (h.named side e) }
 
     pub state_more : (m : Machine) → StateIsFine steps es m → StateIsFine (steps ++ more) es m
     state_more m h = record {

@@ -1,24 +1,8 @@
 -- The marks of handles are licensed.
-use Rattle.std.specs.Prelude.{◌⊎◌}
-use Rattle.std.proofs.Common.{◌≡◌, inl, inr, ℕ, List, [], ◌∷◌, ◌++◌, Option, Some, None, refl, sym, ap, subst, ◌∙◌, slice_get}
-use Rattle.wasi_world.specs.declared.ids.OpId.{OpId}
-use Rattle.wasi_world.specs.declared.call.Call.TheVariants as call
-use Rattle.wasi_world.specs.declared.call.HandleKind.{HandleKind}
-use Rattle.wasi_world.specs.declared.call.HandleKind.TheVariants as name
-use Rattle.wasi_world.specs.declared.call.Told.{Told}
-use Rattle.wasi_world.specs.declared.call.Entry.{Entry}
-use Rattle.wasi_world.specs.declared.outcome.WasiSocketsCtx.{WasiSocketsCtx}
-use Rattle.wasi_world.specs.Asks.{bind}
-use Rattle.wasi_world.proofs.Allowed.{Allows, allows_if}
-use Rattle.wasi_streams.specs.Table.{is_full}
-use Rattle.wasi_host.specs.declared.kind.Kind.{Kind}
-use Rattle.wasi_host.specs.declared.kind.Kind.TheVariants.{Network, Tcp2, Input, Output, Pollable, ErrorValue}
-use Rattle.wasi_host.specs.declared.socket.Tcp2Socket.{Tcp2Socket}
-use Rattle.wasi_host.specs.Kinds.{name_of, kind_at, place_in, make_asks}
-use Rattle.wasi_host.specs.Machine.{own_of, side_at}
-use Rattle.wasi_steps.specs.declared.step.Step.{Step}
-use Rattle.wasi_steps.specs.declared.step.Step.TheVariants as step
-use Rattle.wasi_walks.specs.Licence.{Has, entry, step_at, BeganBy, IsMarkedWith, IsMarkOf, MayAsk, IsSide, MarksNoSocket}
+use Rattle.wasi_walks.proofs.Words.{Allows, BeganBy, Call, Entry, ErrorValue, HandleKind, Has, Input, IsMarkOf, IsMarkedWith, IsSide, Kind, List}
+use Rattle.wasi_walks.proofs.Words.{MarksNoSocket, MayAsk, Network, None, OpId, Option, Output, Pollable, Some, Step, Tcp2, Tcp2Socket, Told}
+use Rattle.wasi_walks.proofs.Words.{WasiSocketsCtx, [], allows_if, ap, bind, entry, inl, inr, is_full, kind_at, make_asks, name_of, own_of, place_in}
+use Rattle.wasi_walks.proofs.Words.{refl, side_at, slice_get, step_at, subst, sym, ℕ, ◌++◌, ◌∙◌, ◌∷◌, ◌≡◌, ◌⊎◌}
 use Rattle.wasi_walks.proofs.claims.Law.{Named}
 use Rattle.wasi_walks.proofs.walks.Moves.{Used, Unused, Marks, ANetwork, AStream, AnError, Here, Found, MarksError, Joined, Marked, made_so, APollable, AnAcceptedStream, second_of}
 use Rattle.wasi_walks.proofs.Lists.{has_last, has_split, has_front}
@@ -27,28 +11,29 @@ use Rattle.wasi_walks.proofs.licence.AcceptFrames.{Touches, Spared, handed_unles
 use Rattle.wasi_walks.proofs.licence.Frames.{same_record, names_on, bind_more, state_made}
 use Rattle.wasi_walks.proofs.licence.Line.{names_record, calm, NotMarked, MadeSocket, Licensed, elsewhere}
 use Rattle.wasi_walks.proofs.licence.Asked.{listens_on, joined_on}
+use Rattle.wasi_world.specs.declared.call.HandleKind.TheVariants as name
 
 module _ (contexts : List WasiSocketsCtx) (steps : List Step) (line : ℕ) (origin : Step) (is_line : step_at steps line ≡ Some origin) where
   error_mark : (es : List Entry) (op : OpId) (handle : ℕ) (sock : Option OpId) (s : Step) → MarksError handle s → IsMarkedWith es handle sock → IsMarkOf es op name.ErrorValue (Some handle) sock s
-  error_mark es op handle sock (step.Read ctx input len) m w = (refl, (ap (λ (n : ℕ). Some n) m, subst (λ (n : ℕ). IsMarkedWith es n sock) m w))
-  error_mark es op handle sock (step.CheckWrite ctx output) m w = (refl, (ap (λ (n : ℕ). Some n) m, subst (λ (n : ℕ). IsMarkedWith es n sock) m w))
-  error_mark es op handle sock (step.Write ctx output bytes) m w = (refl, (ap (λ (n : ℕ). Some n) m, subst (λ (n : ℕ). IsMarkedWith es n sock) m w))
-  error_mark es op handle sock (step.Flush ctx output) m w = (refl, (ap (λ (n : ℕ). Some n) m, subst (λ (n : ℕ). IsMarkedWith es n sock) m w))
+  error_mark es op handle sock (Step.Read ctx input len) m w = (refl, (ap (λ (n : ℕ). Some n) m, subst (λ (n : ℕ). IsMarkedWith es n sock) m w))
+  error_mark es op handle sock (Step.CheckWrite ctx output) m w = (refl, (ap (λ (n : ℕ). Some n) m, subst (λ (n : ℕ). IsMarkedWith es n sock) m w))
+  error_mark es op handle sock (Step.Write ctx output bytes) m w = (refl, (ap (λ (n : ℕ). Some n) m, subst (λ (n : ℕ). IsMarkedWith es n sock) m w))
+  error_mark es op handle sock (Step.Flush ctx output) m w = (refl, (ap (λ (n : ℕ). Some n) m, subst (λ (n : ℕ). IsMarkedWith es n sock) m w))
   error_mark es op handle sock _ m w = absurd m
 
   -- == marks
-  unmarked_made : (es : List Entry) (op : OpId) (n : ℕ) (k : HandleKind) (parent : Option ℕ) (sock : Option OpId) (t : Told) (x : OpId) → MarksNoSocket es x → (k ≡ name.Tcp2 → sock ≡ Some x → ⊥) → MarksNoSocket (es ++ entry op (call.Made n k parent sock) t ∷ []) x
-  unmarked_made es op n k parent sock t x m f o handle above u i = elim (has_split es (entry op (call.Made n k parent sock) t) (entry o (call.Made handle name.Tcp2 above (Some x)) u) i) [
+  unmarked_made : (es : List Entry) (op : OpId) (n : ℕ) (k : HandleKind) (parent : Option ℕ) (sock : Option OpId) (t : Told) (x : OpId) → MarksNoSocket es x → (k ≡ name.Tcp2 → sock ≡ Some x → ⊥) → MarksNoSocket (es ++ entry op (Call.Made n k parent sock) t ∷ []) x
+  unmarked_made es op n k parent sock t x m f o handle above u i = elim (has_split es (entry op (Call.Made n k parent sock) t) (entry o (Call.Made handle name.Tcp2 above (Some x)) u) i) [
     | inl j ↦ m o handle above u j
     | inr e ↦ (let p = ap (λ (y : Entry). y.call) e in let a : k ≡ name.Tcp2 = cc in let b : sock ≡ Some x = cc in f a b)
   ]
 
   -- a mark, and what its handle stands for
   pub made_fine : (es : List Entry) (h : Here) (kind : Kind) (parent : Option ℕ) (sock : Option OpId) → BeganBy steps (own_of line) (IsMarkOf es (own_of line) (name_of kind) parent sock)
-      → Spared h.machine.store.sockets (own_of line) (call.Made h.machine.table.next (name_of kind) parent sock)
-      → ((c s : ℕ) → origin ≡ step.TcpAccept c s → (h.own ≡ Unused) ⊎ NotMarked h.made → ⊥)
+      → Spared h.machine.store.sockets (own_of line) (Call.Made h.machine.table.next (name_of kind) parent sock)
+      → ((c s : ℕ) → origin ≡ Step.TcpAccept c s → (h.own ≡ Unused) ⊎ NotMarked h.made → ⊥)
       → ((x : OpId) → ((h.own ≡ Unused) × (x ≡ second_of line)) ⊎ ((p : ℕ) × (h.made ≡ Joined p)) → name_of kind ≡ name.Tcp2 → sock ≡ Some x → ⊥)
-      → ((t : Told) → HandleIsFine (es ++ entry (own_of line) (call.Made h.machine.table.next (name_of kind) parent sock) t ∷ []) h.machine.store.sockets h.machine.table.next kind) → Licensed steps line origin es h
+      → ((t : Told) → HandleIsFine (es ++ entry (own_of line) (Call.Made h.machine.table.next (name_of kind) parent sock) t ∷ []) h.machine.store.sockets h.machine.table.next kind) → Licensed steps line origin es h
       → Allows (MayAsk contexts steps) (λ fs made. Licensed steps line origin fs (record h { machine = record h.machine { table = made.1 } })) es (make_asks h.machine.table (own_of line) kind parent sock)
   unfolding bind
   made_fine es h kind parent sock o sp un ms f i =
@@ -56,7 +41,7 @@ module _ (contexts : List WasiSocketsCtx) (steps : List Step) (line : ℕ) (orig
       (λ room. (
         (i.fine.count, o),
         λ told fits.
-            let c = call.Made h.machine.table.next (name_of kind) parent sock in
+            let c = Call.Made h.machine.table.next (name_of kind) parent sock in
             let e = entry (own_of line) c told in
             record {
               fine = state_made steps es (calm h.machine) (own_of line) (name_of kind) parent sock told kind sp (f told) i.fine;
@@ -70,15 +55,15 @@ module _ (contexts : List WasiSocketsCtx) (steps : List Step) (line : ℕ) (orig
             },
       ))
 
-  socket_touch : (op x : OpId) (n : ℕ) (k : HandleKind) (parent : Option ℕ) (sock : Option OpId) → Touches op (call.Made n k parent sock) x → k ≡ name.Tcp2
+  socket_touch : (op x : OpId) (n : ℕ) (k : HandleKind) (parent : Option ℕ) (sock : Option OpId) → Touches op (Call.Made n k parent sock) x → k ≡ name.Tcp2
   socket_touch op x n name.Tcp2 parent (Some s) t = refl
   socket_touch op x n name.Tcp2 parent None t = absurd t
   socket_touch op x n _ parent sock t = absurd t
 
   -- of a handle that is no socket's
   other_fine : (es : List Entry) (h : Here) (kind : Kind) (parent : Option ℕ) (sock : Option OpId) → BeganBy steps (own_of line) (IsMarkOf es (own_of line) (name_of kind) parent sock) → (name_of kind ≡ name.Tcp2 → ⊥)
-      → ((c s : ℕ) → origin ≡ step.TcpAccept c s → (h.own ≡ Unused) ⊎ NotMarked h.made → ⊥)
-      → ((t : Told) → HandleIsFine (es ++ entry (own_of line) (call.Made h.machine.table.next (name_of kind) parent sock) t ∷ []) h.machine.store.sockets h.machine.table.next kind) → Licensed steps line origin es h
+      → ((c s : ℕ) → origin ≡ Step.TcpAccept c s → (h.own ≡ Unused) ⊎ NotMarked h.made → ⊥)
+      → ((t : Told) → HandleIsFine (es ++ entry (own_of line) (Call.Made h.machine.table.next (name_of kind) parent sock) t ∷ []) h.machine.store.sockets h.machine.table.next kind) → Licensed steps line origin es h
       → Allows (MayAsk contexts steps) (λ fs made. Licensed steps line origin fs (record h { machine = record h.machine { table = made.1 } })) es (make_asks h.machine.table (own_of line) kind parent sock)
   other_fine es h kind parent sock o none un f i = made_fine es h kind parent sock o (λ k r x e n t. none (socket_touch (own_of line) x h.machine.table.next (name_of kind) parent sock t)) un (λ x p a. absurd (none a)) f i
 
@@ -98,16 +83,16 @@ module _ (contexts : List WasiSocketsCtx) (steps : List Step) (line : ℕ) (orig
   stream_handle fs sockets handle place kind (inr e) n = subst (HandleIsFine fs sockets handle) (sym e) n
 
   -- the new handle names the record
-  new_names : (es : List Entry) (h : Here) (n place : ℕ) (kind : HandleKind) (parent : Option ℕ) (r : Tcp2Socket) (t : Told) → Found h place r → (let sock = side_at (slice_get h.machine.store.sockets place) in NamesRecord (es ++ entry (own_of line) (call.Made n kind parent sock) t ∷ []) h.machine.store.sockets n place)
+  new_names : (es : List Entry) (h : Here) (n place : ℕ) (kind : HandleKind) (parent : Option ℕ) (r : Tcp2Socket) (t : Told) → Found h place r → (let sock = side_at (slice_get h.machine.store.sockets place) in NamesRecord (es ++ entry (own_of line) (Call.Made n kind parent sock) t ∷ []) h.machine.store.sockets n place)
   new_names es h n place kind parent r t g =
       let sock = side_at (slice_get h.machine.store.sockets place) in
-      let e = entry (own_of line) (call.Made n kind parent sock) t in
-      record { found = r; at = g; marked = record { op = own_of line; kind = kind; parent = parent; told = t; mark = subst (λ (o : Option OpId). Has (es ++ e ∷ []) (entry (own_of line) (call.Made n kind parent o) t)) (ap side_at g) (has_last es e) } }
+      let e = entry (own_of line) (Call.Made n kind parent sock) t in
+      record { found = r; at = g; marked = record { op = own_of line; kind = kind; parent = parent; told = t; mark = subst (λ (o : Option OpId). Has (es ++ e ∷ []) (entry (own_of line) (Call.Made n kind parent o) t)) (ap side_at g) (has_last es e) } }
 
-  not_accept : (s : Step) → ((c k : ℕ) → s ≡ step.TcpAccept c k → ⊥) → origin ≡ s → (c k : ℕ) → origin ≡ step.TcpAccept c k → (h : Here) → (h.own ≡ Unused) ⊎ NotMarked h.made → ⊥
+  not_accept : (s : Step) → ((c k : ℕ) → s ≡ Step.TcpAccept c k → ⊥) → origin ≡ s → (c k : ℕ) → origin ≡ Step.TcpAccept c k → (h : Here) → (h.own ≡ Unused) ⊎ NotMarked h.made → ⊥
   not_accept s n e c k is h u = n c k (sym e ∙ is)
 
-  error_line : (handle : ℕ) (s : Step) → MarksError handle s → (c k : ℕ) → s ≡ step.TcpAccept c k → ⊥
+  error_line : (handle : ℕ) (s : Step) → MarksError handle s → (c k : ℕ) → s ≡ Step.TcpAccept c k → ⊥
   error_line handle s m c k e = subst (MarksError handle) e m
 
   used_marked : (h : Here) (handle place : ℕ) → h.own ≡ Used → h.made ≡ Marked handle place → (h.own ≡ Unused) ⊎ NotMarked h.made → ⊥
@@ -117,19 +102,19 @@ module _ (contexts : List WasiSocketsCtx) (steps : List Step) (line : ℕ) (orig
   pub marked_fine : (es : List Entry) (h : Here) (kind : Kind) (parent : Option ℕ) (sock : Option OpId) → Marks origin h kind parent sock → Licensed steps line origin es h
       → Allows (MayAsk contexts steps) (λ fs made. Licensed steps line origin fs (record h { machine = record h.machine { table = made.1 } })) es (make_asks h.machine.table (own_of line) kind parent sock)
   marked_fine es h _ _ _ (ANetwork c e) i =
-      other_fine es h Network None None (record { origin = origin; at = is_line; holds = subst (IsMarkOf es (own_of line) name.Network None None) (sym e) (refl, refl, refl) }) (λ p. absurd (cc)) (λ a k is. not_accept (step.Network c) (λ a k p. absurd (cc)) e a k is h) (λ t. tt) i
+      other_fine es h Network None None (record { origin = origin; at = is_line; holds = subst (IsMarkOf es (own_of line) name.Network None None) (sym e) (refl, refl, refl) }) (λ p. absurd (cc)) (λ a k is. not_accept (Step.Network c) (λ a k p. absurd (cc)) e a k is h) (λ t. tt) i
   marked_fine es h kind _ _ (AStream c handle place _ is which e) i =
       let sock = side_at (slice_get h.machine.store.sockets place) in
       let n = names_record es h.machine.store.sockets handle place (kind_at h.machine.table handle) e (i.fine.handles handle) in
       let w : IsMarkedWith es handle sock = subst (IsMarkedWith es handle) (sym (ap side_at n.at)) n.marked in
       other_fine es h kind (Some handle) sock (record { origin = origin; at = is_line; holds = subst (IsMarkOf es (own_of line) (name_of kind) (Some handle) sock) (sym is) (stream_name kind place which, (refl, w)) })
-      (no_socket (name_of kind) (stream_name kind place which)) (λ a k p. not_accept (step.TcpFinishConnect c handle) (λ a k p. absurd (cc)) is a k p h)
+      (no_socket (name_of kind) (stream_name kind place which)) (λ a k p. not_accept (Step.TcpFinishConnect c handle) (λ a k p. absurd (cc)) is a k p h)
       (λ t. stream_handle _ h.machine.store.sockets h.machine.table.next place kind which (new_names es h h.machine.table.next place (name_of kind) (Some handle) n.found t n.at)) i
   marked_fine es h kind _ _ (AnAcceptedStream c listener handle place _ r is which m o g) i =
       let sock = side_at (slice_get h.machine.store.sockets place) in
       let k = i.marked handle place m r g in
       other_fine es h kind (Some handle) sock
-      (record { origin = origin; at = is_line; holds = subst (IsMarkOf es (own_of line) (name_of kind) (Some handle) sock) (sym is) (inr (record { stream = stream_name kind place which; socket = handle; under = refl; above = k.above; told = k.told; marked = subst (λ (x : Option OpId). Has es (entry (own_of line) (call.Made handle name.Tcp2 k.above x) k.told)) (sym (ap side_at g)) k.mark })) })
+      (record { origin = origin; at = is_line; holds = subst (IsMarkOf es (own_of line) (name_of kind) (Some handle) sock) (sym is) (inr (record { stream = stream_name kind place which; socket = handle; under = refl; above = k.above; told = k.told; marked = subst (λ (x : Option OpId). Has es (entry (own_of line) (Call.Made handle name.Tcp2 k.above x) k.told)) (sym (ap side_at g)) k.mark })) })
       (no_socket (name_of kind) (stream_name kind place which)) (λ a s p. used_marked h handle place o m)
       (λ t. stream_handle _ h.machine.store.sockets h.machine.table.next place kind which (new_names es h h.machine.table.next place (name_of kind) (Some handle) r t g)) i
   marked_fine es h _ _ _ (APollable c handle w is e) i =
@@ -137,7 +122,7 @@ module _ (contexts : List WasiSocketsCtx) (steps : List Step) (line : ℕ) (orig
       let sock = side_at (slice_get h.machine.store.sockets place) in
       let n = names_record es h.machine.store.sockets handle place (kind_at h.machine.table handle) e (i.fine.handles handle) in
       let k : IsMarkedWith es handle sock = subst (IsMarkedWith es handle) (sym (ap side_at n.at)) n.marked in
-      other_fine es h (Pollable w) (Some handle) sock (record { origin = origin; at = is_line; holds = subst (IsMarkOf es (own_of line) name.Pollable (Some handle) sock) (sym is) (refl, (refl, k)) }) (λ p. absurd (cc)) (λ a s p. not_accept (step.Subscribe c handle) (λ a s p. absurd (cc)) is a s p h)
+      other_fine es h (Pollable w) (Some handle) sock (record { origin = origin; at = is_line; holds = subst (IsMarkOf es (own_of line) name.Pollable (Some handle) sock) (sym is) (refl, (refl, k)) }) (λ p. absurd (cc)) (λ a s p. not_accept (Step.Subscribe c handle) (λ a s p. absurd (cc)) is a s p h)
       (λ t. new_names es h h.machine.table.next place name.Pollable (Some handle) n.found t n.at) i
   marked_fine es h _ _ _ (AnError handle place m e) i =
       let sock = side_at (slice_get h.machine.store.sockets place) in
@@ -146,7 +131,7 @@ module _ (contexts : List WasiSocketsCtx) (steps : List Step) (line : ℕ) (orig
       other_fine es h ErrorValue (Some handle) sock (record { origin = origin; at = is_line; holds = error_mark es (own_of line) handle sock origin m w }) (λ p. absurd (cc)) (λ a s p u. error_line handle origin m a s p) (λ t. tt) i
 
   -- the mark of what was accepted
-  pub accepted_fine : (es : List Entry) (h : Here) (c s place : ℕ) (r : Tcp2Socket) → origin ≡ step.TcpAccept c s → h.made ≡ Joined place → h.own ≡ Used → Found h place r → Named line h → Licensed steps line origin es h
+  pub accepted_fine : (es : List Entry) (h : Here) (c s place : ℕ) (r : Tcp2Socket) → origin ≡ Step.TcpAccept c s → h.made ≡ Joined place → h.own ≡ Used → Found h place r → Named line h → Licensed steps line origin es h
       → Allows (MayAsk contexts steps) (λ fs made. Licensed steps line origin fs (record h { machine = record h.machine { table = made.1 }; made = made_so place made.0 })) es (make_asks h.machine.table (own_of line) (Tcp2 place) (Some s) (side_at (slice_get h.machine.store.sockets place)))
   unfolding bind
   accepted_fine es h c s place r is e o g b i =
@@ -161,10 +146,10 @@ module _ (contexts : List WasiSocketsCtx) (steps : List Step) (line : ℕ) (orig
       (λ room. (
         (i.fine.count, record { origin = origin; at = is_line; holds = subst (IsMarkOf es (own_of line) name.Tcp2 (Some s) sock) (sym is) (inl (record { first = i.unmade (inr (subst NotMarked (sym e) tt)) c s is; socket = refl; under = refl; accept = j.new; side = its; on = j.on; of_listener = subst (λ (x : ℕ). IsSide es x j.on) same j.of_listener; peer = j.peer; told = j.handed.told; handed = j.handed.hand; fresh = j.fresh })) }),
         λ told fits.
-            let k = call.Made n name.Tcp2 (Some s) sock in
+            let k = Call.Made n name.Tcp2 (Some s) sock in
             record {
               fine = state_made steps es (calm h.machine) (own_of line) name.Tcp2 (Some s) sock told (Tcp2 place)
-                  (λ p q x d m t. apart_there j.new p q x d m (subst (λ (y : Option OpId). Touches (own_of line) (call.Made n name.Tcp2 (Some s) y) x) its t) (j.side r g)) (new_names es h n place name.Tcp2 (Some s) r told g) i.fine;
+                  (λ p q x d m t. apart_there j.new p q x d m (subst (λ (y : Option OpId). Touches (own_of line) (Call.Made n name.Tcp2 (Some s) y) x) its t) (j.side r g)) (new_names es h n place name.Tcp2 (Some s) r told g) i.fine;
               names = λ p m q a d side x. names_on steps es _ (own_of m) side (i.names p m q a d side x);
               hand = λ op d. bind_more steps es _ op (i.hand op d);
               listens = listens_on contexts steps line origin is_line es h (own_of line) k told (λ p q op d m x. absurd (cc)) i;
@@ -178,7 +163,7 @@ module _ (contexts : List WasiSocketsCtx) (steps : List Step) (line : ℕ) (orig
       not_used : Used ≡ Unused → ⊥
       not_used p = absurd (cc)
 
-      same_listener : (a b c d : ℕ) → step.TcpAccept a b ≡ step.TcpAccept c d → b ≡ d
+      same_listener : (a b c d : ℕ) → Step.TcpAccept a b ≡ Step.TcpAccept c d → b ≡ d
       same_listener a b c d p = cc
 
       apart_there : (new : OpId) (p : ℕ) (q : Tcp2Socket) (x : OpId) → Found h p q → accept_name q.listening ≡ Some x → new ≡ x → r.side ≡ Some new → ⊥
@@ -188,10 +173,10 @@ module _ (contexts : List WasiSocketsCtx) (steps : List Step) (line : ℕ) (orig
           let same : r ≡ q = same_record r q (sym g ∙ (ap (slice_get h.machine.store.sockets) at ∙ d)) in
           b.apart new place r g v (ap (λ (y : Tcp2Socket). accept_name y.listening) same ∙ w)
 
-      made_there : (told : Told) (a p : ℕ) (q : Tcp2Socket) → Marked h.machine.table.next place ≡ Marked a p → Found h p q → MadeSocket line (es ++ entry (own_of line) (call.Made h.machine.table.next name.Tcp2 (Some s) (side_at (slice_get h.machine.store.sockets place))) told ∷ []) a q.side
+      made_there : (told : Told) (a p : ℕ) (q : Tcp2Socket) → Marked h.machine.table.next place ≡ Marked a p → Found h p q → MadeSocket line (es ++ entry (own_of line) (Call.Made h.machine.table.next name.Tcp2 (Some s) (side_at (slice_get h.machine.store.sockets place))) told ∷ []) a q.side
       made_there told a p q d m =
           let n : h.machine.table.next ≡ a = cc in let at : place ≡ p = cc in
           let same : r ≡ q = same_record r q (sym g ∙ (ap (slice_get h.machine.store.sockets) at ∙ m)) in
-          let e = entry (own_of line) (call.Made h.machine.table.next name.Tcp2 (Some s) (side_at (slice_get h.machine.store.sockets place))) told in
+          let e = entry (own_of line) (Call.Made h.machine.table.next name.Tcp2 (Some s) (side_at (slice_get h.machine.store.sockets place))) told in
           let sides : side_at (slice_get h.machine.store.sockets place) ≡ q.side = ap side_at g ∙ ap (λ (y : Tcp2Socket). y.side) same in
-          record { above = Some s; told = told; mark = subst (λ (x : ℕ). Has (es ++ e ∷ []) (entry (own_of line) (call.Made x name.Tcp2 (Some s) q.side) told)) n (subst (λ (x : Option OpId). Has (es ++ e ∷ []) (entry (own_of line) (call.Made h.machine.table.next name.Tcp2 (Some s) x) told)) sides (has_last es e)) }
+          record { above = Some s; told = told; mark = subst (λ (x : ℕ). Has (es ++ e ∷ []) (entry (own_of line) (Call.Made x name.Tcp2 (Some s) q.side) told)) n (subst (λ (x : Option OpId). Has (es ++ e ∷ []) (entry (own_of line) (Call.Made h.machine.table.next name.Tcp2 (Some s) x) told)) sides (has_last es e)) }

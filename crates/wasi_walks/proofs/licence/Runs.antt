@@ -1,20 +1,8 @@
 -- Each ask of a run is licensed: between two lines the state fits the log, and each line is judged by the steps up to it.
-use Rattle.std.specs.Prelude.{⊤}
-use Rattle.std.proofs.Common.{◌≡◌, ℕ, ◌+◌, List, [], ◌∷◌, ◌++◌, Some, length, slice_get, refl, sym, ap, subst, ◌∙◌, arith, append_assoc, append-nil, add-one, length-append}
-use Rattle.wasi_world.specs.declared.call.Entry.{Entry}
-use Rattle.wasi_world.specs.declared.outcome.WasiSocketsCtx.{WasiSocketsCtx}
-use Rattle.wasi_world.specs.Asks.{Asks, Give, Left}
-use Rattle.wasi_world.specs.Operation.{Operation}
-use Rattle.wasi_world.proofs.Allowed.{Allows, allows_then, allows_if, allows_keep, allows_weaker, allows_at}
-use Rattle.wasi_host.specs.declared.listening.Listening.TheVariants.{Begins}
-use Rattle.wasi_host.specs.declared.machine.Machine.{Machine}
-use Rattle.wasi_host.specs.declared.socket.Tcp2Socket.{Tcp2Socket}
-use Rattle.wasi_host.specs.Machine.{own_of, first_state}
-use Rattle.wasi_steps.specs.declared.reply.Reply.{Reply}
-use Rattle.wasi_steps.specs.declared.step.Step.{Step}
-use Rattle.wasi_walks.specs.Licence.{IsLicensed, MayAsk, step_at}
-use Rattle.wasi_machine.specs.Machine.{machine_asks, run, HasRun}
-use Rattle.wasi_steps.specs.Reply.{is_trap}
+use Rattle.wasi_walks.proofs.Words.{Allows, Asks, Begins, Entry, Give, HasRun, IsLicensed, Left, List, Machine, MayAsk, Operation, Reply, Some, Step}
+use Rattle.wasi_walks.proofs.Words.{Tcp2Socket, WasiSocketsCtx, [], add-one, allows_at, allows_if, allows_keep, allows_then, allows_weaker, ap}
+use Rattle.wasi_walks.proofs.Words.{append-nil, append_assoc, arith, first_state, is_trap, length, length-append, machine_asks, own_of, refl, run}
+use Rattle.wasi_walks.proofs.Words.{slice_get, step_at, subst, sym, ℕ, ⊤, ◌++◌, ◌+◌, ◌∙◌, ◌∷◌, ◌≡◌}
 use Rattle.wasi_walks.proofs.licence.State.{StateIsFine}
 use Rattle.wasi_walks.proofs.licence.NewNames.{IsNew}
 use Rattle.wasi_walks.proofs.licence.Fresh.{next_is_new}

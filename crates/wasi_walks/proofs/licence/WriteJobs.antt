@@ -1,18 +1,8 @@
 -- A write that goes on: each of its asks is allowed, and what it leaves may be polled on.
-use Rattle.std.proofs.Common.{◌≡◌, ℕ, zero, suc, inl, List, [], ◌∷◌, ◌++◌, length, sym, subst}
-use Rattle.wasi_addr.specs.declared.code.ErrorCode.{ErrorCode}
-use Rattle.wasi_world.specs.declared.ids.OpId.{OpId}
-use Rattle.wasi_world.specs.declared.call.Call.TheVariants as call
-use Rattle.wasi_world.specs.declared.call.Entry.{Entry}
-use Rattle.wasi_world.specs.declared.asks.Polled.{Polled}
-use Rattle.wasi_world.specs.declared.asks.Polled.TheVariants as polled
-use Rattle.wasi_world.specs.declared.outcome.WasiSocketsCtx.{WasiSocketsCtx}
-use Rattle.wasi_world.specs.Asks.{bind}
-use Rattle.wasi_world.specs.Operation.{Given, Nothing, Item, Write, ShutdownSend, ShutdownLast, Who, End, Waits, Done, Refused, front, write_front, taken_front, less_one, last_ask, poll_asks}
-use Rattle.wasi_world.proofs.Allowed.{Allows, allows_then, FrontKeeps, allows_polls}
-use Rattle.wasi_tcp.specs.Job.{Job, job_in, job_asks, then_closed}
-use Rattle.wasi_steps.specs.declared.step.Step.{Step}
-use Rattle.wasi_walks.specs.Licence.{entry, ReachesSide}
+use Rattle.wasi_walks.proofs.Words.{Allows, Call, Done, End, Entry, ErrorCode, FrontKeeps, Given, Item, Job, List, Nothing, OpId, Polled, ReachesSide}
+use Rattle.wasi_walks.proofs.Words.{Refused, ShutdownLast, ShutdownSend, Step, Waits, WasiSocketsCtx, Who, Write, [], allows_polls, allows_then, bind}
+use Rattle.wasi_walks.proofs.Words.{entry, front, inl, job_asks, job_in, last_ask, length, less_one, poll_asks, subst, suc, sym, taken_front}
+use Rattle.wasi_walks.proofs.Words.{then_closed, write_front, zero, ℕ, ◌++◌, ◌∷◌, ◌≡◌}
 use Rattle.wasi_walks.proofs.licence.Bounds.{MayQuietly}
 use Rattle.wasi_walks.proofs.licence.State.{WriteLeft, ToWrite, ToWriteAndShut, ToShut, ToRefuse, Written, Names, JobIsFine}
 use Rattle.wasi_walks.proofs.licence.Frames.{names_on}
@@ -46,9 +36,9 @@ module _ (contexts : List WasiSocketsCtx) (steps : List Step) where
       fine_taken : (es : List Entry) (bytes rest : List ℕ) (p : Polled ℕ) → Keeps es
           → ((skip : ℕ) → Allows (MayQuietly contexts steps) (FrontKeeps (MayQuietly contexts steps) who StandsBefore StandsAfter items) es (write_front who bytes skip))
           → Allows (MayQuietly contexts steps) (FrontKeeps (MayQuietly contexts steps) who StandsBefore StandsAfter items) es (taken_front (λ skip. write_front who bytes skip) (Write rest) p)
-      fine_taken es bytes rest (polled.Ready k) n h = h (less_one k)
-      fine_taken es bytes rest polled.Pending n h = (n, form rest)
-      fine_taken es bytes rest (polled.Code c) n h = ends_last es c Nothing n
+      fine_taken es bytes rest (Polled.Ready k) n h = h (less_one k)
+      fine_taken es bytes rest Polled.Pending n h = (n, form rest)
+      fine_taken es bytes rest (Polled.Code c) n h = ends_last es c Nothing n
 
       fine_bytes : (es : List Entry) (bytes : List ℕ) (skip : ℕ) → Keeps es → Allows (MayQuietly contexts steps) (FrontKeeps (MayQuietly contexts steps) who StandsBefore StandsAfter items) es (write_front who bytes skip)
       unfolding bind
@@ -57,7 +47,7 @@ module _ (contexts : List WasiSocketsCtx) (steps : List Step) where
       fine_bytes es (b ∷ bytes) zero n = (
         ((reaches es n, tt), tt),
         λ t fits front.
-            let fs = es ++ entry who.id (call.Write who.side (length (b ∷ bytes))) t ∷ [] in
+            let fs = es ++ entry who.id (Call.Write who.side (length (b ∷ bytes))) t ∷ [] in
             let more = names_on steps es _ who.id side n in
             fine_taken fs bytes (b ∷ bytes) _ more (λ skip. fine_bytes fs bytes skip more),
       )

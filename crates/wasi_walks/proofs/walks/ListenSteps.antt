@@ -1,27 +1,10 @@
 -- The steps of listens and accepts, as moves.
-use Rattle.std.specs.Prelude.{⊤}
-use Rattle.std.proofs.Common.{◌≡◌, ℕ, Bool, true, false, List, Option, Some, None, Result, Ok, Err, refl, slice_get, slice_set}
-use Rattle.wasi_addr.specs.declared.code.ErrorCode.{ErrorCode}
-use Rattle.wasi_world.specs.declared.outcome.Answer.TheVariants.{Ready, Pending}
-use Rattle.wasi_world.specs.declared.outcome.WasiSocketsCtx.{WasiSocketsCtx}
-use Rattle.wasi_world.specs.declared.outcome.Answer.{Answer}
-use Rattle.wasi_world.specs.Asks.{Give}
-use Rattle.wasi_tcp.specs.Listener.{accept_end}
-use Rattle.wasi_tcp.specs.Shape.{Socket}
-use Rattle.wasi_host.specs.declared.listening.Listening.TheVariants.{Not, Begins, Accepts, Unclosed}
-use Rattle.wasi_host.specs.declared.listening.Listening.{Listening}
-use Rattle.wasi_host.specs.Listening.{listen_answered, start_listen_by, start_listen_at, accepted_record, kept_accepted, with_sockets, accept_answered, accept_at, accept_listening}
-use Rattle.wasi_host.specs.declared.machine.Machine.{Machine}
-use Rattle.wasi_host.specs.declared.socket.Tcp2Socket.{Tcp2Socket}
-use Rattle.wasi_host.specs.Host.{Stop}
-use Rattle.wasi_host.specs.Kinds.{Handles, make_asks, kind_at}
-use Rattle.wasi_host.specs.Machine.{own_of, with_store, with_table, side_at, socket_at}
-use Rattle.wasi_host.specs.Store.{Records, is_nothing}
-use Rattle.wasi_p2.specs.Tcp.{with_streams, accepted_streams, accepted_asks, accept_on}
-use Rattle.wasi_machine.specs.Machine.{first_ids}
-use Rattle.wasi_steps.specs.declared.step.Step.{Step}
-use Rattle.wasi_steps.specs.declared.step.Step.TheVariants as step
-use Rattle.wasi_walks.specs.Licence.{Has, handles_of, IsListen}
+use Rattle.wasi_walks.proofs.Words.{Accepts, Answer, Begins, Bool, Err, ErrorCode, Give, Handles, Has, IsListen, List, Listening, Machine, None, Not}
+use Rattle.wasi_walks.proofs.Words.{Ok, Option, Pending, Ready, Records, Result, Socket, Some, Step, Stop, Tcp2Socket, Unclosed, WasiSocketsCtx}
+use Rattle.wasi_walks.proofs.Words.{accept_answered, accept_at, accept_end, accept_listening, accept_on, accepted_asks, accepted_record}
+use Rattle.wasi_walks.proofs.Words.{accepted_streams, false, first_ids, handles_of, is_nothing, kept_accepted, kind_at, listen_answered, make_asks}
+use Rattle.wasi_walks.proofs.Words.{own_of, refl, side_at, slice_get, slice_set, socket_at, start_listen_at, start_listen_by, true, with_sockets}
+use Rattle.wasi_walks.proofs.Words.{with_store, with_streams, with_table, ℕ, ⊤, ◌≡◌}
 use Rattle.wasi_walks.proofs.walks.Moves.{NoBindStands, Used, Unused, put, Found, record_of, Reaches, Leaves, Spends, Marked, made_so, AnAcceptedStream, StandsListen, Watches}
 use Rattle.wasi_walks.proofs.walks.Law.{Law, HasRecord, found, put_same, Walks, give, and_then, and_given, move, gives, from, accept}
 use Rattle.wasi_walks.proofs.walks.Listeners.{joined_if, Took, takes_walks, listener_walks, begin_listen_walks}
@@ -45,7 +28,7 @@ module _ {contexts : List WasiSocketsCtx} {line : ℕ} {origin : Step} {law : La
 
   -- == an accept
 
-  module _ (c s : ℕ) (is : origin ≡ step.TcpAccept c s) (m : Machine) (place : ℕ) (k : record_of (kind_at m.table s) ≡ Some place) where
+  module _ (c s : ℕ) (is : origin ≡ Step.TcpAccept c s) (m : Machine) (place : ℕ) (k : record_of (kind_at m.table s) ≡ Some place) where
     answered_so : (r : Tcp2Socket) (joined : Result (Unit {0}) Stop × Tcp2Socket) → Walks law (joined_if (Watching line m place Used) place r joined) (AcceptedSo line m place) (Give (with_sockets m.store (kept_accepted (slice_set m.store.sockets place r) joined)))
     answered_so r (Ok done, now) = give _
     answered_so r (Err why, now) = give _
@@ -67,7 +50,7 @@ module _ {contexts : List WasiSocketsCtx} {line : ℕ} {origin : Step} {law : La
     accept_at_walks (Some r) g = from (put_same (Watching line m place Unused) place r g) (and_then (accept_listening_walks r r.listening refl g) accept_answered_walks)
 
   -- the handles of what was accepted
-  accepted_streams_walks : (c s p : ℕ) (m : Machine) (made : Result ℕ Stop × Handles) → origin ≡ step.TcpAccept c s → HasRecord (Over m) p
+  accepted_streams_walks : (c s p : ℕ) (m : Machine) (made : Result ℕ Stop × Handles) → origin ≡ Step.TcpAccept c s → HasRecord (Over m) p
       → Walks law (Between None (made_so p made.0) (record m { table = made.1 })) OverWith (accepted_streams (own_of line) p (side_at (slice_get m.store.sockets p)) (with_table m made))
   accepted_streams_walks c s p m (Ok socket, t) is here =
       let now : Machine = record m { table = t } in
@@ -79,11 +62,11 @@ module _ {contexts : List WasiSocketsCtx} {line : ℕ} {origin : Step} {law : La
       with_streams_walks socket (Err why, m) = give _
   accepted_streams_walks c s p m (Err why, t) is here = gives _ (Leaves _)
 
-  accepted_walks : (c s n : ℕ) (m : Machine) (done : Result ℕ Stop × Records) → origin ≡ step.TcpAccept c s → JoinedSo done → Walks law (AcceptedSo line m n done) OverWith (accepted_asks (own_of line) s (with_store m done))
+  accepted_walks : (c s n : ℕ) (m : Machine) (done : Result ℕ Stop × Records) → origin ≡ Step.TcpAccept c s → JoinedSo done → Walks law (AcceptedSo line m n done) OverWith (accepted_asks (own_of line) s (with_store m done))
   accepted_walks c s n m (Ok p, store) is j = and_then (accept c s p j.was is refl refl j.found) (λ made. accepted_streams_walks c s p (record m { store = store }) made is (record { was = j.was; found = j.found }))
   accepted_walks c s n m (Err why, store) is j = gives _ (Leaves _)
 
-  pub accept_on_walks : (c s : ℕ) (m : Machine) (o : Option ℕ) → socket_at m s ≡ o → Has (handles_of origin) s → origin ≡ step.TcpAccept c s → Walks law (Starts m Unused) OverWith (accept_on m (first_ids line) s o)
+  pub accept_on_walks : (c s : ℕ) (m : Machine) (o : Option ℕ) → socket_at m s ≡ o → Has (handles_of origin) s → origin ≡ Step.TcpAccept c s → Walks law (Starts m Unused) OverWith (accept_on m (first_ids line) s o)
   accept_on_walks c s m None e named is = gives _ (Spends _ refl)
   accept_on_walks c s m (Some place) e named is =
       let k = socket_record (kind_at m.table s) place e in

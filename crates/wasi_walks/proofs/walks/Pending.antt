@@ -1,22 +1,11 @@
 -- A call that stands goes on, as moves.
-use Rattle.std.proofs.Common.{◌≡◌, ℕ, List, Option, Some, None, Result, Ok, Err, refl, slice_get}
-use Rattle.wasi_addr.specs.declared.code.ErrorCode.{ErrorCode}
-use Rattle.wasi_world.specs.declared.outcome.Answer.TheVariants.{Ready, Pending}
-use Rattle.wasi_world.specs.declared.outcome.WasiSocketsCtx.{WasiSocketsCtx}
-use Rattle.wasi_world.specs.declared.outcome.Answer.{Answer}
-use Rattle.wasi_world.specs.Asks.{Give}
-use Rattle.wasi_world.specs.Operation.{Operation}
+use Rattle.wasi_walks.proofs.Words.{Answer, Err, ErrorCode, Give, List, Machine, None, Ok, Operation, Option, Pending, Ready, Records, Result, Some}
+use Rattle.wasi_walks.proofs.Words.{Step, Stop, Tcp2Socket, WasiSocketsCtx, listen_answered, poll_on, rebind_at, refl, relisten_at, resume_bind_in}
+use Rattle.wasi_walks.proofs.Words.{resume_in, resume_listen_in, slice_get, some_answer, unstood, waiting_bind, waiting_drop, waiting_listen}
+use Rattle.wasi_walks.proofs.Words.{with_store, ℕ, ◌≡◌}
 use Rattle.wasi_host.specs.declared.pending.Outcome.{Outcome}
-use Rattle.wasi_host.specs.Listening.{listen_answered}
-use Rattle.wasi_host.specs.declared.machine.Machine.{Machine}
-use Rattle.wasi_host.specs.declared.socket.Tcp2Socket.{Tcp2Socket}
-use Rattle.wasi_host.specs.Host.{Stop}
-use Rattle.wasi_host.specs.Machine.{with_store}
-use Rattle.wasi_host.specs.Pending.{some_answer, waiting_bind, unstood, rebind_at, resume_bind_in, relisten_at, resume_listen_in, waiting_listen, waiting_drop, resume_in}
-use Rattle.wasi_host.specs.Store.{Records}
 use Rattle.wasi_p2.specs.Pending.{resumed, resume_listen}
-use Rattle.wasi_machine.specs.Machine.{poll_on, poll_asks}
-use Rattle.wasi_steps.specs.declared.step.Step.{Step}
+use Rattle.wasi_machine.specs.Machine.{poll_asks}
 use Rattle.wasi_walks.proofs.walks.Moves.{Used, Unused, put, Leaves, Spends, Resumes, Ends, Past, Unstands, StandsListen, ResumesDrop}
 use Rattle.wasi_walks.proofs.walks.Law.{Law, HasRecord, found, put_same, Walks, give, and_then, move, gives, from}
 use Rattle.wasi_walks.proofs.walks.Sockets.{poll_bind_walks}
