@@ -14,7 +14,7 @@ use Rattle.wasi_walks.proofs.fits.Polls.{Anything}
 use Rattle.wasi_walks.proofs.fits.Records.{FitListening}
 use Rattle.wasi_walks.proofs.Lists.{split_place, get_set, get_split, set_there}
 use Rattle.wasi_walks.proofs.claims.Polls.{Quietly, ArePlain, GivesOwn, own_poll}
-use Rattle.wasi_walks.proofs.walks.Moves.{closed_record, Own, Used, Unused, ToWrite, Here, put, Found, joined, second_of, new_accept, accepting_now, listen_after, beginning_listen, made_so, Held, InHand, Connects, Listens, Awaits, Move, Reaches, Leaves, Spends, Changes, ClosesReader, Writes, IsGone, Reconnects, Opens, BeginsConnect, BeginsBind, BeginsWrite, BeginsListen, BeginsAccept, Unlistens, Forgets, Watches, Joins, StandsListen, StandsDrop, ResumesDrop, Unstands, Stands, Resumes, Ends, Lists, Takes}
+use Rattle.wasi_walks.proofs.walks.Moves.{closed_record, Own, Used, Unused, ToWrite, Here, put, Found, joined, second_of, new_accept, accepting_now, listen_after, beginning_listen, made_so, Held, InHand, Connects, Listens, Awaits, Move, Spends, Changes, ClosesReader, Writes, IsGone, Reconnects, Opens, BeginsConnect, BeginsBind, BeginsWrite, BeginsListen, BeginsAccept, Unlistens, Forgets, Joins}
 use Rattle.wasi_walks.proofs.walks.Law.{Law, Walks}
 use Rattle.wasi_walks.proofs.fits.Law.{Fit, told_same, whatever, fits, moves_fit, polls_fit, put_fit, created}
 use Rattle.wasi_tcp.specs.Accept as accept
@@ -119,9 +119,8 @@ none_of None k = refl
 none_of (Some x) k = absurd (k x refl)
 
 ended_sides : (op : Operation) (end : End × List Item) (x : OpId) → side_in (connect_ended op.who end).1 ≡ Some x → Some op.who.side ≡ Some x
-ended_sides op (Waits, items) x e = e
-ended_sides op (Done given, items) x e = e
 ended_sides op (Refused c given, items) x e = absurd (cc)
+ended_sides op _ x e = e
 
 pub accept_plain : (items : List Item) → IsLeftOfAccept items → ArePlain items
 accept_plain _ accept.Unarrived = (tt, tt)
@@ -191,8 +190,6 @@ module _ (contexts : List WasiSocketsCtx) (line : ℕ) (origin : Step) where
       idle (inr t) = no_some new (sym none ∙ t)
 
   pub moves_named : (h now : Here) → Move line origin h now → Named line h → Named line now
-  moves_named _ _ (Reaches h handle place k e) n = record { one = n.one; apart = n.apart; older = n.older; named = n.named; held = n.held }
-  moves_named _ _ (Leaves h) n = record { one = n.one; apart = n.apart; older = n.older; named = n.named; held = n.held }
   moves_named _ _ (Spends h e) n = spends_named h n (by_line h.own)
   moves_named _ _ (Changes h place r now g p) n = put_inner h place r now g p.side p.listening (λ x e. sym (ap side_in p.does) ∙ e) n
   moves_named _ _ (ClosesReader h place r s g e) n = put_inner h place r _ g refl refl (λ x e. e) n
@@ -216,22 +213,13 @@ module _ (contexts : List WasiSocketsCtx) (line : ℕ) (origin : Step) where
       its x p = let q : second_of line ≡ x = cc in ap (λ (o : OpId). o.step) (sym q)
   moves_named _ _ (Unlistens h place r op g e c o) n = put_named line h place r _ g (listening_names h place r Not g (λ x p. absurd (cc)) (λ op p. absurd (cc)) n) n
   moves_named _ _ (Forgets h place r l c g e a) n = put_named line h place r _ g (listening_names h place r _ g (λ x p. absurd (cc)) (λ op p. absurd (cc)) n) n
-  moves_named _ _ (Watches h o) n = record { one = n.one; apart = n.apart; older = n.older; named = n.named; held = n.held }
   moves_named _ _ (Joins h c handle place r l new peer is of u g e a) n =
       let mid = put h place (accepting_now r l Accepting.Idle) in
       let k = put_named line h place r (accepting_now r l Accepting.Idle) g (listening_names h place r _ g (λ x p. absurd (cc)) (λ op p. absurd (cc)) n) n in
       let name : accept_name r.listening ≡ Some new = ap accept_name e ∙ ap name_in a in
       let j = push_named line mid (joined l new peer) h.own refl (λ x p. (let s : new ≡ x = cc in subst (λ (y : OpId). (y.step < next_of line h.own) × Fresh mid y) s (n.older new place r g (inr name), taken_fresh h place r (accepting_now r l Accepting.Idle) new g name refl refl n))) (λ x p. p) (λ op p. absurd (cc)) (omega arith) k in
       record { one = j.one; apart = j.apart; older = j.older; named = j.named; held = j.held }
-  moves_named _ _ (StandsListen h k place r f) n = record { one = n.one; apart = n.apart; older = n.older; named = n.named; held = n.held }
-  moves_named _ _ (StandsDrop h k place r at g) n = record { one = n.one; apart = n.apart; older = n.older; named = n.named; held = n.held }
-  moves_named _ _ (ResumesDrop h k place e) n = record { one = n.one; apart = n.apart; older = n.older; named = n.named; held = n.held }
-  moves_named _ _ (Unstands h) n = record { one = n.one; apart = n.apart; older = n.older; named = n.named; held = n.held }
-  moves_named _ _ (Stands h k place r op f e) n = record { one = n.one; apart = n.apart; older = n.older; named = n.named; held = n.held }
-  moves_named _ _ (Resumes h k place op e) n = record { one = n.one; apart = n.apart; older = n.older; named = n.named; held = n.held }
-  moves_named _ _ (Ends h) n = record { one = n.one; apart = n.apart; older = n.older; named = n.named; held = n.held }
-  moves_named _ _ (Lists h jobs) n = record { one = n.one; apart = n.apart; older = n.older; named = n.named; held = n.held }
-  moves_named _ _ (Takes h handle) n = record { one = n.one; apart = n.apart; older = n.older; named = n.named; held = n.held }
+  moves_named _ _ _ n = record { one = n.one; apart = n.apart; older = n.older; named = n.named; held = n.held }
 
   -- the record that a listen leaves
   listened_names : (h : Here) (place : ℕ) (r : Tcp2Socket) (op : Operation) (end : End × List Item) → Found h place r → r.listening ≡ Begins op → Named line h → KeepsNames h 0 r (listen_after op r end)

@@ -11,7 +11,7 @@ use Rattle.wasi_walks.proofs.Words.{sym, told_addr, told_done, true, turn_asks, 
 use Rattle.wasi_walks.proofs.Words.{◌≡◌}
 use Rattle.wasi_world.specs.Operation.{Connection}
 use Rattle.wasi_tcp.specs.Listen.{IsListen}
-use Rattle.wasi_walks.proofs.walks.Moves.{closed_record, Held, InHand, Connects, Used, Here, put, Move, Reaches, Leaves, Spends, Changes, ClosesReader, Writes, IsGone, Reconnects, Opens, BeginsConnect, BeginsBind, BeginsWrite, Stands, Resumes, Ends, Lists, Takes, BeginsListen, BeginsAccept, Unlistens, Forgets, Watches, Joins, StandsListen, StandsDrop, ResumesDrop, Unstands, Listens, Awaits, listen_after, accepting_now, beginning_listen, new_accept, joined, made_so, Found}
+use Rattle.wasi_walks.proofs.walks.Moves.{closed_record, Held, InHand, Connects, Used, Here, put, Move, Changes, ClosesReader, Writes, IsGone, Reconnects, Opens, BeginsConnect, BeginsBind, BeginsWrite, Stands, Resumes, Ends, BeginsListen, BeginsAccept, Unlistens, Forgets, Joins, StandsListen, StandsDrop, Unstands, Listens, Awaits, listen_after, accepting_now, beginning_listen, new_accept, joined, made_so, Found}
 use Rattle.wasi_walks.proofs.fits.Records.{FitListening, FitRecord, FitCall}
 use Rattle.wasi_walks.proofs.Lists.{get_set, get_split}
 use Rattle.wasi_walks.proofs.fits.Polls.{Anything, bind_left, connect_left, listen_left, accept_left, AcceptLeaves}
@@ -59,8 +59,7 @@ first_of own side maker any a false = record { last = refl; left = connect.Unbou
 
 pub ended_fits : (op : Operation) (end : End × List Item) → IsConnect op → IsLeftOfConnect end.1 → HoldsConnect (connect_ended op.who end).1
 ended_fits op (Waits, items) its k = record { last = its.last; left = k }
-ended_fits op (Done given, items) its k = tt
-ended_fits op (Refused c given, items) its k = tt
+ended_fits op _ its k = tt
 
 listened_fits : (op : Operation) (r : Tcp2Socket) (end : End × List Item) → IsListen op → IsLeftOfListen end.1 → HoldsConnect r.inner.state → FitRecord (listen_after op r end)
 listened_fits op r (Waits, items) its k c = (c, record { last = its.last; left = k })
@@ -82,9 +81,6 @@ joined_fits l new peer = (tt, tt)
 
 module _ (contexts : List WasiSocketsCtx) (line : ℕ) (origin : Step) where
   pub moves_fit : (h now : Here) → Move line origin h now → Fit h → Fit now
-  moves_fit _ _ (Reaches h handle place n e) i = record { records = i.records; stands = i.stands; hand = i.hand }
-  moves_fit _ _ (Leaves h) i = record { records = i.records; stands = i.stands; hand = i.hand }
-  moves_fit _ _ (Spends h e) i = record { records = i.records; stands = i.stands; hand = i.hand }
   moves_fit _ _ (Changes h place r now g p) i = let f = i.records place r g in put_fit h place now (subst HoldsConnect (sym p.does) f.0, subst FitListening (sym p.listening) f.1) i
   moves_fit _ _ (ClosesReader h place r s g e) i = put_fit h place _ (i.records place r g) i
   moves_fit _ _ (Writes h place r s w g e m) i = put_fit h place _ (i.records place r g) i
@@ -100,20 +96,17 @@ module _ (contexts : List WasiSocketsCtx) (line : ℕ) (origin : Step) where
       let k = put_fit h place (accepting_now r l (new_accept line l)) ((i.records place r g).0, record { accept = record { last = refl; left = accept.Unarrived }; of_side = refl; of_maker = refl; going = refl }) i in record { records = k.records; stands = k.stands; hand = k.hand }
   moves_fit _ _ (Unlistens h place r op g e c o) i = put_fit h place _ ((i.records place r g).0, tt) i
   moves_fit _ _ (Forgets h place r l c g e a) i = put_fit h place _ ((i.records place r g).0, tt) i
-  moves_fit _ _ (Watches h o) i = record { records = i.records; stands = i.stands; hand = i.hand }
   moves_fit _ _ (Joins h c handle place r l new peer is of u g e a) i =
       let k = put_fit h place (accepting_now r l Accepting.Idle) ((i.records place r g).0, tt) i in
       record { records = λ p q d. elim (get_split (slice_set h.machine.store.sockets place (accepting_now r l Accepting.Idle)) (joined l new peer) p q d) [ inl x ↦ k.records p q x | inr x ↦ subst FitRecord x (joined_fits l new peer) ]; stands = k.stands; hand = k.hand }
   moves_fit _ _ (StandsListen h n place r f) i = record { records = i.records; stands = λ c p. let q : standing_listen n place ≡ c = cc in subst (λ (x : Standing). FitCall x.call) q tt; hand = i.hand }
   moves_fit _ _ (StandsDrop h n place r at g) i = record { records = i.records; stands = λ c p. let q : standing_drop n place ≡ c = cc in subst (λ (x : Standing). FitCall x.call) q tt; hand = i.hand }
-  moves_fit _ _ (ResumesDrop h n place e) i = record { records = i.records; stands = i.stands; hand = i.hand }
   moves_fit _ _ (Unstands h) i = record { records = i.records; stands = λ c p. absurd (cc); hand = i.hand }
   moves_fit _ _ (Stands h n place r op f e) i =
       record { records = i.records; stands = λ c p. let q : standing_bind n place op ≡ c = cc in subst (λ (x : Standing). FitCall x.call) q (i.hand op e); hand = λ o p. absurd (cc) }
   moves_fit _ _ (Resumes h n place op e) i = let k = in_hand h op (i.stands (standing_bind n place op) e) i in record { records = k.records; stands = λ c p. absurd (cc); hand = k.hand }
   moves_fit _ _ (Ends h) i = record { records = i.records; stands = i.stands; hand = λ o p. absurd (cc) }
-  moves_fit _ _ (Lists h jobs) i = record { records = i.records; stands = i.stands; hand = i.hand }
-  moves_fit _ _ (Takes h handle) i = record { records = i.records; stands = i.stands; hand = i.hand }
+  moves_fit _ _ _ i = record { records = i.records; stands = i.stands; hand = i.hand }
 
   -- a socket that is created connects by nothing
   abbrev pub MadeFits : Result Socket ErrorCode → Type 0

@@ -1,8 +1,8 @@
 -- What is left of an operation after a poll is left of the same: of a bind, of a connect, of a listen, of an accept.
-use Rattle.wasi_walks.proofs.Words.{AccessDenied, Asks, Bind, Call, Check, CheckLocal, CloseLast, Connect, End, Entry, Err, ErrorCode, Front}
+use Rattle.wasi_walks.proofs.Words.{AccessDenied, Asks, Bind, Call, Check, CheckLocal, Connect, End, Entry, Err, ErrorCode, Front}
 use Rattle.wasi_walks.proofs.Words.{FrontKeeps, Given, IpSocketAddress, IsAccept, IsConnect, IsLeftOfAccept, IsLeftOfBind, IsLeftOfConnect}
 use Rattle.wasi_walks.proofs.Words.{IsLeftOfListen, IsRestOfBind, Item, LastAsk, List, Listen, Nothing, NothingLast, Ok, OpId, Operation, Polled}
-use Rattle.wasi_walks.proofs.Words.{Result, ShutdownLast, SocketAddrUse, Verdict, Waits, Who, [], accept_front, admitted_front, allows_polls}
+use Rattle.wasi_walks.proofs.Words.{Result, SocketAddrUse, Verdict, Waits, Who, [], accept_front, admitted_front, allows_polls}
 use Rattle.wasi_walks.proofs.Words.{arrival_front, bind, done_front, front, last_ask, local_front, poll_asks, polled_front, refl, told_addr}
 use Rattle.wasi_walks.proofs.Words.{told_arrival, told_done, told_polled, told_verdict, true, verdict_front, ℕ, ⊤, ◌∷◌, ◌≡◌}
 use Rattle.wasi_world.specs.Operation.{Connection}
@@ -32,8 +32,7 @@ module _ (who : Who) (C : List Item → Type 0) (over : C []) where
   lasts : (last : LastAsk) (es : List Entry) (c : ErrorCode) (given : Given) → Gives Leaves es (last_ask who last c given)
   unfolding bind
   lasts NothingLast es c given = over
-  lasts CloseLast es c given = (tt, λ t fits. over)
-  lasts ShutdownLast es c given = (tt, λ t fits. over)
+  lasts _ es c given = (tt, λ t fits. over)
 
   -- these items follow the front ask
   module _ (items : List Item) (goes : C items) where
@@ -148,8 +147,7 @@ module _ (who : Who) where
   ends_so : (last : LastAsk) (es : List Entry) (c : ErrorCode) (given : Given) → Gives Leaving es (last_ask who last c given)
   unfolding bind
   ends_so NothingLast es c given = tt
-  ends_so CloseLast es c given = (tt, λ t fits. tt)
-  ends_so ShutdownLast es c given = (tt, λ t fits. tt)
+  ends_so _ es c given = (tt, λ t fits. tt)
 
   abbrev ArrivalGives : List Entry → Asks Front → Type 0
   ArrivalGives es asks = Gives (λ fs f. AcceptKeeps [] fs f) es asks

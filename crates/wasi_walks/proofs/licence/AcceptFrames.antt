@@ -1,6 +1,6 @@
 -- Accepts that stand, under one more entry, and under changes of the records.
-use Rattle.wasi_walks.proofs.Words.{Accepting, Accepts, Arrived, Begins, Call, Entry, Hand, HandedNone, IpSocketAddress, Item, List, Listening, Made}
-use Rattle.wasi_walks.proofs.Words.{MarksNoSocket, None, Not, OpId, Some, Tcp2Socket, Told, Unclosed, [], ap, append_assoc, arith, entry, inl, inr}
+use Rattle.wasi_walks.proofs.Words.{Accepting, Accepts, Arrived, Call, Entry, Hand, HandedNone, IpSocketAddress, Item, List, Listening, Made}
+use Rattle.wasi_walks.proofs.Words.{MarksNoSocket, None, Not, OpId, Some, Tcp2Socket, Told, [], ap, append_assoc, arith, entry, inl, inr}
 use Rattle.wasi_walks.proofs.Words.{marked_by, refl, slice_get, slice_set, subst, sym, ℕ, ◌++◌, ◌∙◌, ◌∷◌, ◌≡◌, ◌⊎◌}
 use Rattle.wasi_world.specs.declared.call.Call.TheVariants.{Accept}
 use Rattle.wasi_world.specs.declared.call.HandleKind.TheVariants.{Tcp2}
@@ -80,10 +80,8 @@ accepting_more es op c told side (Accepting.Failed code) h n = tt
 
 -- what touches none of their names leaves the accepts
 pub stands_more : (es : List Entry) (op : OpId) (c : Call) (told : Told) (l : Listening) → ListeningStands es l → ((x : OpId) → accept_name l ≡ Some x → Touches op c x → ⊥) → ListeningStands (es ++ entry op c told ∷ []) l
-stands_more es op c told Not h n = tt
-stands_more es op c told (Begins o) h n = tt
 stands_more es op c told (Accepts l) h n = accepting_more es op c told l.side l.accept h n
-stands_more es op c told (Unclosed side) h n = tt
+stands_more es op c told _ h n = tt
 
 -- == a record that changes
 -- The record's accept is the same, or gone.

@@ -1,9 +1,9 @@
 -- The invariant under one more entry, and under changes of the state.
-use Rattle.wasi_walks.proofs.Words.{Accepting, Accepts, Begins, Call, Connection, Created, Entry, ErrorValue, Hand, Handed, HandleKind}
+use Rattle.wasi_walks.proofs.Words.{Accepting, Accepts, Call, Connection, Created, Entry, Hand, Handed, HandleKind}
 use Rattle.wasi_walks.proofs.Words.{HasWildcardYes, Input, IpSocketAddress, IsBoundSide, IsMaker, IsMarkedWith, IsSide, Item, Job, Kind, List}
-use Rattle.wasi_walks.proofs.Words.{Listening, Listens, Machine, Made, MayGoOut, NamesSide, Network, None, Not, OpId, Operation, Option, Output}
+use Rattle.wasi_walks.proofs.Words.{Listening, Listens, Machine, Made, MayGoOut, NamesSide, None, OpId, Operation, Option, Output}
 use Rattle.wasi_walks.proofs.Words.{Pollable, Socket, SocketAddrUse, SocketAddressFamily, Some, Standing, StandingCall, Step, Streams, Tcp2}
-use Rattle.wasi_walks.proofs.Words.{Tcp2Socket, Told, Unclosed, WriteState, [], ap, arith, entry, inl, inr, marked_by, new_record, own_of, place_in}
+use Rattle.wasi_walks.proofs.Words.{Tcp2Socket, Told, WriteState, [], ap, arith, entry, inl, inr, marked_by, new_record, own_of, place_in}
 use Rattle.wasi_walks.proofs.Words.{refl, side_of, slice_get, slice_set, subst, sym, table_parent, with_handle, with_record, with_socket}
 use Rattle.wasi_walks.proofs.Words.{without_handle, ℕ, ⊤, ◌++◌, ◌∙◌, ◌∷◌, ◌≡◌}
 use Rattle.wasi_world.specs.declared.call.Call.TheVariants.{Accept}
@@ -31,12 +31,11 @@ pub names_record_more : (es fs : List Entry) (sockets : List Tcp2Socket) (handle
 names_record_more es fs sockets handle place h = record { found = h.found; at = h.at; marked = marked_more es fs handle h.found.side h.marked }
 
 pub handle_more : (es fs : List Entry) (sockets : List Tcp2Socket) (handle : ℕ) (kind : Kind) → HandleIsFine es sockets handle kind → HandleIsFine (es ++ fs) sockets handle kind
-handle_more es fs sockets handle Network h = tt
 handle_more es fs sockets handle (Tcp2 place) h = names_record_more es fs sockets handle place h
 handle_more es fs sockets handle (Input place) h = names_record_more es fs sockets handle place h
 handle_more es fs sockets handle (Output place) h = names_record_more es fs sockets handle place h
 handle_more es fs sockets handle (Pollable w) h = names_record_more es fs sockets handle (place_in w) h
-handle_more es fs sockets handle ErrorValue h = tt
+handle_more es fs sockets handle _ h = tt
 
 pub knows_more : (es fs : List Entry) (socket : Socket) → KnowsMaker es socket → KnowsMaker (es ++ fs) socket
 knows_more es fs socket h = record { maker = λ s e. maker_more es fs socket.maker socket.family s (h.maker s e) }
@@ -121,23 +120,21 @@ names_put es sockets i old now handle place g k h =
     record { found = m.found; at = m.at; marked = rw m.same h.marked }
 
 handle_put : (es : List Entry) (sockets : List Tcp2Socket) (i : ℕ) (old now : Tcp2Socket) (handle : ℕ) (kind : Kind) → slice_get sockets i ≡ Some old → now.side ≡ old.side → HandleIsFine es sockets handle kind → HandleIsFine es (slice_set sockets i now) handle kind
-handle_put es sockets i old now handle Network g k h = tt
 handle_put es sockets i old now handle (Tcp2 place) g k h = names_put es sockets i old now handle place g k h
 handle_put es sockets i old now handle (Input place) g k h = names_put es sockets i old now handle place g k h
 handle_put es sockets i old now handle (Output place) g k h = names_put es sockets i old now handle place g k h
 handle_put es sockets i old now handle (Pollable w) g k h = names_put es sockets i old now handle (place_in w) g k h
-handle_put es sockets i old now handle ErrorValue g k h = tt
+handle_put es sockets i old now handle _ g k h = tt
 
 names_push : (es : List Entry) (sockets : List Tcp2Socket) (r : Tcp2Socket) (handle place : ℕ) → NamesRecord es sockets handle place → NamesRecord es (sockets ++ r ∷ []) handle place
 names_push es sockets r handle place h = record { found = h.found; at = get_front sockets (r ∷ []) place h.found h.at; marked = h.marked }
 
 handle_push : (es : List Entry) (sockets : List Tcp2Socket) (r : Tcp2Socket) (handle : ℕ) (kind : Kind) → HandleIsFine es sockets handle kind → HandleIsFine es (sockets ++ r ∷ []) handle kind
-handle_push es sockets r handle Network h = tt
 handle_push es sockets r handle (Tcp2 place) h = names_push es sockets r handle place h
 handle_push es sockets r handle (Input place) h = names_push es sockets r handle place h
 handle_push es sockets r handle (Output place) h = names_push es sockets r handle place h
 handle_push es sockets r handle (Pollable w) h = names_push es sockets r handle (place_in w) h
-handle_push es sockets r handle ErrorValue h = tt
+handle_push es sockets r handle _ h = tt
 
 module _ (steps : List Step) where
   -- == what more entries keep of the operations
@@ -172,16 +169,13 @@ module _ (steps : List Step) where
   accept_more es fs side maker op h = record { named = names_on es fs op.who.id side h.named; on = h.on; asks = h.asks; last = h.last }
 
   accepting_more : (es fs : List Entry) (side : OpId) (maker : ℕ) (a : Accepting) → AcceptingIsFine steps es side maker a → AcceptingIsFine steps (es ++ fs) side maker a
-  accepting_more es fs side maker Accepting.Idle h = tt
   accepting_more es fs side maker (Accepting.Asking op) h = accept_more es fs side maker op h
   accepting_more es fs side maker (Accepting.Arrived new peer) h = record { told = h.told; hand = has_front es fs _ h.hand }
-  accepting_more es fs side maker (Accepting.Failed c) h = tt
+  accepting_more es fs side maker _ h = tt
 
   pub listening_more : (es fs : List Entry) (made : Option OpId) (l : Listening) → ListeningIsFine steps es made l → ListeningIsFine steps (es ++ fs) made l
-  listening_more es fs made Not h = tt
-  listening_more es fs made (Begins op) h = tt
   listening_more es fs made (Accepts l) h = record { side = h.side; maker = maker_more es fs l.maker l.family l.side h.maker; accept = accepting_more es fs l.side l.maker l.accept h.accept }
-  listening_more es fs made (Unclosed side) h = tt
+  listening_more es fs made _ h = tt
 
   -- == and of the records
   pub socket_more : (es fs : List Entry) (socket : Socket) → SocketIsFine steps es socket → SocketIsFine steps (es ++ fs) socket
@@ -239,14 +233,12 @@ module _ (steps : List Step) where
       record { found = m.found; at = m.at; named = λ side e. h.named side (sym m.same ∙ e) }
 
   standing_put : (es : List Entry) (sockets : List Tcp2Socket) (i : ℕ) (old now : Tcp2Socket) (line : ℕ) (c : StandingCall) → slice_get sockets i ≡ Some old → now.side ≡ old.side → CallIsFine steps es sockets line c → CallIsFine steps es (slice_set sockets i now) line c
-  standing_put es sockets i old now line (StandingCall.Bind place op) g k h = h
-  standing_put es sockets i old now line (StandingCall.Listen place) g k h = h
   standing_put es sockets i old now line (StandingCall.DropOutput place) g k h = drop_put es sockets i old now (own_of line) place g k h
+  standing_put es sockets i old now line _ g k h = h
 
   standing_push : (es : List Entry) (sockets : List Tcp2Socket) (r : Tcp2Socket) (line : ℕ) (c : StandingCall) → CallIsFine steps es sockets line c → CallIsFine steps es (sockets ++ r ∷ []) line c
-  standing_push es sockets r line (StandingCall.Bind place op) h = h
-  standing_push es sockets r line (StandingCall.Listen place) h = h
   standing_push es sockets r line (StandingCall.DropOutput place) h = record { found = h.found; at = get_front sockets (r ∷ []) place h.found h.at; named = h.named }
+  standing_push es sockets r line _ h = h
 
   -- == the state
   -- an ask that is no mark, and that touches no accept, keeps the state

@@ -1,7 +1,7 @@
 -- In a licensed log, and in a state that fits it, nothing has the names of the line that comes next.
-use Rattle.wasi_walks.proofs.Words.{Accepting, Accepts, BeganBy, Begins, Call, Created, Entry, Handed, HandleKind, Has, IpSocketAddress, IsLicensed}
-use Rattle.wasi_walks.proofs.Words.{IsMaker, IsMarkOf, List, Listening, Machine, MayAsk, Not, OpId, Option, Reply, SocketAddressFamily, Some, Step}
-use Rattle.wasi_walks.proofs.Words.{Told, Unclosed, WasiSocketsCtx, [], arith, entry, inl, inr, length, slice_get, step_at, subst, suc, sym, zero, ℕ}
+use Rattle.wasi_walks.proofs.Words.{Accepting, Accepts, BeganBy, Call, Created, Entry, Handed, HandleKind, Has, IpSocketAddress, IsLicensed}
+use Rattle.wasi_walks.proofs.Words.{IsMaker, IsMarkOf, List, Listening, Machine, MayAsk, OpId, Option, Reply, SocketAddressFamily, Some, Step}
+use Rattle.wasi_walks.proofs.Words.{Told, WasiSocketsCtx, [], arith, entry, inl, inr, length, slice_get, step_at, subst, suc, sym, zero, ℕ}
 use Rattle.wasi_walks.proofs.Words.{◌+◌, ◌<◌, ◌∷◌, ◌≡◌, ◌≤◌}
 use Rattle.wasi_walks.proofs.Lists.{Cut, cut_of, has_front}
 use Rattle.wasi_walks.proofs.licence.State.{name_in, accept_name, AcceptingIsFine, ListeningIsFine, StateIsFine}
@@ -74,16 +74,13 @@ module _ (contexts : List WasiSocketsCtx) (steps : List Step) where
 
     -- an accept in a record has the name of an earlier line
     name_below : (side : OpId) (maker : ℕ) (a : Accepting) (x : OpId) → AcceptingIsFine steps log side maker a → name_in a ≡ Some x → x.step ≤ length steps
-    name_below side maker Accepting.Idle x f e = absurd (cc)
     name_below side maker (Accepting.Asking op) x f e = let p : op.who.id ≡ x = cc in subst (λ (o : OpId). o.step ≤ length steps) p (began_below op.who.id _ f.named)
     name_below side maker (Accepting.Arrived new peer) x f e = let p : new ≡ x = cc in subst (λ (o : OpId). o.step ≤ length steps) p (handed_below new side peer f.told f.hand)
-    name_below side maker (Accepting.Failed c) x f e = absurd (cc)
+    name_below side maker _ x f e = absurd (cc)
 
     listening_below : (made : Option OpId) (l : Listening) (x : OpId) → ListeningIsFine steps log made l → accept_name l ≡ Some x → x.step ≤ length steps
-    listening_below made Not x f e = absurd (cc)
-    listening_below made (Begins op) x f e = absurd (cc)
     listening_below made (Accepts l) x f e = name_below l.side l.maker l.accept x f.accept e
-    listening_below made (Unclosed side) x f e = absurd (cc)
+    listening_below made _ x f e = absurd (cc)
 
     pub next_is_new : (m : Machine) → StateIsFine steps log m → IsNew log m.store.sockets (length steps + 1)
     next_is_new m f = record {

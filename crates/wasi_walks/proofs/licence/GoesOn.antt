@@ -1,7 +1,7 @@
 -- What goes on is licensed: a bind, a connect, a listen, an accept, a write; and what is given up.
-use Rattle.wasi_walks.proofs.Words.{Accepting, Accepts, Allows, Asks, Begins, Bool, Call, Done, End, Entry, Give, HoldsAccept, HoldsConnect}
+use Rattle.wasi_walks.proofs.Words.{Accepting, Accepts, Allows, Asks, Begins, Bool, Call, End, Entry, Give, HoldsAccept, HoldsConnect}
 use Rattle.wasi_walks.proofs.Words.{IpSocketAddress, IsAcceptOn, IsConnect, IsLeftOfAccept, IsLeftOfBind, IsLeftOfConnect, IsLeftOfListen, IsMaker}
-use Rattle.wasi_walks.proofs.Words.{Item, List, Listener, Listening, MayAsk, None, Not, OpId, Operation, Option, Refused, Some, Step, Streams}
+use Rattle.wasi_walks.proofs.Words.{Item, List, Listener, Listening, MayAsk, None, Not, OpId, Operation, Option, Some, Step, Streams}
 use Rattle.wasi_walks.proofs.Words.{Tcp2Socket, TcpState, Unclosed, Waits, WasiSocketsCtx, Who, WriteState, accept_ended, allows_keep, allows_then}
 use Rattle.wasi_walks.proofs.Words.{allows_weaker, ap, arith, ask_close, connect_ended, false, give_up_asks, give_up_in, if◌then◌else◌, in_hand, inl}
 use Rattle.wasi_walks.proofs.Words.{inr, is_over, job_asks, left_of, marked_by, poll_asks, refl, refuse_in, side_of, slice_get, slice_set, step_at}
@@ -106,8 +106,7 @@ module _ (contexts : List WasiSocketsCtx) (steps : List Step) (line : ℕ) (orig
   -- the record that a listen leaves has one that goes on only where it waits
   still_goes : (fs : List Entry) (r : Tcp2Socket) (op : Operation) (end : End × List Item) → op.who.context ≡ r.inner.maker → IsMaker fs r.inner.maker r.inner.family op.who.side → ListenEnds steps fs op.who end.0 end.1 → (o : Operation) → (listen_after op r end).listening ≡ Begins o → ListenGoesOn steps fs (listen_after op r end) o
   still_goes fs r op (Waits, items) a m k o e = subst (ListenGoesOn steps fs (listen_after op r (Waits, items))) (same_begun (record { who = op.who; left = items }) o e) (record { fine = k; asks = a; made = m })
-  still_goes fs r op (Done given, items) a m k o e = absurd (cc)
-  still_goes fs r op (Refused c given, items) a m k o e = absurd (cc)
+  still_goes fs r op _ a m k o e = absurd (cc)
 
   listened_on : (es : List Entry) (h : Here) (place : ℕ) (r : Tcp2Socket) (op : Operation) → Found h place r → r.listening ≡ Begins op → side_of r.inner ≡ None → Fit h → Named line h → Licensed steps line origin es h
       → Allows (MayAsk contexts steps) (λ fs ended. Licensed steps line origin fs (put h place (listen_after op r ended))) es (poll_asks op)
@@ -191,10 +190,9 @@ module _ (contexts : List WasiSocketsCtx) (steps : List Step) (line : ℕ) (orig
           (λ y z p v w u. absurd (free p v w (inr (u ∙ ap (λ (o : OpId). Some o) (q.name y z))))) k.fine) (λ o p. absurd (cc)))
 
   turn_on : (es : List Entry) (side : OpId) (w : WriteState) → WritesOn steps es side w → Allows (MayQuietly contexts steps) (λ fs done. WritesOn steps fs side done.1) es (turn_asks w)
-  turn_on es side (WriteState.Ready half permit) on = on
   turn_on es side (WriteState.Writing job) on = allows_then (MayQuietly contexts steps) (λ fs j. JobIsFine steps fs side j) (λ fs done. WritesOn steps fs side done.1) es (job_asks job) _ (fine_job contexts steps es side job on) (λ fs j k. k)
   turn_on es side (WriteState.Closing job) on = allows_then (MayQuietly contexts steps) (λ fs j. JobIsFine steps fs side j) (λ fs done. WritesOn steps fs side done.1) es (job_asks job) _ (fine_job contexts steps es side job on) (λ fs j k. k)
-  turn_on es side (WriteState.Closed e) on = on
+  turn_on es side _ on = on
 
   -- the connection has one side
   one_side : (fs es : List Entry) (r : Tcp2Socket) (s : Streams) (f : StreamsAreFine steps es r.inner s) (x : StreamsAreFine steps fs r.inner s) → f.side ≡ x.side

@@ -1,7 +1,7 @@
 -- Which local addresses are asked for: what listens that go on rely on.
-use Rattle.wasi_walks.proofs.Words.{Accept, AccessDenied, Allows, Ask, AskWrite, Asks, Bind, Call, Check, CheckArrival, CheckLocal, CloseLast}
+use Rattle.wasi_walks.proofs.Words.{Accept, AccessDenied, Allows, Ask, AskWrite, Asks, Bind, Call, Check, CheckArrival, CheckLocal}
 use Rattle.wasi_walks.proofs.Words.{Connect, End, Entry, Err, ErrorCode, Front, FrontKeeps, Give, Given, IpSocketAddress, IsLastLocal, Item, Last}
-use Rattle.wasi_walks.proofs.Words.{LastAsk, List, Listen, Nothing, NothingLast, Ok, OpId, Operation, Polled, Refuse, Result, ShutdownLast}
+use Rattle.wasi_walks.proofs.Words.{LastAsk, List, Listen, Nothing, NothingLast, Ok, OpId, Operation, Polled, Refuse, Result}
 use Rattle.wasi_walks.proofs.Words.{SocketAddrUse, Step, Told, Verdict, Who, [], accept_front, admitted_front, allows_polls, ap, append_assoc}
 use Rattle.wasi_walks.proofs.Words.{arrival_front, bind, check_front, done_front, entry, front, hand_front, inl, inr, last_ask, local_front}
 use Rattle.wasi_walks.proofs.Words.{poll_asks, polled_front, refuse_front, told_addr, told_arrival, told_done, told_polled, told_verdict}
@@ -49,8 +49,7 @@ module _ (L : Call → Type 0) (l : (c : Call) → NoLocal c → L c) (who : Who
   last_says : (es : List Entry) (last : LastAsk) (c : ErrorCode) (given : Given) → Allows Says After es (last_ask who last c given)
   unfolding bind
   last_says es NothingLast c given = tt
-  last_says es CloseLast c given = (l _ tt, λ t fits. tt)
-  last_says es ShutdownLast c given = (l _ tt, λ t fits. tt)
+  last_says es _ c given = (l _ tt, λ t fits. tt)
 
   module _ (items : List Item) (k : AllAsk items) where
     abbrev Leads : List Entry → Asks Front → Type 0

@@ -1,6 +1,6 @@
 -- What holds for the steps so far holds for a script that goes on from them.
-use Rattle.wasi_walks.proofs.Words.{Accepting, Accepts, BeganBy, Begins, Call, Entry, Job, List, Listening, Machine, MayAsk, NamesSide, Not, OpId}
-use Rattle.wasi_walks.proofs.Words.{Operation, Option, ReachesSide, Socket, Some, StandingCall, Step, Streams, Tcp2Socket, Unclosed, WasiSocketsCtx}
+use Rattle.wasi_walks.proofs.Words.{Accepting, Accepts, BeganBy, Call, Entry, Job, List, Listening, Machine, MayAsk, NamesSide, OpId}
+use Rattle.wasi_walks.proofs.Words.{Operation, Option, ReachesSide, Socket, Some, StandingCall, Step, Streams, Tcp2Socket, WasiSocketsCtx}
 use Rattle.wasi_walks.proofs.Words.{WriteState, inl, inr, step_at, suc, zero, ℕ, ◌++◌, ◌≡◌}
 use Rattle.wasi_walks.proofs.Lists.{get_front}
 use Rattle.wasi_walks.proofs.licence.State.{Names, WorksOn, BindIsFine, ConnectIsFine, JobIsFine, WritesOn, StreamsAreFine, AcceptingIsFine, ListeningIsFine, SocketIsFine, RecordIsFine, CallIsFine, StateIsFine}
@@ -66,16 +66,13 @@ module _ (steps more : List Step) where
     streams_more socket streams h = record { side = h.side; connected = h.connected; reads = h.reads; writes = writes_more h.side streams.writer h.writes }
 
     accepting_more : (side : OpId) (maker : ℕ) (a : Accepting) → AcceptingIsFine steps es side maker a → AcceptingIsFine (steps ++ more) es side maker a
-    accepting_more side maker Accepting.Idle h = tt
     accepting_more side maker (Accepting.Asking op) h = record { named = names_more op.who.id side h.named; on = h.on; asks = h.asks; last = h.last }
     accepting_more side maker (Accepting.Arrived new peer) h = h
-    accepting_more side maker (Accepting.Failed c) h = tt
+    accepting_more side maker _ h = tt
 
     listening_more : (made : Option OpId) (l : Listening) → ListeningIsFine steps es made l → ListeningIsFine (steps ++ more) es made l
-    listening_more made Not h = tt
-    listening_more made (Begins op) h = tt
     listening_more made (Accepts l) h = record { side = h.side; maker = h.maker; accept = accepting_more l.side l.maker l.accept h.accept }
-    listening_more made (Unclosed side) h = tt
+    listening_more made _ h = tt
 
     record_more : (r : Tcp2Socket) → RecordIsFine steps es r → RecordIsFine (steps ++ more) es r
     record_more r h = record {

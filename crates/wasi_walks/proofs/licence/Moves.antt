@@ -7,7 +7,7 @@ use Rattle.wasi_walks.proofs.Words.{new_job, new_streams, own_of, refl, side_in,
 use Rattle.wasi_walks.proofs.Words.{subst, sym, true, wildcard, with_inner, with_listening, with_state, written_by, ℕ, ◌∙◌, ◌≡◌}
 use Rattle.wasi_walks.proofs.licence.ListenAsks.{Whole as WholeListen}
 use Rattle.wasi_walks.proofs.claims.Law.{Base, same_begun, fresh}
-use Rattle.wasi_walks.proofs.walks.Moves.{closed_record, Used, Here, put, Found, record_of, WriterMoves, Collects, Permits, Lasts, LastsAfter, Closes, Plain, Move, Reaches, Leaves, Spends, Changes, ClosesReader, Writes, IsGone, opened_by, Reconnects, Opens, BeginsConnect, BeginsBind, BeginsWrite, Stands, Resumes, Ends, Lists, Takes, BeginsListen, BeginsAccept, Unlistens, Forgets, Watches, Joins, StandsListen, StandsDrop, ResumesDrop, Unstands, accepting_now, begun_listen, beginning_listen, new_accept, joined, second_of}
+use Rattle.wasi_walks.proofs.walks.Moves.{closed_record, Used, Here, put, Found, record_of, WriterMoves, Collects, LastsAfter, Closes, Plain, Move, Reaches, Leaves, Spends, Changes, ClosesReader, Writes, IsGone, opened_by, Reconnects, Opens, BeginsConnect, BeginsBind, BeginsWrite, Stands, Resumes, Ends, Lists, Takes, BeginsListen, BeginsAccept, Unlistens, Forgets, Watches, Joins, StandsListen, StandsDrop, ResumesDrop, Unstands, accepting_now, begun_listen, beginning_listen, new_accept, joined, second_of}
 use Rattle.wasi_walks.proofs.Lists.{get_split}
 use Rattle.wasi_walks.proofs.licence.State.{ConnectIsFine, ConnectLeft, Unbound, Unchecked, ReadsOn, Whole, ToWrite, Names, BindIsFine, JobIsFine, WritesOn, StreamsAreFine, AcceptingIsFine, ListeningIsFine, SocketIsFine, RecordIsFine, IsHanded, Unarrived, AcceptingStands, ListeningStands, ListenerIsFine, name_in, DropIsFine}
 use Rattle.wasi_walks.proofs.licence.AcceptFrames.{same_listening, listening_kept, listening_gone, Only}
@@ -47,18 +47,14 @@ module _ (contexts : List WasiSocketsCtx) (steps : List Step) (line : ℕ) (orig
 
   closed_on : (es : List Entry) (side : OpId) (job : Job) (e : End) → JobIsFine steps es side job → WritesOn steps es side (closed_by job e)
   closed_on es side job Waits h = h
-  closed_on es side job (Done given) h = tt
-  closed_on es side job (Refused c given) h = tt
+  closed_on es side job _ h = tt
 
   writes_on : (es : List Entry) (side : OpId) (w now : WriteState) → WriterMoves w now → WritesOn steps es side w → WritesOn steps es side now
-  writes_on es side _ _ (Collects (WriteState.Ready half permit)) on = on
   writes_on es side _ _ (Collects (WriteState.Writing job)) on = written_on es side job job.end on
   writes_on es side _ _ (Collects (WriteState.Closing job)) on = closed_on es side job job.end on
-  writes_on es side _ _ (Collects (WriteState.Closed e)) on = on
-  writes_on es side _ _ (Permits half old) on = on
-  writes_on es side _ _ (Lasts job) on = on
   writes_on es side _ _ (LastsAfter job) on = record { named = on.named; on = on.on; last = on.last; left = shut_after contexts steps job.write.left on.left }
   writes_on es side _ _ (Closes w e) on = tt
+  writes_on es side _ _ _ on = on
 
   pub closed_fine : (es : List Entry) (r : Tcp2Socket) → RecordIsFine steps es (closed_record r)
   closed_fine es r = record {

@@ -1,10 +1,10 @@
 -- What the log says of the machine's state: the invariant that makes its next call a licensed one.
-use Rattle.wasi_walks.proofs.Words.{Accept, Accepting, Accepts, Arrived, BeganBy, Begins, Bind, Call, Check, CheckArrival, CloseLast, Connect}
-use Rattle.wasi_walks.proofs.Words.{Connection, Entry, ErrorCode, ErrorValue, HandedNone, Has, Input, IpSocketAddress, IsBindTo, IsBoundSide}
+use Rattle.wasi_walks.proofs.Words.{Accept, Accepting, Accepts, Arrived, BeganBy, Bind, Call, Check, CheckArrival, CloseLast, Connect}
+use Rattle.wasi_walks.proofs.Words.{Connection, Entry, ErrorCode, HandedNone, Has, Input, IpSocketAddress, IsBindTo, IsBoundSide}
 use Rattle.wasi_walks.proofs.Words.{IsConnectTo, IsMaker, IsMarkedWith, Item, Job, Kind, Last, List, Listener, Listening, Listens, Machine}
-use Rattle.wasi_walks.proofs.Words.{MarksNoSocket, MayGoOut, NamesSide, Network, None, Not, Nothing, NothingLast, OpId, Operation, Option, Output}
+use Rattle.wasi_walks.proofs.Words.{MarksNoSocket, MayGoOut, NamesSide, None, Nothing, NothingLast, OpId, Operation, Option, Output}
 use Rattle.wasi_walks.proofs.Words.{Pollable, ReadState, ShutdownLast, ShutdownSend, Socket, SocketAddressFamily, Some, Standing, StandingCall, Step}
-use Rattle.wasi_walks.proofs.Words.{Streams, Tcp2, Tcp2Socket, TcpBind, TcpConnect, TcpState, Told, Unclosed, Write, WriteState, Yes, [], entry}
+use Rattle.wasi_walks.proofs.Words.{Streams, Tcp2, Tcp2Socket, TcpBind, TcpConnect, TcpState, Told, Write, WriteState, Yes, [], entry}
 use Rattle.wasi_walks.proofs.Words.{kind_at, marks_in, own_of, place_in, side_of, slice_get, true, wildcard, ℕ, ⊤, ◌++◌, ◌+◌, ◌∷◌, ◌≡◌}
 
 -- The handle stands for the record at this place, and its mark says the side that the record was made with.
@@ -14,12 +14,11 @@ pub record NamesRecord (es : List Entry) (sockets : List Tcp2Socket) (handle pla
   pub marked : IsMarkedWith es handle found.side
 
 abbrev pub HandleIsFine : List Entry → List Tcp2Socket → ℕ → Kind → Type 0
-HandleIsFine es sockets handle Network = ⊤
 HandleIsFine es sockets handle (Tcp2 place) = NamesRecord es sockets handle place
 HandleIsFine es sockets handle (Input place) = NamesRecord es sockets handle place
 HandleIsFine es sockets handle (Output place) = NamesRecord es sockets handle place
 HandleIsFine es sockets handle (Pollable w) = NamesRecord es sockets handle (place_in w)
-HandleIsFine es sockets handle ErrorValue = ⊤
+HandleIsFine es sockets handle _ = ⊤
 
 -- The socket knows the maker of its side, and the side's family.
 pub record KnowsMaker (es : List Entry) (socket : Socket) : Type 0 where
@@ -84,29 +83,23 @@ pub record AcceptStands (es : List Entry) (op side : OpId) (left : List Item) : 
 
 -- what a listener's accept may rely on while nothing is asked by its name: a connection that isn't taken is in no mark
 abbrev pub AcceptingStands : List Entry → OpId → Accepting → Type 0
-AcceptingStands es side Accepting.Idle = ⊤
 AcceptingStands es side (Accepting.Asking op) = AcceptStands es op.who.id side op.left
 AcceptingStands es side (Accepting.Arrived new peer) = MarksNoSocket es new
-AcceptingStands es side (Accepting.Failed c) = ⊤
+AcceptingStands es side _ = ⊤
 
 abbrev pub ListeningStands : List Entry → Listening → Type 0
-ListeningStands es Not = ⊤
-ListeningStands es (Begins op) = ⊤
 ListeningStands es (Accepts l) = AcceptingStands es l.side l.accept
-ListeningStands es (Unclosed side) = ⊤
+ListeningStands es _ = ⊤
 
 -- the name of the accept that is asking, or of the connection that isn't taken
 abbrev pub name_in : Accepting → Option OpId
-name_in Accepting.Idle = None
 name_in (Accepting.Asking op) = Some op.who.id
 name_in (Accepting.Arrived new peer) = Some new
-name_in (Accepting.Failed c) = None
+name_in _ = None
 
 abbrev pub accept_name : Listening → Option OpId
-accept_name Not = None
-accept_name (Begins op) = None
 accept_name (Accepts l) = name_in l.accept
-accept_name (Unclosed side) = None
+accept_name _ = None
 
 -- no two records have an accept of one name
 abbrev pub OneHolds : List Tcp2Socket → Type 0
@@ -169,10 +162,9 @@ module _ (steps : List Step) where
 
   -- the listener's accept may be polled, and a connection that isn't taken was handed over
   abbrev pub AcceptingIsFine : List Entry → OpId → ℕ → Accepting → Type 0
-  AcceptingIsFine es side maker Accepting.Idle = ⊤
   AcceptingIsFine es side maker (Accepting.Asking op) = AcceptIsFine es side maker op
   AcceptingIsFine es side maker (Accepting.Arrived new peer) = IsHanded es new side peer
-  AcceptingIsFine es side maker (Accepting.Failed c) = ⊤
+  AcceptingIsFine es side maker _ = ⊤
 
   -- A listener is on the side that its record was made with, and knows its maker.
   pub record ListenerIsFine (es : List Entry) (made : Option OpId) (l : Listener) : Type 0 where
@@ -181,10 +173,8 @@ module _ (steps : List Step) where
     pub accept : AcceptingIsFine es l.side l.maker l.accept
 
   abbrev pub ListeningIsFine : List Entry → Option OpId → Listening → Type 0
-  ListeningIsFine es made Not = ⊤
-  ListeningIsFine es made (Begins op) = ⊤
   ListeningIsFine es made (Accepts l) = ListenerIsFine es made l
-  ListeningIsFine es made (Unclosed side) = ⊤
+  ListeningIsFine es made _ = ⊤
 
   -- A socket knows its maker; it is bound, and it listens, only where the log says so; and its connect may be polled.
   pub record SocketIsFine (es : List Entry) (socket : Socket) : Type 0 where

@@ -1,6 +1,6 @@
 -- A write that goes on: each of its asks is allowed, and what it leaves may be polled on.
-use Rattle.wasi_walks.proofs.Words.{Allows, Call, Done, End, Entry, ErrorCode, FrontKeeps, Given, Item, Job, List, Nothing, OpId, Polled, ReachesSide}
-use Rattle.wasi_walks.proofs.Words.{Refused, ShutdownLast, ShutdownSend, Step, Waits, WasiSocketsCtx, Who, Write, [], allows_polls, allows_then, bind}
+use Rattle.wasi_walks.proofs.Words.{Allows, Call, End, Entry, ErrorCode, FrontKeeps, Given, Item, Job, List, Nothing, OpId, Polled, ReachesSide}
+use Rattle.wasi_walks.proofs.Words.{ShutdownLast, ShutdownSend, Step, Waits, WasiSocketsCtx, Who, Write, [], allows_polls, allows_then, bind}
 use Rattle.wasi_walks.proofs.Words.{entry, front, inl, job_asks, job_in, last_ask, length, less_one, poll_asks, subst, suc, sym, taken_front}
 use Rattle.wasi_walks.proofs.Words.{then_closed, write_front, zero, ℕ, ◌++◌, ◌∷◌, ◌≡◌}
 use Rattle.wasi_walks.proofs.licence.Bounds.{MayQuietly}
@@ -72,8 +72,7 @@ module _ (contexts : List WasiSocketsCtx) (steps : List Step) where
       allows_then (MayQuietly contexts steps) (λ fs ended. Names steps fs job.write.who.id side × WriteLeft ended.1) (JobStands side) es (poll_asks job.write) _
       (fine_poll job.write.who side h.on h.last job.write.left es h.named h.left)
       (λ fs ended k. record { named = k.0; on = h.on; last = h.last; left = k.1 })
-  polled_in es side job (Done given) h = h
-  polled_in es side job (Refused c given) h = h
+  polled_in es side job _ h = h
 
   -- one poll of a write
   pub fine_job : (es : List Entry) (side : OpId) (job : Job) → JobIsFine steps es side job → Allows (MayQuietly contexts steps) (λ fs j. JobIsFine steps fs side j) es (job_asks job)
@@ -83,6 +82,5 @@ module _ (contexts : List WasiSocketsCtx) (steps : List Step) where
   pub shut_after : (items : List Item) → WriteLeft items → WriteLeft (then_closed items)
   shut_after _ (ToWrite rest) = ToWriteAndShut rest
   shut_after _ (ToWriteAndShut rest) = ToWriteAndShut rest
-  shut_after _ ToShut = ToShut
   shut_after _ (ToRefuse c) = ToRefuse c
-  shut_after _ Written = Written
+  shut_after _ s = s

@@ -1,6 +1,6 @@
 -- The steps of listens and accepts, as moves.
-use Rattle.wasi_walks.proofs.Words.{Accepts, Answer, Begins, Bool, Err, ErrorCode, Give, Handles, Has, IsListen, List, Listening, Machine, None, Not}
-use Rattle.wasi_walks.proofs.Words.{Ok, Option, Pending, Ready, Records, Result, Socket, Some, Step, Stop, Tcp2Socket, Unclosed, WasiSocketsCtx}
+use Rattle.wasi_walks.proofs.Words.{Accepts, Answer, Bool, Err, ErrorCode, Give, Handles, Has, IsListen, List, Listening, Machine, None}
+use Rattle.wasi_walks.proofs.Words.{Ok, Option, Pending, Ready, Records, Result, Socket, Some, Step, Stop, Tcp2Socket, WasiSocketsCtx}
 use Rattle.wasi_walks.proofs.Words.{accept_answered, accept_at, accept_end, accept_listening, accept_on, accepted_asks, accepted_record}
 use Rattle.wasi_walks.proofs.Words.{accepted_streams, false, first_ids, handles_of, is_nothing, kept_accepted, kind_at, listen_answered, make_asks}
 use Rattle.wasi_walks.proofs.Words.{own_of, refl, side_at, slice_get, slice_set, socket_at, start_listen_at, start_listen_by, true, with_sockets}
@@ -14,9 +14,8 @@ use Rattle.wasi_walks.proofs.walks.SocketSteps.{streams_walks}
 module _ {contexts : List WasiSocketsCtx} {line : ℕ} {origin : Step} {law : Law contexts line origin} where
   -- == a listen
   listen_answered_walks : (m : Machine) (n k place : ℕ) → HasRecord (At k m place Used) place → (begun : Result (Answer (Unit {0})) ErrorCode × Tcp2Socket) → Walks law (put (At k m place Used) place begun.1) (Put k m place) (Give (listen_answered m.store n place begun))
-  listen_answered_walks m n k place here (Ok (Ready d), r) = give _
   listen_answered_walks m n k place here (Ok Pending, r) = gives _ (StandsListen _ n place r (found here r))
-  listen_answered_walks m n k place here (Err c, r) = give _
+  listen_answered_walks m n k place here _ = give _
 
   start_listen_by_walks : (m : Machine) (place : ℕ) (r : Tcp2Socket) (idle : Bool) → Found (At line m place Unused) place r → IsListen origin → NoBindStands m.store.standing → Walks law (At line m place Unused) (Put line m place) (start_listen_by m.store (own_of line) place r idle)
   start_listen_by_walks m place r true g is q = from (put_same (At line m place Unused) place r g) (and_then (begin_listen_walks (there g) refl is refl (refl, q) r) (listen_answered_walks m line line place (record { was = r; found = g })))
@@ -35,15 +34,12 @@ module _ {contexts : List WasiSocketsCtx} {line : ℕ} {origin : Step} {law : La
 
     accept_answered_walks : (done : Result (Answer Socket) ErrorCode × Tcp2Socket) → Walks law (Took (Watching line m place Used) place done) (AcceptedSo line m place) (Give (accept_answered m.store place done))
     accept_answered_walks (Ok (Ready socket), r) = answered_so r (accepted_record socket)
-    accept_answered_walks (Ok Pending, r) = give _
-    accept_answered_walks (Err why, r) = give _
+    accept_answered_walks _ = give _
 
     accept_listening_walks : (r : Tcp2Socket) (l : Listening) → r.listening ≡ l → slice_get m.store.sockets place ≡ Some r → Walks law (put (Watching line m place Unused) place r) (Took (Watching line m place Used) place) (accept_listening (first_ids line) r l)
     accept_listening_walks r (Accepts l) e g =
         and_then (listener_walks (there g) refl r l (accept_end l) l.accept e refl refl (λ now. takes_walks {h = Watching line m place Used} (there {h = Watching line m place Used} {place = place} g) c s is k refl r l now)) (λ done. give _)
-    accept_listening_walks r Not e g = gives _ (Spends _ refl)
-    accept_listening_walks r (Begins op) e g = gives _ (Spends _ refl)
-    accept_listening_walks r (Unclosed side) e g = gives _ (Spends _ refl)
+    accept_listening_walks r _ e g = gives _ (Spends _ refl)
 
     accept_at_walks : (o : Option Tcp2Socket) → slice_get m.store.sockets place ≡ o → Walks law (Watching line m place Unused) (AcceptedSo line m place) (accept_at m.store (first_ids line) place o)
     accept_at_walks None g = gives _ (Spends _ refl)

@@ -35,8 +35,7 @@ module _ {contexts : List WasiSocketsCtx} {line : ℕ} {origin : Step} {law : La
   pub answered_walks : (m : Machine) (at : Option (ℕ × ℕ)) (n place : ℕ) (begun : Result (Option Operation) ErrorCode × Tcp2Socket) → let h : Here = record { machine = m; at = at; hand = None; made = Past; own = Used } in
       HasRecord h place → Walks law (Begun h place begun) (λ done. record h { machine = record m { store = done.1 } }) (Give (bind_answered m.store n place begun))
   answered_walks m at n place (Ok (Some op), r) here = gives _ (Stands _ n place r op (found here r) refl)
-  answered_walks m at n place (Ok None, r) here = give _
-  answered_walks m at n place (Err c, r) here = give _
+  answered_walks m at n place _ here = give _
 
   -- == a bind
   start_by_walks : (m : Machine) (place : ℕ) (a : IpSocketAddress) (r : Tcp2Socket) (idle : Bool) → Found (At line m place Unused) place r → IsBindTo a origin → Walks law (At line m place Unused) (Put line m place) (start_bind_by m.store (own_of line) place a r idle)

@@ -35,11 +35,9 @@ Begun h place (Ok None, r) = record (put h place r) { hand = None; own = Used }
 Begun h place (Err c, r) = record (put h place r) { hand = None; own = Used }
 
 usable : (s : TcpState) (side : OpId) → usable_side s ≡ Ok side → side_in s ≡ Some side
-usable (TcpState.Default c) side e = cc
-usable (TcpState.Listening c) side e = cc
 usable (TcpState.Connecting c) side e = absurd (cc)
-usable (TcpState.Connected c) side e = cc
 usable (TcpState.Closed c) side e = absurd (cc)
+usable _ side e = cc
 
 usable_if : (s : TcpState) (bound : Bool) (side : OpId) → (if bound then usable_side s else Err InvalidState) ≡ Ok side → side_in s ≡ Some side
 usable_if s true side e = usable s side e
@@ -94,10 +92,7 @@ begun_given op socket a (TcpState.Default side) = given_then BeginsSo (λ b. con
     by_test : (b : Bool × Socket) (able : Bool) → BeginsSo (if able then (Ok tt, with_state b.1 (TcpState.Connecting (connect_operation (record { op = op; side = side; maker = b.1.maker }) (wildcard b.1.family) a (connect_first b.0)))) else (Err InvalidArgument, b.1))
     by_test b true = tt
     by_test b false = tt
-begun_given op socket a (TcpState.Listening side) = tt
-begun_given op socket a (TcpState.Connecting other) = tt
-begun_given op socket a (TcpState.Connected c) = tt
-begun_given op socket a (TcpState.Closed c) = tt
+begun_given op socket a _ = tt
 
 -- the record, with its socket in this state
 abbrev pub In : Here → ℕ → Tcp2Socket → Socket → TcpState → Here
@@ -107,10 +102,7 @@ In h place r socket s = put h place (with_inner r (with_state socket s))
 module _ {contexts : List WasiSocketsCtx} {line : ℕ} {origin : Step} {law : Law contexts line origin} {h : Here} {place : ℕ} (here : HasRecord h place) (quiet : NoBind h) where
   finish_in_walks : (r : Tcp2Socket) (s : TcpState) → Walks law (In h place r r.inner s) (λ done. In h place r r.inner done.1) (finish_in s)
   finish_in_walks r (TcpState.Connecting op) = and_then (connect here (with_inner r (with_state r.inner (TcpState.Connecting op))) op quiet refl) (λ ended. give _)
-  finish_in_walks r (TcpState.Default side) = give _
-  finish_in_walks r (TcpState.Listening side) = give _
-  finish_in_walks r (TcpState.Connected c) = give _
-  finish_in_walks r (TcpState.Closed c) = give _
+  finish_in_walks r _ = give _
 
   pub finish_walks : (r : Tcp2Socket) → Walks law (put h place r) (λ done. put h place (with_inner r done.1)) (finish_connect_asks r.inner)
   finish_walks r = and_then (finish_in_walks r r.inner.state) (λ done. give _)
@@ -136,10 +128,7 @@ module _ {contexts : List WasiSocketsCtx} {line : ℕ} {origin : Step} {law : La
 
   opens : (r : Tcp2Socket) (socket : Socket) (s : TcpState) → Walks law (In h place r socket s) (λ done. put h place done.1) (Give (opened_receive r (in_socket socket (take_receive s))))
   opens r socket (TcpState.Connected c) = receives r socket c c.receive_taken
-  opens r socket (TcpState.Default side) = idles r (with_state socket (TcpState.Default side)) _
-  opens r socket (TcpState.Listening side) = idles r (with_state socket (TcpState.Listening side)) _
-  opens r socket (TcpState.Connecting op) = idles r (with_state socket (TcpState.Connecting op)) _
-  opens r socket (TcpState.Closed c) = idles r (with_state socket (TcpState.Closed c)) _
+  opens r socket s = idles r (with_state socket s) _
 
   pub poll_connect_walks : (r : Tcp2Socket) → Walks law (put h place r) (λ done. put h place done.1) (poll_connect_asks r)
   poll_connect_walks r = and_then (finish_walks r) polled
@@ -216,10 +205,7 @@ module _ {contexts : List WasiSocketsCtx} {line : ℕ} {origin : Step} {law : La
 
   remote_in_walks : (r : Tcp2Socket) (s : TcpState) → Walks law (In h place r r.inner s) (λ done. In h place r r.inner done.1) (remote_in (own_of n) s)
   remote_in_walks r (TcpState.Connected c) = and_then (peer_walks r c c.peer) (λ p. give _)
-  remote_in_walks r (TcpState.Default side) = give _
-  remote_in_walks r (TcpState.Listening side) = give _
-  remote_in_walks r (TcpState.Connecting op) = give _
-  remote_in_walks r (TcpState.Closed c) = give _
+  remote_in_walks r _ = give _
 
   pub remote_walks : (r : Tcp2Socket) → Walks law (put h place r) (λ done. put h place done.1) (tell_remote_asks (own_of n) r)
   remote_walks r = and_then (and_then (remote_in_walks r r.inner.state) (λ done. give _)) (λ done. give _)
@@ -232,10 +218,7 @@ module _ {contexts : List WasiSocketsCtx} {line : ℕ} {origin : Step} {law : La
   bound_in : (r : Tcp2Socket) (s : TcpState) → r.inner.state ≡ s → Walks law (put h place r) (Inner h place r) (ask_bound (own_of line) r.inner s)
   unfolding bind
   bound_in r (TcpState.Default side) e = learn here r at e (λ told. give _)
-  bound_in r (TcpState.Listening c) e = is_bound r (λ side d. absurd (cc))
-  bound_in r (TcpState.Connecting c) e = is_bound r (λ side d. absurd (cc))
-  bound_in r (TcpState.Connected c) e = is_bound r (λ side d. absurd (cc))
-  bound_in r (TcpState.Closed c) e = is_bound r (λ side d. absurd (cc))
+  bound_in r _ e = is_bound r (λ side d. absurd (cc))
 
   pub bound_walks : (r : Tcp2Socket) → Walks law (put h place r) (Inner h place r) (bound_asks (own_of line) r.inner)
   bound_walks r = by_if r.inner.bound (λ known. give _) (λ unknown. bound_in r r.inner.state refl)
@@ -287,9 +270,7 @@ module _ {contexts : List WasiSocketsCtx} {line : ℕ} {origin : Step} {law : La
   unfolding bind
   backlog_in_walks r b (TcpState.Default side) e is = on here r _ (Changes _ _ _ _ (found here r) (backlog_kept r b)) (give _)
   backlog_in_walks r b (TcpState.Listening side) e is = set here r at e is (λ told. backlog_told r b (told_done told))
-  backlog_in_walks r b (TcpState.Connecting op) e is = give _
-  backlog_in_walks r b (TcpState.Connected c) e is = give _
-  backlog_in_walks r b (TcpState.Closed c) e is = give _
+  backlog_in_walks r b _ e is = give _
 
   pub backlog_walks : (r : Tcp2Socket) (value : ℕ) → IsBacklogSet origin → Walks law (put h place r) (Inner h place r) (set_backlog_asks (own_of line) r.inner value)
   backlog_walks r value is = by_if (value == 0) (λ none. give _) (λ some. backlog_in_walks r (clamped_backlog value) r.inner.state refl is)

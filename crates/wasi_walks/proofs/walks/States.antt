@@ -1,6 +1,6 @@
 -- What a line works on where it begins, in its midst and at its end, and what is known of handles there.
-use Rattle.wasi_walks.proofs.Words.{Answer, Ask, AskWrite, Asks, Bool, Err, ErrorCode, ErrorValue, Full, Give, Handles, Input, Kind, List, Machine}
-use Rattle.wasi_walks.proofs.Words.{Network, None, Ok, OpId, Operation, Option, Output, Pending, Pollable, Ready, Records, Result, Socket, Some}
+use Rattle.wasi_walks.proofs.Words.{Answer, Ask, AskWrite, Asks, Bool, Err, ErrorCode, Full, Give, Handles, Input, Kind, List, Machine}
+use Rattle.wasi_walks.proofs.Words.{None, Ok, OpId, Operation, Option, Output, Pending, Pollable, Ready, Records, Result, Socket, Some}
 use Rattle.wasi_walks.proofs.Words.{Standing, StandingCall, Stop, Streams, Tcp2, Tcp2Socket, Trap, Watched, accept_answered, accept_at}
 use Rattle.wasi_walks.proofs.Words.{accept_record_asks, accepted_record, ap, ask_made, bind, bind_in, eqb-true, false, if◌then◌else◌, input_of}
 use Rattle.wasi_walks.proofs.Words.{is_full, kept_accepted, kind_at, make_asks, name_of, output_in, output_of, place_in, place_of, refl, slice_get}
@@ -29,19 +29,16 @@ abbrev pub Put : {A : Type 0} → ℕ → Machine → ℕ → A × Records → H
 Put n m place done = At n (record m { store = done.1 }) place Used
 
 pub socket_record : (k : Option Kind) (place : ℕ) → place_of k ≡ Some place → record_of k ≡ Some place
-socket_record None place e = absurd (cc)
 socket_record (Some (Tcp2 n)) place e = e
-socket_record (Some _) place e = absurd (cc)
+socket_record _ place e = absurd (cc)
 
 pub input_record : (k : Option Kind) (place : ℕ) → input_of k ≡ Some place → record_of k ≡ Some place
-input_record None place e = absurd (cc)
 input_record (Some (Input n)) place e = e
-input_record (Some _) place e = absurd (cc)
+input_record _ place e = absurd (cc)
 
 pub output_record : (k : Option Kind) (place : ℕ) → output_of k ≡ Some place → record_of k ≡ Some place
-output_record None place e = absurd (cc)
 output_record (Some (Output n)) place e = e
-output_record (Some _) place e = absurd (cc)
+output_record _ place e = absurd (cc)
 
 pub there : {h : Here} {place : ℕ} {r : Tcp2Socket} → Found h place r → HasRecord h place
 there {r} g = record { was = r; found = g }
@@ -101,19 +98,11 @@ pub watched_record : (k : Option Kind) (w : Watched) → watched_by k ≡ Some w
 watched_record (Some (Tcp2 n)) w e = let p : Watched.Socket n ≡ w = cc in ap (λ (x : Watched). Some (place_in x)) p
 watched_record (Some (Input n)) w e = let p : Watched.Input n ≡ w = cc in ap (λ (x : Watched). Some (place_in x)) p
 watched_record (Some (Output n)) w e = let p : Watched.Output n ≡ w = cc in ap (λ (x : Watched). Some (place_in x)) p
-watched_record (Some Network) w e = absurd (cc)
-watched_record (Some (Pollable x)) w e = absurd (cc)
-watched_record (Some ErrorValue) w e = absurd (cc)
-watched_record None w e = absurd (cc)
+watched_record _ w e = absurd (cc)
 
 pub watch_record : (k : Option Kind) (w : Watched) → watch_of k ≡ Some w → record_of k ≡ Some (place_in w)
 watch_record (Some (Pollable x)) w e = let p : x ≡ w = cc in ap (λ (y : Watched). Some (place_in y)) p
-watch_record (Some Network) w e = absurd (cc)
-watch_record (Some (Tcp2 n)) w e = absurd (cc)
-watch_record (Some (Input n)) w e = absurd (cc)
-watch_record (Some (Output n)) w e = absurd (cc)
-watch_record (Some ErrorValue) w e = absurd (cc)
-watch_record None w e = absurd (cc)
+watch_record _ w e = absurd (cc)
 
 -- the drop that stands under a number
 pub stands_drop : (o : Option Standing) (n place : ℕ) → waiting_drop o n ≡ Some place → o ≡ Some (standing_drop n place)

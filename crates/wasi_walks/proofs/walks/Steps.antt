@@ -15,14 +15,8 @@ use Rattle.wasi_walks.proofs.walks.StreamSteps.{subscribe_walks, writer_walks, d
 use Rattle.wasi_walks.proofs.walks.Pending.{poll_walks}
 
 backlog_of : (c s : ℕ) (setting : TcpSetting) (value : ℕ) → chosen setting ≡ TheBacklog value → IsBacklogSet (Step.TcpSet c s setting)
-backlog_of c s (TcpSetting.KeepAliveEnabled b) value e = absurd (cc)
-backlog_of c s (TcpSetting.KeepAliveIdleTime n) value e = absurd (cc)
-backlog_of c s (TcpSetting.KeepAliveInterval n) value e = absurd (cc)
-backlog_of c s (TcpSetting.KeepAliveCount n) value e = absurd (cc)
-backlog_of c s (TcpSetting.HopLimit n) value e = absurd (cc)
-backlog_of c s (TcpSetting.ReceiveBufferSize n) value e = absurd (cc)
-backlog_of c s (TcpSetting.SendBufferSize n) value e = absurd (cc)
 backlog_of c s (TcpSetting.ListenBacklogSize n) value e = tt
+backlog_of c s _ value e = absurd (cc)
 
 none_stands : {o : Option Standing} → o ≡ None → NoBindStands o
 none_stands e = subst NoBindStands (sym e) tt

@@ -1,7 +1,7 @@
 -- The steps on streams and pollables, drops and turns, as moves.
-use Rattle.wasi_walks.proofs.Words.{Accepts, Answer, Asks, Begins, Bool, Err, ErrorValue, Give, Has, HasChildren, Input, Kind, List, Listening}
+use Rattle.wasi_walks.proofs.Words.{Accepts, Answer, Asks, Bool, Err, ErrorValue, Give, Has, HasChildren, Input, Kind, List, Listening}
 use Rattle.wasi_walks.proofs.Words.{Machine, Network, None, Not, Ok, OpId, Option, Output, Pending, Pollable, ReadState, Ready, Records, Result, Some}
-use Rattle.wasi_walks.proofs.Words.{Step, StreamStop, Streams, Tcp2, Tcp2Socket, Trap, Unclosed, WasiSocketsCtx, Watched, WriteState, []}
+use Rattle.wasi_walks.proofs.Words.{Step, StreamStop, Streams, Tcp2, Tcp2Socket, Trap, WasiSocketsCtx, Watched, WriteState, []}
 use Rattle.wasi_walks.proofs.Words.{allows_weaker, ap, bind, drop_output_at, drop_taken, false, first_ids, give_streams_up, gone, handles_of}
 use Rattle.wasi_walks.proofs.Words.{has_no_child, if◌then◌else◌, is_connect, is_nothing, kind_at, own_of, place_in, reader_of, ready_end, ready_on}
 use Rattle.wasi_walks.proofs.Words.{refl, release_asks, release_at, side_of, slice_get, stream_at, subscribe_on, taken_out, true, turn_machine_asks}
@@ -37,10 +37,8 @@ module _ {contexts : List WasiSocketsCtx} {line : ℕ} {origin : Step} {law : La
   converted_walks : {T : Type 0} (m : Machine) (handle place : ℕ) (done : Result T StreamStop × Records) → MarksError handle origin → record_of (kind_at m.table handle) ≡ Some place
       → Walks law (Put line m place done) OverWith (converted (own_of line) handle place (with_store m done))
   unfolding bind
-  converted_walks m handle place (Ok value, store) marks e = gives _ (Leaves _)
   converted_walks m handle place (Err (stop.Failed c), store) marks e = and_then {mid = λ c. record { machine = c.1; at = Some (place, line); hand = None; made = Past; own = Used }} (and_then (mark (AnError handle place marks e)) (λ made. give _)) (λ c. gives _ (Leaves _))
-  converted_walks m handle place (Err stop.Closed, store) marks e = gives _ (Leaves _)
-  converted_walks m handle place (Err (stop.Trap why), store) marks e = gives _ (Leaves _)
+  converted_walks m handle place _ marks e = gives _ (Leaves _)
 
   stream_at_walks : {T : Type 0} (m : Machine) (place : ℕ) (may : Option Tcp2Socket → Own) (call : Tcp2Socket → Asks (Result T StreamStop × Tcp2Socket)) (o : Option Tcp2Socket) → slice_get m.store.sockets place ≡ o → may None ≡ Unused
       → ((r : Tcp2Socket) → let h = At line m place (may (Some r)) in HasRecord h place → Walks law (put h place r) (λ done. record (put h place done.1) { own = Used }) (call r)) → Walks law (At line m place (may o)) (Put line m place) (stream_at m.store place call o)
@@ -153,9 +151,7 @@ module _ {contexts : List WasiSocketsCtx} {line : ℕ} {origin : Step} {law : La
   module _ {h : Here} {place : ℕ} (here : HasRecord h place) (at : h.at ≡ Some (place, line)) (free : h.own ≡ Unused) (quiet : NoBind h) where
     ready_listening_walks : (r : Tcp2Socket) (l : Listening) → r.listening ≡ l → Walks law (put h place r) (λ done. record (put h place done.1) { own = Used }) (ready_listening (first_ids line) r l)
     ready_listening_walks r (Accepts l) e = and_then {mid = λ done. record (put h place (with_listening r (Accepts done.1))) { own = Used }} (listener_walks here at r l (ready_end l) l.accept e refl free (λ now. give _)) (λ done. give _)
-    ready_listening_walks r Not e = gives _ (Spends _ free)
-    ready_listening_walks r (Begins op) e = gives _ (Spends _ free)
-    ready_listening_walks r (Unclosed side) e = gives _ (Spends _ free)
+    ready_listening_walks r _ e = gives _ (Spends _ free)
 
     ready_idle_walks : (r : Tcp2Socket) (idle : Bool) → Walks law (put h place r) (λ done. record (put h place done.1) { own = Used }) (ready_idle (first_ids line) r idle)
     ready_idle_walks r true = ready_listening_walks r r.listening refl

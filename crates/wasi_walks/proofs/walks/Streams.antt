@@ -1,5 +1,5 @@
 -- The calls on the streams of a connection, as moves of the record that holds them.
-use Rattle.wasi_walks.proofs.Words.{Answer, Bool, Done, End, Err, ErrorCode, Give, Job, List, None, NotPermitted, Ok, OpId, Option, Pending}
+use Rattle.wasi_walks.proofs.Words.{Answer, Bool, Done, End, Err, ErrorCode, Give, Job, List, None, NotPermitted, Ok, OpId, Option}
 use Rattle.wasi_walks.proofs.Words.{ReadState, Ready, Refused, Result, ShutdownType, Some, Step, StreamStop, Streams, Tcp2Socket, TcpReceiveStream}
 use Rattle.wasi_walks.proofs.Words.{TcpSendStream, Waits, WasiSocketsCtx, WriteState, [], after_read, ap, ask_read, begun, bind, check_write_asks}
 use Rattle.wasi_walks.proofs.Words.{collected, false, if◌then◌else◌, length, look_asks, look_in, min, nat_lt, new_job, own_of, permitted}
@@ -31,10 +31,9 @@ module _ {contexts : List WasiSocketsCtx} {line : ℕ} {origin : Step} {law : La
   reader_shut_walks r s ReadState.Closed = give _
 
   after_read_walks : (r : Tcp2Socket) (s : Streams) (w : ReadState) (told : Result (Answer (List ℕ)) ErrorCode) → Walks law (put h place (with_reader r s w)) (Reading h place r s) (after_read (own_of n) w told)
-  after_read_walks r s w (Ok Pending) = give _
   after_read_walks r s w (Ok (Ready [])) = and_then (reader_shut_walks r s w) (λ done. give _)
-  after_read_walks r s w (Ok (Ready (b ∷ bytes))) = give _
   after_read_walks r s w (Err c) = and_then (reader_shut_walks r s w) (λ done. give _)
+  after_read_walks r s w _ = give _
 
   half_walks : (r : Tcp2Socket) (s : Streams) (half : TcpReceiveStream) (size : ℕ) (none : Bool) → let now : Tcp2Socket = with_reader r s (ReadState.Open half) in
       Walks law (put h place now) (λ told. put h place now) (if none then Give (Ok (Ready [])) else bind (ask_read (own_of n) half.side (min size 65536)) (λ told. Give (polled_answer told)))
@@ -50,23 +49,18 @@ module _ {contexts : List WasiSocketsCtx} {line : ℕ} {origin : Step} {law : La
   look_in_walks : (r : Tcp2Socket) (s : Streams) (w : WriteState) → Walks law (put h place (with_writer r s w)) (Writing h place r s) (look_in (own_of n) w)
   unfolding bind
   look_in_walks r s (WriteState.Ready half permit) = ask here (with_writer r s (WriteState.Ready half permit)) at (OfWriter _ refl refl) refl (λ told fits. give _)
-  look_in_walks r s (WriteState.Writing job) = give _
-  look_in_walks r s (WriteState.Closing job) = give _
-  look_in_walks r s (WriteState.Closed e) = give _
+  look_in_walks r s _ = give _
 
   pub look_walks : (r : Tcp2Socket) (s : Streams) (w : WriteState) → Walks law (put h place (with_writer r s w)) (Writing h place r s) (look_asks (own_of n) w)
   look_walks r s w = on here (with_writer r s w) (with_writer r s (collected w)) (Writes _ _ _ _ _ (found here (with_writer r s w)) refl (Collects w)) (look_in_walks r s (collected w))
 
   permit_walks : {A : Type 0} (r : Tcp2Socket) (s : Streams) (w : WriteState) (answer : A) → Walks law (put h place (with_writer r s w)) (Writing h place r s) (Give (answer, with_permit w))
   permit_walks r s (WriteState.Ready half permit) answer = on here (with_writer r s (WriteState.Ready half permit)) (with_writer r s (WriteState.Ready half 65536)) (Writes _ _ _ _ _ (found here (with_writer r s (WriteState.Ready half permit))) refl (Permits half permit)) (give _)
-  permit_walks r s (WriteState.Writing job) answer = give _
-  permit_walks r s (WriteState.Closing job) answer = give _
-  permit_walks r s (WriteState.Closed e) answer = give _
+  permit_walks r s _ answer = give _
 
   permitted_walks : (r : Tcp2Socket) (s : Streams) (looked : Result (Answer (Unit {0})) StreamStop × WriteState) → Walks law (put h place (with_writer r s looked.1)) (Writing h place r s) (Give (permitted looked))
   permitted_walks r s (Ok (Ready done), w) = permit_walks r s w (Ok 65536)
-  permitted_walks r s (Ok Pending, w) = give _
-  permitted_walks r s (Err why, w) = give _
+  permitted_walks r s _ = give _
 
   pub check_walks : (r : Tcp2Socket) (s : Streams) (w : WriteState) → Walks law (put h place (with_writer r s w)) (Writing h place r s) (check_write_asks (own_of n) w)
   check_walks r s w = and_then (look_walks r s w) (permitted_walks r s)
@@ -97,8 +91,7 @@ module _ {contexts : List WasiSocketsCtx} {line : ℕ} {origin : Step} {law : La
   writer_shut_walks r s (WriteState.Ready half permit) =
       let old = with_writer r s (WriteState.Ready half permit) in ask here old at (OfWriter _ refl refl) refl (λ told fits. on here old _ (Writes _ _ _ _ _ (found here old) refl (Closes _ _)) (give _))
   writer_shut_walks r s (WriteState.Writing job) = and_then (finish_in_job r s job job.end refl) (λ done. give _)
-  writer_shut_walks r s (WriteState.Closing job) = give _
-  writer_shut_walks r s (WriteState.Closed e) = give _
+  writer_shut_walks r s _ = give _
 
   pub shut_walks : (r : Tcp2Socket) (s : Streams) (how : ShutdownType) → Walks law (put h place (with_streams r s)) (λ done. put h place (with_streams r done.1)) (shut_streams (own_of n) how s)
   shut_walks r s Receive = and_then (reader_shut_walks r s s.reader) (λ done. give _)
@@ -137,6 +130,4 @@ module _ {contexts : List WasiSocketsCtx} {line : ℕ} {origin : Step} {law : La
   pub write_walks : (r : Tcp2Socket) (s : Streams) (w : WriteState) (bytes : List ℕ) → h.own ≡ may_begin w bytes → Walks law (put h place (with_writer r s w)) (Wrote h place r s) (write_state_asks (own_of line) w bytes)
   write_walks r s (WriteState.Ready half permit) [] free = gives _ (Spends _ free)
   write_walks r s (WriteState.Ready half permit) (b ∷ bytes) free = within_walks r s half permit b bytes (nat_lt permit (length (b ∷ bytes))) refl free
-  write_walks r s (WriteState.Writing job) bytes free = gives _ (Spends _ free)
-  write_walks r s (WriteState.Closing job) bytes free = gives _ (Spends _ free)
-  write_walks r s (WriteState.Closed e) bytes free = gives _ (Spends _ free)
+  write_walks r s _ bytes free = gives _ (Spends _ free)
