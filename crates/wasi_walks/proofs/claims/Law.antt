@@ -13,7 +13,7 @@ use Rattle.wasi_walks.proofs.licence.State.{name_in, accept_name}
 use Rattle.wasi_walks.proofs.fits.Polls.{Anything}
 use Rattle.wasi_walks.proofs.fits.Records.{FitListening}
 use Rattle.wasi_walks.proofs.Lists.{split_place, get_set, get_split, set_there}
-use Rattle.wasi_walks.proofs.claims.Polls.{Quietly, ArePlain, GivesOwn, own_poll}
+use Rattle.wasi_walks.proofs.claims.Polls.{AllAskBut, Quietly, ArePlain, GivesOwn, own_poll}
 use Rattle.wasi_walks.proofs.walks.Moves.{closed_record, Own, Used, Unused, ToWrite, Here, put, Found, joined, second_of, new_accept, accepting_now, listen_after, beginning_listen, made_so, Held, InHand, Connects, Listens, Awaits, Move, Spends, Changes, ClosesReader, Writes, IsGone, Reconnects, Opens, BeginsConnect, BeginsBind, BeginsWrite, BeginsListen, BeginsAccept, Unlistens, Forgets, Joins}
 use Rattle.wasi_walks.proofs.walks.Law.{Law, Walks}
 use Rattle.wasi_walks.proofs.fits.Law.{Fit, told_same, whatever, fits, moves_fit, polls_fit, put_fit, created}
@@ -122,12 +122,12 @@ ended_sides : (op : Operation) (end : End × List Item) (x : OpId) → side_in (
 ended_sides op (Refused c given, items) x e = absurd (cc)
 ended_sides op _ x e = e
 
-pub accept_plain : (items : List Item) → IsLeftOfAccept items → ArePlain items
-accept_plain _ accept.Unarrived = (tt, tt)
-accept_plain _ (accept.Arrived peer) = (tt, tt)
-accept_plain _ (accept.Admitted peer) = (tt, tt)
-accept_plain _ (accept.Unwanted peer) = (tt, tt)
-accept_plain _ accept.Ended = tt
+pub accept_plain : (L : Type 0) (items : List Item) → IsLeftOfAccept items → AllAskBut L items
+accept_plain L _ accept.Unarrived = (tt, tt)
+accept_plain L _ (accept.Arrived peer) = (tt, tt)
+accept_plain L _ (accept.Admitted peer) = (tt, tt)
+accept_plain L _ (accept.Unwanted peer) = (tt, tt)
+accept_plain L _ accept.Ended = tt
 
 given_name : (op : OpId) (given : Given) → GivesOwn op (Done given) → (x : OpId) → name_in (arrived given) ≡ Some x → Some op ≡ Some x
 given_name op (Connection new peer) k x e = ap (λ (o : OpId). Some o) (sym k) ∙ e
@@ -242,7 +242,7 @@ module _ (contexts : List WasiSocketsCtx) (line : ℕ) (origin : Step) where
   names_polled es h _ _ (Awaits place r l op g e a) n =
       let its : IsAcceptOn l.side l.maker op = subst (HoldsAccept l.side l.maker) a (subst FitListening e (n.0.records place r g).1) in
       allows_weaker Anything (λ fs ended. ArePlain ended.1 × GivesOwn op.who.id ended.0) (λ fs ended. Named line (put h place (accepting_now r l (accept_ended op.who ended)))) (λ fs ended k. awaited_names h place r l op ended g e a k.1 n.1) es (poll_asks op)
-      (any_quiet (λ ended. ArePlain ended.1 × GivesOwn op.who.id ended.0) es (poll_asks op) (own_poll op es (accept_plain op.left its.accept.left)))
+      (any_quiet (λ ended. ArePlain ended.1 × GivesOwn op.who.id ended.0) es (poll_asks op) (own_poll op es (accept_plain ⊤ op.left its.accept.left)))
 
   -- a socket that is created has the line's own name
   abbrev MadeNamed : Result Socket ErrorCode → Type 0

@@ -8,7 +8,7 @@ use Rattle.wasi_world.specs.Operation.{Connection}
 use Rattle.wasi_walks.proofs.Lists.{has_last, has_split}
 use Rattle.wasi_walks.proofs.licence.State.{LastAccept, IsHanded, AcceptLeft, Unarrived, ToCheck, AcceptingStands, name_in, WorksOn, AcceptingIsFine}
 use Rattle.wasi_walks.proofs.licence.AcceptFrames.{last_more, handed_unless, unmarked_unless}
-use Rattle.wasi_walks.proofs.licence.Frames.{works_more, maker_more}
+use Rattle.wasi_walks.proofs.licence.Frames.{stay, works_more, maker_more}
 
 -- what is left in the middle of a poll: asks, with nothing handed over, or nothing, once the arrival was
 pub data PollLeft (es : List Entry) (op side : OpId) : Given → List Item → Type 0 where
@@ -42,7 +42,7 @@ module _ (contexts : List WasiSocketsCtx) (steps : List Step) where
 
     module _ (last : who.last ≡ NothingLast) where
       works_on : (es : List Entry) (c : Call) (t : Told) → Works es → Works (es ++ entry who.id c t ∷ [])
-      works_on es c t w = works_more steps es _ who.id who.side who.context w
+      works_on es c t w = works_more (stay steps) es _ who.id who.side who.context w
 
       -- a code ends it, and nothing more is asked
       ends_last : (es : List Entry) (c : ErrorCode) (given : Given) → Allows (MayAs who.id) StandsAfter es (last_ask who who.last c given)

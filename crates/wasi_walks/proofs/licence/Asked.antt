@@ -10,7 +10,7 @@ use Rattle.wasi_walks.proofs.walks.Moves.{Unused, Here, put, Found, IsQuestionOf
 use Rattle.wasi_walks.proofs.Lists.{has_last, has_front}
 use Rattle.wasi_walks.proofs.licence.State.{ReadsOn, Names, WritesOn, RecordIsFine}
 use Rattle.wasi_walks.proofs.licence.AcceptFrames.{Touches, Spared, same_listening, unmarked_unless, handed_more}
-use Rattle.wasi_walks.proofs.licence.Frames.{NoMark, same_record, names_on, bind_more, record_kept, state_spared, maker_more, side_more, no_touch}
+use Rattle.wasi_walks.proofs.licence.Frames.{stay, NoMark, same_record, names_on, bind_more, record_kept, state_spared, maker_more, side_more, no_touch}
 use Rattle.wasi_walks.proofs.licence.Bounds.{learned_told, NoLocal}
 use Rattle.wasi_walks.proofs.licence.Line.{some_same, local_side, calm, ListenGoesOn, JoinedIsFine, Licensed, put_fine}
 use Rattle.wasi_walks.proofs.licence.Moves.{held_side, same_listen}
@@ -34,8 +34,8 @@ module _ (contexts : List WasiSocketsCtx) (steps : List Step) (line : ℕ) (orig
   pub asked_by : (es : List Entry) (h : Here) (op : OpId) (c : Call) (told : Told) → marked_by c ≡ 0 → Spared h.machine.store.sockets op c → (h.own ≡ Unused → Touches op c (second_of line) → ⊥) → Spares h c → Licensed steps line origin es h → Licensed steps line origin (es ++ entry op c told ∷ []) h
   asked_by es h op c told z sp u n i = record {
     fine = state_spared steps es (calm h.machine) op c told z sp i.fine;
-    names = λ k j r a g side m. names_on steps es _ (own_of j) side (i.names k j r a g side m);
-    hand = λ o e. bind_more steps es _ o (i.hand o e);
+    names = λ k j r a g side m. names_on (stay steps) es _ (own_of j) side (i.names k j r a g side m);
+    hand = λ o e. bind_more (stay steps) es _ o (i.hand o e);
     listens = listens_on es h op c told n i;
     new = λ o. (handed_more es op c told (second_of line) (i.new o).0 (u o), unmarked_unless es op c told (second_of line) (i.new o).1 z);
     unmade = λ e a s is. made_more es op (own_of line) c told z (i.unmade e a s is);

@@ -6,7 +6,7 @@ use Rattle.wasi_walks.proofs.Words.{told_verdict, verdict_front, ◌++◌, ◌�
 use Rattle.wasi_walks.proofs.Lists.{has_last}
 use Rattle.wasi_walks.proofs.licence.Bounds.{May}
 use Rattle.wasi_walks.proofs.licence.State.{BindLeft, Whole, Checked, Over, WorksOn, BindIsFine}
-use Rattle.wasi_walks.proofs.licence.Frames.{works_more}
+use Rattle.wasi_walks.proofs.licence.Frames.{stay, works_more}
 
 module _ (contexts : List WasiSocketsCtx) (steps : List Step) where
   -- == a poll
@@ -26,7 +26,7 @@ module _ (contexts : List WasiSocketsCtx) (steps : List Step) where
 
     module _ (addr : IpSocketAddress) (to : BeganBy steps who.id (IsBindTo addr)) (last : who.last ≡ NothingLast) where
       works_on : (es : List Entry) (c : Call) (t : Told) → Works es → Works (es ++ entry who.id c t ∷ [])
-      works_on es c t w = works_more steps es _ who.id who.side who.context w
+      works_on es c t w = works_more (stay steps) es _ who.id who.side who.context w
 
       stands : (es : List Entry) (items : List Item) → Works es → BindLeft es who.id who.context addr items → Stands es items
       stands es items w l = record { addr = addr; to = to; works = w; last = last; left = l }

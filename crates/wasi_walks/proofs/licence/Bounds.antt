@@ -3,11 +3,16 @@ use Rattle.wasi_walks.proofs.Words.{Bool, Call, Entry, Has, IsAddr, IsBoundSide,
 use Rattle.wasi_walks.proofs.Words.{after_local, ap, entry, false, if◌then◌else◌, is_wildcard, refl, side_in, subst, told_addr, true, ⊤, ◌≡◌}
 use Rattle.wasi_walks.proofs.licence.State.{SocketIsFine}
 use Rattle.wasi_walks.proofs.licence.Frames.{NoMark, KeepsSide, keeps_side}
+use Rattle.wasi_walks.proofs.claims.Polls.{IsPlainCall}
 
 -- any call but `local`
 abbrev pub NoLocal : Call → Type 0
 NoLocal (Call.Local side) = ⊥
 NoLocal _ = ⊤
+
+pub no_local : (c : Call) → IsPlainCall c → NoLocal c
+no_local (Call.Local side) h = h
+no_local _ h = tt
 
 module _ (contexts : List WasiSocketsCtx) (steps : List Step) where
   -- an ask that may come, and is no mark

@@ -8,7 +8,7 @@ use Rattle.wasi_walks.proofs.Words.{verdict_front, wildcard, with_state, ⊤, �
 use Rattle.wasi_walks.proofs.licence.Bounds.{May}
 use Rattle.wasi_walks.proofs.Lists.{has_last, has_front}
 use Rattle.wasi_walks.proofs.licence.State.{ConnectLeft, Unbound, Unchecked, Allowed, ToClose, Ended, WorksOn, ConnectIsFine, IsConnectedOn, KnowsMaker, SocketIsFine}
-use Rattle.wasi_walks.proofs.licence.Frames.{KeepsSide, works_more, out_more, maker_more}
+use Rattle.wasi_walks.proofs.licence.Frames.{stay, KeepsSide, works_more, out_more, maker_more}
 
 module _ (contexts : List WasiSocketsCtx) (steps : List Step) where
   -- == a poll
@@ -28,7 +28,7 @@ module _ (contexts : List WasiSocketsCtx) (steps : List Step) where
 
     module _ (addr : IpSocketAddress) (to : BeganBy steps who.id (IsConnectTo addr)) (last : who.last ≡ CloseLast) where
       works_on : (es : List Entry) (c : Call) (t : Told) → Works es → Works (es ++ entry who.id c t ∷ [])
-      works_on es c t w = works_more steps es _ who.id who.side who.context w
+      works_on es c t w = works_more (stay steps) es _ who.id who.side who.context w
 
       stands : (es : List Entry) (items : List Item) → Works es → ConnectLeft es who.id who.side who.context addr items → Stands es items
       stands es items w l = record { addr = addr; to = to; works = w; last = last; left = l }

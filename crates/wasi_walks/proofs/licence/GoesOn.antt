@@ -1,6 +1,6 @@
 -- What goes on is licensed: a bind, a connect, a listen, an accept, a write; and what is given up.
 use Rattle.wasi_walks.proofs.Words.{Accepting, Accepts, Allows, Asks, Begins, Bool, Call, End, Entry, Give, HoldsAccept, HoldsConnect}
-use Rattle.wasi_walks.proofs.Words.{IpSocketAddress, IsAcceptOn, IsConnect, IsLeftOfAccept, IsLeftOfBind, IsLeftOfConnect, IsLeftOfListen, IsMaker}
+use Rattle.wasi_walks.proofs.Words.{IpSocketAddress, IsAcceptOn, IsConnect, IsLeftOfBind, IsLeftOfConnect, IsLeftOfListen, IsMaker}
 use Rattle.wasi_walks.proofs.Words.{Item, List, Listener, Listening, MayAsk, None, Not, OpId, Operation, Option, Some, Step, Streams}
 use Rattle.wasi_walks.proofs.Words.{Tcp2Socket, TcpState, Unclosed, Waits, WasiSocketsCtx, Who, WriteState, accept_ended, allows_keep, allows_then}
 use Rattle.wasi_walks.proofs.Words.{allows_weaker, ap, arith, ask_close, connect_ended, false, give_up_asks, give_up_in, if◌then◌else◌, in_hand, inl}
@@ -13,14 +13,15 @@ use Rattle.wasi_walks.proofs.fits.Law.{Fit}
 use Rattle.wasi_walks.proofs.fits.Records.{FitListening}
 use Rattle.wasi_walks.proofs.licence.ListenAsks.{ListenEnds, fine_poll_listen}
 use Rattle.wasi_walks.proofs.licence.NewNames.{spared_as}
-use Rattle.wasi_walks.proofs.licence.Locals.{also, AllAsk, poll_says}
-use Rattle.wasi_walks.proofs.claims.Law.{Named, Base, same_begun, fresh, taken_fresh, Fresh}
+use Rattle.wasi_walks.proofs.licence.Locals.{also}
+use Rattle.wasi_walks.proofs.claims.Polls.{AllAskBut, IsPlainCall, poll_plainly}
+use Rattle.wasi_walks.proofs.claims.Law.{accept_plain, Named, Base, same_begun, fresh, taken_fresh, Fresh}
 use Rattle.wasi_walks.proofs.walks.Moves.{Held, InHand, Connects, Unused, Here, put, Found, Listens, Awaits, listen_after, accepting_now, second_of}
 use Rattle.wasi_walks.proofs.Lists.{get_set, set_there}
 use Rattle.wasi_walks.proofs.licence.State.{ConnectIsFine, accept_name, Names, BindIsFine, JobIsFine, WritesOn, StreamsAreFine, AcceptingIsFine, ListeningIsFine, RecordIsFine, AcceptStands, AcceptingStands, ListeningStands, name_in, AcceptLeft, AcceptIsFine}
 use Rattle.wasi_walks.proofs.licence.AcceptFrames.{Touches, same_listening, listening_gone}
 use Rattle.wasi_walks.proofs.licence.Frames.{same_record, record_kept, state_put, state_renewed, maker_more}
-use Rattle.wasi_walks.proofs.licence.Bounds.{May, MayQuietly, NoLocal}
+use Rattle.wasi_walks.proofs.licence.Bounds.{no_local, May, MayQuietly, NoLocal}
 use Rattle.wasi_walks.proofs.licence.Binds.{fine_poll}
 use Rattle.wasi_walks.proofs.licence.Connects.{fine_poll_connect, ended}
 use Rattle.wasi_walks.proofs.licence.WriteJobs.{fine_job}
@@ -29,7 +30,6 @@ use Rattle.wasi_walks.proofs.licence.Line.{put_with, same_op, some_same, no_list
 use Rattle.wasi_walks.proofs.licence.Moves.{streams_fine, held_side, same_listen, listener_fine}
 use Rattle.wasi_walks.proofs.licence.Asked.{Spares, spares, asked_by, asked_fine}
 use Rattle.wasi_tcp.specs.Listen as listen
-use Rattle.wasi_tcp.specs.Accept as accept
 use Rattle.wasi_tcp.specs.Connect as connecting
 use Rattle.wasi_walks.specs.Waiting as binding
 
@@ -39,39 +39,32 @@ module _ (contexts : List WasiSocketsCtx) (steps : List Step) (line : ℕ) (orig
   kept h Q es asks i a = allows_keep (MayQuietly contexts steps) (MayAsk contexts steps) (λ fs. Licensed steps line origin fs h) Q (λ fs op c t fits k m. asked_fine contexts steps line origin is_line fs h op c t m.0.1 (spares contexts steps line origin is_line h c m.1) k) (λ fs op c m. m.0.0) es asks i a
 
   -- a poll that asks for no local address
-  quietly : (Q : List Entry → End × List Item → Type 0) (es : List Entry) (op : Operation) → AllAsk NoLocal (λ c n. n) op.who op.left → Allows (May contexts steps) Q es (poll_asks op) → Allows (MayQuietly contexts steps) Q es (poll_asks op)
-  quietly Q es op k a = also (May contexts steps) (λ fs o c. NoLocal c) Q (λ fs ended. ⊤) es (poll_asks op) a (poll_says NoLocal (λ c n. n) op.who op.left es k)
+  quietly : (Q : List Entry → End × List Item → Type 0) (es : List Entry) (op : Operation) → AllAskBut ⊥ op.left → Allows (May contexts steps) Q es (poll_asks op) → Allows (MayQuietly contexts steps) Q es (poll_asks op)
+  quietly Q es op k a = also (May contexts steps) (λ fs o c. NoLocal c) Q _ es (poll_asks op) a (poll_plainly NoLocal no_local op.who op.left es k)
 
-  bind_quiet : (who : Who) (items : List Item) → IsLeftOfBind items → AllAsk NoLocal (λ c n. n) who items
-  bind_quiet who _ (binding.Unchecked a) = (tt, (tt, tt))
-  bind_quiet who _ (binding.Checked a) = (tt, tt)
-  bind_quiet who _ binding.Ended = tt
+  bind_quiet : (items : List Item) → IsLeftOfBind items → AllAskBut ⊥ items
+  bind_quiet _ (binding.Unchecked a) = (tt, (tt, tt))
+  bind_quiet _ (binding.Checked a) = (tt, tt)
+  bind_quiet _ binding.Ended = tt
 
-  connect_quiet : (who : Who) (items : List Item) → IsLeftOfConnect items → AllAsk NoLocal (λ c n. n) who items
-  connect_quiet who _ (connecting.Unbound w a) = (tt, (tt, (tt, tt)))
-  connect_quiet who _ (connecting.Unchecked a) = (tt, (tt, tt))
-  connect_quiet who _ (connecting.Checked a) = (tt, tt)
-  connect_quiet who _ (connecting.ToClose c) = (tt, tt)
-  connect_quiet who _ connecting.Ended = tt
-
-  accept_quiet : (who : Who) (items : List Item) → IsLeftOfAccept items → AllAsk NoLocal (λ c n. n) who items
-  accept_quiet who _ accept.Unarrived = (tt, tt)
-  accept_quiet who _ (accept.Arrived peer) = (tt, tt)
-  accept_quiet who _ (accept.Admitted peer) = (tt, tt)
-  accept_quiet who _ (accept.Unwanted peer) = (tt, tt)
-  accept_quiet who _ accept.Ended = tt
+  connect_quiet : (items : List Item) → IsLeftOfConnect items → AllAskBut ⊥ items
+  connect_quiet _ (connecting.Unbound w a) = (tt, (tt, (tt, tt)))
+  connect_quiet _ (connecting.Unchecked a) = (tt, (tt, tt))
+  connect_quiet _ (connecting.Checked a) = (tt, tt)
+  connect_quiet _ (connecting.ToClose c) = (tt, tt)
+  connect_quiet _ connecting.Ended = tt
 
   -- the local address of its own side alone
   abbrev Its : OpId → Call → Type 0
   Its side c = (x : OpId) → c ≡ Call.Local x → side ≡ x
 
-  its_quiet : (side : OpId) (c : Call) → NoLocal c → Its side c
-  its_quiet side c n x e = absurd (subst NoLocal e n)
+  its_quiet : (side : OpId) (c : Call) → IsPlainCall c → Its side c
+  its_quiet side c n x e = absurd (subst IsPlainCall e n)
 
   its_own : (side : OpId) → Its side (Call.Local side)
   its_own side x e = local_side side x e
 
-  listen_quiet : (who : Who) (items : List Item) → IsLeftOfListen items → AllAsk (Its who.side) (its_quiet who.side) who items
+  listen_quiet : (who : Who) (items : List Item) → IsLeftOfListen items → AllAskBut (Its who.side (Call.Local who.side)) items
   listen_quiet who _ (listen.BoundBefore b) = (its_own who.side, (tt, tt))
   listen_quiet who _ (listen.AddressTold a b) = (tt, (tt, tt))
   listen_quiet who _ (listen.Unbound w b) = (tt, (tt, (tt, (tt, tt))))
@@ -85,7 +78,7 @@ module _ (contexts : List WasiSocketsCtx) (steps : List Step) (line : ℕ) (orig
   polled_fine es h op e b i =
       allows_weaker (MayAsk contexts steps) (λ fs ended. Licensed steps line origin fs h × BindIsFine steps fs (left_of op ended.1)) (λ fs ended. Licensed steps line origin fs (record h { hand = Some (left_of op ended.1) }))
       (λ fs ended k. elsewhere fs h (record h { hand = Some (left_of op ended.1) }) refl refl refl k.0 k.0.fine k.0.names (λ o p. subst (BindIsFine steps fs) (same_op _ o p) k.1)) es (poll_asks op)
-      (kept h (λ fs ended. BindIsFine steps fs (left_of op ended.1)) es (poll_asks op) i (quietly (λ fs ended. BindIsFine steps fs (left_of op ended.1)) es op (bind_quiet op.who op.left (b.hand op e).left) (fine_poll contexts steps op es (i.hand op e))))
+      (kept h (λ fs ended. BindIsFine steps fs (left_of op ended.1)) es (poll_asks op) i (quietly (λ fs ended. BindIsFine steps fs (left_of op ended.1)) es op (bind_quiet op.left (b.hand op e).left) (fine_poll contexts steps op es (i.hand op e))))
 
   connected_on : (es : List Entry) (h : Here) (place : ℕ) (r : Tcp2Socket) (op : Operation) → Found h place r → r.inner.state ≡ TcpState.Connecting op → Fit h → Licensed steps line origin es h
       → Allows (MayAsk contexts steps) (λ fs ended. Licensed steps line origin fs (put h place (with_inner r (with_state r.inner (connect_ended op.who ended).1)))) es (poll_asks op)
@@ -94,7 +87,7 @@ module _ (contexts : List WasiSocketsCtx) (steps : List Step) (line : ℕ) (orig
       allows_weaker (MayAsk contexts steps) (λ fs ended. Licensed steps line origin fs h × ConnectIsFine steps fs (left_of op ended.1)) (λ fs ended. Licensed steps line origin fs (put h place (with_inner r (with_state r.inner (connect_ended op.who ended).1))))
       (λ fs end k. let x = k.0.fine.sockets place r g in let d = ended contexts steps fs r.inner op end e x.socket k.1 in let now = with_inner r (with_state r.inner (connect_ended op.who end).1) in
       put_fine fs h place r now g refl (same_listening r.listening) (same_listen contexts steps line origin is_line r now refl refl refl) (record_kept steps fs r now (record { keeps = d.keeps; side = refl; streams = refl; listening = refl }) d.fine x) k.0) es (poll_asks op)
-      (kept h (λ fs ended. ConnectIsFine steps fs (left_of op ended.1)) es (poll_asks op) i (quietly (λ fs ended. ConnectIsFine steps fs (left_of op ended.1)) es op (connect_quiet op.who op.left its.left) (fine_poll_connect contexts steps op es ((i.fine.sockets place r g).socket.connect op e))))
+      (kept h (λ fs ended. ConnectIsFine steps fs (left_of op ended.1)) es (poll_asks op) i (quietly (λ fs ended. ConnectIsFine steps fs (left_of op ended.1)) es op (connect_quiet op.left its.left) (fine_poll_connect contexts steps op es ((i.fine.sockets place r g).socket.connect op e))))
 
   -- == a listen and an accept are taken out of their record, polled, and put back
   pub taken_out : (es : List Entry) (h : Here) (place : ℕ) (r : Tcp2Socket) → Found h place r → Licensed steps line origin es h → Licensed steps line origin es (put h place (with_listening r Not))
@@ -122,7 +115,7 @@ module _ (contexts : List WasiSocketsCtx) (steps : List Step) (line : ℕ) (orig
       (allows_keep (λ fs o c. May contexts steps fs o c × Its op.who.side c) (MayAsk contexts steps) M Q
       (λ fs o c t fits k m. (asked_fine contexts steps line origin is_line fs out o c t m.0.1 (others c m.1 d.0) k.0, maker_more fs _ r.inner.maker r.inner.family op.who.side k.1)) (λ fs o c m. m.0.0) es (poll_asks op)
       (taken_out es h place r g i, l.made)
-      (also (May contexts steps) (λ fs o c. Its op.who.side c) Q (λ fs end. ⊤) es (poll_asks op) (fine_poll_listen contexts steps op es l.fine) (poll_says (Its op.who.side) (its_quiet op.who.side) op.who op.left es (listen_quiet op.who op.left its.left))))
+      (also (May contexts steps) (λ fs o c. Its op.who.side c) Q _ es (poll_asks op) (fine_poll_listen contexts steps op es l.fine) (poll_plainly (Its op.who.side) (its_quiet op.who.side) op.who op.left es (listen_quiet op.who op.left its.left))))
     where
       -- the other listens are on other sides
       others : (c : Call) → Its op.who.side c → r.side ≡ Some op.who.side → Spares contexts steps line origin is_line (put h place (with_listening r Not)) c
@@ -169,9 +162,9 @@ module _ (contexts : List WasiSocketsCtx) (steps : List Step) (line : ℕ) (orig
       (allows_keep (λ fs o c. MayAs contexts steps op.who.id fs o c × NoLocal c) (MayAsk contexts steps) M Q
       (λ fs o c t fits k m. (asked_by contexts steps line origin is_line fs out o c t m.0.2 (spared_as out.machine.store.sockets o op.who.id c m.0.1 m.0.2 (λ p q y z. free p q y (inr z))) (λ u t. by_second o c m.0.1 (touch_as o (second_of line) c m.0.2 t) u name) (spares contexts steps line origin is_line out c m.1) k.0, maker_more fs _ l.maker l.family l.side k.1)) (λ fs o c m. m.0.0) es (poll_asks op)
       (taken_out es h place r g i, lf.maker)
-      (also (MayAs contexts steps op.who.id) (λ fs o c. NoLocal c) Q (λ fs end. ⊤) es (poll_asks op)
+      (also (MayAs contexts steps op.who.id) (λ fs o c. NoLocal c) Q _ es (poll_asks op)
       (polled_accept contexts steps op.who f.last es op.left (record { family = l.family; made = subst (λ (y : OpId). IsMaker es op.who.context l.family y) (sym f.on) (subst (λ (m : ℕ). IsMaker es m l.family l.side) (sym f.asks) lf.maker); named = subst (Names steps es op.who.id) (sym f.on) f.named }) st.handed st.marked (subst (λ (y : OpId). AcceptLeft es op.who.id y op.left) (sym f.on) st.so_far))
-      (poll_says NoLocal (λ c n. n) op.who op.left es (accept_quiet op.who op.left its.accept.left))))
+      (poll_plainly NoLocal no_local op.who op.left es (accept_plain ⊥ op.left its.accept.left))))
     where
       by_second : (o : OpId) (c : Call) → o ≡ op.who.id → o ≡ second_of line → h.own ≡ Unused → accept_name r.listening ≡ Some op.who.id → ⊥
       by_second o c p q u name = fresh contexts line origin h u n op.who.id (ap (λ (y : OpId). y.step) (sym p ∙ q)) place r g (inr name)

@@ -1,23 +1,20 @@
 -- What holds of a line: the state fits the log, and so does what the line works on.
-use Rattle.wasi_walks.proofs.Words.{Begins, Call, Entry, HandedNone, Has, Input, IpSocketAddress, IsMaker, IsSide, Kind, List, Machine}
-use Rattle.wasi_walks.proofs.Words.{MarksNoSocket, None, Not, OpId, Operation, Option, Output, Pollable, SocketAddressFamily, Some, Standing}
-use Rattle.wasi_walks.proofs.Words.{StandingCall, Step, Tcp2, Tcp2Socket, Told, [], ap, entry, inl, inr, length, own_of, place_in, refl, side_in}
+use Rattle.wasi_walks.proofs.Words.{Begins, Call, Entry, HandedNone, Has, IpSocketAddress, IsMaker, IsSide, Kind, List, Machine}
+use Rattle.wasi_walks.proofs.Words.{MarksNoSocket, None, Not, OpId, Operation, Option, SocketAddressFamily, Some, Standing}
+use Rattle.wasi_walks.proofs.Words.{StandingCall, Step, Tcp2Socket, Told, [], ap, entry, inl, inr, length, own_of, refl, side_in}
 use Rattle.wasi_walks.proofs.Words.{slice_get, subst, sym, with_socket, ℕ, ⊤, ◌++◌, ◌∙◌, ◌∷◌, ◌≡◌, ◌⊎◌}
 use Rattle.wasi_walks.proofs.licence.ListenAsks.{ListenIsFine}
 use Rattle.wasi_walks.proofs.licence.NewNames.{NoMadeBy}
 use Rattle.wasi_walks.proofs.walks.Moves.{Used, Unused, Here, put, Found, record_of, Plain, Made, Unmade, Joined, Marked, second_of}
 use Rattle.wasi_walks.proofs.Lists.{get_set, get_seam}
-use Rattle.wasi_walks.proofs.licence.State.{NamesRecord, HandleIsFine, Names, BindIsFine, RecordIsFine, StateIsFine, IsHanded}
+use Rattle.wasi_walks.proofs.licence.State.{NamesIf, NamesRecord, HandleIsFine, Names, BindIsFine, RecordIsFine, StateIsFine, IsHanded}
 use Rattle.wasi_walks.proofs.licence.AcceptFrames.{KeepsListening}
 use Rattle.wasi_walks.proofs.licence.Frames.{KeepsRecord, same_record, state_put}
 use Rattle.wasi_world.specs.declared.call.HandleKind.TheVariants as name
 
 pub names_record : (es : List Entry) (sockets : List Tcp2Socket) (handle place : ℕ) (k : Option Kind) → record_of k ≡ Some place → ((kind : Kind) → k ≡ Some kind → HandleIsFine es sockets handle kind) → NamesRecord es sockets handle place
-names_record es sockets handle place (Some (Tcp2 n)) e h = let p : n ≡ place = cc in subst (NamesRecord es sockets handle) p (h (Tcp2 n) refl)
-names_record es sockets handle place (Some (Input n)) e h = let p : n ≡ place = cc in subst (NamesRecord es sockets handle) p (h (Input n) refl)
-names_record es sockets handle place (Some (Output n)) e h = let p : n ≡ place = cc in subst (NamesRecord es sockets handle) p (h (Output n) refl)
-names_record es sockets handle place (Some (Pollable w)) e h = let p : place_in w ≡ place = cc in subst (NamesRecord es sockets handle) p (h (Pollable w) refl)
-names_record es sockets handle place _ e h = absurd (cc)
+names_record es sockets handle place None e h = absurd (cc)
+names_record es sockets handle place (Some kind) e h = subst (NamesIf es sockets handle) e (h kind refl)
 
 pub same_op : (a b : Operation) → Some a ≡ Some b → a ≡ b
 same_op a b e = cc

@@ -7,24 +7,21 @@ use Rattle.wasi_walks.proofs.Words.{subst, sym, told_addr, told_done, told_verdi
 use Rattle.wasi_walks.proofs.Lists.{has_last, has_split}
 use Rattle.wasi_walks.proofs.licence.Bounds.{NoLocal, May}
 use Rattle.wasi_walks.proofs.licence.State.{WorksOn}
-use Rattle.wasi_walks.proofs.licence.Frames.{works_more, bound_more}
+use Rattle.wasi_walks.proofs.licence.Frames.{stay, works_more, bound_more}
 
 -- == the last local address
-no_local : (c d : Call) → c ≡ d → NoLocal c → NoLocal d
-no_local c d e n = subst NoLocal e n
-
--- what was told last stays the last
-pub local_more : (es : List Entry) (op : OpId) (c : Call) (t : Told) (side : OpId) (a : IpSocketAddress) → NoLocal c → IsLastLocal es side a → IsLastLocal (es ++ entry op c t ∷ []) side a
-local_more es op c t side a n h = record {
+-- what was told last stays the last, where the side isn't asked
+pub local_unless : (es : List Entry) (op : OpId) (c : Call) (t : Told) (side : OpId) (a : IpSocketAddress) → (c ≡ Call.Local side → ⊥) → IsLastLocal es side a → IsLastLocal (es ++ entry op c t ∷ []) side a
+local_unless es op c t side a n h = record {
   front = h.front;
   op = h.op;
   back = h.back ++ entry op c t ∷ [];
   cut = ap (λ (fs : List Entry). fs ++ entry op c t ∷ []) h.cut ∙ append_assoc h.front (entry h.op (Call.Local side) (Told.Addr a) ∷ h.back) (entry op c t ∷ []);
-  last = λ o u i. elim (has_split h.back (entry op c t) (entry o (Call.Local side) u) i) [
-    | inl j ↦ h.last o u j
-    | inr e ↦ no_local c (Call.Local side) (ap (λ (x : Entry). x.call) e) n
-  ];
+  last = λ o u i. elim (has_split h.back (entry op c t) (entry o (Call.Local side) u) i) [ inl j ↦ h.last o u j | inr e ↦ n (ap (λ (x : Entry). x.call) e) ];
 }
+
+pub local_more : (es : List Entry) (op : OpId) (c : Call) (t : Told) (side : OpId) (a : IpSocketAddress) → NoLocal c → IsLastLocal es side a → IsLastLocal (es ++ entry op c t ∷ []) side a
+local_more es op c t side a n h = local_unless es op c t side a (λ e. subst NoLocal e n) h
 
 pub local_told : (es : List Entry) (op side : OpId) (a : IpSocketAddress) → IsLastLocal (es ++ entry op (Call.Local side) (Told.Addr a) ∷ []) side a
 local_told es op side a = record { front = es; op = op; back = []; cut = refl; last = λ o u i. i }
@@ -74,7 +71,7 @@ module _ (contexts : List WasiSocketsCtx) (steps : List Step) where
       Works es = WorksOn steps es who.id who.side who.context × IsBoundSide es who.side
 
       works_on : (es : List Entry) (c : Call) (t : Told) → Works es → Works (es ++ entry who.id c t ∷ [])
-      works_on es c t w = (works_more steps es _ who.id who.side who.context w.0, bound_more es _ who.side w.1)
+      works_on es c t w = (works_more (stay steps) es _ who.id who.side who.context w.0, bound_more es _ who.side w.1)
 
       stands : (es : List Entry) (items : List Item) → Works es → ListenLeft es who.id who.side who.context items → Stands es items
       stands es items w l = record { to = to; works = w.0; bound = w.1; last = last; so_far = l }

@@ -8,7 +8,7 @@ use Rattle.wasi_walks.proofs.walks.Moves.{Used, Unused, Marks, ANetwork, AStream
 use Rattle.wasi_walks.proofs.Lists.{has_last, has_split, has_front}
 use Rattle.wasi_walks.proofs.licence.State.{accept_name, NamesRecord, HandleIsFine}
 use Rattle.wasi_walks.proofs.licence.AcceptFrames.{Touches, Spared, handed_unless}
-use Rattle.wasi_walks.proofs.licence.Frames.{same_record, names_on, bind_more, state_made}
+use Rattle.wasi_walks.proofs.licence.Frames.{stay, same_record, names_on, bind_more, state_made}
 use Rattle.wasi_walks.proofs.licence.Line.{names_record, calm, NotMarked, MadeSocket, Licensed, elsewhere}
 use Rattle.wasi_walks.proofs.licence.Asked.{listens_on, joined_on}
 use Rattle.wasi_world.specs.declared.call.HandleKind.TheVariants as name
@@ -45,8 +45,8 @@ module _ (contexts : List WasiSocketsCtx) (steps : List Step) (line : ℕ) (orig
             let e = entry (own_of line) c told in
             record {
               fine = state_made steps es (calm h.machine) (own_of line) (name_of kind) parent sock told kind sp (f told) i.fine;
-              names = λ k n r a g side d. names_on steps es _ (own_of n) side (i.names k n r a g side d);
-              hand = λ o d. bind_more steps es _ o (i.hand o d);
+              names = λ k n r a g side d. names_on (stay steps) es _ (own_of n) side (i.names k n r a g side d);
+              hand = λ o d. bind_more (stay steps) es _ o (i.hand o d);
               listens = listens_on contexts steps line origin is_line es h (own_of line) c told (λ k q op g d p. absurd (cc)) i;
               new = λ u. (handed_unless es (own_of line) c told (second_of line) (i.new u).0 (λ l p d. absurd (cc)), unmarked_made es (own_of line) h.machine.table.next (name_of kind) parent sock told (second_of line) (i.new u).1 (ms (second_of line) (inl (u, refl))));
               unmade = λ d a s is. absurd (un a s is d);
@@ -150,8 +150,8 @@ module _ (contexts : List WasiSocketsCtx) (steps : List Step) (line : ℕ) (orig
             record {
               fine = state_made steps es (calm h.machine) (own_of line) name.Tcp2 (Some s) sock told (Tcp2 place)
                   (λ p q x d m t. apart_there j.new p q x d m (subst (λ (y : Option OpId). Touches (own_of line) (Call.Made n name.Tcp2 (Some s) y) x) its t) (j.side r g)) (new_names es h n place name.Tcp2 (Some s) r told g) i.fine;
-              names = λ p m q a d side x. names_on steps es _ (own_of m) side (i.names p m q a d side x);
-              hand = λ op d. bind_more steps es _ op (i.hand op d);
+              names = λ p m q a d side x. names_on (stay steps) es _ (own_of m) side (i.names p m q a d side x);
+              hand = λ op d. bind_more (stay steps) es _ op (i.hand op d);
               listens = listens_on contexts steps line origin is_line es h (own_of line) k told (λ p q op d m x. absurd (cc)) i;
               new = λ u. absurd (not_used (past ∙ u));
               unmade = λ u. absurd (elim u [ inl p ↦ not_used (past ∙ p) | inr p ↦ p ]);

@@ -24,7 +24,7 @@ fine_more : (contexts : List WasiSocketsCtx) (steps more : List Step) (line : �
 fine_more contexts steps more line es m i = record {
   base = i.base;
   fine = state_more steps more es (calm m) i.fine;
-  listens = λ place r op g e. (let l = i.listens place r op g e in record { fine = listen_more contexts steps more es op l.fine; asks = l.asks; made = l.made });
+  listens = λ place r op g e. (let l = i.listens place r op g e in record { fine = listen_more steps more es op l.fine; asks = l.asks; made = l.made });
 }
 
 first_fine : Fine [] 1 [] first_state

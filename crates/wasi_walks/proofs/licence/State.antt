@@ -1,11 +1,12 @@
 -- What the log says of the machine's state: the invariant that makes its next call a licensed one.
 use Rattle.wasi_walks.proofs.Words.{Accept, Accepting, Accepts, Arrived, BeganBy, Bind, Call, Check, CheckArrival, CloseLast, Connect}
-use Rattle.wasi_walks.proofs.Words.{Connection, Entry, ErrorCode, HandedNone, Has, Input, IpSocketAddress, IsBindTo, IsBoundSide}
+use Rattle.wasi_walks.proofs.Words.{Connection, Entry, ErrorCode, HandedNone, Has, IpSocketAddress, IsBindTo, IsBoundSide}
 use Rattle.wasi_walks.proofs.Words.{IsConnectTo, IsMaker, IsMarkedWith, Item, Job, Kind, Last, List, Listener, Listening, Listens, Machine}
-use Rattle.wasi_walks.proofs.Words.{MarksNoSocket, MayGoOut, NamesSide, None, Nothing, NothingLast, OpId, Operation, Option, Output}
-use Rattle.wasi_walks.proofs.Words.{Pollable, ReadState, ShutdownLast, ShutdownSend, Socket, SocketAddressFamily, Some, Standing, StandingCall, Step}
-use Rattle.wasi_walks.proofs.Words.{Streams, Tcp2, Tcp2Socket, TcpBind, TcpConnect, TcpState, Told, Write, WriteState, Yes, [], entry}
-use Rattle.wasi_walks.proofs.Words.{kind_at, marks_in, own_of, place_in, side_of, slice_get, true, wildcard, ℕ, ⊤, ◌++◌, ◌+◌, ◌∷◌, ◌≡◌}
+use Rattle.wasi_walks.proofs.Words.{MarksNoSocket, MayGoOut, NamesSide, None, Nothing, NothingLast, OpId, Operation, Option}
+use Rattle.wasi_walks.proofs.Words.{ReadState, ShutdownLast, ShutdownSend, Socket, SocketAddressFamily, Some, Standing, StandingCall, Step}
+use Rattle.wasi_walks.proofs.Words.{Streams, Tcp2Socket, TcpBind, TcpConnect, TcpState, Told, Write, WriteState, Yes, [], entry}
+use Rattle.wasi_walks.proofs.Words.{kind_at, marks_in, own_of, side_of, slice_get, true, wildcard, ℕ, ⊤, ◌++◌, ◌+◌, ◌∷◌, ◌≡◌}
+use Rattle.wasi_walks.proofs.walks.Moves.{record_of}
 
 -- The handle stands for the record at this place, and its mark says the side that the record was made with.
 pub record NamesRecord (es : List Entry) (sockets : List Tcp2Socket) (handle place : ℕ) : Type 0 where
@@ -13,12 +14,12 @@ pub record NamesRecord (es : List Entry) (sockets : List Tcp2Socket) (handle pla
   pub at : slice_get sockets place ≡ Some found
   pub marked : IsMarkedWith es handle found.side
 
+abbrev pub NamesIf : List Entry → List Tcp2Socket → ℕ → Option ℕ → Type 0
+NamesIf es sockets handle (Some place) = NamesRecord es sockets handle place
+NamesIf es sockets handle None = ⊤
+
 abbrev pub HandleIsFine : List Entry → List Tcp2Socket → ℕ → Kind → Type 0
-HandleIsFine es sockets handle (Tcp2 place) = NamesRecord es sockets handle place
-HandleIsFine es sockets handle (Input place) = NamesRecord es sockets handle place
-HandleIsFine es sockets handle (Output place) = NamesRecord es sockets handle place
-HandleIsFine es sockets handle (Pollable w) = NamesRecord es sockets handle (place_in w)
-HandleIsFine es sockets handle _ = ⊤
+HandleIsFine es sockets handle kind = NamesIf es sockets handle (record_of (Some kind))
 
 -- The socket knows the maker of its side, and the side's family.
 pub record KnowsMaker (es : List Entry) (socket : Socket) : Type 0 where

@@ -5,7 +5,7 @@ use Rattle.wasi_walks.proofs.Words.{entry, front, inl, job_asks, job_in, last_as
 use Rattle.wasi_walks.proofs.Words.{then_closed, write_front, zero, ℕ, ◌++◌, ◌∷◌, ◌≡◌}
 use Rattle.wasi_walks.proofs.licence.Bounds.{MayQuietly}
 use Rattle.wasi_walks.proofs.licence.State.{WriteLeft, ToWrite, ToWriteAndShut, ToShut, ToRefuse, Written, Names, JobIsFine}
-use Rattle.wasi_walks.proofs.licence.Frames.{names_on}
+use Rattle.wasi_walks.proofs.licence.Frames.{stay, names_on}
 
 module _ (contexts : List WasiSocketsCtx) (steps : List Step) where
   -- == a poll
@@ -26,7 +26,7 @@ module _ (contexts : List WasiSocketsCtx) (steps : List Step) where
     -- one that ends with a code shuts its half down
     ends_last : (es : List Entry) (c : ErrorCode) (given : Given) → Names steps es who.id side → Allows (MayQuietly contexts steps) StandsAfter es (last_ask who who.last c given)
     unfolding bind
-    ends_last es c given n = rw last (((reaches es n, tt), tt), λ t fits. (names_on steps es _ who.id side n, Written))
+    ends_last es c given n = rw last (((reaches es n, tt), tt), λ t fits. (names_on (stay steps) es _ who.id side n, Written))
 
     -- the bytes, where these items follow
     module _ (items : List Item) (form : (rest : List ℕ) → WriteLeft (Write rest ∷ items)) (over : WriteLeft items) where
@@ -48,7 +48,7 @@ module _ (contexts : List WasiSocketsCtx) (steps : List Step) where
         ((reaches es n, tt), tt),
         λ t fits front.
             let fs = es ++ entry who.id (Call.Write who.side (length (b ∷ bytes))) t ∷ [] in
-            let more = names_on steps es _ who.id side n in
+            let more = names_on (stay steps) es _ who.id side n in
             fine_taken fs bytes (b ∷ bytes) _ more (λ skip. fine_bytes fs bytes skip more),
       )
 
@@ -57,7 +57,7 @@ module _ (contexts : List WasiSocketsCtx) (steps : List Step) where
     unfolding bind
     fine_front es _ _ n (ToWrite rest) = fine_bytes [] ToWrite Written es rest 0 n
     fine_front es _ _ n (ToWriteAndShut rest) = fine_bytes (ShutdownSend ∷ []) ToWriteAndShut ToShut es rest 0 n
-    fine_front es _ _ n ToShut = (((reaches es n, tt), tt), λ t fits. (names_on steps es _ who.id side n, Written))
+    fine_front es _ _ n ToShut = (((reaches es n, tt), tt), λ t fits. (names_on (stay steps) es _ who.id side n, Written))
     fine_front es _ _ n (ToRefuse c) = ends_last es c Nothing n
 
     fine_poll : (items : List Item) (es : List Entry) → Names steps es who.id side → WriteLeft items → Allows (MayQuietly contexts steps) StandsAfter es (poll_asks (record { who = who; left = items }))
