@@ -1,10 +1,10 @@
 -- What is left of an operation after a poll is left of the same: of a bind, of a connect, of a listen, of an accept.
-use Rattle.wasi_walks.proofs.Words.{AccessDenied, Asks, Bind, Call, Check, CheckLocal, Connect, End, Entry, Err, ErrorCode, Front}
-use Rattle.wasi_walks.proofs.Words.{FrontKeeps, Given, IpSocketAddress, IsAccept, IsConnect, IsLeftOfAccept, IsLeftOfBind, IsLeftOfConnect}
-use Rattle.wasi_walks.proofs.Words.{IsLeftOfListen, IsRestOfBind, Item, LastAsk, List, Listen, Nothing, NothingLast, Ok, OpId, Operation, Polled}
-use Rattle.wasi_walks.proofs.Words.{Result, SocketAddrUse, Verdict, Waits, Who, [], accept_front, admitted_front, allows_polls}
-use Rattle.wasi_walks.proofs.Words.{arrival_front, bind, done_front, front, last_ask, local_front, poll_asks, polled_front, refl, told_addr}
-use Rattle.wasi_walks.proofs.Words.{told_arrival, told_done, told_polled, told_verdict, true, verdict_front, ℕ, ⊤, ◌∷◌, ◌≡◌}
+use Rattle.wasi_walks.proofs.Words.{AccessDenied, Asks, Bind, Call, Check, CheckLocal, Connect, End, Entry, Err, ErrorCode, Front, FrontKeeps, Given}
+use Rattle.wasi_walks.proofs.Words.{IpSocketAddress, IsAccept, IsConnect, IsLeftOfAccept, IsLeftOfBind, IsLeftOfConnect, IsLeftOfListen, IsRestOfBind}
+use Rattle.wasi_walks.proofs.Words.{Item, LastAsk, List, Listen, Nothing, NothingLast, Ok, OpId, Operation, Polled, Result, SocketAddrUse, Verdict}
+use Rattle.wasi_walks.proofs.Words.{Waits, Who, [], accept_front, admitted_front, allows_polls, arrival_front, bind, done_front, front, last_ask}
+use Rattle.wasi_walks.proofs.Words.{local_front, poll_asks, polled_front, refl, told_addr, told_arrival, told_done, told_polled, told_verdict, true}
+use Rattle.wasi_walks.proofs.Words.{verdict_front, ℕ, ⊤, ◌∷◌, ◌≡◌}
 use Rattle.wasi_world.specs.Operation.{Connection}
 use Rattle.wasi_tcp.specs.Listen.{IsListen}
 use Rattle.wasi_tcp.specs.Rounds.{some_left, is_going}

@@ -1,7 +1,7 @@
 -- Accepts that stand, under one more entry, and under changes of the records.
 use Rattle.wasi_walks.proofs.Words.{Accepting, Accepts, Arrived, Call, Entry, Hand, HandedNone, IpSocketAddress, Item, List, Listening, Made}
-use Rattle.wasi_walks.proofs.Words.{MarksNoSocket, None, Not, OpId, Some, Tcp2Socket, Told, [], ap, append_assoc, arith, entry, inl, inr}
-use Rattle.wasi_walks.proofs.Words.{marked_by, refl, slice_get, slice_set, subst, sym, ℕ, ◌++◌, ◌∙◌, ◌∷◌, ◌≡◌, ◌⊎◌}
+use Rattle.wasi_walks.proofs.Words.{MarksNoSocket, None, Not, OpId, Some, Tcp2Socket, Told, [], ap, append_assoc, arith, entry, inl, inr, marked_by}
+use Rattle.wasi_walks.proofs.Words.{refl, slice_get, slice_set, subst, sym, ℕ, ◌++◌, ◌∙◌, ◌∷◌, ◌≡◌, ◌⊎◌}
 use Rattle.wasi_world.specs.declared.call.Call.TheVariants.{Accept}
 use Rattle.wasi_world.specs.declared.call.HandleKind.TheVariants.{Tcp2}
 use Rattle.wasi_walks.proofs.Lists.{has_split, get_split, get_set}

@@ -3,8 +3,8 @@ use Rattle.wasi_walks.proofs.Words.{Begins, Call, Done, End, Entry, IsAddr, List
 use Rattle.wasi_walks.proofs.Words.{Tcp2Socket, TcpState, Told, Waits, WasiSocketsCtx, WriteState, [], after_local, ap, closing_side, entry, inl}
 use Rattle.wasi_walks.proofs.Words.{marked_by, own_of, refl, side_in, side_of, slice_get, step_at, subst, sym, told_addr, with_inner, writer_side}
 use Rattle.wasi_walks.proofs.Words.{writing_side, ℕ, ◌++◌, ◌∙◌, ◌∷◌, ◌≡◌}
-use Rattle.wasi_walks.proofs.licence.NewNames.{made_more}
-use Rattle.wasi_walks.proofs.licence.Locals.{listen_unless}
+use Rattle.wasi_walks.proofs.licence.Fresh.{made_more}
+use Rattle.wasi_walks.proofs.licence.ListenAsks.{listen_unless}
 use Rattle.wasi_walks.proofs.claims.Law.{Named, no_some}
 use Rattle.wasi_walks.proofs.walks.Moves.{Unused, Here, put, Found, IsQuestionOf, IsOn, OfSocket, OfReader, OfWriter, second_of}
 use Rattle.wasi_walks.proofs.Lists.{has_last, has_front}

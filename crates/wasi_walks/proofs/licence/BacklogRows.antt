@@ -1,38 +1,29 @@
 -- The definitions on logs where a backlog is set: that of a run, which is licensed, and others, which are not.
-use Rattle.wasi_walks.proofs.Words.{Accepting, Accepts, Call, Entry, Give, InProgress, IsBacklogSet, IsLicensed, Left, List, Machine, None}
-use Rattle.wasi_walks.proofs.Words.{OpId, Reply, SocketAddrUse, SocketAddressFamily, Some, Step, TcpSetting, TcpState, Told, [], ap, bind, entry}
-use Rattle.wasi_walks.proofs.Words.{first_state, no_fields, number_fields, own_of, polls, refl, run, true, ⊤, ◌++◌, ◌∷◌, ◌≡◌}
+use Rattle.wasi_walks.proofs.Words.{Call, Entry, Give, InProgress, IsBacklogSet, IsLicensed, Left, List, Machine, None, OpId}
+use Rattle.wasi_walks.proofs.Words.{Reply, SocketAddressFamily, Some, Step, TcpSetting, Told, [], ap, bind, entry}
+use Rattle.wasi_walks.proofs.Words.{first_state, no_fields, number_fields, own_of, polls, refl, run, ⊤, ◌++◌, ◌∷◌, ◌≡◌}
 use Rattle.wasi_walks.proofs.licence.Runs.{whole_licensed}
-use Rattle.wasi_walks.proofs.licence.Rows.{allowed, local_80}
+use Rattle.wasi_walks.proofs.licence.Rows.{bind_log, bind_script, two_handles, allowed, local_80}
 use Rattle.wasi_walks.proofs.licence.Refused.{of_each, at_line}
-use Rattle.wasi_walks.proofs.licence.ListenRows.{binds}
+use Rattle.wasi_walks.proofs.licence.ListenRows.{listening_record, listens_by}
 use Rattle.wasi_addr.specs.declared.code.ErrorCode.TheVariants as code
 use Rattle.wasi_world.specs.declared.call.HandleKind.TheVariants as kind
 use Rattle.wasi_world.specs.declared.call.Opt.TheVariants as opt
-use Rattle.wasi_host.specs.declared.kind.Kind.TheVariants as slot
 
 -- == a backlog is set before the listen, which takes it, and again after it; and an option is set and told
 abbrev script : List Step
-script = Step.Network 0
-    ∷ Step.TcpCreate 0 SocketAddressFamily.Ipv4
-    ∷ Step.TcpStartBind 0 2 1 local_80
-    ∷ Step.TcpFinishBind 0 2
-    ∷ Step.TcpSet 0 2 (TcpSetting.ListenBacklogSize 7)
+script = bind_script
+    ++ (Step.TcpSet 0 2 (TcpSetting.ListenBacklogSize 7)
     ∷ Step.TcpStartListen 0 2
     ∷ Step.TcpFinishListen 0 2
     ∷ Step.TcpSet 0 2 (TcpSetting.ListenBacklogSize 9)
     ∷ Step.TcpSet 0 2 (TcpSetting.HopLimit 3)
     ∷ Step.TcpGet 0 2 opt.HopLimit
-    ∷ []
+    ∷ [])
 
 -- until the listen was told this
 abbrev listens : Told → List Entry
-listens t = binds
-    ++ (entry (own_of 6) (Call.Local (own_of 2)) (Told.Addr local_80)
-    ∷ entry (own_of 6) (Call.Local (own_of 2)) (Told.Addr local_80)
-    ∷ entry (own_of 6) (Call.Check 0 local_80 SocketAddrUse.TcpListen) Told.Yes
-    ∷ entry (own_of 6) (Call.Listen (own_of 2) 7) t
-    ∷ [])
+listens t = bind_log ++ listens_by (own_of 6) 7 t
 
 -- by this operation a backlog is set
 abbrev set_by : OpId → Entry
@@ -46,20 +37,7 @@ sets = listens Told.Done
     ∷ [])
 
 abbrev listening : Machine
-listening = record {
-  table = record { next = 3; live = record { handle = 1; value = slot.Network; parent = None } ∷ record { handle = 2; value = slot.Tcp2 0; parent = None } ∷ [] };
-  store = record {
-    sockets = record {
-      inner = record { state = TcpState.Listening (own_of 2); family = SocketAddressFamily.Ipv4; backlog = 9; bound = true; maker = 0 };
-      side = Some (own_of 2);
-      in_progress = InProgress.Nothing;
-      listening = Accepts (record { side = own_of 2; maker = 0; family = SocketAddressFamily.Ipv4; accept = Accepting.Idle });
-      streams = None;
-    } ∷ [];
-    jobs = [];
-    standing = None;
-  };
-}
+listening = record { table = two_handles; store = record { sockets = listening_record 9 InProgress.Nothing ∷ []; jobs = []; standing = None } }
 
 abbrev done : Reply
 done = Reply.Ok no_fields
@@ -105,24 +83,11 @@ by_another_set h =
 
 -- == another socket listens
 abbrev two_sockets : List Step
-two_sockets = Step.Network 0
-    ∷ Step.TcpCreate 0 SocketAddressFamily.Ipv4
-    ∷ Step.TcpStartBind 0 2 1 local_80
-    ∷ Step.TcpFinishBind 0 2
-    ∷ Step.TcpCreate 0 SocketAddressFamily.Ipv4
-    ∷ Step.TcpStartListen 0 2
-    ∷ Step.TcpSet 0 3 (TcpSetting.ListenBacklogSize 9)
-    ∷ []
+two_sockets = bind_script ++ (Step.TcpCreate 0 SocketAddressFamily.Ipv4 ∷ Step.TcpStartListen 0 2 ∷ Step.TcpSet 0 3 (TcpSetting.ListenBacklogSize 9) ∷ [])
 
 abbrev one_listens : List Entry
-one_listens = binds
-    ++ (entry (own_of 5) (Call.TcpCreate 0 SocketAddressFamily.Ipv4) Told.Done
-    ∷ entry (own_of 5) (Call.Made 3 kind.Tcp2 None (Some (own_of 5))) Told.Done
-    ∷ entry (own_of 6) (Call.Local (own_of 2)) (Told.Addr local_80)
-    ∷ entry (own_of 6) (Call.Local (own_of 2)) (Told.Addr local_80)
-    ∷ entry (own_of 6) (Call.Check 0 local_80 SocketAddrUse.TcpListen) Told.Yes
-    ∷ entry (own_of 6) (Call.Listen (own_of 2) 128) Told.Done
-    ∷ [])
+one_listens = bind_log
+    ++ (entry (own_of 5) (Call.TcpCreate 0 SocketAddressFamily.Ipv4) Told.Done ∷ entry (own_of 5) (Call.Made 3 kind.Tcp2 None (Some (own_of 5))) Told.Done ∷ listens_by (own_of 6) 128 Told.Done)
 
 abbrev other : Entry
 other = entry (own_of 7) (Call.SetBacklog (own_of 5) 9) Told.Done

@@ -1,12 +1,10 @@
 -- The invariant under one more entry, and under changes of the state.
-use Rattle.wasi_walks.proofs.Words.{BeganBy, step_at}
-use Rattle.wasi_walks.proofs.Words.{Accepting, Accepts, Call, Connection, Created, Entry, Hand, Handed, HandleKind}
-use Rattle.wasi_walks.proofs.Words.{HasWildcardYes, IpSocketAddress, IsBoundSide, IsMaker, IsMarkedWith, IsSide, Item, Job, Kind, List}
-use Rattle.wasi_walks.proofs.Words.{Listening, Listens, Machine, Made, MayGoOut, NamesSide, None, OpId, Operation, Option}
-use Rattle.wasi_walks.proofs.Words.{Socket, SocketAddrUse, SocketAddressFamily, Some, Standing, StandingCall, Step, Streams}
-use Rattle.wasi_walks.proofs.Words.{Tcp2Socket, Told, WriteState, [], ap, arith, entry, inl, inr, marked_by, new_record, own_of}
-use Rattle.wasi_walks.proofs.Words.{refl, side_of, slice_get, slice_set, subst, sym, table_parent, with_handle, with_record, with_socket}
-use Rattle.wasi_walks.proofs.Words.{without_handle, ℕ, ⊤, ◌++◌, ◌∙◌, ◌∷◌, ◌≡◌}
+use Rattle.wasi_walks.proofs.Words.{Accepting, Accepts, BeganBy, Call, Connection, Created, Entry, Hand, Handed, HandleKind, HasWildcardYes}
+use Rattle.wasi_walks.proofs.Words.{IpSocketAddress, IsBoundSide, IsMaker, IsMarkedWith, IsSide, Item, Job, Kind, List, Listening, Listens, Machine}
+use Rattle.wasi_walks.proofs.Words.{Made, MayGoOut, NamesSide, None, OpId, Operation, Option, Socket, SocketAddrUse, SocketAddressFamily, Some}
+use Rattle.wasi_walks.proofs.Words.{Standing, StandingCall, Step, Streams, Tcp2Socket, Told, WriteState, [], ap, arith, entry, inl, inr, marked_by}
+use Rattle.wasi_walks.proofs.Words.{new_record, own_of, refl, side_of, slice_get, slice_set, step_at, subst, sym, table_parent, with_handle}
+use Rattle.wasi_walks.proofs.Words.{with_record, with_socket, without_handle, ℕ, ⊤, ◌++◌, ◌∙◌, ◌∷◌, ◌≡◌}
 use Rattle.wasi_world.specs.declared.call.Call.TheVariants.{Accept}
 use Rattle.wasi_streams.proofs.Tables.{value_without}
 use Rattle.wasi_tcp.specs.declared.socket.TcpState.TheVariants.{Connected}

@@ -1,12 +1,37 @@
--- In a licensed log, and in a state that fits it, nothing has the names of the line that comes next.
-use Rattle.wasi_walks.proofs.Words.{Accepting, Accepts, BeganBy, Call, Created, Entry, Handed, HandleKind, Has, IpSocketAddress, IsLicensed}
-use Rattle.wasi_walks.proofs.Words.{IsMaker, IsMarkOf, List, Listening, Machine, MayAsk, OpId, Option, Reply, SocketAddressFamily, Some, Step}
-use Rattle.wasi_walks.proofs.Words.{Told, WasiSocketsCtx, [], arith, entry, inl, inr, length, slice_get, step_at, subst, suc, sym, zero, ℕ}
-use Rattle.wasi_walks.proofs.Words.{◌+◌, ◌<◌, ◌∷◌, ◌≡◌, ◌≤◌}
-use Rattle.wasi_walks.proofs.Lists.{Cut, cut_of, has_front}
+-- What it is that nothing has the names of a line, and that it is so of the line that comes next, in a licensed log and a state
+-- that fits it.
+use Rattle.wasi_walks.proofs.Words.{Accepting, Accepts, BeganBy, Call, Created, Entry, Handed, HandedNone, HandleKind, Has, IpSocketAddress}
+use Rattle.wasi_walks.proofs.Words.{IsLicensed, IsMaker, IsMarkOf, List, Listening, Machine, MarksNoSocket, MayAsk, OpId, Option, Reply}
+use Rattle.wasi_walks.proofs.Words.{SocketAddressFamily, Some, Step, Tcp2Socket, Told, WasiSocketsCtx, [], ap, arith, entry, inl, inr, length}
+use Rattle.wasi_walks.proofs.Words.{marked_by, slice_get, step_at, subst, suc, sym, zero, ℕ, ◌++◌, ◌+◌, ◌<◌, ◌∙◌, ◌∷◌, ◌≡◌, ◌≤◌}
+use Rattle.wasi_walks.proofs.Lists.{Cut, cut_of, has_front, has_split}
 use Rattle.wasi_walks.proofs.licence.State.{name_in, accept_name, AcceptingIsFine, ListeningIsFine, StateIsFine}
-use Rattle.wasi_walks.proofs.licence.NewNames.{IsNew}
+use Rattle.wasi_walks.proofs.licence.AcceptFrames.{Spared, Free}
 use Rattle.wasi_world.specs.declared.call.HandleKind.TheVariants as name
+
+-- no mark is by this operation
+abbrev pub NoMadeBy : List Entry → OpId → Type 0
+NoMadeBy es op = (handle : ℕ) (kind : HandleKind) (above : Option ℕ) (side : Option OpId) (told : Told) → Has es (entry op (Call.Made handle kind above side) told) → ⊥
+
+-- Nothing was asked by the names of this line: they handed nothing over, marked nothing, and stand in no mark and in no record.
+pub record IsNew (es : List Entry) (sockets : List Tcp2Socket) (line : ℕ) : Type 0 where
+  pub handed : (x : OpId) → x.step ≡ line → HandedNone es x
+  pub marked : (x : OpId) → x.step ≡ line → MarksNoSocket es x
+  pub made : (x : OpId) → x.step ≡ line → NoMadeBy es x
+  pub free : (x : OpId) → x.step ≡ line → Free sockets x
+
+-- what is asked by a name that no record has touches no accept
+pub spared_as : (sockets : List Tcp2Socket) (op x : OpId) (c : Call) → op ≡ x → marked_by c ≡ 0 → Free sockets x → Spared sockets op c
+spared_as sockets op x (Call.Made handle kind parent sock) e z f place r y g n t = absurd (omega arith)
+spared_as sockets op x (Call.Accept s) e z f place r y g n t = f place r g (subst (λ (k : OpId). accept_name r.listening ≡ Some k) (sym t ∙ e) n)
+spared_as sockets op x (Call.Hand s p) e z f place r y g n t = f place r g (subst (λ (k : OpId). accept_name r.listening ≡ Some k) (sym t ∙ e) n)
+spared_as sockets op x _ e z f place r y g n t = t
+
+pub made_more : (es : List Entry) (op own : OpId) (c : Call) (t : Told) → marked_by c ≡ 0 → NoMadeBy es own → NoMadeBy (es ++ entry op c t ∷ []) own
+made_more es op own c t z h handle kind above side told i = elim (has_split es (entry op c t) (entry own (Call.Made handle kind above side) told) i) [
+  | inl j ↦ h handle kind above side told j
+  | inr e ↦ (let p = ap (λ (x : Entry). marked_by x.call) e in absurd (omega arith))
+]
 
 -- a place of a list is below its length
 get_below : {A : Type 0} (xs : List A) (n : ℕ) (x : A) → slice_get xs n ≡ Some x → n < length xs

@@ -1,19 +1,17 @@
 -- What goes on is licensed: a bind, a connect, a listen, an accept, a write; and what is given up.
 use Rattle.wasi_walks.proofs.Words.{Accepting, Accepts, Allows, Asks, Begins, Bool, Call, End, Entry, Give, HoldsAccept, HoldsConnect}
-use Rattle.wasi_walks.proofs.Words.{IpSocketAddress, IsAcceptOn, IsConnect, IsLeftOfBind, IsLeftOfConnect, IsLeftOfListen, IsMaker}
-use Rattle.wasi_walks.proofs.Words.{Item, List, Listener, Listening, MayAsk, None, Not, OpId, Operation, Option, Some, Step, Streams}
-use Rattle.wasi_walks.proofs.Words.{Tcp2Socket, TcpState, Unclosed, Waits, WasiSocketsCtx, Who, WriteState, accept_ended, allows_keep, allows_then}
-use Rattle.wasi_walks.proofs.Words.{allows_weaker, ap, arith, ask_close, connect_ended, false, give_up_asks, give_up_in, if◌then◌else◌, in_hand, inl}
-use Rattle.wasi_walks.proofs.Words.{inr, is_over, job_asks, left_of, marked_by, poll_asks, refl, refuse_in, side_of, slice_get, slice_set, step_at}
-use Rattle.wasi_walks.proofs.Words.{subst, sym, true, turn_asks, with_inner, with_listening, with_state, with_writer, ℕ, ⊤, ◌∙◌, ◌≡◌}
+use Rattle.wasi_walks.proofs.Words.{IpSocketAddress, IsAcceptOn, IsConnect, IsLeftOfBind, IsLeftOfConnect, IsLeftOfListen, IsMaker, Item, List}
+use Rattle.wasi_walks.proofs.Words.{Listener, Listening, MayAsk, None, Not, OpId, Operation, Option, Some, Step, Streams, Tcp2Socket, TcpState}
+use Rattle.wasi_walks.proofs.Words.{Unclosed, Waits, WasiSocketsCtx, Who, WriteState, accept_ended, allows_keep, allows_then, allows_weaker, ap}
+use Rattle.wasi_walks.proofs.Words.{arith, ask_close, connect_ended, false, give_up_asks, give_up_in, if◌then◌else◌, in_hand, inl, inr, is_over}
+use Rattle.wasi_walks.proofs.Words.{job_asks, left_of, marked_by, poll_asks, refl, refuse_in, side_of, slice_get, slice_set, step_at, subst, sym}
+use Rattle.wasi_walks.proofs.Words.{true, turn_asks, with_inner, with_listening, with_state, with_writer, ℕ, ⊤, ◌∙◌, ◌≡◌}
 use Rattle.wasi_tcp.specs.Listen.{IsListen}
 use Rattle.wasi_walks.proofs.licence.AcceptAsks.{MayAs, StandsAfter, polled as polled_accept}
-use Rattle.wasi_walks.proofs.licence.Listening.{ended as listen_ended_fine}
+use Rattle.wasi_walks.proofs.licence.ListenAsks.{ended as listen_ended_fine, ListenEnds, fine_poll_listen, also}
 use Rattle.wasi_walks.proofs.fits.Law.{Fit}
 use Rattle.wasi_walks.proofs.fits.Records.{FitListening}
-use Rattle.wasi_walks.proofs.licence.ListenAsks.{ListenEnds, fine_poll_listen}
-use Rattle.wasi_walks.proofs.licence.NewNames.{spared_as}
-use Rattle.wasi_walks.proofs.licence.Locals.{also}
+use Rattle.wasi_walks.proofs.licence.Fresh.{spared_as}
 use Rattle.wasi_walks.proofs.claims.Polls.{AllAskBut, IsPlainCall, poll_plainly}
 use Rattle.wasi_walks.proofs.claims.Law.{accept_plain, Named, Base, same_begun, fresh, taken_fresh, Fresh}
 use Rattle.wasi_walks.proofs.walks.Moves.{Held, InHand, Connects, Unused, Here, put, Found, Listens, Awaits, listen_after, accepting_now, second_of}

@@ -1,10 +1,10 @@
 -- What holds of a line: the state fits the log, and so does what the line works on.
-use Rattle.wasi_walks.proofs.Words.{Begins, Call, Entry, HandedNone, Has, IpSocketAddress, IsMaker, IsSide, Kind, List, Machine}
-use Rattle.wasi_walks.proofs.Words.{MarksNoSocket, None, Not, OpId, Operation, Option, SocketAddressFamily, Some, Standing}
-use Rattle.wasi_walks.proofs.Words.{StandingCall, Step, Tcp2Socket, Told, [], ap, entry, inl, inr, length, own_of, refl, side_in}
-use Rattle.wasi_walks.proofs.Words.{slice_get, subst, sym, with_socket, ℕ, ⊤, ◌++◌, ◌∙◌, ◌∷◌, ◌≡◌, ◌⊎◌}
+use Rattle.wasi_walks.proofs.Words.{Begins, Call, Entry, HandedNone, Has, IpSocketAddress, IsMaker, IsSide, Kind, List, Machine, MarksNoSocket, None}
+use Rattle.wasi_walks.proofs.Words.{Not, OpId, Operation, Option, SocketAddressFamily, Some, Standing, StandingCall, Step, Tcp2Socket, Told, [], ap}
+use Rattle.wasi_walks.proofs.Words.{entry, inl, inr, length, own_of, refl, side_in, slice_get, subst, sym, with_socket, ℕ, ⊤, ◌++◌, ◌∙◌, ◌∷◌, ◌≡◌}
+use Rattle.wasi_walks.proofs.Words.{◌⊎◌}
 use Rattle.wasi_walks.proofs.licence.ListenAsks.{ListenIsFine}
-use Rattle.wasi_walks.proofs.licence.NewNames.{NoMadeBy}
+use Rattle.wasi_walks.proofs.licence.Fresh.{NoMadeBy}
 use Rattle.wasi_walks.proofs.walks.Moves.{Used, Unused, Here, put, Found, record_of, Plain, Made, Unmade, Joined, Marked, second_of}
 use Rattle.wasi_walks.proofs.Lists.{get_set, get_seam}
 use Rattle.wasi_walks.proofs.licence.State.{NamesIf, NamesRecord, HandleIsFine, Names, BindIsFine, RecordIsFine, StateIsFine, IsHanded}

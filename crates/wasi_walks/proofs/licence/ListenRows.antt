@@ -1,12 +1,12 @@
 -- The definitions on logs of a listener: that of a run, which is licensed, and others, which are not.
 use Rattle.wasi_walks.proofs.Words.{Accepting, Accepts, Call, Created, Entry, Give, Has, InProgress, IpSocketAddress, IsBoundSide, IsLicensed}
 use Rattle.wasi_walks.proofs.Words.{IsMarkOf, Left, List, Machine, MayListen, None, OpId, Reply, SocketAddrUse, SocketAddressFamily, Some, Step}
-use Rattle.wasi_walks.proofs.Words.{TcpState, Told, [], accepted_record, accepted_socket, accepted_state, ap, arith, bind, entry, first_state, inl}
-use Rattle.wasi_walks.proofs.Words.{inr, no_fields, number_fields, own_of, polls, port_of, refl, run, subst, sym, triple_fields, true, wildcard, ℕ, ⊤}
-use Rattle.wasi_walks.proofs.Words.{◌++◌, ◌∷◌, ◌≡◌, ◌⊎◌}
+use Rattle.wasi_walks.proofs.Words.{Tcp2Socket, TcpState, Told, [], accepted_record, accepted_socket, accepted_state, ap, arith, bind, entry}
+use Rattle.wasi_walks.proofs.Words.{first_state, inl, inr, no_fields, number_fields, own_of, polls, port_of, refl, run, subst, sym, triple_fields}
+use Rattle.wasi_walks.proofs.Words.{true, ℕ, ⊤, ◌++◌, ◌∷◌, ◌≡◌, ◌⊎◌}
 use Rattle.wasi_walks.proofs.Lists.{has_back, has_last}
 use Rattle.wasi_walks.proofs.licence.Runs.{whole_licensed}
-use Rattle.wasi_walks.proofs.licence.Rows.{allowed, local_80}
+use Rattle.wasi_walks.proofs.licence.Rows.{bind_log, bind_script, allowed, local_80}
 use Rattle.wasi_walks.proofs.licence.Refused.{local_81, of_each, at_line}
 use Rattle.wasi_world.specs.declared.call.HandleKind.TheVariants as kind
 use Rattle.wasi_host.specs.declared.kind.Kind.TheVariants as slot
@@ -20,24 +20,18 @@ sixth = record { step = 6; part = 1 }
 
 -- == a socket is bound, listens and accepts
 abbrev script : List Step
-script = Step.Network 0 ∷ Step.TcpCreate 0 SocketAddressFamily.Ipv4 ∷ Step.TcpStartBind 0 2 1 local_80 ∷ Step.TcpFinishBind 0 2 ∷ Step.TcpStartListen 0 2 ∷ Step.TcpAccept 0 2 ∷ []
+script = bind_script ++ (Step.TcpStartListen 0 2 ∷ Step.TcpAccept 0 2 ∷ [])
 
-abbrev pub binds : List Entry
-binds = entry (own_of 1) (Call.Made 1 kind.Network None None) Told.Done
-    ∷ entry (own_of 2) (Call.TcpCreate 0 SocketAddressFamily.Ipv4) Told.Done
-    ∷ entry (own_of 2) (Call.Made 2 kind.Tcp2 None (Some (own_of 2))) Told.Done
-    ∷ entry (own_of 3) (Call.Local (own_of 2)) (Told.Addr (wildcard SocketAddressFamily.Ipv4))
-    ∷ entry (own_of 3) (Call.Check 0 local_80 SocketAddrUse.TcpBind) Told.Yes
-    ∷ entry (own_of 3) (Call.Bind (own_of 2) local_80) Told.Done
+-- by this operation it listens
+abbrev pub listens_by : OpId → ℕ → Told → List Entry
+listens_by op backlog t = entry op (Call.Local (own_of 2)) (Told.Addr local_80)
+    ∷ entry op (Call.Local (own_of 2)) (Told.Addr local_80)
+    ∷ entry op (Call.Check 0 local_80 SocketAddrUse.TcpListen) Told.Yes
+    ∷ entry op (Call.Listen (own_of 2) backlog) t
     ∷ []
 
 abbrev listens : List Entry
-listens = binds
-    ++ (entry (own_of 5) (Call.Local (own_of 2)) (Told.Addr local_80)
-    ∷ entry (own_of 5) (Call.Local (own_of 2)) (Told.Addr local_80)
-    ∷ entry (own_of 5) (Call.Check 0 local_80 SocketAddrUse.TcpListen) Told.Yes
-    ∷ entry (own_of 5) (Call.Listen (own_of 2) 128) Told.Done
-    ∷ [])
+listens = bind_log ++ listens_by (own_of 5) 128 Told.Done
 
 -- the first arrival is refused
 abbrev accepts : List Entry
@@ -53,6 +47,15 @@ accepts = listens
     ∷ entry (own_of 6) (Call.Made 5 kind.Output (Some 3) (Some sixth)) Told.Done
     ∷ [])
 
+abbrev pub listening_record : ℕ → InProgress → Tcp2Socket
+listening_record backlog doing = record {
+  inner = record { state = TcpState.Listening (own_of 2); family = SocketAddressFamily.Ipv4; backlog = backlog; bound = true; maker = 0 };
+  side = Some (own_of 2);
+  in_progress = doing;
+  listening = Accepts (record { side = own_of 2; maker = 0; family = SocketAddressFamily.Ipv4; accept = Accepting.Idle });
+  streams = None;
+}
+
 -- the listener, and the connection with its streams
 abbrev accepted : Machine
 accepted = record {
@@ -66,13 +69,7 @@ accepted = record {
         ∷ [];
   };
   store = record {
-    sockets = record {
-      inner = record { state = TcpState.Listening (own_of 2); family = SocketAddressFamily.Ipv4; backlog = 128; bound = true; maker = 0 };
-      side = Some (own_of 2);
-      in_progress = InProgress.Listen;
-      listening = Accepts (record { side = own_of 2; maker = 0; family = SocketAddressFamily.Ipv4; accept = Accepting.Idle });
-      streams = None;
-    }
+    sockets = listening_record 128 InProgress.Listen
         ∷ (accepted_record (accepted_socket SocketAddressFamily.Ipv4 0 (accepted_state sixth (peer 8)))).1
         ∷ [];
     jobs = [];
@@ -160,7 +157,7 @@ abbrev moved : Entry
 moved = entry (own_of 5) (Call.Local (own_of 2)) (Told.Addr local_81)
 
 abbrev checked_80 : List Entry
-checked_80 = binds ++ (entry (own_of 5) (Call.Local (own_of 2)) (Told.Addr local_80) ∷ entry (own_of 5) (Call.Check 0 local_80 SocketAddrUse.TcpListen) Told.Yes ∷ [])
+checked_80 = bind_log ++ (entry (own_of 5) (Call.Local (own_of 2)) (Told.Addr local_80) ∷ entry (own_of 5) (Call.Check 0 local_80 SocketAddrUse.TcpListen) Told.Yes ∷ [])
 
 abbrev moves : List Entry
 moves = checked_80 ++ moved ∷ []

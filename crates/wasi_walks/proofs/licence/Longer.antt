@@ -1,6 +1,8 @@
--- What holds for the steps so far holds for a script that goes on from them.
-use Rattle.wasi_walks.proofs.Words.{Call, Entry, List, Machine, MayAsk, NamesSide, OpId, Operation, ReachesSide, Some, Step, WasiSocketsCtx, []}
-use Rattle.wasi_walks.proofs.Words.{append-nil, inl, inr, step_at, subst, suc, zero, ℕ, ◌++◌, ◌≡◌}
+-- Of a licensed log: it is one where each entry may come after those before it; its beginnings are licensed, and so it is with fewer
+-- replies, and by a longer script.
+use Rattle.wasi_walks.proofs.Words.{Call, Entry, IsLicensed, List, Machine, MayAsk, NamesSide, OpId, Operation, ReachesSide, Reply, Some, Step}
+use Rattle.wasi_walks.proofs.Words.{WasiSocketsCtx, [], ap, append-nil, append_assoc, arith, inl, inr, length, length-append, step_at, subst, suc}
+use Rattle.wasi_walks.proofs.Words.{zero, ℕ, ⊤, ◌++◌, ◌∙◌, ◌∷◌, ◌≡◌, ◌≤◌}
 use Rattle.wasi_walks.proofs.Lists.{get_front}
 use Rattle.wasi_walks.proofs.licence.State.{WorksOn, RecordIsFine, CallIsFine, StateIsFine}
 use Rattle.wasi_walks.proofs.licence.ListenAsks.{ListenIsFine}
@@ -54,4 +56,53 @@ module _ (steps more : List Step) where
     bound = h.bound;
     last = h.last;
     so_far = h.so_far;
+  }
+
+module _ (contexts : List WasiSocketsCtx) (steps : List Step) where
+  -- each of the later entries may come after those before it
+  abbrev pub EachMayCome : List Entry → List Entry → Type 0
+  EachMayCome before [] = ⊤
+  EachMayCome before (e ∷ es) = MayAsk contexts steps before e.op e.call × EachMayCome (before ++ e ∷ []) es
+
+  may_at : (before front : List Entry) (e : Entry) (back : List Entry) → EachMayCome before (front ++ e ∷ back) → MayAsk contexts steps (before ++ front) e.op e.call
+  may_at before [] e back h = rw append-nil h.0
+  may_at before (x ∷ front) e back h = rw append_assoc at (may_at (before ++ x ∷ []) front e back h.1)
+
+  -- with no reply given yet, and with replies to as many lines as there are
+  pub licensed : (log : List Entry) → EachMayCome [] log → IsLicensed contexts steps log []
+  licensed log h = record { each = λ before e after cut. may_at [] before e after (subst (EachMayCome []) cut h); replied = omega arith }
+
+  pub with_replies : (log : List Entry) (replies : List Reply) → length replies ≤ length steps → IsLicensed contexts steps log [] → IsLicensed contexts steps log replies
+  with_replies log replies few h = record { each = h.each; replied = few }
+
+  -- one more that may come
+  come_more : (before es : List Entry) (e : Entry) → EachMayCome before es → MayAsk contexts steps (before ++ es) e.op e.call → EachMayCome before (es ++ e ∷ [])
+  come_more before [] e h m = (rw append-nil at m, tt)
+  come_more before (x ∷ es) e h m = (h.0, come_more (before ++ x ∷ []) es e h.1 (rw append_assoc m))
+
+  pub may_come : (es : List Entry) (e : Entry) → EachMayCome [] es → MayAsk contexts steps es e.op e.call → EachMayCome [] (es ++ e ∷ [])
+  may_come es e h m = come_more [] es e h m
+
+-- by a script that goes on
+pub come_longer : (contexts : List WasiSocketsCtx) (steps more : List Step) (before es : List Entry) → EachMayCome contexts steps before es → EachMayCome contexts (steps ++ more) before es
+come_longer contexts steps more before [] h = tt
+come_longer contexts steps more before (e ∷ es) h = (may_more steps more contexts before e.op e.call h.0, come_longer contexts steps more (before ++ e ∷ []) es h.1)
+
+module _ (contexts : List WasiSocketsCtx) (steps : List Step) where
+  -- the beginning of a licensed log, before a reply is given
+  pub prefix_is_licensed : (front back : List Entry) (replies : List Reply) → IsLicensed contexts steps (front ++ back) replies → IsLicensed contexts steps front []
+  prefix_is_licensed front back replies h = record {
+    each = λ before e after cut. h.each before e (after ++ back) (ap (λ (es : List Entry). es ++ back) cut ∙ append_assoc before (e ∷ after) back);
+    replied = omega arith;
+  }
+
+  -- with the first of the replies
+  pub fewer_replies : (log : List Entry) (replies more : List Reply) → IsLicensed contexts steps log (replies ++ more) → IsLicensed contexts steps log replies
+  fewer_replies log replies more h = record { each = h.each; replied = let few = h.replied in omega (arith, length-append replies more, few) }
+
+  -- by a script that goes on
+  pub longer_script : (more : List Step) (log : List Entry) (replies : List Reply) → IsLicensed contexts steps log replies → IsLicensed contexts (steps ++ more) log replies
+  longer_script more log replies h = record {
+    each = λ before e after cut. may_more steps more contexts before e.op e.call (h.each before e after cut);
+    replied = let few = h.replied in omega (arith, length-append steps more, few);
   }

@@ -3,7 +3,7 @@ use Rattle.wasi_walks.proofs.Words.{Call, Created, Entry, Handed, Has, IpSocketA
 use Rattle.wasi_walks.proofs.Words.{IsTcpCreate, List, NamesSide, None, OpId, ReachesSide, SocketAddrUse, SocketAddressFamily, Some, Step, Told}
 use Rattle.wasi_walks.proofs.Words.{WasiSocketsCtx, [], ap, arith, entry, false, inl, inr, own_of, port_of, refl, subst, true, wildcard, ℕ, ⊤, ◌++◌}
 use Rattle.wasi_walks.proofs.Words.{◌∷◌, ◌≡◌}
-use Rattle.wasi_walks.proofs.licence.Rows.{allowed, two_contexts, forbidden, local_80, bind_script}
+use Rattle.wasi_walks.proofs.licence.Rows.{begins, creates, allowed, two_contexts, forbidden, local_80, bind_script}
 use Rattle.wasi_addr.specs.declared.code.ErrorCode.TheVariants as code
 use Rattle.wasi_world.specs.declared.call.HandleKind.TheVariants as kind
 
@@ -51,13 +51,11 @@ abbrev Asks81 : Call → Type 0
 Asks81 (Call.Check ctx addr usage) = port_of addr ≡ 81
 Asks81 _ = ⊤
 
--- a network, and a socket that isn't bound
-abbrev begins : List Entry
-begins = entry (own_of 1) (Call.Made 1 kind.Network None None) Told.Done
-    ∷ entry (own_of 2) (Call.TcpCreate 0 SocketAddressFamily.Ipv4) Told.Done
-    ∷ entry (own_of 2) (Call.Made 2 kind.Tcp2 None (Some (own_of 2))) Told.Done
-    ∷ entry (own_of 3) (Call.Local (own_of 2)) (Told.Addr (wildcard SocketAddressFamily.Ipv4))
-    ∷ []
+abbrev before_create : List Entry
+before_create = entry (own_of 1) (Call.Made 1 kind.Network None None) Told.Done ∷ []
+
+abbrev create : Entry
+create = entry (own_of 2) (Call.TcpCreate 0 SocketAddressFamily.Ipv4) Told.Done
 
 abbrev bind_80 : Entry
 bind_80 = entry (own_of 3) (Call.Bind (own_of 2) local_80) Told.Done
@@ -107,7 +105,7 @@ other_context h =
 
 -- == a handle's number is used again
 abbrev created : List Entry
-created = entry (own_of 1) (Call.Made 1 kind.Network None None) Told.Done ∷ entry (own_of 2) (Call.TcpCreate 0 SocketAddressFamily.Ipv4) Told.Done ∷ []
+created = before_create ++ create ∷ []
 
 abbrev same_number : Entry
 same_number = entry (own_of 2) (Call.Made 1 kind.Tcp2 None (Some (own_of 2))) Told.Done
@@ -141,12 +139,6 @@ other_check h =
     omega arith
 
 -- == the context may not use TCP
-abbrev before_create : List Entry
-before_create = entry (own_of 1) (Call.Made 1 kind.Network None None) Told.Done ∷ []
-
-abbrev create : Entry
-create = entry (own_of 2) (Call.TcpCreate 0 SocketAddressFamily.Ipv4) Told.Done
-
 no_tcp : (ctx : WasiSocketsCtx) → Some (record { name = 0; ip_name_lookup = true; udp = true; tcp = false }) ≡ Some ctx → ctx.tcp ≡ true → ⊥
 no_tcp ctx e t = let p : record { name = 0; ip_name_lookup = true; udp = true; tcp = false } ≡ ctx = cc in let q = ap (λ (c : WasiSocketsCtx). c.tcp) p in cc
 
@@ -161,14 +153,12 @@ abbrev two_sockets : List Step
 two_sockets = Step.Network 0 ∷ Step.TcpCreate 0 SocketAddressFamily.Ipv4 ∷ Step.TcpCreate 0 SocketAddressFamily.Ipv4 ∷ Step.TcpStartBind 0 2 1 local_80 ∷ []
 
 abbrev checked_first : List Entry
-checked_first = entry (own_of 1) (Call.Made 1 kind.Network None None) Told.Done
-    ∷ entry (own_of 2) (Call.TcpCreate 0 SocketAddressFamily.Ipv4) Told.Done
-    ∷ entry (own_of 2) (Call.Made 2 kind.Tcp2 None (Some (own_of 2))) Told.Done
-    ∷ entry (own_of 3) (Call.TcpCreate 0 SocketAddressFamily.Ipv4) Told.Done
+checked_first = creates 0 SocketAddressFamily.Ipv4
+    ++ (entry (own_of 3) (Call.TcpCreate 0 SocketAddressFamily.Ipv4) Told.Done
     ∷ entry (own_of 3) (Call.Made 3 kind.Tcp2 None (Some (own_of 3))) Told.Done
     ∷ entry (own_of 4) (Call.Local (own_of 2)) (Told.Addr (wildcard SocketAddressFamily.Ipv4))
     ∷ entry (own_of 4) (Call.Check 0 local_80 SocketAddrUse.TcpBind) Told.Yes
-    ∷ []
+    ∷ [])
 
 abbrev bind_second : Entry
 bind_second = entry (own_of 4) (Call.Bind (own_of 3) local_80) Told.Done
@@ -197,19 +187,16 @@ unnamed_side : IsLicensed allowed two_sockets (checked_first ++ bind_second ∷ 
 unnamed_side h = let may = h.each checked_first bind_second [] refl in not_reached may.0
 
 -- == a mark of a socket that wasn't created
-abbrev uncreated : List Entry
-uncreated = entry (own_of 1) (Call.Made 1 kind.Network None None) Told.Done ∷ []
-
 -- no create
 abbrev NoCreate : Call → Type 0
 NoCreate (Call.TcpCreate ctx f) = ⊥
 NoCreate _ = ⊤
 
-not_created : IsLicensed allowed bind_script (uncreated ++ entry (own_of 2) (Call.Made 2 kind.Tcp2 None (Some (own_of 2))) Told.Done ∷ []) [] → ⊥
+not_created : IsLicensed allowed bind_script (before_create ++ entry (own_of 2) (Call.Made 2 kind.Tcp2 None (Some (own_of 2))) Told.Done ∷ []) [] → ⊥
 not_created h =
-    let may = h.each uncreated (entry (own_of 2) (Call.Made 2 kind.Tcp2 None (Some (own_of 2))) Told.Done) [] refl in
-    let m = at_line (IsMarkOf uncreated (own_of 2) kind.Tcp2 None (Some (own_of 2))) (Step.TcpCreate 0 SocketAddressFamily.Ipv4) may.1.origin may.1.at may.1.holds in
-    of_each (λ e. NoCreate e.call) uncreated _ (tt, tt) m.3.2
+    let may = h.each before_create (entry (own_of 2) (Call.Made 2 kind.Tcp2 None (Some (own_of 2))) Told.Done) [] refl in
+    let m = at_line (IsMarkOf before_create (own_of 2) kind.Tcp2 None (Some (own_of 2))) (Step.TcpCreate 0 SocketAddressFamily.Ipv4) may.1.origin may.1.at may.1.holds in
+    of_each (λ e. NoCreate e.call) before_create _ (tt, tt) m.3.2
 
 -- == a call that no step makes
 unmade : IsLicensed allowed bind_script (begins ++ entry (own_of 3) (Call.UdpBind (own_of 2) local_80) Told.Done ∷ []) [] → ⊥

@@ -1,10 +1,10 @@
 -- The definitions on logs of the machine's own runs, which are licensed.
-use Rattle.wasi_walks.proofs.Words.{BeganBy, Call, Created, Entry, Give, Has, IpSocketAddress, IsLicensed, Left, List, Machine, NamesSide, None}
-use Rattle.wasi_walks.proofs.Words.{Option, Reply, SocketAddrUse, SocketAddressFamily, Some, Standing, Step, Told, WasiSocketsCtx, [], bind}
+use Rattle.wasi_walks.proofs.Words.{BeganBy, Call, Created, Entry, Give, Handles, Has, IpSocketAddress, IsLicensed, Left, List, Machine, NamesSide}
+use Rattle.wasi_walks.proofs.Words.{None, Option, Reply, SocketAddrUse, SocketAddressFamily, Some, Standing, Step, Told, WasiSocketsCtx, [], bind}
 use Rattle.wasi_walks.proofs.Words.{bind_operation, entry, false, first_state, inl, inr, new_record, new_socket, no_fields, number_fields, own_of}
-use Rattle.wasi_walks.proofs.Words.{polls, refl, run, standing_bind, true, wildcard, ℕ, ◌∷◌}
+use Rattle.wasi_walks.proofs.Words.{polls, refl, run, standing_bind, true, wildcard, ℕ, ◌++◌, ◌∷◌}
 use Rattle.wasi_tcp.specs.declared.bind.BindStage.TheVariants.{Check}
-use Rattle.wasi_walks.proofs.licence.Licensed.{licensed}
+use Rattle.wasi_walks.proofs.licence.Longer.{licensed}
 use Rattle.wasi_walks.proofs.licence.Runs.{whole_licensed}
 use Rattle.wasi_world.specs.declared.call.HandleKind.TheVariants as kind
 use Rattle.wasi_steps.specs.declared.reply.CodeWord.TheVariants as word
@@ -27,10 +27,14 @@ forbidden = record { name = 0; ip_name_lookup = true; udp = true; tcp = false } 
 abbrev pub local_80 : IpSocketAddress
 local_80 = IpSocketAddress.Ipv4 (record { port = 80; address = (127, 0, 0, 1) })
 
--- the machine with a network and a socket by this context, and a bind that may stand
+-- the table with a network and a socket
+abbrev pub two_handles : Handles
+two_handles = record { next = 3; live = record { handle = 1; value = slot.Network; parent = None } ∷ record { handle = 2; value = slot.Tcp2 0; parent = None } ∷ [] }
+
+-- the machine with these, the socket by this context, and a bind that may stand
 abbrev with_socket : ℕ → SocketAddressFamily → Option Standing → Machine
 with_socket ctx f standing = record {
-  table = record { next = 3; live = record { handle = 1; value = slot.Network; parent = None } ∷ record { handle = 2; value = slot.Tcp2 0; parent = None } ∷ [] };
+  table = two_handles;
   store = record { sockets = new_record (new_socket (own_of 2) ctx f) ∷ []; jobs = []; standing = standing };
 }
 
@@ -38,14 +42,19 @@ with_socket ctx f standing = record {
 abbrev pub bind_script : List Step
 bind_script = Step.Network 0 ∷ Step.TcpCreate 0 SocketAddressFamily.Ipv4 ∷ Step.TcpStartBind 0 2 1 local_80 ∷ Step.TcpFinishBind 0 2 ∷ []
 
-abbrev bind_log : List Entry
-bind_log = entry (own_of 1) (Call.Made 1 kind.Network None None) Told.Done
-    ∷ entry (own_of 2) (Call.TcpCreate 0 SocketAddressFamily.Ipv4) Told.Done
+-- a network, and a socket that the second line makes by this context
+abbrev pub creates : ℕ → SocketAddressFamily → List Entry
+creates ctx f = entry (own_of 1) (Call.Made 1 kind.Network None None) Told.Done
+    ∷ entry (own_of 2) (Call.TcpCreate ctx f) Told.Done
     ∷ entry (own_of 2) (Call.Made 2 kind.Tcp2 None (Some (own_of 2))) Told.Done
-    ∷ entry (own_of 3) (Call.Local (own_of 2)) (Told.Addr (wildcard SocketAddressFamily.Ipv4))
-    ∷ entry (own_of 3) (Call.Check 0 local_80 SocketAddrUse.TcpBind) Told.Yes
-    ∷ entry (own_of 3) (Call.Bind (own_of 2) local_80) Told.Done
     ∷ []
+
+-- and that isn't bound
+abbrev pub begins : List Entry
+begins = creates 0 SocketAddressFamily.Ipv4 ++ entry (own_of 3) (Call.Local (own_of 2)) (Told.Addr (wildcard SocketAddressFamily.Ipv4)) ∷ []
+
+abbrev pub bind_log : List Entry
+bind_log = begins ++ (entry (own_of 3) (Call.Check 0 local_80 SocketAddrUse.TcpBind) Told.Yes ∷ entry (own_of 3) (Call.Bind (own_of 2) local_80) Told.Done ∷ [])
 
 -- the machine makes these calls, and ends so
 bind_run : Left (run allowed [] first_state 1 bind_script) bind_log (Give (Reply.Ok (number_fields 1) ∷ Reply.Ok (number_fields 2) ∷ Reply.Ok no_fields ∷ Reply.Ok no_fields ∷ [], with_socket 0 SocketAddressFamily.Ipv4 None))
@@ -94,12 +103,8 @@ abbrev stands_script : List Step
 stands_script = Step.Network 0 ∷ Step.TcpCreate 1 SocketAddressFamily.Ipv6 ∷ Step.TcpStartBind 0 2 1 local_six ∷ Step.Network 0 ∷ Step.TcpFinishBind 1 2 ∷ []
 
 abbrev stands_log : List Entry
-stands_log = entry (own_of 1) (Call.Made 1 kind.Network None None) Told.Done
-    ∷ entry (own_of 2) (Call.TcpCreate 1 SocketAddressFamily.Ipv6) Told.Done
-    ∷ entry (own_of 2) (Call.Made 2 kind.Tcp2 None (Some (own_of 2))) Told.Done
-    ∷ entry (own_of 3) (Call.Local (own_of 2)) (Told.Addr (wildcard SocketAddressFamily.Ipv6))
-    ∷ entry (own_of 3) (Call.Check 1 local_six SocketAddrUse.TcpBind) Told.Pending
-    ∷ []
+stands_log = creates 1 SocketAddressFamily.Ipv6
+    ++ (entry (own_of 3) (Call.Local (own_of 2)) (Told.Addr (wildcard SocketAddressFamily.Ipv6)) ∷ entry (own_of 3) (Call.Check 1 local_six SocketAddrUse.TcpBind) Told.Pending ∷ [])
 
 abbrev stands_replies : List Reply
 stands_replies = Reply.Ok (number_fields 1) ∷ Reply.Ok (number_fields 2) ∷ Reply.Pending 3 ∷ Reply.Busy ∷ Reply.Busy ∷ []

@@ -1,11 +1,10 @@
 -- What the log says of the machine's state: the invariant that makes its next call a licensed one.
-use Rattle.wasi_walks.proofs.Words.{Accept, Accepting, Accepts, Arrived, BeganBy, Bind, Call, Check, CheckArrival, CloseLast, Connect}
-use Rattle.wasi_walks.proofs.Words.{Connection, Entry, ErrorCode, HandedNone, Has, IpSocketAddress, IsBindTo, IsBoundSide}
-use Rattle.wasi_walks.proofs.Words.{IsConnectTo, IsMaker, IsMarkedWith, Item, Job, Kind, Last, List, Listener, Listening, Listens, Machine}
-use Rattle.wasi_walks.proofs.Words.{MarksNoSocket, MayGoOut, NamesSide, None, Nothing, NothingLast, OpId, Operation, Option}
-use Rattle.wasi_walks.proofs.Words.{ReadState, ShutdownLast, ShutdownSend, Socket, SocketAddressFamily, Some, Standing, StandingCall, Step}
-use Rattle.wasi_walks.proofs.Words.{Streams, Tcp2Socket, TcpBind, TcpConnect, TcpState, Told, Write, WriteState, Yes, [], entry}
-use Rattle.wasi_walks.proofs.Words.{kind_at, marks_in, own_of, side_of, slice_get, true, wildcard, ℕ, ⊤, ◌++◌, ◌+◌, ◌∷◌, ◌≡◌}
+use Rattle.wasi_walks.proofs.Words.{Accept, Accepting, Accepts, Arrived, BeganBy, Bind, Call, Check, CheckArrival, CloseLast, Connect, Connection}
+use Rattle.wasi_walks.proofs.Words.{Entry, ErrorCode, HandedNone, Has, IpSocketAddress, IsBindTo, IsBoundSide, IsConnectTo, IsMaker, IsMarkedWith}
+use Rattle.wasi_walks.proofs.Words.{Item, Job, Kind, Last, List, Listener, Listening, Listens, Machine, MarksNoSocket, MayGoOut, NamesSide, None}
+use Rattle.wasi_walks.proofs.Words.{Nothing, NothingLast, OpId, Operation, Option, ReadState, ShutdownLast, ShutdownSend, Socket, SocketAddressFamily}
+use Rattle.wasi_walks.proofs.Words.{Some, Standing, StandingCall, Step, Streams, Tcp2Socket, TcpBind, TcpConnect, TcpState, Told, Write, WriteState}
+use Rattle.wasi_walks.proofs.Words.{Yes, [], entry, kind_at, marks_in, own_of, side_of, slice_get, true, wildcard, ℕ, ⊤, ◌++◌, ◌+◌, ◌∷◌, ◌≡◌}
 use Rattle.wasi_walks.proofs.walks.Moves.{record_of}
 
 -- The handle stands for the record at this place, and its mark says the side that the record was made with.

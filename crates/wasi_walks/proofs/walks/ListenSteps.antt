@@ -1,10 +1,10 @@
 -- The steps of listens and accepts, as moves.
-use Rattle.wasi_walks.proofs.Words.{Accepts, Answer, Bool, Err, ErrorCode, Give, Handles, Has, IsListen, List, Listening, Machine, None}
-use Rattle.wasi_walks.proofs.Words.{Ok, Option, Pending, Ready, Records, Result, Socket, Some, Step, Stop, Tcp2Socket, WasiSocketsCtx}
-use Rattle.wasi_walks.proofs.Words.{accept_answered, accept_at, accept_end, accept_listening, accept_on, accepted_asks, accepted_record}
-use Rattle.wasi_walks.proofs.Words.{accepted_streams, false, first_ids, handles_of, is_nothing, kept_accepted, kind_at, listen_answered, make_asks}
-use Rattle.wasi_walks.proofs.Words.{own_of, refl, side_at, slice_get, slice_set, socket_at, start_listen_at, start_listen_by, true, with_sockets}
-use Rattle.wasi_walks.proofs.Words.{with_store, with_streams, with_table, ℕ, ⊤, ◌≡◌}
+use Rattle.wasi_walks.proofs.Words.{Accepts, Answer, Bool, Err, ErrorCode, Give, Handles, Has, IsListen, List, Listening, Machine, None, Ok, Option}
+use Rattle.wasi_walks.proofs.Words.{Pending, Ready, Records, Result, Socket, Some, Step, Stop, Tcp2Socket, WasiSocketsCtx, accept_answered, accept_at}
+use Rattle.wasi_walks.proofs.Words.{accept_end, accept_listening, accept_on, accepted_asks, accepted_record, accepted_streams, false, first_ids}
+use Rattle.wasi_walks.proofs.Words.{handles_of, is_nothing, kept_accepted, kind_at, listen_answered, make_asks, own_of, refl, side_at, slice_get}
+use Rattle.wasi_walks.proofs.Words.{slice_set, socket_at, start_listen_at, start_listen_by, true, with_sockets, with_store, with_streams, with_table}
+use Rattle.wasi_walks.proofs.Words.{ℕ, ⊤, ◌≡◌}
 use Rattle.wasi_walks.proofs.walks.Moves.{NoBindStands, Used, Unused, put, Found, record_of, Reaches, Leaves, Spends, Marked, made_so, AnAcceptedStream, StandsListen, Watches}
 use Rattle.wasi_walks.proofs.walks.Law.{Law, HasRecord, found, put_same, Walks, give, and_then, and_given, move, gives, from, accept}
 use Rattle.wasi_walks.proofs.walks.Listeners.{joined_if, Took, takes_walks, listener_walks, begin_listen_walks}

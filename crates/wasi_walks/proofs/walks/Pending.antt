@@ -1,6 +1,6 @@
 -- A call that stands goes on, as moves.
-use Rattle.wasi_walks.proofs.Words.{Answer, Err, ErrorCode, Give, List, Machine, None, Ok, Operation, Option, Pending, Records, Result, Some}
-use Rattle.wasi_walks.proofs.Words.{Step, Stop, Tcp2Socket, WasiSocketsCtx, listen_answered, poll_on, rebind_at, refl, relisten_at, resume_bind_in}
+use Rattle.wasi_walks.proofs.Words.{Answer, Err, ErrorCode, Give, List, Machine, None, Ok, Operation, Option, Pending, Records, Result, Some, Step}
+use Rattle.wasi_walks.proofs.Words.{Stop, Tcp2Socket, WasiSocketsCtx, listen_answered, poll_on, rebind_at, refl, relisten_at, resume_bind_in}
 use Rattle.wasi_walks.proofs.Words.{resume_in, resume_listen_in, slice_get, some_answer, unstood, waiting_bind, waiting_drop, waiting_listen}
 use Rattle.wasi_walks.proofs.Words.{with_store, ℕ, ◌≡◌}
 use Rattle.wasi_host.specs.declared.pending.Outcome.{Outcome}

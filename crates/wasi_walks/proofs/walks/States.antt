@@ -1,11 +1,11 @@
 -- What a line works on where it begins, in its midst and at its end, and what is known of handles there.
-use Rattle.wasi_walks.proofs.Words.{Answer, Ask, AskWrite, Asks, Bool, Err, ErrorCode, Full, Give, Handles, Input, Kind, List, Machine}
-use Rattle.wasi_walks.proofs.Words.{None, Ok, OpId, Operation, Option, Output, Pending, Pollable, Ready, Records, Result, Socket, Some}
-use Rattle.wasi_walks.proofs.Words.{Standing, StandingCall, Stop, Streams, Tcp2, Tcp2Socket, Trap, Watched, accept_answered, accept_at}
-use Rattle.wasi_walks.proofs.Words.{accept_record_asks, accepted_record, ap, ask_made, bind, bind_in, eqb-true, false, if◌then◌else◌, input_of}
-use Rattle.wasi_walks.proofs.Words.{is_full, kept_accepted, kind_at, make_asks, name_of, output_in, output_of, place_in, place_of, refl, slice_get}
-use Rattle.wasi_walks.proofs.Words.{slice_set, standing_bind, standing_drop, sym, table_parent, true, waiting_bind, waiting_drop, watch_of}
-use Rattle.wasi_walks.proofs.Words.{watched_by, with_handle, with_sockets, ℕ, ⊤, ◌==◌, ◌∙◌, ◌≡◌}
+use Rattle.wasi_walks.proofs.Words.{Answer, Ask, AskWrite, Asks, Bool, Err, ErrorCode, Full, Give, Handles, Input, Kind, List, Machine, None, Ok}
+use Rattle.wasi_walks.proofs.Words.{OpId, Operation, Option, Output, Pending, Pollable, Ready, Records, Result, Socket, Some, Standing, StandingCall}
+use Rattle.wasi_walks.proofs.Words.{Stop, Streams, Tcp2, Tcp2Socket, Trap, Watched, accept_answered, accept_at, accept_record_asks, accepted_record}
+use Rattle.wasi_walks.proofs.Words.{ap, ask_made, bind, bind_in, eqb-true, false, if◌then◌else◌, input_of, is_full, kept_accepted, kind_at, make_asks}
+use Rattle.wasi_walks.proofs.Words.{name_of, output_in, output_of, place_in, place_of, refl, slice_get, slice_set, standing_bind, standing_drop, sym}
+use Rattle.wasi_walks.proofs.Words.{table_parent, true, waiting_bind, waiting_drop, watch_of, watched_by, with_handle, with_sockets, ℕ, ⊤, ◌==◌, ◌∙◌}
+use Rattle.wasi_walks.proofs.Words.{◌≡◌}
 use Rattle.wasi_world.specs.declared.ids.Ids.{Ids}
 use Rattle.wasi_walks.proofs.walks.Moves.{Own, Used, Here, put, Found, record_of, Made, Past, Unmade, Joined}
 use Rattle.wasi_walks.proofs.Lists.{value_front, get_seam}

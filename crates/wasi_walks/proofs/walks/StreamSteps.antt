@@ -1,12 +1,12 @@
 -- The steps on streams and pollables, drops and turns, as moves.
-use Rattle.wasi_walks.proofs.Words.{Accepts, Answer, Asks, Bool, Err, ErrorValue, Give, Has, HasChildren, Input, Kind, List, Listening}
-use Rattle.wasi_walks.proofs.Words.{Machine, Network, None, Not, Ok, OpId, Option, Output, Pending, Pollable, ReadState, Ready, Records, Result, Some}
-use Rattle.wasi_walks.proofs.Words.{Step, StreamStop, Streams, Tcp2, Tcp2Socket, Trap, WasiSocketsCtx, Watched, WriteState, []}
-use Rattle.wasi_walks.proofs.Words.{allows_weaker, ap, bind, drop_output_at, drop_taken, false, first_ids, give_streams_up, gone, handles_of}
-use Rattle.wasi_walks.proofs.Words.{has_no_child, if◌then◌else◌, is_connect, is_nothing, kind_at, own_of, place_in, reader_of, ready_end, ready_on}
-use Rattle.wasi_walks.proofs.Words.{refl, release_asks, release_at, side_of, slice_get, stream_at, subscribe_on, taken_out, true, turn_machine_asks}
-use Rattle.wasi_walks.proofs.Words.{wait_put, wait_writer, waited, watch_of, watched_by, with_listening, with_reader, with_store, with_writer}
-use Rattle.wasi_walks.proofs.Words.{without_handle, write_state_asks, writer_asks, writer_of, ℕ, ◌∷◌, ◌≡◌}
+use Rattle.wasi_walks.proofs.Words.{Accepts, Answer, Asks, Bool, Err, ErrorValue, Give, Has, HasChildren, Input, Kind, List, Listening, Machine}
+use Rattle.wasi_walks.proofs.Words.{Network, None, Not, Ok, OpId, Option, Output, Pending, Pollable, ReadState, Ready, Records, Result, Some, Step}
+use Rattle.wasi_walks.proofs.Words.{StreamStop, Streams, Tcp2, Tcp2Socket, Trap, WasiSocketsCtx, Watched, WriteState, [], allows_weaker, ap, bind}
+use Rattle.wasi_walks.proofs.Words.{drop_output_at, drop_taken, false, first_ids, give_streams_up, gone, handles_of, has_no_child, if◌then◌else◌}
+use Rattle.wasi_walks.proofs.Words.{is_connect, is_nothing, kind_at, own_of, place_in, reader_of, ready_end, ready_on, refl, release_asks, release_at}
+use Rattle.wasi_walks.proofs.Words.{side_of, slice_get, stream_at, subscribe_on, taken_out, true, turn_machine_asks, wait_put, wait_writer, waited}
+use Rattle.wasi_walks.proofs.Words.{watch_of, watched_by, with_listening, with_reader, with_store, with_writer, without_handle, write_state_asks}
+use Rattle.wasi_walks.proofs.Words.{writer_asks, writer_of, ℕ, ◌∷◌, ◌≡◌}
 use Rattle.wasi_tcp.specs.Closing.{close_in}
 use Rattle.wasi_host.specs.Readiness.{ready_listening, ready_idle, ready_socket_by, ready_reader, ready_writer, ready_record, ready_at}
 use Rattle.wasi_host.specs.Jobs.{with_job, begins_job, turned, turn_at, turn_jobs}

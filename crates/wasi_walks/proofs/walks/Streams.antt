@@ -1,11 +1,11 @@
 -- The calls on the streams of a connection, as moves of the record that holds them.
-use Rattle.wasi_walks.proofs.Words.{Answer, Bool, Done, End, Err, ErrorCode, Give, Job, List, None, NotPermitted, Ok, OpId, Option}
-use Rattle.wasi_walks.proofs.Words.{ReadState, Ready, Refused, Result, ShutdownType, Some, Step, StreamStop, Streams, Tcp2Socket, TcpReceiveStream}
-use Rattle.wasi_walks.proofs.Words.{TcpSendStream, Waits, WasiSocketsCtx, WriteState, [], after_read, ap, ask_read, begun, bind, check_write_asks}
-use Rattle.wasi_walks.proofs.Words.{collected, false, if◌then◌else◌, length, look_asks, look_in, min, nat_lt, new_job, own_of, permitted}
-use Rattle.wasi_walks.proofs.Words.{polled_answer, read_state_asks, reader_ready_asks, reader_shutdown_asks, refl, shut_streams, side_up_asks, sym}
-use Rattle.wasi_walks.proofs.Words.{true, with_permit, with_reader, with_writer, write_on_asks, write_state_asks, writer_give_up_asks}
-use Rattle.wasi_walks.proofs.Words.{writer_shutdown_asks, writer_side, writing_side, ℕ, ◌==◌, ◌∷◌, ◌≡◌}
+use Rattle.wasi_walks.proofs.Words.{Answer, Bool, Done, End, Err, ErrorCode, Give, Job, List, None, NotPermitted, Ok, OpId, Option, ReadState, Ready}
+use Rattle.wasi_walks.proofs.Words.{Refused, Result, ShutdownType, Some, Step, StreamStop, Streams, Tcp2Socket, TcpReceiveStream, TcpSendStream}
+use Rattle.wasi_walks.proofs.Words.{Waits, WasiSocketsCtx, WriteState, [], after_read, ap, ask_read, begun, bind, check_write_asks, collected, false}
+use Rattle.wasi_walks.proofs.Words.{if◌then◌else◌, length, look_asks, look_in, min, nat_lt, new_job, own_of, permitted, polled_answer}
+use Rattle.wasi_walks.proofs.Words.{read_state_asks, reader_ready_asks, reader_shutdown_asks, refl, shut_streams, side_up_asks, sym, true}
+use Rattle.wasi_walks.proofs.Words.{with_permit, with_reader, with_writer, write_on_asks, write_state_asks, writer_give_up_asks, writer_shutdown_asks}
+use Rattle.wasi_walks.proofs.Words.{writer_side, writing_side, ℕ, ◌==◌, ◌∷◌, ◌≡◌}
 use Rattle.wasi_addr.specs.declared.address.ShutdownType.TheVariants.{Receive, Send, Both}
 use Rattle.wasi_tcp.specs.Job.{finish_in as finish_job}
 use Rattle.wasi_host.specs.Shutdowns.{with_streams}
