@@ -1,44 +1,23 @@
 -- The base law: numbers and sides are claimed once, and are of older lines. A side is claimed by the record that was made with it,
 -- and the name of an accept by the record of its listener.
-use Rattle.std.specs.Prelude.{⊤}
-use Rattle.std.proofs.Common.{◌≡◌, ◌⊎◌, inl, inr, ℕ, ◌+◌, ◌≤◌, ◌<◌, List, [], ◌∷◌, ◌++◌, Option, Some, None, Result, Ok, Err, refl, sym, ap, subst, ◌∙◌, slice_get, slice_set, length, arith}
-use Rattle.wasi_addr.specs.declared.address.SocketAddressFamily.{SocketAddressFamily}
-use Rattle.wasi_addr.specs.declared.code.ErrorCode.{ErrorCode}
-use Rattle.wasi_world.specs.declared.outcome.WasiSocketsCtx.{WasiSocketsCtx}
-use Rattle.wasi_world.specs.declared.ids.OpId.{OpId}
-use Rattle.wasi_world.specs.declared.call.Entry.{Entry}
-use Rattle.wasi_world.specs.Asks.{Asks, Give, Ask, AskWrite, bind}
-use Rattle.wasi_world.specs.Operation.{Given, Connection, Operation, End, Waits, Done, Refused, Item, poll_asks}
-use Rattle.wasi_world.specs.Typed.{told_addr, told_done}
-use Rattle.wasi_world.proofs.Allowed.{Allows, allows_then, allows_if, allows_weaker}
-use Rattle.wasi_tcp.specs.Accept.{IsLeftOfAccept}
-use Rattle.wasi_tcp.specs.Accept as accept
-use Rattle.wasi_tcp.specs.declared.listener.Accepting.TheVariants as accepting
-use Rattle.wasi_tcp.specs.declared.socket.TcpState.TheVariants as state
-use Rattle.wasi_tcp.specs.Connecting.{with_state, connect_ended}
-use Rattle.wasi_tcp.specs.Listener.{Listener, HoldsAccept, IsAcceptOn, accept_ended, arrived}
-use Rattle.wasi_tcp.specs.Shape.{Socket}
-use Rattle.wasi_tcp.specs.Socket.{side_in, side_of, after_create, new_asks}
-use Rattle.wasi_tcp.specs.Writer.{turn_asks}
-use Rattle.wasi_host.specs.declared.kind.Kind.TheVariants.{Tcp2}
-use Rattle.wasi_host.specs.declared.listening.Listening.{Listening}
-use Rattle.wasi_host.specs.declared.listening.Listening.TheVariants.{Not, Begins, Accepts}
-use Rattle.wasi_host.specs.declared.socket.Tcp2Socket.{Tcp2Socket}
-use Rattle.wasi_host.specs.Dropping.{gone}
-use Rattle.wasi_host.specs.Kinds.{make_asks}
-use Rattle.wasi_host.specs.Listening.{give_up_asks, with_listening}
-use Rattle.wasi_host.specs.Machine.{own_of, created_asks, create_asks}
-use Rattle.wasi_host.specs.Store.{new_record, with_inner, with_writer, left_of}
-use Rattle.wasi_steps.specs.declared.step.Step.{Step}
+use Rattle.wasi_walks.proofs.Words.{Accepting, Accepts, Allows, Ask, AskWrite, Asks, Begins, Done, End, Entry, Err, ErrorCode, Give, Given}
+use Rattle.wasi_walks.proofs.Words.{HoldsAccept, IsAcceptOn, IsLeftOfAccept, Item, List, Listener, Listening, None, Not, Ok, OpId, Operation, Option}
+use Rattle.wasi_walks.proofs.Words.{Refused, Result, Socket, SocketAddressFamily, Some, Step, Tcp2, Tcp2Socket, TcpState, Waits, WasiSocketsCtx, []}
+use Rattle.wasi_walks.proofs.Words.{accept_ended, after_create, allows_if, allows_then, allows_weaker, ap, arith, arrived, bind, connect_ended}
+use Rattle.wasi_walks.proofs.Words.{create_asks, created_asks, give_up_asks, gone, inl, inr, left_of, length, make_asks, new_asks, new_record, own_of}
+use Rattle.wasi_walks.proofs.Words.{poll_asks, refl, side_in, side_of, slice_get, slice_set, subst, sym, told_addr, told_done, turn_asks, with_inner}
+use Rattle.wasi_walks.proofs.Words.{with_listening, with_state, with_writer, ℕ, ⊤, ◌++◌, ◌+◌, ◌<◌, ◌∙◌, ◌∷◌, ◌≡◌, ◌≤◌, ◌⊎◌}
+use Rattle.wasi_world.specs.Operation.{Connection}
 use Rattle.wasi_walks.proofs.walks.OnBase.{both, Above, stand}
 use Rattle.wasi_walks.proofs.licence.State.{name_in, accept_name}
 use Rattle.wasi_walks.proofs.fits.Polls.{Anything}
 use Rattle.wasi_walks.proofs.fits.Records.{FitListening}
 use Rattle.wasi_walks.proofs.Lists.{split_place, get_set, get_split, set_there}
-use Rattle.wasi_walks.proofs.claims.Polls.{Quietly, ArePlain, GivesOwn, own_poll}
-use Rattle.wasi_walks.proofs.walks.Moves.{closed_record, Own, Used, Unused, ToWrite, Here, put, Found, joined, second_of, new_accept, accepting_now, listen_after, beginning_listen, made_so, Held, InHand, Connects, Listens, Awaits, Move, Reaches, Leaves, Spends, Changes, ClosesReader, Writes, IsGone, Reconnects, Opens, BeginsConnect, BeginsBind, BeginsWrite, BeginsListen, BeginsAccept, Unlistens, Forgets, Watches, Joins, StandsListen, StandsDrop, ResumesDrop, Unstands, Stands, Resumes, Ends, Lists, Takes}
+use Rattle.wasi_walks.proofs.claims.Polls.{AllAskBut, Quietly, ArePlain, GivesOwn, own_poll}
+use Rattle.wasi_walks.proofs.walks.Moves.{closed_record, Own, Used, Unused, ToWrite, Here, put, Found, joined, second_of, new_accept, accepting_now, listen_after, beginning_listen, made_so, Held, InHand, Connects, Listens, Awaits, Move, Spends, Changes, ClosesReader, Writes, IsGone, Reconnects, Opens, BeginsConnect, BeginsBind, BeginsWrite, BeginsListen, BeginsAccept, Unlistens, Forgets, Joins}
 use Rattle.wasi_walks.proofs.walks.Law.{Law, Walks}
 use Rattle.wasi_walks.proofs.fits.Law.{Fit, told_same, whatever, fits, moves_fit, polls_fit, put_fit, created}
+use Rattle.wasi_tcp.specs.Accept as accept
 
 -- it was made with this side, or its accept has this name, by which a side will be made
 abbrev pub Claims : OpId → Tcp2Socket → Type 0
@@ -140,16 +119,15 @@ none_of None k = refl
 none_of (Some x) k = absurd (k x refl)
 
 ended_sides : (op : Operation) (end : End × List Item) (x : OpId) → side_in (connect_ended op.who end).1 ≡ Some x → Some op.who.side ≡ Some x
-ended_sides op (Waits, items) x e = e
-ended_sides op (Done given, items) x e = e
 ended_sides op (Refused c given, items) x e = absurd (cc)
+ended_sides op _ x e = e
 
-pub accept_plain : (items : List Item) → IsLeftOfAccept items → ArePlain items
-accept_plain _ accept.Unarrived = (tt, tt)
-accept_plain _ (accept.Arrived peer) = (tt, tt)
-accept_plain _ (accept.Admitted peer) = (tt, tt)
-accept_plain _ (accept.Unwanted peer) = (tt, tt)
-accept_plain _ accept.Ended = tt
+pub accept_plain : (L : Type 0) (items : List Item) → IsLeftOfAccept items → AllAskBut L items
+accept_plain L _ accept.Unarrived = (tt, tt)
+accept_plain L _ (accept.Arrived peer) = (tt, tt)
+accept_plain L _ (accept.Admitted peer) = (tt, tt)
+accept_plain L _ (accept.Unwanted peer) = (tt, tt)
+accept_plain L _ accept.Ended = tt
 
 given_name : (op : OpId) (given : Given) → GivesOwn op (Done given) → (x : OpId) → name_in (arrived given) ≡ Some x → Some op ≡ Some x
 given_name op (Connection new peer) k x e = ap (λ (o : OpId). Some o) (sym k) ∙ e
@@ -212,8 +190,6 @@ module _ (contexts : List WasiSocketsCtx) (line : ℕ) (origin : Step) where
       idle (inr t) = no_some new (sym none ∙ t)
 
   pub moves_named : (h now : Here) → Move line origin h now → Named line h → Named line now
-  moves_named _ _ (Reaches h handle place k e) n = record { one = n.one; apart = n.apart; older = n.older; named = n.named; held = n.held }
-  moves_named _ _ (Leaves h) n = record { one = n.one; apart = n.apart; older = n.older; named = n.named; held = n.held }
   moves_named _ _ (Spends h e) n = spends_named h n (by_line h.own)
   moves_named _ _ (Changes h place r now g p) n = put_inner h place r now g p.side p.listening (λ x e. sym (ap side_in p.does) ∙ e) n
   moves_named _ _ (ClosesReader h place r s g e) n = put_inner h place r _ g refl refl (λ x e. e) n
@@ -237,22 +213,13 @@ module _ (contexts : List WasiSocketsCtx) (line : ℕ) (origin : Step) where
       its x p = let q : second_of line ≡ x = cc in ap (λ (o : OpId). o.step) (sym q)
   moves_named _ _ (Unlistens h place r op g e c o) n = put_named line h place r _ g (listening_names h place r Not g (λ x p. absurd (cc)) (λ op p. absurd (cc)) n) n
   moves_named _ _ (Forgets h place r l c g e a) n = put_named line h place r _ g (listening_names h place r _ g (λ x p. absurd (cc)) (λ op p. absurd (cc)) n) n
-  moves_named _ _ (Watches h o) n = record { one = n.one; apart = n.apart; older = n.older; named = n.named; held = n.held }
   moves_named _ _ (Joins h c handle place r l new peer is of u g e a) n =
-      let mid = put h place (accepting_now r l accepting.Idle) in
-      let k = put_named line h place r (accepting_now r l accepting.Idle) g (listening_names h place r _ g (λ x p. absurd (cc)) (λ op p. absurd (cc)) n) n in
+      let mid = put h place (accepting_now r l Accepting.Idle) in
+      let k = put_named line h place r (accepting_now r l Accepting.Idle) g (listening_names h place r _ g (λ x p. absurd (cc)) (λ op p. absurd (cc)) n) n in
       let name : accept_name r.listening ≡ Some new = ap accept_name e ∙ ap name_in a in
-      let j = push_named line mid (joined l new peer) h.own refl (λ x p. (let s : new ≡ x = cc in subst (λ (y : OpId). (y.step < next_of line h.own) × Fresh mid y) s (n.older new place r g (inr name), taken_fresh h place r (accepting_now r l accepting.Idle) new g name refl refl n))) (λ x p. p) (λ op p. absurd (cc)) (omega arith) k in
+      let j = push_named line mid (joined l new peer) h.own refl (λ x p. (let s : new ≡ x = cc in subst (λ (y : OpId). (y.step < next_of line h.own) × Fresh mid y) s (n.older new place r g (inr name), taken_fresh h place r (accepting_now r l Accepting.Idle) new g name refl refl n))) (λ x p. p) (λ op p. absurd (cc)) (omega arith) k in
       record { one = j.one; apart = j.apart; older = j.older; named = j.named; held = j.held }
-  moves_named _ _ (StandsListen h k place r f) n = record { one = n.one; apart = n.apart; older = n.older; named = n.named; held = n.held }
-  moves_named _ _ (StandsDrop h k place r at g) n = record { one = n.one; apart = n.apart; older = n.older; named = n.named; held = n.held }
-  moves_named _ _ (ResumesDrop h k place e) n = record { one = n.one; apart = n.apart; older = n.older; named = n.named; held = n.held }
-  moves_named _ _ (Unstands h) n = record { one = n.one; apart = n.apart; older = n.older; named = n.named; held = n.held }
-  moves_named _ _ (Stands h k place r op f e) n = record { one = n.one; apart = n.apart; older = n.older; named = n.named; held = n.held }
-  moves_named _ _ (Resumes h k place op e) n = record { one = n.one; apart = n.apart; older = n.older; named = n.named; held = n.held }
-  moves_named _ _ (Ends h) n = record { one = n.one; apart = n.apart; older = n.older; named = n.named; held = n.held }
-  moves_named _ _ (Lists h jobs) n = record { one = n.one; apart = n.apart; older = n.older; named = n.named; held = n.held }
-  moves_named _ _ (Takes h handle) n = record { one = n.one; apart = n.apart; older = n.older; named = n.named; held = n.held }
+  moves_named _ _ _ n = record { one = n.one; apart = n.apart; older = n.older; named = n.named; held = n.held }
 
   -- the record that a listen leaves
   listened_names : (h : Here) (place : ℕ) (r : Tcp2Socket) (op : Operation) (end : End × List Item) → Found h place r → r.listening ≡ Begins op → Named line h → KeepsNames h 0 r (listen_after op r end)
@@ -260,7 +227,7 @@ module _ (contexts : List WasiSocketsCtx) (line : ℕ) (origin : Step) where
   listened_names h place r op (Done given, items) g e n = record { side = refl; accepts = λ x p. absurd (cc); named = λ x p. (n.held op place r g e).0 ∙ p; held = λ o p. absurd (cc) }
   listened_names h place r op (Refused c given, items) g e n = record { side = refl; accepts = λ x p. absurd (cc); named = λ x p. n.named x place r g p; held = λ o p. absurd (cc) }
 
-  awaited_names : (h : Here) (place : ℕ) (r : Tcp2Socket) (l : Listener) (op : Operation) (end : End × List Item) → Found h place r → r.listening ≡ Accepts l → l.accept ≡ accepting.Asking op → GivesOwn op.who.id end.0 → Named line h → Named line (put h place (accepting_now r l (accept_ended op.who end)))
+  awaited_names : (h : Here) (place : ℕ) (r : Tcp2Socket) (l : Listener) (op : Operation) (end : End × List Item) → Found h place r → r.listening ≡ Accepts l → l.accept ≡ Accepting.Asking op → GivesOwn op.who.id end.0 → Named line h → Named line (put h place (accepting_now r l (accept_ended op.who end)))
   awaited_names h place r l op end g e a k n = put_named line h place r _ g (listening_names h place r _ g (λ x p. ap accept_name e ∙ (ap name_in a ∙ ended_name op end k x p)) (λ o p. absurd (cc)) n) n
 
   -- == the law
@@ -275,11 +242,11 @@ module _ (contexts : List WasiSocketsCtx) (line : ℕ) (origin : Step) where
   names_polled es h _ _ (Awaits place r l op g e a) n =
       let its : IsAcceptOn l.side l.maker op = subst (HoldsAccept l.side l.maker) a (subst FitListening e (n.0.records place r g).1) in
       allows_weaker Anything (λ fs ended. ArePlain ended.1 × GivesOwn op.who.id ended.0) (λ fs ended. Named line (put h place (accepting_now r l (accept_ended op.who ended)))) (λ fs ended k. awaited_names h place r l op ended g e a k.1 n.1) es (poll_asks op)
-      (any_quiet (λ ended. ArePlain ended.1 × GivesOwn op.who.id ended.0) es (poll_asks op) (own_poll op es (accept_plain op.left its.accept.left)))
+      (any_quiet (λ ended. ArePlain ended.1 × GivesOwn op.who.id ended.0) es (poll_asks op) (own_poll op es (accept_plain ⊤ op.left its.accept.left)))
 
   -- a socket that is created has the line's own name
   abbrev MadeNamed : Result Socket ErrorCode → Type 0
-  MadeNamed (Ok socket) = socket.state ≡ state.Default (own_of line)
+  MadeNamed (Ok socket) = socket.state ≡ TcpState.Default (own_of line)
   MadeNamed (Err c) = ⊤
 
   made_named : (es : List Entry) (ctx : WasiSocketsCtx) (family : SocketAddressFamily) → Allows Anything (λ fs made. MadeNamed made) es (new_asks (own_of line) ctx family)
@@ -293,7 +260,7 @@ module _ (contexts : List WasiSocketsCtx) (line : ℕ) (origin : Step) where
   created_named : (es : List Entry) (h : Here) (ctx : WasiSocketsCtx) (family : SocketAddressFamily) → h.own ≡ Unused → Named line h → Allows Anything (λ fs done. Named line (record h { machine = done.1; own = Used })) es (create_asks h.machine (own_of line) ctx family)
   created_named es h ctx family u n = allows_then Anything (λ fs made. MadeNamed made) (λ fs done. Named line (record h { machine = done.1; own = Used })) es (new_asks (own_of line) ctx family) (created_asks h.machine (own_of line)) (made_named es ctx family) (λ fs made k. joins fs made k)
     where
-      same : (socket : Socket) (x : OpId) → socket.state ≡ state.Default (own_of line) → side_of socket ≡ Some x → own_of line ≡ x
+      same : (socket : Socket) (x : OpId) → socket.state ≡ TcpState.Default (own_of line) → side_of socket ≡ Some x → own_of line ≡ x
       same socket x k p = let q : Some (own_of line) ≡ Some x = ap side_in (sym k) ∙ p in cc
 
       joins : (fs : List Entry) (made : Result Socket ErrorCode) → MadeNamed made → Allows Anything (λ fs done. Named line (record h { machine = done.1; own = Used })) fs (created_asks h.machine (own_of line) made)

@@ -1,46 +1,25 @@
 -- The law that what a socket connects by is a connect, what a listener accepts by is an accept, and what stands by a bind is a
 -- bind, and by a listen a listen.
-use Rattle.std.specs.Prelude.{⊤}
-use Rattle.std.proofs.Common.{◌≡◌, inl, inr, ℕ, Bool, true, false, if◌then◌else◌, List, Some, None, Result, Ok, Err, refl, sym, subst, length, slice_set}
-use Rattle.wasi_addr.specs.declared.address.IpSocketAddress.{IpSocketAddress}
-use Rattle.wasi_addr.specs.declared.address.SocketAddressFamily.{SocketAddressFamily}
-use Rattle.wasi_addr.specs.declared.code.ErrorCode.{ErrorCode}
-use Rattle.wasi_addr.specs.Address.{wildcard, is_wildcard}
-use Rattle.wasi_world.specs.declared.outcome.WasiSocketsCtx.{WasiSocketsCtx}
-use Rattle.wasi_world.specs.declared.ids.OpId.{OpId}
-use Rattle.wasi_world.specs.declared.call.Entry.{Entry}
-use Rattle.wasi_world.specs.Asks.{Asks, Give, Ask, AskWrite, bind}
-use Rattle.wasi_world.specs.Operation.{Operation, End, Waits, Done, Refused, Item, poll_asks, Given, Connection}
-use Rattle.wasi_world.specs.Typed.{told_addr, told_done}
-use Rattle.wasi_world.proofs.Allowed.{Allows, allows_then, allows_if, allows_weaker}
-use Rattle.wasi_tcp.specs.declared.listener.Accepting.TheVariants as accepting
-use Rattle.wasi_tcp.specs.Listener.{Listener, HoldsAccept, IsAcceptOn, accept_ended, arrived}
-use Rattle.wasi_tcp.specs.Accept as accept
-use Rattle.wasi_tcp.specs.Listen as listen
-use Rattle.wasi_tcp.specs.Listen.{IsListen, IsLeftOfListen}
-use Rattle.wasi_tcp.specs.Connect.{IsConnect, IsLeftOfConnect, connect_first, connect_operation}
-use Rattle.wasi_tcp.specs.Connect as connect
-use Rattle.wasi_tcp.specs.Connecting.{HoldsConnect, with_state, connect_ended}
-use Rattle.wasi_tcp.specs.Shape.{Socket}
-use Rattle.wasi_tcp.specs.Socket.{side_of, after_local, after_create, new_asks}
-use Rattle.wasi_tcp.specs.Writer.{turn_asks}
-use Rattle.wasi_host.specs.declared.kind.Kind.TheVariants.{Tcp2}
-use Rattle.wasi_host.specs.declared.socket.Tcp2Socket.{Tcp2Socket}
-use Rattle.wasi_host.specs.declared.store.Standing.{Standing}
-use Rattle.wasi_host.specs.Kinds.{make_asks}
-use Rattle.wasi_host.specs.declared.listening.Listening.TheVariants.{Not}
-use Rattle.wasi_host.specs.Listening.{give_up_asks, standing_listen, with_listening}
-use Rattle.wasi_host.specs.Machine.{own_of, created_asks, create_asks}
-use Rattle.wasi_host.specs.Store.{new_record, with_inner, with_writer, left_of, standing_bind, standing_drop}
-use Rattle.wasi_steps.specs.declared.step.Step.{Step}
-use Rattle.wasi_walks.specs.Waiting.{IsLeftOfBind, IsRestOfBind}
-use Rattle.wasi_walks.specs.Waiting as binding
-use Rattle.wasi_walks.proofs.walks.Moves.{closed_record, Held, InHand, Connects, Used, Here, put, Move, Reaches, Leaves, Spends, Changes, ClosesReader, Writes, IsGone, Reconnects, Opens, BeginsConnect, BeginsBind, BeginsWrite, Stands, Resumes, Ends, Lists, Takes, BeginsListen, BeginsAccept, Unlistens, Forgets, Watches, Joins, StandsListen, StandsDrop, ResumesDrop, Unstands, Listens, Awaits, listen_after, accepting_now, beginning_listen, new_accept, joined, made_so, Found}
-use Rattle.wasi_walks.proofs.fits.Records.{FitListening, FitRecord}
-use Rattle.wasi_walks.proofs.fits.Records.{FitCall}
+use Rattle.wasi_walks.proofs.Words.{Accepting, Allows, Ask, AskWrite, Asks, Bool, Done, End, Entry, Err, ErrorCode, Give, Given, HoldsAccept}
+use Rattle.wasi_walks.proofs.Words.{HoldsConnect, IpSocketAddress, IsAcceptOn, IsConnect, IsLeftOfBind, IsLeftOfConnect, IsLeftOfListen, IsRestOfBind}
+use Rattle.wasi_walks.proofs.Words.{Item, List, Listener, None, Not, Ok, OpId, Operation, Refused, Result, Socket, SocketAddressFamily, Some}
+use Rattle.wasi_walks.proofs.Words.{Standing, Step, Tcp2, Tcp2Socket, Waits, WasiSocketsCtx, accept_ended, after_create, after_local, allows_if}
+use Rattle.wasi_walks.proofs.Words.{allows_then, allows_weaker, arrived, bind, connect_ended, connect_first, connect_operation, create_asks}
+use Rattle.wasi_walks.proofs.Words.{created_asks, false, give_up_asks, if◌then◌else◌, inl, inr, is_wildcard, left_of, length, make_asks, new_asks}
+use Rattle.wasi_walks.proofs.Words.{new_record, own_of, poll_asks, refl, side_of, slice_set, standing_bind, standing_drop, standing_listen, subst}
+use Rattle.wasi_walks.proofs.Words.{sym, told_addr, told_done, true, turn_asks, wildcard, with_inner, with_listening, with_state, with_writer, ℕ, ⊤}
+use Rattle.wasi_walks.proofs.Words.{◌≡◌}
+use Rattle.wasi_world.specs.Operation.{Connection}
+use Rattle.wasi_tcp.specs.Listen.{IsListen}
+use Rattle.wasi_walks.proofs.walks.Moves.{closed_record, Held, InHand, Connects, Used, Here, put, Move, Changes, ClosesReader, Writes, IsGone, Reconnects, Opens, BeginsConnect, BeginsBind, BeginsWrite, Stands, Resumes, Ends, BeginsListen, BeginsAccept, Unlistens, Forgets, Joins, StandsListen, StandsDrop, Unstands, Listens, Awaits, listen_after, accepting_now, beginning_listen, new_accept, joined, made_so, Found}
+use Rattle.wasi_walks.proofs.fits.Records.{FitListening, FitRecord, FitCall}
 use Rattle.wasi_walks.proofs.Lists.{get_set, get_split}
 use Rattle.wasi_walks.proofs.fits.Polls.{Anything, bind_left, connect_left, listen_left, accept_left, AcceptLeaves}
 use Rattle.wasi_walks.proofs.walks.Law.{Law, Walks}
+use Rattle.wasi_tcp.specs.Accept as accept
+use Rattle.wasi_tcp.specs.Listen as listen
+use Rattle.wasi_tcp.specs.Connect as connect
+use Rattle.wasi_walks.specs.Waiting as binding
 
 -- Each record fits, and so do the bind in hand and the call that stands.
 pub record Fit (h : Here) : Type 0 where
@@ -80,8 +59,7 @@ first_of own side maker any a false = record { last = refl; left = connect.Unbou
 
 pub ended_fits : (op : Operation) (end : End × List Item) → IsConnect op → IsLeftOfConnect end.1 → HoldsConnect (connect_ended op.who end).1
 ended_fits op (Waits, items) its k = record { last = its.last; left = k }
-ended_fits op (Done given, items) its k = tt
-ended_fits op (Refused c given, items) its k = tt
+ended_fits op _ its k = tt
 
 listened_fits : (op : Operation) (r : Tcp2Socket) (end : End × List Item) → IsListen op → IsLeftOfListen end.1 → HoldsConnect r.inner.state → FitRecord (listen_after op r end)
 listened_fits op r (Waits, items) its k c = (c, record { last = its.last; left = k })
@@ -103,9 +81,6 @@ joined_fits l new peer = (tt, tt)
 
 module _ (contexts : List WasiSocketsCtx) (line : ℕ) (origin : Step) where
   pub moves_fit : (h now : Here) → Move line origin h now → Fit h → Fit now
-  moves_fit _ _ (Reaches h handle place n e) i = record { records = i.records; stands = i.stands; hand = i.hand }
-  moves_fit _ _ (Leaves h) i = record { records = i.records; stands = i.stands; hand = i.hand }
-  moves_fit _ _ (Spends h e) i = record { records = i.records; stands = i.stands; hand = i.hand }
   moves_fit _ _ (Changes h place r now g p) i = let f = i.records place r g in put_fit h place now (subst HoldsConnect (sym p.does) f.0, subst FitListening (sym p.listening) f.1) i
   moves_fit _ _ (ClosesReader h place r s g e) i = put_fit h place _ (i.records place r g) i
   moves_fit _ _ (Writes h place r s w g e m) i = put_fit h place _ (i.records place r g) i
@@ -121,20 +96,17 @@ module _ (contexts : List WasiSocketsCtx) (line : ℕ) (origin : Step) where
       let k = put_fit h place (accepting_now r l (new_accept line l)) ((i.records place r g).0, record { accept = record { last = refl; left = accept.Unarrived }; of_side = refl; of_maker = refl; going = refl }) i in record { records = k.records; stands = k.stands; hand = k.hand }
   moves_fit _ _ (Unlistens h place r op g e c o) i = put_fit h place _ ((i.records place r g).0, tt) i
   moves_fit _ _ (Forgets h place r l c g e a) i = put_fit h place _ ((i.records place r g).0, tt) i
-  moves_fit _ _ (Watches h o) i = record { records = i.records; stands = i.stands; hand = i.hand }
   moves_fit _ _ (Joins h c handle place r l new peer is of u g e a) i =
-      let k = put_fit h place (accepting_now r l accepting.Idle) ((i.records place r g).0, tt) i in
-      record { records = λ p q d. elim (get_split (slice_set h.machine.store.sockets place (accepting_now r l accepting.Idle)) (joined l new peer) p q d) [ inl x ↦ k.records p q x | inr x ↦ subst FitRecord x (joined_fits l new peer) ]; stands = k.stands; hand = k.hand }
+      let k = put_fit h place (accepting_now r l Accepting.Idle) ((i.records place r g).0, tt) i in
+      record { records = λ p q d. elim (get_split (slice_set h.machine.store.sockets place (accepting_now r l Accepting.Idle)) (joined l new peer) p q d) [ inl x ↦ k.records p q x | inr x ↦ subst FitRecord x (joined_fits l new peer) ]; stands = k.stands; hand = k.hand }
   moves_fit _ _ (StandsListen h n place r f) i = record { records = i.records; stands = λ c p. let q : standing_listen n place ≡ c = cc in subst (λ (x : Standing). FitCall x.call) q tt; hand = i.hand }
   moves_fit _ _ (StandsDrop h n place r at g) i = record { records = i.records; stands = λ c p. let q : standing_drop n place ≡ c = cc in subst (λ (x : Standing). FitCall x.call) q tt; hand = i.hand }
-  moves_fit _ _ (ResumesDrop h n place e) i = record { records = i.records; stands = i.stands; hand = i.hand }
   moves_fit _ _ (Unstands h) i = record { records = i.records; stands = λ c p. absurd (cc); hand = i.hand }
   moves_fit _ _ (Stands h n place r op f e) i =
       record { records = i.records; stands = λ c p. let q : standing_bind n place op ≡ c = cc in subst (λ (x : Standing). FitCall x.call) q (i.hand op e); hand = λ o p. absurd (cc) }
   moves_fit _ _ (Resumes h n place op e) i = let k = in_hand h op (i.stands (standing_bind n place op) e) i in record { records = k.records; stands = λ c p. absurd (cc); hand = k.hand }
   moves_fit _ _ (Ends h) i = record { records = i.records; stands = i.stands; hand = λ o p. absurd (cc) }
-  moves_fit _ _ (Lists h jobs) i = record { records = i.records; stands = i.stands; hand = i.hand }
-  moves_fit _ _ (Takes h handle) i = record { records = i.records; stands = i.stands; hand = i.hand }
+  moves_fit _ _ _ i = record { records = i.records; stands = i.stands; hand = i.hand }
 
   -- a socket that is created connects by nothing
   abbrev pub MadeFits : Result Socket ErrorCode → Type 0

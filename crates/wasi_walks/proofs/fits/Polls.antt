@@ -1,31 +1,18 @@
 -- What is left of an operation after a poll is left of the same: of a bind, of a connect, of a listen, of an accept.
-use Rattle.std.specs.Prelude.{⊤}
-use Rattle.std.proofs.Common.{◌≡◌, ℕ, true, List, [], ◌∷◌, Result, Ok, Err, refl}
-use Rattle.wasi_addr.specs.declared.address.IpSocketAddress.{IpSocketAddress}
-use Rattle.wasi_addr.specs.declared.address.SocketAddrUse.{SocketAddrUse}
-use Rattle.wasi_addr.specs.declared.code.ErrorCode.{ErrorCode}
-use Rattle.wasi_addr.specs.declared.code.ErrorCode.TheVariants.{AccessDenied}
-use Rattle.wasi_world.specs.declared.ids.OpId.{OpId}
-use Rattle.wasi_world.specs.declared.call.Call.{Call}
-use Rattle.wasi_world.specs.declared.call.Entry.{Entry}
-use Rattle.wasi_world.specs.declared.asks.Verdict.{Verdict}
-use Rattle.wasi_world.specs.declared.asks.Verdict.TheVariants as verdict
-use Rattle.wasi_world.specs.declared.asks.Polled.{Polled}
-use Rattle.wasi_world.specs.declared.asks.Polled.TheVariants as polled
-use Rattle.wasi_world.specs.Asks.{Asks, bind}
-use Rattle.wasi_world.specs.Typed.{told_verdict, told_addr, told_done, told_polled, told_arrival}
-use Rattle.wasi_world.specs.Operation.{Given, Nothing, Connection, Item, Check, CheckLocal, Bind, Connect, Listen, LastAsk, NothingLast, CloseLast, ShutdownLast, Who, Operation, End, Waits, Front, front, last_ask, local_front, arrival_front, admitted_front, accept_front, verdict_front, done_front, polled_front, poll_asks}
-use Rattle.wasi_world.proofs.Allowed.{FrontKeeps, allows_polls}
-use Rattle.wasi_tcp.specs.Accept.{IsAccept, IsLeftOfAccept}
-use Rattle.wasi_tcp.specs.Accept as accept
-use Rattle.wasi_tcp.specs.Connect.{IsConnect, IsLeftOfConnect}
-use Rattle.wasi_tcp.specs.Connect as connect
-use Rattle.wasi_tcp.specs.Listen.{IsListen, IsLeftOfListen}
-use Rattle.wasi_tcp.specs.Listen as listen
+use Rattle.wasi_walks.proofs.Words.{AccessDenied, Asks, Bind, Call, Check, CheckLocal, Connect, End, Entry, Err, ErrorCode, Front, FrontKeeps, Given}
+use Rattle.wasi_walks.proofs.Words.{IpSocketAddress, IsAccept, IsConnect, IsLeftOfAccept, IsLeftOfBind, IsLeftOfConnect, IsLeftOfListen, IsRestOfBind}
+use Rattle.wasi_walks.proofs.Words.{Item, LastAsk, List, Listen, Nothing, NothingLast, Ok, OpId, Operation, Polled, Result, SocketAddrUse, Verdict}
+use Rattle.wasi_walks.proofs.Words.{Waits, Who, [], accept_front, admitted_front, allows_polls, arrival_front, bind, done_front, front, last_ask}
+use Rattle.wasi_walks.proofs.Words.{local_front, poll_asks, polled_front, refl, told_addr, told_arrival, told_done, told_polled, told_verdict, true}
+use Rattle.wasi_walks.proofs.Words.{verdict_front, ℕ, ⊤, ◌∷◌, ◌≡◌}
+use Rattle.wasi_world.specs.Operation.{Connection}
+use Rattle.wasi_tcp.specs.Listen.{IsListen}
 use Rattle.wasi_tcp.specs.Rounds.{some_left, is_going}
-use Rattle.wasi_walks.specs.Waiting.{IsLeftOfBind, IsRestOfBind}
-use Rattle.wasi_walks.specs.Waiting as binding
 use Rattle.wasi_walks.proofs.Gives.{Gives}
+use Rattle.wasi_tcp.specs.Accept as accept
+use Rattle.wasi_tcp.specs.Connect as connect
+use Rattle.wasi_tcp.specs.Listen as listen
+use Rattle.wasi_walks.specs.Waiting as binding
 
 abbrev pub Anything : List Entry → OpId → Call → Type 0
 Anything es op call = ⊤
@@ -45,16 +32,15 @@ module _ (who : Who) (C : List Item → Type 0) (over : C []) where
   lasts : (last : LastAsk) (es : List Entry) (c : ErrorCode) (given : Given) → Gives Leaves es (last_ask who last c given)
   unfolding bind
   lasts NothingLast es c given = over
-  lasts CloseLast es c given = (tt, λ t fits. over)
-  lasts ShutdownLast es c given = (tt, λ t fits. over)
+  lasts _ es c given = (tt, λ t fits. over)
 
   -- these items follow the front ask
   module _ (items : List Item) (goes : C items) where
     -- a check goes on, stays or ends
     by_verdict : (es : List Entry) (item : Item) (v : Verdict) → C (item ∷ items) → Keeps items es (verdict_front item v)
-    by_verdict es item verdict.Yes stays = goes
-    by_verdict es item verdict.No stays = lasts who.last es AccessDenied Nothing
-    by_verdict es item verdict.Pending stays = stays
+    by_verdict es item Verdict.Yes stays = goes
+    by_verdict es item Verdict.No stays = lasts who.last es AccessDenied Nothing
+    by_verdict es item Verdict.Pending stays = stays
 
     -- what is done or told a code goes on or ends
     by_done : (es : List Entry) (r : Result (Unit {0}) ErrorCode) → Keeps items es (done_front r)
@@ -63,9 +49,9 @@ module _ (who : Who) (C : List Item → Type 0) (over : C []) where
 
     -- a connect goes on, stays or ends
     by_polled : (es : List Entry) (item : Item) (p : Polled (Unit {0})) → C (item ∷ items) → Keeps items es (polled_front item p)
-    by_polled es item (polled.Ready done) stays = goes
-    by_polled es item (polled.Code c) stays = lasts who.last es c Nothing
-    by_polled es item polled.Pending stays = stays
+    by_polled es item (Polled.Ready done) stays = goes
+    by_polled es item (Polled.Code c) stays = lasts who.last es c Nothing
+    by_polled es item Polled.Pending stays = stays
 
     abbrev FrontGives : List Entry → Item → Type 0
     FrontGives es item = Gives (λ fs f. Keeps items fs f) es (front who item)
@@ -161,8 +147,7 @@ module _ (who : Who) where
   ends_so : (last : LastAsk) (es : List Entry) (c : ErrorCode) (given : Given) → Gives Leaving es (last_ask who last c given)
   unfolding bind
   ends_so NothingLast es c given = tt
-  ends_so CloseLast es c given = (tt, λ t fits. tt)
-  ends_so ShutdownLast es c given = (tt, λ t fits. tt)
+  ends_so _ es c given = (tt, λ t fits. tt)
 
   abbrev ArrivalGives : List Entry → Asks Front → Type 0
   ArrivalGives es asks = Gives (λ fs f. AcceptKeeps [] fs f) es asks
@@ -170,9 +155,9 @@ module _ (who : Who) where
   -- an arrival that was checked is handed over, refused or kept
   admitted : (es : List Entry) (peer : IpSocketAddress) (v : Verdict) → ArrivalGives es (admitted_front who peer v)
   unfolding bind
-  admitted es peer verdict.Yes = (tt, λ t fits. refl)
-  admitted es peer verdict.No = (tt, λ t fits. (accept.Unarrived, refl))
-  admitted es peer verdict.Pending = (accept.Arrived peer, refl)
+  admitted es peer Verdict.Yes = (tt, λ t fits. refl)
+  admitted es peer Verdict.No = (tt, λ t fits. (accept.Unarrived, refl))
+  admitted es peer Verdict.Pending = (accept.Arrived peer, refl)
 
   -- an arrival is checked
   arrives : (es : List Entry) (peer : IpSocketAddress) → ArrivalGives es (arrival_front who peer)
@@ -181,9 +166,9 @@ module _ (who : Who) where
 
   -- once the accept was told
   accepted : (es : List Entry) (p : Polled IpSocketAddress) → ArrivalGives es (accept_front who p)
-  accepted es polled.Pending = (accept.Unarrived, refl)
-  accepted es (polled.Ready peer) = arrives es peer
-  accepted es (polled.Code c) = ends_so who.last es c Nothing
+  accepted es Polled.Pending = (accept.Unarrived, refl)
+  accepted es (Polled.Ready peer) = arrives es peer
+  accepted es (Polled.Code c) = ends_so who.last es c Nothing
 
   -- by what is left of it
   by_left : (es : List Entry) (item : Item) (items : List Item) → IsLeftOfAccept (item ∷ items) → Gives (λ fs f. AcceptKeeps items fs f) es (front who item)

@@ -4,16 +4,14 @@ use Rattle.wasi_tcp.specs.Connecting.{HoldsConnect}
 use Rattle.wasi_tcp.specs.Listen.{IsListen}
 use Rattle.wasi_tcp.specs.Listener.{HoldsAccept}
 use Rattle.wasi_host.specs.declared.listening.Listening.{Listening}
-use Rattle.wasi_host.specs.declared.listening.Listening.TheVariants as listening
 use Rattle.wasi_host.specs.declared.socket.Tcp2Socket.{Tcp2Socket}
 use Rattle.wasi_host.specs.declared.store.StandingCall.{StandingCall}
-use Rattle.wasi_host.specs.declared.store.StandingCall.TheVariants as standing
 use Rattle.wasi_walks.specs.Waiting.{IsRestOfBind}
 
 -- what it listens by is a listen, and what it accepts by an accept
 abbrev pub FitListening : Listening → Type 0
-FitListening (listening.Begins op) = IsListen op
-FitListening (listening.Accepts l) = HoldsAccept l.side l.maker l.accept
+FitListening (Listening.Begins op) = IsListen op
+FitListening (Listening.Accepts l) = HoldsAccept l.side l.maker l.accept
 FitListening _ = ⊤
 
 -- and what it connects by is a connect
@@ -22,5 +20,5 @@ FitRecord r = HoldsConnect r.inner.state × FitListening r.listening
 
 -- a bind that stands is one
 abbrev pub FitCall : StandingCall → Type 0
-FitCall (standing.Bind place op) = IsRestOfBind op
+FitCall (StandingCall.Bind place op) = IsRestOfBind op
 FitCall _ = ⊤

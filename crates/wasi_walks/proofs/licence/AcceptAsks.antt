@@ -1,27 +1,14 @@
 -- An accept: each of its asks is allowed, and what it leaves may be polled on, or was handed over.
-use Rattle.std.proofs.Common.{◌≡◌, inl, inr, List, [], ◌∷◌, ◌++◌, Some, refl, sym, ap, subst, ◌∙◌, append_assoc}
-use Rattle.wasi_addr.specs.declared.address.IpSocketAddress.{IpSocketAddress}
-use Rattle.wasi_addr.specs.declared.address.SocketAddrUse.TheVariants.{TcpAccept}
-use Rattle.wasi_addr.specs.declared.code.ErrorCode.{ErrorCode}
-use Rattle.wasi_world.specs.declared.ids.OpId.{OpId}
-use Rattle.wasi_world.specs.declared.call.Call.{Call}
-use Rattle.wasi_world.specs.declared.call.Call.TheVariants as call
-use Rattle.wasi_world.specs.declared.call.Told.{Told}
-use Rattle.wasi_world.specs.declared.call.Told.TheVariants as told
-use Rattle.wasi_world.specs.declared.call.Entry.{Entry}
-use Rattle.wasi_world.specs.declared.outcome.WasiSocketsCtx.{WasiSocketsCtx}
-use Rattle.wasi_world.specs.Asks.{bind}
-use Rattle.wasi_world.specs.Fits.{IsVerdict, IsArrival}
-use Rattle.wasi_world.specs.Typed.{told_verdict, told_arrival}
-use Rattle.wasi_world.specs.Operation.{Given, Nothing, Connection, Item, Accept, CheckArrival, NothingLast, LastAsk, Who, End, Waits, Done, front, last_ask, poll_asks, accept_front, arrival_front, admitted_front, hand_front, refuse_front}
-use Rattle.wasi_world.proofs.Allowed.{Allows, FrontKeeps, allows_polls}
-use Rattle.wasi_tcp.specs.Listener.{accept_ended}
-use Rattle.wasi_steps.specs.declared.step.Step.{Step}
-use Rattle.wasi_walks.specs.Licence.{entry, marked_by, IsAdmitted, HandedNone, MarksNoSocket, MayAsk}
+use Rattle.wasi_walks.proofs.Words.{Accept, Allows, Call, CheckArrival, Done, End, Entry, ErrorCode, FrontKeeps, Given, HandedNone, IpSocketAddress}
+use Rattle.wasi_walks.proofs.Words.{IsAdmitted, IsArrival, IsVerdict, Item, LastAsk, List, MarksNoSocket, MayAsk, Nothing, NothingLast, OpId, Some}
+use Rattle.wasi_walks.proofs.Words.{Step, TcpAccept, Told, Waits, WasiSocketsCtx, Who, [], accept_ended, accept_front, admitted_front, allows_polls}
+use Rattle.wasi_walks.proofs.Words.{ap, append_assoc, arrival_front, bind, entry, front, hand_front, inl, inr, last_ask, marked_by, poll_asks, refl}
+use Rattle.wasi_walks.proofs.Words.{refuse_front, subst, sym, told_arrival, told_verdict, ◌++◌, ◌∙◌, ◌∷◌, ◌≡◌}
+use Rattle.wasi_world.specs.Operation.{Connection}
 use Rattle.wasi_walks.proofs.Lists.{has_last, has_split}
 use Rattle.wasi_walks.proofs.licence.State.{LastAccept, IsHanded, AcceptLeft, Unarrived, ToCheck, AcceptingStands, name_in, WorksOn, AcceptingIsFine}
 use Rattle.wasi_walks.proofs.licence.AcceptFrames.{last_more, handed_unless, unmarked_unless}
-use Rattle.wasi_walks.proofs.licence.Frames.{works_more, maker_more}
+use Rattle.wasi_walks.proofs.licence.Frames.{stay, works_more, maker_more}
 
 -- what is left in the middle of a poll: asks, with nothing handed over, or nothing, once the arrival was
 pub data PollLeft (es : List Entry) (op side : OpId) : Given → List Item → Type 0 where
@@ -29,7 +16,7 @@ pub data PollLeft (es : List Entry) (op side : OpId) : Given → List Item → T
   Taken : (peer : IpSocketAddress) → IsHanded es op side peer → PollLeft es op side (Connection op peer) []
 
 -- the arrival was just told
-told_last : (es : List Entry) (op side : OpId) (peer : IpSocketAddress) → LastAccept (es ++ entry op (call.Accept side) (told.Arrived peer) ∷ []) op side peer
+told_last : (es : List Entry) (op side : OpId) (peer : IpSocketAddress) → LastAccept (es ++ entry op (Call.Accept side) (Told.Arrived peer) ∷ []) op side peer
 told_last es op side peer = record { front = es; back = []; cut = refl; last = λ t i. i }
 
 module _ (contexts : List WasiSocketsCtx) (steps : List Step) where
@@ -55,21 +42,21 @@ module _ (contexts : List WasiSocketsCtx) (steps : List Step) where
 
     module _ (last : who.last ≡ NothingLast) where
       works_on : (es : List Entry) (c : Call) (t : Told) → Works es → Works (es ++ entry who.id c t ∷ [])
-      works_on es c t w = works_more steps es _ who.id who.side who.context w
+      works_on es c t w = works_more (stay steps) es _ who.id who.side who.context w
 
       -- a code ends it, and nothing more is asked
       ends_last : (es : List Entry) (c : ErrorCode) (given : Given) → Allows (MayAs who.id) StandsAfter es (last_ask who who.last c given)
       ends_last es c given = subst (λ (l : LastAsk). Allows (MayAs who.id) StandsAfter es (last_ask who l c given)) (sym last) (record { fine = tt; stands = tt; name = λ y e. absurd (cc) })
 
       -- after the check that was told yes the arrival may be handed over
-      admitted : (es : List Entry) (peer : IpSocketAddress) → Works es → LastAccept es who.id who.side peer → IsAdmitted (es ++ entry who.id (call.Check who.context peer TcpAccept) told.Yes ∷ []) who.id who.side peer
+      admitted : (es : List Entry) (peer : IpSocketAddress) → Works es → LastAccept es who.id who.side peer → IsAdmitted (es ++ entry who.id (Call.Check who.context peer TcpAccept) Told.Yes ∷ []) who.id who.side peer
       admitted es peer w h =
-          let e = entry who.id (call.Check who.context peer TcpAccept) told.Yes in
+          let e = entry who.id (Call.Check who.context peer TcpAccept) Told.Yes in
           record {
             front = h.front;
             back = h.back ++ e ∷ [];
-            cut = ap (λ (fs : List Entry). fs ++ e ∷ []) h.cut ∙ append_assoc h.front (entry who.id (call.Accept who.side) (told.Arrived peer) ∷ h.back) (e ∷ []);
-            last = λ t i. elim (has_split h.back e (entry who.id (call.Accept who.side) t) i) [
+            cut = ap (λ (fs : List Entry). fs ++ e ∷ []) h.cut ∙ append_assoc h.front (entry who.id (Call.Accept who.side) (Told.Arrived peer) ∷ h.back) (e ∷ []);
+            last = λ t i. elim (has_split h.back e (entry who.id (Call.Accept who.side) t) i) [
               | inl j ↦ h.last t j
               | inr q ↦ (let p = ap (λ (x : Entry). x.call) q in absurd (cc))
             ];
@@ -92,14 +79,14 @@ module _ (contexts : List WasiSocketsCtx) (steps : List Step) where
 
       -- the check of the arrival
       asked_check : (es : List Entry) (peer : IpSocketAddress) (t : Told) → IsVerdict t → Works es → HandedNone es who.id → MarksNoSocket es who.id → LastAccept es who.id who.side peer
-          → Allows (MayAs who.id) (FrontKeeps (MayAs who.id) who StandsBefore StandsAfter []) (es ++ entry who.id (call.Check who.context peer TcpAccept) t ∷ []) (admitted_front who peer (told_verdict t))
-      asked_check es peer told.Yes fits w n m h =
-          hands _ peer (works_on es _ told.Yes w) (handed_unless es who.id _ told.Yes who.id n (λ l p e. absurd (cc))) (unmarked_unless es who.id _ told.Yes who.id m refl) (admitted es peer w h)
-      asked_check es peer told.No fits w n m h = refuses _ peer (works_on es _ told.No w) (handed_unless es who.id _ told.No who.id n (λ l p e. absurd (cc))) (unmarked_unless es who.id _ told.No who.id m refl)
-      asked_check es peer told.Pending fits w n m h = record {
-        works = works_on es _ told.Pending w;
-        marked = unmarked_unless es who.id _ told.Pending who.id m refl;
-        so_far = Asking (CheckArrival peer ∷ []) (handed_unless es who.id _ told.Pending who.id n (λ l p e. absurd (cc))) (ToCheck peer (last_more es who.id _ told.Pending who.id who.side peer h (λ x. x)));
+          → Allows (MayAs who.id) (FrontKeeps (MayAs who.id) who StandsBefore StandsAfter []) (es ++ entry who.id (Call.Check who.context peer TcpAccept) t ∷ []) (admitted_front who peer (told_verdict t))
+      asked_check es peer Told.Yes fits w n m h =
+          hands _ peer (works_on es _ Told.Yes w) (handed_unless es who.id _ Told.Yes who.id n (λ l p e. absurd (cc))) (unmarked_unless es who.id _ Told.Yes who.id m refl) (admitted es peer w h)
+      asked_check es peer Told.No fits w n m h = refuses _ peer (works_on es _ Told.No w) (handed_unless es who.id _ Told.No who.id n (λ l p e. absurd (cc))) (unmarked_unless es who.id _ Told.No who.id m refl)
+      asked_check es peer Told.Pending fits w n m h = record {
+        works = works_on es _ Told.Pending w;
+        marked = unmarked_unless es who.id _ Told.Pending who.id m refl;
+        so_far = Asking (CheckArrival peer ∷ []) (handed_unless es who.id _ Told.Pending who.id n (λ l p e. absurd (cc))) (ToCheck peer (last_more es who.id _ Told.Pending who.id who.side peer h (λ x. x)));
       }
       asked_check es peer _ fits w n m h = absurd fits
 
@@ -109,14 +96,14 @@ module _ (contexts : List WasiSocketsCtx) (steps : List Step) where
 
       -- the accept itself
       asked_accept : (es : List Entry) (t : Told) → IsArrival t → Works es → HandedNone es who.id → MarksNoSocket es who.id
-          → Allows (MayAs who.id) (FrontKeeps (MayAs who.id) who StandsBefore StandsAfter []) (es ++ entry who.id (call.Accept who.side) t ∷ []) (accept_front who (told_arrival t))
-      asked_accept es (told.Arrived peer) fits w n m =
-          checks _ peer (works_on es _ (told.Arrived peer) w) (handed_unless es who.id _ (told.Arrived peer) who.id n (λ l p e. absurd (cc))) (unmarked_unless es who.id _ (told.Arrived peer) who.id m refl) (told_last es who.id who.side peer)
-      asked_accept es (told.Code c) fits w n m = ends_last _ c Nothing
-      asked_accept es told.Pending fits w n m = record {
-        works = works_on es _ told.Pending w;
-        marked = unmarked_unless es who.id _ told.Pending who.id m refl;
-        so_far = Asking (Accept ∷ []) (handed_unless es who.id _ told.Pending who.id n (λ l p e. absurd (cc))) Unarrived;
+          → Allows (MayAs who.id) (FrontKeeps (MayAs who.id) who StandsBefore StandsAfter []) (es ++ entry who.id (Call.Accept who.side) t ∷ []) (accept_front who (told_arrival t))
+      asked_accept es (Told.Arrived peer) fits w n m =
+          checks _ peer (works_on es _ (Told.Arrived peer) w) (handed_unless es who.id _ (Told.Arrived peer) who.id n (λ l p e. absurd (cc))) (unmarked_unless es who.id _ (Told.Arrived peer) who.id m refl) (told_last es who.id who.side peer)
+      asked_accept es (Told.Code c) fits w n m = ends_last _ c Nothing
+      asked_accept es Told.Pending fits w n m = record {
+        works = works_on es _ Told.Pending w;
+        marked = unmarked_unless es who.id _ Told.Pending who.id m refl;
+        so_far = Asking (Accept ∷ []) (handed_unless es who.id _ Told.Pending who.id n (λ l p e. absurd (cc))) Unarrived;
       }
       asked_accept es _ fits w n m = absurd fits
 

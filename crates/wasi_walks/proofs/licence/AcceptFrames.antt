@@ -1,20 +1,9 @@
 -- Accepts that stand, under one more entry, and under changes of the records.
-use Rattle.std.proofs.Common.{◌≡◌, ℕ, ◌⊎◌, inl, inr, List, [], ◌∷◌, ◌++◌, Some, None, slice_get, slice_set, refl, sym, ap, subst, ◌∙◌, append_assoc, arith}
-use Rattle.wasi_addr.specs.declared.address.IpSocketAddress.{IpSocketAddress}
-use Rattle.wasi_world.specs.declared.ids.OpId.{OpId}
-use Rattle.wasi_world.specs.declared.call.Call.{Call}
-use Rattle.wasi_world.specs.declared.call.Call.TheVariants.{Accept, Hand, Made}
+use Rattle.wasi_walks.proofs.Words.{Accepting, Accepts, Arrived, Call, Entry, Hand, HandedNone, IpSocketAddress, Item, List, Listening, Made}
+use Rattle.wasi_walks.proofs.Words.{MarksNoSocket, None, Not, OpId, Some, Tcp2Socket, Told, [], ap, append_assoc, arith, entry, inl, inr, marked_by}
+use Rattle.wasi_walks.proofs.Words.{refl, slice_get, slice_set, subst, sym, ℕ, ◌++◌, ◌∙◌, ◌∷◌, ◌≡◌, ◌⊎◌}
+use Rattle.wasi_world.specs.declared.call.Call.TheVariants.{Accept}
 use Rattle.wasi_world.specs.declared.call.HandleKind.TheVariants.{Tcp2}
-use Rattle.wasi_world.specs.declared.call.Told.{Told}
-use Rattle.wasi_world.specs.declared.call.Told.TheVariants.{Arrived}
-use Rattle.wasi_world.specs.declared.call.Entry.{Entry}
-use Rattle.wasi_world.specs.Operation.{Item}
-use Rattle.wasi_tcp.specs.declared.listener.Accepting.{Accepting}
-use Rattle.wasi_tcp.specs.declared.listener.Accepting.TheVariants as accepting
-use Rattle.wasi_host.specs.declared.listening.Listening.{Listening}
-use Rattle.wasi_host.specs.declared.listening.Listening.TheVariants.{Not, Begins, Accepts, Unclosed}
-use Rattle.wasi_host.specs.declared.socket.Tcp2Socket.{Tcp2Socket}
-use Rattle.wasi_walks.specs.Licence.{entry, marked_by, HandedNone, MarksNoSocket}
 use Rattle.wasi_walks.proofs.Lists.{has_split, get_split, get_set}
 use Rattle.wasi_walks.proofs.licence.State.{LastAccept, AcceptLeft, Unarrived, ToCheck, AcceptingStands, ListeningStands, name_in, accept_name, OneHolds}
 
@@ -80,21 +69,19 @@ accept_left_more es op c told x side _ Unarrived n = Unarrived
 accept_left_more es op c told x side _ (ToCheck peer h) n = ToCheck peer (last_more es op c told x side peer h n)
 
 accepting_more : (es : List Entry) (op : OpId) (c : Call) (told : Told) (side : OpId) (a : Accepting) → AcceptingStands es side a → ((x : OpId) → name_in a ≡ Some x → Touches op c x → ⊥) → AcceptingStands (es ++ entry op c told ∷ []) side a
-accepting_more es op c told side accepting.Idle h n = tt
-accepting_more es op c told side (accepting.Asking o) h n = record {
+accepting_more es op c told side Accepting.Idle h n = tt
+accepting_more es op c told side (Accepting.Asking o) h n = record {
   handed = handed_more es op c told o.who.id h.handed (n o.who.id refl);
   marked = unmarked_more es op c told o.who.id h.marked (n o.who.id refl);
   so_far = accept_left_more es op c told o.who.id side o.left h.so_far (n o.who.id refl);
 }
-accepting_more es op c told side (accepting.Arrived new peer) h n = unmarked_more es op c told new h (n new refl)
-accepting_more es op c told side (accepting.Failed code) h n = tt
+accepting_more es op c told side (Accepting.Arrived new peer) h n = unmarked_more es op c told new h (n new refl)
+accepting_more es op c told side (Accepting.Failed code) h n = tt
 
 -- what touches none of their names leaves the accepts
 pub stands_more : (es : List Entry) (op : OpId) (c : Call) (told : Told) (l : Listening) → ListeningStands es l → ((x : OpId) → accept_name l ≡ Some x → Touches op c x → ⊥) → ListeningStands (es ++ entry op c told ∷ []) l
-stands_more es op c told Not h n = tt
-stands_more es op c told (Begins o) h n = tt
 stands_more es op c told (Accepts l) h n = accepting_more es op c told l.side l.accept h n
-stands_more es op c told (Unclosed side) h n = tt
+stands_more es op c told _ h n = tt
 
 -- == a record that changes
 -- The record's accept is the same, or gone.

@@ -1,33 +1,16 @@
 -- What a line asks by its own operation is licensed, and what it is told fits.
-use Rattle.std.proofs.Common.{◌≡◌, inl, ℕ, List, [], ◌∷◌, ◌++◌, Some, refl, sym, ap, subst, ◌∙◌, slice_get}
-use Rattle.wasi_world.specs.declared.ids.OpId.{OpId}
-use Rattle.wasi_world.specs.declared.call.Call.{Call}
-use Rattle.wasi_world.specs.declared.call.Call.TheVariants as call
-use Rattle.wasi_world.specs.declared.call.Told.{Told}
-use Rattle.wasi_world.specs.declared.call.Entry.{Entry}
-use Rattle.wasi_world.specs.declared.outcome.WasiSocketsCtx.{WasiSocketsCtx}
-use Rattle.wasi_world.specs.Operation.{Operation, End, Waits, Done, Refused}
-use Rattle.wasi_world.specs.Fits.{IsAddr}
-use Rattle.wasi_world.specs.Typed.{told_addr}
-use Rattle.wasi_tcp.specs.declared.socket.TcpState.TheVariants as state
-use Rattle.wasi_tcp.specs.declared.writer.WriteState.{WriteState}
-use Rattle.wasi_tcp.specs.declared.writer.WriteState.TheVariants as writing
-use Rattle.wasi_tcp.specs.Socket.{side_in, side_of, after_local}
-use Rattle.wasi_tcp.specs.Writer.{writing_side, closing_side, writer_side}
-use Rattle.wasi_host.specs.declared.listening.Listening.TheVariants.{Begins}
-use Rattle.wasi_host.specs.declared.socket.Tcp2Socket.{Tcp2Socket}
-use Rattle.wasi_host.specs.Machine.{own_of}
-use Rattle.wasi_host.specs.Store.{with_inner}
-use Rattle.wasi_steps.specs.declared.step.Step.{Step}
-use Rattle.wasi_walks.specs.Licence.{entry, step_at, MayAsk, marked_by, MarksNoSocket}
-use Rattle.wasi_walks.proofs.licence.NewNames.{made_more}
-use Rattle.wasi_walks.proofs.licence.Locals.{listen_unless}
+use Rattle.wasi_walks.proofs.Words.{Begins, Call, Done, End, Entry, IsAddr, List, MarksNoSocket, MayAsk, OpId, Operation, Refused, Some, Step}
+use Rattle.wasi_walks.proofs.Words.{Tcp2Socket, TcpState, Told, Waits, WasiSocketsCtx, WriteState, [], after_local, ap, closing_side, entry, inl}
+use Rattle.wasi_walks.proofs.Words.{marked_by, own_of, refl, side_in, side_of, slice_get, step_at, subst, sym, told_addr, with_inner, writer_side}
+use Rattle.wasi_walks.proofs.Words.{writing_side, ℕ, ◌++◌, ◌∙◌, ◌∷◌, ◌≡◌}
+use Rattle.wasi_walks.proofs.licence.Fresh.{made_more}
+use Rattle.wasi_walks.proofs.licence.ListenAsks.{listen_unless}
 use Rattle.wasi_walks.proofs.claims.Law.{Named, no_some}
 use Rattle.wasi_walks.proofs.walks.Moves.{Unused, Here, put, Found, IsQuestionOf, IsOn, OfSocket, OfReader, OfWriter, second_of}
 use Rattle.wasi_walks.proofs.Lists.{has_last, has_front}
 use Rattle.wasi_walks.proofs.licence.State.{ReadsOn, Names, WritesOn, RecordIsFine}
 use Rattle.wasi_walks.proofs.licence.AcceptFrames.{Touches, Spared, same_listening, unmarked_unless, handed_more}
-use Rattle.wasi_walks.proofs.licence.Frames.{NoMark, same_record, names_on, bind_more, record_kept, state_spared, maker_more, side_more, no_touch}
+use Rattle.wasi_walks.proofs.licence.Frames.{stay, NoMark, same_record, names_on, bind_more, record_kept, state_spared, maker_more, side_more, no_touch}
 use Rattle.wasi_walks.proofs.licence.Bounds.{learned_told, NoLocal}
 use Rattle.wasi_walks.proofs.licence.Line.{some_same, local_side, calm, ListenGoesOn, JoinedIsFine, Licensed, put_fine}
 use Rattle.wasi_walks.proofs.licence.Moves.{held_side, same_listen}
@@ -36,7 +19,7 @@ module _ (contexts : List WasiSocketsCtx) (steps : List Step) (line : ℕ) (orig
   -- == asks
   -- no listen that goes on is on a side whose local address is asked for
   abbrev pub Spares : Here → Call → Type 0
-  Spares h c = (k : ℕ) (q : Tcp2Socket) (op : Operation) → Found h k q → q.listening ≡ Begins op → c ≡ call.Local op.who.side → ⊥
+  Spares h c = (k : ℕ) (q : Tcp2Socket) (op : Operation) → Found h k q → q.listening ≡ Begins op → c ≡ Call.Local op.who.side → ⊥
 
   pub spares : (h : Here) (c : Call) → NoLocal c → Spares h c
   spares h c n k q op g e p = subst NoLocal p n
@@ -51,8 +34,8 @@ module _ (contexts : List WasiSocketsCtx) (steps : List Step) (line : ℕ) (orig
   pub asked_by : (es : List Entry) (h : Here) (op : OpId) (c : Call) (told : Told) → marked_by c ≡ 0 → Spared h.machine.store.sockets op c → (h.own ≡ Unused → Touches op c (second_of line) → ⊥) → Spares h c → Licensed steps line origin es h → Licensed steps line origin (es ++ entry op c told ∷ []) h
   asked_by es h op c told z sp u n i = record {
     fine = state_spared steps es (calm h.machine) op c told z sp i.fine;
-    names = λ k j r a g side m. names_on steps es _ (own_of j) side (i.names k j r a g side m);
-    hand = λ o e. bind_more steps es _ o (i.hand o e);
+    names = λ k j r a g side m. names_on (stay steps) es _ (own_of j) side (i.names k j r a g side m);
+    hand = λ o e. bind_more (stay steps) es _ o (i.hand o e);
     listens = listens_on es h op c told n i;
     new = λ o. (handed_more es op c told (second_of line) (i.new o).0 (u o), unmarked_unless es op c told (second_of line) (i.new o).1 z);
     unmade = λ e a s is. made_more es op (own_of line) c told z (i.unmade e a s is);
@@ -61,27 +44,27 @@ module _ (contexts : List WasiSocketsCtx) (steps : List Step) (line : ℕ) (orig
   }
 
   no_mark : (c : Call) → NoMark c → marked_by c ≡ 0
-  no_mark (call.Made handle kind parent sock) h = absurd h
+  no_mark (Call.Made handle kind parent sock) h = absurd h
   no_mark _ h = refl
 
   pub asked_fine : (es : List Entry) (h : Here) (op : OpId) (c : Call) (told : Told) → NoMark c → Spares h c → Licensed steps line origin es h → Licensed steps line origin (es ++ entry op c told ∷ []) h
   asked_fine es h op c told q n i = asked_by es h op c told (no_mark c q) (λ place r x e m. no_touch op c x q) (λ o. no_touch op c (second_of line) q) n i
 
   writer_is : (es : List Entry) (side at : OpId) (w : WriteState) → WritesOn steps es side w → writer_side w ≡ Some at → at ≡ side
-  writer_is es side at (writing.Ready half permit) on e = some_same at half.side e ∙ on
-  writer_is es side at (writing.Writing job) on e = by_end job.end e
+  writer_is es side at (WriteState.Ready half permit) on e = some_same at half.side e ∙ on
+  writer_is es side at (WriteState.Writing job) on e = by_end job.end e
     where
       by_end : (x : End) → writing_side job x ≡ Some at → at ≡ side
       by_end Waits p = some_same at job.write.who.side p ∙ on.on
       by_end (Done given) p = some_same at job.write.who.side p ∙ on.on
       by_end (Refused c given) p = absurd (cc)
-  writer_is es side at (writing.Closing job) on e = by_end job.end e
+  writer_is es side at (WriteState.Closing job) on e = by_end job.end e
     where
       by_end : (x : End) → closing_side job x ≡ Some at → at ≡ side
       by_end Waits p = some_same at job.write.who.side p ∙ on.on
       by_end (Done given) p = absurd (cc)
       by_end (Refused c given) p = absurd (cc)
-  writer_is es side at (writing.Closed e) on p = absurd (cc)
+  writer_is es side at (WriteState.Closed e) on p = absurd (cc)
 
   pub on_side : (es : List Entry) (r : Tcp2Socket) (side : OpId) → IsOn r side → RecordIsFine steps es r → side_of r.inner ≡ Some side
   on_side es r side (OfSocket e) f = e
@@ -100,33 +83,33 @@ module _ (contexts : List WasiSocketsCtx) (steps : List Step) (line : ℕ) (orig
       let same : r ≡ q = same_record r q (sym g ∙ (ap (slice_get h.machine.store.sockets) at ∙ gq)) in
       no_some side (sym d.1 ∙ (ap (λ (x : Tcp2Socket). side_of x.inner) (sym same) ∙ p))
 
-  pub question_local : (side x : OpId) (c : Call) → IsQuestionOf side c → c ≡ call.Local x → side ≡ x
-  question_local side x (call.Local s) q e = let p : s ≡ x = cc in sym q ∙ p
-  question_local side x (call.Peer s) q e = absurd (cc)
-  question_local side x (call.GetOption s o) q e = absurd (cc)
-  question_local side x (call.SetOption s o v) q e = absurd (cc)
-  question_local side x (call.Read s k) q e = absurd (cc)
-  question_local side x (call.ReadReady s) q e = absurd (cc)
-  question_local side x (call.WriteReady s) q e = absurd (cc)
-  question_local side x (call.Shutdown s how) q e = absurd (cc)
+  pub question_local : (side x : OpId) (c : Call) → IsQuestionOf side c → c ≡ Call.Local x → side ≡ x
+  question_local side x (Call.Local s) q e = let p : s ≡ x = cc in sym q ∙ p
+  question_local side x (Call.Peer s) q e = absurd (cc)
+  question_local side x (Call.GetOption s o) q e = absurd (cc)
+  question_local side x (Call.SetOption s o v) q e = absurd (cc)
+  question_local side x (Call.Read s k) q e = absurd (cc)
+  question_local side x (Call.ReadReady s) q e = absurd (cc)
+  question_local side x (Call.WriteReady s) q e = absurd (cc)
+  question_local side x (Call.Shutdown s how) q e = absurd (cc)
   question_local side x _ q e = absurd q
 
   pub question_may : (n : ℕ) (es : List Entry) (side : OpId) (c : Call) → IsQuestionOf side c → Names steps es (own_of n) side → MayAsk contexts steps es (own_of n) c × NoMark c
-  question_may n es side (call.Local s) q k = (inl (subst (Names steps es (own_of n)) (sym q) k), tt)
-  question_may n es side (call.Peer s) q k = (inl (subst (Names steps es (own_of n)) (sym q) k), tt)
-  question_may n es side (call.GetOption s o) q k = (inl (subst (Names steps es (own_of n)) (sym q) k), tt)
-  question_may n es side (call.SetOption s o v) q k = (inl (subst (Names steps es (own_of n)) (sym q) k), tt)
-  question_may n es side (call.Read s z) q k = (inl (subst (Names steps es (own_of n)) (sym q) k), tt)
-  question_may n es side (call.ReadReady s) q k = (inl (subst (Names steps es (own_of n)) (sym q) k), tt)
-  question_may n es side (call.WriteReady s) q k = (inl (subst (Names steps es (own_of n)) (sym q) k), tt)
-  question_may n es side (call.Shutdown s how) q k = (inl (subst (Names steps es (own_of n)) (sym q) k), tt)
+  question_may n es side (Call.Local s) q k = (inl (subst (Names steps es (own_of n)) (sym q) k), tt)
+  question_may n es side (Call.Peer s) q k = (inl (subst (Names steps es (own_of n)) (sym q) k), tt)
+  question_may n es side (Call.GetOption s o) q k = (inl (subst (Names steps es (own_of n)) (sym q) k), tt)
+  question_may n es side (Call.SetOption s o v) q k = (inl (subst (Names steps es (own_of n)) (sym q) k), tt)
+  question_may n es side (Call.Read s z) q k = (inl (subst (Names steps es (own_of n)) (sym q) k), tt)
+  question_may n es side (Call.ReadReady s) q k = (inl (subst (Names steps es (own_of n)) (sym q) k), tt)
+  question_may n es side (Call.WriteReady s) q k = (inl (subst (Names steps es (own_of n)) (sym q) k), tt)
+  question_may n es side (Call.Shutdown s how) q k = (inl (subst (Names steps es (own_of n)) (sym q) k), tt)
   question_may n es side _ q k = absurd q
 
-  pub learned_fine : (es : List Entry) (h : Here) (place : ℕ) (r : Tcp2Socket) (side : OpId) (told : Told) → Found h place r → r.inner.state ≡ state.Default side → IsAddr told → Named line h → Licensed steps line origin es h
-      → (let fs = es ++ entry (own_of line) (call.Local side) told ∷ [] in Licensed steps line origin fs (put h place (with_inner r (after_local r.inner (told_addr told)).1)))
+  pub learned_fine : (es : List Entry) (h : Here) (place : ℕ) (r : Tcp2Socket) (side : OpId) (told : Told) → Found h place r → r.inner.state ≡ TcpState.Default side → IsAddr told → Named line h → Licensed steps line origin es h
+      → (let fs = es ++ entry (own_of line) (Call.Local side) told ∷ [] in Licensed steps line origin fs (put h place (with_inner r (after_local r.inner (told_addr told)).1)))
   learned_fine es h place r side told g e f b i =
-      let fs : List Entry = es ++ entry (own_of line) (call.Local side) told ∷ [] in
-      let j = asked_fine es h (own_of line) (call.Local side) told tt (λ k q op d l p. not_held h place r side g (ap side_in e) b k q op d l (local_side side op.who.side p)) i in
+      let fs : List Entry = es ++ entry (own_of line) (Call.Local side) told ∷ [] in
+      let j = asked_fine es h (own_of line) (Call.Local side) told tt (λ k q op d l p. not_held h place r side g (ap side_in e) b k q op d l (local_side side op.who.side p)) i in
       let x = j.fine.sockets place r g in
       let l = learned_told contexts steps fs (own_of line) side r.inner told e f (has_last es _) x.socket in
       let now : Tcp2Socket = with_inner r (after_local r.inner (told_addr told)).1 in

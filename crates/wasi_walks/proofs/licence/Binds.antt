@@ -1,26 +1,12 @@
 -- A bind: each of its asks is allowed, and what it leaves may be polled on.
-use Rattle.std.proofs.Common.{◌≡◌, inl, List, [], ◌∷◌, ◌++◌, sym, subst}
-use Rattle.wasi_addr.specs.declared.address.IpSocketAddress.{IpSocketAddress}
-use Rattle.wasi_addr.specs.declared.address.SocketAddrUse.TheVariants.{TcpBind}
-use Rattle.wasi_addr.specs.declared.code.ErrorCode.{ErrorCode}
-use Rattle.wasi_addr.specs.declared.code.ErrorCode.TheVariants.{AccessDenied}
-use Rattle.wasi_world.specs.declared.call.Call.{Call}
-use Rattle.wasi_world.specs.declared.call.Call.TheVariants as call
-use Rattle.wasi_world.specs.declared.call.Told.{Told}
-use Rattle.wasi_world.specs.declared.call.Told.TheVariants as told
-use Rattle.wasi_world.specs.declared.call.Entry.{Entry}
-use Rattle.wasi_world.specs.declared.outcome.WasiSocketsCtx.{WasiSocketsCtx}
-use Rattle.wasi_world.specs.Asks.{bind}
-use Rattle.wasi_world.specs.Typed.{told_verdict, told_done}
-use Rattle.wasi_world.specs.Operation.{Given, Nothing, Item, Check, Bind, LastAsk, NothingLast, Who, Operation, End, front, last_ask, poll_asks, verdict_front, done_front}
-use Rattle.wasi_world.proofs.Allowed.{Allows, FrontKeeps, allows_polls}
-use Rattle.wasi_host.specs.Store.{left_of}
-use Rattle.wasi_steps.specs.declared.step.Step.{Step}
-use Rattle.wasi_walks.specs.Licence.{entry, BeganBy, IsBindTo}
+use Rattle.wasi_walks.proofs.Words.{AccessDenied, Allows, BeganBy, Bind, Call, Check, End, Entry, ErrorCode, FrontKeeps, Given, IpSocketAddress}
+use Rattle.wasi_walks.proofs.Words.{IsBindTo, Item, LastAsk, List, Nothing, NothingLast, Operation, Step, TcpBind, Told, WasiSocketsCtx, Who, []}
+use Rattle.wasi_walks.proofs.Words.{allows_polls, bind, done_front, entry, front, inl, last_ask, left_of, poll_asks, subst, sym, told_done}
+use Rattle.wasi_walks.proofs.Words.{told_verdict, verdict_front, ◌++◌, ◌∷◌, ◌≡◌}
 use Rattle.wasi_walks.proofs.Lists.{has_last}
 use Rattle.wasi_walks.proofs.licence.Bounds.{May}
 use Rattle.wasi_walks.proofs.licence.State.{BindLeft, Whole, Checked, Over, WorksOn, BindIsFine}
-use Rattle.wasi_walks.proofs.licence.Frames.{works_more}
+use Rattle.wasi_walks.proofs.licence.Frames.{stay, works_more}
 
 module _ (contexts : List WasiSocketsCtx) (steps : List Step) where
   -- == a poll
@@ -40,7 +26,7 @@ module _ (contexts : List WasiSocketsCtx) (steps : List Step) where
 
     module _ (addr : IpSocketAddress) (to : BeganBy steps who.id (IsBindTo addr)) (last : who.last ≡ NothingLast) where
       works_on : (es : List Entry) (c : Call) (t : Told) → Works es → Works (es ++ entry who.id c t ∷ [])
-      works_on es c t w = works_more steps es _ who.id who.side who.context w
+      works_on es c t w = works_more (stay steps) es _ who.id who.side who.context w
 
       stands : (es : List Entry) (items : List Item) → Works es → BindLeft es who.id who.context addr items → Stands es items
       stands es items w l = record { addr = addr; to = to; works = w; last = last; left = l }
@@ -48,13 +34,13 @@ module _ (contexts : List WasiSocketsCtx) (steps : List Step) where
       ends_last : (es : List Entry) (c : ErrorCode) (given : Given) → Works es → Allows (May contexts steps) StandsAfter es (last_ask who who.last c given)
       ends_last es c given w = subst (λ (l : LastAsk). Allows (May contexts steps) StandsAfter es (last_ask who l c given)) (sym last) (stands es [] w Over)
 
-      checked : (es : List Entry) (t : Told) → Works es → FrontKeeps (May contexts steps) who StandsBefore StandsAfter (Bind addr ∷ []) (es ++ entry who.id (call.Check who.context addr TcpBind) t ∷ []) (verdict_front (Check addr TcpBind) (told_verdict t))
-      checked es told.Yes w = stands _ _ (works_on es _ told.Yes w) (Checked (has_last es _))
-      checked es told.No w = ends_last _ AccessDenied Nothing (works_on es _ told.No w)
+      checked : (es : List Entry) (t : Told) → Works es → FrontKeeps (May contexts steps) who StandsBefore StandsAfter (Bind addr ∷ []) (es ++ entry who.id (Call.Check who.context addr TcpBind) t ∷ []) (verdict_front (Check addr TcpBind) (told_verdict t))
+      checked es Told.Yes w = stands _ _ (works_on es _ Told.Yes w) (Checked (has_last es _))
+      checked es Told.No w = ends_last _ AccessDenied Nothing (works_on es _ Told.No w)
       checked es t w = stands _ _ (works_on es _ t w) Whole
 
-      bound : (es : List Entry) (t : Told) → Works es → FrontKeeps (May contexts steps) who StandsBefore StandsAfter [] (es ++ entry who.id (call.Bind who.side addr) t ∷ []) (done_front (told_done t))
-      bound es (told.Code c) w = ends_last _ c Nothing (works_on es _ (told.Code c) w)
+      bound : (es : List Entry) (t : Told) → Works es → FrontKeeps (May contexts steps) who StandsBefore StandsAfter [] (es ++ entry who.id (Call.Bind who.side addr) t ∷ []) (done_front (told_done t))
+      bound es (Told.Code c) w = ends_last _ c Nothing (works_on es _ (Told.Code c) w)
       bound es t w = stands _ _ (works_on es _ t w) Over
 
       fine_front : (es : List Entry) (item : Item) (items : List Item) → Works es → BindLeft es who.id who.context addr (item ∷ items) → Allows (May contexts steps) (FrontKeeps (May contexts steps) who StandsBefore StandsAfter items) es (front who item)

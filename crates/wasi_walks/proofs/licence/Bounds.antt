@@ -1,28 +1,18 @@
 -- Whether a socket is bound: what is asked is allowed, and what is learned is in the log.
-use Rattle.std.specs.Prelude.{⊤}
-use Rattle.std.proofs.Common.{◌≡◌, Bool, true, false, if◌then◌else◌, List, refl, ap, subst}
-use Rattle.wasi_addr.specs.Address.{is_wildcard}
-use Rattle.wasi_world.specs.declared.ids.OpId.{OpId}
-use Rattle.wasi_world.specs.declared.call.Call.{Call}
-use Rattle.wasi_world.specs.declared.call.Call.TheVariants as call
-use Rattle.wasi_world.specs.declared.call.Told.{Told}
-use Rattle.wasi_world.specs.declared.call.Told.TheVariants as told
-use Rattle.wasi_world.specs.declared.call.Entry.{Entry}
-use Rattle.wasi_world.specs.declared.outcome.WasiSocketsCtx.{WasiSocketsCtx}
-use Rattle.wasi_world.specs.Fits.{IsAddr}
-use Rattle.wasi_world.specs.Typed.{told_addr}
-use Rattle.wasi_tcp.specs.declared.socket.TcpState.TheVariants as state
-use Rattle.wasi_tcp.specs.Shape.{Socket}
-use Rattle.wasi_tcp.specs.Socket.{side_in, after_local}
-use Rattle.wasi_steps.specs.declared.step.Step.{Step}
-use Rattle.wasi_walks.specs.Licence.{Has, entry, IsBoundSide, MayAsk}
+use Rattle.wasi_walks.proofs.Words.{Bool, Call, Entry, Has, IsAddr, IsBoundSide, List, MayAsk, OpId, Socket, Step, TcpState, Told, WasiSocketsCtx}
+use Rattle.wasi_walks.proofs.Words.{after_local, ap, entry, false, if◌then◌else◌, is_wildcard, refl, side_in, subst, told_addr, true, ⊤, ◌≡◌}
 use Rattle.wasi_walks.proofs.licence.State.{SocketIsFine}
 use Rattle.wasi_walks.proofs.licence.Frames.{NoMark, KeepsSide, keeps_side}
+use Rattle.wasi_walks.proofs.claims.Polls.{IsPlainCall}
 
 -- any call but `local`
 abbrev pub NoLocal : Call → Type 0
-NoLocal (call.Local side) = ⊥
+NoLocal (Call.Local side) = ⊥
 NoLocal _ = ⊤
+
+pub no_local : (c : Call) → IsPlainCall c → NoLocal c
+no_local (Call.Local side) h = h
+no_local _ h = tt
 
 module _ (contexts : List WasiSocketsCtx) (steps : List Step) where
   -- an ask that may come, and is no mark
@@ -43,7 +33,7 @@ module _ (contexts : List WasiSocketsCtx) (steps : List Step) where
   learned_nothing : (socket : Socket) (es : List Entry) → SocketIsFine steps es socket → Learned socket es (false, socket)
   learned_nothing socket es f = record { keeps = keeps_side socket; state = refl; told = λ e. absurd (cc); fine = f }
 
-  learned_bound : (socket : Socket) (es : List Entry) → SocketIsFine steps es socket → ((side : OpId) → socket.state ≡ state.Default side → IsBoundSide es side) → Learned socket es (true, record socket { bound = true })
+  learned_bound : (socket : Socket) (es : List Entry) → SocketIsFine steps es socket → ((side : OpId) → socket.state ≡ TcpState.Default side → IsBoundSide es side) → Learned socket es (true, record socket { bound = true })
   learned_bound socket es f w = record {
     keeps = record { maker = refl; family = refl; side = λ s e. e; connected = λ c e. record { connection = c; state = e; same = refl } };
     state = refl;
@@ -51,11 +41,11 @@ module _ (contexts : List WasiSocketsCtx) (steps : List Step) where
     fine = record { knows = record { maker = f.knows.maker }; bound = λ side s e. w side s; listens = f.listens; connect = f.connect };
   }
 
-  pub learned_told : (es : List Entry) (op side : OpId) (socket : Socket) (t : Told) → socket.state ≡ state.Default side → IsAddr t → Has es (entry op (call.Local side) t) → SocketIsFine steps es socket → Learned socket es (after_local socket (told_addr t))
-  learned_told es op side socket (told.Addr a) e fits has f = by_test (is_wildcard socket.family a) refl
+  pub learned_told : (es : List Entry) (op side : OpId) (socket : Socket) (t : Told) → socket.state ≡ TcpState.Default side → IsAddr t → Has es (entry op (Call.Local side) t) → SocketIsFine steps es socket → Learned socket es (after_local socket (told_addr t))
+  learned_told es op side socket (Told.Addr a) e fits has f = by_test (is_wildcard socket.family a) refl
     where
-      same : (other : OpId) → socket.state ≡ state.Default other → side ≡ other
-      same other s = let p : state.Default side ≡ state.Default other = cc in cc
+      same : (other : OpId) → socket.state ≡ TcpState.Default other → side ≡ other
+      same other s = let p : TcpState.Default side ≡ TcpState.Default other = cc in cc
 
       by_test : (b : Bool) → is_wildcard socket.family a ≡ b → (let told : Bool × Socket = if b then (false, socket) else (true, record socket { bound = true }) in Learned socket es told)
       by_test true p = learned_nothing socket es f
@@ -65,8 +55,8 @@ module _ (contexts : List WasiSocketsCtx) (steps : List Step) where
         maker = f.knows.maker other (ap side_in s);
         op = op;
         addr = a;
-        told = subst (λ (o : OpId). Has es (entry op (call.Local o) (told.Addr a))) (same other s) has;
+        told = subst (λ (o : OpId). Has es (entry op (Call.Local o) (Told.Addr a))) (same other s) has;
         other = p;
       })
-  learned_told es op side socket (told.Code c) e fits has f = learned_nothing socket es f
+  learned_told es op side socket (Told.Code c) e fits has f = learned_nothing socket es f
   learned_told es op side socket _ e fits has f = absurd fits

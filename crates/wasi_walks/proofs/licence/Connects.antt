@@ -1,37 +1,14 @@
 -- A connect: each of its asks is allowed, and what it leaves may be polled on.
-use Rattle.std.specs.Prelude.{⊤}
-use Rattle.std.proofs.Common.{◌≡◌, inl, inr, List, [], ◌∷◌, ◌++◌, Some, Ok, Result, refl, sym, ap, subst, ◌∙◌}
-use Rattle.wasi_addr.specs.declared.address.IpSocketAddress.{IpSocketAddress}
-use Rattle.wasi_addr.specs.declared.address.SocketAddressFamily.{SocketAddressFamily}
-use Rattle.wasi_addr.specs.declared.address.SocketAddrUse.TheVariants.{TcpBind, TcpConnect}
-use Rattle.wasi_addr.specs.declared.code.ErrorCode.{ErrorCode}
-use Rattle.wasi_addr.specs.declared.code.ErrorCode.TheVariants.{AccessDenied}
-use Rattle.wasi_addr.specs.Address.{wildcard}
-use Rattle.wasi_world.specs.declared.ids.OpId.{OpId}
-use Rattle.wasi_world.specs.declared.call.Call.{Call}
-use Rattle.wasi_world.specs.declared.call.Call.TheVariants as call
-use Rattle.wasi_world.specs.declared.call.Told.{Told}
-use Rattle.wasi_world.specs.declared.call.Told.TheVariants as told
-use Rattle.wasi_world.specs.declared.call.Entry.{Entry}
-use Rattle.wasi_world.specs.declared.outcome.Answer.{Answer}
-use Rattle.wasi_world.specs.declared.outcome.Answer.TheVariants.{Ready}
-use Rattle.wasi_world.specs.declared.outcome.WasiSocketsCtx.{WasiSocketsCtx}
-use Rattle.wasi_world.specs.Asks.{bind}
-use Rattle.wasi_world.specs.Typed.{told_verdict, told_polled}
-use Rattle.wasi_world.specs.Operation.{Given, Nothing, Item, Check, Connect, LastAsk, CloseLast, Who, Operation, End, Waits, Done, Refused, front, last_ask, poll_asks, verdict_front, polled_front}
-use Rattle.wasi_world.proofs.Allowed.{Allows, FrontKeeps, allows_polls}
-use Rattle.wasi_tcp.specs.declared.socket.TcpState.{TcpState}
-use Rattle.wasi_tcp.specs.declared.socket.TcpState.TheVariants as state
-use Rattle.wasi_tcp.specs.Shape.{Socket}
-use Rattle.wasi_tcp.specs.Socket.{side_in, side_of}
-use Rattle.wasi_tcp.specs.Connecting.{with_state, new_connection, connect_ended, in_socket}
-use Rattle.wasi_host.specs.Store.{left_of}
-use Rattle.wasi_steps.specs.declared.step.Step.{Step}
-use Rattle.wasi_walks.specs.Licence.{Has, entry, BeganBy, IsMaker, IsConnectTo, MayGoOut}
+use Rattle.wasi_walks.proofs.Words.{AccessDenied, Allows, Answer, BeganBy, Call, Check, CloseLast, Connect, Done, End, Entry, ErrorCode, FrontKeeps}
+use Rattle.wasi_walks.proofs.Words.{Given, Has, IpSocketAddress, IsConnectTo, IsMaker, Item, LastAsk, List, MayGoOut, Nothing, Ok, OpId, Operation}
+use Rattle.wasi_walks.proofs.Words.{Ready, Refused, Result, Socket, SocketAddressFamily, Some, Step, TcpBind, TcpConnect, TcpState, Told, Waits}
+use Rattle.wasi_walks.proofs.Words.{WasiSocketsCtx, Who, [], allows_polls, ap, bind, connect_ended, entry, front, in_socket, inl, inr, last_ask}
+use Rattle.wasi_walks.proofs.Words.{left_of, new_connection, poll_asks, polled_front, refl, side_in, side_of, subst, sym, told_polled, told_verdict}
+use Rattle.wasi_walks.proofs.Words.{verdict_front, wildcard, with_state, ⊤, ◌++◌, ◌∙◌, ◌∷◌, ◌≡◌}
 use Rattle.wasi_walks.proofs.licence.Bounds.{May}
 use Rattle.wasi_walks.proofs.Lists.{has_last, has_front}
 use Rattle.wasi_walks.proofs.licence.State.{ConnectLeft, Unbound, Unchecked, Allowed, ToClose, Ended, WorksOn, ConnectIsFine, IsConnectedOn, KnowsMaker, SocketIsFine}
-use Rattle.wasi_walks.proofs.licence.Frames.{KeepsSide, works_more, out_more, maker_more}
+use Rattle.wasi_walks.proofs.licence.Frames.{stay, KeepsSide, works_more, out_more, maker_more}
 
 module _ (contexts : List WasiSocketsCtx) (steps : List Step) where
   -- == a poll
@@ -51,7 +28,7 @@ module _ (contexts : List WasiSocketsCtx) (steps : List Step) where
 
     module _ (addr : IpSocketAddress) (to : BeganBy steps who.id (IsConnectTo addr)) (last : who.last ≡ CloseLast) where
       works_on : (es : List Entry) (c : Call) (t : Told) → Works es → Works (es ++ entry who.id c t ∷ [])
-      works_on es c t w = works_more steps es _ who.id who.side who.context w
+      works_on es c t w = works_more (stay steps) es _ who.id who.side who.context w
 
       stands : (es : List Entry) (items : List Item) → Works es → ConnectLeft es who.id who.side who.context addr items → Stands es items
       stands es items w l = record { addr = addr; to = to; works = w; last = last; left = l }
@@ -64,24 +41,24 @@ module _ (contexts : List WasiSocketsCtx) (steps : List Step) where
 
       -- the check of the wildcard
       asked_wildcard : (es : List Entry) (family : SocketAddressFamily) (t : Told) → Works es → IsMaker es who.context family who.side
-          → FrontKeeps (May contexts steps) who StandsBefore StandsAfter (Check addr TcpConnect ∷ Connect addr ∷ []) (es ++ entry who.id (call.Check who.context (wildcard family) TcpBind) t ∷ []) (verdict_front (Check (wildcard family) TcpBind) (told_verdict t))
-      asked_wildcard es family told.Yes w m = stands _ _ (works_on es _ told.Yes w)
+          → FrontKeeps (May contexts steps) who StandsBefore StandsAfter (Check addr TcpConnect ∷ Connect addr ∷ []) (es ++ entry who.id (Call.Check who.context (wildcard family) TcpBind) t ∷ []) (verdict_front (Check (wildcard family) TcpBind) (told_verdict t))
+      asked_wildcard es family Told.Yes w m = stands _ _ (works_on es _ Told.Yes w)
           (Unchecked (inr (record { ctx = who.context; family = family; maker = maker_more es _ who.context family who.side m; checked = has_last es _ })))
-      asked_wildcard es family told.No w m = ends_last _ AccessDenied Nothing (works_on es _ told.No w)
+      asked_wildcard es family Told.No w m = ends_last _ AccessDenied Nothing (works_on es _ Told.No w)
       asked_wildcard es family t w m = stands _ _ (works_on es _ t w) (Unbound family (maker_more es _ who.context family who.side m))
 
       -- the check of the address
       asked_check : (es : List Entry) (t : Told) → Works es → MayGoOut es who.id who.side
-          → FrontKeeps (May contexts steps) who StandsBefore StandsAfter (Connect addr ∷ []) (es ++ entry who.id (call.Check who.context addr TcpConnect) t ∷ []) (verdict_front (Check addr TcpConnect) (told_verdict t))
-      asked_check es told.Yes w o = stands _ _ (works_on es _ told.Yes w) (Allowed (out_more es _ who.id who.side o) (has_last es _))
-      asked_check es told.No w o = ends_last _ AccessDenied Nothing (works_on es _ told.No w)
+          → FrontKeeps (May contexts steps) who StandsBefore StandsAfter (Connect addr ∷ []) (es ++ entry who.id (Call.Check who.context addr TcpConnect) t ∷ []) (verdict_front (Check addr TcpConnect) (told_verdict t))
+      asked_check es Told.Yes w o = stands _ _ (works_on es _ Told.Yes w) (Allowed (out_more es _ who.id who.side o) (has_last es _))
+      asked_check es Told.No w o = ends_last _ AccessDenied Nothing (works_on es _ Told.No w)
       asked_check es t w o = stands _ _ (works_on es _ t w) (Unchecked (out_more es _ who.id who.side o))
 
       -- the connect itself
-      asked_connect : (es : List Entry) (t : Told) → Works es → MayGoOut es who.id who.side → Has es (entry who.id (call.Check who.context addr TcpConnect) told.Yes)
-          → FrontKeeps (May contexts steps) who StandsBefore StandsAfter [] (es ++ entry who.id (call.Connect who.side addr) t ∷ []) (polled_front (Connect addr) (told_polled t))
-      asked_connect es told.Done w o y = stands _ _ (works_on es _ told.Done w) Ended
-      asked_connect es (told.Code c) w o y = ends_last _ c Nothing (works_on es _ (told.Code c) w)
+      asked_connect : (es : List Entry) (t : Told) → Works es → MayGoOut es who.id who.side → Has es (entry who.id (Call.Check who.context addr TcpConnect) Told.Yes)
+          → FrontKeeps (May contexts steps) who StandsBefore StandsAfter [] (es ++ entry who.id (Call.Connect who.side addr) t ∷ []) (polled_front (Connect addr) (told_polled t))
+      asked_connect es Told.Done w o y = stands _ _ (works_on es _ Told.Done w) Ended
+      asked_connect es (Told.Code c) w o y = ends_last _ c Nothing (works_on es _ (Told.Code c) w)
       asked_connect es t w o y = stands _ _ (works_on es _ t w) (Allowed (out_more es _ who.id who.side o) (has_front es _ _ y))
 
       fine_front : (es : List Entry) (item : Item) (items : List Item) → Works es → ConnectLeft es who.id who.side who.context addr (item ∷ items)
@@ -113,7 +90,7 @@ module _ (contexts : List WasiSocketsCtx) (steps : List Step) where
     pub fine : SocketIsFine steps es done.1
     pub side : HasSide done.1 done.0
 
-  plain : (es : List Entry) (socket : Socket) (s : TcpState) → ((side : OpId) → side_in s ≡ Some side → side_of socket ≡ Some side) → KnowsMaker es socket → ((side : OpId) → s ≡ state.Default side → socket.state ≡ state.Default side) → ((side : OpId) → s ≡ state.Listening side → ⊥) → ((op : Operation) → s ≡ state.Connecting op → ConnectIsFine steps es op) → SocketIsFine steps es socket → SocketIsFine steps es (with_state socket s)
+  plain : (es : List Entry) (socket : Socket) (s : TcpState) → ((side : OpId) → side_in s ≡ Some side → side_of socket ≡ Some side) → KnowsMaker es socket → ((side : OpId) → s ≡ TcpState.Default side → socket.state ≡ TcpState.Default side) → ((side : OpId) → s ≡ TcpState.Listening side → ⊥) → ((op : Operation) → s ≡ TcpState.Connecting op → ConnectIsFine steps es op) → SocketIsFine steps es socket → SocketIsFine steps es (with_state socket s)
   plain es socket s k m d n c f = record {
     knows = record { maker = λ side e. m.maker side (k side e) };
     bound = λ side e b. f.bound side (d side e) b;
@@ -121,7 +98,7 @@ module _ (contexts : List WasiSocketsCtx) (steps : List Step) where
     connect = c;
   }
 
-  pub ended : (es : List Entry) (socket : Socket) (op : Operation) (end : End × List Item) → socket.state ≡ state.Connecting op → SocketIsFine steps es socket → ConnectIsFine steps es (left_of op end.1) → FinishedFine socket es (in_socket socket (connect_ended op.who end))
+  pub ended : (es : List Entry) (socket : Socket) (op : Operation) (end : End × List Item) → socket.state ≡ TcpState.Connecting op → SocketIsFine steps es socket → ConnectIsFine steps es (left_of op end.1) → FinishedFine socket es (in_socket socket (connect_ended op.who end))
   ended es socket op (Waits, items) e f c = record {
     keeps = record { maker = refl; family = refl; side = λ s p. ap side_in e ∙ p; connected = λ d p. absurd (cc) };
     fine = plain es socket _ (λ s p. ap side_in e ∙ p) f.knows (λ s p. absurd (cc)) (λ s p. cc) (λ o p. let same : left_of op items ≡ o = cc in subst (ConnectIsFine steps es) same c) f;

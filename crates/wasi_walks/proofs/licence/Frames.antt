@@ -1,44 +1,17 @@
 -- The invariant under one more entry, and under changes of the state.
-use Rattle.std.specs.Prelude.{⊤}
-use Rattle.std.proofs.Common.{◌≡◌, ℕ, inl, inr, List, [], ◌∷◌, ◌++◌, Option, Some, None, slice_get, slice_set, refl, sym, ap, subst, ◌∙◌, arith}
-use Rattle.wasi_addr.specs.declared.address.IpSocketAddress.{IpSocketAddress}
-use Rattle.wasi_addr.specs.declared.address.SocketAddressFamily.{SocketAddressFamily}
-use Rattle.wasi_addr.specs.declared.address.SocketAddrUse.{SocketAddrUse}
-use Rattle.wasi_world.specs.declared.ids.OpId.{OpId}
-use Rattle.wasi_world.specs.declared.call.Call.{Call}
-use Rattle.wasi_world.specs.declared.call.Call.TheVariants.{Accept, Hand, Made}
-use Rattle.wasi_world.specs.declared.call.HandleKind.{HandleKind}
-use Rattle.wasi_world.specs.declared.call.Told.{Told}
-use Rattle.wasi_world.specs.declared.call.Entry.{Entry}
-use Rattle.wasi_world.specs.Operation.{Item, Operation}
+use Rattle.wasi_walks.proofs.Words.{Accepting, Accepts, BeganBy, Call, Connection, Created, Entry, Hand, Handed, HandleKind, HasWildcardYes}
+use Rattle.wasi_walks.proofs.Words.{IpSocketAddress, IsBoundSide, IsMaker, IsMarkedWith, IsSide, Item, Job, Kind, List, Listening, Listens, Machine}
+use Rattle.wasi_walks.proofs.Words.{Made, MayGoOut, NamesSide, None, OpId, Operation, Option, Socket, SocketAddrUse, SocketAddressFamily, Some}
+use Rattle.wasi_walks.proofs.Words.{Standing, StandingCall, Step, Streams, Tcp2Socket, Told, WriteState, [], ap, arith, entry, inl, inr, marked_by}
+use Rattle.wasi_walks.proofs.Words.{new_record, own_of, refl, side_of, slice_get, slice_set, step_at, subst, sym, table_parent, with_handle}
+use Rattle.wasi_walks.proofs.Words.{with_record, with_socket, without_handle, ℕ, ⊤, ◌++◌, ◌∙◌, ◌∷◌, ◌≡◌}
+use Rattle.wasi_world.specs.declared.call.Call.TheVariants.{Accept}
 use Rattle.wasi_streams.proofs.Tables.{value_without}
-use Rattle.wasi_tcp.specs.declared.listener.Accepting.{Accepting}
-use Rattle.wasi_tcp.specs.declared.listener.Accepting.TheVariants as accepting
-use Rattle.wasi_tcp.specs.declared.socket.Connection.{Connection}
 use Rattle.wasi_tcp.specs.declared.socket.TcpState.TheVariants.{Connected}
-use Rattle.wasi_tcp.specs.declared.writer.WriteState.{WriteState}
-use Rattle.wasi_tcp.specs.declared.writer.WriteState.TheVariants as writing
-use Rattle.wasi_tcp.specs.Job.{Job}
-use Rattle.wasi_tcp.specs.Shape.{Socket}
-use Rattle.wasi_tcp.specs.Socket.{side_of}
-use Rattle.wasi_host.specs.declared.kind.Kind.{Kind}
-use Rattle.wasi_host.specs.declared.kind.Kind.TheVariants.{Network, Tcp2, Input, Output, Pollable, ErrorValue}
-use Rattle.wasi_host.specs.declared.listening.Listening.{Listening}
-use Rattle.wasi_host.specs.declared.listening.Listening.TheVariants.{Not, Begins, Accepts, Unclosed}
-use Rattle.wasi_host.specs.declared.machine.Machine.{Machine}
-use Rattle.wasi_host.specs.declared.socket.Streams.{Streams}
-use Rattle.wasi_host.specs.declared.socket.Tcp2Socket.{Tcp2Socket}
-use Rattle.wasi_host.specs.declared.store.Standing.{Standing}
-use Rattle.wasi_host.specs.declared.store.StandingCall.{StandingCall}
-use Rattle.wasi_host.specs.declared.store.StandingCall.TheVariants as standing
-use Rattle.wasi_host.specs.Kinds.{table_parent, with_handle, without_handle, place_in}
-use Rattle.wasi_host.specs.Machine.{own_of}
-use Rattle.wasi_host.specs.Store.{new_record, with_socket, with_record}
-use Rattle.wasi_steps.specs.declared.step.Step.{Step}
-use Rattle.wasi_walks.specs.Licence.{entry, marked_by, NamesSide, IsSide, IsMarkedWith, IsMaker, Created, Handed, HasWildcardYes, IsBoundSide, Listens, MayGoOut}
 use Rattle.wasi_walks.proofs.Lists.{has_front, marks_in-push, get_front, get_split, get_set, set_get, value_split}
-use Rattle.wasi_walks.proofs.licence.State.{NamesRecord, HandleIsFine, KnowsMaker, BindLeft, Whole, Checked, Over, ConnectLeft, Unbound, Unchecked, Allowed, ToClose, Ended, Names, WorksOn, BindIsFine, ConnectIsFine, JobIsFine, WritesOn, IsConnectedOn, StreamsAreFine, ListeningStands, accept_name, AcceptIsFine, AcceptingIsFine, ListeningIsFine, SocketIsFine, RecordIsFine, DropIsFine, CallIsFine, StandingIsFine, StateIsFine}
+use Rattle.wasi_walks.proofs.licence.State.{NamesRecord, NamesIf, HandleIsFine, KnowsMaker, BindLeft, Whole, Checked, Over, ConnectLeft, Unbound, Unchecked, Allowed, ToClose, Ended, Names, WorksOn, BindIsFine, ConnectIsFine, JobIsFine, WritesOn, IsConnectedOn, StreamsAreFine, ListeningStands, accept_name, AcceptIsFine, AcceptingIsFine, ListeningIsFine, SocketIsFine, RecordIsFine, DropIsFine, CallIsFine, StandingIsFine, StateIsFine}
 use Rattle.wasi_walks.proofs.licence.AcceptFrames.{Touches, Spared, stands_more, KeepsListening, Only, stands_put, one_put, stands_push, one_push}
+use Rattle.wasi_walks.proofs.walks.Moves.{record_of}
 
 -- == what more entries keep
 pub side_more : (es fs : List Entry) (handle : ℕ) (side : OpId) → IsSide es handle side → IsSide (es ++ fs) handle side
@@ -57,13 +30,10 @@ maker_more es fs ctx family side (Handed s l p t h m) = Handed s l p t (has_fron
 pub names_record_more : (es fs : List Entry) (sockets : List Tcp2Socket) (handle place : ℕ) → NamesRecord es sockets handle place → NamesRecord (es ++ fs) sockets handle place
 names_record_more es fs sockets handle place h = record { found = h.found; at = h.at; marked = marked_more es fs handle h.found.side h.marked }
 
-pub handle_more : (es fs : List Entry) (sockets : List Tcp2Socket) (handle : ℕ) (kind : Kind) → HandleIsFine es sockets handle kind → HandleIsFine (es ++ fs) sockets handle kind
-handle_more es fs sockets handle Network h = tt
-handle_more es fs sockets handle (Tcp2 place) h = names_record_more es fs sockets handle place h
-handle_more es fs sockets handle (Input place) h = names_record_more es fs sockets handle place h
-handle_more es fs sockets handle (Output place) h = names_record_more es fs sockets handle place h
-handle_more es fs sockets handle (Pollable w) h = names_record_more es fs sockets handle (place_in w) h
-handle_more es fs sockets handle ErrorValue h = tt
+-- what a handle stands for is kept where its record is
+handle_kept : (es fs : List Entry) (xs ys : List Tcp2Socket) (handle : ℕ) (o : Option ℕ) → ((place : ℕ) → NamesRecord es xs handle place → NamesRecord fs ys handle place) → NamesIf es xs handle o → NamesIf fs ys handle o
+handle_kept es fs xs ys handle (Some place) k h = k place h
+handle_kept es fs xs ys handle None k h = tt
 
 pub knows_more : (es fs : List Entry) (socket : Socket) → KnowsMaker es socket → KnowsMaker (es ++ fs) socket
 knows_more es fs socket h = record { maker = λ s e. maker_more es fs socket.maker socket.family s (h.maker s e) }
@@ -147,71 +117,62 @@ names_put es sockets i old now handle place g k h =
     let m = made_put sockets i old now place h.found g k h.at in
     record { found = m.found; at = m.at; marked = rw m.same h.marked }
 
-handle_put : (es : List Entry) (sockets : List Tcp2Socket) (i : ℕ) (old now : Tcp2Socket) (handle : ℕ) (kind : Kind) → slice_get sockets i ≡ Some old → now.side ≡ old.side → HandleIsFine es sockets handle kind → HandleIsFine es (slice_set sockets i now) handle kind
-handle_put es sockets i old now handle Network g k h = tt
-handle_put es sockets i old now handle (Tcp2 place) g k h = names_put es sockets i old now handle place g k h
-handle_put es sockets i old now handle (Input place) g k h = names_put es sockets i old now handle place g k h
-handle_put es sockets i old now handle (Output place) g k h = names_put es sockets i old now handle place g k h
-handle_put es sockets i old now handle (Pollable w) g k h = names_put es sockets i old now handle (place_in w) g k h
-handle_put es sockets i old now handle ErrorValue g k h = tt
-
 names_push : (es : List Entry) (sockets : List Tcp2Socket) (r : Tcp2Socket) (handle place : ℕ) → NamesRecord es sockets handle place → NamesRecord es (sockets ++ r ∷ []) handle place
 names_push es sockets r handle place h = record { found = h.found; at = get_front sockets (r ∷ []) place h.found h.at; marked = h.marked }
 
-handle_push : (es : List Entry) (sockets : List Tcp2Socket) (r : Tcp2Socket) (handle : ℕ) (kind : Kind) → HandleIsFine es sockets handle kind → HandleIsFine es (sockets ++ r ∷ []) handle kind
-handle_push es sockets r handle Network h = tt
-handle_push es sockets r handle (Tcp2 place) h = names_push es sockets r handle place h
-handle_push es sockets r handle (Input place) h = names_push es sockets r handle place h
-handle_push es sockets r handle (Output place) h = names_push es sockets r handle place h
-handle_push es sockets r handle (Pollable w) h = names_push es sockets r handle (place_in w) h
-handle_push es sockets r handle ErrorValue h = tt
+-- A script that has the steps of this one.
+pub record Goes (steps now : List Step) : Type 0 where
+  pub at : (n : ℕ) (s : Step) → step_at steps n ≡ Some s → step_at now n ≡ Some s
 
-module _ (steps : List Step) where
+pub stay : (steps : List Step) → Goes steps steps
+stay steps = record { at = λ n s e. e }
+
+module _ {steps now : List Step} (goes : Goes steps now) where
+  pub began_more : (op : OpId) (P : Step → Type 0) → BeganBy steps op P → BeganBy now op P
+  began_more op P h = record { origin = h.origin; at = goes.at op.step h.origin h.at; holds = h.holds }
+
   -- == what more entries keep of the operations
-  pub names_on : (es fs : List Entry) (op side : OpId) → Names steps es op side → Names steps (es ++ fs) op side
-  names_on es fs op side n = record { origin = n.origin; at = n.at; holds = names_more es fs side n.origin n.holds }
+  pub names_on : (es fs : List Entry) (op side : OpId) → Names steps es op side → Names now (es ++ fs) op side
+  names_on es fs op side n = let b = began_more op (NamesSide es side) n in record { origin = b.origin; at = b.at; holds = names_more es fs side b.origin b.holds }
 
-  pub works_more : (es fs : List Entry) (op side : OpId) (maker : ℕ) → WorksOn steps es op side maker → WorksOn steps (es ++ fs) op side maker
+  pub works_more : (es fs : List Entry) (op side : OpId) (maker : ℕ) → WorksOn steps es op side maker → WorksOn now (es ++ fs) op side maker
   works_more es fs op side maker h = record { family = h.family; made = maker_more es fs maker h.family side h.made; named = names_on es fs op side h.named }
 
-  pub bind_more : (es fs : List Entry) (op : Operation) → BindIsFine steps es op → BindIsFine steps (es ++ fs) op
-  bind_more es fs op h = record { addr = h.addr; to = h.to; works = works_more es fs op.who.id op.who.side op.who.context h.works; last = h.last; left = left_more es fs op.who.id op.who.context h.addr op.left h.left }
+  pub bind_more : (es fs : List Entry) (op : Operation) → BindIsFine steps es op → BindIsFine now (es ++ fs) op
+  bind_more es fs op h = record { addr = h.addr; to = began_more op.who.id _ h.to; works = works_more es fs op.who.id op.who.side op.who.context h.works; last = h.last; left = left_more es fs op.who.id op.who.context h.addr op.left h.left }
 
-  pub connect_more : (es fs : List Entry) (op : Operation) → ConnectIsFine steps es op → ConnectIsFine steps (es ++ fs) op
+  pub connect_more : (es fs : List Entry) (op : Operation) → ConnectIsFine steps es op → ConnectIsFine now (es ++ fs) op
   connect_more es fs op h = record {
     addr = h.addr;
-    to = h.to;
+    to = began_more op.who.id _ h.to;
     works = works_more es fs op.who.id op.who.side op.who.context h.works;
     last = h.last;
     left = connect_left_more es fs op.who.id op.who.side op.who.context h.addr op.left h.left;
   }
 
-  pub job_more : (es fs : List Entry) (side : OpId) (job : Job) → JobIsFine steps es side job → JobIsFine steps (es ++ fs) side job
+  pub job_more : (es fs : List Entry) (side : OpId) (job : Job) → JobIsFine steps es side job → JobIsFine now (es ++ fs) side job
   job_more es fs side job h = record { named = names_on es fs job.write.who.id side h.named; on = h.on; last = h.last; left = h.left }
 
-  pub writes_more : (es fs : List Entry) (side : OpId) (w : WriteState) → WritesOn steps es side w → WritesOn steps (es ++ fs) side w
-  writes_more es fs side (writing.Ready half permit) h = h
-  writes_more es fs side (writing.Writing job) h = job_more es fs side job h
-  writes_more es fs side (writing.Closing job) h = job_more es fs side job h
-  writes_more es fs side (writing.Closed e) h = tt
+  pub writes_more : (es fs : List Entry) (side : OpId) (w : WriteState) → WritesOn steps es side w → WritesOn now (es ++ fs) side w
+  writes_more es fs side (WriteState.Ready half permit) h = h
+  writes_more es fs side (WriteState.Writing job) h = job_more es fs side job h
+  writes_more es fs side (WriteState.Closing job) h = job_more es fs side job h
+  writes_more es fs side (WriteState.Closed e) h = tt
 
-  pub accept_more : (es fs : List Entry) (side : OpId) (maker : ℕ) (op : Operation) → AcceptIsFine steps es side maker op → AcceptIsFine steps (es ++ fs) side maker op
+  pub accept_more : (es fs : List Entry) (side : OpId) (maker : ℕ) (op : Operation) → AcceptIsFine steps es side maker op → AcceptIsFine now (es ++ fs) side maker op
   accept_more es fs side maker op h = record { named = names_on es fs op.who.id side h.named; on = h.on; asks = h.asks; last = h.last }
 
-  accepting_more : (es fs : List Entry) (side : OpId) (maker : ℕ) (a : Accepting) → AcceptingIsFine steps es side maker a → AcceptingIsFine steps (es ++ fs) side maker a
-  accepting_more es fs side maker accepting.Idle h = tt
-  accepting_more es fs side maker (accepting.Asking op) h = accept_more es fs side maker op h
-  accepting_more es fs side maker (accepting.Arrived new peer) h = record { told = h.told; hand = has_front es fs _ h.hand }
-  accepting_more es fs side maker (accepting.Failed c) h = tt
+  accepting_more : (es fs : List Entry) (side : OpId) (maker : ℕ) (a : Accepting) → AcceptingIsFine steps es side maker a → AcceptingIsFine now (es ++ fs) side maker a
+  accepting_more es fs side maker (Accepting.Asking op) h = accept_more es fs side maker op h
+  accepting_more es fs side maker (Accepting.Arrived new peer) h = record { told = h.told; hand = has_front es fs _ h.hand }
+  accepting_more es fs side maker _ h = tt
 
-  pub listening_more : (es fs : List Entry) (made : Option OpId) (l : Listening) → ListeningIsFine steps es made l → ListeningIsFine steps (es ++ fs) made l
-  listening_more es fs made Not h = tt
-  listening_more es fs made (Begins op) h = tt
+  pub listening_more : (es fs : List Entry) (made : Option OpId) (l : Listening) → ListeningIsFine steps es made l → ListeningIsFine now (es ++ fs) made l
   listening_more es fs made (Accepts l) h = record { side = h.side; maker = maker_more es fs l.maker l.family l.side h.maker; accept = accepting_more es fs l.side l.maker l.accept h.accept }
-  listening_more es fs made (Unclosed side) h = tt
+  listening_more es fs made _ h = tt
 
   -- == and of the records
-  pub socket_more : (es fs : List Entry) (socket : Socket) → SocketIsFine steps es socket → SocketIsFine steps (es ++ fs) socket
+  pub socket_more : (es fs : List Entry) (socket : Socket) → SocketIsFine steps es socket → SocketIsFine now (es ++ fs) socket
   socket_more es fs socket h = record {
     knows = knows_more es fs socket h.knows;
     bound = λ side s b. bound_more es fs side (h.bound side s b);
@@ -219,10 +180,10 @@ module _ (steps : List Step) where
     connect = λ op s. connect_more es fs op (h.connect op s);
   }
 
-  pub streams_more : (es fs : List Entry) (socket : Socket) (streams : Streams) → StreamsAreFine steps es socket streams → StreamsAreFine steps (es ++ fs) socket streams
+  pub streams_more : (es fs : List Entry) (socket : Socket) (streams : Streams) → StreamsAreFine steps es socket streams → StreamsAreFine now (es ++ fs) socket streams
   streams_more es fs socket streams h = record { side = h.side; connected = h.connected; reads = h.reads; writes = writes_more es fs h.side streams.writer h.writes }
 
-  pub record_more : (es fs : List Entry) (r : Tcp2Socket) → RecordIsFine steps es r → RecordIsFine steps (es ++ fs) r
+  pub record_more : (es fs : List Entry) (r : Tcp2Socket) → RecordIsFine steps es r → RecordIsFine now (es ++ fs) r
   record_more es fs r h = record {
     socket = socket_more es fs r.inner h.socket;
     named = h.named;
@@ -230,14 +191,15 @@ module _ (steps : List Step) where
     listening = listening_more es fs r.side r.listening h.listening;
   }
 
-  drop_more : (es fs : List Entry) (sockets : List Tcp2Socket) (op : OpId) (place : ℕ) → DropIsFine steps es sockets op place → DropIsFine steps (es ++ fs) sockets op place
+  pub drop_more : (es fs : List Entry) (sockets : List Tcp2Socket) (op : OpId) (place : ℕ) → DropIsFine steps es sockets op place → DropIsFine now (es ++ fs) sockets op place
   drop_more es fs sockets op place h = record { found = h.found; at = h.at; named = λ side e. names_on es fs op side (h.named side e) }
 
-  standing_more : (es fs : List Entry) (sockets : List Tcp2Socket) (line : ℕ) (c : StandingCall) → CallIsFine steps es sockets line c → CallIsFine steps (es ++ fs) sockets line c
-  standing_more es fs sockets line (standing.Bind place op) h = bind_more es fs op h
-  standing_more es fs sockets line (standing.Listen place) h = h
-  standing_more es fs sockets line (standing.DropOutput place) h = drop_more es fs sockets (own_of line) place h
+  pub standing_more : (es fs : List Entry) (sockets : List Tcp2Socket) (line : ℕ) (c : StandingCall) → CallIsFine steps es sockets line c → CallIsFine now (es ++ fs) sockets line c
+  standing_more es fs sockets line (StandingCall.Bind place op) h = bind_more es fs op h
+  standing_more es fs sockets line (StandingCall.Listen place) h = h
+  standing_more es fs sockets line (StandingCall.DropOutput place) h = drop_more es fs sockets (own_of line) place h
 
+module _ (steps : List Step) where
   -- == a record that changes
   -- streams stay those of the socket's connection
   pub streams_kept : (es : List Entry) (old now : Socket) (streams : Streams) → KeepsSide old now → StreamsAreFine steps es old streams → StreamsAreFine steps es now streams
@@ -266,23 +228,21 @@ module _ (steps : List Step) where
       record { found = m.found; at = m.at; named = λ side e. h.named side (sym m.same ∙ e) }
 
   standing_put : (es : List Entry) (sockets : List Tcp2Socket) (i : ℕ) (old now : Tcp2Socket) (line : ℕ) (c : StandingCall) → slice_get sockets i ≡ Some old → now.side ≡ old.side → CallIsFine steps es sockets line c → CallIsFine steps es (slice_set sockets i now) line c
-  standing_put es sockets i old now line (standing.Bind place op) g k h = h
-  standing_put es sockets i old now line (standing.Listen place) g k h = h
-  standing_put es sockets i old now line (standing.DropOutput place) g k h = drop_put es sockets i old now (own_of line) place g k h
+  standing_put es sockets i old now line (StandingCall.DropOutput place) g k h = drop_put es sockets i old now (own_of line) place g k h
+  standing_put es sockets i old now line _ g k h = h
 
   standing_push : (es : List Entry) (sockets : List Tcp2Socket) (r : Tcp2Socket) (line : ℕ) (c : StandingCall) → CallIsFine steps es sockets line c → CallIsFine steps es (sockets ++ r ∷ []) line c
-  standing_push es sockets r line (standing.Bind place op) h = h
-  standing_push es sockets r line (standing.Listen place) h = h
-  standing_push es sockets r line (standing.DropOutput place) h = record { found = h.found; at = get_front sockets (r ∷ []) place h.found h.at; named = h.named }
+  standing_push es sockets r line (StandingCall.DropOutput place) h = record { found = h.found; at = get_front sockets (r ∷ []) place h.found h.at; named = h.named }
+  standing_push es sockets r line _ h = h
 
   -- == the state
   -- an ask that is no mark, and that touches no accept, keeps the state
   pub state_spared : (es : List Entry) (m : Machine) (op : OpId) (c : Call) (told : Told) → marked_by c ≡ 0 → Spared m.store.sockets op c → StateIsFine steps es m → StateIsFine steps (es ++ entry op c told ∷ []) m
   state_spared es m op c told z q h = record {
     count = let p = marks_in-push es (entry op c told) in let k = h.count in omega arith;
-    handles = λ handle kind e. handle_more es _ m.store.sockets handle kind (h.handles handle kind e);
-    sockets = λ place r e. record_more es _ r (h.sockets place r e);
-    standing = λ s e. standing_more es _ m.store.sockets s.line s.call (h.standing s e);
+    handles = λ handle kind e. handle_kept es _ m.store.sockets m.store.sockets handle (record_of (Some kind)) (names_record_more es _ m.store.sockets handle) (h.handles handle kind e);
+    sockets = λ place r e. record_more (stay steps) es _ r (h.sockets place r e);
+    standing = λ s e. standing_more (stay steps) es _ m.store.sockets s.line s.call (h.standing s e);
     accepts = λ place r e. stands_more es op c told r.listening (h.accepts place r e) (λ x n. q place r x e n);
     one = h.one;
   }
@@ -294,11 +254,11 @@ module _ (steps : List Step) where
   state_made es m op name parent sock told kind q f h = record {
     count = let p = marks_in-push es (entry op (Made m.table.next name parent sock) told) in let k = h.count in omega arith;
     handles = λ handle x e. elim (value_split m.table.live (record { handle = m.table.next; value = kind; parent = table_parent kind parent }) handle x e) [
-      | inl g ↦ handle_more es _ m.store.sockets handle x (h.handles handle x g)
+      | inl g ↦ handle_kept es _ m.store.sockets m.store.sockets handle (record_of (Some x)) (names_record_more es _ m.store.sockets handle) (h.handles handle x g)
       | inr g ↦ (let fs = es ++ entry op (Made m.table.next name parent sock) told ∷ [] in subst (HandleIsFine fs m.store.sockets handle) g.1 (subst (λ (n : ℕ). HandleIsFine fs m.store.sockets n kind) g.0 f))
     ];
-    sockets = λ place r e. record_more es _ r (h.sockets place r e);
-    standing = λ s e. standing_more es _ m.store.sockets s.line s.call (h.standing s e);
+    sockets = λ place r e. record_more (stay steps) es _ r (h.sockets place r e);
+    standing = λ s e. standing_more (stay steps) es _ m.store.sockets s.line s.call (h.standing s e);
     accepts = λ place r e. stands_more es op _ told r.listening (h.accepts place r e) (λ x n. q place r x e n);
     one = h.one;
   }
@@ -320,7 +280,7 @@ module _ (steps : List Step) where
       → StateIsFine steps es m → StateIsFine steps es (record m { store = with_socket m.store place now })
   state_renewed es m place old now g k f a o h = record {
     count = h.count;
-    handles = λ handle x e. handle_put es m.store.sockets place old now handle x g k (h.handles handle x e);
+    handles = λ handle x e. handle_kept es es m.store.sockets _ handle (record_of (Some x)) (λ i n. names_put es m.store.sockets place old now handle i g k n) (h.handles handle x e);
     sockets = λ i r e. elim (get_set m.store.sockets place now i r e) [
       | inl q ↦ subst (RecordIsFine steps es) q.1 f
       | inr q ↦ h.sockets i r q
@@ -340,7 +300,7 @@ module _ (steps : List Step) where
       → StateIsFine steps es (record m { store = record m.store { sockets = m.store.sockets ++ now ∷ [] } })
   state_joined es m now f a n h = record {
     count = h.count;
-    handles = λ handle x e. handle_push es m.store.sockets now handle x (h.handles handle x e);
+    handles = λ handle x e. handle_kept es es m.store.sockets _ handle (record_of (Some x)) (names_push es m.store.sockets now handle) (h.handles handle x e);
     sockets = λ i r e. elim (get_split m.store.sockets now i r e) [
       | inl q ↦ h.sockets i r q
       | inr q ↦ subst (RecordIsFine steps es) q f

@@ -1,26 +1,37 @@
--- In a licensed log, and in a state that fits it, nothing has the names of the line that comes next.
-use Rattle.std.proofs.Common.{◌≡◌, ◌<◌, ◌≤◌, inl, inr, ℕ, zero, suc, ◌+◌, List, [], ◌∷◌, length, Option, Some, slice_get, sym, subst, arith}
-use Rattle.wasi_addr.specs.declared.address.IpSocketAddress.{IpSocketAddress}
-use Rattle.wasi_addr.specs.declared.address.SocketAddressFamily.{SocketAddressFamily}
-use Rattle.wasi_world.specs.declared.ids.OpId.{OpId}
-use Rattle.wasi_world.specs.declared.call.Call.TheVariants as call
-use Rattle.wasi_world.specs.declared.call.HandleKind.{HandleKind}
-use Rattle.wasi_world.specs.declared.call.HandleKind.TheVariants as name
-use Rattle.wasi_world.specs.declared.call.Told.{Told}
-use Rattle.wasi_world.specs.declared.call.Entry.{Entry}
-use Rattle.wasi_world.specs.declared.outcome.WasiSocketsCtx.{WasiSocketsCtx}
-use Rattle.wasi_tcp.specs.declared.listener.Accepting.{Accepting}
-use Rattle.wasi_tcp.specs.declared.listener.Accepting.TheVariants as accepting
-use Rattle.wasi_host.specs.declared.listening.Listening.{Listening}
-use Rattle.wasi_host.specs.declared.listening.Listening.TheVariants.{Not, Begins, Accepts, Unclosed}
-use Rattle.wasi_host.specs.declared.machine.Machine.{Machine}
-use Rattle.wasi_steps.specs.declared.reply.Reply.{Reply}
-use Rattle.wasi_steps.specs.declared.step.Step.{Step}
-use Rattle.wasi_steps.specs.declared.step.Step.TheVariants as step
-use Rattle.wasi_walks.specs.Licence.{Has, entry, step_at, BeganBy, IsMaker, Created, Handed, IsMarkOf, MayAsk, IsLicensed}
-use Rattle.wasi_walks.proofs.Lists.{Cut, cut_of, has_front}
+-- What it is that nothing has the names of a line, and that it is so of the line that comes next, in a licensed log and a state
+-- that fits it.
+use Rattle.wasi_walks.proofs.Words.{Accepting, Accepts, BeganBy, Call, Created, Entry, Handed, HandedNone, HandleKind, Has, IpSocketAddress}
+use Rattle.wasi_walks.proofs.Words.{IsLicensed, IsMaker, IsMarkOf, List, Listening, Machine, MarksNoSocket, MayAsk, OpId, Option, Reply}
+use Rattle.wasi_walks.proofs.Words.{SocketAddressFamily, Some, Step, Tcp2Socket, Told, WasiSocketsCtx, [], ap, arith, entry, inl, inr, length}
+use Rattle.wasi_walks.proofs.Words.{marked_by, slice_get, step_at, subst, suc, sym, zero, ℕ, ◌++◌, ◌+◌, ◌<◌, ◌∙◌, ◌∷◌, ◌≡◌, ◌≤◌}
+use Rattle.wasi_walks.proofs.Lists.{Cut, cut_of, has_front, has_split}
 use Rattle.wasi_walks.proofs.licence.State.{name_in, accept_name, AcceptingIsFine, ListeningIsFine, StateIsFine}
-use Rattle.wasi_walks.proofs.licence.NewNames.{IsNew}
+use Rattle.wasi_walks.proofs.licence.AcceptFrames.{Spared, Free}
+use Rattle.wasi_world.specs.declared.call.HandleKind.TheVariants as name
+
+-- no mark is by this operation
+abbrev pub NoMadeBy : List Entry → OpId → Type 0
+NoMadeBy es op = (handle : ℕ) (kind : HandleKind) (above : Option ℕ) (side : Option OpId) (told : Told) → Has es (entry op (Call.Made handle kind above side) told) → ⊥
+
+-- Nothing was asked by the names of this line: they handed nothing over, marked nothing, and stand in no mark and in no record.
+pub record IsNew (es : List Entry) (sockets : List Tcp2Socket) (line : ℕ) : Type 0 where
+  pub handed : (x : OpId) → x.step ≡ line → HandedNone es x
+  pub marked : (x : OpId) → x.step ≡ line → MarksNoSocket es x
+  pub made : (x : OpId) → x.step ≡ line → NoMadeBy es x
+  pub free : (x : OpId) → x.step ≡ line → Free sockets x
+
+-- what is asked by a name that no record has touches no accept
+pub spared_as : (sockets : List Tcp2Socket) (op x : OpId) (c : Call) → op ≡ x → marked_by c ≡ 0 → Free sockets x → Spared sockets op c
+spared_as sockets op x (Call.Made handle kind parent sock) e z f place r y g n t = absurd (omega arith)
+spared_as sockets op x (Call.Accept s) e z f place r y g n t = f place r g (subst (λ (k : OpId). accept_name r.listening ≡ Some k) (sym t ∙ e) n)
+spared_as sockets op x (Call.Hand s p) e z f place r y g n t = f place r g (subst (λ (k : OpId). accept_name r.listening ≡ Some k) (sym t ∙ e) n)
+spared_as sockets op x _ e z f place r y g n t = t
+
+pub made_more : (es : List Entry) (op own : OpId) (c : Call) (t : Told) → marked_by c ≡ 0 → NoMadeBy es own → NoMadeBy (es ++ entry op c t ∷ []) own
+made_more es op own c t z h handle kind above side told i = elim (has_split es (entry op c t) (entry own (Call.Made handle kind above side) told) i) [
+  | inl j ↦ h handle kind above side told j
+  | inr e ↦ (let p = ap (λ (x : Entry). marked_by x.call) e in absurd (omega arith))
+]
 
 -- a place of a list is below its length
 get_below : {A : Type 0} (xs : List A) (n : ℕ) (x : A) → slice_get xs n ≡ Some x → n < length xs
@@ -44,60 +55,57 @@ module _ (contexts : List WasiSocketsCtx) (steps : List Step) where
     front_in : (c d : Entry) (k : Cut log c) → Has k.front d → Has log d
     front_in c d k i = subst (λ (es : List Entry). Has es d) (sym k.is) (has_front k.front (c ∷ k.back) d i)
 
-    created_below : (op : OpId) (ctx : ℕ) (family : SocketAddressFamily) (t : Told) → Has log (entry op (call.TcpCreate ctx family) t) → op.step ≤ length steps
+    created_below : (op : OpId) (ctx : ℕ) (family : SocketAddressFamily) (t : Told) → Has log (entry op (Call.TcpCreate ctx family) t) → op.step ≤ length steps
     created_below op ctx family t i = began_below op _ (may_at _ (cut_of log _ i))
 
     -- what was handed over on its own side was made before
-    own_below : (op : OpId) (ctx : ℕ) (family : SocketAddressFamily) (c : Entry) (k : Cut log c) → ((l : OpId) (p : IpSocketAddress) (t : Told) → Has k.front (entry op (call.Hand l p) t) → ⊥) → IsMaker k.front ctx family op → op.step ≤ length steps
+    own_below : (op : OpId) (ctx : ℕ) (family : SocketAddressFamily) (c : Entry) (k : Cut log c) → ((l : OpId) (p : IpSocketAddress) (t : Told) → Has k.front (entry op (Call.Hand l p) t) → ⊥) → IsMaker k.front ctx family op → op.step ≤ length steps
     own_below op ctx family c k n (Created s t i) = created_below op ctx family t (front_in c _ k i)
     own_below op ctx family c k n (Handed s l p t i m) = absurd (n l p t i)
 
-    handed_below : (op l : OpId) (p : IpSocketAddress) (t : Told) → Has log (entry op (call.Hand l p) t) → op.step ≤ length steps
+    handed_below : (op l : OpId) (p : IpSocketAddress) (t : Told) → Has log (entry op (Call.Hand l p) t) → op.step ≤ length steps
     handed_below op l p t i =
-        let c = cut_of log (entry op (call.Hand l p) t) i in
+        let c = cut_of log (entry op (Call.Hand l p) t) i in
         let may = may_at _ c in
         elim may.0 [
           | inl b ↦ began_below op _ b
-          | inr e ↦ own_below op may.1.yes.ctx may.1.yes.family (entry op (call.Hand l p) t) c may.2 (subst (IsMaker c.front may.1.yes.ctx may.1.yes.family) (sym e) may.1.yes.maker)
+          | inr e ↦ own_below op may.1.yes.ctx may.1.yes.family (entry op (Call.Hand l p) t) c may.2 (subst (IsMaker c.front may.1.yes.ctx may.1.yes.family) (sym e) may.1.yes.maker)
         ]
 
-    made_below : (op : OpId) (handle : ℕ) (kind : HandleKind) (parent : Option ℕ) (sock : Option OpId) (t : Told) → Has log (entry op (call.Made handle kind parent sock) t) → op.step ≤ length steps
+    made_below : (op : OpId) (handle : ℕ) (kind : HandleKind) (parent : Option ℕ) (sock : Option OpId) (t : Told) → Has log (entry op (Call.Made handle kind parent sock) t) → op.step ≤ length steps
     made_below op handle kind parent sock t i = began_below op _ (may_at _ (cut_of log _ i)).1
 
     -- the side in a socket's mark is of its own line, or was handed over
     marked_below : (op : OpId) (parent : Option ℕ) (x : OpId) (c : Entry) (k : Cut log c) (s : Step) → op.step ≤ length steps → IsMarkOf k.front op name.Tcp2 parent (Some x) s → x.step ≤ length steps
-    marked_below op parent x c k (step.Network ctx) b m = absurd (let e = m.0 in cc)
-    marked_below op parent x c k (step.TcpCreate ctx family) b m = let e : x ≡ op = (let q = m.2 in cc) in subst (λ (o : OpId). o.step ≤ length steps) (sym e) b
-    marked_below op parent x c k (step.TcpAccept ctx socket) b (inl m) =
+    marked_below op parent x c k (Step.Network ctx) b m = absurd (let e = m.0 in cc)
+    marked_below op parent x c k (Step.TcpCreate ctx family) b m = let e : x ≡ op = (let q = m.2 in cc) in subst (λ (o : OpId). o.step ≤ length steps) (sym e) b
+    marked_below op parent x c k (Step.TcpAccept ctx socket) b (inl m) =
         let e : m.accept ≡ x = (let q = m.side in cc) in
         subst (λ (o : OpId). o.step ≤ length steps) e (handed_below m.accept m.on m.peer m.told (front_in c _ k m.handed))
-    marked_below op parent x c k (step.TcpAccept ctx socket) b (inr m) = absurd (elim m.stream [ inl e ↦ cc | inr e ↦ cc ])
-    marked_below op parent x c k (step.TcpFinishConnect ctx socket) b m = absurd (elim m.0 [ inl e ↦ cc | inr e ↦ cc ])
-    marked_below op parent x c k (step.Read ctx input len) b m = absurd (let e = m.0 in cc)
-    marked_below op parent x c k (step.CheckWrite ctx output) b m = absurd (let e = m.0 in cc)
-    marked_below op parent x c k (step.Write ctx output bytes) b m = absurd (let e = m.0 in cc)
-    marked_below op parent x c k (step.Flush ctx output) b m = absurd (let e = m.0 in cc)
-    marked_below op parent x c k (step.Subscribe ctx handle) b m = absurd (let e = m.0 in cc)
+    marked_below op parent x c k (Step.TcpAccept ctx socket) b (inr m) = absurd (elim m.stream [ inl e ↦ cc | inr e ↦ cc ])
+    marked_below op parent x c k (Step.TcpFinishConnect ctx socket) b m = absurd (elim m.0 [ inl e ↦ cc | inr e ↦ cc ])
+    marked_below op parent x c k (Step.Read ctx input len) b m = absurd (let e = m.0 in cc)
+    marked_below op parent x c k (Step.CheckWrite ctx output) b m = absurd (let e = m.0 in cc)
+    marked_below op parent x c k (Step.Write ctx output bytes) b m = absurd (let e = m.0 in cc)
+    marked_below op parent x c k (Step.Flush ctx output) b m = absurd (let e = m.0 in cc)
+    marked_below op parent x c k (Step.Subscribe ctx handle) b m = absurd (let e = m.0 in cc)
     marked_below op parent x c k _ b m = absurd m
 
-    socket_below : (op : OpId) (handle : ℕ) (parent : Option ℕ) (x : OpId) (t : Told) → Has log (entry op (call.Made handle name.Tcp2 parent (Some x)) t) → x.step ≤ length steps
+    socket_below : (op : OpId) (handle : ℕ) (parent : Option ℕ) (x : OpId) (t : Told) → Has log (entry op (Call.Made handle name.Tcp2 parent (Some x)) t) → x.step ≤ length steps
     socket_below op handle parent x t i =
-        let c = cut_of log (entry op (call.Made handle name.Tcp2 parent (Some x)) t) i in
+        let c = cut_of log (entry op (Call.Made handle name.Tcp2 parent (Some x)) t) i in
         let may = may_at _ c in
-        marked_below op parent x (entry op (call.Made handle name.Tcp2 parent (Some x)) t) c may.1.origin (made_below op handle name.Tcp2 parent (Some x) t i) may.1.holds
+        marked_below op parent x (entry op (Call.Made handle name.Tcp2 parent (Some x)) t) c may.1.origin (made_below op handle name.Tcp2 parent (Some x) t i) may.1.holds
 
     -- an accept in a record has the name of an earlier line
     name_below : (side : OpId) (maker : ℕ) (a : Accepting) (x : OpId) → AcceptingIsFine steps log side maker a → name_in a ≡ Some x → x.step ≤ length steps
-    name_below side maker accepting.Idle x f e = absurd (cc)
-    name_below side maker (accepting.Asking op) x f e = let p : op.who.id ≡ x = cc in subst (λ (o : OpId). o.step ≤ length steps) p (began_below op.who.id _ f.named)
-    name_below side maker (accepting.Arrived new peer) x f e = let p : new ≡ x = cc in subst (λ (o : OpId). o.step ≤ length steps) p (handed_below new side peer f.told f.hand)
-    name_below side maker (accepting.Failed c) x f e = absurd (cc)
+    name_below side maker (Accepting.Asking op) x f e = let p : op.who.id ≡ x = cc in subst (λ (o : OpId). o.step ≤ length steps) p (began_below op.who.id _ f.named)
+    name_below side maker (Accepting.Arrived new peer) x f e = let p : new ≡ x = cc in subst (λ (o : OpId). o.step ≤ length steps) p (handed_below new side peer f.told f.hand)
+    name_below side maker _ x f e = absurd (cc)
 
     listening_below : (made : Option OpId) (l : Listening) (x : OpId) → ListeningIsFine steps log made l → accept_name l ≡ Some x → x.step ≤ length steps
-    listening_below made Not x f e = absurd (cc)
-    listening_below made (Begins op) x f e = absurd (cc)
     listening_below made (Accepts l) x f e = name_below l.side l.maker l.accept x f.accept e
-    listening_below made (Unclosed side) x f e = absurd (cc)
+    listening_below made _ x f e = absurd (cc)
 
     pub next_is_new : (m : Machine) → StateIsFine steps log m → IsNew log m.store.sockets (length steps + 1)
     next_is_new m f = record {

@@ -1,56 +1,25 @@
 -- What goes on is licensed: a bind, a connect, a listen, an accept, a write; and what is given up.
-use Rattle.std.specs.Prelude.{⊤}
-use Rattle.std.proofs.Common.{◌≡◌, inl, inr, ℕ, Bool, true, false, if◌then◌else◌, List, Option, Some, None, refl, sym, ap, subst, ◌∙◌, slice_get, arith, slice_set}
-use Rattle.wasi_addr.specs.declared.address.IpSocketAddress.{IpSocketAddress}
-use Rattle.wasi_world.specs.declared.ids.OpId.{OpId}
-use Rattle.wasi_world.specs.declared.call.Call.{Call}
-use Rattle.wasi_world.specs.declared.call.Call.TheVariants as call
-use Rattle.wasi_world.specs.declared.call.Entry.{Entry}
-use Rattle.wasi_world.specs.declared.outcome.WasiSocketsCtx.{WasiSocketsCtx}
-use Rattle.wasi_world.specs.Asks.{Asks, Give}
-use Rattle.wasi_world.specs.Operation.{Item, Operation, End, Waits, Done, Refused, Who, poll_asks}
-use Rattle.wasi_world.specs.Typed.{ask_close}
-use Rattle.wasi_world.proofs.Allowed.{Allows, allows_then, allows_keep, allows_weaker}
-use Rattle.wasi_tcp.specs.Listen as listen
-use Rattle.wasi_tcp.specs.Accept as accept
-use Rattle.wasi_tcp.specs.Connect as connecting
-use Rattle.wasi_tcp.specs.declared.listener.Accepting.{Accepting}
-use Rattle.wasi_tcp.specs.declared.listener.Accepting.TheVariants as accepting
-use Rattle.wasi_tcp.specs.declared.socket.TcpState.TheVariants as state
-use Rattle.wasi_tcp.specs.declared.writer.WriteState.{WriteState}
-use Rattle.wasi_tcp.specs.declared.writer.WriteState.TheVariants as writing
-use Rattle.wasi_tcp.specs.Connect.{IsConnect, IsLeftOfConnect}
-use Rattle.wasi_tcp.specs.Connecting.{with_state, connect_ended, HoldsConnect}
-use Rattle.wasi_tcp.specs.Accept.{in_hand, refuse_in, IsLeftOfAccept}
-use Rattle.wasi_tcp.specs.Job.{job_asks}
-use Rattle.wasi_tcp.specs.Listen.{is_over, IsListen, IsLeftOfListen}
-use Rattle.wasi_tcp.specs.Listener.{give_up_in, Listener, accept_ended, HoldsAccept, IsAcceptOn}
-use Rattle.wasi_tcp.specs.Socket.{side_of}
-use Rattle.wasi_tcp.specs.Writer.{turn_asks}
-use Rattle.wasi_host.specs.declared.listening.Listening.{Listening}
-use Rattle.wasi_host.specs.declared.listening.Listening.TheVariants.{Not, Begins, Accepts, Unclosed}
-use Rattle.wasi_host.specs.declared.socket.Streams.{Streams}
-use Rattle.wasi_host.specs.declared.socket.Tcp2Socket.{Tcp2Socket}
-use Rattle.wasi_host.specs.Listening.{give_up_asks, with_listening}
-use Rattle.wasi_host.specs.Store.{with_inner, with_writer, left_of}
-use Rattle.wasi_walks.specs.Waiting as binding
-use Rattle.wasi_walks.specs.Waiting.{IsLeftOfBind}
-use Rattle.wasi_steps.specs.declared.step.Step.{Step}
-use Rattle.wasi_walks.specs.Licence.{step_at, IsMaker, MayAsk, marked_by}
+use Rattle.wasi_walks.proofs.Words.{Accepting, Accepts, Allows, Asks, Begins, Bool, Call, End, Entry, Give, HoldsAccept, HoldsConnect}
+use Rattle.wasi_walks.proofs.Words.{IpSocketAddress, IsAcceptOn, IsConnect, IsLeftOfBind, IsLeftOfConnect, IsLeftOfListen, IsMaker, Item, List}
+use Rattle.wasi_walks.proofs.Words.{Listener, Listening, MayAsk, None, Not, OpId, Operation, Option, Some, Step, Streams, Tcp2Socket, TcpState}
+use Rattle.wasi_walks.proofs.Words.{Unclosed, Waits, WasiSocketsCtx, Who, WriteState, accept_ended, allows_keep, allows_then, allows_weaker, ap}
+use Rattle.wasi_walks.proofs.Words.{arith, ask_close, connect_ended, false, give_up_asks, give_up_in, if◌then◌else◌, in_hand, inl, inr, is_over}
+use Rattle.wasi_walks.proofs.Words.{job_asks, left_of, marked_by, poll_asks, refl, refuse_in, side_of, slice_get, slice_set, step_at, subst, sym}
+use Rattle.wasi_walks.proofs.Words.{true, turn_asks, with_inner, with_listening, with_state, with_writer, ℕ, ⊤, ◌∙◌, ◌≡◌}
+use Rattle.wasi_tcp.specs.Listen.{IsListen}
 use Rattle.wasi_walks.proofs.licence.AcceptAsks.{MayAs, StandsAfter, polled as polled_accept}
-use Rattle.wasi_walks.proofs.licence.Listening.{ended as listen_ended_fine}
+use Rattle.wasi_walks.proofs.licence.ListenAsks.{ended as listen_ended_fine, ListenEnds, fine_poll_listen, also}
 use Rattle.wasi_walks.proofs.fits.Law.{Fit}
 use Rattle.wasi_walks.proofs.fits.Records.{FitListening}
-use Rattle.wasi_walks.proofs.licence.ListenAsks.{ListenEnds, fine_poll_listen}
-use Rattle.wasi_walks.proofs.licence.NewNames.{spared_as}
-use Rattle.wasi_walks.proofs.licence.Locals.{also, AllAsk, poll_says}
-use Rattle.wasi_walks.proofs.claims.Law.{Named, Base, same_begun, fresh, taken_fresh, Fresh}
+use Rattle.wasi_walks.proofs.licence.Fresh.{spared_as}
+use Rattle.wasi_walks.proofs.claims.Polls.{AllAskBut, IsPlainCall, poll_plainly}
+use Rattle.wasi_walks.proofs.claims.Law.{accept_plain, Named, Base, same_begun, fresh, taken_fresh, Fresh}
 use Rattle.wasi_walks.proofs.walks.Moves.{Held, InHand, Connects, Unused, Here, put, Found, Listens, Awaits, listen_after, accepting_now, second_of}
 use Rattle.wasi_walks.proofs.Lists.{get_set, set_there}
 use Rattle.wasi_walks.proofs.licence.State.{ConnectIsFine, accept_name, Names, BindIsFine, JobIsFine, WritesOn, StreamsAreFine, AcceptingIsFine, ListeningIsFine, RecordIsFine, AcceptStands, AcceptingStands, ListeningStands, name_in, AcceptLeft, AcceptIsFine}
 use Rattle.wasi_walks.proofs.licence.AcceptFrames.{Touches, same_listening, listening_gone}
 use Rattle.wasi_walks.proofs.licence.Frames.{same_record, record_kept, state_put, state_renewed, maker_more}
-use Rattle.wasi_walks.proofs.licence.Bounds.{May, MayQuietly, NoLocal}
+use Rattle.wasi_walks.proofs.licence.Bounds.{no_local, May, MayQuietly, NoLocal}
 use Rattle.wasi_walks.proofs.licence.Binds.{fine_poll}
 use Rattle.wasi_walks.proofs.licence.Connects.{fine_poll_connect, ended}
 use Rattle.wasi_walks.proofs.licence.WriteJobs.{fine_job}
@@ -58,6 +27,9 @@ use Rattle.wasi_walks.proofs.walks.Law.{put_put}
 use Rattle.wasi_walks.proofs.licence.Line.{put_with, same_op, some_same, no_listen, local_side, calm, ListenGoesOn, Licensed, put_fine, elsewhere}
 use Rattle.wasi_walks.proofs.licence.Moves.{streams_fine, held_side, same_listen, listener_fine}
 use Rattle.wasi_walks.proofs.licence.Asked.{Spares, spares, asked_by, asked_fine}
+use Rattle.wasi_tcp.specs.Listen as listen
+use Rattle.wasi_tcp.specs.Connect as connecting
+use Rattle.wasi_walks.specs.Waiting as binding
 
 module _ (contexts : List WasiSocketsCtx) (steps : List Step) (line : ℕ) (origin : Step) (is_line : step_at steps line ≡ Some origin) where
   -- == what goes on
@@ -65,39 +37,32 @@ module _ (contexts : List WasiSocketsCtx) (steps : List Step) (line : ℕ) (orig
   kept h Q es asks i a = allows_keep (MayQuietly contexts steps) (MayAsk contexts steps) (λ fs. Licensed steps line origin fs h) Q (λ fs op c t fits k m. asked_fine contexts steps line origin is_line fs h op c t m.0.1 (spares contexts steps line origin is_line h c m.1) k) (λ fs op c m. m.0.0) es asks i a
 
   -- a poll that asks for no local address
-  quietly : (Q : List Entry → End × List Item → Type 0) (es : List Entry) (op : Operation) → AllAsk NoLocal (λ c n. n) op.who op.left → Allows (May contexts steps) Q es (poll_asks op) → Allows (MayQuietly contexts steps) Q es (poll_asks op)
-  quietly Q es op k a = also (May contexts steps) (λ fs o c. NoLocal c) Q (λ fs ended. ⊤) es (poll_asks op) a (poll_says NoLocal (λ c n. n) op.who op.left es k)
+  quietly : (Q : List Entry → End × List Item → Type 0) (es : List Entry) (op : Operation) → AllAskBut ⊥ op.left → Allows (May contexts steps) Q es (poll_asks op) → Allows (MayQuietly contexts steps) Q es (poll_asks op)
+  quietly Q es op k a = also (May contexts steps) (λ fs o c. NoLocal c) Q _ es (poll_asks op) a (poll_plainly NoLocal no_local op.who op.left es k)
 
-  bind_quiet : (who : Who) (items : List Item) → IsLeftOfBind items → AllAsk NoLocal (λ c n. n) who items
-  bind_quiet who _ (binding.Unchecked a) = (tt, (tt, tt))
-  bind_quiet who _ (binding.Checked a) = (tt, tt)
-  bind_quiet who _ binding.Ended = tt
+  bind_quiet : (items : List Item) → IsLeftOfBind items → AllAskBut ⊥ items
+  bind_quiet _ (binding.Unchecked a) = (tt, (tt, tt))
+  bind_quiet _ (binding.Checked a) = (tt, tt)
+  bind_quiet _ binding.Ended = tt
 
-  connect_quiet : (who : Who) (items : List Item) → IsLeftOfConnect items → AllAsk NoLocal (λ c n. n) who items
-  connect_quiet who _ (connecting.Unbound w a) = (tt, (tt, (tt, tt)))
-  connect_quiet who _ (connecting.Unchecked a) = (tt, (tt, tt))
-  connect_quiet who _ (connecting.Checked a) = (tt, tt)
-  connect_quiet who _ (connecting.ToClose c) = (tt, tt)
-  connect_quiet who _ connecting.Ended = tt
-
-  accept_quiet : (who : Who) (items : List Item) → IsLeftOfAccept items → AllAsk NoLocal (λ c n. n) who items
-  accept_quiet who _ accept.Unarrived = (tt, tt)
-  accept_quiet who _ (accept.Arrived peer) = (tt, tt)
-  accept_quiet who _ (accept.Admitted peer) = (tt, tt)
-  accept_quiet who _ (accept.Unwanted peer) = (tt, tt)
-  accept_quiet who _ accept.Ended = tt
+  connect_quiet : (items : List Item) → IsLeftOfConnect items → AllAskBut ⊥ items
+  connect_quiet _ (connecting.Unbound w a) = (tt, (tt, (tt, tt)))
+  connect_quiet _ (connecting.Unchecked a) = (tt, (tt, tt))
+  connect_quiet _ (connecting.Checked a) = (tt, tt)
+  connect_quiet _ (connecting.ToClose c) = (tt, tt)
+  connect_quiet _ connecting.Ended = tt
 
   -- the local address of its own side alone
   abbrev Its : OpId → Call → Type 0
-  Its side c = (x : OpId) → c ≡ call.Local x → side ≡ x
+  Its side c = (x : OpId) → c ≡ Call.Local x → side ≡ x
 
-  its_quiet : (side : OpId) (c : Call) → NoLocal c → Its side c
-  its_quiet side c n x e = absurd (subst NoLocal e n)
+  its_quiet : (side : OpId) (c : Call) → IsPlainCall c → Its side c
+  its_quiet side c n x e = absurd (subst IsPlainCall e n)
 
-  its_own : (side : OpId) → Its side (call.Local side)
+  its_own : (side : OpId) → Its side (Call.Local side)
   its_own side x e = local_side side x e
 
-  listen_quiet : (who : Who) (items : List Item) → IsLeftOfListen items → AllAsk (Its who.side) (its_quiet who.side) who items
+  listen_quiet : (who : Who) (items : List Item) → IsLeftOfListen items → AllAskBut (Its who.side (Call.Local who.side)) items
   listen_quiet who _ (listen.BoundBefore b) = (its_own who.side, (tt, tt))
   listen_quiet who _ (listen.AddressTold a b) = (tt, (tt, tt))
   listen_quiet who _ (listen.Unbound w b) = (tt, (tt, (tt, (tt, tt))))
@@ -111,16 +76,16 @@ module _ (contexts : List WasiSocketsCtx) (steps : List Step) (line : ℕ) (orig
   polled_fine es h op e b i =
       allows_weaker (MayAsk contexts steps) (λ fs ended. Licensed steps line origin fs h × BindIsFine steps fs (left_of op ended.1)) (λ fs ended. Licensed steps line origin fs (record h { hand = Some (left_of op ended.1) }))
       (λ fs ended k. elsewhere fs h (record h { hand = Some (left_of op ended.1) }) refl refl refl k.0 k.0.fine k.0.names (λ o p. subst (BindIsFine steps fs) (same_op _ o p) k.1)) es (poll_asks op)
-      (kept h (λ fs ended. BindIsFine steps fs (left_of op ended.1)) es (poll_asks op) i (quietly (λ fs ended. BindIsFine steps fs (left_of op ended.1)) es op (bind_quiet op.who op.left (b.hand op e).left) (fine_poll contexts steps op es (i.hand op e))))
+      (kept h (λ fs ended. BindIsFine steps fs (left_of op ended.1)) es (poll_asks op) i (quietly (λ fs ended. BindIsFine steps fs (left_of op ended.1)) es op (bind_quiet op.left (b.hand op e).left) (fine_poll contexts steps op es (i.hand op e))))
 
-  connected_on : (es : List Entry) (h : Here) (place : ℕ) (r : Tcp2Socket) (op : Operation) → Found h place r → r.inner.state ≡ state.Connecting op → Fit h → Licensed steps line origin es h
+  connected_on : (es : List Entry) (h : Here) (place : ℕ) (r : Tcp2Socket) (op : Operation) → Found h place r → r.inner.state ≡ TcpState.Connecting op → Fit h → Licensed steps line origin es h
       → Allows (MayAsk contexts steps) (λ fs ended. Licensed steps line origin fs (put h place (with_inner r (with_state r.inner (connect_ended op.who ended).1)))) es (poll_asks op)
   connected_on es h place r op g e b i =
       let its : IsConnect op = subst HoldsConnect e (b.records place r g).0 in
       allows_weaker (MayAsk contexts steps) (λ fs ended. Licensed steps line origin fs h × ConnectIsFine steps fs (left_of op ended.1)) (λ fs ended. Licensed steps line origin fs (put h place (with_inner r (with_state r.inner (connect_ended op.who ended).1))))
       (λ fs end k. let x = k.0.fine.sockets place r g in let d = ended contexts steps fs r.inner op end e x.socket k.1 in let now = with_inner r (with_state r.inner (connect_ended op.who end).1) in
       put_fine fs h place r now g refl (same_listening r.listening) (same_listen contexts steps line origin is_line r now refl refl refl) (record_kept steps fs r now (record { keeps = d.keeps; side = refl; streams = refl; listening = refl }) d.fine x) k.0) es (poll_asks op)
-      (kept h (λ fs ended. ConnectIsFine steps fs (left_of op ended.1)) es (poll_asks op) i (quietly (λ fs ended. ConnectIsFine steps fs (left_of op ended.1)) es op (connect_quiet op.who op.left its.left) (fine_poll_connect contexts steps op es ((i.fine.sockets place r g).socket.connect op e))))
+      (kept h (λ fs ended. ConnectIsFine steps fs (left_of op ended.1)) es (poll_asks op) i (quietly (λ fs ended. ConnectIsFine steps fs (left_of op ended.1)) es op (connect_quiet op.left its.left) (fine_poll_connect contexts steps op es ((i.fine.sockets place r g).socket.connect op e))))
 
   -- == a listen and an accept are taken out of their record, polled, and put back
   pub taken_out : (es : List Entry) (h : Here) (place : ℕ) (r : Tcp2Socket) → Found h place r → Licensed steps line origin es h → Licensed steps line origin es (put h place (with_listening r Not))
@@ -132,8 +97,7 @@ module _ (contexts : List WasiSocketsCtx) (steps : List Step) (line : ℕ) (orig
   -- the record that a listen leaves has one that goes on only where it waits
   still_goes : (fs : List Entry) (r : Tcp2Socket) (op : Operation) (end : End × List Item) → op.who.context ≡ r.inner.maker → IsMaker fs r.inner.maker r.inner.family op.who.side → ListenEnds steps fs op.who end.0 end.1 → (o : Operation) → (listen_after op r end).listening ≡ Begins o → ListenGoesOn steps fs (listen_after op r end) o
   still_goes fs r op (Waits, items) a m k o e = subst (ListenGoesOn steps fs (listen_after op r (Waits, items))) (same_begun (record { who = op.who; left = items }) o e) (record { fine = k; asks = a; made = m })
-  still_goes fs r op (Done given, items) a m k o e = absurd (cc)
-  still_goes fs r op (Refused c given, items) a m k o e = absurd (cc)
+  still_goes fs r op _ a m k o e = absurd (cc)
 
   listened_on : (es : List Entry) (h : Here) (place : ℕ) (r : Tcp2Socket) (op : Operation) → Found h place r → r.listening ≡ Begins op → side_of r.inner ≡ None → Fit h → Named line h → Licensed steps line origin es h
       → Allows (MayAsk contexts steps) (λ fs ended. Licensed steps line origin fs (put h place (listen_after op r ended))) es (poll_asks op)
@@ -149,7 +113,7 @@ module _ (contexts : List WasiSocketsCtx) (steps : List Step) (line : ℕ) (orig
       (allows_keep (λ fs o c. May contexts steps fs o c × Its op.who.side c) (MayAsk contexts steps) M Q
       (λ fs o c t fits k m. (asked_fine contexts steps line origin is_line fs out o c t m.0.1 (others c m.1 d.0) k.0, maker_more fs _ r.inner.maker r.inner.family op.who.side k.1)) (λ fs o c m. m.0.0) es (poll_asks op)
       (taken_out es h place r g i, l.made)
-      (also (May contexts steps) (λ fs o c. Its op.who.side c) Q (λ fs end. ⊤) es (poll_asks op) (fine_poll_listen contexts steps op es l.fine) (poll_says (Its op.who.side) (its_quiet op.who.side) op.who op.left es (listen_quiet op.who op.left its.left))))
+      (also (May contexts steps) (λ fs o c. Its op.who.side c) Q _ es (poll_asks op) (fine_poll_listen contexts steps op es l.fine) (poll_plainly (Its op.who.side) (its_quiet op.who.side) op.who op.left es (listen_quiet op.who op.left its.left))))
     where
       -- the other listens are on other sides
       others : (c : Call) → Its op.who.side c → r.side ≡ Some op.who.side → Spares contexts steps line origin is_line (put h place (with_listening r Not)) c
@@ -174,12 +138,12 @@ module _ (contexts : List WasiSocketsCtx) (steps : List Step) (line : ℕ) (orig
 
   -- an accept asks by its own name, and marks nothing
   touch_as : (op x : OpId) (c : Call) → marked_by c ≡ 0 → Touches op c x → op ≡ x
-  touch_as op x (call.Made handle kind parent sock) z t = absurd (omega (arith, z))
-  touch_as op x (call.Accept s) z t = t
-  touch_as op x (call.Hand s p) z t = t
+  touch_as op x (Call.Made handle kind parent sock) z t = absurd (omega (arith, z))
+  touch_as op x (Call.Accept s) z t = t
+  touch_as op x (Call.Hand s p) z t = t
   touch_as op x _ z t = absurd t
 
-  awaited_on : (es : List Entry) (h : Here) (place : ℕ) (r : Tcp2Socket) (l : Listener) (op : Operation) → Found h place r → r.listening ≡ Accepts l → l.accept ≡ accepting.Asking op → Fit h → Named line h → Licensed steps line origin es h
+  awaited_on : (es : List Entry) (h : Here) (place : ℕ) (r : Tcp2Socket) (l : Listener) (op : Operation) → Found h place r → r.listening ≡ Accepts l → l.accept ≡ Accepting.Asking op → Fit h → Named line h → Licensed steps line origin es h
       → Allows (MayAsk contexts steps) (λ fs ended. Licensed steps line origin fs (put h place (accepting_now r l (accept_ended op.who ended)))) es (poll_asks op)
   awaited_on es h place r l op g e a b n i =
       let x = i.fine.sockets place r g in let lf = listener_fine contexts steps line origin is_line es r l e x in
@@ -196,9 +160,9 @@ module _ (contexts : List WasiSocketsCtx) (steps : List Step) (line : ℕ) (orig
       (allows_keep (λ fs o c. MayAs contexts steps op.who.id fs o c × NoLocal c) (MayAsk contexts steps) M Q
       (λ fs o c t fits k m. (asked_by contexts steps line origin is_line fs out o c t m.0.2 (spared_as out.machine.store.sockets o op.who.id c m.0.1 m.0.2 (λ p q y z. free p q y (inr z))) (λ u t. by_second o c m.0.1 (touch_as o (second_of line) c m.0.2 t) u name) (spares contexts steps line origin is_line out c m.1) k.0, maker_more fs _ l.maker l.family l.side k.1)) (λ fs o c m. m.0.0) es (poll_asks op)
       (taken_out es h place r g i, lf.maker)
-      (also (MayAs contexts steps op.who.id) (λ fs o c. NoLocal c) Q (λ fs end. ⊤) es (poll_asks op)
+      (also (MayAs contexts steps op.who.id) (λ fs o c. NoLocal c) Q _ es (poll_asks op)
       (polled_accept contexts steps op.who f.last es op.left (record { family = l.family; made = subst (λ (y : OpId). IsMaker es op.who.context l.family y) (sym f.on) (subst (λ (m : ℕ). IsMaker es m l.family l.side) (sym f.asks) lf.maker); named = subst (Names steps es op.who.id) (sym f.on) f.named }) st.handed st.marked (subst (λ (y : OpId). AcceptLeft es op.who.id y op.left) (sym f.on) st.so_far))
-      (poll_says NoLocal (λ c n. n) op.who op.left es (accept_quiet op.who op.left its.accept.left))))
+      (poll_plainly NoLocal no_local op.who op.left es (accept_plain ⊥ op.left its.accept.left))))
     where
       by_second : (o : OpId) (c : Call) → o ≡ op.who.id → o ≡ second_of line → h.own ≡ Unused → accept_name r.listening ≡ Some op.who.id → ⊥
       by_second o c p q u name = fresh contexts line origin h u n op.who.id (ap (λ (y : OpId). y.step) (sym p ∙ q)) place r g (inr name)
@@ -217,10 +181,9 @@ module _ (contexts : List WasiSocketsCtx) (steps : List Step) (line : ℕ) (orig
           (λ y z p v w u. absurd (free p v w (inr (u ∙ ap (λ (o : OpId). Some o) (q.name y z))))) k.fine) (λ o p. absurd (cc)))
 
   turn_on : (es : List Entry) (side : OpId) (w : WriteState) → WritesOn steps es side w → Allows (MayQuietly contexts steps) (λ fs done. WritesOn steps fs side done.1) es (turn_asks w)
-  turn_on es side (writing.Ready half permit) on = on
-  turn_on es side (writing.Writing job) on = allows_then (MayQuietly contexts steps) (λ fs j. JobIsFine steps fs side j) (λ fs done. WritesOn steps fs side done.1) es (job_asks job) _ (fine_job contexts steps es side job on) (λ fs j k. k)
-  turn_on es side (writing.Closing job) on = allows_then (MayQuietly contexts steps) (λ fs j. JobIsFine steps fs side j) (λ fs done. WritesOn steps fs side done.1) es (job_asks job) _ (fine_job contexts steps es side job on) (λ fs j k. k)
-  turn_on es side (writing.Closed e) on = on
+  turn_on es side (WriteState.Writing job) on = allows_then (MayQuietly contexts steps) (λ fs j. JobIsFine steps fs side j) (λ fs done. WritesOn steps fs side done.1) es (job_asks job) _ (fine_job contexts steps es side job on) (λ fs j k. k)
+  turn_on es side (WriteState.Closing job) on = allows_then (MayQuietly contexts steps) (λ fs j. JobIsFine steps fs side j) (λ fs done. WritesOn steps fs side done.1) es (job_asks job) _ (fine_job contexts steps es side job on) (λ fs j k. k)
+  turn_on es side _ on = on
 
   -- the connection has one side
   one_side : (fs es : List Entry) (r : Tcp2Socket) (s : Streams) (f : StreamsAreFine steps es r.inner s) (x : StreamsAreFine steps fs r.inner s) → f.side ≡ x.side
@@ -248,10 +211,10 @@ module _ (contexts : List WasiSocketsCtx) (steps : List Step) (line : ℕ) (orig
       refuses who (Some peer) n = (((inl n, tt), tt), λ t fits. tt)
 
       by_accept : (a : Accepting) → AcceptingIsFine steps es l.side l.maker a → Allows (MayQuietly contexts steps) (λ fs done. ⊤) es (give_up_in a)
-      by_accept accepting.Idle k = tt
-      by_accept (accepting.Asking op) k = refuses op.who (in_hand op.left) (subst (Names steps es op.who.id) (sym k.on) k.named)
-      by_accept (accepting.Arrived new peer) k = (((tt, tt), tt), λ t fits. tt)
-      by_accept (accepting.Failed c) k = tt
+      by_accept Accepting.Idle k = tt
+      by_accept (Accepting.Asking op) k = refuses op.who (in_hand op.left) (subst (Names steps es op.who.id) (sym k.on) k.named)
+      by_accept (Accepting.Arrived new peer) k = (((tt, tt), tt), λ t fits. tt)
+      by_accept (Accepting.Failed c) k = tt
   given_up es made (Unclosed side) f = (((tt, tt), tt), λ t fits. tt)
 
   pub polls_fine : (es : List Entry) (h : Here) (op : Operation) (after : End × List Item → Here) → Held h op after → Base contexts line origin h → Licensed steps line origin es h → Allows (MayAsk contexts steps) (λ fs ended. Licensed steps line origin fs (after ended)) es (poll_asks op)

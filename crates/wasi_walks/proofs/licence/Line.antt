@@ -1,45 +1,20 @@
 -- What holds of a line: the state fits the log, and so does what the line works on.
-use Rattle.std.specs.Prelude.{⊤, ◌⊎◌}
-use Rattle.std.proofs.Common.{◌≡◌, inl, inr, ℕ, List, [], ◌∷◌, ◌++◌, Option, Some, None, refl, sym, ap, subst, ◌∙◌, slice_get, length}
-use Rattle.wasi_addr.specs.declared.address.IpSocketAddress.{IpSocketAddress}
-use Rattle.wasi_addr.specs.declared.address.SocketAddressFamily.{SocketAddressFamily}
-use Rattle.wasi_world.specs.declared.ids.OpId.{OpId}
-use Rattle.wasi_world.specs.declared.call.Call.TheVariants as call
-use Rattle.wasi_world.specs.declared.call.HandleKind.TheVariants as name
-use Rattle.wasi_world.specs.declared.call.Told.{Told}
-use Rattle.wasi_world.specs.declared.call.Entry.{Entry}
-use Rattle.wasi_world.specs.Operation.{Operation}
-use Rattle.wasi_tcp.specs.Socket.{side_in}
-use Rattle.wasi_host.specs.declared.store.StandingCall.TheVariants as standing
-use Rattle.wasi_host.specs.declared.store.StandingCall.{StandingCall}
-use Rattle.wasi_host.specs.declared.store.Standing.{Standing}
-use Rattle.wasi_host.specs.declared.machine.Machine.{Machine}
-use Rattle.wasi_host.specs.declared.kind.Kind.{Kind}
-use Rattle.wasi_host.specs.declared.kind.Kind.TheVariants.{Network, Tcp2, Input, Output, Pollable, ErrorValue}
-use Rattle.wasi_host.specs.declared.listening.Listening.TheVariants.{Not, Begins}
-use Rattle.wasi_host.specs.declared.socket.Tcp2Socket.{Tcp2Socket}
-use Rattle.wasi_host.specs.Kinds.{place_in}
-use Rattle.wasi_host.specs.Machine.{own_of}
-use Rattle.wasi_host.specs.Store.{with_socket}
-use Rattle.wasi_steps.specs.declared.step.Step.{Step}
-use Rattle.wasi_steps.specs.declared.step.Step.TheVariants as step
-use Rattle.wasi_walks.specs.Licence.{Has, entry, IsMaker, IsSide, MarksNoSocket, HandedNone}
+use Rattle.wasi_walks.proofs.Words.{Begins, Call, Entry, HandedNone, Has, IpSocketAddress, IsMaker, IsSide, Kind, List, Machine, MarksNoSocket, None}
+use Rattle.wasi_walks.proofs.Words.{Not, OpId, Operation, Option, SocketAddressFamily, Some, Standing, StandingCall, Step, Tcp2Socket, Told, [], ap}
+use Rattle.wasi_walks.proofs.Words.{entry, inl, inr, length, own_of, refl, side_in, slice_get, subst, sym, with_socket, ℕ, ⊤, ◌++◌, ◌∙◌, ◌∷◌, ◌≡◌}
+use Rattle.wasi_walks.proofs.Words.{◌⊎◌}
 use Rattle.wasi_walks.proofs.licence.ListenAsks.{ListenIsFine}
-use Rattle.wasi_walks.proofs.licence.NewNames.{NoMadeBy}
+use Rattle.wasi_walks.proofs.licence.Fresh.{NoMadeBy}
 use Rattle.wasi_walks.proofs.walks.Moves.{Used, Unused, Here, put, Found, record_of, Plain, Made, Unmade, Joined, Marked, second_of}
 use Rattle.wasi_walks.proofs.Lists.{get_set, get_seam}
-use Rattle.wasi_walks.proofs.licence.State.{NamesRecord, HandleIsFine, Names, BindIsFine, RecordIsFine, StateIsFine, IsHanded}
+use Rattle.wasi_walks.proofs.licence.State.{NamesIf, NamesRecord, HandleIsFine, Names, BindIsFine, RecordIsFine, StateIsFine, IsHanded}
 use Rattle.wasi_walks.proofs.licence.AcceptFrames.{KeepsListening}
 use Rattle.wasi_walks.proofs.licence.Frames.{KeepsRecord, same_record, state_put}
+use Rattle.wasi_world.specs.declared.call.HandleKind.TheVariants as name
 
 pub names_record : (es : List Entry) (sockets : List Tcp2Socket) (handle place : ℕ) (k : Option Kind) → record_of k ≡ Some place → ((kind : Kind) → k ≡ Some kind → HandleIsFine es sockets handle kind) → NamesRecord es sockets handle place
 names_record es sockets handle place None e h = absurd (cc)
-names_record es sockets handle place (Some Network) e h = absurd (cc)
-names_record es sockets handle place (Some (Tcp2 n)) e h = let p : n ≡ place = cc in subst (NamesRecord es sockets handle) p (h (Tcp2 n) refl)
-names_record es sockets handle place (Some (Input n)) e h = let p : n ≡ place = cc in subst (NamesRecord es sockets handle) p (h (Input n) refl)
-names_record es sockets handle place (Some (Output n)) e h = let p : n ≡ place = cc in subst (NamesRecord es sockets handle) p (h (Output n) refl)
-names_record es sockets handle place (Some (Pollable w)) e h = let p : place_in w ≡ place = cc in subst (NamesRecord es sockets handle) p (h (Pollable w) refl)
-names_record es sockets handle place (Some ErrorValue) e h = absurd (cc)
+names_record es sockets handle place (Some kind) e h = subst (NamesIf es sockets handle) e (h kind refl)
 
 pub same_op : (a b : Operation) → Some a ≡ Some b → a ≡ b
 same_op a b e = cc
@@ -73,7 +48,7 @@ pair_second a b c d e = ap (λ (p : ℕ × ℕ). p.1) (pair_of (a, b) (c, d) e)
 pub no_listen : (op : Operation) → Not ≡ Begins op → ⊥
 no_listen op e = absurd (cc)
 
-pub local_side : (a b : OpId) → call.Local a ≡ call.Local b → a ≡ b
+pub local_side : (a b : OpId) → Call.Local a ≡ Call.Local b → a ≡ b
 local_side a b e = cc
 
 pub second_names : {steps : List Step} (es : List Entry) (line : ℕ) (side : OpId) → Names steps es (own_of line) side → Names steps es (second_of line) side
@@ -81,7 +56,7 @@ second_names es line side n = record { origin = n.origin; at = n.at; holds = n.h
 
 -- a machine but for a listen that stands
 abbrev pub calm_by : Standing → StandingCall → Option Standing
-calm_by s (standing.Listen place) = None
+calm_by s (StandingCall.Listen place) = None
 calm_by s _ = Some s
 
 abbrev pub calm_standing : Option Standing → Option Standing
@@ -114,7 +89,7 @@ pub record JoinedIsFine (origin : Step) (es : List Entry) (h : Here) (place : �
   pub peer : IpSocketAddress
   pub context : ℕ
   pub listener : ℕ
-  pub by : origin ≡ step.TcpAccept context listener
+  pub by : origin ≡ Step.TcpAccept context listener
   pub side : (r : Tcp2Socket) → Found h place r → r.side ≡ Some new
   pub of_listener : IsSide es listener on
   pub handed : IsHanded es new on peer
@@ -124,7 +99,7 @@ pub record JoinedIsFine (origin : Step) (es : List Entry) (h : Here) (place : �
 pub record MadeSocket (line : ℕ) (es : List Entry) (handle : ℕ) (sock : Option OpId) : Type 0 where
   pub above : Option ℕ
   pub told : Told
-  pub mark : Has es (entry (own_of line) (call.Made handle name.Tcp2 above sock) told)
+  pub mark : Has es (entry (own_of line) (Call.Made handle name.Tcp2 above sock) told)
 
 -- The state fits the log, but that a listen stands, and so do the record that the line works on, the bind in hand, each listen
 -- that goes on, and what an accept has made.
@@ -134,7 +109,7 @@ pub record Licensed (steps : List Step) (line : ℕ) (origin : Step) (es : List 
   pub hand : (op : Operation) → h.hand ≡ Some op → BindIsFine steps es op
   pub listens : (place : ℕ) (r : Tcp2Socket) (op : Operation) → Found h place r → r.listening ≡ Begins op → ListenGoesOn steps es r op
   pub new : h.own ≡ Unused → HandedNone es (second_of line) × MarksNoSocket es (second_of line)
-  pub unmade : (h.own ≡ Unused) ⊎ NotMarked h.made → (c s : ℕ) → origin ≡ step.TcpAccept c s → NoMadeBy es (own_of line)
+  pub unmade : (h.own ≡ Unused) ⊎ NotMarked h.made → (c s : ℕ) → origin ≡ Step.TcpAccept c s → NoMadeBy es (own_of line)
   pub joined : (place : ℕ) → h.made ≡ Joined place → JoinedIsFine origin es h place
   pub marked : (handle place : ℕ) → h.made ≡ Marked handle place → (r : Tcp2Socket) → Found h place r → MadeSocket line es handle r.side
 

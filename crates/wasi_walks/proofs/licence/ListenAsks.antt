@@ -1,54 +1,40 @@
--- A listen: each of its asks is allowed, what it leaves may be polled on, and where it is done its side listens.
-use Rattle.std.specs.Prelude.{⊤}
-use Rattle.std.proofs.Common.{◌≡◌, inl, inr, List, [], ◌∷◌, ◌++◌, ℕ, refl, sym, ap, subst, ◌∙◌, append_assoc}
-use Rattle.wasi_addr.specs.declared.address.IpSocketAddress.{IpSocketAddress}
-use Rattle.wasi_addr.specs.declared.address.SocketAddrUse.TheVariants.{TcpListen}
-use Rattle.wasi_addr.specs.declared.code.ErrorCode.{ErrorCode}
-use Rattle.wasi_addr.specs.declared.code.ErrorCode.TheVariants.{AccessDenied}
-use Rattle.wasi_world.specs.declared.ids.OpId.{OpId}
-use Rattle.wasi_world.specs.declared.call.Call.{Call}
-use Rattle.wasi_world.specs.declared.call.Call.TheVariants as call
-use Rattle.wasi_world.specs.declared.call.Told.{Told}
-use Rattle.wasi_world.specs.declared.call.Told.TheVariants as told
-use Rattle.wasi_world.specs.declared.call.Entry.{Entry}
-use Rattle.wasi_world.specs.declared.outcome.WasiSocketsCtx.{WasiSocketsCtx}
-use Rattle.wasi_world.specs.Asks.{bind}
-use Rattle.wasi_world.specs.Fits.{IsAddr, IsDoneOrCode}
-use Rattle.wasi_world.specs.Typed.{told_verdict, told_done, told_addr}
-use Rattle.wasi_world.specs.Operation.{Given, Nothing, Item, Check, CheckLocal, Listen, LastAsk, CloseLast, Who, Operation, End, Waits, Done, Refused, front, last_ask, poll_asks, verdict_front, done_front, check_front, local_front}
-use Rattle.wasi_world.proofs.Allowed.{Allows, FrontKeeps, allows_polls}
-use Rattle.wasi_steps.specs.declared.step.Step.{Step}
-use Rattle.wasi_walks.specs.Licence.{Has, entry, BeganBy, IsBoundSide, IsLastLocal, Listens, IsListen}
-use Rattle.wasi_walks.proofs.Lists.{has_last, has_split}
+-- A listen: each of its asks is allowed, what it leaves may be polled on, and where it is done its side listens; and one that goes on
+-- stays so, whatever else is asked.
+use Rattle.wasi_walks.proofs.Words.{Accepts, AccessDenied, Allows, Answer, Ask, AskWrite, Asks, BeganBy, Begins, Call, Check, CheckLocal, CloseLast}
+use Rattle.wasi_walks.proofs.Words.{Done, End, Entry, ErrorCode, FrontKeeps, Give, Given, Has, InProgress, IpSocketAddress, IsAddr, IsBoundSide}
+use Rattle.wasi_walks.proofs.Words.{IsDoneOrCode, IsLastLocal, IsListen, IsMaker, Item, LastAsk, List, Listen, Listening, Listens, None, Not, Nothing}
+use Rattle.wasi_walks.proofs.Words.{Ok, OpId, Operation, Pending, Refused, Result, Some, Step, Streams, Tcp2Socket, TcpListen, TcpState, Told, Waits}
+use Rattle.wasi_walks.proofs.Words.{WasiSocketsCtx, Who, [], allows_polls, ap, append_assoc, bind, check_front, done_front, entry, front, inl, inr}
+use Rattle.wasi_walks.proofs.Words.{last_ask, left_of, listen_ended, listen_polled, local_front, new_listener, poll_asks, refl, side_in, side_of}
+use Rattle.wasi_walks.proofs.Words.{subst, sym, told_addr, told_done, told_verdict, verdict_front, with_state, ℕ, ⊤, ◌++◌, ◌∙◌, ◌∷◌, ◌≡◌}
+use Rattle.wasi_walks.proofs.Lists.{has_last, has_split, has_front}
 use Rattle.wasi_walks.proofs.licence.Bounds.{NoLocal, May}
-use Rattle.wasi_walks.proofs.licence.State.{WorksOn}
-use Rattle.wasi_walks.proofs.licence.Frames.{works_more, bound_more}
+use Rattle.wasi_walks.proofs.licence.State.{WorksOn, ListeningStands, accept_name, RecordIsFine}
+use Rattle.wasi_walks.proofs.licence.Frames.{stay, works_more, bound_more, listens_more, LeavesRecord}
+use Rattle.wasi_walks.proofs.licence.AcceptFrames.{KeepsListening}
 
 -- == the last local address
-no_local : (c d : Call) → c ≡ d → NoLocal c → NoLocal d
-no_local c d e n = subst NoLocal e n
-
--- what was told last stays the last
-pub local_more : (es : List Entry) (op : OpId) (c : Call) (t : Told) (side : OpId) (a : IpSocketAddress) → NoLocal c → IsLastLocal es side a → IsLastLocal (es ++ entry op c t ∷ []) side a
-local_more es op c t side a n h = record {
+-- what was told last stays the last, where the side isn't asked
+pub local_unless : (es : List Entry) (op : OpId) (c : Call) (t : Told) (side : OpId) (a : IpSocketAddress) → (c ≡ Call.Local side → ⊥) → IsLastLocal es side a → IsLastLocal (es ++ entry op c t ∷ []) side a
+local_unless es op c t side a n h = record {
   front = h.front;
   op = h.op;
   back = h.back ++ entry op c t ∷ [];
-  cut = ap (λ (fs : List Entry). fs ++ entry op c t ∷ []) h.cut ∙ append_assoc h.front (entry h.op (call.Local side) (told.Addr a) ∷ h.back) (entry op c t ∷ []);
-  last = λ o u i. elim (has_split h.back (entry op c t) (entry o (call.Local side) u) i) [
-    | inl j ↦ h.last o u j
-    | inr e ↦ no_local c (call.Local side) (ap (λ (x : Entry). x.call) e) n
-  ];
+  cut = ap (λ (fs : List Entry). fs ++ entry op c t ∷ []) h.cut ∙ append_assoc h.front (entry h.op (Call.Local side) (Told.Addr a) ∷ h.back) (entry op c t ∷ []);
+  last = λ o u i. elim (has_split h.back (entry op c t) (entry o (Call.Local side) u) i) [ inl j ↦ h.last o u j | inr e ↦ n (ap (λ (x : Entry). x.call) e) ];
 }
 
-pub local_told : (es : List Entry) (op side : OpId) (a : IpSocketAddress) → IsLastLocal (es ++ entry op (call.Local side) (told.Addr a) ∷ []) side a
+pub local_more : (es : List Entry) (op : OpId) (c : Call) (t : Told) (side : OpId) (a : IpSocketAddress) → NoLocal c → IsLastLocal es side a → IsLastLocal (es ++ entry op c t ∷ []) side a
+local_more es op c t side a n h = local_unless es op c t side a (λ e. subst NoLocal e n) h
+
+pub local_told : (es : List Entry) (op side : OpId) (a : IpSocketAddress) → IsLastLocal (es ++ entry op (Call.Local side) (Told.Addr a) ∷ []) side a
 local_told es op side a = record { front = es; op = op; back = []; cut = refl; last = λ o u i. i }
 
 -- == what is left of a listen, and what it was told so far
 pub data ListenLeft (es : List Entry) (op side : OpId) (maker : ℕ) : List Item → Type 0 where
   Whole : (backlog : ℕ) → ListenLeft es op side maker (CheckLocal TcpListen ∷ Listen backlog ∷ [])
   Untold : (a : IpSocketAddress) (backlog : ℕ) → IsLastLocal es side a → ListenLeft es op side maker (Check a TcpListen ∷ Listen backlog ∷ [])
-  Allowed : (a : IpSocketAddress) (backlog : ℕ) → IsLastLocal es side a → Has es (entry op (call.Check maker a TcpListen) told.Yes) → ListenLeft es op side maker (Listen backlog ∷ [])
+  Allowed : (a : IpSocketAddress) (backlog : ℕ) → IsLastLocal es side a → Has es (entry op (Call.Check maker a TcpListen) Told.Yes) → ListenLeft es op side maker (Listen backlog ∷ [])
   Over : Listens es side → ListenLeft es op side maker []
 
 -- with nothing left its `listen` was told done
@@ -89,7 +75,7 @@ module _ (contexts : List WasiSocketsCtx) (steps : List Step) where
       Works es = WorksOn steps es who.id who.side who.context × IsBoundSide es who.side
 
       works_on : (es : List Entry) (c : Call) (t : Told) → Works es → Works (es ++ entry who.id c t ∷ [])
-      works_on es c t w = (works_more steps es _ who.id who.side who.context w.0, bound_more es _ who.side w.1)
+      works_on es c t w = (works_more (stay steps) es _ who.id who.side who.context w.0, bound_more es _ who.side w.1)
 
       stands : (es : List Entry) (items : List Item) → Works es → ListenLeft es who.id who.side who.context items → Stands es items
       stands es items w l = record { to = to; works = w.0; bound = w.1; last = last; so_far = l }
@@ -101,9 +87,9 @@ module _ (contexts : List WasiSocketsCtx) (steps : List Step) where
 
       -- the check of the address that was told
       asked_check : (es : List Entry) (a : IpSocketAddress) (backlog : ℕ) (t : Told) → Works es → IsLastLocal es who.side a
-          → FrontKeeps (May contexts steps) who StandsBefore StandsAfter (Listen backlog ∷ []) (es ++ entry who.id (call.Check who.context a TcpListen) t ∷ []) (verdict_front (Check a TcpListen) (told_verdict t))
-      asked_check es a backlog told.Yes w h = stands _ _ (works_on es _ told.Yes w) (Allowed a backlog (local_more es who.id _ told.Yes who.side a tt h) (has_last es _))
-      asked_check es a backlog told.No w h = ends_last _ AccessDenied Nothing
+          → FrontKeeps (May contexts steps) who StandsBefore StandsAfter (Listen backlog ∷ []) (es ++ entry who.id (Call.Check who.context a TcpListen) t ∷ []) (verdict_front (Check a TcpListen) (told_verdict t))
+      asked_check es a backlog Told.Yes w h = stands _ _ (works_on es _ Told.Yes w) (Allowed a backlog (local_more es who.id _ Told.Yes who.side a tt h) (has_last es _))
+      asked_check es a backlog Told.No w h = ends_last _ AccessDenied Nothing
       asked_check es a backlog t w h = stands _ _ (works_on es _ t w) (Untold a backlog (local_more es who.id _ t who.side a tt h))
 
       checks : (es : List Entry) (a : IpSocketAddress) (backlog : ℕ) → Works es → IsLastLocal es who.side a → Allows (May contexts steps) (FrontKeeps (May contexts steps) who StandsBefore StandsAfter (Listen backlog ∷ [])) es (check_front who a TcpListen)
@@ -112,15 +98,15 @@ module _ (contexts : List WasiSocketsCtx) (steps : List Step) where
 
       -- the local address
       asked_local : (es : List Entry) (backlog : ℕ) (t : Told) → IsAddr t → Works es
-          → Allows (May contexts steps) (FrontKeeps (May contexts steps) who StandsBefore StandsAfter (Listen backlog ∷ [])) (es ++ entry who.id (call.Local who.side) t ∷ []) (local_front who TcpListen (told_addr t))
-      asked_local es backlog (told.Addr a) fits w = checks _ a backlog (works_on es _ (told.Addr a) w) (local_told es who.id who.side a)
-      asked_local es backlog (told.Code c) fits w = ends_last _ c Nothing
+          → Allows (May contexts steps) (FrontKeeps (May contexts steps) who StandsBefore StandsAfter (Listen backlog ∷ [])) (es ++ entry who.id (Call.Local who.side) t ∷ []) (local_front who TcpListen (told_addr t))
+      asked_local es backlog (Told.Addr a) fits w = checks _ a backlog (works_on es _ (Told.Addr a) w) (local_told es who.id who.side a)
+      asked_local es backlog (Told.Code c) fits w = ends_last _ c Nothing
       asked_local es backlog _ fits w = absurd fits
 
       -- the listen itself
-      asked_listen : (es : List Entry) (backlog : ℕ) (t : Told) → IsDoneOrCode t → Works es → FrontKeeps (May contexts steps) who StandsBefore StandsAfter [] (es ++ entry who.id (call.Listen who.side backlog) t ∷ []) (done_front (told_done t))
-      asked_listen es backlog told.Done fits w = stands _ _ (works_on es _ told.Done w) (Over (record { op = who.id; backlog = backlog; told = has_last es _ }))
-      asked_listen es backlog (told.Code c) fits w = ends_last _ c Nothing
+      asked_listen : (es : List Entry) (backlog : ℕ) (t : Told) → IsDoneOrCode t → Works es → FrontKeeps (May contexts steps) who StandsBefore StandsAfter [] (es ++ entry who.id (Call.Listen who.side backlog) t ∷ []) (done_front (told_done t))
+      asked_listen es backlog Told.Done fits w = stands _ _ (works_on es _ Told.Done w) (Over (record { op = who.id; backlog = backlog; told = has_last es _ }))
+      asked_listen es backlog (Told.Code c) fits w = ends_last _ c Nothing
       asked_listen es backlog _ fits w = absurd fits
 
       fine_front : (es : List Entry) (item : Item) (items : List Item) → Works es → ListenLeft es who.id who.side who.context (item ∷ items) → Allows (May contexts steps) (FrontKeeps (May contexts steps) who StandsBefore StandsAfter items) es (front who item)
@@ -137,3 +123,83 @@ module _ (contexts : List WasiSocketsCtx) (steps : List Step) where
       allows_polls (May contexts steps) op.who (StandsBefore op.who) (StandsAfter op.who)
       (λ fs given item items k. fine_front op.who k.to k.last fs item items (k.works, k.bound) k.so_far)
       (λ fs items k. k) (λ fs given k. it_listens fs op.who.id op.who.side op.who.context k.so_far) 64 op.left es b
+
+-- the two of one tree
+pub also : {A : Type 0} (P R : List Entry → OpId → Call → Type 0) (Q S : List Entry → A → Type 0) (es : List Entry) (asks : Asks A) → Allows P Q es asks → Allows R S es asks → Allows (λ fs o c. P fs o c × R fs o c) Q es asks
+also P R Q S es (Give a) h k = h
+also P R Q S es (Ask op c next) h k = ((h.0, k.0), λ told f. also P R Q S _ (next told) (h.1 told f) (k.1 told f))
+also P R Q S es (AskWrite op sock bytes next) h k = ((h.0, k.0), λ told f g. also P R Q S _ (next told) (h.1 told f g) (k.1 told f g))
+
+-- == what was told last stays the last, where the side isn't asked
+left_unless : (es : List Entry) (o op side : OpId) (maker : ℕ) (c : Call) (t : Told) (items : List Item) → (c ≡ Call.Local side → ⊥) → ListenLeft es op side maker items → ListenLeft (es ++ entry o c t ∷ []) op side maker items
+left_unless es o op side maker c t _ n (Whole backlog) = Whole backlog
+left_unless es o op side maker c t _ n (Untold a backlog h) = Untold a backlog (local_unless es o c t side a n h)
+left_unless es o op side maker c t _ n (Allowed a backlog h y) = Allowed a backlog (local_unless es o c t side a n h) (has_front es (entry o c t ∷ []) _ y)
+left_unless es o op side maker c t _ n (Over h) = Over (listens_more es _ side h)
+
+pub listen_unless : (steps : List Step) (es : List Entry) (o : OpId) (c : Call) (t : Told) (op : Operation) → (c ≡ Call.Local op.who.side → ⊥) → ListenIsFine steps es op → ListenIsFine steps (es ++ entry o c t ∷ []) op
+listen_unless steps es o c t op n h = record {
+  to = h.to;
+  works = works_more (stay steps) es _ op.who.id op.who.side op.who.context h.works;
+  bound = bound_more es _ op.who.side h.bound;
+  last = h.last;
+  so_far = left_unless es o op.who.id op.who.side op.who.context c t op.left n h.so_far;
+}
+
+module _ (contexts : List WasiSocketsCtx) (steps : List Step) where
+  -- The record's listen goes on: it holds the side that the record was made with, and the socket has none.
+  pub record ListenRecord (es : List Entry) (r : Tcp2Socket) : Type 0 where
+    pub op : Operation
+    pub begins : r.listening ≡ Begins op
+    pub fine : ListenIsFine steps es op
+    pub side : r.side ≡ Some op.who.side
+    pub closed : side_of r.inner ≡ None
+    pub asks : op.who.context ≡ r.inner.maker
+    pub made : IsMaker es r.inner.maker r.inner.family op.who.side
+
+  abbrev pub IfWaits : Result (Answer (Unit {0})) ErrorCode → Type 0 → Type 0
+  IfWaits (Ok Pending) P = P
+  IfWaits _ P = ⊤
+
+  -- What a poll of a listen leaves, in place of this record.
+  pub record ListenLeaves (old : Tcp2Socket) (es : List Entry) (done : Result (Answer (Unit {0})) ErrorCode × Tcp2Socket) : Type 0 where
+    pub leaves : LeavesRecord steps old es done
+    pub waits : IfWaits done.0 (ListenRecord es done.1)
+
+  -- == a poll
+  quiet : (old now : Listening) → ((es : List Entry) → ListeningStands es now) → accept_name now ≡ None → KeepsListening old now
+  quiet old now h n = record { stands = λ es k. h es; names = λ x e. let p : None ≡ Some x = sym n ∙ e in absurd (cc) }
+
+  -- a socket without a side has no streams
+  no_streams : (es : List Entry) (r : Tcp2Socket) (s : Streams) → side_of r.inner ≡ None → RecordIsFine steps es r → r.streams ≡ Some s → ⊥
+  no_streams es r s c h e = let p : side_of r.inner ≡ Some (h.streams s e).connected.connection.side = ap side_in (h.streams s e).connected.state in absurd (cc)
+
+  -- one that is done listens
+  listens_now : (es : List Entry) (r : Tcp2Socket) (op : Operation) → r.side ≡ Some op.who.side → side_of r.inner ≡ None → op.who.context ≡ r.inner.maker → IsMaker es r.inner.maker r.inner.family op.who.side → Listens es op.who.side → RecordIsFine steps es r
+      → RecordIsFine steps es (record r { inner = with_state r.inner (TcpState.Listening op.who.side); in_progress = InProgress.Listen; listening = Accepts (new_listener op.who.side op.who.context r.inner.family) })
+  listens_now es r op s c a m l h = record {
+    socket = record {
+      knows = record { maker = λ side e. let p : op.who.side ≡ side = cc in subst (IsMaker es r.inner.maker r.inner.family) p m };
+      bound = λ side e b. absurd (cc);
+      listens = λ side e. let p : op.who.side ≡ side = cc in subst (Listens es) p l;
+      connect = λ o e. absurd (cc);
+    };
+    named = λ side e. s ∙ e;
+    streams = λ streams e. absurd (no_streams es r streams c h e);
+    listening = record { side = s; maker = subst (λ (n : ℕ). IsMaker es n r.inner.family op.who.side) (sym a) m; accept = tt };
+  }
+
+  pub ended : (es : List Entry) (old r : Tcp2Socket) (op : Operation) (end : End × List Item) → r.side ≡ old.side → r.side ≡ Some op.who.side → side_of r.inner ≡ None → op.who.context ≡ r.inner.maker → IsMaker es r.inner.maker r.inner.family op.who.side
+      → RecordIsFine steps es r → ListenEnds steps es op.who end.0 end.1 → ListenLeaves old es (listen_polled r (listen_ended op.who r.inner end))
+  ended es old r op (Waits, items) k s c a m h f = record {
+    leaves = record { side = k; listening = quiet old.listening (Begins (left_of op items)) (λ fs. tt) refl; fine = record { socket = h.socket; named = h.named; streams = h.streams; listening = tt } };
+    waits = record { op = left_of op items; begins = refl; fine = f; side = s; closed = c; asks = a; made = m };
+  }
+  ended es old r op (Done given, items) k s c a m h f = record {
+    leaves = record { side = k; listening = quiet old.listening (Accepts (new_listener op.who.side op.who.context r.inner.family)) (λ fs. tt) refl; fine = listens_now es r op s c a m f h };
+    waits = tt;
+  }
+  ended es old r op (Refused code given, items) k s c a m h f = record {
+    leaves = record { side = k; listening = quiet old.listening Not (λ fs. tt) refl; fine = record { socket = h.socket; named = h.named; streams = h.streams; listening = tt } };
+    waits = tt;
+  }

@@ -1,42 +1,18 @@
 -- The definitions on logs of a listener: that of a run, which is licensed, and others, which are not.
-use Rattle.std.specs.Prelude.{⊤}
-use Rattle.std.proofs.Common.{◌≡◌, ◌⊎◌, ℕ, inl, inr, true, List, [], ◌∷◌, ◌++◌, Some, None, refl, sym, ap, subst, arith}
-use Rattle.wasi_addr.specs.declared.address.IpSocketAddress.{IpSocketAddress}
-use Rattle.wasi_addr.specs.declared.address.IpSocketAddress.TheVariants as socket
-use Rattle.wasi_addr.specs.declared.address.SocketAddressFamily.TheVariants as family
-use Rattle.wasi_addr.specs.declared.address.SocketAddrUse.TheVariants as usages
-use Rattle.wasi_addr.specs.Address.{port_of, wildcard}
-use Rattle.wasi_world.specs.declared.ids.OpId.{OpId}
-use Rattle.wasi_world.specs.declared.call.Call.{Call}
-use Rattle.wasi_world.specs.declared.call.Call.TheVariants as call
-use Rattle.wasi_world.specs.declared.call.HandleKind.TheVariants as kind
-use Rattle.wasi_world.specs.declared.call.Told.TheVariants as told
-use Rattle.wasi_world.specs.declared.call.Entry.{Entry}
-use Rattle.wasi_world.specs.Asks.{Give, bind, Left}
-use Rattle.wasi_world.specs.Operation.{polls}
-use Rattle.wasi_tcp.specs.declared.listener.Accepting.TheVariants as accepting
-use Rattle.wasi_tcp.specs.declared.socket.TcpState.TheVariants as state
-use Rattle.wasi_tcp.specs.Listener.{accepted_socket, accepted_state}
-use Rattle.wasi_host.specs.declared.kind.Kind.TheVariants as slot
-use Rattle.wasi_host.specs.declared.listening.Listening.TheVariants.{Accepts}
-use Rattle.wasi_host.specs.declared.machine.Machine.{Machine}
-use Rattle.wasi_host.specs.declared.socket.InProgress.TheVariants as doing
-use Rattle.wasi_host.specs.Listening.{accepted_record}
-use Rattle.wasi_host.specs.Machine.{own_of, first_state}
-use Rattle.wasi_steps.specs.declared.reply.Reply.{Reply}
-use Rattle.wasi_steps.specs.declared.reply.Reply.TheVariants as reply
-use Rattle.wasi_steps.specs.declared.step.Step.{Step}
-use Rattle.wasi_steps.specs.declared.step.Step.TheVariants as step
-use Rattle.wasi_steps.specs.Reply.{no_fields, number_fields, triple_fields}
-use Rattle.wasi_machine.specs.Machine.{run}
-use Rattle.wasi_walks.specs.Licence.{Has, entry, IsBoundSide, MayListen, Created, IsMarkOf, IsLicensed}
+use Rattle.wasi_walks.proofs.Words.{Accepting, Accepts, Call, Created, Entry, Give, Has, InProgress, IpSocketAddress, IsBoundSide, IsLicensed}
+use Rattle.wasi_walks.proofs.Words.{IsMarkOf, Left, List, Machine, MayListen, None, OpId, Reply, SocketAddrUse, SocketAddressFamily, Some, Step}
+use Rattle.wasi_walks.proofs.Words.{Tcp2Socket, TcpState, Told, [], accepted_record, accepted_socket, accepted_state, ap, arith, bind, entry}
+use Rattle.wasi_walks.proofs.Words.{first_state, inl, inr, no_fields, number_fields, own_of, polls, port_of, refl, run, subst, sym, triple_fields}
+use Rattle.wasi_walks.proofs.Words.{true, ℕ, ⊤, ◌++◌, ◌∷◌, ◌≡◌, ◌⊎◌}
 use Rattle.wasi_walks.proofs.Lists.{has_back, has_last}
 use Rattle.wasi_walks.proofs.licence.Runs.{whole_licensed}
-use Rattle.wasi_walks.proofs.licence.Rows.{allowed, local_80}
+use Rattle.wasi_walks.proofs.licence.Rows.{bind_log, bind_script, allowed, local_80}
 use Rattle.wasi_walks.proofs.licence.Refused.{local_81, of_each, at_line}
+use Rattle.wasi_world.specs.declared.call.HandleKind.TheVariants as kind
+use Rattle.wasi_host.specs.declared.kind.Kind.TheVariants as slot
 
 abbrev peer : ℕ → IpSocketAddress
-peer port = socket.Ipv4 (record { port = port; address = (127, 0, 0, 1) })
+peer port = IpSocketAddress.Ipv4 (record { port = port; address = (127, 0, 0, 1) })
 
 -- the accept of the sixth line
 abbrev sixth : OpId
@@ -44,38 +20,41 @@ sixth = record { step = 6; part = 1 }
 
 -- == a socket is bound, listens and accepts
 abbrev script : List Step
-script = step.Network 0 ∷ step.TcpCreate 0 family.Ipv4 ∷ step.TcpStartBind 0 2 1 local_80 ∷ step.TcpFinishBind 0 2 ∷ step.TcpStartListen 0 2 ∷ step.TcpAccept 0 2 ∷ []
+script = bind_script ++ (Step.TcpStartListen 0 2 ∷ Step.TcpAccept 0 2 ∷ [])
 
-abbrev pub binds : List Entry
-binds = entry (own_of 1) (call.Made 1 kind.Network None None) told.Done
-    ∷ entry (own_of 2) (call.TcpCreate 0 family.Ipv4) told.Done
-    ∷ entry (own_of 2) (call.Made 2 kind.Tcp2 None (Some (own_of 2))) told.Done
-    ∷ entry (own_of 3) (call.Local (own_of 2)) (told.Addr (wildcard family.Ipv4))
-    ∷ entry (own_of 3) (call.Check 0 local_80 usages.TcpBind) told.Yes
-    ∷ entry (own_of 3) (call.Bind (own_of 2) local_80) told.Done
+-- by this operation it listens
+abbrev pub listens_by : OpId → ℕ → Told → List Entry
+listens_by op backlog t = entry op (Call.Local (own_of 2)) (Told.Addr local_80)
+    ∷ entry op (Call.Local (own_of 2)) (Told.Addr local_80)
+    ∷ entry op (Call.Check 0 local_80 SocketAddrUse.TcpListen) Told.Yes
+    ∷ entry op (Call.Listen (own_of 2) backlog) t
     ∷ []
 
 abbrev listens : List Entry
-listens = binds
-    ++ (entry (own_of 5) (call.Local (own_of 2)) (told.Addr local_80)
-    ∷ entry (own_of 5) (call.Local (own_of 2)) (told.Addr local_80)
-    ∷ entry (own_of 5) (call.Check 0 local_80 usages.TcpListen) told.Yes
-    ∷ entry (own_of 5) (call.Listen (own_of 2) 128) told.Done
-    ∷ [])
+listens = bind_log ++ listens_by (own_of 5) 128 Told.Done
 
 -- the first arrival is refused
 abbrev accepts : List Entry
 accepts = listens
-    ++ (entry sixth (call.Accept (own_of 2)) (told.Arrived (peer 7))
-    ∷ entry sixth (call.Check 0 (peer 7) usages.TcpAccept) told.No
-    ∷ entry sixth (call.Refuse (own_of 2) (peer 7)) told.Done
-    ∷ entry sixth (call.Accept (own_of 2)) (told.Arrived (peer 8))
-    ∷ entry sixth (call.Check 0 (peer 8) usages.TcpAccept) told.Yes
-    ∷ entry sixth (call.Hand (own_of 2) (peer 8)) told.Done
-    ∷ entry (own_of 6) (call.Made 3 kind.Tcp2 (Some 2) (Some sixth)) told.Done
-    ∷ entry (own_of 6) (call.Made 4 kind.Input (Some 3) (Some sixth)) told.Done
-    ∷ entry (own_of 6) (call.Made 5 kind.Output (Some 3) (Some sixth)) told.Done
+    ++ (entry sixth (Call.Accept (own_of 2)) (Told.Arrived (peer 7))
+    ∷ entry sixth (Call.Check 0 (peer 7) SocketAddrUse.TcpAccept) Told.No
+    ∷ entry sixth (Call.Refuse (own_of 2) (peer 7)) Told.Done
+    ∷ entry sixth (Call.Accept (own_of 2)) (Told.Arrived (peer 8))
+    ∷ entry sixth (Call.Check 0 (peer 8) SocketAddrUse.TcpAccept) Told.Yes
+    ∷ entry sixth (Call.Hand (own_of 2) (peer 8)) Told.Done
+    ∷ entry (own_of 6) (Call.Made 3 kind.Tcp2 (Some 2) (Some sixth)) Told.Done
+    ∷ entry (own_of 6) (Call.Made 4 kind.Input (Some 3) (Some sixth)) Told.Done
+    ∷ entry (own_of 6) (Call.Made 5 kind.Output (Some 3) (Some sixth)) Told.Done
     ∷ [])
+
+abbrev pub listening_record : ℕ → InProgress → Tcp2Socket
+listening_record backlog doing = record {
+  inner = record { state = TcpState.Listening (own_of 2); family = SocketAddressFamily.Ipv4; backlog = backlog; bound = true; maker = 0 };
+  side = Some (own_of 2);
+  in_progress = doing;
+  listening = Accepts (record { side = own_of 2; maker = 0; family = SocketAddressFamily.Ipv4; accept = Accepting.Idle });
+  streams = None;
+}
 
 -- the listener, and the connection with its streams
 abbrev accepted : Machine
@@ -90,14 +69,8 @@ accepted = record {
         ∷ [];
   };
   store = record {
-    sockets = record {
-      inner = record { state = state.Listening (own_of 2); family = family.Ipv4; backlog = 128; bound = true; maker = 0 };
-      side = Some (own_of 2);
-      in_progress = doing.Listen;
-      listening = Accepts (record { side = own_of 2; maker = 0; family = family.Ipv4; accept = accepting.Idle });
-      streams = None;
-    }
-        ∷ (accepted_record (accepted_socket family.Ipv4 0 (accepted_state sixth (peer 8)))).1
+    sockets = listening_record 128 InProgress.Listen
+        ∷ (accepted_record (accepted_socket SocketAddressFamily.Ipv4 0 (accepted_state sixth (peer 8)))).1
         ∷ [];
     jobs = [];
     standing = None;
@@ -105,7 +78,7 @@ accepted = record {
 }
 
 abbrev replies : List Reply
-replies = reply.Ok (number_fields 1) ∷ reply.Ok (number_fields 2) ∷ reply.Ok no_fields ∷ reply.Ok no_fields ∷ reply.Ok no_fields ∷ reply.Ok (triple_fields 3 4 5) ∷ []
+replies = Reply.Ok (number_fields 1) ∷ Reply.Ok (number_fields 2) ∷ Reply.Ok no_fields ∷ Reply.Ok no_fields ∷ Reply.Ok no_fields ∷ Reply.Ok (triple_fields 3 4 5) ∷ []
 
 accept_run : Left (run allowed [] first_state 1 script) accepts (Give (replies, accepted))
 unfolding bind polls
@@ -117,17 +90,17 @@ accept_licensed = whole_licensed allowed script accepts replies accepted refl ac
 -- == what is looked for in a log
 -- no check of an arrival
 abbrev NoArrivalCheck : Call → Type 0
-NoArrivalCheck (call.Check ctx addr usages.TcpAccept) = ⊥
+NoArrivalCheck (Call.Check ctx addr SocketAddrUse.TcpAccept) = ⊥
 NoArrivalCheck _ = ⊤
 
 -- nothing is handed over
 abbrev NoHand : Call → Type 0
-NoHand (call.Hand listener peer) = ⊥
+NoHand (Call.Hand listener peer) = ⊥
 NoHand _ = ⊤
 
 -- each check of an address to listen at is for port 80
 abbrev ListensAt80 : Call → Type 0
-ListensAt80 (call.Check ctx addr usages.TcpListen) = port_of addr ≡ 80
+ListensAt80 (Call.Check ctx addr SocketAddrUse.TcpListen) = port_of addr ≡ 80
 ListensAt80 _ = ⊤
 
 -- an entry of the back of a log is one of the log
@@ -144,10 +117,10 @@ last_at (f ∷ front) back (x ∷ log) e last c = last_at front back log e last 
 
 -- == it is handed over before its yes
 abbrev arrived : List Entry
-arrived = listens ++ entry sixth (call.Accept (own_of 2)) (told.Arrived (peer 8)) ∷ []
+arrived = listens ++ entry sixth (Call.Accept (own_of 2)) (Told.Arrived (peer 8)) ∷ []
 
 abbrev hand : Entry
-hand = entry sixth (call.Hand (own_of 2) (peer 8)) told.Done
+hand = entry sixth (Call.Hand (own_of 2) (peer 8)) Told.Done
 
 early_handout : IsLicensed allowed script (arrived ++ hand ∷ []) [] → ⊥
 early_handout h =
@@ -156,10 +129,10 @@ early_handout h =
 
 -- == its yes stands before another accept
 abbrev checked : List Entry
-checked = arrived ++ entry sixth (call.Check 0 (peer 8) usages.TcpAccept) told.Yes ∷ []
+checked = arrived ++ entry sixth (Call.Check 0 (peer 8) SocketAddrUse.TcpAccept) Told.Yes ∷ []
 
 abbrev again : Entry
-again = entry sixth (call.Accept (own_of 2)) (told.Arrived (peer 8))
+again = entry sixth (Call.Accept (own_of 2)) (Told.Arrived (peer 8))
 
 abbrev twice : List Entry
 twice = checked ++ again ∷ []
@@ -170,33 +143,33 @@ none_behind back x e i = subst (λ (es : List Entry). Has es x) e i
 stale_yes : IsLicensed allowed script (twice ++ hand ∷ []) [] → ⊥
 stale_yes h =
     let a = (h.each twice hand [] refl).1 in
-    elim (last_at a.front a.back checked _ again a.cut) [ inl q ↦ none_behind a.back _ q.0 a.yes.checked | inr i ↦ a.last (told.Arrived (peer 8)) i ]
+    elim (last_at a.front a.back checked _ again a.cut) [ inl q ↦ none_behind a.back _ q.0 a.yes.checked | inr i ↦ a.last (Told.Arrived (peer 8)) i ]
 
 -- == one accept hands over twice
 abbrev handed : List Entry
-handed = checked ++ (hand ∷ again ∷ entry sixth (call.Check 0 (peer 8) usages.TcpAccept) told.Yes ∷ [])
+handed = checked ++ (hand ∷ again ∷ entry sixth (Call.Check 0 (peer 8) SocketAddrUse.TcpAccept) Told.Yes ∷ [])
 
 handed_twice : IsLicensed allowed script (handed ++ hand ∷ []) [] → ⊥
-handed_twice h = (h.each handed hand [] refl).2 (own_of 2) (peer 8) told.Done (has_back checked (hand ∷ again ∷ entry sixth (call.Check 0 (peer 8) usages.TcpAccept) told.Yes ∷ []) hand (inl refl))
+handed_twice h = (h.each handed hand [] refl).2 (own_of 2) (peer 8) Told.Done (has_back checked (hand ∷ again ∷ entry sixth (Call.Check 0 (peer 8) SocketAddrUse.TcpAccept) Told.Yes ∷ []) hand (inl refl))
 
 -- == another local address than the last was checked
 abbrev moved : Entry
-moved = entry (own_of 5) (call.Local (own_of 2)) (told.Addr local_81)
+moved = entry (own_of 5) (Call.Local (own_of 2)) (Told.Addr local_81)
 
 abbrev checked_80 : List Entry
-checked_80 = binds ++ (entry (own_of 5) (call.Local (own_of 2)) (told.Addr local_80) ∷ entry (own_of 5) (call.Check 0 local_80 usages.TcpListen) told.Yes ∷ [])
+checked_80 = bind_log ++ (entry (own_of 5) (Call.Local (own_of 2)) (Told.Addr local_80) ∷ entry (own_of 5) (Call.Check 0 local_80 SocketAddrUse.TcpListen) Told.Yes ∷ [])
 
 abbrev moves : List Entry
 moves = checked_80 ++ moved ∷ []
 
 abbrev listen : Entry
-listen = entry (own_of 5) (call.Listen (own_of 2) 128) told.Done
+listen = entry (own_of 5) (Call.Listen (own_of 2) 128) Told.Done
 
 is_bound : IsBoundSide moves (own_of 2)
 is_bound = record {
   ctx = 0;
-  family = family.Ipv4;
-  maker = Created (own_of 2) told.Done (inr (inl refl));
+  family = SocketAddressFamily.Ipv4;
+  maker = Created (own_of 2) Told.Done (inr (inl refl));
   op = own_of 5;
   addr = local_80;
   told = inr (inr (inr (inr (inr (inr (inl refl))))));
@@ -204,31 +177,31 @@ is_bound = record {
 }
 
 -- the address of an entry that tells one
-told_port : (op : OpId) (addr : IpSocketAddress) → moved ≡ entry op (call.Local (own_of 2)) (told.Addr addr) → port_of addr ≡ 81
-told_port op addr e = let p : told.Addr local_81 ≡ told.Addr addr = ap (λ (x : Entry). x.answer) e in let q : local_81 ≡ addr = cc in sym (ap port_of q)
+told_port : (op : OpId) (addr : IpSocketAddress) → moved ≡ entry op (Call.Local (own_of 2)) (Told.Addr addr) → port_of addr ≡ 81
+told_port op addr e = let p : Told.Addr local_81 ≡ Told.Addr addr = ap (λ (x : Entry). x.answer) e in let q : local_81 ≡ addr = cc in sym (ap port_of q)
 
 moved_away : IsLicensed allowed script (moves ++ listen ∷ []) [] → ⊥
 moved_away h = by_cases (h.each moves listen [] refl).2
   where
-    checks_80 : (ctx : ℕ) (addr : IpSocketAddress) → Has moves (entry (own_of 5) (call.Check ctx addr usages.TcpListen) told.Yes) → port_of addr ≡ 80
+    checks_80 : (ctx : ℕ) (addr : IpSocketAddress) → Has moves (entry (own_of 5) (Call.Check ctx addr SocketAddrUse.TcpListen) Told.Yes) → port_of addr ≡ 80
     checks_80 ctx addr i = of_each (λ e. ListensAt80 e.call) moves _ (tt, (tt, (tt, (tt, (tt, (tt, (tt, (refl, (tt, tt))))))))) i
 
     by_cases : MayListen moves (own_of 5) (own_of 2) → ⊥
     by_cases (inr m) = m.0 is_bound
     by_cases (inl m) = elim (last_at m.1.1.front m.1.1.back checked_80 _ moved m.1.1.cut) [
       | inl q ↦ (let p = told_port m.1.1.op m.1.0 q.1 in let r = checks_80 m.1.2.ctx m.1.0 m.1.2.checked in omega arith)
-      | inr i ↦ m.1.1.last (own_of 5) (told.Addr local_81) i
+      | inr i ↦ m.1.1.last (own_of 5) (Told.Addr local_81) i
     ]
 
 -- == a mark has a side that was handed to nobody
 abbrev unhanded : Entry
-unhanded = entry (own_of 6) (call.Made 3 kind.Tcp2 (Some 2) (Some sixth)) told.Done
+unhanded = entry (own_of 6) (Call.Made 3 kind.Tcp2 (Some 2) (Some sixth)) Told.Done
 
-no_mark : IsMarkOf listens (own_of 6) kind.Tcp2 (Some 2) (Some sixth) (step.TcpAccept 0 2) → ⊥
+no_mark : IsMarkOf listens (own_of 6) kind.Tcp2 (Some 2) (Some sixth) (Step.TcpAccept 0 2) → ⊥
 no_mark (inl m) = of_each (λ e. NoHand e.call) listens _ (tt, (tt, (tt, (tt, (tt, (tt, (tt, (tt, (tt, (tt, tt)))))))))) m.handed
 no_mark (inr m) = elim m.stream [ inl e ↦ absurd (cc) | inr e ↦ absurd (cc) ]
 
 handed_to_nobody : IsLicensed allowed script (listens ++ unhanded ∷ []) [] → ⊥
 handed_to_nobody h =
     let may = h.each listens unhanded [] refl in
-    no_mark (at_line (IsMarkOf listens (own_of 6) kind.Tcp2 (Some 2) (Some sixth)) (step.TcpAccept 0 2) may.1.origin may.1.at may.1.holds)
+    no_mark (at_line (IsMarkOf listens (own_of 6) kind.Tcp2 (Some 2) (Some sixth)) (Step.TcpAccept 0 2) may.1.origin may.1.at may.1.holds)

@@ -1,124 +1,108 @@
--- What holds for the steps so far holds for a script that goes on from them.
-use Rattle.std.proofs.Common.{◌≡◌, inl, inr, ℕ, zero, suc, List, ◌++◌, Option, Some}
-use Rattle.wasi_world.specs.declared.ids.OpId.{OpId}
-use Rattle.wasi_world.specs.declared.call.Call.{Call}
-use Rattle.wasi_world.specs.declared.call.Call.TheVariants as call
-use Rattle.wasi_world.specs.declared.call.Entry.{Entry}
-use Rattle.wasi_world.specs.declared.outcome.WasiSocketsCtx.{WasiSocketsCtx}
-use Rattle.wasi_world.specs.Operation.{Operation}
-use Rattle.wasi_tcp.specs.declared.listener.Accepting.{Accepting}
-use Rattle.wasi_tcp.specs.declared.listener.Accepting.TheVariants as accepting
-use Rattle.wasi_tcp.specs.declared.writer.WriteState.{WriteState}
-use Rattle.wasi_tcp.specs.declared.writer.WriteState.TheVariants as writing
-use Rattle.wasi_tcp.specs.Job.{Job}
-use Rattle.wasi_tcp.specs.Shape.{Socket}
-use Rattle.wasi_host.specs.declared.listening.Listening.{Listening}
-use Rattle.wasi_host.specs.declared.listening.Listening.TheVariants.{Not, Begins, Accepts, Unclosed}
-use Rattle.wasi_host.specs.declared.machine.Machine.{Machine}
-use Rattle.wasi_host.specs.declared.socket.Streams.{Streams}
-use Rattle.wasi_host.specs.declared.socket.Tcp2Socket.{Tcp2Socket}
-use Rattle.wasi_host.specs.declared.store.StandingCall.{StandingCall}
-use Rattle.wasi_host.specs.declared.store.StandingCall.TheVariants as standing
-use Rattle.wasi_steps.specs.declared.step.Step.{Step}
-use Rattle.wasi_walks.specs.Licence.{BeganBy, NamesSide, ReachesSide, step_at, MayAsk}
+-- Of a licensed log: it is one where each entry may come after those before it; its beginnings are licensed, and so it is with fewer
+-- replies, and by a longer script.
+use Rattle.wasi_walks.proofs.Words.{Call, Entry, IsLicensed, List, Machine, MayAsk, NamesSide, OpId, Operation, ReachesSide, Reply, Some, Step}
+use Rattle.wasi_walks.proofs.Words.{WasiSocketsCtx, [], ap, append-nil, append_assoc, arith, inl, inr, length, length-append, step_at, subst, suc}
+use Rattle.wasi_walks.proofs.Words.{zero, ℕ, ⊤, ◌++◌, ◌∙◌, ◌∷◌, ◌≡◌, ◌≤◌}
 use Rattle.wasi_walks.proofs.Lists.{get_front}
-use Rattle.wasi_walks.proofs.licence.State.{Names, WorksOn, BindIsFine, ConnectIsFine, JobIsFine, WritesOn, StreamsAreFine, AcceptingIsFine, ListeningIsFine, SocketIsFine, RecordIsFine, CallIsFine, StateIsFine}
+use Rattle.wasi_walks.proofs.licence.State.{WorksOn, RecordIsFine, CallIsFine, StateIsFine}
 use Rattle.wasi_walks.proofs.licence.ListenAsks.{ListenIsFine}
+use Rattle.wasi_walks.proofs.licence.Frames.{Goes, began_more, works_more, record_more, standing_more}
 
 module _ (steps more : List Step) where
   step_more : (n : ℕ) (s : Step) → step_at steps n ≡ Some s → step_at (steps ++ more) n ≡ Some s
   step_more zero s h = absurd (cc)
   step_more (suc n) s h = get_front steps more n s h
 
-  pub began_more : (op : OpId) (P : Step → Type 0) → BeganBy steps op P → BeganBy (steps ++ more) op P
-  began_more op P h = record { origin = h.origin; at = step_more op.step h.origin h.at; holds = h.holds }
+  on : Goes steps (steps ++ more)
+  on = record { at = step_more }
 
   -- == the calls
   reach_more : (before : List Entry) (op side : OpId) → ReachesSide steps before op side → ReachesSide (steps ++ more) before op side
-  reach_more before op side (inl h) = inl (began_more op (NamesSide before side) h)
+  reach_more before op side (inl h) = inl (began_more on op (NamesSide before side) h)
   reach_more before op side (inr h) = inr h
 
   pub may_more : (contexts : List WasiSocketsCtx) (before : List Entry) (op : OpId) (c : Call) → MayAsk contexts steps before op c → MayAsk contexts (steps ++ more) before op c
-  may_more contexts before op (call.Check ctx addr usage) h = h
-  may_more contexts before op (call.Lookup host) h = h
-  may_more contexts before op (call.TcpCreate ctx family) h = began_more op _ h
-  may_more contexts before op (call.UdpCreate ctx family) h = h
-  may_more contexts before op (call.Bind sock addr) h = (reach_more before op sock h.0, began_more op _ h.1, h.2)
-  may_more contexts before op (call.UdpBind sock addr) h = h
-  may_more contexts before op (call.UdpConnect sock addr) h = h
-  may_more contexts before op (call.Listen sock backlog) h = (reach_more before op sock h.0, began_more op _ h.1, h.2)
-  may_more contexts before op (call.SetBacklog sock backlog) h = (reach_more before op sock h.0, began_more op _ h.1, h.2)
-  may_more contexts before op (call.Connect sock addr) h = (reach_more before op sock h.0, began_more op _ h.1, h.2, h.3)
-  may_more contexts before op (call.Hand sock peer) h = (reach_more before op sock h.0, h.1, h.2)
-  may_more contexts before op (call.Send sock addr bytes) h = h
-  may_more contexts before op (call.Close sock) h = h
-  may_more contexts before op (call.Made handle kind parent sock) h = (h.0, began_more op _ h.1)
+  may_more contexts before op (Call.Check ctx addr usage) h = h
+  may_more contexts before op (Call.Lookup host) h = h
+  may_more contexts before op (Call.TcpCreate ctx family) h = began_more on op _ h
+  may_more contexts before op (Call.UdpCreate ctx family) h = h
+  may_more contexts before op (Call.Bind sock addr) h = (reach_more before op sock h.0, began_more on op _ h.1, h.2)
+  may_more contexts before op (Call.UdpBind sock addr) h = h
+  may_more contexts before op (Call.UdpConnect sock addr) h = h
+  may_more contexts before op (Call.Listen sock backlog) h = (reach_more before op sock h.0, began_more on op _ h.1, h.2)
+  may_more contexts before op (Call.SetBacklog sock backlog) h = (reach_more before op sock h.0, began_more on op _ h.1, h.2)
+  may_more contexts before op (Call.Connect sock addr) h = (reach_more before op sock h.0, began_more on op _ h.1, h.2, h.3)
+  may_more contexts before op (Call.Hand sock peer) h = (reach_more before op sock h.0, h.1, h.2)
+  may_more contexts before op (Call.Send sock addr bytes) h = h
+  may_more contexts before op (Call.Close sock) h = h
+  may_more contexts before op (Call.Made handle kind parent sock) h = (h.0, began_more on op _ h.1)
   may_more contexts before op _ h = reach_more before op _ h
 
   -- == the state
-  module _ (es : List Entry) where
-    names_more : (op side : OpId) → Names steps es op side → Names (steps ++ more) es op side
-    names_more op side h = began_more op (NamesSide es side) h
+  pub state_more : (es : List Entry) (m : Machine) → StateIsFine steps es m → StateIsFine (steps ++ more) es m
+  state_more es m h = record {
+    count = h.count;
+    handles = h.handles;
+    sockets = λ place r e. subst (λ (fs : List Entry). RecordIsFine (steps ++ more) fs r) (append-nil es) (record_more on es [] r (h.sockets place r e));
+    standing = λ s e. subst (λ (fs : List Entry). CallIsFine (steps ++ more) fs m.store.sockets s.line s.call) (append-nil es) (standing_more on es [] m.store.sockets s.line s.call (h.standing s e));
+    accepts = h.accepts;
+    one = h.one;
+  }
 
-    works_more : (op side : OpId) (maker : ℕ) → WorksOn steps es op side maker → WorksOn (steps ++ more) es op side maker
-    works_more op side maker h = record { family = h.family; made = h.made; named = names_more op side h.named }
-
-    bind_more : (op : Operation) → BindIsFine steps es op → BindIsFine (steps ++ more) es op
-    bind_more op h = record { addr = h.addr; to = began_more op.who.id _ h.to; works = works_more op.who.id op.who.side op.who.context h.works; last = h.last; left = h.left }
-
-    connect_more : (op : Operation) → ConnectIsFine steps es op → ConnectIsFine (steps ++ more) es op
-    connect_more op h = record { addr = h.addr; to = began_more op.who.id _ h.to; works = works_more op.who.id op.who.side op.who.context h.works; last = h.last; left = h.left }
-
-    job_more : (side : OpId) (job : Job) → JobIsFine steps es side job → JobIsFine (steps ++ more) es side job
-    job_more side job h = record { named = names_more job.write.who.id side h.named; on = h.on; last = h.last; left = h.left }
-
-    writes_more : (side : OpId) (w : WriteState) → WritesOn steps es side w → WritesOn (steps ++ more) es side w
-    writes_more side (writing.Ready half permit) h = h
-    writes_more side (writing.Writing job) h = job_more side job h
-    writes_more side (writing.Closing job) h = job_more side job h
-    writes_more side (writing.Closed e) h = tt
-
-    socket_more : (socket : Socket) → SocketIsFine steps es socket → SocketIsFine (steps ++ more) es socket
-    socket_more socket h = record { knows = h.knows; bound = h.bound; listens = h.listens; connect = λ op s. connect_more op (h.connect op s) }
-
-    streams_more : (socket : Socket) (streams : Streams) → StreamsAreFine steps es socket streams → StreamsAreFine (steps ++ more) es socket streams
-    streams_more socket streams h = record { side = h.side; connected = h.connected; reads = h.reads; writes = writes_more h.side streams.writer h.writes }
-
-    accepting_more : (side : OpId) (maker : ℕ) (a : Accepting) → AcceptingIsFine steps es side maker a → AcceptingIsFine (steps ++ more) es side maker a
-    accepting_more side maker accepting.Idle h = tt
-    accepting_more side maker (accepting.Asking op) h = record { named = names_more op.who.id side h.named; on = h.on; asks = h.asks; last = h.last }
-    accepting_more side maker (accepting.Arrived new peer) h = h
-    accepting_more side maker (accepting.Failed c) h = tt
-
-    listening_more : (made : Option OpId) (l : Listening) → ListeningIsFine steps es made l → ListeningIsFine (steps ++ more) es made l
-    listening_more made Not h = tt
-    listening_more made (Begins op) h = tt
-    listening_more made (Accepts l) h = record { side = h.side; maker = h.maker; accept = accepting_more l.side l.maker l.accept h.accept }
-    listening_more made (Unclosed side) h = tt
-
-    record_more : (r : Tcp2Socket) → RecordIsFine steps es r → RecordIsFine (steps ++ more) es r
-    record_more r h = record {
-      socket = socket_more r.inner h.socket;
-      named = h.named;
-      streams = λ streams e. streams_more r.inner streams (h.streams streams e);
-      listening = listening_more r.side r.listening h.listening;
-    }
-
-    call_more : (sockets : List Tcp2Socket) (line : ℕ) (c : StandingCall) → CallIsFine steps es sockets line c → CallIsFine (steps ++ more) es sockets line c
-    call_more sockets line (standing.Bind place op) h = bind_more op h
-    call_more sockets line (standing.Listen place) h = h
-    call_more sockets line (standing.DropOutput place) h = record { found = h.found; at = h.at; named = λ side e. names_more _ side (h.named side e) }
-
-    pub state_more : (m : Machine) → StateIsFine steps es m → StateIsFine (steps ++ more) es m
-    state_more m h = record {
-      count = h.count;
-      handles = h.handles;
-      sockets = λ place r e. record_more r (h.sockets place r e);
-      standing = λ s e. call_more m.store.sockets s.line s.call (h.standing s e);
-      accepts = h.accepts;
-      one = h.one;
-    }
-
-module _ (contexts : List WasiSocketsCtx) (steps more : List Step) where
   pub listen_more : (es : List Entry) (op : Operation) → ListenIsFine steps es op → ListenIsFine (steps ++ more) es op
-  listen_more es op h = record { to = began_more steps more op.who.id _ h.to; works = works_more steps more es op.who.id op.who.side op.who.context h.works; bound = h.bound; last = h.last; so_far = h.so_far }
+  listen_more es op h = record {
+    to = began_more on op.who.id _ h.to;
+    works = subst (λ (fs : List Entry). WorksOn (steps ++ more) fs op.who.id op.who.side op.who.context) (append-nil es) (works_more on es [] op.who.id op.who.side op.who.context h.works);
+    bound = h.bound;
+    last = h.last;
+    so_far = h.so_far;
+  }
+
+module _ (contexts : List WasiSocketsCtx) (steps : List Step) where
+  -- each of the later entries may come after those before it
+  abbrev pub EachMayCome : List Entry → List Entry → Type 0
+  EachMayCome before [] = ⊤
+  EachMayCome before (e ∷ es) = MayAsk contexts steps before e.op e.call × EachMayCome (before ++ e ∷ []) es
+
+  may_at : (before front : List Entry) (e : Entry) (back : List Entry) → EachMayCome before (front ++ e ∷ back) → MayAsk contexts steps (before ++ front) e.op e.call
+  may_at before [] e back h = rw append-nil h.0
+  may_at before (x ∷ front) e back h = rw append_assoc at (may_at (before ++ x ∷ []) front e back h.1)
+
+  -- with no reply given yet, and with replies to as many lines as there are
+  pub licensed : (log : List Entry) → EachMayCome [] log → IsLicensed contexts steps log []
+  licensed log h = record { each = λ before e after cut. may_at [] before e after (subst (EachMayCome []) cut h); replied = omega arith }
+
+  pub with_replies : (log : List Entry) (replies : List Reply) → length replies ≤ length steps → IsLicensed contexts steps log [] → IsLicensed contexts steps log replies
+  with_replies log replies few h = record { each = h.each; replied = few }
+
+  -- one more that may come
+  come_more : (before es : List Entry) (e : Entry) → EachMayCome before es → MayAsk contexts steps (before ++ es) e.op e.call → EachMayCome before (es ++ e ∷ [])
+  come_more before [] e h m = (rw append-nil at m, tt)
+  come_more before (x ∷ es) e h m = (h.0, come_more (before ++ x ∷ []) es e h.1 (rw append_assoc m))
+
+  pub may_come : (es : List Entry) (e : Entry) → EachMayCome [] es → MayAsk contexts steps es e.op e.call → EachMayCome [] (es ++ e ∷ [])
+  may_come es e h m = come_more [] es e h m
+
+-- by a script that goes on
+pub come_longer : (contexts : List WasiSocketsCtx) (steps more : List Step) (before es : List Entry) → EachMayCome contexts steps before es → EachMayCome contexts (steps ++ more) before es
+come_longer contexts steps more before [] h = tt
+come_longer contexts steps more before (e ∷ es) h = (may_more steps more contexts before e.op e.call h.0, come_longer contexts steps more (before ++ e ∷ []) es h.1)
+
+module _ (contexts : List WasiSocketsCtx) (steps : List Step) where
+  -- the beginning of a licensed log, before a reply is given
+  pub prefix_is_licensed : (front back : List Entry) (replies : List Reply) → IsLicensed contexts steps (front ++ back) replies → IsLicensed contexts steps front []
+  prefix_is_licensed front back replies h = record {
+    each = λ before e after cut. h.each before e (after ++ back) (ap (λ (es : List Entry). es ++ back) cut ∙ append_assoc before (e ∷ after) back);
+    replied = omega arith;
+  }
+
+  -- with the first of the replies
+  pub fewer_replies : (log : List Entry) (replies more : List Reply) → IsLicensed contexts steps log (replies ++ more) → IsLicensed contexts steps log replies
+  fewer_replies log replies more h = record { each = h.each; replied = let few = h.replied in omega (arith, length-append replies more, few) }
+
+  -- by a script that goes on
+  pub longer_script : (more : List Step) (log : List Entry) (replies : List Reply) → IsLicensed contexts steps log replies → IsLicensed contexts (steps ++ more) log replies
+  longer_script more log replies h = record {
+    each = λ before e after cut. may_more steps more contexts before e.op e.call (h.each before e after cut);
+    replied = let few = h.replied in omega (arith, length-append steps more, few);
+  }

@@ -1,54 +1,42 @@
--- The marks of handles are licensed.
-use Rattle.std.specs.Prelude.{◌⊎◌}
-use Rattle.std.proofs.Common.{◌≡◌, inl, inr, ℕ, List, [], ◌∷◌, ◌++◌, Option, Some, None, refl, sym, ap, subst, ◌∙◌, slice_get}
-use Rattle.wasi_world.specs.declared.ids.OpId.{OpId}
-use Rattle.wasi_world.specs.declared.call.Call.TheVariants as call
-use Rattle.wasi_world.specs.declared.call.HandleKind.{HandleKind}
-use Rattle.wasi_world.specs.declared.call.HandleKind.TheVariants as name
-use Rattle.wasi_world.specs.declared.call.Told.{Told}
-use Rattle.wasi_world.specs.declared.call.Entry.{Entry}
-use Rattle.wasi_world.specs.declared.outcome.WasiSocketsCtx.{WasiSocketsCtx}
-use Rattle.wasi_world.specs.Asks.{bind}
-use Rattle.wasi_world.proofs.Allowed.{Allows, allows_if}
-use Rattle.wasi_streams.specs.Table.{is_full}
-use Rattle.wasi_host.specs.declared.kind.Kind.{Kind}
-use Rattle.wasi_host.specs.declared.kind.Kind.TheVariants.{Network, Tcp2, Input, Output, Pollable, ErrorValue}
-use Rattle.wasi_host.specs.declared.socket.Tcp2Socket.{Tcp2Socket}
-use Rattle.wasi_host.specs.Kinds.{name_of, kind_at, place_in, make_asks}
-use Rattle.wasi_host.specs.Machine.{own_of, side_at}
-use Rattle.wasi_steps.specs.declared.step.Step.{Step}
-use Rattle.wasi_steps.specs.declared.step.Step.TheVariants as step
-use Rattle.wasi_walks.specs.Licence.{Has, entry, step_at, BeganBy, IsMarkedWith, IsMarkOf, MayAsk, IsSide, MarksNoSocket}
-use Rattle.wasi_walks.proofs.claims.Law.{Named}
-use Rattle.wasi_walks.proofs.walks.Moves.{Used, Unused, Marks, ANetwork, AStream, AnError, Here, Found, MarksError, Joined, Marked, made_so, APollable, AnAcceptedStream, second_of}
-use Rattle.wasi_walks.proofs.Lists.{has_last, has_split, has_front}
-use Rattle.wasi_walks.proofs.licence.State.{accept_name, NamesRecord, HandleIsFine}
+-- A create is licensed, and so are the marks of handles; and what they make fits.
+use Rattle.wasi_walks.proofs.Words.{Allows, BeganBy, Call, Created, Entry, Err, ErrorCode, ErrorValue, HandleKind, Has, Input, IsDoneOrCode, IsMaker}
+use Rattle.wasi_walks.proofs.Words.{IsMarkOf, IsMarkedWith, IsSide, IsTcpCreate, Kind, List, MarksNoSocket, MayAsk, MayUseTcp, Network, None, Ok}
+use Rattle.wasi_walks.proofs.Words.{OpId, Option, Output, Pollable, Result, Socket, SocketAddressFamily, Some, Step, Tcp2, Tcp2Socket, Told}
+use Rattle.wasi_walks.proofs.Words.{WasiSocketsCtx, [], after_create, allows_if, allows_then, ap, bind, context_in, create_handle, created_asks}
+use Rattle.wasi_walks.proofs.Words.{entry, inl, inr, is_full, kind_at, length, make_asks, name_of, new_asks, new_record, new_socket, own_of, place_in}
+use Rattle.wasi_walks.proofs.Words.{refl, side_at, slice_get, step_at, subst, sym, told_done, true, with_record, ℕ, ⊤, ◌++◌, ◌∙◌, ◌∷◌, ◌≡◌, ◌⊎◌}
+use Rattle.wasi_walks.proofs.claims.Law.{Named, fresh}
+use Rattle.wasi_walks.proofs.walks.Moves.{Used, Unused, Marks, ANetwork, AStream, AnError, Here, Found, MarksError, Joined, Marked, made_so, APollable, AnAcceptedStream, second_of, Creates, Past}
+use Rattle.wasi_walks.proofs.Lists.{has_last, has_split, has_front, get_split, get_seam}
+use Rattle.wasi_walks.proofs.licence.State.{accept_name, NamesRecord, HandleIsFine, SocketIsFine}
 use Rattle.wasi_walks.proofs.licence.AcceptFrames.{Touches, Spared, handed_unless}
-use Rattle.wasi_walks.proofs.licence.Frames.{same_record, names_on, bind_more, state_made}
-use Rattle.wasi_walks.proofs.licence.Line.{names_record, calm, NotMarked, MadeSocket, Licensed, elsewhere}
+use Rattle.wasi_walks.proofs.licence.Frames.{stay, same_record, names_on, bind_more, state_made, state_push}
+use Rattle.wasi_walks.proofs.licence.Line.{names_record, calm, NotMarked, MadeSocket, Licensed, elsewhere, some_same, no_listen, spent}
 use Rattle.wasi_walks.proofs.licence.Asked.{listens_on, joined_on}
+use Rattle.wasi_walks.proofs.licence.Bounds.{MayQuietly}
+use Rattle.wasi_world.specs.declared.call.HandleKind.TheVariants as name
 
 module _ (contexts : List WasiSocketsCtx) (steps : List Step) (line : ℕ) (origin : Step) (is_line : step_at steps line ≡ Some origin) where
   error_mark : (es : List Entry) (op : OpId) (handle : ℕ) (sock : Option OpId) (s : Step) → MarksError handle s → IsMarkedWith es handle sock → IsMarkOf es op name.ErrorValue (Some handle) sock s
-  error_mark es op handle sock (step.Read ctx input len) m w = (refl, (ap (λ (n : ℕ). Some n) m, subst (λ (n : ℕ). IsMarkedWith es n sock) m w))
-  error_mark es op handle sock (step.CheckWrite ctx output) m w = (refl, (ap (λ (n : ℕ). Some n) m, subst (λ (n : ℕ). IsMarkedWith es n sock) m w))
-  error_mark es op handle sock (step.Write ctx output bytes) m w = (refl, (ap (λ (n : ℕ). Some n) m, subst (λ (n : ℕ). IsMarkedWith es n sock) m w))
-  error_mark es op handle sock (step.Flush ctx output) m w = (refl, (ap (λ (n : ℕ). Some n) m, subst (λ (n : ℕ). IsMarkedWith es n sock) m w))
+  error_mark es op handle sock (Step.Read ctx input len) m w = (refl, (ap (λ (n : ℕ). Some n) m, subst (λ (n : ℕ). IsMarkedWith es n sock) m w))
+  error_mark es op handle sock (Step.CheckWrite ctx output) m w = (refl, (ap (λ (n : ℕ). Some n) m, subst (λ (n : ℕ). IsMarkedWith es n sock) m w))
+  error_mark es op handle sock (Step.Write ctx output bytes) m w = (refl, (ap (λ (n : ℕ). Some n) m, subst (λ (n : ℕ). IsMarkedWith es n sock) m w))
+  error_mark es op handle sock (Step.Flush ctx output) m w = (refl, (ap (λ (n : ℕ). Some n) m, subst (λ (n : ℕ). IsMarkedWith es n sock) m w))
   error_mark es op handle sock _ m w = absurd m
 
   -- == marks
-  unmarked_made : (es : List Entry) (op : OpId) (n : ℕ) (k : HandleKind) (parent : Option ℕ) (sock : Option OpId) (t : Told) (x : OpId) → MarksNoSocket es x → (k ≡ name.Tcp2 → sock ≡ Some x → ⊥) → MarksNoSocket (es ++ entry op (call.Made n k parent sock) t ∷ []) x
-  unmarked_made es op n k parent sock t x m f o handle above u i = elim (has_split es (entry op (call.Made n k parent sock) t) (entry o (call.Made handle name.Tcp2 above (Some x)) u) i) [
+  unmarked_made : (es : List Entry) (op : OpId) (n : ℕ) (k : HandleKind) (parent : Option ℕ) (sock : Option OpId) (t : Told) (x : OpId) → MarksNoSocket es x → (k ≡ name.Tcp2 → sock ≡ Some x → ⊥) → MarksNoSocket (es ++ entry op (Call.Made n k parent sock) t ∷ []) x
+  unmarked_made es op n k parent sock t x m f o handle above u i = elim (has_split es (entry op (Call.Made n k parent sock) t) (entry o (Call.Made handle name.Tcp2 above (Some x)) u) i) [
     | inl j ↦ m o handle above u j
     | inr e ↦ (let p = ap (λ (y : Entry). y.call) e in let a : k ≡ name.Tcp2 = cc in let b : sock ≡ Some x = cc in f a b)
   ]
 
   -- a mark, and what its handle stands for
   pub made_fine : (es : List Entry) (h : Here) (kind : Kind) (parent : Option ℕ) (sock : Option OpId) → BeganBy steps (own_of line) (IsMarkOf es (own_of line) (name_of kind) parent sock)
-      → Spared h.machine.store.sockets (own_of line) (call.Made h.machine.table.next (name_of kind) parent sock)
-      → ((c s : ℕ) → origin ≡ step.TcpAccept c s → (h.own ≡ Unused) ⊎ NotMarked h.made → ⊥)
+      → Spared h.machine.store.sockets (own_of line) (Call.Made h.machine.table.next (name_of kind) parent sock)
+      → ((c s : ℕ) → origin ≡ Step.TcpAccept c s → (h.own ≡ Unused) ⊎ NotMarked h.made → ⊥)
       → ((x : OpId) → ((h.own ≡ Unused) × (x ≡ second_of line)) ⊎ ((p : ℕ) × (h.made ≡ Joined p)) → name_of kind ≡ name.Tcp2 → sock ≡ Some x → ⊥)
-      → ((t : Told) → HandleIsFine (es ++ entry (own_of line) (call.Made h.machine.table.next (name_of kind) parent sock) t ∷ []) h.machine.store.sockets h.machine.table.next kind) → Licensed steps line origin es h
+      → ((t : Told) → HandleIsFine (es ++ entry (own_of line) (Call.Made h.machine.table.next (name_of kind) parent sock) t ∷ []) h.machine.store.sockets h.machine.table.next kind) → Licensed steps line origin es h
       → Allows (MayAsk contexts steps) (λ fs made. Licensed steps line origin fs (record h { machine = record h.machine { table = made.1 } })) es (make_asks h.machine.table (own_of line) kind parent sock)
   unfolding bind
   made_fine es h kind parent sock o sp un ms f i =
@@ -56,12 +44,12 @@ module _ (contexts : List WasiSocketsCtx) (steps : List Step) (line : ℕ) (orig
       (λ room. (
         (i.fine.count, o),
         λ told fits.
-            let c = call.Made h.machine.table.next (name_of kind) parent sock in
+            let c = Call.Made h.machine.table.next (name_of kind) parent sock in
             let e = entry (own_of line) c told in
             record {
               fine = state_made steps es (calm h.machine) (own_of line) (name_of kind) parent sock told kind sp (f told) i.fine;
-              names = λ k n r a g side d. names_on steps es _ (own_of n) side (i.names k n r a g side d);
-              hand = λ o d. bind_more steps es _ o (i.hand o d);
+              names = λ k n r a g side d. names_on (stay steps) es _ (own_of n) side (i.names k n r a g side d);
+              hand = λ o d. bind_more (stay steps) es _ o (i.hand o d);
               listens = listens_on contexts steps line origin is_line es h (own_of line) c told (λ k q op g d p. absurd (cc)) i;
               new = λ u. (handed_unless es (own_of line) c told (second_of line) (i.new u).0 (λ l p d. absurd (cc)), unmarked_made es (own_of line) h.machine.table.next (name_of kind) parent sock told (second_of line) (i.new u).1 (ms (second_of line) (inl (u, refl))));
               unmade = λ d a s is. absurd (un a s is d);
@@ -70,15 +58,15 @@ module _ (contexts : List WasiSocketsCtx) (steps : List Step) (line : ℕ) (orig
             },
       ))
 
-  socket_touch : (op x : OpId) (n : ℕ) (k : HandleKind) (parent : Option ℕ) (sock : Option OpId) → Touches op (call.Made n k parent sock) x → k ≡ name.Tcp2
+  socket_touch : (op x : OpId) (n : ℕ) (k : HandleKind) (parent : Option ℕ) (sock : Option OpId) → Touches op (Call.Made n k parent sock) x → k ≡ name.Tcp2
   socket_touch op x n name.Tcp2 parent (Some s) t = refl
   socket_touch op x n name.Tcp2 parent None t = absurd t
   socket_touch op x n _ parent sock t = absurd t
 
   -- of a handle that is no socket's
   other_fine : (es : List Entry) (h : Here) (kind : Kind) (parent : Option ℕ) (sock : Option OpId) → BeganBy steps (own_of line) (IsMarkOf es (own_of line) (name_of kind) parent sock) → (name_of kind ≡ name.Tcp2 → ⊥)
-      → ((c s : ℕ) → origin ≡ step.TcpAccept c s → (h.own ≡ Unused) ⊎ NotMarked h.made → ⊥)
-      → ((t : Told) → HandleIsFine (es ++ entry (own_of line) (call.Made h.machine.table.next (name_of kind) parent sock) t ∷ []) h.machine.store.sockets h.machine.table.next kind) → Licensed steps line origin es h
+      → ((c s : ℕ) → origin ≡ Step.TcpAccept c s → (h.own ≡ Unused) ⊎ NotMarked h.made → ⊥)
+      → ((t : Told) → HandleIsFine (es ++ entry (own_of line) (Call.Made h.machine.table.next (name_of kind) parent sock) t ∷ []) h.machine.store.sockets h.machine.table.next kind) → Licensed steps line origin es h
       → Allows (MayAsk contexts steps) (λ fs made. Licensed steps line origin fs (record h { machine = record h.machine { table = made.1 } })) es (make_asks h.machine.table (own_of line) kind parent sock)
   other_fine es h kind parent sock o none un f i = made_fine es h kind parent sock o (λ k r x e n t. none (socket_touch (own_of line) x h.machine.table.next (name_of kind) parent sock t)) un (λ x p a. absurd (none a)) f i
 
@@ -98,16 +86,16 @@ module _ (contexts : List WasiSocketsCtx) (steps : List Step) (line : ℕ) (orig
   stream_handle fs sockets handle place kind (inr e) n = subst (HandleIsFine fs sockets handle) (sym e) n
 
   -- the new handle names the record
-  new_names : (es : List Entry) (h : Here) (n place : ℕ) (kind : HandleKind) (parent : Option ℕ) (r : Tcp2Socket) (t : Told) → Found h place r → (let sock = side_at (slice_get h.machine.store.sockets place) in NamesRecord (es ++ entry (own_of line) (call.Made n kind parent sock) t ∷ []) h.machine.store.sockets n place)
+  new_names : (es : List Entry) (h : Here) (n place : ℕ) (kind : HandleKind) (parent : Option ℕ) (r : Tcp2Socket) (t : Told) → Found h place r → (let sock = side_at (slice_get h.machine.store.sockets place) in NamesRecord (es ++ entry (own_of line) (Call.Made n kind parent sock) t ∷ []) h.machine.store.sockets n place)
   new_names es h n place kind parent r t g =
       let sock = side_at (slice_get h.machine.store.sockets place) in
-      let e = entry (own_of line) (call.Made n kind parent sock) t in
-      record { found = r; at = g; marked = record { op = own_of line; kind = kind; parent = parent; told = t; mark = subst (λ (o : Option OpId). Has (es ++ e ∷ []) (entry (own_of line) (call.Made n kind parent o) t)) (ap side_at g) (has_last es e) } }
+      let e = entry (own_of line) (Call.Made n kind parent sock) t in
+      record { found = r; at = g; marked = record { op = own_of line; kind = kind; parent = parent; told = t; mark = subst (λ (o : Option OpId). Has (es ++ e ∷ []) (entry (own_of line) (Call.Made n kind parent o) t)) (ap side_at g) (has_last es e) } }
 
-  not_accept : (s : Step) → ((c k : ℕ) → s ≡ step.TcpAccept c k → ⊥) → origin ≡ s → (c k : ℕ) → origin ≡ step.TcpAccept c k → (h : Here) → (h.own ≡ Unused) ⊎ NotMarked h.made → ⊥
+  not_accept : (s : Step) → ((c k : ℕ) → s ≡ Step.TcpAccept c k → ⊥) → origin ≡ s → (c k : ℕ) → origin ≡ Step.TcpAccept c k → (h : Here) → (h.own ≡ Unused) ⊎ NotMarked h.made → ⊥
   not_accept s n e c k is h u = n c k (sym e ∙ is)
 
-  error_line : (handle : ℕ) (s : Step) → MarksError handle s → (c k : ℕ) → s ≡ step.TcpAccept c k → ⊥
+  error_line : (handle : ℕ) (s : Step) → MarksError handle s → (c k : ℕ) → s ≡ Step.TcpAccept c k → ⊥
   error_line handle s m c k e = subst (MarksError handle) e m
 
   used_marked : (h : Here) (handle place : ℕ) → h.own ≡ Used → h.made ≡ Marked handle place → (h.own ≡ Unused) ⊎ NotMarked h.made → ⊥
@@ -117,19 +105,19 @@ module _ (contexts : List WasiSocketsCtx) (steps : List Step) (line : ℕ) (orig
   pub marked_fine : (es : List Entry) (h : Here) (kind : Kind) (parent : Option ℕ) (sock : Option OpId) → Marks origin h kind parent sock → Licensed steps line origin es h
       → Allows (MayAsk contexts steps) (λ fs made. Licensed steps line origin fs (record h { machine = record h.machine { table = made.1 } })) es (make_asks h.machine.table (own_of line) kind parent sock)
   marked_fine es h _ _ _ (ANetwork c e) i =
-      other_fine es h Network None None (record { origin = origin; at = is_line; holds = subst (IsMarkOf es (own_of line) name.Network None None) (sym e) (refl, refl, refl) }) (λ p. absurd (cc)) (λ a k is. not_accept (step.Network c) (λ a k p. absurd (cc)) e a k is h) (λ t. tt) i
+      other_fine es h Network None None (record { origin = origin; at = is_line; holds = subst (IsMarkOf es (own_of line) name.Network None None) (sym e) (refl, refl, refl) }) (λ p. absurd (cc)) (λ a k is. not_accept (Step.Network c) (λ a k p. absurd (cc)) e a k is h) (λ t. tt) i
   marked_fine es h kind _ _ (AStream c handle place _ is which e) i =
       let sock = side_at (slice_get h.machine.store.sockets place) in
       let n = names_record es h.machine.store.sockets handle place (kind_at h.machine.table handle) e (i.fine.handles handle) in
       let w : IsMarkedWith es handle sock = subst (IsMarkedWith es handle) (sym (ap side_at n.at)) n.marked in
       other_fine es h kind (Some handle) sock (record { origin = origin; at = is_line; holds = subst (IsMarkOf es (own_of line) (name_of kind) (Some handle) sock) (sym is) (stream_name kind place which, (refl, w)) })
-      (no_socket (name_of kind) (stream_name kind place which)) (λ a k p. not_accept (step.TcpFinishConnect c handle) (λ a k p. absurd (cc)) is a k p h)
+      (no_socket (name_of kind) (stream_name kind place which)) (λ a k p. not_accept (Step.TcpFinishConnect c handle) (λ a k p. absurd (cc)) is a k p h)
       (λ t. stream_handle _ h.machine.store.sockets h.machine.table.next place kind which (new_names es h h.machine.table.next place (name_of kind) (Some handle) n.found t n.at)) i
   marked_fine es h kind _ _ (AnAcceptedStream c listener handle place _ r is which m o g) i =
       let sock = side_at (slice_get h.machine.store.sockets place) in
       let k = i.marked handle place m r g in
       other_fine es h kind (Some handle) sock
-      (record { origin = origin; at = is_line; holds = subst (IsMarkOf es (own_of line) (name_of kind) (Some handle) sock) (sym is) (inr (record { stream = stream_name kind place which; socket = handle; under = refl; above = k.above; told = k.told; marked = subst (λ (x : Option OpId). Has es (entry (own_of line) (call.Made handle name.Tcp2 k.above x) k.told)) (sym (ap side_at g)) k.mark })) })
+      (record { origin = origin; at = is_line; holds = subst (IsMarkOf es (own_of line) (name_of kind) (Some handle) sock) (sym is) (inr (record { stream = stream_name kind place which; socket = handle; under = refl; above = k.above; told = k.told; marked = subst (λ (x : Option OpId). Has es (entry (own_of line) (Call.Made handle name.Tcp2 k.above x) k.told)) (sym (ap side_at g)) k.mark })) })
       (no_socket (name_of kind) (stream_name kind place which)) (λ a s p. used_marked h handle place o m)
       (λ t. stream_handle _ h.machine.store.sockets h.machine.table.next place kind which (new_names es h h.machine.table.next place (name_of kind) (Some handle) r t g)) i
   marked_fine es h _ _ _ (APollable c handle w is e) i =
@@ -137,7 +125,7 @@ module _ (contexts : List WasiSocketsCtx) (steps : List Step) (line : ℕ) (orig
       let sock = side_at (slice_get h.machine.store.sockets place) in
       let n = names_record es h.machine.store.sockets handle place (kind_at h.machine.table handle) e (i.fine.handles handle) in
       let k : IsMarkedWith es handle sock = subst (IsMarkedWith es handle) (sym (ap side_at n.at)) n.marked in
-      other_fine es h (Pollable w) (Some handle) sock (record { origin = origin; at = is_line; holds = subst (IsMarkOf es (own_of line) name.Pollable (Some handle) sock) (sym is) (refl, (refl, k)) }) (λ p. absurd (cc)) (λ a s p. not_accept (step.Subscribe c handle) (λ a s p. absurd (cc)) is a s p h)
+      other_fine es h (Pollable w) (Some handle) sock (record { origin = origin; at = is_line; holds = subst (IsMarkOf es (own_of line) name.Pollable (Some handle) sock) (sym is) (refl, (refl, k)) }) (λ p. absurd (cc)) (λ a s p. not_accept (Step.Subscribe c handle) (λ a s p. absurd (cc)) is a s p h)
       (λ t. new_names es h h.machine.table.next place name.Pollable (Some handle) n.found t n.at) i
   marked_fine es h _ _ _ (AnError handle place m e) i =
       let sock = side_at (slice_get h.machine.store.sockets place) in
@@ -146,7 +134,7 @@ module _ (contexts : List WasiSocketsCtx) (steps : List Step) (line : ℕ) (orig
       other_fine es h ErrorValue (Some handle) sock (record { origin = origin; at = is_line; holds = error_mark es (own_of line) handle sock origin m w }) (λ p. absurd (cc)) (λ a s p u. error_line handle origin m a s p) (λ t. tt) i
 
   -- the mark of what was accepted
-  pub accepted_fine : (es : List Entry) (h : Here) (c s place : ℕ) (r : Tcp2Socket) → origin ≡ step.TcpAccept c s → h.made ≡ Joined place → h.own ≡ Used → Found h place r → Named line h → Licensed steps line origin es h
+  pub accepted_fine : (es : List Entry) (h : Here) (c s place : ℕ) (r : Tcp2Socket) → origin ≡ Step.TcpAccept c s → h.made ≡ Joined place → h.own ≡ Used → Found h place r → Named line h → Licensed steps line origin es h
       → Allows (MayAsk contexts steps) (λ fs made. Licensed steps line origin fs (record h { machine = record h.machine { table = made.1 }; made = made_so place made.0 })) es (make_asks h.machine.table (own_of line) (Tcp2 place) (Some s) (side_at (slice_get h.machine.store.sockets place)))
   unfolding bind
   accepted_fine es h c s place r is e o g b i =
@@ -161,12 +149,12 @@ module _ (contexts : List WasiSocketsCtx) (steps : List Step) (line : ℕ) (orig
       (λ room. (
         (i.fine.count, record { origin = origin; at = is_line; holds = subst (IsMarkOf es (own_of line) name.Tcp2 (Some s) sock) (sym is) (inl (record { first = i.unmade (inr (subst NotMarked (sym e) tt)) c s is; socket = refl; under = refl; accept = j.new; side = its; on = j.on; of_listener = subst (λ (x : ℕ). IsSide es x j.on) same j.of_listener; peer = j.peer; told = j.handed.told; handed = j.handed.hand; fresh = j.fresh })) }),
         λ told fits.
-            let k = call.Made n name.Tcp2 (Some s) sock in
+            let k = Call.Made n name.Tcp2 (Some s) sock in
             record {
               fine = state_made steps es (calm h.machine) (own_of line) name.Tcp2 (Some s) sock told (Tcp2 place)
-                  (λ p q x d m t. apart_there j.new p q x d m (subst (λ (y : Option OpId). Touches (own_of line) (call.Made n name.Tcp2 (Some s) y) x) its t) (j.side r g)) (new_names es h n place name.Tcp2 (Some s) r told g) i.fine;
-              names = λ p m q a d side x. names_on steps es _ (own_of m) side (i.names p m q a d side x);
-              hand = λ op d. bind_more steps es _ op (i.hand op d);
+                  (λ p q x d m t. apart_there j.new p q x d m (subst (λ (y : Option OpId). Touches (own_of line) (Call.Made n name.Tcp2 (Some s) y) x) its t) (j.side r g)) (new_names es h n place name.Tcp2 (Some s) r told g) i.fine;
+              names = λ p m q a d side x. names_on (stay steps) es _ (own_of m) side (i.names p m q a d side x);
+              hand = λ op d. bind_more (stay steps) es _ op (i.hand op d);
               listens = listens_on contexts steps line origin is_line es h (own_of line) k told (λ p q op d m x. absurd (cc)) i;
               new = λ u. absurd (not_used (past ∙ u));
               unmade = λ u. absurd (elim u [ inl p ↦ not_used (past ∙ p) | inr p ↦ p ]);
@@ -178,7 +166,7 @@ module _ (contexts : List WasiSocketsCtx) (steps : List Step) (line : ℕ) (orig
       not_used : Used ≡ Unused → ⊥
       not_used p = absurd (cc)
 
-      same_listener : (a b c d : ℕ) → step.TcpAccept a b ≡ step.TcpAccept c d → b ≡ d
+      same_listener : (a b c d : ℕ) → Step.TcpAccept a b ≡ Step.TcpAccept c d → b ≡ d
       same_listener a b c d p = cc
 
       apart_there : (new : OpId) (p : ℕ) (q : Tcp2Socket) (x : OpId) → Found h p q → accept_name q.listening ≡ Some x → new ≡ x → r.side ≡ Some new → ⊥
@@ -188,10 +176,95 @@ module _ (contexts : List WasiSocketsCtx) (steps : List Step) (line : ℕ) (orig
           let same : r ≡ q = same_record r q (sym g ∙ (ap (slice_get h.machine.store.sockets) at ∙ d)) in
           b.apart new place r g v (ap (λ (y : Tcp2Socket). accept_name y.listening) same ∙ w)
 
-      made_there : (told : Told) (a p : ℕ) (q : Tcp2Socket) → Marked h.machine.table.next place ≡ Marked a p → Found h p q → MadeSocket line (es ++ entry (own_of line) (call.Made h.machine.table.next name.Tcp2 (Some s) (side_at (slice_get h.machine.store.sockets place))) told ∷ []) a q.side
+      made_there : (told : Told) (a p : ℕ) (q : Tcp2Socket) → Marked h.machine.table.next place ≡ Marked a p → Found h p q → MadeSocket line (es ++ entry (own_of line) (Call.Made h.machine.table.next name.Tcp2 (Some s) (side_at (slice_get h.machine.store.sockets place))) told ∷ []) a q.side
       made_there told a p q d m =
           let n : h.machine.table.next ≡ a = cc in let at : place ≡ p = cc in
           let same : r ≡ q = same_record r q (sym g ∙ (ap (slice_get h.machine.store.sockets) at ∙ m)) in
-          let e = entry (own_of line) (call.Made h.machine.table.next name.Tcp2 (Some s) (side_at (slice_get h.machine.store.sockets place))) told in
+          let e = entry (own_of line) (Call.Made h.machine.table.next name.Tcp2 (Some s) (side_at (slice_get h.machine.store.sockets place))) told in
           let sides : side_at (slice_get h.machine.store.sockets place) ≡ q.side = ap side_at g ∙ ap (λ (y : Tcp2Socket). y.side) same in
-          record { above = Some s; told = told; mark = subst (λ (x : ℕ). Has (es ++ e ∷ []) (entry (own_of line) (call.Made x name.Tcp2 (Some s) q.side) told)) n (subst (λ (x : Option OpId). Has (es ++ e ∷ []) (entry (own_of line) (call.Made h.machine.table.next name.Tcp2 (Some s) x) told)) sides (has_last es e)) }
+          record { above = Some s; told = told; mark = subst (λ (x : ℕ). Has (es ++ e ∷ []) (entry (own_of line) (Call.Made x name.Tcp2 (Some s) q.side) told)) n (subst (λ (x : Option OpId). Has (es ++ e ∷ []) (entry (own_of line) (Call.Made h.machine.table.next name.Tcp2 (Some s) x) told)) sides (has_last es e)) }
+
+module _ (contexts : List WasiSocketsCtx) (steps : List Step) (line : ℕ) (origin : Step) (is_line : step_at steps line ≡ Some origin) where
+  -- == a socket that is created
+  may_use : (n : ℕ) (o : Option WasiSocketsCtx) → slice_get contexts n ≡ o → (context_in o).tcp ≡ true → MayUseTcp contexts n (context_in o).name
+  may_use n None e t = absurd (cc)
+  may_use n (Some ctx) e t = record { ctx = ctx; at = e; named = refl; tcp = t }
+
+  may_create : (ctx : WasiSocketsCtx) (family : SocketAddressFamily) (s : Step) → Creates contexts ctx family s → ctx.tcp ≡ true → IsTcpCreate contexts ctx.name family s
+  may_create ctx family (Step.TcpCreate n f) c t =
+      let T : WasiSocketsCtx → Type 0 = λ x. x.tcp ≡ true → MayUseTcp contexts n x.name in
+      (subst T c.0 (may_use n (slice_get contexts n) refl) t, c.1)
+  may_create ctx family _ c t = absurd c
+
+  abbrev pub CreatedIsFine : ℕ → SocketAddressFamily → List Entry → Result Socket ErrorCode → Type 0
+  CreatedIsFine maker family es (Ok socket) = Has es (entry (own_of line) (Call.TcpCreate maker family) Told.Done) × (socket ≡ new_socket (own_of line) maker family)
+  CreatedIsFine maker family es (Err c) = ⊤
+
+  fine_told : (es : List Entry) (maker : ℕ) (family : SocketAddressFamily) (t : Told) → IsDoneOrCode t → CreatedIsFine maker family (es ++ entry (own_of line) (Call.TcpCreate maker family) t ∷ []) (after_create (own_of line) maker family (told_done t))
+  fine_told es maker family Told.Done fits = (has_last es _, refl)
+  fine_told es maker family (Told.Code c) fits = tt
+  fine_told es maker family _ fits = absurd fits
+
+  pub new_fine : (es : List Entry) (ctx : WasiSocketsCtx) (family : SocketAddressFamily) → Creates contexts ctx family origin → Allows (MayQuietly contexts steps) (CreatedIsFine ctx.name family) es (new_asks (own_of line) ctx family)
+  unfolding bind
+  new_fine es ctx family c =
+      allows_if (MayQuietly contexts steps) (CreatedIsFine ctx.name family) es ctx.tcp _ _ (λ t. (((record { origin = origin; at = is_line; holds = may_create ctx family origin c t }, tt), tt), λ u fits. fine_told es ctx.name family u fits)) (λ t. tt)
+
+  created_mark : (es : List Entry) (maker : ℕ) (family : SocketAddressFamily) (ctx : WasiSocketsCtx) (its : SocketAddressFamily) (s : Step) → Creates contexts ctx its s → Has es (entry (own_of line) (Call.TcpCreate maker family) Told.Done) → IsMarkOf es (own_of line) name.Tcp2 None (Some (own_of line)) s
+  created_mark es maker family ctx its (Step.TcpCreate n f) c k = (refl, refl, refl, (maker, family, k))
+  created_mark es maker family ctx its _ c k = absurd c
+
+  maker_is : (es : List Entry) (maker : ℕ) (family : SocketAddressFamily) (side : OpId) → Some (own_of line) ≡ Some side → IsMaker es maker family (own_of line) → IsMaker es maker family side
+  maker_is es maker family side e i = subst (IsMaker es maker family) (sym (some_same side (own_of line) e)) i
+
+  creates_only : (ctx : WasiSocketsCtx) (family : SocketAddressFamily) → Creates contexts ctx family origin → (c s : ℕ) → origin ≡ Step.TcpAccept c s → ⊥
+  creates_only ctx family k c s e = subst (Creates contexts ctx family) e k
+
+  pub joins : (es : List Entry) (h : Here) (ctx : WasiSocketsCtx) (family : SocketAddressFamily) (made : Result Socket ErrorCode) → Creates contexts ctx family origin → h.at ≡ None → h.own ≡ Unused → h.made ≡ Past → CreatedIsFine ctx.name family es made → Named line h → Licensed steps line origin es h
+      → Allows (MayAsk contexts steps) (λ fs done. Licensed steps line origin fs (record h { machine = done.1; own = Used })) es (created_asks h.machine (own_of line) made)
+  joins es h ctx family (Err x) c nowhere u past k b i = spent es h i
+  joins es h ctx family (Ok socket) c nowhere u past k b i =
+      let own = own_of line in
+      let now = new_socket own ctx.name family in
+      let next : Here = record h { machine = record h.machine { store = with_record h.machine.store now }; own = Used } in
+      let made_it : SocketIsFine steps es now = record {
+        knows = record { maker = λ side e. maker_is es ctx.name family side e (Created own Told.Done k.0) };
+        bound = λ side e b. absurd (cc);
+        listens = λ side e. absurd (cc);
+        connect = λ op e. absurd (cc);
+      } in
+      let j : Licensed steps line origin es next = record {
+        fine = state_push steps es (calm h.machine) now made_it i.fine;
+        names = λ p n r a e. absurd (no_place p n (sym nowhere ∙ a));
+        hand = i.hand;
+        listens = λ p q op d m. elim (get_split h.machine.store.sockets (new_record now) p q d) [ inl v ↦ i.listens p q op v m | inr v ↦ absurd (no_listen op (ap (λ (y : Tcp2Socket). y.listening) v ∙ m)) ];
+        new = λ e. absurd (cc);
+        unmade = λ e d s is. absurd (creates_only ctx family c d s is);
+        joined = λ p e. absurd (not_joined p (sym past ∙ e));
+        marked = λ a p e q d. elim (get_split h.machine.store.sockets (new_record now) p q d) [ inl v ↦ i.marked a p e q v | inr v ↦ absurd (not_marked a p (sym past ∙ e)) ];
+      } in
+      subst (λ (s : Socket). Allows (MayAsk contexts steps) (λ fs done. Licensed steps line origin fs (record h { machine = done.1; own = Used })) es (create_handle h.machine own s)) (sym k.1)
+      (allows_then (MayAsk contexts steps) (λ fs made. Licensed steps line origin fs (record next { machine = record next.machine { table = made.1 } })) (λ fs done. Licensed steps line origin fs (record h { machine = done.1; own = Used })) es
+      (make_asks h.machine.table own (Tcp2 (length h.machine.store.sockets)) None (Some own)) _
+      (made_fine contexts steps line origin is_line es next (Tcp2 (length h.machine.store.sockets)) None (Some own) (record { origin = origin; at = is_line; holds = created_mark es ctx.name family ctx family origin c k.0 })
+      (λ p r x e n t. elim (get_split h.machine.store.sockets (new_record now) p r e) [ inl v ↦ fresh contexts line origin h u b x (of_line x t) p r v (inr n) | inr v ↦ no_name x (ap (λ (y : Tcp2Socket). accept_name y.listening) v ∙ n) ])
+      (λ a s is w. creates_only ctx family c a s is) (λ x w p q. elim w [ inl d ↦ absurd (not_used d.0) | inr d ↦ not_joined d.0 (sym past ∙ d.1) ])
+      (λ t. record { found = new_record now; at = get_seam h.machine.store.sockets (new_record now); marked = record { op = own; kind = name.Tcp2; parent = None; told = t; mark = has_last es _ } }) j) (λ fs made l. l))
+    where
+      no_name : (x : OpId) → None ≡ Some x → ⊥
+      no_name x e = absurd (cc)
+
+      no_place : (p n : ℕ) → (let x : Option (ℕ × ℕ) = Some (p, n) in None ≡ x) → ⊥
+      no_place p n e = absurd (cc)
+
+      of_line : (x : OpId) → own_of line ≡ x → x.step ≡ line
+      of_line x t = ap (λ (o : OpId). o.step) (sym t)
+
+      not_used : Used ≡ Unused → ⊥
+      not_used e = absurd (cc)
+
+      not_marked : (a p : ℕ) → Past ≡ Marked a p → ⊥
+      not_marked a p e = absurd (cc)
+
+      not_joined : (p : ℕ) → Past ≡ Joined p → ⊥
+      not_joined p e = absurd (cc)

@@ -1,17 +1,7 @@
 -- In a licensed log a handle has one side, and a side one maker and one family.
-use Rattle.std.proofs.Common.{◌≡◌, ℕ, ◌⊎◌, inl, inr, List, [], ◌∷◌, ◌++◌, refl, sym, ap, subst, ◌∙◌, arith}
-use Rattle.wasi_addr.specs.declared.address.IpSocketAddress.{IpSocketAddress}
-use Rattle.wasi_addr.specs.declared.address.SocketAddressFamily.{SocketAddressFamily}
-use Rattle.wasi_world.specs.declared.ids.OpId.{OpId}
-use Rattle.wasi_world.specs.declared.call.Call.{Call}
-use Rattle.wasi_world.specs.declared.call.Call.TheVariants.{TcpCreate, Hand}
-use Rattle.wasi_world.specs.declared.call.Told.{Told}
-use Rattle.wasi_world.specs.declared.call.Entry.{Entry}
-use Rattle.wasi_world.specs.declared.outcome.WasiSocketsCtx.{WasiSocketsCtx}
-use Rattle.wasi_steps.specs.declared.reply.Reply.{Reply}
-use Rattle.wasi_steps.specs.declared.step.Step.{Step}
-use Rattle.wasi_steps.specs.declared.step.Step.TheVariants as step
-use Rattle.wasi_walks.specs.Licence.{Has, entry, marked_by, marks_in, handles_of, BeganBy, NamesSide, IsSide, IsMaker, Created, Handed, IsTcpCreate, MayAsk, IsLicensed}
+use Rattle.wasi_walks.proofs.Words.{BeganBy, Call, Created, Entry, Hand, Handed, Has, IpSocketAddress, IsLicensed, IsMaker, IsSide, IsTcpCreate, List}
+use Rattle.wasi_walks.proofs.Words.{MayAsk, NamesSide, OpId, Reply, SocketAddressFamily, Step, TcpCreate, Told, WasiSocketsCtx, [], ap, arith, entry}
+use Rattle.wasi_walks.proofs.Words.{handles_of, inl, inr, marked_by, marks_in, refl, subst, sym, ℕ, ◌++◌, ◌∙◌, ◌∷◌, ◌≡◌, ◌⊎◌}
 use Rattle.wasi_walks.proofs.Lists.{entry_call, Cut, cut_of}
 
 -- where a list is cut twice, the cuts are one or each holds the other's entry in front of it
@@ -58,7 +48,7 @@ module _ (contexts : List WasiSocketsCtx) (steps : List Step) (log : List Entry)
   created_by side ctx family t i = may_at _ (cut_of log _ i)
 
   one_create : (s : Step) (c d : ℕ) (f g : SocketAddressFamily) → IsTcpCreate contexts c f s → IsTcpCreate contexts d g s → (c ≡ d) × (f ≡ g)
-  one_create (step.TcpCreate ctx family) c d f g a b =
+  one_create (Step.TcpCreate ctx family) c d f g a b =
       let p = a.0.at in
       let q = b.0.at in
       let e : a.0.ctx ≡ b.0.ctx = cc in
@@ -68,7 +58,7 @@ module _ (contexts : List WasiSocketsCtx) (steps : List Step) (log : List Entry)
 
   -- a create names no listener
   names_none : (s : Step) (c : ℕ) (f : SocketAddressFamily) (handle : ℕ) → IsTcpCreate contexts c f s → Has (handles_of s) handle → ⊥
-  names_none (step.TcpCreate ctx family) c f handle a i = i
+  names_none (Step.TcpCreate ctx family) c f handle a i = i
   names_none _ c f handle a i = absurd a
 
   hands_own : (op l : OpId) (ctx : ℕ) (family : SocketAddressFamily) (peer : IpSocketAddress) (t u : Told) → Has log (entry op (TcpCreate ctx family) t) → Has log (entry op (Hand l peer) u) → op ≡ l

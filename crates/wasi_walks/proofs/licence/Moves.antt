@@ -1,39 +1,13 @@
 -- Each move keeps that the state fits the log.
-use Rattle.std.proofs.Common.{◌≡◌, inl, inr, ℕ, Bool, true, false, List, Option, Some, refl, sym, ap, subst, ◌∙◌, slice_get, slice_set}
-use Rattle.wasi_addr.specs.declared.address.IpSocketAddress.{IpSocketAddress}
-use Rattle.wasi_addr.specs.declared.address.SocketAddressFamily.{SocketAddressFamily}
-use Rattle.wasi_addr.specs.Address.{wildcard}
-use Rattle.wasi_world.specs.declared.ids.OpId.{OpId}
-use Rattle.wasi_world.specs.declared.call.Entry.{Entry}
-use Rattle.wasi_world.specs.declared.outcome.WasiSocketsCtx.{WasiSocketsCtx}
-use Rattle.wasi_world.specs.Operation.{End, Waits, Done, Refused}
-use Rattle.wasi_tcp.specs.declared.listener.Accepting.{Accepting}
-use Rattle.wasi_tcp.specs.declared.listener.Accepting.TheVariants as accepting
-use Rattle.wasi_tcp.specs.declared.reader.ReadState.TheVariants as reading
-use Rattle.wasi_tcp.specs.declared.socket.Connection.{Connection}
-use Rattle.wasi_tcp.specs.declared.socket.TcpState.TheVariants as state
-use Rattle.wasi_tcp.specs.declared.writer.WriteState.{WriteState}
-use Rattle.wasi_tcp.specs.declared.writer.WriteState.TheVariants as writing
-use Rattle.wasi_tcp.specs.Connect.{connect_first, connect_operation}
-use Rattle.wasi_tcp.specs.Connecting.{with_state}
-use Rattle.wasi_tcp.specs.Job.{Job, new_job}
-use Rattle.wasi_tcp.specs.Listener.{Listener, accepted_socket}
-use Rattle.wasi_tcp.specs.Shape.{Socket}
-use Rattle.wasi_tcp.specs.Socket.{side_in, side_of}
-use Rattle.wasi_tcp.specs.Writer.{written_by, closed_by}
-use Rattle.wasi_host.specs.declared.listening.Listening.TheVariants.{Not, Accepts}
-use Rattle.wasi_host.specs.declared.socket.Streams.{Streams}
-use Rattle.wasi_host.specs.declared.socket.Tcp2Socket.{Tcp2Socket}
-use Rattle.wasi_host.specs.Dropping.{gone}
-use Rattle.wasi_host.specs.Kinds.{kind_at}
-use Rattle.wasi_host.specs.Listening.{with_listening}
-use Rattle.wasi_host.specs.Machine.{own_of}
-use Rattle.wasi_host.specs.Store.{new_streams, with_inner, standing_bind, standing_drop}
-use Rattle.wasi_steps.specs.declared.step.Step.{Step}
-use Rattle.wasi_walks.specs.Licence.{Has, step_at, IsMarkedWith, IsMaker, MayGoOut, IsSide, MarksNoSocket, Handed, handles_of}
+use Rattle.wasi_walks.proofs.Words.{Accepting, Accepts, Bool, Connection, Done, End, Entry, Handed, Has, IpSocketAddress, IsMaker, IsMarkedWith}
+use Rattle.wasi_walks.proofs.Words.{IsSide, Job, List, Listener, MarksNoSocket, MayGoOut, Not, OpId, Option, ReadState, Refused, Socket}
+use Rattle.wasi_walks.proofs.Words.{SocketAddressFamily, Some, Step, Streams, Tcp2Socket, TcpState, Waits, WasiSocketsCtx, WriteState}
+use Rattle.wasi_walks.proofs.Words.{accepted_socket, ap, closed_by, connect_first, connect_operation, false, gone, handles_of, inl, inr, kind_at}
+use Rattle.wasi_walks.proofs.Words.{new_job, new_streams, own_of, refl, side_in, side_of, slice_get, slice_set, standing_bind, standing_drop, step_at}
+use Rattle.wasi_walks.proofs.Words.{subst, sym, true, wildcard, with_inner, with_listening, with_state, written_by, ℕ, ◌∙◌, ◌≡◌}
 use Rattle.wasi_walks.proofs.licence.ListenAsks.{Whole as WholeListen}
 use Rattle.wasi_walks.proofs.claims.Law.{Base, same_begun, fresh}
-use Rattle.wasi_walks.proofs.walks.Moves.{closed_record, Used, Here, put, Found, record_of, WriterMoves, Collects, Permits, Lasts, LastsAfter, Closes, Plain, Move, Reaches, Leaves, Spends, Changes, ClosesReader, Writes, IsGone, opened_by, Reconnects, Opens, BeginsConnect, BeginsBind, BeginsWrite, Stands, Resumes, Ends, Lists, Takes, BeginsListen, BeginsAccept, Unlistens, Forgets, Watches, Joins, StandsListen, StandsDrop, ResumesDrop, Unstands, accepting_now, begun_listen, beginning_listen, new_accept, joined, second_of}
+use Rattle.wasi_walks.proofs.walks.Moves.{closed_record, Used, Here, put, Found, record_of, WriterMoves, Collects, LastsAfter, Closes, Plain, Move, Reaches, Leaves, Spends, Changes, ClosesReader, Writes, IsGone, opened_by, Reconnects, Opens, BeginsConnect, BeginsBind, BeginsWrite, Stands, Resumes, Ends, Lists, Takes, BeginsListen, BeginsAccept, Unlistens, Forgets, Watches, Joins, StandsListen, StandsDrop, ResumesDrop, Unstands, accepting_now, begun_listen, beginning_listen, new_accept, joined, second_of}
 use Rattle.wasi_walks.proofs.Lists.{get_split}
 use Rattle.wasi_walks.proofs.licence.State.{ConnectIsFine, ConnectLeft, Unbound, Unchecked, ReadsOn, Whole, ToWrite, Names, BindIsFine, JobIsFine, WritesOn, StreamsAreFine, AcceptingIsFine, ListeningIsFine, SocketIsFine, RecordIsFine, IsHanded, Unarrived, AcceptingStands, ListeningStands, ListenerIsFine, name_in, DropIsFine}
 use Rattle.wasi_walks.proofs.licence.AcceptFrames.{same_listening, listening_kept, listening_gone, Only}
@@ -73,18 +47,14 @@ module _ (contexts : List WasiSocketsCtx) (steps : List Step) (line : ℕ) (orig
 
   closed_on : (es : List Entry) (side : OpId) (job : Job) (e : End) → JobIsFine steps es side job → WritesOn steps es side (closed_by job e)
   closed_on es side job Waits h = h
-  closed_on es side job (Done given) h = tt
-  closed_on es side job (Refused c given) h = tt
+  closed_on es side job _ h = tt
 
   writes_on : (es : List Entry) (side : OpId) (w now : WriteState) → WriterMoves w now → WritesOn steps es side w → WritesOn steps es side now
-  writes_on es side _ _ (Collects (writing.Ready half permit)) on = on
-  writes_on es side _ _ (Collects (writing.Writing job)) on = written_on es side job job.end on
-  writes_on es side _ _ (Collects (writing.Closing job)) on = closed_on es side job job.end on
-  writes_on es side _ _ (Collects (writing.Closed e)) on = on
-  writes_on es side _ _ (Permits half old) on = on
-  writes_on es side _ _ (Lasts job) on = on
+  writes_on es side _ _ (Collects (WriteState.Writing job)) on = written_on es side job job.end on
+  writes_on es side _ _ (Collects (WriteState.Closing job)) on = closed_on es side job job.end on
   writes_on es side _ _ (LastsAfter job) on = record { named = on.named; on = on.on; last = on.last; left = shut_after contexts steps job.write.left on.left }
   writes_on es side _ _ (Closes w e) on = tt
+  writes_on es side _ _ _ on = on
 
   pub closed_fine : (es : List Entry) (r : Tcp2Socket) → RecordIsFine steps es (closed_record r)
   closed_fine es r = record {
@@ -101,15 +71,15 @@ module _ (contexts : List WasiSocketsCtx) (steps : List Step) (line : ℕ) (orig
   names_streams es r s n h f = n f.side (h.named f.side (held_side es r s f))
 
   -- another connection of the same side
-  still_connected : (r : Tcp2Socket) (c now : Connection) → r.inner.state ≡ state.Connected c → now.side ≡ c.side → KeepsSide r.inner (with_state r.inner (state.Connected now))
+  still_connected : (r : Tcp2Socket) (c now : Connection) → r.inner.state ≡ TcpState.Connected c → now.side ≡ c.side → KeepsSide r.inner (with_state r.inner (TcpState.Connected now))
   still_connected r c now e s = record {
     maker = refl;
     family = refl;
     side = λ side p. ap side_in e ∙ (ap (λ (x : OpId). Some x) (sym s) ∙ p);
-    connected = λ d p. let q : state.Connected c ≡ state.Connected d = sym e ∙ p in let z : c ≡ d = cc in record { connection = now; state = refl; same = s ∙ ap (λ (x : Connection). x.side) z };
+    connected = λ d p. let q : TcpState.Connected c ≡ TcpState.Connected d = sym e ∙ p in let z : c ≡ d = cc in record { connection = now; state = refl; same = s ∙ ap (λ (x : Connection). x.side) z };
   }
 
-  connected_fine : (es : List Entry) (socket : Socket) (c now : Connection) → socket.state ≡ state.Connected c → now.side ≡ c.side → SocketIsFine steps es socket → SocketIsFine steps es (with_state socket (state.Connected now))
+  connected_fine : (es : List Entry) (socket : Socket) (c now : Connection) → socket.state ≡ TcpState.Connected c → now.side ≡ c.side → SocketIsFine steps es socket → SocketIsFine steps es (with_state socket (TcpState.Connected now))
   connected_fine es socket c now e s f = record {
     knows = record { maker = λ side p. f.knows.maker side (ap side_in e ∙ (ap (λ (x : OpId). Some x) (sym s) ∙ p)) };
     bound = λ side p b. absurd (cc);
@@ -117,7 +87,7 @@ module _ (contexts : List WasiSocketsCtx) (steps : List Step) (line : ℕ) (orig
     connect = λ op p. absurd (cc);
   }
 
-  not_default : (side : OpId) (c : Connection) → state.Default side ≡ state.Connected c → ⊥
+  not_default : (side : OpId) (c : Connection) → TcpState.Default side ≡ TcpState.Connected c → ⊥
   not_default side c e = absurd (cc)
 
   first_left : (es : List Entry) (side : OpId) (maker : ℕ) (family : SocketAddressFamily) (a : IpSocketAddress) (b : Bool) → IsMaker es maker family side → (b ≡ true → MayGoOut es (own_of line) side)
@@ -131,7 +101,7 @@ module _ (contexts : List WasiSocketsCtx) (steps : List Step) (line : ℕ) (orig
   pub gone_maker : (r : Tcp2Socket) (socket : Socket) → KeepsListen r (gone r socket)
   gone_maker r socket op e = absurd (cc)
 
-  no_streams : (es : List Entry) (r : Tcp2Socket) (side : OpId) (s : Streams) → r.inner.state ≡ state.Default side → RecordIsFine steps es r → r.streams ≡ Some s → ⊥
+  no_streams : (es : List Entry) (r : Tcp2Socket) (side : OpId) (s : Streams) → r.inner.state ≡ TcpState.Default side → RecordIsFine steps es r → r.streams ≡ Some s → ⊥
   no_streams es r side s d f e = not_default side (f.streams s e).connected.connection (sym d ∙ (f.streams s e).connected.state)
 
   names_at : (es : List Entry) (h : Here) (handle place : ℕ) → Has (handles_of origin) handle → record_of (kind_at h.machine.table handle) ≡ Some place → Licensed steps line origin es h → (r : Tcp2Socket) → Found h place r → NamesMade steps line es r
@@ -162,7 +132,7 @@ module _ (contexts : List WasiSocketsCtx) (steps : List Step) (line : ℕ) (orig
   joined_record : (es : List Entry) (l : Listener) (new : OpId) (peer : IpSocketAddress) → IsMaker es l.maker l.family l.side → IsHanded es new l.side peer → RecordIsFine steps es (joined l new peer)
   joined_record es l new peer m k =
       let c : Connection = record { side = new; peer = Some peer; receive_taken = true; send_taken = true } in
-      let socket : Socket = accepted_socket l.family l.maker (state.Connected c) in
+      let socket : Socket = accepted_socket l.family l.maker (TcpState.Connected c) in
       let made : IsMaker es l.maker l.family new = Handed new l.side peer k.told k.hand m in
       let it : StreamsAreFine steps es socket (new_streams (record { side = new }) (record { side = new })) = record { side = new; connected = record { connection = c; state = refl; same = refl }; reads = refl; writes = refl } in
       record {
@@ -180,19 +150,19 @@ module _ (contexts : List WasiSocketsCtx) (steps : List Step) (line : ℕ) (orig
   moves_fine es _ _ (Leaves h) b i = record { fine = i.fine; names = λ k n r a g. absurd (cc); hand = i.hand; listens = i.listens; new = i.new; unmade = λ e c s is. i.unmade (elim e [ inl u ↦ inl u | inr u ↦ absurd u ]) c s is; joined = λ p e. absurd (cc); marked = λ handle p e. absurd (cc) }
   moves_fine es _ _ (Spends h e) b i = spent es h i
   moves_fine es _ _ (Changes h place r now g p) b i = plain_fine es h place r now g p i
-  moves_fine es _ _ (ClosesReader h place r s g e) b i = streams_fine es h place r s (record s { reader = reading.Closed }) g e (λ f. (tt, f.writes)) i
+  moves_fine es _ _ (ClosesReader h place r s g e) b i = streams_fine es h place r s (record s { reader = ReadState.Closed }) g e (λ f. (tt, f.writes)) i
   moves_fine es _ _ (Writes h place r s w g e m) b i = streams_fine es h place r s (record s { writer = w }) g e (λ f. (f.reads, writes_on es f.side s.writer w m f.writes)) i
   moves_fine es _ _ (IsGone h place r g e) b i =
       let f = i.fine.sockets place r g in
       put_fine es h place r (gone r r.inner) g refl (listening_gone r.listening) (gone_maker r r.inner) (record { socket = f.socket; named = f.named; streams = λ s p. absurd (cc); listening = tt }) i
   moves_fine es _ _ (Reconnects h place r c now g e s t u) b i =
       let f = i.fine.sockets place r g in
-      put_fine es h place r _ g refl (same_listening r.listening) (same_listen r (with_inner r (with_state r.inner (state.Connected now))) refl refl refl) (record_kept steps es r _ (record { keeps = still_connected r c now e s; side = refl; streams = refl; listening = refl }) (connected_fine es r.inner c now e s f.socket) f) i
+      put_fine es h place r _ g refl (same_listening r.listening) (same_listen r (with_inner r (with_state r.inner (TcpState.Connected now))) refl refl refl) (record_kept steps es r _ (record { keeps = still_connected r c now e s; side = refl; streams = refl; listening = refl }) (connected_fine es r.inner c now e s f.socket) f) i
   moves_fine es _ _ (Opens h place r c g e n) b i =
       let f = i.fine.sockets place r g in let now : Connection = record c { send_taken = true } in
-      let it : StreamsAreFine steps es (with_state r.inner (state.Connected now)) (new_streams (record { side = c.side }) (record { side = c.side })) = record { side = c.side; connected = record { connection = now; state = refl; same = refl }; reads = refl; writes = refl } in
+      let it : StreamsAreFine steps es (with_state r.inner (TcpState.Connected now)) (new_streams (record { side = c.side }) (record { side = c.side })) = record { side = c.side; connected = record { connection = now; state = refl; same = refl }; reads = refl; writes = refl } in
       put_fine es h place r (opened_by r c) g refl (same_listening r.listening) (same_listen r (opened_by r c) refl refl refl)
-      (record { socket = connected_fine es r.inner c now e refl f.socket; named = λ side p. f.named side (ap side_in e ∙ p); streams = λ s p. let q : new_streams (record { side = c.side }) (record { side = c.side }) ≡ s = cc in subst (StreamsAreFine steps es (with_state r.inner (state.Connected now))) q it; listening = f.listening }) i
+      (record { socket = connected_fine es r.inner c now e refl f.socket; named = λ side p. f.named side (ap side_in e ∙ p); streams = λ s p. let q : new_streams (record { side = c.side }) (record { side = c.side }) ≡ s = cc in subst (StreamsAreFine steps es (with_state r.inner (TcpState.Connected now))) q it; listening = f.listening }) i
   moves_fine es _ _ (BeginsConnect h place r side a bound at g d to known o) b i =
       let f = i.fine.sockets place r g in
       let e : side_of r.inner ≡ Some side = ap side_in d in
@@ -204,13 +174,13 @@ module _ (contexts : List WasiSocketsCtx) (steps : List Step) (line : ℕ) (orig
         last = refl;
         left = first_left es side r.inner.maker r.inner.family a bound (f.socket.knows.maker side e) (λ yes. inl (f.socket.bound side d (known yes)));
       } in
-      let socket : SocketIsFine steps es (with_state r.inner (state.Connecting op)) = record {
+      let socket : SocketIsFine steps es (with_state r.inner (TcpState.Connecting op)) = record {
         knows = record { maker = λ s p. f.socket.knows.maker s (e ∙ p) };
         bound = λ s p q. absurd (cc);
         listens = λ s p. absurd (cc);
         connect = λ x p. let same : op ≡ x = cc in subst (ConnectIsFine steps es) same may;
       } in
-      spent es _ (put_fine es h place r (with_inner r (with_state r.inner (state.Connecting op))) g refl (same_listening r.listening) (same_listen r (with_inner r (with_state r.inner (state.Connecting op))) refl refl refl)
+      spent es _ (put_fine es h place r (with_inner r (with_state r.inner (TcpState.Connecting op))) g refl (same_listening r.listening) (same_listen r (with_inner r (with_state r.inner (TcpState.Connecting op))) refl refl refl)
       (record_kept steps es r _ (record { keeps = record { maker = refl; family = refl; side = λ s p. e ∙ p; connected = λ c p. absurd (not_default side c (sym d ∙ p)) }; side = refl; streams = refl; listening = refl }) socket f) i)
   moves_fine es _ _ (BeginsBind h place r side a at g d to o) b i =
       let f = i.fine.sockets place r g in
@@ -224,7 +194,7 @@ module _ (contexts : List WasiSocketsCtx) (steps : List Step) (line : ℕ) (orig
       } in
       let k = spent es h i in elsewhere es (record h { own = Used }) _ refl refl refl k k.fine k.names (λ op p. subst (BindIsFine steps es) (same_op _ op p) begun)
   moves_fine es _ _ (BeginsWrite h place r s half permit bytes at g e w within o) b i =
-      spent es _ (streams_fine es h place r s (record s { writer = writing.Writing (new_job (own_of line) half.side bytes) }) g e
+      spent es _ (streams_fine es h place r s (record s { writer = WriteState.Writing (new_job (own_of line) half.side bytes) }) g e
       (λ f. (f.reads, record { named = names_streams es r s (i.names place line r at g) (i.fine.sockets place r g) f; on = subst (WritesOn steps es f.side) w f.writes; last = refl; left = ToWrite bytes })) i)
   moves_fine es _ _ (BeginsListen h place r side at g d bound none to o) b i =
       let f = i.fine.sockets place r g in
@@ -249,15 +219,15 @@ module _ (contexts : List WasiSocketsCtx) (steps : List Step) (line : ℕ) (orig
       of_line x p = let q : second_of line ≡ x = cc in ap (λ (y : OpId). y.step) (sym q)
   moves_fine es _ _ (Unlistens h place r op g e c o) b i =
       let f = i.fine.sockets place r g in put_fine es h place r (with_listening r Not) g refl (listening_gone r.listening) (λ op p. absurd (cc)) (record { socket = f.socket; named = f.named; streams = f.streams; listening = tt }) i
-  moves_fine es _ _ (Forgets h place r l c g e a) b i = renewed_fine es h place r l accepting.Idle g e tt tt (λ x p. absurd (cc)) i
+  moves_fine es _ _ (Forgets h place r l c g e a) b i = renewed_fine es h place r l Accepting.Idle g e tt tt (λ x p. absurd (cc)) i
   moves_fine es _ _ (Watches h o) b i = record { fine = i.fine; names = i.names; hand = i.hand; listens = i.listens; new = i.new; unmade = λ e c s is. i.unmade (inl o) c s is; joined = λ p e. absurd (cc); marked = λ handle p e. absurd (cc) }
   moves_fine es _ _ (Joins h c handle place r l new peer is of u g e a) b i =
-      let idle = accepting_now r l accepting.Idle in
+      let idle = accepting_now r l Accepting.Idle in
       let sockets = slice_set h.machine.store.sockets place idle in
       let x = i.fine.sockets place r g in let lf = listener_fine es r l e x in
       let handed : IsHanded es new l.side peer = subst (AcceptingIsFine steps es l.side l.maker) a lf.accept in
       let free : MarksNoSocket es new = subst (AcceptingStands es l.side) a (subst (ListeningStands es) e (i.fine.accepts place r g)) in
-      let k = renewed_fine es h place r l accepting.Idle g e tt tt (λ y p. absurd (cc)) i in
+      let k = renewed_fine es h place r l Accepting.Idle g e tt tt (λ y p. absurd (cc)) i in
       record {
         fine = state_joined steps es (calm (put h place idle).machine) (joined l new peer) (joined_record es l new peer lf.maker handed) tt refl k.fine;
         names = λ p n q at d. absurd (cc);

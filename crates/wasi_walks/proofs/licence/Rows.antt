@@ -1,36 +1,14 @@
 -- The definitions on logs of the machine's own runs, which are licensed.
-use Rattle.std.proofs.Common.{ℕ, inl, inr, true, false, List, [], ◌∷◌, Option, Some, None, refl}
-use Rattle.wasi_addr.specs.declared.address.IpSocketAddress.{IpSocketAddress}
-use Rattle.wasi_addr.specs.declared.address.IpSocketAddress.TheVariants as socket
-use Rattle.wasi_addr.specs.declared.address.SocketAddressFamily.{SocketAddressFamily}
-use Rattle.wasi_addr.specs.declared.address.SocketAddressFamily.TheVariants as family
-use Rattle.wasi_addr.specs.declared.address.SocketAddrUse.TheVariants as usages
-use Rattle.wasi_addr.specs.Address.{wildcard}
-use Rattle.wasi_world.specs.declared.call.Call.TheVariants as call
-use Rattle.wasi_world.specs.declared.call.HandleKind.TheVariants as kind
-use Rattle.wasi_world.specs.declared.call.Told.TheVariants as told
-use Rattle.wasi_world.specs.declared.call.Entry.{Entry}
-use Rattle.wasi_world.specs.declared.outcome.WasiSocketsCtx.{WasiSocketsCtx}
-use Rattle.wasi_world.specs.Asks.{Give, bind, Left}
-use Rattle.wasi_world.specs.Operation.{polls}
+use Rattle.wasi_walks.proofs.Words.{BeganBy, Call, Created, Entry, Give, Handles, Has, IpSocketAddress, IsLicensed, Left, List, Machine, NamesSide}
+use Rattle.wasi_walks.proofs.Words.{None, Option, Reply, SocketAddrUse, SocketAddressFamily, Some, Standing, Step, Told, WasiSocketsCtx, [], bind}
+use Rattle.wasi_walks.proofs.Words.{bind_operation, entry, false, first_state, inl, inr, new_record, new_socket, no_fields, number_fields, own_of}
+use Rattle.wasi_walks.proofs.Words.{polls, refl, run, standing_bind, true, wildcard, ℕ, ◌++◌, ◌∷◌}
 use Rattle.wasi_tcp.specs.declared.bind.BindStage.TheVariants.{Check}
-use Rattle.wasi_tcp.specs.Bind.{bind_operation}
-use Rattle.wasi_tcp.specs.Socket.{new_socket}
-use Rattle.wasi_host.specs.declared.machine.Machine.{Machine}
-use Rattle.wasi_steps.specs.declared.reply.CodeWord.TheVariants as word
-use Rattle.wasi_steps.specs.declared.reply.Reply.{Reply}
-use Rattle.wasi_steps.specs.declared.reply.Reply.TheVariants as reply
-use Rattle.wasi_steps.specs.declared.step.Step.{Step}
-use Rattle.wasi_steps.specs.declared.step.Step.TheVariants as step
-use Rattle.wasi_host.specs.declared.store.Standing.{Standing}
-use Rattle.wasi_host.specs.declared.kind.Kind.TheVariants as slot
-use Rattle.wasi_steps.specs.Reply.{no_fields, number_fields}
-use Rattle.wasi_host.specs.Store.{new_record, standing_bind}
-use Rattle.wasi_host.specs.Machine.{own_of, first_state}
-use Rattle.wasi_machine.specs.Machine.{run}
-use Rattle.wasi_walks.specs.Licence.{Has, entry, BeganBy, NamesSide, Created, IsLicensed}
-use Rattle.wasi_walks.proofs.licence.Licensed.{licensed}
+use Rattle.wasi_walks.proofs.licence.Longer.{licensed}
 use Rattle.wasi_walks.proofs.licence.Runs.{whole_licensed}
+use Rattle.wasi_world.specs.declared.call.HandleKind.TheVariants as kind
+use Rattle.wasi_steps.specs.declared.reply.CodeWord.TheVariants as word
+use Rattle.wasi_host.specs.declared.kind.Kind.TheVariants as slot
 
 -- contexts that may use all
 abbrev pub context : ℕ → WasiSocketsCtx
@@ -47,49 +25,58 @@ abbrev pub forbidden : List WasiSocketsCtx
 forbidden = record { name = 0; ip_name_lookup = true; udp = true; tcp = false } ∷ []
 
 abbrev pub local_80 : IpSocketAddress
-local_80 = socket.Ipv4 (record { port = 80; address = (127, 0, 0, 1) })
+local_80 = IpSocketAddress.Ipv4 (record { port = 80; address = (127, 0, 0, 1) })
 
--- the machine with a network and a socket by this context, and a bind that may stand
+-- the table with a network and a socket
+abbrev pub two_handles : Handles
+two_handles = record { next = 3; live = record { handle = 1; value = slot.Network; parent = None } ∷ record { handle = 2; value = slot.Tcp2 0; parent = None } ∷ [] }
+
+-- the machine with these, the socket by this context, and a bind that may stand
 abbrev with_socket : ℕ → SocketAddressFamily → Option Standing → Machine
 with_socket ctx f standing = record {
-  table = record { next = 3; live = record { handle = 1; value = slot.Network; parent = None } ∷ record { handle = 2; value = slot.Tcp2 0; parent = None } ∷ [] };
+  table = two_handles;
   store = record { sockets = new_record (new_socket (own_of 2) ctx f) ∷ []; jobs = []; standing = standing };
 }
 
 -- == a bind
 abbrev pub bind_script : List Step
-bind_script = step.Network 0 ∷ step.TcpCreate 0 family.Ipv4 ∷ step.TcpStartBind 0 2 1 local_80 ∷ step.TcpFinishBind 0 2 ∷ []
+bind_script = Step.Network 0 ∷ Step.TcpCreate 0 SocketAddressFamily.Ipv4 ∷ Step.TcpStartBind 0 2 1 local_80 ∷ Step.TcpFinishBind 0 2 ∷ []
 
-abbrev bind_log : List Entry
-bind_log = entry (own_of 1) (call.Made 1 kind.Network None None) told.Done
-    ∷ entry (own_of 2) (call.TcpCreate 0 family.Ipv4) told.Done
-    ∷ entry (own_of 2) (call.Made 2 kind.Tcp2 None (Some (own_of 2))) told.Done
-    ∷ entry (own_of 3) (call.Local (own_of 2)) (told.Addr (wildcard family.Ipv4))
-    ∷ entry (own_of 3) (call.Check 0 local_80 usages.TcpBind) told.Yes
-    ∷ entry (own_of 3) (call.Bind (own_of 2) local_80) told.Done
+-- a network, and a socket that the second line makes by this context
+abbrev pub creates : ℕ → SocketAddressFamily → List Entry
+creates ctx f = entry (own_of 1) (Call.Made 1 kind.Network None None) Told.Done
+    ∷ entry (own_of 2) (Call.TcpCreate ctx f) Told.Done
+    ∷ entry (own_of 2) (Call.Made 2 kind.Tcp2 None (Some (own_of 2))) Told.Done
     ∷ []
 
+-- and that isn't bound
+abbrev pub begins : List Entry
+begins = creates 0 SocketAddressFamily.Ipv4 ++ entry (own_of 3) (Call.Local (own_of 2)) (Told.Addr (wildcard SocketAddressFamily.Ipv4)) ∷ []
+
+abbrev pub bind_log : List Entry
+bind_log = begins ++ (entry (own_of 3) (Call.Check 0 local_80 SocketAddrUse.TcpBind) Told.Yes ∷ entry (own_of 3) (Call.Bind (own_of 2) local_80) Told.Done ∷ [])
+
 -- the machine makes these calls, and ends so
-bind_run : Left (run allowed [] first_state 1 bind_script) bind_log (Give (reply.Ok (number_fields 1) ∷ reply.Ok (number_fields 2) ∷ reply.Ok no_fields ∷ reply.Ok no_fields ∷ [], with_socket 0 family.Ipv4 None))
+bind_run : Left (run allowed [] first_state 1 bind_script) bind_log (Give (Reply.Ok (number_fields 1) ∷ Reply.Ok (number_fields 2) ∷ Reply.Ok no_fields ∷ Reply.Ok no_fields ∷ [], with_socket 0 SocketAddressFamily.Ipv4 None))
 unfolding bind polls
 bind_run = ((refl, refl, tt), ((refl, refl, tt), ((refl, refl, tt), ((refl, refl, tt), ((refl, refl, tt), ((refl, refl, tt), refl))))))
 
 -- the third line names the socket, where the log has its mark
-names_socket : (before : List Entry) → Has before (entry (own_of 2) (call.Made 2 kind.Tcp2 None (Some (own_of 2))) told.Done) → BeganBy bind_script (own_of 3) (NamesSide before (own_of 2))
+names_socket : (before : List Entry) → Has before (entry (own_of 2) (Call.Made 2 kind.Tcp2 None (Some (own_of 2))) Told.Done) → BeganBy bind_script (own_of 3) (NamesSide before (own_of 2))
 names_socket before h = record {
-  origin = step.TcpStartBind 0 2 1 local_80;
+  origin = Step.TcpStartBind 0 2 1 local_80;
   at = refl;
-  holds = record { handle = 2; named = inl refl; is = record { op = own_of 2; kind = kind.Tcp2; parent = None; told = told.Done; mark = h } };
+  holds = record { handle = 2; named = inl refl; is = record { op = own_of 2; kind = kind.Tcp2; parent = None; told = Told.Done; mark = h } };
 }
 
 -- by hand
 bind_licensed : IsLicensed allowed bind_script bind_log []
 bind_licensed = licensed allowed bind_script bind_log (
-  (refl, record { origin = step.Network 0; at = refl; holds = (refl, refl, refl) }),
+  (refl, record { origin = Step.Network 0; at = refl; holds = (refl, refl, refl) }),
   (
-    record { origin = step.TcpCreate 0 family.Ipv4; at = refl; holds = (record { ctx = context 0; at = refl; named = refl; tcp = refl }, refl) },
+    record { origin = Step.TcpCreate 0 SocketAddressFamily.Ipv4; at = refl; holds = (record { ctx = context 0; at = refl; named = refl; tcp = refl }, refl) },
     (
-      (refl, record { origin = step.TcpCreate 0 family.Ipv4; at = refl; holds = (refl, refl, refl, (0, family.Ipv4, inr (inl refl))) }),
+      (refl, record { origin = Step.TcpCreate 0 SocketAddressFamily.Ipv4; at = refl; holds = (refl, refl, refl, (0, SocketAddressFamily.Ipv4, inr (inl refl))) }),
       (
         inl (names_socket _ (inr (inr (inl refl)))),
         (
@@ -97,8 +84,8 @@ bind_licensed = licensed allowed bind_script bind_log (
           (
             (
               inl (names_socket _ (inr (inr (inl refl)))),
-              record { origin = step.TcpStartBind 0 2 1 local_80; at = refl; holds = refl },
-              record { ctx = 0; family = family.Ipv4; maker = Created (own_of 2) told.Done (inr (inl refl)); checked = inr (inr (inr (inr (inl refl)))) },
+              record { origin = Step.TcpStartBind 0 2 1 local_80; at = refl; holds = refl },
+              record { ctx = 0; family = SocketAddressFamily.Ipv4; maker = Created (own_of 2) Told.Done (inr (inl refl)); checked = inr (inr (inr (inr (inl refl)))) },
             ),
             tt,
           ),
@@ -110,24 +97,20 @@ bind_licensed = licensed allowed bind_script bind_log (
 
 -- == the maker is asked, whoever binds; and a bind that is pending stands, with busy lines after it
 abbrev local_six : IpSocketAddress
-local_six = socket.Ipv6 (record { port = 80; flow_info = 0; address = (8193, 3512, 0, 0, 0, 0, 0, 1); scope_id = 0 })
+local_six = IpSocketAddress.Ipv6 (record { port = 80; flow_info = 0; address = (8193, 3512, 0, 0, 0, 0, 0, 1); scope_id = 0 })
 
 abbrev stands_script : List Step
-stands_script = step.Network 0 ∷ step.TcpCreate 1 family.Ipv6 ∷ step.TcpStartBind 0 2 1 local_six ∷ step.Network 0 ∷ step.TcpFinishBind 1 2 ∷ []
+stands_script = Step.Network 0 ∷ Step.TcpCreate 1 SocketAddressFamily.Ipv6 ∷ Step.TcpStartBind 0 2 1 local_six ∷ Step.Network 0 ∷ Step.TcpFinishBind 1 2 ∷ []
 
 abbrev stands_log : List Entry
-stands_log = entry (own_of 1) (call.Made 1 kind.Network None None) told.Done
-    ∷ entry (own_of 2) (call.TcpCreate 1 family.Ipv6) told.Done
-    ∷ entry (own_of 2) (call.Made 2 kind.Tcp2 None (Some (own_of 2))) told.Done
-    ∷ entry (own_of 3) (call.Local (own_of 2)) (told.Addr (wildcard family.Ipv6))
-    ∷ entry (own_of 3) (call.Check 1 local_six usages.TcpBind) told.Pending
-    ∷ []
+stands_log = creates 1 SocketAddressFamily.Ipv6
+    ++ (entry (own_of 3) (Call.Local (own_of 2)) (Told.Addr (wildcard SocketAddressFamily.Ipv6)) ∷ entry (own_of 3) (Call.Check 1 local_six SocketAddrUse.TcpBind) Told.Pending ∷ [])
 
 abbrev stands_replies : List Reply
-stands_replies = reply.Ok (number_fields 1) ∷ reply.Ok (number_fields 2) ∷ reply.Pending 3 ∷ reply.Busy ∷ reply.Busy ∷ []
+stands_replies = Reply.Ok (number_fields 1) ∷ Reply.Ok (number_fields 2) ∷ Reply.Pending 3 ∷ Reply.Busy ∷ Reply.Busy ∷ []
 
 abbrev stands_end : Machine
-stands_end = with_socket 1 family.Ipv6 (Some (standing_bind 3 0 (bind_operation (record { op = own_of 3; side = own_of 2; maker = 1 }) local_six Check)))
+stands_end = with_socket 1 SocketAddressFamily.Ipv6 (Some (standing_bind 3 0 (bind_operation (record { op = own_of 3; side = own_of 2; maker = 1 }) local_six Check)))
 
 stands_run : Left (run two_contexts [] first_state 1 stands_script) stands_log (Give (stands_replies, stands_end))
 unfolding bind polls
@@ -138,9 +121,9 @@ stands_licensed = whole_licensed two_contexts stands_script stands_log stands_re
 
 -- == a context that may not use TCP creates nothing
 abbrev forbidden_script : List Step
-forbidden_script = step.Network 0 ∷ step.TcpCreate 0 family.Ipv4 ∷ []
+forbidden_script = Step.Network 0 ∷ Step.TcpCreate 0 SocketAddressFamily.Ipv4 ∷ []
 
-forbidden_run : Left (run forbidden [] first_state 1 forbidden_script) (entry (own_of 1) (call.Made 1 kind.Network None None) told.Done ∷ [])
-    (Give (reply.Ok (number_fields 1) ∷ reply.Err word.AccessDenied ∷ [], record { table = record { next = 2; live = record { handle = 1; value = slot.Network; parent = None } ∷ [] }; store = record { sockets = []; jobs = []; standing = None } }))
+forbidden_run : Left (run forbidden [] first_state 1 forbidden_script) (entry (own_of 1) (Call.Made 1 kind.Network None None) Told.Done ∷ [])
+    (Give (Reply.Ok (number_fields 1) ∷ Reply.Err word.AccessDenied ∷ [], record { table = record { next = 2; live = record { handle = 1; value = slot.Network; parent = None } ∷ [] }; store = record { sockets = []; jobs = []; standing = None } }))
 unfolding bind
 forbidden_run = ((refl, refl, tt), refl)

@@ -1,30 +1,66 @@
--- Each ask of a run is licensed: between two lines the state fits the log, and each line is judged by the steps up to it.
-use Rattle.std.specs.Prelude.{⊤}
-use Rattle.std.proofs.Common.{◌≡◌, ℕ, ◌+◌, List, [], ◌∷◌, ◌++◌, Some, length, slice_get, refl, sym, ap, subst, ◌∙◌, arith, append_assoc, append-nil, add-one, length-append}
-use Rattle.wasi_world.specs.declared.call.Entry.{Entry}
-use Rattle.wasi_world.specs.declared.outcome.WasiSocketsCtx.{WasiSocketsCtx}
-use Rattle.wasi_world.specs.Asks.{Asks, Give, Left}
-use Rattle.wasi_world.specs.Operation.{Operation}
-use Rattle.wasi_world.proofs.Allowed.{Allows, allows_then, allows_if, allows_keep, allows_weaker, allows_at}
-use Rattle.wasi_host.specs.declared.listening.Listening.TheVariants.{Begins}
-use Rattle.wasi_host.specs.declared.machine.Machine.{Machine}
-use Rattle.wasi_host.specs.declared.socket.Tcp2Socket.{Tcp2Socket}
-use Rattle.wasi_host.specs.Machine.{own_of, first_state}
-use Rattle.wasi_steps.specs.declared.reply.Reply.{Reply}
-use Rattle.wasi_steps.specs.declared.step.Step.{Step}
-use Rattle.wasi_walks.specs.Licence.{IsLicensed, MayAsk, step_at}
-use Rattle.wasi_machine.specs.Machine.{machine_asks, run, HasRun}
-use Rattle.wasi_steps.specs.Reply.{is_trap}
+-- Each ask of a run is licensed: the law that it is, on the base law; and between two lines the state fits the log, each line being
+-- judged by the steps up to it.
+use Rattle.wasi_walks.proofs.Words.{Allows, Asks, Begins, Call, Entry, Give, HasRun, IsLicensed, Left, List, Machine, MayAsk, Not, Operation, Reply}
+use Rattle.wasi_walks.proofs.Words.{Some, Step, Tcp2Socket, WasiSocketsCtx, [], add-one, allows_at, allows_if, allows_keep, allows_then}
+use Rattle.wasi_walks.proofs.Words.{allows_weaker, ap, append-nil, append_assoc, arith, created_asks, entry, first_state, give_up_asks, inl, is_trap}
+use Rattle.wasi_walks.proofs.Words.{length, length-append, machine_asks, new_asks, own_of, refl, run, side_in, slice_get, step_at, subst, sym}
+use Rattle.wasi_walks.proofs.Words.{with_listening, ℕ, ⊤, ◌++◌, ◌+◌, ◌∙◌, ◌∷◌, ◌≡◌}
 use Rattle.wasi_walks.proofs.licence.State.{StateIsFine}
-use Rattle.wasi_walks.proofs.licence.NewNames.{IsNew}
-use Rattle.wasi_walks.proofs.licence.Fresh.{next_is_new}
-use Rattle.wasi_walks.proofs.licence.Licensed.{EachMayCome, licensed, with_replies, may_come, come_longer}
+use Rattle.wasi_walks.proofs.licence.Fresh.{IsNew, next_is_new}
+use Rattle.wasi_walks.proofs.licence.Longer.{EachMayCome, licensed, with_replies, may_come, come_longer, may_more, state_more, listen_more}
 use Rattle.wasi_walks.proofs.Lists.{get_seam}
-use Rattle.wasi_walks.proofs.licence.Longer.{may_more, state_more, listen_more}
-use Rattle.wasi_walks.proofs.licence.Line.{ListenGoesOn, calm}
-use Rattle.wasi_walks.proofs.licence.Law.{licence_along}
+use Rattle.wasi_walks.proofs.licence.Line.{ListenGoesOn, calm, Licensed, put_fine}
 use Rattle.wasi_walks.proofs.walks.Steps.{may_while, machine_walks}
 use Rattle.wasi_walks.proofs.claims.Lines.{BaseBetween, first_base, base_starts, base_over}
+use Rattle.wasi_walks.proofs.walks.OnBase.{Above}
+use Rattle.wasi_walks.proofs.claims.Law.{Base, on_names, on_along}
+use Rattle.wasi_walks.proofs.walks.Moves.{closed_record, Used, Here, put, OfSocket}
+use Rattle.wasi_walks.proofs.licence.AcceptFrames.{listening_gone}
+use Rattle.wasi_walks.proofs.walks.Law.{Law, Walks}
+use Rattle.wasi_walks.proofs.licence.Moves.{closed_fine, gone_maker, moves_fine}
+use Rattle.wasi_walks.proofs.licence.Asked.{spares, asked_fine, on_side, names_on_side, not_held, question_local, question_may, learned_fine}
+use Rattle.wasi_walks.proofs.licence.Marks.{marked_fine, accepted_fine, CreatedIsFine, new_fine, joins}
+use Rattle.wasi_walks.proofs.licence.GoesOn.{kept, taken_out, turned_fine, given_up, polls_fine}
+
+module _ (contexts : List WasiSocketsCtx) (steps : List Step) (line : ℕ) (origin : Step) (is_line : step_at steps line ≡ Some origin) where
+  licences : Above contexts line origin (λ es h. Base contexts line origin h)
+  licences = record {
+    P = MayAsk contexts steps;
+    Inv = Licensed steps line origin;
+    moves = moves_fine contexts steps line origin is_line;
+    asks = λ es h place n r side c at g o q b i.
+        let k = question_may contexts steps line origin is_line n es side c q (names_on_side contexts steps line origin is_line es h place n r side at g o i) in
+        let s = on_side contexts steps line origin is_line es r side o (i.fine.sockets place r g) in
+        (k.0, λ told fits. asked_fine contexts steps line origin is_line es h (own_of n) c told k.1 (λ p z op d l e. not_held contexts steps line origin is_line h place r side g s b.1 p z op d l (question_local contexts steps line origin is_line side op.who.side c q e)) i);
+    sets = λ es h place r side backlog at g s is b i.
+        let f = i.fine.sockets place r g in
+        ((inl (i.names place line r at g side (f.named side (ap side_in s))), record { origin = origin; at = is_line; holds = is }, f.socket.listens side s), λ told fits. asked_fine contexts steps line origin is_line es h (own_of line) (Call.SetBacklog side backlog) told tt (spares contexts steps line origin is_line h (Call.SetBacklog side backlog) tt) i);
+    learns = λ es h place r side at g e b i. (inl (names_on_side contexts steps line origin is_line es h place line r side at g (OfSocket (ap side_in e)) i), λ told fits. learned_fine contexts steps line origin is_line es h place r side told g e fits b.1 i);
+    closes = λ es h place r side q g e b i. (
+      tt,
+      λ told fits.
+          let fs = es ++ entry (own_of line) (Call.Close side) told ∷ [] in
+          put_fine fs h place r (closed_record r) g refl (listening_gone r.listening) (gone_maker contexts steps line origin is_line r (closed_record r).inner) (closed_fine contexts steps line origin is_line fs r) (asked_fine contexts steps line origin is_line es h (own_of line) (Call.Close side) told tt (spares contexts steps line origin is_line h (Call.Close side) tt) i),
+    );
+    marks = λ es h kind parent sock m b i. marked_fine contexts steps line origin is_line es h kind parent sock m i;
+    creates = λ es h ctx family c a o past b i.
+        allows_then (MayAsk contexts steps) (λ fs made. Licensed steps line origin fs h × CreatedIsFine contexts steps line origin is_line ctx.name family fs made) (λ fs done. Licensed steps line origin fs (record h { machine = done.1; own = Used })) es (new_asks (own_of line) ctx family) (created_asks h.machine (own_of line))
+        (kept contexts steps line origin is_line h (CreatedIsFine contexts steps line origin is_line ctx.name family) es (new_asks (own_of line) ctx family) i (new_fine contexts steps line origin is_line es ctx family c)) (λ fs made k. joins contexts steps line origin is_line fs h ctx family made c a o past k.1 b.1 k.0);
+    accepted = λ es h c s place r is e o g b i. accepted_fine contexts steps line origin is_line es h c s place r is e o g b.1 i;
+    polls = polls_fine contexts steps line origin is_line;
+    turns = λ es h place r s g e b i. turned_fine contexts steps line origin is_line es h place r s g e i;
+    gives_up = λ es h place r q g b i.
+        allows_weaker (MayAsk contexts steps) (λ fs done. Licensed steps line origin fs h × ⊤) (λ fs done. Licensed steps line origin fs (put h place (with_listening r Not))) (λ fs done k. taken_out contexts steps line origin is_line fs h place r g k.0) es (give_up_asks r.listening)
+        (kept contexts steps line origin is_line h (λ fs done. ⊤) es (give_up_asks r.listening) i (given_up contexts steps line origin is_line es r.side r.listening (i.fine.sockets place r g).listening));
+  }
+
+  pub licence : Law contexts line origin
+  licence = on_names contexts line origin licences
+
+  -- what it says of a tree
+  pub licence_along : {A : Type 0} {h : Here} {end : A → Here} {asks : Asks A} → Walks licence h end asks → (es : List Entry) → Base contexts line origin h → Licensed steps line origin es h → Allows (MayAsk contexts steps) (λ fs a. Base contexts line origin (end a) × Licensed steps line origin fs (end a)) es asks
+  unfolding licence licences
+  licence_along w es b i = on_along contexts line origin licences w es b i
 
 -- Between two lines.
 pub record Fine (steps : List Step) (line : ℕ) (es : List Entry) (m : Machine) : Type 0 where
@@ -36,7 +72,7 @@ fine_more : (contexts : List WasiSocketsCtx) (steps more : List Step) (line : �
 fine_more contexts steps more line es m i = record {
   base = i.base;
   fine = state_more steps more es (calm m) i.fine;
-  listens = λ place r op g e. (let l = i.listens place r op g e in record { fine = listen_more contexts steps more es op l.fine; asks = l.asks; made = l.made });
+  listens = λ place r op g e. (let l = i.listens place r op g e in record { fine = listen_more steps more es op l.fine; asks = l.asks; made = l.made });
 }
 
 first_fine : Fine [] 1 [] first_state

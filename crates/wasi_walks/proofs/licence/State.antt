@@ -1,43 +1,11 @@
 -- What the log says of the machine's state: the invariant that makes its next call a licensed one.
-use Rattle.std.specs.Prelude.{⊤}
-use Rattle.std.proofs.Common.{◌≡◌, ℕ, ◌+◌, true, List, [], ◌∷◌, ◌++◌, Option, Some, None, slice_get}
-use Rattle.wasi_addr.specs.declared.address.IpSocketAddress.{IpSocketAddress}
-use Rattle.wasi_addr.specs.declared.address.SocketAddressFamily.{SocketAddressFamily}
-use Rattle.wasi_addr.specs.declared.address.SocketAddrUse.TheVariants.{TcpBind, TcpConnect}
-use Rattle.wasi_addr.specs.declared.code.ErrorCode.{ErrorCode}
-use Rattle.wasi_addr.specs.Address.{wildcard}
-use Rattle.wasi_world.specs.declared.ids.OpId.{OpId}
-use Rattle.wasi_world.specs.declared.call.Call.TheVariants as call
-use Rattle.wasi_world.specs.declared.call.Told.{Told}
-use Rattle.wasi_world.specs.declared.call.Told.TheVariants.{Yes, Arrived}
-use Rattle.wasi_world.specs.declared.call.Entry.{Entry}
-use Rattle.wasi_world.specs.Operation.{Nothing, Item, Check, CheckArrival, Bind, Connect, Accept, Write, ShutdownSend, Last, NothingLast, CloseLast, ShutdownLast, Operation}
-use Rattle.wasi_tcp.specs.declared.listener.Accepting.{Accepting}
-use Rattle.wasi_tcp.specs.declared.listener.Accepting.TheVariants as accepting
-use Rattle.wasi_tcp.specs.declared.socket.Connection.{Connection}
-use Rattle.wasi_tcp.specs.declared.socket.TcpState.TheVariants as state
-use Rattle.wasi_tcp.specs.declared.reader.ReadState.{ReadState}
-use Rattle.wasi_tcp.specs.declared.reader.ReadState.TheVariants as reading
-use Rattle.wasi_tcp.specs.declared.writer.WriteState.{WriteState}
-use Rattle.wasi_tcp.specs.declared.writer.WriteState.TheVariants as writing
-use Rattle.wasi_tcp.specs.Job.{Job}
-use Rattle.wasi_tcp.specs.Listener.{Listener}
-use Rattle.wasi_tcp.specs.Shape.{Socket}
-use Rattle.wasi_tcp.specs.Socket.{side_of}
-use Rattle.wasi_host.specs.declared.kind.Kind.{Kind}
-use Rattle.wasi_host.specs.declared.kind.Kind.TheVariants.{Network, Tcp2, Input, Output, Pollable, ErrorValue}
-use Rattle.wasi_host.specs.declared.listening.Listening.{Listening}
-use Rattle.wasi_host.specs.declared.listening.Listening.TheVariants.{Not, Begins, Accepts, Unclosed}
-use Rattle.wasi_host.specs.declared.machine.Machine.{Machine}
-use Rattle.wasi_host.specs.declared.socket.Streams.{Streams}
-use Rattle.wasi_host.specs.declared.socket.Tcp2Socket.{Tcp2Socket}
-use Rattle.wasi_host.specs.declared.store.Standing.{Standing}
-use Rattle.wasi_host.specs.declared.store.StandingCall.{StandingCall}
-use Rattle.wasi_host.specs.declared.store.StandingCall.TheVariants as standing
-use Rattle.wasi_host.specs.Kinds.{kind_at, place_in}
-use Rattle.wasi_host.specs.Machine.{own_of}
-use Rattle.wasi_steps.specs.declared.step.Step.{Step}
-use Rattle.wasi_walks.specs.Licence.{Has, entry, marks_in, BeganBy, NamesSide, IsMarkedWith, IsMaker, IsBoundSide, Listens, MayGoOut, HandedNone, MarksNoSocket, IsBindTo, IsConnectTo}
+use Rattle.wasi_walks.proofs.Words.{Accept, Accepting, Accepts, Arrived, BeganBy, Bind, Call, Check, CheckArrival, CloseLast, Connect, Connection}
+use Rattle.wasi_walks.proofs.Words.{Entry, ErrorCode, HandedNone, Has, IpSocketAddress, IsBindTo, IsBoundSide, IsConnectTo, IsMaker, IsMarkedWith}
+use Rattle.wasi_walks.proofs.Words.{Item, Job, Kind, Last, List, Listener, Listening, Listens, Machine, MarksNoSocket, MayGoOut, NamesSide, None}
+use Rattle.wasi_walks.proofs.Words.{Nothing, NothingLast, OpId, Operation, Option, ReadState, ShutdownLast, ShutdownSend, Socket, SocketAddressFamily}
+use Rattle.wasi_walks.proofs.Words.{Some, Standing, StandingCall, Step, Streams, Tcp2Socket, TcpBind, TcpConnect, TcpState, Told, Write, WriteState}
+use Rattle.wasi_walks.proofs.Words.{Yes, [], entry, kind_at, marks_in, own_of, side_of, slice_get, true, wildcard, ℕ, ⊤, ◌++◌, ◌+◌, ◌∷◌, ◌≡◌}
+use Rattle.wasi_walks.proofs.walks.Moves.{record_of}
 
 -- The handle stands for the record at this place, and its mark says the side that the record was made with.
 pub record NamesRecord (es : List Entry) (sockets : List Tcp2Socket) (handle place : ℕ) : Type 0 where
@@ -45,13 +13,12 @@ pub record NamesRecord (es : List Entry) (sockets : List Tcp2Socket) (handle pla
   pub at : slice_get sockets place ≡ Some found
   pub marked : IsMarkedWith es handle found.side
 
+abbrev pub NamesIf : List Entry → List Tcp2Socket → ℕ → Option ℕ → Type 0
+NamesIf es sockets handle (Some place) = NamesRecord es sockets handle place
+NamesIf es sockets handle None = ⊤
+
 abbrev pub HandleIsFine : List Entry → List Tcp2Socket → ℕ → Kind → Type 0
-HandleIsFine es sockets handle Network = ⊤
-HandleIsFine es sockets handle (Tcp2 place) = NamesRecord es sockets handle place
-HandleIsFine es sockets handle (Input place) = NamesRecord es sockets handle place
-HandleIsFine es sockets handle (Output place) = NamesRecord es sockets handle place
-HandleIsFine es sockets handle (Pollable w) = NamesRecord es sockets handle (place_in w)
-HandleIsFine es sockets handle ErrorValue = ⊤
+HandleIsFine es sockets handle kind = NamesIf es sockets handle (record_of (Some kind))
 
 -- The socket knows the maker of its side, and the side's family.
 pub record KnowsMaker (es : List Entry) (socket : Socket) : Type 0 where
@@ -60,25 +27,25 @@ pub record KnowsMaker (es : List Entry) (socket : Socket) : Type 0 where
 -- The socket is connected, on this side.
 pub record IsConnectedOn (socket : Socket) (side : OpId) : Type 0 where
   pub connection : Connection
-  pub state : socket.state ≡ state.Connected connection
+  pub state : socket.state ≡ TcpState.Connected connection
   pub same : connection.side ≡ side
 
 -- the half, while it is open, is of this side
 abbrev pub ReadsOn : OpId → ReadState → Type 0
-ReadsOn side (reading.Open half) = half.side ≡ side
-ReadsOn side reading.Closed = ⊤
+ReadsOn side (ReadState.Open half) = half.side ≡ side
+ReadsOn side ReadState.Closed = ⊤
 
 -- what is left of a bind to the address, and the yes that it was told
 pub data BindLeft (es : List Entry) (op : OpId) (maker : ℕ) (addr : IpSocketAddress) : List Item → Type 0 where
   Whole : BindLeft es op maker addr (Check addr TcpBind ∷ Bind addr ∷ [])
-  Checked : Has es (entry op (call.Check maker addr TcpBind) Yes) → BindLeft es op maker addr (Bind addr ∷ [])
+  Checked : Has es (entry op (Call.Check maker addr TcpBind) Yes) → BindLeft es op maker addr (Bind addr ∷ [])
   Over : BindLeft es op maker addr []
 
 -- what is left of a connect to the address, and what it was told so far
 pub data ConnectLeft (es : List Entry) (op side : OpId) (maker : ℕ) (addr : IpSocketAddress) : List Item → Type 0 where
   Unbound : (family : SocketAddressFamily) → IsMaker es maker family side → ConnectLeft es op side maker addr (Check (wildcard family) TcpBind ∷ Check addr TcpConnect ∷ Connect addr ∷ [])
   Unchecked : MayGoOut es op side → ConnectLeft es op side maker addr (Check addr TcpConnect ∷ Connect addr ∷ [])
-  Allowed : MayGoOut es op side → Has es (entry op (call.Check maker addr TcpConnect) Yes) → ConnectLeft es op side maker addr (Connect addr ∷ [])
+  Allowed : MayGoOut es op side → Has es (entry op (Call.Check maker addr TcpConnect) Yes) → ConnectLeft es op side maker addr (Connect addr ∷ [])
   ToClose : (c : ErrorCode) → ConnectLeft es op side maker addr (Last c Nothing ∷ [])
   Ended : ConnectLeft es op side maker addr []
 
@@ -95,13 +62,13 @@ pub data WriteLeft : List Item → Type 0 where
 pub record LastAccept (es : List Entry) (op side : OpId) (peer : IpSocketAddress) : Type 0 where
   pub front : List Entry
   pub back : List Entry
-  pub cut : es ≡ front ++ entry op (call.Accept side) (Arrived peer) ∷ back
-  pub last : (told : Told) → Has back (entry op (call.Accept side) told) → ⊥
+  pub cut : es ≡ front ++ entry op (Call.Accept side) (Arrived peer) ∷ back
+  pub last : (told : Told) → Has back (entry op (Call.Accept side) told) → ⊥
 
 -- The log has what the operation handed over on the listener's side.
 pub record IsHanded (es : List Entry) (op side : OpId) (peer : IpSocketAddress) : Type 0 where
   pub told : Told
-  pub hand : Has es (entry op (call.Hand side peer) told)
+  pub hand : Has es (entry op (Call.Hand side peer) told)
 
 -- what is left of an accept that waits, and what it was told
 pub data AcceptLeft (es : List Entry) (op side : OpId) : List Item → Type 0 where
@@ -116,29 +83,23 @@ pub record AcceptStands (es : List Entry) (op side : OpId) (left : List Item) : 
 
 -- what a listener's accept may rely on while nothing is asked by its name: a connection that isn't taken is in no mark
 abbrev pub AcceptingStands : List Entry → OpId → Accepting → Type 0
-AcceptingStands es side accepting.Idle = ⊤
-AcceptingStands es side (accepting.Asking op) = AcceptStands es op.who.id side op.left
-AcceptingStands es side (accepting.Arrived new peer) = MarksNoSocket es new
-AcceptingStands es side (accepting.Failed c) = ⊤
+AcceptingStands es side (Accepting.Asking op) = AcceptStands es op.who.id side op.left
+AcceptingStands es side (Accepting.Arrived new peer) = MarksNoSocket es new
+AcceptingStands es side _ = ⊤
 
 abbrev pub ListeningStands : List Entry → Listening → Type 0
-ListeningStands es Not = ⊤
-ListeningStands es (Begins op) = ⊤
 ListeningStands es (Accepts l) = AcceptingStands es l.side l.accept
-ListeningStands es (Unclosed side) = ⊤
+ListeningStands es _ = ⊤
 
 -- the name of the accept that is asking, or of the connection that isn't taken
 abbrev pub name_in : Accepting → Option OpId
-name_in accepting.Idle = None
-name_in (accepting.Asking op) = Some op.who.id
-name_in (accepting.Arrived new peer) = Some new
-name_in (accepting.Failed c) = None
+name_in (Accepting.Asking op) = Some op.who.id
+name_in (Accepting.Arrived new peer) = Some new
+name_in _ = None
 
 abbrev pub accept_name : Listening → Option OpId
-accept_name Not = None
-accept_name (Begins op) = None
 accept_name (Accepts l) = name_in l.accept
-accept_name (Unclosed side) = None
+accept_name _ = None
 
 -- no two records have an accept of one name
 abbrev pub OneHolds : List Tcp2Socket → Type 0
@@ -180,10 +141,10 @@ module _ (steps : List Step) where
 
   -- the half, while there is one, is of this side, and a write that goes on may be polled
   abbrev pub WritesOn : List Entry → OpId → WriteState → Type 0
-  WritesOn es side (writing.Ready half permit) = half.side ≡ side
-  WritesOn es side (writing.Writing job) = JobIsFine es side job
-  WritesOn es side (writing.Closing job) = JobIsFine es side job
-  WritesOn es side (writing.Closed e) = ⊤
+  WritesOn es side (WriteState.Ready half permit) = half.side ≡ side
+  WritesOn es side (WriteState.Writing job) = JobIsFine es side job
+  WritesOn es side (WriteState.Closing job) = JobIsFine es side job
+  WritesOn es side (WriteState.Closed e) = ⊤
 
   -- The streams are of the socket's connection.
   pub record StreamsAreFine (es : List Entry) (socket : Socket) (streams : Streams) : Type 0 where
@@ -201,10 +162,9 @@ module _ (steps : List Step) where
 
   -- the listener's accept may be polled, and a connection that isn't taken was handed over
   abbrev pub AcceptingIsFine : List Entry → OpId → ℕ → Accepting → Type 0
-  AcceptingIsFine es side maker accepting.Idle = ⊤
-  AcceptingIsFine es side maker (accepting.Asking op) = AcceptIsFine es side maker op
-  AcceptingIsFine es side maker (accepting.Arrived new peer) = IsHanded es new side peer
-  AcceptingIsFine es side maker (accepting.Failed c) = ⊤
+  AcceptingIsFine es side maker (Accepting.Asking op) = AcceptIsFine es side maker op
+  AcceptingIsFine es side maker (Accepting.Arrived new peer) = IsHanded es new side peer
+  AcceptingIsFine es side maker _ = ⊤
 
   -- A listener is on the side that its record was made with, and knows its maker.
   pub record ListenerIsFine (es : List Entry) (made : Option OpId) (l : Listener) : Type 0 where
@@ -213,17 +173,15 @@ module _ (steps : List Step) where
     pub accept : AcceptingIsFine es l.side l.maker l.accept
 
   abbrev pub ListeningIsFine : List Entry → Option OpId → Listening → Type 0
-  ListeningIsFine es made Not = ⊤
-  ListeningIsFine es made (Begins op) = ⊤
   ListeningIsFine es made (Accepts l) = ListenerIsFine es made l
-  ListeningIsFine es made (Unclosed side) = ⊤
+  ListeningIsFine es made _ = ⊤
 
   -- A socket knows its maker; it is bound, and it listens, only where the log says so; and its connect may be polled.
   pub record SocketIsFine (es : List Entry) (socket : Socket) : Type 0 where
     pub knows : KnowsMaker es socket
-    pub bound : (side : OpId) → socket.state ≡ state.Default side → socket.bound ≡ true → IsBoundSide es side
-    pub listens : (side : OpId) → socket.state ≡ state.Listening side → Listens es side
-    pub connect : (op : Operation) → socket.state ≡ state.Connecting op → ConnectIsFine es op
+    pub bound : (side : OpId) → socket.state ≡ TcpState.Default side → socket.bound ≡ true → IsBoundSide es side
+    pub listens : (side : OpId) → socket.state ≡ TcpState.Listening side → Listens es side
+    pub connect : (op : Operation) → socket.state ≡ TcpState.Connecting op → ConnectIsFine es op
 
   -- A socket that still has a side has the one that its record was made with.
   pub record RecordIsFine (es : List Entry) (r : Tcp2Socket) : Type 0 where
@@ -240,9 +198,9 @@ module _ (steps : List Step) where
 
   -- a drop goes on by its line's own operation; where a listen stands, another invariant holds
   abbrev pub CallIsFine : List Entry → List Tcp2Socket → ℕ → StandingCall → Type 0
-  CallIsFine es sockets line (standing.Bind place op) = BindIsFine es op
-  CallIsFine es sockets line (standing.Listen place) = ⊥
-  CallIsFine es sockets line (standing.DropOutput place) = DropIsFine es sockets (own_of line) place
+  CallIsFine es sockets line (StandingCall.Bind place op) = BindIsFine es op
+  CallIsFine es sockets line (StandingCall.Listen place) = ⊥
+  CallIsFine es sockets line (StandingCall.DropOutput place) = DropIsFine es sockets (own_of line) place
 
   abbrev pub StandingIsFine : List Entry → List Tcp2Socket → Standing → Type 0
   StandingIsFine es sockets s = CallIsFine es sockets s.line s.call

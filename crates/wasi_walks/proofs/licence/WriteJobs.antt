@@ -1,21 +1,11 @@
 -- A write that goes on: each of its asks is allowed, and what it leaves may be polled on.
-use Rattle.std.proofs.Common.{◌≡◌, ℕ, zero, suc, inl, List, [], ◌∷◌, ◌++◌, length, sym, subst}
-use Rattle.wasi_addr.specs.declared.code.ErrorCode.{ErrorCode}
-use Rattle.wasi_world.specs.declared.ids.OpId.{OpId}
-use Rattle.wasi_world.specs.declared.call.Call.TheVariants as call
-use Rattle.wasi_world.specs.declared.call.Entry.{Entry}
-use Rattle.wasi_world.specs.declared.asks.Polled.{Polled}
-use Rattle.wasi_world.specs.declared.asks.Polled.TheVariants as polled
-use Rattle.wasi_world.specs.declared.outcome.WasiSocketsCtx.{WasiSocketsCtx}
-use Rattle.wasi_world.specs.Asks.{bind}
-use Rattle.wasi_world.specs.Operation.{Given, Nothing, Item, Write, ShutdownSend, ShutdownLast, Who, End, Waits, Done, Refused, front, write_front, taken_front, less_one, last_ask, poll_asks}
-use Rattle.wasi_world.proofs.Allowed.{Allows, allows_then, FrontKeeps, allows_polls}
-use Rattle.wasi_tcp.specs.Job.{Job, job_in, job_asks, then_closed}
-use Rattle.wasi_steps.specs.declared.step.Step.{Step}
-use Rattle.wasi_walks.specs.Licence.{entry, ReachesSide}
+use Rattle.wasi_walks.proofs.Words.{Allows, Call, End, Entry, ErrorCode, FrontKeeps, Given, Item, Job, List, Nothing, OpId, Polled, ReachesSide}
+use Rattle.wasi_walks.proofs.Words.{ShutdownLast, ShutdownSend, Step, Waits, WasiSocketsCtx, Who, Write, [], allows_polls, allows_then, bind, entry}
+use Rattle.wasi_walks.proofs.Words.{front, inl, job_asks, job_in, last_ask, length, less_one, poll_asks, subst, suc, sym, taken_front, then_closed}
+use Rattle.wasi_walks.proofs.Words.{write_front, zero, ℕ, ◌++◌, ◌∷◌, ◌≡◌}
 use Rattle.wasi_walks.proofs.licence.Bounds.{MayQuietly}
 use Rattle.wasi_walks.proofs.licence.State.{WriteLeft, ToWrite, ToWriteAndShut, ToShut, ToRefuse, Written, Names, JobIsFine}
-use Rattle.wasi_walks.proofs.licence.Frames.{names_on}
+use Rattle.wasi_walks.proofs.licence.Frames.{stay, names_on}
 
 module _ (contexts : List WasiSocketsCtx) (steps : List Step) where
   -- == a poll
@@ -36,7 +26,7 @@ module _ (contexts : List WasiSocketsCtx) (steps : List Step) where
     -- one that ends with a code shuts its half down
     ends_last : (es : List Entry) (c : ErrorCode) (given : Given) → Names steps es who.id side → Allows (MayQuietly contexts steps) StandsAfter es (last_ask who who.last c given)
     unfolding bind
-    ends_last es c given n = rw last (((reaches es n, tt), tt), λ t fits. (names_on steps es _ who.id side n, Written))
+    ends_last es c given n = rw last (((reaches es n, tt), tt), λ t fits. (names_on (stay steps) es _ who.id side n, Written))
 
     -- the bytes, where these items follow
     module _ (items : List Item) (form : (rest : List ℕ) → WriteLeft (Write rest ∷ items)) (over : WriteLeft items) where
@@ -46,9 +36,9 @@ module _ (contexts : List WasiSocketsCtx) (steps : List Step) where
       fine_taken : (es : List Entry) (bytes rest : List ℕ) (p : Polled ℕ) → Keeps es
           → ((skip : ℕ) → Allows (MayQuietly contexts steps) (FrontKeeps (MayQuietly contexts steps) who StandsBefore StandsAfter items) es (write_front who bytes skip))
           → Allows (MayQuietly contexts steps) (FrontKeeps (MayQuietly contexts steps) who StandsBefore StandsAfter items) es (taken_front (λ skip. write_front who bytes skip) (Write rest) p)
-      fine_taken es bytes rest (polled.Ready k) n h = h (less_one k)
-      fine_taken es bytes rest polled.Pending n h = (n, form rest)
-      fine_taken es bytes rest (polled.Code c) n h = ends_last es c Nothing n
+      fine_taken es bytes rest (Polled.Ready k) n h = h (less_one k)
+      fine_taken es bytes rest Polled.Pending n h = (n, form rest)
+      fine_taken es bytes rest (Polled.Code c) n h = ends_last es c Nothing n
 
       fine_bytes : (es : List Entry) (bytes : List ℕ) (skip : ℕ) → Keeps es → Allows (MayQuietly contexts steps) (FrontKeeps (MayQuietly contexts steps) who StandsBefore StandsAfter items) es (write_front who bytes skip)
       unfolding bind
@@ -57,8 +47,8 @@ module _ (contexts : List WasiSocketsCtx) (steps : List Step) where
       fine_bytes es (b ∷ bytes) zero n = (
         ((reaches es n, tt), tt),
         λ t fits front.
-            let fs = es ++ entry who.id (call.Write who.side (length (b ∷ bytes))) t ∷ [] in
-            let more = names_on steps es _ who.id side n in
+            let fs = es ++ entry who.id (Call.Write who.side (length (b ∷ bytes))) t ∷ [] in
+            let more = names_on (stay steps) es _ who.id side n in
             fine_taken fs bytes (b ∷ bytes) _ more (λ skip. fine_bytes fs bytes skip more),
       )
 
@@ -67,7 +57,7 @@ module _ (contexts : List WasiSocketsCtx) (steps : List Step) where
     unfolding bind
     fine_front es _ _ n (ToWrite rest) = fine_bytes [] ToWrite Written es rest 0 n
     fine_front es _ _ n (ToWriteAndShut rest) = fine_bytes (ShutdownSend ∷ []) ToWriteAndShut ToShut es rest 0 n
-    fine_front es _ _ n ToShut = (((reaches es n, tt), tt), λ t fits. (names_on steps es _ who.id side n, Written))
+    fine_front es _ _ n ToShut = (((reaches es n, tt), tt), λ t fits. (names_on (stay steps) es _ who.id side n, Written))
     fine_front es _ _ n (ToRefuse c) = ends_last es c Nothing n
 
     fine_poll : (items : List Item) (es : List Entry) → Names steps es who.id side → WriteLeft items → Allows (MayQuietly contexts steps) StandsAfter es (poll_asks (record { who = who; left = items }))
@@ -82,8 +72,7 @@ module _ (contexts : List WasiSocketsCtx) (steps : List Step) where
       allows_then (MayQuietly contexts steps) (λ fs ended. Names steps fs job.write.who.id side × WriteLeft ended.1) (JobStands side) es (poll_asks job.write) _
       (fine_poll job.write.who side h.on h.last job.write.left es h.named h.left)
       (λ fs ended k. record { named = k.0; on = h.on; last = h.last; left = k.1 })
-  polled_in es side job (Done given) h = h
-  polled_in es side job (Refused c given) h = h
+  polled_in es side job _ h = h
 
   -- one poll of a write
   pub fine_job : (es : List Entry) (side : OpId) (job : Job) → JobIsFine steps es side job → Allows (MayQuietly contexts steps) (λ fs j. JobIsFine steps fs side j) es (job_asks job)
@@ -93,6 +82,5 @@ module _ (contexts : List WasiSocketsCtx) (steps : List Step) where
   pub shut_after : (items : List Item) → WriteLeft items → WriteLeft (then_closed items)
   shut_after _ (ToWrite rest) = ToWriteAndShut rest
   shut_after _ (ToWriteAndShut rest) = ToWriteAndShut rest
-  shut_after _ ToShut = ToShut
   shut_after _ (ToRefuse c) = ToRefuse c
-  shut_after _ Written = Written
+  shut_after _ s = s

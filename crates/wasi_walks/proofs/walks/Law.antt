@@ -1,35 +1,10 @@
 -- A law of runs: what each ask must be, what holds between the asks, and that each move keeps it.
-use Rattle.std.proofs.Common.{◌≡◌, ℕ, zero, suc, Bool, true, false, if◌then◌else◌, List, [], ◌∷◌, ◌++◌, Option, Some, None, refl, sym, ap, subst, slice_get, slice_set}
-use Rattle.wasi_addr.specs.declared.address.SocketAddressFamily.{SocketAddressFamily}
-use Rattle.wasi_world.specs.declared.outcome.WasiSocketsCtx.{WasiSocketsCtx}
-use Rattle.wasi_world.specs.declared.ids.OpId.{OpId}
-use Rattle.wasi_world.specs.declared.call.Call.{Call}
-use Rattle.wasi_world.specs.declared.call.Call.TheVariants as call
-use Rattle.wasi_world.specs.declared.call.Told.{Told}
-use Rattle.wasi_world.specs.declared.call.Entry.{Entry}
-use Rattle.wasi_world.specs.Fits.{Fits}
-use Rattle.wasi_world.specs.Asks.{Asks, Give, Ask, AskWrite, bind}
-use Rattle.wasi_world.specs.Typed.{told_addr}
-use Rattle.wasi_world.specs.Operation.{Operation, End, Item, poll_asks}
-use Rattle.wasi_world.proofs.Allowed.{Allows, allows_then, allows_weaker}
-use Rattle.wasi_tcp.specs.declared.listener.Accepting.TheVariants as accepting
-use Rattle.wasi_tcp.specs.Listener.{Listener, accept_ended}
-use Rattle.wasi_tcp.specs.declared.socket.TcpState.TheVariants as state
-use Rattle.wasi_tcp.specs.Connecting.{with_state, connect_ended}
-use Rattle.wasi_tcp.specs.Socket.{side_of, after_local}
-use Rattle.wasi_tcp.specs.Writer.{turn_asks}
-use Rattle.wasi_host.specs.declared.kind.Kind.{Kind}
-use Rattle.wasi_host.specs.declared.kind.Kind.TheVariants.{Tcp2}
-use Rattle.wasi_host.specs.declared.listening.Listening.TheVariants.{Not, Begins, Accepts}
-use Rattle.wasi_host.specs.declared.socket.Streams.{Streams}
-use Rattle.wasi_host.specs.declared.socket.Tcp2Socket.{Tcp2Socket}
-use Rattle.wasi_host.specs.Kinds.{make_asks}
-use Rattle.wasi_host.specs.Listening.{give_up_asks, with_listening}
-use Rattle.wasi_host.specs.Machine.{own_of, side_at, create_asks}
-use Rattle.wasi_host.specs.Store.{with_inner, with_writer, left_of}
-use Rattle.wasi_steps.specs.declared.step.Step.{Step}
-use Rattle.wasi_steps.specs.declared.step.Step.TheVariants as step
-use Rattle.wasi_walks.specs.Licence.{entry, IsBacklogSet}
+use Rattle.wasi_walks.proofs.Words.{Accepting, Accepts, Allows, Ask, AskWrite, Asks, Begins, Bool, Call, End, Entry, Fits, Give, IsBacklogSet, Item}
+use Rattle.wasi_walks.proofs.Words.{Kind, List, Listener, None, Not, OpId, Operation, Option, SocketAddressFamily, Some, Step, Streams, Tcp2}
+use Rattle.wasi_walks.proofs.Words.{Tcp2Socket, TcpState, Told, WasiSocketsCtx, [], accept_ended, after_local, allows_then, allows_weaker, ap, bind}
+use Rattle.wasi_walks.proofs.Words.{connect_ended, create_asks, entry, false, give_up_asks, if◌then◌else◌, left_of, make_asks, own_of, poll_asks}
+use Rattle.wasi_walks.proofs.Words.{refl, side_at, side_of, slice_get, slice_set, subst, suc, sym, told_addr, true, turn_asks, with_inner}
+use Rattle.wasi_walks.proofs.Words.{with_listening, with_state, with_writer, zero, ℕ, ◌++◌, ◌∷◌, ◌≡◌}
 use Rattle.wasi_walks.proofs.walks.Moves.{Here, put, Found, NoBind, closed_record, Past, Joined, made_so, listen_after, accepting_now, Held, InHand, Connects, Listens, Awaits, IsQuestionOf, IsOn, Move, Marks, Creates, Used, Unused}
 use Rattle.wasi_walks.proofs.Lists.{set_there, set_set}
 
@@ -40,17 +15,17 @@ pub record Law (contexts : List WasiSocketsCtx) (line : ℕ) (origin : Step) : T
   -- what the line's own operation asks
   pub asks : (es : List Entry) (h : Here) (place n : ℕ) (r : Tcp2Socket) (side : OpId) (c : Call) → h.at ≡ Some (place, n) → Found h place r → IsOn r side → IsQuestionOf side c → Inv es h
       → P es (own_of n) c × ((told : Told) → Fits c told → Inv (es ++ entry (own_of n) c told ∷ []) h)
-  pub sets : (es : List Entry) (h : Here) (place : ℕ) (r : Tcp2Socket) (side : OpId) (backlog : ℕ) → h.at ≡ Some (place, line) → Found h place r → r.inner.state ≡ state.Listening side → IsBacklogSet origin → Inv es h
-      → P es (own_of line) (call.SetBacklog side backlog) × ((told : Told) → Fits (call.SetBacklog side backlog) told → Inv (es ++ entry (own_of line) (call.SetBacklog side backlog) told ∷ []) h)
-  pub learns : (es : List Entry) (h : Here) (place : ℕ) (r : Tcp2Socket) (side : OpId) → h.at ≡ Some (place, line) → Found h place r → r.inner.state ≡ state.Default side → Inv es h
-      → P es (own_of line) (call.Local side) × ((told : Told) → Fits (call.Local side) told → Inv (es ++ entry (own_of line) (call.Local side) told ∷ []) (put h place (with_inner r (after_local r.inner (told_addr told)).1)))
+  pub sets : (es : List Entry) (h : Here) (place : ℕ) (r : Tcp2Socket) (side : OpId) (backlog : ℕ) → h.at ≡ Some (place, line) → Found h place r → r.inner.state ≡ TcpState.Listening side → IsBacklogSet origin → Inv es h
+      → P es (own_of line) (Call.SetBacklog side backlog) × ((told : Told) → Fits (Call.SetBacklog side backlog) told → Inv (es ++ entry (own_of line) (Call.SetBacklog side backlog) told ∷ []) h)
+  pub learns : (es : List Entry) (h : Here) (place : ℕ) (r : Tcp2Socket) (side : OpId) → h.at ≡ Some (place, line) → Found h place r → r.inner.state ≡ TcpState.Default side → Inv es h
+      → P es (own_of line) (Call.Local side) × ((told : Told) → Fits (Call.Local side) told → Inv (es ++ entry (own_of line) (Call.Local side) told ∷ []) (put h place (with_inner r (after_local r.inner (told_addr told)).1)))
   pub closes : (es : List Entry) (h : Here) (place : ℕ) (r : Tcp2Socket) (side : OpId) → NoBind h → Found h place r → side_of r.inner ≡ Some side → Inv es h
-      → P es (own_of line) (call.Close side) × ((told : Told) → Fits (call.Close side) told → Inv (es ++ entry (own_of line) (call.Close side) told ∷ []) (put h place (closed_record r)))
+      → P es (own_of line) (Call.Close side) × ((told : Told) → Fits (Call.Close side) told → Inv (es ++ entry (own_of line) (Call.Close side) told ∷ []) (put h place (closed_record r)))
   pub marks : (es : List Entry) (h : Here) (kind : Kind) (parent : Option ℕ) (sock : Option OpId) → Marks origin h kind parent sock → Inv es h
       → Allows P (λ fs made. Inv fs (record h { machine = record h.machine { table = made.1 } })) es (make_asks h.machine.table (own_of line) kind parent sock)
   pub creates : (es : List Entry) (h : Here) (ctx : WasiSocketsCtx) (family : SocketAddressFamily) → Creates contexts ctx family origin → h.at ≡ None → h.own ≡ Unused → h.made ≡ Past → Inv es h
       → Allows P (λ fs done. Inv fs (record h { machine = done.1; own = Used })) es (create_asks h.machine (own_of line) ctx family)
-  pub accepted : (es : List Entry) (h : Here) (c listener place : ℕ) (r : Tcp2Socket) → origin ≡ step.TcpAccept c listener → h.made ≡ Joined place → h.own ≡ Used → Found h place r → Inv es h
+  pub accepted : (es : List Entry) (h : Here) (c listener place : ℕ) (r : Tcp2Socket) → origin ≡ Step.TcpAccept c listener → h.made ≡ Joined place → h.own ≡ Used → Found h place r → Inv es h
       → Allows P (λ fs made. Inv fs (record h { machine = record h.machine { table = made.1 }; made = made_so place made.0 })) es (make_asks h.machine.table (own_of line) (Tcp2 place) (Some listener) (side_at (slice_get h.machine.store.sockets place)))
   -- what goes on
   pub polls : (es : List Entry) (h : Here) (op : Operation) (after : End × List Item → Here) → Held h op after → Inv es h → Allows P (λ fs ended. Inv fs (after ended)) es (poll_asks op)
@@ -150,7 +125,7 @@ module _ {contexts : List WasiSocketsCtx} {line : ℕ} {origin : Step} {law : La
   pub mark : {h : Here} {kind : Kind} {parent : Option ℕ} {sock : Option OpId} → Marks origin h kind parent sock → Walks law h (λ made. record h { machine = record h.machine { table = made.1 } }) (make_asks h.machine.table (own_of line) kind parent sock)
   mark {h} {kind} {parent} {sock} m = record { along = λ es i. law.marks es h kind parent sock m i }
 
-  pub accept : {h : Here} (c listener place : ℕ) (r : Tcp2Socket) → origin ≡ step.TcpAccept c listener → h.made ≡ Joined place → h.own ≡ Used → Found h place r
+  pub accept : {h : Here} (c listener place : ℕ) (r : Tcp2Socket) → origin ≡ Step.TcpAccept c listener → h.made ≡ Joined place → h.own ≡ Used → Found h place r
       → Walks law h (λ made. record h { machine = record h.machine { table = made.1 }; made = made_so place made.0 }) (make_asks h.machine.table (own_of line) (Tcp2 place) (Some listener) (side_at (slice_get h.machine.store.sockets place)))
   accept {h} c listener place r is e o g = record { along = λ es i. law.accepted es h c listener place r is e o g i }
 
@@ -169,20 +144,20 @@ module _ {contexts : List WasiSocketsCtx} {line : ℕ} {origin : Step} {law : La
           (a.0, λ told fits. (k told fits).along (es ++ entry (own_of n) c told ∷ []) (a.1 told fits));
     }
 
-    pub set : {A : Type 0} {end : A → Here} (r : Tcp2Socket) {side : OpId} {backlog : ℕ} {next : Told → Asks A} → h.at ≡ Some (place, line) → r.inner.state ≡ state.Listening side → IsBacklogSet origin → ((told : Told) → Walks law (put h place r) end (next told)) → Walks law (put h place r) end (Ask (own_of line) (call.SetBacklog side backlog) next)
+    pub set : {A : Type 0} {end : A → Here} (r : Tcp2Socket) {side : OpId} {backlog : ℕ} {next : Told → Asks A} → h.at ≡ Some (place, line) → r.inner.state ≡ TcpState.Listening side → IsBacklogSet origin → ((told : Told) → Walks law (put h place r) end (next told)) → Walks law (put h place r) end (Ask (own_of line) (Call.SetBacklog side backlog) next)
     set r {side} {backlog} at s b k = record {
       along = λ es i.
           let a = law.sets es (put h place r) place r side backlog at (found here r) s b i in
-          (a.0, λ told fits. (k told).along (es ++ entry (own_of line) (call.SetBacklog side backlog) told ∷ []) (a.1 told fits));
+          (a.0, λ told fits. (k told).along (es ++ entry (own_of line) (Call.SetBacklog side backlog) told ∷ []) (a.1 told fits));
     }
 
-    pub learn : {A : Type 0} {end : A → Here} (r : Tcp2Socket) {side : OpId} {next : Told → Asks A} → h.at ≡ Some (place, line) → r.inner.state ≡ state.Default side → ((told : Told) → Walks law (put h place (with_inner r (after_local r.inner (told_addr told)).1)) end (next told)) → Walks law (put h place r) end (Ask (own_of line) (call.Local side) next)
+    pub learn : {A : Type 0} {end : A → Here} (r : Tcp2Socket) {side : OpId} {next : Told → Asks A} → h.at ≡ Some (place, line) → r.inner.state ≡ TcpState.Default side → ((told : Told) → Walks law (put h place (with_inner r (after_local r.inner (told_addr told)).1)) end (next told)) → Walks law (put h place r) end (Ask (own_of line) (Call.Local side) next)
     learn r {side} at s k = record {
       along = λ es i.
           let a = law.learns es (put h place r) place r side at (found here r) s i in (
             a.0,
             λ told fits.
-                let fs : List Entry = es ++ entry (own_of line) (call.Local side) told ∷ [] in
+                let fs : List Entry = es ++ entry (own_of line) (Call.Local side) told ∷ [] in
                 (k told).along fs (subst (law.Inv fs) (put_put h place r (with_inner r (after_local r.inner (told_addr told)).1)) (a.1 told fits)),
           );
     }
@@ -191,13 +166,13 @@ module _ {contexts : List WasiSocketsCtx} {line : ℕ} {origin : Step} {law : La
     polled : (r : Tcp2Socket) {op : Operation} (now : End × List Item → Tcp2Socket) → Held (put h place r) op (λ ended. put (put h place r) place (now ended)) → Walks law (put h place r) (λ ended. put h place (now ended)) (poll_asks op)
     polled r {op} now held = ends (λ ended. put_put h place r (now ended)) (record { along = λ es i. law.polls es (put h place r) op _ held i })
 
-    pub connect : (r : Tcp2Socket) (op : Operation) → NoBind h → r.inner.state ≡ state.Connecting op → Walks law (put h place r) (λ ended. put h place (with_inner r (with_state r.inner (connect_ended op.who ended).1))) (poll_asks op)
+    pub connect : (r : Tcp2Socket) (op : Operation) → NoBind h → r.inner.state ≡ TcpState.Connecting op → Walks law (put h place r) (λ ended. put h place (with_inner r (with_state r.inner (connect_ended op.who ended).1))) (poll_asks op)
     connect r op q e = polled r _ (Connects place r op q (found here r) e)
 
     pub listen : (r : Tcp2Socket) (op : Operation) → NoBind h → r.listening ≡ Begins op → side_of r.inner ≡ None → Walks law (put h place r) (λ ended. put h place (listen_after op r ended)) (poll_asks op)
     listen r op q e c = polled r _ (Listens place r op q (found here r) e c)
 
-    pub await : (r : Tcp2Socket) (l : Listener) (op : Operation) → r.listening ≡ Accepts l → l.accept ≡ accepting.Asking op → Walks law (put h place r) (λ ended. put h place (accepting_now r l (accept_ended op.who ended))) (poll_asks op)
+    pub await : (r : Tcp2Socket) (l : Listener) (op : Operation) → r.listening ≡ Accepts l → l.accept ≡ Accepting.Asking op → Walks law (put h place r) (λ ended. put h place (accepting_now r l (accept_ended op.who ended))) (poll_asks op)
     await r l op e a = polled r _ (Awaits place r l op (found here r) e a)
 
     pub turn : (r : Tcp2Socket) (s : Streams) → r.streams ≡ Some s → Walks law (put h place r) (λ done. put h place (with_writer r s done.1)) (turn_asks s.writer)
@@ -211,13 +186,13 @@ module _ {contexts : List WasiSocketsCtx} {line : ℕ} {origin : Step} {law : La
     pub give_up : (r : Tcp2Socket) → NoBind h → Walks law (put h place r) (λ done. put h place (with_listening r Not)) (give_up_asks r.listening)
     give_up r q = ends (λ done. put_put h place r (with_listening r Not)) (record { along = λ es i. law.gives_up es (put h place r) place r q (found here r) i })
 
-    pub close : {A : Type 0} {end : A → Here} (r : Tcp2Socket) {side : OpId} {next : Told → Asks A} → NoBind h → side_of r.inner ≡ Some side → ((told : Told) → Walks law (put h place (closed_record r)) end (next told)) → Walks law (put h place r) end (Ask (own_of line) (call.Close side) next)
+    pub close : {A : Type 0} {end : A → Here} (r : Tcp2Socket) {side : OpId} {next : Told → Asks A} → NoBind h → side_of r.inner ≡ Some side → ((told : Told) → Walks law (put h place (closed_record r)) end (next told)) → Walks law (put h place r) end (Ask (own_of line) (Call.Close side) next)
     close r {side} q e k = record {
       along = λ es i.
           let a = law.closes es (put h place r) place r side q (found here r) e i in (
             a.0,
             λ told fits.
-                let fs : List Entry = es ++ entry (own_of line) (call.Close side) told ∷ [] in
+                let fs : List Entry = es ++ entry (own_of line) (Call.Close side) told ∷ [] in
                 (k told).along fs (subst (law.Inv fs) (put_put h place r (closed_record r)) (a.1 told fits)),
           );
     }

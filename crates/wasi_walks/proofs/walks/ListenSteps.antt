@@ -1,27 +1,10 @@
 -- The steps of listens and accepts, as moves.
-use Rattle.std.specs.Prelude.{⊤}
-use Rattle.std.proofs.Common.{◌≡◌, ℕ, Bool, true, false, List, Option, Some, None, Result, Ok, Err, refl, slice_get, slice_set}
-use Rattle.wasi_addr.specs.declared.code.ErrorCode.{ErrorCode}
-use Rattle.wasi_world.specs.declared.outcome.Answer.TheVariants.{Ready, Pending}
-use Rattle.wasi_world.specs.declared.outcome.WasiSocketsCtx.{WasiSocketsCtx}
-use Rattle.wasi_world.specs.declared.outcome.Answer.{Answer}
-use Rattle.wasi_world.specs.Asks.{Give}
-use Rattle.wasi_tcp.specs.Listener.{accept_end}
-use Rattle.wasi_tcp.specs.Shape.{Socket}
-use Rattle.wasi_host.specs.declared.listening.Listening.TheVariants.{Not, Begins, Accepts, Unclosed}
-use Rattle.wasi_host.specs.declared.listening.Listening.{Listening}
-use Rattle.wasi_host.specs.Listening.{listen_answered, start_listen_by, start_listen_at, accepted_record, kept_accepted, with_sockets, accept_answered, accept_at, accept_listening}
-use Rattle.wasi_host.specs.declared.machine.Machine.{Machine}
-use Rattle.wasi_host.specs.declared.socket.Tcp2Socket.{Tcp2Socket}
-use Rattle.wasi_host.specs.Host.{Stop}
-use Rattle.wasi_host.specs.Kinds.{Handles, make_asks, kind_at}
-use Rattle.wasi_host.specs.Machine.{own_of, with_store, with_table, side_at, socket_at}
-use Rattle.wasi_host.specs.Store.{Records, is_nothing}
-use Rattle.wasi_p2.specs.Tcp.{with_streams, accepted_streams, accepted_asks, accept_on}
-use Rattle.wasi_machine.specs.Machine.{first_ids}
-use Rattle.wasi_steps.specs.declared.step.Step.{Step}
-use Rattle.wasi_steps.specs.declared.step.Step.TheVariants as step
-use Rattle.wasi_walks.specs.Licence.{Has, handles_of, IsListen}
+use Rattle.wasi_walks.proofs.Words.{Accepts, Answer, Bool, Err, ErrorCode, Give, Handles, Has, IsListen, List, Listening, Machine, None, Ok, Option}
+use Rattle.wasi_walks.proofs.Words.{Pending, Ready, Records, Result, Socket, Some, Step, Stop, Tcp2Socket, WasiSocketsCtx, accept_answered, accept_at}
+use Rattle.wasi_walks.proofs.Words.{accept_end, accept_listening, accept_on, accepted_asks, accepted_record, accepted_streams, false, first_ids}
+use Rattle.wasi_walks.proofs.Words.{handles_of, is_nothing, kept_accepted, kind_at, listen_answered, make_asks, own_of, refl, side_at, slice_get}
+use Rattle.wasi_walks.proofs.Words.{slice_set, socket_at, start_listen_at, start_listen_by, true, with_sockets, with_store, with_streams, with_table}
+use Rattle.wasi_walks.proofs.Words.{ℕ, ⊤, ◌≡◌}
 use Rattle.wasi_walks.proofs.walks.Moves.{NoBindStands, Used, Unused, put, Found, record_of, Reaches, Leaves, Spends, Marked, made_so, AnAcceptedStream, StandsListen, Watches}
 use Rattle.wasi_walks.proofs.walks.Law.{Law, HasRecord, found, put_same, Walks, give, and_then, and_given, move, gives, from, accept}
 use Rattle.wasi_walks.proofs.walks.Listeners.{joined_if, Took, takes_walks, listener_walks, begin_listen_walks}
@@ -31,9 +14,8 @@ use Rattle.wasi_walks.proofs.walks.SocketSteps.{streams_walks}
 module _ {contexts : List WasiSocketsCtx} {line : ℕ} {origin : Step} {law : Law contexts line origin} where
   -- == a listen
   listen_answered_walks : (m : Machine) (n k place : ℕ) → HasRecord (At k m place Used) place → (begun : Result (Answer (Unit {0})) ErrorCode × Tcp2Socket) → Walks law (put (At k m place Used) place begun.1) (Put k m place) (Give (listen_answered m.store n place begun))
-  listen_answered_walks m n k place here (Ok (Ready d), r) = give _
   listen_answered_walks m n k place here (Ok Pending, r) = gives _ (StandsListen _ n place r (found here r))
-  listen_answered_walks m n k place here (Err c, r) = give _
+  listen_answered_walks m n k place here _ = give _
 
   start_listen_by_walks : (m : Machine) (place : ℕ) (r : Tcp2Socket) (idle : Bool) → Found (At line m place Unused) place r → IsListen origin → NoBindStands m.store.standing → Walks law (At line m place Unused) (Put line m place) (start_listen_by m.store (own_of line) place r idle)
   start_listen_by_walks m place r true g is q = from (put_same (At line m place Unused) place r g) (and_then (begin_listen_walks (there g) refl is refl (refl, q) r) (listen_answered_walks m line line place (record { was = r; found = g })))
@@ -45,29 +27,26 @@ module _ {contexts : List WasiSocketsCtx} {line : ℕ} {origin : Step} {law : La
 
   -- == an accept
 
-  module _ (c s : ℕ) (is : origin ≡ step.TcpAccept c s) (m : Machine) (place : ℕ) (k : record_of (kind_at m.table s) ≡ Some place) where
+  module _ (c s : ℕ) (is : origin ≡ Step.TcpAccept c s) (m : Machine) (place : ℕ) (k : record_of (kind_at m.table s) ≡ Some place) where
     answered_so : (r : Tcp2Socket) (joined : Result (Unit {0}) Stop × Tcp2Socket) → Walks law (joined_if (Watching line m place Used) place r joined) (AcceptedSo line m place) (Give (with_sockets m.store (kept_accepted (slice_set m.store.sockets place r) joined)))
     answered_so r (Ok done, now) = give _
     answered_so r (Err why, now) = give _
 
     accept_answered_walks : (done : Result (Answer Socket) ErrorCode × Tcp2Socket) → Walks law (Took (Watching line m place Used) place done) (AcceptedSo line m place) (Give (accept_answered m.store place done))
     accept_answered_walks (Ok (Ready socket), r) = answered_so r (accepted_record socket)
-    accept_answered_walks (Ok Pending, r) = give _
-    accept_answered_walks (Err why, r) = give _
+    accept_answered_walks _ = give _
 
     accept_listening_walks : (r : Tcp2Socket) (l : Listening) → r.listening ≡ l → slice_get m.store.sockets place ≡ Some r → Walks law (put (Watching line m place Unused) place r) (Took (Watching line m place Used) place) (accept_listening (first_ids line) r l)
     accept_listening_walks r (Accepts l) e g =
         and_then (listener_walks (there g) refl r l (accept_end l) l.accept e refl refl (λ now. takes_walks {h = Watching line m place Used} (there {h = Watching line m place Used} {place = place} g) c s is k refl r l now)) (λ done. give _)
-    accept_listening_walks r Not e g = gives _ (Spends _ refl)
-    accept_listening_walks r (Begins op) e g = gives _ (Spends _ refl)
-    accept_listening_walks r (Unclosed side) e g = gives _ (Spends _ refl)
+    accept_listening_walks r _ e g = gives _ (Spends _ refl)
 
     accept_at_walks : (o : Option Tcp2Socket) → slice_get m.store.sockets place ≡ o → Walks law (Watching line m place Unused) (AcceptedSo line m place) (accept_at m.store (first_ids line) place o)
     accept_at_walks None g = gives _ (Spends _ refl)
     accept_at_walks (Some r) g = from (put_same (Watching line m place Unused) place r g) (and_then (accept_listening_walks r r.listening refl g) accept_answered_walks)
 
   -- the handles of what was accepted
-  accepted_streams_walks : (c s p : ℕ) (m : Machine) (made : Result ℕ Stop × Handles) → origin ≡ step.TcpAccept c s → HasRecord (Over m) p
+  accepted_streams_walks : (c s p : ℕ) (m : Machine) (made : Result ℕ Stop × Handles) → origin ≡ Step.TcpAccept c s → HasRecord (Over m) p
       → Walks law (Between None (made_so p made.0) (record m { table = made.1 })) OverWith (accepted_streams (own_of line) p (side_at (slice_get m.store.sockets p)) (with_table m made))
   accepted_streams_walks c s p m (Ok socket, t) is here =
       let now : Machine = record m { table = t } in
@@ -79,11 +58,11 @@ module _ {contexts : List WasiSocketsCtx} {line : ℕ} {origin : Step} {law : La
       with_streams_walks socket (Err why, m) = give _
   accepted_streams_walks c s p m (Err why, t) is here = gives _ (Leaves _)
 
-  accepted_walks : (c s n : ℕ) (m : Machine) (done : Result ℕ Stop × Records) → origin ≡ step.TcpAccept c s → JoinedSo done → Walks law (AcceptedSo line m n done) OverWith (accepted_asks (own_of line) s (with_store m done))
+  accepted_walks : (c s n : ℕ) (m : Machine) (done : Result ℕ Stop × Records) → origin ≡ Step.TcpAccept c s → JoinedSo done → Walks law (AcceptedSo line m n done) OverWith (accepted_asks (own_of line) s (with_store m done))
   accepted_walks c s n m (Ok p, store) is j = and_then (accept c s p j.was is refl refl j.found) (λ made. accepted_streams_walks c s p (record m { store = store }) made is (record { was = j.was; found = j.found }))
   accepted_walks c s n m (Err why, store) is j = gives _ (Leaves _)
 
-  pub accept_on_walks : (c s : ℕ) (m : Machine) (o : Option ℕ) → socket_at m s ≡ o → Has (handles_of origin) s → origin ≡ step.TcpAccept c s → Walks law (Starts m Unused) OverWith (accept_on m (first_ids line) s o)
+  pub accept_on_walks : (c s : ℕ) (m : Machine) (o : Option ℕ) → socket_at m s ≡ o → Has (handles_of origin) s → origin ≡ Step.TcpAccept c s → Walks law (Starts m Unused) OverWith (accept_on m (first_ids line) s o)
   accept_on_walks c s m None e named is = gives _ (Spends _ refl)
   accept_on_walks c s m (Some place) e named is =
       let k = socket_record (kind_at m.table s) place e in

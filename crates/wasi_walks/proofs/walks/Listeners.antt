@@ -1,33 +1,11 @@
 -- The calls of a listen and of a listener, as moves of the record that holds it.
-use Rattle.std.proofs.Common.{◌≡◌, ℕ, Bool, true, false, if◌then◌else◌, List, Option, Some, None, Result, Ok, Err, refl, sym, ap, ◌∙◌, slice_set, subst}
-use Rattle.wasi_addr.specs.declared.code.ErrorCode.{ErrorCode}
-use Rattle.wasi_world.specs.declared.outcome.WasiSocketsCtx.{WasiSocketsCtx}
-use Rattle.wasi_world.specs.declared.ids.OpId.{OpId}
-use Rattle.wasi_world.specs.declared.outcome.Answer.{Answer}
-use Rattle.wasi_world.specs.declared.outcome.Answer.TheVariants.{Ready, Pending}
-use Rattle.wasi_world.specs.Asks.{Give}
-use Rattle.wasi_world.specs.Operation.{Operation}
-use Rattle.wasi_tcp.specs.declared.listener.Accepting.TheVariants as accepting
-use Rattle.wasi_tcp.specs.declared.listener.Accepting.{Accepting}
-use Rattle.wasi_tcp.specs.Listener.{Listener, with_accept, accept_ended, accept_asks, begun as accept_begun, accept_end}
-use Rattle.wasi_tcp.specs.Listening.{listen_start}
-use Rattle.wasi_tcp.specs.Listen.{is_over}
-use Rattle.wasi_tcp.specs.declared.socket.TcpState.{TcpState}
-use Rattle.wasi_tcp.specs.declared.socket.TcpState.TheVariants as state
-use Rattle.wasi_tcp.specs.Shape.{Socket}
-use Rattle.wasi_tcp.specs.Socket.{side_of, ask_bound, bound_asks}
-use Rattle.wasi_host.specs.Kinds.{kind_at}
-use Rattle.wasi_host.specs.Host.{Stop}
-use Rattle.wasi_host.specs.Listening.{with_listening, listen_polled, poll_begun, poll_listening, closed_listening, poll_listen_asks, listen_begun, listen_once, listen_bound, begin_listen_asks, accepted_record}
-use Rattle.wasi_host.specs.declared.listening.Listening.TheVariants.{Not, Begins, Accepts, Unclosed}
-use Rattle.wasi_host.specs.declared.listening.Listening.{Listening}
-use Rattle.wasi_host.specs.declared.socket.Tcp2Socket.{Tcp2Socket}
-use Rattle.wasi_host.specs.Machine.{own_of}
-use Rattle.wasi_host.specs.Store.{with_inner}
-use Rattle.wasi_machine.specs.Machine.{first_ids}
-use Rattle.wasi_steps.specs.declared.step.Step.TheVariants as step
-use Rattle.wasi_steps.specs.declared.step.Step.{Step}
-use Rattle.wasi_walks.specs.Licence.{IsListen}
+use Rattle.wasi_walks.proofs.Words.{Accepting, Accepts, Answer, Begins, Bool, Err, ErrorCode, Give, IsListen, List, Listener, Listening, None, Not}
+use Rattle.wasi_walks.proofs.Words.{Ok, OpId, Operation, Option, Pending, Ready, Result, Socket, Some, Step, Stop, Tcp2Socket, TcpState}
+use Rattle.wasi_walks.proofs.Words.{WasiSocketsCtx, accept_asks, accept_end, accept_ended, accepted_record, ap, ask_bound, begin_listen_asks}
+use Rattle.wasi_walks.proofs.Words.{bound_asks, closed_listening, false, first_ids, if◌then◌else◌, is_over, kind_at, listen_begun, listen_bound}
+use Rattle.wasi_walks.proofs.Words.{listen_once, listen_polled, listen_start, own_of, poll_begun, poll_listen_asks, poll_listening, refl, side_of}
+use Rattle.wasi_walks.proofs.Words.{slice_set, subst, sym, true, with_accept, with_inner, with_listening, ℕ, ◌∙◌, ◌≡◌}
+use Rattle.wasi_tcp.specs.Listener.{begun as accept_begun}
 use Rattle.wasi_walks.proofs.Lists.{set_set}
 use Rattle.wasi_walks.proofs.walks.Moves.{NoBind, Used, Unused, Here, put, Spends, Unmade, record_of, new_accept, accepting_now, beginning_listen, joined, joining, BeginsListen, BeginsAccept, Unlistens, Forgets, Joins}
 use Rattle.wasi_walks.proofs.walks.Law.{Law, HasRecord, spent, put_put, Given, Walks, give, and_then, and_given, by_if, move, gives, from, found, on, listen, await}
@@ -40,9 +18,7 @@ module _ {contexts : List WasiSocketsCtx} {line : ℕ} {origin : Step} {law : La
 
   by_listening : (r : Tcp2Socket) (l : Listening) → r.listening ≡ l → side_of r.inner ≡ None → Walks law (put h place r) (λ done. put h place done.1) (poll_listening r l)
   by_listening r (Begins op) e c = poll_begun_walks r op e c
-  by_listening r Not e c = give _
-  by_listening r (Accepts l) e c = give _
-  by_listening r (Unclosed side) e c = give _
+  by_listening r _ e c = give _
 
   by_side : (r : Tcp2Socket) (o : Option OpId) → side_of r.inner ≡ o → Walks law (put h place r) (λ done. put h place done.1) (closed_listening r o)
   by_side r None e = by_listening r r.listening refl e
@@ -66,11 +42,8 @@ Listened h place r (Err c, socket) = record (put h place (with_inner r socket)) 
 
 module _ {contexts : List WasiSocketsCtx} {line : ℕ} {origin : Step} {law : Law contexts line origin} {h : Here} {place : ℕ} (here : HasRecord h place) (at : h.at ≡ Some (place, line)) (is : IsListen origin) (free : h.own ≡ Unused) (quiet : NoBind h) where
   starts_listen : (r : Tcp2Socket) (s : TcpState) → r.inner.state ≡ s → r.listening ≡ Not → r.inner.bound ≡ true → Walks law (put h place r) (Listened h place r) (Give (listen_start (own_of line) r.inner true s))
-  starts_listen r (state.Default side) e none bound = move (BeginsListen (put h place r) place r side at (found here r) e bound none is free) (from (ap (λ (x : Here). record x { own = Used }) (sym (put_put h place r (beginning_listen (own_of line) side r)))) (give _))
-  starts_listen r (state.Listening side) e none bound = gives _ (Spends _ free)
-  starts_listen r (state.Connecting op) e none bound = gives _ (Spends _ free)
-  starts_listen r (state.Connected c) e none bound = gives _ (Spends _ free)
-  starts_listen r (state.Closed c) e none bound = gives _ (Spends _ free)
+  starts_listen r (TcpState.Default side) e none bound = move (BeginsListen (put h place r) place r side at (found here r) e bound none is free) (from (ap (λ (x : Here). record x { own = Used }) (sym (put_put h place r (beginning_listen (own_of line) side r)))) (give _))
+  starts_listen r _ e none bound = gives _ (Spends _ free)
 
   starts_known : (r : Tcp2Socket) (b : Bool × Socket) → (b.0 ≡ true) × (b.1 ≡ r.inner) → r.listening ≡ Not → r.inner.bound ≡ true → Walks law (put h place (with_inner r b.1)) (Listened h place r) (Give (listen_start (own_of line) b.1 b.0 b.1.state))
   starts_known r b k none bound =
@@ -83,9 +56,7 @@ module _ {contexts : List WasiSocketsCtx} {line : ℕ} {origin : Step} {law : La
 
   once_walks : (r : Tcp2Socket) (l : Listening) → r.listening ≡ l → r.inner.bound ≡ true → Walks law (put h place r) (λ done. record (put h place done.1) { own = Used }) (listen_once (own_of line) r l)
   once_walks r Not e bound = and_then (and_given (λ b. (b.0 ≡ true) × (b.1 ≡ r.inner)) (known_given (own_of line) r.inner bound) (bound_walks here at r) (λ b k. starts_known r b k e bound)) (listened_walks r)
-  once_walks r (Begins op) e bound = gives _ (Spends _ free)
-  once_walks r (Accepts l) e bound = gives _ (Spends _ free)
-  once_walks r (Unclosed side) e bound = gives _ (Spends _ free)
+  once_walks r _ e bound = gives _ (Spends _ free)
 
   if_bound_walks : (r : Tcp2Socket) (b : Bool) → (b ≡ true → r.inner.bound ≡ true) → Walks law (put h place r) (λ done. record (put h place done.1) { own = Used }) (listen_bound (own_of line) r b)
   if_bound_walks r true k = once_walks r r.listening refl (k refl)
@@ -100,21 +71,17 @@ same_accept h place r l a e q = ap (λ (x : Accepting). put h place (accepting_n
 
 module _ {contexts : List WasiSocketsCtx} {line : ℕ} {origin : Step} {law : Law contexts line origin} {h : Here} {place : ℕ} (here : HasRecord h place) where
   accepting_walks : {A : Type 0} {end : A → Here} (r : Tcp2Socket) (l : Listener) (ends : Accepting → A) → ((now : Accepting) → Walks law (put h place (accepting_now r l now)) end (Give (ends now))) → (a : Accepting) → Walks law (put h place (accepting_now r l a)) end (accept_asks ends a)
-  accepting_walks r l ends k accepting.Idle = k accepting.Idle
-  accepting_walks r l ends k (accepting.Asking op) = and_then (await here (accepting_now r l (accepting.Asking op)) (with_accept l (accepting.Asking op)) op refl refl) (λ ended. k (accept_ended op.who ended))
-  accepting_walks r l ends k (accepting.Arrived new peer) = k (accepting.Arrived new peer)
-  accepting_walks r l ends k (accepting.Failed c) = k (accepting.Failed c)
+  accepting_walks r l ends k (Accepting.Asking op) = and_then (await here (accepting_now r l (Accepting.Asking op)) (with_accept l (Accepting.Asking op)) op refl refl) (λ ended. k (accept_ended op.who ended))
+  accepting_walks r l ends k s = k s
 
 module _ {contexts : List WasiSocketsCtx} {line : ℕ} {origin : Step} {law : Law contexts line origin} {h : Here} {place : ℕ} (here : HasRecord h place) (at : h.at ≡ Some (place, line)) where
   -- a call of a listener, which may begin its accept
   pub listener_walks : {A : Type 0} {end : A → Here} (r : Tcp2Socket) (l : Listener) (ends : Accepting → A) (a : Accepting) → r.listening ≡ Accepts l → l.accept ≡ a → h.own ≡ Unused
       → ((now : Accepting) → Walks law (record (put h place (accepting_now r l now)) { own = Used }) end (Give (ends now))) → Walks law (put h place r) end (accept_asks ends (accept_begun l.side l.maker (first_ids line) a))
-  listener_walks r l ends accepting.Idle e q free k =
+  listener_walks r l ends Accepting.Idle e q free k =
       move (BeginsAccept (put h place r) place r l at (found here r) e q free)
       (from (ap (λ (x : Here). record x { own = Used }) (sym (put_put h place r (accepting_now r l (new_accept line l))))) (accepting_walks (spent here) r l ends k (new_accept line l)))
-  listener_walks r l ends (accepting.Asking op) e q free k = move (Spends _ free) (from (same_accept (record h { own = Used }) place r l (accepting.Asking op) e q) (accepting_walks (spent here) r l ends k (accepting.Asking op)))
-  listener_walks r l ends (accepting.Arrived new peer) e q free k = move (Spends _ free) (from (same_accept (record h { own = Used }) place r l (accepting.Arrived new peer) e q) (accepting_walks (spent here) r l ends k (accepting.Arrived new peer)))
-  listener_walks r l ends (accepting.Failed c) e q free k = move (Spends _ free) (from (same_accept (record h { own = Used }) place r l (accepting.Failed c) e q) (accepting_walks (spent here) r l ends k (accepting.Failed c)))
+  listener_walks r l ends s e q free k = move (Spends _ free) (from (same_accept (record h { own = Used }) place r l s e q) (accepting_walks (spent here) r l ends k s))
 
 -- what was taken joins the records, with its streams
 abbrev pub joined_if : Here → ℕ → Tcp2Socket → Result (Unit {0}) Stop × Tcp2Socket → Here
@@ -126,13 +93,12 @@ Took h place (Ok (Ready socket), r) = joined_if h place r (accepted_record socke
 Took h place (Ok Pending, r) = put h place r
 Took h place (Err c, r) = put h place r
 
-module _ {contexts : List WasiSocketsCtx} {line : ℕ} {origin : Step} {law : Law contexts line origin} {h : Here} {place : ℕ} (here : HasRecord h place) (c handle : ℕ) (is : origin ≡ step.TcpAccept c handle) (of : record_of (kind_at h.machine.table handle) ≡ Some place) (unmade : h.made ≡ Unmade) where
+module _ {contexts : List WasiSocketsCtx} {line : ℕ} {origin : Step} {law : Law contexts line origin} {h : Here} {place : ℕ} (here : HasRecord h place) (c handle : ℕ) (is : origin ≡ Step.TcpAccept c handle) (of : record_of (kind_at h.machine.table handle) ≡ Some place) (unmade : h.made ≡ Unmade) where
   pub takes_walks : (r : Tcp2Socket) (l : Listener) (now : Accepting) → Walks law (put h place (accepting_now r l now)) (λ done. Took h place (Ok done.0, with_listening r (Accepts done.1))) (Give (accept_end l now))
-  takes_walks r l accepting.Idle = give _
-  takes_walks r l (accepting.Asking op) = give _
-  takes_walks r l (accepting.Arrived new peer) =
-      let old : Tcp2Socket = accepting_now r l (accepting.Arrived new peer) in
-      let idle : Tcp2Socket = accepting_now r l accepting.Idle in
-      move (Joins (put h place old) c handle place old (with_accept l (accepting.Arrived new peer)) new peer is of unmade (found here old) refl refl)
+  takes_walks r l (Accepting.Arrived new peer) =
+      let old : Tcp2Socket = accepting_now r l (Accepting.Arrived new peer) in
+      let idle : Tcp2Socket = accepting_now r l Accepting.Idle in
+      move (Joins (put h place old) c handle place old (with_accept l (Accepting.Arrived new peer)) new peer is of unmade (found here old) refl refl)
       (from (ap (λ (xs : List Tcp2Socket). joining h xs (joined l new peer)) (sym (set_set h.machine.store.sockets place old idle))) (give _))
-  takes_walks r l (accepting.Failed why) = let old : Tcp2Socket = accepting_now r l (accepting.Failed why) in on here old _ (Forgets _ _ _ (with_accept l (accepting.Failed why)) why (found here old) refl refl) (give _)
+  takes_walks r l (Accepting.Failed why) = let old : Tcp2Socket = accepting_now r l (Accepting.Failed why) in on here old _ (Forgets _ _ _ (with_accept l (Accepting.Failed why)) why (found here old) refl refl) (give _)
+  takes_walks r l _ = give _

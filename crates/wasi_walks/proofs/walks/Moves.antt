@@ -1,60 +1,18 @@
 -- What a line does, as moves: the state that it works on, what it may ask of the record that it works on, and how the state may
 -- move where nothing is asked.
-use Rattle.std.specs.Prelude.{⊤, ◌⊎◌, ◌≡◌, ℕ, nat_lt, length, Bool, true, false, List, [], ◌∷◌, ◌++◌, Option, Some, None, Result, Ok, Err, slice_get, slice_set}
-use Rattle.wasi_addr.specs.declared.address.IpSocketAddress.{IpSocketAddress}
-use Rattle.wasi_addr.specs.declared.address.SocketAddressFamily.{SocketAddressFamily}
-use Rattle.wasi_addr.specs.Address.{wildcard}
-use Rattle.wasi_addr.specs.declared.code.ErrorCode.{ErrorCode}
-use Rattle.wasi_addr.specs.declared.code.ErrorCode.TheVariants.{Other}
-use Rattle.wasi_world.specs.declared.outcome.WasiSocketsCtx.{WasiSocketsCtx}
-use Rattle.wasi_world.specs.declared.ids.OpId.{OpId}
-use Rattle.wasi_world.specs.declared.call.Call.{Call}
-use Rattle.wasi_world.specs.declared.call.Call.TheVariants as call
-use Rattle.wasi_world.specs.Operation.{Item, End, Operation}
-use Rattle.wasi_tcp.specs.declared.accept.AcceptStage.TheVariants as accept
+use Rattle.wasi_walks.proofs.Words.{Accepting, Accepts, Begins, Bool, Call, Connection, End, Err, ErrorCode, ErrorValue, Has, InProgress, Input}
+use Rattle.wasi_walks.proofs.Words.{IpSocketAddress, IsBindTo, IsConnectTo, IsListen, Item, Job, Kind, List, Listener, Machine, Network, None, Not}
+use Rattle.wasi_walks.proofs.Words.{Ok, OpId, Operation, Option, Other, Output, Pollable, ReadState, Result, SocketAddressFamily, Some, Standing}
+use Rattle.wasi_walks.proofs.Words.{StandingCall, Step, Stop, Streams, Tcp2, Tcp2Socket, TcpReceiveStream, TcpSendStream, TcpState, WasiSocketsCtx}
+use Rattle.wasi_walks.proofs.Words.{Watched, WriteState, [], accept_ended, accept_operation, accepted_record, accepted_socket, accepted_state}
+use Rattle.wasi_walks.proofs.Words.{bind_operation, closing_job, collected, connect_ended, connect_first, connect_operation, context_at, false, gone}
+use Rattle.wasi_walks.proofs.Words.{handles_of, is_connect, is_over, kind_at, left_of, length, listen_ended, listen_first, listen_operation}
+use Rattle.wasi_walks.proofs.Words.{listen_polled, nat_lt, new_job, new_streams, own_of, place_in, side_at, side_of, slice_get, slice_set}
+use Rattle.wasi_walks.proofs.Words.{standing_bind, standing_drop, standing_listen, true, wildcard, with_accept, with_inner, with_listening}
+use Rattle.wasi_walks.proofs.Words.{with_reader, with_socket, with_state, with_writer, without_handle, writer_side, ℕ, ⊤, ◌++◌, ◌∷◌, ◌≡◌, ◌⊎◌}
 use Rattle.wasi_tcp.specs.declared.bind.BindStage.TheVariants.{Check}
-use Rattle.wasi_tcp.specs.declared.halves.TcpReceiveStream.{TcpReceiveStream}
-use Rattle.wasi_tcp.specs.declared.halves.TcpSendStream.{TcpSendStream}
-use Rattle.wasi_tcp.specs.declared.listener.Accepting.{Accepting}
-use Rattle.wasi_tcp.specs.declared.listener.Accepting.TheVariants as accepting
-use Rattle.wasi_tcp.specs.declared.reader.ReadState.TheVariants as reading
-use Rattle.wasi_tcp.specs.declared.socket.Connection.{Connection}
-use Rattle.wasi_tcp.specs.declared.socket.TcpState.{TcpState}
-use Rattle.wasi_tcp.specs.declared.socket.TcpState.TheVariants as state
 use Rattle.wasi_tcp.specs.declared.writer.WriteError.{WriteError}
-use Rattle.wasi_tcp.specs.declared.writer.WriteState.{WriteState}
-use Rattle.wasi_tcp.specs.declared.writer.WriteState.TheVariants as writing
-use Rattle.wasi_tcp.specs.Accept.{accept_operation}
-use Rattle.wasi_tcp.specs.Bind.{bind_operation}
-use Rattle.wasi_tcp.specs.Connect.{connect_first, connect_operation}
-use Rattle.wasi_tcp.specs.Connecting.{with_state, connect_ended}
-use Rattle.wasi_tcp.specs.Job.{Job, new_job, closing_job}
-use Rattle.wasi_tcp.specs.Listen.{listen_operation, listen_first, is_over}
-use Rattle.wasi_tcp.specs.Listener.{Listener, with_accept, accepted_socket, accepted_state, accept_ended}
-use Rattle.wasi_tcp.specs.Listening.{listen_ended}
-use Rattle.wasi_tcp.specs.Socket.{side_of}
-use Rattle.wasi_tcp.specs.Writer.{writer_side, collected}
-use Rattle.wasi_host.specs.declared.kind.Kind.{Kind}
-use Rattle.wasi_host.specs.declared.kind.Kind.TheVariants.{Network, Tcp2, Input, Output, Pollable, ErrorValue}
-use Rattle.wasi_host.specs.declared.kind.Watched.{Watched}
-use Rattle.wasi_host.specs.declared.listening.Listening.TheVariants.{Not, Begins, Accepts}
-use Rattle.wasi_host.specs.declared.machine.Machine.{Machine}
-use Rattle.wasi_host.specs.declared.socket.InProgress.TheVariants as doing
-use Rattle.wasi_host.specs.declared.socket.Streams.{Streams}
-use Rattle.wasi_host.specs.declared.socket.Tcp2Socket.{Tcp2Socket}
-use Rattle.wasi_host.specs.declared.store.Standing.{Standing}
-use Rattle.wasi_host.specs.declared.store.StandingCall.{StandingCall}
-use Rattle.wasi_host.specs.declared.store.StandingCall.TheVariants as standing
-use Rattle.wasi_host.specs.Dropping.{gone}
-use Rattle.wasi_host.specs.Host.{Stop}
-use Rattle.wasi_host.specs.Listening.{with_listening, listen_polled, standing_listen, accepted_record}
-use Rattle.wasi_host.specs.Kinds.{kind_at, place_in, without_handle}
-use Rattle.wasi_host.specs.Machine.{own_of, side_at}
-use Rattle.wasi_host.specs.Store.{is_connect, left_of, new_streams, with_socket, with_inner, with_reader, with_writer, standing_bind, standing_drop}
-use Rattle.wasi_steps.specs.declared.step.Step.{Step}
-use Rattle.wasi_steps.specs.declared.step.Step.TheVariants as step
-use Rattle.wasi_machine.specs.Machine.{context_at}
-use Rattle.wasi_walks.specs.Licence.{Has, handles_of, IsBindTo, IsConnectTo, IsListen}
+use Rattle.wasi_tcp.specs.declared.accept.AcceptStage.TheVariants as accept
 
 -- what the line's own operation has begun: something, or nothing yet; these bytes it is let write to this side
 pub data Own : Type 0 where
@@ -85,7 +43,7 @@ Found h place r = slice_get h.machine.store.sockets place ≡ Some r
 
 -- no bind stands
 abbrev pub NoBindIn : StandingCall → Type 0
-NoBindIn (standing.Bind place op) = ⊥
+NoBindIn (StandingCall.Bind place op) = ⊥
 NoBindIn _ = ⊤
 
 abbrev pub NoBindStands : Option Standing → Type 0
@@ -99,25 +57,25 @@ NoBind h = (h.hand ≡ None) × NoBindStands h.machine.store.standing
 -- == what may be asked of a record's side by the line that works on it
 -- a question, or that a half is given up
 abbrev pub IsQuestionOf : OpId → Call → Type 0
-IsQuestionOf side (call.Local s) = s ≡ side
-IsQuestionOf side (call.Peer s) = s ≡ side
-IsQuestionOf side (call.GetOption s option) = s ≡ side
-IsQuestionOf side (call.SetOption s option value) = s ≡ side
-IsQuestionOf side (call.Read s size) = s ≡ side
-IsQuestionOf side (call.ReadReady s) = s ≡ side
-IsQuestionOf side (call.WriteReady s) = s ≡ side
-IsQuestionOf side (call.Shutdown s how) = s ≡ side
+IsQuestionOf side (Call.Local s) = s ≡ side
+IsQuestionOf side (Call.Peer s) = s ≡ side
+IsQuestionOf side (Call.GetOption s option) = s ≡ side
+IsQuestionOf side (Call.SetOption s option value) = s ≡ side
+IsQuestionOf side (Call.Read s size) = s ≡ side
+IsQuestionOf side (Call.ReadReady s) = s ≡ side
+IsQuestionOf side (Call.WriteReady s) = s ≡ side
+IsQuestionOf side (Call.Shutdown s how) = s ≡ side
 IsQuestionOf side _ = ⊥
 
 -- the side is the socket's, or that of one of its halves
 pub data IsOn (r : Tcp2Socket) (side : OpId) : Type 0 where
   OfSocket : side_of r.inner ≡ Some side → IsOn r side
-  OfReader : (s : Streams) (half : TcpReceiveStream) → r.streams ≡ Some s → s.reader ≡ reading.Open half → half.side ≡ side → IsOn r side
+  OfReader : (s : Streams) (half : TcpReceiveStream) → r.streams ≡ Some s → s.reader ≡ ReadState.Open half → half.side ≡ side → IsOn r side
   OfWriter : (s : Streams) → r.streams ≡ Some s → writer_side s.writer ≡ Some side → IsOn r side
 
 -- == moves of a record
 abbrev pub IsConnecting : TcpState → Type 0
-IsConnecting (state.Connecting op) = ⊤
+IsConnecting (TcpState.Connecting op) = ⊤
 IsConnecting _ = ⊥
 
 -- the same halves are taken
@@ -133,16 +91,16 @@ pub record Plain (old now : Tcp2Socket) : Type 0 where
   pub does : now.inner.state ≡ old.inner.state
   pub maker : now.inner.maker ≡ old.inner.maker
   pub family : now.inner.family ≡ old.inner.family
-  pub bound : (side : OpId) → old.inner.state ≡ state.Default side → now.inner.bound ≡ true → old.inner.bound ≡ true
+  pub bound : (side : OpId) → old.inner.state ≡ TcpState.Default side → now.inner.bound ≡ true → old.inner.bound ≡ true
   pub connects : is_connect now.in_progress ≡ true → (is_connect old.in_progress ≡ true) ⊎ IsConnecting old.inner.state
 
 -- of a writer: a job that ended is collected, another permit, a write that is to be the last, the end
 pub data WriterMoves : WriteState → WriteState → Type 0 where
   Collects : (w : WriteState) → WriterMoves w (collected w)
-  Permits : (half : TcpSendStream) (old : ℕ) → WriterMoves (writing.Ready half old) (writing.Ready half 65536)
-  Lasts : (job : Job) → WriterMoves (writing.Writing job) (writing.Closing job)
-  LastsAfter : (job : Job) → WriterMoves (writing.Writing job) (writing.Closing (closing_job job))
-  Closes : (w : WriteState) (e : WriteError) → WriterMoves w (writing.Closed e)
+  Permits : (half : TcpSendStream) (old : ℕ) → WriterMoves (WriteState.Ready half old) (WriteState.Ready half 65536)
+  Lasts : (job : Job) → WriterMoves (WriteState.Writing job) (WriteState.Closing job)
+  LastsAfter : (job : Job) → WriterMoves (WriteState.Writing job) (WriteState.Closing (closing_job job))
+  Closes : (w : WriteState) (e : WriteError) → WriterMoves w (WriteState.Closed e)
 
 -- the record that a handle is of
 abbrev pub record_of : Option Kind → Option ℕ
@@ -154,23 +112,23 @@ record_of _ = None
 
 -- the line may make an error of the stream of this handle
 abbrev pub MarksError : ℕ → Step → Type 0
-MarksError handle (step.Read ctx input len) = handle ≡ input
-MarksError handle (step.CheckWrite ctx output) = handle ≡ output
-MarksError handle (step.Write ctx output bytes) = handle ≡ output
-MarksError handle (step.Flush ctx output) = handle ≡ output
+MarksError handle (Step.Read ctx input len) = handle ≡ input
+MarksError handle (Step.CheckWrite ctx output) = handle ≡ output
+MarksError handle (Step.Write ctx output bytes) = handle ≡ output
+MarksError handle (Step.Flush ctx output) = handle ≡ output
 MarksError handle _ = ⊥
 
 -- a create of this family, by this context
 abbrev pub Creates : List WasiSocketsCtx → WasiSocketsCtx → SocketAddressFamily → Step → Type 0
-Creates contexts ctx family (step.TcpCreate n f) = (context_at contexts n ≡ ctx) × (f ≡ family)
+Creates contexts ctx family (Step.TcpCreate n f) = (context_at contexts n ≡ ctx) × (f ≡ family)
 Creates contexts ctx family _ = ⊥
 
 -- a handle that the line may mark, with its parent and its side
 pub data Marks (origin : Step) (h : Here) : Kind → Option ℕ → Option OpId → Type 0 where
-  ANetwork : (c : ℕ) → origin ≡ step.Network c → Marks origin h Network None None
-  AStream : (c handle place : ℕ) (kind : Kind) → origin ≡ step.TcpFinishConnect c handle → (kind ≡ Input place) ⊎ (kind ≡ Output place) → record_of (kind_at h.machine.table handle) ≡ Some place → Marks origin h kind (Some handle) (side_at (slice_get h.machine.store.sockets place))
-  AnAcceptedStream : (c listener handle place : ℕ) (kind : Kind) (r : Tcp2Socket) → origin ≡ step.TcpAccept c listener → (kind ≡ Input place) ⊎ (kind ≡ Output place) → h.made ≡ Marked handle place → h.own ≡ Used → Found h place r → Marks origin h kind (Some handle) (side_at (slice_get h.machine.store.sockets place))
-  APollable : (c handle : ℕ) (w : Watched) → origin ≡ step.Subscribe c handle → record_of (kind_at h.machine.table handle) ≡ Some (place_in w) → Marks origin h (Pollable w) (Some handle) (side_at (slice_get h.machine.store.sockets (place_in w)))
+  ANetwork : (c : ℕ) → origin ≡ Step.Network c → Marks origin h Network None None
+  AStream : (c handle place : ℕ) (kind : Kind) → origin ≡ Step.TcpFinishConnect c handle → (kind ≡ Input place) ⊎ (kind ≡ Output place) → record_of (kind_at h.machine.table handle) ≡ Some place → Marks origin h kind (Some handle) (side_at (slice_get h.machine.store.sockets place))
+  AnAcceptedStream : (c listener handle place : ℕ) (kind : Kind) (r : Tcp2Socket) → origin ≡ Step.TcpAccept c listener → (kind ≡ Input place) ⊎ (kind ≡ Output place) → h.made ≡ Marked handle place → h.own ≡ Used → Found h place r → Marks origin h kind (Some handle) (side_at (slice_get h.machine.store.sockets place))
+  APollable : (c handle : ℕ) (w : Watched) → origin ≡ Step.Subscribe c handle → record_of (kind_at h.machine.table handle) ≡ Some (place_in w) → Marks origin h (Pollable w) (Some handle) (side_at (slice_get h.machine.store.sockets (place_in w)))
   AnError : (handle place : ℕ) → MarksError handle origin → record_of (kind_at h.machine.table handle) ≡ Some place → Marks origin h ErrorValue (Some handle) (side_at (slice_get h.machine.store.sockets place))
 
 -- == records of a listen and of a listener
@@ -179,7 +137,7 @@ abbrev pub begun_listen : OpId → OpId → Tcp2Socket → Operation
 begun_listen own side r = listen_operation (record { op = own; side = side; maker = r.inner.maker }) (wildcard r.inner.family) r.inner.backlog (listen_first true)
 
 abbrev pub beginning_listen : OpId → OpId → Tcp2Socket → Tcp2Socket
-beginning_listen own side r = record r { inner = with_state r.inner (state.Closed Other); listening = Begins (begun_listen own side r) }
+beginning_listen own side r = record r { inner = with_state r.inner (TcpState.Closed Other); listening = Begins (begun_listen own side r) }
 
 -- it was polled
 abbrev pub listen_after : Operation → Tcp2Socket → End × List Item → Tcp2Socket
@@ -194,7 +152,7 @@ abbrev pub second_of : ℕ → OpId
 second_of line = record { step = line; part = 1 }
 
 abbrev pub new_accept : ℕ → Listener → Accepting
-new_accept line l = accepting.Asking (accept_operation (record { op = second_of line; side = l.side; maker = l.maker }) accept.Accept)
+new_accept line l = Accepting.Asking (accept_operation (record { op = second_of line; side = l.side; maker = l.maker }) accept.Accept)
 
 -- what was accepted
 abbrev pub joined : Listener → OpId → IpSocketAddress → Tcp2Socket
@@ -211,11 +169,11 @@ made_so place (Err why) = Past
 
 -- the record that is left where its side was closed
 abbrev pub closed_record : Tcp2Socket → Tcp2Socket
-closed_record r = gone r (with_state r.inner (state.Closed Other))
+closed_record r = gone r (with_state r.inner (TcpState.Closed Other))
 
 -- the record of a connection whose streams are made
 abbrev pub opened_by : Tcp2Socket → Connection → Tcp2Socket
-opened_by r c = record r { inner = with_state r.inner (state.Connected (record c { send_taken = true })); in_progress = doing.Nothing; streams = Some (new_streams (record { side = c.side }) (record { side = c.side })) }
+opened_by r c = record r { inner = with_state r.inner (TcpState.Connected (record c { send_taken = true })); in_progress = InProgress.Nothing; streams = Some (new_streams (record { side = c.side }) (record { side = c.side })) }
 
 -- == moves of a line, where nothing is asked
 pub data Move (line : ℕ) (origin : Step) : Here → Here → Type 0 where
@@ -225,30 +183,30 @@ pub data Move (line : ℕ) (origin : Step) : Here → Here → Type 0 where
   Spends : (h : Here) → h.own ≡ Unused → Move line origin h (record h { own = Used })
   -- the record
   Changes : (h : Here) (place : ℕ) (r now : Tcp2Socket) → Found h place r → Plain r now → Move line origin h (put h place now)
-  ClosesReader : (h : Here) (place : ℕ) (r : Tcp2Socket) (s : Streams) → Found h place r → r.streams ≡ Some s → Move line origin h (put h place (with_reader r s reading.Closed))
+  ClosesReader : (h : Here) (place : ℕ) (r : Tcp2Socket) (s : Streams) → Found h place r → r.streams ≡ Some s → Move line origin h (put h place (with_reader r s ReadState.Closed))
   Writes : (h : Here) (place : ℕ) (r : Tcp2Socket) (s : Streams) (w : WriteState) → Found h place r → r.streams ≡ Some s → WriterMoves s.writer w → Move line origin h (put h place (with_writer r s w))
   IsGone : (h : Here) (place : ℕ) (r : Tcp2Socket) → Found h place r → side_of r.inner ≡ None → Move line origin h (put h place (gone r r.inner))
   -- a connection, whose halves are taken where no connect is in progress
-  Reconnects : (h : Here) (place : ℕ) (r : Tcp2Socket) (c now : Connection) → Found h place r → r.inner.state ≡ state.Connected c → now.side ≡ c.side → (c.send_taken ≡ true → now.send_taken ≡ true) → (is_connect r.in_progress ≡ true → TakesNone c now) → Move line origin h (put h place (with_inner r (with_state r.inner (state.Connected now))))
-  Opens : (h : Here) (place : ℕ) (r : Tcp2Socket) (c : Connection) → Found h place r → r.inner.state ≡ state.Connected c → c.send_taken ≡ false → Move line origin h (put h place (opened_by r c))
+  Reconnects : (h : Here) (place : ℕ) (r : Tcp2Socket) (c now : Connection) → Found h place r → r.inner.state ≡ TcpState.Connected c → now.side ≡ c.side → (c.send_taken ≡ true → now.send_taken ≡ true) → (is_connect r.in_progress ≡ true → TakesNone c now) → Move line origin h (put h place (with_inner r (with_state r.inner (TcpState.Connected now))))
+  Opens : (h : Here) (place : ℕ) (r : Tcp2Socket) (c : Connection) → Found h place r → r.inner.state ≡ TcpState.Connected c → c.send_taken ≡ false → Move line origin h (put h place (opened_by r c))
   -- the line's own operation begins
-  BeginsConnect : (h : Here) (place : ℕ) (r : Tcp2Socket) (side : OpId) (a : IpSocketAddress) (bound : Bool) → h.at ≡ Some (place, line) → Found h place r → r.inner.state ≡ state.Default side → IsConnectTo a origin → (bound ≡ true → r.inner.bound ≡ true) → h.own ≡ Unused
-      → Move line origin h (record (put h place (with_inner r (with_state r.inner (state.Connecting (connect_operation (record { op = own_of line; side = side; maker = r.inner.maker }) (wildcard r.inner.family) a (connect_first bound)))))) { own = Used })
-  BeginsBind : (h : Here) (place : ℕ) (r : Tcp2Socket) (side : OpId) (a : IpSocketAddress) → h.at ≡ Some (place, line) → Found h place r → r.inner.state ≡ state.Default side → IsBindTo a origin → h.own ≡ Unused
+  BeginsConnect : (h : Here) (place : ℕ) (r : Tcp2Socket) (side : OpId) (a : IpSocketAddress) (bound : Bool) → h.at ≡ Some (place, line) → Found h place r → r.inner.state ≡ TcpState.Default side → IsConnectTo a origin → (bound ≡ true → r.inner.bound ≡ true) → h.own ≡ Unused
+      → Move line origin h (record (put h place (with_inner r (with_state r.inner (TcpState.Connecting (connect_operation (record { op = own_of line; side = side; maker = r.inner.maker }) (wildcard r.inner.family) a (connect_first bound)))))) { own = Used })
+  BeginsBind : (h : Here) (place : ℕ) (r : Tcp2Socket) (side : OpId) (a : IpSocketAddress) → h.at ≡ Some (place, line) → Found h place r → r.inner.state ≡ TcpState.Default side → IsBindTo a origin → h.own ≡ Unused
       → Move line origin h (record h { hand = Some (bind_operation (record { op = own_of line; side = side; maker = r.inner.maker }) a Check); own = Used })
-  BeginsWrite : (h : Here) (place : ℕ) (r : Tcp2Socket) (s : Streams) (half : TcpSendStream) (permit : ℕ) (bytes : List ℕ) → h.at ≡ Some (place, line) → Found h place r → r.streams ≡ Some s → s.writer ≡ writing.Ready half permit → nat_lt permit (length bytes) ≡ false → h.own ≡ ToWrite half.side bytes
-      → Move line origin h (record (put h place (with_writer r s (writing.Writing (new_job (own_of line) half.side bytes)))) { own = Used })
-  BeginsListen : (h : Here) (place : ℕ) (r : Tcp2Socket) (side : OpId) → h.at ≡ Some (place, line) → Found h place r → r.inner.state ≡ state.Default side → r.inner.bound ≡ true → r.listening ≡ Not → IsListen origin → h.own ≡ Unused
+  BeginsWrite : (h : Here) (place : ℕ) (r : Tcp2Socket) (s : Streams) (half : TcpSendStream) (permit : ℕ) (bytes : List ℕ) → h.at ≡ Some (place, line) → Found h place r → r.streams ≡ Some s → s.writer ≡ WriteState.Ready half permit → nat_lt permit (length bytes) ≡ false → h.own ≡ ToWrite half.side bytes
+      → Move line origin h (record (put h place (with_writer r s (WriteState.Writing (new_job (own_of line) half.side bytes)))) { own = Used })
+  BeginsListen : (h : Here) (place : ℕ) (r : Tcp2Socket) (side : OpId) → h.at ≡ Some (place, line) → Found h place r → r.inner.state ≡ TcpState.Default side → r.inner.bound ≡ true → r.listening ≡ Not → IsListen origin → h.own ≡ Unused
       → Move line origin h (record (put h place (beginning_listen (own_of line) side r)) { own = Used })
-  BeginsAccept : (h : Here) (place : ℕ) (r : Tcp2Socket) (l : Listener) → h.at ≡ Some (place, line) → Found h place r → r.listening ≡ Accepts l → l.accept ≡ accepting.Idle → h.own ≡ Unused
+  BeginsAccept : (h : Here) (place : ℕ) (r : Tcp2Socket) (l : Listener) → h.at ≡ Some (place, line) → Found h place r → r.listening ≡ Accepts l → l.accept ≡ Accepting.Idle → h.own ≡ Unused
       → Move line origin h (record (put h place (accepting_now r l (new_accept line l))) { own = Used })
   -- a listen is over; a listener's fault is taken
   Unlistens : (h : Here) (place : ℕ) (r : Tcp2Socket) (op : Operation) → Found h place r → r.listening ≡ Begins op → side_of r.inner ≡ None → is_over op ≡ true → Move line origin h (put h place (with_listening r Not))
-  Forgets : (h : Here) (place : ℕ) (r : Tcp2Socket) (l : Listener) (c : ErrorCode) → Found h place r → r.listening ≡ Accepts l → l.accept ≡ accepting.Failed c → Move line origin h (put h place (accepting_now r l accepting.Idle))
+  Forgets : (h : Here) (place : ℕ) (r : Tcp2Socket) (l : Listener) (c : ErrorCode) → Found h place r → r.listening ≡ Accepts l → l.accept ≡ Accepting.Failed c → Move line origin h (put h place (accepting_now r l Accepting.Idle))
   -- an accept: nothing was made yet; and what was handed over is taken from its listener, and joins the records
   Watches : (h : Here) → h.own ≡ Unused → Move line origin h (record h { made = Unmade })
-  Joins : (h : Here) (c handle place : ℕ) (r : Tcp2Socket) (l : Listener) (new : OpId) (peer : IpSocketAddress) → origin ≡ step.TcpAccept c handle → record_of (kind_at h.machine.table handle) ≡ Some place → h.made ≡ Unmade → Found h place r → r.listening ≡ Accepts l → l.accept ≡ accepting.Arrived new peer
-      → Move line origin h (joining h (slice_set h.machine.store.sockets place (accepting_now r l accepting.Idle)) (joined l new peer))
+  Joins : (h : Here) (c handle place : ℕ) (r : Tcp2Socket) (l : Listener) (new : OpId) (peer : IpSocketAddress) → origin ≡ Step.TcpAccept c handle → record_of (kind_at h.machine.table handle) ≡ Some place → h.made ≡ Unmade → Found h place r → r.listening ≡ Accepts l → l.accept ≡ Accepting.Arrived new peer
+      → Move line origin h (joining h (slice_set h.machine.store.sockets place (accepting_now r l Accepting.Idle)) (joined l new peer))
   -- a listen stands, or a drop that waits, by the line that asks; such a drop goes on; nothing stands
   StandsListen : (h : Here) (n place : ℕ) (r : Tcp2Socket) → Found h place r → Move line origin h (record h { machine = record h.machine { store = record h.machine.store { standing = Some (standing_listen n place) } } })
   StandsDrop : (h : Here) (n place : ℕ) (r : Tcp2Socket) → h.at ≡ Some (place, n) → Found h place r → Move line origin h (record h { machine = record h.machine { store = record h.machine.store { standing = Some (standing_drop n place) } } })
@@ -265,6 +223,6 @@ pub data Move (line : ℕ) (origin : Step) : Here → Here → Type 0 where
 -- an operation that the line polls: where it is kept, and what becomes of it
 pub data Held (h : Here) : Operation → (End × List Item → Here) → Type 0 where
   InHand : (op : Operation) → h.hand ≡ Some op → Held h op (λ ended. record h { hand = Some (left_of op ended.1) })
-  Connects : (place : ℕ) (r : Tcp2Socket) (op : Operation) → NoBind h → Found h place r → r.inner.state ≡ state.Connecting op → Held h op (λ ended. put h place (with_inner r (with_state r.inner (connect_ended op.who ended).1)))
+  Connects : (place : ℕ) (r : Tcp2Socket) (op : Operation) → NoBind h → Found h place r → r.inner.state ≡ TcpState.Connecting op → Held h op (λ ended. put h place (with_inner r (with_state r.inner (connect_ended op.who ended).1)))
   Listens : (place : ℕ) (r : Tcp2Socket) (op : Operation) → NoBind h → Found h place r → r.listening ≡ Begins op → side_of r.inner ≡ None → Held h op (λ ended. put h place (listen_after op r ended))
-  Awaits : (place : ℕ) (r : Tcp2Socket) (l : Listener) (op : Operation) → Found h place r → r.listening ≡ Accepts l → l.accept ≡ accepting.Asking op → Held h op (λ ended. put h place (accepting_now r l (accept_ended op.who ended)))
+  Awaits : (place : ℕ) (r : Tcp2Socket) (l : Listener) (op : Operation) → Found h place r → r.listening ≡ Accepts l → l.accept ≡ Accepting.Asking op → Held h op (λ ended. put h place (accepting_now r l (accept_ended op.who ended)))

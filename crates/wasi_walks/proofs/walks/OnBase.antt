@@ -1,32 +1,8 @@
 -- A law that stands on another: what it asks, keeps and moves, where the other holds.
-use Rattle.std.proofs.Common.{◌≡◌, ℕ, List, [], ◌∷◌, ◌++◌, Option, Some, None, slice_get}
-use Rattle.wasi_addr.specs.declared.address.SocketAddressFamily.{SocketAddressFamily}
-use Rattle.wasi_world.specs.declared.outcome.WasiSocketsCtx.{WasiSocketsCtx}
-use Rattle.wasi_world.specs.declared.ids.OpId.{OpId}
-use Rattle.wasi_world.specs.declared.call.Call.{Call}
-use Rattle.wasi_world.specs.declared.call.Call.TheVariants as call
-use Rattle.wasi_world.specs.declared.call.Told.{Told}
-use Rattle.wasi_world.specs.declared.call.Entry.{Entry}
-use Rattle.wasi_world.specs.Fits.{Fits}
-use Rattle.wasi_world.specs.Asks.{Asks, Give, Ask, AskWrite}
-use Rattle.wasi_world.specs.Typed.{told_addr}
-use Rattle.wasi_world.specs.Operation.{Operation, End, Item, poll_asks}
-use Rattle.wasi_world.proofs.Allowed.{Allows}
-use Rattle.wasi_tcp.specs.declared.socket.TcpState.TheVariants as state
-use Rattle.wasi_tcp.specs.Socket.{side_of, after_local}
-use Rattle.wasi_tcp.specs.Writer.{turn_asks}
-use Rattle.wasi_host.specs.declared.kind.Kind.{Kind}
-use Rattle.wasi_host.specs.declared.kind.Kind.TheVariants.{Tcp2}
-use Rattle.wasi_host.specs.declared.socket.Streams.{Streams}
-use Rattle.wasi_host.specs.declared.socket.Tcp2Socket.{Tcp2Socket}
-use Rattle.wasi_host.specs.Kinds.{make_asks}
-use Rattle.wasi_host.specs.declared.listening.Listening.TheVariants.{Not}
-use Rattle.wasi_host.specs.Listening.{give_up_asks, with_listening}
-use Rattle.wasi_host.specs.Machine.{own_of, side_at, create_asks}
-use Rattle.wasi_host.specs.Store.{with_inner, with_writer}
-use Rattle.wasi_steps.specs.declared.step.Step.{Step}
-use Rattle.wasi_steps.specs.declared.step.Step.TheVariants as step
-use Rattle.wasi_walks.specs.Licence.{entry, IsBacklogSet}
+use Rattle.wasi_walks.proofs.Words.{Allows, Ask, AskWrite, Asks, Call, End, Entry, Fits, Give, IsBacklogSet, Item, Kind, List, None, Not, OpId}
+use Rattle.wasi_walks.proofs.Words.{Operation, Option, SocketAddressFamily, Some, Step, Streams, Tcp2, Tcp2Socket, TcpState, Told, WasiSocketsCtx, []}
+use Rattle.wasi_walks.proofs.Words.{after_local, create_asks, entry, give_up_asks, make_asks, own_of, poll_asks, side_at, side_of, slice_get}
+use Rattle.wasi_walks.proofs.Words.{told_addr, turn_asks, with_inner, with_listening, with_writer, ℕ, ◌++◌, ◌∷◌, ◌≡◌}
 use Rattle.wasi_walks.proofs.walks.Moves.{Here, put, Found, NoBind, closed_record, Past, Joined, made_so, Held, IsQuestionOf, IsOn, Move, Marks, Creates, Used, Unused}
 use Rattle.wasi_walks.proofs.walks.Law.{Law}
 
@@ -42,17 +18,17 @@ pub record Above (contexts : List WasiSocketsCtx) (line : ℕ) (origin : Step) (
   pub moves : (es : List Entry) (h now : Here) → Move line origin h now → B es h → Inv es h → Inv es now
   pub asks : (es : List Entry) (h : Here) (place n : ℕ) (r : Tcp2Socket) (side : OpId) (c : Call) → h.at ≡ Some (place, n) → Found h place r → IsOn r side → IsQuestionOf side c → B es h → Inv es h
       → P es (own_of n) c × ((told : Told) → Fits c told → Inv (es ++ entry (own_of n) c told ∷ []) h)
-  pub sets : (es : List Entry) (h : Here) (place : ℕ) (r : Tcp2Socket) (side : OpId) (backlog : ℕ) → h.at ≡ Some (place, line) → Found h place r → r.inner.state ≡ state.Listening side → IsBacklogSet origin → B es h → Inv es h
-      → P es (own_of line) (call.SetBacklog side backlog) × ((told : Told) → Fits (call.SetBacklog side backlog) told → Inv (es ++ entry (own_of line) (call.SetBacklog side backlog) told ∷ []) h)
-  pub learns : (es : List Entry) (h : Here) (place : ℕ) (r : Tcp2Socket) (side : OpId) → h.at ≡ Some (place, line) → Found h place r → r.inner.state ≡ state.Default side → B es h → Inv es h
-      → P es (own_of line) (call.Local side) × ((told : Told) → Fits (call.Local side) told → Inv (es ++ entry (own_of line) (call.Local side) told ∷ []) (put h place (with_inner r (after_local r.inner (told_addr told)).1)))
+  pub sets : (es : List Entry) (h : Here) (place : ℕ) (r : Tcp2Socket) (side : OpId) (backlog : ℕ) → h.at ≡ Some (place, line) → Found h place r → r.inner.state ≡ TcpState.Listening side → IsBacklogSet origin → B es h → Inv es h
+      → P es (own_of line) (Call.SetBacklog side backlog) × ((told : Told) → Fits (Call.SetBacklog side backlog) told → Inv (es ++ entry (own_of line) (Call.SetBacklog side backlog) told ∷ []) h)
+  pub learns : (es : List Entry) (h : Here) (place : ℕ) (r : Tcp2Socket) (side : OpId) → h.at ≡ Some (place, line) → Found h place r → r.inner.state ≡ TcpState.Default side → B es h → Inv es h
+      → P es (own_of line) (Call.Local side) × ((told : Told) → Fits (Call.Local side) told → Inv (es ++ entry (own_of line) (Call.Local side) told ∷ []) (put h place (with_inner r (after_local r.inner (told_addr told)).1)))
   pub closes : (es : List Entry) (h : Here) (place : ℕ) (r : Tcp2Socket) (side : OpId) → NoBind h → Found h place r → side_of r.inner ≡ Some side → B es h → Inv es h
-      → P es (own_of line) (call.Close side) × ((told : Told) → Fits (call.Close side) told → Inv (es ++ entry (own_of line) (call.Close side) told ∷ []) (put h place (closed_record r)))
+      → P es (own_of line) (Call.Close side) × ((told : Told) → Fits (Call.Close side) told → Inv (es ++ entry (own_of line) (Call.Close side) told ∷ []) (put h place (closed_record r)))
   pub marks : (es : List Entry) (h : Here) (kind : Kind) (parent : Option ℕ) (sock : Option OpId) → Marks origin h kind parent sock → B es h → Inv es h
       → Allows P (λ fs made. Inv fs (record h { machine = record h.machine { table = made.1 } })) es (make_asks h.machine.table (own_of line) kind parent sock)
   pub creates : (es : List Entry) (h : Here) (ctx : WasiSocketsCtx) (family : SocketAddressFamily) → Creates contexts ctx family origin → h.at ≡ None → h.own ≡ Unused → h.made ≡ Past → B es h → Inv es h
       → Allows P (λ fs done. Inv fs (record h { machine = done.1; own = Used })) es (create_asks h.machine (own_of line) ctx family)
-  pub accepted : (es : List Entry) (h : Here) (c listener place : ℕ) (r : Tcp2Socket) → origin ≡ step.TcpAccept c listener → h.made ≡ Joined place → h.own ≡ Used → Found h place r → B es h → Inv es h
+  pub accepted : (es : List Entry) (h : Here) (c listener place : ℕ) (r : Tcp2Socket) → origin ≡ Step.TcpAccept c listener → h.made ≡ Joined place → h.own ≡ Used → Found h place r → B es h → Inv es h
       → Allows P (λ fs made. Inv fs (record h { machine = record h.machine { table = made.1 }; made = made_so place made.0 })) es (make_asks h.machine.table (own_of line) (Tcp2 place) (Some listener) (side_at (slice_get h.machine.store.sockets place)))
   pub polls : (es : List Entry) (h : Here) (op : Operation) (after : End × List Item → Here) → Held h op after → B es h → Inv es h → Allows P (λ fs ended. Inv fs (after ended)) es (poll_asks op)
   pub turns : (es : List Entry) (h : Here) (place : ℕ) (r : Tcp2Socket) (s : Streams) → Found h place r → r.streams ≡ Some s → B es h → Inv es h → Allows P (λ fs done. Inv fs (put h place (with_writer r s done.1))) es (turn_asks s.writer)

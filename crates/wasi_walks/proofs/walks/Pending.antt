@@ -1,22 +1,11 @@
 -- A call that stands goes on, as moves.
-use Rattle.std.proofs.Common.{◌≡◌, ℕ, List, Option, Some, None, Result, Ok, Err, refl, slice_get}
-use Rattle.wasi_addr.specs.declared.code.ErrorCode.{ErrorCode}
-use Rattle.wasi_world.specs.declared.outcome.Answer.TheVariants.{Ready, Pending}
-use Rattle.wasi_world.specs.declared.outcome.WasiSocketsCtx.{WasiSocketsCtx}
-use Rattle.wasi_world.specs.declared.outcome.Answer.{Answer}
-use Rattle.wasi_world.specs.Asks.{Give}
-use Rattle.wasi_world.specs.Operation.{Operation}
+use Rattle.wasi_walks.proofs.Words.{Answer, Err, ErrorCode, Give, List, Machine, None, Ok, Operation, Option, Pending, Records, Result, Some, Step}
+use Rattle.wasi_walks.proofs.Words.{Stop, Tcp2Socket, WasiSocketsCtx, listen_answered, poll_on, rebind_at, refl, relisten_at, resume_bind_in}
+use Rattle.wasi_walks.proofs.Words.{resume_in, resume_listen_in, slice_get, some_answer, unstood, waiting_bind, waiting_drop, waiting_listen}
+use Rattle.wasi_walks.proofs.Words.{with_store, ℕ, ◌≡◌}
 use Rattle.wasi_host.specs.declared.pending.Outcome.{Outcome}
-use Rattle.wasi_host.specs.Listening.{listen_answered}
-use Rattle.wasi_host.specs.declared.machine.Machine.{Machine}
-use Rattle.wasi_host.specs.declared.socket.Tcp2Socket.{Tcp2Socket}
-use Rattle.wasi_host.specs.Host.{Stop}
-use Rattle.wasi_host.specs.Machine.{with_store}
-use Rattle.wasi_host.specs.Pending.{some_answer, waiting_bind, unstood, rebind_at, resume_bind_in, relisten_at, resume_listen_in, waiting_listen, waiting_drop, resume_in}
-use Rattle.wasi_host.specs.Store.{Records}
 use Rattle.wasi_p2.specs.Pending.{resumed, resume_listen}
-use Rattle.wasi_machine.specs.Machine.{poll_on, poll_asks}
-use Rattle.wasi_steps.specs.declared.step.Step.{Step}
+use Rattle.wasi_machine.specs.Machine.{poll_asks}
 use Rattle.wasi_walks.proofs.walks.Moves.{Used, Unused, put, Leaves, Spends, Resumes, Ends, Past, Unstands, StandsListen, ResumesDrop}
 use Rattle.wasi_walks.proofs.walks.Law.{Law, HasRecord, found, put_same, Walks, give, and_then, move, gives, from}
 use Rattle.wasi_walks.proofs.walks.Sockets.{poll_bind_walks}
@@ -46,9 +35,8 @@ module _ {contexts : List WasiSocketsCtx} {line : ℕ} {origin : Step} {law : La
 
   -- == a pending call goes on
   answers_listen : (m : Machine) (n place : ℕ) → HasRecord (Over m) place → (begun : Result (Answer (Unit {0})) ErrorCode × Tcp2Socket) → Walks law (put (Over m) place begun.1) (λ done. Over (record m { store = done.1 })) (Give (listen_answered m.store n place begun))
-  answers_listen m n place here (Ok (Ready d), r) = give _
   answers_listen m n place here (Ok Pending, r) = gives _ (StandsListen _ n place r (found here r))
-  answers_listen m n place here (Err c, r) = give _
+  answers_listen m n place here _ = give _
 
   relisten_walks : (m : Machine) (n place : ℕ) (o : Option Tcp2Socket) → slice_get m.store.sockets place ≡ o → Walks law (Over (record m { store = unstood m.store })) (λ done. Over (record m { store = done.1 })) (relisten_at m.store n place o)
   relisten_walks m n place None g = give _
@@ -65,14 +53,13 @@ module _ {contexts : List WasiSocketsCtx} {line : ℕ} {origin : Step} {law : La
   resume_listen_walks m n (Some place) = move (Unstands _) (and_then (relisten_walks m n place (slice_get m.store.sockets place) refl) (some_walks m))
 
   then_listen : (n : ℕ) (done : Result (Option (Answer (Unit {0}))) Stop × Machine) → Walks law (Over done.1) OverWith (resume_listen n done)
-  then_listen n (Ok (Some answer), m) = give _
   then_listen n (Ok None, m) = and_then (resume_listen_walks m n (waiting_listen m.store.standing n)) (λ done. resumed_walks m done)
     where
       resumed_walks : (m : Machine) (done : Result (Option (Answer (Unit {0}))) Stop × Records) → Walks law (Over (record m { store = done.1 })) OverWith (Give (resumed (with_store m done)))
       resumed_walks m (Ok (Some a), store) = give _
       resumed_walks m (Ok None, store) = give _
       resumed_walks m (Err why, store) = give _
-  then_listen n (Err why, m) = give _
+  then_listen n _ = give _
 
   resume_drop_walks : (n : ℕ) (m : Machine) (o : Option ℕ) → waiting_drop m.store.standing n ≡ o → Walks law (Over m) OverWith (resume_in m n o)
   resume_drop_walks n m None e = give _
@@ -80,8 +67,7 @@ module _ {contexts : List WasiSocketsCtx} {line : ℕ} {origin : Step} {law : La
 
   then_drop : (n : ℕ) (done : Result (Option (Answer Outcome)) Stop × Machine) → Walks law (Over done.1) OverWith (poll_on n done)
   then_drop n (Ok None, m) = and_then (resume_drop_walks n m (waiting_drop m.store.standing n) refl) (λ done. give _)
-  then_drop n (Ok (Some answer), m) = give _
-  then_drop n (Err why, m) = give _
+  then_drop n _ = give _
 
   pub poll_walks : (m : Machine) (n : ℕ) → Walks law (Starts m Unused) OverWith (poll_asks m n)
   poll_walks m n = and_then (and_then (resume_walks m n (waiting_bind m.store.standing n) refl) (λ done. then_listen n (with_store m done))) (then_drop n)

@@ -1,17 +1,6 @@
 -- What each line keeps holds along a run, and so does what each of its asks must be.
-use Rattle.std.proofs.Common.{◌≡◌, ℕ, ◌+◌, List, [], ◌∷◌, ◌++◌, subst}
-use Rattle.wasi_world.specs.declared.ids.OpId.{OpId}
-use Rattle.wasi_world.specs.declared.call.Call.{Call}
-use Rattle.wasi_world.specs.declared.call.Entry.{Entry}
-use Rattle.wasi_world.specs.declared.outcome.WasiSocketsCtx.{WasiSocketsCtx}
-use Rattle.wasi_world.specs.Asks.{Asks, Give, Left}
-use Rattle.wasi_world.proofs.Allowed.{Allows, allows_then, allows_if, allows_at, reached}
-use Rattle.wasi_host.specs.declared.machine.Machine.{Machine}
-use Rattle.wasi_host.specs.Machine.{first_state}
-use Rattle.wasi_steps.specs.declared.reply.Reply.{Reply}
-use Rattle.wasi_steps.specs.declared.step.Step.{Step}
-use Rattle.wasi_machine.specs.Machine.{machine_asks, run}
-use Rattle.wasi_steps.specs.Reply.{is_trap}
+use Rattle.wasi_walks.proofs.Words.{Allows, Asks, Call, Entry, Give, Left, List, Machine, OpId, Reply, Step, WasiSocketsCtx, [], allows_at, allows_if}
+use Rattle.wasi_walks.proofs.Words.{allows_then, first_state, is_trap, machine_asks, reached, run, subst, ℕ, ◌++◌, ◌+◌, ◌∷◌, ◌≡◌}
 
 -- P is what each ask must be, and Between what holds between the lines: before the line of this number.
 module _ (contexts : List WasiSocketsCtx) (P : List Entry → OpId → Call → Type 0) (Between : ℕ → List Entry → Machine → Type 0)

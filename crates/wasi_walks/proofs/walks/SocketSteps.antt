@@ -1,32 +1,15 @@
 -- The steps on sockets, as moves: the handle is looked up, its record does the call, and is put back.
-use Rattle.std.proofs.Common.{◌≡◌, ℕ, inl, inr, Bool, true, false, List, Option, Some, None, Result, Ok, Err, refl, sym, slice_get, ◌⊎◌}
-use Rattle.wasi_addr.specs.declared.address.IpSocketAddress.{IpSocketAddress}
-use Rattle.wasi_addr.specs.declared.address.ShutdownType.{ShutdownType}
-use Rattle.wasi_addr.specs.declared.code.ErrorCode.{ErrorCode}
-use Rattle.wasi_world.specs.declared.outcome.WasiSocketsCtx.{WasiSocketsCtx}
-use Rattle.wasi_world.specs.Asks.{Asks, Give, bind}
-use Rattle.wasi_world.specs.Operation.{Operation}
-use Rattle.wasi_tcp.specs.Options.{set_option_asks}
-use Rattle.wasi_tcp.specs.Shape.{Socket}
-use Rattle.wasi_host.specs.declared.kind.Kind.{Kind}
-use Rattle.wasi_host.specs.declared.kind.Kind.TheVariants.{Input, Output}
-use Rattle.wasi_host.specs.declared.machine.Machine.{Machine}
-use Rattle.wasi_host.specs.declared.socket.InProgress.{InProgress}
-use Rattle.wasi_host.specs.declared.socket.Streams.{Streams}
-use Rattle.wasi_host.specs.declared.socket.Tcp2Socket.{Tcp2Socket}
-use Rattle.wasi_host.specs.Host.{Stop}
-use Rattle.wasi_host.specs.Kinds.{Handles, make_asks, kind_at, is_network}
-use Rattle.wasi_host.specs.Machine.{own_of, with_store, with_table, side_at, socket_at}
+use Rattle.wasi_walks.proofs.Words.{AnOption, Asks, Bool, Chosen, Err, ErrorCode, Give, Handles, Has, InProgress, Input, IpSocketAddress}
+use Rattle.wasi_walks.proofs.Words.{IsBacklogSet, IsBindTo, IsConnectTo, Kind, List, Machine, None, Ok, Operation, Option, Output, Records, Result}
+use Rattle.wasi_walks.proofs.Words.{ShutdownType, Socket, Some, Step, Stop, Streams, Tcp2Socket, TheBacklog, WasiSocketsCtx, bind, bind_answered}
+use Rattle.wasi_walks.proofs.Words.{connected_asks, false, finish_at, finish_by, finish_connect_at, finish_connect_by, finish_connect_on, finish_on}
+use Rattle.wasi_walks.proofs.Words.{handles_of, inl, inner_answered, inr, is_connect, is_network, is_nothing, kind_at, local_address_at, make_asks}
+use Rattle.wasi_walks.proofs.Words.{output_asks, own_of, put_back, refl, remote_address_at, set_chosen, set_option_asks, shut_record, shutdown_at}
+use Rattle.wasi_walks.proofs.Words.{side_at, slice_get, socket_at, start_bind_asks, start_bind_at, start_bind_by, start_bind_on, start_connect_asks}
+use Rattle.wasi_walks.proofs.Words.{start_connect_at, start_connect_by, start_connect_on, streams_asks, sym, tell_local_asks, tell_remote_asks, true}
+use Rattle.wasi_walks.proofs.Words.{with_output, with_store, with_table, ℕ, ◌≡◌, ◌⊎◌}
 use Rattle.wasi_host.specs.Options.{looked_at, set_backlog_at}
-use Rattle.wasi_host.specs.Store.{Records, is_nothing, bind_answered, start_bind_by, start_bind_at, put_back, start_connect_by, start_connect_at, finish_by, finish_at, tell_local_asks, tell_remote_asks, local_address_at, remote_address_at, is_connect, finish_connect_by, finish_connect_at, inner_answered}
-use Rattle.wasi_host.specs.Shutdowns.{shut_record, shutdown_at}
 use Rattle.wasi_p2.specs.Options.{record_asks}
-use Rattle.wasi_p2.specs.Tcp.{start_bind_on, start_bind_asks, start_connect_on, start_connect_asks, with_output, output_asks, streams_asks, connected_asks, finish_connect_on, finish_on}
-use Rattle.wasi_machine.specs.Machine.{set_chosen}
-use Rattle.wasi_steps.specs.Settings.{Chosen, AnOption, TheBacklog}
-use Rattle.wasi_steps.specs.declared.step.Step.{Step}
-use Rattle.wasi_steps.specs.declared.step.Step.TheVariants as step
-use Rattle.wasi_walks.specs.Licence.{Has, handles_of, IsBindTo, IsConnectTo, IsBacklogSet}
 use Rattle.wasi_walks.proofs.walks.Moves.{NoBindStands, Used, Unused, Here, put, Found, record_of, AStream, Reaches, Leaves, Spends, Changes, Stands, Made, Past, Marks}
 use Rattle.wasi_walks.proofs.walks.Law.{Law, HasRecord, found, put_same, Walks, Given, give, and_then, and_given, by_if, move, gives, from, mark}
 use Rattle.wasi_walks.proofs.walks.Sockets.{Begun, set_walks, begin_bind_walks, begin_connect_walks, poll_connect_walks, local_walks, remote_walks, backlog_walks}
@@ -52,8 +35,7 @@ module _ {contexts : List WasiSocketsCtx} {line : ℕ} {origin : Step} {law : La
   pub answered_walks : (m : Machine) (at : Option (ℕ × ℕ)) (n place : ℕ) (begun : Result (Option Operation) ErrorCode × Tcp2Socket) → let h : Here = record { machine = m; at = at; hand = None; made = Past; own = Used } in
       HasRecord h place → Walks law (Begun h place begun) (λ done. record h { machine = record m { store = done.1 } }) (Give (bind_answered m.store n place begun))
   answered_walks m at n place (Ok (Some op), r) here = gives _ (Stands _ n place r op (found here r) refl)
-  answered_walks m at n place (Ok None, r) here = give _
-  answered_walks m at n place (Err c, r) here = give _
+  answered_walks m at n place _ here = give _
 
   -- == a bind
   start_by_walks : (m : Machine) (place : ℕ) (a : IpSocketAddress) (r : Tcp2Socket) (idle : Bool) → Found (At line m place Unused) place r → IsBindTo a origin → Walks law (At line m place Unused) (Put line m place) (start_bind_by m.store (own_of line) place a r idle)
@@ -115,13 +97,13 @@ module _ {contexts : List WasiSocketsCtx} {line : ℕ} {origin : Step} {law : La
     pub streams_walks : G m.table → Walks law (Between at made m) OverWith (streams_asks m (own_of line) s place (side_at (slice_get m.store.sockets place)))
     streams_walks g = and_given (λ done. G done.1) (more m.table (Input place) g) (mark (marks m.table (Input place) (inl refl) g)) output_walks
 
-  connected_walks : (c s place : ℕ) (m : Machine) (done : Result (Unit {0}) Stop × Records) → origin ≡ step.TcpFinishConnect c s → record_of (kind_at m.table s) ≡ Some place → Walks law (Put line m place done) OverWith (connected_asks (own_of line) s place (with_store m done))
+  connected_walks : (c s place : ℕ) (m : Machine) (done : Result (Unit {0}) Stop × Records) → origin ≡ Step.TcpFinishConnect c s → record_of (kind_at m.table s) ≡ Some place → Walks law (Put line m place done) OverWith (connected_asks (own_of line) s place (with_store m done))
   connected_walks c s place m (Ok d, store) is k =
       let now : Machine = record m { store = store } in
       streams_walks (Some (place, line)) Past s place now (λ t. record_of (kind_at t s) ≡ Some place) (λ t kind g. make_given t (own_of line) kind (Some s) (side_at (slice_get store.sockets place)) s place g) (λ t kind which g. AStream c s place kind is which g) k
   connected_walks c s place m (Err why, store) is k = gives _ (Leaves _)
 
-  pub finish_on_walks : (c s : ℕ) (m : Machine) (o : Option ℕ) → socket_at m s ≡ o → Has (handles_of origin) s → origin ≡ step.TcpFinishConnect c s → NoBindStands m.store.standing → Walks law (Starts m Unused) OverWith (finish_connect_on m (own_of line) s o)
+  pub finish_on_walks : (c s : ℕ) (m : Machine) (o : Option ℕ) → socket_at m s ≡ o → Has (handles_of origin) s → origin ≡ Step.TcpFinishConnect c s → NoBindStands m.store.standing → Walks law (Starts m Unused) OverWith (finish_connect_on m (own_of line) s o)
   finish_on_walks c s m None e named is q = gives _ (Spends _ refl)
   finish_on_walks c s m (Some place) e named is q =
       let k = socket_record (kind_at m.table s) place e in

@@ -1,37 +1,19 @@
 -- The calls on a socket, as moves of the record that holds it.
-use Rattle.std.specs.Prelude.{⊤, ◌==◌, ◌&&◌}
-use Rattle.std.proofs.Common.{◌≡◌, inl, inr, ℕ, Bool, true, false, if◌then◌else◌, List, Option, Some, None, Result, Ok, Err, refl, sym, ap, ◌∙◌}
+use Rattle.wasi_walks.proofs.Words.{Answer, Bool, Connection, Done, End, Err, ErrorCode, Give, InProgress, InvalidArgument, InvalidState}
+use Rattle.wasi_walks.proofs.Words.{IpSocketAddress, IsBacklogSet, IsBindTo, IsConnectTo, Item, List, None, Ok, OpId, Operation, Option, Pending}
+use Rattle.wasi_walks.proofs.Words.{Ready, Refused, Result, Socket, Some, Step, Tcp2Socket, TcpState, Waits, WasiSocketsCtx, after_backlog}
+use Rattle.wasi_walks.proofs.Words.{after_local, ap, ask_bound, ask_set_option, begin_bind_asks, begin_connect_asks, bind, bind_allowed, bind_asks}
+use Rattle.wasi_walks.proofs.Words.{bind_begun, bind_ended, bind_operation, bound_asks, connect_begun, connect_first, connect_operation}
+use Rattle.wasi_walks.proofs.Words.{connect_polled, connect_start, false, finish_connect_asks, finish_in, get_option_asks, get_where, idle}
+use Rattle.wasi_walks.proofs.Words.{if◌then◌else◌, in_socket, inl, inr, ip_of, is_connectable, is_of_family, is_unicast, is_wildcard, left_of}
+use Rattle.wasi_walks.proofs.Words.{opened_receive, opened_send, own_of, poll_bind_asks, poll_connect_asks, refl, refused_after, refused_before}
+use Rattle.wasi_walks.proofs.Words.{set_backlog_asks, set_backlog_in, set_option_asks, set_where, side_in, side_of, start_connect_in, sym}
+use Rattle.wasi_walks.proofs.Words.{take_receive, taken_receive, taken_send, tell_local_asks, tell_remote_asks, told_addr, told_done, true, value_set}
+use Rattle.wasi_walks.proofs.Words.{wildcard, with_backlog, with_inner, with_state, zero_test, ℕ, ⊤, ◌&&◌, ◌==◌, ◌∙◌, ◌≡◌}
 use Rattle.wasi_addr.specs.Clamp.{clamped_backlog}
-use Rattle.wasi_addr.specs.declared.address.IpSocketAddress.{IpSocketAddress}
-use Rattle.wasi_addr.specs.declared.code.ErrorCode.{ErrorCode}
-use Rattle.wasi_addr.specs.declared.code.ErrorCode.TheVariants.{InvalidState, InvalidArgument}
-use Rattle.wasi_addr.specs.Address.{wildcard, is_wildcard, ip_of, is_unicast, is_of_family}
-use Rattle.wasi_world.specs.declared.outcome.WasiSocketsCtx.{WasiSocketsCtx}
-use Rattle.wasi_world.specs.declared.ids.OpId.{OpId}
 use Rattle.wasi_world.specs.declared.call.Opt.{Opt}
-use Rattle.wasi_world.specs.declared.outcome.Answer.{Answer}
-use Rattle.wasi_world.specs.declared.outcome.Answer.TheVariants.{Ready, Pending}
-use Rattle.wasi_world.specs.Asks.{Give, bind}
-use Rattle.wasi_world.specs.Typed.{told_addr, ask_set_option, told_done}
-use Rattle.wasi_world.specs.Operation.{Operation, Item, End, Waits, Done, Refused}
 use Rattle.wasi_tcp.specs.declared.bind.BindStage.TheVariants.{Check}
-use Rattle.wasi_tcp.specs.declared.socket.Connection.{Connection}
-use Rattle.wasi_tcp.specs.declared.socket.TcpState.{TcpState}
-use Rattle.wasi_tcp.specs.declared.socket.TcpState.TheVariants as state
 use Rattle.wasi_tcp.specs.Addresses.{usable_side, local_side, local_from, after_peer, peer_known, remote_in, still_connected}
-use Rattle.wasi_tcp.specs.Bind.{bind_operation}
-use Rattle.wasi_tcp.specs.Connect.{connect_first, connect_operation}
-use Rattle.wasi_tcp.specs.Connecting.{with_state, is_connectable, connect_start, start_connect_in, finish_in, finish_connect_asks, in_socket}
-use Rattle.wasi_tcp.specs.Halves.{taken_receive, taken_send, take_receive}
-use Rattle.wasi_tcp.specs.Options.{get_where, get_option_asks, zero_test, refused_before, refused_after, value_set, set_where, set_option_asks, with_backlog, after_backlog, set_backlog_in, set_backlog_asks}
-use Rattle.wasi_tcp.specs.Shape.{Socket}
-use Rattle.wasi_tcp.specs.Socket.{side_in, side_of, after_local, ask_bound, bound_asks, bind_allowed, bind_asks}
-use Rattle.wasi_host.specs.declared.socket.InProgress.TheVariants as doing
-use Rattle.wasi_host.specs.declared.socket.Tcp2Socket.{Tcp2Socket}
-use Rattle.wasi_host.specs.Machine.{own_of}
-use Rattle.wasi_host.specs.Store.{with_inner, left_of, bind_ended, poll_bind_asks, bind_begun, begin_bind_asks, connect_begun, begin_connect_asks, idle, tell_local_asks, tell_remote_asks, opened_send, opened_receive, connect_polled, poll_connect_asks}
-use Rattle.wasi_steps.specs.declared.step.Step.{Step}
-use Rattle.wasi_walks.specs.Licence.{IsBindTo, IsConnectTo, IsBacklogSet}
 use Rattle.wasi_walks.proofs.walks.Moves.{IsConnecting, NoBind, Used, Unused, Here, put, opened_by, Reconnects, Opens, BeginsConnect, OfSocket, Plain, Move, Spends, Changes, BeginsBind, Ends}
 use Rattle.wasi_walks.proofs.walks.Law.{Law, HasRecord, spent, put_put, Given, given_then, Walks, give, and_then, and_given, connect, by_if, move, gives, from, poll, found, on, ask, learn, set}
 
@@ -53,17 +35,15 @@ Begun h place (Ok None, r) = record (put h place r) { hand = None; own = Used }
 Begun h place (Err c, r) = record (put h place r) { hand = None; own = Used }
 
 usable : (s : TcpState) (side : OpId) → usable_side s ≡ Ok side → side_in s ≡ Some side
-usable (state.Default c) side e = cc
-usable (state.Listening c) side e = cc
-usable (state.Connecting c) side e = absurd (cc)
-usable (state.Connected c) side e = cc
-usable (state.Closed c) side e = absurd (cc)
+usable (TcpState.Connecting c) side e = absurd (cc)
+usable (TcpState.Closed c) side e = absurd (cc)
+usable _ side e = cc
 
 usable_if : (s : TcpState) (bound : Bool) (side : OpId) → (if bound then usable_side s else Err InvalidState) ≡ Ok side → side_in s ≡ Some side
 usable_if s true side e = usable s side e
 usable_if s false side e = absurd (cc)
 
-same_socket : (r : Tcp2Socket) → Plain r (record r { in_progress = doing.Bind })
+same_socket : (r : Tcp2Socket) → Plain r (record r { in_progress = InProgress.Bind })
 same_socket r = record { side = refl; streams = refl; listening = refl; does = refl; maker = refl; family = refl; bound = λ side d b. b; connects = λ e. absurd (cc) }
 
 -- the line's own operation began something, or never will
@@ -87,17 +67,17 @@ unfolding bind
 bound_given op socket = by_test socket.bound refl
   where
     by_state : (s : TcpState) → Given (KnowsBound socket) (ask_bound op socket s)
-    by_state (state.Default side) = λ told. bound_told socket (told_addr told)
-    by_state (state.Listening c) = (λ e. refl, refl)
-    by_state (state.Connecting c) = (λ e. refl, refl)
-    by_state (state.Connected c) = (λ e. refl, refl)
-    by_state (state.Closed c) = (λ e. refl, refl)
+    by_state (TcpState.Default side) = λ told. bound_told socket (told_addr told)
+    by_state (TcpState.Listening c) = (λ e. refl, refl)
+    by_state (TcpState.Connecting c) = (λ e. refl, refl)
+    by_state (TcpState.Connected c) = (λ e. refl, refl)
+    by_state (TcpState.Closed c) = (λ e. refl, refl)
 
     by_test : (b : Bool) → socket.bound ≡ b → Given (KnowsBound socket) (if b then Give (true, socket) else ask_bound op socket socket.state)
     by_test true e = (λ t. e, refl)
     by_test false e = by_state socket.state
 
-idle_record : (r : Tcp2Socket) → Plain r (record r { in_progress = doing.Nothing })
+idle_record : (r : Tcp2Socket) → Plain r (record r { in_progress = InProgress.Nothing })
 idle_record r = record { side = refl; streams = refl; listening = refl; does = refl; maker = refl; family = refl; bound = λ side d b. b; connects = λ e. absurd (cc) }
 
 -- a connect that begins leaves the socket connecting
@@ -107,15 +87,12 @@ BeginsSo (Err c, socket) = ⊤
 
 begun_given : (op : OpId) (socket : Socket) (a : IpSocketAddress) (s : TcpState) → Given BeginsSo (start_connect_in op socket a s)
 unfolding bind
-begun_given op socket a (state.Default side) = given_then BeginsSo (λ b. connect_start op side b.1 a b.0) (λ b. by_test b (is_connectable b.1 a)) (bound_asks op socket)
+begun_given op socket a (TcpState.Default side) = given_then BeginsSo (λ b. connect_start op side b.1 a b.0) (λ b. by_test b (is_connectable b.1 a)) (bound_asks op socket)
   where
-    by_test : (b : Bool × Socket) (able : Bool) → BeginsSo (if able then (Ok tt, with_state b.1 (state.Connecting (connect_operation (record { op = op; side = side; maker = b.1.maker }) (wildcard b.1.family) a (connect_first b.0)))) else (Err InvalidArgument, b.1))
+    by_test : (b : Bool × Socket) (able : Bool) → BeginsSo (if able then (Ok tt, with_state b.1 (TcpState.Connecting (connect_operation (record { op = op; side = side; maker = b.1.maker }) (wildcard b.1.family) a (connect_first b.0)))) else (Err InvalidArgument, b.1))
     by_test b true = tt
     by_test b false = tt
-begun_given op socket a (state.Listening side) = tt
-begun_given op socket a (state.Connecting other) = tt
-begun_given op socket a (state.Connected c) = tt
-begun_given op socket a (state.Closed c) = tt
+begun_given op socket a _ = tt
 
 -- the record, with its socket in this state
 abbrev pub In : Here → ℕ → Tcp2Socket → Socket → TcpState → Here
@@ -124,11 +101,8 @@ In h place r socket s = put h place (with_inner r (with_state socket s))
 -- a poll of a connect asks by the line that began it
 module _ {contexts : List WasiSocketsCtx} {line : ℕ} {origin : Step} {law : Law contexts line origin} {h : Here} {place : ℕ} (here : HasRecord h place) (quiet : NoBind h) where
   finish_in_walks : (r : Tcp2Socket) (s : TcpState) → Walks law (In h place r r.inner s) (λ done. In h place r r.inner done.1) (finish_in s)
-  finish_in_walks r (state.Connecting op) = and_then (connect here (with_inner r (with_state r.inner (state.Connecting op))) op quiet refl) (λ ended. give _)
-  finish_in_walks r (state.Default side) = give _
-  finish_in_walks r (state.Listening side) = give _
-  finish_in_walks r (state.Connected c) = give _
-  finish_in_walks r (state.Closed c) = give _
+  finish_in_walks r (TcpState.Connecting op) = and_then (connect here (with_inner r (with_state r.inner (TcpState.Connecting op))) op quiet refl) (λ ended. give _)
+  finish_in_walks r _ = give _
 
   pub finish_walks : (r : Tcp2Socket) → Walks law (put h place r) (λ done. put h place (with_inner r done.1)) (finish_connect_asks r.inner)
   finish_walks r = and_then (finish_in_walks r r.inner.state) (λ done. give _)
@@ -138,26 +112,23 @@ module _ {contexts : List WasiSocketsCtx} {line : ℕ} {origin : Step} {law : La
   idles r socket answer = on here (with_inner r socket) _ (Changes _ _ _ _ (found here (with_inner r socket)) (idle_record (with_inner r socket))) (give _)
 
   sends : (r : Tcp2Socket) (socket : Socket) (c : Connection) (taken : Bool) → c.send_taken ≡ taken
-      → Walks law (In h place r socket (state.Connected c)) (λ done. put h place done.1) (Give (opened_send r (record { side = c.side }) (in_socket socket (still_connected (taken_send c taken)))))
-  sends r socket c true e = idles r (with_state socket (state.Connected c)) _
-  sends r socket c false e = let now = with_inner r (with_state socket (state.Connected c)) in on here now (opened_by now c) (Opens _ _ _ c (found here now) refl e) (give _)
+      → Walks law (In h place r socket (TcpState.Connected c)) (λ done. put h place done.1) (Give (opened_send r (record { side = c.side }) (in_socket socket (still_connected (taken_send c taken)))))
+  sends r socket c true e = idles r (with_state socket (TcpState.Connected c)) _
+  sends r socket c false e = let now = with_inner r (with_state socket (TcpState.Connected c)) in on here now (opened_by now c) (Opens _ _ _ c (found here now) refl e) (give _)
 
-  receives : (r : Tcp2Socket) (socket : Socket) (c : Connection) (taken : Bool) → Walks law (In h place r socket (state.Connected c)) (λ done. put h place done.1) (Give (opened_receive r (in_socket socket (still_connected (taken_receive c taken)))))
-  receives r socket c true = idles r (with_state socket (state.Connected c)) _
+  receives : (r : Tcp2Socket) (socket : Socket) (c : Connection) (taken : Bool) → Walks law (In h place r socket (TcpState.Connected c)) (λ done. put h place done.1) (Give (opened_receive r (in_socket socket (still_connected (taken_receive c taken)))))
+  receives r socket c true = idles r (with_state socket (TcpState.Connected c)) _
   receives r socket c false =
-      let now = with_inner r (with_state socket (state.Connected c)) in
+      let now = with_inner r (with_state socket (TcpState.Connected c)) in
       let next : Connection = record c { receive_taken = true } in
-      let idled : Tcp2Socket = record r { in_progress = doing.Nothing } in
-      let waits = with_inner idled (with_state socket (state.Connected c)) in
+      let idled : Tcp2Socket = record r { in_progress = InProgress.Nothing } in
+      let waits = with_inner idled (with_state socket (TcpState.Connected c)) in
       on here now waits (Changes _ _ _ _ (found here now) (idle_record now))
-      (on here waits (with_inner idled (with_state socket (state.Connected next))) (Reconnects _ _ _ c next (found here waits) refl refl (λ t. t) (λ e. absurd (cc))) (sends idled (with_state socket (state.Connected next)) next next.send_taken refl))
+      (on here waits (with_inner idled (with_state socket (TcpState.Connected next))) (Reconnects _ _ _ c next (found here waits) refl refl (λ t. t) (λ e. absurd (cc))) (sends idled (with_state socket (TcpState.Connected next)) next next.send_taken refl))
 
   opens : (r : Tcp2Socket) (socket : Socket) (s : TcpState) → Walks law (In h place r socket s) (λ done. put h place done.1) (Give (opened_receive r (in_socket socket (take_receive s))))
-  opens r socket (state.Connected c) = receives r socket c c.receive_taken
-  opens r socket (state.Default side) = idles r (with_state socket (state.Default side)) _
-  opens r socket (state.Listening side) = idles r (with_state socket (state.Listening side)) _
-  opens r socket (state.Connecting op) = idles r (with_state socket (state.Connecting op)) _
-  opens r socket (state.Closed c) = idles r (with_state socket (state.Closed c)) _
+  opens r socket (TcpState.Connected c) = receives r socket c c.receive_taken
+  opens r socket s = idles r (with_state socket s) _
 
   pub poll_connect_walks : (r : Tcp2Socket) → Walks law (put h place r) (λ done. put h place done.1) (poll_connect_asks r)
   poll_connect_walks r = and_then (finish_walks r) polled
@@ -169,13 +140,13 @@ module _ {contexts : List WasiSocketsCtx} {line : ℕ} {origin : Step} {law : La
 
 -- the tests of a bind
 module _ {line : ℕ} {origin : Step} {h : Here} {place : ℕ} (here : HasRecord h place) (at : h.at ≡ Some (place, line)) (a : IpSocketAddress) (to : IsBindTo a origin) (free : h.own ≡ Unused) where
-  allowed_if : (r : Tcp2Socket) (side : OpId) (b : Bool) → r.inner.state ≡ state.Default side
+  allowed_if : (r : Tcp2Socket) (side : OpId) (b : Bool) → r.inner.state ≡ TcpState.Default side
       → Move line origin (put h place r) (Handed (put h place r) (if b then Ok (bind_operation (record { op = own_of line; side = side; maker = r.inner.maker }) a Check) else Err InvalidArgument))
   allowed_if r side true e = BeginsBind (put h place r) place r side a at (found here r) e to free
   allowed_if r side false e = Spends (put h place r) free
 
   allowed : (r : Tcp2Socket) (s : TcpState) → r.inner.state ≡ s → Move line origin (put h place r) (Handed (put h place r) (bind_allowed (own_of line) r.inner a s))
-  allowed r (state.Default side) e = allowed_if r side (is_unicast (ip_of a) && is_of_family (ip_of a) r.inner.family) e
+  allowed r (TcpState.Default side) e = allowed_if r side (is_unicast (ip_of a) && is_of_family (ip_of a) r.inner.family) e
   allowed r _ e = Spends (put h place r) free
 
   started : (r : Tcp2Socket) (bound : Bool) → Move line origin (put h place r) (Handed (put h place r) (if bound then Err InvalidState else bind_allowed (own_of line) r.inner a r.inner.state))
@@ -223,37 +194,31 @@ module _ {contexts : List WasiSocketsCtx} {line : ℕ} {origin : Step} {law : La
   told_walks r (Ok side) k = ask here r at (OfSocket (k side refl)) refl (λ told fits. give _)
   told_walks r (Err c) k = give _
 
-  peer_walks : (r : Tcp2Socket) (c : Connection) (o : Option IpSocketAddress) → Walks law (In h place r r.inner (state.Connected c)) (λ done. In h place r r.inner (state.Connected done.1)) (peer_known (own_of n) c o)
+  peer_walks : (r : Tcp2Socket) (c : Connection) (o : Option IpSocketAddress) → Walks law (In h place r r.inner (TcpState.Connected c)) (λ done. In h place r r.inner (TcpState.Connected done.1)) (peer_known (own_of n) c o)
   unfolding bind
   peer_walks r c (Some a) = give _
-  peer_walks r c None = ask here (with_inner r (with_state r.inner (state.Connected c))) at (OfSocket refl) refl (λ told fits. known (told_addr told))
+  peer_walks r c None = ask here (with_inner r (with_state r.inner (TcpState.Connected c))) at (OfSocket refl) refl (λ told fits. known (told_addr told))
     where
-      known : (told : Result IpSocketAddress ErrorCode) → Walks law (In h place r r.inner (state.Connected c)) (λ done. In h place r r.inner (state.Connected done.1)) (Give (after_peer c told))
-      known (Ok a) = let old = with_inner r (with_state r.inner (state.Connected c)) in on here old _ (Reconnects _ _ _ c (record c { peer = Some a }) (found here old) refl refl (λ t. t) (λ e. (refl, refl))) (give _)
+      known : (told : Result IpSocketAddress ErrorCode) → Walks law (In h place r r.inner (TcpState.Connected c)) (λ done. In h place r r.inner (TcpState.Connected done.1)) (Give (after_peer c told))
+      known (Ok a) = let old = with_inner r (with_state r.inner (TcpState.Connected c)) in on here old _ (Reconnects _ _ _ c (record c { peer = Some a }) (found here old) refl refl (λ t. t) (λ e. (refl, refl))) (give _)
       known (Err x) = give _
 
   remote_in_walks : (r : Tcp2Socket) (s : TcpState) → Walks law (In h place r r.inner s) (λ done. In h place r r.inner done.1) (remote_in (own_of n) s)
-  remote_in_walks r (state.Connected c) = and_then (peer_walks r c c.peer) (λ p. give _)
-  remote_in_walks r (state.Default side) = give _
-  remote_in_walks r (state.Listening side) = give _
-  remote_in_walks r (state.Connecting op) = give _
-  remote_in_walks r (state.Closed c) = give _
+  remote_in_walks r (TcpState.Connected c) = and_then (peer_walks r c c.peer) (λ p. give _)
+  remote_in_walks r _ = give _
 
   pub remote_walks : (r : Tcp2Socket) → Walks law (put h place r) (λ done. put h place done.1) (tell_remote_asks (own_of n) r)
   remote_walks r = and_then (and_then (remote_in_walks r r.inner.state) (λ done. give _)) (λ done. give _)
 
 module _ {contexts : List WasiSocketsCtx} {line : ℕ} {origin : Step} {law : Law contexts line origin} {h : Here} {place : ℕ} (here : HasRecord h place) (at : h.at ≡ Some (place, line)) where
   -- == a bind
-  is_bound : (r : Tcp2Socket) → ((side : OpId) → r.inner.state ≡ state.Default side → ⊥) → Walks law (put h place r) (Inner h place r) (Give (true, record r.inner { bound = true }))
+  is_bound : (r : Tcp2Socket) → ((side : OpId) → r.inner.state ≡ TcpState.Default side → ⊥) → Walks law (put h place r) (Inner h place r) (Give (true, record r.inner { bound = true }))
   is_bound r other = on here r _ (Changes _ _ _ _ (found here r) (record { side = refl; streams = refl; listening = refl; does = refl; maker = refl; family = refl; bound = λ side d b. absurd (other side d); connects = λ e. inl e })) (give _)
 
   bound_in : (r : Tcp2Socket) (s : TcpState) → r.inner.state ≡ s → Walks law (put h place r) (Inner h place r) (ask_bound (own_of line) r.inner s)
   unfolding bind
-  bound_in r (state.Default side) e = learn here r at e (λ told. give _)
-  bound_in r (state.Listening c) e = is_bound r (λ side d. absurd (cc))
-  bound_in r (state.Connecting c) e = is_bound r (λ side d. absurd (cc))
-  bound_in r (state.Connected c) e = is_bound r (λ side d. absurd (cc))
-  bound_in r (state.Closed c) e = is_bound r (λ side d. absurd (cc))
+  bound_in r (TcpState.Default side) e = learn here r at e (λ told. give _)
+  bound_in r _ e = is_bound r (λ side d. absurd (cc))
 
   pub bound_walks : (r : Tcp2Socket) → Walks law (put h place r) (Inner h place r) (bound_asks (own_of line) r.inner)
   bound_walks r = by_if r.inner.bound (λ known. give _) (λ unknown. bound_in r r.inner.state refl)
@@ -270,15 +235,15 @@ module _ {contexts : List WasiSocketsCtx} {line : ℕ} {origin : Step} {law : La
     begin_bind_walks r = and_then (bind_walks r) (begun_walks r)
 
   -- == a connect
-  connect_if : (r : Tcp2Socket) (side : OpId) (a : IpSocketAddress) (bound able : Bool) (done : Unit {0}) → r.inner.state ≡ state.Default side → IsConnectTo a origin → (bound ≡ true → r.inner.bound ≡ true) → h.own ≡ Unused
-      → Walks law (put h place r) (Spent h place r) (Give (if able then (Ok done, with_state r.inner (state.Connecting (connect_operation (record { op = own_of line; side = side; maker = r.inner.maker }) (wildcard r.inner.family) a (connect_first bound)))) else (Err InvalidArgument, r.inner)))
+  connect_if : (r : Tcp2Socket) (side : OpId) (a : IpSocketAddress) (bound able : Bool) (done : Unit {0}) → r.inner.state ≡ TcpState.Default side → IsConnectTo a origin → (bound ≡ true → r.inner.bound ≡ true) → h.own ≡ Unused
+      → Walks law (put h place r) (Spent h place r) (Give (if able then (Ok done, with_state r.inner (TcpState.Connecting (connect_operation (record { op = own_of line; side = side; maker = r.inner.maker }) (wildcard r.inner.family) a (connect_first bound)))) else (Err InvalidArgument, r.inner)))
   connect_if r side a bound true done e to known free =
-      let now : Tcp2Socket = with_inner r (with_state r.inner (state.Connecting (connect_operation (record { op = own_of line; side = side; maker = r.inner.maker }) (wildcard r.inner.family) a (connect_first bound)))) in
+      let now : Tcp2Socket = with_inner r (with_state r.inner (TcpState.Connecting (connect_operation (record { op = own_of line; side = side; maker = r.inner.maker }) (wildcard r.inner.family) a (connect_first bound)))) in
       move (BeginsConnect (put h place r) place r side a bound at (found here r) e to known free) (from (ap (λ (x : Here). record x { own = Used }) (sym (put_put h place r now))) (give _))
   connect_if r side a bound false done e to known free = gives _ (Spends _ free)
 
   start_connect_walks : (r : Tcp2Socket) (a : IpSocketAddress) (s : TcpState) → r.inner.state ≡ s → IsConnectTo a origin → h.own ≡ Unused → Walks law (put h place r) (Spent h place r) (start_connect_in (own_of line) r.inner a s)
-  start_connect_walks r a (state.Default side) e to free =
+  start_connect_walks r a (TcpState.Default side) e to free =
       and_given (KnowsBound r.inner) (bound_given (own_of line) r.inner) (bound_walks r) (λ b k. connect_if (with_inner r b.1) side a b.0 (is_connectable b.1 a) tt (k.1 ∙ e) to k.0 free)
   start_connect_walks r a _ e to free = gives _ (Spends _ free)
 
@@ -303,11 +268,9 @@ module _ {contexts : List WasiSocketsCtx} {line : ℕ} {origin : Step} {law : La
 
   backlog_in_walks : (r : Tcp2Socket) (b : ℕ) (s : TcpState) → r.inner.state ≡ s → IsBacklogSet origin → Walks law (put h place r) (Inner h place r) (set_backlog_in (own_of line) r.inner b s)
   unfolding bind
-  backlog_in_walks r b (state.Default side) e is = on here r _ (Changes _ _ _ _ (found here r) (backlog_kept r b)) (give _)
-  backlog_in_walks r b (state.Listening side) e is = set here r at e is (λ told. backlog_told r b (told_done told))
-  backlog_in_walks r b (state.Connecting op) e is = give _
-  backlog_in_walks r b (state.Connected c) e is = give _
-  backlog_in_walks r b (state.Closed c) e is = give _
+  backlog_in_walks r b (TcpState.Default side) e is = on here r _ (Changes _ _ _ _ (found here r) (backlog_kept r b)) (give _)
+  backlog_in_walks r b (TcpState.Listening side) e is = set here r at e is (λ told. backlog_told r b (told_done told))
+  backlog_in_walks r b _ e is = give _
 
   pub backlog_walks : (r : Tcp2Socket) (value : ℕ) → IsBacklogSet origin → Walks law (put h place r) (Inner h place r) (set_backlog_asks (own_of line) r.inner value)
   backlog_walks r value is = by_if (value == 0) (λ none. give _) (λ some. backlog_in_walks r (clamped_backlog value) r.inner.state refl is)

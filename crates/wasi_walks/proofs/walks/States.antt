@@ -1,32 +1,12 @@
 -- What a line works on where it begins, in its midst and at its end, and what is known of handles there.
-use Rattle.std.specs.Prelude.{⊤}
-use Rattle.std.proofs.Common.{◌≡◌, ℕ, ◌==◌, Bool, true, false, if◌then◌else◌, List, Option, Some, None, Result, Ok, Err, refl, sym, ap, ◌∙◌, slice_get, slice_set, eqb-true}
-use Rattle.wasi_addr.specs.declared.code.ErrorCode.{ErrorCode}
+use Rattle.wasi_walks.proofs.Words.{Answer, Ask, AskWrite, Asks, Bool, Err, ErrorCode, Full, Give, Handles, Input, Kind, List, Machine, None, Ok}
+use Rattle.wasi_walks.proofs.Words.{OpId, Operation, Option, Output, Pending, Pollable, Ready, Records, Result, Socket, Some, Standing, StandingCall}
+use Rattle.wasi_walks.proofs.Words.{Stop, Streams, Tcp2, Tcp2Socket, Trap, Watched, accept_answered, accept_at, accept_record_asks, accepted_record}
+use Rattle.wasi_walks.proofs.Words.{ap, ask_made, bind, bind_in, eqb-true, false, if◌then◌else◌, input_of, is_full, kept_accepted, kind_at, make_asks}
+use Rattle.wasi_walks.proofs.Words.{name_of, output_in, output_of, place_in, place_of, refl, slice_get, slice_set, standing_bind, standing_drop, sym}
+use Rattle.wasi_walks.proofs.Words.{table_parent, true, waiting_bind, waiting_drop, watch_of, watched_by, with_handle, with_sockets, ℕ, ⊤, ◌==◌, ◌∙◌}
+use Rattle.wasi_walks.proofs.Words.{◌≡◌}
 use Rattle.wasi_world.specs.declared.ids.Ids.{Ids}
-use Rattle.wasi_world.specs.declared.outcome.Answer.TheVariants.{Ready, Pending}
-use Rattle.wasi_world.specs.declared.ids.OpId.{OpId}
-use Rattle.wasi_world.specs.declared.outcome.Answer.{Answer}
-use Rattle.wasi_world.specs.declared.outcome.TrapKind.TheVariants.{Full}
-use Rattle.wasi_world.specs.Asks.{Asks, Give, bind, Ask, AskWrite}
-use Rattle.wasi_world.specs.Typed.{ask_made}
-use Rattle.wasi_world.specs.Operation.{Operation}
-use Rattle.wasi_streams.specs.Table.{is_full}
-use Rattle.wasi_tcp.specs.Shape.{Socket}
-use Rattle.wasi_host.specs.Listening.{accepted_record, kept_accepted, with_sockets, accept_answered, accept_at, accept_record_asks}
-use Rattle.wasi_host.specs.declared.kind.Watched.TheVariants as watched
-use Rattle.wasi_host.specs.declared.kind.Watched.{Watched}
-use Rattle.wasi_host.specs.declared.kind.Kind.{Kind}
-use Rattle.wasi_host.specs.declared.kind.Kind.TheVariants.{Network, Tcp2, Input, Output, Pollable, ErrorValue}
-use Rattle.wasi_host.specs.declared.machine.Machine.{Machine}
-use Rattle.wasi_host.specs.declared.socket.Streams.{Streams}
-use Rattle.wasi_host.specs.declared.socket.Tcp2Socket.{Tcp2Socket}
-use Rattle.wasi_host.specs.declared.store.Standing.{Standing}
-use Rattle.wasi_host.specs.declared.store.StandingCall.{StandingCall}
-use Rattle.wasi_host.specs.declared.store.StandingCall.TheVariants as standing
-use Rattle.wasi_host.specs.Host.{Stop, Trap}
-use Rattle.wasi_host.specs.Kinds.{Handles, with_handle, table_parent, name_of, make_asks, kind_at, place_of, input_of, output_of, watched_by, watch_of, place_in}
-use Rattle.wasi_host.specs.Pending.{bind_in, waiting_bind, waiting_drop, output_in}
-use Rattle.wasi_host.specs.Store.{Records, standing_bind, standing_drop}
 use Rattle.wasi_walks.proofs.walks.Moves.{Own, Used, Here, put, Found, record_of, Made, Past, Unmade, Joined}
 use Rattle.wasi_walks.proofs.Lists.{value_front, get_seam}
 use Rattle.wasi_walks.proofs.walks.Law.{HasRecord, Given, given_then}
@@ -49,19 +29,16 @@ abbrev pub Put : {A : Type 0} → ℕ → Machine → ℕ → A × Records → H
 Put n m place done = At n (record m { store = done.1 }) place Used
 
 pub socket_record : (k : Option Kind) (place : ℕ) → place_of k ≡ Some place → record_of k ≡ Some place
-socket_record None place e = absurd (cc)
 socket_record (Some (Tcp2 n)) place e = e
-socket_record (Some _) place e = absurd (cc)
+socket_record _ place e = absurd (cc)
 
 pub input_record : (k : Option Kind) (place : ℕ) → input_of k ≡ Some place → record_of k ≡ Some place
-input_record None place e = absurd (cc)
 input_record (Some (Input n)) place e = e
-input_record (Some _) place e = absurd (cc)
+input_record _ place e = absurd (cc)
 
 pub output_record : (k : Option Kind) (place : ℕ) → output_of k ≡ Some place → record_of k ≡ Some place
-output_record None place e = absurd (cc)
 output_record (Some (Output n)) place e = e
-output_record (Some _) place e = absurd (cc)
+output_record _ place e = absurd (cc)
 
 pub there : {h : Here} {place : ℕ} {r : Tcp2Socket} → Found h place r → HasRecord h place
 there {r} g = record { was = r; found = g }
@@ -76,13 +53,13 @@ stands_so None n place op e = absurd (cc)
 stands_so (Some s) n place op e = by_line s.call (s.line == n) refl e
   where
     by_line : (call : StandingCall) (same : Bool) → s.call ≡ call → (if same then bind_in call else None) ≡ Some (place, op) → StandsSo (Some s) place op
-    by_line (standing.Bind p o) true c q =
+    by_line (StandingCall.Bind p o) true c q =
         let was : ℕ × Operation = (p, o) in
         let now : ℕ × Operation = (place, op) in
         let both : was ≡ now = cc in
         record { n = s.line; is = ap (λ (x : StandingCall). let t : Standing = record { line = s.line; call = x } in Some t) c ∙ ap (λ (x : ℕ × Operation). Some (standing_bind s.line x.0 x.1)) both }
-    by_line (standing.Listen p) true c q = absurd (cc)
-    by_line (standing.DropOutput p) true c q = absurd (cc)
+    by_line (StandingCall.Listen p) true c q = absurd (cc)
+    by_line (StandingCall.DropOutput p) true c q = absurd (cc)
     by_line call false c q = absurd (cc)
 
 pub streams_are : (h : Here) (place : ℕ) (r : Tcp2Socket) (s : Streams) → r.streams ≡ Some s → put h place (record r { streams = Some s }) ≡ put h place r
@@ -118,22 +95,14 @@ make_given t op kind parent sock handle place e = by_test (is_full t)
     by_test false = λ told. stays (kind_at t handle) refl e
 
 pub watched_record : (k : Option Kind) (w : Watched) → watched_by k ≡ Some w → record_of k ≡ Some (place_in w)
-watched_record (Some (Tcp2 n)) w e = let p : watched.Socket n ≡ w = cc in ap (λ (x : Watched). Some (place_in x)) p
-watched_record (Some (Input n)) w e = let p : watched.Input n ≡ w = cc in ap (λ (x : Watched). Some (place_in x)) p
-watched_record (Some (Output n)) w e = let p : watched.Output n ≡ w = cc in ap (λ (x : Watched). Some (place_in x)) p
-watched_record (Some Network) w e = absurd (cc)
-watched_record (Some (Pollable x)) w e = absurd (cc)
-watched_record (Some ErrorValue) w e = absurd (cc)
-watched_record None w e = absurd (cc)
+watched_record (Some (Tcp2 n)) w e = let p : Watched.Socket n ≡ w = cc in ap (λ (x : Watched). Some (place_in x)) p
+watched_record (Some (Input n)) w e = let p : Watched.Input n ≡ w = cc in ap (λ (x : Watched). Some (place_in x)) p
+watched_record (Some (Output n)) w e = let p : Watched.Output n ≡ w = cc in ap (λ (x : Watched). Some (place_in x)) p
+watched_record _ w e = absurd (cc)
 
 pub watch_record : (k : Option Kind) (w : Watched) → watch_of k ≡ Some w → record_of k ≡ Some (place_in w)
 watch_record (Some (Pollable x)) w e = let p : x ≡ w = cc in ap (λ (y : Watched). Some (place_in y)) p
-watch_record (Some Network) w e = absurd (cc)
-watch_record (Some (Tcp2 n)) w e = absurd (cc)
-watch_record (Some (Input n)) w e = absurd (cc)
-watch_record (Some (Output n)) w e = absurd (cc)
-watch_record (Some ErrorValue) w e = absurd (cc)
-watch_record None w e = absurd (cc)
+watch_record _ w e = absurd (cc)
 
 -- the drop that stands under a number
 pub stands_drop : (o : Option Standing) (n place : ℕ) → waiting_drop o n ≡ Some place → o ≡ Some (standing_drop n place)
@@ -141,12 +110,12 @@ stands_drop None n place e = absurd (cc)
 stands_drop (Some s) n place e = by_line s.call (s.line == n) refl refl e
   where
     by_line : (call : StandingCall) (same : Bool) → s.call ≡ call → (s.line == n) ≡ same → (if same then output_in call else None) ≡ Some place → Some s ≡ Some (standing_drop n place)
-    by_line (standing.DropOutput p) true c l q =
+    by_line (StandingCall.DropOutput p) true c l q =
         let here : p ≡ place = cc in
         let there : s.line ≡ n = eqb-true s.line n l in
         ap (λ (x : StandingCall). let t : Standing = record { line = s.line; call = x } in Some t) c ∙ (ap (λ (x : ℕ). Some (standing_drop s.line x)) here ∙ ap (λ (x : ℕ). Some (standing_drop x place)) there)
-    by_line (standing.Bind p o) true c l q = absurd (cc)
-    by_line (standing.Listen p) true c l q = absurd (cc)
+    by_line (StandingCall.Bind p o) true c l q = absurd (cc)
+    by_line (StandingCall.Listen p) true c l q = absurd (cc)
     by_line call false c l q = absurd (cc)
 
 pub given_any : {A : Type 0} (R : A → Type 0) → ((a : A) → R a) → (asks : Asks A) → Given R asks

@@ -1,42 +1,16 @@
 -- The steps on streams and pollables, drops and turns, as moves.
-use Rattle.std.proofs.Common.{◌≡◌, ℕ, Bool, true, false, if◌then◌else◌, List, [], ◌∷◌, Option, Some, None, Result, Ok, Err, refl, ap, slice_get}
-use Rattle.wasi_world.specs.declared.outcome.Answer.TheVariants.{Ready, Pending}
-use Rattle.wasi_world.specs.declared.outcome.WasiSocketsCtx.{WasiSocketsCtx}
-use Rattle.wasi_world.specs.declared.ids.OpId.{OpId}
-use Rattle.wasi_world.specs.declared.outcome.Answer.{Answer}
-use Rattle.wasi_world.specs.declared.outcome.TrapKind.TheVariants.{HasChildren}
-use Rattle.wasi_world.specs.Asks.{Asks, Give, bind}
-use Rattle.wasi_world.proofs.Allowed.{allows_weaker}
-use Rattle.wasi_streams.specs.StreamStop.{StreamStop}
-use Rattle.wasi_streams.specs.StreamStop as stop
-use Rattle.wasi_tcp.specs.Listener.{ready_end}
-use Rattle.wasi_tcp.specs.declared.reader.ReadState.{ReadState}
-use Rattle.wasi_tcp.specs.declared.writer.WriteState.{WriteState}
+use Rattle.wasi_walks.proofs.Words.{Accepts, Answer, Asks, Bool, Err, ErrorValue, Give, Has, HasChildren, Input, Kind, List, Listening, Machine}
+use Rattle.wasi_walks.proofs.Words.{Network, None, Not, Ok, OpId, Option, Output, Pending, Pollable, ReadState, Ready, Records, Result, Some, Step}
+use Rattle.wasi_walks.proofs.Words.{StreamStop, Streams, Tcp2, Tcp2Socket, Trap, WasiSocketsCtx, Watched, WriteState, [], allows_weaker, ap, bind}
+use Rattle.wasi_walks.proofs.Words.{drop_output_at, drop_taken, false, first_ids, give_streams_up, gone, handles_of, has_no_child, if◌then◌else◌}
+use Rattle.wasi_walks.proofs.Words.{is_connect, is_nothing, kind_at, own_of, place_in, reader_of, ready_end, ready_on, refl, release_asks, release_at}
+use Rattle.wasi_walks.proofs.Words.{side_of, slice_get, stream_at, subscribe_on, taken_out, true, turn_machine_asks, wait_put, wait_writer, waited}
+use Rattle.wasi_walks.proofs.Words.{watch_of, watched_by, with_listening, with_reader, with_store, with_writer, without_handle, write_state_asks}
+use Rattle.wasi_walks.proofs.Words.{writer_asks, writer_of, ℕ, ◌∷◌, ◌≡◌}
 use Rattle.wasi_tcp.specs.Closing.{close_in}
-use Rattle.wasi_tcp.specs.Socket.{side_of}
-use Rattle.wasi_tcp.specs.Writer.{write_state_asks}
-use Rattle.wasi_host.specs.declared.listening.Listening.TheVariants.{Not, Begins, Accepts, Unclosed}
-use Rattle.wasi_host.specs.declared.listening.Listening.{Listening}
-use Rattle.wasi_host.specs.Listening.{with_listening}
 use Rattle.wasi_host.specs.Readiness.{ready_listening, ready_idle, ready_socket_by, ready_reader, ready_writer, ready_record, ready_at}
-use Rattle.wasi_host.specs.declared.kind.Watched.TheVariants as watched
-use Rattle.wasi_host.specs.declared.kind.Watched.{Watched}
-use Rattle.wasi_host.specs.declared.kind.Kind.{Kind}
-use Rattle.wasi_host.specs.declared.kind.Kind.TheVariants.{Network, Tcp2, Input, Output, Pollable, ErrorValue}
-use Rattle.wasi_host.specs.declared.machine.Machine.{Machine}
-use Rattle.wasi_host.specs.declared.socket.Streams.{Streams}
-use Rattle.wasi_host.specs.declared.socket.Tcp2Socket.{Tcp2Socket}
-use Rattle.wasi_host.specs.Host.{Trap}
-use Rattle.wasi_host.specs.Dropping.{gone, give_streams_up, release_asks, release_at, wait_writer, wait_put, waited, drop_output_at}
 use Rattle.wasi_host.specs.Jobs.{with_job, begins_job, turned, turn_at, turn_jobs}
-use Rattle.wasi_host.specs.Kinds.{kind_at, has_no_child, taken_out, without_handle, watched_by, watch_of, place_in}
-use Rattle.wasi_host.specs.Machine.{own_of, with_store, drop_taken, turn_machine_asks, subscribe_on, ready_on}
-use Rattle.wasi_host.specs.Store.{Records, with_reader, with_writer, is_nothing, is_connect, reader_of, writer_of, writer_asks, stream_at}
 use Rattle.wasi_host.specs.StreamCalls.{converted, stream_on, write_on}
-use Rattle.wasi_machine.specs.Machine.{first_ids}
-use Rattle.wasi_steps.specs.declared.step.Step.{Step}
-use Rattle.wasi_steps.specs.declared.step.Step.TheVariants as step
-use Rattle.wasi_walks.specs.Licence.{Has, handles_of}
 use Rattle.wasi_walks.proofs.walks.Writes.{may_of, may_in, may_at, may}
 use Rattle.wasi_walks.proofs.walks.Moves.{NoBind, NoBindStands, Own, Used, Unused, Here, put, record_of, MarksError, AnError, Reaches, Leaves, Spends, IsGone, Lists, Takes, Past, Unstands, StandsDrop, APollable}
 use Rattle.wasi_walks.proofs.walks.Law.{Law, HasRecord, put_same, Walks, give, and_then, move, gives, from, ends, close, mark, found, on, turn, give_up, and_so}
@@ -44,6 +18,7 @@ use Rattle.wasi_walks.proofs.walks.Streams.{Reading, Writing, reader_up_walks, w
 use Rattle.wasi_walks.proofs.walks.Listeners.{listener_walks}
 use Rattle.wasi_walks.proofs.walks.Sockets.{finish_walks}
 use Rattle.wasi_walks.proofs.walks.States.{watched_record, OverWith, At, Starts, watch_record, streams_are, Put, there, Sets}
+use Rattle.wasi_streams.specs.StreamStop as stop
 
 module _ {contexts : List WasiSocketsCtx} {line : ℕ} {origin : Step} {law : Law contexts line origin} where
   -- == the streams
@@ -62,10 +37,8 @@ module _ {contexts : List WasiSocketsCtx} {line : ℕ} {origin : Step} {law : La
   converted_walks : {T : Type 0} (m : Machine) (handle place : ℕ) (done : Result T StreamStop × Records) → MarksError handle origin → record_of (kind_at m.table handle) ≡ Some place
       → Walks law (Put line m place done) OverWith (converted (own_of line) handle place (with_store m done))
   unfolding bind
-  converted_walks m handle place (Ok value, store) marks e = gives _ (Leaves _)
   converted_walks m handle place (Err (stop.Failed c), store) marks e = and_then {mid = λ c. record { machine = c.1; at = Some (place, line); hand = None; made = Past; own = Used }} (and_then (mark (AnError handle place marks e)) (λ made. give _)) (λ c. gives _ (Leaves _))
-  converted_walks m handle place (Err stop.Closed, store) marks e = gives _ (Leaves _)
-  converted_walks m handle place (Err (stop.Trap why), store) marks e = gives _ (Leaves _)
+  converted_walks m handle place _ marks e = gives _ (Leaves _)
 
   stream_at_walks : {T : Type 0} (m : Machine) (place : ℕ) (may : Option Tcp2Socket → Own) (call : Tcp2Socket → Asks (Result T StreamStop × Tcp2Socket)) (o : Option Tcp2Socket) → slice_get m.store.sockets place ≡ o → may None ≡ Unused
       → ((r : Tcp2Socket) → let h = At line m place (may (Some r)) in HasRecord h place → Walks law (put h place r) (λ done. record (put h place done.1) { own = Used }) (call r)) → Walks law (At line m place (may o)) (Put line m place) (stream_at m.store place call o)
@@ -171,16 +144,14 @@ module _ {contexts : List WasiSocketsCtx} {line : ℕ} {origin : Step} {law : La
   turn_walks m = move (Spends _ refl) (and_then (and_then (turn_jobs_walks m m.store.jobs m.store.sockets) (λ sockets. gives _ (Lists _ _))) (λ done. give _))
 
   -- == pollables
-  pub subscribe_walks : (c s : ℕ) (m : Machine) (o : Option Watched) → watched_by (kind_at m.table s) ≡ o → origin ≡ step.Subscribe c s → Walks law (Starts m Unused) OverWith (subscribe_on m (own_of line) s o)
+  pub subscribe_walks : (c s : ℕ) (m : Machine) (o : Option Watched) → watched_by (kind_at m.table s) ≡ o → origin ≡ Step.Subscribe c s → Walks law (Starts m Unused) OverWith (subscribe_on m (own_of line) s o)
   subscribe_walks c s m None e is = gives _ (Spends _ refl)
   subscribe_walks c s m (Some w) e is = move (Spends _ refl) (and_then (mark (APollable c s w is (watched_record (kind_at m.table s) w e))) (λ made. give _))
 
   module _ {h : Here} {place : ℕ} (here : HasRecord h place) (at : h.at ≡ Some (place, line)) (free : h.own ≡ Unused) (quiet : NoBind h) where
     ready_listening_walks : (r : Tcp2Socket) (l : Listening) → r.listening ≡ l → Walks law (put h place r) (λ done. record (put h place done.1) { own = Used }) (ready_listening (first_ids line) r l)
     ready_listening_walks r (Accepts l) e = and_then {mid = λ done. record (put h place (with_listening r (Accepts done.1))) { own = Used }} (listener_walks here at r l (ready_end l) l.accept e refl free (λ now. give _)) (λ done. give _)
-    ready_listening_walks r Not e = gives _ (Spends _ free)
-    ready_listening_walks r (Begins op) e = gives _ (Spends _ free)
-    ready_listening_walks r (Unclosed side) e = gives _ (Spends _ free)
+    ready_listening_walks r _ e = gives _ (Spends _ free)
 
     ready_idle_walks : (r : Tcp2Socket) (idle : Bool) → Walks law (put h place r) (λ done. record (put h place done.1) { own = Used }) (ready_idle (first_ids line) r idle)
     ready_idle_walks r true = ready_listening_walks r r.listening refl
@@ -199,9 +170,9 @@ module _ {contexts : List WasiSocketsCtx} {line : ℕ} {origin : Step} {law : La
     ready_writer_walks r (Some s) e = from (streams_are h place r s e) (and_then (look_walks here at r s s.writer) (λ done. gives _ (Spends _ free)))
 
     ready_record_walks : (w : Watched) (r : Tcp2Socket) → Walks law (put h place r) (λ done. record (put h place done.1) { own = Used }) (ready_record (own_of line) (first_ids line) w r)
-    ready_record_walks (watched.Socket n) r = ready_socket_walks r (is_connect r.in_progress)
-    ready_record_walks (watched.Input n) r = ready_reader_walks r r.streams refl
-    ready_record_walks (watched.Output n) r = ready_writer_walks r r.streams refl
+    ready_record_walks (Watched.Socket n) r = ready_socket_walks r (is_connect r.in_progress)
+    ready_record_walks (Watched.Input n) r = ready_reader_walks r r.streams refl
+    ready_record_walks (Watched.Output n) r = ready_writer_walks r r.streams refl
 
   ready_at_walks : (m : Machine) (place : ℕ) (w : Watched) (o : Option Tcp2Socket) → slice_get m.store.sockets place ≡ o → NoBindStands m.store.standing → Walks law (At line m place Unused) (Put line m place) (ready_at m.store (own_of line) (first_ids line) w place o)
   ready_at_walks m place w None g q = gives _ (Spends _ refl)

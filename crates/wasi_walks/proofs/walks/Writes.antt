@@ -1,21 +1,13 @@
 -- What a step may begin to write.
-use Rattle.std.specs.Prelude.{ℕ, nat_lt, if◌then◌else◌, List, [], ◌∷◌, length, Option, Some, None, slice_get}
-use Rattle.wasi_world.specs.declared.ids.OpId.{OpId}
+use Rattle.wasi_walks.proofs.Words.{List, Machine, None, OpId, Option, Some, Step, Streams, Tcp2Socket, WriteState, [], if◌then◌else◌, length, nat_lt}
+use Rattle.wasi_walks.proofs.Words.{output_at, slice_get, ℕ, ◌∷◌}
 use Rattle.wasi_world.specs.Sides.{is_same}
-use Rattle.wasi_tcp.specs.declared.writer.WriteState.{WriteState}
-use Rattle.wasi_tcp.specs.declared.writer.WriteState.TheVariants as writing
-use Rattle.wasi_host.specs.declared.socket.Streams.{Streams}
-use Rattle.wasi_host.specs.declared.socket.Tcp2Socket.{Tcp2Socket}
-use Rattle.wasi_host.specs.declared.machine.Machine.{Machine}
-use Rattle.wasi_host.specs.Machine.{output_at}
-use Rattle.wasi_steps.specs.declared.step.Step.{Step}
-use Rattle.wasi_steps.specs.declared.step.Step.TheVariants as step
 use Rattle.wasi_walks.proofs.walks.Moves.{Own, Unused, ToWrite}
 
 -- what the writer lets a write begin
 abbrev pub may_begin : WriteState → List ℕ → Own
-may_begin (writing.Ready half permit) [] = Unused
-may_begin (writing.Ready half permit) (b ∷ bytes) = if nat_lt permit (length (b ∷ bytes)) then Unused else ToWrite half.side (b ∷ bytes)
+may_begin (WriteState.Ready half permit) [] = Unused
+may_begin (WriteState.Ready half permit) (b ∷ bytes) = if nat_lt permit (length (b ∷ bytes)) then Unused else ToWrite half.side (b ∷ bytes)
 may_begin _ bytes = Unused
 
 -- the bytes that a write may begin, on the streams, the record and the machine
@@ -33,7 +25,7 @@ may_at m bytes (Some place) = may_in (slice_get m.store.sockets place) bytes
 
 -- the bytes that a step may begin to write
 abbrev pub may : Machine → Step → Own
-may m (step.Write ctx output bytes) = may_at m bytes (output_at m output)
+may m (Step.Write ctx output bytes) = may_at m bytes (output_at m output)
 may m _ = Unused
 
 -- the bytes that a step is let write to a side

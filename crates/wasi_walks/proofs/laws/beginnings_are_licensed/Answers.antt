@@ -1,4 +1,4 @@
-use Rattle.wasi_walks.proofs.licence.Beginnings.{prefix_is_licensed}
+use Rattle.wasi_walks.proofs.licence.Longer.{prefix_is_licensed}
 use Rattle.wasi_walks.proofs.laws.beginnings_are_licensed.Goals as goal
 
 pub returns : goal.returns

@@ -1,4 +1,4 @@
-use Rattle.wasi_walks.proofs.licence.Beginnings.{fewer_replies}
+use Rattle.wasi_walks.proofs.licence.Longer.{fewer_replies}
 use Rattle.wasi_walks.proofs.laws.fewer_replies_are_licensed.Goals as goal
 
 pub returns : goal.returns

@@ -1,0 +1,110 @@
+-- The words that the proofs speak, passed on from the crates below.
+pub use Rattle.std.proofs.Common.{Bool, Err, List, None, Ok, Option, Result, Some, [], add-one, ap, append-nil, append_assoc, arith, eqb-true, false}
+pub use Rattle.std.proofs.Common.{if◌then◌else◌, inl, inr, length, length-append, refl, slice_get, slice_set, subst, suc, sym, true, zero, ℕ, ◌++◌}
+pub use Rattle.std.proofs.Common.{◌+◌, ◌<◌, ◌==◌, ◌∙◌, ◌∷◌, ◌≡◌, ◌≤◌, ◌⊎◌}
+pub use Rattle.std.specs.Prelude.{min, nat_lt, ⊤, ◌&&◌}
+pub use Rattle.wasi_addr.specs.Address.{ip_of, is_of_family, is_unicast, is_wildcard, port_of, wildcard}
+pub use Rattle.wasi_addr.specs.declared.address.IpSocketAddress.{IpSocketAddress}
+pub use Rattle.wasi_addr.specs.declared.address.ShutdownType.{ShutdownType}
+pub use Rattle.wasi_addr.specs.declared.address.SocketAddrUse.{SocketAddrUse}
+pub use Rattle.wasi_addr.specs.declared.address.SocketAddrUse.TheVariants.{TcpAccept, TcpBind, TcpConnect, TcpListen}
+pub use Rattle.wasi_addr.specs.declared.address.SocketAddressFamily.{SocketAddressFamily}
+pub use Rattle.wasi_addr.specs.declared.code.ErrorCode.{ErrorCode}
+pub use Rattle.wasi_addr.specs.declared.code.ErrorCode.TheVariants.{AccessDenied, InvalidArgument, InvalidState, Other}
+pub use Rattle.wasi_world.proofs.Allowed.{Allows, FrontKeeps, allows_at, allows_if, allows_keep, allows_polls, allows_then, allows_weaker, reached}
+unfoldable pub use Rattle.wasi_world.specs.Asks.{bind}
+unfoldable pub use Rattle.wasi_world.specs.Operation.{polls}
+pub use Rattle.wasi_world.specs.Asks.{Ask, AskWrite, Asks, Give, Left}
+pub use Rattle.wasi_world.specs.Fits.{Fits, IsAddr, IsArrival, IsDoneOrCode, IsVerdict}
+pub use Rattle.wasi_world.specs.Operation.{Accept, Bind, Check, CheckArrival, CheckLocal, CloseLast, Connect, Done, End, Front, Given, Item, Last}
+pub use Rattle.wasi_world.specs.Operation.{LastAsk, Listen, Nothing, NothingLast, Operation, Refuse, Refused, ShutdownLast, ShutdownSend, Waits, Who}
+pub use Rattle.wasi_world.specs.Operation.{Write, accept_front, admitted_front, arrival_front, check_front, done_front, front, hand_front, last_ask}
+pub use Rattle.wasi_world.specs.Operation.{less_one, local_front, poll_asks, polled_front, refuse_front, taken_front, verdict_front, write_front}
+pub use Rattle.wasi_world.specs.Typed.{ask_close, ask_made, ask_read, ask_set_option, told_addr, told_arrival, told_done, told_polled, told_verdict}
+pub use Rattle.wasi_world.specs.declared.asks.Polled.{Polled}
+pub use Rattle.wasi_world.specs.declared.asks.Verdict.{Verdict}
+pub use Rattle.wasi_world.specs.declared.call.Call.{Call}
+pub use Rattle.wasi_world.specs.declared.call.Call.TheVariants.{Hand, Made, TcpCreate}
+pub use Rattle.wasi_world.specs.declared.call.Entry.{Entry}
+pub use Rattle.wasi_world.specs.declared.call.HandleKind.{HandleKind}
+pub use Rattle.wasi_world.specs.declared.call.Told.{Told}
+pub use Rattle.wasi_world.specs.declared.call.Told.TheVariants.{Arrived, Yes}
+pub use Rattle.wasi_world.specs.declared.ids.OpId.{OpId}
+pub use Rattle.wasi_world.specs.declared.outcome.Answer.{Answer}
+pub use Rattle.wasi_world.specs.declared.outcome.Answer.TheVariants.{Pending, Ready}
+pub use Rattle.wasi_world.specs.declared.outcome.TrapKind.TheVariants.{Full, HasChildren, NotPermitted}
+pub use Rattle.wasi_world.specs.declared.outcome.WasiSocketsCtx.{WasiSocketsCtx}
+pub use Rattle.wasi_streams.specs.StreamStop.{StreamStop}
+pub use Rattle.wasi_streams.specs.Table.{is_full}
+pub use Rattle.wasi_tcp.specs.Accept.{IsAccept, IsLeftOfAccept, accept_operation, in_hand, refuse_in}
+pub use Rattle.wasi_tcp.specs.Bind.{bind_operation}
+pub use Rattle.wasi_tcp.specs.Connect.{IsConnect, IsLeftOfConnect, connect_first, connect_operation}
+pub use Rattle.wasi_tcp.specs.Connecting.{HoldsConnect, connect_ended, connect_start, finish_connect_asks, finish_in, in_socket, is_connectable}
+pub use Rattle.wasi_tcp.specs.Connecting.{new_connection, start_connect_in, with_state}
+pub use Rattle.wasi_tcp.specs.Halves.{polled_answer, take_receive, taken_receive, taken_send}
+pub use Rattle.wasi_tcp.specs.Job.{Job, closing_job, job_asks, job_in, new_job, then_closed}
+pub use Rattle.wasi_tcp.specs.Listen.{IsLeftOfListen, is_over, listen_first, listen_operation}
+pub use Rattle.wasi_tcp.specs.Listener.{HoldsAccept, IsAcceptOn, Listener, accept_asks, accept_end, accept_ended, accepted_socket, accepted_state}
+pub use Rattle.wasi_tcp.specs.Listener.{arrived, give_up_in, new_listener, ready_end, with_accept}
+pub use Rattle.wasi_tcp.specs.Listening.{listen_ended, listen_start}
+pub use Rattle.wasi_tcp.specs.Options.{after_backlog, get_option_asks, get_where, refused_after, refused_before, set_backlog_asks, set_backlog_in}
+pub use Rattle.wasi_tcp.specs.Options.{set_option_asks, set_where, value_set, with_backlog, zero_test}
+pub use Rattle.wasi_tcp.specs.Reader.{after_read, read_state_asks, reader_ready_asks, reader_shutdown_asks}
+pub use Rattle.wasi_tcp.specs.Shape.{Socket}
+pub use Rattle.wasi_tcp.specs.Socket.{after_create, after_local, ask_bound, bind_allowed, bind_asks, bound_asks, new_asks, new_socket, side_in}
+pub use Rattle.wasi_tcp.specs.Socket.{side_of}
+pub use Rattle.wasi_tcp.specs.Writer.{begun, check_write_asks, closed_by, closing_side, collected, look_asks, look_in, permitted, side_up_asks}
+pub use Rattle.wasi_tcp.specs.Writer.{turn_asks, with_permit, write_on_asks, write_state_asks, writer_give_up_asks, writer_shutdown_asks, writer_side}
+pub use Rattle.wasi_tcp.specs.Writer.{writing_side, written_by}
+pub use Rattle.wasi_tcp.specs.declared.halves.TcpReceiveStream.{TcpReceiveStream}
+pub use Rattle.wasi_tcp.specs.declared.halves.TcpSendStream.{TcpSendStream}
+pub use Rattle.wasi_tcp.specs.declared.listener.Accepting.{Accepting}
+pub use Rattle.wasi_tcp.specs.declared.reader.ReadState.{ReadState}
+pub use Rattle.wasi_tcp.specs.declared.socket.Connection.{Connection}
+pub use Rattle.wasi_tcp.specs.declared.socket.TcpState.{TcpState}
+pub use Rattle.wasi_tcp.specs.declared.writer.WriteState.{WriteState}
+pub use Rattle.wasi_host.specs.Dropping.{drop_output_at, give_streams_up, gone, release_asks, release_at, wait_put, wait_writer, waited}
+pub use Rattle.wasi_host.specs.Host.{Stop, Trap}
+pub use Rattle.wasi_host.specs.Kinds.{Handles, has_no_child, input_of, is_network, kind_at, make_asks, name_of, output_of, place_in, place_of}
+pub use Rattle.wasi_host.specs.Kinds.{table_parent, taken_out, watch_of, watched_by, with_handle, without_handle}
+pub use Rattle.wasi_host.specs.Listening.{accept_answered, accept_at, accept_listening, accept_record_asks, accepted_record, begin_listen_asks}
+pub use Rattle.wasi_host.specs.Listening.{closed_listening, give_up_asks, kept_accepted, listen_answered, listen_begun, listen_bound, listen_once}
+pub use Rattle.wasi_host.specs.Listening.{listen_polled, poll_begun, poll_listen_asks, poll_listening, standing_listen, start_listen_at}
+pub use Rattle.wasi_host.specs.Listening.{start_listen_by, with_listening, with_sockets}
+pub use Rattle.wasi_host.specs.Machine.{create_asks, create_handle, created_asks, drop_taken, first_state, input_at, output_at, own_of, ready_on}
+pub use Rattle.wasi_host.specs.Machine.{side_at, socket_at, subscribe_on, turn_machine_asks, with_store, with_table}
+pub use Rattle.wasi_host.specs.Pending.{bind_in, output_in, rebind_at, relisten_at, resume_bind_in, resume_in, resume_listen_in, some_answer, unstood}
+pub use Rattle.wasi_host.specs.Pending.{waiting_bind, waiting_drop, waiting_listen}
+pub use Rattle.wasi_host.specs.Shutdowns.{shut_record, shut_streams, shutdown_at}
+pub use Rattle.wasi_host.specs.Store.{Records, begin_bind_asks, begin_connect_asks, bind_answered, bind_begun, bind_ended, connect_begun}
+pub use Rattle.wasi_host.specs.Store.{connect_polled, finish_at, finish_by, finish_connect_at, finish_connect_by, flush_asks, idle, inner_answered}
+pub use Rattle.wasi_host.specs.Store.{is_bind, is_connect, is_listen, is_nothing, left_of, local_address_at, new_record, new_streams, opened_receive}
+pub use Rattle.wasi_host.specs.Store.{opened_send, poll_bind_asks, poll_connect_asks, put_back, reader_asks, reader_of, remote_address_at}
+pub use Rattle.wasi_host.specs.Store.{standing_bind, standing_drop, start_bind_at, start_bind_by, start_connect_at, start_connect_by, stream_at}
+pub use Rattle.wasi_host.specs.Store.{tell_local_asks, tell_remote_asks, with_inner, with_reader, with_record, with_socket, with_writer, writer_asks}
+pub use Rattle.wasi_host.specs.Store.{writer_of}
+pub use Rattle.wasi_host.specs.declared.kind.Kind.{Kind}
+pub use Rattle.wasi_host.specs.declared.kind.Kind.TheVariants.{ErrorValue, Input, Network, Output, Pollable, Tcp2}
+pub use Rattle.wasi_host.specs.declared.kind.Watched.{Watched}
+pub use Rattle.wasi_host.specs.declared.listening.Listening.{Listening}
+pub use Rattle.wasi_host.specs.declared.listening.Listening.TheVariants.{Accepts, Begins, Not, Unclosed}
+pub use Rattle.wasi_host.specs.declared.machine.Machine.{Machine}
+pub use Rattle.wasi_host.specs.declared.socket.InProgress.{InProgress}
+pub use Rattle.wasi_host.specs.declared.socket.Streams.{Streams}
+pub use Rattle.wasi_host.specs.declared.socket.Tcp2Socket.{Tcp2Socket}
+pub use Rattle.wasi_host.specs.declared.store.Standing.{Standing}
+pub use Rattle.wasi_host.specs.declared.store.StandingCall.{StandingCall}
+pub use Rattle.wasi_p2.specs.Tcp.{accept_on, accepted_asks, accepted_streams, connected_asks, finish_connect_on, finish_on, output_asks}
+pub use Rattle.wasi_p2.specs.Tcp.{start_bind_asks, start_bind_on, start_connect_asks, start_connect_on, streams_asks, with_output, with_streams}
+pub use Rattle.wasi_steps.specs.Reply.{is_trap, no_fields, number_fields, triple_fields}
+pub use Rattle.wasi_steps.specs.Settings.{AnOption, Chosen, TheBacklog, chosen}
+pub use Rattle.wasi_steps.specs.declared.reply.Reply.{Reply}
+pub use Rattle.wasi_steps.specs.declared.setting.TcpSetting.{TcpSetting}
+pub use Rattle.wasi_steps.specs.declared.step.Step.{Step}
+pub use Rattle.wasi_machine.specs.Machine.{HasRun, asks_while, context_at, context_in, first_ids, is_guest_call, machine_asks, poll_on, run}
+pub use Rattle.wasi_machine.specs.Machine.{set_chosen, step_asks}
+pub use Rattle.wasi_walks.specs.Licence.{BeganBy, Created, Handed, HandedNone, Has, HasWildcardYes, IsAdmitted, IsBacklogSet, IsBindTo, IsBoundSide}
+pub use Rattle.wasi_walks.specs.Licence.{IsConnectTo, IsLastLocal, IsLicensed, IsListen, IsMaker, IsMarkOf, IsMarkedWith, IsSide, IsTcpCreate}
+pub use Rattle.wasi_walks.specs.Licence.{Listens, MarksNoSocket, MayAsk, MayGoOut, MayListen, MayUseTcp, NamesSide, ReachesSide, entry, handles_of}
+pub use Rattle.wasi_walks.specs.Licence.{marked_by, marks_in, step_at}
+pub use Rattle.wasi_walks.specs.Waiting.{IsLeftOfBind, IsRestOfBind}
