@@ -1,4 +1,5 @@
--- A poll of an operation whose items are asked in turn is in the one table of such polls, and how those of a bind, of a connect and of a listen end is read off it.
+-- A poll of an operation whose items are asked in turn is in the one table of such polls, and how those of a bind, of a connect
+-- and of a listen end is read off it.
 use Rattle.std.proofs.Common.{◌≡◌, ◌∙◌, inl, inr, List, [], ◌∷◌, ◌++◌, refl, sym, ap, subst, append_assoc, append-nil}
 use Rattle.std.specs.Prelude.{⊤, ◌⊎◌}
 use Rattle.wasi_addr.specs.declared.address.IpSocketAddress.{IpSocketAddress}

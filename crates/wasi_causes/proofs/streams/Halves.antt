@@ -103,7 +103,7 @@ module _ (m : Machine) (own : OpId) (place : ℕ) where
   pub outputs : (o : Option Tcp2Socket) → slice_get m.store.sockets place ≡ o → Meets OutputRow [] (drop_output_at m.store own place o)
   outputs o at = onto _ (widen waits (waits_at o at))
 
--- == of a reader
+-- == what a reader gives
 module _ (own : OpId) (len : ℕ) where
   abbrev pub ReadRow : ReadState → Rows (Result (List ℕ) StreamStop × ReadState)
   ReadRow reader es (Ok [], now) = ReadsNone own len reader es × (now ≡ reader)
@@ -138,7 +138,7 @@ module _ (own : OpId) (len : ℕ) where
   reads (reading.Open half) = by_zero half (len == 0) refl
   reads reading.Closed = ends (AlreadyClosed refl, refl)
 
--- == the step
+-- == a read
 module _ (contexts : List WasiSocketsCtx) (m : Machine) (line c input len : ℕ) where
   module _ (place : ℕ) (r : Tcp2Socket) (s : Streams) (n : HasStreams m (input_at m input) place r s) where
     abbrev left_reading : ReadState → Machine
