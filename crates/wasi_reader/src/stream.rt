@@ -1,6 +1,6 @@
 //! The read stream.
 
-ghost use Rattle.std.specs.Prelude.{◌≡◌, IfOk, IfErr, OnOk, OnErr, true, false, []};
+ghost use Rattle.std.specs.Prelude.{◌≡◌, IfOk, IfErr, OnOk, OnErr, ◌<◌, true, false, [], vec_len};
 ghost use Rattle.wasi_world.specs.Seen.{Rose};
 ghost use Rattle.wasi_spawn.specs.Start.{job_of, RefusedAs};
 ghost use Rattle.wasi_spawn.specs.Handles.{started_with};
@@ -18,7 +18,7 @@ use crate::taken::Taken;
 use crate::worker::{MOST_READ, ReadEnd, ReadWorker, WorkerSide};
 use crate::worker_facts::WorkerFacts;
 use bytes::Bytes;
-use std::alloc::Global;
+use std::alloc::{AllocError, Global};
 use std::marker::Model;
 use std::sync::{Arc, Wait};
 use std::thread::Threads;
@@ -95,13 +95,14 @@ impl<S: Source + Drop + Send + 'static, N: Names + Send + Sync + 'static> AsyncR
         let (owner, keys) = OwnerFacts::<N>::open(owner);
         let (worker, worker_keys) = WorkerFacts::<N>::open(worker);
         let locked = Locked::new(ReadCore::new(), owner, worker);
-        let Ok(shared) = Arc::new(alloc, Shared::new(locked, line)) else {
-            return Err(StartError::Memory(reader));
-        };
-        let Ok(theirs) = Arc::try_clone(&shared) else {
-            return Err(StartError::Memory(reader));
-        };
-        let Ok(buffer) = vec![in alloc; 0u8; MOST_READ] else {
+        let Ok(
+            Room {
+                shared,
+                theirs,
+                buffer,
+            },
+        ) = make_room(alloc, Shared::new(locked, line))
+        else {
             return Err(StartError::Memory(reader));
         };
         let side = WorkerSide {
@@ -235,6 +236,26 @@ impl<S: Source + Drop + Send + 'static, N: Names + Send + Sync + 'static> AsyncR
             outcome: outcome_of(stage),
         }
     }
+}
+
+/// What a stream takes memory for at its start.
+#[derive(Drop)]
+struct Room<N: Names> {
+    shared: Arc<Shared<N>, Global>,
+    theirs: Arc<Shared<N>, Global>,
+    buffer: Vec<u8>,
+    ghost filled: { 0 < vec_len buffer },
+}
+
+fn make_room<N: Names>(alloc: Global, shared: Shared<N>) -> Result<Room<N>, AllocError> {
+    let shared = Arc::new(alloc, shared)?;
+    let theirs = Arc::try_clone(&shared)?;
+    let buffer = vec![in alloc; 0; MOST_READ]?;
+    Ok(Room {
+        shared,
+        theirs,
+        buffer,
+    })
 }
 
 /// Starts the worker. Where that fails, its source comes back.
