@@ -7,15 +7,16 @@ use wasi_streams::StreamError;
 use wasi_world::MemorySource;
 
 /// The number of bytes, and the sizes of pieces and of the source's reads: small, odd and large.
-const SIZES: [(usize, usize, usize); 8] = [
+const SIZES: [(usize, usize, usize); 9] = [
     (1_000_000, 4096, 700),
-    (100_000, 1, 700),
+    (1_000_000, 1, 700),
     (1_000_000, 1000, 99),
     (1_000_000, 65536, 65536),
     (20_000, 1, 1),
     (20_000, 3, 2),
     (20_000, 17, 5),
     (20_000, 4095, 699),
+    (100_000, 4096, 1),
 ];
 
 #[test]
