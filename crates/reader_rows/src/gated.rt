@@ -1,0 +1,142 @@
+//! What a stream answers while its worker is held in the source's first read, and after.
+
+ghost use Rattle.std.specs.Prelude.{◌≤◌};
+
+use crate::play::{Answer, Step, play};
+use std::alloc::Global;
+use std::process::Abort;
+use std::sync::Wait;
+use std::test::*;
+use std::thread::Threads;
+use wasi_addr::ErrorCode;
+use wasi_shared::Ended;
+use wasi_streams::StreamError;
+use wasi_world::MemorySource;
+
+const CLOSED: Answer = Answer::Error(StreamError::Closed);
+
+const FAULT: Answer = Answer::Error(StreamError::LastOperationFailed(ErrorCode::Other));
+
+const NOTHING: Answer = Answer::Count(0);
+
+/// Takes the steps on a stream over 123 bytes, of which the source gives at most `most` at a time and whose calls with
+/// these numbers fail. Each step is to be answered so, and then the stream is to end so.
+fn plays<R: Threads + Wait + Abort + Copy + Send + 'static>(
+    rt: &R,
+    alloc: Global,
+    most: usize,
+    fails: Vec<u32>,
+    steps: &[(Step, Answer)],
+    outcome: Result<(), Ended>,
+) -> Result<(), Fail>
+    requires { 1 ≤ most }
+{
+    let source = MemorySource::new(vec![in alloc; 1u8; 123]?, most, fails);
+    let (other, finished) = play(rt, alloc, source, steps)?;
+    assert_eq!(rt; other, None);
+    assert_eq!(rt; finished.outcome, outcome);
+    assert_eq!(rt; finished.inner.inner().has_ended(), outcome.is_ok());
+    Ok(())
+}
+
+/// The owner sees that the worker began the source's first read, while it holds it.
+#[test]
+fn gate_first_read(rt: HostRuntime) -> Result<(), Fail> {
+    let steps = [
+        (Step::See, Answer::Is(true)),
+        (Step::Poll, Answer::Is(false)),
+        (Step::Read(1), NOTHING),
+        (Step::Open, Answer::Done),
+        (Step::Ready, Answer::Done),
+        (Step::Read(123), Answer::Count(123)),
+        (Step::Ready, Answer::Done),
+        (Step::Read(0), CLOSED),
+        (Step::Read(0), CLOSED),
+        (Step::Poll, Answer::Is(true)),
+    ];
+    plays(&rt, rt.alloc(), 123, Vec::new(rt.alloc()), &steps, Ok(()))
+}
+
+/// The stream becomes ready by itself.
+#[test]
+fn poll_read_ready(rt: HostRuntime) -> Result<(), Fail> {
+    let steps = [
+        (Step::Open, Answer::Done),
+        (Step::PollOn, Answer::Is(true)),
+        (Step::Read(0), NOTHING),
+        (Step::Poll, Answer::Is(true)),
+        (Step::Read(100), Answer::Count(100)),
+        (Step::Poll, Answer::Is(true)),
+        (Step::Read(100), Answer::Count(23)),
+        (Step::Ready, Answer::Done),
+        (Step::Read(1), CLOSED),
+    ];
+    plays(&rt, rt.alloc(), 123, Vec::new(rt.alloc()), &steps, Ok(()))
+}
+
+/// The worker's fault is told once, also after a cancel, and then the stream is closed.
+#[test]
+fn a_fault_is_told_once(rt: HostRuntime) -> Result<(), Fail> {
+    let steps = [
+        (Step::Open, Answer::Done),
+        (Step::Ready, Answer::Done),
+        (Step::Cancel, Answer::Done),
+        (Step::Read(0), FAULT),
+        (Step::Read(0), CLOSED),
+        (Step::Poll, Answer::Is(true)),
+        (Step::Read(9), CLOSED),
+    ];
+    plays(
+        &rt,
+        rt.alloc(),
+        123,
+        vec![in rt.alloc(); 1u32]?,
+        &steps,
+        Err(Ended::Fault),
+    )
+}
+
+/// A stream is cancelled while its worker is held in a read.
+#[test]
+fn a_cancelled_stream_is_closed(rt: HostRuntime) -> Result<(), Fail> {
+    let steps = [
+        (Step::See, Answer::Is(true)),
+        (Step::Cancel, Answer::Done),
+        (Step::Poll, Answer::Is(true)),
+        (Step::Read(1), CLOSED),
+        (Step::Cancel, Answer::Done),
+        (Step::Open, Answer::Done),
+        (Step::Ready, Answer::Done),
+        (Step::Read(1), CLOSED),
+    ];
+    plays(
+        &rt,
+        rt.alloc(),
+        123,
+        Vec::new(rt.alloc()),
+        &steps,
+        Err(Ended::Cancelled),
+    )
+}
+
+/// The chunk in the slot, and what is left of a chunk, are still read after a cancel.
+#[test]
+fn what_was_read_before_a_cancel_is_given(rt: HostRuntime) -> Result<(), Fail> {
+    let steps = [
+        (Step::Open, Answer::Done),
+        (Step::Ready, Answer::Done),
+        (Step::Cancel, Answer::Done),
+        (Step::Read(4), Answer::Count(4)),
+        (Step::Read(100), Answer::Count(6)),
+        (Step::Read(1), CLOSED),
+        (Step::Read(1), CLOSED),
+    ];
+    plays(
+        &rt,
+        rt.alloc(),
+        10,
+        Vec::new(rt.alloc()),
+        &steps,
+        Err(Ended::Cancelled),
+    )
+}

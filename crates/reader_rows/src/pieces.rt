@@ -1,0 +1,67 @@
+//! Bytes in pieces of every size, from a source that gives some at a time.
+
+use crate::drain::{Use, drain, pattern};
+use std::test::*;
+use wasi_spawn::ThreadSpawner;
+use wasi_streams::StreamError;
+use wasi_world::MemorySource;
+
+/// The number of bytes, and the sizes of pieces and of the source's reads: small, odd and large.
+const SIZES: [(usize, usize, usize); 9] = [
+    (1_000_000, 4096, 700),
+    (1_000_000, 1, 700),
+    (1_000_000, 1000, 99),
+    (1_000_000, 65536, 65536),
+    (20_000, 1, 1),
+    (20_000, 3, 2),
+    (20_000, 17, 5),
+    (20_000, 4095, 699),
+    (100_000, 4096, 1),
+];
+
+#[test]
+fn reads_give_all_bytes_in_order(rt: HostRuntime) -> Result<(), Fail> {
+    let mut spawner = ThreadSpawner::new();
+    for (len, piece, most) in SIZES {
+        let bytes = pattern(rt.alloc(), len)?;
+        let how = Use {
+            piece,
+            cancel_after: None,
+        };
+        let source = MemorySource::new(
+            pattern(rt.alloc(), len)?,
+            most.max(1),
+            Vec::new(rt.alloc()),
+        );
+        let Ok((finished, drained)) = drain(&rt, rt.alloc(), &mut spawner, source, how) else {
+            return Err(Fail::new("no worker"));
+        };
+        assert!(rt; drained.bytes == bytes, "pieces of {piece}");
+        assert!(rt;
+            !drained.was_empty && !drained.was_long,
+            "pieces of {piece}"
+        );
+        assert_eq!(rt; drained.error, Some(StreamError::Closed));
+        assert_eq!(rt; drained.again, Some(StreamError::Closed));
+        assert_eq!(rt; finished.outcome, Ok(()));
+        assert!(rt; finished.inner.has_ended());
+    }
+    Ok(())
+}
+
+/// A source with no bytes ends at once.
+#[test]
+fn an_empty_source_is_closed(rt: HostRuntime) -> Result<(), Fail> {
+    let how = Use {
+        piece: 0,
+        cancel_after: None,
+    };
+    let source = MemorySource::new(Vec::new(rt.alloc()), 1, Vec::new(rt.alloc()));
+    let Ok((finished, drained)) = drain(&rt, rt.alloc(), &mut ThreadSpawner::new(), source, how)
+    else {
+        return Err(Fail::new("no worker"));
+    };
+    assert_eq!(rt; drained.error, Some(StreamError::Closed));
+    assert_eq!(rt; finished.outcome, Ok(()));
+    Ok(())
+}

@@ -1,0 +1,4 @@
+pub mod Filled
+pub mod Works
+pub mod Handed
+pub mod Finished

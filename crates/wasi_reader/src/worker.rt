@@ -1,0 +1,166 @@
+//! The worker of a read stream.
+
+ghost use Rattle.std.specs.Prelude.{◌≡◌, ◌<◌, [], ◌++◌, ◌∷◌, length, IfSome, IfNone, vec_len};
+ghost use Rattle.wasi_reader.specs.declared.stage.Stage.TheVariants.{Open, Ended, Failed, Starved};
+ghost use Rattle.wasi_reader.specs.Knows.{idle};
+ghost use Rattle.wasi_reader.specs.Answers.{HasOffered, IsDone};
+ghost use Rattle.wasi_reader.specs.Worked.{Worked, HasStepped, HasHanded};
+
+use crate::line::PushEnd;
+use crate::names::Names;
+use crate::shared::Shared;
+use crate::stage::Stage;
+use crate::taken::Offered;
+use crate::worker_facts::WorkerKeys;
+use bytes::Bytes;
+use std::alloc::Global;
+use std::sync::{Arc, Wait};
+use std::thread::Threads;
+use wasi_addr::ErrorCode;
+use wasi_spawn::Job;
+use wasi_world::{Failed, Source};
+
+/// The most bytes of one read.
+pub const MOST_READ: usize = 65536;
+
+/// The worker's side of a read stream.
+#[derive(Drop)]
+pub struct WorkerSide<N: Names> {
+    pub(crate) shared: Arc<Shared<N>, Global>,
+    pub(crate) push: PushEnd,
+    pub(crate) keys: WorkerKeys<N>,
+    pub(crate) alloc: Global,
+    pub ghost ours: { push.line ≡ N.line },
+    pub ghost counted: { keys.pushed ≡ length push.chunks },
+}
+
+/// Reads a source into chunks of a read stream. Takes memory for each chunk.
+#[derive(Drop)]
+pub struct ReadWorker<S: Source, N: Names> {
+    pub(crate) source: S,
+    pub(crate) side: WorkerSide<N>,
+    pub(crate) buffer: Vec<u8>,
+    ghost begins: { (side.keys ≡ idle) × (side.push.chunks ≡ []) },
+    ghost room: { 0 < vec_len buffer },
+}
+
+/// What a worker gives back.
+#[derive(Drop)]
+pub struct ReadEnd<S: Source, N: Names> {
+    pub(crate) source: S,
+    pub(crate) side: WorkerSide<N>,
+    pub(crate) stage: Stage,
+    pub ghost at: { side.keys.stage ≡ stage },
+}
+
+impl<N: Names> WorkerSide<N> {
+    /// Waits until the slot is empty, and puts a chunk there.
+    fn offer<R: Wait>(&mut self, rt: &R, chunk: Bytes) -> Offered
+        requires filled { 0 < length chunk }
+        requires open { self.old.keys.stage ≡ Open }
+        ensures offered { HasOffered self.old.keys self.old.push chunk self.new.keys self.new.push result }
+        ensures done { IsDone result }
+    {
+        let WorkerSide {
+            shared,
+            push,
+            keys,
+            alloc: _,
+        } = self;
+        shared.offer(rt, keys, push, chunk)
+    }
+
+    /// Hands bytes on as a chunk. Tells how the worker stops, where it does: it is stopped (at `Open`), or wants memory.
+    fn hand_on<R: Wait>(&mut self, rt: &R, bytes: &[u8]) -> Option<Stage>
+        requires filled { 0 < length bytes.now }
+        requires open { self.old.keys.stage ≡ Open }
+        ensures handed { HasHanded result bytes.now self.old.push.chunks self.new.push.chunks }
+        ensures stage { self.new.keys.stage ≡ Open }
+    {
+        let Ok(chunk) = Bytes::copy_from_slice(self.alloc, bytes) else {
+            return Some(Stage::Starved);
+        };
+        match self.offer(rt, chunk) {
+            Offered::Put => None,
+            Offered::Stopped => Some(Stage::Open),
+            Offered::Refused | Offered::Full(_) => Some(Stage::Starved),
+        }
+    }
+
+    /// Tells how the worker stops.
+    fn stop<R: Wait>(&mut self, rt: &R, stage: Stage)
+        requires { self.old.keys.stage ≡ Open }
+        ensures stage { self.new.keys.stage ≡ stage }
+        ensures push { self.new.push ≡ self.old.push }
+    {
+        match stage {
+            Stage::Open => {}
+            Stage::Ended => self.shared.end(rt, &mut self.keys),
+            Stage::Failed => self.shared.fail(rt, &mut self.keys, ErrorCode::Other),
+            Stage::Starved => self.shared.starve(rt, &mut self.keys),
+        }
+    }
+}
+
+/// Reads once, and hands on what came. Tells how the worker stops, where it does.
+fn step<S: Source, N: Names, R: Wait>(
+    rt: &R,
+    source: &mut S,
+    side: &mut WorkerSide<N>,
+    buffer: &mut [u8],
+) -> Option<Stage>
+    requires open { side.old.keys.stage ≡ Open }
+    requires room { 0 < length buffer.old }
+    ensures stepped { HasStepped result (S.reading source.old) (S.reading source.new) side.old.push.chunks side.new.push.chunks }
+    ensures stage { side.new.keys.stage ≡ Open }
+{
+    match source.read(buffer) {
+        Ok(0) => Some(Stage::Ended),
+        Ok(count) => side.hand_on(rt, &buffer[..count]),
+        Err(Failed) => Some(Stage::Failed),
+    }
+}
+
+/// Reads until the source ends or fails, or memory is wanted, or the stream is stopped.
+fn work<S: Source, N: Names, R: Wait>(
+    rt: &R,
+    source: &mut S,
+    side: &mut WorkerSide<N>,
+    buffer: &mut [u8],
+) -> Stage
+    requires begins { (side.old.keys ≡ idle) × (side.old.push.chunks ≡ []) }
+    requires room { 0 < length buffer.old }
+    ensures worked { Worked (S.reading source.old) side.new.push.chunks result (S.reading source.new) }
+    ensures stage { side.new.keys.stage ≡ result }
+{
+    for _ in rt.forever() {
+        match step(rt, source, side, buffer) {
+            None => {}
+            Some(stage) => {
+                side.stop(rt, stage);
+                return stage;
+            }
+        }
+    }
+    unreachable!()
+}
+
+impl<S: Source + Drop + Send + 'static, N: Names + Send + Sync + 'static> Job for ReadWorker<S, N> {
+    type Out = ReadEnd<S, N>;
+
+    ghost may_give = { λ job end. Worked (S.reading job.source) end.side.push.chunks end.stage (S.reading end.source) };
+
+    fn run<R: Threads + Wait>(self, rt: &R) -> ReadEnd<S, N> {
+        let ReadWorker {
+            mut source,
+            mut side,
+            mut buffer,
+        } = self;
+        let stage = work(rt, &mut source, &mut side, buffer.as_mut_slice());
+        ReadEnd {
+            source,
+            side,
+            stage,
+        }
+    }
+}
