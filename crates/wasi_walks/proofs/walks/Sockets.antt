@@ -1,5 +1,4 @@
 -- The calls on a socket, and those of a listen and of a listener, as moves of the record that holds it.
-use Rattle.wasi_walks.proofs.Words.{is_connect}
 use Rattle.wasi_walks.proofs.Words.{Accepting, Accepts, Answer, Begins, Bool, Connection, Done, End, Err, ErrorCode, Give, InProgress}
 use Rattle.wasi_walks.proofs.Words.{InvalidArgument, InvalidState, IpSocketAddress, IsBacklogSet, IsBindTo, IsConnectTo, IsListen, Item, List}
 use Rattle.wasi_walks.proofs.Words.{Listener, Listening, None, Not, Ok, OpId, Operation, Option, Pending, Ready, Refused, Result, Socket, Some, Step}
@@ -7,13 +6,14 @@ use Rattle.wasi_walks.proofs.Words.{Stop, Tcp2Socket, TcpState, Waits, WasiSocke
 use Rattle.wasi_walks.proofs.Words.{after_backlog, after_local, ap, ask_bound, ask_set_option, begin_bind_asks, begin_connect_asks, begin_listen_asks}
 use Rattle.wasi_walks.proofs.Words.{bind, bind_allowed, bind_asks, bind_begun, bind_ended, bind_operation, bound_asks, closed_listening}
 use Rattle.wasi_walks.proofs.Words.{connect_begun, connect_first, connect_operation, connect_polled, connect_start, false, finish_connect_asks}
-use Rattle.wasi_walks.proofs.Words.{finish_in, first_ids, get_option_asks, get_where, idle, if◌then◌else◌, in_socket, inl, inr, ip_of, is_connectable}
-use Rattle.wasi_walks.proofs.Words.{is_of_family, is_over, is_unicast, is_wildcard, kind_at, left_of, listen_begun, listen_bound, listen_once}
-use Rattle.wasi_walks.proofs.Words.{listen_polled, listen_start, opened_receive, opened_send, own_of, poll_begun, poll_bind_asks, poll_connect_asks}
-use Rattle.wasi_walks.proofs.Words.{poll_listen_asks, poll_listening, refl, refused_after, refused_before, set_backlog_asks, set_backlog_in}
-use Rattle.wasi_walks.proofs.Words.{set_option_asks, set_where, side_in, side_of, slice_set, start_connect_in, subst, sym, take_receive}
-use Rattle.wasi_walks.proofs.Words.{taken_receive, taken_send, tell_local_asks, tell_remote_asks, told_addr, told_done, true, value_set, wildcard}
-use Rattle.wasi_walks.proofs.Words.{with_accept, with_backlog, with_inner, with_listening, with_state, zero_test, ℕ, ⊤, ◌&&◌, ◌==◌, ◌∙◌, ◌≡◌}
+use Rattle.wasi_walks.proofs.Words.{finish_in, first_ids, get_option_asks, get_where, idle, if◌then◌else◌, in_socket, inl, inr, ip_of, is_connect}
+use Rattle.wasi_walks.proofs.Words.{is_connectable, is_of_family, is_over, is_unicast, is_wildcard, kind_at, left_of, listen_begun, listen_bound}
+use Rattle.wasi_walks.proofs.Words.{listen_once, listen_polled, listen_start, opened_receive, opened_send, own_of, poll_begun, poll_bind_asks}
+use Rattle.wasi_walks.proofs.Words.{poll_connect_asks, poll_listen_asks, poll_listening, refl, refused_after, refused_before, set_backlog_asks}
+use Rattle.wasi_walks.proofs.Words.{set_backlog_in, set_option_asks, set_where, side_in, side_of, slice_set, start_connect_in, subst, sym}
+use Rattle.wasi_walks.proofs.Words.{take_receive, taken_receive, taken_send, tell_local_asks, tell_remote_asks, told_addr, told_done, true, value_set}
+use Rattle.wasi_walks.proofs.Words.{wildcard, with_accept, with_backlog, with_inner, with_listening, with_state, zero_test, ℕ, ⊤, ◌&&◌, ◌==◌, ◌∙◌}
+use Rattle.wasi_walks.proofs.Words.{◌≡◌}
 use Rattle.wasi_addr.specs.Clamp.{clamped_backlog}
 use Rattle.wasi_world.specs.declared.call.Opt.{Opt}
 use Rattle.wasi_tcp.specs.declared.bind.BindStage.TheVariants.{Check}
