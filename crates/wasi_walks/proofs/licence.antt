@@ -1,8 +1,6 @@
 -- Each ask is licensed.
 pub mod State
-pub mod AcceptFrames
 pub mod Frames
-pub mod Bounds
 pub mod Binds
 pub mod Connects
 pub mod WriteJobs

@@ -5,11 +5,8 @@ pub mod Law
 pub mod OnBase
 pub mod Sockets
 pub mod Streams
-pub mod Listeners
 pub mod States
 pub mod SocketSteps
 pub mod ListenSteps
-pub mod StreamSteps
-pub mod Pending
 pub mod Steps
 pub mod Runs

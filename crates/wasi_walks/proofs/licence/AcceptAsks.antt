@@ -7,8 +7,7 @@ use Rattle.wasi_walks.proofs.Words.{refuse_front, subst, sym, told_arrival, told
 use Rattle.wasi_world.specs.Operation.{Connection}
 use Rattle.wasi_walks.proofs.Lists.{has_last, has_split}
 use Rattle.wasi_walks.proofs.licence.State.{LastAccept, IsHanded, AcceptLeft, Unarrived, ToCheck, AcceptingStands, name_in, WorksOn, AcceptingIsFine}
-use Rattle.wasi_walks.proofs.licence.AcceptFrames.{last_more, handed_unless, unmarked_unless}
-use Rattle.wasi_walks.proofs.licence.Frames.{stay, works_more, maker_more}
+use Rattle.wasi_walks.proofs.licence.Frames.{last_more, handed_unless, unmarked_unless, stay, works_more, maker_more}
 
 -- what is left in the middle of a poll: asks, with nothing handed over, or nothing, once the arrival was
 pub data PollLeft (es : List Entry) (op side : OpId) : Given → List Item → Type 0 where
@@ -74,19 +73,19 @@ module _ (contexts : List WasiSocketsCtx) (steps : List Step) where
       unfolding bind
       refuses es peer w n m = (
         (inl w.named, refl, refl),
-        λ t fits. record { works = works_on es _ t w; marked = unmarked_unless es who.id _ t who.id m refl; so_far = Asking (Accept ∷ []) (handed_unless es who.id _ t who.id n (λ l p e. absurd (cc))) Unarrived },
+        λ t fits. record { works = works_on es _ t w; marked = unmarked_unless es who.id _ t who.id m refl; so_far = Asking (Accept ∷ []) (handed_unless es who.id _ t who.id n (λ l p o e. absurd (cc))) Unarrived },
       )
 
       -- the check of the arrival
       asked_check : (es : List Entry) (peer : IpSocketAddress) (t : Told) → IsVerdict t → Works es → HandedNone es who.id → MarksNoSocket es who.id → LastAccept es who.id who.side peer
           → Allows (MayAs who.id) (FrontKeeps (MayAs who.id) who StandsBefore StandsAfter []) (es ++ entry who.id (Call.Check who.context peer TcpAccept) t ∷ []) (admitted_front who peer (told_verdict t))
       asked_check es peer Told.Yes fits w n m h =
-          hands _ peer (works_on es _ Told.Yes w) (handed_unless es who.id _ Told.Yes who.id n (λ l p e. absurd (cc))) (unmarked_unless es who.id _ Told.Yes who.id m refl) (admitted es peer w h)
-      asked_check es peer Told.No fits w n m h = refuses _ peer (works_on es _ Told.No w) (handed_unless es who.id _ Told.No who.id n (λ l p e. absurd (cc))) (unmarked_unless es who.id _ Told.No who.id m refl)
+          hands _ peer (works_on es _ Told.Yes w) (handed_unless es who.id _ Told.Yes who.id n (λ l p o e. absurd (cc))) (unmarked_unless es who.id _ Told.Yes who.id m refl) (admitted es peer w h)
+      asked_check es peer Told.No fits w n m h = refuses _ peer (works_on es _ Told.No w) (handed_unless es who.id _ Told.No who.id n (λ l p o e. absurd (cc))) (unmarked_unless es who.id _ Told.No who.id m refl)
       asked_check es peer Told.Pending fits w n m h = record {
         works = works_on es _ Told.Pending w;
         marked = unmarked_unless es who.id _ Told.Pending who.id m refl;
-        so_far = Asking (CheckArrival peer ∷ []) (handed_unless es who.id _ Told.Pending who.id n (λ l p e. absurd (cc))) (ToCheck peer (last_more es who.id _ Told.Pending who.id who.side peer h (λ x. x)));
+        so_far = Asking (CheckArrival peer ∷ []) (handed_unless es who.id _ Told.Pending who.id n (λ l p o e. absurd (cc))) (ToCheck peer (last_more es who.id _ Told.Pending who.id who.side peer h (λ x. x)));
       }
       asked_check es peer _ fits w n m h = absurd fits
 
@@ -98,12 +97,12 @@ module _ (contexts : List WasiSocketsCtx) (steps : List Step) where
       asked_accept : (es : List Entry) (t : Told) → IsArrival t → Works es → HandedNone es who.id → MarksNoSocket es who.id
           → Allows (MayAs who.id) (FrontKeeps (MayAs who.id) who StandsBefore StandsAfter []) (es ++ entry who.id (Call.Accept who.side) t ∷ []) (accept_front who (told_arrival t))
       asked_accept es (Told.Arrived peer) fits w n m =
-          checks _ peer (works_on es _ (Told.Arrived peer) w) (handed_unless es who.id _ (Told.Arrived peer) who.id n (λ l p e. absurd (cc))) (unmarked_unless es who.id _ (Told.Arrived peer) who.id m refl) (told_last es who.id who.side peer)
+          checks _ peer (works_on es _ (Told.Arrived peer) w) (handed_unless es who.id _ (Told.Arrived peer) who.id n (λ l p o e. absurd (cc))) (unmarked_unless es who.id _ (Told.Arrived peer) who.id m refl) (told_last es who.id who.side peer)
       asked_accept es (Told.Code c) fits w n m = ends_last _ c Nothing
       asked_accept es Told.Pending fits w n m = record {
         works = works_on es _ Told.Pending w;
         marked = unmarked_unless es who.id _ Told.Pending who.id m refl;
-        so_far = Asking (Accept ∷ []) (handed_unless es who.id _ Told.Pending who.id n (λ l p e. absurd (cc))) Unarrived;
+        so_far = Asking (Accept ∷ []) (handed_unless es who.id _ Told.Pending who.id n (λ l p o e. absurd (cc))) Unarrived;
       }
       asked_accept es _ fits w n m = absurd fits
 

@@ -9,9 +9,8 @@ use Rattle.wasi_walks.proofs.claims.Law.{Named, no_some}
 use Rattle.wasi_walks.proofs.walks.Moves.{Unused, Here, put, Found, IsQuestionOf, IsOn, OfSocket, OfReader, OfWriter, second_of}
 use Rattle.wasi_walks.proofs.Lists.{has_last, has_front}
 use Rattle.wasi_walks.proofs.licence.State.{ReadsOn, Names, WritesOn, RecordIsFine}
-use Rattle.wasi_walks.proofs.licence.AcceptFrames.{Touches, Spared, same_listening, unmarked_unless, handed_more}
-use Rattle.wasi_walks.proofs.licence.Frames.{stay, NoMark, same_record, names_on, bind_more, record_kept, state_spared, maker_more, side_more, no_touch}
-use Rattle.wasi_walks.proofs.licence.Bounds.{learned_told, NoLocal}
+use Rattle.wasi_walks.proofs.licence.Frames.{Touches, Spared, same_listening, unmarked_unless, handed_more, stay, NoMark, same_record, names_on, bind_more, record_kept, state_spared, maker_more, side_more, no_touch}
+use Rattle.wasi_walks.proofs.licence.Binds.{learned_told, NoLocal}
 use Rattle.wasi_walks.proofs.licence.Line.{some_same, local_side, calm, ListenGoesOn, JoinedIsFine, Licensed, put_fine}
 use Rattle.wasi_walks.proofs.licence.Moves.{held_side, same_listen}
 
@@ -85,14 +84,7 @@ module _ (contexts : List WasiSocketsCtx) (steps : List Step) (line : ℕ) (orig
 
   pub question_local : (side x : OpId) (c : Call) → IsQuestionOf side c → c ≡ Call.Local x → side ≡ x
   question_local side x (Call.Local s) q e = let p : s ≡ x = cc in sym q ∙ p
-  question_local side x (Call.Peer s) q e = absurd (cc)
-  question_local side x (Call.GetOption s o) q e = absurd (cc)
-  question_local side x (Call.SetOption s o v) q e = absurd (cc)
-  question_local side x (Call.Read s k) q e = absurd (cc)
-  question_local side x (Call.ReadReady s) q e = absurd (cc)
-  question_local side x (Call.WriteReady s) q e = absurd (cc)
-  question_local side x (Call.Shutdown s how) q e = absurd (cc)
-  question_local side x _ q e = absurd q
+  question_local side x _ q e = absurd (cc)
 
   pub question_may : (n : ℕ) (es : List Entry) (side : OpId) (c : Call) → IsQuestionOf side c → Names steps es (own_of n) side → MayAsk contexts steps es (own_of n) c × NoMark c
   question_may n es side (Call.Local s) q k = (inl (subst (Names steps es (own_of n)) (sym q) k), tt)

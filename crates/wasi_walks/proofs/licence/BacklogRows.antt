@@ -1,7 +1,7 @@
 -- The definitions on logs where a backlog is set: that of a run, which is licensed, and others, which are not.
-use Rattle.wasi_walks.proofs.Words.{Call, Entry, Give, InProgress, IsBacklogSet, IsLicensed, Left, List, Machine, None, OpId}
-use Rattle.wasi_walks.proofs.Words.{Reply, SocketAddressFamily, Some, Step, TcpSetting, Told, [], ap, bind, entry}
-use Rattle.wasi_walks.proofs.Words.{first_state, no_fields, number_fields, own_of, polls, refl, run, ⊤, ◌++◌, ◌∷◌, ◌≡◌}
+use Rattle.wasi_walks.proofs.Words.{Call, Entry, Give, InProgress, IsBacklogSet, IsLicensed, Left, List, Machine, None, OpId, Reply}
+use Rattle.wasi_walks.proofs.Words.{SocketAddressFamily, Some, Step, TcpSetting, Told, [], ap, bind, entry, first_state, no_fields, number_fields}
+use Rattle.wasi_walks.proofs.Words.{own_of, polls, refl, run, ⊤, ◌++◌, ◌∷◌, ◌≡◌}
 use Rattle.wasi_walks.proofs.licence.Runs.{whole_licensed}
 use Rattle.wasi_walks.proofs.licence.Rows.{bind_log, bind_script, two_handles, allowed, local_80}
 use Rattle.wasi_walks.proofs.licence.Refused.{of_each, at_line}

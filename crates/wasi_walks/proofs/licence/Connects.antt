@@ -5,7 +5,7 @@ use Rattle.wasi_walks.proofs.Words.{Ready, Refused, Result, Socket, SocketAddres
 use Rattle.wasi_walks.proofs.Words.{WasiSocketsCtx, Who, [], allows_polls, ap, bind, connect_ended, entry, front, in_socket, inl, inr, last_ask}
 use Rattle.wasi_walks.proofs.Words.{left_of, new_connection, poll_asks, polled_front, refl, side_in, side_of, subst, sym, told_polled, told_verdict}
 use Rattle.wasi_walks.proofs.Words.{verdict_front, wildcard, with_state, ⊤, ◌++◌, ◌∙◌, ◌∷◌, ◌≡◌}
-use Rattle.wasi_walks.proofs.licence.Bounds.{May}
+use Rattle.wasi_walks.proofs.licence.Binds.{May}
 use Rattle.wasi_walks.proofs.Lists.{has_last, has_front}
 use Rattle.wasi_walks.proofs.licence.State.{ConnectLeft, Unbound, Unchecked, Allowed, ToClose, Ended, WorksOn, ConnectIsFine, IsConnectedOn, KnowsMaker, SocketIsFine}
 use Rattle.wasi_walks.proofs.licence.Frames.{stay, KeepsSide, works_more, out_more, maker_more}

@@ -6,7 +6,7 @@ use Rattle.wasi_walks.proofs.Words.{SocketAddressFamily, Some, Step, Tcp2Socket,
 use Rattle.wasi_walks.proofs.Words.{marked_by, slice_get, step_at, subst, suc, sym, zero, ℕ, ◌++◌, ◌+◌, ◌<◌, ◌∙◌, ◌∷◌, ◌≡◌, ◌≤◌}
 use Rattle.wasi_walks.proofs.Lists.{Cut, cut_of, has_front, has_split}
 use Rattle.wasi_walks.proofs.licence.State.{name_in, accept_name, AcceptingIsFine, ListeningIsFine, StateIsFine}
-use Rattle.wasi_walks.proofs.licence.AcceptFrames.{Spared, Free}
+use Rattle.wasi_walks.proofs.licence.Frames.{Spared, Free}
 use Rattle.wasi_world.specs.declared.call.HandleKind.TheVariants as name
 
 -- no mark is by this operation

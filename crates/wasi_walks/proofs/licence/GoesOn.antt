@@ -17,10 +17,8 @@ use Rattle.wasi_walks.proofs.claims.Law.{accept_plain, Named, Base, same_begun, 
 use Rattle.wasi_walks.proofs.walks.Moves.{Held, InHand, Connects, Unused, Here, put, Found, Listens, Awaits, listen_after, accepting_now, second_of}
 use Rattle.wasi_walks.proofs.Lists.{get_set, set_there}
 use Rattle.wasi_walks.proofs.licence.State.{ConnectIsFine, accept_name, Names, BindIsFine, JobIsFine, WritesOn, StreamsAreFine, AcceptingIsFine, ListeningIsFine, RecordIsFine, AcceptStands, AcceptingStands, ListeningStands, name_in, AcceptLeft, AcceptIsFine}
-use Rattle.wasi_walks.proofs.licence.AcceptFrames.{Touches, same_listening, listening_gone}
-use Rattle.wasi_walks.proofs.licence.Frames.{same_record, record_kept, state_put, state_renewed, maker_more}
-use Rattle.wasi_walks.proofs.licence.Bounds.{no_local, May, MayQuietly, NoLocal}
-use Rattle.wasi_walks.proofs.licence.Binds.{fine_poll}
+use Rattle.wasi_walks.proofs.licence.Frames.{Touches, same_listening, listening_gone, same_record, record_kept, state_put, state_renewed, maker_more}
+use Rattle.wasi_walks.proofs.licence.Binds.{no_local, May, MayQuietly, NoLocal, fine_poll}
 use Rattle.wasi_walks.proofs.licence.Connects.{fine_poll_connect, ended}
 use Rattle.wasi_walks.proofs.licence.WriteJobs.{fine_job}
 use Rattle.wasi_walks.proofs.walks.Law.{put_put}

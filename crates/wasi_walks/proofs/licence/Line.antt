@@ -8,8 +8,7 @@ use Rattle.wasi_walks.proofs.licence.Fresh.{NoMadeBy}
 use Rattle.wasi_walks.proofs.walks.Moves.{Used, Unused, Here, put, Found, record_of, Plain, Made, Unmade, Joined, Marked, second_of}
 use Rattle.wasi_walks.proofs.Lists.{get_set, get_seam}
 use Rattle.wasi_walks.proofs.licence.State.{NamesIf, NamesRecord, HandleIsFine, Names, BindIsFine, RecordIsFine, StateIsFine, IsHanded}
-use Rattle.wasi_walks.proofs.licence.AcceptFrames.{KeepsListening}
-use Rattle.wasi_walks.proofs.licence.Frames.{KeepsRecord, same_record, state_put}
+use Rattle.wasi_walks.proofs.licence.Frames.{KeepsListening, KeepsRecord, same_record, state_put}
 use Rattle.wasi_world.specs.declared.call.HandleKind.TheVariants as name
 
 pub names_record : (es : List Entry) (sockets : List Tcp2Socket) (handle place : ℕ) (k : Option Kind) → record_of k ≡ Some place → ((kind : Kind) → k ≡ Some kind → HandleIsFine es sockets handle kind) → NamesRecord es sockets handle place

@@ -8,10 +8,9 @@ use Rattle.wasi_walks.proofs.Words.{WasiSocketsCtx, Who, [], allows_polls, ap, a
 use Rattle.wasi_walks.proofs.Words.{last_ask, left_of, listen_ended, listen_polled, local_front, new_listener, poll_asks, refl, side_in, side_of}
 use Rattle.wasi_walks.proofs.Words.{subst, sym, told_addr, told_done, told_verdict, verdict_front, with_state, ℕ, ⊤, ◌++◌, ◌∙◌, ◌∷◌, ◌≡◌}
 use Rattle.wasi_walks.proofs.Lists.{has_last, has_split, has_front}
-use Rattle.wasi_walks.proofs.licence.Bounds.{NoLocal, May}
+use Rattle.wasi_walks.proofs.licence.Binds.{NoLocal, May}
 use Rattle.wasi_walks.proofs.licence.State.{WorksOn, ListeningStands, accept_name, RecordIsFine}
-use Rattle.wasi_walks.proofs.licence.Frames.{stay, works_more, bound_more, listens_more, LeavesRecord}
-use Rattle.wasi_walks.proofs.licence.AcceptFrames.{KeepsListening}
+use Rattle.wasi_walks.proofs.licence.Frames.{stay, works_more, bound_more, listens_more, LeavesRecord, KeepsListening}
 
 -- == the last local address
 -- what was told last stays the last, where the side isn't asked

@@ -9,12 +9,14 @@ use Rattle.wasi_walks.proofs.claims.Law.{Named, fresh}
 use Rattle.wasi_walks.proofs.walks.Moves.{Used, Unused, Marks, ANetwork, AStream, AnError, Here, Found, MarksError, Joined, Marked, made_so, APollable, AnAcceptedStream, second_of, Creates, Past}
 use Rattle.wasi_walks.proofs.Lists.{has_last, has_split, has_front, get_split, get_seam}
 use Rattle.wasi_walks.proofs.licence.State.{accept_name, NamesRecord, HandleIsFine, SocketIsFine}
-use Rattle.wasi_walks.proofs.licence.AcceptFrames.{Touches, Spared, handed_unless}
-use Rattle.wasi_walks.proofs.licence.Frames.{stay, same_record, names_on, bind_more, state_made, state_push}
+use Rattle.wasi_walks.proofs.licence.Frames.{Touches, Spared, handed_unless, stay, same_record, names_on, bind_more, state_made, state_push}
 use Rattle.wasi_walks.proofs.licence.Line.{names_record, calm, NotMarked, MadeSocket, Licensed, elsewhere, some_same, no_listen, spent}
 use Rattle.wasi_walks.proofs.licence.Asked.{listens_on, joined_on}
-use Rattle.wasi_walks.proofs.licence.Bounds.{MayQuietly}
+use Rattle.wasi_walks.proofs.licence.Binds.{MayQuietly}
 use Rattle.wasi_world.specs.declared.call.HandleKind.TheVariants as name
+
+not_used : Used ≡ Unused → ⊥
+not_used e = absurd (cc)
 
 module _ (contexts : List WasiSocketsCtx) (steps : List Step) (line : ℕ) (origin : Step) (is_line : step_at steps line ≡ Some origin) where
   error_mark : (es : List Entry) (op : OpId) (handle : ℕ) (sock : Option OpId) (s : Step) → MarksError handle s → IsMarkedWith es handle sock → IsMarkOf es op name.ErrorValue (Some handle) sock s
@@ -51,7 +53,7 @@ module _ (contexts : List WasiSocketsCtx) (steps : List Step) (line : ℕ) (orig
               names = λ k n r a g side d. names_on (stay steps) es _ (own_of n) side (i.names k n r a g side d);
               hand = λ o d. bind_more (stay steps) es _ o (i.hand o d);
               listens = listens_on contexts steps line origin is_line es h (own_of line) c told (λ k q op g d p. absurd (cc)) i;
-              new = λ u. (handed_unless es (own_of line) c told (second_of line) (i.new u).0 (λ l p d. absurd (cc)), unmarked_made es (own_of line) h.machine.table.next (name_of kind) parent sock told (second_of line) (i.new u).1 (ms (second_of line) (inl (u, refl))));
+              new = λ u. (handed_unless es (own_of line) c told (second_of line) (i.new u).0 (λ l p o d. absurd (cc)), unmarked_made es (own_of line) h.machine.table.next (name_of kind) parent sock told (second_of line) (i.new u).1 (ms (second_of line) (inl (u, refl))));
               unmade = λ d a s is. absurd (un a s is d);
               joined = λ p d. (let j = i.joined p d in let k = joined_on contexts steps line origin is_line es h e p j (unmarked_made es (own_of line) h.machine.table.next (name_of kind) parent sock told j.new j.fresh (ms j.new (inr (p, d)))) in record { new = k.new; on = k.on; peer = k.peer; context = k.context; listener = k.listener; by = k.by; side = k.side; of_listener = k.of_listener; handed = k.handed; fresh = k.fresh });
               marked = λ handle p d r g. (let k = i.marked handle p d r g in record { above = k.above; told = k.told; mark = has_front es _ _ k.mark });
@@ -163,9 +165,6 @@ module _ (contexts : List WasiSocketsCtx) (steps : List Step) (line : ℕ) (orig
             },
       ))
     where
-      not_used : Used ≡ Unused → ⊥
-      not_used p = absurd (cc)
-
       same_listener : (a b c d : ℕ) → Step.TcpAccept a b ≡ Step.TcpAccept c d → b ≡ d
       same_listener a b c d p = cc
 
@@ -259,9 +258,6 @@ module _ (contexts : List WasiSocketsCtx) (steps : List Step) (line : ℕ) (orig
 
       of_line : (x : OpId) → own_of line ≡ x → x.step ≡ line
       of_line x t = ap (λ (o : OpId). o.step) (sym t)
-
-      not_used : Used ≡ Unused → ⊥
-      not_used e = absurd (cc)
 
       not_marked : (a p : ℕ) → Past ≡ Marked a p → ⊥
       not_marked a p e = absurd (cc)

@@ -10,8 +10,7 @@ use Rattle.wasi_walks.proofs.claims.Law.{Base, same_begun, fresh}
 use Rattle.wasi_walks.proofs.walks.Moves.{closed_record, Used, Here, put, Found, record_of, WriterMoves, Collects, LastsAfter, Closes, Plain, Move, Reaches, Leaves, Spends, Changes, ClosesReader, Writes, IsGone, opened_by, Reconnects, Opens, BeginsConnect, BeginsBind, BeginsWrite, Stands, Resumes, Ends, Lists, Takes, BeginsListen, BeginsAccept, Unlistens, Forgets, Watches, Joins, StandsListen, StandsDrop, ResumesDrop, Unstands, accepting_now, begun_listen, beginning_listen, new_accept, joined, second_of}
 use Rattle.wasi_walks.proofs.Lists.{get_split}
 use Rattle.wasi_walks.proofs.licence.State.{ConnectIsFine, ConnectLeft, Unbound, Unchecked, ReadsOn, Whole, ToWrite, Names, BindIsFine, JobIsFine, WritesOn, StreamsAreFine, AcceptingIsFine, ListeningIsFine, SocketIsFine, RecordIsFine, IsHanded, Unarrived, AcceptingStands, ListeningStands, ListenerIsFine, name_in, DropIsFine}
-use Rattle.wasi_walks.proofs.licence.AcceptFrames.{same_listening, listening_kept, listening_gone, Only}
-use Rattle.wasi_walks.proofs.licence.Frames.{KeepsSide, same_record, record_kept, state_taken, state_put, state_stands, state_unstands, state_jobs, state_renewed, state_joined}
+use Rattle.wasi_walks.proofs.licence.Frames.{same_listening, listening_kept, listening_gone, Only, KeepsSide, same_record, record_kept, state_taken, state_put, state_stands, state_unstands, state_jobs, state_renewed, state_joined}
 use Rattle.wasi_walks.proofs.licence.WriteJobs.{shut_after}
 use Rattle.wasi_walks.proofs.licence.Line.{put_with, names_record, same_op, keeps_plain, seam, pair_first, pair_second, no_listen, second_names, calm_standing, calm, ListenGoesOn, NotMarked, NamesMade, Licensed, KeepsListen, put_fine, spent, elsewhere}
 

@@ -15,7 +15,7 @@ use Rattle.wasi_walks.proofs.claims.Lines.{BaseBetween, first_base, base_starts,
 use Rattle.wasi_walks.proofs.walks.OnBase.{Above}
 use Rattle.wasi_walks.proofs.claims.Law.{Base, on_names, on_along}
 use Rattle.wasi_walks.proofs.walks.Moves.{closed_record, Used, Here, put, OfSocket}
-use Rattle.wasi_walks.proofs.licence.AcceptFrames.{listening_gone}
+use Rattle.wasi_walks.proofs.licence.Frames.{listening_gone}
 use Rattle.wasi_walks.proofs.walks.Law.{Law, Walks}
 use Rattle.wasi_walks.proofs.licence.Moves.{closed_fine, gone_maker, moves_fine}
 use Rattle.wasi_walks.proofs.licence.Asked.{spares, asked_fine, on_side, names_on_side, not_held, question_local, question_may, learned_fine}

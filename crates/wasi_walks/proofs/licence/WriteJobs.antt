@@ -3,7 +3,7 @@ use Rattle.wasi_walks.proofs.Words.{Allows, Call, End, Entry, ErrorCode, FrontKe
 use Rattle.wasi_walks.proofs.Words.{ShutdownLast, ShutdownSend, Step, Waits, WasiSocketsCtx, Who, Write, [], allows_polls, allows_then, bind, entry}
 use Rattle.wasi_walks.proofs.Words.{front, inl, job_asks, job_in, last_ask, length, less_one, poll_asks, subst, suc, sym, taken_front, then_closed}
 use Rattle.wasi_walks.proofs.Words.{write_front, zero, ℕ, ◌++◌, ◌∷◌, ◌≡◌}
-use Rattle.wasi_walks.proofs.licence.Bounds.{MayQuietly}
+use Rattle.wasi_walks.proofs.licence.Binds.{MayQuietly}
 use Rattle.wasi_walks.proofs.licence.State.{WriteLeft, ToWrite, ToWriteAndShut, ToShut, ToRefuse, Written, Names, JobIsFine}
 use Rattle.wasi_walks.proofs.licence.Frames.{stay, names_on}
 

@@ -7,7 +7,7 @@ use Rattle.wasi_walks.proofs.Words.{slice_set, socket_at, start_listen_at, start
 use Rattle.wasi_walks.proofs.Words.{ℕ, ⊤, ◌≡◌}
 use Rattle.wasi_walks.proofs.walks.Moves.{NoBindStands, Used, Unused, put, Found, record_of, Reaches, Leaves, Spends, Marked, made_so, AnAcceptedStream, StandsListen, Watches}
 use Rattle.wasi_walks.proofs.walks.Law.{Law, HasRecord, found, put_same, Walks, give, and_then, and_given, move, gives, from, accept}
-use Rattle.wasi_walks.proofs.walks.Listeners.{joined_if, Took, takes_walks, listener_walks, begin_listen_walks}
+use Rattle.wasi_walks.proofs.walks.Sockets.{joined_if, Took, takes_walks, listener_walks, begin_listen_walks}
 use Rattle.wasi_walks.proofs.walks.States.{Watching, OverWith, Between, socket_record, JoinedSo, At, Starts, given_any, AcceptedSo, Put, joined_given, Over, there}
 use Rattle.wasi_walks.proofs.walks.SocketSteps.{streams_walks}
 

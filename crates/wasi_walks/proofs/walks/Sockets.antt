@@ -1,21 +1,27 @@
--- The calls on a socket, as moves of the record that holds it.
-use Rattle.wasi_walks.proofs.Words.{Answer, Bool, Connection, Done, End, Err, ErrorCode, Give, InProgress, InvalidArgument, InvalidState}
-use Rattle.wasi_walks.proofs.Words.{IpSocketAddress, IsBacklogSet, IsBindTo, IsConnectTo, Item, List, None, Ok, OpId, Operation, Option, Pending}
-use Rattle.wasi_walks.proofs.Words.{Ready, Refused, Result, Socket, Some, Step, Tcp2Socket, TcpState, Waits, WasiSocketsCtx, after_backlog}
-use Rattle.wasi_walks.proofs.Words.{after_local, ap, ask_bound, ask_set_option, begin_bind_asks, begin_connect_asks, bind, bind_allowed, bind_asks}
-use Rattle.wasi_walks.proofs.Words.{bind_begun, bind_ended, bind_operation, bound_asks, connect_begun, connect_first, connect_operation}
-use Rattle.wasi_walks.proofs.Words.{connect_polled, connect_start, false, finish_connect_asks, finish_in, get_option_asks, get_where, idle}
-use Rattle.wasi_walks.proofs.Words.{if◌then◌else◌, in_socket, inl, inr, ip_of, is_connectable, is_of_family, is_unicast, is_wildcard, left_of}
-use Rattle.wasi_walks.proofs.Words.{opened_receive, opened_send, own_of, poll_bind_asks, poll_connect_asks, refl, refused_after, refused_before}
-use Rattle.wasi_walks.proofs.Words.{set_backlog_asks, set_backlog_in, set_option_asks, set_where, side_in, side_of, start_connect_in, sym}
+-- The calls on a socket, and those of a listen and of a listener, as moves of the record that holds it.
+use Rattle.wasi_walks.proofs.Words.{Accepting, Accepts, Answer, Begins, Bool, Connection, Done, End, Err, ErrorCode, Give, InProgress}
+use Rattle.wasi_walks.proofs.Words.{InvalidArgument, InvalidState, IpSocketAddress, IsBacklogSet, IsBindTo, IsConnectTo, IsListen, Item, List}
+use Rattle.wasi_walks.proofs.Words.{Listener, Listening, None, Not, Ok, OpId, Operation, Option, Pending, Ready, Refused, Result, Socket, Some, Step}
+use Rattle.wasi_walks.proofs.Words.{Stop, Tcp2Socket, TcpState, Waits, WasiSocketsCtx, accept_asks, accept_end, accept_ended, accepted_record}
+use Rattle.wasi_walks.proofs.Words.{after_backlog, after_local, ap, ask_bound, ask_set_option, begin_bind_asks, begin_connect_asks, begin_listen_asks}
+use Rattle.wasi_walks.proofs.Words.{bind, bind_allowed, bind_asks, bind_begun, bind_ended, bind_operation, bound_asks, closed_listening}
+use Rattle.wasi_walks.proofs.Words.{connect_begun, connect_first, connect_operation, connect_polled, connect_start, false, finish_connect_asks}
+use Rattle.wasi_walks.proofs.Words.{finish_in, first_ids, get_option_asks, get_where, idle, if◌then◌else◌, in_socket, inl, inr, ip_of, is_connect}
+use Rattle.wasi_walks.proofs.Words.{is_connectable, is_of_family, is_over, is_unicast, is_wildcard, kind_at, left_of, listen_begun, listen_bound}
+use Rattle.wasi_walks.proofs.Words.{listen_once, listen_polled, listen_start, opened_receive, opened_send, own_of, poll_begun, poll_bind_asks}
+use Rattle.wasi_walks.proofs.Words.{poll_connect_asks, poll_listen_asks, poll_listening, refl, refused_after, refused_before, set_backlog_asks}
+use Rattle.wasi_walks.proofs.Words.{set_backlog_in, set_option_asks, set_where, side_in, side_of, slice_set, start_connect_in, subst, sym}
 use Rattle.wasi_walks.proofs.Words.{take_receive, taken_receive, taken_send, tell_local_asks, tell_remote_asks, told_addr, told_done, true, value_set}
-use Rattle.wasi_walks.proofs.Words.{wildcard, with_backlog, with_inner, with_state, zero_test, ℕ, ⊤, ◌&&◌, ◌==◌, ◌∙◌, ◌≡◌}
+use Rattle.wasi_walks.proofs.Words.{wildcard, with_accept, with_backlog, with_inner, with_listening, with_state, zero_test, ℕ, ⊤, ◌&&◌, ◌==◌, ◌∙◌}
+use Rattle.wasi_walks.proofs.Words.{◌≡◌}
 use Rattle.wasi_addr.specs.Clamp.{clamped_backlog}
 use Rattle.wasi_world.specs.declared.call.Opt.{Opt}
 use Rattle.wasi_tcp.specs.declared.bind.BindStage.TheVariants.{Check}
 use Rattle.wasi_tcp.specs.Addresses.{usable_side, local_side, local_from, after_peer, peer_known, remote_in, still_connected}
-use Rattle.wasi_walks.proofs.walks.Moves.{IsConnecting, NoBind, Used, Unused, Here, put, opened_by, Reconnects, Opens, BeginsConnect, OfSocket, Plain, Move, Spends, Changes, BeginsBind, Ends}
-use Rattle.wasi_walks.proofs.walks.Law.{Law, HasRecord, spent, put_put, Given, given_then, Walks, give, and_then, and_given, connect, by_if, move, gives, from, poll, found, on, ask, learn, set}
+use Rattle.wasi_walks.proofs.walks.Moves.{IsConnecting, NoBind, Used, Unused, Here, put, opened_by, Reconnects, Opens, BeginsConnect, OfSocket, Plain, Move, Spends, Changes, BeginsBind, Ends, Unmade, record_of, new_accept, accepting_now, beginning_listen, joined, joining, BeginsListen, BeginsAccept, Unlistens, Forgets, Joins}
+use Rattle.wasi_walks.proofs.walks.Law.{Law, HasRecord, spent, put_put, Given, given_then, Walks, give, and_then, and_given, connect, by_if, move, gives, from, poll, found, on, ask, learn, set, listen, await}
+use Rattle.wasi_tcp.specs.Listener.{begun as accept_begun}
+use Rattle.wasi_walks.proofs.Lists.{set_set}
 
 -- what a call on the record's socket, its reader or its writer leaves
 abbrev pub Inner : {A : Type 0} → Here → ℕ → Tcp2Socket → A × Socket → Here
@@ -43,8 +49,9 @@ usable_if : (s : TcpState) (bound : Bool) (side : OpId) → (if bound then usabl
 usable_if s true side e = usable s side e
 usable_if s false side e = absurd (cc)
 
-same_socket : (r : Tcp2Socket) → Plain r (record r { in_progress = InProgress.Bind })
-same_socket r = record { side = refl; streams = refl; listening = refl; does = refl; maker = refl; family = refl; bound = λ side d b. b; connects = λ e. absurd (cc) }
+-- it is in progress with something that is no connect
+pub with_progress : (r : Tcp2Socket) (doing : InProgress) → (is_connect doing ≡ true → ⊥) → Plain r (record r { in_progress = doing })
+with_progress r doing other = record { side = refl; streams = refl; listening = refl; does = refl; maker = refl; family = refl; bound = λ side d b. b; connects = λ e. absurd (other e) }
 
 -- the line's own operation began something, or never will
 abbrev pub Spent : {A : Type 0} → Here → ℕ → Tcp2Socket → A × Socket → Here
@@ -77,9 +84,6 @@ bound_given op socket = by_test socket.bound refl
     by_test true e = (λ t. e, refl)
     by_test false e = by_state socket.state
 
-idle_record : (r : Tcp2Socket) → Plain r (record r { in_progress = InProgress.Nothing })
-idle_record r = record { side = refl; streams = refl; listening = refl; does = refl; maker = refl; family = refl; bound = λ side d b. b; connects = λ e. absurd (cc) }
-
 -- a connect that begins leaves the socket connecting
 abbrev pub BeginsSo : Result (Unit {0}) ErrorCode × Socket → Type 0
 BeginsSo (Ok done, socket) = IsConnecting socket.state
@@ -109,7 +113,7 @@ module _ {contexts : List WasiSocketsCtx} {line : ℕ} {origin : Step} {law : La
 
   -- it is in progress no more
   idles : {A : Type 0} (r : Tcp2Socket) (socket : Socket) (answer : A) → Walks law {A = A × Tcp2Socket} (put h place (with_inner r socket)) (λ done. put h place done.1) (Give (answer, idle r socket))
-  idles r socket answer = on here (with_inner r socket) _ (Changes _ _ _ _ (found here (with_inner r socket)) (idle_record (with_inner r socket))) (give _)
+  idles r socket answer = on here (with_inner r socket) _ (Changes _ _ _ _ (found here (with_inner r socket)) (with_progress (with_inner r socket) InProgress.Nothing (λ e. absurd (cc)))) (give _)
 
   sends : (r : Tcp2Socket) (socket : Socket) (c : Connection) (taken : Bool) → c.send_taken ≡ taken
       → Walks law (In h place r socket (TcpState.Connected c)) (λ done. put h place done.1) (Give (opened_send r (record { side = c.side }) (in_socket socket (still_connected (taken_send c taken)))))
@@ -123,7 +127,7 @@ module _ {contexts : List WasiSocketsCtx} {line : ℕ} {origin : Step} {law : La
       let next : Connection = record c { receive_taken = true } in
       let idled : Tcp2Socket = record r { in_progress = InProgress.Nothing } in
       let waits = with_inner idled (with_state socket (TcpState.Connected c)) in
-      on here now waits (Changes _ _ _ _ (found here now) (idle_record now))
+      on here now waits (Changes _ _ _ _ (found here now) (with_progress now InProgress.Nothing (λ e. absurd (cc))))
       (on here waits (with_inner idled (with_state socket (TcpState.Connected next))) (Reconnects _ _ _ c next (found here waits) refl refl (λ t. t) (λ e. absurd (cc))) (sends idled (with_state socket (TcpState.Connected next)) next next.send_taken refl))
 
   opens : (r : Tcp2Socket) (socket : Socket) (s : TcpState) → Walks law (In h place r socket s) (λ done. put h place done.1) (Give (opened_receive r (in_socket socket (take_receive s))))
@@ -163,7 +167,7 @@ module _ {contexts : List WasiSocketsCtx} {line : ℕ} {origin : Step} {law : La
 
       ended : (e : End × List Item) → Walks law (record (put h place r) { hand = Some (left_of op e.1); own = Used }) (Begun h place) (Give (bind_ended op r e))
       ended (Waits, items) = give _
-      ended (Done given, items) = move (Ends _) (on done r _ (Changes _ _ _ _ (found done r) (same_socket r)) (give _))
+      ended (Done given, items) = move (Ends _) (on done r _ (Changes _ _ _ _ (found done r) (with_progress r InProgress.Bind (λ e. absurd (cc)))) (give _))
       ended (Refused c given, items) = gives _ (Ends _)
 
 module _ {contexts : List WasiSocketsCtx} {line : ℕ} {origin : Step} {law : Law contexts line origin} {h : Here} {place n : ℕ} (here : HasRecord h place) (at : h.at ≡ Some (place, n)) where
@@ -274,3 +278,95 @@ module _ {contexts : List WasiSocketsCtx} {line : ℕ} {origin : Step} {law : La
 
   pub backlog_walks : (r : Tcp2Socket) (value : ℕ) → IsBacklogSet origin → Walks law (put h place r) (Inner h place r) (set_backlog_asks (own_of line) r.inner value)
   backlog_walks r value is = by_if (value == 0) (λ none. give _) (λ some. backlog_in_walks r (clamped_backlog value) r.inner.state refl is)
+
+-- == a listen
+module _ {contexts : List WasiSocketsCtx} {line : ℕ} {origin : Step} {law : Law contexts line origin} {h : Here} {place : ℕ} (here : HasRecord h place) (quiet : NoBind h) where
+  poll_begun_walks : (r : Tcp2Socket) (op : Operation) → r.listening ≡ Begins op → side_of r.inner ≡ None → Walks law (put h place r) (λ done. put h place done.1) (poll_begun r op)
+  poll_begun_walks r op e c = and_then {mid = λ done. put h place (listen_polled r done).1} (by_if (is_over op) (λ over. on here r _ (Unlistens _ _ _ op (found here r) e c over) (give _)) (λ more. and_then (listen here r op quiet e c) (λ ended. give _))) (λ done. give _)
+
+  by_listening : (r : Tcp2Socket) (l : Listening) → r.listening ≡ l → side_of r.inner ≡ None → Walks law (put h place r) (λ done. put h place done.1) (poll_listening r l)
+  by_listening r (Begins op) e c = poll_begun_walks r op e c
+  by_listening r _ e c = give _
+
+  by_side : (r : Tcp2Socket) (o : Option OpId) → side_of r.inner ≡ o → Walks law (put h place r) (λ done. put h place done.1) (closed_listening r o)
+  by_side r None e = by_listening r r.listening refl e
+  by_side r (Some side) e = give _
+
+  pub poll_listen_walks : (r : Tcp2Socket) → Walks law (put h place r) (λ done. put h place done.1) (poll_listen_asks r)
+  poll_listen_walks r = by_side r (side_of r.inner) refl
+
+-- one that is known to be bound is asked nothing
+known_given : (op : OpId) (socket : Socket) → socket.bound ≡ true → Given (λ b. (b.0 ≡ true) × (b.1 ≡ socket)) (bound_asks op socket)
+known_given op socket e = by_test socket.bound e
+  where
+    by_test : (b : Bool) → b ≡ true → Given (λ x. (x.0 ≡ true) × (x.1 ≡ socket)) (if b then Give (true, socket) else ask_bound op socket socket.state)
+    by_test true p = (refl, refl)
+    by_test false p = absurd (cc)
+
+-- the operation that was begun holds the side
+abbrev pub Listened : Here → ℕ → Tcp2Socket → Result Operation ErrorCode × Socket → Here
+Listened h place r (Ok op, socket) = record (put h place (record r { inner = socket; listening = Begins op })) { own = Used }
+Listened h place r (Err c, socket) = record (put h place (with_inner r socket)) { own = Used }
+
+module _ {contexts : List WasiSocketsCtx} {line : ℕ} {origin : Step} {law : Law contexts line origin} {h : Here} {place : ℕ} (here : HasRecord h place) (at : h.at ≡ Some (place, line)) (is : IsListen origin) (free : h.own ≡ Unused) (quiet : NoBind h) where
+  starts_listen : (r : Tcp2Socket) (s : TcpState) → r.inner.state ≡ s → r.listening ≡ Not → r.inner.bound ≡ true → Walks law (put h place r) (Listened h place r) (Give (listen_start (own_of line) r.inner true s))
+  starts_listen r (TcpState.Default side) e none bound = move (BeginsListen (put h place r) place r side at (found here r) e bound none is free) (from (ap (λ (x : Here). record x { own = Used }) (sym (put_put h place r (beginning_listen (own_of line) side r)))) (give _))
+  starts_listen r _ e none bound = gives _ (Spends _ free)
+
+  starts_known : (r : Tcp2Socket) (b : Bool × Socket) → (b.0 ≡ true) × (b.1 ≡ r.inner) → r.listening ≡ Not → r.inner.bound ≡ true → Walks law (put h place (with_inner r b.1)) (Listened h place r) (Give (listen_start (own_of line) b.1 b.0 b.1.state))
+  starts_known r b k none bound =
+      let T : Bool × Socket → Type 0 = λ x. Walks law (put h place (with_inner r x.1)) (Listened h place r) (Give (listen_start (own_of line) x.1 x.0 x.1.state)) in
+      subst (λ (x : Bool). T (x, b.1)) (sym k.0) (subst (λ (y : Socket). T (true, y)) (sym k.1) (starts_listen r r.inner.state refl none bound))
+
+  listened_walks : (r : Tcp2Socket) (start : Result Operation ErrorCode × Socket) → Walks law (Listened h place r start) (λ done. record (put h place done.1) { own = Used }) (listen_begun r start)
+  listened_walks r (Ok op, socket) = poll_listen_walks (spent here) quiet (record r { inner = socket; listening = Begins op })
+  listened_walks r (Err c, socket) = give _
+
+  once_walks : (r : Tcp2Socket) (l : Listening) → r.listening ≡ l → r.inner.bound ≡ true → Walks law (put h place r) (λ done. record (put h place done.1) { own = Used }) (listen_once (own_of line) r l)
+  once_walks r Not e bound = and_then (and_given (λ b. (b.0 ≡ true) × (b.1 ≡ r.inner)) (known_given (own_of line) r.inner bound) (bound_walks here at r) (λ b k. starts_known r b k e bound)) (listened_walks r)
+  once_walks r _ e bound = gives _ (Spends _ free)
+
+  if_bound_walks : (r : Tcp2Socket) (b : Bool) → (b ≡ true → r.inner.bound ≡ true) → Walks law (put h place r) (λ done. record (put h place done.1) { own = Used }) (listen_bound (own_of line) r b)
+  if_bound_walks r true k = once_walks r r.listening refl (k refl)
+  if_bound_walks r false k = gives _ (Spends _ free)
+
+  pub begin_listen_walks : (r : Tcp2Socket) → Walks law (put h place r) (λ done. record (put h place done.1) { own = Used }) (begin_listen_asks (own_of line) r)
+  begin_listen_walks r = and_given (KnowsBound r.inner) (bound_given (own_of line) r.inner) (bound_walks here at r) (λ b k. if_bound_walks (with_inner r b.1) b.0 k.0)
+
+-- == an accept
+same_accept : (h : Here) (place : ℕ) (r : Tcp2Socket) (l : Listener) (a : Accepting) → r.listening ≡ Accepts l → l.accept ≡ a → put h place (accepting_now r l a) ≡ put h place r
+same_accept h place r l a e q = ap (λ (x : Accepting). put h place (accepting_now r l x)) (sym q) ∙ ap (λ (x : Listening). put h place (with_listening r x)) (sym e)
+
+module _ {contexts : List WasiSocketsCtx} {line : ℕ} {origin : Step} {law : Law contexts line origin} {h : Here} {place : ℕ} (here : HasRecord h place) where
+  accepting_walks : {A : Type 0} {end : A → Here} (r : Tcp2Socket) (l : Listener) (ends : Accepting → A) → ((now : Accepting) → Walks law (put h place (accepting_now r l now)) end (Give (ends now))) → (a : Accepting) → Walks law (put h place (accepting_now r l a)) end (accept_asks ends a)
+  accepting_walks r l ends k (Accepting.Asking op) = and_then (await here (accepting_now r l (Accepting.Asking op)) (with_accept l (Accepting.Asking op)) op refl refl) (λ ended. k (accept_ended op.who ended))
+  accepting_walks r l ends k s = k s
+
+module _ {contexts : List WasiSocketsCtx} {line : ℕ} {origin : Step} {law : Law contexts line origin} {h : Here} {place : ℕ} (here : HasRecord h place) (at : h.at ≡ Some (place, line)) where
+  -- a call of a listener, which may begin its accept
+  pub listener_walks : {A : Type 0} {end : A → Here} (r : Tcp2Socket) (l : Listener) (ends : Accepting → A) (a : Accepting) → r.listening ≡ Accepts l → l.accept ≡ a → h.own ≡ Unused
+      → ((now : Accepting) → Walks law (record (put h place (accepting_now r l now)) { own = Used }) end (Give (ends now))) → Walks law (put h place r) end (accept_asks ends (accept_begun l.side l.maker (first_ids line) a))
+  listener_walks r l ends Accepting.Idle e q free k =
+      move (BeginsAccept (put h place r) place r l at (found here r) e q free)
+      (from (ap (λ (x : Here). record x { own = Used }) (sym (put_put h place r (accepting_now r l (new_accept line l))))) (accepting_walks (spent here) r l ends k (new_accept line l)))
+  listener_walks r l ends s e q free k = move (Spends _ free) (from (same_accept (record h { own = Used }) place r l s e q) (accepting_walks (spent here) r l ends k s))
+
+-- what was taken joins the records, with its streams
+abbrev pub joined_if : Here → ℕ → Tcp2Socket → Result (Unit {0}) Stop × Tcp2Socket → Here
+joined_if h place r (Ok done, now) = joining h (slice_set h.machine.store.sockets place r) now
+joined_if h place r (Err stop, now) = put h place r
+
+abbrev pub Took : Here → ℕ → Result (Answer Socket) ErrorCode × Tcp2Socket → Here
+Took h place (Ok (Ready socket), r) = joined_if h place r (accepted_record socket)
+Took h place (Ok Pending, r) = put h place r
+Took h place (Err c, r) = put h place r
+
+module _ {contexts : List WasiSocketsCtx} {line : ℕ} {origin : Step} {law : Law contexts line origin} {h : Here} {place : ℕ} (here : HasRecord h place) (c handle : ℕ) (is : origin ≡ Step.TcpAccept c handle) (of : record_of (kind_at h.machine.table handle) ≡ Some place) (unmade : h.made ≡ Unmade) where
+  pub takes_walks : (r : Tcp2Socket) (l : Listener) (now : Accepting) → Walks law (put h place (accepting_now r l now)) (λ done. Took h place (Ok done.0, with_listening r (Accepts done.1))) (Give (accept_end l now))
+  takes_walks r l (Accepting.Arrived new peer) =
+      let old : Tcp2Socket = accepting_now r l (Accepting.Arrived new peer) in
+      let idle : Tcp2Socket = accepting_now r l Accepting.Idle in
+      move (Joins (put h place old) c handle place old (with_accept l (Accepting.Arrived new peer)) new peer is of unmade (found here old) refl refl)
+      (from (ap (λ (xs : List Tcp2Socket). joining h xs (joined l new peer)) (sym (set_set h.machine.store.sockets place old idle))) (give _))
+  takes_walks r l (Accepting.Failed why) = let old : Tcp2Socket = accepting_now r l (Accepting.Failed why) in on here old _ (Forgets _ _ _ (with_accept l (Accepting.Failed why)) why (found here old) refl refl) (give _)
+  takes_walks r l _ = give _

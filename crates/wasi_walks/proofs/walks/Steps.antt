@@ -1,18 +1,79 @@
--- Each step is made of moves, and so is a line while a call stands.
-use Rattle.wasi_walks.proofs.Words.{IsBacklogSet, List, Machine, None, Option, Some, Standing, Step, TcpSetting, TheBacklog, WasiSocketsCtx}
-use Rattle.wasi_walks.proofs.Words.{asks_while, check_write_asks, chosen, context_at, false, flush_asks, get_option_asks, inl, input_at, is_bind}
-use Rattle.wasi_walks.proofs.Words.{is_guest_call, is_listen, kind_at, output_at, own_of, read_state_asks, reader_asks, refl, slice_get, socket_at}
-use Rattle.wasi_walks.proofs.Words.{step_asks, subst, sym, true, watch_of, watched_by, writer_asks, ℕ, ◌≡◌}
+-- A call that stands goes on; each step is made of moves, and so is a line while a call stands.
+use Rattle.wasi_walks.proofs.Words.{Answer, Err, ErrorCode, Give, IsBacklogSet, List, Machine, None, Ok, Operation, Option, Pending, Records, Result}
+use Rattle.wasi_walks.proofs.Words.{Some, Standing, Step, Stop, Tcp2Socket, TcpSetting, TheBacklog, WasiSocketsCtx, asks_while, check_write_asks}
+use Rattle.wasi_walks.proofs.Words.{chosen, context_at, false, flush_asks, get_option_asks, inl, input_at, is_bind, is_guest_call, is_listen, kind_at}
+use Rattle.wasi_walks.proofs.Words.{listen_answered, output_at, own_of, poll_on, read_state_asks, reader_asks, rebind_at, refl, relisten_at}
+use Rattle.wasi_walks.proofs.Words.{resume_bind_in, resume_in, resume_listen_in, slice_get, socket_at, some_answer, step_asks, subst, sym, true}
+use Rattle.wasi_walks.proofs.Words.{unstood, waiting_bind, waiting_drop, waiting_listen, watch_of, watched_by, with_store, writer_asks, ℕ, ◌≡◌}
 use Rattle.wasi_walks.proofs.walks.Writes.{may}
-use Rattle.wasi_walks.proofs.walks.Moves.{NoBindStands, Own, Unused, ANetwork, Spends}
-use Rattle.wasi_walks.proofs.walks.Law.{Law, Walks, give, and_then, by_if, move, gives, mark, create}
-use Rattle.wasi_walks.proofs.walks.Sockets.{get_walks}
-use Rattle.wasi_walks.proofs.walks.Streams.{read_walks, check_walks}
-use Rattle.wasi_walks.proofs.walks.States.{OverWith, socket_record, input_record, Starts, output_record}
-use Rattle.wasi_walks.proofs.walks.SocketSteps.{finish_on_bind, local_at_walks, shutdown_at_walks, start_connect_walks, start_bind_walks, looked_walks, set_chosen_walks, remote_at_walks, on_socket, finish_on_walks, as_left}
+use Rattle.wasi_walks.proofs.walks.Moves.{NoBindStands, Own, Unused, ANetwork, Spends, Used, put, Leaves, Resumes, Ends, Past, Unstands, StandsListen, ResumesDrop}
+use Rattle.wasi_walks.proofs.walks.Law.{Law, Walks, give, and_then, by_if, move, gives, mark, create, HasRecord, found, put_same, from}
+use Rattle.wasi_walks.proofs.walks.Sockets.{get_walks, poll_bind_walks, poll_listen_walks}
+use Rattle.wasi_walks.proofs.walks.Streams.{read_walks, check_walks, subscribe_walks, writer_walks, drop_walks, turn_walks, ready_walks, reader_walks, write_on_walks, stream_walks, drop_output_walks}
+use Rattle.wasi_walks.proofs.walks.States.{OverWith, socket_record, input_record, Starts, output_record, stands_so, stands_drop, Over, there}
+use Rattle.wasi_walks.proofs.walks.SocketSteps.{finish_on_bind, local_at_walks, shutdown_at_walks, start_connect_walks, start_bind_walks, looked_walks, set_chosen_walks, remote_at_walks, on_socket, finish_on_walks, as_left, answered_walks}
 use Rattle.wasi_walks.proofs.walks.ListenSteps.{accept_on_walks, start_listen_at_walks}
-use Rattle.wasi_walks.proofs.walks.StreamSteps.{subscribe_walks, writer_walks, drop_walks, turn_walks, ready_walks, reader_walks, write_on_walks, stream_walks}
-use Rattle.wasi_walks.proofs.walks.Pending.{poll_walks}
+use Rattle.wasi_host.specs.declared.pending.Outcome.{Outcome}
+use Rattle.wasi_p2.specs.Pending.{resumed, resume_listen}
+use Rattle.wasi_machine.specs.Machine.{poll_asks}
+
+module _ {contexts : List WasiSocketsCtx} {line : ℕ} {origin : Step} {law : Law contexts line origin} where
+  rebind_walks : (m : Machine) (n place : ℕ) (op : Operation) (o : Option Tcp2Socket) → slice_get m.store.sockets place ≡ o → let now : Machine = record m { store = unstood m.store } in
+      Walks law (record { machine = now; at = None; hand = Some op; made = Past; own = Used }) (λ done. Over (record m { store = done.1 })) (rebind_at m.store n place op o)
+  rebind_walks m n place op None g = gives _ (Ends _)
+  rebind_walks m n place op (Some r) g =
+      let now : Machine = record m { store = unstood m.store } in
+      from (put_same (record { machine = now; at = None; hand = Some op; made = Past; own = Used }) place r g)
+      (and_then (poll_bind_walks {h = Over now} {place = place} (there {h = Over now} {place = place} g) op r) (λ begun. answered_walks now None n place begun (record { was = r; found = g })))
+
+  resume_walks : (m : Machine) (n : ℕ) (o : Option (ℕ × Operation)) → waiting_bind m.store.standing n ≡ o → Walks law (Starts m Unused) (λ done. Over (record m { store = done.1 })) (resume_bind_in m.store n o)
+  resume_walks m n None e = gives _ (Spends _ refl)
+  resume_walks m n (Some (place, op)) e =
+      let s = stands_so m.store.standing n place op e in
+      move (Resumes _ s.n place op s.is) (move (Spends _ refl) (and_then (rebind_walks m n place op (slice_get m.store.sockets place) refl) some))
+    where
+      some : (done : Result (Answer (Unit {0})) Stop × Records) → Walks law (Over (record m { store = done.1 })) (λ x. Over (record m { store = x.1 })) (Give (some_answer done))
+      some (Ok answer, store) = give _
+      some (Err why, store) = give _
+
+  -- == a pending call goes on
+  answers_listen : (m : Machine) (n place : ℕ) → HasRecord (Over m) place → (begun : Result (Answer (Unit {0})) ErrorCode × Tcp2Socket) → Walks law (put (Over m) place begun.1) (λ done. Over (record m { store = done.1 })) (Give (listen_answered m.store n place begun))
+  answers_listen m n place here (Ok Pending, r) = gives _ (StandsListen _ n place r (found here r))
+  answers_listen m n place here _ = give _
+
+  relisten_walks : (m : Machine) (n place : ℕ) (o : Option Tcp2Socket) → slice_get m.store.sockets place ≡ o → Walks law (Over (record m { store = unstood m.store })) (λ done. Over (record m { store = done.1 })) (relisten_at m.store n place o)
+  relisten_walks m n place None g = give _
+  relisten_walks m n place (Some r) g =
+      let now : Machine = record m { store = unstood m.store } in
+      from (put_same (Over now) place r g) (and_then (poll_listen_walks {h = Over now} {place = place} (there {h = Over now} {place = place} g) (refl, tt) r) (answers_listen now n place (there {h = Over now} {place = place} g)))
+
+  some_walks : (m : Machine) (done : Result (Answer (Unit {0})) Stop × Records) → Walks law (Over (record m { store = done.1 })) (λ x. Over (record m { store = x.1 })) (Give (some_answer done))
+  some_walks m (Ok answer, store) = give _
+  some_walks m (Err why, store) = give _
+
+  resume_listen_walks : (m : Machine) (n : ℕ) (o : Option ℕ) → Walks law (Over m) (λ done. Over (record m { store = done.1 })) (resume_listen_in m.store n o)
+  resume_listen_walks m n None = give _
+  resume_listen_walks m n (Some place) = move (Unstands _) (and_then (relisten_walks m n place (slice_get m.store.sockets place) refl) (some_walks m))
+
+  then_listen : (n : ℕ) (done : Result (Option (Answer (Unit {0}))) Stop × Machine) → Walks law (Over done.1) OverWith (resume_listen n done)
+  then_listen n (Ok None, m) = and_then (resume_listen_walks m n (waiting_listen m.store.standing n)) (λ done. resumed_walks m done)
+    where
+      resumed_walks : (m : Machine) (done : Result (Option (Answer (Unit {0}))) Stop × Records) → Walks law (Over (record m { store = done.1 })) OverWith (Give (resumed (with_store m done)))
+      resumed_walks m (Ok (Some a), store) = give _
+      resumed_walks m (Ok None, store) = give _
+      resumed_walks m (Err why, store) = give _
+  then_listen n _ = give _
+
+  resume_drop_walks : (n : ℕ) (m : Machine) (o : Option ℕ) → waiting_drop m.store.standing n ≡ o → Walks law (Over m) OverWith (resume_in m n o)
+  resume_drop_walks n m None e = give _
+  resume_drop_walks n m (Some place) e = move (ResumesDrop _ n place (stands_drop m.store.standing n place e)) (and_then (drop_output_walks n place m (slice_get m.store.sockets place) refl) (λ done. gives _ (Leaves _)))
+
+  then_drop : (n : ℕ) (done : Result (Option (Answer Outcome)) Stop × Machine) → Walks law (Over done.1) OverWith (poll_on n done)
+  then_drop n (Ok None, m) = and_then (resume_drop_walks n m (waiting_drop m.store.standing n) refl) (λ done. give _)
+  then_drop n _ = give _
+
+  pub poll_walks : (m : Machine) (n : ℕ) → Walks law (Starts m Unused) OverWith (poll_asks m n)
+  poll_walks m n = and_then (and_then (resume_walks m n (waiting_bind m.store.standing n) refl) (λ done. then_listen n (with_store m done))) (then_drop n)
 
 backlog_of : (c s : ℕ) (setting : TcpSetting) (value : ℕ) → chosen setting ≡ TheBacklog value → IsBacklogSet (Step.TcpSet c s setting)
 backlog_of c s (TcpSetting.ListenBacklogSize n) value e = tt
