@@ -37,7 +37,7 @@ held_plain : (h : Here) (op : Operation) (after : End × List Item → Here) →
 held_plain h _ _ (InHand op e) f = bind_plain op.left (f.hand op e).left
 held_plain h _ _ (Connects place r op q g e) f = let its : IsConnect op = subst HoldsConnect e (f.records place r g).0 in connect_plain op.left its.left
 held_plain h _ _ (Listens place r op q g e c) f = let its : IsListen op = subst FitListening e (f.records place r g).1 in listen_plain op.left its.left
-held_plain h _ _ (Awaits place r l op g e a) f = let its : IsAcceptOn l.side l.maker op = subst (HoldsAccept l.side l.maker) a (subst FitListening e (f.records place r g).1) in accept_plain op.left its.accept.left
+held_plain h _ _ (Awaits place r l op g e a) f = let its : IsAcceptOn l.side l.maker op = subst (HoldsAccept l.side l.maker) a (subst FitListening e (f.records place r g).1) in accept_plain ⊤ op.left its.accept.left
 
 -- what becomes of a listen that goes on
 listen_follows : (r now : Tcp2Socket) (op : Operation) → r.listening ≡ Begins op → now.side ≡ r.side → Follows r now
