@@ -114,12 +114,12 @@ module _ (contexts : List WasiSocketsCtx) (m : Machine) (line : ℕ) where
 
 misses : (m : Machine) (s : Step) → MissesHandle m s → MayMiss s
 misses m (step.Network ctx) h = h
-misses m (step.TcpCreate ctx family) h = h
+misses m (step.TcpCreate ctx _) h = h
 misses m step.Turn h = h
 misses m _ h = tt
 
 waits : (m : Machine) (line n : ℕ) (s : Step) → MayStand m line s n → MayWait line s n
-waits m line n (step.TcpStartBind ctx socket network a) h = h
+waits m line n (step.TcpStartBind ctx socket _ a) h = h
 waits m line n (step.TcpStartListen ctx socket) h = h
 waits m line n (step.Drop ctx handle) h = h.1
 waits m line n (step.Poll call) h = h
