@@ -1,5 +1,5 @@
 -- What was given and kept of a read stream, call by call.
-use Rattle.std.proofs.Common.{◌≡◌, ◌<◌, ◌≤◌, ◌+◌, ◌-◌, ℕ, Bool, true, false, List, [], ◌∷◌, ◌++◌, length, min, take, drop, refl, ap, ◌∙◌, sym, subst, append_assoc, append-nil, arith, length-append, length-take, true≢false, rules}
+use Rattle.std.proofs.Common.{◌≡◌, ◌<◌, ◌+◌, ◌-◌, ℕ, Bool, false, List, [], ◌∷◌, ◌++◌, length, min, take, drop, ap, ◌∙◌, sym, append_assoc, append-nil, arith, length-append, length-take, true≢false, rules}
 use Rattle.std.proofs.lemmas.List.{take-append-drop}
 use Rattle.std.proofs.Math.Seq.{take-append_seam}
 use Rattle.std.specs.List.{concat}

@@ -1,5 +1,5 @@
 -- What the lock of a read stream answers, by what each side knows.
-use Rattle.std.specs.Prelude.{◌≡◌, ◌<◌, ◌+◌, ℕ, Bool, true, false, if◌then◌else◌, List, [], ◌∷◌, ◌++◌, length}
+use Rattle.std.specs.Prelude.{◌≡◌, ◌<◌, ◌+◌, ℕ, false, if◌then◌else◌, List, [], ◌∷◌, ◌++◌, length}
 use Rattle.wasi_streams.specs.declared.error.StreamError.{StreamError}
 use Rattle.wasi_streams.specs.declared.error.StreamError.TheVariants.{LastOperationFailed, Closed, Trap, Memory}
 use Rattle.wasi_shared.specs.Ends.{End}

@@ -1,5 +1,5 @@
 -- What the lock of a read stream keeps: how the core stands to what each side knows.
-use Rattle.std.specs.Prelude.{◌≡◌, ◌+◌, ℕ, Bool, true, false, length, None}
+use Rattle.std.specs.Prelude.{◌≡◌, ◌+◌, Bool, true, false, length, None}
 use Rattle.std.specs.Option.{option_to_list}
 use Rattle.wasi_pipes.specs.declared.cores.fault.Fault.{Fault}
 use Rattle.wasi_pipes.specs.declared.cores.fault.Fault.TheVariants.{Unmet, Kept, Told}

@@ -1,5 +1,5 @@
 -- What contracts see of a read stream, and how it ends.
-use Rattle.std.specs.Prelude.{◌≡◌, ◌≤◌, ◌<◌, ◌-◌, ◌⊎◌, ℕ, Bool, true, false, if◌then◌else◌, List, [], ◌++◌, length, take, min, Result, Ok, Err, OnOk, IfErr}
+use Rattle.std.specs.Prelude.{◌≡◌, ◌≤◌, ◌<◌, ◌-◌, ◌⊎◌, ℕ, Bool, true, false, if◌then◌else◌, List, [], ◌++◌, length, take, min, Result, Ok, Err}
 use Rattle.std.specs.List.{concat}
 use Rattle.wasi_world.specs.Io.{Reading, Gave, HasEnded}
 use Rattle.wasi_world.specs.Seen.{Rose}
