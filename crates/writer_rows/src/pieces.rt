@@ -5,31 +5,30 @@ use std::test::*;
 use wasi_spawn::ThreadSpawner;
 use wasi_world::MemorySink;
 
-/// The sizes of pieces and of the sink's writes: small, odd and large.
-const SIZES: [(usize, usize); 7] = [
-    (1, 1),
-    (3, 700),
-    (17, 5),
-    (256, 256),
-    (1000, 1),
-    (4095, 699),
-    (4096, 700),
+/// The sizes of pieces and of the sink's writes, small, odd and large, and how many bytes go through the stream so: a
+/// million, and fewer in pieces or writes of a few bytes.
+const SIZES: [(usize, usize, usize); 8] = [
+    (1, 1, 20_000),
+    (3, 700, 20_000),
+    (17, 5, 20_000),
+    (1000, 1, 20_000),
+    (256, 256, 1_000_000),
+    (4096, 97, 1_000_000),
+    (4095, 699, 1_000_000),
+    (4096, 700, 1_000_000),
 ];
-
-/// How many bytes go through the stream in each size.
-const BYTES: usize = 1_000_000;
 
 #[test]
 fn the_sink_gets_all_bytes_in_order(rt: HostRuntime) -> Result<(), Fail> {
-    let bytes = pattern(rt.alloc(), BYTES)?;
     let mut spawner = ThreadSpawner::new();
-    for (piece, most) in SIZES {
+    for (piece, most, size) in SIZES {
+        let bytes = pattern(rt.alloc(), size)?;
         let how = Use {
             budget: 4096,
             piece,
             cancel_after: None,
         };
-        let sink = MemorySink::new(rt.alloc(), most, BYTES, Vec::new(rt.alloc()))?;
+        let sink = MemorySink::new(rt.alloc(), most, size, Vec::new(rt.alloc()))?;
         let Ok((finished, accepted)) = pour(
             &rt,
             rt.alloc(),
@@ -40,7 +39,7 @@ fn the_sink_gets_all_bytes_in_order(rt: HostRuntime) -> Result<(), Fail> {
         ) else {
             return Err(Fail::new("no worker"));
         };
-        assert_eq!(rt; accepted, BYTES, "pieces of {piece}");
+        assert_eq!(rt; accepted, size, "pieces of {piece}");
         assert_eq!(rt; finished.outcome, Ok(()));
         assert!(rt;
             finished.inner.bytes() == bytes.as_slice(),
