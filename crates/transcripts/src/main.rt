@@ -2,10 +2,10 @@
 //! `scenario.txt`, and runs files of such transcripts again.
 #![tactic(auto)]
 
-use std::env::Env;
 use std::process::ExitCode;
 use std::rt::Files;
-use std::{env, fs, io};
+use std::{fs, io};
+use wasi_console::{LineSource, end, line_of, print, words};
 use wasi_run::Status;
 use wasi_transcript::program::{End, Words, check, show, words_in};
 use wasi_world::{FileSource, StdSink, StdSource};
@@ -24,13 +24,13 @@ usage: transcripts show LIMIT    prints the transcript of the script on standard
        transcripts --version     prints the version
 
 A transcript has each line of the script behind `> `. Beneath it, indented, stand the calls that this line made on the
-network, each with its operation and its answer, and then the line's reply. The last line tells how many sockets the
-end of the run closed.
+network, each with its operation and its answer, and then the line's reply. The last line has the number of network sockets that
+the end of the run closed.
 
 A file for check has many cases. Each is a line `# ` with what it shows, a line `given ` for each line of its
 scenario, the transcript, and an empty line.
 
-The program ends with 0, or prints its status on standard error and ends with it:
+The program ends with 0, or prints its status on standard error, with what is wrong, and ends with it:
     1  the words aren't in order            7  memory ran out
     2  a bad line in scenario.txt           8  scenario.txt can't be read
     3  a bad line in the script            20  a case does not hold
@@ -38,7 +38,7 @@ The program ends with 0, or prints its status on standard error and ends with it
     5  a read of the script failed         22  a file can't be read
     6  a write failed
 
-example: printf '0 network\\n0 tcp-create 4\\n' | transcripts show 1000
+example: : > scenario.txt; printf '0 network\\n0 tcp-create 4\\n' | transcripts show 1000
     > 0 network
         1.0 made 1 network - - = done
     ok 1
@@ -52,7 +52,7 @@ example: printf '0 network\\n0 tcp-create 4\\n' | transcripts show 1000
 fn main(rt: HostRuntime) -> ExitCode {
     let words = match words(&rt) {
         Ok(words) => words,
-        Err(status) => return end(&rt, End::Run(status, 0)),
+        Err(status) => return end(&rt, status, 0, None),
     };
     match words.as_slice() {
         [word] if word.as_str() == "--help" => print(&rt, HELP),
@@ -61,43 +61,29 @@ fn main(rt: HostRuntime) -> ExitCode {
     }
 }
 
-/// The words after the program's name. One that isn't UTF-8 is a word out of order.
-fn words<R: Env + AllocGlobal>(rt: &R) -> Result<Vec<String>, Status> {
-    let mut words = Vec::new(rt.alloc());
-    let args = env::args(rt).map_err(status_of)?;
-    for word in args.skip(1) {
-        words.push(word).map_err(|_| Status::Memory)?;
-    }
-    Ok(words)
-}
-
-fn status_of(error: io::Error) -> Status {
-    match error.kind() {
-        io::ErrorKind::OutOfMemory => Status::Memory,
-        _ => Status::BadWords,
-    }
-}
-
-/// Writes a text to standard output.
-fn print<R: Print + Eprint>(rt: &R, text: &str) -> ExitCode {
-    match rt.print(text) {
-        Ok(()) => ExitCode::SUCCESS,
-        Err(_) => end(rt, End::Run(Status::WriteFault, 0)),
-    }
-}
-
 /// Does what the words ask for.
 fn run(rt: HostRuntime, words: &[String]) -> ExitCode {
     match words_in(words) {
-        None => end(&rt, End::Run(Status::BadWords, 0)),
-        Some(Words::Show(limit)) => {
-            let mut scenario = FileSource::open(&rt, SCENARIO);
-            let mut source = StdSource::new(rt);
-            let mut sink = StdSink::new(rt);
-            let ended = show(rt.alloc(), limit, &mut scenario, &mut source, &mut sink);
-            end(&rt, ended)
-        }
+        None => end(&rt, Status::BadWords, 0, None),
+        Some(Words::Show(limit)) => show_script(rt, limit),
         Some(Words::Check(files)) => check_all(rt, files),
+    }
+}
+
+/// Prints the transcript of the script on standard input.
+fn show_script(rt: HostRuntime, limit: u32) -> ExitCode {
+    let mut scenario = FileSource::open(&rt, SCENARIO);
+    let mut source = LineSource::new(StdSource::new(rt));
+    let mut sink = StdSink::new(rt);
+    match show(rt.alloc(), limit, &mut scenario, &mut source, &mut sink) {
+        End::Run(Status::BadScenario, line) => {
+            let front = line_of(FileSource::open(&rt, SCENARIO), u64::from(line));
+            end(&rt, Status::BadScenario, line, front)
+        }
+        End::Run(Status::BadStep, line) => {
+            end(&rt, Status::BadStep, line, source.line(u64::from(line)))
+        }
+        ended => stop(&rt, ended),
     }
 }
 
@@ -110,7 +96,7 @@ fn check_all(rt: HostRuntime, files: &[String]) -> ExitCode {
             first = ended;
         }
     }
-    end(&rt, first)
+    stop(&rt, first)
 }
 
 fn check_file(rt: HostRuntime, file: &str) -> End {
@@ -124,16 +110,15 @@ fn check_file(rt: HostRuntime, file: &str) -> End {
     }
 }
 
-/// Tells how it ended on standard error, with the line of a bad scenario or script, and ends so.
-fn end<R: Eprint>(rt: &R, ended: End) -> ExitCode {
+/// Prints how it ended on standard error, and ends so.
+fn stop<R: Eprint>(rt: &R, ended: End) -> ExitCode {
     let status = ended.number();
-    let told = match ended {
-        End::Run(Status::Ok, _) => Ok(()),
-        End::Run(Status::BadScenario | Status::BadStep, line) => eprintln!(rt;
-            "status {status} line {line}"
-        ),
-        _ => eprintln!(rt; "status {status}"),
+    let why = match ended {
+        End::Run(status, line) => return end(rt, status, line, None),
+        End::Differs => "a case does not hold; standard output has the first line that differs",
+        End::NotCases => "a file is not a list of cases; standard output has the line",
+        End::NoFile => "a file can't be opened and read",
     };
-    let _ = told;
+    let _ = eprintln!(rt; "status {status}\n{why}");
     ExitCode::from(status)
 }

@@ -4,6 +4,7 @@ ghost use Rattle.std.specs.Prelude.{◌≡◌};
 ghost use Rattle.wasi_host.specs.Host.{host_outcome, fault_outcome};
 
 use std::alloc::AllocError;
+use thiserror::Error;
 use wasi_addr::{ErrorCode, p2};
 use wasi_streams::{Fault, HostError};
 use wasi_world::{Handle, TrapKind};
@@ -23,12 +24,16 @@ pub fn of_fault<T: Drop>(done: Result<T, Fault>) -> Result<T, SocketError>
 }
 
 /// Why a call of a stream gave no value: its last operation failed, with a handle of the new error; the stream is at its end
-/// or closed; a trap; or want of memory.
-#[derive(Debug, Drop)]
+/// or closed; a trap; or out of memory.
+#[derive(Debug, Drop, Error)]
 pub enum CallError {
+    #[error("the last operation failed: {0}")]
     Failed(ErrorCode, Handle),
+    #[error("the stream is closed")]
     Closed,
+    #[error("trap: {0}")]
     Trap(TrapKind),
+    #[error("out of memory")]
     Memory(AllocError),
 }
 

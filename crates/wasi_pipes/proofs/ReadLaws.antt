@@ -6,8 +6,8 @@ use Rattle.std.specs.Result.{result_and}
 use Rattle.std.proofs.lemmas.Bool.{ne_eqb}
 use Rattle.wasi_streams.specs.declared.error.StreamError.{StreamError}
 use Rattle.wasi_streams.specs.declared.error.StreamError.TheVariants.{Closed}
-use Rattle.wasi_pipes.specs.declared.cores.fault.Fault.{Fault}
-use Rattle.wasi_pipes.specs.declared.cores.fault.Fault.TheVariants.{Unmet, Kept, Told}
+use Rattle.wasi_pipes.specs.declared.cores.fault.WorkerFault.{WorkerFault}
+use Rattle.wasi_pipes.specs.declared.cores.fault.WorkerFault.TheVariants.{Unmet, Kept, Told}
 use Rattle.wasi_pipes.specs.declared.cores.read.ReadFault.{ReadFault}
 use Rattle.wasi_pipes.specs.declared.cores.read.ReadFault.TheVariants as fault
 use Rattle.wasi_pipes.specs.declared.cores.read.ReadFlags.{ReadFlags}
@@ -95,7 +95,7 @@ all_taken_at_error events e meets told = all_taken events meets (empty_at_error 
 -- Of faults.
 
 -- with an empty slot a kept fault is told
-tells_empty : (kept : Fault ReadFault) (over : Bool) → tells_fault (Taken (result_and (admission_of kept over) (Ok 0))) ≡ is_kept kept
+tells_empty : (kept : WorkerFault ReadFault) (over : Bool) → tells_fault (Taken (result_and (admission_of kept over) (Ok 0))) ≡ is_kept kept
 tells_empty (Kept (fault.Failed code)) over = refl
 tells_empty (Kept fault.Starved) over = refl
 tells_empty (Told cause) over = refl
@@ -126,7 +126,7 @@ told_stays r (Offer len) may h = h
 told_stays r End may h = h
 told_stays r Stop may h = h
 
-closed_at_empty : (flags : ReadFlags) (kept : Fault ReadFault) → flags.fault ≡ kept → is_told kept ≡ true → Taken (take_answer flags []) ≡ Taken (Err Closed)
+closed_at_empty : (flags : ReadFlags) (kept : WorkerFault ReadFault) → flags.fault ≡ kept → is_told kept ≡ true → Taken (take_answer flags []) ≡ Taken (Err Closed)
 closed_at_empty flags Unmet e h = absurd (cc)
 closed_at_empty flags (Kept cause) e h = absurd (cc)
 closed_at_empty flags (Told cause) e h = rw e

@@ -2,7 +2,7 @@
 use Rattle.std.proofs.Common.{◌≡◌, ℕ, true, [], ◌∷◌, length, drop, Option, Some, None, Ok, refl, sym, ap, ◌∙◌, subst, arith}
 use Rattle.std.specs.Option.{option_to_list}
 use Rattle.std.proofs.lemmas.List.{drop-append-le, drop-drop, length-append, length-drop}
-use Rattle.wasi_pipes.specs.declared.cores.fault.Fault.TheVariants.{Kept}
+use Rattle.wasi_pipes.specs.declared.cores.fault.WorkerFault.TheVariants.{Kept}
 use Rattle.wasi_pipes.specs.declared.cores.read.ReadFault.TheVariants as fault
 use Rattle.wasi_pipes.specs.declared.cores.read.ReadFlags.{ReadFlags}
 use Rattle.wasi_pipes.specs.ReadRecord.{ReadRecord, ReadEvent, Offer, End, Fail, Starve, Take, Stop, ReadAnswer, Silent, Taken, answer, happens, untaken, take_answer, after_told, after_take}

@@ -9,8 +9,8 @@ use Rattle.wasi_addr.specs.declared.code.ErrorCode.{ErrorCode}
 use Rattle.wasi_world.specs.declared.outcome.TrapKind.{TrapKind}
 use Rattle.wasi_streams.specs.declared.error.StreamError.{StreamError}
 use Rattle.wasi_streams.specs.declared.error.StreamError.TheVariants.{Trap}
-use Rattle.wasi_pipes.specs.declared.cores.fault.Fault.{Fault}
-use Rattle.wasi_pipes.specs.declared.cores.fault.Fault.TheVariants.{Unmet, Kept, Told}
+use Rattle.wasi_pipes.specs.declared.cores.fault.WorkerFault.{WorkerFault}
+use Rattle.wasi_pipes.specs.declared.cores.fault.WorkerFault.TheVariants.{Unmet, Kept, Told}
 use Rattle.wasi_pipes.specs.declared.cores.write.WriteFlags.{WriteFlags}
 use Rattle.wasi_pipes.specs.declared.cores.write.Work.{Work}
 use Rattle.wasi_pipes.specs.declared.cores.write.Work.TheVariants as work
@@ -141,13 +141,13 @@ none_accepted r between accepted quiet len =
 -- Of faults.
 
 -- a kept fault is what the owner's calls tell
-tells_flush : (fault : Fault ErrorCode) (stopped : Bool) → tells_fault (Answered (admission_of fault stopped)) ≡ is_kept fault
+tells_flush : (fault : WorkerFault ErrorCode) (stopped : Bool) → tells_fault (Answered (admission_of fault stopped)) ≡ is_kept fault
 tells_flush (Kept code) stopped = refl
 tells_flush (Told code) stopped = refl
 tells_flush Unmet true = refl
 tells_flush Unmet false = refl
 
-tells_accept : (fault : Fault ErrorCode) (stopped flushing short : Bool) (k l : TrapKind) → tells_fault (Answered (result_and (admission_of fault stopped) (cond flushing (Err (Trap k)) (cond short (Err (Trap l)) (Ok tt))))) ≡ is_kept fault
+tells_accept : (fault : WorkerFault ErrorCode) (stopped flushing short : Bool) (k l : TrapKind) → tells_fault (Answered (result_and (admission_of fault stopped) (cond flushing (Err (Trap k)) (cond short (Err (Trap l)) (Ok tt))))) ≡ is_kept fault
 tells_accept (Kept code) stopped flushing short k l = refl
 tells_accept (Told code) stopped flushing short k l = refl
 tells_accept Unmet true flushing short k l = refl
@@ -155,7 +155,7 @@ tells_accept Unmet false true short k l = refl
 tells_accept Unmet false false true k l = refl
 tells_accept Unmet false false false k l = refl
 
-tells_check : (fault : Fault ErrorCode) (stopped : Bool) (len : ℕ) → tells_fault (Allowed (result_and (admission_of fault stopped) (Ok len))) ≡ is_kept fault
+tells_check : (fault : WorkerFault ErrorCode) (stopped : Bool) (len : ℕ) → tells_fault (Allowed (result_and (admission_of fault stopped) (Ok len))) ≡ is_kept fault
 tells_check (Kept code) stopped len = refl
 tells_check (Told code) stopped len = refl
 tells_check Unmet true len = refl
@@ -178,7 +178,7 @@ tells r Wrote = refl
 tells r Flushed = refl
 tells r (Failed code) = refl
 
-flush_tells : (flags : WriteFlags) (fault : Fault ErrorCode) (stopped : Bool) → flags.fault ≡ fault → (after_flush (admission_of fault stopped) flags).fault ≡ after_telling fault
+flush_tells : (flags : WriteFlags) (fault : WorkerFault ErrorCode) (stopped : Bool) → flags.fault ≡ fault → (after_flush (admission_of fault stopped) flags).fault ≡ after_telling fault
 flush_tells flags (Kept code) stopped e = ap after_telling e
 flush_tells flags (Told code) stopped e = ap after_telling e
 flush_tells flags Unmet true e = ap after_telling e
@@ -204,7 +204,7 @@ told_stays r Pop may h = h
 told_stays r Wrote may h = h
 told_stays r Flushed may h = h
 
-is_closed : (r : WriteRecord) (fault : Fault ErrorCode) → r.flags.fault ≡ fault → is_told fault ≡ true → IsClosed r
+is_closed : (r : WriteRecord) (fault : WorkerFault ErrorCode) → r.flags.fault ≡ fault → is_told fault ≡ true → IsClosed r
 is_closed r Unmet e h = absurd (cc)
 is_closed r (Kept code) e h = absurd (cc)
 is_closed r (Told code) e h = record { accept = λ len. rw e; flush = rw e; check = rw e }

@@ -5,8 +5,8 @@ use Rattle.std.specs.Result.{result_and}
 use Rattle.wasi_addr.specs.declared.code.ErrorCode.{ErrorCode}
 use Rattle.wasi_streams.specs.declared.error.StreamError.{StreamError}
 use Rattle.wasi_streams.specs.declared.error.StreamError.TheVariants.{LastOperationFailed, Closed, Memory}
-use Rattle.wasi_pipes.specs.declared.cores.fault.Fault.{Fault}
-use Rattle.wasi_pipes.specs.declared.cores.fault.Fault.TheVariants.{Unmet, Kept, Told}
+use Rattle.wasi_pipes.specs.declared.cores.fault.WorkerFault.{WorkerFault}
+use Rattle.wasi_pipes.specs.declared.cores.fault.WorkerFault.TheVariants.{Unmet, Kept, Told}
 use Rattle.wasi_pipes.specs.declared.cores.read.ReadFault.{ReadFault}
 use Rattle.wasi_pipes.specs.declared.cores.read.ReadFault.TheVariants.{Failed, Starved}
 use Rattle.wasi_pipes.specs.declared.cores.read.ReadFlags.{ReadFlags}
@@ -47,7 +47,7 @@ error_of Starved = Memory alloc_error
 
 -- what the owner is answered where nothing is to be taken: a kept fault, or that the stream is closed, by its end or a
 -- stop (it is over then) or since its fault was told
-abbrev pub admission_of : Fault ReadFault → Bool → Result (Unit {0}) StreamError
+abbrev pub admission_of : WorkerFault ReadFault → Bool → Result (Unit {0}) StreamError
 admission_of (Kept fault) over = Err (error_of fault)
 admission_of (Told fault) over = Err Closed
 admission_of Unmet true = Err Closed

@@ -6,8 +6,8 @@ use Rattle.wasi_addr.specs.declared.code.ErrorCode.{ErrorCode}
 use Rattle.wasi_world.specs.declared.outcome.TrapKind.TheVariants as trap
 use Rattle.wasi_streams.specs.declared.error.StreamError.{StreamError}
 use Rattle.wasi_streams.specs.declared.error.StreamError.TheVariants.{LastOperationFailed, Closed, Trap}
-use Rattle.wasi_pipes.specs.declared.cores.fault.Fault.{Fault}
-use Rattle.wasi_pipes.specs.declared.cores.fault.Fault.TheVariants.{Unmet, Kept, Told}
+use Rattle.wasi_pipes.specs.declared.cores.fault.WorkerFault.{WorkerFault}
+use Rattle.wasi_pipes.specs.declared.cores.fault.WorkerFault.TheVariants.{Unmet, Kept, Told}
 use Rattle.wasi_pipes.specs.declared.cores.write.WriteFlags.{WriteFlags}
 use Rattle.wasi_pipes.specs.declared.cores.write.Work.{Work}
 use Rattle.wasi_pipes.specs.declared.cores.write.Work.TheVariants as work
@@ -56,7 +56,7 @@ abbrev pub budget : WriteRecord → ℕ
 budget r = r.initial - sum (unwritten r)
 
 -- what the owner is answered before all else: a kept fault, or that the stream is closed, by a stop or since its fault was told
-abbrev pub admission_of : Fault ErrorCode → Bool → Result (Unit {0}) StreamError
+abbrev pub admission_of : WorkerFault ErrorCode → Bool → Result (Unit {0}) StreamError
 admission_of (Kept code) stopped = Err (LastOperationFailed code)
 admission_of (Told code) stopped = Err Closed
 admission_of Unmet true = Err Closed

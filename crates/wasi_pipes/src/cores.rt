@@ -4,6 +4,6 @@ pub mod fault;
 pub mod read;
 pub mod write;
 
-pub use fault::Fault;
+pub use fault::WorkerFault;
 pub use read::{ReadCore, ReadFault};
 pub use write::{Work, WriteCore};

@@ -6,4 +6,4 @@
 
 pub mod cores;
 
-pub use cores::{Fault, ReadCore, ReadFault, Work, WriteCore};
+pub use cores::{ReadCore, ReadFault, Work, WorkerFault, WriteCore};

@@ -1,8 +1,8 @@
 -- What the lock of a read stream keeps: how the core stands to what each side knows.
 use Rattle.std.specs.Prelude.{◌≡◌, ◌+◌, Bool, true, false, length, None}
 use Rattle.std.specs.Option.{option_to_list}
-use Rattle.wasi_pipes.specs.declared.cores.fault.Fault.{Fault}
-use Rattle.wasi_pipes.specs.declared.cores.fault.Fault.TheVariants.{Unmet, Kept, Told}
+use Rattle.wasi_pipes.specs.declared.cores.fault.WorkerFault.{WorkerFault}
+use Rattle.wasi_pipes.specs.declared.cores.fault.WorkerFault.TheVariants.{Unmet, Kept, Told}
 use Rattle.wasi_pipes.specs.declared.cores.read.ReadFault.{ReadFault}
 use Rattle.wasi_pipes.specs.declared.cores.read.ReadFault.TheVariants as fault
 use Rattle.wasi_pipes.specs.ReadState.{ReadState, is_ready}
@@ -16,14 +16,14 @@ stage_of (fault.Failed code) = Failed
 stage_of fault.Starved = Starved
 
 -- how far the worker is, by its fault and whether it met the end
-abbrev pub stage_by : Fault ReadFault → Bool → Stage
+abbrev pub stage_by : WorkerFault ReadFault → Bool → Stage
 stage_by Unmet false = Open
 stage_by Unmet true = Ended
 stage_by (Kept fault) ended = stage_of fault
 stage_by (Told fault) ended = stage_of fault
 
 -- the fault that was told
-abbrev pub told_by : Fault ReadFault → Stage
+abbrev pub told_by : WorkerFault ReadFault → Stage
 told_by Unmet = Open
 told_by (Kept fault) = Open
 told_by (Told fault) = stage_of fault

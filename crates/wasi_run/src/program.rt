@@ -1,6 +1,6 @@
 //! What the program does with its words.
 
-ghost use Rattle.std.specs.Prelude.{◌≡◌, ◌↔◌, ◌+◌, ◌≤◌, ◌<◌, ◌^◌, ℕ, None, Some, IfOk, IfErr, map, string_bytes, length, [], false, List};
+ghost use Rattle.std.specs.Prelude.{◌≡◌, ◌↔◌, ◌+◌, ◌≤◌, ◌<◌, ◌^◌, ℕ, None, Some, IfOk, IfErr, IfNone, IfSome, map, string_bytes, length, [], false, List};
 ghost use Rattle.wasi_world.specs.Io.{Gave};
 ghost use Rattle.wasi_world.specs.Scripted.{seen_by};
 ghost use Rattle.wasi_world.specs.Seen.{Rose};
@@ -52,6 +52,25 @@ impl Status {
             Status::WriteFault => 6,
             Status::Memory => 7,
             Status::ScenarioFault => 8,
+        }
+    }
+
+    /// The status with this number.
+    pub fn of_number(number: u8) -> Option<Status>
+        ensures some { IfSome result (λ s. number_of s ≡ number) }
+        ensures none { IfNone result (8 < number) }
+    {
+        match number {
+            0 => Some(Status::Ok),
+            1 => Some(Status::BadWords),
+            2 => Some(Status::BadScenario),
+            3 => Some(Status::BadStep),
+            4 => Some(Status::TooLong),
+            5 => Some(Status::ReadFault),
+            6 => Some(Status::WriteFault),
+            7 => Some(Status::Memory),
+            8 => Some(Status::ScenarioFault),
+            _ => None,
         }
     }
 

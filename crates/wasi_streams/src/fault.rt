@@ -1,15 +1,19 @@
 //! How host calls end.
 
 use std::alloc::AllocError;
+use std::fmt::Debug;
+use thiserror::Error;
 use wasi_addr::p2;
 use wasi_world::{Refusal, TrapKind};
 
 /// Why a host call that tells no codes gave no value.
-#[derive(Debug, Drop)]
+#[derive(Debug, Drop, Error)]
 pub enum Fault {
     /// The call broke a rule, which ends the guest's run.
+    #[error("trap: {0}")]
     Trap(TrapKind),
-    /// Memory was wanted.
+    /// Memory ran out.
+    #[error("out of memory")]
     Memory(AllocError),
 }
 
@@ -24,15 +28,19 @@ impl From<AllocError> for Fault {
     }
 }
 
-/// Why a host call gave no value (`SocketError` of the crate wasmtime-wasi, with want of memory beside it). The codes are those
+/// Why a host call gave no value (`SocketError` of the crate wasmtime-wasi, with out of memory beside it). The codes are those
 /// of one generation of the interface.
-#[derive(Debug, Drop)]
+#[derive(Debug, Drop, Error)]
+#[error_bound(C: Debug)]
 pub enum HostError<C> {
-    /// The guest is told this code.
+    /// This code is returned to the guest.
+    #[error("refused: {0:?}")]
     Code(C),
     /// The call broke a rule, which ends the guest's run.
+    #[error("trap: {0}")]
     Trap(TrapKind),
-    /// Memory was wanted.
+    /// Memory ran out.
+    #[error("out of memory")]
     Memory(AllocError),
 }
 

@@ -9,21 +9,26 @@ ghost use Rattle.wasi_streams.specs.Entries.{slots_of, IsPlace, Rises, IsPut, Is
 
 use std::alloc::{AllocError, Global};
 use std::marker::Model;
+use thiserror::Error;
 
 /// At most so many handles are live at a time.
 const MOST_LIVE: usize = 65536;
 
-/// Why a table refused a call (`ResourceTableError` of the crate wasmtime, with want of memory beside it). A call that is
+/// Why a table refused a call (`ResourceTableError` of the crate wasmtime, with out of memory beside it). A call that is
 /// refused leaves the table as it was.
-#[derive(Clone, Copy, Debug, PartialEq, Eq)]
+#[derive(Clone, Copy, Debug, PartialEq, Eq, Error)]
 pub enum TableError {
     /// The handle isn't live; at a push, the handle of the parent.
+    #[error("no such handle")]
     NoSuchHandle,
     /// The handle has live children.
+    #[error("the handle has live children")]
     HasChildren,
     /// 65,536 handles are live, or 4,294,967,294 were made.
+    #[error("the table of handles is full")]
     Full,
-    /// Memory was wanted.
+    /// Memory ran out.
+    #[error("out of memory")]
     Memory,
 }
 

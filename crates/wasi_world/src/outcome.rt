@@ -1,6 +1,7 @@
 //! How calls end, and what a guest is allowed.
 
 use std::alloc::AllocError;
+use thiserror::Error;
 use wasi_addr::ErrorCode;
 
 /// A poll's answer: a value, or nothing yet.
@@ -10,10 +11,12 @@ pub enum Answer<T> {
     Pending,
 }
 
-/// Why an operation on a socket was refused: a code, or want of memory.
-#[derive(Debug, Drop)]
+/// Why an operation on a socket was refused: a code, or out of memory.
+#[derive(Debug, Drop, Error)]
 pub enum Refusal {
+    #[error("refused: {0}")]
     Code(ErrorCode),
+    #[error("out of memory")]
     Memory(AllocError),
 }
 
@@ -29,20 +32,37 @@ impl From<AllocError> for Refusal {
 }
 
 /// Why a guest's call ends its run.
-#[derive(Clone, Copy, Debug, PartialEq, Eq)]
+#[derive(Clone, Copy, Debug, PartialEq, Eq, Error)]
 pub enum TrapKind {
     /// A handle that isn't live, or is of the wrong kind.
+    #[error("no such handle")]
     NoSuchHandle,
     /// A resource with a live child was dropped.
+    #[error("the handle has live children")]
     HasChildren,
     /// 65,536 handles are live, or 4,294,967,294 were made.
+    #[error("the table of handles is full")]
     Full,
+    /// A poll of no pollable.
+    #[error("the list of pollables is empty")]
     EmptyList,
+    /// A write of more than its permit, or without one.
+    #[error("more was written than was permitted")]
     NotPermitted,
+    /// A write of more than is free in a pipe.
+    #[error("more was written than the pipe has room for")]
     Capacity,
+    /// A blocking write of more than 4096 bytes.
+    #[error("more than 4096 bytes in one blocking write")]
     TooLong,
+    /// Datagram streams of the socket are live.
+    #[error("the socket has live datagram streams")]
     StreamsAlive,
+    /// A write of more than the stream's budget.
+    #[error("more was written than the budget allows")]
     Budget,
+    /// A write while a flush is pending.
+    #[error("a flush is pending")]
     FlushPending,
 }
 

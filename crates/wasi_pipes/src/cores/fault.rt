@@ -5,7 +5,7 @@ ghost use Rattle.wasi_pipes.specs.Fault.{kept_cause, after_telling, is_met};
 
 /// What became of a stream's fault and its cause.
 #[derive(Clone, Copy, Debug, PartialEq, Eq)]
-pub enum Fault<C> {
+pub enum WorkerFault<C> {
     /// None was met.
     Unmet,
     /// It is kept for the owner.
@@ -14,18 +14,18 @@ pub enum Fault<C> {
     Told(C),
 }
 
-impl<C: Copy> Fault<C> {
+impl<C: Copy> WorkerFault<C> {
     /// The cause of a kept fault, which is told by this.
     pub fn tell(&mut self) -> Option<C>
         ensures cause { result ≡ kept_cause self.old }
         ensures told { self.new ≡ after_telling self.old }
     {
         match *self {
-            Fault::Kept(cause) => {
-                *self = Fault::Told(cause);
+            WorkerFault::Kept(cause) => {
+                *self = WorkerFault::Told(cause);
                 Some(cause)
             }
-            Fault::Unmet | Fault::Told(_) => None,
+            WorkerFault::Unmet | WorkerFault::Told(_) => None,
         }
     }
 
@@ -34,8 +34,8 @@ impl<C: Copy> Fault<C> {
         ensures { result ≡ is_met self.now }
     {
         match self {
-            Fault::Unmet => false,
-            Fault::Kept(_) | Fault::Told(_) => true,
+            WorkerFault::Unmet => false,
+            WorkerFault::Kept(_) | WorkerFault::Told(_) => true,
         }
     }
 }

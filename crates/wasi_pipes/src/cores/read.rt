@@ -7,7 +7,7 @@ ghost use Rattle.wasi_pipes.specs.ReadState.{fresh_state, is_ready, StandsFor, F
 
 pub mod laws;
 
-use super::fault::Fault;
+use super::fault::WorkerFault;
 use std::alloc::AllocError;
 use std::marker::Model;
 use wasi_addr::ErrorCode;
@@ -28,7 +28,7 @@ pub struct ReadFlags {
     /// The worker met the end of its source.
     pub ended: bool,
     /// The worker's fault.
-    pub fault: Fault<ReadFault>,
+    pub fault: WorkerFault<ReadFault>,
     /// The owner wants no more of the stream.
     pub stopped: bool,
 }
@@ -83,7 +83,7 @@ impl ReadCore {
             slot: None,
             flags: ReadFlags {
                 ended: false,
-                fault: Fault::Unmet,
+                fault: WorkerFault::Unmet,
                 stopped: false,
             },
         }
@@ -124,20 +124,20 @@ impl ReadCore {
 
     /// A read failed, which is the worker's first fault: it is kept for the owner.
     pub fn fail(&mut self, code: ErrorCode)
-        requires { self.old.flags.fault ≡ Fault.Unmet }
-        ensures state { self.new ≡ record self.old { flags = record self.old.flags { fault = Fault.Kept (ReadFault.Failed code) } } }
+        requires { self.old.flags.fault ≡ WorkerFault.Unmet }
+        ensures state { self.new ≡ record self.old { flags = record self.old.flags { fault = WorkerFault.Kept (ReadFault.Failed code) } } }
         ensures follows { Follows self.old (Fail code) Silent self.new }
     {
-        self.flags.fault = Fault::Kept(ReadFault::Failed(code));
+        self.flags.fault = WorkerFault::Kept(ReadFault::Failed(code));
     }
 
     /// The worker found no memory for a chunk, which is its first fault: it is kept for the owner.
     pub fn starve(&mut self)
-        requires { self.old.flags.fault ≡ Fault.Unmet }
-        ensures state { self.new ≡ record self.old { flags = record self.old.flags { fault = Fault.Kept ReadFault.Starved } } }
+        requires { self.old.flags.fault ≡ WorkerFault.Unmet }
+        ensures state { self.new ≡ record self.old { flags = record self.old.flags { fault = WorkerFault.Kept ReadFault.Starved } } }
         ensures follows { Follows self.old Starve Silent self.new }
     {
-        self.flags.fault = Fault::Kept(ReadFault::Starved);
+        self.flags.fault = WorkerFault::Kept(ReadFault::Starved);
     }
 
     /// The owner takes the length in the slot. With an empty slot the answer is 0, for which it is to wait.

@@ -7,7 +7,7 @@ ghost use Rattle.wasi_pipes.specs.WriteState.{fresh_state, initial_of, outstandi
 
 pub mod laws;
 
-use super::fault::Fault;
+use super::fault::WorkerFault;
 use std::alloc::{AllocError, Global};
 use std::collections::VecDeque;
 use std::marker::Model;
@@ -33,7 +33,7 @@ pub struct WriteFlags {
     /// A flush was asked for and isn't done.
     pub flushing: bool,
     /// The worker's fault.
-    pub fault: Fault<ErrorCode>,
+    pub fault: WorkerFault<ErrorCode>,
     /// The owner wants no more of the stream.
     pub stopped: bool,
 }
@@ -104,7 +104,7 @@ impl WriteCore {
             hand: None,
             flags: WriteFlags {
                 flushing: false,
-                fault: Fault::Unmet,
+                fault: WorkerFault::Unmet,
                 stopped: false,
             },
         }
@@ -256,11 +256,11 @@ impl WriteCore {
 
     /// The worker's first fault: it is kept for the owner, and ends a pending flush.
     pub fn failed(&mut self, code: ErrorCode)
-        requires { self.old.state.flags.fault ≡ Fault.Unmet }
-        ensures state { self.new ≡ with_flags self.old (record self.old.state.flags { flushing = false; fault = Fault.Kept code }) }
+        requires { self.old.state.flags.fault ≡ WorkerFault.Unmet }
+        ensures state { self.new ≡ with_flags self.old (record self.old.state.flags { flushing = false; fault = WorkerFault.Kept code }) }
         ensures follows { Follows self.old.state (Failed code) Silent self.new.state }
     {
-        self.flags.fault = Fault::Kept(code);
+        self.flags.fault = WorkerFault::Kept(code);
         self.flags.flushing = false;
     }
 

@@ -6,7 +6,7 @@
 ghost use Rattle.std.specs.Prelude.{◌≡◌, ◌≢◌, ℕ, ◌+◌, ◌≤◌, true, false, List, [], ◌∷◌, ◌++◌, sum, count_by, Ok, Err};
 ghost use Rattle.std.specs.List.{AllByRecursion};
 ghost use Rattle.wasi_streams.specs.declared.error.StreamError.{StreamError};
-ghost use Rattle.wasi_pipes.specs.declared.cores.fault.Fault.TheVariants.{Unmet};
+ghost use Rattle.wasi_pipes.specs.declared.cores.fault.WorkerFault.TheVariants.{Unmet};
 ghost use Rattle.wasi_pipes.specs.declared.cores.write.Work.TheVariants as work;
 ghost use Rattle.wasi_pipes.specs.WriteRecord.{WriteRecord, WriteEvent, Accept, Flush, Check, Pop, Flushed, Answered, Allowed, Given, fresh, answer, happens, May, Meets, run, trace, budget, unwritten, queued, accepted_lengths, popped_lengths, tells_fault, ends_flush, asks, IsClosed};
 

@@ -1,0 +1,70 @@
+//! What a program prints on standard error when it stops: its status, for programs, and what is wrong, for a person.
+
+use crate::lines::Front;
+use std::io;
+use std::process::ExitCode;
+use wasi_run::Status;
+
+/// What a line of a scenario may be.
+const SCENARIO_LINES: &str = "a line such as `check no`, `read bytes 0102` or `write took 1`, ended by a newline, in a file of at most 1048576 bytes";
+
+/// What a line of a script may be.
+const SCRIPT_LINES: &str = "a call such as `0 network`, `turn` or `poll 3`, with the number of a context in front where it is a guest's, ended by a newline (--help lists the calls)";
+
+/// Writes a text to standard output.
+pub fn print<R: Print + Eprint>(rt: &R, text: &str) -> ExitCode {
+    match rt.print(text) {
+        Ok(()) => ExitCode::SUCCESS,
+        Err(_) => end(rt, Status::WriteFault, 0, None),
+    }
+}
+
+/// Prints the status on standard error, unless it is Ok, with the line of a bad scenario or script; then, on a line of its own,
+/// what is wrong in a person's words, with the front of that line. Returns the status as the program's.
+pub fn end<R: Eprint>(rt: &R, status: Status, line: u32, front: Option<Front>) -> ExitCode {
+    let number = status.number();
+    let printed = match status {
+        Status::Ok => return ExitCode::SUCCESS,
+        Status::BadScenario => bad_line(rt, number, "scenario.txt", line, front, SCENARIO_LINES),
+        Status::BadStep => bad_line(rt, number, "the script", line, front, SCRIPT_LINES),
+        other => eprintln!(rt; "status {number}\n{}", reason(other)),
+    };
+    let _ = printed;
+    ExitCode::from(number)
+}
+
+/// Prints the status with its line, and what was expected of that line.
+fn bad_line<R: Eprint>(
+    rt: &R,
+    number: u8,
+    input: &str,
+    line: u32,
+    front: Option<Front>,
+    expected: &str,
+) -> io::Result<()> {
+    match front {
+        Some(front) => eprintln!(rt;
+            "status {number} line {line}\nline {line} of {input} is `{front}`; expected {expected}"
+        ),
+        None => eprintln!(rt;
+            "status {number} line {line}\nline {line} of {input} is not {expected}"
+        ),
+    }
+}
+
+/// What is wrong, where it is no line.
+fn reason(status: Status) -> &'static str {
+    match status {
+        Status::Ok => "nothing is wrong",
+        Status::BadWords => "the words of the command line are none that --help lists",
+        Status::BadScenario => "scenario.txt has a bad line",
+        Status::BadStep => "the script has a bad line",
+        Status::TooLong => "the script is longer than LIMIT bytes; its whole lines within them were done",
+        Status::ReadFault => "a read of standard input failed",
+        Status::WriteFault => "a write to standard output failed",
+        Status::Memory => "out of memory",
+        Status::ScenarioFault => {
+            "scenario.txt in this folder can't be opened and read (an empty file is a network that plans nothing)"
+        }
+    }
+}

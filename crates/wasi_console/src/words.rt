@@ -1,0 +1,23 @@
+//! The words of a command line.
+
+use std::env::Env;
+use std::{env, io};
+use wasi_run::Status;
+
+/// The words after the program's name, in order. A word that isn't UTF-8 is a faulty command line: `BadWords`. Takes memory for
+/// the words; where it runs out: `Memory`.
+pub fn words<R: Env + AllocGlobal>(rt: &R) -> Result<Vec<String>, Status> {
+    let mut words = Vec::new(rt.alloc());
+    let args = env::args(rt).map_err(status_of)?;
+    for word in args.skip(1) {
+        words.push(word).map_err(|_| Status::Memory)?;
+    }
+    Ok(words)
+}
+
+fn status_of(error: io::Error) -> Status {
+    match error.kind() {
+        io::ErrorKind::OutOfMemory => Status::Memory,
+        _ => Status::BadWords,
+    }
+}
