@@ -15,3 +15,5 @@ pub mod quiet;
 mod replies;
 #[cfg(test)]
 mod statuses;
+#[cfg(test)]
+mod shown;

@@ -2,9 +2,9 @@
 use Rattle.std.proofs.Common.{◌≡◌, ◌∙◌, ap, sym, refl, ℕ, ◌+◌, ◌≤◌, List, [], length, take, Result, Ok, Err, append-nil, inl, inr, arith}
 use Rattle.std.proofs.lemmas.List.{take_all}
 use Rattle.wasi_world.specs.declared.outcome.WasiSocketsCtx.{WasiSocketsCtx}
-use Rattle.wasi_world.specs.Seen.{Seen, Rose}
+use Rattle.wasi_world.specs.Seen.{Seen}
 use Rattle.wasi_world.specs.Asks.{Give, Reaches}
-use Rattle.wasi_world.specs.Io.{Reading, Writing, Gave, Took, CountRose}
+use Rattle.wasi_world.specs.Io.{Reading, Writing, Gave, Took}
 use Rattle.wasi_host.specs.declared.machine.Machine.{Machine}
 use Rattle.wasi_steps.specs.declared.step.Step.{Step}
 use Rattle.wasi_steps.specs.declared.reply.Reply.{Reply}
@@ -21,7 +21,7 @@ use Rattle.wasi_session.specs.Lines.{after_lines, StartWith}
 use Rattle.wasi_host.specs.Closing.{AsksNothing}
 use Rattle.wasi_session.specs.Ran.{LinesRan, Beyond, Wrote, texts}
 use Rattle.wasi_run.specs.Script.{Answers, RanScript}
-use Rattle.wasi_run.specs.Causes.{DoneLines, ReadsAll, StopsAtTrap, StopsAtBadStep, StopsTooLong}
+use Rattle.wasi_run.specs.Causes.{DoneLines, ReadsAll, StopsAtTrap, StopsAtBadStep, StopsTooLong, StopsAtReadFault, StopsAtWriteFault, StopsForMemory}
 
 -- every reply was written, and nothing was asked beyond
 abbrev IsWhole : Result LinesEnd RunError → Type 0
@@ -130,24 +130,66 @@ module _ {contexts : List WasiSocketsCtx} {limit : ℕ} {before after : Reading}
   long_by text gave (Err ReadFault) r h quiet = cc
   long_by text gave (Err WriteFault) r h quiet = cc
 
-module _ {contexts : List WasiSocketsCtx} {w_old stopped : Seen} {k_old k_new : Writing} {all : List (List ℕ)} {last : Machine} (limit : ℕ) (text : List ℕ) (before after : Reading) where
-  fault_by : (outcome : Result LinesEnd RunError) → LinesRan contexts w_old stopped k_old k_new first_state 1 all outcome last → Answers limit text before after outcome (Err ReadFault) → Rose before.faults after.faults
-  fault_by (Ok lines.AllDone) r h = h
-  fault_by (Ok lines.Trapped) r h = absurd h
-  fault_by (Err Memory) r h = cc
-  fault_by (Err (BadStep m)) r h = cc
-  fault_by (Err TooLong) r h = cc
-  fault_by (Err ReadFault) r h = absurd r.cause
-  fault_by (Err WriteFault) r h = cc
+  fault_by : (text : List ℕ) → Gave before text after → (outcome : Result LinesEnd RunError) → LinesRan contexts w_old stopped k_old k_new first_state 1 (lines_of (take limit text)) outcome last → Answers limit text before after outcome (Err ReadFault) → AsksNothing stopped w_new → StopsAtReadFault contexts limit before after k_old k_new w_old w_new
+  fault_by text gave (Ok lines.AllDone) r h quiet = record { done = done_lines text gave r tt quiet; rose = h; all = r.cause.count; no_trap = r.wrote.0 }
+  fault_by text gave (Ok lines.Trapped) r h quiet = absurd h
+  fault_by text gave (Err Memory) r h quiet = cc
+  fault_by text gave (Err (BadStep m)) r h quiet = cc
+  fault_by text gave (Err TooLong) r h quiet = cc
+  fault_by text gave (Err ReadFault) r h quiet = absurd r.cause
+  fault_by text gave (Err WriteFault) r h quiet = cc
 
-  cut_by : (outcome : Result LinesEnd RunError) → LinesRan contexts w_old stopped k_old k_new first_state 1 all outcome last → Answers limit text before after outcome (Err WriteFault) → CountRose k_old k_new
-  cut_by (Ok lines.AllDone) r h = absurd h
-  cut_by (Ok lines.Trapped) r h = absurd h
-  cut_by (Err Memory) r h = cc
-  cut_by (Err (BadStep m)) r h = cc
-  cut_by (Err TooLong) r h = cc
-  cut_by (Err ReadFault) r h = cc
-  cut_by (Err WriteFault) r h = r.counted
+  cut_by : (text : List ℕ) → Gave before text after → (outcome : Result LinesEnd RunError) → LinesRan contexts w_old stopped k_old k_new first_state 1 (lines_of (take limit text)) outcome last → Answers limit text before after outcome (Err WriteFault) → AsksNothing stopped w_new → StopsAtWriteFault contexts limit before after k_old k_new w_old w_new
+  cut_by text gave (Ok lines.AllDone) r h quiet = absurd h
+  cut_by text gave (Ok lines.Trapped) r h quiet = absurd h
+  cut_by text gave (Err Memory) r h quiet = cc
+  cut_by text gave (Err (BadStep m)) r h quiet = cc
+  cut_by text gave (Err TooLong) r h quiet = cc
+  cut_by text gave (Err ReadFault) r h quiet = cc
+  cut_by text gave (Err WriteFault) r h quiet =
+      let b = r.beyond in
+      record {
+        rose = r.counted;
+        text = text;
+        gave = gave;
+        steps = r.steps;
+        first_lines = rw (b.0, append-nil) at r.first_lines;
+        replies = r.replies;
+        state = r.state;
+        stopped = stopped;
+        ran = rw b.1 (r.ran []);
+        quiet = quiet;
+        answered = r.answered;
+        written = r.written;
+        took = r.took;
+        cut = r.wrote;
+      }
+
+  memory_by : (text : List ℕ) → Gave before text after → (outcome : Result LinesEnd RunError) → LinesRan contexts w_old stopped k_old k_new first_state 1 (lines_of (take limit text)) outcome last → Answers limit text before after outcome (Err Memory) → AsksNothing stopped w_new → StopsForMemory contexts limit before after k_old k_new w_old w_new
+  memory_by text gave (Ok lines.AllDone) r h quiet = absurd h
+  memory_by text gave (Ok lines.Trapped) r h quiet = absurd h
+  memory_by text gave (Err Memory) r h quiet = record {
+    text = text;
+    gave = gave;
+    steps = r.steps;
+    met = r.met;
+    first_lines = r.first_lines;
+    replies = r.replies;
+    state = r.state;
+    seen = r.seen;
+    ran = r.ran [];
+    stopped = stopped;
+    first_asks = r.beyond;
+    quiet = quiet;
+    answered = r.answered;
+    took = rw r.wrote.1 at r.took;
+    counted = r.counted;
+    no_trap = r.wrote.0;
+  }
+  memory_by text gave (Err (BadStep m)) r h quiet = cc
+  memory_by text gave (Err TooLong) r h quiet = cc
+  memory_by text gave (Err ReadFault) r h quiet = cc
+  memory_by text gave (Err WriteFault) r h quiet = cc
 
 module _ {contexts : List WasiSocketsCtx} {limit : ℕ} {before after : Reading} {w_old w_new : Seen} {k_old k_new : Writing} where
   pub reads_all : RanScript contexts limit before after k_old k_new w_old w_new (Ok end.AllRead) → ReadsAll contexts limit before after k_old k_new w_old w_new
@@ -162,8 +204,11 @@ module _ {contexts : List WasiSocketsCtx} {limit : ℕ} {before after : Reading}
   pub stops_too_long : RanScript contexts limit before after k_old k_new w_old w_new (Err TooLong) → StopsTooLong contexts limit before after k_old k_new w_old w_new
   stops_too_long h = long_by h.over.text h.over.gave h.over.outcome h.over.ran h.over.answer h.quiet
 
-  pub read_rose : RanScript contexts limit before after k_old k_new w_old w_new (Err ReadFault) → Rose before.faults after.faults
-  read_rose h = fault_by limit h.over.text before after h.over.outcome h.over.ran h.over.answer
+  pub stops_at_read_fault : RanScript contexts limit before after k_old k_new w_old w_new (Err ReadFault) → StopsAtReadFault contexts limit before after k_old k_new w_old w_new
+  stops_at_read_fault h = fault_by h.over.text h.over.gave h.over.outcome h.over.ran h.over.answer h.quiet
 
-  pub write_rose : RanScript contexts limit before after k_old k_new w_old w_new (Err WriteFault) → CountRose k_old k_new
-  write_rose h = cut_by limit h.over.text before after h.over.outcome h.over.ran h.over.answer
+  pub stops_at_write_fault : RanScript contexts limit before after k_old k_new w_old w_new (Err WriteFault) → StopsAtWriteFault contexts limit before after k_old k_new w_old w_new
+  stops_at_write_fault h = cut_by h.over.text h.over.gave h.over.outcome h.over.ran h.over.answer h.quiet
+
+  pub stops_for_memory : RanScript contexts limit before after k_old k_new w_old w_new (Err Memory) → StopsForMemory contexts limit before after k_old k_new w_old w_new
+  stops_for_memory h = memory_by h.over.text h.over.gave h.over.outcome h.over.ran h.over.answer h.quiet

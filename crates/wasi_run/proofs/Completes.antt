@@ -26,7 +26,7 @@ never script h = cc
 inside : (a b : List ℕ) → Some a ≡ Some b → a ≡ b
 inside a b h = cc
 
-front_of : (text : List ℕ) (left : Option (List ℕ)) (script : List ℕ) → Some script ≡ option_map (λ l. text ++ l) left → (more : List ℕ) × (left ≡ Some more) × (script ≡ text ++ more)
+pub front_of : (text : List ℕ) (left : Option (List ℕ)) (script : List ℕ) → Some script ≡ option_map (λ l. text ++ l) left → (more : List ℕ) × (left ≡ Some more) × (script ≡ text ++ more)
 front_of text None script h = absurd (never script h)
 front_of text (Some more) script h = (more, refl, inside script (text ++ more) h)
 

@@ -6,3 +6,4 @@ pub mod Parsed
 pub mod Generate
 pub mod Counted
 pub mod TextStreams
+pub mod Completeness

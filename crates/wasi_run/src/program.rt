@@ -5,6 +5,7 @@ ghost use Rattle.wasi_world.specs.Io.{Gave};
 ghost use Rattle.wasi_world.specs.Scripted.{seen_by};
 ghost use Rattle.wasi_world.specs.Seen.{Rose};
 ghost use Rattle.wasi_run.specs.Program.{run_in, generate_in, command_in, number_of, status_of, bad_line_of, ReadScenario, RanText, RanMain, RunEnds, GeneratedEnds, EndsBy};
+ghost use Rattle.wasi_run.specs.Completeness.{ProgramCompletes};
 ghost use Rattle.wasi_run.specs.Parsed.{IsPlanned, IsParsed, TextEnds};
 ghost use Rattle.wasi_run.specs.Script.{AreNumbered};
 
@@ -339,6 +340,7 @@ pub fn run_main<C: Source, S: Source, K: Sink>(
     mut sink: K,
 ) -> Done<S, K>
     ensures ran { RanMain (map (λ w. string_bytes w) words.now) (C.reading scenario.old) (C.reading scenario.new) (S.reading source) (S.reading result.source) (K.writing sink) (K.writing result.sink) result.log.items result.status result.line }
+    ensures complete { ProgramCompletes (command_in (map (λ w. string_bytes w) words.now)) (C.reading scenario.old) (C.reading scenario.new) (S.reading source) (S.reading result.source) (K.writing sink) (K.writing result.sink) result.status }
     ensures words { (result.status ≡ 1) ↔ (command_in (map (λ w. string_bytes w) words.now) ≡ None) }
 {
     let ended = run_words(alloc, words, scenario, &mut source, &mut sink);

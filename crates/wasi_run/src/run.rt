@@ -1,13 +1,11 @@
 //! Runs a script: reads its lines, does them in order, and writes one reply per line.
 
 ghost use Rattle.std.specs.Prelude.{◌≡◌, ℕ, ◌<◌, ◌^◌, OnOk, length, take, false, true};
-ghost use Rattle.wasi_world.specs.Seen.{Rose};
-ghost use Rattle.wasi_world.specs.Io.{CountRose};
 ghost use Rattle.wasi_host.specs.Machine.{first_state};
 ghost use Rattle.wasi_host.specs.Closing.{IsFresh, HasClosedAll};
 ghost use Rattle.wasi_run.specs.Script.{AreNumbered, RanOver, RanScript, Completes};
 ghost use Rattle.wasi_run.specs.Headline.{RunsLicensed};
-ghost use Rattle.wasi_run.specs.Causes.{BeginsRun, DoneLines, ReadsAll, StopsAtTrap, StopsAtBadStep, StopsTooLong};
+ghost use Rattle.wasi_run.specs.Causes.{BeginsRun, DoneLines, ReadsAll, StopsAtTrap, StopsAtBadStep, StopsTooLong, StopsAtReadFault, StopsAtWriteFault, StopsForMemory};
 
 use std::alloc::Global;
 use wasi_session::lines::{LinesEnd, do_piece};
@@ -137,8 +135,21 @@ pub fn run_script<W: World, S: Source, K: Sink>(
         (S.reading reader.old) (S.reading reader.new)
         (K.writing writer.old) (K.writing writer.new)
         (W.seen world.old) (W.seen world.new) }
-    ensures read_fault { result ≡ Err RunError.ReadFault → Rose (S.reading reader.old).faults (S.reading reader.new).faults }
-    ensures write_fault { result ≡ Err RunError.WriteFault → CountRose (K.writing writer.old) (K.writing writer.new) }
+    ensures read_fault { result ≡ Err RunError.ReadFault →
+        StopsAtReadFault contexts.old.items limit
+        (S.reading reader.old) (S.reading reader.new)
+        (K.writing writer.old) (K.writing writer.new)
+        (W.seen world.old) (W.seen world.new) }
+    ensures write_fault { result ≡ Err RunError.WriteFault →
+        StopsAtWriteFault contexts.old.items limit
+        (S.reading reader.old) (S.reading reader.new)
+        (K.writing writer.old) (K.writing writer.new)
+        (W.seen world.old) (W.seen world.new) }
+    ensures memory { result ≡ Err RunError.Memory →
+        StopsForMemory contexts.old.items limit
+        (S.reading reader.old) (S.reading reader.new)
+        (K.writing writer.old) (K.writing writer.new)
+        (W.seen world.old) (W.seen world.new) }
 
     // What is left.
     ensures ended { (W.seen world.new).ended ≡ true }

@@ -1,5 +1,5 @@
 use Rattle.wasi_run.proofs.Completes.{completes}
-use Rattle.wasi_run.proofs.CauseLaws.{reads_all, stops_at_trap, stops_at_bad_step, stops_too_long, read_rose, write_rose}
+use Rattle.wasi_run.proofs.CauseLaws.{reads_all, stops_at_trap, stops_at_bad_step, stops_too_long, stops_at_read_fault, stops_at_write_fault, stops_for_memory}
 use Rattle.wasi_run.proofs.Headline.{begins_run, runs_licensed, whole_at_ok, over_open, has_closed}
 use Rattle.wasi_run.proofs.run.run_script.Goals as goal
 
@@ -34,10 +34,13 @@ pub returns-clause-too_long : goal.returns-clause-too_long
 returns-clause-too_long g c = λ e. stops_too_long (rw e at (returns-clause-ran g c))
 
 pub returns-clause-read_fault : goal.returns-clause-read_fault
-returns-clause-read_fault g c = λ e. read_rose (rw e at (returns-clause-ran g c))
+returns-clause-read_fault g c = λ e. stops_at_read_fault (rw e at (returns-clause-ran g c))
 
 pub returns-clause-write_fault : goal.returns-clause-write_fault
-returns-clause-write_fault g c = λ e. write_rose (rw e at (returns-clause-ran g c))
+returns-clause-write_fault g c = λ e. stops_at_write_fault (rw e at (returns-clause-ran g c))
+
+pub returns-clause-memory : goal.returns-clause-memory
+returns-clause-memory g c = λ e. stops_for_memory (rw e at (returns-clause-ran g c))
 
 pub returns-clause-closed : goal.returns-clause-closed
 returns-clause-closed g c = has_closed c.run_lines-result.ensures c.finish.ensures.closed

@@ -1,0 +1,86 @@
+-- A good scenario and a valid script end the program with status 0, unless memory runs out.
+use Rattle.std.proofs.Common.{◌≡◌, ◌∙◌, sym, refl, ℕ, ◌≤◌, List, [], ◌++◌, length, Option, Some, None, Result, Ok, Err, length-append, append-nil, subst, inl, inr, arith}
+use Rattle.std.specs.Prelude.{◌×◌, ◌⊎◌, IfSome}
+use Rattle.wasi_world.specs.declared.call.Entry.{Entry}
+use Rattle.wasi_world.specs.declared.outcome.WasiSocketsCtx.{WasiSocketsCtx}
+use Rattle.wasi_world.specs.Seen.{Plan, Rose}
+use Rattle.wasi_world.specs.Io.{Reading, Writing, HasEnded, CountRose}
+use Rattle.wasi_session.specs.declared.error.RunError.{RunError}
+use Rattle.wasi_session.specs.declared.error.RunError.TheVariants as error
+use Rattle.wasi_run.specs.declared.run.RunEnd.{RunEnd}
+use Rattle.wasi_run.specs.declared.program.Command.{Command}
+use Rattle.wasi_run.specs.declared.program.Command.TheVariants.{Run, Generate}
+use Rattle.wasi_run.specs.declared.program.Status.{Status}
+use Rattle.wasi_run.specs.declared.program.Status.TheVariants as status
+use Rattle.wasi_run.specs.Program.{RanMain, CommandEnds, RunEnds, GeneratedEnds, RanText, ReadScenario, command_in, most_scenario, number_of, scenario_of, status_of}
+use Rattle.wasi_run.specs.Script.{IsOkOrMemory, IsValid}
+use Rattle.wasi_run.specs.Completeness.{EndsOkOrMemory, IsWell, IsWellRun, ProgramCompletes}
+use Rattle.wasi_run.proofs.Completes.{completes, front_of}
+
+-- a scenario within its size was read whole
+read_whole : (scenario text : List ℕ) (before after : Reading) → before.left ≡ Some scenario → length scenario ≤ most_scenario → ReadScenario before after text → scenario ≡ text
+read_whole scenario text before after left within read = by_left (front_of text after.left scenario (sym left ∙ read.gave.left)) read.whole
+  where
+    by_left : (more : List ℕ) × (after.left ≡ Some more) × (scenario ≡ text ++ more) → ((HasEnded after × (length text ≤ most_scenario)) ⊎ (length text ≡ most_scenario + 1)) → scenario ≡ text
+    by_left (more, is, whole) (inl (ended, f)) =
+        let P : Option (List ℕ) → Type 0 = λ o. IfSome o (λ left. left ≡ []) in
+        let none : more ≡ [] = subst P is ended.nothing in
+        rw (none, append-nil) at whole
+    by_left (more, is, whole) (inr past) = absurd (omega (arith, past, within, length-append text more, whole))
+
+-- the same text plans the same
+same_plan : (scenario text : List ℕ) (plan other : Plan) (contexts others : List WasiSocketsCtx) → scenario ≡ text → scenario_of scenario ≡ Ok (plan, contexts) → scenario_of text ≡ Ok (other, others) → others ≡ contexts
+same_plan scenario text plan other contexts others same e f = cc
+
+planned_and_bad : (scenario text : List ℕ) (plan : Plan) (contexts : List WasiSocketsCtx) (line : ℕ) → scenario ≡ text → scenario_of scenario ≡ Ok (plan, contexts) → scenario_of text ≡ Err line → ⊥
+planned_and_bad scenario text plan contexts line same e f = cc
+
+ok_or_memory : (result : Result RunEnd RunError) → IsOkOrMemory result → EndsOkOrMemory (number_of (status_of result))
+ok_or_memory (Ok end) h = inl refl
+ok_or_memory (Err error.Memory) h = inr refl
+ok_or_memory (Err (error.BadStep n)) h = absurd h
+ok_or_memory (Err error.TooLong) h = absurd h
+ok_or_memory (Err error.ReadFault) h = absurd h
+ok_or_memory (Err error.WriteFault) h = absurd h
+
+module _ {limit : ℕ} {c_old c_new s_old s_new : Reading} {k_old k_new : Writing} {log : List Entry} {line : ℕ} (well : IsWellRun limit c_old c_new s_old s_new k_old k_new) where
+  text_ends : (text : List ℕ) (end : Status) → well.scenario ≡ text → RanText limit text s_old s_new k_old k_new log line end → EndsOkOrMemory (number_of end)
+  text_ends text end same ran =
+      let contexts : ran.contexts ≡ well.contexts = same_plan well.scenario text well.plan ran.plan well.contexts ran.contexts same well.planned ran.scenario in
+      let done : IsOkOrMemory ran.result = completes ran.ran.licensed.ran well.script well.script_left (rw contexts well.valid) well.script_read well.written in
+      rw ran.status_is (ok_or_memory ran.result done)
+
+  script_ends : (end : Status) → ((text : List ℕ) × ReadScenario c_old c_new text × RanText limit text s_old s_new k_old k_new log line end) → EndsOkOrMemory (number_of end)
+  script_ends end (text, read, ran) = text_ends text end (read_whole well.scenario text c_old c_new well.scenario_left well.within read) ran
+
+  run_ends : (end : Status) → RunEnds limit c_old c_new s_old s_new k_old k_new log line end → EndsOkOrMemory (number_of end)
+  run_ends status.Ok h = inl refl
+  run_ends status.Memory h = inr refl
+  run_ends status.BadWords h = absurd h
+  run_ends status.BadScenario h =
+      absurd (planned_and_bad well.scenario h.because.text well.plan well.contexts line (read_whole well.scenario h.because.text c_old c_new well.scenario_left well.within h.because.read) well.planned h.because.bad)
+  run_ends status.ScenarioFault h = absurd (well.scenario_read h.because.0)
+  run_ends status.BadStep h = script_ends status.BadStep (h.text, h.read, h.ran)
+  run_ends status.TooLong h = script_ends status.TooLong (h.text, h.read, h.ran)
+  run_ends status.ReadFault h = script_ends status.ReadFault (h.text, h.read, h.ran)
+  run_ends status.WriteFault h = script_ends status.WriteFault (h.text, h.read, h.ran)
+
+generated_ends : (seed steps : ℕ) (k_old k_new : Writing) (end : Status) → ¬ CountRose k_old k_new → GeneratedEnds seed steps k_old k_new end → EndsOkOrMemory (number_of end)
+generated_ends seed steps k_old k_new status.Ok c h = inl refl
+generated_ends seed steps k_old k_new status.Memory c h = inr refl
+generated_ends seed steps k_old k_new status.WriteFault c h = absurd (c h.told.counts)
+generated_ends seed steps k_old k_new status.BadWords c h = absurd h
+generated_ends seed steps k_old k_new status.BadScenario c h = absurd h
+generated_ends seed steps k_old k_new status.ScenarioFault c h = absurd h
+generated_ends seed steps k_old k_new status.BadStep c h = absurd h
+generated_ends seed steps k_old k_new status.TooLong c h = absurd h
+generated_ends seed steps k_old k_new status.ReadFault c h = absurd h
+
+module _ {c_old c_new s_old s_new : Reading} {k_old k_new : Writing} {log : List Entry} {line : ℕ} where
+  command_ends : (command : Option Command) (end : Status) → IsWell command c_old c_new s_old s_new k_old k_new → CommandEnds command c_old c_new s_old s_new k_old k_new log line end → EndsOkOrMemory (number_of end)
+  command_ends None end w h = absurd w
+  command_ends (Some (Run limit)) end w h = run_ends w end h
+  command_ends (Some (Generate seed steps)) end w h = generated_ends seed steps k_old k_new end w h.1
+
+pub program_completes : {words : List (List ℕ)} {c_old c_new s_old s_new : Reading} {k_old k_new : Writing} {log : List Entry} {number line : ℕ} → RanMain words c_old c_new s_old s_new k_old k_new log number line → ProgramCompletes (command_in words) c_old c_new s_old s_new k_old k_new number
+program_completes {words} ran = λ well. rw ran.number_is (command_ends (command_in words) ran.end well ran.cause)
