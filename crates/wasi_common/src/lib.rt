@@ -10,5 +10,5 @@ mod rounds;
 pub use asker::Asker;
 pub use bound::tells_bound;
 pub use options::{get_of_side, largest_value, refused_before_state, set_of_side};
-pub use rounds::{Rounds, poll_rounds};
+pub use rounds::{InRounds, poll_rounds};
 pub use wasi_world::Opt;

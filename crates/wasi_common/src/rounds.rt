@@ -10,7 +10,7 @@ use wasi_world::{Answer, Refusal, World};
 const MOST_ROUNDS: usize = 64;
 
 /// An operation that is polled in rounds: an accept, or a receive. A round ends the poll, or is refused.
-pub trait Rounds {
+pub trait InRounds {
     ghost use Rattle.std.specs.Prelude.{◌≡◌, true, false};
     ghost use Rattle.wasi_world.specs.Operation.{Operation, Given, Nothing};
     ghost use Rattle.wasi_common.specs.Rounds.{RoundFor, is_going};
@@ -22,7 +22,7 @@ pub trait Rounds {
     ghost operation: { Self → Operation };
 
     /// What it gives, as the rule for operations has it.
-    ghost gives: { Out → Given };
+    ghost gives: { Self.Out → Given };
 
     /// One round: none where it was refused.
     fn round<W: World>(&mut self, world: &mut W) -> Result<Option<Answer<Self::Out>>, Refusal>
@@ -34,7 +34,7 @@ pub trait Rounds {
 
 /// Polls an operation that goes on: rounds follow each other until one ends the poll. After the 64th that was refused it is
 /// pending. After want of memory it may be polled again.
-pub fn poll_rounds<O: Rounds, W: World>(
+pub fn poll_rounds<O: InRounds, W: World>(
     world: &mut W,
     operation: &mut O,
 ) -> Result<Answer<O::Out>, Refusal>

@@ -9,7 +9,7 @@ ghost use Rattle.wasi_tcp.specs.Accept.{accept_operation, connection_of, in_hand
 use std::alloc::AllocError;
 use std::marker::Model;
 use wasi_addr::{IpSocketAddress, SocketAddrUse};
-use wasi_common::{Asker, Rounds, poll_rounds};
+use wasi_common::{Asker, InRounds, poll_rounds};
 use wasi_world::asks::{Polled, Verdict};
 use wasi_world::{Answer, Refusal, Sock, World, asks};
 
@@ -95,7 +95,7 @@ impl AcceptOp {
     }
 }
 
-impl Rounds for AcceptOp {
+impl InRounds for AcceptOp {
     ghost use Rattle.wasi_common.specs.Rounds.{RoundFor, is_going};
     ghost use Rattle.wasi_tcp.specs.Accept.{connection_of};
 

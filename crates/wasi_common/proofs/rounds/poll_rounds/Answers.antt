@@ -1,5 +1,5 @@
 use Rattle.std.proofs.Common.{◌∙◌}
-use Rattle.wasi_common.proofs.Rounds.{rounds_more, rounds_end, rounds_stop, rounds_none}
+use Rattle.wasi_common.proofs.Turns.{rounds_more, rounds_end, rounds_stop, rounds_none}
 use Rattle.wasi_common.proofs.rounds.poll_rounds.Goals as goal
 
 pub returns-in_err-round-clause-polled : goal.returns-in_err-round-clause-polled
