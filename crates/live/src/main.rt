@@ -58,8 +58,8 @@ fn run(rt: HostRuntime, words: &[String]) -> ExitCode {
         Ok(None) => return end(&rt, Status::BadWords, 0, None),
         Err(_) => return end(&rt, Status::Memory, 0, None),
     };
-    let mut source = LineSource::new(StdSource::new(rt));
-    let mut sink = StdSink::new(rt);
+    let mut source = LineSource::new(StdSource::new(rt.stdin()));
+    let mut sink = StdSink::new(rt.stdout());
     match run_live(rt, rt.alloc(), command, &mut source, &mut sink) {
         Err(RunError::BadStep(line)) => {
             end(&rt, Status::BadStep, line, source.line(u64::from(line)))

@@ -73,8 +73,8 @@ fn run(rt: HostRuntime, words: &[String]) -> ExitCode {
 /// Prints the transcript of the script on standard input.
 fn show_script(rt: HostRuntime, limit: u32) -> ExitCode {
     let mut scenario = FileSource::open(&rt, SCENARIO);
-    let mut source = LineSource::new(StdSource::new(rt));
-    let mut sink = StdSink::new(rt);
+    let mut source = LineSource::new(StdSource::new(rt.stdin()));
+    let mut sink = StdSink::new(rt.stdout());
     match show(rt.alloc(), limit, &mut scenario, &mut source, &mut sink) {
         End::Run(Status::BadScenario, line) => {
             let front = line_of(FileSource::open(&rt, SCENARIO), u64::from(line));
@@ -100,7 +100,7 @@ fn check_all(rt: HostRuntime, files: &[String]) -> ExitCode {
 }
 
 fn check_file(rt: HostRuntime, file: &str) -> End {
-    let mut sink = StdSink::new(rt);
+    let mut sink = StdSink::new(rt.stdout());
     match fs::read(&rt, file) {
         Ok(text) => check(rt.alloc(), file, text.as_slice(), &mut sink),
         Err(error) => match error.kind() {

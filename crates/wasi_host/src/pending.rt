@@ -1,6 +1,7 @@
 //! Calls that stand pending, and how they go on.
 
-ghost use Rattle.std.specs.Prelude.{◌≡◌, IfNone, IsSome, None, false, slice_get};
+ghost use Rattle.std.specs.Prelude.{◌≡◌, IfNone, IsSome, None, true, false, slice_get};
+ghost use Rattle.wasi_common.specs.Rounds.{is_going};
 ghost use Rattle.wasi_world.specs.Asks.{AsksFor};
 ghost use Rattle.wasi_host.specs.Host.{call_outcome, host_outcome};
 ghost use Rattle.wasi_host.specs.Pending.{outcome_of, resume_asks, resume_bind_asks, rebind_at, resume_listen_asks, relisten_at, unstood, waiting_bind, waiting_drop, waiting_listen};
@@ -11,6 +12,7 @@ ghost use Rattle.wasi_host.specs.Views.{SameView, state_of};
 use crate::error::{CallError, SocketError};
 use crate::store::{Standing, StandingCall, Store};
 use crate::view::WasiSocketsCtxView;
+use std::marker::Model;
 use wasi_tcp::BindOp;
 use wasi_world::{Answer, Ids, OpId, TrapKind, World};
 
@@ -33,6 +35,40 @@ impl Outcome {
     }
 }
 
+/// A bind that stands: it isn't over, so a poll of it asks.
+#[derive(Drop)]
+pub struct PendingBind {
+    bind: BindOp,
+}
+
+impl Model for PendingBind {
+    ghost use Rattle.std.specs.Prelude.{◌≡◌, true};
+    ghost use Rattle.wasi_common.specs.Rounds.{is_going};
+    ghost use Rattle.wasi_world.specs.Operation.{Operation};
+
+    ghost Value = { Operation };
+
+    ghost view = { λ p. p.bind };
+
+    ghost invariant = { λ p. is_going p.bind ≡ true };
+}
+
+impl PendingBind {
+    pub(crate) fn new(bind: BindOp) -> PendingBind
+        requires { is_going bind ≡ true }
+        ensures { result ≡ bind }
+    {
+        PendingBind { bind }
+    }
+
+    pub(crate) fn into_inner(self) -> BindOp
+        ensures bind { result ≡ self }
+        ensures going { is_going result ≡ true }
+    {
+        self.bind
+    }
+}
+
 impl Store {
     /// The number of the socket whose output's drop stands under this number.
     fn waiting_drop(&self, line: u32) -> Option<usize>
@@ -48,7 +84,7 @@ impl Store {
     }
 
     /// Takes out the bind that stands under this number, with the number of its socket.
-    fn take_bind(&mut self, line: u32) -> Option<(usize, BindOp)>
+    fn take_bind(&mut self, line: u32) -> Option<(usize, PendingBind)>
         ensures taken { result ≡ waiting_bind self.old.standing line }
         ensures some { IsSome result → self.new ≡ unstood self.old }
         ensures none { IfNone result (self.new ≡ self.old) }
@@ -94,7 +130,7 @@ impl Store {
         world: &mut W,
         line: u32,
         place: usize,
-        bind: BindOp,
+        bind: PendingBind,
     ) -> Result<Answer<()>, SocketError>
         requires open { (W.seen world.old).ended ≡ false }
         requires nothing { self.old.standing ≡ None }

@@ -20,10 +20,11 @@ ghost use Rattle.wasi_host.specs.Store.{is_nothing, is_bind, is_connect, is_list
 use crate::error::SocketError;
 use crate::kind::Watched;
 use crate::listening::Listening;
+use crate::pending::PendingBind;
 use std::alloc::{AllocError, Global};
 use wasi_addr::{IpSocketAddress, ShutdownType, p2};
 use wasi_streams::{Fault, StreamError};
-use wasi_tcp::{BindOp, ReadState, TcpSocket, WriteState};
+use wasi_tcp::{ReadState, TcpSocket, WriteState};
 use wasi_world::{Answer, Ids, Octets, OpId, Refusal, Sock, TrapKind, World};
 
 /// The operation that was started and isn't finished.
@@ -206,7 +207,7 @@ impl Tcp2Socket {
         world: &mut W,
         op: OpId,
         addr: IpSocketAddress,
-    ) -> Result<Option<BindOp>, Refusal>
+    ) -> Result<Option<PendingBind>, Refusal>
         requires { (W.seen world.old).ended ≡ false }
         ensures asked { AsksFor (begin_bind_asks op self.old addr) (W.seen world.old) (W.seen world.new) (λ begun. (begun, self.new)) (outcome result) }
         ensures side { side_of self.new.inner ≡ side_of self.old.inner }
@@ -214,15 +215,15 @@ impl Tcp2Socket {
         ensures open { (W.seen world.new).ended ≡ false }
     {
         let bind = self.inner.bind(world, op, addr)?;
-        self.poll_bind(world, bind)
+        self.poll_bind(world, PendingBind::new(bind))
     }
 
     /// Polls a bind. Where it is done it is in progress; where it is pending it is handed back.
     pub fn poll_bind<W: World>(
         &mut self,
         world: &mut W,
-        mut bind: BindOp,
-    ) -> Result<Option<BindOp>, Refusal>
+        bind: PendingBind,
+    ) -> Result<Option<PendingBind>, Refusal>
         requires { (W.seen world.old).ended ≡ false }
         ensures asked { AsksFor (poll_bind_asks bind self.old) (W.seen world.old) (W.seen world.new) (λ begun. (begun, self.new)) (outcome result) }
         ensures bind { IsBind bind }
@@ -230,9 +231,10 @@ impl Tcp2Socket {
         ensures listening { self.new.listening ≡ self.old.listening }
         ensures open { (W.seen world.new).ended ≡ false }
     {
+        let mut bind = bind.into_inner();
         let answer = bind.poll(world, &mut self.inner)?;
         match answer {
-            Answer::Pending => return Ok(Some(bind)),
+            Answer::Pending => return Ok(Some(PendingBind::new(bind))),
             Answer::Ready(()) => {
                 self.in_progress = InProgress::Bind;
                 return Ok(None);

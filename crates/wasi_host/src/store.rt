@@ -16,19 +16,20 @@ use crate::closing::close_sides;
 use crate::error::{SocketError, of_fault};
 use crate::handles;
 use crate::kind::Kind;
+use crate::pending::PendingBind;
 use crate::socket::{InProgress, Tcp2Socket};
 use std::alloc::{AllocError, Global};
 use std::marker::Model;
 use wasi_addr::{IpSocketAddress, ShutdownType, SocketAddressFamily, p2};
 use wasi_streams::{StreamError, Table};
-use wasi_tcp::{BindOp, TcpSocket};
+use wasi_tcp::TcpSocket;
 use wasi_world::{Answer, Handle, Octets, OpId, Sock, TrapKind, WasiSocketsCtx, World};
 
 /// What a call does that stands.
 #[derive(Drop)]
 pub enum StandingCall {
     /// Binds the socket of this number.
-    Bind { socket: usize, bind: BindOp },
+    Bind { socket: usize, bind: PendingBind },
     /// Makes the socket of this number listen; its record has the operation.
     Listen { socket: usize },
     /// Drops the output of the socket of this number, and waits until its writer is ready.
@@ -388,7 +389,12 @@ impl Store {
     }
 
     /// A bind that is pending stands.
-    pub(crate) fn stand(&mut self, line: u32, place: usize, begun: Option<BindOp>) -> Answer<()>
+    pub(crate) fn stand(
+        &mut self,
+        line: u32,
+        place: usize,
+        begun: Option<PendingBind>,
+    ) -> Answer<()>
         ensures { (result, self.new) ≡ stood self.old line place begun }
     {
         match begun {

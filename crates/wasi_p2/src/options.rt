@@ -4,7 +4,7 @@
 ghost use Rattle.std.specs.Prelude.{◌≡◌, ◌≤◌, IfOk, false};
 ghost use Rattle.std.specs.Int.{from_bool};
 ghost use Rattle.wasi_world.specs.Asks.{AsksFor};
-ghost use Rattle.wasi_tcp.specs.Options.{largest_value};
+ghost use Rattle.wasi_common.specs.Options.{largest_value};
 ghost use Rattle.wasi_host.specs.Host.{host_outcome};
 ghost use Rattle.wasi_host.specs.Machine.{own_of, socket_at};
 ghost use Rattle.wasi_host.specs.Sides.{KnowsSides};

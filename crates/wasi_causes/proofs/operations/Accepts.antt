@@ -11,7 +11,7 @@ use Rattle.wasi_walks.specs.Listens.{accept_name, AcceptFails, WasTold, IsTold, 
 use Rattle.wasi_machine.specs.Machine.{first_ids}
 use Rattle.wasi_tcp.specs.Accept.{IsAccept, IsLeftOfAccept, Unarrived, Arrived, Admitted, Unwanted, Ended, accept_operation}
 use Rattle.wasi_tcp.specs.Listener.{Listener, begun, arrived, accept_ended, accept_asks, listener_asks, IsAcceptOn, HoldsAccept}
-use Rattle.wasi_tcp.specs.Rounds.{some_left, is_going}
+use Rattle.wasi_common.specs.Rounds.{some_left, is_going}
 use Rattle.wasi_tcp.specs.declared.accept.AcceptStage.TheVariants as stage
 use Rattle.wasi_tcp.specs.declared.listener.Accepting.{Accepting}
 use Rattle.wasi_tcp.specs.declared.listener.Accepting.TheVariants as accepting

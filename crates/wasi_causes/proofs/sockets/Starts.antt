@@ -36,7 +36,7 @@ use Rattle.wasi_tcp.specs.Listen.{listen_operation}
 use Rattle.wasi_tcp.specs.Listening.{listen_start, listen_ended}
 use Rattle.wasi_tcp.specs.Shape.{Socket}
 use Rattle.wasi_tcp.specs.Socket.{after_local, ask_bound, bound_asks, bind_allowed, bind_start}
-use Rattle.wasi_tcp.specs.declared.bind.Asker.{Asker}
+use Rattle.wasi_common.specs.declared.asker.Asker.{Asker}
 use Rattle.wasi_tcp.specs.declared.bind.BindStage.TheVariants as stage
 use Rattle.wasi_tcp.specs.declared.listen.ListenStage.TheVariants as listen_stage
 use Rattle.wasi_tcp.specs.declared.socket.TcpState.{TcpState}
