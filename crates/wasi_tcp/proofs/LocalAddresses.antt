@@ -1,17 +1,13 @@
 -- The local address of a socket, where memory is short.
-use Rattle.std.specs.Prelude.{◌≡◌, Bool, true, false, not, if◌then◌else◌, Result, Ok, Err, OnErr, refl}
+use Rattle.std.specs.Prelude.{◌≡◌, Bool, true, if◌then◌else◌, Result, Ok, Err, OnErr}
 use Rattle.std.specs.declared.alloc.AllocError.{AllocError}
 use Rattle.std.proofs.Common.{sym, subst, ◌∙◌}
-use Rattle.wasi_addr.specs.declared.address.IpSocketAddress.{IpSocketAddress}
-use Rattle.wasi_addr.specs.declared.code.ErrorCode.{ErrorCode}
-use Rattle.wasi_addr.specs.Address.{is_wildcard}
 use Rattle.wasi_world.specs.declared.ids.OpId.{OpId}
 use Rattle.wasi_world.specs.Seen.{Seen}
 use Rattle.wasi_world.specs.Asks.{Give, bind, Reaches}
 use Rattle.wasi_world.proofs.Walks.{reaches_all, reaches_on}
 use Rattle.wasi_tcp.specs.Shape.{Socket}
-use Rattle.wasi_common.specs.Bound.{tells_bound}
-use Rattle.wasi_tcp.specs.Socket.{after_local, ask_bound, bound_asks}
+use Rattle.wasi_tcp.specs.Socket.{ask_bound, bound_asks}
 use Rattle.wasi_tcp.specs.Addresses.{local_asks, local_where}
 
 -- nothing was asked
@@ -27,12 +23,3 @@ local_left_over op old new bound s t u (Err d) h k e b =
     let P : Bool → Type 0 = λ known. Reaches (local_asks op old) (bind (if known then Give (true, new) else ask_bound op new new.state) (λ x. local_where op x.1 x.0)) s u in
     let Q : Bool → Type 0 = λ known. Reaches (local_asks op old) (local_where op new known) s u in
     subst P (sym (k ∙ b)) (subst Q b (rw e (reaches_on (λ x. local_where op x.1 x.0) h)))
-
--- what is learned of an address that was told
-pub learned : (socket : Socket) (told : Result IpSocketAddress ErrorCode) (bound : Bool) → bound ≡ tells_bound socket.family told → (bound, (if bound then record socket { bound = true } else socket)) ≡ after_local socket told
-learned socket (Err c) bound h = rw h refl
-learned socket (Ok a) bound h = rw h (by (is_wildcard socket.family a))
-  where
-    by : (w : Bool) → (not w, (if not w then record socket { bound = true } else socket)) ≡ (if w then (false, socket) else (true, record socket { bound = true }))
-    by true = refl
-    by false = refl

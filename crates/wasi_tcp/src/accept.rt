@@ -66,7 +66,11 @@ impl AcceptOp {
         ensures after { IsAccept self.new }
         ensures open { (W.seen world.new).ended ≡ false }
     {
-        poll_rounds(world, self)
+        // No effect at run time: the proof reads from the uses of `stage` that this is an accept, before and after.
+        let _ = &self.stage;
+        let polled = poll_rounds(world, self);
+        let _ = &self.stage;
+        polled
     }
 
     /// The arrival that is in hand.
