@@ -1,5 +1,6 @@
 -- The options of a socket's side: one table, and what each call on a side asks and answers.
 use Rattle.std.specs.Prelude.{ℕ, ◌==◌, nat_le, Bool, false, if◌then◌else◌, Result, Ok, Err}
+use Rattle.std.specs.Int.{from_bool}
 use Rattle.wasi_addr.specs.declared.code.ErrorCode.{ErrorCode}
 use Rattle.wasi_addr.specs.declared.code.ErrorCode.TheVariants.{InvalidArgument, NotSupported}
 use Rattle.wasi_addr.specs.Clamp.{clamped_keep_alive_time, clamped_keep_alive_count, clamped_buffer_size, halved_buffer_size}
@@ -8,8 +9,8 @@ use Rattle.wasi_world.specs.declared.call.Opt.{Opt}
 use Rattle.wasi_world.specs.declared.call.Opt.TheVariants as opt
 use Rattle.wasi_world.specs.Asks.{Asks, Give, bind}
 use Rattle.wasi_world.specs.Typed.{ask_get_option, ask_set_option}
-use Rattle.wasi_common.specs.declared.options.ZeroTest.{ZeroTest}
-use Rattle.wasi_common.specs.declared.options.ZeroTest.TheVariants.{Never, BeforeState, AfterState}
+use Rattle.wasi_common.specs.declared.setting.Setting.{Setting}
+use Rattle.wasi_common.specs.declared.setting.Setting.TheVariants as setting
 
 -- == the table: each option has its row in each of these
 -- the largest value: a truth value is 0 or 1, a count has 32 bits, a hop limit 8, a time and a size 64
@@ -22,7 +23,12 @@ largest_value opt.HopLimit = 255
 largest_value opt.ReceiveBufferSize = 18446744073709551615
 largest_value opt.SendBufferSize = 18446744073709551615
 
--- when 0 is refused
+-- when a set of 0 is refused: never, before the socket's state is looked at, or where the state allows a set
+pub data ZeroTest : Type 0 where
+  Never : ZeroTest
+  BeforeState : ZeroTest
+  AfterState : ZeroTest
+
 abbrev pub zero_test : Opt → ZeroTest
 zero_test opt.KeepAliveEnabled = Never
 zero_test opt.KeepAliveIdleTime = BeforeState
@@ -51,6 +57,25 @@ value_told opt.KeepAliveCount told = told
 value_told opt.HopLimit told = told
 value_told opt.ReceiveBufferSize told = halved_buffer_size told
 value_told opt.SendBufferSize told = halved_buffer_size told
+
+-- == a setting: which option it sets, and its value as a number; yes is 1
+abbrev pub option_of : Setting → Opt
+option_of (setting.KeepAliveEnabled b) = opt.KeepAliveEnabled
+option_of (setting.KeepAliveIdleTime n) = opt.KeepAliveIdleTime
+option_of (setting.KeepAliveInterval n) = opt.KeepAliveInterval
+option_of (setting.KeepAliveCount n) = opt.KeepAliveCount
+option_of (setting.HopLimit n) = opt.HopLimit
+option_of (setting.ReceiveBufferSize n) = opt.ReceiveBufferSize
+option_of (setting.SendBufferSize n) = opt.SendBufferSize
+
+abbrev pub number_of : Setting → ℕ
+number_of (setting.KeepAliveEnabled b) = from_bool b
+number_of (setting.KeepAliveIdleTime n) = n
+number_of (setting.KeepAliveInterval n) = n
+number_of (setting.KeepAliveCount n) = n
+number_of (setting.HopLimit n) = n
+number_of (setting.ReceiveBufferSize n) = n
+number_of (setting.SendBufferSize n) = n
 
 -- == what calls ask, the same for each option
 -- the value is refused before the state is looked at

@@ -6,9 +6,11 @@ mod asker;
 mod bound;
 mod options;
 mod rounds;
+mod setting;
 
 pub use asker::Asker;
 pub use bound::tells_bound;
-pub use options::{get_of_side, largest_value, refused_before_state, set_of_side};
+pub use options::{get_of_side, largest_value, set_of_side};
 pub use rounds::{InRounds, poll_rounds};
+pub use setting::Setting;
 pub use wasi_world::Opt;

@@ -3,12 +3,12 @@
 ghost use Rattle.std.specs.Prelude.{◌≡◌, ◌≤◌, false, OnErr, IfOk};
 ghost use Rattle.std.specs.Int.{from_bool};
 ghost use Rattle.wasi_world.specs.Asks.{AsksFor, outcome};
-ghost use Rattle.wasi_common.specs.Options.{largest_value};
+ghost use Rattle.wasi_common.specs.Options.{largest_value, option_of, number_of};
 ghost use Rattle.wasi_tcp.specs.Socket.{side_of};
 
 use crate::socket::TcpSocket;
 use wasi_addr::ErrorCode;
-use wasi_common::{get_of_side, refused_before_state, set_of_side};
+use wasi_common::{Setting, get_of_side, set_of_side};
 use wasi_world::{OpId, Opt, Refusal, World};
 
 impl TcpSocket {
@@ -31,31 +31,28 @@ impl TcpSocket {
         }
     }
 
-    /// Sets an option to a value that is at most its `largest_value`: yes is 1 and no is 0, a time is in nanoseconds, a
-    /// size in bytes. Connecting: `InvalidState`. Closed: its code. A code that is told is answered. 0 is
+    /// Sets an option. Connecting: `InvalidState`. Closed: its code. A code that is told is answered. 0 is
     /// `InvalidArgument`: for a time or a number of probes in any state, for the hop limit or a size where the state
     /// allows a set. Times, sizes and numbers of probes are brought into their ranges first. The socket stays as it is.
-    /// The setters of `tcp-socket` in `wasi:sockets/tcp` are this call of their option.
+    /// The setters of `tcp-socket` in `wasi:sockets/tcp` are this call of their setting.
     pub fn set_option<W: World>(
         &mut self,
         world: &mut W,
         op: OpId,
-        option: Opt,
-        value: u64,
+        setting: Setting,
     ) -> Result<(), Refusal>
-        requires open { (W.seen world.old).ended ≡ false }
-        requires fits { value ≤ largest_value option }
-        ensures asked { AsksFor (set_option_asks op self.old option value) (W.seen world.old) (W.seen world.new) (λ answer. (answer, self.new)) (outcome result) }
+        requires { (W.seen world.old).ended ≡ false }
+        ensures asked { AsksFor (set_option_asks op self.old (option_of setting) (number_of setting)) (W.seen world.old) (W.seen world.new) (λ answer. (answer, self.new)) (outcome result) }
         ensures same { self.new ≡ self.old }
         ensures side { side_of self.new ≡ side_of self.old }
         ensures unasked { OnErr (outcome result) (W.seen world.new ≡ W.seen world.old) }
         ensures open { (W.seen world.new).ended ≡ false }
     {
-        if refused_before_state(option, value) {
+        if setting.refused_before_state() {
             return Err(Refusal::Code(ErrorCode::InvalidArgument));
         }
         match self.usable_side() {
-            Ok(side) => set_of_side(world, op, side, option, value),
+            Ok(side) => set_of_side(world, op, side, setting),
             Err(code) => Err(Refusal::Code(code)),
         }
     }
@@ -87,7 +84,7 @@ impl TcpSocket {
         ensures unasked { OnErr (outcome result) (W.seen world.new ≡ W.seen world.old) }
         ensures open { (W.seen world.new).ended ≡ false }
     {
-        self.set_option(world, op, Opt::KeepAliveEnabled, u64::from(value))
+        self.set_option(world, op, Setting::KeepAliveEnabled(value))
     }
 
     /// How long a connection is idle before the first probe, in nanoseconds (`tcp-socket.keep-alive-idle-time`). Errors
@@ -117,7 +114,7 @@ impl TcpSocket {
         ensures unasked { OnErr (outcome result) (W.seen world.new ≡ W.seen world.old) }
         ensures open { (W.seen world.new).ended ≡ false }
     {
-        self.set_option(world, op, Opt::KeepAliveIdleTime, value)
+        self.set_option(world, op, Setting::KeepAliveIdleTime(value))
     }
 
     /// The time from one probe to the next, in nanoseconds (`tcp-socket.keep-alive-interval`). Errors are those of
@@ -146,7 +143,7 @@ impl TcpSocket {
         ensures unasked { OnErr (outcome result) (W.seen world.new ≡ W.seen world.old) }
         ensures open { (W.seen world.new).ended ≡ false }
     {
-        self.set_option(world, op, Opt::KeepAliveInterval, value)
+        self.set_option(world, op, Setting::KeepAliveInterval(value))
     }
 
     /// How many probes without an answer end a connection (`tcp-socket.keep-alive-count`). A number above 4,294,967,295
@@ -176,7 +173,7 @@ impl TcpSocket {
         ensures unasked { OnErr (outcome result) (W.seen world.new ≡ W.seen world.old) }
         ensures open { (W.seen world.new).ended ≡ false }
     {
-        self.set_option(world, op, Opt::KeepAliveCount, u64::from(value))
+        self.set_option(world, op, Setting::KeepAliveCount(value))
     }
 
     /// How many hops a packet lives (`tcp-socket.hop-limit`). A number above 255 that is told: `NotSupported`. Other
@@ -206,7 +203,7 @@ impl TcpSocket {
         ensures unasked { OnErr (outcome result) (W.seen world.new ≡ W.seen world.old) }
         ensures open { (W.seen world.new).ended ≡ false }
     {
-        self.set_option(world, op, Opt::HopLimit, u64::from(value))
+        self.set_option(world, op, Setting::HopLimit(value))
     }
 
     /// The size of the buffer for what comes in, in bytes (`tcp-socket.receive-buffer-size`): half of what is told.
@@ -235,7 +232,7 @@ impl TcpSocket {
         ensures unasked { OnErr (outcome result) (W.seen world.new ≡ W.seen world.old) }
         ensures open { (W.seen world.new).ended ≡ false }
     {
-        self.set_option(world, op, Opt::ReceiveBufferSize, value)
+        self.set_option(world, op, Setting::ReceiveBufferSize(value))
     }
 
     /// The size of the buffer for what goes out, in bytes (`tcp-socket.send-buffer-size`): half of what is told. Errors
@@ -264,7 +261,7 @@ impl TcpSocket {
         ensures unasked { OnErr (outcome result) (W.seen world.new ≡ W.seen world.old) }
         ensures open { (W.seen world.new).ended ≡ false }
     {
-        self.set_option(world, op, Opt::SendBufferSize, value)
+        self.set_option(world, op, Setting::SendBufferSize(value))
     }
 }
 

@@ -6,4 +6,4 @@ pub returns-in_err-bind-clause-asked : goal.returns-in_err-bind-clause-asked
 returns-in_err-bind-clause-asked g c = refused_on _ _ c.from_residual.result c.from_residual.ensures.1 c.in_err-bind.ensures.asked (λ code. refl)
 
 pub returns-clause-asked : goal.returns-clause-asked
-returns-clause-asked g c = asks_then _ c.in_ok-bind.ensures.asked.ok c.poll_bind.ensures.asked
+returns-clause-asked g c = asks_then _ c.in_ok-bind.ensures.asked.ok (rw c.new.ensures at c.poll_bind.ensures.asked)
