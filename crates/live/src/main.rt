@@ -46,8 +46,8 @@ fn main(rt: HostRuntime) -> ExitCode {
         Err(status) => return end(&rt, status, 0, None),
     };
     match words.as_slice() {
-        [word] if word.as_str() == "--help" => print(&rt, HELP),
-        [word] if word.as_str() == "--version" => print(&rt, VERSION),
+        [word] if word.as_str() == "--help" => print(&rt, &[HELP]),
+        [word] if word.as_str() == "--version" => print(&rt, &[VERSION]),
         _ => run(rt, words.as_slice()),
     }
 }

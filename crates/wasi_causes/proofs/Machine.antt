@@ -1,74 +1,28 @@
 -- A subscription and a look at a pollable, and a poll of the call that stands.
-use Rattle.std.proofs.Common.{◌≡◌, ℕ, Bool, true, false, inl, inr, List, [], ◌∷◌, Option, Some, None, Result, Ok, Err, slice_get, refl, sym, ap, ◌∙◌, ◌≢◌, subst, ◌==◌}
-use Rattle.std.proofs.lemmas.Bool.{eqb-true, eq-eqb}
-use Rattle.std.specs.Prelude.{◌⊎◌, IfSome, IsSomeAnd}
-use Rattle.wasi_addr.specs.declared.code.ErrorCode.{ErrorCode}
-use Rattle.wasi_addr.specs.declared.code.ErrorCode.TheVariants.{InvalidState}
+use Rattle.wasi_causes.proofs.Words.{◌≡◌, ℕ, Bool, true, false, inl, inr, List, [], ◌∷◌, Option, Some, None, Result, Ok, Err, slice_get, refl, sym, ap, ◌∙◌, ◌≢◌, subst, ◌==◌, eqb-true, eq-eqb, ◌⊎◌, IfSome, IsSomeAnd, ErrorCode, InvalidState, Stop, Trap, CallStop, kind_at, watched_by, watch_of, place_in, listen_polled, poll_begun, poll_listening, closed_listening, listen_answered, own_of, side_at, with_store, subscribe_on, subscribe_asks, ready_on, ready_asks, stands_as, output_in, waiting_drop, resume_in, bind_in, waiting_bind, unstood, some_answer, rebind_at, resume_bind_in, listen_in, waiting_listen, relisten_at, resume_listen_in, Records, is_nothing, is_connect, with_reader, with_writer, left_of, bind_ended, bind_answered, Pollable, Watched, Listening, Machine, Streams, Tcp2Socket, Standing, StandingCall, ClosedBy, MissesRecord, word_of_code, EndsPending, StandsOnNothing, entry, marks_in, AcceptWaits, accept_name, HasNoListener, AcceptsIn, handle_reply, truth_reply, first_ids, resumed_reply, poll_on, no_fields, OfWatched, IsIdleSocket, IsUnready, AcceptWaitsOn, ConnectWaits, InputWaits, WriteWaits, WatchesConnect, WatchesAccept, WatchesIdle, ListenEnds, BindFailed, IsRestOfBind, BindFails, IsListening, ListenWaits, CallWaits, CallFails, ListenFailed, NoListen, HasNoListen, StandsByBind, nothing_stands, Reply, StreamStop, connect_ended, finish_in, in_socket, HoldsConnect, IsListen, Listener, ready_end, HoldsAccept, listen_ended, reader_ready_asks, side_of, TcpReceiveStream, Accepting, ReadState, TcpState, WriteState, Give, bind, IsReady, Item, Operation, End, Waits, Done, Refused, told_ready, Entry, Told, OpId, Answer, Ready, Pending, NoSuchHandle, WasiSocketsCtx}
 use Rattle.wasi_causes.proofs.operations.Accepts.{AcceptRow, accepts}
 use Rattle.wasi_causes.proofs.operations.Polls.{EndsFor, connect_ends, bind_ends as bind_polls, listen_ends as listen_polls}
 use Rattle.wasi_causes.proofs.streams.Halves.{LookRow, looks, OutputRow, outputs}
 use Rattle.wasi_causes.proofs.tables.Meets.{Rows, Meets, ends, asks, onto, widen, granted, chain, branch}
 use Rattle.wasi_causes.proofs.tables.Routes.{Replied, Says, put_store_same, makes, full_so, apart, code_word}
 use Rattle.wasi_causes.specs.Outcomes.{Outcome, Always}
-use Rattle.wasi_host.specs.Host.{Stop, Trap, CallStop}
-use Rattle.wasi_host.specs.Kinds.{kind_at, watched_by, watch_of, place_in}
-use Rattle.wasi_host.specs.Listening.{listen_polled, poll_begun, poll_listening, closed_listening, listen_answered}
-use Rattle.wasi_host.specs.Machine.{own_of, side_at, with_store, subscribe_on, subscribe_asks, ready_on, ready_asks}
-use Rattle.wasi_host.specs.Pending.{stands_as, output_in, waiting_drop, resume_in, bind_in, waiting_bind, unstood, some_answer, rebind_at, resume_bind_in, listen_in, waiting_listen, relisten_at, resume_listen_in}
 use Rattle.wasi_host.specs.Pending as host
 use Rattle.wasi_host.specs.Readiness.{is_over, is_done, connect_looked, accept_looked, ready_listening, ready_idle, ready_socket_by, ready_reader, ready_writer, ready_record, ready_put, ready_at}
-use Rattle.wasi_host.specs.Store.{Records, is_nothing, is_connect, with_reader, with_writer, left_of, bind_ended, bind_answered}
-use Rattle.wasi_host.specs.declared.kind.Kind.TheVariants.{Pollable}
-use Rattle.wasi_host.specs.declared.kind.Watched.{Watched}
 use Rattle.wasi_host.specs.declared.kind.Watched.TheVariants as watched
-use Rattle.wasi_host.specs.declared.listening.Listening.{Listening}
 use Rattle.wasi_host.specs.declared.listening.Listening.TheVariants as listening
-use Rattle.wasi_host.specs.declared.machine.Machine.{Machine}
 use Rattle.wasi_host.specs.declared.pending.Outcome.{Outcome as Given}
-use Rattle.wasi_host.specs.declared.socket.Streams.{Streams}
-use Rattle.wasi_host.specs.declared.socket.Tcp2Socket.{Tcp2Socket}
-use Rattle.wasi_host.specs.declared.store.Standing.{Standing}
-use Rattle.wasi_host.specs.declared.store.StandingCall.{StandingCall}
 use Rattle.wasi_host.specs.declared.store.StandingCall.TheVariants.{Bind, Listen, DropOutput}
 use Rattle.wasi_p2.specs.Pending as p2
-use Rattle.wasi_walks.specs.Answered.{ClosedBy, MissesRecord, word_of_code, EndsPending, StandsOnNothing}
-use Rattle.wasi_walks.specs.Licence.{entry, marks_in}
-use Rattle.wasi_walks.specs.Listens.{AcceptWaits, accept_name, HasNoListener, AcceptsIn}
-use Rattle.wasi_machine.specs.Machine.{handle_reply, truth_reply, first_ids, resumed_reply, poll_on, poll_asks}
-use Rattle.wasi_steps.specs.Reply.{no_fields}
-use Rattle.wasi_walks.specs.Waiting.{OfWatched, IsIdleSocket, IsUnready, AcceptWaitsOn, ConnectWaits, InputWaits, WriteWaits, WatchesConnect, WatchesAccept, WatchesIdle, ListenEnds, BindFailed, IsRestOfBind, BindFails, IsListening, ListenWaits, CallWaits, CallFails, ListenFailed, NoListen, HasNoListen, StandsByBind, nothing_stands}
-use Rattle.wasi_steps.specs.declared.reply.Reply.{Reply}
+use Rattle.wasi_machine.specs.Machine.{poll_asks}
 use Rattle.wasi_steps.specs.declared.reply.Reply.TheVariants as reply
 use Rattle.wasi_steps.specs.declared.step.Step.TheVariants as step
-use Rattle.wasi_streams.specs.StreamStop.{StreamStop}
-use Rattle.wasi_tcp.specs.Connecting.{connect_ended, finish_in, in_socket, HoldsConnect}
-use Rattle.wasi_tcp.specs.Listen.{IsListen, is_over as listen_over}
-use Rattle.wasi_tcp.specs.Listener.{Listener, ready_end, HoldsAccept}
-use Rattle.wasi_tcp.specs.Listening.{listen_ended}
-use Rattle.wasi_tcp.specs.Reader.{reader_ready_asks}
-use Rattle.wasi_tcp.specs.Socket.{side_of}
-use Rattle.wasi_tcp.specs.declared.halves.TcpReceiveStream.{TcpReceiveStream}
-use Rattle.wasi_tcp.specs.declared.listener.Accepting.{Accepting}
+use Rattle.wasi_tcp.specs.Listen.{is_over as listen_over}
 use Rattle.wasi_tcp.specs.declared.listener.Accepting.TheVariants as accepting
-use Rattle.wasi_tcp.specs.declared.reader.ReadState.{ReadState}
 use Rattle.wasi_tcp.specs.declared.reader.ReadState.TheVariants as reading
-use Rattle.wasi_tcp.specs.declared.socket.TcpState.{TcpState}
 use Rattle.wasi_tcp.specs.declared.socket.TcpState.TheVariants as state
-use Rattle.wasi_tcp.specs.declared.writer.WriteState.{WriteState}
-use Rattle.wasi_world.specs.Asks.{Give, bind}
-use Rattle.wasi_world.specs.Fits.{IsReady}
-use Rattle.wasi_world.specs.Operation.{Item, Operation, End, Waits, Done, Refused}
-use Rattle.wasi_world.specs.Typed.{told_ready}
 use Rattle.wasi_world.specs.declared.call.Call.TheVariants as call
-use Rattle.wasi_world.specs.declared.call.Entry.{Entry}
-use Rattle.wasi_world.specs.declared.call.Told.{Told}
 use Rattle.wasi_world.specs.declared.call.Told.TheVariants as told
-use Rattle.wasi_world.specs.declared.ids.OpId.{OpId}
-use Rattle.wasi_world.specs.declared.outcome.Answer.{Answer}
-use Rattle.wasi_world.specs.declared.outcome.Answer.TheVariants.{Ready, Pending}
 use Rattle.wasi_world.specs.declared.outcome.Answer.TheVariants as answer
-use Rattle.wasi_world.specs.declared.outcome.TrapKind.TheVariants.{NoSuchHandle}
-use Rattle.wasi_world.specs.declared.outcome.WasiSocketsCtx.{WasiSocketsCtx}
 
 -- == a subscription
 module _ (contexts : List WasiSocketsCtx) (m : Machine) (line c handle : ℕ) where

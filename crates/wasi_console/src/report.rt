@@ -11,12 +11,14 @@ const SCENARIO_LINES: &str = "a line such as `check no`, `read bytes 0102` or `w
 /// What a line of a script may be.
 const SCRIPT_LINES: &str = "a call such as `0 network`, `turn` or `poll 3`, with the number of a context in front where it is a guest's, ended by a newline (--help lists the calls)";
 
-/// Writes a text to standard output.
-pub fn print<R: Print + Eprint>(rt: &R, text: &str) -> ExitCode {
-    match rt.print(text) {
-        Ok(()) => ExitCode::SUCCESS,
-        Err(_) => end(rt, Status::WriteFault, 0, None),
+/// Writes texts to standard output, one after another.
+pub fn print<R: Print + Eprint>(rt: &R, texts: &[&str]) -> ExitCode {
+    for text in texts {
+        if rt.print(text).is_err() {
+            return end(rt, Status::WriteFault, 0, None);
+        }
     }
+    ExitCode::SUCCESS
 }
 
 /// Prints the status on standard error, unless it is Ok, with the line of a bad scenario or script; then, on a line of its own,

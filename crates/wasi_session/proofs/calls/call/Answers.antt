@@ -1,7 +1,4 @@
-use Rattle.std.proofs.Common.{refl}
-use Rattle.wasi_world.proofs.Walks.{asks_answered, given_answered, asks_end, asks_exit}
-use Rattle.wasi_machine.specs.Machine.{reply_of, stream_reply_of, answer_reply}
-use Rattle.wasi_steps.specs.Reply.{no_values, number_fields, pair_values, triple_values, bytes_fields, truth_fields, family_fields, address_values}
+use Rattle.wasi_session.proofs.Words.{refl, asks_answered, given_answered, asks_end, asks_exit, reply_of, stream_reply_of, answer_reply, no_values, number_fields, pair_values, triple_values, bytes_fields, truth_fields, family_fields, address_values}
 use Rattle.wasi_session.proofs.calls.call.Goals as goal
 
 pub returns-in-Network-clause-asked : goal.returns-in-Network-clause-asked

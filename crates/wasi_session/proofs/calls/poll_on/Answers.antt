@@ -1,6 +1,4 @@
-use Rattle.std.proofs.Common.{refl}
-use Rattle.wasi_world.proofs.Walks.{asks_answered, asks_given}
-use Rattle.wasi_machine.specs.Machine.{resumed_reply}
+use Rattle.wasi_session.proofs.Words.{refl, asks_answered, asks_given, resumed_reply}
 use Rattle.wasi_session.proofs.calls.poll_on.Goals as goal
 
 pub returns-in-Some-clause-asked : goal.returns-in-Some-clause-asked
