@@ -1,6 +1,6 @@
 -- A good scenario and a valid script end the program with status 0, unless memory runs out.
-use Rattle.std.proofs.Common.{◌≡◌, ◌∙◌, sym, refl, ℕ, ◌≤◌, List, [], ◌++◌, length, Option, Some, None, Result, Ok, Err, length-append, append-nil, subst, inl, inr, arith}
-use Rattle.std.specs.Prelude.{◌×◌, ◌⊎◌, IfSome}
+use Rattle.std.proofs.Common.{◌≡◌, ◌∙◌, sym, ap, refl, ℕ, ◌+◌, ◌≤◌, List, [], ◌++◌, length, Option, Some, None, Result, Ok, Err, length-append, append-nil, subst, inl, inr, arith}
+use Rattle.std.specs.Prelude.{◌⊎◌, IfSome}
 use Rattle.wasi_world.specs.declared.call.Entry.{Entry}
 use Rattle.wasi_world.specs.declared.outcome.WasiSocketsCtx.{WasiSocketsCtx}
 use Rattle.wasi_world.specs.Seen.{Plan, Rose}
@@ -26,11 +26,16 @@ read_whole scenario text before after left within read = by_left (front_of text 
         let P : Option (List ℕ) → Type 0 = λ o. IfSome o (λ left. left ≡ []) in
         let none : more ≡ [] = subst P is ended.nothing in
         rw (none, append-nil) at whole
-    by_left (more, is, whole) (inr past) = absurd (omega (arith, past, within, length-append text more, whole))
+    by_left (more, is, whole) (inr past) = absurd (omega (arith, past, within, length-append text more, ap length whole))
+
+-- the contexts of what was planned
+abbrev contexts_in : Result (Plan × List WasiSocketsCtx) ℕ → List WasiSocketsCtx
+contexts_in (Ok planned) = planned.1
+contexts_in (Err line) = []
 
 -- the same text plans the same
 same_plan : (scenario text : List ℕ) (plan other : Plan) (contexts others : List WasiSocketsCtx) → scenario ≡ text → scenario_of scenario ≡ Ok (plan, contexts) → scenario_of text ≡ Ok (other, others) → others ≡ contexts
-same_plan scenario text plan other contexts others same e f = cc
+same_plan scenario text plan other contexts others same e f = sym (ap contexts_in (sym e ∙ ap scenario_of same ∙ f))
 
 planned_and_bad : (scenario text : List ℕ) (plan : Plan) (contexts : List WasiSocketsCtx) (line : ℕ) → scenario ≡ text → scenario_of scenario ≡ Ok (plan, contexts) → scenario_of text ≡ Err line → ⊥
 planned_and_bad scenario text plan contexts line same e f = cc
@@ -43,7 +48,7 @@ ok_or_memory (Err error.TooLong) h = absurd h
 ok_or_memory (Err error.ReadFault) h = absurd h
 ok_or_memory (Err error.WriteFault) h = absurd h
 
-module _ {limit : ℕ} {c_old c_new s_old s_new : Reading} {k_old k_new : Writing} {log : List Entry} {line : ℕ} (well : IsWellRun limit c_old c_new s_old s_new k_old k_new) where
+module _ {limit : ℕ} {c_old c_new s_old s_new : Reading} {k_old k_new : Writing} (log : List Entry) (line : ℕ) (well : IsWellRun limit c_old c_new s_old s_new k_old k_new) where
   text_ends : (text : List ℕ) (end : Status) → well.scenario ≡ text → RanText limit text s_old s_new k_old k_new log line end → EndsOkOrMemory (number_of end)
   text_ends text end same ran =
       let contexts : ran.contexts ≡ well.contexts = same_plan well.scenario text well.plan ran.plan well.contexts ran.contexts same well.planned ran.scenario in
@@ -76,11 +81,12 @@ generated_ends seed steps k_old k_new status.BadStep c h = absurd h
 generated_ends seed steps k_old k_new status.TooLong c h = absurd h
 generated_ends seed steps k_old k_new status.ReadFault c h = absurd h
 
-module _ {c_old c_new s_old s_new : Reading} {k_old k_new : Writing} {log : List Entry} {line : ℕ} where
+module _ (c_old c_new s_old s_new : Reading) (k_old k_new : Writing) (log : List Entry) (line : ℕ) where
   command_ends : (command : Option Command) (end : Status) → IsWell command c_old c_new s_old s_new k_old k_new → CommandEnds command c_old c_new s_old s_new k_old k_new log line end → EndsOkOrMemory (number_of end)
   command_ends None end w h = absurd w
-  command_ends (Some (Run limit)) end w h = run_ends w end h
+  command_ends (Some (Run limit)) end w h = run_ends log line w end h
   command_ends (Some (Generate seed steps)) end w h = generated_ends seed steps k_old k_new end w h.1
 
 pub program_completes : {words : List (List ℕ)} {c_old c_new s_old s_new : Reading} {k_old k_new : Writing} {log : List Entry} {number line : ℕ} → RanMain words c_old c_new s_old s_new k_old k_new log number line → ProgramCompletes (command_in words) c_old c_new s_old s_new k_old k_new number
-program_completes {words} ran = λ well. rw ran.number_is (command_ends (command_in words) ran.end well ran.cause)
+program_completes {words} {c_old} {c_new} {s_old} {s_new} {k_old} {k_new} {log} {line = line} ran =
+    λ well. rw ran.number_is (command_ends c_old c_new s_old s_new k_old k_new log line (command_in words) ran.end well ran.cause)
