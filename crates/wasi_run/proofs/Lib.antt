@@ -7,3 +7,4 @@ mod Generated
 mod Newlines
 mod GeneratedSteps
 mod OwnErrors
+mod PumpStatuses
