@@ -7,4 +7,3 @@ mod Generated
 mod Newlines
 mod GeneratedSteps
 mod OwnErrors
-mod PumpStatuses
