@@ -1,5 +1,6 @@
 -- What the calls of locked pipes may answer, whatever other owners do.
-use Rattle.std.specs.Prelude.{◌≡◌, ◌<◌, ◌≤◌, ℕ, List, length, Result, Ok, Err}
+use Rattle.std.specs.Prelude.{◌≡◌, ◌<◌, ◌≤◌, ℕ, Bool, List, length, Option, None, Result, Ok, Err}
+use Rattle.wasi_world.specs.Io.{Reading, Writing}
 use Rattle.wasi_world.specs.declared.outcome.TrapKind.TheVariants as trap
 use Rattle.wasi_streams.specs.declared.error.StreamError.{StreamError}
 use Rattle.wasi_streams.specs.declared.error.StreamError.TheVariants.{Closed, Trap, Memory}
@@ -22,3 +23,11 @@ abbrev pub MayCheck : Result ℕ StreamError → Type 0
 MayCheck (Ok count) = 0 < count
 MayCheck (Err Closed) = Unit {0}
 MayCheck (Err _) = ⊥
+
+-- what is known of a pipe as a source: it tells no bytes, but whether its owner was told the end
+abbrev pub reading_of : Bool → Reading
+reading_of ended = record { left = None; ended = ended; faults = 0 }
+
+-- what is known of a pipe as a sink: it tells no bytes and no flush, but how many pieces of its owner it took nothing of
+abbrev pub writing_of : ℕ → Writing
+writing_of refused = record { written = None; flushed = None; faults = 0; refused = refused }

@@ -2,11 +2,10 @@
 
 ghost use Rattle.std.specs.Prelude.{◌≡◌, ◌≤◌, IfOk, IsOk, false, length};
 ghost use Rattle.wasi_world.specs.Io.{HasRead};
-ghost use Rattle.wasi_locked.specs.Shares.{MayRead};
+ghost use Rattle.wasi_locked.specs.Shares.{MayRead, reading_of};
 
 use bytes::Bytes;
 use std::alloc::{AllocError, Global};
-use std::marker::Model;
 use std::sync::{Arc, Mutex, Wait};
 use wasi_memory::InputPipeCore;
 use wasi_streams::StreamError;
@@ -21,15 +20,6 @@ pub struct MemoryInputPipe<R: Wait + Copy> {
     rt: R,
     pipe: Arc<Mutex<InputPipeCore>, Global>,
     ended: bool,
-}
-
-impl<R: Wait + Copy> Model for MemoryInputPipe<R> {
-    ghost use Rattle.std.specs.Prelude.{None};
-    ghost use Rattle.wasi_world.specs.Io.{Reading};
-
-    ghost Value = { Reading };
-
-    ghost view = { λ pipe. record { left = None; ended = pipe.ended; faults = 0 } };
 }
 
 impl<R: Wait + Copy> MemoryInputPipe<R> {
@@ -72,11 +62,13 @@ impl<R: Wait + Copy> MemoryInputPipe<R> {
 }
 
 impl<R: Wait + Copy> Source for MemoryInputPipe<R> {
-    ghost reading = { λ pipe. pipe };
+    ghost use Rattle.wasi_locked.specs.Shares.{reading_of};
+
+    ghost reading = { λ pipe. reading_of pipe.ended };
 
     /// Moves as many of the bytes that are left as fit. It never fails, and takes no memory.
     fn read(&mut self, buf: &mut [u8]) -> Result<usize, Failed>
-        ensures read { HasRead self.old self.new (length buf.old) buf.new result }
+        ensures read { HasRead (reading_of self.old.ended) (reading_of self.new.ended) (length buf.old) buf.new result }
         ensures ok { IsOk result }
     {
         let count = self.pipe.lock(&self.rt).take_into(buf);

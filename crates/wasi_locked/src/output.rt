@@ -2,12 +2,11 @@
 
 ghost use Rattle.std.specs.Prelude.{◌≡◌, ◌≤◌, IfOk, IsOk};
 ghost use Rattle.wasi_world.specs.Io.{HasWritten, HasFlushed};
-ghost use Rattle.wasi_locked.specs.Shares.{MayWrite, MayCheck};
+ghost use Rattle.wasi_locked.specs.Shares.{MayWrite, MayCheck, writing_of};
 
 use crate::room::Room;
 use bytes::{Bytes, BytesMut};
 use std::alloc::{AllocError, Global};
-use std::marker::Model;
 use std::sync::{Arc, Mutex, Wait};
 use wasi_streams::StreamError;
 use wasi_world::{Failed, Sink};
@@ -23,15 +22,6 @@ pub struct MemoryOutputPipe<R: Wait + Copy> {
     alloc: Global,
     pipe: Arc<Mutex<Room>, Global>,
     refused: u64,
-}
-
-impl<R: Wait + Copy> Model for MemoryOutputPipe<R> {
-    ghost use Rattle.std.specs.Prelude.{None};
-    ghost use Rattle.wasi_world.specs.Io.{Writing};
-
-    ghost Value = { Writing };
-
-    ghost view = { λ pipe. record { written = None; flushed = None; faults = 0; refused = pipe.refused } };
 }
 
 impl<R: Wait + Copy> MemoryOutputPipe<R> {
@@ -98,11 +88,13 @@ impl<R: Wait + Copy> MemoryOutputPipe<R> {
 }
 
 impl<R: Wait + Copy> Sink for MemoryOutputPipe<R> {
-    ghost writing = { λ pipe. pipe };
+    ghost use Rattle.wasi_locked.specs.Shares.{writing_of};
+
+    ghost writing = { λ pipe. writing_of pipe.refused };
 
     /// Takes the front of the bytes, as many as are free: none where the pipe is full. It never fails, and takes no memory.
     fn write(&mut self, bytes: &[u8]) -> Result<usize, Failed>
-        ensures written { HasWritten self.old self.new bytes.now result }
+        ensures written { HasWritten (writing_of self.old.refused) (writing_of self.new.refused) bytes.now result }
         ensures ok { IsOk result }
     {
         let count = self.pipe.lock(&self.rt).put(bytes);
@@ -113,7 +105,7 @@ impl<R: Wait + Copy> Sink for MemoryOutputPipe<R> {
     }
 
     fn flush(&mut self) -> Result<(), Failed>
-        ensures flushed { HasFlushed self.old self.new result }
+        ensures flushed { HasFlushed (writing_of self.old.refused) (writing_of self.new.refused) result }
         ensures ok { IsOk result }
     {
         Ok(())
