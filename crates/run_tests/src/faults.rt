@@ -58,7 +58,7 @@ fn a_failed_scenario_is_status_8(rt: HostRuntime) -> Result<(), Fail> {
         ..PLAIN
     };
     given.ends(&rt, rt.alloc(), "8 0: ")?;
-    let done = given.run(rt.alloc())?;
+    let done = given.run(&rt, rt.alloc())?;
     assert!(rt; done.log.is_empty());
     assert_eq!(rt; done.source.left(), BIND);
     Ok(())

@@ -41,7 +41,7 @@ fn gen_tells_what_its_run_came_to(rt: HostRuntime) -> Result<(), Fail> {
 
 #[test]
 fn gen_gives_no_log(rt: HostRuntime) -> Result<(), Fail> {
-    let done = given(&["gen", "1", "10"]).run(rt.alloc())?;
+    let done = given(&["gen", "1", "10"]).run(&rt, rt.alloc())?;
     assert!(rt; done.log.is_empty());
     Ok(())
 }

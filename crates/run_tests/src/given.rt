@@ -3,8 +3,11 @@
 use std::alloc::{AllocError, Global};
 use std::fmt::Write;
 use std::process::Abort;
+use std::sync::Wait;
 use std::test::Fail;
+use std::thread::Threads;
 use wasi_run::{Done, run_main};
+use wasi_spawn::ThreadSpawner;
 use wasi_world::{MemorySink, MemorySource};
 
 /// Binds a socket: 81 bytes.
@@ -63,26 +66,39 @@ fn owned(alloc: Global, words: &[&str]) -> Result<Vec<String>, AllocError> {
 
 impl<'a> Given<'a> {
     /// Runs the program over them.
-    pub fn run(&self, alloc: Global) -> Result<Done<MemorySource, MemorySink>, Fail> {
+    pub fn run<R: Threads + Wait + Copy + Send + 'static>(
+        &self,
+        rt: &R,
+        alloc: Global,
+    ) -> Result<Done<MemorySource, MemorySink>, Fail> {
         let words = owned(alloc, self.words)?;
         let mut scenario = source(alloc, self.scenario, self.most, self.failing_scenario)?;
         let script = source(alloc, self.script, self.most, self.failing_reads)?;
         let fails = self.failing_writes.to_vec(alloc)?;
         let sink = MemorySink::new(alloc, self.most.max(1), self.room, fails)?;
-        Ok(run_main(alloc, words.as_slice(), &mut scenario, script, sink))
+        Ok(run_main(
+            *rt,
+            alloc,
+            words.as_slice(),
+            &mut scenario,
+            script,
+            sink,
+            &mut ThreadSpawner::new(),
+            &mut ThreadSpawner::new(),
+        ))
     }
 
     /// Its status, its line and what it wrote.
-    fn end(&self, alloc: Global) -> Result<String, Fail> {
-        let done = self.run(alloc)?;
+    fn end<R: Threads + Wait + Copy + Send + 'static>(&self, rt: &R, alloc: Global) -> Result<String, Fail> {
+        let done = self.run(rt, alloc)?;
         let wrote = str::from_utf8(done.sink.bytes()).unwrap_or("no text");
         let (status, line) = (done.status, done.line);
         Ok(format!(in alloc; "{status} {line}: {wrote}")?)
     }
 
     /// The faults of its source and of its sink, and the pieces that the sink refused.
-    fn faults(&self, alloc: Global) -> Result<(u64, u64, u64), Fail> {
-        let done = self.run(alloc)?;
+    fn faults<R: Threads + Wait + Copy + Send + 'static>(&self, rt: &R, alloc: Global) -> Result<(u64, u64, u64), Fail> {
+        let done = self.run(rt, alloc)?;
         Ok((
             done.source.faults(),
             done.sink.faults(),
@@ -91,20 +107,25 @@ impl<'a> Given<'a> {
     }
 
     /// The run ends so.
-    pub fn ends(&self, rt: &impl Abort, alloc: Global, end: &str) -> Result<(), Fail> {
-        let came = self.end(alloc)?;
+    pub fn ends<R: Threads + Wait + Abort + Copy + Send + 'static>(
+        &self,
+        rt: &R,
+        alloc: Global,
+        end: &str,
+    ) -> Result<(), Fail> {
+        let came = self.end(rt, alloc)?;
         assert_eq!(rt; came.as_str(), end);
         Ok(())
     }
 
     /// Its streams count so many faults, and so many refused pieces.
-    pub fn counts(
+    pub fn counts<R: Threads + Wait + Abort + Copy + Send + 'static>(
         &self,
-        rt: &impl Abort,
+        rt: &R,
         alloc: Global,
         faults: (u64, u64, u64),
     ) -> Result<(), Fail> {
-        let came = self.faults(alloc)?;
+        let came = self.faults(rt, alloc)?;
         assert_eq!(rt; came, faults);
         Ok(())
     }

@@ -55,7 +55,7 @@ fn runs_have_their_statuses(rt: HostRuntime) -> Result<(), Fail> {
 #[test]
 fn nothing_is_asked_after_a_trap(rt: HostRuntime) -> Result<(), Fail> {
     let script = b"0 network\n0 tcp-create 4\n0 drop 3\n0 tcp-create 4\n";
-    let done = Given { script, ..PLAIN }.run(rt.alloc())?;
+    let done = Given { script, ..PLAIN }.run(&rt, rt.alloc())?;
     assert_eq!(rt; done.log.len(), 3);
     Ok(())
 }
@@ -88,7 +88,7 @@ fn left(alloc: Global, script: &[u8]) -> Result<Option<(usize, bool, u64)>, Fail
 #[test]
 fn a_run_leaves_its_log_and_ends_its_world(rt: HostRuntime) -> Result<(), Fail> {
     for (script, entries, closings) in [(b"".as_slice(), 0, 0), (BIND, 6, 1)] {
-        let done = Given { script, ..PLAIN }.run(rt.alloc())?;
+        let done = Given { script, ..PLAIN }.run(&rt, rt.alloc())?;
         assert_eq!(rt; done.log.len(), entries);
         let left = left(rt.alloc(), script)?;
         assert_eq!(rt; left, Some((entries, true, closings)));

@@ -9,12 +9,15 @@ use Rattle.wasi_session.specs.declared.error.RunError.{RunError}
 use Rattle.wasi_session.specs.declared.error.RunError.TheVariants as error
 use Rattle.wasi_run.specs.declared.run.RunEnd.{RunEnd}
 use Rattle.wasi_run.specs.declared.program.Command.{Command}
-use Rattle.wasi_run.specs.declared.program.Command.TheVariants.{Run, Generate}
+use Rattle.wasi_run.specs.declared.program.Command.TheVariants.{Run, Pump, Generate}
 use Rattle.wasi_run.specs.declared.program.Status.{Status}
 use Rattle.wasi_run.specs.declared.program.Status.TheVariants as status
-use Rattle.wasi_run.specs.Program.{RanMain, CommandEnds, RunEnds, GeneratedEnds, RanText, ReadScenario, command_in, most_scenario, number_of, scenario_of, status_of}
+use Rattle.wasi_pump.specs.declared.error.PumpError.{PumpError}
+use Rattle.wasi_pump.specs.declared.error.PumpError.TheVariants as pump
+use Rattle.wasi_pump.specs.Pumped.{PumpEnds}
+use Rattle.wasi_run.specs.Program.{RanMain, CommandEnds, RunEnds, GeneratedEnds, PumpRan, IsPump, pump_status, RanText, ReadScenario, command_in, most_scenario, number_of, scenario_of, status_of}
 use Rattle.wasi_run.specs.Script.{IsOkOrMemory, IsValid}
-use Rattle.wasi_run.specs.Completeness.{EndsOkOrMemory, IsWell, IsWellRun, ProgramCompletes}
+use Rattle.wasi_run.specs.Completeness.{EndsOkOrMemory, IsWell, IsWellRun, IsWellPumped, ProgramCompletes}
 use Rattle.wasi_run.proofs.Completes.{completes, front_of}
 
 -- a scenario within its size was read whole
@@ -69,6 +72,10 @@ module _ {limit : ℕ} {c_old c_new s_old s_new : Reading} {k_old k_new : Writin
   run_ends status.TooLong h = script_ends status.TooLong (h.text, h.read, h.ran)
   run_ends status.ReadFault h = script_ends status.ReadFault (h.text, h.read, h.ran)
   run_ends status.WriteFault h = script_ends status.WriteFault (h.text, h.read, h.ran)
+  run_ends status.NoBudget h = script_ends status.NoBudget (h.text, h.read, h.ran)
+  run_ends status.NoWorker h = script_ends status.NoWorker (h.text, h.read, h.ran)
+  run_ends status.SourceFault h = script_ends status.SourceFault (h.text, h.read, h.ran)
+  run_ends status.SinkFault h = script_ends status.SinkFault (h.text, h.read, h.ran)
 
 generated_ends : (seed steps : ℕ) (k_old k_new : Writing) (end : Status) → ¬ CountRose k_old k_new → GeneratedEnds seed steps k_old k_new end → EndsOkOrMemory (number_of end)
 generated_ends seed steps k_old k_new status.Ok c h = inl refl
@@ -80,13 +87,29 @@ generated_ends seed steps k_old k_new status.ScenarioFault c h = absurd h
 generated_ends seed steps k_old k_new status.BadStep c h = absurd h
 generated_ends seed steps k_old k_new status.TooLong c h = absurd h
 generated_ends seed steps k_old k_new status.ReadFault c h = absurd h
+generated_ends seed steps k_old k_new status.NoBudget c h = absurd h
+generated_ends seed steps k_old k_new status.NoWorker c h = absurd h
+generated_ends seed steps k_old k_new status.SourceFault c h = absurd h
+generated_ends seed steps k_old k_new status.SinkFault c h = absurd h
 
-module _ (c_old c_new s_old s_new : Reading) (k_old k_new : Writing) (log : List Entry) (line : ℕ) where
-  command_ends : (command : Option Command) (end : Status) → IsWell command c_old c_new s_old s_new k_old k_new → CommandEnds command c_old c_new s_old s_new k_old k_new log line end → EndsOkOrMemory (number_of end)
-  command_ends None end w h = absurd w
-  command_ends (Some (Run limit)) end w h = run_ends log line w end h
-  command_ends (Some (Generate seed steps)) end w h = generated_ends seed steps k_old k_new end w h.1
+-- a pump that isn't refused, with no fault counted
+pump_ends : (budget : ℕ) (s_old s_new : Reading) (k_old k_new : Writing) (refused : Type 0) (outcome : Result ℕ PumpError) → IsWellPumped budget s_old s_new k_old k_new refused → (number_of (pump_status outcome) ≡ 10 → refused) → (outcome ≡ Err pump.NoBudget → budget ≡ 0) → PumpEnds s_old s_new k_old k_new outcome → EndsOkOrMemory (number_of (pump_status outcome))
+pump_ends budget s_old s_new k_old k_new refused (Ok count) well worker none h = inl refl
+pump_ends budget s_old s_new k_old k_new refused (Err pump.NoBudget) well worker none h = absurd (well.some (none refl))
+pump_ends budget s_old s_new k_old k_new refused (Err pump.NoWorker) well worker none h = absurd (well.started (worker refl))
+pump_ends budget s_old s_new k_old k_new refused (Err pump.SourceFault) well worker none h = absurd (well.read h.1)
+pump_ends budget s_old s_new k_old k_new refused (Err pump.SinkFault) well worker none h = absurd (well.written h.1)
+pump_ends budget s_old s_new k_old k_new refused (Err pump.Memory) well worker none h = inr refl
 
-pub program_completes : {words : List (List ℕ)} {c_old c_new s_old s_new : Reading} {k_old k_new : Writing} {log : List Entry} {number line : ℕ} → RanMain words c_old c_new s_old s_new k_old k_new log number line → ProgramCompletes (command_in words) c_old c_new s_old s_new k_old k_new number
-program_completes {words} {c_old} {c_new} {s_old} {s_new} {k_old} {k_new} {log} {line = line} ran =
-    λ well. rw ran.number_is (command_ends c_old c_new s_old s_new k_old k_new log line (command_in words) ran.end well ran.cause)
+module _ (c_old c_new s_old s_new : Reading) (k_old k_new : Writing) (log : List Entry) (line : ℕ) (refused : Type 0) where
+  command_ends : (command : Option Command) (end : Status) → IsWell command c_old c_new s_old s_new k_old k_new refused → (IsPump command → number_of end ≡ 10 → refused) → CommandEnds command c_old c_new s_old s_new k_old k_new log line end → EndsOkOrMemory (number_of end)
+  command_ends None end w worker h = absurd w
+  command_ends (Some (Run limit)) end w worker h = run_ends log line w end h
+  command_ends (Some (Pump budget)) end w worker h =
+      let same : end ≡ pump_status h.outcome = h.status_is in
+      rw same (pump_ends budget s_old s_new k_old k_new refused h.outcome w (rw same at (worker tt)) h.no_budget.0 h.ends)
+  command_ends (Some (Generate seed steps)) end w worker h = generated_ends seed steps k_old k_new end w h.1
+
+pub program_completes : {words : List (List ℕ)} {c_old c_new s_old s_new : Reading} {k_old k_new : Writing} {log : List Entry} {number line : ℕ} {refused : Type 0} → RanMain words c_old c_new s_old s_new k_old k_new log number line → (IsPump (command_in words) → number ≡ 10 → refused) → ProgramCompletes (command_in words) c_old c_new s_old s_new k_old k_new refused number
+program_completes {words} {c_old} {c_new} {s_old} {s_new} {k_old} {k_new} {log} {line = line} {refused} ran worker =
+    λ well. rw ran.number_is (command_ends c_old c_new s_old s_new k_old k_new log line refused (command_in words) ran.end well (rw ran.number_is at worker) ran.cause)

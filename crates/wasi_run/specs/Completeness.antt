@@ -1,10 +1,10 @@
 -- Where the program ends with status 0, unless memory runs out.
-use Rattle.std.specs.Prelude.{◌≡◌, ℕ, List, ◌≤◌, ◌⊎◌, Option, Some, None, Ok, length}
+use Rattle.std.specs.Prelude.{◌≡◌, ◌≢◌, ℕ, List, ◌≤◌, ◌⊎◌, Option, Some, None, Ok, length}
 use Rattle.wasi_world.specs.declared.outcome.WasiSocketsCtx.{WasiSocketsCtx}
 use Rattle.wasi_world.specs.Seen.{Plan, Rose}
 use Rattle.wasi_world.specs.Io.{Reading, Writing, CountRose}
 use Rattle.wasi_run.specs.declared.program.Command.{Command}
-use Rattle.wasi_run.specs.declared.program.Command.TheVariants.{Run, Generate}
+use Rattle.wasi_run.specs.declared.program.Command.TheVariants.{Run, Pump, Generate}
 use Rattle.wasi_run.specs.Program.{most_scenario, scenario_of}
 use Rattle.wasi_run.specs.Script.{IsValid}
 
@@ -28,12 +28,21 @@ pub record IsWellRun (limit : ℕ) (c_old c_new s_old s_new : Reading) (k_old k_
   pub script_read : ¬ Rose s_old.faults s_new.faults
   pub written : ¬ CountRose k_old k_new
 
--- of the words' command
-abbrev pub IsWell : Option Command → Reading → Reading → Reading → Reading → Writing → Writing → Type 0
-IsWell None c_old c_new s_old s_new k_old k_new = ⊥
-IsWell (Some (Run limit)) c_old c_new s_old s_new k_old k_new = IsWellRun limit c_old c_new s_old s_new k_old k_new
-IsWell (Some (Generate seed steps)) c_old c_new s_old s_new k_old k_new = ¬ CountRose k_old k_new
+-- The budget isn't 0, and no fault, no refused piece and no refused start was counted.
+pub record IsWellPumped (budget : ℕ) (s_old s_new : Reading) (k_old k_new : Writing) (refused : Type 0) : Type 0 where
+  pub some : budget ≢ 0
+  pub read : ¬ Rose s_old.faults s_new.faults
+  pub written : ¬ CountRose k_old k_new
+  pub started : ¬ refused
+
+-- of the words' command; `refused` says that a spawner counted a refused start
+abbrev pub IsWell : Option Command → Reading → Reading → Reading → Reading → Writing → Writing → Type 0 → Type 0
+IsWell None c_old c_new s_old s_new k_old k_new refused = ⊥
+IsWell (Some (Run limit)) c_old c_new s_old s_new k_old k_new refused = IsWellRun limit c_old c_new s_old s_new k_old k_new
+IsWell (Some (Pump budget)) c_old c_new s_old s_new k_old k_new refused = IsWellPumped budget s_old s_new k_old k_new refused
+IsWell (Some (Generate seed steps)) c_old c_new s_old s_new k_old k_new refused = ¬ CountRose k_old k_new
 
 -- what is well ends well
-abbrev pub ProgramCompletes : Option Command → Reading → Reading → Reading → Reading → Writing → Writing → ℕ → Type 0
-ProgramCompletes command c_old c_new s_old s_new k_old k_new number = IsWell command c_old c_new s_old s_new k_old k_new → EndsOkOrMemory number
+abbrev pub ProgramCompletes : Option Command → Reading → Reading → Reading → Reading → Writing → Writing → Type 0 → ℕ → Type 0
+ProgramCompletes command c_old c_new s_old s_new k_old k_new refused number =
+    IsWell command c_old c_new s_old s_new k_old k_new refused → EndsOkOrMemory number

@@ -1,5 +1,5 @@
 -- What the program makes of its words, its scenario and its script.
-use Rattle.std.specs.Prelude.{◌≡◌, ℕ, ◌+◌, ◌≤◌, ◌⊎◌, true, if◌then◌else◌, bytes_eq, codes, List, [], ◌∷◌, Option, Some, None, option_map, Result, Ok, Err, length}
+use Rattle.std.specs.Prelude.{◌≡◌, ℕ, ◌+◌, ◌≤◌, ◌⊎◌, ◌↔◌, true, if◌then◌else◌, bytes_eq, codes, List, [], ◌∷◌, Option, Some, None, option_map, Result, Ok, Err, length}
 use Rattle.std.specs.Option.{option_and_then}
 use Rattle.wasi_world.specs.declared.call.Entry.{Entry}
 use Rattle.wasi_world.specs.declared.outcome.WasiSocketsCtx.{WasiSocketsCtx}
@@ -14,9 +14,12 @@ use Rattle.wasi_session.specs.declared.error.RunError.{RunError}
 use Rattle.wasi_session.specs.declared.error.RunError.TheVariants as error
 use Rattle.wasi_run.specs.declared.counts.Counts.{Counts}
 use Rattle.wasi_run.specs.declared.program.Command.{Command}
-use Rattle.wasi_run.specs.declared.program.Command.TheVariants.{Run, Generate}
+use Rattle.wasi_run.specs.declared.program.Command.TheVariants.{Run, Pump, Generate}
 use Rattle.wasi_run.specs.declared.program.Status.{Status}
 use Rattle.wasi_run.specs.declared.program.Status.TheVariants as status
+use Rattle.wasi_pump.specs.declared.error.PumpError.{PumpError}
+use Rattle.wasi_pump.specs.declared.error.PumpError.TheVariants as pump
+use Rattle.wasi_pump.specs.Pumped.{PumpEnds}
 use Rattle.wasi_host.specs.Closing.{HasClosedAll}
 use Rattle.wasi_run.specs.Headline.{RunsLicensed}
 use Rattle.wasi_run.specs.Counted.{CountsRun, summary}
@@ -25,6 +28,14 @@ use Rattle.wasi_session.specs.Written.{TookAll, TookFront}
 -- the words are `run LIMIT`
 abbrev pub run_in : List ℕ → List ℕ → Option Command
 run_in word limit = if bytes_eq word (codes "run") then option_map (λ n. Run n) (number_in limit 4294967295) else None
+
+-- the words are `pump BUDGET`
+abbrev pub pump_in : List ℕ → List ℕ → Option Command
+pump_in word budget = if bytes_eq word (codes "pump") then option_map (λ n. Pump n) (number_in budget 4294967295) else None
+
+-- the words are `run LIMIT` or `pump BUDGET`
+abbrev pub limited_in : List ℕ → List ℕ → Option Command
+limited_in word most = if bytes_eq word (codes "run") then run_in word most else pump_in word most
 
 -- the words are `gen SEED STEPS`
 abbrev pub generate_in : List ℕ → List ℕ → List ℕ → Option Command
@@ -35,7 +46,7 @@ generate_in word seed steps =
 
 -- what the words ask for
 abbrev pub command_in : List (List ℕ) → Option Command
-command_in (word ∷ limit ∷ []) = run_in word limit
+command_in (word ∷ most ∷ []) = limited_in word most
 command_in (word ∷ seed ∷ steps ∷ []) = generate_in word seed steps
 command_in _ = None
 
@@ -49,6 +60,10 @@ number_of status.ReadFault = 5
 number_of status.WriteFault = 6
 number_of status.Memory = 7
 number_of status.ScenarioFault = 8
+number_of status.NoBudget = 9
+number_of status.NoWorker = 10
+number_of status.SourceFault = 11
+number_of status.SinkFault = 12
 
 -- how a run's end is told
 abbrev pub status_of : Result RunEnd RunError → Status
@@ -58,6 +73,15 @@ status_of (Err (error.BadStep n)) = status.BadStep
 status_of (Err error.TooLong) = status.TooLong
 status_of (Err error.ReadFault) = status.ReadFault
 status_of (Err error.WriteFault) = status.WriteFault
+
+-- how a pump's end is told
+abbrev pub pump_status : Result ℕ PumpError → Status
+pump_status (Ok count) = status.Ok
+pump_status (Err pump.NoBudget) = status.NoBudget
+pump_status (Err pump.NoWorker) = status.NoWorker
+pump_status (Err pump.SourceFault) = status.SourceFault
+pump_status (Err pump.SinkFault) = status.SinkFault
+pump_status (Err pump.Memory) = status.Memory
 
 abbrev pub bad_line_of : Result RunEnd RunError → ℕ
 bad_line_of (Err (error.BadStep n)) = n
@@ -153,6 +177,22 @@ pub record ReadNothing (c_old c_new s_old s_new : Reading) (log : List Entry) (l
   pub log_is : log ≡ []
   pub line_is : line ≡ 0
 
+-- == `pump BUDGET`
+-- The source was pumped to the sink, and so the program ends so. No scenario was read, and there is no log.
+pub record PumpRan (budget : ℕ) (c_old c_new s_old s_new : Reading) (k_old k_new : Writing) (log : List Entry) (line : ℕ) (end : Status) : Type 0 where
+  pub scenario : c_new ≡ c_old
+  pub log_is : log ≡ []
+  pub line_is : line ≡ 0
+  pub outcome : Result ℕ PumpError
+  pub status_is : end ≡ pump_status outcome
+  pub ends : PumpEnds s_old s_new k_old k_new outcome
+  pub no_budget : (outcome ≡ Err pump.NoBudget) ↔ (budget ≡ 0)
+
+-- the words ask for a pump
+abbrev pub IsPump : Option Command → Type 0
+IsPump (Some (Pump budget)) = Unit {0}
+IsPump _ = ⊥
+
 -- == any words
 -- the cause of each status, by what the words ask for
 abbrev pub CommandEnds : Option Command → Reading → Reading → Reading → Reading → Writing → Writing → List Entry → ℕ → Status → Type 0
@@ -160,6 +200,8 @@ CommandEnds None c_old c_new s_old s_new k_old k_new log line end =
     ReadNothing c_old c_new s_old s_new log line × (k_new ≡ k_old) × (end ≡ status.BadWords)
 CommandEnds (Some (Run limit)) c_old c_new s_old s_new k_old k_new log line end =
     RunEnds limit c_old c_new s_old s_new k_old k_new log line end
+CommandEnds (Some (Pump budget)) c_old c_new s_old s_new k_old k_new log line end =
+    PumpRan budget c_old c_new s_old s_new k_old k_new log line end
 CommandEnds (Some (Generate seed steps)) c_old c_new s_old s_new k_old k_new log line end =
     ReadNothing c_old c_new s_old s_new log line × GeneratedEnds seed steps k_old k_new end
 

@@ -1,10 +1,10 @@
 //! What the program does with its words.
 
-ghost use Rattle.std.specs.Prelude.{◌≡◌, ◌↔◌, ◌+◌, ◌≤◌, ◌<◌, ◌^◌, ℕ, None, Some, IfOk, IfErr, IfNone, IfSome, map, string_bytes, length, [], false, List};
+ghost use Rattle.std.specs.Prelude.{◌≡◌, ◌↔◌, ◌⊎◌, ◌+◌, ◌≤◌, ◌<◌, ◌^◌, ℕ, None, Some, IfOk, IfErr, IfNone, IfSome, map, string_bytes, length, [], false, List};
 ghost use Rattle.wasi_world.specs.Io.{Gave};
 ghost use Rattle.wasi_world.specs.Scripted.{seen_by};
 ghost use Rattle.wasi_world.specs.Seen.{Rose};
-ghost use Rattle.wasi_run.specs.Program.{run_in, generate_in, command_in, number_of, status_of, bad_line_of, ReadScenario, RanText, RanMain, RunEnds, GeneratedEnds, EndsBy};
+ghost use Rattle.wasi_run.specs.Program.{run_in, pump_in, limited_in, generate_in, command_in, number_of, status_of, pump_status, bad_line_of, ReadScenario, RanText, RanMain, RunEnds, GeneratedEnds, IsPump};
 ghost use Rattle.wasi_run.specs.Completeness.{ProgramCompletes};
 ghost use Rattle.wasi_run.specs.Parsed.{IsPlanned, IsParsed, TextEnds};
 ghost use Rattle.wasi_run.specs.Script.{AreNumbered};
@@ -12,7 +12,11 @@ ghost use Rattle.wasi_run.specs.Script.{AreNumbered};
 use crate::counts::run_generated;
 use crate::run::{RunEnd, run_script};
 use std::alloc::{AllocError, Global};
+use std::sync::Wait;
+use std::thread::Threads;
+use wasi_pump::{PumpError, pump};
 use wasi_session::{RunError, write_all};
+use wasi_spawn::Spawner;
 use wasi_world::fields::number;
 use wasi_world::{Entry, ScenarioError, ScriptedWorld, Sink, Source, WasiSocketsCtx};
 
@@ -36,6 +40,14 @@ pub enum Status {
     Memory,
     /// A read of the scenario failed.
     ScenarioFault,
+    /// A pump's budget is 0.
+    NoBudget,
+    /// A worker of a pump couldn't be started.
+    NoWorker,
+    /// A read of a pump failed.
+    SourceFault,
+    /// A write or a flush of a pump failed, or its sink took nothing of a piece.
+    SinkFault,
 }
 
 impl Status {
@@ -53,13 +65,17 @@ impl Status {
             Status::WriteFault => 6,
             Status::Memory => 7,
             Status::ScenarioFault => 8,
+            Status::NoBudget => 9,
+            Status::NoWorker => 10,
+            Status::SourceFault => 11,
+            Status::SinkFault => 12,
         }
     }
 
     /// The status with this number.
     pub fn of_number(number: u8) -> Option<Status>
         ensures some { IfSome result (λ s. number_of s ≡ number) }
-        ensures none { IfNone result (8 < number) }
+        ensures none { IfNone result (12 < number) }
     {
         match number {
             0 => Some(Status::Ok),
@@ -71,6 +87,10 @@ impl Status {
             6 => Some(Status::WriteFault),
             7 => Some(Status::Memory),
             8 => Some(Status::ScenarioFault),
+            9 => Some(Status::NoBudget),
+            10 => Some(Status::NoWorker),
+            11 => Some(Status::SourceFault),
+            12 => Some(Status::SinkFault),
             _ => None,
         }
     }
@@ -86,6 +106,20 @@ impl Status {
             Err(RunError::TooLong) => Status::TooLong,
             Err(RunError::ReadFault) => Status::ReadFault,
             Err(RunError::WriteFault) => Status::WriteFault,
+        }
+    }
+
+    /// How a pump's end is told.
+    pub fn of_pump(outcome: Result<u64, PumpError>) -> Status
+        ensures { result ≡ pump_status outcome }
+    {
+        match outcome {
+            Ok(_) => Status::Ok,
+            Err(PumpError::NoBudget) => Status::NoBudget,
+            Err(PumpError::NoWorker) => Status::NoWorker,
+            Err(PumpError::SourceFault) => Status::SourceFault,
+            Err(PumpError::SinkFault) => Status::SinkFault,
+            Err(PumpError::Memory) => Status::Memory,
         }
     }
 }
@@ -132,6 +166,23 @@ impl Ended {
             log: Vec::new(alloc),
         }
     }
+
+    /// What the program gives back.
+    fn with<S, K>(self, source: S, sink: K) -> Done<S, K>
+        ensures number { result.status ≡ number_of self.status }
+        ensures line { result.line ≡ self.line }
+        ensures log { result.log.items ≡ self.log.items }
+        ensures source { result.source ≡ source }
+        ensures sink { result.sink ≡ sink }
+    {
+        Done {
+            status: self.status.number(),
+            line: self.line,
+            log: self.log,
+            source,
+            sink,
+        }
+    }
 }
 
 /// The most lines that a script is generated with.
@@ -142,6 +193,8 @@ const MOST_STEPS: u64 = 100_000;
 pub enum Command {
     /// `run LIMIT`: a script of at most so many bytes.
     Run(u32),
+    /// `pump BUDGET`: the source's bytes go to the sink, by streams with this budget.
+    Pump(u32),
     /// `gen SEED STEPS`: a script that is generated from a seed, of so many lines.
     Generate(u64, u32),
 }
@@ -155,6 +208,28 @@ fn run_in(word: &str, limit: &str) -> Option<Command>
     }
     let limit = number(limit.as_bytes(), u64::from(u32::MAX))?;
     Some(Command::Run(limit as u32))
+}
+
+/// The budget of `pump BUDGET`.
+fn pump_in(word: &str, budget: &str) -> Option<Command>
+    ensures { result ≡ pump_in word.now budget.now }
+{
+    if word != "pump" {
+        return None;
+    }
+    let budget = number(budget.as_bytes(), u64::from(u32::MAX))?;
+    Some(Command::Pump(budget as u32))
+}
+
+/// A command of two words.
+fn limited_in(word: &str, most: &str) -> Option<Command>
+    ensures { result ≡ limited_in word.now most.now }
+{
+    if word == "run" {
+        run_in(word, most)
+    } else {
+        pump_in(word, most)
+    }
 }
 
 /// The seed and the number of lines of `gen SEED STEPS`.
@@ -174,7 +249,7 @@ fn command_in(words: &[String]) -> Option<Command>
     ensures { result ≡ command_in (map (λ w. string_bytes w) words.now) }
 {
     match words {
-        [word, limit] => run_in(word.as_str(), limit.as_str()),
+        [word, most] => limited_in(word.as_str(), most.as_str()),
         [word, seed, steps] => generate_in(word.as_str(), seed.as_str(), steps.as_str()),
         _ => None,
     }
@@ -306,49 +381,51 @@ fn tell_generated<K: Sink>(alloc: Global, seed: u64, steps: u32, sink: &mut K) -
     }
 }
 
-/// Does what the words say.
-fn run_words<C: Source, S: Source, K: Sink>(
-    alloc: Global,
-    words: &[String],
-    scenario: &mut C,
-    source: &mut S,
-    sink: &mut K,
-) -> Ended
-    ensures { EndsBy (map (λ w. string_bytes w) words.now) (C.reading scenario.old) (C.reading scenario.new) (S.reading source.old) (S.reading source.new) (K.writing sink.old) (K.writing sink.new) result.log.items result.line result.status }
-{
-    match command_in(words) {
-        None => return Ended::without_run(alloc, Status::BadWords, 0),
-        Some(Command::Run(limit)) => return run_scenario(alloc, limit, scenario, source, sink),
-        Some(Command::Generate(seed, steps)) => {
-            let status = tell_generated(alloc, seed, steps, sink);
-            return Ended::without_run(alloc, status, 0);
-        }
-    }
-}
-
 /// Does what the program's words say. `run LIMIT` reads the scenario, and then runs the script that the source gives, of at
-/// most LIMIT bytes, over the scenario's world; replies go to the sink. `gen SEED STEPS` runs the script that is generated
-/// from the seed, of at most 100000 lines, over the empty scenario, and writes one line to the sink, which tells what it
-/// came to; it reads nothing. Other words are status 1.
+/// most LIMIT bytes, over the scenario's world; replies go to the sink. `pump BUDGET` moves all bytes of the source to the
+/// sink, by streams with this budget and a worker each, which `readers` and `writers` start; it may wait for its workers.
+/// `gen SEED STEPS` runs the script that is generated from the seed, of at most 100000 lines, over the empty scenario, and
+/// writes one line to the sink, which tells what it came to; it reads nothing. Other words are status 1.
 ///
 /// The words are tested first, then the scenario is read whole (a failed read is status 8), then it is parsed (status 2).
-pub fn run_main<C: Source, S: Source, K: Sink>(
+pub fn run_main<
+    R: Threads + Wait + Copy + Send + 'static,
+    C: Source,
+    S: Source + Drop + Send + 'static,
+    K: Sink + Drop + Send + 'static,
+    P: Spawner,
+    Q: Spawner,
+>(
+    rt: R,
     alloc: Global,
     words: &[String],
     scenario: &mut C,
     mut source: S,
     mut sink: K,
+    writers: &mut P,
+    readers: &mut Q,
 ) -> Done<S, K>
     ensures ran { RanMain (map (λ w. string_bytes w) words.now) (C.reading scenario.old) (C.reading scenario.new) (S.reading source) (S.reading result.source) (K.writing sink) (K.writing result.sink) result.log.items result.status result.line }
-    ensures complete { ProgramCompletes (command_in (map (λ w. string_bytes w) words.now)) (C.reading scenario.old) (C.reading scenario.new) (S.reading source) (S.reading result.source) (K.writing sink) (K.writing result.sink) result.status }
+    ensures complete { ProgramCompletes (command_in (map (λ w. string_bytes w) words.now)) (C.reading scenario.old) (C.reading scenario.new) (S.reading source) (S.reading result.source) (K.writing sink) (K.writing result.sink) (Rose (P.refusals writers.old) (P.refusals writers.new) ⊎ Rose (Q.refusals readers.old) (Q.refusals readers.new)) result.status }
     ensures words { (result.status ≡ 1) ↔ (command_in (map (λ w. string_bytes w) words.now) ≡ None) }
+    ensures no_worker { IsPump (command_in (map (λ w. string_bytes w) words.now)) → result.status ≡ 10 → Rose (P.refusals writers.old) (P.refusals writers.new) ⊎ Rose (Q.refusals readers.old) (Q.refusals readers.new) }
+    ensures started { IsPump (command_in (map (λ w. string_bytes w) words.now)) → result.status ≡ 0 → Rose (P.starts writers.old) (P.starts writers.new) × Rose (Q.starts readers.old) (Q.starts readers.new) }
 {
-    let ended = run_words(alloc, words, scenario, &mut source, &mut sink);
-    Done {
-        status: ended.status.number(),
-        line: ended.line,
-        log: ended.log,
-        source,
-        sink,
+    match command_in(words) {
+        None => return Ended::without_run(alloc, Status::BadWords, 0).with(source, sink),
+        Some(Command::Run(limit)) => {
+            let ended = run_scenario(alloc, limit, scenario, &mut source, &mut sink);
+            return ended.with(source, sink);
+        }
+        Some(Command::Pump(budget)) => {
+            let budget = budget as usize;
+            let pumped = pump(&rt, alloc, writers, readers, source, sink, budget);
+            let status = Status::of_pump(pumped.outcome);
+            return Ended::without_run(alloc, status, 0).with(pumped.source, pumped.sink);
+        }
+        Some(Command::Generate(seed, steps)) => {
+            let status = tell_generated(alloc, seed, steps, &mut sink);
+            return Ended::without_run(alloc, status, 0).with(source, sink);
+        }
     }
 }

@@ -1,5 +1,5 @@
 -- What a write stream answers, by what its owner knows.
-use Rattle.std.specs.Prelude.{◌≡◌, ◌≤◌, ◌<◌, ◌+◌, ◌⊎◌, ⊤, ℕ, true, false, ◌==◌, if◌then◌else◌, List, [], ◌∷◌, ◌++◌, length, Result, Ok, Err, IsErr}
+use Rattle.std.specs.Prelude.{◌≡◌, ◌≤◌, ◌<◌, ◌+◌, ◌-◌, ◌⊎◌, ⊤, ℕ, true, false, ◌==◌, if◌then◌else◌, List, [], ◌∷◌, ◌++◌, length, Result, Ok, Err, IsErr}
 use Rattle.wasi_world.specs.declared.outcome.TrapKind.{TrapKind}
 use Rattle.wasi_world.specs.declared.outcome.TrapKind.TheVariants as trap
 use Rattle.wasi_streams.specs.declared.error.StreamError.{StreamError}
@@ -19,7 +19,7 @@ after_error knows (Memory e) = knows
 
 -- what is known once so many bytes were accepted
 abbrev pub with_bytes : OwnerKnows → ℕ → OwnerKnows
-with_bytes knows len = if len == 0 then knows else record knows { accepted = knows.accepted + len; pushed = knows.pushed + 1; flush = false; ready = false }
+with_bytes knows len = if len == 0 then knows else record knows { accepted = knows.accepted + len; pushed = knows.pushed + 1; permit = knows.permit - len; flush = false; ready = false }
 
 -- what is known once a write of so many bytes was answered
 abbrev pub after_write : OwnerKnows → ℕ → Result (Unit {0}) StreamError → OwnerKnows
@@ -33,12 +33,12 @@ after_flush knows (Err e) = after_error knows e
 
 -- what is known once a look at the budget was answered
 abbrev pub after_check : OwnerKnows → Result ℕ StreamError → OwnerKnows
-after_check knows (Ok count) = knows
+after_check knows (Ok count) = record knows { permit = count }
 after_check knows (Err e) = after_error knows e
 
--- the cause of a trap, for a write of so many bytes: it is above the budget, or a flush was accepted
+-- the cause of a trap, for a write of so many bytes: it is above the budget and the permit, or a flush was accepted
 abbrev pub TrapCause : ℕ → OwnerKnows → ℕ → TrapKind → Type 0
-TrapCause initial knows len trap.Budget = initial < len + knows.accepted
+TrapCause initial knows len trap.Budget = (initial < len + knows.accepted) × (knows.permit < len)
 TrapCause initial knows len trap.FlushPending = knows.flush ≡ true
 TrapCause initial knows len _ = ⊥
 

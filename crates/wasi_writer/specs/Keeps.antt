@@ -22,6 +22,7 @@ pub record IsSettled (s : WriteState) : Type 0 where
 pub record KeepsCounts (initial : ℕ) (s : WriteState) (owner : OwnerKnows) (worker : WorkerKnows) : Type 0 where
   pub budget : initial_of s ≡ initial
   pub accepted : sum (outstanding s) ≤ owner.accepted  -- no more is unwritten than was accepted
+  pub permit : owner.permit ≤ s.budget
   pub chunks : worker.popped + length s.queued ≡ owner.pushed  -- as many chunks are in the line as lengths are queued
 
 -- what the owner knows

@@ -4,6 +4,7 @@ use Rattle.std.specs.Prelude.{ℕ, Bool, false}
 pub record OwnerKnows : Type 0 where
   pub accepted : ℕ  -- how many bytes were accepted
   pub pushed : ℕ  -- how many chunks were pushed
+  pub permit : ℕ  -- how many bytes may be written at once: what the last look told, less what was accepted since
   pub flush : Bool  -- whether a flush was accepted, and no byte after it
   pub ready : Bool  -- whether the stream was found ready, and no write or flush was accepted since
   pub told : Bool  -- whether the fault was told
@@ -19,7 +20,7 @@ pub record WorkerKnows : Type 0 where
 
 -- what is known of a new stream
 abbrev pub nothing_yet : OwnerKnows
-nothing_yet = record { accepted = 0; pushed = 0; flush = false; ready = false; told = false; stopped = false; done = false }
+nothing_yet = record { accepted = 0; pushed = 0; permit = 0; flush = false; ready = false; told = false; stopped = false; done = false }
 
 -- what is known of a worker that did nothing yet
 abbrev pub idle : WorkerKnows

@@ -8,6 +8,7 @@ use Rattle.wasi_writer.specs.declared.names.WriteParts.{WriteParts}
 pub record Ledgers : Type 0 where
   pub accepted : ℕ
   pub pushed : ℕ
+  pub permit : ℕ
   pub flush : ℕ
   pub ready : ℕ
   pub told : ℕ
@@ -24,6 +25,7 @@ abbrev pub no_ledgers : Ledgers
 no_ledgers = record {
   accepted = 0;
   pushed = 0;
+  permit = 0;
   flush = 0;
   ready = 0;
   told = 0;
@@ -45,6 +47,7 @@ abbrev pub ledgers_of : WriteParts → Ledgers
 ledgers_of parts = record {
   accepted = parts.owner.accepted.name;
   pushed = parts.owner.pushed.name;
+  permit = parts.owner.permit.name;
   flush = parts.owner.flush.name;
   ready = parts.owner.ready.name;
   told = parts.owner.told.name;

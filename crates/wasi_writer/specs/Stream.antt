@@ -1,5 +1,5 @@
 -- What contracts see of a write stream, and how it ends.
-use Rattle.std.specs.Prelude.{◌≡◌, ℕ, Bool, true, false, List, [], ◌∷◌, ◌++◌, ◌==◌, if◌then◌else◌, length, Result, Ok, Err, OnOk, IfErr}
+use Rattle.std.specs.Prelude.{◌≡◌, ◌-◌, ℕ, Bool, true, false, List, [], ◌∷◌, ◌++◌, ◌==◌, if◌then◌else◌, length, Result, Ok, Err, OnOk, IfErr}
 use Rattle.std.specs.List.{concat}
 use Rattle.wasi_world.specs.Io.{Writing, CountRose}
 use Rattle.wasi_streams.specs.declared.error.StreamError.{StreamError}
@@ -12,6 +12,7 @@ use Rattle.wasi_writer.specs.Worked.{TookAll, TookFront, IsFlushed}
 pub record WriteStream : Type 0 where
   pub began : Writing  -- what was known of the sink when the stream was made
   pub chunks : List (List ℕ)  -- the chunks that were accepted, in order
+  pub permit : ℕ  -- how many bytes may be written at once: what the last look told, less what was accepted since
   pub flush : Bool  -- whether a flush was accepted, and no byte after it
   pub ready : Bool  -- whether it was found ready, and no write or flush was accepted since
   pub told : Bool  -- whether the fault was told
@@ -19,7 +20,7 @@ pub record WriteStream : Type 0 where
 
 -- a stream over this sink that nothing was written to
 abbrev pub opened : Writing → WriteStream
-opened began = record { began = began; chunks = []; flush = false; ready = false; told = false; stopped = false }
+opened began = record { began = began; chunks = []; permit = 0; flush = false; ready = false; told = false; stopped = false }
 
 -- how many bytes were accepted
 abbrev pub accepted : WriteStream → ℕ
@@ -27,7 +28,7 @@ accepted s = length (concat s.chunks)
 
 -- what its owner knows under the lock
 abbrev pub knows_of : WriteStream → OwnerKnows
-knows_of s = record { accepted = accepted s; pushed = length s.chunks; flush = s.flush; ready = s.ready; told = s.told; stopped = s.stopped; done = false }
+knows_of s = record { accepted = accepted s; pushed = length s.chunks; permit = s.permit; flush = s.flush; ready = s.ready; told = s.told; stopped = s.stopped; done = false }
 
 -- the stream once a call was answered by this error
 abbrev pub with_error : WriteStream → StreamError → WriteStream
@@ -38,7 +39,7 @@ with_error s (Memory e) = s
 
 -- the stream once these bytes were accepted: they are a chunk, unless there are none
 abbrev pub with_bytes : WriteStream → List ℕ → WriteStream
-with_bytes s bytes = if length bytes == 0 then s else record s { chunks = s.chunks ++ bytes ∷ []; flush = false; ready = false }
+with_bytes s bytes = if length bytes == 0 then s else record s { chunks = s.chunks ++ bytes ∷ []; permit = s.permit - length bytes; flush = false; ready = false }
 
 -- the stream once a write of these bytes was answered
 abbrev pub after_write : WriteStream → List ℕ → Result (Unit {0}) StreamError → WriteStream
@@ -52,7 +53,7 @@ after_flush s (Err e) = with_error s e
 
 -- the stream once a look at its budget was answered
 abbrev pub after_check : WriteStream → Result ℕ StreamError → WriteStream
-after_check s (Ok count) = s
+after_check s (Ok count) = record s { permit = count }
 after_check s (Err e) = with_error s e
 
 -- how a stream ends, where its worker failed or not, and it was cancelled or not

@@ -100,8 +100,10 @@ impl<N: Names> Locked<N> {
     {
         self.owner.agree(keys);
         let result = self.core.check();
-        if let Err(StreamError::LastOperationFailed(_)) = &result {
-            self.owner.tell(keys);
+        match &result {
+            Ok(count) => self.owner.permit(keys, *count as u64),
+            Err(StreamError::LastOperationFailed(_)) => self.owner.tell(keys),
+            Err(_) => {}
         }
         result
     }

@@ -60,6 +60,15 @@ impl<N: LedgerNames> Ledger for Pushed<N> {
     ghost parts = { 1 };
 }
 
+/// How many bytes may be written at once, by the last look. Its owner sets it.
+pub struct Permit<N>(PhantomData<N>);
+
+impl<N: LedgerNames> Ledger for Permit<N> {
+    ghost name = { N.ledgers.permit };
+
+    ghost parts = { 1 };
+}
+
 /// A flush was accepted, and no byte after it. Its owner keeps it.
 pub struct Flush<N>(PhantomData<N>);
 
@@ -155,12 +164,13 @@ impl<N: LedgerNames> Ledger for Flushed<N> {
 pub(crate) struct OwnerBlanks {
     pub accepted: Blank,
     pub pushed: Blank,
+    pub permit: Blank,
     pub flush: Blank,
     pub ready: Blank,
     pub told: Blank,
     pub stopped: Blank,
     pub done: Blank,
-    pub ghost single: { (accepted.parts ≡ 1) × (pushed.parts ≡ 1) × (flush.parts ≡ 1) × (ready.parts ≡ 1) × (told.parts ≡ 1) × (stopped.parts ≡ 1) × (done.parts ≡ 1) },
+    pub ghost single: { (accepted.parts ≡ 1) × (pushed.parts ≡ 1) × (permit.parts ≡ 1) × (flush.parts ≡ 1) × (ready.parts ≡ 1) × (told.parts ≡ 1) × (stopped.parts ≡ 1) × (done.parts ≡ 1) },
 }
 
 /// The blanks of what the worker knows.
@@ -201,6 +211,7 @@ impl WriteParts {
             owner: OwnerBlanks {
                 accepted: Blank::new(1),
                 pushed: Blank::new(1),
+                permit: Blank::new(1),
                 flush: Blank::new(1),
                 ready: Blank::new(1),
                 told: Blank::new(1),

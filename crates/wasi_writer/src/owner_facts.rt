@@ -1,9 +1,12 @@
 //! What the owner of a write stream knows while the worker has the lock.
 
-ghost use Rattle.std.specs.Prelude.{◌≡◌, ◌+◌, true, false};
+ghost use Rattle.std.specs.Prelude.{◌≡◌, ◌+◌, ◌-◌, true, false};
 ghost use Rattle.wasi_writer.specs.Knows.{OwnerKnows, nothing_yet};
 
-use crate::names::{Accepted, Done, Flush, LedgerNames, OwnerBlanks, Pushed, Ready, Stopped, Told};
+use crate::names::{
+    Accepted, Done, Flush, LedgerNames, OwnerBlanks, Permit, Pushed, Ready, Stopped, Told,
+};
+use crate::number::{Number, Setter};
 use std::marker::Model;
 use wasi_shared::{Count, Counter, Fact, Keeper};
 
@@ -12,6 +15,7 @@ use wasi_shared::{Count, Counter, Fact, Keeper};
 pub struct OwnerFacts<N: LedgerNames> {
     accepted: Count<Accepted<N>>,
     pushed: Count<Pushed<N>>,
+    permit: Number<Permit<N>>,
     flush: Fact<Flush<N>>,
     ready: Fact<Ready<N>>,
     told: Fact<Told<N>>,
@@ -27,6 +31,7 @@ impl<N: LedgerNames> Model for OwnerFacts<N> {
     ghost view = { λ facts. record {
       accepted = facts.accepted;
       pushed = facts.pushed;
+      permit = facts.permit;
       flush = facts.flush;
       ready = facts.ready;
       told = facts.told;
@@ -40,6 +45,7 @@ impl<N: LedgerNames> Model for OwnerFacts<N> {
 pub struct OwnerKeys<N: LedgerNames> {
     accepted: Counter<Accepted<N>>,
     pushed: Counter<Pushed<N>>,
+    permit: Setter<Permit<N>>,
     flush: Keeper<Flush<N>>,
     ready: Keeper<Ready<N>>,
     told: Keeper<Told<N>>,
@@ -55,6 +61,7 @@ impl<N: LedgerNames> Model for OwnerKeys<N> {
     ghost view = { λ keys. record {
       accepted = keys.accepted;
       pushed = keys.pushed;
+      permit = keys.permit;
       flush = keys.flush;
       ready = keys.ready;
       told = keys.told;
@@ -66,7 +73,7 @@ impl<N: LedgerNames> Model for OwnerKeys<N> {
 impl<N: LedgerNames> OwnerFacts<N> {
     /// What is known of a new stream.
     pub(crate) fn open(blanks: OwnerBlanks) -> (OwnerFacts<N>, OwnerKeys<N>)
-        requires counts { (blanks.accepted.name ≡ N.ledgers.accepted) × (blanks.pushed.name ≡ N.ledgers.pushed) }
+        requires counts { (blanks.accepted.name ≡ N.ledgers.accepted) × (blanks.pushed.name ≡ N.ledgers.pushed) × (blanks.permit.name ≡ N.ledgers.permit) }
         requires asked { (blanks.flush.name ≡ N.ledgers.flush) × (blanks.ready.name ≡ N.ledgers.ready) }
         requires ended { (blanks.told.name ≡ N.ledgers.told) × (blanks.stopped.name ≡ N.ledgers.stopped) × (blanks.done.name ≡ N.ledgers.done) }
         ensures facts { result.0 ≡ nothing_yet }
@@ -74,6 +81,7 @@ impl<N: LedgerNames> OwnerFacts<N> {
     {
         let (accepted, my_accepted) = Count::open(blanks.accepted);
         let (pushed, my_pushed) = Count::open(blanks.pushed);
+        let (permit, my_permit) = Number::open(blanks.permit);
         let (flush, my_flush) = Fact::open(blanks.flush);
         let (ready, my_ready) = Fact::open(blanks.ready);
         let (told, my_told) = Fact::open(blanks.told);
@@ -82,6 +90,7 @@ impl<N: LedgerNames> OwnerFacts<N> {
         let facts = OwnerFacts {
             accepted,
             pushed,
+            permit,
             flush,
             ready,
             told,
@@ -91,6 +100,7 @@ impl<N: LedgerNames> OwnerFacts<N> {
         let keys = OwnerKeys {
             accepted: my_accepted,
             pushed: my_pushed,
+            permit: my_permit,
             flush: my_flush,
             ready: my_ready,
             told: my_told,
@@ -107,6 +117,7 @@ impl<N: LedgerNames> OwnerFacts<N> {
     {
         self.accepted.agree(&mut keys.accepted);
         self.pushed.agree(&mut keys.pushed);
+        self.permit.agree(&mut keys.permit);
         self.flush.agree(&mut keys.flush);
         self.ready.agree(&mut keys.ready);
         self.told.agree(&mut keys.told);
@@ -131,13 +142,24 @@ impl<N: LedgerNames> OwnerFacts<N> {
     /// A chunk of so many bytes was accepted and pushed.
     pub fn accept(&mut self, keys: &mut OwnerKeys<N>, len: u64)
         requires { self.old ≡ keys.old }
-        ensures facts { self.new ≡ record self.old { accepted = self.old.accepted + len; pushed = self.old.pushed + 1; flush = false; ready = false } }
+        ensures facts { self.new ≡ record self.old { accepted = self.old.accepted + len; pushed = self.old.pushed + 1; permit = self.old.permit - len; flush = false; ready = false } }
         ensures keys { keys.new ≡ self.new }
     {
         self.accepted.add(&mut keys.accepted, len);
         self.pushed.add(&mut keys.pushed, 1);
+        let left = self.permit.value().saturating_sub(len);
+        self.permit.set(&mut keys.permit, left);
         self.flush.set(&mut keys.flush, false);
         self.ready.set(&mut keys.ready, false);
+    }
+
+    /// A look told how many bytes may be written.
+    pub fn permit(&mut self, keys: &mut OwnerKeys<N>, count: u64)
+        requires { self.old ≡ keys.old }
+        ensures facts { self.new ≡ record self.old { permit = count } }
+        ensures keys { keys.new ≡ self.new }
+    {
+        self.permit.set(&mut keys.permit, count);
     }
 
     /// A flush was accepted.

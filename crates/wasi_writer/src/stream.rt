@@ -50,6 +50,7 @@ impl<K: Sink + Drop + Send + 'static, N: Names + Send + Sync + 'static> Model
     ghost view = { λ s. record {
       began = K.writing (started_with s.handle).sink;
       chunks = s.push.chunks;
+      permit = s.keys.permit;
       flush = s.keys.flush;
       ready = s.keys.ready;
       told = s.keys.told;
@@ -59,6 +60,7 @@ impl<K: Sink + Drop + Send + 'static, N: Names + Send + Sync + 'static> Model
     ghost invariant = { λ s. (s.push.line ≡ N.line) × (s.keys ≡ knows_of (record {
       began = K.writing (started_with s.handle).sink;
       chunks = s.push.chunks;
+      permit = s.keys.permit;
       flush = s.keys.flush;
       ready = s.keys.ready;
       told = s.keys.told;
@@ -122,15 +124,24 @@ impl<K: Sink + Drop + Send + 'static, N: Names + Send + Sync + 'static> AsyncWri
     /// Writes the bytes in the background. No bytes are written at once.
     ///
     /// Tells a fault of the worker once, and then `Closed`, as after [`cancel`](AsyncWriteStream::cancel). Traps
-    /// with `FlushPending` while a flush is pending, and with `Budget` for more bytes than
-    /// [`check_write`](AsyncWriteStream::check_write) told. Takes memory for a copy of the bytes and a place in the line;
-    /// want of it changes nothing.
+    /// with `FlushPending` while a flush is pending, and with `Budget` for more bytes than the budget has: never for as many
+    /// as the last [`check_write`](AsyncWriteStream::check_write) told, less what was written since. Takes memory for a copy
+    /// of the bytes and a place in the line; want of it changes nothing.
     pub fn write<R: Wait>(&mut self, rt: &R, bytes: &[u8]) -> Result<(), StreamError>
         ensures stream { self.new ≡ after_write self.old bytes.now result }
         ensures cause { IfErr result (ErrorCause (knows_of self.old) (TrapCause N.initial (knows_of self.old) (length bytes.now))) }
         ensures refused { IsRefused (knows_of self.old) result }
     {
         let chunk = Bytes::copy_from_slice(self.alloc, bytes)?;
+        self.write_chunk(rt, chunk)
+    }
+
+    /// Writes the bytes as [`write`](AsyncWriteStream::write) does, without a copy.
+    pub fn write_chunk<R: Wait>(&mut self, rt: &R, chunk: Bytes) -> Result<(), StreamError>
+        ensures stream { self.new ≡ after_write self.old chunk result }
+        ensures cause { IfErr result (ErrorCause (knows_of self.old) (TrapCause N.initial (knows_of self.old) (length chunk))) }
+        ensures refused { IsRefused (knows_of self.old) result }
+    {
         self.shared.write(rt, &mut self.keys, &mut self.push, chunk)
     }
 

@@ -1,0 +1,84 @@
+//! Pipes in memory that several owners share.
+
+use bytes::Bytes;
+use std::test::*;
+use wasi_locked::{MemoryInputPipe, MemoryOutputPipe};
+use wasi_pump::pump;
+use wasi_spawn::ThreadSpawner;
+use wasi_streams::StreamError;
+use wasi_world::{Sink, Source, TrapKind};
+
+#[test]
+fn an_output_pipe_holds_no_more_than_its_capacity(rt: HostRuntime) -> Result<(), Fail> {
+    let pipe = MemoryOutputPipe::new(&rt, rt.alloc(), 4)?;
+    let capacity = StreamError::Trap(TrapKind::Capacity);
+    assert_eq!(rt; pipe.check_write(), Ok(4));
+    assert_eq!(rt; pipe.write(&[1, 2, 3]), Ok(()));
+    assert_eq!(rt; pipe.check_write(), Ok(1));
+    assert_eq!(rt; pipe.write(&[4, 5]), Err(capacity));
+    assert_eq!(rt; pipe.check_write(), Ok(1));
+    assert_eq!(rt; pipe.write(&[6]), Ok(()));
+    assert_eq!(rt; pipe.check_write(), Err(StreamError::Closed));
+    assert_eq!(rt; pipe.write(&[]), Ok(()));
+    assert_eq!(rt; pipe.flush(), Ok(()));
+    assert_eq!(rt; pipe.contents()?.as_slice(), [1, 2, 3, 6].as_slice());
+    Ok(())
+}
+
+#[test]
+fn an_input_pipe_gives_its_front(rt: HostRuntime) -> Result<(), Fail> {
+    let pipe = MemoryInputPipe::new(&rt, rt.alloc(), Bytes::copy_from_slice(rt.alloc(), &[1, 2])?)?;
+    assert!(rt; !pipe.is_empty());
+    assert!(rt; pipe.read(1).is_ok_and(|bytes| bytes.as_slice() == [1].as_slice()));
+    assert!(rt; pipe.read(0).is_ok_and(|bytes| bytes.is_empty()));
+    assert!(rt; pipe.read(9).is_ok_and(|bytes| bytes.as_slice() == [2].as_slice()));
+    assert_eq!(rt; pipe.read(1).err(), Some(StreamError::Closed));
+    assert!(rt; pipe.is_empty());
+    Ok(())
+}
+
+/// What one owner does another sees. The bytes come out with the last owner alone.
+#[test]
+fn owners_share_a_pipe(rt: HostRuntime) -> Result<(), Fail> {
+    let mut mine = MemoryOutputPipe::new(&rt, rt.alloc(), 3)?;
+    let mut theirs = mine.share()?;
+    assert_eq!(rt; Sink::write(&mut theirs, &[1, 2]), Ok(2));
+    assert_eq!(rt; Sink::write(&mut mine, &[3, 4]), Ok(1));
+    assert_eq!(rt; Sink::write(&mut theirs, &[5]), Ok(0));
+    assert_eq!(rt; Sink::flush(&mut theirs), Ok(()));
+    assert!(rt; theirs.try_into_inner().is_none());
+    assert!(rt;
+        mine.try_into_inner()
+            .is_some_and(|bytes| bytes.as_slice() == [1, 2, 3].as_slice())
+    );
+
+    let mut source = MemoryInputPipe::new(&rt, rt.alloc(), Bytes::copy_from_slice(rt.alloc(), &[1, 2, 3])?)?;
+    let other = source.share()?;
+    let mut buf = [0u8; 2];
+    assert_eq!(rt; Source::read(&mut source, &mut buf), Ok(2));
+    assert_eq!(rt; buf, [1, 2]);
+    assert!(rt; other.read(2).is_ok_and(|bytes| bytes.as_slice() == [3].as_slice()));
+    assert_eq!(rt; Source::read(&mut source, &mut buf), Ok(0));
+    Ok(())
+}
+
+/// A pump from one pipe to another, while a share of each stays with its owner.
+#[test]
+fn a_pump_between_pipes(rt: HostRuntime) -> Result<(), Fail> {
+    let bytes = vec![in rt.alloc(); 7u8; 100_000]?;
+    let source = MemoryInputPipe::new(&rt, rt.alloc(), Bytes::copy_from_slice(rt.alloc(), bytes.as_slice())?)?;
+    let sink = MemoryOutputPipe::new(&rt, rt.alloc(), 100_000)?;
+    let pumped = pump(
+        &rt,
+        rt.alloc(),
+        &mut ThreadSpawner::new(),
+        &mut ThreadSpawner::new(),
+        source.share()?,
+        sink.share()?,
+        1000,
+    );
+    assert_eq!(rt; pumped.outcome, Ok(100_000));
+    assert!(rt; source.is_empty());
+    assert!(rt; sink.contents()?.as_slice() == bytes.as_slice());
+    Ok(())
+}
