@@ -68,5 +68,9 @@ fn reason(status: Status) -> &'static str {
         Status::ScenarioFault => {
             "scenario.txt in this folder can't be opened and read (an empty file is a network that plans nothing)"
         }
+        Status::NoBudget => "BUDGET is 0; a pump needs at least 1",
+        Status::NoWorker => "no worker thread could be started; nothing was copied",
+        Status::SourceFault => "a read of standard input failed; what was read before may not all be written",
+        Status::SinkFault => "a write to standard output failed",
     }
 }
