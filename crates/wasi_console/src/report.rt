@@ -1,15 +1,18 @@
 //! What a program prints on standard error when it stops: its status, for programs, and what is wrong, for a person.
 
 use crate::lines::Front;
-use std::io;
 use std::process::ExitCode;
+use std::{io, str};
 use wasi_run::Status;
+use wasi_steps::STEP_FORMS;
 
 /// What a line of a scenario may be.
-const SCENARIO_LINES: &str = "a line such as `check no`, `read bytes 0102` or `write took 1`, ended by a newline, in a file of at most 1048576 bytes";
+const SCENARIO_LINES: &str =
+    "a line such as `check no`, `read bytes 0102` or `write took 1`, ended by a newline, in a file of at most 1048576 bytes";
 
 /// What a line of a script may be.
-const SCRIPT_LINES: &str = "a call such as `0 network`, `turn` or `poll 3`, with the number of a context in front where it is a guest's, ended by a newline (--help lists the calls)";
+const SCRIPT_LINES: &str =
+    "a call such as `0 network`, `turn` or `poll 3`, with the number of a context in front where it is a guest's, ended by a newline (--help lists the calls)";
 
 /// Writes texts to standard output, one after another.
 pub fn print<R: Print + Eprint>(rt: &R, texts: &[&str]) -> ExitCode {
@@ -28,11 +31,36 @@ pub fn end<R: Eprint>(rt: &R, status: Status, line: u32, front: Option<Front>) -
     let printed = match status {
         Status::Ok => return ExitCode::SUCCESS,
         Status::BadScenario => bad_line(rt, number, "scenario.txt", line, front, SCENARIO_LINES),
-        Status::BadStep => bad_line(rt, number, "the script", line, front, SCRIPT_LINES),
+        Status::BadStep => {
+            let expected = expected_of(&front);
+            bad_line(rt, number, "the script", line, front, expected)
+        }
         other => eprintln!(rt; "status {number}\n{}", reason(other)),
     };
     let _ = printed;
     ExitCode::from(number)
+}
+
+/// The word of a step's line, behind the number of its context.
+fn word_of(line: &str) -> Option<&str> {
+    line.trim_start()
+        .split(' ')
+        .find(|word| !word.bytes().all(|b| b.is_ascii_digit()))
+}
+
+/// The form of the line's step as `--help` lists it, where its word is that of a step.
+fn form_of(front: &Front) -> Option<&'static str> {
+    let line = str::from_utf8(front.bytes()).ok()?;
+    let word = word_of(line)?;
+    STEP_FORMS.lines().find(|form| word_of(form) == Some(word))
+}
+
+/// What the line of a script may be: the form of the step that it names, or any call.
+fn expected_of(front: &Option<Front>) -> &'static str {
+    match front {
+        Some(front) => form_of(front).unwrap_or(SCRIPT_LINES).trim_start(),
+        None => SCRIPT_LINES,
+    }
 }
 
 /// Prints the status with its line, and what was expected of that line.
@@ -61,7 +89,8 @@ fn reason(status: Status) -> &'static str {
         Status::BadWords => "the words of the command line are none that --help lists",
         Status::BadScenario => "scenario.txt has a bad line",
         Status::BadStep => "the script has a bad line",
-        Status::TooLong => "the script is longer than LIMIT bytes; its whole lines within them were done",
+        Status::TooLong =>
+            "the script is longer than LIMIT bytes; its whole lines within them were done",
         Status::ReadFault => "a read of standard input failed",
         Status::WriteFault => "a write to standard output failed",
         Status::Memory => "out of memory",
@@ -70,7 +99,8 @@ fn reason(status: Status) -> &'static str {
         }
         Status::NoBudget => "BUDGET is 0; a pump needs at least 1",
         Status::NoWorker => "no worker thread could be started; nothing was copied",
-        Status::SourceFault => "a read of standard input failed; what was read before may not all be written",
+        Status::SourceFault =>
+            "a read of standard input failed; what was read before may not all be written",
         Status::SinkFault => "a write to standard output failed",
     }
 }
