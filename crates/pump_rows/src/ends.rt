@@ -45,7 +45,10 @@ fn a_pump_ends_by_its_faults(rt: HostRuntime) -> Result<(), Fail> {
                 budget,
             );
             assert_eq!(rt; pumped.outcome, outcome, "budget {budget}");
-            assert!(rt; bytes.as_slice().starts_with(pumped.sink.bytes()), "budget {budget}");
+            assert!(rt;
+                bytes.as_slice().starts_with(pumped.sink.bytes()),
+                "budget {budget}"
+            );
         }
     }
     Ok(())

@@ -134,15 +134,7 @@ fn gate_pump(rt: HostRuntime) -> Result<(), Fail> {
         faults: 0,
     };
     let (mut writers, mut readers) = (ThreadSpawner::new(), ThreadSpawner::new());
-    let pumped = pump(
-        &rt,
-        rt.alloc(),
-        &mut writers,
-        &mut readers,
-        source,
-        sink,
-        4,
-    );
+    let pumped = pump(&rt, rt.alloc(), &mut writers, &mut readers, source, sink, 4);
     assert_eq!(rt; pumped.outcome, Ok(10));
     assert_eq!(rt; pumped.sink.bytes, 10);
     assert_eq!(rt; writers.starts(), 1);

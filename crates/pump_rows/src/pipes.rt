@@ -27,11 +27,21 @@ fn an_output_pipe_holds_no_more_than_its_capacity(rt: HostRuntime) -> Result<(),
 
 #[test]
 fn an_input_pipe_gives_its_front(rt: HostRuntime) -> Result<(), Fail> {
-    let pipe = MemoryInputPipe::new(&rt, rt.alloc(), Bytes::copy_from_slice(rt.alloc(), &[1, 2])?)?;
+    let pipe = MemoryInputPipe::new(
+        &rt,
+        rt.alloc(),
+        Bytes::copy_from_slice(rt.alloc(), &[1, 2])?,
+    )?;
     assert!(rt; !pipe.is_empty());
-    assert!(rt; pipe.read(1).is_ok_and(|bytes| bytes.as_slice() == [1].as_slice()));
+    assert!(rt;
+        pipe.read(1)
+            .is_ok_and(|bytes| bytes.as_slice() == [1].as_slice())
+    );
     assert!(rt; pipe.read(0).is_ok_and(|bytes| bytes.is_empty()));
-    assert!(rt; pipe.read(9).is_ok_and(|bytes| bytes.as_slice() == [2].as_slice()));
+    assert!(rt;
+        pipe.read(9)
+            .is_ok_and(|bytes| bytes.as_slice() == [2].as_slice())
+    );
     assert_eq!(rt; pipe.read(1).err(), Some(StreamError::Closed));
     assert!(rt; pipe.is_empty());
     Ok(())
@@ -52,12 +62,20 @@ fn owners_share_a_pipe(rt: HostRuntime) -> Result<(), Fail> {
             .is_some_and(|bytes| bytes.as_slice() == [1, 2, 3].as_slice())
     );
 
-    let mut source = MemoryInputPipe::new(&rt, rt.alloc(), Bytes::copy_from_slice(rt.alloc(), &[1, 2, 3])?)?;
+    let mut source = MemoryInputPipe::new(
+        &rt,
+        rt.alloc(),
+        Bytes::copy_from_slice(rt.alloc(), &[1, 2, 3])?,
+    )?;
     let other = source.share()?;
     let mut buf = [0u8; 2];
     assert_eq!(rt; Source::read(&mut source, &mut buf), Ok(2));
     assert_eq!(rt; buf, [1, 2]);
-    assert!(rt; other.read(2).is_ok_and(|bytes| bytes.as_slice() == [3].as_slice()));
+    assert!(rt;
+        other
+            .read(2)
+            .is_ok_and(|bytes| bytes.as_slice() == [3].as_slice())
+    );
     assert_eq!(rt; Source::read(&mut source, &mut buf), Ok(0));
     Ok(())
 }
@@ -66,7 +84,11 @@ fn owners_share_a_pipe(rt: HostRuntime) -> Result<(), Fail> {
 #[test]
 fn a_pump_between_pipes(rt: HostRuntime) -> Result<(), Fail> {
     let bytes = vec![in rt.alloc(); 7u8; 100_000]?;
-    let source = MemoryInputPipe::new(&rt, rt.alloc(), Bytes::copy_from_slice(rt.alloc(), bytes.as_slice())?)?;
+    let source = MemoryInputPipe::new(
+        &rt,
+        rt.alloc(),
+        Bytes::copy_from_slice(rt.alloc(), bytes.as_slice())?,
+    )?;
     let sink = MemoryOutputPipe::new(&rt, rt.alloc(), 100_000)?;
     let pumped = pump(
         &rt,

@@ -61,7 +61,10 @@ fn a_pump_moves_all_bytes(rt: HostRuntime) -> Result<(), Fail> {
 #[test]
 fn a_pump_needs_both_workers(rt: HostRuntime) -> Result<(), Fail> {
     let alloc = rt.alloc();
-    for (refused, other) in [(vec![in alloc; 1u32]?, Vec::new(alloc)), (Vec::new(alloc), vec![in alloc; 1u32]?)] {
+    for (refused, other) in [
+        (vec![in alloc; 1u32]?, Vec::new(alloc)),
+        (Vec::new(alloc), vec![in alloc; 1u32]?),
+    ] {
         let (mut writers, mut readers) = (FakeSpawner::new(refused), FakeSpawner::new(other));
         let done = pumps(&rt, alloc, "4", b"hello", &mut writers, &mut readers)?;
         assert_eq!(rt; done.status, 10);

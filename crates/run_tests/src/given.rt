@@ -89,7 +89,11 @@ impl<'a> Given<'a> {
     }
 
     /// Its status, its line and what it wrote.
-    fn end<R: Threads + Wait + Copy + Send + 'static>(&self, rt: &R, alloc: Global) -> Result<String, Fail> {
+    fn end<R: Threads + Wait + Copy + Send + 'static>(
+        &self,
+        rt: &R,
+        alloc: Global,
+    ) -> Result<String, Fail> {
         let done = self.run(rt, alloc)?;
         let wrote = str::from_utf8(done.sink.bytes()).unwrap_or("no text");
         let (status, line) = (done.status, done.line);
@@ -97,7 +101,11 @@ impl<'a> Given<'a> {
     }
 
     /// The faults of its source and of its sink, and the pieces that the sink refused.
-    fn faults<R: Threads + Wait + Copy + Send + 'static>(&self, rt: &R, alloc: Global) -> Result<(u64, u64, u64), Fail> {
+    fn faults<R: Threads + Wait + Copy + Send + 'static>(
+        &self,
+        rt: &R,
+        alloc: Global,
+    ) -> Result<(u64, u64, u64), Fail> {
         let done = self.run(rt, alloc)?;
         Ok((
             done.source.faults(),

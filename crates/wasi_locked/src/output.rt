@@ -26,11 +26,7 @@ pub struct MemoryOutputPipe<R: Wait + Copy> {
 
 impl<R: Wait + Copy> MemoryOutputPipe<R> {
     /// An empty pipe that holds at most so many bytes. Takes memory for all of them.
-    pub fn new(
-        rt: &R,
-        alloc: Global,
-        capacity: usize,
-    ) -> Result<MemoryOutputPipe<R>, AllocError>
+    pub fn new(rt: &R, alloc: Global, capacity: usize) -> Result<MemoryOutputPipe<R>, AllocError>
         ensures { IfOk result (λ pipe. pipe.refused ≡ 0) }
     {
         let pipe = Arc::new(alloc, Mutex::new(Room::new(alloc, capacity)?))?;

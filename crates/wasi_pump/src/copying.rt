@@ -19,11 +19,7 @@ pub fn copy_all<
     N: wasi_writer::Names + Send + Sync + 'static,
     M: wasi_reader::Names + Send + Sync + 'static,
     R: Wait,
->(
-    rt: &R,
-    reader: &mut AsyncReadStream<S, M>,
-    writer: &mut AsyncWriteStream<K, N>,
-) -> Option<u64>
+>(rt: &R, reader: &mut AsyncReadStream<S, M>, writer: &mut AsyncWriteStream<K, N>) -> Option<u64>
     requires fresh { InStep reader.old writer.old × (reader.old.given ≡ []) }
     ensures copied { Copied result reader.new writer.new }
     ensures began { (reader.new.began ≡ reader.old.began) × (writer.new.began ≡ writer.old.began) }
@@ -46,11 +42,7 @@ fn copy_piece<
     N: wasi_writer::Names + Send + Sync + 'static,
     M: wasi_reader::Names + Send + Sync + 'static,
     R: Wait,
->(
-    rt: &R,
-    reader: &mut AsyncReadStream<S, M>,
-    writer: &mut AsyncWriteStream<K, N>,
-) -> Piece
+>(rt: &R, reader: &mut AsyncReadStream<S, M>, writer: &mut AsyncWriteStream<K, N>) -> Piece
     requires { InStep reader.old writer.old }
     ensures copied { HasCopied reader.old writer.old reader.new writer.new result }
     ensures began { (reader.new.began ≡ reader.old.began) × (writer.new.began ≡ writer.old.began) }
@@ -72,11 +64,7 @@ fn write_piece<
     K: Sink + Drop + Send + 'static,
     N: wasi_writer::Names + Send + Sync + 'static,
     R: Wait,
->(
-    rt: &R,
-    writer: &mut AsyncWriteStream<K, N>,
-    bytes: Bytes,
-) -> Piece
+>(rt: &R, writer: &mut AsyncWriteStream<K, N>, bytes: Bytes) -> Piece
     requires permitted { length bytes ≤ writer.old.permit }
     requires flush { writer.old.flush ≡ false }
     ensures written { HasWritten writer.old bytes writer.new result }
@@ -95,10 +83,7 @@ fn end_writes<
     K: Sink + Drop + Send + 'static,
     N: wasi_writer::Names + Send + Sync + 'static,
     R: Wait,
->(
-    rt: &R,
-    writer: &mut AsyncWriteStream<K, N>,
-) -> Piece
+>(rt: &R, writer: &mut AsyncWriteStream<K, N>) -> Piece
     ensures flushed { HasEndedWrites writer.old writer.new result }
     ensures began { writer.new.began ≡ writer.old.began }
 {

@@ -104,6 +104,7 @@ impl<N: Names> Shared<N> {
             match guard.offer(rt, keys, &self.line, push, chunk) {
                 Offered::Full(back) => chunk = back,
                 offered => {
+                    drop(guard);
                     self.progress.notify_one();
                     return offered;
                 }
