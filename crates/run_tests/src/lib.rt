@@ -14,6 +14,6 @@ pub mod quiet;
 #[cfg(test)]
 mod replies;
 #[cfg(test)]
-mod statuses;
-#[cfg(test)]
 mod shown;
+#[cfg(test)]
+mod statuses;
