@@ -1,0 +1,7 @@
+use Rattle.wasi_steps.specs.Steps.{rows_of, value_steps, handle_steps}
+use Rattle.wasi_steps.proofs.StepWords.{past_words}
+use Rattle.wasi_steps.proofs.parse.value_arguments.Goals as goal
+
+pub returns-in_ok-u32-in_default : goal.returns-in_ok-u32-in_default
+returns-in_ok-u32-in_default c =
+    rw (past_words (rows_of (value_steps c.args.context)) (rows_of (handle_steps c.args.context)) c.args.word.now c.args.fields.now (assumption c)) (c.handle_step.ensures _ _ c.in_ok-u32-in_default.ensures)
