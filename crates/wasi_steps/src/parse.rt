@@ -100,10 +100,19 @@ fn handle_step(context: u32, word: &str, handle: u32) -> Option<Step>
         "tcp-remote-address" => Some(TcpRemoteAddress { context, socket }),
         "tcp-is-listening" => Some(TcpIsListening { context, socket }),
         "tcp-address-family" => Some(TcpAddressFamily { context, socket }),
-        "check-write" => Some(CheckWrite { context, output: handle }),
-        "flush" => Some(Flush { context, output: handle }),
+        "check-write" => Some(CheckWrite {
+            context,
+            output: handle,
+        }),
+        "flush" => Some(Flush {
+            context,
+            output: handle,
+        }),
         "subscribe" => Some(Subscribe { context, handle }),
-        "ready" => Some(Ready { context, pollable: handle }),
+        "ready" => Some(Ready {
+            context,
+            pollable: handle,
+        }),
         "drop" => Some(Drop { context, handle }),
         _ => None,
     }
