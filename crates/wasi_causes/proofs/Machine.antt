@@ -1,5 +1,5 @@
 -- A subscription and a look at a pollable, and a poll of the call that stands.
-use Rattle.wasi_causes.proofs.Words.{◌≡◌, ℕ, Bool, true, false, inl, inr, List, [], ◌∷◌, Option, Some, None, Result, Ok, Err, slice_get, refl, sym, ap, ◌∙◌, ◌≢◌, subst, ◌==◌, eqb-true, eq-eqb, ◌⊎◌, IfSome, IsSomeAnd, ErrorCode, InvalidState, Stop, Trap, CallStop, kind_at, watched_by, watch_of, place_in, listen_polled, poll_begun, poll_listening, closed_listening, listen_answered, own_of, side_at, with_store, subscribe_on, subscribe_asks, ready_on, ready_asks, stands_as, output_in, waiting_drop, resume_in, bind_in, waiting_bind, unstood, some_answer, rebind_at, resume_bind_in, listen_in, waiting_listen, relisten_at, resume_listen_in, Records, is_nothing, is_connect, with_reader, with_writer, left_of, bind_ended, bind_answered, Pollable, Watched, Listening, Machine, Streams, Tcp2Socket, Standing, StandingCall, ClosedBy, MissesRecord, word_of_code, EndsPending, StandsOnNothing, entry, marks_in, AcceptWaits, accept_name, HasNoListener, AcceptsIn, handle_reply, truth_reply, first_ids, resumed_reply, poll_on, no_fields, OfWatched, IsIdleSocket, IsUnready, AcceptWaitsOn, ConnectWaits, InputWaits, WriteWaits, WatchesConnect, WatchesAccept, WatchesIdle, ListenEnds, BindFailed, IsRestOfBind, BindFails, IsListening, ListenWaits, CallWaits, CallFails, ListenFailed, NoListen, HasNoListen, StandsByBind, nothing_stands, Reply, StreamStop, connect_ended, finish_in, in_socket, HoldsConnect, IsListen, Listener, ready_end, HoldsAccept, listen_ended, reader_ready_asks, side_of, TcpReceiveStream, Accepting, ReadState, TcpState, WriteState, Give, bind, IsReady, Item, Operation, End, Waits, Done, Refused, told_ready, Entry, Told, OpId, Answer, Ready, Pending, NoSuchHandle, WasiSocketsCtx}
+use Rattle.wasi_causes.proofs.Words.{◌≡◌, ℕ, Bool, true, false, inl, inr, List, [], ◌∷◌, Option, Some, None, Result, Ok, Err, slice_get, refl, sym, ap, ◌∙◌, ◌≢◌, subst, ◌==◌, eqb-true, eq-eqb, ◌⊎◌, IfSome, IsSomeAnd, ErrorCode, InvalidState, Stop, Trap, CallStop, kind_at, watched_by, watch_of, place_in, listen_polled, poll_begun, poll_listening, closed_listening, listen_answered, own_of, side_at, with_store, subscribe_on, subscribe_asks, ready_on, ready_asks, stands_as, waiting_drop, resume_in, waiting_bind, unstood, some_answer, rebind_at, resume_bind_in, waiting_listen, relisten_at, resume_listen_in, Records, is_nothing, is_connect, with_reader, with_writer, left_of, bind_ended, bind_answered, Pollable, Watched, Listening, Machine, Streams, Tcp2Socket, Standing, StandingCall, ClosedBy, MissesRecord, word_of_code, EndsPending, StandsOnNothing, entry, marks_in, AcceptWaits, accept_name, HasNoListener, AcceptsIn, handle_reply, truth_reply, first_ids, resumed_reply, poll_on, no_fields, OfWatched, IsIdleSocket, IsUnready, AcceptWaitsOn, ConnectWaits, InputWaits, WriteWaits, WatchesConnect, WatchesAccept, WatchesIdle, ListenEnds, BindFailed, IsRestOfBind, BindFails, IsListening, ListenWaits, CallWaits, CallFails, ListenFailed, NoListen, HasNoListen, StandsByBind, nothing_stands, Reply, StreamStop, connect_ended, finish_in, in_socket, HoldsConnect, IsListen, Listener, ready_end, HoldsAccept, listen_ended, reader_ready_asks, side_of, TcpReceiveStream, Accepting, ReadState, TcpState, WriteState, Give, bind, IsReady, Item, Operation, End, Waits, Done, Refused, told_ready, Entry, Told, OpId, Answer, Ready, Pending, NoSuchHandle, WasiSocketsCtx}
 use Rattle.wasi_causes.proofs.operations.Accepts.{AcceptRow, accepts}
 use Rattle.wasi_causes.proofs.operations.Polls.{EndsFor, connect_ends, bind_ends as bind_polls, listen_ends as listen_polls}
 use Rattle.wasi_causes.proofs.streams.Halves.{LookRow, looks, OutputRow, outputs}

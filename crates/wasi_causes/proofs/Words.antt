@@ -25,8 +25,8 @@ pub use Rattle.wasi_walks.proofs.Words.{is_listen, is_network, is_nothing, is_ov
 pub use Rattle.wasi_walks.proofs.Words.{left_of, length, less_one, listen_answered, listen_begun, listen_bound, listen_ended, listen_once}
 pub use Rattle.wasi_walks.proofs.Words.{listen_operation, listen_polled, listen_start, local_address_at, local_front, look_asks, look_in}
 pub use Rattle.wasi_walks.proofs.Words.{machine_asks, make_asks, marked_by, marks_in, min, name_of, nat_lt, new_asks, new_job, new_record, new_socket}
-pub use Rattle.wasi_walks.proofs.Words.{no_fields, number_fields, opened_receive, opened_send, output_asks, output_at, output_in, output_of, own_of}
-pub use Rattle.wasi_walks.proofs.Words.{permitted, place_in, place_of, poll_asks, poll_begun, poll_listening, poll_on, polled_answer, polled_front}
+pub use Rattle.wasi_walks.proofs.Words.{no_fields, number_fields, opened_receive, opened_send, output_asks, output_at, output_of, own_of, permitted}
+pub use Rattle.wasi_walks.proofs.Words.{place_in, place_of, poll_asks, poll_begun, poll_listening, poll_on, polled_answer, polled_front}
 pub use Rattle.wasi_walks.proofs.Words.{read_state_asks, reader_of, reader_ready_asks, reader_shutdown_asks, ready_end, ready_on, rebind_at, refl}
 pub use Rattle.wasi_walks.proofs.Words.{refuse_in, refused_after, refused_before, release_asks, release_at, relisten_at, remote_address_at}
 pub use Rattle.wasi_walks.proofs.Words.{resume_bind_in, resume_in, resume_listen_in, run, set_backlog_asks, set_backlog_in, set_chosen}
@@ -74,20 +74,19 @@ pub use Rattle.wasi_machine.specs.Machine.{resumed_reply, taken_reply, triple_re
 pub use Rattle.wasi_walks.proofs.Gives.{Gives, allows_ask, given, gives_any, gives_both, gives_more, gives_then, gives_where}
 pub use Rattle.wasi_walks.proofs.Lists.{get_front, get_seam, get_set, get_split, has_split, marks_in-push, set_get, set_there, value_split}
 pub use Rattle.wasi_walks.specs.Answered.{AlreadyBound, AlreadyClosed, Answered, Begins, BindRefusal, BoundElsewhere, CheckFails, ClosedBy, Closes}
-pub use Rattle.wasi_walks.specs.Answered.{CodeTold, ConnectRefusal, Connects, ConnectsAt, CreateRefusal, Denied, Elsewhere, EndsClosing, EndsPending}
-pub use Rattle.wasi_walks.specs.Answered.{ErrorKept, Failed, FailsWith, FinishRefusal, HasNoConnectInProgress, InProgress, IsBound, IsFree}
-pub use Rattle.wasi_walks.specs.Answered.{IsPastDefault, IsQuiet, IsUnpermitted, Known, KnowsBound, LengthZero, ListensAlready, LocalClosed}
-pub use Rattle.wasi_walks.specs.Answered.{LocalRefusal, MissesHandle, MissesRecord, NoConnect, NotAllowed, NotConnecting, NotDefault, NotReady}
-pub use Rattle.wasi_walks.specs.Answered.{OfRecord, OfStreams, PastDefault, Permits, ReadFails, ReadsEnd, ReadsNone, ReadsTold, ReceivesAlready}
-pub use Rattle.wasi_walks.specs.Answered.{RefusedOf, RemoteClosed, RemoteConnecting, RemoteDefault, RemoteListening, RemoteRefusal, RemoteTold}
-pub use Rattle.wasi_walks.specs.Answered.{SendsAlready, StandsOnNothing, ToldBound, ToldCode, ToldNone, WriteFails, WrongAddress, closing_writer}
-pub use Rattle.wasi_walks.specs.Answered.{knowing_bound, may_bind_to, output_streams, putting, read_entry, record_at, record_in, streams_in}
-pub use Rattle.wasi_walks.specs.Answered.{with_error, word_of_code}
+pub use Rattle.wasi_walks.specs.Answered.{CodeTold, ConnectRefusal, Connects, ConnectsAt, CreateRefusal, Denied, Elsewhere, EndsPending, ErrorKept}
+pub use Rattle.wasi_walks.specs.Answered.{Failed, FailsWith, FinishRefusal, HasNoConnectInProgress, InProgress, IsBound, IsFree, IsPastDefault}
+pub use Rattle.wasi_walks.specs.Answered.{IsQuiet, IsUnpermitted, Known, KnowsBound, LengthZero, ListensAlready, LocalClosed, LocalRefusal}
+pub use Rattle.wasi_walks.specs.Answered.{MissesHandle, MissesRecord, NoConnect, NotAllowed, NotConnecting, NotDefault, NotReady, OfRecord, OfStreams}
+pub use Rattle.wasi_walks.specs.Answered.{PastDefault, Permits, ReadFails, ReadsEnd, ReadsNone, ReadsTold, ReceivesAlready, RefusedOf, RemoteClosed}
+pub use Rattle.wasi_walks.specs.Answered.{RemoteConnecting, RemoteDefault, RemoteListening, RemoteRefusal, RemoteTold, SendsAlready, StandsOnNothing}
+pub use Rattle.wasi_walks.specs.Answered.{ToldBound, ToldCode, ToldNone, WriteFails, WrongAddress, closing_writer, knowing_bound, may_bind_to}
+pub use Rattle.wasi_walks.specs.Answered.{output_streams, putting, read_entry, record_at, record_in, streams_in, with_error, word_of_code}
 pub use Rattle.wasi_walks.specs.Listens.{AcceptFailed, AcceptFails, AcceptGives, AcceptWaits, AcceptsAt, AcceptsIn, HasNoListener, IsHanded}
 pub use Rattle.wasi_walks.specs.Listens.{IsPastNot, IsTold, LastWaits, ListenDenied, ListenFails, ListenRefusal, ListenRefused, ListenTold, LocalTold}
 pub use Rattle.wasi_walks.specs.Listens.{NoListener, NotBound, RefusedMost, StillAccepts, WasHanded, WasTold, accept_name, accepted_marks}
 pub use Rattle.wasi_walks.specs.Listens.{accepting_now, closed_by_listen, refused_by, refused_in}
-pub use Rattle.wasi_walks.specs.Waiting.{AcceptWaitsOn, BindFailed, BindFails, CallFails, CallWaits, Checked, ConnectWaits, Ended, EndsWith}
-pub use Rattle.wasi_walks.specs.Waiting.{HasNoListen, HoldsCall, InputWaits, IsFailure, IsIdleSocket, IsListening, IsUnready, ListenEnds}
-pub use Rattle.wasi_walks.specs.Waiting.{ListenFailed, ListenWaits, MayStand, NoListen, OfWatched, OutputWaits, StandsByBind, ToldToWait, Unchecked}
-pub use Rattle.wasi_walks.specs.Waiting.{WatchesAccept, WatchesConnect, WatchesIdle, WriteWaits, WriterWaits, WritesOn, nothing_stands, watched_in}
+pub use Rattle.wasi_walks.specs.Waiting.{AcceptWaitsOn, BindFailed, BindFails, CallFails, CallWaits, Checked, ConnectWaits, Ended, HasNoListen}
+pub use Rattle.wasi_walks.specs.Waiting.{HoldsCall, InputWaits, IsFailure, IsIdleSocket, IsListening, IsUnready, ListenEnds, ListenFailed}
+pub use Rattle.wasi_walks.specs.Waiting.{ListenWaits, MayStand, NoListen, OfWatched, OutputWaits, StandsByBind, ToldToWait, Unchecked, WatchesAccept}
+pub use Rattle.wasi_walks.specs.Waiting.{WatchesConnect, WatchesIdle, WriteWaits, WriterWaits, WritesOn, nothing_stands, watched_in}
