@@ -1,11 +1,10 @@
 -- One piece more is copied.
-use Rattle.std.proofs.Common.{◌≡◌, ◌==◌, ◌-◌, ◌+◌, ◌≤◌, ◌<◌, ◌^◌, ℕ, Bool, true, false, if◌then◌else◌, min, List, [], ◌∷◌, ◌++◌, length, refl, ap, ◌∙◌, sym, append-nil, eqb-true, length-append, arith}
+use Rattle.std.proofs.Common.{◌≡◌, ◌==◌, ◌-◌, ◌+◌, ℕ, Bool, true, false, if◌then◌else◌, List, [], ◌∷◌, ◌++◌, length, refl, ap, ◌∙◌, sym, append-nil, eqb-true, arith}
 use Rattle.std.specs.List.{concat}
 use Rattle.std.proofs.lemmas.List.{nil_from_length}
-use Rattle.wasi_reader.specs.Stream.{ReadStream}
 use Rattle.wasi_writer.specs.Stream.{WriteStream, with_bytes}
 use Rattle.wasi_writer.proofs.Works.{concat_end}
-use Rattle.wasi_pump.specs.Copying.{InStep, AtEnd, IsAhead, Appended, counted}
+use Rattle.wasi_pump.specs.Copying.{Appended, counted}
 
 appended_if : (b : Bool) (w : WriteStream) (bytes : List ℕ) → (b ≡ true → bytes ≡ [])
     → Appended w bytes (if b then w else record w { chunks = w.chunks ++ bytes ∷ []; permit = w.permit - length bytes; flush = false; ready = false })

@@ -10,7 +10,7 @@ use Rattle.wasi_reader.specs.Stream as reading
 use Rattle.wasi_writer.specs.Stream.{WriteStream}
 use Rattle.wasi_writer.specs.Stream as writing
 use Rattle.wasi_writer.specs.Worked.{TookAll, TookFront}
-use Rattle.wasi_pump.specs.Copying.{AtEnd, IsAhead, Copied}
+use Rattle.wasi_pump.specs.Copying.{IsAhead, Copied}
 use Rattle.wasi_pump.specs.declared.error.PumpError.{PumpError}
 use Rattle.wasi_pump.specs.declared.error.PumpError.TheVariants.{NoWorker, Memory}
 use Rattle.wasi_pump.specs.Pumped.{MovedAll, MovedFront, MovedNone, PumpEnds, outcome_of}

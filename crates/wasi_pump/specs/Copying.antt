@@ -1,5 +1,5 @@
 -- How far a pump's streams are.
-use Rattle.std.specs.Prelude.{◌≡◌, ℕ, ◌+◌, ◌-◌, ◌^◌, Bool, true, false, List, [], ◌++◌, length, min, Option, None, Some}
+use Rattle.std.specs.Prelude.{◌≡◌, ℕ, ◌+◌, ◌-◌, ◌^◌, true, false, List, ◌++◌, length, min, Option, None, Some}
 use Rattle.std.specs.List.{concat}
 use Rattle.wasi_reader.specs.declared.stage.Stage.TheVariants as stage
 use Rattle.wasi_reader.specs.Stream.{ReadStream}

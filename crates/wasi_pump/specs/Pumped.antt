@@ -1,5 +1,5 @@
 -- What a pump makes of its source and its sink.
-use Rattle.std.specs.Prelude.{◌≡◌, ℕ, List, [], length, Option, None, Some, Result, Ok, Err}
+use Rattle.std.specs.Prelude.{◌≡◌, ℕ, List, [], length, Option, Some, Result, Ok, Err}
 use Rattle.wasi_world.specs.Io.{Reading, Writing, Gave, Took, HasEnded, CountRose}
 use Rattle.wasi_world.specs.Seen.{Rose}
 use Rattle.wasi_shared.specs.declared.finished.Ended.{Ended}
