@@ -33,14 +33,16 @@ pub use Rattle.wasi_tcp.specs.declared.listener.Accepting.{Accepting}
 pub use Rattle.wasi_tcp.specs.declared.socket.TcpState.{TcpState}
 pub use Rattle.wasi_tcp.specs.declared.writer.WriteState.{WriteState}
 pub use Rattle.wasi_host.specs.Kinds.{Handles, make_asks, name_of}
-pub use Rattle.wasi_host.specs.Listening.{give_up_asks, standing_listen, with_listening}
+pub use Rattle.wasi_host.specs.Binding.{bind_progress}
+pub use Rattle.wasi_host.specs.Listening.{give_up_asks, with_listening}
 pub use Rattle.wasi_host.specs.Machine.{create_asks, created_asks, first_state, output_at, own_of, side_at, with_store}
-pub use Rattle.wasi_host.specs.Store.{left_of, new_record, standing_bind, standing_drop, stream_at, with_inner, with_reader, with_record, with_writer, writer_asks, writer_of}
+pub use Rattle.wasi_host.specs.Store.{new_record, stream_at, with_inner, with_progress, with_reader, with_record, with_writer, writer_asks, writer_of}
 pub use Rattle.wasi_host.specs.declared.kind.Kind.{Kind}
 pub use Rattle.wasi_host.specs.declared.kind.Kind.TheVariants.{ErrorValue, Tcp2}
 pub use Rattle.wasi_host.specs.declared.listening.Listening.{Listening}
 pub use Rattle.wasi_host.specs.declared.listening.Listening.TheVariants.{Accepts, Begins, Not, Unclosed}
 pub use Rattle.wasi_host.specs.declared.machine.Machine.{Machine}
+pub use Rattle.wasi_host.specs.declared.binding.InProgress.{InProgress}
 pub use Rattle.wasi_host.specs.declared.socket.Streams.{Streams}
 pub use Rattle.wasi_host.specs.declared.socket.Tcp2Socket.{Tcp2Socket}
 pub use Rattle.wasi_host.specs.declared.store.Standing.{Standing}
@@ -49,10 +51,10 @@ pub use Rattle.wasi_walks.proofs.claims.Law.{Base, Claims, Named, accept_plain, 
 pub use Rattle.wasi_walks.proofs.claims.Lines.{BaseBetween, base_over, base_starts, first_base}
 pub use Rattle.wasi_walks.proofs.claims.Polls.{ArePlain, NoWrite, Quiet, none_taken, plain_poll, quiet_if, quiet_then}
 pub use Rattle.wasi_walks.proofs.fits.Law.{Fit, told_same, whatever}
-pub use Rattle.wasi_walks.proofs.fits.Records.{FitListening}
+pub use Rattle.wasi_walks.proofs.fits.Records.{FitListening, FitProgress}
 pub use Rattle.wasi_walks.proofs.licence.State.{accept_name, name_in}
 pub use Rattle.wasi_walks.proofs.walks.Law.{Law, Walks}
-pub use Rattle.wasi_walks.proofs.walks.Moves.{Awaits, BeginsAccept, BeginsBind, BeginsConnect, BeginsListen, BeginsWrite, Changes, Closes, ClosesReader, Collects, Connects, Forgets, Found, Held, Here, InHand, IsGone, IsOn, IsQuestionOf, Joins, Lasts, LastsAfter, Listens, Made, Move, NoBind, NoBindStands, OfReader, OfSocket, OfWriter, Opens, Own, Permits, Reconnects, Resumes, Spends, Stands, StandsDrop, StandsListen, ToWrite, Unlistens, Unstands, Unused, Used, WriterMoves, Writes, accepting_now, beginning_listen, begun_listen, closed_record, joined, joining, listen_after, made_so, new_accept, opened_by, put, second_of}
+pub use Rattle.wasi_walks.proofs.walks.Moves.{Awaits, BeginsAccept, BeginsBind, BeginsConnect, BeginsListen, BeginsWrite, BindsOn, Changes, Closes, ClosesReader, Collects, Connects, Forgets, Found, Held, Here, IsGone, IsOn, IsQuestionOf, Joins, KeepsBinding, Lasts, LastsAfter, Listens, Made, Move, OfReader, OfSocket, OfWriter, Opens, Own, Permits, Plain, Reconnects, Spends, ToWrite, Unlistens, Unused, Used, WriterMoves, Writes, accepting_now, beginning_listen, begun_bind, begun_listen, closed_record, joined, joining, listen_after, made_so, new_accept, opened_by, put, second_of}
 pub use Rattle.wasi_walks.proofs.walks.OnBase.{Above, both}
 pub use Rattle.wasi_walks.proofs.walks.States.{Over, Starts}
 pub use Rattle.wasi_walks.proofs.walks.Steps.{machine_walks, may_while}

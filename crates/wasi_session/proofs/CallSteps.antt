@@ -1,4 +1,4 @@
--- How a step goes on where a call stands, and how a poll is answered.
+-- How a step goes on where a call stands.
 use Rattle.std.specs.Prelude.{Result, Ok, Err, IfOk}
 use Rattle.std.specs.declared.alloc.AllocError.{AllocError}
 use Rattle.std.proofs.Common.{◌≡◌, ℕ, Bool, true, false, ◌&&◌, List, Option, Some, None, is_some, if◌then◌else◌, refl, sym, ap}
@@ -29,21 +29,3 @@ module _ (contexts : List WasiSocketsCtx) (m : Machine) (line : ℕ) (s : Step) 
   pub goes_on : (standing : Option Standing) → (is_some standing && is_guest_call s) ≡ false → asks_while contexts m line s standing ≡ step_asks contexts m line s
   goes_on None e = refl
   goes_on (Some c) e = ap By e
-
--- == a poll that gives no value
-module _ (line : ℕ) (asks : Asks (Result (Option (Answer Outcome)) Stop × Machine)) (s t : Seen) (m : Machine) where
-  abbrev Told : Result (Result (Option (Answer Outcome)) Stop) AllocError → Type 0
-  Told o = AsksFor {A = Result (Option (Answer Outcome)) Stop × Machine} asks s t (λ answer. (answer, m)) o
-
-  abbrev Polled : Result Reply AllocError → Type 0
-  Polled r = AsksFor {A = Reply × Machine} (bind asks (λ done. poll_on line done)) s t (λ reply. (reply, m)) r
-
-  stopped : (stop : Stop) (r : Result Reply AllocError) → Told (Ok (Err stop)) → IfOk r (λ reply. reply ≡ stop_reply stop) → Polled r
-  stopped stop (Ok reply) h e = asks_end _ h.ok (ap (λ (x : Reply). Give (x, m)) (sym e))
-  stopped stop (Err d) h e = record { ok = tt; err = record { rest = Give (stop_reply stop, m); reached = reaches_on _ h.ok } }
-
-  pub poll_stops : (x : SocketError) (r : Result Reply AllocError) → Told (host_outcome {T = Option (Answer Outcome)} (Err x)) → IfOk r (λ reply. IsStop x (λ stop. reply ≡ stop_reply stop)) → Polled r
-  poll_stops (error.Code c) r h e = stopped (Code c) r h e
-  poll_stops (error.Trap kind) r h e = stopped (Trap kind) r h e
-  poll_stops (error.Memory d) (Ok reply) h e = absurd e
-  poll_stops (error.Memory d) (Err f) h e = record { ok = tt; err = record { rest = bind h.err.rest _; reached = reaches_in _ h.err.reached } }

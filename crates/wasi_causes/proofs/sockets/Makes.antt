@@ -14,7 +14,8 @@ use Rattle.wasi_host.specs.Host.{Stop, Trap, code_stop}
 use Rattle.wasi_host.specs.Kinds.{Handles, with_handle}
 use Rattle.wasi_host.specs.Listening.{with_listening, accept_listening, accepted_record, accept_answered, accept_at}
 use Rattle.wasi_host.specs.Machine.{created_asks, create_asks, own_of, side_at, with_store}
-use Rattle.wasi_host.specs.Store.{with_record, Records, with_socket, is_connect, idle, opened_send, opened_receive, connect_polled, with_record_put, finish_connect_by, finish_connect_at}
+use Rattle.wasi_host.specs.Store.{with_record, Records, with_socket, idle, opened_send, opened_receive, connect_polled, with_record_put, finish_connect_by, finish_connect_at}
+use Rattle.wasi_host.specs.InProgress.{is_connect}
 use Rattle.wasi_host.specs.declared.kind.Kind.TheVariants.{Network, Tcp2, Input, Output}
 use Rattle.wasi_host.specs.declared.listening.Listening.{Listening}
 use Rattle.wasi_host.specs.declared.listening.Listening.TheVariants as listening

@@ -11,13 +11,17 @@ use Rattle.wasi_causes.proofs.tables.Routes.{Replied, Says, put_back, Names, her
 use Rattle.wasi_causes.specs.Outcomes.{Conflicts}
 use Rattle.wasi_causes.specs.Polls.{ToldYes, ToldNo, BindToldCode, Polled, GoesOn, Stops, LocalToldYes, LocalToldNo, LocalToldCode, ListenToldCode}
 use Rattle.wasi_host.specs.Kinds.{kind_at, is_network}
-use Rattle.wasi_host.specs.Listening.{listen_polled, listen_begun, listen_once, listen_bound, begin_listen_asks, listen_answered, start_listen_by, start_listen_at}
+use Rattle.wasi_host.specs.Listening.{listen_polled, listen_begun, listen_once, listen_bound, begin_listen_asks, start_listen_by, start_listen_at}
 use Rattle.wasi_host.specs.Machine.{own_of, with_store, socket_at}
-use Rattle.wasi_host.specs.Store.{is_nothing, bind_ended, bind_begun, begin_bind_asks, bind_answered, start_bind_by, start_bind_at, connect_begun, put_back as answer_put, begin_connect_asks, start_connect_by, start_connect_at, with_inner, is_bind, is_listen, idle, finish_by, finish_at}
+use Rattle.wasi_host.specs.Binding.{bind_ended, bind_begun, begin_bind_asks, start_bind_by, start_bind_at}
+use Rattle.wasi_host.specs.InProgress.{is_nothing, is_bind, is_listen}
+use Rattle.wasi_host.specs.Standing.{call_answered}
+use Rattle.wasi_host.specs.Store.{connect_begun, put_back as answer_put, begin_connect_asks, start_connect_by, start_connect_at, with_inner, idle, finish_by, finish_at, with_progress}
 use Rattle.wasi_host.specs.declared.listening.Listening.{Listening}
 use Rattle.wasi_host.specs.declared.listening.Listening.TheVariants as listening
 use Rattle.wasi_host.specs.declared.machine.Machine.{Machine}
-use Rattle.wasi_host.specs.declared.socket.InProgress.{InProgress as Doing}
+use Rattle.wasi_host.specs.declared.binding.InProgress.{InProgress as Doing}
+use Rattle.wasi_host.specs.declared.store.StandingCall.{StandingCall}
 use Rattle.wasi_host.specs.declared.socket.Tcp2Socket.{Tcp2Socket}
 use Rattle.wasi_p2.specs.Tcp.{start_bind_on, start_bind_asks, start_connect_on, start_connect_asks, start_listen_on, finish_on}
 use Rattle.wasi_walks.specs.Answered.{IsPastDefault, IsBound, Known, PastDefault, ToldBound, IsFree, putting, word_of_code, EndsPending, may_bind_to, BindRefusal, AlreadyBound, WrongAddress, Denied, Failed, InProgress, Begins, ConnectRefusal, NotDefault, BoundElsewhere, Elsewhere, knowing_bound, KnowsBound, OfRecord, record_at, ListensAlready}
@@ -90,6 +94,11 @@ module _ (own : OpId) (socket : Socket) where
   pub bounds : Meets (BoundRow own socket) [] (bound_asks own socket)
   bounds = branch socket.bound (λ e. ends (is_known e)) (λ unknown. asks_side socket.state refl unknown)
 
+nothing_is : (doing : Doing) → is_nothing doing ≡ true → Doing.Nothing ≡ doing
+nothing_is Doing.Nothing e = refl
+nothing_is (Doing.Binding op) e = absurd (cc)
+nothing_is (Doing.Started o) e = absurd (cc)
+
 -- == a bind
 module _ (m : Machine) (own : OpId) (handle place : ℕ) (r : Tcp2Socket) (n : Names m handle place r) (a : IpSocketAddress) where
   -- why it is refused, and what stands then
@@ -97,15 +106,19 @@ module _ (m : Machine) (own : OpId) (handle place : ℕ) (r : Tcp2Socket) (n : N
   BindRefused es w after = BindRefusal m own place r a es w after × ((after ≡ m) ⊎ ((w ≡ word.InvalidState) × KnowsBound m handle after))
 
   -- a bind as it was begun: it stands, or is done, or is refused
-  abbrev BindRow : Rows (Result (Option Operation) ErrorCode × Tcp2Socket)
-  BindRow es (Ok (Some op), now) = EndsPending own es
-  BindRow es (Ok None, now) = Unit {0}
+  abbrev BindRow : Rows (Result (Answer (Unit {0})) ErrorCode × Tcp2Socket)
+  BindRow es (Ok Pending, now) = EndsPending own es
+  BindRow es (Ok (Ready done), now) = Unit {0}
   BindRow es (Err code, now) = BindRefused es (word_of_code code) (putting m place now)
 
   stays : (es : List Entry) (code : ErrorCode) → BindRefusal m own place r a es (word_of_code code) m → BindRow es (Err code, r)
   stays es code cause = put_back (BindRefused es (word_of_code code)) m place r n.at (cause, inl refl)
 
-  module _ (side : OpId) (local : Told) (free : IsFree r.inner side local) where
+  -- with nothing in progress the record is as it was
+  stays_idle : is_nothing r.in_progress ≡ true → (es : List Entry) (code : ErrorCode) → BindRefusal m own place r a es (word_of_code code) m → BindRow es (Err code, with_progress r Doing.Nothing)
+  stays_idle idle es code cause = subst (λ (now : Tcp2Socket). BindRow es (Err code, now)) (ap (with_progress r) (sym (nothing_is r.in_progress idle))) (stays es code cause)
+
+  module _ (side : OpId) (local : Told) (free : IsFree r.inner side local) (idle : is_nothing r.in_progress ≡ true) where
     abbrev asked : Entry
     asked = entry own (call.Local side) local
 
@@ -117,21 +130,21 @@ module _ (m : Machine) (own : OpId) (handle place : ℕ) (r : Tcp2Socket) (n : N
     refused _ _ _ _ may (GoesOn _ _ _ _ _ (ToldYes _ _) (Stops _ _ _ _ (BindToldCode _ code))) = Failed side local code free may
     refused _ _ _ _ may (GoesOn _ _ _ _ _ (ToldYes _ _) (GoesOn _ _ _ _ _ passed row)) = absurd (not_over row)
 
-    ended : may_bind_to r.inner.family a ≡ true → (es : List Entry) (end : End × List Item) → After (Polled its.who its.left) (asked ∷ []) es end → BindRow es (bind_ended its r end)
+    ended : may_bind_to r.inner.family a ≡ true → (es : List Entry) (end : End × List Item) → After (Polled its.who its.left) (asked ∷ []) es end → BindRow es (bind_ended its (with_progress r (Doing.Binding its)) end)
     ended may es (Waits, items) k = let w = ends_so its.who its.left k.rest (Waits, items) k.row in record { front = asked ∷ w.front; last = w.last; cut = k.cut ∙ ap (λ (xs : List Entry). asked ∷ xs) w.cut; op = w.op; told = w.told }
     ended may es (Done given, items) k = tt
-    ended may es (Refused code given, items) k = stays es code (rw k.cut (refused k.rest code given items may k.row))
+    ended may es (Refused code given, items) k = stays_idle idle es code (rw k.cut (refused k.rest code given items may k.row))
 
     tested : (b : Bool) → may_bind_to r.inner.family a ≡ b → Meets BindRow (asked ∷ []) (bind_begun r (if b then Ok its else Err InvalidArgument, r.inner))
-    tested true may = onto (bind_ended its r) (widen (ended may) (shifted (asked ∷ []) (polled its (tt, (tt, tt)))))
+    tested true may = onto (bind_ended its (with_progress r (Doing.Binding its))) (widen (ended may) (shifted (asked ∷ []) (polled its (tt, (tt, tt)))))
     tested false e = ends (stays _ InvalidArgument (WrongAddress side local free e))
 
-  by_bound : (es : List Entry) (b : Bool × Socket) → BoundRow own r.inner es b → Meets BindRow es (bind_begun r (bind_start own b.1 a b.0, b.1))
-  by_bound _ _ (ItsBound es is) = ends (AlreadyBound es is, inr (refl, here n refl))
-  by_bound _ _ (ItsFree side local free) = subst (λ (st : TcpState). Meets BindRow (asked side local free ∷ []) (bind_begun r (bind_allowed own r.inner a st, r.inner))) (sym free.open_side) (tested side local free (may_bind_to r.inner.family a) refl)
+  by_bound : is_nothing r.in_progress ≡ true → (es : List Entry) (b : Bool × Socket) → BoundRow own r.inner es b → Meets BindRow es (bind_begun r (bind_start own b.1 a b.0, b.1))
+  by_bound idle _ _ (ItsBound es is) = ends (AlreadyBound es is, inr (refl, here n refl))
+  by_bound idle _ _ (ItsFree side local free) = subst (λ (st : TcpState). Meets BindRow (asked side local free idle ∷ []) (bind_begun r (bind_allowed own r.inner a st, r.inner))) (sym free.open_side) (tested side local free idle (may_bind_to r.inner.family a) refl)
 
-  bind_begins : Meets BindRow [] (begin_bind_asks own r a)
-  bind_begins = chain {Mid = λ es start. Meets BindRow es (bind_begun r start)} (onto _ (widen by_bound (bounds own r.inner))) (λ es start k. k)
+  bind_begins : is_nothing r.in_progress ≡ true → Meets BindRow [] (begin_bind_asks own r a)
+  bind_begins idle = chain {Mid = λ es start. Meets BindRow es (bind_begun r start)} (onto _ (widen (by_bound idle) (bounds own r.inner))) (λ es start k. k)
 
 -- == a connect
 module _ (m : Machine) (own : OpId) (handle place : ℕ) (r : Tcp2Socket) (n : Names m handle place r) (a : IpSocketAddress) where
@@ -256,16 +269,16 @@ module _ (contexts : List WasiSocketsCtx) (m : Machine) (line c handle : ℕ) wh
 
   module _ (network : ℕ) (a : IpSocketAddress) where
     -- == a bind
-    bind_said : (place : ℕ) (r : Tcp2Socket) (n : Names m handle place r) → is_nothing r.in_progress ≡ true → (es : List Entry) (ended : Result (Option Operation) ErrorCode × Tcp2Socket) → BindRow m own handle place r n a es ended → (Replied contexts m line (step.TcpStartBind c handle network a) (answer_reply line)) es (with_store m (bind_answered m.store line place ended))
-    bind_said place r n idle es (Ok (Some op), now) h = (λ is. no_conflict n idle _ (λ e. cc), ((refl, refl), h))
-    bind_said place r n idle es (Ok None, now) h = (λ is. no_conflict n idle _ (λ e. cc), (tt, tt))
+    bind_said : (place : ℕ) (r : Tcp2Socket) (n : Names m handle place r) → is_nothing r.in_progress ≡ true → (es : List Entry) (ended : Result (Answer (Unit {0})) ErrorCode × Tcp2Socket) → BindRow m own handle place r n a es ended → (Replied contexts m line (step.TcpStartBind c handle network a) (answer_reply line)) es (with_store m (call_answered m.store line (StandingCall.Bind place) ended))
+    bind_said place r n idle es (Ok Pending, now) h = (λ is. no_conflict n idle _ (λ e. cc), ((refl, refl), h))
+    bind_said place r n idle es (Ok (Ready done), now) h = (λ is. no_conflict n idle _ (λ e. cc), (tt, tt))
     bind_said place r n idle es (Err code, now) h = (λ is. no_code n idle code, (inr (code_word code), (here n (Begins idle h.0), h.1)))
 
     pub start_bind : Meets (Says contexts m line (step.TcpStartBind c handle network a)) [] (bind (start_bind_asks m own handle network a) (λ done. Give (answer_reply line done.0, done.1)))
     start_bind =
         onto _ (branch (is_network (kind_at m.table network))
         (λ is. on_idle m handle (start_bind_on m own a) (λ place o. start_bind_at m.store own place a o) (λ place r b. start_bind_by m.store own place a r b) refl (λ place. refl) (λ place. refl) (λ place r. refl) (λ place r. refl)
-        (λ none. (λ is. none_conflicts m handle _ none (λ e. cc), (inr none, refl, refl))) (λ place r n e. (λ is. in_conflict n e, (inl refl, (here n (InProgress e refl refl refl), inl refl)))) (λ place r n idle. onto _ (widen (bind_said place r n idle) (bind_begins m own handle place r n a))))
+        (λ none. (λ is. none_conflicts m handle _ none (λ e. cc), (inr none, refl, refl))) (λ place r n e. (λ is. in_conflict n e, (inl refl, (here n (InProgress e refl refl refl), inl refl)))) (λ place r n idle. onto _ (widen (bind_said place r n idle) (bind_begins m own handle place r n a idle))))
         (λ no. ends (λ is. absurd (cc), (inl no, refl, refl))))
 
     -- == a connect
@@ -281,7 +294,7 @@ module _ (contexts : List WasiSocketsCtx) (m : Machine) (line c handle : ℕ) wh
         (λ no. ends (λ is. absurd (cc), (inl no, refl, refl))))
 
   -- == a listen
-  listen_said : (place : ℕ) (r : Tcp2Socket) (n : Names m handle place r) → is_nothing r.in_progress ≡ true → (es : List Entry) (done : Result (Answer (Unit {0})) ErrorCode × Tcp2Socket) → ListenRow m own handle place r n es done → (Replied contexts m line (step.TcpStartListen c handle) (answer_reply line)) es (with_store m (listen_answered m.store line place done))
+  listen_said : (place : ℕ) (r : Tcp2Socket) (n : Names m handle place r) → is_nothing r.in_progress ≡ true → (es : List Entry) (done : Result (Answer (Unit {0})) ErrorCode × Tcp2Socket) → ListenRow m own handle place r n es done → (Replied contexts m line (step.TcpStartListen c handle) (answer_reply line)) es (with_store m (call_answered m.store line (StandingCall.Listen place) done))
   listen_said place r n idle es (Ok Pending, now) h = (no_conflict n idle _ (λ e. cc), ((refl, refl), h))
   listen_said place r n idle es (Ok (Ready done), now) h = (no_conflict n idle _ (λ e. cc), (tt, tt))
   listen_said place r n idle es (Err code, now) h = (no_code n idle code, (inr (code_word code), (here n (Begins idle h.0), h.1)))

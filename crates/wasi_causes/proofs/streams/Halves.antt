@@ -10,10 +10,12 @@ use Rattle.wasi_causes.proofs.streams.Routes.{failed_so, HasStreams, of_streams,
 use Rattle.wasi_causes.proofs.tables.Meets.{Rows, Meets, ends, asks, onto, widen, chain, branch, both}
 use Rattle.wasi_causes.proofs.tables.Routes.{Replied, Says, full_so, code_word, apart, none_has}
 use Rattle.wasi_causes.specs.GivenUp.{LooksOnce, NoLook, OneLook}
-use Rattle.wasi_host.specs.Dropping.{wait_answer, wait_writer, wait_put, wait_at, waited, drop_output_at}
+use Rattle.wasi_host.specs.Dropping.{wait_answer, wait_writer, wait_put, wait_at, drop_waits, drop_output_at}
 use Rattle.wasi_host.specs.Jobs.{has_job, with_job, begins_job}
 use Rattle.wasi_host.specs.Machine.{input_at, own_of, output_at}
-use Rattle.wasi_host.specs.Store.{Records, with_writer, standing_drop, with_socket, with_reader, reader_of, flush_asks, writer_of}
+use Rattle.wasi_host.specs.Standing.{standing_as}
+use Rattle.wasi_host.specs.declared.store.StandingCall.TheVariants.{DropOutput}
+use Rattle.wasi_host.specs.Store.{Records, with_writer, with_socket, with_reader, reader_of, flush_asks, writer_of}
 use Rattle.wasi_host.specs.StreamCalls.{read_asks, check_asks, write_asks, flushed_asks}
 use Rattle.wasi_host.specs.declared.machine.Machine.{Machine}
 use Rattle.wasi_host.specs.declared.socket.Streams.{Streams}
@@ -73,34 +75,39 @@ module _ (own : OpId) (writer : WriteState) where
   looks = looks_as (collected writer) refl
 
 -- == an output that goes
-module _ (m : Machine) (own : OpId) (place : ℕ) where
-  -- one that waits stands under its line's number, and else nothing stands
+module _ (store : Records) (own : OpId) (place : ℕ) where
+  -- the output of this record waits
+  abbrev Waits : List Entry → Type 0
+  Waits es = (m : Machine) → m.store.sockets ≡ store.sockets → OutputWaits m own (Some place) es
+
+  -- one that waits stands under its line's number, and else what stood does
   abbrev pub OutputRow : Rows (Answer (Unit {0}) × Records)
-  OutputRow es (Pending, store) = OutputWaits m own (Some place) es × (store.standing ≡ Some (standing_drop own.step place))
-  OutputRow es (Ready done, store) = LooksOnce own es × (store.standing ≡ None)
+  OutputRow es (Pending, now) = Waits es × (now.standing ≡ Some (standing_as own.step (DropOutput place)))
+  OutputRow es (Ready done, now) = LooksOnce own es × (now.standing ≡ store.standing)
 
   abbrev WaitRow : Rows (Answer (Unit {0}) × Records)
-  WaitRow es (Pending, store) = OutputWaits m own (Some place) es
-  WaitRow es (Ready done, store) = LooksOnce own es
+  WaitRow es (Pending, now) = Waits es × (now.standing ≡ store.standing)
+  WaitRow es (Ready done, now) = LooksOnce own es × (now.standing ≡ store.standing)
 
-  module _ (r : Tcp2Socket) (at : slice_get m.store.sockets place ≡ Some r) where
-    of_look : (s : Streams) → r.streams ≡ Some s → (es : List Entry) (looked : Result (Answer (Unit {0})) StreamStop × WriteState) → LookRow own s.writer es looked → WaitRow es (wait_put m.store place (wait_answer looked.0, with_writer r s looked.1))
-    of_look s has es (Ok Pending, now) k = record { place = place; found = r; streams = s; names = refl; at = at; has = has; holds = k }
-    of_look s has es (_, now) k = k
+  module _ (r : Tcp2Socket) (at : slice_get store.sockets place ≡ Some r) where
+    of_look : (s : Streams) → r.streams ≡ Some s → (es : List Entry) (looked : Result (Answer (Unit {0})) StreamStop × WriteState) → LookRow own s.writer es looked → WaitRow es (wait_put store place (wait_answer looked.0, with_writer r s looked.1))
+    of_look s has es (Ok Pending, now) k = (λ m same. record { place = place; found = r; streams = s; names = refl; at = ap (λ (rs : List Tcp2Socket). slice_get rs place) same ∙ at; has = has; holds = k }, refl)
+    of_look s has es (Ok (Ready done), now) k = (k, refl)
+    of_look s has es (Err why, now) k = (k, refl)
 
-    by_streams : (o : Option Streams) → r.streams ≡ o → Meets (λ es done. WaitRow es (wait_put m.store place done)) [] (wait_writer own r o)
-    by_streams None has = ends NoLook
+    by_streams : (o : Option Streams) → r.streams ≡ o → Meets (λ es done. WaitRow es (wait_put store place done)) [] (wait_writer own r o)
+    by_streams None has = ends (NoLook, refl)
     by_streams (Some s) has = onto _ (widen (of_look s has) (looks own s.writer))
 
-  waits_at : (o : Option Tcp2Socket) → slice_get m.store.sockets place ≡ o → Meets WaitRow [] (wait_at m.store own place o)
-  waits_at None at = ends NoLook
+  waits_at : (o : Option Tcp2Socket) → slice_get store.sockets place ≡ o → Meets WaitRow [] (wait_at store own place o)
+  waits_at None at = ends (NoLook, refl)
   waits_at (Some r) at = onto _ (by_streams r at r.streams refl)
 
-  waits : (es : List Entry) (done : Answer (Unit {0}) × Records) → WaitRow es done → OutputRow es (waited own.step place done)
-  waits es (Ready done, store) k = (k, refl)
-  waits es (Pending, store) k = (k, refl)
+  waits : (es : List Entry) (done : Answer (Unit {0}) × Records) → WaitRow es done → OutputRow es (drop_waits own.step place done)
+  waits es (Ready done, now) k = k
+  waits es (Pending, now) k = (k.0, refl)
 
-  pub outputs : (o : Option Tcp2Socket) → slice_get m.store.sockets place ≡ o → Meets OutputRow [] (drop_output_at m.store own place o)
+  pub outputs : (o : Option Tcp2Socket) → slice_get store.sockets place ≡ o → Meets OutputRow [] (drop_output_at store own place o)
   outputs o at = onto _ (widen waits (waits_at o at))
 
 -- == what a reader gives

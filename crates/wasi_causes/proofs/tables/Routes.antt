@@ -24,7 +24,8 @@ use Rattle.wasi_addr.specs.declared.p2.ErrorCode.TheVariants as p2
 use Rattle.wasi_host.specs.Host.{Stop, Code, Trap}
 use Rattle.wasi_host.specs.Kinds.{Handles, name_of, with_handle, make_asks}
 use Rattle.wasi_host.specs.Machine.{socket_at, no_such_handle, with_store}
-use Rattle.wasi_host.specs.Store.{Records, with_socket, is_nothing}
+use Rattle.wasi_host.specs.Store.{Records, with_socket}
+use Rattle.wasi_host.specs.InProgress.{is_nothing}
 use Rattle.wasi_steps.specs.declared.reply.CodeWord.{CodeWord}
 use Rattle.wasi_steps.specs.declared.reply.CodeWord.TheVariants as word
 use Rattle.wasi_steps.specs.declared.reply.Reply.{Reply}

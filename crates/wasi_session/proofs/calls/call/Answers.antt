@@ -1,6 +1,6 @@
 use Rattle.std.proofs.Common.{refl}
 use Rattle.wasi_world.proofs.Walks.{asks_answered, given_answered, asks_end, asks_exit}
-use Rattle.wasi_machine.specs.Machine.{reply_of, stream_reply_of, answer_reply}
+use Rattle.wasi_machine.specs.Machine.{reply_of, stream_reply_of, answer_reply, resumed_reply}
 use Rattle.wasi_steps.specs.Reply.{no_values, number_fields, pair_values, triple_values, bytes_fields, truth_fields, family_fields, address_values}
 use Rattle.wasi_session.proofs.calls.call.Goals as goal
 
@@ -78,3 +78,6 @@ returns-in_err-turn-in-Turn-clause-asked g c = rw c.in-Turn.is (asks_exit _ _ c.
 
 pub returns-in_ok-turn-in-Turn-clause-asked : goal.returns-in_ok-turn-in-Turn-clause-asked
 returns-in_ok-turn-in-Turn-clause-asked g c = rw c.in-Turn.is (asks_end _ c.in_ok-turn-in-Turn.ensures.asked.ok (rw c.done.ensures refl))
+
+pub returns-in-Poll-clause-asked : goal.returns-in-Poll-clause-asked
+returns-in-Poll-clause-asked g c = rw c.in-Poll.is (asks_answered (resumed_reply c.in-Poll.call) _ _ c.resume-resumed.ensures.asked c.resumed_reply.ensures)
