@@ -18,8 +18,8 @@ use Rattle.wasi_host.specs.Pending.{go_on, rebind_at, relisten_at, resume_asks, 
 use Rattle.wasi_host.specs.Readiness.{is_over, is_done, connect_looked, accept_looked, ready_listening, ready_idle, ready_socket_by, ready_reader, ready_writer, ready_record, ready_put, ready_at}
 use Rattle.wasi_host.specs.Binding.{bind_ended, poll_binding}
 use Rattle.wasi_host.specs.InProgress.{is_nothing, is_connect}
-use Rattle.wasi_host.specs.Standing.{allowed_answer, call_answered, call_of, standing_as, stands_as, unstood}
-use Rattle.wasi_host.specs.Store.{Records, with_reader, with_writer}
+use Rattle.wasi_host.specs.Standing.{allowed_answer, call_answered, call_of, call_place, standing_as, stands_as, unstood}
+use Rattle.wasi_host.specs.Store.{Records, with_reader, with_socket, with_writer}
 use Rattle.wasi_host.specs.declared.binding.InProgress.{InProgress}
 use Rattle.wasi_host.specs.declared.binding.InProgress.TheVariants.{Binding}
 use Rattle.wasi_host.specs.declared.kind.Kind.TheVariants.{Pollable}
@@ -272,22 +272,33 @@ module _ (contexts : List WasiSocketsCtx) (m : Machine) (line n : ℕ) where
     it_ends : (es : List Entry) (r : Reply) (after : Machine) → r ≢ reply.NoSuchCall → after.store.standing ≡ None → Always m line (step.Poll n) es r after
     it_ends es r after other none = (apart other stands_so, λ same. inr none)
 
-    done : {es : List Entry} {after : Machine} → after.store.standing ≡ None → Row es (reply.Ok no_fields, after)
-    done {es} {after} none = (it_ends es (reply.Ok no_fields) after (λ e. cc) none, (tt, tt))
+    done : (es : List Entry) (after : Machine) → after.store.standing ≡ None → Row es (reply.Ok no_fields, after)
+    done es after none = (it_ends es (reply.Ok no_fields) after (λ e. cc) none, (tt, tt))
 
-    fails : {es : List Entry} {after : Machine} (code : ErrorCode) → after.store.standing ≡ None → (StandsByBind m → CallFails m es call code) → Row es (reply.Err (word_of_code code), after)
-    fails {es} {after} code none cause = (it_ends es (reply.Err (word_of_code code)) after (λ e. cc) none, (code_word code, λ binds. record { call = call; code = code; stands = stands; cause = cause binds; word_is = refl }))
+    fails : (es : List Entry) (after : Machine) (code : ErrorCode) → after.store.standing ≡ None → (StandsByBind m → CallFails m es call code) → Row es (reply.Err (word_of_code code), after)
+    fails es after code none cause = (it_ends es (reply.Err (word_of_code code)) after (λ e. cc) none, (code_word code, λ binds. record { call = call; code = code; stands = stands; cause = cause binds; word_is = refl }))
 
-    waits : {es : List Entry} {after : Machine} → after.store.standing ≡ Some (standing_as n call) → (StandsByBind m → CallWaits m (own_of n) es call) → Row es (reply.Pending n, after)
-    waits {es} {after} on cause = ((apart (λ e. cc) stands_so, λ same. inl refl), ((refl, rw on refl), λ binds. subst (λ (o : Option Standing). IsSomeAnd o (λ s. CallWaits m (own_of n) es s.call)) (sym stands) (cause binds)))
+    waits : (es : List Entry) (after : Machine) → after.store.standing ≡ Some (standing_as n call) → (StandsByBind m → CallWaits m (own_of n) es call) → Row es (reply.Pending n, after)
+    waits es after on cause = ((apart (λ e. cc) stands_so, λ same. inl refl), ((refl, rw on refl), λ binds. subst (λ (o : Option Standing). IsSomeAnd o (λ s. CallWaits m (own_of n) es s.call)) (sym stands) (cause binds)))
+
+    -- what is due for an answer
+    abbrev Due : List Entry → Result (Answer (Unit {0})) ErrorCode → Type 0
+    Due es (Ok Pending) = StandsByBind m → CallWaits m (own_of n) es call
+    Due es (Ok (Ready given)) = Unit {0}
+    Due es (Err code) = StandsByBind m → CallFails m es call code
+
+    answered_so : (es : List Entry) (begun : Result (Answer (Unit {0})) ErrorCode × Tcp2Socket) → Due es begun.0 → CallRow es (call_answered free n call begun)
+    answered_so es (Ok Pending, r) h = waits es (record m { store = record (with_socket free (call_place call) r) { standing = Some (standing_as n call) } }) refl h
+    answered_so es (Ok (Ready given), r) h = done es (record m { store = with_socket free (call_place call) r }) refl
+    answered_so es (Err code, r) h = fails es (record m { store = with_socket free (call_place call) r }) code refl h
 
     missing : IsOnNothing m call → Row [] (reply.Trap NoSuchHandle, nothing_stands m)
     missing nothing = (it_ends [] (reply.Trap NoSuchHandle) (nothing_stands m) (λ e. cc) refl, (rw (stands, eq-eqb n n refl) nothing, refl, refl))
 
   -- == of a drop
   of_output : (place : ℕ) → Under (DropOutput place) → (es : List Entry) (done : Answer (Unit {0}) × Records) → OutputRow free (own_of n) place es done → CallRow es (allowed_answer done)
-  of_output place stands es (Ready given, store) k = done (DropOutput place) stands k.1
-  of_output place stands es (Pending, store) k = waits (DropOutput place) stands k.1 (λ binds. k.0 m refl)
+  of_output place stands es (Ready given, store) k = done (DropOutput place) stands es (record m { store = store }) k.1
+  of_output place stands es (Pending, store) k = waits (DropOutput place) stands es (record m { store = store }) k.1 (λ binds. k.0 m refl)
 
   -- == of a listen
   module _ (place : ℕ) (stands : Under (Listen place)) where
@@ -296,7 +307,7 @@ module _ (contexts : List WasiSocketsCtx) (m : Machine) (line n : ℕ) where
       ListenRow es begun = CallRow es (call_answered free n (Listen place) begun)
 
       gives_up : HasNoListen r → ListenRow [] (Err InvalidState, r)
-      gives_up none = fails (Listen place) stands InvalidState refl (λ binds. NoListen place (rw at none) refl)
+      gives_up none = answered_so (Listen place) stands [] (Err InvalidState, r) (λ binds. NoListen place (rw at none) refl)
 
       module _ (op : Operation) (is : r.listening ≡ listening.Begins op) where
         is_listen : StandsByBind m → IsListen op
@@ -309,13 +320,13 @@ module _ (contexts : List WasiSocketsCtx) (m : Machine) (line n : ℕ) where
         listen_waits es h = let k : ListenWaits r.listening es = rw is h in rw at k
 
         listen_ends : (es : List Entry) (end : End × List Item) → (IsListen op → EndsFor op (ListenEnds op) es end) → ListenRow es (listen_polled r (listen_ended op.who r.inner end))
-        listen_ends es (Waits, items) h = waits (Listen place) stands refl (λ binds. listen_waits es (h (is_listen binds)))
-        listen_ends es (Done given, items) h = done (Listen place) stands refl
-        listen_ends es (Refused code given, items) h = fails (Listen place) stands code refl (λ binds. ListenFailed place r op code at is (h (is_listen binds)))
+        listen_ends es (Waits, items) h = answered_so (Listen place) stands es (listen_polled r (listen_ended op.who r.inner (Waits, items))) (λ binds. listen_waits es (h (is_listen binds)))
+        listen_ends es (Done given, items) h = answered_so (Listen place) stands es (listen_polled r (listen_ended op.who r.inner (Done given, items))) tt
+        listen_ends es (Refused code given, items) h = answered_so (Listen place) stands es (listen_polled r (listen_ended op.who r.inner (Refused code given, items))) (λ binds. ListenFailed place r op code at is (h (is_listen binds)))
 
         begun : Meets ListenRow [] (poll_begun r op)
         begun =
-            onto _ (branch (listen_over op) (λ over. ends (fails (Listen place) stands InvalidState refl (λ binds. NoListen place (rw at (inr (rw is over))) refl)))
+            onto _ (branch (listen_over op) (λ over. ends (answered_so (Listen place) stands [] (listen_polled r (Err InvalidState, (op, r.inner))) (λ binds. NoListen place (rw at (inr (rw is over))) refl)))
             (λ on. onto _ (widen listen_ends (granted (listen_polls op)))))
 
       relists_by : (l : Listening) → r.listening ≡ l → Meets ListenRow [] (poll_listening r l)
@@ -347,13 +358,13 @@ module _ (contexts : List WasiSocketsCtx) (m : Machine) (line n : ℕ) where
         bind_waits es h = let k : BindWaits r.in_progress es = rw is h in rw at k
 
         bind_ends : (es : List Entry) (end : End × List Item) → (IsRestOfBind op → EndsFor op (BindFails op) es end) → BindRow es (bind_ended op r end)
-        bind_ends es (Waits, items) h = waits (Bind place) stands refl (λ binds. bind_waits es (h (is_bind binds)))
-        bind_ends es (Done given, items) h = done (Bind place) stands refl
-        bind_ends es (Refused code given, items) h = fails (Bind place) stands code refl (λ binds. BindFailed place r op code at is (h (is_bind binds)))
+        bind_ends es (Waits, items) h = answered_so (Bind place) stands es (bind_ended op r (Waits, items)) (λ binds. bind_waits es (h (is_bind binds)))
+        bind_ends es (Done given, items) h = answered_so (Bind place) stands es (bind_ended op r (Done given, items)) tt
+        bind_ends es (Refused code given, items) h = answered_so (Bind place) stands es (bind_ended op r (Refused code given, items)) (λ binds. BindFailed place r op code at is (h (is_bind binds)))
 
       rebinds_by : (doing : InProgress) → r.in_progress ≡ doing → Meets BindRow [] (poll_binding r doing)
       rebinds_by (Binding op) is = onto _ (widen (bind_ends op is) (granted (bind_polls op)))
-      rebinds_by _ is = ends (fails (Bind place) stands InvalidState refl (λ binds. let k = goes_on binds in absurd (rw is at k)))
+      rebinds_by _ is = ends (answered_so (Bind place) stands [] (Err InvalidState, r) (λ binds. let k = goes_on binds in absurd (rw is at k)))
 
     rebinds : (o : Option Tcp2Socket) → slice_get m.store.sockets place ≡ o → Meets CallRow [] (rebind_at free n place o)
     rebinds None at = ends (missing (Bind place) stands at)

@@ -77,16 +77,16 @@ module _ (own : OpId) (writer : WriteState) where
 -- == an output that goes
 module _ (store : Records) (own : OpId) (place : ℕ) where
   -- the output of this record waits
-  abbrev Waits : List Entry → Type 0
-  Waits es = (m : Machine) → m.store.sockets ≡ store.sockets → OutputWaits m own (Some place) es
+  abbrev WaitsThere : List Entry → Type 0
+  WaitsThere es = (m : Machine) → m.store.sockets ≡ store.sockets → OutputWaits m own (Some place) es
 
   -- one that waits stands under its line's number, and else what stood does
   abbrev pub OutputRow : Rows (Answer (Unit {0}) × Records)
-  OutputRow es (Pending, now) = Waits es × (now.standing ≡ Some (standing_as own.step (DropOutput place)))
+  OutputRow es (Pending, now) = WaitsThere es × (now.standing ≡ Some (standing_as own.step (DropOutput place)))
   OutputRow es (Ready done, now) = LooksOnce own es × (now.standing ≡ store.standing)
 
   abbrev WaitRow : Rows (Answer (Unit {0}) × Records)
-  WaitRow es (Pending, now) = Waits es × (now.standing ≡ store.standing)
+  WaitRow es (Pending, now) = WaitsThere es × (now.standing ≡ store.standing)
   WaitRow es (Ready done, now) = LooksOnce own es × (now.standing ≡ store.standing)
 
   module _ (r : Tcp2Socket) (at : slice_get store.sockets place ≡ Some r) where
