@@ -1,73 +1,24 @@
 -- What is given up: by a shutdown, by a drop of a handle, and what a drop leaves.
-use Rattle.std.proofs.Common.{◌≡◌, Bool, true, false, if◌then◌else◌, List, [], ◌∷◌, ◌++◌, Option, Some, None, refl, sym, ap, ◌∙◌, append-nil, append_assoc, ℕ, Result, ◌==◌, inl, inr, Ok, Err, slice_get, subst, ◌≢◌}
-use Rattle.std.proofs.lemmas.Bool.{eq-eqb}
-use Rattle.std.specs.Prelude.{IsSome}
-use Rattle.wasi_addr.specs.declared.address.IpSocketAddress.{IpSocketAddress}
-use Rattle.wasi_addr.specs.declared.address.ShutdownType.{ShutdownType}
-use Rattle.wasi_addr.specs.declared.address.ShutdownType.TheVariants.{Receive, Send, Both}
+use Rattle.wasi_causes.proofs.Words.{◌≡◌, Bool, true, false, if◌then◌else◌, List, [], ◌∷◌, ◌++◌, Option, Some, None, refl, sym, ap, ◌∙◌, append-nil, append_assoc, ℕ, Result, ◌==◌, inl, inr, Ok, Err, slice_get, subst, ◌≢◌, eq-eqb, IsSome, IpSocketAddress, ShutdownType, Receive, Send, Both, give_streams_up, gone, release_asks, released, release_at, Stop, Trap, other_jobs, kind_at, output_of, has_no_child, without_handle, taken_out, place_of, give_up_asks, socket_at, own_of, with_store, answered, at_once, drop_kind, drop_taken, drop_asks, shut_streams, shut_record, shutdown_at, Records, Kind, Tcp2, Output, Listening, Machine, Streams, Tcp2Socket, shutdown_on, set_there, record_at, putting, record_in, OfRecord, entry, Has, done_reply, answer_reply, Each, no_fields, OutputWaits, WritesOn, ToldToWait, WriterWaits, Field, Reply, in_hand, refuse_in, Job, is_over, held_side, give_up_in, reader_shutdown_asks, Socket, side_of, writer_side, writer_shutdown_asks, side_up_asks, Accepting, ReadState, WriteState, Give, bind, IsDone, End, Done, Who, Operation, ask_close, Call, Entry, Told, OpId, Answer, Ready, Pending, HasChildren, NoSuchHandle, Full, NotPermitted, WasiSocketsCtx}
 use Rattle.wasi_causes.proofs.streams.Halves.{OutputRow, outputs}
 use Rattle.wasi_causes.proofs.tables.Meets.{Rows, Meets, ends, asks, chain, onto, widen}
 use Rattle.wasi_causes.proofs.tables.Routes.{Replied, Says, put_back, Names, its, on_record, apart, none_has}
 use Rattle.wasi_causes.specs.GivenUp.{receive_given_up, send_given_up, streams_given_up, side_closed, arrival_given_up, accept_given_up, listen_given_up, listening_given_up, socket_given_up, ended_side, shut_at_once, last_write, shut_writer, shutdown_entries, shut_down, HasLiveChildren, without, LooksOnce, NoLook, OneLook, IsDropped, GoesAtOnce, IsGone}
 use Rattle.wasi_causes.specs.Outcomes.{Outcome, AsksOnce, AreLike, Gone}
-use Rattle.wasi_host.specs.Dropping.{give_streams_up, gone, release_asks, released, release_at}
-use Rattle.wasi_host.specs.Host.{Stop, Trap}
-use Rattle.wasi_host.specs.Jobs.{other_jobs}
-use Rattle.wasi_host.specs.Kinds.{kind_at, output_of, none_in, has_no_child, without_handle, taken_out, place_of}
-use Rattle.wasi_host.specs.Listening.{give_up_asks}
-use Rattle.wasi_host.specs.Machine.{socket_at, own_of, with_store, answered, at_once, drop_kind, drop_taken, drop_asks}
-use Rattle.wasi_host.specs.Shutdowns.{shut_receive, shut_send, shut_streams, with_streams, shut_put, shut_record, shutdown_at}
-use Rattle.wasi_host.specs.Store.{Records}
-use Rattle.wasi_host.specs.declared.kind.Kind.{Kind}
-use Rattle.wasi_host.specs.declared.kind.Kind.TheVariants.{Tcp2, Output}
-use Rattle.wasi_host.specs.declared.listening.Listening.{Listening}
+use Rattle.wasi_host.specs.Kinds.{none_in}
+use Rattle.wasi_host.specs.Shutdowns.{shut_receive, shut_send, with_streams, shut_put}
 use Rattle.wasi_host.specs.declared.listening.Listening.TheVariants as listening
-use Rattle.wasi_host.specs.declared.machine.Machine.{Machine}
-use Rattle.wasi_host.specs.declared.socket.Streams.{Streams}
-use Rattle.wasi_host.specs.declared.socket.Tcp2Socket.{Tcp2Socket}
-use Rattle.wasi_p2.specs.Tcp.{shutdown_on}
-use Rattle.wasi_walks.proofs.Lists.{set_there}
-use Rattle.wasi_walks.specs.Answered.{record_at, putting, record_in, OfRecord}
-use Rattle.wasi_walks.specs.Licence.{entry, Has}
-use Rattle.wasi_machine.specs.Machine.{done_reply, answer_reply}
-use Rattle.wasi_steps.specs.Replies.{Each}
-use Rattle.wasi_steps.specs.Reply.{no_fields}
-use Rattle.wasi_walks.specs.Waiting.{OutputWaits, WritesOn, ToldToWait, WriterWaits}
 use Rattle.wasi_steps.specs.declared.reply.CodeWord.TheVariants as word
-use Rattle.wasi_steps.specs.declared.reply.Field.{Field}
-use Rattle.wasi_steps.specs.declared.reply.Reply.{Reply}
 use Rattle.wasi_steps.specs.declared.reply.Reply.TheVariants as reply
 use Rattle.wasi_steps.specs.declared.step.Step.TheVariants as step
 use Rattle.wasi_streams.specs.Table.{children_of}
-use Rattle.wasi_tcp.specs.Accept.{in_hand, refuse_in}
 use Rattle.wasi_tcp.specs.Closing.{close_in}
-use Rattle.wasi_tcp.specs.Job.{Job, finish_in}
-use Rattle.wasi_tcp.specs.Listen.{is_over, held_side}
-use Rattle.wasi_tcp.specs.Listener.{give_up_in}
-use Rattle.wasi_tcp.specs.Reader.{reader_shutdown_asks}
-use Rattle.wasi_tcp.specs.Shape.{Socket}
-use Rattle.wasi_tcp.specs.Socket.{side_of}
-use Rattle.wasi_tcp.specs.Writer.{writer_side, writer_shutdown_asks, side_up_asks}
-use Rattle.wasi_tcp.specs.declared.listener.Accepting.{Accepting}
+use Rattle.wasi_tcp.specs.Job.{finish_in}
 use Rattle.wasi_tcp.specs.declared.listener.Accepting.TheVariants as accepting
-use Rattle.wasi_tcp.specs.declared.reader.ReadState.{ReadState}
 use Rattle.wasi_tcp.specs.declared.reader.ReadState.TheVariants as reading
-use Rattle.wasi_tcp.specs.declared.writer.WriteState.{WriteState}
 use Rattle.wasi_tcp.specs.declared.writer.WriteState.TheVariants as writing
-use Rattle.wasi_world.specs.Asks.{Give, bind}
-use Rattle.wasi_world.specs.Fits.{IsDone}
-use Rattle.wasi_world.specs.Operation.{End, Done, Who, Operation}
-use Rattle.wasi_world.specs.Typed.{ask_close}
-use Rattle.wasi_world.specs.declared.call.Call.{Call}
 use Rattle.wasi_world.specs.declared.call.Call.TheVariants as call
-use Rattle.wasi_world.specs.declared.call.Entry.{Entry}
-use Rattle.wasi_world.specs.declared.call.Told.{Told}
 use Rattle.wasi_world.specs.declared.call.Told.TheVariants as told
-use Rattle.wasi_world.specs.declared.ids.OpId.{OpId}
-use Rattle.wasi_world.specs.declared.outcome.Answer.{Answer}
-use Rattle.wasi_world.specs.declared.outcome.Answer.TheVariants.{Ready, Pending}
-use Rattle.wasi_world.specs.declared.outcome.TrapKind.TheVariants.{HasChildren, NoSuchHandle, Full, NotPermitted}
-use Rattle.wasi_world.specs.declared.outcome.WasiSocketsCtx.{WasiSocketsCtx}
 
 abbrev Adds : {A : Type 0} → List Entry → List Entry → Rows A
 Adds es more fs done = fs ≡ es ++ more

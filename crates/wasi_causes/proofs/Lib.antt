@@ -1,3 +1,4 @@
+pub mod Words
 pub mod tables
 pub mod operations
 pub mod sockets

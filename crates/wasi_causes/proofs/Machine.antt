@@ -1,78 +1,45 @@
 -- A subscription and a look at a pollable, and a poll of the call that stands.
-use Rattle.std.proofs.Common.{◌≡◌, ℕ, Bool, true, false, inl, inr, List, [], ◌∷◌, Option, Some, None, Result, Ok, Err, slice_get, refl, sym, ap, ◌∙◌, ◌≢◌, subst, ◌==◌, if◌then◌else◌}
-use Rattle.std.proofs.lemmas.Bool.{eqb-true, eq-eqb}
-use Rattle.std.specs.Prelude.{◌⊎◌, IfSome, IsSomeAnd}
-use Rattle.wasi_addr.specs.declared.code.ErrorCode.{ErrorCode}
-use Rattle.wasi_addr.specs.declared.code.ErrorCode.TheVariants.{InvalidState}
+use Rattle.wasi_host.specs.declared.binding.InProgress.TheVariants.{Binding}
+use Rattle.wasi_walks.proofs.walks.States.{stands_so as stands_under}
+use Rattle.wasi_causes.proofs.Words.{AcceptWaits, AcceptWaitsOn, Accepting, AcceptsIn, Answer, BindFailed, BindFails, BindWaits, Bool, CallFails}
+use Rattle.wasi_causes.proofs.Words.{CallStop, CallWaits, ClosedBy, ConnectWaits, Done, End, EndsPending, Entry, Err, ErrorCode, Give, HasNoListen}
+use Rattle.wasi_causes.proofs.Words.{HasNoListener, HoldsAccept, HoldsConnect, IfSome, InProgress, InputWaits, InvalidState, IsBinding, IsIdleSocket}
+use Rattle.wasi_causes.proofs.Words.{IsListen, IsListening, IsOnNothing, IsReady, IsRestOfBind, IsSomeAnd, IsUnready, Item, List, ListenEnds}
+use Rattle.wasi_causes.proofs.Words.{ListenFailed, ListenWaits, Listener, Listening, Machine, MissesRecord, NoListen, NoSuchHandle, None, OfWatched}
+use Rattle.wasi_causes.proofs.Words.{Ok, OpId, Operation, Option, Pending, Pollable, ReadState, Ready, Records, Refused, Reply, Result, Some}
+use Rattle.wasi_causes.proofs.Words.{Standing, StandingCall, StandsByBind, StandsOnNothing, Stop, StreamStop, Streams, Tcp2Socket, TcpReceiveStream}
+use Rattle.wasi_causes.proofs.Words.{TcpState, Told, Trap, Waits, WasiSocketsCtx, Watched, WatchesAccept, WatchesConnect, WatchesIdle, WriteState}
+use Rattle.wasi_causes.proofs.Words.{WriteWaits, [], accept_name, allowed_answer, ap, bind, bind_ended, call_answered, call_of, call_place}
+use Rattle.wasi_causes.proofs.Words.{closed_listening, connect_ended, entry, eq-eqb, eqb-true, false, finish_in, first_ids, go_on, handle_reply}
+use Rattle.wasi_causes.proofs.Words.{if◌then◌else◌, in_socket, inl, inr, is_connect, is_nothing, kind_at, left_of, listen_ended, listen_polled}
+use Rattle.wasi_causes.proofs.Words.{marks_in, no_fields, nothing_stands, own_of, place_in, poll_begun, poll_binding, poll_listening}
+use Rattle.wasi_causes.proofs.Words.{reader_ready_asks, ready_asks, ready_end, ready_on, rebind_at, refl, relisten_at, resume_asks, resume_call}
+use Rattle.wasi_causes.proofs.Words.{resumed, resumed_reply, side_at, side_of, slice_get, standing_as, stands_as, subscribe_asks, subscribe_on, subst}
+use Rattle.wasi_causes.proofs.Words.{sym, told_ready, true, truth_reply, unstood, watch_of, watched_by, with_reader, with_socket, with_store}
+use Rattle.wasi_causes.proofs.Words.{with_writer, word_of_code, ℕ, ◌==◌, ◌∙◌, ◌∷◌, ◌≡◌, ◌≢◌, ◌⊎◌}
 use Rattle.wasi_causes.proofs.operations.Accepts.{AcceptRow, accepts}
 use Rattle.wasi_causes.proofs.operations.Polls.{EndsFor, connect_ends, bind_ends as bind_polls, listen_ends as listen_polls}
 use Rattle.wasi_causes.proofs.streams.Halves.{LookRow, looks, OutputRow, outputs}
 use Rattle.wasi_causes.proofs.tables.Meets.{Rows, Meets, ends, asks, onto, widen, granted, chain, branch}
 use Rattle.wasi_causes.proofs.tables.Routes.{Replied, Says, put_store_same, makes, full_so, apart, code_word}
 use Rattle.wasi_causes.specs.Outcomes.{Outcome, Always}
-use Rattle.wasi_host.specs.Host.{Stop, Trap}
-use Rattle.wasi_host.specs.Kinds.{kind_at, watched_by, watch_of, place_in}
-use Rattle.wasi_host.specs.Listening.{listen_polled, poll_begun, poll_listening, closed_listening}
-use Rattle.wasi_host.specs.Machine.{own_of, side_at, with_store, subscribe_on, subscribe_asks, ready_on, ready_asks}
-use Rattle.wasi_host.specs.Pending.{go_on, rebind_at, relisten_at, resume_asks, resume_call, resumed}
+use Rattle.wasi_host.specs.Pending as host
 use Rattle.wasi_host.specs.Readiness.{is_over, is_done, connect_looked, accept_looked, ready_listening, ready_idle, ready_socket_by, ready_reader, ready_writer, ready_record, ready_put, ready_at}
-use Rattle.wasi_host.specs.Binding.{bind_ended, poll_binding}
-use Rattle.wasi_host.specs.InProgress.{is_nothing, is_connect}
-use Rattle.wasi_host.specs.Standing.{allowed_answer, call_answered, call_of, call_place, standing_as, stands_as, unstood}
-use Rattle.wasi_host.specs.Store.{Records, with_reader, with_socket, with_writer}
-use Rattle.wasi_host.specs.declared.binding.InProgress.{InProgress}
-use Rattle.wasi_host.specs.declared.binding.InProgress.TheVariants.{Binding}
-use Rattle.wasi_host.specs.declared.kind.Kind.TheVariants.{Pollable}
-use Rattle.wasi_host.specs.declared.kind.Watched.{Watched}
 use Rattle.wasi_host.specs.declared.kind.Watched.TheVariants as watched
-use Rattle.wasi_host.specs.declared.listening.Listening.{Listening}
 use Rattle.wasi_host.specs.declared.listening.Listening.TheVariants as listening
-use Rattle.wasi_host.specs.declared.machine.Machine.{Machine}
 use Rattle.wasi_host.specs.declared.pending.Outcome.{Outcome as Given}
-use Rattle.wasi_host.specs.declared.socket.Streams.{Streams}
-use Rattle.wasi_host.specs.declared.socket.Tcp2Socket.{Tcp2Socket}
-use Rattle.wasi_host.specs.declared.store.Standing.{Standing}
-use Rattle.wasi_host.specs.declared.store.StandingCall.{StandingCall}
 use Rattle.wasi_host.specs.declared.store.StandingCall.TheVariants.{Bind, Listen, DropOutput}
-use Rattle.wasi_walks.proofs.walks.States.{stands_so as stands_under}
-use Rattle.wasi_walks.specs.Answered.{ClosedBy, MissesRecord, word_of_code, EndsPending, IsOnNothing}
-use Rattle.wasi_walks.specs.Licence.{entry, marks_in}
-use Rattle.wasi_walks.specs.Listens.{AcceptWaits, accept_name, HasNoListener, AcceptsIn}
-use Rattle.wasi_machine.specs.Machine.{handle_reply, truth_reply, first_ids, resumed_reply}
-use Rattle.wasi_steps.specs.Reply.{no_fields}
-use Rattle.wasi_walks.specs.Waiting.{OfWatched, IsIdleSocket, IsUnready, AcceptWaitsOn, ConnectWaits, InputWaits, WriteWaits, WatchesConnect, WatchesAccept, WatchesIdle, ListenEnds, BindFailed, IsBinding, IsRestOfBind, BindFails, BindWaits, IsListening, ListenWaits, CallWaits, CallFails, ListenFailed, NoListen, HasNoListen, StandsByBind, nothing_stands}
-use Rattle.wasi_steps.specs.declared.reply.Reply.{Reply}
+use Rattle.wasi_p2.specs.Pending as p2
+use Rattle.wasi_machine.specs.Machine.{poll_asks}
 use Rattle.wasi_steps.specs.declared.reply.Reply.TheVariants as reply
 use Rattle.wasi_steps.specs.declared.step.Step.TheVariants as step
-use Rattle.wasi_streams.specs.StreamStop.{StreamStop}
-use Rattle.wasi_tcp.specs.Connecting.{connect_ended, finish_in, in_socket, HoldsConnect}
-use Rattle.wasi_tcp.specs.Listen.{IsListen, is_over as listen_over}
-use Rattle.wasi_tcp.specs.Listener.{Listener, ready_end, HoldsAccept}
-use Rattle.wasi_tcp.specs.Listening.{listen_ended}
-use Rattle.wasi_tcp.specs.Reader.{reader_ready_asks}
-use Rattle.wasi_tcp.specs.Socket.{side_of}
-use Rattle.wasi_tcp.specs.declared.halves.TcpReceiveStream.{TcpReceiveStream}
-use Rattle.wasi_tcp.specs.declared.listener.Accepting.{Accepting}
+use Rattle.wasi_tcp.specs.Listen.{is_over as listen_over}
 use Rattle.wasi_tcp.specs.declared.listener.Accepting.TheVariants as accepting
-use Rattle.wasi_tcp.specs.declared.reader.ReadState.{ReadState}
 use Rattle.wasi_tcp.specs.declared.reader.ReadState.TheVariants as reading
-use Rattle.wasi_tcp.specs.declared.socket.TcpState.{TcpState}
 use Rattle.wasi_tcp.specs.declared.socket.TcpState.TheVariants as state
-use Rattle.wasi_tcp.specs.declared.writer.WriteState.{WriteState}
-use Rattle.wasi_world.specs.Asks.{Give, bind}
-use Rattle.wasi_world.specs.Fits.{IsReady}
-use Rattle.wasi_world.specs.Operation.{Item, Operation, End, Waits, Done, Refused}
-use Rattle.wasi_world.specs.Typed.{told_ready}
 use Rattle.wasi_world.specs.declared.call.Call.TheVariants as call
-use Rattle.wasi_world.specs.declared.call.Entry.{Entry}
-use Rattle.wasi_world.specs.declared.call.Told.{Told}
 use Rattle.wasi_world.specs.declared.call.Told.TheVariants as told
-use Rattle.wasi_world.specs.declared.ids.OpId.{OpId}
-use Rattle.wasi_world.specs.declared.outcome.Answer.{Answer}
-use Rattle.wasi_world.specs.declared.outcome.Answer.TheVariants.{Ready, Pending}
 use Rattle.wasi_world.specs.declared.outcome.Answer.TheVariants as answer
-use Rattle.wasi_world.specs.declared.outcome.TrapKind.TheVariants.{NoSuchHandle}
-use Rattle.wasi_world.specs.declared.outcome.WasiSocketsCtx.{WasiSocketsCtx}
 
 -- == a subscription
 module _ (contexts : List WasiSocketsCtx) (m : Machine) (line c handle : ℕ) where

@@ -1,32 +1,25 @@
 -- Of the machines that runs lead to: what a socket connects by is a connect, what a listener accepts by an accept, what stands
 -- by a bind is a bind, and by a listen a listen; each live handle and what stands are of a record that is there, a connect in
 -- progress may be finished, and a socket that does nothing yet doesn't listen.
-use Rattle.std.proofs.Common.{◌≡◌, ℕ, List, [], Option, Some, None, slice_get, refl, inl, inr, true, ◌∷◌, ◌++◌, Result, Ok, Err, sym, ap, subst, ◌∙◌, length, slice_set, Bool, false, if◌then◌else◌, ◌==◌}
-use Rattle.std.specs.Prelude.{IfSome, ⊤, ◌⊎◌, IsSome, IsSomeAnd}
-use Rattle.wasi_addr.specs.declared.code.ErrorCode.{ErrorCode}
+use Rattle.wasi_host.specs.declared.binding.InProgress.TheVariants.{Binding, Started}
+use Rattle.wasi_causes.proofs.Words.{Accepting, AcceptsAt, AcceptsIn, Allows, Answered, Bool, Closes, CodeWord, ConnectsAt, Done, End, Entry, Err}
+use Rattle.wasi_causes.proofs.Words.{ErrorCode, FinishRefusal, Full, Give, HasChildren, HoldsCall, IfSome, InProgress, Input, IsBinding, IsListening}
+use Rattle.wasi_causes.proofs.Words.{IsOnNothing, IsPastNot, IsSome, IsSomeAnd, Item, Kind, Left, List, Listener, Listening, ListensAlready, Machine}
+use Rattle.wasi_causes.proofs.Words.{NoConnect, NoSuchHandle, None, NotConnecting, NotPermitted, Nothing, Ok, OpId, Operation, Option, Output}
+use Rattle.wasi_causes.proofs.Words.{Pollable, ReceivesAlready, Refused, RefusedOf, Reply, Result, SendsAlready, Socket, Some, Standing, StandingCall}
+use Rattle.wasi_causes.proofs.Words.{StandsByBind, StandsOnNothing, Step, Tcp2, Tcp2Socket, TcpState, TrapKind, Waits, WasiSocketsCtx, Watched}
+use Rattle.wasi_causes.proofs.Words.{WatchesAccept, WatchesConnect, Who, [], accept_ended, allows_if, allows_then, ap, bind, bind_progress, call_of}
+use Rattle.wasi_causes.proofs.Words.{call_place, connect_ended, created_asks, false, first_state, get_front, get_seam, get_set, get_split}
+use Rattle.wasi_causes.proofs.Words.{give_up_asks, if◌then◌else◌, inl, inr, is_connect, is_full, kind_at, length, machine_asks, make_asks, new_asks}
+use Rattle.wasi_causes.proofs.Words.{new_record, own_of, place_in, poll_asks, record_at, record_in, refl, run, set_get, side_at, side_of, slice_get}
+use Rattle.wasi_causes.proofs.Words.{slice_set, socket_at, standing_as, subst, sym, table_parent, told_addr, true, turn_asks, value_split}
+use Rattle.wasi_causes.proofs.Words.{value_without, watch_of, watched_in, with_handle, with_inner, with_listening, with_progress, with_record}
+use Rattle.wasi_causes.proofs.Words.{with_state, with_writer, without_handle, ℕ, ⊤, ◌++◌, ◌==◌, ◌∙◌, ◌∷◌, ◌≡◌, ◌⊎◌}
 use Rattle.wasi_causes.proofs.tables.Steps.{its_own}
 use Rattle.wasi_causes.specs.Outcomes.{Traps}
 use Rattle.wasi_causes.specs.Reached.{MayFinish, ListensLate, HasRecord, OfItsRecord, IsUndone, RefusedInRun, ListenRefusedInRun}
-use Rattle.wasi_host.specs.Kinds.{kind_at, watch_of, place_in, make_asks, table_parent, with_handle, without_handle}
-use Rattle.wasi_host.specs.Listening.{give_up_asks, with_listening}
-use Rattle.wasi_host.specs.Machine.{first_state, socket_at, own_of, side_at, created_asks}
-use Rattle.wasi_host.specs.Binding.{bind_progress}
-use Rattle.wasi_host.specs.Standing.{call_of, call_place, standing_as}
-use Rattle.wasi_host.specs.declared.binding.InProgress.{InProgress}
-use Rattle.wasi_host.specs.declared.binding.InProgress.TheVariants.{Nothing, Binding, Started}
-use Rattle.wasi_host.specs.InProgress.{is_connect}
-use Rattle.wasi_host.specs.Store.{new_record, with_record, with_inner, with_writer, with_progress}
-use Rattle.wasi_host.specs.declared.kind.Kind.{Kind}
-use Rattle.wasi_host.specs.declared.kind.Kind.TheVariants.{Tcp2, Input, Output, Pollable}
-use Rattle.wasi_host.specs.declared.kind.Watched.{Watched}
-use Rattle.wasi_host.specs.declared.listening.Listening.{Listening}
 use Rattle.wasi_host.specs.declared.listening.Listening.TheVariants as listening
-use Rattle.wasi_host.specs.declared.machine.Machine.{Machine}
-use Rattle.wasi_host.specs.declared.socket.Tcp2Socket.{Tcp2Socket}
-use Rattle.wasi_host.specs.declared.store.Standing.{Standing}
-use Rattle.wasi_host.specs.declared.store.StandingCall.{StandingCall}
 use Rattle.wasi_host.specs.declared.store.StandingCall.TheVariants as standing
-use Rattle.wasi_walks.proofs.Lists.{get_front, get_seam, get_set, get_split, set_get, value_split}
 use Rattle.wasi_walks.proofs.fits.Law.{Fit, fits_along, told_same, whatever}
 use Rattle.wasi_walks.proofs.fits.Lines.{first_fit, starts_fit}
 use Rattle.wasi_walks.proofs.fits.Polls.{Anything}
@@ -36,35 +29,11 @@ use Rattle.wasi_walks.proofs.walks.Moves.{HasBinding, closed_record, Held, Binds
 use Rattle.wasi_walks.proofs.walks.Runs.{run_ends}
 use Rattle.wasi_walks.proofs.walks.States.{Over, socket_record}
 use Rattle.wasi_walks.proofs.walks.Steps.{may_while, machine_walks}
-use Rattle.wasi_walks.specs.Answered.{record_in, ConnectsAt, Answered, record_at, RefusedOf, IsOnNothing, StandsOnNothing, FinishRefusal, NoConnect, StillConnects, Closes, WasClosed, NotConnecting, ListensAlready, ReceivesAlready, SendsAlready}
-use Rattle.wasi_walks.specs.Listens.{AcceptsIn, AcceptsAt, IsPastNot}
-use Rattle.wasi_machine.specs.Machine.{run, machine_asks}
-use Rattle.wasi_walks.specs.Waiting.{watched_in, WatchesConnect, WatchesAccept, IsBinding, IsListening, HoldsCall, StandsByBind}
-use Rattle.wasi_steps.specs.declared.reply.CodeWord.{CodeWord}
-use Rattle.wasi_steps.specs.declared.reply.Reply.{Reply}
+use Rattle.wasi_walks.specs.Answered.{StillConnects, WasClosed}
 use Rattle.wasi_steps.specs.declared.reply.Reply.TheVariants as reply
-use Rattle.wasi_steps.specs.declared.step.Step.{Step}
 use Rattle.wasi_steps.specs.declared.step.Step.TheVariants as step
-use Rattle.wasi_streams.proofs.Tables.{value_without}
-use Rattle.wasi_streams.specs.Table.{is_full}
-use Rattle.wasi_tcp.specs.Connecting.{with_state, connect_ended}
-use Rattle.wasi_tcp.specs.Listener.{Listener, accept_ended}
-use Rattle.wasi_tcp.specs.Shape.{Socket}
-use Rattle.wasi_tcp.specs.Socket.{side_of, new_asks}
-use Rattle.wasi_tcp.specs.Writer.{turn_asks}
-use Rattle.wasi_tcp.specs.declared.listener.Accepting.{Accepting}
 use Rattle.wasi_tcp.specs.declared.listener.Accepting.TheVariants as accepting
-use Rattle.wasi_tcp.specs.declared.socket.TcpState.{TcpState}
 use Rattle.wasi_tcp.specs.declared.socket.TcpState.TheVariants as state
-use Rattle.wasi_world.proofs.Allowed.{Allows, allows_then, allows_if}
-use Rattle.wasi_world.specs.Asks.{Give, Left, bind}
-use Rattle.wasi_world.specs.Operation.{Operation, End, Waits, Done, Refused, Item, Who, poll_asks}
-use Rattle.wasi_world.specs.Typed.{told_addr}
-use Rattle.wasi_world.specs.declared.call.Entry.{Entry}
-use Rattle.wasi_world.specs.declared.ids.OpId.{OpId}
-use Rattle.wasi_world.specs.declared.outcome.TrapKind.{TrapKind}
-use Rattle.wasi_world.specs.declared.outcome.TrapKind.TheVariants.{NoSuchHandle, HasChildren, Full, NotPermitted}
-use Rattle.wasi_world.specs.declared.outcome.WasiSocketsCtx.{WasiSocketsCtx}
 
 -- == of a record
 accepts_so : (l : Listening) → FitListening l → AcceptsIn l

@@ -21,7 +21,7 @@ ghost use Rattle.wasi_steps.specs.declared.reply.Field.{Field};
 ghost use Rattle.wasi_steps.specs.declared.reply.Reply.{Reply};
 ghost use Rattle.wasi_steps.specs.declared.step.Step.{Step};
 ghost use Rattle.wasi_walks.specs.Answered.{Answered, CheckFails, closing_reader, closing_writer, ConnectsAt, CreateRefusal, EndsPending, FailsWith, FinishRefusal, HasNoBindInProgress, HasNoConnectInProgress, HasOperationInProgress, IsGivenUp, IsQuiet, IsUnpermitted, IsWrite, KnowsBound, LocalRefusal, MakesHandle, MissesHandle, OfRecord, OfStreams, output_streams, Permits, putting, ReadFails, ReadsEnd, ReadsNone, ReadsTold, record_at, RefusedBind, RefusedConnect, RefusedOf, RemoteRefusal, StandsOnNothing, WasClosedWith, with_error, WriteFails};
-ghost use Rattle.wasi_causes.specs.Outcomes.{may_answer, EachMayAnswer};
+ghost use Rattle.wasi_causes.specs.Outcomes.{may_answer, EachMayAnswer, Outcome};
 ghost use Rattle.wasi_causes.specs.Reached.{ListensLate, MayFinish, OfItsRecord, RefusedInRun};
 ghost use Rattle.wasi_causes.specs.GivenUp.{GoesAtOnce, HasLiveChildren, HasNoStreams, IsDrop, IsDropped, IsGone, LooksOnce, shut_down, shutdown_entries, socket_given_up, without};
 ghost use Rattle.wasi_walks.specs.Licence.{entry, Has, marks_in};
@@ -38,15 +38,21 @@ ghost use Rattle.wasi_host.specs.InProgress.{is_connect};
 ghost use Rattle.wasi_host.specs.Store.{with_record};
 ghost use Rattle.wasi_streams.specs.Table.{children_of, is_full};
 
-/// Each reply of a run, and each that a step after it may get, is one that the table of replies names for its step: fields of the
-/// step's kinds, a word that the step may be refused with, an end or a failure for a call of a stream, a trap that the step may end by,
-/// pending under its own number, busy for a guest call, `no-such-call` for a poll. No step replies anything else.
+/// Each reply that a step may get is one that the table of replies names for it, and so is each of a run: fields of the step's kinds, a
+/// word that the step may be refused with, an end or a failure for a call of a stream, a trap that the step may end by, pending under its
+/// own number, busy for a guest call, `no-such-call` for a poll. No step replies anything else.
 pub fn replies_are_of_the_step()
-    ensures next { (contexts : List WasiSocketsCtx) (steps : List Step) (log : List Entry) (replies : List Reply) (m : Machine)
-        (line : ℕ) (s : Step) (entries : List Entry) (reply : Reply) (after : Machine)
-        → Left (run contexts [] first_state 1 steps) log (Give (replies, m)) → Answered contexts m line s entries reply after → may_answer line s reply }
+    ensures next { (contexts : List WasiSocketsCtx) (m : Machine) (line : ℕ) (s : Step) (entries : List Entry) (reply : Reply) (after : Machine)
+        → Answered contexts m line s entries reply after → may_answer line s reply }
     ensures all { (contexts : List WasiSocketsCtx) (steps : List Step) (log : List Entry) (replies : List Reply) (m : Machine)
         → Left (run contexts [] first_state 1 steps) log (Give (replies, m)) → EachMayAnswer 1 steps replies }
+{}
+
+/// Every answer but `busy` is in the table of outcomes: what the step was told, what it replies and the machine afterwards are a row of
+/// its step's.
+pub fn answers_are_in_the_table()
+    ensures { (contexts : List WasiSocketsCtx) (m : Machine) (line : ℕ) (s : Step) (entries : List Entry) (reply : Reply) (after : Machine)
+        → Answered contexts m line s entries reply after → (reply ≡ Reply.Busy → ⊥) → Outcome contexts m line s entries reply after }
 {}
 
 /// A step is busy exactly where a call stands and the step is a call of a guest. It asks nothing then, and the machine stays as

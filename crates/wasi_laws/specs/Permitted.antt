@@ -44,15 +44,16 @@ abbrev pub let_begin : OpId → List ℕ → Option WriteState → List ℕ
 let_begin side bytes (Some (writing.Ready half permit)) = if is_same half.side side then within permit bytes else []
 let_begin side bytes _ = []
 
--- while a call stands no write begins
-abbrev pub permitted_in : Machine → OpId → Option Standing → Step → List ℕ
-permitted_in m side None (step.Write ctx output bytes) = let_begin side bytes (writer_at m output)
-permitted_in m side None s = []
-permitted_in m side (Some standing) s = []
+-- the writes of a step that begin along what its line asks, by the entries so far: a write begins at once, whatever the line is told;
+-- while a call stands none begins
+abbrev pub permitted_in : Machine → OpId → Option Standing → Step → List Entry → List ℕ
+permitted_in m side None (step.Write ctx output bytes) entries = let_begin side bytes (writer_at m output)
+permitted_in m side None s entries = []
+permitted_in m side (Some standing) s entries = []
 
--- the bytes that the machine lets a step write to a side
-abbrev pub permitted_by : Machine → OpId → Step → List ℕ
-permitted_by m side s = permitted_in m side m.store.standing s
+-- the bytes that the machine lets a step write to a side, along these first entries of its line
+abbrev pub permitted_by : Machine → OpId → Step → List Entry → List ℕ
+permitted_by m side s entries = permitted_in m side m.store.standing s entries
 
 -- == the steps that were done
 -- From this machine and line on the steps were done, one after another: what they asked was told by these entries, these are
@@ -61,7 +62,7 @@ pub data Did (contexts : List WasiSocketsCtx) (side : OpId) : Machine → ℕ �
   Nothing : (m : Machine) (line : ℕ) → Did contexts side m line [] [] [] m
   Then : (m next after : Machine) (line : ℕ) (s : Step) (steps : List Step) (entries log : List Entry) (reply : Reply) (permitted : List ℕ)
       → Answered contexts m line s entries reply next → Did contexts side next (line + 1) steps log permitted after
-      → Did contexts side m line (s ∷ steps) (entries ++ log) (permitted_by m side s ++ permitted) after
+      → Did contexts side m line (s ∷ steps) (entries ++ log) (permitted_by m side s entries ++ permitted) after
 
 -- these are the first entries of the next step, where there is one
 abbrev pub Begun : List WasiSocketsCtx → Machine → ℕ → List Step → List Entry → Type 0

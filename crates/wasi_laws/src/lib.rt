@@ -31,8 +31,8 @@ pub fn runs_are_of_steps()
         → Left (run contexts [] first_state 1 steps) log rest → IsOfSteps contexts side first_state 1 steps log }
 {}
 
-/// What a side took is the front of what the machine let the steps write to it: once the steps are done, and in the middle of
-/// the next one.
+/// What a side took is the front of what the machine let the steps write to it, along what their lines asked: once the steps are
+/// done, and in the middle of the next one.
 pub fn taken_is_permitted()
     ensures done { (contexts : List WasiSocketsCtx) (side : OpId) (steps : List Step) (log : List Entry) (permitted : List ℕ) (after : Machine)
         → Did contexts side first_state 1 steps log permitted after
@@ -41,7 +41,7 @@ pub fn taken_is_permitted()
         (s : Step) (entries : List Entry) (rest : Asks (Reply × Machine))
         → Did contexts side first_state 1 steps log permitted after
         → Left (machine_asks contexts after (1 + length steps) s) entries rest
-        → IsFrontOf (taken_in side (log ++ entries)) (permitted ++ permitted_by after side s) }
+        → IsFrontOf (taken_in side (log ++ entries)) (permitted ++ permitted_by after side s entries) }
 {}
 
 /// Where a check-write on an output of a side answers a permit, the side took all that the machine let the steps write to it.

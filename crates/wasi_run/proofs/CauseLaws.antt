@@ -1,25 +1,9 @@
 -- What a script's record says of each end.
-use Rattle.std.proofs.Common.{◌≡◌, ◌∙◌, ap, sym, refl, ℕ, ◌+◌, ◌≤◌, List, [], length, take, Result, Ok, Err, append-nil, inl, inr, arith}
-use Rattle.std.proofs.lemmas.List.{take_all}
-use Rattle.wasi_world.specs.declared.outcome.WasiSocketsCtx.{WasiSocketsCtx}
-use Rattle.wasi_world.specs.Seen.{Seen, Rose}
-use Rattle.wasi_world.specs.Asks.{Give, Reaches}
-use Rattle.wasi_world.specs.Io.{Reading, Writing, Gave, Took, CountRose}
-use Rattle.wasi_host.specs.declared.machine.Machine.{Machine}
-use Rattle.wasi_steps.specs.declared.step.Step.{Step}
-use Rattle.wasi_steps.specs.declared.reply.Reply.{Reply}
-use Rattle.wasi_session.specs.declared.lines.LinesEnd.{LinesEnd}
+use Rattle.wasi_run.proofs.Words.{◌≡◌, ◌∙◌, ap, sym, refl, ℕ, ◌+◌, ◌≤◌, List, [], length, take, Result, Ok, Err, append-nil, inl, inr, arith, take_all, WasiSocketsCtx, Seen, Rose, Give, Reading, Writing, Gave, Took, CountRose, Machine, Step, Reply, LinesEnd, RunError, Memory, BadStep, TooLong, ReadFault, WriteFault, first_state, run, lines_of, after_lines, StartWith, AsksNothing, LinesRan, Beyond, Wrote, texts}
+use Rattle.wasi_world.specs.Asks.{Reaches}
 use Rattle.wasi_session.specs.declared.lines.LinesEnd.TheVariants as lines
 use Rattle.wasi_run.specs.declared.run.RunEnd.{RunEnd}
 use Rattle.wasi_run.specs.declared.run.RunEnd.TheVariants as end
-use Rattle.wasi_session.specs.declared.error.RunError.{RunError}
-use Rattle.wasi_session.specs.declared.error.RunError.TheVariants.{Memory, BadStep, TooLong, ReadFault, WriteFault}
-use Rattle.wasi_host.specs.Machine.{first_state}
-use Rattle.wasi_machine.specs.Machine.{run}
-use Rattle.wasi_world.specs.Lines.{lines_of}
-use Rattle.wasi_session.specs.Lines.{after_lines, StartWith}
-use Rattle.wasi_host.specs.Closing.{AsksNothing}
-use Rattle.wasi_session.specs.Ran.{LinesRan, Beyond, Wrote, texts}
 use Rattle.wasi_run.specs.Script.{Answers, RanScript}
 use Rattle.wasi_run.specs.Causes.{DoneLines, ReadsAll, StopsAtTrap, StopsAtBadStep, StopsTooLong}
 

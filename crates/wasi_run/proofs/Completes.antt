@@ -1,24 +1,8 @@
 -- A valid script is done.
-use Rattle.std.proofs.Common.{◌≡◌, ◌∙◌, sym, refl, ℕ, ◌≤◌, List, [], ◌∷◌, ◌++◌, length, take, Option, Some, None, Result, Ok, Err, length-append, append-nil, subst, arith}
-use Rattle.std.specs.Prelude.{option_map, IfSome}
-use Rattle.std.proofs.lemmas.List.{take_all}
-use Rattle.wasi_world.specs.declared.outcome.WasiSocketsCtx.{WasiSocketsCtx}
-use Rattle.wasi_world.specs.Seen.{Seen, Rose}
-use Rattle.wasi_world.specs.Io.{Reading, Writing, HasEnded, CountRose}
-use Rattle.wasi_host.specs.declared.machine.Machine.{Machine}
-use Rattle.wasi_steps.specs.declared.step.Step.{Step}
-use Rattle.wasi_session.specs.declared.lines.LinesEnd.{LinesEnd}
+use Rattle.wasi_run.proofs.Words.{◌≡◌, ◌∙◌, sym, refl, ℕ, ◌≤◌, List, [], ◌∷◌, ◌++◌, length, take, Option, Some, None, Result, Ok, Err, length-append, append-nil, subst, arith, option_map, IfSome, take_all, WasiSocketsCtx, Seen, Rose, Reading, Writing, HasEnded, CountRose, Machine, Step, LinesEnd, RunError, Memory, BadStep, TooLong, ReadFault, WriteFault, step_of, first_state, lines_of, lines_from, rest_of, BadAfter, AllSteps, LinesRan, lines-append}
 use Rattle.wasi_session.specs.declared.lines.LinesEnd.TheVariants as lines
 use Rattle.wasi_run.specs.declared.run.RunEnd.{RunEnd}
-use Rattle.wasi_session.specs.declared.error.RunError.{RunError}
-use Rattle.wasi_session.specs.declared.error.RunError.TheVariants.{Memory, BadStep, TooLong, ReadFault, WriteFault}
-use Rattle.wasi_steps.specs.Steps.{step_of}
-use Rattle.wasi_host.specs.Machine.{first_state}
-use Rattle.wasi_world.specs.Lines.{lines_of, lines_from, rest_of}
-use Rattle.wasi_session.specs.Lines.{BadAfter, AllSteps}
-use Rattle.wasi_session.specs.Ran.{LinesRan}
 use Rattle.wasi_run.specs.Script.{Answers, RanScript, IsValid, IsOkOrMemory, Completes}
-use Rattle.wasi_world.proofs.LinesOf.{lines-append}
 
 never : (script : List ℕ) → Some script ≡ None → ⊥
 never script h = cc

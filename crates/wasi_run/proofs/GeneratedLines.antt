@@ -1,11 +1,8 @@
 -- The texts of generated lines.
-use Rattle.std.specs.Prelude.{OnOk, codes, decimal, is_ok, if◌then◌else◌}
+use Rattle.wasi_run.proofs.Words.{OnOk, codes, decimal, is_ok, if◌then◌else◌, ◌≡◌, ℕ, List, ◌++◌, Result, Ok, Err, refl, ap, ◌∙◌, append_assoc, bytes_text, Network, TcpCreate, TcpStartConnect, TcpFinishConnect, CheckWrite, Write, TcpShutdown, Drop}
 use Rattle.std.specs.Fmt.{digits}
-use Rattle.std.proofs.Common.{◌≡◌, ℕ, List, ◌++◌, Result, Ok, Err, refl, ap, ◌∙◌, append_assoc}
 use Rattle.wasi_addr.specs.declared.address.ShutdownType.TheVariants.{Both}
 use Rattle.wasi_addr.specs.declared.address.SocketAddressFamily.TheVariants.{Ipv4}
-use Rattle.wasi_world.specs.Fields.{bytes_text}
-use Rattle.wasi_steps.specs.declared.step.Step.TheVariants.{Network, TcpCreate, TcpStartConnect, TcpFinishConnect, CheckWrite, Write, TcpShutdown, Drop}
 use Rattle.wasi_run.specs.Generate.{loopback, script_line}
 
 -- what was written is the line

@@ -1,16 +1,8 @@
 -- Each line of a generated script is a step.
-use Rattle.std.specs.Prelude.{◌/◌, ◌%◌, ◌^◌, ◌||◌, ◌==◌, replicate, slice_index_or}
-use Rattle.std.proofs.Common.{◌≡◌, ℕ, zero, suc, ◌+◌, ◌*◌, ◌<◌, ◌≤◌, true, false, List, [], ◌∷◌, ◌++◌, Some, length, refl, ap, sym, ◌∙◌, append_assoc, append-nil, length-append, add-one, arith}
-use Rattle.std.proofs.lemmas.Bool.{and_parts}
-use Rattle.std.proofs.lemmas.Bool.Decides.{nat_tests}
-use Rattle.wasi_world.specs.Fields.{is_space}
+use Rattle.wasi_run.proofs.Words.{◌/◌, ◌%◌, ◌^◌, ◌||◌, ◌==◌, replicate, slice_index_or, ◌≡◌, ℕ, zero, suc, ◌+◌, ◌*◌, ◌<◌, ◌≤◌, true, false, List, [], ◌∷◌, ◌++◌, Some, length, refl, ap, sym, ◌∙◌, append_assoc, append-nil, length-append, add-one, arith, and_parts, nat_tests, is_space, lines_from, lines_of, rest_from, rest_of, Step, Drop, IsStep, line_of, step_of, AllSteps}
 use Rattle.wasi_world.specs.Written.{is_visible, IsVisible, AreBytes}
-use Rattle.wasi_world.specs.Lines.{lines_from, lines_of, rest_from, rest_of}
-use Rattle.wasi_steps.specs.declared.step.Step.{Step}
-use Rattle.wasi_steps.specs.declared.step.Step.TheVariants.{Drop}
-use Rattle.wasi_steps.specs.Steps.{IsStep, line_of, step_of}
-use Rattle.wasi_session.specs.Lines.{AllSteps}
 use Rattle.wasi_run.specs.Script.{IsValid}
+use Rattle.wasi_steps.proofs.SettingLaws.{◌and◌}
 use Rattle.wasi_steps.proofs.StepLaws.{step_of_line, step_line_visible}
 use Rattle.wasi_run.specs.Generate.{drawn, port_of, count_of, byte_of, block, step_in, generated_step, generated_steps, generated, script_text}
 
@@ -75,34 +67,17 @@ block_fits : (s x place : ℕ) → s + 2 ≤ 4294967295 → x < 2 ^ 64 → IsSte
 block_fits s x place room wide = fits_in (block s x) place (Drop 0 s) steps (drop_fits s (omega (arith, room)))
   where
     steps : AreSteps (block s x)
-    steps = (
-      record { context = omega arith; width = omega arith; arguments = (tt, tt) },
-      (
-        record { context = omega arith; width = omega arith; arguments = (omega (arith, room), (omega arith, (((omega arith, omega arith, omega arith, omega arith), port_fits x), tt))) },
-        (
-          record { context = omega arith; width = omega arith; arguments = (omega (arith, room), tt) },
-          (
-            record { context = omega arith; width = omega arith; arguments = (room, tt) },
-            (
-              record { context = omega arith; width = omega arith; arguments = (room, (are_bytes (count_of x) (byte_of x) (omega (arith, wide)), tt)) },
-              (
-                record { context = omega arith; width = omega arith; arguments = (omega (arith, room), (tt, tt)) },
-                (
-                  drop_fits (s + 1) (omega (arith, room)),
-                  (
-                    drop_fits (s + 2) room,
-                    (
-                      drop_fits s (omega (arith, room)),
-                      tt,
-                    ),
-                  ),
-                ),
-              ),
-            ),
-          ),
-        ),
-      ),
-    )
+    steps =
+        record { context = omega arith; width = omega arith; arguments = (tt, tt) }
+        and record { context = omega arith; width = omega arith; arguments = (omega (arith, room), (omega arith, (((omega arith, omega arith, omega arith, omega arith), port_fits x), tt))) }
+        and record { context = omega arith; width = omega arith; arguments = (omega (arith, room), tt) }
+        and record { context = omega arith; width = omega arith; arguments = (room, tt) }
+        and record { context = omega arith; width = omega arith; arguments = (room, (are_bytes (count_of x) (byte_of x) (omega (arith, wide)), tt)) }
+        and record { context = omega arith; width = omega arith; arguments = (omega (arith, room), (tt, tt)) }
+        and drop_fits (s + 1) (omega (arith, room))
+        and drop_fits (s + 2) room
+        and drop_fits s (omega (arith, room))
+        and tt
 
 -- == the steps of a script
 drawn_fits : (seed n : ℕ) → seed < 2 ^ 64 → drawn seed n < 2 ^ 64

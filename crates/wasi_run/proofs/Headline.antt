@@ -1,26 +1,11 @@
 -- What a script's record says of the run of its lines, and of the closings after it.
-use Rattle.std.proofs.Common.{◌∙◌, refl, ap, sym, append-nil, ℕ, List, [], ◌∷◌, ◌++◌, ◌+◌, length, Some, Result, Ok, Err, false, ◌≡◌}
-use Rattle.std.specs.Prelude.{OnOk}
-use Rattle.wasi_world.specs.declared.call.Entry.{Entry}
-use Rattle.wasi_world.specs.declared.outcome.WasiSocketsCtx.{WasiSocketsCtx}
-use Rattle.wasi_world.specs.Seen.{Seen}
-use Rattle.wasi_world.specs.Io.{Reading, Writing}
-use Rattle.wasi_host.specs.declared.machine.Machine.{Machine}
+use Rattle.wasi_run.proofs.Words.{◌∙◌, refl, ap, sym, append-nil, ℕ, List, [], ◌∷◌, ◌++◌, ◌+◌, length, Some, Result, Ok, Err, false, ◌≡◌, OnOk, Entry, WasiSocketsCtx, Seen, Reading, Writing, Machine, HasRun, Step, RunError, Memory, BadStep, TooLong, ReadFault, WriteFault, LinesEnd, Met, Beyond, first_state, IsFresh, HasClosedAll, stays_open}
 use Rattle.wasi_run.specs.declared.run.RunEnd.{RunEnd}
-use Rattle.wasi_machine.specs.Machine.{HasRun}
-use Rattle.wasi_steps.specs.declared.step.Step.{Step}
-use Rattle.wasi_session.specs.declared.error.RunError.{RunError}
-use Rattle.wasi_session.specs.declared.error.RunError.TheVariants.{Memory, BadStep, TooLong, ReadFault, WriteFault}
-use Rattle.wasi_session.specs.declared.lines.LinesEnd.{LinesEnd}
-use Rattle.wasi_session.specs.Ran.{Met, Beyond}
-use Rattle.wasi_host.specs.Machine.{first_state}
 use Rattle.wasi_host.specs.Sides.{KnowsSides, ClosesAll}
-use Rattle.wasi_host.specs.Closing.{IsFresh, HasClosedAll}
 use Rattle.wasi_run.specs.Script.{RanOver, RanScript}
 use Rattle.wasi_run.specs.Causes.{BeginsRun, DoneLines}
 use Rattle.wasi_run.specs.Headline.{RunsLicensed}
 use Rattle.wasi_walks.proofs.licence.Runs as licence
-use Rattle.wasi_session.proofs.Stretches.{stays_open}
 use Rattle.wasi_host.proofs.Closings.{empty_known}
 use Rattle.wasi_run.proofs.CauseLaws.{whole_by}
 

@@ -1,3 +1,4 @@
+pub mod Words
 pub mod Streaming
 pub mod Completes
 pub mod CauseLaws

@@ -1,8 +1,6 @@
 -- Newlines end lines.
-use Rattle.std.specs.Prelude.{◌==◌, if◌then◌else◌, count_by}
-use Rattle.std.proofs.Common.{◌≡◌, ℕ, ◌+◌, Bool, true, false, List, [], ◌∷◌, ◌++◌, length, refl, arith}
+use Rattle.wasi_run.proofs.Words.{◌==◌, if◌then◌else◌, count_by, ◌≡◌, ℕ, ◌+◌, Bool, true, false, List, [], ◌∷◌, ◌++◌, length, refl, arith, lines_from, lines_of}
 use Rattle.std.proofs.lemmas.List.Recursion.{is_count_by}
-use Rattle.wasi_world.specs.Lines.{lines_from, lines_of}
 
 -- whatever the first line has so far, there are as many
 ends_same : (t : Bool) (a b : List ℕ) (lines first second : List (List ℕ)) → length first ≡ length second → length (if t then a ∷ lines else first) ≡ length (if t then b ∷ lines else second)

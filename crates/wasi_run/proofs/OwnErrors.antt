@@ -1,15 +1,7 @@
 -- A valid script from a source without faults, into a sink that refuses nothing at first, ends with no other error than
 -- want of memory and a write that failed.
-use Rattle.std.specs.Prelude.{◌⊎◌}
-use Rattle.std.proofs.Common.{◌≡◌, ℕ, List, length, Result, Ok, Err, inl, inr, refl, sym, arith}
-use Rattle.wasi_world.specs.declared.outcome.WasiSocketsCtx.{WasiSocketsCtx}
-use Rattle.wasi_world.specs.Seen.{Seen, Rose}
-use Rattle.wasi_world.specs.Io.{Reading, Writing, SameCounts, CountRose}
-use Rattle.wasi_session.specs.declared.lines.LinesEnd.{LinesEnd}
+use Rattle.wasi_run.proofs.Words.{◌⊎◌, ◌≡◌, ℕ, List, length, Result, Ok, Err, inl, inr, refl, sym, arith, WasiSocketsCtx, Seen, Rose, Reading, Writing, SameCounts, CountRose, LinesEnd, RunError, Memory, BadStep, TooLong, ReadFault, WriteFault, Counted}
 use Rattle.wasi_session.specs.declared.lines.LinesEnd.TheVariants as lines
-use Rattle.wasi_session.specs.declared.error.RunError.{RunError}
-use Rattle.wasi_session.specs.declared.error.RunError.TheVariants.{Memory, BadStep, TooLong, ReadFault, WriteFault}
-use Rattle.wasi_session.specs.Ran.{Counted}
 use Rattle.wasi_run.specs.Script.{Answers, RanScript, IsValid, IsOkOrMemory, Completes}
 use Rattle.wasi_run.specs.Counted.{unread, unwritten, IsOwn}
 

@@ -1,26 +1,11 @@
 -- The script so far, piece by piece.
-use Rattle.std.proofs.Common.{◌≡◌, ◌≢◌, ◌∙◌, ap, sym, refl, ℕ, zero, suc, ◌+◌, ◌-◌, ◌<◌, ◌≤◌, ◌==◌, Bool, true, false, if◌then◌else◌, min, List, [], ◌∷◌, ◌++◌, length, take, Result, Ok, Err, length-append, length-take, arith}
-use Rattle.std.proofs.lemmas.List.{take_all, take-append-le, nil_from_length}
-use Rattle.std.proofs.lemmas.Bool.Decides.{nat_tests}
+use Rattle.wasi_run.proofs.Words.{◌≡◌, ◌≢◌, ◌∙◌, ap, sym, refl, ℕ, zero, suc, ◌+◌, ◌-◌, ◌<◌, ◌≤◌, ◌==◌, Bool, true, false, if◌then◌else◌, min, List, [], ◌∷◌, ◌++◌, length, take, Result, Ok, Err, length-append, length-take, arith, take_all, take-append-le, nil_from_length, nat_tests, WasiSocketsCtx, Seen, Reading, Writing, Gave, GaveSome, GaveNone, Machine, LinesEnd, RunError, BadStep, TooLong, ReadFault, first_state, lines_of, rest_of, lines_from, rest_from, after_lines, KeptOf, LinesRan, lines_then, lines_none, trap_then, lines-append, rest-append, count_lines}
 use Rattle.std.proofs.Math.Seq.{take-append-add}
-use Rattle.wasi_world.specs.declared.outcome.WasiSocketsCtx.{WasiSocketsCtx}
-use Rattle.wasi_world.specs.Seen.{Seen}
-use Rattle.wasi_world.specs.Io.{Reading, Writing, Gave, GaveSome, GaveNone}
-use Rattle.wasi_host.specs.declared.machine.Machine.{Machine}
-use Rattle.wasi_session.specs.declared.lines.LinesEnd.{LinesEnd}
 use Rattle.wasi_session.specs.declared.lines.LinesEnd.TheVariants as lines
 use Rattle.wasi_run.specs.declared.run.RunEnd.{RunEnd}
 use Rattle.wasi_run.specs.declared.run.RunEnd.TheVariants as end
-use Rattle.wasi_session.specs.declared.error.RunError.{RunError}
-use Rattle.wasi_session.specs.declared.error.RunError.TheVariants.{BadStep, TooLong, ReadFault}
-use Rattle.wasi_host.specs.Machine.{first_state}
-use Rattle.wasi_world.specs.Lines.{lines_of, rest_of, lines_from, rest_from}
-use Rattle.wasi_session.specs.Lines.{after_lines, KeptOf}
-use Rattle.wasi_session.specs.Ran.{LinesRan}
-use Rattle.wasi_run.specs.Script.{RanOver}
+use Rattle.wasi_run.specs.Script.{Answers, RanOver}
 use Rattle.wasi_session.proofs.Takes.{gave_again, gave_none, gave_end, gave_fault, fault_rose, has_room, more_fits}
-use Rattle.wasi_session.proofs.Stretches.{lines_then, lines_none, trap_then}
-use Rattle.wasi_world.proofs.LinesOf.{lines-append, rest-append, count_lines}
 
 -- All whole lines of what was read were done, and the unfinished one is kept.
 pub record Streaming (contexts : List WasiSocketsCtx) (limit : ℕ) (before now : Reading) (k_old k_now : Writing) (w_old w_now : Seen) (machine : Machine) (number taken : ℕ) (kept : List ℕ) : Type 0 where
@@ -173,51 +158,34 @@ module _ {contexts : List WasiSocketsCtx} {limit : ℕ} {before now new : Readin
 
 -- == no piece more
 module _ {contexts : List WasiSocketsCtx} {limit : ℕ} {before now new : Reading} {k_old k_now : Writing} {w_old w_now : Seen} {machine : Machine} {number taken : ℕ} {kept : List ℕ} where
-  pub over_fault : Streaming contexts limit before now k_old k_now w_old w_now machine number taken kept → GaveNone now new → RanOver contexts limit before new k_old k_now w_old w_now machine (Err ReadFault)
-  over_fault s g = record {
+  -- all lines that were read were done, and no more bytes came
+  done_over : {result : Result RunEnd RunError} → (s : Streaming contexts limit before now k_old k_now w_old w_now machine number taken kept) → Gave before s.text new → Answers limit s.text before new (Ok lines.AllDone) result → (result ≡ Ok end.Trapped → ⊥) → RanOver contexts limit before new k_old k_now w_old w_now machine result
+  done_over s gave answer other = record {
     text = s.text;
-    gave = gave_fault s.gave g;
+    gave = gave;
     within = omega (arith, s.within, s.so_far);
     outcome = Ok lines.AllDone;
     ran = s.ran;
-    answer = fault_rose before now new s.faults g;
-    ahead = λ t. absurd (err_is_no_trap ReadFault t);
+    answer = answer;
+    ahead = λ t. absurd (other t);
   }
+
+  pub over_fault : Streaming contexts limit before now k_old k_now w_old w_now machine number taken kept → GaveNone now new → RanOver contexts limit before new k_old k_now w_old w_now machine (Err ReadFault)
+  over_fault s g = done_over s (gave_fault s.gave g) (fault_rose before now new s.faults g) (err_is_no_trap ReadFault)
 
   module _ {room count : ℕ} {buffer : List ℕ} (piece : List ℕ) where
     pub over_read : taken ≤ limit → room ≡ min (limit + 1 - taken) 4096 → length piece ≡ 4096 → Streaming contexts limit before now k_old k_now w_old w_now machine number taken kept → GaveSome now new (length (take room piece)) buffer count → count ≡ 0 → kept ≡ [] → RanOver contexts limit before new k_old k_now w_old w_now machine (Ok end.AllRead)
-    over_read h q b s g z n = record {
-      text = s.text;
-      gave = gave_end s.gave g z;
-      within = omega (arith, s.within, s.so_far);
-      outcome = Ok lines.AllDone;
-      ran = s.ran;
-      answer = (g.nothing (has_room limit taken room piece q (omega arith) b) z, text_within h s, ap rest_of (sym (all_text h s)) ∙ (sym s.line ∙ n));
-      ahead = λ t. absurd (read_is_no_trap t);
-    }
+    over_read h q b s g z n =
+        done_over s (gave_end s.gave g z) (g.nothing (has_room limit taken room piece q (omega arith) b) z, text_within h s, ap rest_of (sym (all_text h s)) ∙ (sym s.line ∙ n)) read_is_no_trap
 
     pub over_cut : taken ≤ limit → room ≡ min (limit + 1 - taken) 4096 → length piece ≡ 4096 → Streaming contexts limit before now k_old k_now w_old w_now machine number taken kept → GaveSome now new (length (take room piece)) buffer count → count ≡ 0 → kept ≢ [] → RanOver contexts limit before new k_old k_now w_old w_now machine (Err (BadStep (number + 1)))
-    over_cut h q b s g z n = record {
-      text = s.text;
-      gave = gave_end s.gave g z;
-      within = omega (arith, s.within, s.so_far);
-      outcome = Ok lines.AllDone;
-      ran = s.ran;
-      answer = (g.nothing (has_room limit taken room piece q (omega arith) b) z, text_within h s, (λ r. n (s.line ∙ (ap rest_of (all_text h s) ∙ r))), ap (λ k. k + 1) (s.count ∙ ap (λ t. length (lines_of t)) (all_text h s)));
-      ahead = λ t. absurd (err_is_no_trap (BadStep (number + 1)) t);
-    }
+    over_cut h q b s g z n =
+        done_over s (gave_end s.gave g z) (g.nothing (has_room limit taken room piece q (omega arith) b) z, text_within h s, (λ r. n (s.line ∙ (ap rest_of (all_text h s) ∙ r))), ap (λ k. k + 1) (s.count ∙ ap (λ t. length (lines_of t)) (all_text h s)))
+            (err_is_no_trap (BadStep (number + 1)))
 
 module _ {contexts : List WasiSocketsCtx} {limit : ℕ} {before now : Reading} {k_old k_now : Writing} {w_old w_now : Seen} {machine : Machine} {number taken : ℕ} {kept : List ℕ} where
   pub over_long : limit < taken → Streaming contexts limit before now k_old k_now w_old w_now machine number taken kept → RanOver contexts limit before now k_old k_now w_old w_now machine (Err TooLong)
-  over_long h s = record {
-    text = s.text;
-    gave = s.gave;
-    within = omega (arith, s.within, s.so_far);
-    outcome = Ok lines.AllDone;
-    ran = s.ran;
-    answer = omega (arith, h, s.within, s.so_far);
-    ahead = λ t. absurd (err_is_no_trap TooLong t);
-  }
+  over_long h s = done_over s s.gave (omega (arith, h, s.within, s.so_far)) (err_is_no_trap TooLong)
 
 pub piece_numbers : {contexts : List WasiSocketsCtx} {limit : ℕ} {before now : Reading} {k_old k_now : Writing} {w_old w_now : Seen} {machine : Machine} {number taken : ℕ} {kept : List ℕ} (bytes within : List ℕ) → taken ≤ limit → Streaming contexts limit before now k_old k_now w_old w_now machine number taken kept → within ≡ take (limit - taken) bytes → number + length within ≤ limit
 piece_numbers {limit} {taken = taken} bytes within h s e = let f = few s in omega (arith, f, h, ap length e, length-take (limit - taken) bytes)

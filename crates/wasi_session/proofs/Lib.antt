@@ -1,3 +1,4 @@
+pub mod Words
 pub mod CallSteps
 pub mod Takes
 pub mod Stretches

@@ -1,23 +1,11 @@
 -- One run of lines after another.
-use Rattle.std.proofs.Common.{◌≡◌, ◌∙◌, ap, sym, refl, subst, ℕ, ◌+◌, ◌<◌, true, false, Bool, if◌then◌else◌, List, [], ◌∷◌, ◌++◌, length, take, Result, Ok, Err, append_assoc, append-nil, length-append, add-zero, arith}
-use Rattle.wasi_world.specs.declared.outcome.WasiSocketsCtx.{WasiSocketsCtx}
-use Rattle.wasi_world.specs.Seen.{Seen}
-use Rattle.wasi_world.specs.Asks.{Asks, Give, Reaches, Started}
-use Rattle.wasi_world.specs.Io.{Writing, SameCounts}
-use Rattle.wasi_world.proofs.Walks.{reaches_all, reaches_on, reaches_then}
-use Rattle.wasi_host.specs.declared.machine.Machine.{Machine}
-use Rattle.wasi_steps.specs.declared.step.Step.{Step}
-use Rattle.wasi_steps.specs.declared.reply.Reply.{Reply}
+use Rattle.wasi_session.proofs.Words.{◌≡◌, ◌∙◌, ap, sym, refl, subst, ℕ, ◌+◌, ◌<◌, true, false, Bool, if◌then◌else◌, List, [], ◌∷◌, ◌++◌, length, take, Result, Ok, Err, append_assoc, append-nil, length-append, add-zero, arith, WasiSocketsCtx, Seen, Asks, Give, Reaches, Started, Writing, SameCounts, reaches_all, reaches_on, reaches_then, Machine, Step, Reply, is_trap, text_of, machine_asks, run, KnowsSides}
 use Rattle.wasi_session.specs.declared.lines.LinesEnd.{LinesEnd}
 use Rattle.wasi_session.specs.declared.lines.LinesEnd.TheVariants as lines
 use Rattle.wasi_session.specs.declared.error.RunError.{RunError}
 use Rattle.wasi_session.specs.declared.error.RunError.TheVariants.{Memory, BadStep, TooLong, ReadFault, WriteFault}
-use Rattle.wasi_steps.specs.Reply.{is_trap}
-use Rattle.wasi_steps.specs.Replies.{text_of}
-use Rattle.wasi_machine.specs.Machine.{machine_asks, run}
-use Rattle.wasi_host.specs.Sides.{KnowsSides}
 use Rattle.wasi_session.specs.Lines.{StartWith, BadAfter}
-use Rattle.wasi_session.specs.Ran.{texts, NoTrap, OneTrap, CutLast, Stretch, Wrote, Counted, Cause, LinesRan}
+use Rattle.wasi_session.specs.Ran.{texts, NoTrap, OneTrap, CutLast, Stretch, Beyond, Wrote, Counted, Cause, LinesRan}
 use Rattle.wasi_session.proofs.Takes.{took_again, took_none, same_again, same_none, rose_again}
 
 -- == stretches
@@ -179,26 +167,36 @@ module _ {contexts : List WasiSocketsCtx} {w_old w_mid w_new : Seen} {k_old k_mi
   unfolding join
   trap_then h k = let q = rw (← h.cause.stands, ← h.cause.count) at k in (join h q, join_more h q)
 
+-- the lines end before any is done, and nothing is written
+module _ {contexts : List WasiSocketsCtx} {w_old w_new : Seen} {k : Writing} {first last : Machine} {line : ℕ} {all : List (List ℕ)} {outcome : Result LinesEnd RunError} where
+  pub before_any : (met : List Step) → StartWith (length contexts) all met → ((so_far : List Reply) → Started (run contexts so_far first line met) w_old w_new) → Beyond contexts outcome first (line + 0) met w_old w_new → Wrote outcome [] [] → Counted outcome k k → Cause contexts first line all outcome [] [] first last w_old w_new
+      → (KnowsSides w_old first.store → KnowsSides w_new last.store) → LinesRan contexts w_old w_new k k first line all outcome last
+  before_any met spelled began beyond wrote counted cause sides = record {
+    steps = [];
+    replies = [];
+    state = first;
+    seen = w_old;
+    met = met;
+    written = [];
+    first_lines = spelled;
+    ran = λ so_far. rw append-nil (reaches_all (run contexts so_far first line []) w_old);
+    answered = refl;
+    began = began;
+    beyond = beyond;
+    took = took_none k;
+    wrote = wrote;
+    counted = counted;
+    cause = cause;
+    sides = sides;
+  }
+
+pub none_began : (contexts : List WasiSocketsCtx) (w : Seen) (first : Machine) (line : ℕ) (so_far : List Reply) → Started (run contexts so_far first line []) w w
+none_began contexts w first line so_far = record { rest = Give (so_far, first); reached = reaches_all (run contexts so_far first line []) w }
+
 -- no lines
 pub lines_none : (contexts : List WasiSocketsCtx) (w : Seen) (k : Writing) (first : Machine) (line : ℕ) → LinesRan contexts w w k k first line [] (Ok lines.AllDone) first
-lines_none contexts w k first line = record {
-  steps = [];
-  replies = [];
-  state = first;
-  seen = w;
-  met = [];
-  written = [];
-  first_lines = tt;
-  ran = λ so_far. rw append-nil (reaches_all (run contexts so_far first line []) w);
-  answered = refl;
-  began = λ so_far. record { rest = run contexts so_far first line []; reached = reaches_all (run contexts so_far first line []) w };
-  beyond = (refl, refl);
-  took = took_none k;
-  wrote = (tt, refl);
-  counted = same_none k;
-  cause = record { count = refl; stands = refl; on = stretch_none contexts first line w };
-  sides = λ held. held;
-}
+lines_none contexts w k first line =
+    before_any [] tt (none_began contexts w first line) (refl, refl) (tt, refl) (same_none k) (record { count = refl; stands = refl; on = stretch_none contexts first line w }) (λ held. held)
 
 -- == more lines that weren't reached
 -- the lines ended before the last

@@ -1,10 +1,6 @@
 -- One piece after another, of a reader and of a writer.
-use Rattle.std.proofs.Common.{◌≡◌, ◌∙◌, ap, sym, ℕ, ◌+◌, ◌-◌, ◌<◌, ◌≤◌, List, [], ◌++◌, length, take, drop, Option, Some, None, append_assoc, append-nil, refl, arith, length-append, length-drop, min, inl, inr, ◌⊎◌}
-use Rattle.std.specs.Prelude.{option_map}
-use Rattle.std.proofs.lemmas.List.{take_rest, length-take}
+use Rattle.wasi_session.proofs.Words.{◌≡◌, ◌∙◌, ap, sym, ℕ, ◌+◌, ◌-◌, ◌<◌, ◌≤◌, List, [], ◌++◌, length, take, drop, Option, Some, None, append_assoc, append-nil, refl, arith, length-append, length-drop, min, inl, inr, ◌⊎◌, option_map, take_rest, length-take, Rose, Reading, Writing, Gave, Took, SameCounts, CountRose, TookSome, GaveSome, GaveNone}
 use Rattle.std.proofs.Math.Seq.{take-add}
-use Rattle.wasi_world.specs.Seen.{Rose}
-use Rattle.wasi_world.specs.Io.{Reading, Writing, Gave, Took, SameCounts, CountRose, TookSome, GaveSome, GaveNone}
 
 grown : (old mid new : Option (List ℕ)) (xs ys : List ℕ) → mid ≡ option_map (λ w. w ++ xs) old → new ≡ option_map (λ w. w ++ ys) mid → new ≡ option_map (λ w. w ++ (xs ++ ys)) old
 grown None mid new xs ys h k = k ∙ ap (option_map (λ w. w ++ ys)) h

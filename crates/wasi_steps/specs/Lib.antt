@@ -1,4 +1,5 @@
 pub mod Reply
 pub mod Settings
 pub mod Steps
+pub mod Forms
 pub mod Replies

@@ -2,12 +2,14 @@
 #![tactic(auto)]
 
 pub mod fields;
+pub mod forms;
 pub mod parse;
 pub mod reply;
 pub mod setting;
 pub mod step;
 
 pub use fields::IntoFields;
+pub use forms::STEP_FORMS;
 pub use reply::{CodeWord, Field, Reply, ReplyFields};
 pub use setting::TcpSetting;
 pub use step::Step;

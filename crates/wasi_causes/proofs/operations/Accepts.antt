@@ -1,29 +1,15 @@
 -- How a poll of an accept ends: it waits, or a connection was handed over, or it was told a code.
-use Rattle.std.proofs.Common.{◌≡◌, ◌∙◌, ℕ, zero, suc, ◌+◌, List, [], ◌∷◌, ◌++◌, refl, sym, subst, arith, true}
-use Rattle.wasi_addr.specs.declared.address.IpSocketAddress.{IpSocketAddress}
-use Rattle.wasi_addr.specs.declared.address.SocketAddrUse.TheVariants.{TcpAccept}
-use Rattle.wasi_addr.specs.declared.code.ErrorCode.{ErrorCode}
+use Rattle.wasi_causes.proofs.Words.{◌≡◌, ◌∙◌, ℕ, zero, suc, ◌+◌, List, [], ◌∷◌, ◌++◌, refl, sym, subst, arith, true, IpSocketAddress, TcpAccept, ErrorCode, Gives, marks_in, entry, accept_name, AcceptFails, WasTold, IsTold, AcceptGives, WasHanded, IsHanded, refused_by, refused_in, AcceptWaits, LastWaits, RefusedMost, first_ids, IsAccept, IsLeftOfAccept, accept_operation, Listener, arrived, accept_ended, accept_asks, IsAcceptOn, HoldsAccept, Accepting, Asks, bind, IsVerdict, IsArrival, IsDone, Given, Nothing, Item, Accept, LastAsk, NothingLast, Who, Operation, End, Waits, Done, Refused, last_ask, after, round, polls, poll_asks, admitted_front, arrival_front, accept_front, told_verdict, told_arrival, Entry, Told, OpId}
 use Rattle.wasi_causes.proofs.operations.Marks.{poll_marks_none}
 use Rattle.wasi_causes.proofs.tables.Meets.{Rows, Meets, ends, onto, widen, both, granted}
-use Rattle.wasi_walks.proofs.Gives.{Gives}
-use Rattle.wasi_walks.specs.Licence.{marks_in, entry}
-use Rattle.wasi_walks.specs.Listens.{accept_name, AcceptFails, WasTold, IsTold, AcceptGives, WasHanded, IsHanded, refused_by, refused_in, AcceptWaits, LastWaits, RefusedMost}
-use Rattle.wasi_machine.specs.Machine.{first_ids}
-use Rattle.wasi_tcp.specs.Accept.{IsAccept, IsLeftOfAccept, Unarrived, Arrived, Admitted, Unwanted, Ended, accept_operation}
-use Rattle.wasi_tcp.specs.Listener.{Listener, begun, arrived, accept_ended, accept_asks, listener_asks, IsAcceptOn, HoldsAccept}
+use Rattle.wasi_tcp.specs.Accept.{Unarrived, Arrived, Admitted, Unwanted, Ended}
+use Rattle.wasi_tcp.specs.Listener.{begun, listener_asks}
 use Rattle.wasi_tcp.specs.Rounds.{some_left, is_going}
 use Rattle.wasi_tcp.specs.declared.accept.AcceptStage.TheVariants as stage
-use Rattle.wasi_tcp.specs.declared.listener.Accepting.{Accepting}
 use Rattle.wasi_tcp.specs.declared.listener.Accepting.TheVariants as accepting
-use Rattle.wasi_world.specs.Asks.{Asks, bind}
-use Rattle.wasi_world.specs.Fits.{IsVerdict, IsArrival, IsDone}
-use Rattle.wasi_world.specs.Operation.{Given, Nothing, Connection, Item, Accept, LastAsk, NothingLast, Who, Operation, End, Waits, Done, Refused, last_ask, after, round, polls, poll_asks, admitted_front, arrival_front, accept_front}
-use Rattle.wasi_world.specs.Typed.{told_verdict, told_arrival}
+use Rattle.wasi_world.specs.Operation.{Connection}
 use Rattle.wasi_world.specs.declared.call.Call.TheVariants as call
-use Rattle.wasi_world.specs.declared.call.Entry.{Entry}
-use Rattle.wasi_world.specs.declared.call.Told.{Told}
 use Rattle.wasi_world.specs.declared.call.Told.TheVariants as told
-use Rattle.wasi_world.specs.declared.ids.OpId.{OpId}
 
 pub refused_in-push : (es : List Entry) (e : Entry) → refused_in (es ++ e ∷ []) ≡ refused_in es + refused_by e.call
 refused_in-push [] e = omega arith

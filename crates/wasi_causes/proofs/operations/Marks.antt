@@ -1,25 +1,9 @@
 -- A poll marks no handle, whatever is polled, and its operation asks all that it asks.
-use Rattle.std.specs.Prelude.{⊤}
-use Rattle.std.proofs.Common.{◌≡◌, ℕ, zero, suc, Bool, not, ◌&&◌, List, [], ◌∷◌, Option, Result, Ok, Err, refl, arith}
-use Rattle.wasi_addr.specs.declared.address.IpSocketAddress.{IpSocketAddress}
-use Rattle.wasi_addr.specs.declared.address.SocketAddressFamily.{SocketAddressFamily}
-use Rattle.wasi_addr.specs.declared.address.SocketAddrUse.{SocketAddrUse}
-use Rattle.wasi_addr.specs.declared.code.ErrorCode.{ErrorCode}
-use Rattle.wasi_addr.specs.declared.code.ErrorCode.TheVariants.{InvalidState}
-use Rattle.wasi_world.specs.declared.ids.OpId.{OpId}
-use Rattle.wasi_world.specs.declared.call.Call.{Call}
-use Rattle.wasi_world.specs.declared.call.Entry.{Entry}
-use Rattle.wasi_world.specs.declared.asks.Verdict.{Verdict}
+use Rattle.wasi_causes.proofs.Words.{⊤, ◌≡◌, ℕ, zero, suc, Bool, not, ◌&&◌, List, [], ◌∷◌, Option, Result, Ok, Err, refl, arith, IpSocketAddress, SocketAddressFamily, SocketAddrUse, ErrorCode, InvalidState, OpId, Call, Entry, Verdict, Asks, bind, told_verdict, told_addr, told_arrival, told_taken, told_datagram, Given, Nothing, Item, CheckLocal, Accept, CheckArrival, Hand, Refuse, Write, ShutdownSend, UdpConnect, AskPeer, CheckPeer, Last, LastAsk, NothingLast, Who, Operation, End, Front, Ends, front, last_ask, local_front, arrival_front, admitted_front, accept_front, less_one, taken_front, write_front, ask_peer_front, send_front, is_now, check_peer_front, receive_front, poll_asks, Allows, allows_if, allows_keep, FrontKeeps, allows_polls, marked_by, marks_in, marks_in-push, Gives, gives_more, allows_ask}
 use Rattle.wasi_world.specs.declared.asks.Verdict.TheVariants as verdict
 use Rattle.wasi_world.specs.declared.asks.Polled.{Polled}
 use Rattle.wasi_world.specs.declared.asks.Polled.TheVariants as polled
-use Rattle.wasi_world.specs.Asks.{Asks, bind}
-use Rattle.wasi_world.specs.Typed.{told_verdict, told_addr, told_arrival, told_taken, told_datagram}
-use Rattle.wasi_world.specs.Operation.{Given, Nothing, Item, CheckLocal, Accept, CheckArrival, Hand, Refuse, Write, ShutdownSend, UdpConnect, AskPeer, Send, Receive, CheckPeer, Last, LastAsk, NothingLast, Who, Operation, End, Front, Ends, front, last_ask, local_front, arrival_front, admitted_front, accept_front, less_one, taken_front, write_front, ask_peer_front, send_front, is_now, check_peer_front, receive_front, poll_asks}
-use Rattle.wasi_world.proofs.Allowed.{Allows, allows_if, allows_keep, FrontKeeps, allows_polls}
-use Rattle.wasi_walks.specs.Licence.{marked_by, marks_in}
-use Rattle.wasi_walks.proofs.Lists.{marks_in-push}
-use Rattle.wasi_walks.proofs.Gives.{Gives, gives_more, allows_ask}
+use Rattle.wasi_world.specs.Operation.{Send, Receive}
 
 abbrev IsOwn : Who → List Entry → OpId → Call → Type 0
 IsOwn who es op call = (op ≡ who.id) × (marked_by call ≡ 0)

@@ -1,32 +1,13 @@
 -- A poll of an operation whose items are asked in turn is in the one table of such polls, and how those of a bind, of a connect
 -- and of a listen end is read off it.
-use Rattle.std.proofs.Common.{◌≡◌, ◌∙◌, inl, inr, List, [], ◌∷◌, ◌++◌, refl, sym, ap, subst, append_assoc, append-nil}
-use Rattle.std.specs.Prelude.{⊤, ◌⊎◌}
-use Rattle.wasi_addr.specs.declared.address.IpSocketAddress.{IpSocketAddress}
-use Rattle.wasi_addr.specs.declared.address.ShutdownType.TheVariants.{Send}
-use Rattle.wasi_addr.specs.declared.address.SocketAddrUse.{SocketAddrUse}
-use Rattle.wasi_addr.specs.declared.address.SocketAddrUse.TheVariants.{TcpBind}
-use Rattle.wasi_addr.specs.declared.code.ErrorCode.{ErrorCode}
-use Rattle.wasi_addr.specs.declared.code.ErrorCode.TheVariants.{AccessDenied}
+use Rattle.wasi_causes.proofs.Words.{◌≡◌, ◌∙◌, inl, inr, List, [], ◌∷◌, ◌++◌, refl, sym, ap, subst, append_assoc, append-nil, ⊤, ◌⊎◌, IpSocketAddress, Send, SocketAddrUse, TcpBind, ErrorCode, AccessDenied, EndsPending, EndsClosing, ClosedBy, Has, entry, IsRestOfBind, IsLeftOfBind, Unchecked, Checked, Ended, EndsWith, BindFails, ListenEnds, IsConnect, IsLeftOfConnect, IsListen, IsLeftOfListen, Asks, bind, IsVerdict, IsAddr, IsDone, IsDoneOrCode, IsPolled, Given, Nothing, Item, Check, CheckLocal, Bind, Connect, Listen, LastAsk, NothingLast, CloseLast, ShutdownLast, Who, Operation, End, Waits, Done, Refused, last_ask, after, round, polls, poll_asks, verdict_front, local_front, done_front, polled_front, Last, told_verdict, told_addr, told_done, told_polled, Call, Entry, Told}
 use Rattle.wasi_causes.proofs.tables.Meets.{Rows, Meets, ends, asks, widen, shifted}
 use Rattle.wasi_causes.specs.Polls.{check_entry, local_entry, Passes, ToldYes, LocalToldYes, BindToldDone, ConnectToldDone, ListenToldDone, Holds, CheckToldPending, LocalToldPending, ConnectToldPending, Breaks, ToldNo, LocalToldNo, LocalToldCode, BindToldCode, ConnectToldCode, ListenToldCode, last_entries, Polled, WasOver, GoesOn, Stays, Stops, Broken}
-use Rattle.wasi_walks.specs.Answered.{EndsPending, EndsClosing, ClosedBy}
 use Rattle.wasi_walks.specs.Answered as refusal
-use Rattle.wasi_walks.specs.Licence.{Has, entry}
-use Rattle.wasi_walks.specs.Waiting.{IsRestOfBind, IsLeftOfBind, Unchecked, Checked, Ended, EndsWith, BindFails, ListenEnds}
 use Rattle.wasi_walks.specs.Waiting as waiting
-use Rattle.wasi_tcp.specs.Connect.{IsConnect, IsLeftOfConnect}
 use Rattle.wasi_tcp.specs.Connect as connect
-use Rattle.wasi_tcp.specs.Listen.{IsListen, IsLeftOfListen}
 use Rattle.wasi_tcp.specs.Listen as listen
-use Rattle.wasi_world.specs.Asks.{Asks, bind}
-use Rattle.wasi_world.specs.Fits.{IsVerdict, IsAddr, IsDone, IsDoneOrCode, IsPolled}
-use Rattle.wasi_world.specs.Operation.{Given, Nothing, Item, Check, CheckLocal, Bind, Connect, Listen, LastAsk, NothingLast, CloseLast, ShutdownLast, Who, Operation, End, Waits, Done, Refused, last_ask, after, round, polls, poll_asks, verdict_front, local_front, done_front, polled_front, Last}
-use Rattle.wasi_world.specs.Typed.{told_verdict, told_addr, told_done, told_polled}
-use Rattle.wasi_world.specs.declared.call.Call.{Call}
 use Rattle.wasi_world.specs.declared.call.Call.TheVariants as call
-use Rattle.wasi_world.specs.declared.call.Entry.{Entry}
-use Rattle.wasi_world.specs.declared.call.Told.{Told}
 use Rattle.wasi_world.specs.declared.call.Told.TheVariants as told
 
 abbrev pub AllOf : (Item → Type 0) → List Item → Type 0

@@ -1,61 +1,37 @@
 -- The steps that make handles of sockets and of streams: a network, a create, the finish of a connect, and an accept.
-use Rattle.std.proofs.Common.{◌≡◌, ℕ, true, List, [], ◌∷◌, None, Result, Ok, Err, length, refl, ap, ◌≢◌, Bool, false, inr, inl, slice_get, subst, arith, ◌∙◌, ◌+◌, ◌++◌, Option, Some, slice_set, sym, append_assoc}
-use Rattle.wasi_addr.specs.declared.address.IpSocketAddress.{IpSocketAddress}
-use Rattle.wasi_addr.specs.declared.address.SocketAddressFamily.{SocketAddressFamily}
-use Rattle.wasi_addr.specs.declared.code.ErrorCode.{ErrorCode}
-use Rattle.wasi_addr.specs.declared.code.ErrorCode.TheVariants.{InvalidState}
+use Rattle.wasi_causes.proofs.Words.{AcceptFailed, AcceptGives, AcceptWaits, Accepting, AcceptsAt, Answer, Bool, ClosedBy, Closes, Connection}
+use Rattle.wasi_causes.proofs.Words.{ConnectsAt, CreateRefusal, Done, End, Entry, Err, ErrorCode, FinishRefusal, Give, Handles}
+use Rattle.wasi_causes.proofs.Words.{HasNoConnectInProgress, HoldsAccept, Input, InvalidState, IpSocketAddress, IsConnect, IsDoneOrCode, Item, List}
+use Rattle.wasi_causes.proofs.Words.{Listener, Listening, ListensAlready, Machine, Network, NoConnect, NoListener, NoSuchHandle, None, NotAllowed}
+use Rattle.wasi_causes.proofs.Words.{NotConnecting, Ok, OpId, Operation, Option, Output, ReceivesAlready, Records, Refused, Result, SendsAlready}
+use Rattle.wasi_causes.proofs.Words.{Socket, SocketAddressFamily, Some, StillAccepts, Stop, Tcp2, Tcp2Socket, TcpState, Told, ToldCode, Trap, Waits}
+use Rattle.wasi_causes.proofs.Words.{WasiSocketsCtx, [], accept_answered, accept_at, accept_end, accept_listening, accept_name, accept_on}
+use Rattle.wasi_causes.proofs.Words.{accepted_asks, accepted_handles, accepted_marks, accepted_record, accepted_socket, accepted_state}
+use Rattle.wasi_causes.proofs.Words.{accepted_streams, accepting_now, after_create, ap, append_assoc, arith, bind, code_stop, connect_ended}
+use Rattle.wasi_causes.proofs.Words.{connect_polled, connected_asks, context_at, create_asks, created_asks, entry, false, finish_connect_asks}
+use Rattle.wasi_causes.proofs.Words.{finish_connect_at, finish_connect_by, finish_connect_on, finish_in, first_ids, get_seam, handle_reply, idle}
+use Rattle.wasi_causes.proofs.Words.{in_socket, inl, inr, is_connect, length, marks_in, marks_in-push, network_asks, new_asks, new_socket}
+use Rattle.wasi_causes.proofs.Words.{opened_receive, opened_send, own_of, pair_reply, record_at, refl, side_at, side_of, slice_get, slice_set}
+use Rattle.wasi_causes.proofs.Words.{still_connected, streams_asks, subst, sym, taken_receive, taken_send, told_done, triple_fields, triple_reply}
+use Rattle.wasi_causes.proofs.Words.{true, with_handle, with_listening, with_record, with_record_put, with_socket, with_state, with_store}
+use Rattle.wasi_causes.proofs.Words.{with_streams, word_of_code, ℕ, ◌++◌, ◌+◌, ◌∙◌, ◌∷◌, ◌≡◌, ◌≢◌}
 use Rattle.wasi_causes.proofs.operations.Accepts.{AcceptRow, accepts}
 use Rattle.wasi_causes.proofs.operations.Marks.{poll_marks_none}
 use Rattle.wasi_causes.proofs.operations.Polls.{EndsFor, connect_ends}
 use Rattle.wasi_causes.proofs.tables.Meets.{Rows, Meets, ends, asks, chain, onto, branch, widen, both, granted}
 use Rattle.wasi_causes.proofs.tables.Routes.{Replied, Says, makes, full_so, code_word, makes_streams, Names, its, here, through_record, apart, none_has, not_of_code, put_back}
 use Rattle.wasi_causes.specs.Outcomes.{Outcome}
-use Rattle.wasi_host.specs.Host.{Stop, Trap, code_stop}
-use Rattle.wasi_host.specs.Kinds.{Handles, with_handle}
-use Rattle.wasi_host.specs.Listening.{with_listening, accept_listening, accepted_record, accept_answered, accept_at}
-use Rattle.wasi_host.specs.Machine.{created_asks, create_asks, own_of, side_at, with_store}
-use Rattle.wasi_host.specs.Store.{with_record, Records, with_socket, idle, opened_send, opened_receive, connect_polled, with_record_put, finish_connect_by, finish_connect_at}
-use Rattle.wasi_host.specs.InProgress.{is_connect}
-use Rattle.wasi_host.specs.declared.kind.Kind.TheVariants.{Network, Tcp2, Input, Output}
-use Rattle.wasi_host.specs.declared.listening.Listening.{Listening}
 use Rattle.wasi_host.specs.declared.listening.Listening.TheVariants as listening
-use Rattle.wasi_host.specs.declared.machine.Machine.{Machine}
-use Rattle.wasi_host.specs.declared.socket.Tcp2Socket.{Tcp2Socket}
-use Rattle.wasi_p2.specs.Tcp.{network_asks, connected_asks, finish_connect_on, finish_connect_asks, streams_asks, with_streams, accepted_streams, accepted_handles, accepted_asks, accept_on, accept_asks}
-use Rattle.wasi_walks.proofs.Lists.{get_seam, marks_in-push}
-use Rattle.wasi_walks.specs.Answered.{word_of_code, CreateRefusal, NotAllowed, ToldCode, record_at, HasNoConnectInProgress, ClosedBy, FinishRefusal, NoConnect, StillConnects, Closes, WasClosed, NotConnecting, ListensAlready, ReceivesAlready, SendsAlready, ConnectsAt}
-use Rattle.wasi_walks.specs.Licence.{entry, marks_in}
-use Rattle.wasi_walks.specs.Listens.{accept_name, AcceptWaits, accepting_now, NoListener, StillAccepts, AcceptFailed, AcceptGives, accepted_marks, AcceptsAt}
-use Rattle.wasi_machine.specs.Machine.{handle_reply, context_at, pair_reply, triple_reply, first_ids}
-use Rattle.wasi_steps.specs.Reply.{triple_fields}
+use Rattle.wasi_p2.specs.Tcp.{accept_asks}
+use Rattle.wasi_walks.specs.Answered.{StillConnects, WasClosed}
 use Rattle.wasi_steps.specs.declared.reply.CodeWord.TheVariants as word
 use Rattle.wasi_steps.specs.declared.reply.Reply.TheVariants as reply
 use Rattle.wasi_steps.specs.declared.step.Step.TheVariants as step
-use Rattle.wasi_tcp.specs.Addresses.{still_connected}
-use Rattle.wasi_tcp.specs.Connect.{IsConnect}
-use Rattle.wasi_tcp.specs.Connecting.{with_state, connect_ended, finish_in, in_socket}
-use Rattle.wasi_tcp.specs.Halves.{taken_receive, taken_send}
-use Rattle.wasi_tcp.specs.Listener.{Listener, accept_end, accepted_socket, accepted_state, HoldsAccept}
-use Rattle.wasi_tcp.specs.Shape.{Socket}
-use Rattle.wasi_tcp.specs.Socket.{side_of, new_socket, after_create, new_asks}
-use Rattle.wasi_tcp.specs.declared.listener.Accepting.{Accepting}
 use Rattle.wasi_tcp.specs.declared.listener.Accepting.TheVariants as accepting
-use Rattle.wasi_tcp.specs.declared.socket.Connection.{Connection}
-use Rattle.wasi_tcp.specs.declared.socket.TcpState.{TcpState}
 use Rattle.wasi_tcp.specs.declared.socket.TcpState.TheVariants as state
-use Rattle.wasi_world.specs.Asks.{Give, bind}
-use Rattle.wasi_world.specs.Fits.{IsDoneOrCode}
-use Rattle.wasi_world.specs.Operation.{Item, Operation, End, Waits, Done, Refused}
-use Rattle.wasi_world.specs.Typed.{told_done}
 use Rattle.wasi_world.specs.declared.call.Call.TheVariants as call
-use Rattle.wasi_world.specs.declared.call.Entry.{Entry}
 use Rattle.wasi_world.specs.declared.call.HandleKind.TheVariants as name
-use Rattle.wasi_world.specs.declared.call.Told.{Told}
 use Rattle.wasi_world.specs.declared.call.Told.TheVariants as told
-use Rattle.wasi_world.specs.declared.ids.OpId.{OpId}
-use Rattle.wasi_world.specs.declared.outcome.Answer.{Answer}
-use Rattle.wasi_world.specs.declared.outcome.TrapKind.TheVariants.{NoSuchHandle}
-use Rattle.wasi_world.specs.declared.outcome.WasiSocketsCtx.{WasiSocketsCtx}
 
 -- == a network, and a create
 module _ (contexts : List WasiSocketsCtx) (m : Machine) (line c : ℕ) where

@@ -1,50 +1,23 @@
 -- What a socket says of itself: its addresses, whether it listens, its family, and its options and backlog, which are set too.
-use Rattle.std.proofs.Common.{◌≡◌, ◌⊎◌, inl, inr, ℕ, Bool, true, false, List, [], ◌∷◌, ◌++◌, Option, Some, None, Result, Ok, Err, slice_get, refl, sym, subst, ◌<◌, ◌==◌, if◌then◌else◌, nat_le, arith}
-use Rattle.std.proofs.lemmas.Bool.{eqb-true, eqb-false, leb-true, leb-false}
+use Rattle.wasi_causes.proofs.Words.{◌≡◌, ◌⊎◌, inl, inr, ℕ, Bool, true, false, List, [], ◌∷◌, ◌++◌, Option, Some, None, Result, Ok, Err, slice_get, refl, sym, subst, ◌<◌, ◌==◌, if◌then◌else◌, nat_le, arith, eqb-true, eqb-false, leb-true, leb-false, IpSocketAddress, ErrorCode, InvalidState, Stop, code_stop, socket_at, own_of, with_store, with_inner, inner_answered, local_address_at, remote_address_at, is_listening_at, address_family_at, Machine, Tcp2Socket, local_address_on, remote_address_on, is_listening_on, address_family_on, KnowsBound, putting, word_of_code, IsPastDefault, IsBound, LocalRefusal, Connects, LocalClosed, RemoteRefusal, RemoteDefault, RemoteListening, RemoteConnecting, RemoteClosed, RemoteTold, entry, address_reply, truth_reply, family_reply, value_reply, done_reply, set_chosen, Each, Truth, truth_fields, number_fields, Chosen, AnOption, TheBacklog, chosen, CodeWord, TcpSetting, is_listening, usable_side, local_from, local_where, local_asks, after_peer, peer_known, still_connected, remote_in, with_state, in_socket, zero_test, value_set, refused_before, refused_after, get_where, set_where, set_option_asks, with_backlog, after_backlog, set_backlog_in, set_backlog_asks, Socket, Connection, TcpState, Give, bind, IsAddr, IsDoneOrCode, IsValue, told_addr, told_done, told_value, Entry, Told, OpId, WasiSocketsCtx}
 use Rattle.wasi_addr.specs.Clamp.{clamped_backlog}
-use Rattle.wasi_addr.specs.declared.address.IpSocketAddress.{IpSocketAddress}
-use Rattle.wasi_addr.specs.declared.code.ErrorCode.{ErrorCode}
-use Rattle.wasi_addr.specs.declared.code.ErrorCode.TheVariants.{InvalidState, NotSupported}
+use Rattle.wasi_addr.specs.declared.code.ErrorCode.TheVariants.{NotSupported}
 use Rattle.wasi_causes.proofs.sockets.Starts.{BoundRow, ItsBound, ItsFree, asked_none, bounds}
 use Rattle.wasi_causes.proofs.tables.Meets.{Rows, Meets, ends, asks, chain, onto, widen, branch}
 use Rattle.wasi_causes.proofs.tables.Routes.{Replied, on_number, Says, put_back, Names, here, on_record, code_word}
 use Rattle.wasi_causes.specs.Options.{GetRefusal, GetsNoSide, GetTold, ToldTooLarge, SetRefusal, ZeroBefore, SetsNoSide, ZeroAfter, SetTold, BacklogRefusal, ZeroBacklog, StillConnects, IsConnected, WasClosed, BacklogTold, GetsOption, SetsOption, SetsBacklog, KeptForListen, ToldListener}
 use Rattle.wasi_causes.specs.Outcomes.{AreLike, Outcome}
-use Rattle.wasi_host.specs.Host.{Stop, code_stop}
-use Rattle.wasi_host.specs.Machine.{socket_at, own_of, with_store}
 use Rattle.wasi_host.specs.Options.{code_told, get_option_at, set_option_at, set_backlog_at}
-use Rattle.wasi_host.specs.Store.{with_inner, put_back as answer_put, inner_answered, local_address_at, remote_address_at, is_listening_at, address_family_at}
-use Rattle.wasi_host.specs.declared.machine.Machine.{Machine}
-use Rattle.wasi_host.specs.declared.socket.Tcp2Socket.{Tcp2Socket}
+use Rattle.wasi_host.specs.Store.{put_back as answer_put}
 use Rattle.wasi_p2.specs.Options.{get_option_on, set_option_on, set_backlog_on}
-use Rattle.wasi_p2.specs.Tcp.{local_address_on, remote_address_on, is_listening_on, address_family_on}
-use Rattle.wasi_walks.specs.Answered.{KnowsBound, putting, word_of_code, IsPastDefault, IsBound, LocalRefusal, NotBound, Connects, LocalClosed, LocalTold, RemoteRefusal, RemoteDefault, RemoteListening, RemoteConnecting, RemoteClosed, RemoteTold}
-use Rattle.wasi_walks.specs.Licence.{entry}
-use Rattle.wasi_machine.specs.Machine.{address_reply, truth_reply, family_reply, value_reply, done_reply, set_chosen}
-use Rattle.wasi_steps.specs.Replies.{Each, Truth}
-use Rattle.wasi_steps.specs.Reply.{truth_fields, number_fields}
-use Rattle.wasi_steps.specs.Settings.{Chosen, AnOption, TheBacklog, chosen}
-use Rattle.wasi_steps.specs.declared.reply.CodeWord.{CodeWord}
+use Rattle.wasi_walks.specs.Answered.{NotBound, LocalTold}
 use Rattle.wasi_steps.specs.declared.reply.CodeWord.TheVariants as word
-use Rattle.wasi_steps.specs.declared.setting.TcpSetting.{TcpSetting}
 use Rattle.wasi_steps.specs.declared.step.Step.TheVariants as step
-use Rattle.wasi_tcp.specs.Addresses.{is_listening, usable_side, local_from, local_where, local_asks, after_peer, peer_known, still_connected, remote_in}
-use Rattle.wasi_tcp.specs.Connecting.{with_state, in_socket}
-use Rattle.wasi_tcp.specs.Options.{largest_value, zero_test, value_set, value_told, refused_before, refused_after, option_side, option_answer, get_where, set_where, set_option_asks, with_backlog, after_backlog, set_backlog_in, set_backlog_asks}
-use Rattle.wasi_tcp.specs.Shape.{Socket}
-use Rattle.wasi_tcp.specs.declared.socket.Connection.{Connection}
-use Rattle.wasi_tcp.specs.declared.socket.TcpState.{TcpState}
+use Rattle.wasi_tcp.specs.Options.{largest_value, value_told, option_side, option_answer}
 use Rattle.wasi_tcp.specs.declared.socket.TcpState.TheVariants as state
-use Rattle.wasi_world.specs.Asks.{Give, bind}
-use Rattle.wasi_world.specs.Fits.{IsAddr, IsDoneOrCode, IsValue}
-use Rattle.wasi_world.specs.Typed.{told_addr, told_done, told_value}
 use Rattle.wasi_world.specs.declared.call.Call.TheVariants as call
-use Rattle.wasi_world.specs.declared.call.Entry.{Entry}
 use Rattle.wasi_world.specs.declared.call.Opt.{Opt}
-use Rattle.wasi_world.specs.declared.call.Told.{Told}
 use Rattle.wasi_world.specs.declared.call.Told.TheVariants as told
-use Rattle.wasi_world.specs.declared.ids.OpId.{OpId}
-use Rattle.wasi_world.specs.declared.outcome.WasiSocketsCtx.{WasiSocketsCtx}
 
 -- a call on a socket: an address, or a code that is refused so
 abbrev pub Answers : (List Entry → CodeWord → Machine → Type 0) → Machine → ℕ → Tcp2Socket → Rows (Result IpSocketAddress ErrorCode × Socket)

@@ -1,64 +1,40 @@
 -- The starts and the finishes of a bind and of a listen, and the start of a connect.
-use Rattle.std.proofs.Common.{◌≡◌, Bool, true, false, not, if◌then◌else◌, List, [], ◌∷◌, refl, sym, ap, subst, ℕ, inl, inr, ◌++◌, Option, Some, None, Result, Ok, Err, ◌∙◌, append_assoc}
-use Rattle.std.specs.Prelude.{◌⊎◌, IsSomeAnd}
-use Rattle.wasi_addr.specs.Address.{is_wildcard, wildcard}
-use Rattle.wasi_addr.specs.declared.address.IpSocketAddress.{IpSocketAddress}
-use Rattle.wasi_addr.specs.declared.code.ErrorCode.{ErrorCode}
-use Rattle.wasi_addr.specs.declared.code.ErrorCode.TheVariants.{InvalidArgument, InvalidState, Other}
+use Rattle.wasi_causes.proofs.Words.{AlreadyBound, Answer, Begins, BindRefusal, Bool, BoundElsewhere, CodeWord, ConnectRefusal, Denied, Done}
+use Rattle.wasi_causes.proofs.Words.{Elsewhere, End, EndsPending, Entry, Err, ErrorCode, Failed, Give, Given, InProgress, InvalidArgument}
+use Rattle.wasi_causes.proofs.Words.{InvalidState, IpSocketAddress, IsAddr, IsBound, IsFree, IsPastDefault, IsPastNot, IsSomeAnd, Item, Known}
+use Rattle.wasi_causes.proofs.Words.{KnowsBound, List, ListenDenied, ListenFails, ListenRefusal, ListenRefused, ListenTold, Listening, ListensAlready}
+use Rattle.wasi_causes.proofs.Words.{LocalTold, Machine, NoSuchHandle, None, NotBound, NotDefault, OfRecord, Ok, OpId, Operation, Option, Other}
+use Rattle.wasi_causes.proofs.Words.{PastDefault, Pending, Ready, Refused, Reply, Result, Socket, Some, StandingCall, Tcp2Socket, TcpState, Told}
+use Rattle.wasi_causes.proofs.Words.{ToldBound, Waits, WasiSocketsCtx, WrongAddress, [], after_local, answer_reply, ap, append_assoc, ask_bound}
+use Rattle.wasi_causes.proofs.Words.{begin_bind_asks, begin_connect_asks, begin_listen_asks, bind, bind_allowed, bind_begun, bind_ended}
+use Rattle.wasi_causes.proofs.Words.{bind_operation, bound_asks, call_answered, closed_by_listen, connect_begun, connect_start, done_reply, entry}
+use Rattle.wasi_causes.proofs.Words.{false, finish_at, finish_by, finish_on, idle, if◌then◌else◌, inl, inr, is_bind, is_connectable, is_listen}
+use Rattle.wasi_causes.proofs.Words.{is_network, is_nothing, is_wildcard, kind_at, knowing_bound, listen_begun, listen_bound, listen_ended}
+use Rattle.wasi_causes.proofs.Words.{listen_once, listen_operation, listen_polled, listen_start, may_bind_to, no_fields, not, own_of, putting}
+use Rattle.wasi_causes.proofs.Words.{record_at, refl, socket_at, start_bind_asks, start_bind_at, start_bind_by, start_bind_on, start_connect_asks}
+use Rattle.wasi_causes.proofs.Words.{start_connect_at, start_connect_by, start_connect_in, start_connect_on, start_listen_at, start_listen_by}
+use Rattle.wasi_causes.proofs.Words.{start_listen_on, subst, sym, told_addr, true, wildcard, with_inner, with_progress, with_state, with_store}
+use Rattle.wasi_causes.proofs.Words.{word_of_code, ℕ, ◌++◌, ◌∙◌, ◌∷◌, ◌≡◌, ◌⊎◌}
 use Rattle.wasi_causes.proofs.operations.Polls.{polled, ends_so, not_over}
 use Rattle.wasi_causes.proofs.tables.Meets.{Meets, ends, asks, branch, Rows, chain, onto, widen, After, shifted}
 use Rattle.wasi_causes.proofs.tables.Routes.{Replied, Says, put_back, Names, here, code_word, not_of_code, in_conflict, no_conflict, none_conflicts, on_idle, on_number, its as found_in, apart, none_has}
 use Rattle.wasi_causes.specs.Outcomes.{Conflicts}
 use Rattle.wasi_causes.specs.Polls.{ToldYes, ToldNo, BindToldCode, Polled, GoesOn, Stops, LocalToldYes, LocalToldNo, LocalToldCode, ListenToldCode}
-use Rattle.wasi_host.specs.Kinds.{kind_at, is_network}
-use Rattle.wasi_host.specs.Listening.{listen_polled, listen_begun, listen_once, listen_bound, begin_listen_asks, start_listen_by, start_listen_at}
-use Rattle.wasi_host.specs.Machine.{own_of, with_store, socket_at}
-use Rattle.wasi_host.specs.Binding.{bind_ended, bind_begun, begin_bind_asks, start_bind_by, start_bind_at}
-use Rattle.wasi_host.specs.InProgress.{is_nothing, is_bind, is_listen}
-use Rattle.wasi_host.specs.Standing.{call_answered}
-use Rattle.wasi_host.specs.Store.{connect_begun, put_back as answer_put, begin_connect_asks, start_connect_by, start_connect_at, with_inner, idle, finish_by, finish_at, with_progress}
-use Rattle.wasi_host.specs.declared.listening.Listening.{Listening}
+use Rattle.wasi_host.specs.Store.{put_back as answer_put}
 use Rattle.wasi_host.specs.declared.listening.Listening.TheVariants as listening
-use Rattle.wasi_host.specs.declared.machine.Machine.{Machine}
-use Rattle.wasi_host.specs.declared.binding.InProgress.{InProgress as Doing}
-use Rattle.wasi_host.specs.declared.store.StandingCall.{StandingCall}
-use Rattle.wasi_host.specs.declared.socket.Tcp2Socket.{Tcp2Socket}
-use Rattle.wasi_p2.specs.Tcp.{start_bind_on, start_bind_asks, start_connect_on, start_connect_asks, start_listen_on, finish_on}
-use Rattle.wasi_walks.specs.Answered.{IsPastDefault, IsBound, Known, PastDefault, ToldBound, IsFree, putting, word_of_code, EndsPending, may_bind_to, BindRefusal, AlreadyBound, WrongAddress, Denied, Failed, InProgress, Begins, ConnectRefusal, NotDefault, BoundElsewhere, Elsewhere, knowing_bound, KnowsBound, OfRecord, record_at, ListensAlready}
-use Rattle.wasi_walks.specs.Licence.{entry}
-use Rattle.wasi_walks.specs.Listens.{ListenFails, LocalTold, ListenDenied, ListenTold, IsPastNot, ListenRefusal, NotBound, NotDefault as ListensLate, ListensAlready, ListenRefused, closed_by_listen}
-use Rattle.wasi_machine.specs.Machine.{answer_reply, done_reply}
-use Rattle.wasi_steps.specs.Reply.{no_fields}
-use Rattle.wasi_steps.specs.declared.reply.CodeWord.{CodeWord}
+use Rattle.wasi_host.specs.declared.socket.InProgress.{InProgress as Doing}
+use Rattle.wasi_walks.specs.Listens.{NotDefault as ListensLate, ListensAlready}
 use Rattle.wasi_steps.specs.declared.reply.CodeWord.TheVariants as word
-use Rattle.wasi_steps.specs.declared.reply.Reply.{Reply}
 use Rattle.wasi_steps.specs.declared.reply.Reply.TheVariants as reply
 use Rattle.wasi_steps.specs.declared.step.Step.TheVariants as step
-use Rattle.wasi_tcp.specs.Bind.{bind_operation}
-use Rattle.wasi_tcp.specs.Connecting.{is_connectable, connect_start, start_connect_in, with_state}
-use Rattle.wasi_tcp.specs.Listen.{listen_operation}
-use Rattle.wasi_tcp.specs.Listening.{listen_start, listen_ended}
-use Rattle.wasi_tcp.specs.Shape.{Socket}
-use Rattle.wasi_tcp.specs.Socket.{after_local, ask_bound, bound_asks, bind_allowed, bind_start}
+use Rattle.wasi_tcp.specs.Socket.{bind_start}
 use Rattle.wasi_tcp.specs.declared.bind.Asker.{Asker}
 use Rattle.wasi_tcp.specs.declared.bind.BindStage.TheVariants as stage
 use Rattle.wasi_tcp.specs.declared.listen.ListenStage.TheVariants as listen_stage
-use Rattle.wasi_tcp.specs.declared.socket.TcpState.{TcpState}
 use Rattle.wasi_tcp.specs.declared.socket.TcpState.TheVariants.{Default}
 use Rattle.wasi_tcp.specs.declared.socket.TcpState.TheVariants as state
-use Rattle.wasi_world.specs.Asks.{bind, Give}
-use Rattle.wasi_world.specs.Fits.{IsAddr}
-use Rattle.wasi_world.specs.Operation.{Given, Item, Operation, End, Waits, Done, Refused}
-use Rattle.wasi_world.specs.Typed.{told_addr}
 use Rattle.wasi_world.specs.declared.call.Call.TheVariants as call
-use Rattle.wasi_world.specs.declared.call.Entry.{Entry}
-use Rattle.wasi_world.specs.declared.call.Told.{Told}
 use Rattle.wasi_world.specs.declared.call.Told.TheVariants as told
-use Rattle.wasi_world.specs.declared.ids.OpId.{OpId}
-use Rattle.wasi_world.specs.declared.outcome.Answer.{Answer}
-use Rattle.wasi_world.specs.declared.outcome.Answer.TheVariants.{Ready, Pending}
-use Rattle.wasi_world.specs.declared.outcome.TrapKind.TheVariants.{NoSuchHandle}
-use Rattle.wasi_world.specs.declared.outcome.WasiSocketsCtx.{WasiSocketsCtx}
 
 -- The socket is bound, which is kept; or it is free, and stays as it was.
 pub data BoundRow (own : OpId) (socket : Socket) : List Entry → Bool × Socket → Type 0 where

@@ -1,58 +1,38 @@
 -- What the halves of a connection give: reads, and looks at what may be written, writes and flushes; and why an output waits
 -- that is dropped.
-use Rattle.std.proofs.Common.{◌≡◌, ℕ, List, [], ◌∷◌, Option, Some, None, Result, Ok, slice_get, refl, ◌∙◌, min, ◌==◌, Bool, true, false, if◌then◌else◌, Err, ap, zero, suc, nat_lt, ◌++◌, length, sym, subst, append_assoc, arith, not, ◌&&◌}
-use Rattle.std.proofs.lemmas.Bool.{eqb-true, ltb-true, ltb-false}
-use Rattle.std.specs.Prelude.{⊤, IsSomeAnd}
-use Rattle.wasi_addr.specs.declared.address.ShutdownType.TheVariants.{Receive, Send}
-use Rattle.wasi_addr.specs.declared.code.ErrorCode.{ErrorCode}
+use Rattle.wasi_host.specs.declared.store.StandingCall.TheVariants.{DropOutput}
+use Rattle.wasi_causes.proofs.Words.{Again, AlreadyClosed, Answer, Asks, Bool, CheckFails, CodeTold, Done, End, Ends, Entry, Err, ErrorCode}
+use Rattle.wasi_causes.proofs.Words.{ErrorKept, Front, Give, IsDone, IsRead, IsSomeAnd, IsUnpermitted, Item, LengthZero, List, Machine, None}
+use Rattle.wasi_causes.proofs.Words.{NotPermitted, NotReady, Ok, OpId, Option, OutputWaits, Pending, Permits, ReadFails, ReadState, ReadsEnd}
+use Rattle.wasi_causes.proofs.Words.{ReadsNone, ReadsTold, Ready, Receive, Records, Refused, Result, Send, Some, StreamStop, Streams, Tcp2Socket}
+use Rattle.wasi_causes.proofs.Words.{TcpReceiveStream, TcpSendStream, Told, ToldNone, ToldToWait, Waits, WasiSocketsCtx, Write, WriteFails}
+use Rattle.wasi_causes.proofs.Words.{WriteState, WriterWaits, WritesOn, [], after, after_read, ap, append_assoc, arith, ask_read, begins_job, begun}
+use Rattle.wasi_causes.proofs.Words.{bind, bytes_reply, check_asks, check_write_asks, closing_writer, collected, drop_output_at, drop_waits, entry}
+use Rattle.wasi_causes.proofs.Words.{eqb-true, false, flush_asks, flushed_asks, has_job, if◌then◌else◌, input_at, length, less_one, look_asks}
+use Rattle.wasi_causes.proofs.Words.{look_in, ltb-false, ltb-true, marks_in, marks_in-push, min, nat_lt, new_job, not, output_at, output_streams}
+use Rattle.wasi_causes.proofs.Words.{own_of, permit_reply, permitted, poll_asks, polled_answer, polls, putting, read_asks, read_entry}
+use Rattle.wasi_causes.proofs.Words.{read_state_asks, reader_of, refl, round, set_there, slice_get, standing_as, subst, suc, sym, taken_front}
+use Rattle.wasi_causes.proofs.Words.{taken_reply, told_bytes, told_ready, told_taken, true, wait_answer, wait_at, wait_put, wait_writer, with_error}
+use Rattle.wasi_causes.proofs.Words.{with_job, with_reader, with_socket, with_writer, write_asks, write_front, write_on_asks, write_state_asks}
+use Rattle.wasi_causes.proofs.Words.{writer_of, zero, ℕ, ⊤, ◌&&◌, ◌++◌, ◌==◌, ◌∙◌, ◌∷◌, ◌≡◌}
 use Rattle.wasi_causes.proofs.operations.Marks.{poll_marks_none}
 use Rattle.wasi_causes.proofs.streams.Routes.{failed_so, HasStreams, of_streams, streams_same, Told as TellsStream, on_stream, the_streams, job_noted, none_begun, on_write}
 use Rattle.wasi_causes.proofs.tables.Meets.{Rows, Meets, ends, asks, onto, widen, chain, branch, both}
 use Rattle.wasi_causes.proofs.tables.Routes.{Replied, Says, full_so, code_word, apart, none_has}
 use Rattle.wasi_causes.specs.GivenUp.{LooksOnce, NoLook, OneLook}
-use Rattle.wasi_host.specs.Dropping.{wait_answer, wait_writer, wait_put, wait_at, drop_waits, drop_output_at}
-use Rattle.wasi_host.specs.Jobs.{has_job, with_job, begins_job}
-use Rattle.wasi_host.specs.Machine.{input_at, own_of, output_at}
-use Rattle.wasi_host.specs.Standing.{standing_as}
-use Rattle.wasi_host.specs.declared.store.StandingCall.TheVariants.{DropOutput}
-use Rattle.wasi_host.specs.Store.{Records, with_writer, with_socket, with_reader, reader_of, flush_asks, writer_of}
-use Rattle.wasi_host.specs.StreamCalls.{read_asks, check_asks, write_asks, flushed_asks}
-use Rattle.wasi_host.specs.declared.machine.Machine.{Machine}
-use Rattle.wasi_host.specs.declared.socket.Streams.{Streams}
-use Rattle.wasi_host.specs.declared.socket.Tcp2Socket.{Tcp2Socket}
-use Rattle.wasi_walks.proofs.Lists.{marks_in-push, set_there}
-use Rattle.wasi_walks.specs.Answered.{putting, read_entry, ReadsTold, ReadsNone, LengthZero, ToldToWait, ReadsEnd, AlreadyClosed, ToldNone, ReadFails, with_error, Permits, GoesOn, NotReady, IsReady, IsUnpermitted, CheckFails, WriteFails, ErrorKept, CodeTold, output_streams, closing_writer}
-use Rattle.wasi_walks.specs.Licence.{entry, marks_in}
-use Rattle.wasi_machine.specs.Machine.{bytes_reply, permit_reply, taken_reply}
-use Rattle.wasi_walks.specs.Waiting.{WriterWaits, WritesOn, ToldToWait, OutputWaits}
+use Rattle.wasi_walks.specs.Answered.{ToldToWait, GoesOn, IsReady}
 use Rattle.wasi_steps.specs.declared.step.Step.TheVariants as step
-use Rattle.wasi_streams.specs.StreamStop.{StreamStop, Failed, Closed, Trap}
+use Rattle.wasi_streams.specs.StreamStop.{Failed, Closed, Trap}
 use Rattle.wasi_streams.specs.StreamStop as stop
-use Rattle.wasi_tcp.specs.Halves.{polled_answer}
-use Rattle.wasi_tcp.specs.Job.{writer, new_job, job_after}
-use Rattle.wasi_tcp.specs.Reader.{after_read, read_state_asks}
-use Rattle.wasi_tcp.specs.Writer.{collected, look_in, look_asks, error_of_code, stop_of, permitted, check_write_asks, begun, write_on_asks, write_half_asks, write_state_asks}
-use Rattle.wasi_tcp.specs.declared.halves.TcpReceiveStream.{TcpReceiveStream}
-use Rattle.wasi_tcp.specs.declared.halves.TcpSendStream.{TcpSendStream}
-use Rattle.wasi_tcp.specs.declared.reader.ReadState.{ReadState}
+use Rattle.wasi_tcp.specs.Job.{writer, job_after}
+use Rattle.wasi_tcp.specs.Writer.{error_of_code, stop_of, write_half_asks}
 use Rattle.wasi_tcp.specs.declared.reader.ReadState.TheVariants as reading
 use Rattle.wasi_tcp.specs.declared.writer.WriteError.{WriteError}
 use Rattle.wasi_tcp.specs.declared.writer.WriteError.TheVariants as error
-use Rattle.wasi_tcp.specs.declared.writer.WriteState.{WriteState}
 use Rattle.wasi_tcp.specs.declared.writer.WriteState.TheVariants as writing
-use Rattle.wasi_world.specs.Asks.{bind, Give, Asks}
-use Rattle.wasi_world.specs.Fits.{IsReady as FitsReady, IsRead, IsDone}
-use Rattle.wasi_world.specs.Operation.{Item, Write, Front, Again, Ends, End, Waits, Done, Refused, write_front, taken_front, less_one, after, round, polls, poll_asks}
-use Rattle.wasi_world.specs.Typed.{told_ready, ask_read, told_bytes, told_taken}
+use Rattle.wasi_world.specs.Fits.{IsReady as FitsReady}
 use Rattle.wasi_world.specs.declared.call.Call.TheVariants as call
-use Rattle.wasi_world.specs.declared.call.Entry.{Entry}
-use Rattle.wasi_world.specs.declared.call.Told.{Told}
 use Rattle.wasi_world.specs.declared.call.Told.TheVariants as told
-use Rattle.wasi_world.specs.declared.ids.OpId.{OpId}
-use Rattle.wasi_world.specs.declared.outcome.Answer.{Answer}
-use Rattle.wasi_world.specs.declared.outcome.Answer.TheVariants.{Ready, Pending}
-use Rattle.wasi_world.specs.declared.outcome.TrapKind.TheVariants.{NotPermitted}
-use Rattle.wasi_world.specs.declared.outcome.WasiSocketsCtx.{WasiSocketsCtx}
 
 -- == a look at a writer
 module _ (own : OpId) (writer : WriteState) where

@@ -1,28 +1,10 @@
 -- How a call finds the stream of its handle, and how what the stream gives is told.
-use Rattle.std.proofs.Common.{◌≡◌, ◌∙◌, ℕ, Bool, true, false, not, ◌&&◌, List, [], ◌∷◌, ◌++◌, Option, Some, None, Result, Ok, Err, slice_get, refl, sym, ap, subst}
-use Rattle.wasi_addr.specs.declared.code.ErrorCode.{ErrorCode}
-use Rattle.wasi_world.specs.declared.ids.OpId.{OpId}
+use Rattle.wasi_causes.proofs.Words.{◌≡◌, ◌∙◌, ℕ, Bool, true, false, not, ◌&&◌, List, [], ◌∷◌, ◌++◌, Option, Some, None, Result, Ok, Err, slice_get, refl, sym, ap, subst, ErrorCode, OpId, Entry, NoSuchHandle, Full, Asks, Give, bind, StreamStop, is_full, Machine, Streams, Tcp2Socket, ErrorValue, CallStop, with_handle, Records, with_socket, stream_at, with_record_put, side_at, with_store, has_job, with_job, begins_job, converted, stream_on, write_on, entry, FailsWith, word_of_code, record_in, streams_in, putting, OfStreams}
 use Rattle.wasi_world.specs.declared.call.Call.TheVariants as call
-use Rattle.wasi_world.specs.declared.call.Entry.{Entry}
 use Rattle.wasi_world.specs.declared.call.HandleKind.TheVariants as name
 use Rattle.wasi_world.specs.declared.call.Told.TheVariants as told
-use Rattle.wasi_world.specs.declared.outcome.TrapKind.TheVariants.{NoSuchHandle, Full}
-use Rattle.wasi_world.specs.Asks.{Asks, Give, bind}
-use Rattle.wasi_streams.specs.StreamStop.{StreamStop}
 use Rattle.wasi_streams.specs.StreamStop as stop
-use Rattle.wasi_streams.specs.Table.{is_full}
-use Rattle.wasi_host.specs.declared.machine.Machine.{Machine}
-use Rattle.wasi_host.specs.declared.socket.Streams.{Streams}
-use Rattle.wasi_host.specs.declared.socket.Tcp2Socket.{Tcp2Socket}
-use Rattle.wasi_host.specs.declared.kind.Kind.TheVariants.{ErrorValue}
-use Rattle.wasi_host.specs.Host.{CallStop, Failed, Closed, Traps}
-use Rattle.wasi_host.specs.Kinds.{with_handle}
-use Rattle.wasi_host.specs.Store.{Records, with_socket, stream_at, with_record_put}
-use Rattle.wasi_host.specs.Machine.{side_at, with_store}
-use Rattle.wasi_host.specs.Jobs.{has_job, with_job, begins_job}
-use Rattle.wasi_host.specs.StreamCalls.{converted, stream_on, write_on}
-use Rattle.wasi_walks.specs.Licence.{entry}
-use Rattle.wasi_walks.specs.Answered.{FailsWith, word_of_code, record_in, streams_in, putting, OfStreams}
+use Rattle.wasi_host.specs.Host.{Failed, Closed, Traps}
 use Rattle.wasi_causes.proofs.tables.Meets.{Rows, Meets, ends, chain, onto, widen}
 use Rattle.wasi_causes.proofs.tables.Routes.{put_store_same, put_same, makes}
 

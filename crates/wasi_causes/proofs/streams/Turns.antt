@@ -1,30 +1,8 @@
 -- Who asks in a turn: the writes of the records with a job.
-use Rattle.std.specs.Prelude.{⊤}
-use Rattle.std.proofs.Common.{◌≡◌, ℕ, zero, suc, inl, inr, List, [], ◌∷◌, ◌++◌, Option, Some, None, slice_get, slice_set, refl, sym, ap, subst, ◌∙◌}
-use Rattle.wasi_world.specs.declared.ids.OpId.{OpId}
-use Rattle.wasi_world.specs.declared.call.Call.{Call}
-use Rattle.wasi_world.specs.declared.call.Entry.{Entry}
-use Rattle.wasi_world.specs.declared.call.Told.{Told}
-use Rattle.wasi_world.specs.declared.outcome.WasiSocketsCtx.{WasiSocketsCtx}
-use Rattle.wasi_world.specs.Fits.{Fits}
-use Rattle.wasi_world.specs.Asks.{Give, bind}
-use Rattle.wasi_world.specs.Operation.{End, Waits, poll_asks}
-use Rattle.wasi_world.proofs.Allowed.{allows_keep, Allows, allows_then}
-use Rattle.wasi_tcp.specs.declared.writer.WriteState.{WriteState}
+use Rattle.wasi_causes.proofs.Words.{⊤, ◌≡◌, ℕ, zero, suc, inl, inr, List, [], ◌∷◌, ◌++◌, Option, Some, None, slice_get, slice_set, refl, sym, ap, subst, ◌∙◌, OpId, Call, Entry, Told, WasiSocketsCtx, Fits, Give, bind, End, Waits, poll_asks, allows_keep, Allows, allows_then, WriteState, Job, job_in, job_asks, turn_asks, Machine, Streams, Tcp2Socket, turned, turn_record, turn_at, turn_jobs, turn_store_asks, turn_machine_asks, Has, no_fields, has_split, allows_ask}
 use Rattle.wasi_tcp.specs.declared.writer.WriteState.TheVariants as writing
-use Rattle.wasi_tcp.specs.Job.{Job, job_in, job_asks}
-use Rattle.wasi_tcp.specs.Writer.{turn_asks}
-use Rattle.wasi_host.specs.declared.machine.Machine.{Machine}
-use Rattle.wasi_host.specs.declared.socket.Streams.{Streams}
-use Rattle.wasi_host.specs.declared.socket.Tcp2Socket.{Tcp2Socket}
-use Rattle.wasi_host.specs.Jobs.{turned, turn_record, turn_at, turn_jobs, turn_store_asks}
-use Rattle.wasi_host.specs.Machine.{turn_machine_asks}
 use Rattle.wasi_steps.specs.declared.reply.Reply.TheVariants as reply
 use Rattle.wasi_steps.specs.declared.step.Step.TheVariants as step
-use Rattle.wasi_walks.specs.Licence.{Has}
-use Rattle.wasi_steps.specs.Reply.{no_fields}
-use Rattle.wasi_walks.proofs.Lists.{has_split}
-use Rattle.wasi_walks.proofs.Gives.{allows_ask}
 use Rattle.wasi_causes.proofs.tables.Meets.{Meets, onto, widen}
 use Rattle.wasi_causes.proofs.tables.Routes.{Says}
 use Rattle.wasi_causes.specs.Turns.{writes_by, writer_asks_by, job_of, IsOfJob}

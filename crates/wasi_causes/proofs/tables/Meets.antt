@@ -1,14 +1,5 @@
 -- How it is shown that whatever a tree gives is in a table.
-use Rattle.std.specs.Prelude.{⊤}
-use Rattle.std.proofs.Common.{◌≡◌, Bool, true, false, if◌then◌else◌, List, [], ◌∷◌, ◌++◌, refl, sym, subst, append_assoc, append-nil}
-use Rattle.wasi_world.specs.declared.ids.OpId.{OpId}
-use Rattle.wasi_world.specs.declared.call.Call.{Call}
-use Rattle.wasi_world.specs.declared.call.Entry.{Entry}
-use Rattle.wasi_world.specs.declared.call.Told.{Told}
-use Rattle.wasi_world.specs.Fits.{Fits}
-use Rattle.wasi_world.specs.Asks.{Asks, Give, Ask, AskWrite, bind, Left}
-use Rattle.wasi_walks.specs.Licence.{entry}
-use Rattle.wasi_walks.proofs.Gives.{Gives, gives_then, gives_more, gives_any, gives_both, gives_where, given}
+use Rattle.wasi_causes.proofs.Words.{⊤, ◌≡◌, Bool, true, false, if◌then◌else◌, List, [], ◌∷◌, ◌++◌, refl, sym, subst, append_assoc, append-nil, OpId, Call, Entry, Told, Fits, Asks, Give, Ask, AskWrite, bind, Left, entry, Gives, gives_then, gives_more, gives_any, gives_both, gives_where, given}
 
 abbrev pub Rows : Type 0 → Type 1
 Rows A = List Entry → A → Type 0

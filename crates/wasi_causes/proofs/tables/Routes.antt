@@ -1,38 +1,16 @@
 -- How a call finds its record, and how a handle is made: what every step shares that does so.
-use Rattle.wasi_p2.specs.Tcp.{output_asks, streams_asks}
-use Rattle.wasi_walks.proofs.Lists.{marks_in-push}
-use Rattle.wasi_host.specs.declared.kind.Kind.TheVariants.{Input, Output}
+use Rattle.wasi_causes.proofs.Words.{AccessDenied, Asks, Bool, Code, CodeWord, Entry, Err, ErrorCode, Full, Give, Handles, Input, IsDone, IsSomeAnd}
+use Rattle.wasi_causes.proofs.Words.{Kind, List, Machine, NoSuchHandle, None, OfRecord, Ok, OpId, Option, Output, Records, Reply, Result, Some, Step}
+use Rattle.wasi_causes.proofs.Words.{Stop, Tcp2Socket, Told, Trap, WasiSocketsCtx, [], ap, arith, bind, entry, false, is_full, is_nothing, make_asks}
+use Rattle.wasi_causes.proofs.Words.{marks_in, marks_in-push, name_of, no_such_handle, output_asks, putting, record_at, record_in, refl, slice_get}
+use Rattle.wasi_causes.proofs.Words.{slice_set, socket_at, streams_asks, subst, suc, sym, true, with_handle, with_socket, with_store, word_of_code}
+use Rattle.wasi_causes.proofs.Words.{zero, ℕ, ◌++◌, ◌+◌, ◌↔◌, ◌∙◌, ◌∷◌, ◌≡◌, ◌≢◌}
 use Rattle.wasi_world.specs.declared.call.HandleKind.TheVariants as name
-use Rattle.std.specs.Prelude.{◌↔◌, IsSomeAnd}
-use Rattle.std.proofs.Common.{◌+◌, Bool, ◌≡◌, ◌≢◌, ◌∙◌, ℕ, zero, suc, true, false, List, [], ◌∷◌, ◌++◌, Option, Some, None, Result, Ok, Err, slice_get, slice_set, refl, sym, ap, subst, arith}
-use Rattle.wasi_addr.specs.declared.code.ErrorCode.{ErrorCode}
-use Rattle.wasi_addr.specs.declared.code.ErrorCode.TheVariants.{AccessDenied}
-use Rattle.wasi_world.specs.declared.ids.OpId.{OpId}
 use Rattle.wasi_world.specs.declared.call.Call.TheVariants as call
-use Rattle.wasi_world.specs.declared.call.Entry.{Entry}
-use Rattle.wasi_world.specs.declared.call.Told.{Told}
 use Rattle.wasi_world.specs.declared.call.Told.TheVariants as told
-use Rattle.wasi_world.specs.declared.outcome.TrapKind.TheVariants.{NoSuchHandle, Full}
-use Rattle.wasi_world.specs.declared.outcome.WasiSocketsCtx.{WasiSocketsCtx}
-use Rattle.wasi_world.specs.Fits.{IsDone}
-use Rattle.wasi_world.specs.Asks.{Asks, Give, bind}
-use Rattle.wasi_streams.specs.Table.{is_full}
-use Rattle.wasi_host.specs.declared.kind.Kind.{Kind}
-use Rattle.wasi_host.specs.declared.machine.Machine.{Machine}
-use Rattle.wasi_host.specs.declared.socket.Tcp2Socket.{Tcp2Socket}
 use Rattle.wasi_addr.specs.declared.p2.ErrorCode.TheVariants as p2
-use Rattle.wasi_host.specs.Host.{Stop, Code, Trap}
-use Rattle.wasi_host.specs.Kinds.{Handles, name_of, with_handle, make_asks}
-use Rattle.wasi_host.specs.Machine.{socket_at, no_such_handle, with_store}
-use Rattle.wasi_host.specs.Store.{Records, with_socket}
-use Rattle.wasi_host.specs.InProgress.{is_nothing}
-use Rattle.wasi_steps.specs.declared.reply.CodeWord.{CodeWord}
 use Rattle.wasi_steps.specs.declared.reply.CodeWord.TheVariants as word
-use Rattle.wasi_steps.specs.declared.reply.Reply.{Reply}
 use Rattle.wasi_steps.specs.declared.reply.Reply.TheVariants as reply
-use Rattle.wasi_steps.specs.declared.step.Step.{Step}
-use Rattle.wasi_walks.specs.Answered.{record_in, record_at, putting, word_of_code, OfRecord}
-use Rattle.wasi_walks.specs.Licence.{entry, marks_in}
 use Rattle.wasi_causes.specs.Outcomes.{IsCodeWord, FullAfter, Conflicts, Outcome}
 use Rattle.wasi_causes.proofs.tables.Meets.{onto, Rows, Meets, ends, asks, chain, widen, branch}
 

@@ -1,6 +1,5 @@
 -- Each step is answered as its table says, and which replies it may give.
-use Rattle.std.proofs.Common.{◌≡◌, ◌≢◌, ℕ, Bool, true, List, [], Option, Some, None, refl, subst, ◌⊎◌, inl, inr, ◌+◌, ◌∷◌, ◌++◌, append-nil, append_assoc, false, sym, ◌∙◌}
-use Rattle.std.specs.Prelude.{◌↔◌, IsSome, is_some}
+use Rattle.wasi_causes.proofs.Words.{◌≡◌, ◌≢◌, ℕ, Bool, true, List, [], Option, Some, None, refl, subst, ◌⊎◌, inl, inr, ◌+◌, ◌∷◌, ◌++◌, append-nil, append_assoc, false, sym, ◌∙◌, ◌↔◌, IsSome, is_some, first_state, Machine, Standing, Answered, IsQuiet, MissesHandle, is_guest_call, step_asks, machine_asks, asks_while, run, is_trap, truth_fields, IsFailure, MayStand, CodeWord, Field, Reply, Step, Give, Left, Entry, TrapKind, WasiSocketsCtx}
 use Rattle.wasi_causes.proofs.Ending.{drop, shutdown}
 use Rattle.wasi_causes.proofs.Machine.{subscribe, ready, poll}
 use Rattle.wasi_causes.proofs.sockets.Makes.{network, create, finish_connect, accept}
@@ -11,26 +10,11 @@ use Rattle.wasi_causes.proofs.streams.Turns.{turn}
 use Rattle.wasi_causes.proofs.tables.Meets.{Meets, ends, widen, branch, met, chain, shifted}
 use Rattle.wasi_causes.proofs.tables.Routes.{Says}
 use Rattle.wasi_causes.specs.Outcomes.{Outcome, Quiet, IsStreamCall, MayRefuse, MayMiss, MayTrap, MayWait, may_answer, EachMayAnswer, Reads, Looks, Traps}
-use Rattle.wasi_host.specs.Machine.{first_state}
-use Rattle.wasi_host.specs.declared.machine.Machine.{Machine}
-use Rattle.wasi_host.specs.declared.store.Standing.{Standing}
-use Rattle.wasi_walks.specs.Answered.{Answered, IsQuiet, MissesHandle}
-use Rattle.wasi_machine.specs.Machine.{is_guest_call, step_asks, machine_asks, asks_while, run}
-use Rattle.wasi_steps.specs.Reply.{is_trap, truth_fields}
 use Rattle.wasi_steps.specs.Steps.{context_of}
-use Rattle.wasi_walks.specs.Waiting.{IsFailure, MayStand}
-use Rattle.wasi_steps.specs.declared.reply.CodeWord.{CodeWord}
-use Rattle.wasi_steps.specs.declared.reply.Field.{Field}
 use Rattle.wasi_steps.specs.declared.reply.Field.TheVariants as field
-use Rattle.wasi_steps.specs.declared.reply.Reply.{Reply}
 use Rattle.wasi_steps.specs.declared.reply.Reply.TheVariants as reply
-use Rattle.wasi_steps.specs.declared.step.Step.{Step}
 use Rattle.wasi_steps.specs.declared.step.Step.TheVariants as step
-use Rattle.wasi_world.specs.Asks.{Give, Left}
-use Rattle.wasi_world.specs.declared.call.Entry.{Entry}
-use Rattle.wasi_world.specs.declared.outcome.TrapKind.{TrapKind}
 use Rattle.wasi_world.specs.declared.outcome.TrapKind.TheVariants as trap
-use Rattle.wasi_world.specs.declared.outcome.WasiSocketsCtx.{WasiSocketsCtx}
 
 module _ (contexts : List WasiSocketsCtx) (m : Machine) (line : ℕ) where
   rows : (s : Step) → Meets (Says contexts m line s) [] (step_asks contexts m line s)

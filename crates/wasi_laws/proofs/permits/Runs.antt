@@ -117,13 +117,13 @@ module _ (side : OpId) where
   place_is m None bytes = refl
   place_is m (Some place) bytes = record_is (slice_get m.store.sockets place) bytes
 
-  step_is : (m : Machine) (s : Step) → let_write side (may m s) ≡ permitted_in m side None s
-  step_is m (step.Write c output bytes) = place_is m (output_at m output) bytes
-  step_is m _ = refl
+  step_is : (m : Machine) (s : Step) (es : List Entry) → let_write side (may m s) ≡ permitted_in m side None s es
+  step_is m (step.Write c output bytes) es = place_is m (output_at m output) bytes
+  step_is m _ es = refl
 
-  line_is : (m : Machine) (s : Step) (o : Option Standing) → let_write side (may_while m s o) ≡ permitted_in m side o s
-  line_is m s None = step_is m s
-  line_is m s (Some c) = refl
+  line_is : (m : Machine) (s : Step) (o : Option Standing) (es : List Entry) → let_write side (may_while m s o) ≡ permitted_in m side o s es
+  line_is m s None es = step_is m s es
+  line_is m s (Some c) es = refl
 
 module _ (contexts : List WasiSocketsCtx) (side : OpId) where
   -- Before the line of this number: so much was let write.
@@ -137,28 +137,33 @@ module _ (contexts : List WasiSocketsCtx) (side : OpId) where
   owes held Unused = sym (append-nil held)
   owes held (ToWrite at bytes) = refl
 
+  abbrev lets : Machine → Step → List ℕ
+  lets m s = let_write side (may_while m s m.store.standing)
+
+  lets_is : (m : Machine) (s : Step) (given : List ℕ) (es : List Entry) → given ++ lets m s ≡ given ++ permitted_by m side s es
+  lets_is m s given es = ap (λ (x : List ℕ). given ++ x) (line_is side m s m.store.standing es)
+
   line_lets : (line : ℕ) (s : Step) (given : List ℕ) (m : Machine) (es : List Entry) → Lets line given es m
-      → (let all = given ++ permitted_by m side s in Allows (λ fs op c. IsFrontOf (taken_in side fs) all) (λ fs done. Lets (line + 1) all fs done.1) es (machine_asks contexts m line s))
+      → (let all = given ++ lets m s in Allows (λ fs op c. IsFrontOf (taken_in side fs) all) (λ fs done. Lets (line + 1) all fs done.1) es (machine_asks contexts m line s))
   line_lets line s given m es i =
       let o = may_while m s m.store.standing in
-      let more = let_write side o in
-      let e : given ++ more ≡ given ++ permitted_by m side s = ap (λ (x : List ℕ). given ++ x) (line_is side m s m.store.standing) in
-      subst (λ (all : List ℕ). Allows (λ fs op c. IsFrontOf (taken_in side fs) all) (λ fs done. Lets (line + 1) all fs done.1) es (machine_asks contexts m line s)) e
-      (allows_weaker (λ fs op c. IsFrontOf (taken_in side fs) (given ++ more)) _ (λ fs done. Lets (line + 1) (given ++ more) fs done.1)
+      let all = given ++ let_write side o in
+      allows_weaker (λ fs op c. IsFrontOf (taken_in side fs) all) _ (λ fs done. Lets (line + 1) all fs done.1)
       (λ fs done k. record {
         base = base_over contexts line s done.1 k.0;
         shaped = k.1.0;
         stands = subst (λ (t : List ℕ). Agreeing side (taken_in side fs) t done.1.store.sockets) k.1.1.owes k.1.1.stands;
       }) es (machine_asks contexts m line s)
-      (single_along contexts line s (permits side (given ++ more) line contexts s) (machine_walks line s m m.store.standing refl) es (base_starts contexts line s m o i.base) i.shaped (record { held = given; stands = i.stands; owes = owes given o })))
+      (single_along contexts line s (permits side all line contexts s) (machine_walks line s m m.store.standing refl) es (base_starts contexts line s m o i.base) i.shaped (record { held = given; stands = i.stands; owes = owes given o }))
 
   did_lets : (m : Machine) (line : ℕ) (steps : List Step) (log : List Entry) (bytes : List ℕ) (after : Machine) → Did contexts side m line steps log bytes after → (given : List ℕ) (es : List Entry) → Lets line given es m → Lets (line + length steps) (given ++ bytes) (es ++ log) after
   did_lets _ _ _ _ _ _ (Nothing m line) given es i =
       let z : line ≡ line + 0 = omega arith in
       subst (λ (n : ℕ). Lets n (given ++ []) (es ++ []) m) z (subst (λ (fs : List Entry). Lets line (given ++ []) fs m) (sym (append-nil es)) (subst (λ (xs : List ℕ). Lets line xs es m) (sym (append-nil given)) i))
   did_lets _ _ _ _ _ _ (Then m next after line s steps entries log reply bytes w d) given es i =
-      let more = permitted_by m side s in
-      let k = reached (λ fs op c. IsFrontOf (taken_in side fs) (given ++ more)) (λ fs done. Lets (line + 1) (given ++ more) fs done.1) es (machine_asks contexts m line s) entries (Give (reply, next)) (line_lets line s given m es i) w in
+      let more = permitted_by m side s entries in
+      let Q : List ℕ → List Entry → Reply × Machine → Type 0 = λ all fs done. Lets (line + 1) all fs done.1 in
+      let k = subst (λ (all : List ℕ). Q all (es ++ entries) (reply, next)) (lets_is m s given entries) (reached (λ fs op c. IsFrontOf (taken_in side fs) (given ++ lets m s)) (Q (given ++ lets m s)) es (machine_asks contexts m line s) entries (Give (reply, next)) (line_lets line s given m es i) w) in
       let f = did_lets next (line + 1) steps log bytes after d (given ++ more) (es ++ entries) k in
       let z : line + 1 + length steps ≡ line + suc (length steps) = omega arith in
       subst (λ (n : ℕ). Lets n (given ++ (more ++ bytes)) (es ++ (entries ++ log)) after) z
@@ -176,12 +181,13 @@ module _ (contexts : List WasiSocketsCtx) (side : OpId) where
 
   -- in the middle of the next one too
   pub runs_let_begun : (steps : List Step) (log : List Entry) (bytes : List ℕ) (after : Machine) (s : Step) (entries : List Entry) (rest : Asks (Reply × Machine))
-      → Did contexts side first_state 1 steps log bytes after → Left (machine_asks contexts after (1 + length steps) s) entries rest → IsFrontOf (taken_in side (log ++ entries)) (bytes ++ permitted_by after side s)
+      → Did contexts side first_state 1 steps log bytes after → Left (machine_asks contexts after (1 + length steps) s) entries rest → IsFrontOf (taken_in side (log ++ entries)) (bytes ++ permitted_by after side s entries)
   runs_let_begun steps log bytes after s entries rest d w =
-      let all = bytes ++ permitted_by after side s in
+      let all = bytes ++ lets after s in
       let Q : List Entry → Reply × Machine → Type 0 = λ fs done. Lets (1 + length steps + 1) all fs done.1 in
-      holds (λ fs. IsFrontOf (taken_in side fs) all) Q (λ fs done k. k.stands.front) (log ++ entries) rest
-      (reached (λ fs op c. IsFrontOf (taken_in side fs) all) Q log (machine_asks contexts after (1 + length steps) s) entries rest (line_lets (1 + length steps) s bytes after log (done_lets steps log bytes after d)) w)
+      subst (IsFrontOf (taken_in side (log ++ entries))) (lets_is after s bytes entries)
+      (holds (λ fs. IsFrontOf (taken_in side fs) all) Q (λ fs done k. k.stands.front) (log ++ entries) rest
+      (reached (λ fs op c. IsFrontOf (taken_in side fs) all) Q log (machine_asks contexts after (1 + length steps) s) entries rest (line_lets (1 + length steps) s bytes after log (done_lets steps log bytes after d)) w))
 
   pub runs_take_all : (steps : List Step) (log : List Entry) (permitted : List ℕ) (after : Machine) (ctx output n : ℕ) (entries : List Entry) (next : Machine)
       → Did contexts side first_state 1 steps log permitted after → WritesTo after output side

@@ -1,9 +1,9 @@
--- The definitions on small logs: one that asks an open socket and closes it, and those that don't.
+-- The definitions on a small machine, which asks an open socket and closes it, and on small logs that don't.
 use Rattle.wasi_addr.specs.declared.address.SocketAddressFamily.TheVariants as family
 use Rattle.wasi_addr.specs.declared.code.ErrorCode.TheVariants as code
 use Rattle.wasi_world.specs.declared.call.Call.TheVariants as call
 use Rattle.wasi_world.specs.declared.call.Told.TheVariants as told
-use Rattle.wasi_laws.proofs.Words.{◌≡◌, ℕ, inl, inr, List, [], ◌∷◌, ◌++◌, refl, ap, subst, OpId, Told, Entry, own_of, Has, entry, socket_of, IsMade, Created, HandedOver, IsOpen, IsAskedOpen, AsksOpenSockets}
+use Rattle.wasi_laws.proofs.Words.{◌≡◌, ⊤, ℕ, inl, inr, List, [], ◌∷◌, refl, ap, OpId, Told, Entry, Asks, Ask, Give, Allows, own_of, Has, entry, socket_of, IsMade, Created, HandedOver, IsOpen, IsAskedOpen, AsksOpenSockets}
 
 -- line 1 makes the socket
 abbrev side : OpId
@@ -21,34 +21,25 @@ asked line = entry (own_of line) (call.Local side) (told.Code code.Other)
 abbrev closed : ℕ → Entry
 closed line = entry (own_of line) (call.Close side) told.Done
 
--- == a socket that is asked and closed while it is open
+-- == a machine that asks a socket and closes it, while it is open
+asks_and_closes : Asks (Unit {0})
+asks_and_closes = Ask (own_of 2) (call.Local side) (λ t. Ask (own_of 3) (call.Close side) (λ u. Give tt))
+
 open_in : (before : List Entry) → Has before made → ((op : OpId) (t : Told) → Has before (entry op (call.Close side) t) → ⊥) → IsOpen before side
 open_in before h none = record { made = Created 0 family.Ipv4 h; unclosed = λ c. none c.op c.told c.closed }
 
-abbrev second : Entry
-second = asked 2
-
-abbrev third : Entry
-third = closed 3
-
-good : AsksOpenSockets (made ∷ second ∷ third ∷ [])
-good = record { each = each }
+good : Allows (λ es op c. IsAskedOpen es (socket_of c)) (λ es done. ⊤) (made ∷ []) asks_and_closes
+unfolding asks_and_closes
+good = (open_in (made ∷ []) (inl refl) first, λ t fits. (open_in (made ∷ entry (own_of 2) (call.Local side) t ∷ []) (inl refl) (second t), λ u fits. tt))
   where
     first : (op : OpId) (t : Told) → Has (made ∷ []) (entry op (call.Close side) t) → ⊥
     first op t (inl h) = absurd (let k = ap (λ (x : Entry). x.call) h in cc)
     first op t (inr h) = h
 
-    two : (op : OpId) (t : Told) → Has (made ∷ second ∷ []) (entry op (call.Close side) t) → ⊥
-    two op t (inl h) = absurd (let k = ap (λ (x : Entry). x.call) h in cc)
-    two op t (inr (inl h)) = absurd (let k = ap (λ (x : Entry). x.call) h in cc)
-    two op t (inr (inr h)) = h
-
-    each : (before : List Entry) (e : Entry) (after : List Entry) → made ∷ second ∷ third ∷ [] ≡ before ++ e ∷ after → IsAskedOpen before (socket_of e.call)
-    each [] e after q = let p : made ≡ e = cc in subst (λ (x : Entry). IsAskedOpen [] (socket_of x.call)) p tt
-    each (a ∷ []) e after q = let f : made ≡ a = cc in let p : second ≡ e = cc in rw (← f, ← p) (open_in (made ∷ []) (inl refl) first)
-    each (a ∷ b ∷ []) e after q = let f : made ≡ a = cc in let g : second ≡ b = cc in let p : third ≡ e = cc in rw (← f, ← g, ← p) (open_in (made ∷ second ∷ []) (inl refl) two)
-    each (a ∷ b ∷ c ∷ []) e after q = absurd (cc)
-    each (a ∷ b ∷ c ∷ d ∷ before) e after q = absurd (cc)
+    second : (u : Told) (op : OpId) (t : Told) → Has (made ∷ entry (own_of 2) (call.Local side) u ∷ []) (entry op (call.Close side) t) → ⊥
+    second u op t (inl h) = absurd (let k = ap (λ (x : Entry). x.call) h in cc)
+    second u op t (inr (inl h)) = absurd (let k = ap (λ (x : Entry). x.call) h in cc)
+    second u op t (inr (inr h)) = h
 
 -- == what isn't asked of an open one
 -- a second close

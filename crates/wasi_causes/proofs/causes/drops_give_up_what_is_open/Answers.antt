@@ -1,11 +1,8 @@
-use Rattle.std.proofs.Common.{◌≡◌, [], refl}
-use Rattle.wasi_streams.proofs.Tables.{value_without_it}
+use Rattle.wasi_causes.proofs.Words.{◌≡◌, [], refl, value_without_it, kind_at, own_of}
 use Rattle.wasi_causes.proofs.Ending.{socket_ok, gives_up, asks_nothing, leaves, takes_out, dropped_free}
 use Rattle.wasi_causes.proofs.causes.drops_give_up_what_is_open.Goals as goal
 use Rattle.wasi_causes.proofs.tables.Steps.{its_own, of_answer, while_free}
 use Rattle.wasi_causes.specs.GivenUp.{LooksOnce, NoLook}
-use Rattle.wasi_host.specs.Kinds.{kind_at}
-use Rattle.wasi_host.specs.Machine.{own_of}
 use Rattle.wasi_steps.specs.declared.reply.Reply.TheVariants as reply
 use Rattle.wasi_steps.specs.declared.step.Step.TheVariants as step
 

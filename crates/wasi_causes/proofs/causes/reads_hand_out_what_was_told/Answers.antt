@@ -1,7 +1,6 @@
-use Rattle.std.proofs.Common.{[], ◌∷◌}
+use Rattle.wasi_causes.proofs.Words.{[], ◌∷◌, bytes_fields}
 use Rattle.wasi_causes.proofs.causes.reads_hand_out_what_was_told.Goals as goal
 use Rattle.wasi_causes.proofs.tables.Steps.{reads_stay, its_own}
-use Rattle.wasi_steps.specs.Reply.{bytes_fields}
 use Rattle.wasi_steps.specs.declared.reply.Reply.TheVariants as reply
 use Rattle.wasi_steps.specs.declared.step.Step.TheVariants as step
 

@@ -1,6 +1,4 @@
-use Rattle.std.specs.Prelude.{◌==◌, count_by}
-use Rattle.std.proofs.Common.{◌∙◌, sym, ap}
-use Rattle.std.proofs.lemmas.List.{take_all}
+use Rattle.wasi_run.proofs.Words.{◌==◌, count_by, ◌∙◌, sym, ap, take_all}
 use Rattle.wasi_run.proofs.Newlines.{newlines}
 use Rattle.wasi_run.proofs.counts.count_lines.Goals as goal
 

@@ -1,5 +1,4 @@
-use Rattle.std.specs.Prelude.{◌==◌, count_by, take}
-use Rattle.std.proofs.Common.{◌≡◌, ◌≤◌}
+use Rattle.wasi_run.proofs.Words.{◌==◌, count_by, take, ◌≡◌, ◌≤◌}
 use Rattle.wasi_run.proofs.counts.count_lines.Given as goal
 
 -- the newlines so far

@@ -1,5 +1,4 @@
-use Rattle.std.specs.Prelude.{min, take}
-use Rattle.std.proofs.Common.{◌≡◌}
+use Rattle.wasi_run.proofs.Words.{min, take, ◌≡◌}
 use Rattle.wasi_run.specs.Counted.{taken_bytes}
 use Rattle.wasi_run.proofs.counts.taken_bytes.Given as goal
 

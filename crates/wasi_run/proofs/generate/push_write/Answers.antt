@@ -1,5 +1,4 @@
-use Rattle.std.proofs.Common.{◌+◌}
-use Rattle.std.proofs.lemmas.List.{take-replicate}
+use Rattle.wasi_run.proofs.Words.{◌+◌, take-replicate}
 use Rattle.wasi_run.proofs.GeneratedLines.{write_pieces}
 use Rattle.wasi_run.proofs.generate.push_write.Goals as goal
 

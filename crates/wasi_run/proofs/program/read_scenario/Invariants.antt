@@ -1,5 +1,4 @@
-use Rattle.std.proofs.Common.{◌≡◌, ◌-◌, ◌≤◌, length}
-use Rattle.wasi_world.specs.Io.{Gave}
+use Rattle.wasi_run.proofs.Words.{◌≡◌, ◌-◌, ◌≤◌, length, Gave}
 use Rattle.wasi_run.proofs.program.read_scenario.Given as goal
 
 -- the source gave the text so far

@@ -1,6 +1,5 @@
-use Rattle.std.proofs.Common.{◌∙◌, ap, Ok, arith}
+use Rattle.wasi_run.proofs.Words.{◌∙◌, ap, Ok, arith, stays_open}
 use Rattle.std.proofs.lemmas.Result.{err_from_is_err_and}
-use Rattle.wasi_session.proofs.Stretches.{stays_open}
 use Rattle.wasi_run.proofs.Streaming.{stream_start, stream_on, over_error, over_trap, over_fault, over_read, over_cut, over_long, piece_is, few, piece_numbers, empty_is, not_empty, some_byte}
 use Rattle.wasi_run.proofs.run.run_lines.Goals as goal
 

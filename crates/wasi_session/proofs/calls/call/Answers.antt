@@ -1,7 +1,6 @@
-use Rattle.std.proofs.Common.{refl}
-use Rattle.wasi_world.proofs.Walks.{asks_answered, given_answered, asks_end, asks_exit}
-use Rattle.wasi_machine.specs.Machine.{reply_of, stream_reply_of, answer_reply, resumed_reply}
-use Rattle.wasi_steps.specs.Reply.{no_values, number_fields, pair_values, triple_values, bytes_fields, truth_fields, family_fields, address_values}
+use Rattle.wasi_session.proofs.Words.{address_values, answer_reply, asks_answered, asks_end, asks_exit, bytes_fields, family_fields, given_answered}
+use Rattle.wasi_session.proofs.Words.{no_values, number_fields, pair_values, refl, reply_of, resumed_reply, stream_reply_of, triple_values}
+use Rattle.wasi_session.proofs.Words.{truth_fields}
 use Rattle.wasi_session.proofs.calls.call.Goals as goal
 
 pub returns-in-Network-clause-asked : goal.returns-in-Network-clause-asked

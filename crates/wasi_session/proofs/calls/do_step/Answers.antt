@@ -1,5 +1,4 @@
-use Rattle.std.proofs.Common.{refl, sym, ◌∙◌}
-use Rattle.wasi_world.proofs.Walks.{asks_given}
+use Rattle.wasi_session.proofs.Words.{refl, sym, ◌∙◌, asks_given}
 use Rattle.wasi_session.proofs.CallSteps.{held_up, goes_on}
 use Rattle.wasi_session.proofs.calls.do_step.Goals as goal
 

@@ -1,5 +1,4 @@
-use Rattle.std.proofs.Common.{sym, ◌∙◌, refl}
-use Rattle.std.proofs.lemmas.Result.{err_from_is_err_and}
+use Rattle.wasi_session.proofs.Words.{sym, ◌∙◌, refl, err_from_is_err_and}
 use Rattle.wasi_session.proofs.OneLine.{none_done, one_bad, one_hungry, one_cut, one_trap, one_done}
 use Rattle.wasi_session.proofs.lines.do_line.Goals as goal
 

@@ -1,5 +1,4 @@
-use Rattle.std.proofs.Common.{◌∙◌, ap, Ok}
-use Rattle.std.proofs.lemmas.Result.{err_from_is_err_and}
+use Rattle.wasi_session.proofs.Words.{◌∙◌, ap, Ok, err_from_is_err_and}
 use Rattle.wasi_session.proofs.Stretches.{stays_open}
 use Rattle.wasi_session.proofs.ManyLines.{going_start, going_on, going_over, going_all, going_left, going_fits, found, found_none}
 use Rattle.wasi_session.proofs.lines.do_lines.Goals as goal

@@ -1,11 +1,6 @@
-use Rattle.std.proofs.Common.{◌∙◌, ap, Ok, Result, refl, ◌+◌, drop}
-use Rattle.std.proofs.lemmas.Result.{err_from_is_err_and}
-use Rattle.wasi_world.specs.Seen.{Seen}
-use Rattle.wasi_world.specs.Io.{Writing}
-use Rattle.wasi_host.specs.declared.machine.Machine.{Machine}
+use Rattle.wasi_session.proofs.Words.{◌∙◌, ap, Ok, Result, refl, ◌+◌, drop, err_from_is_err_and, Seen, Writing, Machine, lines_of, lines_from}
 use Rattle.wasi_session.specs.declared.lines.LinesEnd.{LinesEnd}
 use Rattle.wasi_session.specs.declared.error.RunError.{RunError}
-use Rattle.wasi_world.specs.Lines.{lines_of, lines_from}
 use Rattle.wasi_session.specs.Ran.{LinesRan}
 use Rattle.wasi_session.proofs.Stretches.{stays_open}
 use Rattle.wasi_session.proofs.OneLine.{none_done}

@@ -1,5 +1,4 @@
-use Rattle.std.proofs.Common.{length, ◌-◌, ◌≤◌, take}
-use Rattle.wasi_world.specs.Io.{Took, SameCounts}
+use Rattle.wasi_session.proofs.Words.{length, ◌-◌, ◌≤◌, take, Took, SameCounts}
 use Rattle.wasi_session.proofs.lines.write_all.Given as goal
 
 -- the bytes before are written, and nothing went wrong

@@ -1,5 +1,4 @@
-use Rattle.std.proofs.Common.{◌+◌, ◌∙◌, ap, sym, take, length, arith}
-use Rattle.std.proofs.lemmas.List.{drop-drop}
+use Rattle.wasi_run.proofs.Words.{◌+◌, ◌∙◌, ap, sym, take, length, arith, drop-drop}
 use Rattle.wasi_world.proofs.Pieces.{gives_piece}
 use Rattle.wasi_run.proofs.text_source.TextSourceSource.read.Goals as goal
 
