@@ -71,12 +71,12 @@ fn hops(view: &mut WasiSocketsCtxView<'_>, world: &mut ScriptedWorld) -> Result<
     Ok(hops)
 }
 
-/// Sets the hop limit of the socket 2 as an option, and asks for that option and another.
+/// Sets the hop limit of the socket 2, and asks for it as an option, and for another.
 fn options(view: &mut WasiSocketsCtxView<'_>, world: &mut ScriptedWorld) -> Result<(u64, u64), Fail>
     requires { (seen_by world.old).ended ≡ false }
     ensures { (seen_by world.new).ended ≡ false }
 {
-    tcp::set_option(view, world, &mut line(9), 2, Opt::HopLimit, 9)?;
+    tcp::set_hop_limit(view, world, &mut line(9), 2, 9)?;
     let hops = tcp::get_option(view, world, &mut line(10), 2, Opt::HopLimit)?;
     let size = tcp::get_option(view, world, &mut line(11), 2, Opt::SendBufferSize)?;
     Ok((hops, size))

@@ -84,8 +84,8 @@ fn run(rt: HostRuntime, words: &[String]) -> ExitCode {
         Ok(None) => return end(&rt, Status::BadWords, 0),
         Err(_) => return end(&rt, Status::Memory, 0),
     };
-    let mut source = StdSource::new(rt);
-    let mut sink = StdSink::new(rt);
+    let mut source = StdSource::new(rt.stdin());
+    let mut sink = StdSink::new(rt.stdout());
     let outcome = run_live(rt, rt.alloc(), command, &mut source, &mut sink);
     let line = match outcome {
         Err(RunError::BadStep(line)) => line,

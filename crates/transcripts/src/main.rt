@@ -92,8 +92,8 @@ fn run(rt: HostRuntime, words: &[String]) -> ExitCode {
         None => end(&rt, End::Run(Status::BadWords, 0)),
         Some(Words::Show(limit)) => {
             let mut scenario = FileSource::open(&rt, SCENARIO);
-            let mut source = StdSource::new(rt);
-            let mut sink = StdSink::new(rt);
+            let mut source = StdSource::new(rt.stdin());
+            let mut sink = StdSink::new(rt.stdout());
             let ended = show(rt.alloc(), limit, &mut scenario, &mut source, &mut sink);
             end(&rt, ended)
         }
@@ -114,7 +114,7 @@ fn check_all(rt: HostRuntime, files: &[String]) -> ExitCode {
 }
 
 fn check_file(rt: HostRuntime, file: &str) -> End {
-    let mut sink = StdSink::new(rt);
+    let mut sink = StdSink::new(rt.stdout());
     match fs::read(&rt, file) {
         Ok(text) => check(rt.alloc(), file, text.as_slice(), &mut sink),
         Err(error) => match error.kind() {

@@ -1,5 +1,5 @@
 -- How gets and sets of options and of the backlog are answered: where each answer comes from, and what stands afterwards.
-use Rattle.std.specs.Prelude.{◌≡◌, ℕ, ◌<◌, ◌≤◌, true, false, List, [], ◌∷◌, Ok, Err}
+use Rattle.std.specs.Prelude.{◌≡◌, ℕ, ◌<◌, ◌≤◌, true, false, List, [], ◌∷◌, Ok}
 use Rattle.wasi_addr.specs.declared.code.ErrorCode.{ErrorCode}
 use Rattle.wasi_addr.specs.Clamp.{clamped_backlog}
 use Rattle.wasi_world.specs.declared.ids.OpId.{OpId}
@@ -10,7 +10,8 @@ use Rattle.wasi_world.specs.declared.call.Told.TheVariants as told
 use Rattle.wasi_world.specs.Operation.{Operation}
 use Rattle.wasi_tcp.specs.declared.socket.Connection.{Connection}
 use Rattle.wasi_tcp.specs.declared.socket.TcpState.TheVariants as state
-use Rattle.wasi_tcp.specs.Options.{largest_value, zero_test, value_set, value_told, refused_before, refused_after, option_side, with_backlog}
+use Rattle.wasi_common.specs.Options.{largest_value, zero_test, value_set, value_told, refused_before, refused_after}
+use Rattle.wasi_tcp.specs.Options.{option_side, with_backlog}
 use Rattle.wasi_host.specs.declared.machine.Machine.{Machine}
 use Rattle.wasi_host.specs.declared.socket.Tcp2Socket.{Tcp2Socket}
 use Rattle.wasi_host.specs.Store.{with_inner}
@@ -24,19 +25,22 @@ use Rattle.wasi_steps.specs.Reply.{number_fields}
 use Rattle.wasi_steps.specs.Settings.{Chosen, AnOption, TheBacklog, chosen}
 
 -- == refusals
--- A get is refused: the socket has no side that may be asked, and nothing is; or its side told a code; or its side told a value
--- that is too large for the option.
+-- A get is refused: the socket connects, or is closed with a code, and nothing is asked; or its side told a code; or its side
+-- told a value that is too large for the option.
 pub data GetRefusal (own : OpId) (option : Opt) (r : Tcp2Socket) : List Entry → CodeWord → Type 0 where
-  GetsNoSide : (c : ErrorCode) → option_side r.inner ≡ Err c → GetRefusal own option r [] (word_of_code c)
+  GetConnects : (op : Operation) → r.inner.state ≡ state.Connecting op → GetRefusal own option r [] word.InvalidState
+  GetClosed : (c : ErrorCode) → r.inner.state ≡ state.Closed c → GetRefusal own option r [] (word_of_code c)
   GetTold : (side : OpId) (c : ErrorCode) → option_side r.inner ≡ Ok side → GetRefusal own option r (entry own (call.GetOption side option) (told.Code c) ∷ []) (word_of_code c)
   ToldTooLarge : (side : OpId) (value : ℕ) → option_side r.inner ≡ Ok side → largest_value option < value_told option value
       → GetRefusal own option r (entry own (call.GetOption side option) (told.Value value) ∷ []) word.NotSupported
 
--- A set is refused: 0 is no value of the option, which is tested before the state; or the socket has no side that may be asked;
--- or it has one, and 0 is no value of the option; or, the value being one, its side told a code. Only then is anything asked.
+-- A set is refused: 0 is no value of the option, which is tested before the state; or the socket connects, or is closed with a
+-- code; or it has a side that may be asked, and 0 is no value of the option; or, the value being one, its side told a code. Only
+-- then is anything asked.
 pub data SetRefusal (own : OpId) (option : Opt) (value : ℕ) (r : Tcp2Socket) : List Entry → CodeWord → Type 0 where
   ZeroBefore : refused_before (zero_test option) value ≡ true → SetRefusal own option value r [] word.InvalidArgument
-  SetsNoSide : (c : ErrorCode) → refused_before (zero_test option) value ≡ false → option_side r.inner ≡ Err c → SetRefusal own option value r [] (word_of_code c)
+  SetConnects : (op : Operation) → refused_before (zero_test option) value ≡ false → r.inner.state ≡ state.Connecting op → SetRefusal own option value r [] word.InvalidState
+  SetClosed : (c : ErrorCode) → refused_before (zero_test option) value ≡ false → r.inner.state ≡ state.Closed c → SetRefusal own option value r [] (word_of_code c)
   ZeroAfter : (side : OpId) → refused_before (zero_test option) value ≡ false → option_side r.inner ≡ Ok side → refused_after (zero_test option) value ≡ true
       → SetRefusal own option value r [] word.InvalidArgument
   SetTold : (side : OpId) (c : ErrorCode) → refused_before (zero_test option) value ≡ false → option_side r.inner ≡ Ok side → refused_after (zero_test option) value ≡ false

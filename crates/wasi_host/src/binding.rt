@@ -3,16 +3,19 @@
 ghost use Rattle.std.specs.Prelude.{◌≡◌, false, Ok, slice_get};
 ghost use Rattle.wasi_world.specs.Asks.{AsksFor, outcome};
 ghost use Rattle.wasi_world.specs.Seen.{Seen};
+ghost use Rattle.wasi_common.specs.Rounds.{is_going, stays_going};
 ghost use Rattle.wasi_tcp.specs.Socket.{side_of};
 ghost use Rattle.wasi_host.specs.InProgress.{is_nothing, is_started};
 ghost use Rattle.wasi_host.specs.Binding.{begin_bind_asks, poll_bind_asks, bind_settled, start_bind_at};
-ghost use Rattle.wasi_host.specs.Store.{finish_at};
+ghost use Rattle.wasi_host.specs.Store.{finish_at, with_progress};
 ghost use Rattle.wasi_host.specs.Host.{host_outcome};
 ghost use Rattle.wasi_host.specs.Sides.{KnowsSides, MakesNone};
 
 use crate::error::SocketError;
 use crate::socket::Tcp2Socket;
 use crate::store::{StandingCall, Store};
+use std::marker::Model;
+use std::mem;
 use wasi_addr::{ErrorCode, IpSocketAddress, p2};
 use wasi_tcp::BindOp;
 use wasi_world::{Answer, OpId, Refusal, TrapKind, World};
@@ -25,13 +28,47 @@ pub enum AsyncOperation {
     Listen,
 }
 
+/// A bind that was begun: it isn't over, so a poll of it asks.
+#[derive(Drop)]
+pub struct PendingBind {
+    bind: BindOp,
+}
+
+impl Model for PendingBind {
+    ghost use Rattle.std.specs.Prelude.{◌≡◌, true};
+    ghost use Rattle.wasi_common.specs.Rounds.{is_going};
+    ghost use Rattle.wasi_world.specs.Operation.{Operation};
+
+    ghost Value = { Operation };
+
+    ghost view = { λ p. p.bind };
+
+    ghost invariant = { λ p. is_going p.bind ≡ true };
+}
+
+impl PendingBind {
+    pub(crate) fn new(bind: BindOp) -> PendingBind
+        requires { is_going bind ≡ true }
+        ensures { result ≡ bind }
+    {
+        PendingBind { bind }
+    }
+
+    pub(crate) fn into_inner(self) -> BindOp
+        ensures bind { result ≡ self }
+        ensures going { is_going result ≡ true }
+    {
+        self.bind
+    }
+}
+
 /// What a socket is in the middle of.
 #[derive(Drop)]
 pub enum InProgress {
     /// Nothing was started, or it was finished.
     Nothing,
     /// A bind was begun, and its start is pending.
-    Binding(BindOp),
+    Binding(PendingBind),
     /// This was started, and isn't finished.
     Started(AsyncOperation),
 }
@@ -70,7 +107,7 @@ impl Tcp2Socket {
         ensures open { (W.seen world.new).ended ≡ false }
     {
         let bind = self.inner.bind(world, op, addr)?;
-        self.in_progress = InProgress::Binding(bind);
+        self.in_progress = InProgress::Binding(PendingBind::new(bind));
         self.poll_bind(world)
     }
 
@@ -84,32 +121,45 @@ impl Tcp2Socket {
         ensures listening { self.new.listening ≡ self.old.listening }
         ensures open { (W.seen world.new).ended ≡ false }
     {
-        match &mut self.in_progress {
+        match mem::replace(&mut self.in_progress, InProgress::Nothing) {
             InProgress::Binding(bind) => {
+                let mut bind = bind.into_inner();
                 let polled = bind.poll(world, &mut self.inner);
-                self.settle_bind(polled)
+                self.settle_bind(bind, polled)
             }
             InProgress::Nothing => Err(Refusal::Code(ErrorCode::InvalidState)),
-            InProgress::Started(_) => Err(Refusal::Code(ErrorCode::InvalidState)),
+            InProgress::Started(operation) => {
+                self.in_progress = InProgress::Started(operation);
+                Err(Refusal::Code(ErrorCode::InvalidState))
+            }
         }
     }
 
-    /// What a poll of the bind makes of the record.
-    fn settle_bind(&mut self, polled: Result<Answer<()>, Refusal>) -> Result<Answer<()>, Refusal>
+    /// What a poll of a bind, which was taken out for it, makes of the record.
+    fn settle_bind(
+        &mut self,
+        bind: BindOp,
+        polled: Result<Answer<()>, Refusal>,
+    ) -> Result<Answer<()>, Refusal>
+        requires nothing { self.old.in_progress ≡ InProgress.Nothing }
+        requires going { is_going bind ≡ stays_going polled }
         ensures told { result ≡ polled }
-        ensures settled { self.new ≡ bind_settled self.old polled }
+        ensures settled { self.new ≡ bind_settled (with_progress self.old (InProgress.Binding bind)) polled }
     {
         match polled {
             Ok(Answer::Ready(())) => {
                 self.in_progress = InProgress::Started(AsyncOperation::Bind);
                 Ok(Answer::Ready(()))
             }
-            Ok(Answer::Pending) => Ok(Answer::Pending),
-            Err(Refusal::Code(code)) => {
-                self.in_progress = InProgress::Nothing;
-                Err(Refusal::Code(code))
+            Ok(Answer::Pending) => {
+                self.in_progress = InProgress::Binding(PendingBind::new(bind));
+                Ok(Answer::Pending)
             }
-            Err(Refusal::Memory(e)) => Err(Refusal::Memory(e)),
+            Err(Refusal::Code(code)) => Err(Refusal::Code(code)),
+            Err(Refusal::Memory(e)) => {
+                self.in_progress = InProgress::Binding(PendingBind::new(bind));
+                Err(Refusal::Memory(e))
+            }
         }
     }
 }

@@ -2,12 +2,13 @@
 
 ghost use Rattle.std.specs.Prelude.{◌≡◌, ◌≤◌, false, IfOk, slice_get};
 ghost use Rattle.wasi_world.specs.Asks.{AsksFor};
-ghost use Rattle.wasi_tcp.specs.Options.{largest_value};
+ghost use Rattle.wasi_common.specs.Options.{largest_value, option_of, number_of};
 ghost use Rattle.wasi_host.specs.Host.{host_outcome};
 ghost use Rattle.wasi_host.specs.Sides.{KnowsSides};
 
 use crate::error::SocketError;
 use crate::store::Store;
+use wasi_tcp::Setting;
 use wasi_world::{OpId, Opt, TrapKind, World};
 
 impl Store {
@@ -34,26 +35,23 @@ impl Store {
         Ok(value)
     }
 
-    /// Sets an option of the socket of this number to a value that is at most its `largest_value`
-    /// (`TcpSocket::set_option`). The records stay as they were.
+    /// Sets an option of the socket of this number (`TcpSocket::set_option`). The records stay as they were.
     pub fn set_option<W: World>(
         &mut self,
         world: &mut W,
         op: OpId,
         place: usize,
-        option: Opt,
-        value: u64,
+        setting: Setting,
     ) -> Result<(), SocketError>
-        requires open { (W.seen world.old).ended ≡ false }
-        requires fits { value ≤ largest_value option }
-        ensures asked { AsksFor (set_option_at self.old op option value (slice_get self.old.sockets place)) (W.seen world.old) (W.seen world.new) (λ told. (told, self.new)) (host_outcome result) }
+        requires { (W.seen world.old).ended ≡ false }
+        ensures asked { AsksFor (set_option_at self.old op (option_of setting) (number_of setting) (slice_get self.old.sockets place)) (W.seen world.old) (W.seen world.new) (λ told. (told, self.new)) (host_outcome result) }
         ensures sides { KnowsSides (W.seen world.old) self.old → KnowsSides (W.seen world.new) self.new }
         ensures open { (W.seen world.new).ended ≡ false }
     {
         let Some(record) = self.sockets.get_mut(place) else {
             return Err(SocketError::Trap(TrapKind::NoSuchHandle));
         };
-        record.inner.set_option(world, op, option, value)?;
+        record.inner.set_option(world, op, setting)?;
         Ok(())
     }
 

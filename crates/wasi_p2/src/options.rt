@@ -4,7 +4,7 @@
 ghost use Rattle.std.specs.Prelude.{◌≡◌, ◌≤◌, IfOk, false};
 ghost use Rattle.std.specs.Int.{from_bool};
 ghost use Rattle.wasi_world.specs.Asks.{AsksFor};
-ghost use Rattle.wasi_tcp.specs.Options.{largest_value};
+ghost use Rattle.wasi_common.specs.Options.{largest_value, option_of, number_of};
 ghost use Rattle.wasi_host.specs.Host.{host_outcome};
 ghost use Rattle.wasi_host.specs.Machine.{own_of, socket_at};
 ghost use Rattle.wasi_host.specs.Sides.{KnowsSides};
@@ -13,6 +13,7 @@ ghost use Rattle.wasi_p2.specs.Options.{get_option_on, set_option_on, set_backlo
 
 use crate::SocketError;
 use wasi_host::{WasiSocketsCtxView, handles};
+use wasi_tcp::Setting;
 use wasi_world::{Handle, Ids, Opt, TrapKind, World};
 
 /// The value of an option: yes is 1 and no is 0, a time is in nanoseconds, a size in bytes. The getters below are this call of
@@ -39,21 +40,18 @@ pub fn get_option<W: World>(
     view.store.get_option(world, ids.own(), place, option)
 }
 
-/// Sets an option to a value that is at most its `largest_value`: yes is 1 and no is 0, a time is in nanoseconds, a size in
-/// bytes. The setters below are this call of their option. Connecting: `InvalidState`. Closed: its code. A code that is told is
+/// Sets an option. The setters below are this call of their setting. Connecting: `InvalidState`. Closed: its code. A code that is told is
 /// answered. 0 is `InvalidArgument`: for a time or a number of probes in any state, for the hop limit or a size where the state
 /// allows a set. Times, sizes and numbers of probes are brought into their ranges first.
-pub fn set_option<W: World>(
+fn set_option<W: World>(
     view: &mut WasiSocketsCtxView<'_>,
     world: &mut W,
     ids: &mut Ids,
     this: Handle,
-    option: Opt,
-    value: u64,
+    setting: Setting,
 ) -> Result<(), SocketError>
-    requires open { (W.seen world.old).ended ≡ false }
-    requires fits { value ≤ largest_value option }
-    ensures asked { AsksFor (set_option_on (state_of view.old) (own_of ids.old.line) option value (socket_at (state_of view.old) this)) (W.seen world.old) (W.seen world.new) (λ done. (done, state_of view.new)) (host_outcome result) }
+    requires { (W.seen world.old).ended ≡ false }
+    ensures asked { AsksFor (set_option_on (state_of view.old) (own_of ids.old.line) (option_of setting) (number_of setting) (socket_at (state_of view.old) this)) (W.seen world.old) (W.seen world.new) (λ done. (done, state_of view.new)) (host_outcome result) }
     ensures sides { KnowsSides (W.seen world.old) view.old.store.now → KnowsSides (W.seen world.new) view.new.store.now }
     ensures view { SameView view.old view.new }
     ensures ids { ids.new ≡ ids.old }
@@ -62,8 +60,7 @@ pub fn set_option<W: World>(
     let Some(place) = handles::socket(view.table, this) else {
         return Err(SocketError::Trap(TrapKind::NoSuchHandle));
     };
-    view.store
-        .set_option(world, ids.own(), place, option, value)
+    view.store.set_option(world, ids.own(), place, setting)
 }
 
 /// Whether probes are sent on a connection that is idle (`keep-alive-enabled`): any told number but 0 is yes.
@@ -99,14 +96,7 @@ pub fn set_keep_alive_enabled<W: World>(
     ensures ids { ids.new ≡ ids.old }
     ensures open { (W.seen world.new).ended ≡ false }
 {
-    set_option(
-        view,
-        world,
-        ids,
-        this,
-        Opt::KeepAliveEnabled,
-        u64::from(value),
-    )
+    set_option(view, world, ids, this, Setting::KeepAliveEnabled(value))
 }
 
 /// How long a connection is idle before the first probe, in nanoseconds (`keep-alive-idle-time`).
@@ -142,7 +132,7 @@ pub fn set_keep_alive_idle_time<W: World>(
     ensures ids { ids.new ≡ ids.old }
     ensures open { (W.seen world.new).ended ≡ false }
 {
-    set_option(view, world, ids, this, Opt::KeepAliveIdleTime, value)
+    set_option(view, world, ids, this, Setting::KeepAliveIdleTime(value))
 }
 
 /// The time from one probe to the next, in nanoseconds (`keep-alive-interval`).
@@ -178,7 +168,7 @@ pub fn set_keep_alive_interval<W: World>(
     ensures ids { ids.new ≡ ids.old }
     ensures open { (W.seen world.new).ended ≡ false }
 {
-    set_option(view, world, ids, this, Opt::KeepAliveInterval, value)
+    set_option(view, world, ids, this, Setting::KeepAliveInterval(value))
 }
 
 /// How many probes without an answer end a connection (`keep-alive-count`). A number above 4,294,967,295 that is told:
@@ -216,14 +206,7 @@ pub fn set_keep_alive_count<W: World>(
     ensures ids { ids.new ≡ ids.old }
     ensures open { (W.seen world.new).ended ≡ false }
 {
-    set_option(
-        view,
-        world,
-        ids,
-        this,
-        Opt::KeepAliveCount,
-        u64::from(value),
-    )
+    set_option(view, world, ids, this, Setting::KeepAliveCount(value))
 }
 
 /// How many hops a packet lives (`hop-limit`). A number above 255 that is told: `NotSupported`.
@@ -259,7 +242,7 @@ pub fn set_hop_limit<W: World>(
     ensures ids { ids.new ≡ ids.old }
     ensures open { (W.seen world.new).ended ≡ false }
 {
-    set_option(view, world, ids, this, Opt::HopLimit, u64::from(value))
+    set_option(view, world, ids, this, Setting::HopLimit(value))
 }
 
 /// The size of the buffer for what comes in, in bytes (`receive-buffer-size`): half of what is told.
@@ -295,7 +278,7 @@ pub fn set_receive_buffer_size<W: World>(
     ensures ids { ids.new ≡ ids.old }
     ensures open { (W.seen world.new).ended ≡ false }
 {
-    set_option(view, world, ids, this, Opt::ReceiveBufferSize, value)
+    set_option(view, world, ids, this, Setting::ReceiveBufferSize(value))
 }
 
 /// The size of the buffer for what goes out, in bytes (`send-buffer-size`): half of what is told.
@@ -331,7 +314,7 @@ pub fn set_send_buffer_size<W: World>(
     ensures ids { ids.new ≡ ids.old }
     ensures open { (W.seen world.new).ended ≡ false }
 {
-    set_option(view, world, ids, this, Opt::SendBufferSize, value)
+    set_option(view, world, ids, this, Setting::SendBufferSize(value))
 }
 
 /// How many connections may wait to be accepted (`set-listen-backlog-size`): brought into 1 to 2,147,483,647. 0:

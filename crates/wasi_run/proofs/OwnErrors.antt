@@ -6,8 +6,7 @@ use Rattle.wasi_run.specs.Script.{Answers, RanScript, IsValid, IsOkOrMemory, Com
 use Rattle.wasi_run.specs.Counted.{unread, unwritten, IsOwn}
 
 none_rose : (n : ℕ) → n ≡ 0 → Rose 0 n → ⊥
-none_rose n e (inl h) = omega (arith, e, h)
-none_rose n e (inr h) = omega (arith, e, h)
+none_rose n e h = omega (arith, e, h)
 
 not_counted : (k : Writing) → SameCounts unwritten k → CountRose unwritten k → ⊥
 not_counted k same rose = by_rose rose.rose

@@ -20,7 +20,7 @@ fn zeros(alloc: Global, size: usize) -> Result<Octets, AllocError>
 
 /// Something to read from (`InputStream` of the crate wasmtime-wasi-io).
 pub trait InputStream {
-    ghost use Rattle.std.specs.Prelude.{◌≡◌, ℕ, List, Result, false};
+    ghost use Rattle.std.specs.Prelude.{◌≡◌, ℕ, List, Result, OnErr, false};
     ghost use Rattle.wasi_world.specs.declared.ids.OpId.{OpId};
     ghost use Rattle.wasi_world.specs.Asks.{Asks, AsksFor};
     ghost use Rattle.wasi_streams.specs.StreamStop.{StreamStop, stream_outcome};
@@ -29,7 +29,7 @@ pub trait InputStream {
     /// What a read of so many bytes asks, what it answers, and the stream then.
     ghost reading: { OpId → Self → ℕ → Asks (Result (List ℕ) StreamStop × Self) };
 
-    /// Reads at most `size` bytes; no bytes where there is nothing yet.
+    /// Reads at most `size` bytes; no bytes where there is nothing yet. After want of memory the stream is as it was.
     fn read<W: World>(
         &mut self,
         alloc: Global,
@@ -39,9 +39,10 @@ pub trait InputStream {
     ) -> Result<Octets, StreamError>
         requires { (W.seen world.old).ended ≡ false }
         ensures asked { AsksFor (reading op self.old size) (W.seen world.old) (W.seen world.new) (λ answer. (answer, self.new)) (stream_outcome result) }
+        ensures err { OnErr (stream_outcome result) (self.new ≡ self.old) }
         ensures open { (W.seen world.new).ended ≡ false };
 
-    /// Reads, and tells only how many bytes there were.
+    /// Reads, and tells only how many bytes there were. After want of memory the stream is as it was.
     fn skip<W: World>(
         &mut self,
         alloc: Global,
@@ -51,6 +52,7 @@ pub trait InputStream {
     ) -> Result<usize, StreamError>
         requires { (W.seen world.old).ended ≡ false }
         ensures asked { AsksFor (skip_asks (reading op self.old size)) (W.seen world.old) (W.seen world.new) (λ answer. (answer, self.new)) (stream_outcome result) }
+        ensures err { OnErr (stream_outcome result) (self.new ≡ self.old) }
         ensures open { (W.seen world.new).ended ≡ false }
     {
         let bytes = self.read(alloc, world, op, size)?;
@@ -60,7 +62,7 @@ pub trait InputStream {
 
 /// Something to write to (`OutputStream` of the crate wasmtime-wasi-io).
 pub trait OutputStream {
-    ghost use Rattle.std.specs.Prelude.{◌≡◌, ℕ, List, Result, false};
+    ghost use Rattle.std.specs.Prelude.{◌≡◌, ℕ, List, Result, OnErr, false};
     ghost use Rattle.wasi_world.specs.declared.ids.OpId.{OpId};
     ghost use Rattle.wasi_world.specs.Asks.{Asks, AsksFor};
     ghost use Rattle.wasi_streams.specs.StreamStop.{StreamStop, stream_outcome};
@@ -73,10 +75,11 @@ pub trait OutputStream {
 
     ghost flushing: { OpId → Self → Asks (Result (Unit {0}) StreamStop × Self) };
 
-    /// How many bytes the next write may have; none where there is no room yet.
+    /// How many bytes the next write may have; none where there is no room yet. After want of memory nothing was asked.
     fn check_write<W: World>(&mut self, world: &mut W, op: OpId) -> Result<usize, StreamError>
         requires { (W.seen world.old).ended ≡ false }
         ensures asked { AsksFor (checking op self.old) (W.seen world.old) (W.seen world.new) (λ answer. (answer, self.new)) (stream_outcome result) }
+        ensures unasked { OnErr (stream_outcome result) (W.seen world.new ≡ W.seen world.old) }
         ensures open { (W.seen world.new).ended ≡ false };
 
     /// Writes bytes, no more than the last check permitted.
@@ -85,10 +88,11 @@ pub trait OutputStream {
         ensures asked { AsksFor (writing op self.old bytes) (W.seen world.old) (W.seen world.new) (λ answer. (answer, self.new)) (stream_outcome result) }
         ensures open { (W.seen world.new).ended ≡ false };
 
-    /// Begins a flush.
+    /// Begins a flush. After want of memory the stream is as it was.
     fn flush<W: World>(&mut self, world: &mut W, op: OpId) -> Result<(), StreamError>
         requires { (W.seen world.old).ended ≡ false }
         ensures asked { AsksFor (flushing op self.old) (W.seen world.old) (W.seen world.new) (λ answer. (answer, self.new)) (stream_outcome result) }
+        ensures err { OnErr (stream_outcome result) (self.new ≡ self.old) }
         ensures open { (W.seen world.new).ended ≡ false };
 
     /// Writes zeros; more than 65536 of them are never permitted. Takes memory for the zeros.
@@ -110,16 +114,17 @@ pub trait OutputStream {
 
 /// Something to wait for (`Pollable` of the crate wasmtime-wasi-io).
 pub trait Pollable {
-    ghost use Rattle.std.specs.Prelude.{◌≡◌, Bool, false};
+    ghost use Rattle.std.specs.Prelude.{◌≡◌, Bool, OnErr, false};
     ghost use Rattle.wasi_world.specs.declared.ids.OpId.{OpId};
     ghost use Rattle.wasi_world.specs.Asks.{Asks, AsksFor};
 
     /// What a look asks, what it answers, and the thing then.
     ghost looking: { OpId → Self → Asks (Bool × Self) };
 
-    /// Whether the next call on it gives something: bytes, room, or an error.
+    /// Whether the next call on it gives something: bytes, room, or an error. After want of memory nothing was asked.
     fn poll_ready<W: World>(&mut self, world: &mut W, op: OpId) -> Result<bool, AllocError>
         requires { (W.seen world.old).ended ≡ false }
         ensures asked { AsksFor (looking op self.old) (W.seen world.old) (W.seen world.new) (λ ready. (ready, self.new)) result }
+        ensures unasked { OnErr result (W.seen world.new ≡ W.seen world.old) }
         ensures open { (W.seen world.new).ended ≡ false };
 }

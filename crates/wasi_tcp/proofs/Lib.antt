@@ -1,6 +1,5 @@
 pub mod Connects
 pub mod Listens
-pub mod Rounds
 pub mod Accepts
 pub mod Listeners
 pub mod LocalAddresses

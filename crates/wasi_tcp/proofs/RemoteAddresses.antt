@@ -17,10 +17,12 @@ use Rattle.wasi_tcp.specs.declared.socket.TcpState.TheVariants as state
 use Rattle.wasi_tcp.specs.Shape.{Socket}
 use Rattle.wasi_tcp.specs.Socket.{bound_asks, bind_asks}
 use Rattle.wasi_tcp.specs.Connecting.{in_socket}
+use Rattle.wasi_tcp.specs.Listening.{listen_start, listen_asks}
 use Rattle.wasi_tcp.specs.Addresses.{after_peer, still_connected, peer_known, local_from, local_side, local_where, remote_in, remote_asks}
 use Rattle.wasi_tcp.specs.Halves.{taken_receive, taken_send}
-use Rattle.wasi_tcp.specs.Options.{zero_test, value_set, refused_before, refused_after, set_backlog_in}
-use Rattle.wasi_tcp.specs.Calls.{SocketCall, IsBound, BindTo, StartConnect, FinishConnect, LocalAddress, RemoteAddress, TakeReceive, TakeSend, SetOption, SetBacklog, socket_left, after_call, after_calls, KnowsPeer}
+use Rattle.wasi_common.specs.Options.{zero_test, value_set, refused_before, refused_after}
+use Rattle.wasi_tcp.specs.Options.{set_backlog_in}
+use Rattle.wasi_tcp.specs.Calls.{SocketCall, IsBound, BindTo, StartConnect, FinishConnect, StartListen, LocalAddress, RemoteAddress, TakeReceive, TakeSend, SetOption, SetBacklog, socket_left, after_call, after_calls, KnowsPeer}
 
 -- any ask
 abbrev Free : List Entry → OpId → Call → Type 0
@@ -60,6 +62,10 @@ unfolding bind
 local_keeps op a socket before (Ok side) k = (tt, λ told fits. k)
 local_keeps op a socket before (Err c) k = k
 
+-- a listen of it is refused
+listen_keeps : (op : OpId) (a : IpSocketAddress) (b : Bool × Socket) → KnowsPeer a b.1 → KnowsPeer a (listen_start op b.1 b.0 b.1.state).1
+listen_keeps op a b k = subst (λ (s : TcpState). KnowsPeer a (listen_start op b.1 b.0 s).1) (sym k.connected) k
+
 call_keeps_here : (call : SocketCall) (socket : Socket) (c : Connection) (a : IpSocketAddress) (before : List Entry) → Allows Free (Knows a) before (after_call call (connected socket c a))
 unfolding bind
 call_keeps_here (IsBound op) socket c a before = left_keeps a before (bound_asks op (connected socket c a)) (bound_keeps op socket c a before)
@@ -67,6 +73,8 @@ call_keeps_here (BindTo op addr) socket c a before =
     left_keeps a before (bind_asks op (connected socket c a) addr) (allows_then Free (Keeps a) (Keeps a) before (bound_asks op (connected socket c a)) _ (bound_keeps op socket c a before) (λ es b k. k))
 call_keeps_here (StartConnect op addr) socket c a before = knows socket c a
 call_keeps_here FinishConnect socket c a before = knows socket c a
+call_keeps_here (StartListen op) socket c a before =
+    left_keeps a before (listen_asks op (connected socket c a)) (allows_then Free (Keeps a) (Keeps a) before (bound_asks op (connected socket c a)) _ (bound_keeps op socket c a before) (λ es b k. listen_keeps op a b k))
 call_keeps_here (LocalAddress op) socket c a before =
     left_keeps a before _ (allows_then Free (Keeps a) (Keeps a) before (bound_asks op (connected socket c a)) (λ b. local_where op b.1 b.0) (bound_keeps op socket c a before) (λ es b k. local_keeps op a b.1 es (local_side b.1 b.0) k))
 call_keeps_here (RemoteAddress op) socket c a before = knows socket c a

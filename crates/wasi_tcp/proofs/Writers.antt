@@ -1,5 +1,5 @@
 -- Calls of a writing end, as parts of others.
-use Rattle.std.specs.Prelude.{◌≡◌, true, Result, refl}
+use Rattle.std.specs.Prelude.{◌≡◌, true, Result, Ok, Err, IsErr, OnErr, refl}
 use Rattle.std.proofs.Common.{subst}
 use Rattle.wasi_world.specs.declared.ids.OpId.{OpId}
 use Rattle.wasi_world.specs.Seen.{Seen}
@@ -25,3 +25,9 @@ look_left_over op old turned new {s} {t} {u} h c r e =
     let Q : WriteState → Type 0 = λ x. bind (look_in op x) (λ looked. Give (begun looked)) ≡ write_on_asks op new in
     let left : bind (look_asks op turned) (λ looked. Give (begun looked)) ≡ write_on_asks op new = subst Q c (idle op new r) in
     rw e (subst P left (reaches_on (λ (x : Unit {0} × WriteState). bind (look_asks op x.1) (λ looked. Give (begun looked))) h))
+
+-- an answer that wants memory asked nothing where the one that it is made of did so
+pub none_asked : {T U D E : Type 0} (P : Type 0) (told : Result T D) (looked : Result U E) → OnErr told (IsErr looked) → OnErr looked P → OnErr told P
+none_asked P (Ok t) looked h k = tt
+none_asked P (Err d) (Ok u) h k = absurd (cc)
+none_asked P (Err d) (Err e) h k = k

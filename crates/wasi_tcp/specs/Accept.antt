@@ -5,10 +5,10 @@ use Rattle.wasi_world.specs.declared.ids.OpId.{OpId}
 use Rattle.wasi_world.specs.Asks.{Asks, Give}
 use Rattle.wasi_world.specs.Operation.{Given, Connection, Item, Accept, CheckArrival, Hand, Refuse, NothingLast, Who, Operation}
 use Rattle.wasi_world.specs.Typed.{ask_refuse}
-use Rattle.wasi_tcp.specs.declared.bind.Asker.{Asker}
+use Rattle.wasi_common.specs.declared.asker.Asker.{Asker}
 use Rattle.wasi_tcp.specs.declared.accept.AcceptStage.{AcceptStage}
 use Rattle.wasi_tcp.specs.declared.accept.AcceptStage.TheVariants as stage
-use Rattle.wasi_tcp.specs.Bind.{who_of}
+use Rattle.wasi_common.specs.Asker.{who_of}
 
 -- with an arrival in hand it is checked, handed over or refused; after a refusal there is none in hand again
 abbrev pub accept_left : AcceptStage → List Item

@@ -9,16 +9,18 @@ use Rattle.wasi_tcp.specs.declared.socket.TcpState.TheVariants.{Connected}
 use Rattle.wasi_tcp.specs.Shape.{Socket}
 use Rattle.wasi_tcp.specs.Socket.{bound_asks, bind_asks}
 use Rattle.wasi_tcp.specs.Connecting.{start_connect_asks, finish_connect_asks, in_socket}
+use Rattle.wasi_tcp.specs.Listening.{listen_asks}
 use Rattle.wasi_tcp.specs.Addresses.{local_asks, remote_asks}
 use Rattle.wasi_tcp.specs.Halves.{take_receive, take_send}
 use Rattle.wasi_tcp.specs.Options.{set_option_asks, set_backlog_asks}
 
--- the calls that may change a socket
+-- the calls on a socket that may change it, but its close; a poll of a listen takes only one that has no side
 pub data SocketCall : Type 0 where
   IsBound : OpId → SocketCall
   BindTo : OpId → IpSocketAddress → SocketCall
   StartConnect : OpId → IpSocketAddress → SocketCall
   FinishConnect : SocketCall
+  StartListen : OpId → SocketCall
   LocalAddress : OpId → SocketCall
   RemoteAddress : OpId → SocketCall
   TakeReceive : SocketCall
@@ -36,6 +38,7 @@ after_call (IsBound op) socket = socket_left (bound_asks op socket)
 after_call (BindTo op a) socket = socket_left (bind_asks op socket a)
 after_call (StartConnect op a) socket = socket_left (start_connect_asks op socket a)
 after_call FinishConnect socket = socket_left (finish_connect_asks socket)
+after_call (StartListen op) socket = socket_left (listen_asks op socket)
 after_call (LocalAddress op) socket = socket_left (local_asks op socket)
 after_call (RemoteAddress op) socket = socket_left (remote_asks op socket)
 after_call TakeReceive socket = Give (in_socket socket (take_receive socket.state)).1

@@ -4,10 +4,10 @@ use Rattle.wasi_addr.specs.declared.address.IpSocketAddress.{IpSocketAddress}
 use Rattle.wasi_addr.specs.declared.address.SocketAddrUse.TheVariants.{TcpBind, TcpConnect}
 use Rattle.wasi_addr.specs.declared.code.ErrorCode.{ErrorCode}
 use Rattle.wasi_world.specs.Operation.{Item, Check, Connect, Last, Nothing, CloseLast, Operation}
-use Rattle.wasi_tcp.specs.declared.bind.Asker.{Asker}
+use Rattle.wasi_common.specs.declared.asker.Asker.{Asker}
 use Rattle.wasi_tcp.specs.declared.connect.ConnectStage.{ConnectStage}
 use Rattle.wasi_tcp.specs.declared.connect.ConnectStage.TheVariants as stage
-use Rattle.wasi_tcp.specs.Bind.{who_of}
+use Rattle.wasi_common.specs.Asker.{who_of}
 
 -- a socket that wasn't bound has the wildcard checked first
 abbrev pub connect_left : IpSocketAddress → IpSocketAddress → ConnectStage → List Item

@@ -2,7 +2,6 @@ pub mod Shape
 pub mod Bind
 pub mod Socket
 pub mod Connect
-pub mod Rounds
 pub mod Accept
 pub mod Connecting
 pub mod Listen

@@ -7,10 +7,10 @@ use Rattle.wasi_world.specs.declared.ids.OpId.{OpId}
 use Rattle.wasi_world.specs.Asks.{Asks, Give}
 use Rattle.wasi_world.specs.Typed.{ask_close}
 use Rattle.wasi_world.specs.Operation.{Item, Check, CheckLocal, Bind, Listen, Last, Nothing, CloseLast, Operation}
-use Rattle.wasi_tcp.specs.declared.bind.Asker.{Asker}
+use Rattle.wasi_common.specs.declared.asker.Asker.{Asker}
 use Rattle.wasi_tcp.specs.declared.listen.ListenStage.{ListenStage}
 use Rattle.wasi_tcp.specs.declared.listen.ListenStage.TheVariants as stage
-use Rattle.wasi_tcp.specs.Bind.{who_of}
+use Rattle.wasi_common.specs.Asker.{who_of}
 
 -- a socket that was bound has the address that is told checked; one that wasn't has the wildcard checked for both uses, and bound
 abbrev pub listen_left : IpSocketAddress → ℕ → ListenStage → List Item

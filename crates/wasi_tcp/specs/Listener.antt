@@ -19,7 +19,7 @@ use Rattle.wasi_tcp.specs.declared.accept.AcceptStage.TheVariants as stage
 use Rattle.wasi_tcp.specs.declared.listener.Accepting.{Accepting}
 use Rattle.wasi_tcp.specs.declared.listener.Accepting.TheVariants as accepting
 use Rattle.wasi_tcp.specs.Shape.{Socket}
-use Rattle.wasi_tcp.specs.Rounds.{is_going, Stands}
+use Rattle.wasi_common.specs.Rounds.{is_going, Stands}
 use Rattle.wasi_tcp.specs.Accept.{accept_operation, accept_give_up_asks, IsAccept}
 
 -- what contracts see of a listener

@@ -1,20 +1,17 @@
-//! An accept that is polled. One poll refuses at most 64 arrivals.
+//! An accept that is polled, in rounds: one poll refuses at most 64 arrivals.
 
 ghost use Rattle.std.specs.Prelude.{◌≡◌, true, false, OnErr};
 ghost use Rattle.wasi_world.specs.Asks.{AsksFor};
 ghost use Rattle.wasi_world.specs.Operation.{Nothing};
-ghost use Rattle.wasi_tcp.specs.Rounds.{PollsRounds, RoundFor, is_going};
+ghost use Rattle.wasi_common.specs.Rounds.{PollsRounds, RoundFor, is_going};
 ghost use Rattle.wasi_tcp.specs.Accept.{accept_operation, connection_of, in_hand, accept_give_up_asks, IsAccept};
 
-use crate::bind::Asker;
 use std::alloc::AllocError;
 use std::marker::Model;
 use wasi_addr::{IpSocketAddress, SocketAddrUse};
+use wasi_common::{Asker, InRounds, poll_rounds};
 use wasi_world::asks::{Polled, Verdict};
 use wasi_world::{Answer, Refusal, Sock, World, asks};
-
-/// One poll refuses at most so many arrivals.
-const MOST_REFUSED: usize = 64;
 
 /// The ask that comes next, with the arrival that is in hand.
 #[derive(Clone, Copy, Debug, PartialEq, Eq)]
@@ -69,7 +66,11 @@ impl AcceptOp {
         ensures after { IsAccept self.new }
         ensures open { (W.seen world.new).ended ≡ false }
     {
-        poll_rounds(world, self.asker, &mut self.stage)
+        // No effect at run time: the proof reads from the uses of `stage` that this is an accept, before and after.
+        let _ = &self.stage;
+        let polled = poll_rounds(world, self);
+        let _ = &self.stage;
+        polled
     }
 
     /// The arrival that is in hand.
@@ -98,23 +99,22 @@ impl AcceptOp {
     }
 }
 
-fn poll_rounds<W: World>(
-    world: &mut W,
-    asker: Asker,
-    stage: &mut AcceptStage,
-) -> Result<Answer<(Sock, IpSocketAddress)>, Refusal>
-    requires open { (W.seen world.old).ended ≡ false }
-    requires going { is_going (accept_operation asker stage.old) ≡ true }
-    ensures polled { PollsRounds connection_of Nothing (accept_operation asker stage.old) (accept_operation asker stage.new) (W.seen world.old) (W.seen world.new) result }
-    ensures open { (W.seen world.new).ended ≡ false }
-{
-    for _refused in 0..MOST_REFUSED {
-        let round = poll_round(world, asker, stage)?;
-        if let Some(answer) = round {
-            return Ok(answer);
-        }
+impl InRounds for AcceptOp {
+    ghost use Rattle.wasi_common.specs.Rounds.{RoundFor, is_going};
+    ghost use Rattle.wasi_tcp.specs.Accept.{connection_of};
+
+    type Out = (Sock, IpSocketAddress);
+
+    ghost operation = { λ op. op };
+
+    ghost gives = { connection_of };
+
+    fn round<W: World>(
+        &mut self,
+        world: &mut W,
+    ) -> Result<Option<Answer<(Sock, IpSocketAddress)>>, Refusal> {
+        poll_round(world, self.asker, &mut self.stage)
     }
-    Ok(Answer::Pending)
 }
 
 /// One round, which ends the poll or refuses an arrival.

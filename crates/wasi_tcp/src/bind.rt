@@ -1,22 +1,16 @@
 //! A bind that is polled.
 
-ghost use Rattle.std.specs.Prelude.{◌≡◌, false};
+ghost use Rattle.std.specs.Prelude.{◌≡◌, true, false, Err};
 ghost use Rattle.wasi_world.specs.Operation.{PollsFor, Nothing};
+ghost use Rattle.wasi_common.specs.Rounds.{is_going, stays_going};
 ghost use Rattle.wasi_tcp.specs.Bind.{bind_operation, IsBind};
 
 use crate::socket::TcpSocket;
 use std::marker::Model;
 use wasi_addr::{ErrorCode, IpSocketAddress, SocketAddrUse};
+use wasi_common::Asker;
 use wasi_world::asks::Verdict;
 use wasi_world::{Answer, OpId, Refusal, Sock, World, asks};
-
-/// Who asks: an operation's name, the side that it works on, and the side's maker.
-#[derive(Clone, Copy, Debug, PartialEq, Eq)]
-pub struct Asker {
-    pub op: OpId,
-    pub side: Sock,
-    pub maker: u32,
-}
 
 /// The ask that comes next.
 #[derive(Clone, Copy, Debug, PartialEq, Eq)]
@@ -54,15 +48,20 @@ impl BindOp {
         }
     }
 
-    /// Asks what comes next: a no is `AccessDenied`, and a code is answered. After want of memory it may be polled again.
-    /// The socket that began it stays in the state Default; any other is left as it is, too.
+    /// Asks what comes next: a no is `AccessDenied`, and a code is answered. After want of memory it stands as after its last
+    /// answered ask, and may be polled again. One that was done or refused: `InvalidState`, without an ask. The socket that
+    /// began it stays in the state Default; any other is left as it is, too.
     pub fn poll<W: World>(
         &mut self,
         world: &mut W,
         _socket: &mut TcpSocket,
     ) -> Result<Answer<()>, Refusal>
         requires { (W.seen world.old).ended ≡ false }
-        ensures polled { PollsFor (λ done. Nothing) Nothing self.old self.new (W.seen world.old) (W.seen world.new) result }
+        ensures polled { is_going self.old ≡ true → PollsFor (λ done. Nothing) Nothing self.old self.new (W.seen world.old) (W.seen world.new) result }
+        ensures going { is_going self.new ≡ stays_going result }
+        ensures over { is_going self.old ≡ false → result ≡ Err (Refusal.Code ErrorCode.InvalidState) }
+        ensures unasked { is_going self.old ≡ false → W.seen world.new ≡ W.seen world.old }
+        ensures stays { is_going self.old ≡ false → self.new ≡ self.old }
         ensures same { _socket.new ≡ _socket.old }
         ensures bind { IsBind self.old }
         ensures open { (W.seen world.new).ended ≡ false }
@@ -70,7 +69,7 @@ impl BindOp {
         match self.stage {
             BindStage::Check => poll_check(world, self.asker, self.addr, &mut self.stage),
             BindStage::Bind => poll_bind(world, self.asker, self.addr, &mut self.stage),
-            BindStage::Over => Ok(Answer::Ready(())),
+            BindStage::Over => Err(Refusal::Code(ErrorCode::InvalidState)),
         }
     }
 }
@@ -84,6 +83,7 @@ fn poll_check<W: World>(
     requires open { (W.seen world.old).ended ≡ false }
     requires stage { stage.old ≡ BindStage.Check }
     ensures polled { PollsFor (λ done. Nothing) Nothing (bind_operation asker addr stage.old) (bind_operation asker addr stage.new) (W.seen world.old) (W.seen world.new) result }
+    ensures going { is_going (bind_operation asker addr stage.new) ≡ stays_going result }
     ensures open { (W.seen world.new).ended ≡ false }
 {
     let verdict = asks::check(world, asker.op, asker.maker, addr, SocketAddrUse::TcpBind)?;
@@ -108,6 +108,7 @@ fn poll_bind<W: World>(
     requires open { (W.seen world.old).ended ≡ false }
     requires stage { stage.old ≡ BindStage.Bind }
     ensures polled { PollsFor (λ done. Nothing) Nothing (bind_operation asker addr stage.old) (bind_operation asker addr stage.new) (W.seen world.old) (W.seen world.new) result }
+    ensures going { is_going (bind_operation asker addr stage.new) ≡ stays_going result }
     ensures open { (W.seen world.new).ended ≡ false }
 {
     let told = asks::bind(world, asker.op, asker.side, addr)?;

@@ -21,8 +21,9 @@ ghost use Rattle.wasi_tcp.specs.Taken.{taken_in, IsFrontOf, IsTakenBy};
 ghost use Rattle.wasi_tcp.specs.Bounds.{IsWrite, HoldsWrite, most_polled, most_turned};
 ghost use Rattle.wasi_tcp.specs.declared.writer.WriteState.TheVariants as WriteState;
 
-/// A remote address, once it is told, stays while the socket is connected: whatever calls are made on the socket, and
-/// whatever the network answers, it is still connected with this address, which is answered without an ask.
+/// A remote address, once it is told, stays while the socket is connected: whatever calls are made on the socket but its
+/// close, and whatever the network answers, it is still connected with this address, which is answered without an ask. A
+/// poll of a listen isn't among them, since it takes only a socket that has no side.
 ///
 /// It runs no code: its contract is a law about the definitions that contracts cite.
 pub fn remote_address_stays()

@@ -1,18 +1,19 @@
 //! A listen that is polled. Where it is refused it closes its side last.
 
-ghost use Rattle.std.specs.Prelude.{◌≡◌, false, OnErr};
+ghost use Rattle.std.specs.Prelude.{◌≡◌, false, None, OnErr};
 ghost use Rattle.wasi_world.specs.Asks.{AsksFor, Reaches, outcome};
 ghost use Rattle.wasi_world.specs.Operation.{PollsFor, Nothing};
 ghost use Rattle.wasi_tcp.specs.Listen.{listen_operation, listen_first, is_over, held_side, cancel_asks, IsListen};
-ghost use Rattle.wasi_tcp.specs.Rounds.{is_going, stays_going};
+ghost use Rattle.wasi_common.specs.Rounds.{is_going, stays_going};
+ghost use Rattle.wasi_tcp.specs.Socket.{side_of};
 ghost use Rattle.wasi_tcp.specs.Listening.{listen_poll_asks, listen_goes_on};
 
-use crate::bind::Asker;
 use crate::listener::TcpListenStream;
 use crate::socket::TcpSocket;
 use std::alloc::AllocError;
 use std::marker::Model;
 use wasi_addr::{ErrorCode, IpSocketAddress, SocketAddrUse};
+use wasi_common::Asker;
 use wasi_world::asks::Verdict;
 use wasi_world::{Answer, Refusal, Sock, World, asks};
 
@@ -102,13 +103,15 @@ impl ListenOp {
     /// the side that it had, and the listener is given. A check that is pending is asked again by the next poll. A no is
     /// `AccessDenied`, and a code is answered; both close the side first, and the socket stays Closed. After want of memory
     /// it stands as after its last answered ask, and may be polled again. After an answer that is pending, and after want of
-    /// memory, there is an ask left; else it is over. One that is over: `InvalidState`, without an ask.
+    /// memory, there is an ask left; else it is over. One that is over: `InvalidState`, without an ask. The socket must have
+    /// no side, which the listen holds meanwhile; so no other side is lost where it gets its own back.
     pub fn poll<W: World>(
         &mut self,
         world: &mut W,
         socket: &mut TcpSocket,
     ) -> Result<Answer<TcpListenStream>, Refusal>
-        requires { (W.seen world.old).ended ≡ false }
+        requires open { (W.seen world.old).ended ≡ false }
+        requires sideless { side_of socket.old ≡ None }
         ensures asked { AsksFor (listen_poll_asks self.old socket.old) (W.seen world.old) (W.seen world.new) (λ answer. (answer, (self.new, socket.new))) (outcome result) }
         ensures err { OnErr (outcome result) (Reaches (listen_goes_on self.old socket.old) (listen_goes_on self.new socket.new) (W.seen world.old) (W.seen world.new)) }
         ensures going { is_going self.new ≡ stays_going result }

@@ -5,11 +5,11 @@ ghost use Rattle.wasi_world.specs.Asks.{AsksFor};
 ghost use Rattle.wasi_tcp.specs.Listener.{with_accept, new_listener, begun, ids_after, readiness, ready_end, listener_ready_asks, accepted_socket, accepted_state, accepted, without_result, accept_end, listener_accept_asks, StandsAccept, untaken_side, listener_give_up_asks, HoldsAccept, IsListener, settled, memory_of, TurnFor};
 
 use crate::accept::AcceptOp;
-use crate::bind::Asker;
 use crate::socket::{Connection, TcpSocket, TcpState};
 use std::alloc::AllocError;
 use std::marker::Model;
 use wasi_addr::{ErrorCode, IpSocketAddress, SocketAddressFamily};
+use wasi_common::Asker;
 use wasi_world::{Answer, Ids, Refusal, Sock, World, asks};
 
 /// How far a listener is with the next connection.

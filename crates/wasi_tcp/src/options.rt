@@ -1,165 +1,15 @@
-//! The options of a socket. One table says of each option which values it has, when 0 is refused, which value is set for
-//! one that is given, and which is answered for one that is told.
+//! The options of a TCP socket: each call asks its side, where its state allows that.
 
-ghost use Rattle.std.specs.Prelude.{◌≡◌, ◌≤◌, false, Ok, OnErr, IfOk};
+ghost use Rattle.std.specs.Prelude.{◌≡◌, ◌≤◌, false, OnErr, IfOk};
 ghost use Rattle.std.specs.Int.{from_bool};
 ghost use Rattle.wasi_world.specs.Asks.{AsksFor, outcome};
+ghost use Rattle.wasi_common.specs.Options.{largest_value, option_of, number_of};
 ghost use Rattle.wasi_tcp.specs.Socket.{side_of};
-ghost use Rattle.wasi_tcp.specs.Options.{largest_value, zero_test, value_set, value_told, option_within, option_answer, get_of_side_asks, set_of_side_asks};
 
 use crate::socket::TcpSocket;
-use wasi_addr::{
-    ErrorCode, clamp_keep_alive_count, clamp_keep_alive_time, normalize_get_buffer_size,
-    normalize_set_buffer_size,
-};
-use wasi_world::{OpId, Opt, Refusal, Sock, World, asks};
-
-/// When a set of 0 is refused.
-#[derive(Clone, Copy, Debug, PartialEq, Eq)]
-enum ZeroTest {
-    Never,
-    /// Before the socket's state is looked at.
-    BeforeState,
-    /// Where the socket's state allows a set.
-    AfterState,
-}
-
-impl ZeroTest {
-    ghost use Rattle.wasi_tcp.specs.Options.{refused_before, refused_after};
-
-    /// Whether it refuses the value before the state is looked at.
-    fn refuses_before_state(self, value: u64) -> bool
-        ensures { result ≡ refused_before self value }
-    {
-        match self {
-            ZeroTest::BeforeState => value == 0,
-            ZeroTest::Never | ZeroTest::AfterState => false,
-        }
-    }
-
-    /// Whether it refuses the value where the state allows a set.
-    fn refuses_after_state(self, value: u64) -> bool
-        ensures { result ≡ refused_after self value }
-    {
-        match self {
-            ZeroTest::AfterState => value == 0,
-            ZeroTest::Never | ZeroTest::BeforeState => false,
-        }
-    }
-}
-
-/// The largest value of an option: 1, which is yes, 4,294,967,295 probes, 255 hops, and for a time in nanoseconds or a
-/// size in bytes the largest `u64`.
-pub fn largest_value(option: Opt) -> u64
-    ensures { result ≡ largest_value option }
-{
-    match option {
-        Opt::KeepAliveEnabled => 1,
-        Opt::KeepAliveCount => u64::from(u32::MAX),
-        Opt::HopLimit => u64::from(u8::MAX),
-        Opt::KeepAliveIdleTime | Opt::KeepAliveInterval => u64::MAX,
-        Opt::ReceiveBufferSize | Opt::SendBufferSize => u64::MAX,
-    }
-}
-
-fn zero_test(option: Opt) -> ZeroTest
-    ensures { result ≡ zero_test option }
-{
-    match option {
-        Opt::KeepAliveEnabled => ZeroTest::Never,
-        Opt::KeepAliveIdleTime | Opt::KeepAliveInterval => ZeroTest::BeforeState,
-        Opt::KeepAliveCount => ZeroTest::BeforeState,
-        Opt::HopLimit => ZeroTest::AfterState,
-        Opt::ReceiveBufferSize | Opt::SendBufferSize => ZeroTest::AfterState,
-    }
-}
-
-/// The value that is set for one that is given.
-fn value_set(option: Opt, value: u64) -> u64
-    requires { value ≤ largest_value option }
-    ensures { result ≡ value_set option value }
-{
-    match option {
-        Opt::KeepAliveEnabled | Opt::HopLimit => value,
-        Opt::KeepAliveIdleTime | Opt::KeepAliveInterval => clamp_keep_alive_time(value),
-        Opt::KeepAliveCount => u64::from(clamp_keep_alive_count(value as u32)),
-        Opt::ReceiveBufferSize | Opt::SendBufferSize => normalize_set_buffer_size(value),
-    }
-}
-
-/// The value that is answered for one that is told, where it isn't too large.
-fn value_told(option: Opt, told: u64) -> u64
-    ensures { result ≡ value_told option told }
-{
-    match option {
-        Opt::KeepAliveEnabled => u64::from(told != 0),
-        Opt::KeepAliveIdleTime | Opt::KeepAliveInterval => told,
-        Opt::KeepAliveCount | Opt::HopLimit => told,
-        Opt::ReceiveBufferSize | Opt::SendBufferSize => normalize_get_buffer_size(told),
-    }
-}
-
-/// A value that is too large for its option is `NotSupported`.
-fn within(option: Opt, value: u64) -> Result<u64, ErrorCode>
-    ensures answer { result ≡ option_within option value }
-    ensures within { IfOk result (λ answer. answer ≤ largest_value option) }
-{
-    if value <= largest_value(option) {
-        Ok(value)
-    } else {
-        Err(ErrorCode::NotSupported)
-    }
-}
-
-/// What is answered for what was told.
-fn answer(option: Opt, told: Result<u64, ErrorCode>) -> Result<u64, Refusal>
-    ensures answer { outcome result ≡ Ok (option_answer option told) }
-    ensures within { IfOk result (λ answer. answer ≤ largest_value option) }
-{
-    match told {
-        Ok(value) => match within(option, value_told(option, value)) {
-            Ok(answer) => Ok(answer),
-            Err(code) => Err(Refusal::Code(code)),
-        },
-        Err(code) => Err(Refusal::Code(code)),
-    }
-}
-
-/// The value of an option of a side.
-fn get_of_side<W: World>(world: &mut W, op: OpId, side: Sock, option: Opt) -> Result<u64, Refusal>
-    requires { (W.seen world.old).ended ≡ false }
-    ensures asked { AsksFor (get_of_side_asks op side option) (W.seen world.old) (W.seen world.new) (λ answer. answer) (outcome result) }
-    ensures within { IfOk result (λ answer. answer ≤ largest_value option) }
-    ensures unasked { OnErr (outcome result) (W.seen world.new ≡ W.seen world.old) }
-    ensures open { (W.seen world.new).ended ≡ false }
-{
-    let told = asks::get_option(world, op, side, option)?;
-    answer(option, told)
-}
-
-/// Sets an option of a side.
-fn set_of_side<W: World>(
-    world: &mut W,
-    op: OpId,
-    side: Sock,
-    option: Opt,
-    value: u64,
-) -> Result<(), Refusal>
-    requires open { (W.seen world.old).ended ≡ false }
-    requires fits { value ≤ largest_value option }
-    ensures asked { AsksFor (set_of_side_asks op side option value) (W.seen world.old) (W.seen world.new) (λ answer. answer) (outcome result) }
-    ensures unasked { OnErr (outcome result) (W.seen world.new ≡ W.seen world.old) }
-    ensures open { (W.seen world.new).ended ≡ false }
-{
-    if zero_test(option).refuses_after_state(value) {
-        return Err(Refusal::Code(ErrorCode::InvalidArgument));
-    }
-    let told = asks::set_option(world, op, side, option, value_set(option, value))?;
-    match told {
-        Ok(()) => Ok(()),
-        Err(code) => Err(Refusal::Code(code)),
-    }
-}
+use wasi_addr::ErrorCode;
+use wasi_common::{Setting, get_of_side, set_of_side};
+use wasi_world::{OpId, Opt, Refusal, World};
 
 impl TcpSocket {
     ghost use Rattle.wasi_tcp.specs.Options.{get_option_asks, set_option_asks, truth_answer};
@@ -181,31 +31,28 @@ impl TcpSocket {
         }
     }
 
-    /// Sets an option to a value that is at most its `largest_value`: yes is 1 and no is 0, a time is in nanoseconds, a
-    /// size in bytes. Connecting: `InvalidState`. Closed: its code. A code that is told is answered. 0 is
+    /// Sets an option. Connecting: `InvalidState`. Closed: its code. A code that is told is answered. 0 is
     /// `InvalidArgument`: for a time or a number of probes in any state, for the hop limit or a size where the state
     /// allows a set. Times, sizes and numbers of probes are brought into their ranges first. The socket stays as it is.
-    /// The setters of `tcp-socket` in `wasi:sockets/tcp` are this call of their option.
+    /// The setters of `tcp-socket` in `wasi:sockets/tcp` are this call of their setting.
     pub fn set_option<W: World>(
         &mut self,
         world: &mut W,
         op: OpId,
-        option: Opt,
-        value: u64,
+        setting: Setting,
     ) -> Result<(), Refusal>
-        requires open { (W.seen world.old).ended ≡ false }
-        requires fits { value ≤ largest_value option }
-        ensures asked { AsksFor (set_option_asks op self.old option value) (W.seen world.old) (W.seen world.new) (λ answer. (answer, self.new)) (outcome result) }
+        requires { (W.seen world.old).ended ≡ false }
+        ensures asked { AsksFor (set_option_asks op self.old (option_of setting) (number_of setting)) (W.seen world.old) (W.seen world.new) (λ answer. (answer, self.new)) (outcome result) }
         ensures same { self.new ≡ self.old }
         ensures side { side_of self.new ≡ side_of self.old }
         ensures unasked { OnErr (outcome result) (W.seen world.new ≡ W.seen world.old) }
         ensures open { (W.seen world.new).ended ≡ false }
     {
-        if zero_test(option).refuses_before_state(value) {
+        if setting.refused_before_state() {
             return Err(Refusal::Code(ErrorCode::InvalidArgument));
         }
         match self.usable_side() {
-            Ok(side) => set_of_side(world, op, side, option, value),
+            Ok(side) => set_of_side(world, op, side, setting),
             Err(code) => Err(Refusal::Code(code)),
         }
     }
@@ -237,7 +84,7 @@ impl TcpSocket {
         ensures unasked { OnErr (outcome result) (W.seen world.new ≡ W.seen world.old) }
         ensures open { (W.seen world.new).ended ≡ false }
     {
-        self.set_option(world, op, Opt::KeepAliveEnabled, u64::from(value))
+        self.set_option(world, op, Setting::KeepAliveEnabled(value))
     }
 
     /// How long a connection is idle before the first probe, in nanoseconds (`tcp-socket.keep-alive-idle-time`). Errors
@@ -267,7 +114,7 @@ impl TcpSocket {
         ensures unasked { OnErr (outcome result) (W.seen world.new ≡ W.seen world.old) }
         ensures open { (W.seen world.new).ended ≡ false }
     {
-        self.set_option(world, op, Opt::KeepAliveIdleTime, value)
+        self.set_option(world, op, Setting::KeepAliveIdleTime(value))
     }
 
     /// The time from one probe to the next, in nanoseconds (`tcp-socket.keep-alive-interval`). Errors are those of
@@ -296,7 +143,7 @@ impl TcpSocket {
         ensures unasked { OnErr (outcome result) (W.seen world.new ≡ W.seen world.old) }
         ensures open { (W.seen world.new).ended ≡ false }
     {
-        self.set_option(world, op, Opt::KeepAliveInterval, value)
+        self.set_option(world, op, Setting::KeepAliveInterval(value))
     }
 
     /// How many probes without an answer end a connection (`tcp-socket.keep-alive-count`). A number above 4,294,967,295
@@ -326,7 +173,7 @@ impl TcpSocket {
         ensures unasked { OnErr (outcome result) (W.seen world.new ≡ W.seen world.old) }
         ensures open { (W.seen world.new).ended ≡ false }
     {
-        self.set_option(world, op, Opt::KeepAliveCount, u64::from(value))
+        self.set_option(world, op, Setting::KeepAliveCount(value))
     }
 
     /// How many hops a packet lives (`tcp-socket.hop-limit`). A number above 255 that is told: `NotSupported`. Other
@@ -356,7 +203,7 @@ impl TcpSocket {
         ensures unasked { OnErr (outcome result) (W.seen world.new ≡ W.seen world.old) }
         ensures open { (W.seen world.new).ended ≡ false }
     {
-        self.set_option(world, op, Opt::HopLimit, u64::from(value))
+        self.set_option(world, op, Setting::HopLimit(value))
     }
 
     /// The size of the buffer for what comes in, in bytes (`tcp-socket.receive-buffer-size`): half of what is told.
@@ -385,7 +232,7 @@ impl TcpSocket {
         ensures unasked { OnErr (outcome result) (W.seen world.new ≡ W.seen world.old) }
         ensures open { (W.seen world.new).ended ≡ false }
     {
-        self.set_option(world, op, Opt::ReceiveBufferSize, value)
+        self.set_option(world, op, Setting::ReceiveBufferSize(value))
     }
 
     /// The size of the buffer for what goes out, in bytes (`tcp-socket.send-buffer-size`): half of what is told. Errors
@@ -414,7 +261,7 @@ impl TcpSocket {
         ensures unasked { OnErr (outcome result) (W.seen world.new ≡ W.seen world.old) }
         ensures open { (W.seen world.new).ended ≡ false }
     {
-        self.set_option(world, op, Opt::SendBufferSize, value)
+        self.set_option(world, op, Setting::SendBufferSize(value))
     }
 }
 

@@ -1,21 +1,19 @@
-//! A TCP socket and its states.
+//! A TCP socket and its states. The calls that bind, connect and listen stand in `starts`, those on its addresses in
+//! `addresses`, and its backlog in `backlog`.
 
-ghost use Rattle.std.specs.Prelude.{◌≡◌, true, false, OnErr, OnOk, IfOk, Ok, Some, None};
+ghost use Rattle.std.specs.Prelude.{◌≡◌, true, false, OnErr, OnOk, IfOk, Some, None};
 ghost use Rattle.wasi_world.specs.Asks.{AsksFor, Reaches, outcome};
-ghost use Rattle.wasi_world.specs.Typed.{ask_local};
-ghost use Rattle.wasi_tcp.specs.Bind.{IsOf};
 
-use crate::bind::{Asker, BindOp};
+mod addresses;
+mod backlog;
+mod starts;
+
 use crate::connect::ConnectOp;
 use crate::halves::{TcpReceiveStream, TcpSendStream};
-use crate::listen::ListenOp;
-use crate::listener::TcpListenStream;
 use std::alloc::AllocError;
 use std::marker::Model;
-use wasi_addr::{
-    ErrorCode, IpSocketAddress, SocketAddressFamily, clamp_backlog, is_unspecified_addr,
-    is_valid_address_family, is_valid_remote_address, is_valid_unicast_address, unspecified_addr,
-};
+use wasi_addr::{ErrorCode, IpSocketAddress, SocketAddressFamily};
+use wasi_common::tells_bound;
 use wasi_world::{Answer, OpId, Refusal, Sock, WasiSocketsCtx, World, asks};
 
 /// How many connections may wait at a listener, unless it is set.
@@ -75,6 +73,7 @@ impl Connection {
         requires { (W.seen world.old).ended ≡ false }
         ensures asked { AsksFor (peer_asks op self.old) (W.seen world.old) (W.seen world.new) (λ answer. (answer, self.new)) (outcome result) }
         ensures err { OnErr (outcome result) (self.new ≡ self.old) }
+        ensures unasked { OnErr (outcome result) (W.seen world.new ≡ W.seen world.old) }
         ensures side { self.new.side ≡ self.old.side }
         ensures open { (W.seen world.new).ended ≡ false }
     {
@@ -155,6 +154,7 @@ impl TcpState {
         requires { (W.seen world.old).ended ≡ false }
         ensures asked { AsksFor (remote_in op self.old) (W.seen world.old) (W.seen world.new) (λ answer. (answer, self.new)) (outcome result) }
         ensures err { OnErr (outcome result) (self.new ≡ self.old) }
+        ensures unasked { OnErr (outcome result) (W.seen world.new ≡ W.seen world.old) }
         ensures side { side_in self.new ≡ side_in self.old }
         ensures open { (W.seen world.new).ended ≡ false }
     {
@@ -187,14 +187,12 @@ impl Model for TcpSocket {
 }
 
 impl TcpSocket {
-    ghost use Rattle.wasi_tcp.specs.Socket.{side_of, new_asks, bound_asks, bind_asks, after_local, bind_start};
-    ghost use Rattle.wasi_tcp.specs.Connecting.{start_connect_asks, connect_start, finish_connect_asks, in_socket, HoldsConnect};
-    ghost use Rattle.wasi_tcp.specs.Listening.{listen_asks, listen_start, listen_told, listen_settled};
+    ghost use Rattle.wasi_tcp.specs.Socket.{side_of, new_asks, bound_asks, after_local};
+    ghost use Rattle.wasi_tcp.specs.Connecting.{in_socket};
     ghost use Rattle.wasi_tcp.specs.Closing.{close_asks};
-    ghost use Rattle.wasi_tcp.specs.Options.{after_backlog, set_backlog_asks};
     ghost use Rattle.wasi_tcp.specs.Listener.{accepted_socket};
     ghost use Rattle.wasi_tcp.specs.Halves.{take_receive, take_send};
-    ghost use Rattle.wasi_tcp.specs.Addresses.{state_text, is_listening, usable_side, local_side, local_asks, local_where, remote_asks};
+    ghost use Rattle.wasi_tcp.specs.Addresses.{state_text, is_listening};
 
     /// Makes a socket in the state Default, where the context may use TCP; else `AccessDenied` without a call.
     /// A code that the create tells is answered.
@@ -301,301 +299,11 @@ impl TcpSocket {
         ensures learned { (result, self.new) ≡ after_local self.old told }
         ensures side { side_of self.new ≡ side_of self.old }
     {
-        match told {
-            Ok(addr) => {
-                if !is_unspecified_addr(addr, self.family) {
-                    self.bound = true;
-                    return true;
-                }
-                false
-            }
-            Err(_) => false,
-        }
-    }
-
-    /// Begins a bind to the address. Bound, or not in the state Default: `InvalidState`. Not unicast, or not of the
-    /// socket's family: `InvalidArgument`.
-    pub fn bind<W: World>(
-        &mut self,
-        world: &mut W,
-        op: OpId,
-        addr: IpSocketAddress,
-    ) -> Result<BindOp, Refusal>
-        requires { (W.seen world.old).ended ≡ false }
-        ensures asked { AsksFor (bind_asks op self.old addr) (W.seen world.old) (W.seen world.new) (λ begun. (begun, self.new)) (outcome result) }
-        ensures its_socket { IfOk result (λ begun. IsOf begun self.new) }
-        ensures side { side_of self.new ≡ side_of self.old }
-        ensures open { (W.seen world.new).ended ≡ false }
-    {
-        let bound = self.is_bound(world, op)?;
-        self.begin_bind(op, addr, bound)
-    }
-
-    /// The tests of a bind.
-    fn begin_bind(&self, op: OpId, addr: IpSocketAddress, bound: bool) -> Result<BindOp, Refusal>
-        ensures begun { outcome result ≡ Ok (bind_start op self.now addr bound) }
-        ensures its_socket { IfOk result (λ begun. IsOf begun self.now) }
-    {
+        let bound = tells_bound(told, self.family);
         if bound {
-            return Err(Refusal::Code(ErrorCode::InvalidState));
+            self.bound = true;
         }
-        match self.state {
-            TcpState::Default(side) => {
-                if !is_valid_unicast_address(addr.ip())
-                    || !is_valid_address_family(addr.ip(), self.family)
-                {
-                    return Err(Refusal::Code(ErrorCode::InvalidArgument));
-                }
-                Ok(BindOp::new(op, side, self.maker, addr))
-            }
-            _ => Err(Refusal::Code(ErrorCode::InvalidState)),
-        }
-    }
-
-    /// Begins a connect to the address, which `poll_finish_connect` polls; nothing is checked yet. Not in the state
-    /// Default: `InvalidState`, without an ask. Not unicast, not remote, or not of the socket's family:
-    /// `InvalidArgument`, and the socket stays in the state Default.
-    pub fn start_connect<W: World>(
-        &mut self,
-        world: &mut W,
-        op: OpId,
-        addr: IpSocketAddress,
-    ) -> Result<(), Refusal>
-        requires { (W.seen world.old).ended ≡ false }
-        ensures asked { AsksFor (start_connect_asks op self.old addr) (W.seen world.old) (W.seen world.new) (λ answer. (answer, self.new)) (outcome result) }
-        ensures err { OnErr (outcome result) (self.new ≡ self.old) }
-        ensures side { side_of self.new ≡ side_of self.old }
-        ensures open { (W.seen world.new).ended ≡ false }
-    {
-        let TcpState::Default(side) = self.state else {
-            return Err(Refusal::Code(ErrorCode::InvalidState));
-        };
-        let bound = self.is_bound(world, op)?;
-        self.begin_connect(op, side, addr, bound)
-    }
-
-    /// The tests of a connect.
-    fn begin_connect(
-        &mut self,
-        op: OpId,
-        side: Sock,
-        addr: IpSocketAddress,
-        bound: bool,
-    ) -> Result<(), Refusal>
-        requires { side_of self.old ≡ Some side }
-        ensures answer { outcome result ≡ Ok (connect_start op side self.old addr bound).0 }
-        ensures socket { self.new ≡ (connect_start op side self.old addr bound).1 }
-        ensures side { side_of self.new ≡ side_of self.old }
-    {
-        if !is_valid_unicast_address(addr.ip())
-            || !is_valid_remote_address(addr)
-            || !is_valid_address_family(addr.ip(), self.family)
-        {
-            return Err(Refusal::Code(ErrorCode::InvalidArgument));
-        }
-        let asker = Asker {
-            op,
-            side,
-            maker: self.maker,
-        };
-        let wildcard = unspecified_addr(self.family);
-        self.state = TcpState::Connecting(ConnectOp::new(asker, wildcard, addr, bound));
-        Ok(())
-    }
-
-    /// Polls the connect that was started: done, the socket is Connected; refused, its side is closed, and it is
-    /// Closed with the code that is answered. Connected already: ready. Closed: its code. Default: `InvalidState`.
-    /// After want of memory the connect stands as after its last answered ask, and may be polled again.
-    pub fn poll_finish_connect<W: World>(&mut self, world: &mut W) -> Result<Answer<()>, Refusal>
-        requires { (W.seen world.old).ended ≡ false }
-        ensures asked { AsksFor (finish_connect_asks self.old) (W.seen world.old) (W.seen world.new) (λ answer. (answer, self.new)) (outcome result) }
-        ensures err { OnErr (outcome result) (Reaches (finish_connect_asks self.old) (finish_connect_asks self.new) (W.seen world.old) (W.seen world.new)) }
-        ensures side { OnErr (outcome result) (side_of self.new ≡ side_of self.old) }
-        ensures before { HoldsConnect self.old.state }
-        ensures after { HoldsConnect self.new.state }
-        ensures open { (W.seen world.new).ended ≡ false }
-    {
-        self.state.poll_finish_connect(world)
-    }
-
-    /// Begins to listen (`tcp-socket.start-listen`); `ListenOp::poll` goes on with it. Not in the state Default:
-    /// `InvalidState`. The operation takes the network side with it: from here on the socket is Closed, with the code
-    /// `Other`, until the listen is done. Nothing is checked yet.
-    pub fn listen<W: World>(&mut self, world: &mut W, op: OpId) -> Result<ListenOp, Refusal>
-        requires { (W.seen world.old).ended ≡ false }
-        ensures asked { AsksFor (listen_asks op self.old) (W.seen world.old) (W.seen world.new) (λ begun. (begun, self.new)) (outcome result) }
-        ensures taken { IfOk result (λ begun. (side_of self.old ≡ Some begun.who.side) × (side_of self.new ≡ None)) }
-        ensures refused { OnErr result (side_of self.new ≡ side_of self.old) }
-        ensures open { (W.seen world.new).ended ≡ false }
-    {
-        let bound = self.is_bound(world, op)?;
-        self.begin_listen(op, bound)
-    }
-
-    /// The test of a listen, and what it makes of the socket.
-    fn begin_listen(&mut self, op: OpId, bound: bool) -> Result<ListenOp, Refusal>
-        ensures begun { outcome result ≡ Ok (listen_start op self.old bound self.old.state).0 }
-        ensures socket { self.new ≡ (listen_start op self.old bound self.old.state).1 }
-        ensures taken { IfOk result (λ begun. (side_of self.old ≡ Some begun.who.side) × (side_of self.new ≡ None)) }
-        ensures refused { OnErr result (side_of self.new ≡ side_of self.old) }
-    {
-        let TcpState::Default(side) = self.state else {
-            return Err(Refusal::Code(ErrorCode::InvalidState));
-        };
-        let asker = Asker {
-            op,
-            side,
-            maker: self.maker,
-        };
-        let wildcard = unspecified_addr(self.family);
-        self.state = TcpState::Closed(ErrorCode::Other);
-        Ok(ListenOp::new(asker, wildcard, self.backlog, bound))
-    }
-
-    /// What a poll of its listen makes of it, and of the answer.
-    pub(crate) fn settle_listen(
-        &mut self,
-        side: Sock,
-        maker: u32,
-        polled: Result<Answer<()>, Refusal>,
-    ) -> Result<Answer<TcpListenStream>, Refusal>
-        ensures told { result ≡ listen_told side maker self.old polled }
-        ensures socket { self.new ≡ listen_settled side self.old polled }
-    {
-        match polled {
-            Ok(Answer::Ready(())) => {
-                self.state = TcpState::Listening(side);
-                Ok(Answer::Ready(TcpListenStream::new(side, maker, self.family)))
-            }
-            Ok(Answer::Pending) => Ok(Answer::Pending),
-            Err(refusal) => Err(refusal),
-        }
-    }
-
-    /// How many connections may wait at a listener (`tcp-socket.set-listen-backlog-size`): the value is brought into 1
-    /// to 2,147,483,647. 0: `InvalidArgument`, in any state. In the state Default it is kept for the listen to come, and
-    /// nothing is asked. Listening, its side is asked for it: done, it is kept; a code is answered as `NotSupported`,
-    /// and the old one stays. Closed: its code. Connecting or Connected: `InvalidState`. After want of memory the socket
-    /// is as it was.
-    pub fn set_listen_backlog_size<W: World>(
-        &mut self,
-        world: &mut W,
-        op: OpId,
-        value: u64,
-    ) -> Result<(), Refusal>
-        requires { (W.seen world.old).ended ≡ false }
-        ensures asked { AsksFor (set_backlog_asks op self.old value) (W.seen world.old) (W.seen world.new) (λ answer. (answer, self.new)) (outcome result) }
-        ensures err { OnErr (outcome result) (self.new ≡ self.old) }
-        ensures unasked { OnErr (outcome result) (W.seen world.new ≡ W.seen world.old) }
-        ensures side { side_of self.new ≡ side_of self.old }
-        ensures open { (W.seen world.new).ended ≡ false }
-    {
-        if value == 0 {
-            return Err(Refusal::Code(ErrorCode::InvalidArgument));
-        }
-        let backlog = clamp_backlog(value);
-        match &self.state {
-            TcpState::Default(_) => {
-                self.backlog = backlog;
-                Ok(())
-            }
-            TcpState::Listening(side) => {
-                let told = asks::set_backlog(world, op, *side, backlog)?;
-                self.learn_backlog(backlog, told)
-            }
-            TcpState::Connecting(_) | TcpState::Connected(_) => {
-                Err(Refusal::Code(ErrorCode::InvalidState))
-            }
-            TcpState::Closed(code) => Err(Refusal::Code(*code)),
-        }
-    }
-
-    /// What the network tells of a backlog; one that it takes is kept.
-    fn learn_backlog(&mut self, backlog: u32, told: Result<(), ErrorCode>) -> Result<(), Refusal>
-        ensures answer { outcome result ≡ Ok (after_backlog self.old backlog told).0 }
-        ensures socket { self.new ≡ (after_backlog self.old backlog told).1 }
-        ensures side { side_of self.new ≡ side_of self.old }
-    {
-        match told {
-            Ok(()) => {
-                self.backlog = backlog;
-                Ok(())
-            }
-            Err(_) => Err(Refusal::Code(ErrorCode::NotSupported)),
-        }
-    }
-
-    /// The local address. Not bound, or connecting: `InvalidState`. Closed: its code. A code that is told is answered.
-    pub fn local_address<W: World>(
-        &mut self,
-        world: &mut W,
-        op: OpId,
-    ) -> Result<IpSocketAddress, Refusal>
-        requires { (W.seen world.old).ended ≡ false }
-        ensures asked { AsksFor (local_asks op self.old) (W.seen world.old) (W.seen world.new) (λ answer. (answer, self.new)) (outcome result) }
-        ensures err { OnErr (outcome result) (Reaches (local_asks op self.old) (local_asks op self.new) (W.seen world.old) (W.seen world.new)) }
-        ensures side { side_of self.new ≡ side_of self.old }
-        ensures open { (W.seen world.new).ended ≡ false }
-    {
-        let bound = self.is_bound(world, op)?;
-        self.local_where(world, op, bound)
-    }
-
-    /// Asks for the local address of a socket that is bound.
-    fn local_where<W: World>(
-        &self,
-        world: &mut W,
-        op: OpId,
-        bound: bool,
-    ) -> Result<IpSocketAddress, Refusal>
-        requires { (W.seen world.old).ended ≡ false }
-        ensures asked { AsksFor (local_where op self.now bound) (W.seen world.old) (W.seen world.new) (λ answer. (answer, self.now)) (outcome result) }
-        ensures err { OnErr (outcome result) (W.seen world.new ≡ W.seen world.old) }
-        ensures bound { OnErr (outcome result) (bound ≡ true) }
-        ensures open { (W.seen world.new).ended ≡ false }
-    {
-        match self.local_side(bound) {
-            Ok(side) => told_address(world, op, side),
-            Err(code) => Err(Refusal::Code(code)),
-        }
-    }
-
-    /// The side whose local address may be asked for.
-    fn local_side(&self, bound: bool) -> Result<Sock, ErrorCode>
-        ensures { result ≡ local_side self.now bound }
-    {
-        if !bound {
-            return Err(ErrorCode::InvalidState);
-        }
-        self.usable_side()
-    }
-
-    /// The side that may be asked about its address and its options: none while it connects. Closed: its code.
-    pub(crate) fn usable_side(&self) -> Result<Sock, ErrorCode>
-        ensures { result ≡ usable_side self.now.state }
-    {
-        match &self.state {
-            TcpState::Default(side) | TcpState::Listening(side) => Ok(*side),
-            TcpState::Connecting(_) => Err(ErrorCode::InvalidState),
-            TcpState::Connected(connection) => Ok(connection.side),
-            TcpState::Closed(code) => Err(*code),
-        }
-    }
-
-    /// The remote address of a connection, which is kept once it is told. Closed: its code. Not Connected:
-    /// `InvalidState`. A code that is told is answered.
-    pub fn remote_address<W: World>(
-        &mut self,
-        world: &mut W,
-        op: OpId,
-    ) -> Result<IpSocketAddress, Refusal>
-        requires { (W.seen world.old).ended ≡ false }
-        ensures asked { AsksFor (remote_asks op self.old) (W.seen world.old) (W.seen world.new) (λ answer. (answer, self.new)) (outcome result) }
-        ensures err { OnErr (outcome result) (self.new ≡ self.old) }
-        ensures side { side_of self.new ≡ side_of self.old }
-        ensures open { (W.seen world.new).ended ≡ false }
-    {
-        self.state.remote_address(world, op)
+        bound
     }
 
     /// The receiving half, which is taken once. Taken already, or not Connected: `InvalidState`. Closed: its code.
@@ -652,19 +360,5 @@ impl TcpSocket {
         ensures { result ≡ is_listening self.now.state }
     {
         matches!(self.state, TcpState::Listening(_))
-    }
-}
-
-/// The local address of a side.
-fn told_address<W: World>(world: &mut W, op: OpId, side: Sock) -> Result<IpSocketAddress, Refusal>
-    requires { (W.seen world.old).ended ≡ false }
-    ensures asked { AsksFor (ask_local op side) (W.seen world.old) (W.seen world.new) (λ told. told) (outcome result) }
-    ensures err { OnErr (outcome result) (W.seen world.new ≡ W.seen world.old) }
-    ensures open { (W.seen world.new).ended ≡ false }
-{
-    let told = asks::local(world, op, side)?;
-    match told {
-        Ok(addr) => Ok(addr),
-        Err(code) => Err(Refusal::Code(code)),
     }
 }

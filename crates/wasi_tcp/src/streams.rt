@@ -1,6 +1,6 @@
 //! The two ends of a connection, as streams.
 
-ghost use Rattle.std.specs.Prelude.{◌≡◌, IfOk, IsOkAnd};
+ghost use Rattle.std.specs.Prelude.{◌≡◌, IfOk, IsErr, IsOkAnd, OnErr};
 ghost use Rattle.wasi_streams.specs.StreamStop.{stream_outcome};
 ghost use Rattle.wasi_tcp.specs.Waiting.{is_told};
 
@@ -12,7 +12,8 @@ use wasi_world::{Answer, Octets, OpId, World};
 
 /// Whether a look tells something: room, or an error.
 fn told(answer: Result<Answer<()>, StreamError>) -> Result<bool, AllocError>
-    ensures { IfOk result (λ told. IsOkAnd (stream_outcome answer) (λ answer. told ≡ is_told answer)) }
+    ensures told { IfOk result (λ told. IsOkAnd (stream_outcome answer) (λ answer. told ≡ is_told answer)) }
+    ensures memory { OnErr result (IsErr (stream_outcome answer)) }
 {
     match answer {
         Ok(Answer::Ready(())) => Ok(true),

@@ -32,7 +32,7 @@ pub record GaveSome (old new : Reading) (size : ℕ) (buffer : List ℕ) (count 
   pub more : 0 < count → new.ended ≡ old.ended
   pub unasked : size ≡ 0 → new.ended ≡ old.ended
 
--- A read failed: a fault was counted, and no byte moved.
+-- A read failed: one fault was counted, and no byte moved.
 pub record GaveNone (old new : Reading) : Type 0 where
   pub rose : Rose old.faults new.faults
   pub left : new.left ≡ old.left
@@ -65,7 +65,7 @@ pub record TookSome (old new : Writing) (bytes : List ℕ) (count : ℕ) : Type 
   pub refused : 0 < length bytes → count ≡ 0 → Rose old.refused new.refused
   pub flushed : new.flushed ≡ option_map (λ flushed. false) old.flushed
 
--- A write failed: a fault was counted, and no byte moved.
+-- A write failed: one fault was counted, and no byte moved.
 pub record TookNone (old new : Writing) : Type 0 where
   pub rose : Rose old.faults new.faults
   pub written : new.written ≡ old.written
@@ -82,7 +82,7 @@ pub record Flushed (old new : Writing) : Type 0 where
   pub counts : SameCounts old new
   pub flushed : new.flushed ≡ option_map (λ flushed. true) old.flushed
 
--- A flush failed: a fault was counted.
+-- A flush failed: one fault was counted.
 pub record FlushFailed (old new : Writing) : Type 0 where
   pub rose : Rose old.faults new.faults
   pub written : new.written ≡ old.written

@@ -12,6 +12,7 @@ pub mod Script
 pub mod Queued
 pub mod Scripted
 pub mod Memory
+pub mod Standard
 pub mod Lines
 pub mod Scenario
 pub mod EntryText

@@ -1,5 +1,6 @@
 -- A source and a sink in memory: what is known of them, and what each call makes of them.
-use Rattle.std.specs.Prelude.{ℕ, List, ◌++◌, ◌+◌, ◌-◌, ◌^◌, Bool, true, false, Contains, ◌&&◌, ◌||◌, ◌==◌, nat_lt, min, take, drop, length, Some, if◌then◌else◌}
+use Rattle.std.specs.Prelude.{ℕ, List, ◌++◌, ◌-◌, Bool, true, false, Contains, ◌&&◌, ◌||◌, ◌==◌, nat_lt, take, drop, length, Some, if◌then◌else◌}
+use Rattle.wasi_world.specs.Seen.{one_more}
 use Rattle.wasi_world.specs.Io.{Reading, Writing}
 
 -- a source in memory
@@ -27,10 +28,6 @@ reading_of source = record { left = Some source.left; ended = source.ended; faul
 
 abbrev pub writing_of : MemoryWriting → Writing
 writing_of sink = record { written = Some sink.written; flushed = Some sink.flushed; faults = sink.faults; refused = sink.refused }
-
--- one more in 64 bits, where a count stays at its top
-abbrev pub one_more : ℕ → ℕ
-one_more count = min (count + 1) (2 ^ 64 - 1)
 
 -- The call after so many is one of those that fail. Their numbers count from 1, in 32 bits.
 abbrev pub IsFailing : List ℕ → ℕ → Type 0

@@ -1,15 +1,24 @@
-//! Each kind of ask, with a type that has just the answers that fit. Only this file looks at what a world told.
+//! Each kind of ask, with a type that has just the answers that fit. Those of UDP stand in `udp`; only `told` looks at
+//! what a world told.
 
 ghost use Rattle.std.specs.Prelude.{◌≡◌, ◌<◌, ◌≤◌, ◌^◌, OnErr, IfOk, length, false};
 ghost use Rattle.wasi_world.specs.Asks.{AsksFor};
-ghost use Rattle.wasi_world.specs.Typed.{ask_check, ask_lookup, ask_tcp_create, ask_udp_create, ask_udp_writable, ask_local, ask_peer, ask_bind, ask_udp_bind, ask_udp_connect, ask_listen, ask_set_backlog, ask_connect, ask_accept, ask_hand, ask_refuse, ask_read, ask_read_ready, ask_write_ready, ask_shutdown, ask_udp_disconnect, ask_recv, ask_get_option, ask_set_option, ask_close, ask_made, ask_write, ask_send, IsTakenOf, IsReadOf, told_verdict, told_done, told_addr, told_value, told_ready, told_polled, told_arrival, told_bytes, told_taken, told_datagram, told_names};
+ghost use Rattle.wasi_world.specs.Typed.{ask_check, ask_lookup, ask_tcp_create, ask_local, ask_peer, ask_bind, ask_listen, ask_set_backlog, ask_connect, ask_accept, ask_hand, ask_refuse, ask_read, ask_read_ready, ask_write_ready, ask_shutdown, ask_get_option, ask_set_option, ask_close, ask_made, ask_write, IsTakenOf, IsReadOf};
 
-use crate::call::{Call, HandleKind, Opt, Told};
+mod told;
+mod udp;
+
+use crate::call::{Call, HandleKind, Opt};
 use crate::ids::{OpId, Sock};
 use crate::octets::{IpList, NameText, Octets};
 use crate::outcome::Answer;
 use crate::world::World;
 use std::alloc::AllocError;
+use told::{
+    told_addr, told_arrival, told_bytes, told_done, told_names, told_polled, told_ready,
+    told_taken, told_value, told_verdict,
+};
+pub use udp::{recv, send, udp_bind, udp_connect, udp_create, udp_disconnect, udp_writable};
 use wasi_addr::{ErrorCode, IpSocketAddress, ShutdownType, SocketAddrUse, SocketAddressFamily};
 
 /// What the check says.
@@ -26,114 +35,6 @@ pub enum Polled<T> {
     Pending,
     Ready(T),
     Code(ErrorCode),
-}
-
-fn told_verdict(told: Told) -> Verdict
-    ensures { result ≡ told_verdict told }
-{
-    match told {
-        Told::Yes => Verdict::Yes,
-        Told::No => Verdict::No,
-        _ => Verdict::Pending,
-    }
-}
-
-fn told_done(told: Told) -> Result<(), ErrorCode>
-    ensures { result ≡ told_done told }
-{
-    match told {
-        Told::Code(code) => Err(code),
-        _ => Ok(()),
-    }
-}
-
-fn told_addr(told: Told) -> Result<IpSocketAddress, ErrorCode>
-    ensures { result ≡ told_addr told }
-{
-    match told {
-        Told::Addr(addr) => Ok(addr),
-        Told::Code(code) => Err(code),
-        _ => Err(ErrorCode::Other),
-    }
-}
-
-fn told_value(told: Told) -> Result<u64, ErrorCode>
-    ensures { result ≡ told_value told }
-{
-    match told {
-        Told::Value(value) => Ok(value),
-        Told::Code(code) => Err(code),
-        _ => Err(ErrorCode::Other),
-    }
-}
-
-fn told_ready(told: Told) -> Answer<()>
-    ensures { result ≡ told_ready told }
-{
-    match told {
-        Told::Done => Answer::Ready(()),
-        _ => Answer::Pending,
-    }
-}
-
-fn told_polled(told: Told) -> Polled<()>
-    ensures { result ≡ told_polled told }
-{
-    match told {
-        Told::Done => Polled::Ready(()),
-        Told::Code(code) => Polled::Code(code),
-        _ => Polled::Pending,
-    }
-}
-
-fn told_arrival(told: Told) -> Polled<IpSocketAddress>
-    ensures { result ≡ told_arrival told }
-{
-    match told {
-        Told::Arrived(peer) => Polled::Ready(peer),
-        Told::Code(code) => Polled::Code(code),
-        _ => Polled::Pending,
-    }
-}
-
-fn told_bytes(told: Told) -> Polled<Octets>
-    ensures { result ≡ told_bytes told }
-{
-    match told {
-        Told::Bytes(bytes) => Polled::Ready(bytes),
-        Told::Code(code) => Polled::Code(code),
-        _ => Polled::Pending,
-    }
-}
-
-fn told_taken(told: Told) -> Polled<usize>
-    ensures { result ≡ told_taken told }
-{
-    match told {
-        Told::Took(bytes) => Polled::Ready(bytes.len()),
-        Told::Code(code) => Polled::Code(code),
-        _ => Polled::Pending,
-    }
-}
-
-fn told_datagram(told: Told) -> Polled<(Octets, IpSocketAddress)>
-    ensures { result ≡ told_datagram told }
-{
-    match told {
-        Told::Datagram(bytes, peer) => Polled::Ready((bytes, peer)),
-        Told::Code(code) => Polled::Code(code),
-        _ => Polled::Pending,
-    }
-}
-
-fn told_names(told: Told) -> Polled<IpList>
-    ensures { result ≡ told_names told }
-{
-    match told {
-        Told::Names(names) => Polled::Ready(names),
-        Told::Code(code) => Polled::Code(code),
-        _ => Polled::Pending,
-    }
 }
 
 /// Asks the embedder's check about an address and a use.
@@ -182,31 +83,6 @@ pub fn tcp_create<W: World>(
     Ok(told_done(told))
 }
 
-pub fn udp_create<W: World>(
-    world: &mut W,
-    op: OpId,
-    ctx: u32,
-    family: SocketAddressFamily,
-) -> Result<Result<(), ErrorCode>, AllocError>
-    requires { (W.seen world.old).ended ≡ false }
-    ensures asked { AsksFor (ask_udp_create op ctx family) (W.seen world.old) (W.seen world.new) (λ answer. answer) result }
-    ensures err { OnErr result (W.seen world.new ≡ W.seen world.old) }
-    ensures open { (W.seen world.new).ended ≡ false }
-{
-    let told = world.call(op, Call::UdpCreate { ctx, family })?;
-    Ok(told_done(told))
-}
-
-pub fn udp_writable<W: World>(world: &mut W, op: OpId, sock: Sock) -> Result<Polled<()>, AllocError>
-    requires { (W.seen world.old).ended ≡ false }
-    ensures asked { AsksFor (ask_udp_writable op sock) (W.seen world.old) (W.seen world.new) (λ answer. answer) result }
-    ensures err { OnErr result (W.seen world.new ≡ W.seen world.old) }
-    ensures open { (W.seen world.new).ended ≡ false }
-{
-    let told = world.call(op, Call::UdpWritable { sock })?;
-    Ok(told_polled(told))
-}
-
 pub fn local<W: World>(
     world: &mut W,
     op: OpId,
@@ -247,36 +123,6 @@ pub fn bind<W: World>(
     ensures open { (W.seen world.new).ended ≡ false }
 {
     let told = world.call(op, Call::Bind { sock, addr })?;
-    Ok(told_done(told))
-}
-
-pub fn udp_bind<W: World>(
-    world: &mut W,
-    op: OpId,
-    sock: Sock,
-    addr: IpSocketAddress,
-) -> Result<Result<(), ErrorCode>, AllocError>
-    requires { (W.seen world.old).ended ≡ false }
-    ensures asked { AsksFor (ask_udp_bind op sock addr) (W.seen world.old) (W.seen world.new) (λ answer. answer) result }
-    ensures err { OnErr result (W.seen world.new ≡ W.seen world.old) }
-    ensures open { (W.seen world.new).ended ≡ false }
-{
-    let told = world.call(op, Call::UdpBind { sock, addr })?;
-    Ok(told_done(told))
-}
-
-pub fn udp_connect<W: World>(
-    world: &mut W,
-    op: OpId,
-    sock: Sock,
-    addr: IpSocketAddress,
-) -> Result<Result<(), ErrorCode>, AllocError>
-    requires { (W.seen world.old).ended ≡ false }
-    ensures asked { AsksFor (ask_udp_connect op sock addr) (W.seen world.old) (W.seen world.new) (λ answer. answer) result }
-    ensures err { OnErr result (W.seen world.new ≡ W.seen world.old) }
-    ensures open { (W.seen world.new).ended ≡ false }
-{
-    let told = world.call(op, Call::UdpConnect { sock, addr })?;
     Ok(told_done(told))
 }
 
@@ -422,34 +268,6 @@ pub fn shutdown<W: World>(
     Ok(())
 }
 
-pub fn udp_disconnect<W: World>(
-    world: &mut W,
-    op: OpId,
-    sock: Sock,
-) -> Result<Result<(), ErrorCode>, AllocError>
-    requires { (W.seen world.old).ended ≡ false }
-    ensures asked { AsksFor (ask_udp_disconnect op sock) (W.seen world.old) (W.seen world.new) (λ answer. answer) result }
-    ensures err { OnErr result (W.seen world.new ≡ W.seen world.old) }
-    ensures open { (W.seen world.new).ended ≡ false }
-{
-    let told = world.call(op, Call::UdpDisconnect { sock })?;
-    Ok(told_done(told))
-}
-
-pub fn recv<W: World>(
-    world: &mut W,
-    op: OpId,
-    sock: Sock,
-) -> Result<Polled<(Octets, IpSocketAddress)>, AllocError>
-    requires { (W.seen world.old).ended ≡ false }
-    ensures asked { AsksFor (ask_recv op sock) (W.seen world.old) (W.seen world.new) (λ answer. answer) result }
-    ensures err { OnErr result (W.seen world.new ≡ W.seen world.old) }
-    ensures open { (W.seen world.new).ended ≡ false }
-{
-    let told = world.call(op, Call::Recv { sock })?;
-    Ok(told_datagram(told))
-}
-
 pub fn get_option<W: World>(
     world: &mut W,
     op: OpId,
@@ -541,21 +359,4 @@ pub fn write<W: World>(
 {
     let told = world.write(op, sock, bytes)?;
     Ok(told_taken(told))
-}
-
-/// Sends one datagram.
-pub fn send<W: World>(
-    world: &mut W,
-    op: OpId,
-    sock: Sock,
-    addr: IpSocketAddress,
-    bytes: &[u8],
-) -> Result<Polled<()>, AllocError>
-    requires { (W.seen world.old).ended ≡ false }
-    ensures asked { AsksFor (ask_send op sock addr bytes.now) (W.seen world.old) (W.seen world.new) (λ answer. answer) result }
-    ensures err { OnErr result (W.seen world.new ≡ W.seen world.old) }
-    ensures open { (W.seen world.new).ended ≡ false }
-{
-    let told = world.send(op, sock, addr, bytes)?;
-    Ok(told_polled(told))
 }

@@ -1,6 +1,6 @@
 //! The fields of a line, which scripts and scenarios share.
 
-ghost use Rattle.std.specs.Prelude.{IsUtf8, ◌≢◌, OnOk, string_bytes, ◌++◌, ◌<◌, ◌^◌, option_copied, IfOk, ◌≡◌, ◌≤◌, ℕ, List, ◌∷◌, [], decimal, Some, IsTrue, ◌↔◌, IfSome, IfNone, position};
+ghost use Rattle.std.specs.Prelude.{IsUtf8, ◌≢◌, OnOk, OnErr, string_bytes, ◌++◌, ◌<◌, ◌^◌, option_copied, IfOk, ◌≡◌, ◌≤◌, ℕ, List, ◌∷◌, [], decimal, Some, IsTrue, ◌↔◌, IfSome, IfNone, position};
 ghost use Rattle.std.specs.List.{list_all};
 ghost use Rattle.hex.specs.Hex.{encode_lower};
 ghost use Rattle.wasi_world.specs.Written.{ReadsExactly, AreVisible, AreBytes, number_fields, family_fields, ip_fields, address_fields, code_fields, bytes_fields, FitsIp, FitsAddress};
@@ -65,15 +65,11 @@ impl<'a> Fields<'a> {
         }
     }
 
-    /// Takes the next field, if it is text.
-    #[tactic(auto, unfolding(crate::specs::Fields::word_at, crate::specs::Fields::field_at, crate::specs::Fields::read_then, crate::specs::Fields::give_some))]
-    pub fn word(&mut self) -> Option<&'a str>
-        ensures { Reads word_at self.old (option_copied result) self.new }
+    /// The same fields, to be read without being taken.
+    fn copied(&self) -> Fields<'a>
+        ensures { result ≡ self.now }
     {
-        match str::from_utf8(self.next()?) {
-            Ok(text) => Some(text),
-            Err(_) => None,
-        }
+        Fields { rest: self.rest }
     }
 
     /// Whether no field is left.
@@ -83,9 +79,113 @@ impl<'a> Fields<'a> {
         self.rest.is_none()
     }
 
-    /// Takes a number of at most this.
-    #[tactic(auto, unfolding(crate::specs::Fields::number_at, crate::specs::Fields::field_at, crate::specs::Fields::read_then, crate::specs::Fields::give_some))]
+    /// Takes the next field, if it is text; else nothing is taken.
+    pub fn word(&mut self) -> Option<&'a str>
+        ensures read { Reads word_at self.old (option_copied result) self.new }
+        ensures kept { IfNone result (self.new ≡ self.old) }
+    {
+        let mut fields = self.copied();
+        let text = fields.read_word()?;
+        *self = fields;
+        Some(text)
+    }
+
+    /// Takes a number of at most this, or nothing.
     pub fn number(&mut self, most: u64) -> Option<u64>
+        ensures read { Reads (number_at most) self.old result self.new }
+        ensures bound { IfSome result (λ n. n ≤ most) }
+        ensures kept { IfNone result (self.new ≡ self.old) }
+    {
+        let mut fields = self.copied();
+        let number = fields.read_number(most)?;
+        *self = fields;
+        Some(number)
+    }
+
+    /// Takes a number of 32 bits, or nothing.
+    pub fn u32(&mut self) -> Option<u32>
+        ensures read { Reads (number_at 4294967295) self.old result self.new }
+        ensures kept { IfNone result (self.new ≡ self.old) }
+    {
+        Some(self.number(4294967295)? as u32)
+    }
+
+    /// Takes a family, `4` or `6`, or nothing.
+    pub fn family(&mut self) -> Option<SocketAddressFamily>
+        ensures read { Reads family_at self.old result self.new }
+        ensures kept { IfNone result (self.new ≡ self.old) }
+    {
+        let mut fields = self.copied();
+        let family = fields.read_family()?;
+        *self = fields;
+        Some(family)
+    }
+
+    /// Takes an address with no port, or nothing: `4` and four bytes, or `6` and eight segments.
+    pub fn ip_address(&mut self) -> Option<IpAddress>
+        ensures read { Reads ip_at self.old result self.new }
+        ensures kept { IfNone result (self.new ≡ self.old) }
+    {
+        let mut fields = self.copied();
+        let address = fields.read_ip_address()?;
+        *self = fields;
+        Some(address)
+    }
+
+    /// Takes an address with its port, or nothing: `4 a b c d port` or
+    /// `6 s0 s1 s2 s3 s4 s5 s6 s7 port flow scope`.
+    pub fn socket_address(&mut self) -> Option<IpSocketAddress>
+        ensures read { Reads address_at self.old result self.new }
+        ensures kept { IfNone result (self.new ≡ self.old) }
+    {
+        let mut fields = self.copied();
+        let address = fields.read_socket_address()?;
+        *self = fields;
+        Some(address)
+    }
+
+    /// Takes the word of a code, or nothing.
+    pub fn code(&mut self) -> Option<ErrorCode>
+        ensures read { Reads code_at self.old result self.new }
+        ensures kept { IfNone result (self.new ≡ self.old) }
+    {
+        let mut fields = self.copied();
+        let code = fields.read_code()?;
+        *self = fields;
+        Some(code)
+    }
+
+    /// Takes bytes, for which it takes memory, or nothing; after want of memory nothing was taken.
+    pub fn octets(&mut self, alloc: Global) -> Result<Option<Octets>, AllocError>
+        ensures read { IfOk result (λ bytes. Reads bytes_at self.old bytes self.new) }
+        ensures kept { IfOk result (λ bytes. IfNone bytes (self.new ≡ self.old)) }
+        ensures err { OnErr result (self.new ≡ self.old) }
+    {
+        let mut fields = self.copied();
+        match fields.read_octets(alloc)? {
+            Some(bytes) => {
+                *self = fields;
+                Ok(Some(bytes))
+            }
+            None => Ok(None),
+        }
+    }
+}
+
+/// What the calls above read. After a refusal some fields are gone.
+impl<'a> Fields<'a> {
+    #[tactic(auto, unfolding(crate::specs::Fields::word_at, crate::specs::Fields::field_at, crate::specs::Fields::read_then, crate::specs::Fields::give_some))]
+    fn read_word(&mut self) -> Option<&'a str>
+        ensures { Reads word_at self.old (option_copied result) self.new }
+    {
+        match str::from_utf8(self.next()?) {
+            Ok(text) => Some(text),
+            Err(_) => None,
+        }
+    }
+
+    #[tactic(auto, unfolding(crate::specs::Fields::number_at, crate::specs::Fields::field_at, crate::specs::Fields::read_then, crate::specs::Fields::give_some))]
+    fn read_number(&mut self, most: u64) -> Option<u64>
         ensures read { Reads (number_at most) self.old result self.new }
         ensures bound { IfSome result (λ n. n ≤ most) }
     {
@@ -95,28 +195,20 @@ impl<'a> Fields<'a> {
     fn byte(&mut self) -> Option<u8>
         ensures { Reads (number_at 255) self.old result self.new }
     {
-        Some(self.number(255)? as u8)
+        Some(self.read_number(255)? as u8)
     }
 
     fn segment(&mut self) -> Option<u16>
         ensures { Reads (number_at 65535) self.old result self.new }
     {
-        Some(self.number(65535)? as u16)
+        Some(self.read_number(65535)? as u16)
     }
 
-    /// Takes a number of 32 bits.
-    pub fn u32(&mut self) -> Option<u32>
-        ensures { Reads (number_at 4294967295) self.old result self.new }
-    {
-        Some(self.number(4294967295)? as u32)
-    }
-
-    /// Takes a family: `4` or `6`.
     #[tactic(auto, unfolding(crate::specs::Fields::family_at, crate::specs::Fields::read_then, crate::specs::Fields::give_some))]
-    pub fn family(&mut self) -> Option<SocketAddressFamily>
+    fn read_family(&mut self) -> Option<SocketAddressFamily>
         ensures { Reads family_at self.old result self.new }
     {
-        match self.number(6)? {
+        match self.read_number(6)? {
             4 => Some(SocketAddressFamily::Ipv4),
             6 => Some(SocketAddressFamily::Ipv6),
             _ => None,
@@ -146,23 +238,21 @@ impl<'a> Fields<'a> {
         ))
     }
 
-    /// Takes an address with no port: `4` and four bytes, or `6` and eight segments.
     #[tactic(auto, unfolding(crate::specs::Fields::ip_at, crate::specs::Fields::read_then, crate::specs::Fields::give))]
-    pub fn ip_address(&mut self) -> Option<IpAddress>
+    fn read_ip_address(&mut self) -> Option<IpAddress>
         ensures { Reads ip_at self.old result self.new }
     {
-        match self.family()? {
+        match self.read_family()? {
             SocketAddressFamily::Ipv4 => Some(IpAddress::Ipv4(self.ipv4()?)),
             SocketAddressFamily::Ipv6 => Some(IpAddress::Ipv6(self.ipv6()?)),
         }
     }
 
-    /// Takes an address with its port: `4 a b c d port` or `6 s0 s1 s2 s3 s4 s5 s6 s7 port flow scope`.
     #[tactic(auto, unfolding(crate::specs::Fields::address_at, crate::specs::Fields::read_then, crate::specs::Fields::give))]
-    pub fn socket_address(&mut self) -> Option<IpSocketAddress>
+    fn read_socket_address(&mut self) -> Option<IpSocketAddress>
         ensures { Reads address_at self.old result self.new }
     {
-        match self.family()? {
+        match self.read_family()? {
             SocketAddressFamily::Ipv4 => Some(IpSocketAddress::Ipv4(Ipv4SocketAddress {
                 address: self.ipv4()?,
                 port: self.segment()?,
@@ -176,17 +266,15 @@ impl<'a> Fields<'a> {
         }
     }
 
-    /// Takes the word of a code.
     #[tactic(auto, unfolding(crate::specs::Fields::code_at, crate::specs::Fields::field_at, crate::specs::Fields::read_then, crate::specs::Fields::give_some))]
-    pub fn code(&mut self) -> Option<ErrorCode>
+    fn read_code(&mut self) -> Option<ErrorCode>
         ensures { Reads code_at self.old result self.new }
     {
         code_word(self.next()?)
     }
 
-    /// Takes bytes, for which it takes memory.
     #[tactic(auto, unfolding(crate::specs::Fields::bytes_at, crate::specs::Fields::field_at, crate::specs::Fields::read_then, crate::specs::Fields::give_some))]
-    pub fn octets(&mut self, alloc: Global) -> Result<Option<Octets>, AllocError>
+    fn read_octets(&mut self, alloc: Global) -> Result<Option<Octets>, AllocError>
         ensures { IfOk result (λ bytes. Reads bytes_at self.old bytes self.new) }
     {
         match self.next() {

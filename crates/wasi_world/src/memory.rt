@@ -2,7 +2,8 @@
 
 ghost use Rattle.std.specs.Prelude.{◌≡◌, ◌≤◌, ◌+◌, ◌++◌, [], false, length, min, take, drop, IfOk, OnOk, OnErr, IsErr, IsTrue, ◌↔◌};
 ghost use Rattle.wasi_world.specs.Io.{HasRead, HasWritten, HasFlushed};
-ghost use Rattle.wasi_world.specs.Memory.{reading_of, writing_of, one_more, IsFailing, ended_after, refused_after, after_read, after_failed_read, after_write, after_failed_write, after_flush, after_failed_flush};
+ghost use Rattle.wasi_world.specs.Seen.{one_more};
+ghost use Rattle.wasi_world.specs.Memory.{reading_of, writing_of, IsFailing, ended_after, refused_after, after_read, after_failed_read, after_write, after_failed_write, after_flush, after_failed_flush};
 
 use crate::io::{Failed, Sink, Source};
 use std::alloc::{AllocError, Global};

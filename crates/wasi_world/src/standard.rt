@@ -1,47 +1,41 @@
-//! The standard input and a file as sources, and the standard output as a sink.
+//! Readers and writers of std as sources and sinks, among them the standard streams, and files.
 
-ghost use Rattle.std.specs.Prelude.{◌≡◌, false, None};
-ghost use Rattle.wasi_world.specs.Io.{Reading, Writing};
+ghost use Rattle.std.specs.Prelude.{◌≡◌, false, length, IfOk};
+ghost use Rattle.std.specs.Io.KnownBytes.{Keeps, ReadConsumes, WriteAppends};
+ghost use Rattle.wasi_world.specs.Io.{HasRead, HasWritten, HasFlushed, Reading};
+ghost use Rattle.wasi_world.specs.Memory.{ended_after, refused_after};
+ghost use Rattle.wasi_world.specs.Standard.{reading_by, reading_of_file, left_in, writing_by};
 
 use crate::io::{Failed, Sink, Source};
 use crate::memory::{count_fault, ended_after, refused_after};
+use std::fs;
 use std::io::{Read, Write};
-use std::marker::Model;
 use std::rt::Files;
-use std::{fs, io};
 
-/// The standard input of a runtime, which it keeps. It tells no bytes.
+/// A reader as a source, which it keeps: the standard input, say. It tells no bytes of its own; what each read gives is
+/// what the reader gave.
 ///
 /// ```
 /// fn main(rt: HostRuntime) {
-///     let mut source = StdSource::new(rt);
+///     let mut source = StdSource::new(rt.stdin());
 ///     let mut buf = [0; 4096];
 ///     let answer = source.read(&mut buf);
 /// }
 /// ```
 #[derive(Drop)]
-pub struct StdSource<R> {
-    rt: R,
+pub struct StdSource<I> {
+    reader: I,
     ended: bool,
     faults: u64,
 }
 
-impl<R> Model for StdSource<R> {
-    ghost use Rattle.std.specs.Prelude.{None};
-    ghost use Rattle.wasi_world.specs.Io.{Reading};
-
-    ghost Value = { Reading };
-
-    ghost view = { λ s. record { left = None; ended = s.ended; faults = s.faults } };
-}
-
-impl<R> StdSource<R> {
-    /// The standard input of this runtime, with no fault yet.
-    pub fn new(rt: R) -> StdSource<R>
-        ensures { result ≡ record { left = None; ended = false; faults = 0 } }
+impl<I> StdSource<I> {
+    /// The reader from where it stands, with no fault yet.
+    pub fn new(reader: I) -> StdSource<I>
+        ensures { result ≡ record { reader = reader; ended = false; faults = 0 } }
     {
         StdSource {
-            rt,
+            reader,
             ended: false,
             faults: 0,
         }
@@ -62,12 +56,18 @@ impl<R> StdSource<R> {
     }
 }
 
-impl<R: Input> Source for StdSource<R> {
-    ghost reading = { λ s. s };
+impl<I: Read> Source for StdSource<I> {
+    ghost reading = { reading_by };
 
-    /// One read of the standard input. Whatever error it has, an interrupted call too, is a fault.
-    fn read(&mut self, buf: &mut [u8]) -> Result<usize, Failed> {
-        match self.rt.reader().read(buf) {
+    /// One read of the reader. Whatever error it has, an interrupted call too, is a fault and not the end.
+    fn read(&mut self, buf: &mut [u8]) -> Result<usize, Failed>
+        ensures read { HasRead (reading_by self.old) (reading_by self.new) (length buf.old) buf.new result }
+
+        // The bytes are those that the reader gave, and none were lost.
+        ensures bytes { ReadConsumes (I.remaining self.old.reader) (I.remaining self.new.reader) result buf.new }
+        ensures end { IfOk result (λ count. self.new.ended ≡ ended_after self.old.ended count (length buf.old)) }
+    {
+        match self.reader.read(buf) {
             Ok(count) => {
                 self.ended = ended_after(self.ended, count, buf.len());
                 Ok(count)
@@ -77,7 +77,8 @@ impl<R: Input> Source for StdSource<R> {
     }
 }
 
-/// A file that is read from its start. One that can't be opened fails at each read. It tells no bytes.
+/// A file that is read from its start. One that can't be opened fails at each read. It tells no bytes of its own; what
+/// each read gives is what the file gave.
 #[derive(Drop)]
 pub struct FileSource<F> {
     file: Option<F>,
@@ -85,19 +86,10 @@ pub struct FileSource<F> {
     faults: u64,
 }
 
-impl<F> Model for FileSource<F> {
-    ghost use Rattle.std.specs.Prelude.{None};
-    ghost use Rattle.wasi_world.specs.Io.{Reading};
-
-    ghost Value = { Reading };
-
-    ghost view = { λ s. record { left = None; ended = s.ended; faults = s.faults } };
-}
-
 impl<F> FileSource<F> {
     /// Opens the file at the path; that it can't be opened shows at the first read.
     pub fn open<R: Files<File = F>>(rt: &R, path: &str) -> FileSource<F>
-        ensures { result ≡ record { left = None; ended = false; faults = 0 } }
+        ensures { reading_of_file result ≡ record { left = None; ended = false; faults = 0 } }
     {
         FileSource {
             file: fs::open(rt, path).ok(),
@@ -108,10 +100,15 @@ impl<F> FileSource<F> {
 }
 
 impl<F: Read> Source for FileSource<F> {
-    ghost reading = { λ s. s };
+    ghost reading = { reading_of_file };
 
-    /// One read of the file. Whatever error it has is a fault.
-    fn read(&mut self, buf: &mut [u8]) -> Result<usize, Failed> {
+    /// One read of the file. Whatever error it has is a fault and not the end.
+    fn read(&mut self, buf: &mut [u8]) -> Result<usize, Failed>
+        ensures read { HasRead (reading_of_file self.old) (reading_of_file self.new) (length buf.old) buf.new result }
+
+        // The bytes are those that the file gave, and none were lost.
+        ensures bytes { ReadConsumes (left_in F.remaining self.old.file) (left_in F.remaining self.new.file) result buf.new }
+    {
         let Some(file) = &mut self.file else {
             return Err(count_fault(&mut self.faults));
         };
@@ -123,37 +120,29 @@ impl<F: Read> Source for FileSource<F> {
     }
 }
 
-/// The standard output of a runtime, which it keeps. Each piece is passed on at once. It tells no bytes and no flush.
+/// A writer as a sink, which it keeps: the standard output, say. Each piece is passed on at once, and each flush. It
+/// tells no bytes and no flush of its own; what each write takes is what the writer took.
 ///
 /// ```
 /// fn main(rt: HostRuntime) {
-///     let mut sink = StdSink::new(rt);
+///     let mut sink = StdSink::new(rt.stdout());
 ///     let answer = sink.write(b"hello");
 /// }
 /// ```
 #[derive(Drop)]
-pub struct StdSink<R> {
-    rt: R,
+pub struct StdSink<O> {
+    writer: O,
     faults: u64,
     refused: u64,
 }
 
-impl<R> Model for StdSink<R> {
-    ghost use Rattle.std.specs.Prelude.{None};
-    ghost use Rattle.wasi_world.specs.Io.{Writing};
-
-    ghost Value = { Writing };
-
-    ghost view = { λ s. record { written = None; flushed = None; faults = s.faults; refused = s.refused } };
-}
-
-impl<R> StdSink<R> {
-    /// The standard output of this runtime, with no fault and no refused piece yet.
-    pub fn new(rt: R) -> StdSink<R>
-        ensures { result ≡ record { written = None; flushed = None; faults = 0; refused = 0 } }
+impl<O> StdSink<O> {
+    /// The writer as it is, with no fault and no refused piece yet.
+    pub fn new(writer: O) -> StdSink<O>
+        ensures { result ≡ record { writer = writer; faults = 0; refused = 0 } }
     {
         StdSink {
-            rt,
+            writer,
             faults: 0,
             refused: 0,
         }
@@ -174,12 +163,18 @@ impl<R> StdSink<R> {
     }
 }
 
-impl<R: Print> Sink for StdSink<R> {
-    ghost writing = { λ s. s };
+impl<O: Write> Sink for StdSink<O> {
+    ghost writing = { writing_by };
 
-    /// One write to the standard output. Whatever error it has, an interrupted call too, is a fault.
-    fn write(&mut self, bytes: &[u8]) -> Result<usize, Failed> {
-        match io::writer(&self.rt).write(bytes) {
+    /// One write to the writer, which may take a part. Whatever error it has, an interrupted call too, is a fault.
+    fn write(&mut self, bytes: &[u8]) -> Result<usize, Failed>
+        ensures written { HasWritten (writing_by self.old) (writing_by self.new) bytes.now result }
+
+        // The writer took the first of the bytes, as many as are told.
+        ensures bytes { WriteAppends (O.contents self.old.writer) (O.contents self.new.writer) result bytes.now }
+        ensures refused { IfOk result (λ count. self.new.refused ≡ refused_after self.old.refused count (length bytes.now)) }
+    {
+        match self.writer.write(bytes) {
             Ok(count) => {
                 self.refused = refused_after(self.refused, count, bytes.len());
                 Ok(count)
@@ -188,8 +183,12 @@ impl<R: Print> Sink for StdSink<R> {
         }
     }
 
-    fn flush(&mut self) -> Result<(), Failed> {
-        match io::writer(&self.rt).flush() {
+    /// Flushes the writer. Whatever error it has is a fault.
+    fn flush(&mut self) -> Result<(), Failed>
+        ensures flushed { HasFlushed (writing_by self.old) (writing_by self.new) result }
+        ensures bytes { Keeps (O.contents self.old.writer) (O.contents self.new.writer) }
+    {
+        match self.writer.flush() {
             Ok(()) => Ok(()),
             Err(_) => Err(count_fault(&mut self.faults)),
         }

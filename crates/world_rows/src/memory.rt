@@ -1,6 +1,7 @@
 //! Sources and sinks over memory.
 
 use std::alloc::Global;
+use std::io::{Stdin, Stdout};
 use std::process::Abort;
 use std::test::Fail;
 use wasi_world::{Failed, MemorySink, MemorySource, Sink, Source, StdSink, StdSource};
@@ -134,6 +135,6 @@ fn assert_send<T: Send>() {}
 fn all_may_be_moved_to_threads() {
     assert_send::<MemorySource>();
     assert_send::<MemorySink>();
-    assert_send::<StdSource<HostRuntime>>();
-    assert_send::<StdSink<HostRuntime>>();
+    assert_send::<StdSource<Stdin>>();
+    assert_send::<StdSink<Stdout>>();
 }

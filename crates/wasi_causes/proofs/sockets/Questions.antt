@@ -5,7 +5,7 @@ use Rattle.wasi_addr.specs.declared.code.ErrorCode.TheVariants.{NotSupported}
 use Rattle.wasi_causes.proofs.sockets.Starts.{BoundRow, ItsBound, ItsFree, asked_none, bounds}
 use Rattle.wasi_causes.proofs.tables.Meets.{Rows, Meets, ends, asks, chain, onto, widen, branch}
 use Rattle.wasi_causes.proofs.tables.Routes.{Replied, on_number, Says, put_back, Names, here, on_record, code_word}
-use Rattle.wasi_causes.specs.Options.{GetRefusal, GetsNoSide, GetTold, ToldTooLarge, SetRefusal, ZeroBefore, SetsNoSide, ZeroAfter, SetTold, BacklogRefusal, ZeroBacklog, StillConnects, IsConnected, WasClosed, BacklogTold, GetsOption, SetsOption, SetsBacklog, KeptForListen, ToldListener}
+use Rattle.wasi_causes.specs.Options.{GetRefusal, GetConnects, GetClosed, GetTold, ToldTooLarge, SetRefusal, ZeroBefore, SetConnects, SetClosed, ZeroAfter, SetTold, BacklogRefusal, ZeroBacklog, StillConnects, IsConnected, WasClosed, BacklogTold, GetsOption, SetsOption, SetsBacklog, KeptForListen, ToldListener}
 use Rattle.wasi_causes.specs.Outcomes.{AreLike, Outcome}
 use Rattle.wasi_host.specs.Options.{code_told, get_option_at, set_option_at, set_backlog_at}
 use Rattle.wasi_host.specs.Store.{put_back as answer_put}
@@ -13,7 +13,8 @@ use Rattle.wasi_p2.specs.Options.{get_option_on, set_option_on, set_backlog_on}
 use Rattle.wasi_walks.specs.Answered.{NotBound, LocalTold}
 use Rattle.wasi_steps.specs.declared.reply.CodeWord.TheVariants as word
 use Rattle.wasi_steps.specs.declared.step.Step.TheVariants as step
-use Rattle.wasi_tcp.specs.Options.{largest_value, value_told, option_side, option_answer}
+use Rattle.wasi_common.specs.Options.{largest_value, value_told, option_answer}
+use Rattle.wasi_tcp.specs.Options.{option_side}
 use Rattle.wasi_tcp.specs.declared.socket.TcpState.TheVariants as state
 use Rattle.wasi_world.specs.declared.call.Call.TheVariants as call
 use Rattle.wasi_world.specs.declared.call.Opt.{Opt}
@@ -91,6 +92,17 @@ module _ (m : Machine) (own : OpId) (place : ℕ) (r : Tcp2Socket) (at : slice_g
 
 -- == the options and the backlog
 module _ (own : OpId) (r : Tcp2Socket) where
+  -- a socket that has no side to be asked connects, or is closed
+  no_side : (P : ErrorCode → Type 0) → ((op : Operation) → r.inner.state ≡ state.Connecting op → P InvalidState) → ((c : ErrorCode) → r.inner.state ≡ state.Closed c → P c) → (code : ErrorCode) → option_side r.inner ≡ Err code → P code
+  no_side P connects closed code none = by r.inner.state refl none
+    where
+      by : (st : TcpState) → r.inner.state ≡ st → usable_side st ≡ Err code → P code
+      by (state.Default side) s e = absurd (cc)
+      by (state.Listening side) s e = absurd (cc)
+      by (state.Connecting op) s e = let same : InvalidState ≡ code = cc in subst P same (connects op s)
+      by (state.Connected connection) s e = absurd (cc)
+      by (state.Closed c) s e = let same : c ≡ code = cc in subst P same (closed c s)
+
   module _ (option : Opt) where
     abbrev GetRow : Rows (Result ℕ ErrorCode)
     GetRow es (Ok value) = GetsOption own option r (number_fields value) es
@@ -111,7 +123,7 @@ module _ (own : OpId) (r : Tcp2Socket) where
     gets_where : (o : Result OpId ErrorCode) → option_side r.inner ≡ o → Meets (λ es done. GetRow es done.0) [] (get_where own r.inner option o)
     unfolding bind
     gets_where (Ok side) e = asks (λ t fits. ends (told_got side t e fits))
-    gets_where (Err code) e = ends (GetsNoSide code e)
+    gets_where (Err code) e = ends (no_side (λ c. GetRefusal own option r [] (word_of_code c)) GetConnects GetClosed code e)
 
   module _ (option : Opt) (value : ℕ) where
     abbrev SetRow : Rows (Result (Unit {0}) ErrorCode)
@@ -126,7 +138,7 @@ module _ (own : OpId) (r : Tcp2Socket) where
 
       sets_where : (o : Result OpId ErrorCode) → option_side r.inner ≡ o → Meets (λ es done. SetRow es done.0) [] (set_where own r.inner option value o)
       sets_where (Ok side) e = onto _ (branch (refused_after (zero_test option) value) (λ late. ends (ZeroAfter side early e late)) (λ late. asks (λ t fits. ends (told_set side t e late fits))))
-      sets_where (Err code) e = ends (SetsNoSide code early e)
+      sets_where (Err code) e = ends (no_side (λ c. SetRefusal own option value r [] (word_of_code c)) (λ op s. SetConnects op early s) (λ c s. SetClosed c early s) code e)
 
     sets : Meets (λ es done. SetRow es done.0) [] (set_option_asks own r.inner option value)
     sets = branch (refused_before (zero_test option) value) (λ zero. ends (ZeroBefore zero)) (λ early. sets_where early (option_side r.inner) refl)

@@ -7,7 +7,7 @@ use Rattle.wasi_walks.proofs.Words.{local_front, poll_asks, polled_front, refl, 
 use Rattle.wasi_walks.proofs.Words.{verdict_front, ℕ, ⊤, ◌∷◌, ◌≡◌}
 use Rattle.wasi_world.specs.Operation.{Connection}
 use Rattle.wasi_tcp.specs.Listen.{IsListen}
-use Rattle.wasi_tcp.specs.Rounds.{some_left, is_going}
+use Rattle.wasi_common.specs.Rounds.{some_left, is_going}
 use Rattle.wasi_walks.proofs.Gives.{Gives}
 use Rattle.wasi_tcp.specs.Accept as accept
 use Rattle.wasi_tcp.specs.Connect as connect

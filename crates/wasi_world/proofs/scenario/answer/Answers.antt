@@ -3,4 +3,4 @@ use Rattle.wasi_world.proofs.scenario.answer.Goals as goal
 
 pub returns-in_default-word : goal.returns-in_default-word
 returns-in_default-word c =
-    short_answer_of c.args.fields.now c.word.new.self c.in-Some.word.now c.short_answer.result c.short_answer.new.fields c.in-Some.ensures (assumption c) c.short_answer.ensures
+    short_answer_of c.args.fields.now c.word.new.self c.in-Some.word.now c.short_answer.result c.short_answer.new.fields c.in-Some.ensures.read (assumption c) c.short_answer.ensures

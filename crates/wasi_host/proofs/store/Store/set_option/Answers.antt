@@ -1,5 +1,6 @@
 use Rattle.std.proofs.Common.{refl}
 use Rattle.wasi_world.proofs.Walks.{asks_given, asks_end}
+use Rattle.wasi_common.specs.Options.{option_of, number_of}
 use Rattle.wasi_host.proofs.Hosts.{host_refused}
 use Rattle.wasi_host.proofs.Lookups.{found_at, none_at, set_back}
 use Rattle.wasi_host.proofs.SideCounts.{Any, knows_asked, knows_calm}
@@ -23,9 +24,9 @@ returns-clause-asked g c =
 pub returns-in_err-set_option-clause-sides : goal.returns-in_err-set_option-clause-sides
 returns-in_err-set_option-clause-sides g c = λ k.
     rw (c.set_option.ensures.same, set_back c.self.inside.sockets.items c.args.place c.in-Some.record c.in-Some.ensures.item)
-    (knows_asked Any _ _ _ (calm_set c.args.op c.in-Some.record.now.inner c.args.option c.args.value) c.in_err-set_option.ensures.asked refl (rw (← c.self.view_is) at k))
+    (knows_asked Any _ _ _ (calm_set c.args.op c.in-Some.record.now.inner (option_of c.args.setting) (number_of c.args.setting)) c.in_err-set_option.ensures.asked refl (rw (← c.self.view_is) at k))
 
 pub returns-clause-sides : goal.returns-clause-sides
 returns-clause-sides g c = λ k.
     rw (c.set_option.ensures.same, set_back c.self.inside.sockets.items c.args.place c.in-Some.record c.in-Some.ensures.item)
-    (knows_calm Any _ _ (calm_set c.args.op c.in-Some.record.now.inner c.args.option c.args.value) c.in_ok-set_option.ensures.asked.ok refl (rw (← c.self.view_is) at k))
+    (knows_calm Any _ _ (calm_set c.args.op c.in-Some.record.now.inner (option_of c.args.setting) (number_of c.args.setting)) c.in_ok-set_option.ensures.asked.ok refl (rw (← c.self.view_is) at k))

@@ -5,4 +5,4 @@ pub returns-clause-before : goal.returns-clause-before
 returns-clause-before g c = rw (← c.self.view_is) (is_accept _ _)
 
 pub returns-clause-after : goal.returns-clause-after
-returns-clause-after g c = is_accept _ _
+returns-clause-after g c = rw (← c.self-2.view_is) (is_accept _ _)

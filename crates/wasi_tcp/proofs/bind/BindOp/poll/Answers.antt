@@ -1,6 +1,5 @@
-use Rattle.std.proofs.Common.{refl}
-use Rattle.wasi_world.proofs.Polls.{polls_over}
+use Rattle.std.proofs.lemmas.Bool.{false≢true}
 use Rattle.wasi_tcp.proofs.bind.BindOp.poll.Goals as goal
 
 pub returns-in-Over-clause-polled : goal.returns-in-Over-clause-polled
-returns-in-Over-clause-polled g c = rw (← c.self.view_is, c.in-Over.is) (polls_over _ refl)
+returns-in-Over-clause-polled g c = rw (← c.self.view_is, c.in-Over.is) (λ going. absurd (false≢true going))

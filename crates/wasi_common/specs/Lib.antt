@@ -1,0 +1,4 @@
+pub mod Asker
+pub mod Rounds
+pub mod Bound
+pub mod Options

@@ -1,0 +1,11 @@
+//! Who asks.
+
+use wasi_world::{OpId, Sock};
+
+/// Who asks: an operation's name, the side that it works on, and the side's maker, which its checks name.
+#[derive(Clone, Copy, Debug, PartialEq, Eq)]
+pub struct Asker {
+    pub op: OpId,
+    pub side: Sock,
+    pub maker: u32,
+}
