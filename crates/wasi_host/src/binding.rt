@@ -1,6 +1,6 @@
 //! What a socket is in the middle of, and how it is bound.
 
-ghost use Rattle.std.specs.Prelude.{◌≡◌, false, Ok, slice_get};
+ghost use Rattle.std.specs.Prelude.{◌≡◌, false, Ok, slice_get, true};
 ghost use Rattle.wasi_world.specs.Asks.{AsksFor, outcome};
 ghost use Rattle.wasi_world.specs.Seen.{Seen};
 ghost use Rattle.wasi_common.specs.Rounds.{is_going, stays_going};

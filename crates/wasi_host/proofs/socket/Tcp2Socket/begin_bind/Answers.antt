@@ -11,7 +11,7 @@ pub returns-in_err-bind-clause-none : goal.returns-in_err-bind-clause-none
 returns-in_err-bind-clause-none g c = begins_none c.args.op c.args.self.now.inner c.args.addr _ c.in_err-bind.ensures.asked
 
 pub returns-clause-asked : goal.returns-clause-asked
-returns-clause-asked g c = asks_then _ c.in_ok-bind.ensures.asked.ok c.poll_bind.ensures.asked
+returns-clause-asked g c = asks_then _ c.in_ok-bind.ensures.asked.ok (rw c.new.ensures at c.poll_bind.ensures.asked)
 
 pub returns-clause-none : goal.returns-clause-none
 returns-clause-none g c = none_then (begins_none c.args.op c.args.self.now.inner c.args.addr _ c.in_ok-bind.ensures.asked) c.poll_bind.ensures.none

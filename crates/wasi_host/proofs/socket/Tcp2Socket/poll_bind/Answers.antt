@@ -5,10 +5,10 @@ use Rattle.wasi_host.proofs.socket.Tcp2Socket.poll_bind.Goals as goal
 pub returns-in-Binding-clause-asked : goal.returns-in-Binding-clause-asked
 returns-in-Binding-clause-asked g c =
     rw (c.settle_bind.ensures.told, c.settle_bind.ensures.settled, c.poll-polled.ensures.same)
-    (bind_polled c.args.self.now c.in-Binding.bind c.poll-polled.new.self c.poll-polled.result c.in-Binding.is (c.poll-polled.ensures.polled c.into_inner.ensures.going))
+    (bind_polled c.args.self.now c.in-Binding.bind c.poll-polled.new.self c.poll-polled.result (rw c.replace.ensures.value at c.in-Binding.is) (rw c.into_inner-bind.ensures.bind at (c.poll-polled.ensures.polled c.into_inner-bind.ensures.going)))
 
 pub returns-in-Binding-clause-none : goal.returns-in-Binding-clause-none
-returns-in-Binding-clause-none g c = bind_makes_none c.in-Binding.bind c.poll-polled.new.self c.poll-polled.result c.poll-polled.ensures.bind (c.poll-polled.ensures.polled c.into_inner.ensures.going)
+returns-in-Binding-clause-none g c = bind_makes_none c.into_inner-bind.result c.poll-polled.new.self c.poll-polled.result c.poll-polled.ensures.bind (c.poll-polled.ensures.polled c.into_inner-bind.ensures.going)
 
 pub returns-in-Nothing-clause-none : goal.returns-in-Nothing-clause-none
 returns-in-Nothing-clause-none g c = none_first _
