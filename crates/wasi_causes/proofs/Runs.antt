@@ -1,7 +1,7 @@
 -- Of the machines that runs lead to: what a socket connects by is a connect, what a listener accepts by an accept, what stands
 -- by a bind is a bind, and by a listen a listen; each live handle and what stands are of a record that is there, a connect in
 -- progress may be finished, and a socket that does nothing yet doesn't listen.
-use Rattle.wasi_host.specs.declared.binding.InProgress.TheVariants.{Binding, Started}
+use Rattle.wasi_host.specs.declared.binding.InProgress.TheVariants.{Nothing, Binding, Started}
 use Rattle.wasi_causes.proofs.Words.{Accepting, AcceptsAt, AcceptsIn, Allows, Answered, Bool, Closes, CodeWord, ConnectsAt, Done, End, Entry, Err}
 use Rattle.wasi_causes.proofs.Words.{ErrorCode, FinishRefusal, Full, Give, HasChildren, HoldsCall, IfSome, InProgress, Input, IsBinding, IsListening}
 use Rattle.wasi_causes.proofs.Words.{IsOnNothing, IsPastNot, IsSome, IsSomeAnd, Item, Kind, Left, List, Listener, Listening, ListensAlready, Machine}

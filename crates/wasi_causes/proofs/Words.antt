@@ -75,7 +75,7 @@ pub use Rattle.wasi_walks.proofs.Gives.{Gives, allows_ask, given, gives_any, giv
 pub use Rattle.wasi_walks.proofs.Lists.{get_front, get_seam, get_set, get_split, has_split, marks_in-push, set_get, set_there, value_split}
 pub use Rattle.wasi_walks.specs.Answered.{AlreadyBound, AlreadyClosed, Answered, Begins, BindRefusal, BoundElsewhere, CheckFails, ClosedBy, Closes}
 pub use Rattle.wasi_walks.specs.Answered.{CodeTold, ConnectRefusal, Connects, ConnectsAt, CreateRefusal, Denied, Elsewhere, EndsClosing, EndsPending}
-pub use Rattle.wasi_walks.specs.Answered.{ErrorKept, Failed, FailsWith, FinishRefusal, HasNoConnectInProgress, InProgress, IsBound, IsFree}
+pub use Rattle.wasi_walks.specs.Answered.{ErrorKept, Failed, FailsWith, FinishRefusal, HasNoConnectInProgress, IsBound, IsFree}
 pub use Rattle.wasi_walks.specs.Answered.{IsOnNothing, IsPastDefault, IsQuiet, IsUnpermitted, Known, KnowsBound, LengthZero, ListensAlready}
 pub use Rattle.wasi_walks.specs.Answered.{LocalClosed, LocalRefusal, MissesHandle, MissesRecord, NoConnect, NotAllowed, NotConnecting, NotDefault}
 pub use Rattle.wasi_walks.specs.Answered.{NotReady, OfRecord, OfStreams, PastDefault, Permits, ReadFails, ReadsEnd, ReadsNone, ReadsTold}

@@ -1,6 +1,7 @@
 -- The starts and the finishes of a bind and of a listen, and the start of a connect.
 use Rattle.wasi_causes.proofs.Words.{AlreadyBound, Answer, Begins, BindRefusal, Bool, BoundElsewhere, CodeWord, ConnectRefusal, Denied, Done}
-use Rattle.wasi_causes.proofs.Words.{Elsewhere, End, EndsPending, Entry, Err, ErrorCode, Failed, Give, Given, InProgress, InvalidArgument}
+use Rattle.wasi_causes.proofs.Words.{Elsewhere, End, EndsPending, Entry, Err, ErrorCode, Failed, Give, Given, InvalidArgument}
+use Rattle.wasi_walks.specs.Answered.{InProgress}
 use Rattle.wasi_causes.proofs.Words.{InvalidState, IpSocketAddress, IsAddr, IsBound, IsFree, IsPastDefault, IsPastNot, IsSomeAnd, Item, Known}
 use Rattle.wasi_causes.proofs.Words.{KnowsBound, List, ListenDenied, ListenFails, ListenRefusal, ListenRefused, ListenTold, Listening, ListensAlready}
 use Rattle.wasi_causes.proofs.Words.{LocalTold, Machine, NoSuchHandle, None, NotBound, NotDefault, OfRecord, Ok, OpId, Operation, Option, Other}
@@ -22,7 +23,7 @@ use Rattle.wasi_causes.specs.Outcomes.{Conflicts}
 use Rattle.wasi_causes.specs.Polls.{ToldYes, ToldNo, BindToldCode, Polled, GoesOn, Stops, LocalToldYes, LocalToldNo, LocalToldCode, ListenToldCode}
 use Rattle.wasi_host.specs.Store.{put_back as answer_put}
 use Rattle.wasi_host.specs.declared.listening.Listening.TheVariants as listening
-use Rattle.wasi_host.specs.declared.socket.InProgress.{InProgress as Doing}
+use Rattle.wasi_host.specs.declared.binding.InProgress.{InProgress as Doing}
 use Rattle.wasi_walks.specs.Listens.{NotDefault as ListensLate, ListensAlready}
 use Rattle.wasi_steps.specs.declared.reply.CodeWord.TheVariants as word
 use Rattle.wasi_steps.specs.declared.reply.Reply.TheVariants as reply
