@@ -181,7 +181,7 @@ module _ {contexts : List WasiSocketsCtx} {limit : ℕ} {before now new : Readin
     pub over_cut : taken ≤ limit → room ≡ min (limit + 1 - taken) 4096 → length piece ≡ 4096 → Streaming contexts limit before now k_old k_now w_old w_now machine number taken kept → GaveSome now new (length (take room piece)) buffer count → count ≡ 0 → kept ≢ [] → RanOver contexts limit before new k_old k_now w_old w_now machine (Err (BadStep (number + 1)))
     over_cut h q b s g z n =
         done_over s (gave_end s.gave g z) (g.nothing (has_room limit taken room piece q (omega arith) b) z, text_within h s, (λ r. n (s.line ∙ (ap rest_of (all_text h s) ∙ r))), ap (λ k. k + 1) (s.count ∙ ap (λ t. length (lines_of t)) (all_text h s)))
-            (err_is_no_trap (BadStep (number + 1)))
+        (err_is_no_trap (BadStep (number + 1)))
 
 module _ {contexts : List WasiSocketsCtx} {limit : ℕ} {before now : Reading} {k_old k_now : Writing} {w_old w_now : Seen} {machine : Machine} {number taken : ℕ} {kept : List ℕ} where
   pub over_long : limit < taken → Streaming contexts limit before now k_old k_now w_old w_now machine number taken kept → RanOver contexts limit before now k_old k_now w_old w_now machine (Err TooLong)

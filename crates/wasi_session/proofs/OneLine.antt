@@ -1,5 +1,5 @@
 -- What one line makes, by how it ends.
-use Rattle.wasi_session.proofs.Words.{◌≡◌, sym, refl, subst, ℕ, Bool, true, false, if◌then◌else◌, List, [], ◌∷◌, ◌++◌, ◌+◌, length, take, Some, None, Result, Ok, Err, append-nil, add-zero, WasiSocketsCtx, Seen, Asks, Give, Reaches, Started, Writing, Took, reaches_all, reaches_on, reaches_in, Machine, Step, Reply, is_trap, text_of, machine_asks, run, KnowsSides}
+use Rattle.wasi_session.proofs.Words.{◌≡◌, sym, refl, subst, ℕ, Bool, true, false, if◌then◌else◌, List, [], ◌∷◌, ◌++◌, ◌+◌, length, take, Some, None, Result, Ok, Err, append-nil, add-zero, WasiSocketsCtx, Seen, Asks, Give, Reaches, Started, Writing, Took, reaches_on, reaches_in, Machine, Step, Reply, is_trap, text_of, machine_asks, run, KnowsSides}
 use Rattle.wasi_session.specs.declared.lines.LinesEnd.{LinesEnd}
 use Rattle.wasi_session.specs.declared.lines.LinesEnd.TheVariants as lines
 use Rattle.wasi_session.specs.declared.error.RunError.{RunError}

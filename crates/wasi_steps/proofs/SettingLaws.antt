@@ -76,10 +76,10 @@ ReadsSetting word taken s = FitsSetting s × (word ∷ taken ≡ setting_fields 
 settings_only : (word : List ℕ) → Only (after_word setting_words word) (ReadsSetting word)
 settings_only word = only_word ReadsSetting setting_words word
     (only_last (λ n. setting.KeepAliveEnabled (n == 1)) bit_exactly (λ n fits. (tt, ap (λ m. codes "keep-alive-enabled" ∷ decimal m ∷ []) (bit_is n fits)))
-    and only_last setting.KeepAliveIdleTime u64_exactly (λ n fits. (fits, refl))
-    and only_last setting.KeepAliveInterval u64_exactly (λ n fits. (fits, refl))
     and only_last setting.KeepAliveCount u32_exactly (λ n fits. (fits, refl))
     and only_last setting.HopLimit byte_exactly (λ n fits. (fits, refl))
+    and only_last setting.KeepAliveIdleTime u64_exactly (λ n fits. (fits, refl))
+    and only_last setting.KeepAliveInterval u64_exactly (λ n fits. (fits, refl))
     and only_last setting.ReceiveBufferSize u64_exactly (λ n fits. (fits, refl))
     and only_last setting.SendBufferSize u64_exactly (λ n fits. (fits, refl))
     and only_last setting.ListenBacklogSize u64_exactly (λ n fits. (fits, refl))

@@ -1,11 +1,15 @@
 -- The options that a step names, and what a `tcp-set` sets.
-use Rattle.std.specs.Prelude.{ℕ, ◌≤◌, ◌==◌, List, [], ◌∷◌, codes, decimal}
+use Rattle.std.specs.Prelude.{◌≡◌, ℕ, ◌≤◌, ◌==◌, List, [], ◌∷◌, ◌++◌, Option, Some, codes, decimal}
 use Rattle.std.specs.Int.{from_bool}
 use Rattle.wasi_world.specs.declared.call.Opt.{Opt}
 use Rattle.wasi_world.specs.declared.call.Opt.TheVariants as opt
-use Rattle.wasi_world.specs.Fields.{Reader, Row, row, after_word, ◌>>=◌, give, number_at, word_at}
+use Rattle.wasi_world.specs.Fields.{Reader, Reads, Row, row, after_word, ◌>>=◌, give, number_at, word_at}
 use Rattle.wasi_steps.specs.declared.setting.TcpSetting.{TcpSetting}
 use Rattle.wasi_steps.specs.declared.setting.TcpSetting.TheVariants as setting
+
+-- what the rows read of fields at whose front this number stands
+abbrev pub ReadsNumber : {A : Type 0} → ℕ → List (Row A) → List ℕ → ℕ → Option A → Type 0
+ReadsNumber most rows word n result = (old rest : List (List ℕ)) → number_at most old ≡ Some (n, rest) → Reads (after_word rows word) old result rest
 
 -- == options
 abbrev pub option_word : Opt → List ℕ
@@ -57,18 +61,26 @@ FitsSetting (setting.ReceiveBufferSize n) = n ≤ 18446744073709551615
 FitsSetting (setting.SendBufferSize n) = n ≤ 18446744073709551615
 FitsSetting (setting.ListenBacklogSize n) = n ≤ 18446744073709551615
 
--- what is set, by its word
-abbrev pub setting_words : List (Row TcpSetting)
-setting_words =
+-- what is set, by its word: yes or no, and smaller numbers
+abbrev pub narrow_words : List (Row TcpSetting)
+narrow_words =
     row (codes "keep-alive-enabled") (number_at 1 >>= λ n. give (setting.KeepAliveEnabled (n == 1)))
-    ∷ row (codes "keep-alive-idle-time") (number_at 18446744073709551615 >>= λ n. give (setting.KeepAliveIdleTime n))
-    ∷ row (codes "keep-alive-interval") (number_at 18446744073709551615 >>= λ n. give (setting.KeepAliveInterval n))
     ∷ row (codes "keep-alive-count") (number_at 4294967295 >>= λ n. give (setting.KeepAliveCount n))
     ∷ row (codes "hop-limit") (number_at 255 >>= λ n. give (setting.HopLimit n))
+    ∷ []
+
+-- numbers of 64 bits
+abbrev pub wide_words : List (Row TcpSetting)
+wide_words =
+    row (codes "keep-alive-idle-time") (number_at 18446744073709551615 >>= λ n. give (setting.KeepAliveIdleTime n))
+    ∷ row (codes "keep-alive-interval") (number_at 18446744073709551615 >>= λ n. give (setting.KeepAliveInterval n))
     ∷ row (codes "receive-buffer-size") (number_at 18446744073709551615 >>= λ n. give (setting.ReceiveBufferSize n))
     ∷ row (codes "send-buffer-size") (number_at 18446744073709551615 >>= λ n. give (setting.SendBufferSize n))
     ∷ row (codes "listen-backlog-size") (number_at 18446744073709551615 >>= λ n. give (setting.ListenBacklogSize n))
     ∷ []
+
+abbrev pub setting_words : List (Row TcpSetting)
+setting_words = narrow_words ++ wide_words
 
 unfoldable pub setting_at : Reader TcpSetting
 setting_at = do

@@ -244,31 +244,24 @@ nowhere = socket.Ipv4 (record { port = 0; address = (0, 0, 0, 0) })
 abbrev pub write_step : ℕ → Step
 write_step c = step.Write c 0 []
 
--- the other steps of a context on streams, on pollables and on any handle
-abbrev pub stream_steps : ℕ → List Step
-stream_steps c = step.Read c 0 0 ∷ step.CheckWrite c 0 ∷ step.Flush c 0 ∷ step.Subscribe c 0 ∷ step.Ready c 0 ∷ step.Drop c 0 ∷ []
-
--- those that make sockets, bind them, connect them and shut them down
+-- those that make a socket, and those of an address
 abbrev pub socket_steps : ℕ → List Step
-socket_steps c =
-    step.Network c ∷ step.TcpCreate c Ipv4 ∷ step.TcpStartBind c 0 0 nowhere ∷ step.TcpFinishBind c 0
-    ∷ step.TcpStartConnect c 0 0 nowhere ∷ step.TcpFinishConnect c 0 ∷ step.TcpShutdown c 0 Both ∷ []
+socket_steps c = step.Network c ∷ step.TcpCreate c Ipv4 ∷ step.TcpStartBind c 0 0 nowhere ∷ step.TcpStartConnect c 0 0 nowhere ∷ []
 
--- those that make a socket listen, and accept
-abbrev pub listener_steps : ℕ → List Step
-listener_steps c = step.TcpStartListen c 0 ∷ step.TcpFinishListen c 0 ∷ step.TcpAccept c 0 ∷ []
+-- those of a handle and of one thing more
+abbrev pub value_steps : ℕ → List Step
+value_steps c = step.TcpGet c 0 HopLimit ∷ step.TcpSet c 0 (setting.HopLimit 1) ∷ step.TcpShutdown c 0 Both ∷ step.Read c 0 0 ∷ []
 
--- those that ask a socket what it is
-abbrev pub question_steps : ℕ → List Step
-question_steps c = step.TcpLocalAddress c 0 ∷ step.TcpRemoteAddress c 0 ∷ step.TcpIsListening c 0 ∷ step.TcpAddressFamily c 0 ∷ []
-
--- those that get and set a socket's options, and set its backlog
-abbrev pub option_steps : ℕ → List Step
-option_steps c = step.TcpGet c 0 HopLimit ∷ step.TcpSet c 0 (setting.HopLimit 1) ∷ []
+-- those of a handle alone
+abbrev pub handle_steps : ℕ → List Step
+handle_steps c =
+    step.TcpFinishBind c 0 ∷ step.TcpFinishConnect c 0 ∷ step.TcpStartListen c 0 ∷ step.TcpFinishListen c 0 ∷ step.TcpAccept c 0
+    ∷ step.TcpLocalAddress c 0 ∷ step.TcpRemoteAddress c 0 ∷ step.TcpIsListening c 0 ∷ step.TcpAddressFamily c 0
+    ∷ step.CheckWrite c 0 ∷ step.Flush c 0 ∷ step.Subscribe c 0 ∷ step.Ready c 0 ∷ step.Drop c 0 ∷ []
 
 -- the steps of a context whose arguments take no memory
 abbrev pub plain_steps : ℕ → List Step
-plain_steps c = stream_steps c ++ socket_steps c ++ listener_steps c ++ question_steps c ++ option_steps c
+plain_steps c = socket_steps c ++ value_steps c ++ handle_steps c
 
 -- the steps of a context
 abbrev pub steps : ℕ → List Step

@@ -4,8 +4,8 @@ ghost use Rattle.std.specs.Prelude.{◌≡◌, ◌↔◌, ◌++◌, ℕ, List, S
 ghost use Rattle.wasi_world.specs.Fields.{Reads, after_word, number_in};
 ghost use Rattle.wasi_world.specs.Written.{IsVisible};
 ghost use Rattle.wasi_steps.specs.declared.step.Step.{Step};
-ghost use Rattle.wasi_steps.specs.Settings.{option_at, setting_words, setting_at};
-ghost use Rattle.wasi_steps.specs.Steps.{line_of, IsStep, steps, plain_steps, socket_steps, listener_steps, question_steps, option_steps, bare_steps, write_step, row_of, rows_of, shutdown_at, guest_call_at, step_at, step_of};
+ghost use Rattle.wasi_steps.specs.Settings.{ReadsNumber, option_at, wide_words, setting_words, setting_at};
+ghost use Rattle.wasi_steps.specs.Steps.{line_of, IsStep, steps, plain_steps, value_steps, handle_steps, bare_steps, write_step, row_of, rows_of, shutdown_at, guest_call_at, step_at, step_of};
 
 use crate::setting::TcpSetting;
 use crate::step::Step;
@@ -44,22 +44,33 @@ fn option(fields: &mut Fields<'_>) -> Option<Opt>
     }
 }
 
+/// What this word says is set, to a number of 64 bits.
+#[tactic(auto, unfolding(wasi_world::specs::Fields::read_then, wasi_world::specs::Fields::give, wasi_world::specs::Fields::give_some))]
+fn wide_setting(word: &str, value: u64) -> Option<TcpSetting>
+    ensures { ReadsNumber 18446744073709551615 wide_words word.now value result }
+{
+    use TcpSetting::*;
+    match word {
+        "keep-alive-idle-time" => Some(KeepAliveIdleTime(value)),
+        "keep-alive-interval" => Some(KeepAliveInterval(value)),
+        "receive-buffer-size" => Some(ReceiveBufferSize(value)),
+        "send-buffer-size" => Some(SendBufferSize(value)),
+        "listen-backlog-size" => Some(ListenBacklogSize(value)),
+        _ => None,
+    }
+}
+
 /// Takes the value of what this word says is set.
-#[tactic(auto, unfolding(wasi_world::specs::Fields::read_then, wasi_world::specs::Fields::give))]
+#[tactic(auto, unfolding(wasi_world::specs::Fields::read_then, wasi_world::specs::Fields::give, wasi_world::specs::Fields::give_some))]
 fn setting_of(fields: &mut Fields<'_>, word: &str) -> Option<TcpSetting>
     ensures { Reads (after_word setting_words word.now) fields.old result fields.new }
 {
     use TcpSetting::*;
     match word {
         "keep-alive-enabled" => Some(KeepAliveEnabled(fields.number(1)? == 1)),
-        "keep-alive-idle-time" => Some(KeepAliveIdleTime(fields.number(u64::MAX)?)),
-        "keep-alive-interval" => Some(KeepAliveInterval(fields.number(u64::MAX)?)),
         "keep-alive-count" => Some(KeepAliveCount(fields.u32()?)),
         "hop-limit" => Some(HopLimit(fields.number(255)? as u8)),
-        "receive-buffer-size" => Some(ReceiveBufferSize(fields.number(u64::MAX)?)),
-        "send-buffer-size" => Some(SendBufferSize(fields.number(u64::MAX)?)),
-        "listen-backlog-size" => Some(ListenBacklogSize(fields.number(u64::MAX)?)),
-        _ => None,
+        _ => wide_setting(word, fields.number(u64::MAX)?),
     }
 }
 
@@ -72,10 +83,45 @@ fn setting(fields: &mut Fields<'_>) -> Option<TcpSetting>
     setting_of(fields, word)
 }
 
-/// Takes the arguments of a step word that gets or sets an option.
+/// The step of this word that has no other argument than a handle.
 #[tactic(auto, unfolding(wasi_world::specs::Fields::read_then, wasi_world::specs::Fields::give, wasi_world::specs::Fields::give_some))]
-fn option_arguments(fields: &mut Fields<'_>, context: u32, word: &str) -> Option<Step>
-    ensures { Reads (after_word (rows_of (option_steps context)) word.now) fields.old result fields.new }
+fn handle_step(context: u32, word: &str, handle: u32) -> Option<Step>
+    ensures { ReadsNumber 4294967295 (rows_of (handle_steps context)) word.now handle result }
+{
+    use Step::*;
+    let socket = handle;
+    match word {
+        "tcp-finish-bind" => Some(TcpFinishBind { context, socket }),
+        "tcp-finish-connect" => Some(TcpFinishConnect { context, socket }),
+        "tcp-start-listen" => Some(TcpStartListen { context, socket }),
+        "tcp-finish-listen" => Some(TcpFinishListen { context, socket }),
+        "tcp-accept" => Some(TcpAccept { context, socket }),
+        "tcp-local-address" => Some(TcpLocalAddress { context, socket }),
+        "tcp-remote-address" => Some(TcpRemoteAddress { context, socket }),
+        "tcp-is-listening" => Some(TcpIsListening { context, socket }),
+        "tcp-address-family" => Some(TcpAddressFamily { context, socket }),
+        "check-write" => Some(CheckWrite {
+            context,
+            output: handle,
+        }),
+        "flush" => Some(Flush {
+            context,
+            output: handle,
+        }),
+        "subscribe" => Some(Subscribe { context, handle }),
+        "ready" => Some(Ready {
+            context,
+            pollable: handle,
+        }),
+        "drop" => Some(Drop { context, handle }),
+        _ => None,
+    }
+}
+
+/// Takes the arguments of a step word that has a handle: that alone, or one thing more.
+#[tactic(auto, unfolding(wasi_world::specs::Fields::read_then, wasi_world::specs::Fields::give, wasi_world::specs::Fields::give_some))]
+fn value_arguments(fields: &mut Fields<'_>, context: u32, word: &str) -> Option<Step>
+    ensures { Reads (after_word (rows_of (value_steps context ++ handle_steps context)) word.now) fields.old result fields.new }
 {
     match word {
         "tcp-get" => Some(Step::TcpGet {
@@ -88,63 +134,24 @@ fn option_arguments(fields: &mut Fields<'_>, context: u32, word: &str) -> Option
             socket: fields.u32()?,
             setting: setting(fields)?,
         }),
-        _ => None,
+        "tcp-shutdown" => Some(Step::TcpShutdown {
+            context,
+            socket: fields.u32()?,
+            how: shutdown_type(fields)?,
+        }),
+        "read" => Some(Step::Read {
+            context,
+            input: fields.u32()?,
+            len: fields.number(u64::MAX)?,
+        }),
+        _ => handle_step(context, word, fields.u32()?),
     }
 }
 
-/// Takes the arguments of a step word that asks a socket what it is, or gets or sets an option.
+/// Takes the arguments of a step word, where they take no memory.
 #[tactic(auto, unfolding(wasi_world::specs::Fields::read_then, wasi_world::specs::Fields::give, wasi_world::specs::Fields::give_some))]
-fn question_arguments(fields: &mut Fields<'_>, context: u32, word: &str) -> Option<Step>
-    ensures { Reads (after_word (rows_of (question_steps context ++ option_steps context)) word.now) fields.old result fields.new }
-{
-    match word {
-        "tcp-local-address" => Some(Step::TcpLocalAddress {
-            context,
-            socket: fields.u32()?,
-        }),
-        "tcp-remote-address" => Some(Step::TcpRemoteAddress {
-            context,
-            socket: fields.u32()?,
-        }),
-        "tcp-is-listening" => Some(Step::TcpIsListening {
-            context,
-            socket: fields.u32()?,
-        }),
-        "tcp-address-family" => Some(Step::TcpAddressFamily {
-            context,
-            socket: fields.u32()?,
-        }),
-        _ => option_arguments(fields, context, word),
-    }
-}
-
-/// Takes the arguments of a step word that makes a socket listen or accepts, or asks it something.
-#[tactic(auto, unfolding(wasi_world::specs::Fields::read_then, wasi_world::specs::Fields::give, wasi_world::specs::Fields::give_some))]
-fn listener_arguments(fields: &mut Fields<'_>, context: u32, word: &str) -> Option<Step>
-    ensures { Reads (after_word (rows_of (listener_steps context ++ question_steps context ++ option_steps context)) word.now) fields.old result fields.new }
-{
-    match word {
-        "tcp-start-listen" => Some(Step::TcpStartListen {
-            context,
-            socket: fields.u32()?,
-        }),
-        "tcp-finish-listen" => Some(Step::TcpFinishListen {
-            context,
-            socket: fields.u32()?,
-        }),
-        "tcp-accept" => Some(Step::TcpAccept {
-            context,
-            socket: fields.u32()?,
-        }),
-        _ => question_arguments(fields, context, word),
-    }
-}
-
-/// Takes the arguments of a step word that makes a socket, binds it, connects it, shuts it down or makes it listen, or asks
-/// it something.
-#[tactic(auto, unfolding(wasi_world::specs::Fields::read_then, wasi_world::specs::Fields::give, wasi_world::specs::Fields::give_some))]
-fn socket_arguments(fields: &mut Fields<'_>, context: u32, word: &str) -> Option<Step>
-    ensures { Reads (after_word (rows_of (socket_steps context ++ listener_steps context ++ question_steps context ++ option_steps context)) word.now) fields.old result fields.new }
+fn plain_arguments(fields: &mut Fields<'_>, context: u32, word: &str) -> Option<Step>
+    ensures { Reads (after_word (rows_of (plain_steps context)) word.now) fields.old result fields.new }
 {
     match word {
         "network" => Some(Step::Network { context }),
@@ -158,61 +165,13 @@ fn socket_arguments(fields: &mut Fields<'_>, context: u32, word: &str) -> Option
             network: fields.u32()?,
             addr: fields.socket_address()?,
         }),
-        "tcp-finish-bind" => Some(Step::TcpFinishBind {
-            context,
-            socket: fields.u32()?,
-        }),
         "tcp-start-connect" => Some(Step::TcpStartConnect {
             context,
             socket: fields.u32()?,
             network: fields.u32()?,
             addr: fields.socket_address()?,
         }),
-        "tcp-finish-connect" => Some(Step::TcpFinishConnect {
-            context,
-            socket: fields.u32()?,
-        }),
-        "tcp-shutdown" => Some(Step::TcpShutdown {
-            context,
-            socket: fields.u32()?,
-            how: shutdown_type(fields)?,
-        }),
-        _ => listener_arguments(fields, context, word),
-    }
-}
-
-/// Takes the arguments of a step word, where they take no memory.
-#[tactic(auto, unfolding(wasi_world::specs::Fields::read_then, wasi_world::specs::Fields::give, wasi_world::specs::Fields::give_some))]
-fn plain_arguments(fields: &mut Fields<'_>, context: u32, word: &str) -> Option<Step>
-    ensures { Reads (after_word (rows_of (plain_steps context)) word.now) fields.old result fields.new }
-{
-    match word {
-        "read" => Some(Step::Read {
-            context,
-            input: fields.u32()?,
-            len: fields.number(u64::MAX)?,
-        }),
-        "check-write" => Some(Step::CheckWrite {
-            context,
-            output: fields.u32()?,
-        }),
-        "flush" => Some(Step::Flush {
-            context,
-            output: fields.u32()?,
-        }),
-        "subscribe" => Some(Step::Subscribe {
-            context,
-            handle: fields.u32()?,
-        }),
-        "ready" => Some(Step::Ready {
-            context,
-            pollable: fields.u32()?,
-        }),
-        "drop" => Some(Step::Drop {
-            context,
-            handle: fields.u32()?,
-        }),
-        _ => socket_arguments(fields, context, word),
+        _ => value_arguments(fields, context, word),
     }
 }
 

@@ -1,6 +1,6 @@
 -- A poll of an operation whose items are asked in turn is in the one table of such polls, and how those of a bind, of a connect
 -- and of a listen end is read off it.
-use Rattle.wasi_causes.proofs.Words.{◌≡◌, ◌∙◌, inl, inr, List, [], ◌∷◌, ◌++◌, refl, sym, ap, subst, append_assoc, append-nil, ⊤, ◌⊎◌, IpSocketAddress, Send, SocketAddrUse, TcpBind, ErrorCode, AccessDenied, EndsPending, EndsClosing, ClosedBy, Has, entry, IsRestOfBind, IsLeftOfBind, Unchecked, Checked, Ended, EndsWith, BindFails, ListenEnds, IsConnect, IsLeftOfConnect, IsListen, IsLeftOfListen, Asks, bind, IsVerdict, IsAddr, IsDone, IsDoneOrCode, IsPolled, Given, Nothing, Item, Check, CheckLocal, Bind, Connect, Listen, LastAsk, NothingLast, CloseLast, ShutdownLast, Who, Operation, End, Waits, Done, Refused, last_ask, after, round, polls, poll_asks, verdict_front, local_front, done_front, polled_front, Last, told_verdict, told_addr, told_done, told_polled, Call, Entry, Told}
+use Rattle.wasi_causes.proofs.Words.{◌≡◌, ◌∙◌, inl, inr, List, [], ◌∷◌, ◌++◌, refl, sym, ap, subst, append_assoc, append-nil, ⊤, ◌⊎◌, IpSocketAddress, Send, SocketAddrUse, TcpBind, ErrorCode, AccessDenied, EndsPending, ClosedBy, Has, entry, IsRestOfBind, IsLeftOfBind, Unchecked, Checked, Ended, BindFails, ListenEnds, IsConnect, IsLeftOfConnect, IsListen, IsLeftOfListen, Asks, bind, IsVerdict, IsAddr, IsDone, IsDoneOrCode, IsPolled, Given, Nothing, Item, Check, CheckLocal, Bind, Connect, Listen, LastAsk, NothingLast, CloseLast, ShutdownLast, Who, Operation, End, Waits, Done, Refused, last_ask, after, round, polls, poll_asks, verdict_front, local_front, done_front, polled_front, Last, told_verdict, told_addr, told_done, told_polled, Call, Entry, Told}
 use Rattle.wasi_causes.proofs.tables.Meets.{Rows, Meets, ends, asks, widen, shifted}
 use Rattle.wasi_causes.specs.Polls.{check_entry, local_entry, Passes, ToldYes, LocalToldYes, BindToldDone, ConnectToldDone, ListenToldDone, Holds, CheckToldPending, LocalToldPending, ConnectToldPending, Breaks, ToldNo, LocalToldNo, LocalToldCode, BindToldCode, ConnectToldCode, ListenToldCode, last_entries, Polled, WasOver, GoesOn, Stays, Stops, Broken}
 use Rattle.wasi_walks.specs.Answered as refusal

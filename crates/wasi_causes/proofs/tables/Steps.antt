@@ -1,5 +1,5 @@
 -- Each step is answered as its table says, and which replies it may give.
-use Rattle.wasi_causes.proofs.Words.{◌≡◌, ◌≢◌, ℕ, Bool, true, List, [], Option, Some, None, refl, subst, ◌⊎◌, inl, inr, ◌+◌, ◌∷◌, ◌++◌, append-nil, append_assoc, false, sym, ◌∙◌, ◌↔◌, IsSome, is_some, first_state, Machine, Standing, Answered, IsQuiet, MissesHandle, is_guest_call, step_asks, machine_asks, asks_while, run, is_trap, truth_fields, IsFailure, MayStand, CodeWord, Field, Reply, Step, Give, Left, Entry, TrapKind, WasiSocketsCtx}
+use Rattle.wasi_causes.proofs.Words.{◌≡◌, ◌≢◌, ℕ, Bool, true, List, [], Option, Some, None, refl, subst, ◌⊎◌, inl, inr, ◌+◌, ◌∷◌, ◌++◌, append-nil, append_assoc, false, sym, ◌∙◌, ◌↔◌, IsSome, is_some, first_state, Machine, Standing, Answered, IsQuiet, MissesHandle, is_guest_call, step_asks, asks_while, run, is_trap, truth_fields, IsFailure, MayStand, CodeWord, Field, Reply, Step, Give, Left, Entry, TrapKind, WasiSocketsCtx}
 use Rattle.wasi_causes.proofs.Ending.{drop, shutdown}
 use Rattle.wasi_causes.proofs.Machine.{subscribe, ready, poll}
 use Rattle.wasi_causes.proofs.sockets.Makes.{network, create, finish_connect, accept}

@@ -3,7 +3,7 @@ use Rattle.wasi_addr.specs.declared.address.SocketAddressFamily.TheVariants as f
 use Rattle.wasi_addr.specs.declared.code.ErrorCode.TheVariants as code
 use Rattle.wasi_world.specs.declared.call.Call.TheVariants as call
 use Rattle.wasi_world.specs.declared.call.Told.TheVariants as told
-use Rattle.wasi_laws.proofs.Words.{◌≡◌, ⊤, ℕ, inl, inr, List, [], ◌∷◌, refl, ap, OpId, Told, Entry, Asks, Ask, Give, Allows, own_of, Has, entry, socket_of, IsMade, Created, HandedOver, IsOpen, IsAskedOpen, AsksOpenSockets}
+use Rattle.wasi_laws.proofs.Words.{⊤, ℕ, inl, inr, List, [], ◌∷◌, refl, ap, OpId, Told, Entry, Asks, Ask, Give, Allows, own_of, Has, entry, socket_of, IsMade, Created, HandedOver, IsOpen, IsAskedOpen, AsksOpenSockets}
 
 -- line 1 makes the socket
 abbrev side : OpId
