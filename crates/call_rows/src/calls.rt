@@ -88,12 +88,11 @@ fn begin_bind(
 fn resume_bind(
     view: &mut WasiSocketsCtxView<'_>,
     world: &mut ScriptedWorld,
-    number: u32,
 ) -> Result<Option<Answer<Outcome>>, Fail>
     requires { (seen_by world.old).ended ≡ false }
     ensures { (seen_by world.new).ended ≡ false }
 {
-    let resumed = wasi_p2::resume(view, world, &mut line(number), 3)?;
+    let resumed = wasi_host::resume(view, world, 3)?;
     Ok(resumed)
 }
 
@@ -113,9 +112,9 @@ fn a_bind_waits_and_is_resumed(rt: HostRuntime) -> Result<(), Fail> {
     let mut view = guest.sockets();
     assert_eq!(rt; begin_bind(&mut view, &mut world)?, Answer::Pending);
     assert_eq!(rt; standing(&view), (Some(3), true, false));
-    assert_eq!(rt; resume_bind(&mut view, &mut world, 4)?, NOTHING);
+    assert_eq!(rt; resume_bind(&mut view, &mut world)?, NOTHING);
     assert_eq!(rt; standing(&view), (None, false, false));
-    assert_eq!(rt; resume_bind(&mut view, &mut world, 5)?, None);
+    assert_eq!(rt; resume_bind(&mut view, &mut world)?, None);
     tcp::finish_bind(&mut view, &mut world, &mut line(6), 2)?;
     Ok(())
 }

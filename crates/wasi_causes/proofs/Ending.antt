@@ -203,14 +203,15 @@ module _ (contexts : List WasiSocketsCtx) (m : Machine) (line c handle : ℕ) wh
     waits_once writer _ (WritesOn on) = NoLook
     waits_once writer _ (ToldToWait half permit e) = OneLook half.side told.Pending
 
-    of_output : (place : ℕ) → IsKind (Output place) → (es : List Entry) (done : Answer (Unit {0}) × Records) → OutputRow m own place es done → DropRow es (answered (with_store (without m handle) done))
+    of_output : (place : ℕ) → IsKind (Output place) → (es : List Entry) (done : Answer (Unit {0}) × Records) → OutputRow m.store own place es done → DropRow es (answered (with_store (without m handle) done))
     of_output place is es (Ready done, store) k = ((apart (λ e. cc) no_children, rw is k.0), (tt, (refl, rw is tt)))
     of_output place is es (Pending, store) k =
-        ((apart (λ e. cc) no_children, rw is (waits_once k.0.streams.writer es k.0.holds)), (((rw is refl, refl), rw k.1 refl), (refl, subst (λ (o : Option ℕ). OutputWaits m own o es) (sym (ap output_of is)) k.0)))
+        let w : OutputWaits m own (Some place) es = k.0 m refl in
+        ((apart (λ e. cc) no_children, rw is (waits_once w.streams.writer es w.holds)), (((rw is refl, refl), rw k.1 refl), (refl, subst (λ (o : Option ℕ). OutputWaits m own o es) (sym (ap output_of is)) w)))
 
     by_kind : (kind : Kind) → IsKind kind → Meets DropRow [] (drop_kind (without m handle) own kind)
     by_kind (Tcp2 place) is = onto _ (by_record place is (slice_get m.store.sockets place) refl)
-    by_kind (Output place) is = onto _ (widen (of_output place is) (outputs m own place (slice_get m.store.sockets place) refl))
+    by_kind (Output place) is = onto _ (widen (of_output place is) (outputs m.store own place (slice_get m.store.sockets place) refl))
     by_kind _ is = ends ((apart (λ e. cc) no_children, asks_none (kind_at m.table handle)), (tt, (refl, rw is refl)))
 
   by_children : (kind : Kind) → IsKind kind → (b : Bool) → has_no_child m.table handle ≡ b → Meets DropRow [] (drop_taken m own (if b then (Ok kind, without_handle m.table handle) else (Err (Trap HasChildren), m.table)))

@@ -1,19 +1,33 @@
 -- A subscription and a look at a pollable, and a poll of the call that stands.
-use Rattle.wasi_causes.proofs.Words.{◌≡◌, ℕ, Bool, true, false, inl, inr, List, [], ◌∷◌, Option, Some, None, Result, Ok, Err, slice_get, refl, sym, ap, ◌∙◌, ◌≢◌, subst, ◌==◌, eqb-true, eq-eqb, ◌⊎◌, IfSome, IsSomeAnd, ErrorCode, InvalidState, Stop, Trap, CallStop, kind_at, watched_by, watch_of, place_in, listen_polled, poll_begun, poll_listening, closed_listening, listen_answered, own_of, side_at, with_store, subscribe_on, subscribe_asks, ready_on, ready_asks, stands_as, waiting_drop, resume_in, waiting_bind, unstood, some_answer, rebind_at, resume_bind_in, waiting_listen, relisten_at, resume_listen_in, Records, is_nothing, is_connect, with_reader, with_writer, left_of, bind_ended, bind_answered, Pollable, Watched, Listening, Machine, Streams, Tcp2Socket, Standing, StandingCall, ClosedBy, MissesRecord, word_of_code, EndsPending, StandsOnNothing, entry, marks_in, AcceptWaits, accept_name, HasNoListener, AcceptsIn, handle_reply, truth_reply, first_ids, resumed_reply, poll_on, no_fields, OfWatched, IsIdleSocket, IsUnready, AcceptWaitsOn, ConnectWaits, InputWaits, WriteWaits, WatchesConnect, WatchesAccept, WatchesIdle, ListenEnds, BindFailed, IsRestOfBind, BindFails, IsListening, ListenWaits, CallWaits, CallFails, ListenFailed, NoListen, HasNoListen, StandsByBind, nothing_stands, Reply, StreamStop, connect_ended, finish_in, in_socket, HoldsConnect, IsListen, Listener, ready_end, HoldsAccept, listen_ended, reader_ready_asks, side_of, TcpReceiveStream, Accepting, ReadState, TcpState, WriteState, Give, bind, IsReady, Item, Operation, End, Waits, Done, Refused, told_ready, Entry, Told, OpId, Answer, Ready, Pending, NoSuchHandle, WasiSocketsCtx}
+use Rattle.wasi_host.specs.declared.binding.InProgress.TheVariants.{Binding}
+use Rattle.wasi_walks.proofs.walks.States.{stands_so as stands_under}
+use Rattle.wasi_causes.proofs.Words.{AcceptWaits, AcceptWaitsOn, Accepting, AcceptsIn, Answer, BindFailed, BindFails, BindWaits, Bool, CallFails}
+use Rattle.wasi_causes.proofs.Words.{CallStop, CallWaits, ClosedBy, ConnectWaits, Done, End, EndsPending, Entry, Err, ErrorCode, Give, HasNoListen}
+use Rattle.wasi_causes.proofs.Words.{HasNoListener, HoldsAccept, HoldsConnect, IfSome, InProgress, InputWaits, InvalidState, IsBinding, IsIdleSocket}
+use Rattle.wasi_causes.proofs.Words.{IsListen, IsListening, IsOnNothing, IsReady, IsRestOfBind, IsSomeAnd, IsUnready, Item, List, ListenEnds}
+use Rattle.wasi_causes.proofs.Words.{ListenFailed, ListenWaits, Listener, Listening, Machine, MissesRecord, NoListen, NoSuchHandle, None, OfWatched}
+use Rattle.wasi_causes.proofs.Words.{Ok, OpId, Operation, Option, Pending, Pollable, ReadState, Ready, Records, Refused, Reply, Result, Some}
+use Rattle.wasi_causes.proofs.Words.{Standing, StandingCall, StandsByBind, StandsOnNothing, Stop, StreamStop, Streams, Tcp2Socket, TcpReceiveStream}
+use Rattle.wasi_causes.proofs.Words.{TcpState, Told, Trap, Waits, WasiSocketsCtx, Watched, WatchesAccept, WatchesConnect, WatchesIdle, WriteState}
+use Rattle.wasi_causes.proofs.Words.{WriteWaits, [], accept_name, allowed_answer, ap, bind, bind_ended, call_answered, call_of, call_place}
+use Rattle.wasi_causes.proofs.Words.{closed_listening, connect_ended, entry, eq-eqb, eqb-true, false, finish_in, first_ids, go_on, handle_reply}
+use Rattle.wasi_causes.proofs.Words.{if◌then◌else◌, in_socket, inl, inr, is_connect, is_nothing, kind_at, left_of, listen_ended, listen_polled}
+use Rattle.wasi_causes.proofs.Words.{marks_in, no_fields, nothing_stands, own_of, place_in, poll_begun, poll_binding, poll_listening}
+use Rattle.wasi_causes.proofs.Words.{reader_ready_asks, ready_asks, ready_end, ready_on, rebind_at, refl, relisten_at, resume_asks, resume_call}
+use Rattle.wasi_causes.proofs.Words.{resumed, resumed_reply, side_at, side_of, slice_get, standing_as, stands_as, subscribe_asks, subscribe_on, subst}
+use Rattle.wasi_causes.proofs.Words.{sym, told_ready, true, truth_reply, unstood, watch_of, watched_by, with_reader, with_socket, with_store}
+use Rattle.wasi_causes.proofs.Words.{with_writer, word_of_code, ℕ, ◌==◌, ◌∙◌, ◌∷◌, ◌≡◌, ◌≢◌, ◌⊎◌}
 use Rattle.wasi_causes.proofs.operations.Accepts.{AcceptRow, accepts}
 use Rattle.wasi_causes.proofs.operations.Polls.{EndsFor, connect_ends, bind_ends as bind_polls, listen_ends as listen_polls}
 use Rattle.wasi_causes.proofs.streams.Halves.{LookRow, looks, OutputRow, outputs}
 use Rattle.wasi_causes.proofs.tables.Meets.{Rows, Meets, ends, asks, onto, widen, granted, chain, branch}
 use Rattle.wasi_causes.proofs.tables.Routes.{Replied, Says, put_store_same, makes, full_so, apart, code_word}
 use Rattle.wasi_causes.specs.Outcomes.{Outcome, Always}
-use Rattle.wasi_host.specs.Pending as host
 use Rattle.wasi_host.specs.Readiness.{is_over, is_done, connect_looked, accept_looked, ready_listening, ready_idle, ready_socket_by, ready_reader, ready_writer, ready_record, ready_put, ready_at}
 use Rattle.wasi_host.specs.declared.kind.Watched.TheVariants as watched
 use Rattle.wasi_host.specs.declared.listening.Listening.TheVariants as listening
 use Rattle.wasi_host.specs.declared.pending.Outcome.{Outcome as Given}
 use Rattle.wasi_host.specs.declared.store.StandingCall.TheVariants.{Bind, Listen, DropOutput}
-use Rattle.wasi_p2.specs.Pending as p2
-use Rattle.wasi_machine.specs.Machine.{poll_asks}
 use Rattle.wasi_steps.specs.declared.reply.Reply.TheVariants as reply
 use Rattle.wasi_steps.specs.declared.step.Step.TheVariants as step
 use Rattle.wasi_tcp.specs.Listen.{is_over as listen_over}
@@ -201,8 +215,18 @@ module _ (contexts : List WasiSocketsCtx) (m : Machine) (line n : ℕ) where
   abbrev Row : Rows (Reply × Machine)
   Row es done = Outcome contexts m line (step.Poll n) es done.0 done.1
 
+  abbrev ResumedRow : Rows (Result (Option (Answer Given)) Stop × Machine)
+  ResumedRow es done = Row es (resumed_reply n done.0, done.1)
+
+  abbrev CallRow : Rows (Result (Answer (Unit {0})) Stop × Records)
+  CallRow es done = ResumedRow es (resumed (with_store m done))
+
   abbrev Under : StandingCall → Type 0
-  Under call = m.store.standing ≡ Some (record { line = n; call = call })
+  Under call = m.store.standing ≡ Some (standing_as n call)
+
+  -- nothing stands any more
+  abbrev free : Records
+  free = unstood m.store
 
   -- == a call stands
   module _ (call : StandingCall) (stands : Under call) where
@@ -212,120 +236,121 @@ module _ (contexts : List WasiSocketsCtx) (m : Machine) (line n : ℕ) where
     it_ends : (es : List Entry) (r : Reply) (after : Machine) → r ≢ reply.NoSuchCall → after.store.standing ≡ None → Always m line (step.Poll n) es r after
     it_ends es r after other none = (apart other stands_so, λ same. inr none)
 
-    done : {es : List Entry} {after : Machine} → after.store.standing ≡ None → Meets Row es (Give (reply.Ok no_fields, after))
-    done {es} {after} none = ends (it_ends es (reply.Ok no_fields) after (λ e. cc) none, (tt, tt))
+    done : (es : List Entry) (after : Machine) → after.store.standing ≡ None → Row es (reply.Ok no_fields, after)
+    done es after none = (it_ends es (reply.Ok no_fields) after (λ e. cc) none, (tt, tt))
 
-    fails : {es : List Entry} {after : Machine} (code : ErrorCode) → after.store.standing ≡ None → (StandsByBind m → CallFails m es call code) → Meets Row es (Give (reply.Err (word_of_code code), after))
-    fails {es} {after} code none cause = ends (it_ends es (reply.Err (word_of_code code)) after (λ e. cc) none, (code_word code, λ binds. record { call = call; code = code; stands = stands; cause = cause binds; word_is = refl }))
+    fails : (es : List Entry) (after : Machine) (code : ErrorCode) → after.store.standing ≡ None → (StandsByBind m → CallFails m es call code) → Row es (reply.Err (word_of_code code), after)
+    fails es after code none cause = (it_ends es (reply.Err (word_of_code code)) after (λ e. cc) none, (code_word code, λ binds. record { call = call; code = code; stands = stands; cause = cause binds; word_is = refl }))
 
-    waits : {es : List Entry} {after : Machine} (now : StandingCall) → after.store.standing ≡ Some (record { line = n; call = now }) → (StandsByBind m → CallWaits m (own_of n) es call) → Meets Row es (Give (reply.Pending n, after))
-    waits {es} {after} now on cause =
-        ends ((apart (λ e. cc) stands_so, λ same. inl refl), ((refl, rw on refl), λ binds. subst (λ (o : Option Standing). IsSomeAnd o (λ s. CallWaits m (own_of n) es s.call)) (sym stands) (cause binds)))
+    waits : (es : List Entry) (after : Machine) → after.store.standing ≡ Some (standing_as n call) → (StandsByBind m → CallWaits m (own_of n) es call) → Row es (reply.Pending n, after)
+    waits es after on cause = ((apart (λ e. cc) stands_so, λ same. inl refl), ((refl, rw on refl), λ binds. subst (λ (o : Option Standing). IsSomeAnd o (λ s. CallWaits m (own_of n) es s.call)) (sym stands) (cause binds)))
 
-    missing : StandsOnNothing m n → Meets Row [] (Give (reply.Trap NoSuchHandle, nothing_stands m))
-    missing nothing = ends (it_ends [] (reply.Trap NoSuchHandle) (nothing_stands m) (λ e. cc) refl, (nothing, refl, refl))
+    -- what is due for an answer
+    abbrev Due : List Entry → Result (Answer (Unit {0})) ErrorCode → Type 0
+    Due es (Ok Pending) = StandsByBind m → CallWaits m (own_of n) es call
+    Due es (Ok (Ready given)) = Unit {0}
+    Due es (Err code) = StandsByBind m → CallFails m es call code
+
+    answered_so : (es : List Entry) (begun : Result (Answer (Unit {0})) ErrorCode × Tcp2Socket) → Due es begun.0 → CallRow es (call_answered free n call begun)
+    answered_so es (Ok Pending, r) h = waits es (record m { store = record (with_socket free (call_place call) r) { standing = Some (standing_as n call) } }) refl h
+    answered_so es (Ok (Ready given), r) h = done es (record m { store = with_socket free (call_place call) r }) refl
+    answered_so es (Err code, r) h = fails es (record m { store = with_socket free (call_place call) r }) code refl h
+
+    missing : IsOnNothing m call → Row [] (reply.Trap NoSuchHandle, nothing_stands m)
+    missing nothing = (it_ends [] (reply.Trap NoSuchHandle) (nothing_stands m) (λ e. cc) refl, (rw (stands, eq-eqb n n refl) nothing, refl, refl))
 
   -- == of a drop
-  of_output : (place : ℕ) → Under (DropOutput place) → (es : List Entry) (done : Answer (Unit {0}) × Records) → OutputRow m (own_of n) place es done → let said = host.resumed (with_store m done) in Row es (resumed_reply n said.0, said.1)
-  of_output place stands es (Ready given, store) k = (done (DropOutput place) stands {es = es} {after = record m { store = store }} k.1).along
-  of_output place stands es (Pending, store) k = (waits (DropOutput place) stands {es = es} {after = record m { store = store }} (DropOutput place) k.1 (λ binds. k.0)).along
-
-  abbrev DropRow : Rows (Result (Option (Answer Given)) CallStop × Machine)
-  DropRow es done = Row es (resumed_reply n done.0, done.1)
-
-  abbrev NextRow : Rows (Result (Option (Answer Given)) Stop × Machine)
-  NextRow es done = Meets Row es (poll_on n done)
-
-  abbrev ResumedRow : Rows (Result (Option (Answer (Unit {0}))) Stop × Records)
-  ResumedRow es done = NextRow es (p2.resumed (with_store m done))
+  of_output : (place : ℕ) → Under (DropOutput place) → (es : List Entry) (done : Answer (Unit {0}) × Records) → OutputRow free (own_of n) place es done → CallRow es (allowed_answer done)
+  of_output place stands es (Ready given, store) k = done (DropOutput place) stands es (record m { store = store }) k.1
+  of_output place stands es (Pending, store) k = waits (DropOutput place) stands es (record m { store = store }) k.1 (λ binds. k.0 m refl)
 
   -- == of a listen
-  module _ (place : ℕ) (stands_listening : Under (Listen place)) where
-    abbrev ListenRow : Rows (Result (Answer (Unit {0})) Stop × Records)
-    ListenRow es done = NextRow es (p2.resumed (with_store m (some_answer done)))
-
+  module _ (place : ℕ) (stands : Under (Listen place)) where
     module _ (r : Tcp2Socket) (at : slice_get m.store.sockets place ≡ Some r) where
-      abbrev BegunRow : Rows (Result (Answer (Unit {0})) ErrorCode × Tcp2Socket)
-      BegunRow es begun = ListenRow es (listen_answered (unstood m.store) n place begun)
+      abbrev ListenRow : Rows (Result (Answer (Unit {0})) ErrorCode × Tcp2Socket)
+      ListenRow es begun = CallRow es (call_answered free n (Listen place) begun)
 
-      gives_up : HasNoListen r → BegunRow [] (Err InvalidState, r)
-      gives_up none = fails (Listen place) stands_listening InvalidState refl (λ binds. NoListen place (rw at none) refl)
+      gives_up : HasNoListen r → ListenRow [] (Err InvalidState, r)
+      gives_up none = answered_so (Listen place) stands [] (Err InvalidState, r) (λ binds. NoListen place (rw at none) refl)
 
       module _ (op : Operation) (is : r.listening ≡ listening.Begins op) where
         is_listen : StandsByBind m → IsListen op
         is_listen binds =
-            let k : IfSome (slice_get m.store.sockets place) (λ q. IsListening q.listening) = rw stands_listening at binds in
+            let k : IfSome (slice_get m.store.sockets place) (λ q. IsListening q.listening) = rw stands at binds in
             let held : IsListening r.listening = rw at at k in
             rw is at held
 
-        waits_so : (es : List Entry) → EndsPending op.who.id es → CallWaits m (own_of n) es (Listen place)
-        waits_so es h = let k : ListenWaits r.listening es = rw is h in rw at k
+        listen_waits : (es : List Entry) → EndsPending op.who.id es → CallWaits m (own_of n) es (Listen place)
+        listen_waits es h = let k : ListenWaits r.listening es = rw is h in rw at k
 
-        listen_ends : (es : List Entry) (end : End × List Item) → (IsListen op → EndsFor op (ListenEnds op) es end) → BegunRow es (listen_polled r (listen_ended op.who r.inner end))
-        listen_ends es (Waits, items) h = waits (Listen place) stands_listening (Listen place) refl (λ binds. waits_so es (h (is_listen binds)))
-        listen_ends es (Done given, items) h = done (Listen place) stands_listening refl
-        listen_ends es (Refused code given, items) h = fails (Listen place) stands_listening code refl (λ binds. ListenFailed place r op code at is (h (is_listen binds)))
+        listen_ends : (es : List Entry) (end : End × List Item) → (IsListen op → EndsFor op (ListenEnds op) es end) → ListenRow es (listen_polled r (listen_ended op.who r.inner end))
+        listen_ends es (Waits, items) h = answered_so (Listen place) stands es (listen_polled r (listen_ended op.who r.inner (Waits, items))) (λ binds. listen_waits es (h (is_listen binds)))
+        listen_ends es (Done given, items) h = answered_so (Listen place) stands es (listen_polled r (listen_ended op.who r.inner (Done given, items))) tt
+        listen_ends es (Refused code given, items) h = answered_so (Listen place) stands es (listen_polled r (listen_ended op.who r.inner (Refused code given, items))) (λ binds. ListenFailed place r op code at is (h (is_listen binds)))
 
-        begun : Meets BegunRow [] (poll_begun r op)
+        begun : Meets ListenRow [] (poll_begun r op)
         begun =
-            onto _ (branch (listen_over op) (λ over. ends (fails (Listen place) stands_listening InvalidState refl (λ binds. NoListen place (rw at (inr (rw is over))) refl)))
+            onto _ (branch (listen_over op) (λ over. ends (answered_so (Listen place) stands [] (listen_polled r (Err InvalidState, (op, r.inner))) (λ binds. NoListen place (rw at (inr (rw is over))) refl)))
             (λ on. onto _ (widen listen_ends (granted (listen_polls op)))))
 
-      relists_by : (l : Listening) → r.listening ≡ l → Meets BegunRow [] (poll_listening r l)
+      relists_by : (l : Listening) → r.listening ≡ l → Meets ListenRow [] (poll_listening r l)
       relists_by (listening.Begins op) is = begun op is
       relists_by _ is = ends (gives_up (inr (rw is tt)))
 
-      by_side : (o : Option OpId) → side_of r.inner ≡ o → Meets BegunRow [] (closed_listening r o)
+      by_side : (o : Option OpId) → side_of r.inner ≡ o → Meets ListenRow [] (closed_listening r o)
       by_side None side = relists_by r.listening refl
       by_side (Some of) side = ends (gives_up (inl (rw side refl)))
 
-    relists : (o : Option Tcp2Socket) → slice_get m.store.sockets place ≡ o → Meets ListenRow [] (relisten_at m.store n place o)
-    relists None at = ends (missing (Listen place) stands_listening (inr (rw (stands_listening, eq-eqb n n refl) at)))
+    relists : (o : Option Tcp2Socket) → slice_get m.store.sockets place ≡ o → Meets CallRow [] (relisten_at free n place o)
+    relists None at = ends (missing (Listen place) stands at)
     relists (Some r) at = onto _ (by_side r at (side_of r.inner) refl)
 
   -- == of a bind
-  abbrev BindRow : Rows (Result (Option (Answer (Unit {0}))) Stop × Records)
-  BindRow es done = Meets NextRow es (p2.resume_listen n (with_store m done))
+  module _ (place : ℕ) (stands : Under (Bind place)) where
+    module _ (r : Tcp2Socket) (at : slice_get m.store.sockets place ≡ Some r) where
+      abbrev BindRow : Rows (Result (Answer (Unit {0})) ErrorCode × Tcp2Socket)
+      BindRow es begun = CallRow es (call_answered free n (Bind place) begun)
 
-  module _ (place : ℕ) (op : Operation) (stands : Under (Bind place op)) where
-    is_bind : StandsByBind m → IsRestOfBind op
-    is_bind binds = rw stands at binds
+      goes_on : StandsByBind m → IsBinding r.in_progress
+      goes_on binds = let k : IfSome (slice_get m.store.sockets place) (λ q. IsBinding q.in_progress) = rw stands at binds in rw at at k
 
-    bind_ends : (r : Tcp2Socket) (es : List Entry) (end : End × List Item) → (IsRestOfBind op → EndsFor op (BindFails op) es end) → BindRow es (some_answer (bind_answered (unstood m.store) n place (bind_ended op r end)))
-    bind_ends r es (Waits, items) h = ends (waits (Bind place op) stands (Bind place (left_of op items)) refl (λ binds. h (is_bind binds)))
-    bind_ends r es (Done given, items) h = ends (done (Bind place op) stands refl)
-    bind_ends r es (Refused code given, items) h = ends (fails (Bind place op) stands code refl (λ binds. BindFailed place op code (h (is_bind binds))))
+      module _ (op : Operation) (is : r.in_progress ≡ Binding op) where
+        is_bind : StandsByBind m → IsRestOfBind op
+        is_bind binds = let k = goes_on binds in rw is at k
 
-    rebinds : (o : Option Tcp2Socket) → slice_get m.store.sockets place ≡ o → Meets (λ es done. BindRow es (some_answer done)) [] (rebind_at m.store n place op o)
-    rebinds None at = ends (ends (missing (Bind place op) stands (inl (rw (stands, eq-eqb n n refl) at))))
-    rebinds (Some r) at = onto _ (onto _ (widen (bind_ends r) (granted (bind_polls op))))
+        bind_waits : (es : List Entry) → EndsPending op.who.id es → CallWaits m (own_of n) es (Bind place)
+        bind_waits es h = let k : BindWaits r.in_progress es = rw is h in rw at k
+
+        bind_ends : (es : List Entry) (end : End × List Item) → (IsRestOfBind op → EndsFor op (BindFails op) es end) → BindRow es (bind_ended op r end)
+        bind_ends es (Waits, items) h = answered_so (Bind place) stands es (bind_ended op r (Waits, items)) (λ binds. bind_waits es (h (is_bind binds)))
+        bind_ends es (Done given, items) h = answered_so (Bind place) stands es (bind_ended op r (Done given, items)) tt
+        bind_ends es (Refused code given, items) h = answered_so (Bind place) stands es (bind_ended op r (Refused code given, items)) (λ binds. BindFailed place r op code at is (h (is_bind binds)))
+
+      rebinds_by : (doing : InProgress) → r.in_progress ≡ doing → Meets BindRow [] (poll_binding r doing)
+      rebinds_by (Binding op) is = onto _ (widen (bind_ends op is) (granted (bind_polls op)))
+      rebinds_by _ is = ends (answered_so (Bind place) stands [] (Err InvalidState, r) (λ binds. let k = goes_on binds in absurd (rw is at k)))
+
+    rebinds : (o : Option Tcp2Socket) → slice_get m.store.sockets place ≡ o → Meets CallRow [] (rebind_at free n place o)
+    rebinds None at = ends (missing (Bind place) stands at)
+    rebinds (Some r) at = onto _ (rebinds_by r at r.in_progress refl)
 
   -- == by what stands
-  to_bind : (o : Option (ℕ × Operation)) → waiting_bind m.store.standing n ≡ o → Meets BindRow [] (resume_bind_in m.store n o) → Meets Row [] (poll_asks m n)
-  to_bind o e rows = chain {Mid = NextRow} (chain {Mid = BindRow} (subst (λ (o : Option (ℕ × Operation)). Meets BindRow [] (resume_bind_in m.store n o)) (sym e) rows) (λ es done k. k)) (λ es done k. k)
+  goes_on_as : (call : StandingCall) → Under call → Meets CallRow [] (go_on free n call)
+  goes_on_as (Bind place) stands = rebinds place stands (slice_get m.store.sockets place) refl
+  goes_on_as (Listen place) stands = relists place stands (slice_get m.store.sockets place) refl
+  goes_on_as (DropOutput place) stands = onto _ (widen (of_output place stands) (outputs free (own_of n) place (slice_get m.store.sockets place) refl))
 
-  to_listen : waiting_bind m.store.standing n ≡ None → (o : Option ℕ) → waiting_listen m.store.standing n ≡ o → Meets ResumedRow [] (resume_listen_in m.store n o) → Meets Row [] (poll_asks m n)
-  to_listen none o e rows = to_bind None none (ends (onto _ (subst (λ (o : Option ℕ). Meets ResumedRow [] (resume_listen_in m.store n o)) (sym e) rows)))
-
-  to_drop : waiting_bind m.store.standing n ≡ None → waiting_listen m.store.standing n ≡ None → (o : Option ℕ) → waiting_drop m.store.standing n ≡ o → Meets DropRow [] (resume_in m n o) → Meets Row [] (poll_asks m n)
-  to_drop none no_listen o e rows = to_listen none None no_listen (ends (onto _ (subst (λ (o : Option ℕ). Meets DropRow [] (resume_in m n o)) (sym e) rows)))
-
-  no_call : stands_as m.store.standing n ≡ false → waiting_bind m.store.standing n ≡ None → waiting_listen m.store.standing n ≡ None → waiting_drop m.store.standing n ≡ None → Meets Row [] (poll_asks m n)
-  no_call free none no_listen no_drop = to_drop none no_listen None no_drop (ends (((λ same. free, λ k. refl), λ same. absurd (cc)), (tt, (refl, refl))))
-
-  by_call : (call : StandingCall) → Under call → Meets Row [] (poll_asks m n)
-  by_call (Bind place op) stands = to_bind (Some (place, op)) (rw (stands, eq-eqb n n refl) refl) (onto _ (rebinds place op stands (slice_get m.store.sockets place) refl))
-  by_call (Listen place) stands = to_listen (rw (stands, eq-eqb n n refl) refl) (Some place) (rw (stands, eq-eqb n n refl) refl) (onto _ (relists place stands (slice_get m.store.sockets place) refl))
-  by_call (DropOutput place) stands =
-      to_drop (rw (stands, eq-eqb n n refl) refl) (rw (stands, eq-eqb n n refl) refl) (Some place) (rw (stands, eq-eqb n n refl) refl) (onto _ (widen (of_output place stands) (outputs m (own_of n) place (slice_get m.store.sockets place) refl)))
-
-  by_standing : (o : Option Standing) → m.store.standing ≡ o → Meets Row [] (poll_asks m n)
-  by_standing None e = no_call (rw e refl) (rw e refl) (rw e refl) (rw e refl)
-  by_standing (Some s) e = by_line (s.line == n) refl
+  none_so : (o : Option Standing) → call_of o n ≡ None → stands_as o n ≡ false
+  none_so None e = refl
+  none_so (Some s) e = by_line (s.line == n) e
     where
-      by_line : (same : Bool) → (s.line == n) ≡ same → Meets Row [] (poll_asks m n)
-      by_line true same = by_call s.call (e ∙ ap (λ (line : ℕ). let under : Standing = record { line = line; call = s.call } in Some under) (eqb-true s.line n same))
-      by_line false other = no_call (rw (e, other) refl) (rw (e, other) refl) (rw (e, other) refl) (rw (e, other) refl)
+      by_line : (same : Bool) → (if same then Some s.call else None) ≡ None → same ≡ false
+      by_line true k = absurd (cc)
+      by_line false k = refl
 
-  pub poll : Meets Row [] (poll_asks m n)
-  poll = by_standing m.store.standing refl
+  by_call : (o : Option StandingCall) → call_of m.store.standing n ≡ o → Meets ResumedRow [] (resume_call m n o)
+  by_call None e = let none = none_so m.store.standing e in ends (((λ same. none, λ k. refl), λ same. absurd (cc)), (tt, (refl, refl)))
+  by_call (Some call) e = onto _ (goes_on_as call (stands_under m.store.standing n call e))
+
+  pub poll : Meets Row [] (bind (resume_asks m n) (λ done. Give (resumed_reply n done.0, done.1)))
+  poll = onto _ (by_call (call_of m.store.standing n) refl)

@@ -1,7 +1,20 @@
 -- Of the machines that runs lead to: what a socket connects by is a connect, what a listener accepts by an accept, what stands
 -- by a bind is a bind, and by a listen a listen; each live handle and what stands are of a record that is there, a connect in
 -- progress may be finished, and a socket that does nothing yet doesn't listen.
-use Rattle.wasi_causes.proofs.Words.{◌≡◌, ℕ, List, [], Option, Some, None, slice_get, refl, inl, inr, true, ◌∷◌, ◌++◌, Result, Ok, Err, sym, ap, subst, ◌∙◌, length, slice_set, Bool, false, if◌then◌else◌, ◌==◌, IfSome, ⊤, ◌⊎◌, IsSome, IsSomeAnd, ErrorCode, kind_at, watch_of, place_in, make_asks, table_parent, with_handle, without_handle, give_up_asks, with_listening, first_state, socket_at, own_of, side_at, created_asks, bind_in, listen_in, waiting_bind, waiting_listen, is_connect, new_record, with_record, with_inner, with_writer, Kind, Tcp2, Input, Output, Pollable, Watched, Listening, Machine, Tcp2Socket, Standing, StandingCall, get_front, get_seam, get_set, get_split, set_get, value_split, record_in, ConnectsAt, Answered, record_at, RefusedOf, StandsOnNothing, FinishRefusal, NoConnect, Closes, NotConnecting, ListensAlready, ReceivesAlready, SendsAlready, AcceptsIn, AcceptsAt, IsPastNot, run, machine_asks, watched_in, WatchesConnect, WatchesAccept, IsListening, HoldsCall, StandsByBind, CodeWord, Reply, Step, value_without, is_full, with_state, connect_ended, Listener, accept_ended, Socket, side_of, new_asks, turn_asks, Accepting, TcpState, Allows, allows_then, allows_if, Give, Left, bind, Operation, End, Waits, Done, Refused, Item, Who, poll_asks, told_addr, Entry, OpId, TrapKind, NoSuchHandle, HasChildren, Full, NotPermitted, WasiSocketsCtx}
+use Rattle.wasi_host.specs.declared.binding.InProgress.TheVariants.{Nothing, Binding, Started}
+use Rattle.wasi_causes.proofs.Words.{Accepting, AcceptsAt, AcceptsIn, Allows, Answered, Bool, Closes, CodeWord, ConnectsAt, Done, End, Entry, Err}
+use Rattle.wasi_causes.proofs.Words.{ErrorCode, FinishRefusal, Full, Give, HasChildren, HoldsCall, IfSome, InProgress, Input, IsBinding, IsListening}
+use Rattle.wasi_causes.proofs.Words.{IsOnNothing, IsPastNot, IsSome, IsSomeAnd, Item, Kind, Left, List, Listener, Listening, ListensAlready, Machine}
+use Rattle.wasi_causes.proofs.Words.{NoConnect, NoSuchHandle, None, NotConnecting, NotPermitted, Nothing, Ok, OpId, Operation, Option, Output}
+use Rattle.wasi_causes.proofs.Words.{Pollable, ReceivesAlready, Refused, RefusedOf, Reply, Result, SendsAlready, Socket, Some, Standing, StandingCall}
+use Rattle.wasi_causes.proofs.Words.{StandsByBind, StandsOnNothing, Step, Tcp2, Tcp2Socket, TcpState, TrapKind, Waits, WasiSocketsCtx, Watched}
+use Rattle.wasi_causes.proofs.Words.{WatchesAccept, WatchesConnect, Who, [], accept_ended, allows_if, allows_then, ap, bind, bind_progress, call_of}
+use Rattle.wasi_causes.proofs.Words.{call_place, connect_ended, created_asks, false, first_state, get_front, get_seam, get_set, get_split}
+use Rattle.wasi_causes.proofs.Words.{give_up_asks, if◌then◌else◌, inl, inr, is_connect, is_full, kind_at, length, machine_asks, make_asks, new_asks}
+use Rattle.wasi_causes.proofs.Words.{new_record, own_of, place_in, poll_asks, record_at, record_in, refl, run, set_get, side_at, side_of, slice_get}
+use Rattle.wasi_causes.proofs.Words.{slice_set, socket_at, standing_as, subst, sym, table_parent, told_addr, true, turn_asks, value_split}
+use Rattle.wasi_causes.proofs.Words.{value_without, watch_of, watched_in, with_handle, with_inner, with_listening, with_progress, with_record}
+use Rattle.wasi_causes.proofs.Words.{with_state, with_writer, without_handle, ℕ, ⊤, ◌++◌, ◌==◌, ◌∙◌, ◌∷◌, ◌≡◌, ◌⊎◌}
 use Rattle.wasi_causes.proofs.tables.Steps.{its_own}
 use Rattle.wasi_causes.specs.Outcomes.{Traps}
 use Rattle.wasi_causes.specs.Reached.{MayFinish, ListensLate, HasRecord, OfItsRecord, IsUndone, RefusedInRun, ListenRefusedInRun}
@@ -10,9 +23,9 @@ use Rattle.wasi_host.specs.declared.store.StandingCall.TheVariants as standing
 use Rattle.wasi_walks.proofs.fits.Law.{Fit, fits_along, told_same, whatever}
 use Rattle.wasi_walks.proofs.fits.Lines.{first_fit, starts_fit}
 use Rattle.wasi_walks.proofs.fits.Polls.{Anything}
-use Rattle.wasi_walks.proofs.fits.Records.{FitListening, FitRecord, FitCall}
+use Rattle.wasi_walks.proofs.fits.Records.{FitListening, FitProgress, FitRecord, FitCall}
 use Rattle.wasi_walks.proofs.walks.Law.{Law}
-use Rattle.wasi_walks.proofs.walks.Moves.{closed_record, Held, InHand, Connects, Here, put, Move, Changes, ClosesReader, Writes, IsGone, Reconnects, Opens, BeginsConnect, BeginsWrite, Stands, Resumes, Lists, Takes, BeginsListen, BeginsAccept, Unlistens, Forgets, Joins, StandsListen, StandsDrop, Unstands, Listens, Awaits, listen_after, accepting_now, joined, IsConnecting, Marks, AStream, AnAcceptedStream, APollable, record_of}
+use Rattle.wasi_walks.proofs.walks.Moves.{HasBinding, closed_record, Held, BindsOn, Connects, Here, put, Move, Changes, ClosesReader, Writes, IsGone, Reconnects, Opens, BeginsBind, BeginsConnect, BeginsWrite, Stands, Lists, Takes, BeginsListen, BeginsAccept, Unlistens, Forgets, Joins, Unstands, Listens, Awaits, listen_after, accepting_now, joined, IsConnecting, Marks, AStream, AnAcceptedStream, APollable, record_of}
 use Rattle.wasi_walks.proofs.walks.Runs.{run_ends}
 use Rattle.wasi_walks.proofs.walks.States.{Over, socket_record}
 use Rattle.wasi_walks.proofs.walks.Steps.{may_while, machine_walks}
@@ -45,12 +58,17 @@ module _ (m : Machine) (f : Fit (Over m)) where
     of_watched None = tt
     of_watched (Some w) = at_place (place_in w) (slice_get m.store.sockets (place_in w)) refl
 
-  by_call : (call : StandingCall) → FitCall call → HoldsCall m call
-  by_call (standing.Bind place op) h = h
+  binds_so : (r : Tcp2Socket) (doing : InProgress) → r.in_progress ≡ doing → FitRecord r → HasBinding doing → IsBinding doing
+  binds_so r (Binding op) e k b = (subst (FitProgress r.inner.state) e k.2).1
+  binds_so r Nothing e k b = absurd b
+  binds_so r (Started o) e k b = absurd b
+
+  by_call : (call : StandingCall) → FitCall m.store.sockets call → HoldsCall m call
+  by_call (standing.Bind place) h = subst (λ (o : Option Tcp2Socket). IfSome o (λ r. IsBinding r.in_progress)) (sym h.at) (binds_so h.was h.was.in_progress refl (f.records place h.was h.at) h.goes)
   by_call (standing.Listen place) h = at_place (λ r. IsListening r.listening) (λ r k. listens_so r.listening k.1) place (slice_get m.store.sockets place) refl
   by_call (standing.DropOutput place) h = tt
 
-  stands_by : (o : Option Standing) → ((s : Standing) → o ≡ Some s → FitCall s.call) → IfSome o (λ s. HoldsCall m s.call)
+  stands_by : (o : Option Standing) → ((s : Standing) → o ≡ Some s → FitCall m.store.sockets s.call) → IfSome o (λ s. HoldsCall m s.call)
   stands_by None h = tt
   stands_by (Some s) h = by_call s.call (h s refl)
 
@@ -96,11 +114,6 @@ Finishes r = is_connect r.in_progress ≡ true → MayFinish r.inner.state
 
 abbrev pub Sound : Tcp2Socket → Type 0
 Sound r = Finishes r × ListensLate r
-
-abbrev pub call_place : StandingCall → ℕ
-call_place (standing.Bind place op) = place
-call_place (standing.Listen place) = place
-call_place (standing.DropOutput place) = place
 
 pub record Steady (m : Machine) : Type 0 where
   pub records : (place : ℕ) (r : Tcp2Socket) → slice_get m.store.sockets place ≡ Some r → Sound r
@@ -161,6 +174,12 @@ never_default who (Waits, left) side e = absurd (cc)
 never_default who (Done given, left) side e = absurd (cc)
 never_default who (Refused c given, left) side e = absurd (cc)
 
+-- what a bind leaves in progress is no connect
+no_connect : (op : Operation) (end : End × List Item) → is_connect (bind_progress op end) ≡ true → ⊥
+no_connect op (Waits, left) c = absurd (cc)
+no_connect op (Done given, left) c = absurd (cc)
+no_connect op (Refused why given, left) c = absurd (cc)
+
 never_unlistened : (r : Tcp2Socket) (l : Listening) (side : OpId) → r.listening ≡ l → IsPastNot l → Sound r → r.inner.state ≡ state.Default side → ⊥
 never_unlistened r l side e p s d = subst IsPastNot (sym e ∙ s.1 side d) p
 
@@ -177,22 +196,20 @@ module _ (contexts : List WasiSocketsCtx) (line : ℕ) (origin : Step) where
   moves_steady _ _ (Changes h place r now g p) i = put_steady h place now (λ c. subst MayFinish (sym p.does) (elim (p.connects c) [ inl k ↦ (i.records place r g).0 k | inr k ↦ connecting_may r.inner.state k ]), λ side d. p.listening ∙ (i.records place r g).1 side (sym p.does ∙ d)) i
   moves_steady _ _ (ClosesReader h place r s g e) i = put_steady h place _ (i.records place r g) i
   moves_steady _ _ (Writes h place r s w g e m) i = put_steady h place _ (i.records place r g) i
-  moves_steady _ _ (IsGone h place r g e) i = put_steady h place _ (λ c. absurd (cc), λ side d. refl) i
+  moves_steady _ _ (IsGone h place r q g e) i = put_steady h place _ (λ c. absurd (cc), λ side d. refl) i
   moves_steady _ _ (Reconnects h place r c now g e s t u) i = put_steady h place _ (λ k. (let f : MayFinish (state.Connected c) = subst MayFinish e ((i.records place r g).0 k) in ((u k).0 ∙ f.0, (u k).1 ∙ f.1)), λ side d. absurd (cc)) i
-  moves_steady _ _ (Opens h place r c g e n) i = put_steady h place _ (λ k. absurd (cc), λ side d. absurd (cc)) i
-  moves_steady _ _ (BeginsConnect h place r side a bound at g d to known own) i = put_steady h place _ (λ k. tt, λ s e. absurd (cc)) i
+  moves_steady _ _ (Opens h place r c d g e n) i = put_steady h place _ (λ k. absurd (cc), λ side d. absurd (cc)) i
+  moves_steady _ _ (BeginsConnect h place r side a bound at g d to known idle own) i = put_steady h place _ (λ k. tt, λ s e. absurd (cc)) i
+  moves_steady _ _ (BeginsBind h place r side a at g d to idle own) i = put_steady h place _ (λ c. absurd (cc), (i.records place r g).1) i
   moves_steady _ _ (BeginsWrite h place r s half permit bytes at g e w within own) i = put_steady h place _ (i.records place r g) i
-  moves_steady _ _ (BeginsListen h place r side at g d bound none to own) i = put_steady h place _ (λ k. tt, λ s e. absurd (cc)) i
+  moves_steady _ _ (BeginsListen h place r side at g d bound none to idle own) i = put_steady h place _ (λ k. tt, λ s e. absurd (cc)) i
   moves_steady _ _ (BeginsAccept h place r l at g e a own) i = put_steady h place _ (listens_on r l _ e (i.records place r g)) i
   moves_steady _ _ (Unlistens h place r op g e c o) i = put_steady h place _ ((i.records place r g).0, λ side d. refl) i
   moves_steady _ _ (Forgets h place r l c g e a) i = put_steady h place _ (listens_on r l accepting.Idle e (i.records place r g)) i
   moves_steady _ _ (Joins h c handle place r l new peer is of u g e a) i =
       let k = put_steady h place (accepting_now r l accepting.Idle) (listens_on r l accepting.Idle e (i.records place r g)) i in push_steady (put h place (accepting_now r l accepting.Idle)).machine (joined l new peer) (λ c. absurd (cc), λ side d. absurd (cc)) k
-  moves_steady _ _ (StandsListen h n place r g) i = stand_steady h.machine _ (r, g) i
-  moves_steady _ _ (StandsDrop h n place r at g) i = stand_steady h.machine _ (r, g) i
   moves_steady _ _ (Unstands h) i = record { records = i.records; handles = i.handles; stands = λ c e. absurd (cc) }
-  moves_steady _ _ (Stands h n place r op g e) i = stand_steady h.machine _ (r, g) i
-  moves_steady _ _ (Resumes h n place op e) i = record { records = i.records; handles = i.handles; stands = λ c e. absurd (cc) }
+  moves_steady _ _ (Stands h n call r at g b) i = stand_steady h.machine (standing_as n call) (r, g) i
   moves_steady _ _ (Lists h jobs) i = record { records = i.records; handles = i.handles; stands = i.stands }
   moves_steady _ _ (Takes h handle) i = record { records = i.records; handles = λ k place e. i.handles k place (still k place (kind_at (without_handle h.machine.table handle) k) refl e); stands = i.stands }
     where
@@ -220,8 +237,8 @@ module _ (contexts : List WasiSocketsCtx) (line : ℕ) (origin : Step) where
   joins es m op (Err c) i = i
 
   polls_steady : (es : List Entry) (h : Here) (op : Operation) (after : End × List Item → Here) → Held h op after → Steady h.machine → Allows Anything (λ fs ended. Steady (after ended).machine) es (poll_asks op)
-  polls_steady es h _ _ (InHand op e) i = whatever (λ end. Steady h.machine) (λ end. i) es (poll_asks op)
-  polls_steady es h _ _ (Connects place r op q g e) i = whatever (λ end. Steady (put h place (with_inner r (with_state r.inner (connect_ended op.who end).1))).machine) (λ end. put_steady h place _ (λ c. connected_may op.who end, λ side d. absurd (never_default op.who end side d)) i) es (poll_asks op)
+  polls_steady es h _ _ (BindsOn place r op q g e) i = whatever (λ end. Steady (put h place (with_progress r (bind_progress op end))).machine) (λ end. put_steady h place _ (λ c. absurd (no_connect op end c), (i.records place r g).1) i) es (poll_asks op)
+  polls_steady es h _ _ (Connects place r op g e) i = whatever (λ end. Steady (put h place (with_inner r (with_state r.inner (connect_ended op.who end).1))).machine) (λ end. put_steady h place _ (λ c. connected_may op.who end, λ side d. absurd (never_default op.who end side d)) i) es (poll_asks op)
   polls_steady es h _ _ (Listens place r op q g e c) i = whatever (λ end. Steady (put h place (listen_after op r end)).machine) (λ end. put_steady h place _ (listened_sound op r end e (i.records place r g)) i) es (poll_asks op)
   polls_steady es h _ _ (Awaits place r l op g e a) i = whatever (λ end. Steady (put h place (accepting_now r l (accept_ended op.who end))).machine) (λ end. put_steady h place _ (listens_on r l _ e (i.records place r g)) i) es (poll_asks op)
 
@@ -239,7 +256,7 @@ module _ (contexts : List WasiSocketsCtx) (line : ℕ) (origin : Step) where
     accepted = λ es h c s place r is e o g i. made_steady es h.machine (own_of line) (Tcp2 place) (Some s) (side_at (slice_get h.machine.store.sockets place)) (λ k p. let q : place ≡ k = cc in subst (IsThere h.machine.store.sockets) q (r, g)) i;
     polls = polls_steady;
     turns = λ es h place r s g e i. whatever (λ done. Steady (put h place (with_writer r s done.1)).machine) (λ done. put_steady h place _ (i.records place r g) i) es (turn_asks s.writer);
-    gives_up = λ es h place r q g i. whatever (λ done. Steady (put h place (with_listening r listening.Not)).machine) (λ done. put_steady h place _ ((i.records place r g).0, λ side d. refl) i) es (give_up_asks r.listening);
+    gives_up = λ es h place r g i. whatever (λ done. Steady (put h place (with_listening r listening.Not)).machine) (λ done. put_steady h place _ ((i.records place r g).0, λ side d. refl) i) es (give_up_asks r.listening);
   }
 
   line_steady : (m : Machine) (es : List Entry) → Steady m → Allows Anything (λ fs done. Steady done.1) es (machine_asks contexts m line origin)
@@ -271,29 +288,21 @@ module _ (m : Machine) (i : Steady m) where
       by_place None q k = refl
       by_place (Some place) q k = absurd (not_none place (i.handles handle place (socket_record (kind_at m.table handle) place q)) k)
 
-  module _ (s : Standing) (e : m.store.standing ≡ Some s) where
-    there : (call : StandingCall) → s.call ≡ call → IsThere m.store.sockets (call_place call)
-    there call c = subst (λ (x : StandingCall). IsThere m.store.sockets (call_place x)) c (i.stands s e)
-
-    on_nothing : (call : StandingCall) (same : Bool) → s.call ≡ call
-        → IsSomeAnd (if same then bind_in call else None) (λ b. slice_get m.store.sockets b.0 ≡ None) ⊎ IsSomeAnd (if same then listen_in call else None) (λ place. slice_get m.store.sockets place ≡ None) → ⊥
-    on_nothing (standing.Bind place op) true c (inl none) = not_none place (there _ c) none
-    on_nothing (standing.Bind place op) true c (inr none) = absurd none
-    on_nothing (standing.Listen place) true c (inl none) = absurd none
-    on_nothing (standing.Listen place) true c (inr none) = not_none place (there _ c) none
-    on_nothing (standing.DropOutput place) true c (inl none) = absurd none
-    on_nothing (standing.DropOutput place) true c (inr none) = absurd none
-    on_nothing call false c (inl none) = absurd none
-    on_nothing call false c (inr none) = absurd none
+  on_nothing : (call : StandingCall) → IsThere m.store.sockets (call_place call) → IsOnNothing m call → ⊥
+  on_nothing (standing.Bind place) there none = not_none place there none
+  on_nothing (standing.Listen place) there none = not_none place there none
+  on_nothing (standing.DropOutput place) there none = none
 
   stands_on : (n : ℕ) → StandsOnNothing m n → ⊥
   stands_on n k = by_standing m.store.standing refl k
     where
-      by_standing : (o : Option Standing) → m.store.standing ≡ o
-          → IsSomeAnd (waiting_bind o n) (λ b. slice_get m.store.sockets b.0 ≡ None) ⊎ IsSomeAnd (waiting_listen o n) (λ place. slice_get m.store.sockets place ≡ None) → ⊥
-      by_standing None e (inl none) = absurd none
-      by_standing None e (inr none) = absurd none
-      by_standing (Some s) e none = on_nothing s e s.call (s.line == n) refl none
+      by_standing : (o : Option Standing) → m.store.standing ≡ o → IsSomeAnd (call_of o n) (IsOnNothing m) → ⊥
+      by_standing None e none = none
+      by_standing (Some s) e none = by_line (s.line == n) none
+        where
+          by_line : (same : Bool) → IsSomeAnd (if same then Some s.call else None) (IsOnNothing m) → ⊥
+          by_line true on = on_nothing s.call (i.stands s e) on
+          by_line false on = on
 
   -- == a finish of a connect
   undone : (place : ℕ) (r : Tcp2Socket) (entries : List Entry) (w : CodeWord) (after : Machine) → Finishes r → FinishRefusal m place r entries w after → is_connect r.in_progress ≡ true → IsUndone r.inner.state

@@ -31,7 +31,7 @@ use Rattle.wasi_host.specs.declared.machine.Machine.{Machine}
 use Rattle.wasi_host.specs.declared.socket.Tcp2Socket.{Tcp2Socket}
 use Rattle.wasi_host.specs.Kinds.{kind_at, is_network, watched_by, with_handle, without_handle}
 use Rattle.wasi_host.specs.Machine.{input_at, output_at, own_of, socket_at}
-use Rattle.wasi_host.specs.Pending.{stands_as}
+use Rattle.wasi_host.specs.Standing.{stands_as}
 use Rattle.wasi_host.specs.Shutdowns.{with_streams}
 use Rattle.wasi_host.specs.Store.{with_record}
 use Rattle.wasi_walks.specs.Licence.{entry, Has, marks_in}

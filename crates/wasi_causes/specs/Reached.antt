@@ -10,7 +10,7 @@ use Rattle.wasi_host.specs.declared.listening.Listening.TheVariants as listening
 use Rattle.wasi_host.specs.declared.machine.Machine.{Machine}
 use Rattle.wasi_host.specs.declared.socket.Tcp2Socket.{Tcp2Socket}
 use Rattle.wasi_host.specs.Kinds.{place_in}
-use Rattle.wasi_host.specs.Store.{is_connect}
+use Rattle.wasi_host.specs.InProgress.{is_connect}
 use Rattle.wasi_steps.specs.declared.reply.CodeWord.{CodeWord}
 use Rattle.wasi_walks.specs.Answered.{FinishRefusal, StartRefusal}
 use Rattle.wasi_walks.specs.Listens.{ListenRefusal}

@@ -30,11 +30,12 @@ ghost use Rattle.wasi_steps.specs.Steps.{context_of};
 ghost use Rattle.wasi_host.specs.Machine.{first_state, input_at, output_at, own_of, socket_at};
 ghost use Rattle.wasi_host.specs.Shutdowns.{with_streams};
 ghost use Rattle.wasi_host.specs.Kinds.{is_network, kind_at, watched_by, with_handle, without_handle};
-ghost use Rattle.wasi_host.specs.Pending.{stands_as};
+ghost use Rattle.wasi_host.specs.Standing.{stands_as};
 ghost use Rattle.wasi_steps.specs.Reply.{bytes_fields, no_fields, number_fields, truth_fields};
 ghost use Rattle.wasi_causes.specs.Turns.{IsOfJob};
 ghost use Rattle.wasi_walks.specs.Waiting.{IsFailure, IsPoll, IsUnready, left_missing, MayStand, OfWatched, OutputWaits, pollable_mark, StandingFails, StandingWaits, StandsByBind, WatchesAccept, WatchesConnect, WatchesIdle};
-ghost use Rattle.wasi_host.specs.Store.{is_connect, with_record};
+ghost use Rattle.wasi_host.specs.InProgress.{is_connect};
+ghost use Rattle.wasi_host.specs.Store.{with_record};
 ghost use Rattle.wasi_streams.specs.Table.{children_of, is_full};
 
 /// Each reply that a step may get is one that the table of replies names for it, and so is each of a run: fields of the step's kinds, a

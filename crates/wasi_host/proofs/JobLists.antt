@@ -9,12 +9,10 @@ use Rattle.wasi_world.specs.declared.outcome.TrapKind.TheVariants.{NoSuchHandle}
 use Rattle.wasi_world.specs.Asks.{Asks, Give, bind, Reaches, Started, AsksFor}
 use Rattle.wasi_streams.specs.StreamStop.{StreamStop}
 use Rattle.wasi_streams.specs.StreamStop as stop
-use Rattle.wasi_world.specs.Operation.{Operation}
 use Rattle.wasi_world.proofs.Walks.{reaches_on, reaches_in, reaches_then}
 use Rattle.wasi_host.specs.declared.socket.Tcp2Socket.{Tcp2Socket}
 use Rattle.wasi_host.specs.Store.{Records, with_socket}
 use Rattle.wasi_host.specs.Jobs.{works_in, has_job, jobs_with, with_job, begins_job, turn_at, turn_jobs, still_going, other_jobs, write_at}
-use Rattle.wasi_host.specs.Pending.{unstood, rebind_at}
 use Rattle.wasi_host.proofs.Lookups.{set_there}
 
 pub other_jobs-filter : (place : ℕ) (jobs : List ℕ) → filter (λ job. not (job == place)) jobs ≡ other_jobs place jobs
@@ -65,8 +63,3 @@ turn_stops jobs i first sockets Q (Err e) q l before h =
 pub noted_none : {T : Type 0} (store : Records) (place : ℕ) (call : Tcp2Socket → Asks (Result T StreamStop × Tcp2Socket)) → slice_get store.sockets place ≡ None → write_at store place call None ≡ Give (Err (stop.Trap NoSuchHandle), store)
 unfolding bind
 noted_none store place call e = ap (λ (found : Option Tcp2Socket). Give (Err (stop.Trap NoSuchHandle), with_job store place (begins_job None found))) e
-
--- a bind that stood is polled as one that doesn't
-pub unstood_rebind : (store : Records) (line place : ℕ) (op : Operation) (found : Option Tcp2Socket) → rebind_at (unstood store) line place op found ≡ rebind_at store line place op found
-unstood_rebind store line place op None = refl
-unstood_rebind store line place op (Some r) = refl

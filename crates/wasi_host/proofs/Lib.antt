@@ -1,6 +1,7 @@
 pub mod Hosts
 pub mod Lookups
 pub mod SideCounts
+pub mod Binds
 pub mod OptionSides
 pub mod ConnectCounts
 pub mod AcceptCounts

@@ -5,8 +5,6 @@ use Rattle.std.specs.declared.alloc.AllocError.{AllocError}
 use Rattle.wasi_addr.specs.declared.code.ErrorCode.{ErrorCode}
 use Rattle.wasi_world.specs.declared.call.Entry.{Entry}
 use Rattle.wasi_world.specs.declared.ids.OpId.{OpId}
-use Rattle.wasi_world.specs.declared.outcome.Answer.{Answer}
-use Rattle.wasi_world.specs.declared.outcome.Answer.TheVariants.{Ready, Pending}
 use Rattle.wasi_world.specs.Seen.{Seen}
 use Rattle.wasi_world.specs.Asks.{Asks, Give, Ask, AskWrite, Left, Reaches, AsksFor}
 use Rattle.wasi_world.specs.Operation.{Operation}
@@ -19,11 +17,10 @@ use Rattle.wasi_tcp.specs.Listening.{listen_start, listen_asks}
 use Rattle.wasi_host.specs.declared.listening.Listening.{Listening}
 use Rattle.wasi_host.specs.declared.listening.Listening.TheVariants.{Not, Begins}
 use Rattle.wasi_host.specs.declared.socket.Tcp2Socket.{Tcp2Socket}
-use Rattle.wasi_host.specs.Listening.{side_in, listen_stood}
-use Rattle.wasi_host.specs.Sides.{one_if_some, held_in, Balances, KnowsSides}
-use Rattle.wasi_host.specs.Store.{Records, with_inner}
-use Rattle.wasi_host.specs.Pending.{unstood, relisten_at}
-use Rattle.wasi_host.proofs.SideCounts.{Calm, Any, calm_then, calm_bound, balances_walk, balances_calm, holds-same, knows_same}
+use Rattle.wasi_host.specs.Listening.{side_in}
+use Rattle.wasi_host.specs.Sides.{one_if_some, Balances}
+use Rattle.wasi_host.specs.Store.{with_inner}
+use Rattle.wasi_host.proofs.SideCounts.{Calm, Any, calm_then, calm_bound, balances_walk, balances_calm, holds-same}
 use Rattle.wasi_host.proofs.ListenCounts.{held_going}
 
 -- what a whole walk gives
@@ -62,17 +59,3 @@ listen_begins op r begun now l taken reached =
     let c : one_if_some (side_of now) ≡ 0 = ap one_if_some taken.1 in
     let d = held_going begun (calm_given IsFresh (listen_asks op r.inner) reached.entries (Ok begun, now) (fresh_listen op r.inner) reached.left) in
     balances_walk (calm_listen op r.inner) reached (omega arith)
-
--- == the records, where a listen may stand
-stood_same : (store : Records) (line place : ℕ) (answer : Answer (Unit {0})) → (listen_stood store line place answer).1.sockets ≡ store.sockets
-stood_same store line place (Ready done) = refl
-stood_same store line place Pending = refl
-
-pub knows_stood : {s : Seen} (store after : Records) (line place : ℕ) (answer told : Answer (Unit {0})) → (told, after) ≡ listen_stood store line place answer → KnowsSides s store → KnowsSides s after
-knows_stood store after line place answer told e k =
-    knows_same store after (ap (λ (d : Answer (Unit {0}) × Records). held_in d.1.sockets) e ∙ ap held_in (stood_same store line place answer)) k
-
--- a listen that stood is polled as one that doesn't
-pub unstood_relisten : (store : Records) (line place : ℕ) (found : _) → relisten_at (unstood store) line place found ≡ relisten_at store line place found
-unstood_relisten store line place None = refl
-unstood_relisten store line place (Some r) = refl

@@ -18,7 +18,7 @@ use Rattle.wasi_tcp.specs.Shape.{Socket}
 use Rattle.wasi_tcp.specs.Socket.{side_of}
 use Rattle.wasi_host.specs.declared.listening.Listening.{Listening}
 use Rattle.wasi_host.specs.declared.listening.Listening.TheVariants.{Not, Begins, Accepts, Unclosed}
-use Rattle.wasi_host.specs.declared.socket.InProgress.TheVariants.{Nothing}
+use Rattle.wasi_host.specs.declared.binding.InProgress.TheVariants.{Nothing}
 use Rattle.wasi_host.specs.declared.socket.Tcp2Socket.{Tcp2Socket}
 use Rattle.wasi_host.specs.Dropping.{give_streams_up, gone, close_record, release_connection}
 use Rattle.wasi_host.specs.Listening.{side_in, give_up_asks, unclosed, with_listening}

@@ -14,6 +14,8 @@ use Rattle.wasi_world.specs.declared.call.HandleKind.{HandleKind}
 use Rattle.wasi_world.specs.declared.ids.OpId.{OpId}
 use Rattle.wasi_world.specs.declared.asks.Verdict.{Verdict}
 use Rattle.wasi_world.specs.declared.asks.Verdict.TheVariants as verdict
+use Rattle.wasi_world.specs.declared.outcome.Answer.{Answer}
+use Rattle.wasi_world.specs.declared.outcome.Answer.TheVariants.{Ready, Pending}
 use Rattle.wasi_world.specs.declared.outcome.Refusal.{Refusal}
 use Rattle.wasi_world.specs.declared.outcome.Refusal.TheVariants as refusal
 use Rattle.wasi_world.specs.declared.outcome.WasiSocketsCtx.{WasiSocketsCtx}
@@ -32,10 +34,12 @@ use Rattle.wasi_tcp.specs.declared.bind.BindStage.{BindStage}
 use Rattle.wasi_tcp.specs.declared.bind.BindStage.TheVariants as stage
 use Rattle.wasi_tcp.specs.Bind.{bind_operation, IsBind}
 use Rattle.wasi_tcp.specs.Shape.{Socket}
-use Rattle.wasi_tcp.specs.Socket.{side_of, new_asks, after_create, ask_bound, bound_asks, bind_allowed, bind_start, bind_asks}
+use Rattle.wasi_tcp.specs.Socket.{side_of, new_asks, after_create, ask_bound, bound_asks}
 use Rattle.wasi_world.proofs.Walks.{reaches_all}
 use Rattle.wasi_host.specs.declared.socket.Tcp2Socket.{Tcp2Socket}
-use Rattle.wasi_host.specs.Store.{Records, new_record, with_inner, bind_begun, poll_bind_asks, begin_bind_asks, begin_connect_asks, tell_local_asks, tell_remote_asks, with_record, stood}
+use Rattle.wasi_host.specs.declared.store.StandingCall.{StandingCall}
+use Rattle.wasi_host.specs.Standing.{stood}
+use Rattle.wasi_host.specs.Store.{Records, new_record, begin_connect_asks, tell_local_asks, tell_remote_asks, with_record}
 use Rattle.wasi_host.specs.Sides.{one_if_done, made_by, closed_by, made_in, closed_in, holds, held_in, Balances, KnowsSides, MakesNone}
 
 -- == calls that neither make nor close a side
@@ -176,7 +180,7 @@ calm_round again who g (i ∷ items) l h = calm_then IsCalmFront Any (front who 
     after_calm (Again j) k f = absurd k
     after_calm (Ends c given) k f = rw l tt
 
-pub calm_poll : (op : Operation) → IsCalmOperation op → Calm Any (poll_asks op)
+calm_poll : (op : Operation) → IsCalmOperation op → Calm Any (poll_asks op)
 unfolding polls
 calm_poll op h = calm_round (polls 63 op.who) op.who Nothing op.left h.last h.items
 
@@ -189,11 +193,8 @@ calm_stage asker a stage.Over = record { items = tt; last = refl }
 calm_any : {A : Type 0} (a : A) → Any a
 calm_any a = tt
 
-pub calm_poll_bind : (op : Operation) (r : Tcp2Socket) → IsCalmOperation op → Calm Any (poll_bind_asks op r)
-calm_poll_bind op r h = calm_then Any Any (poll_asks op) _ (calm_poll op h) (λ a k. tt)
-
-pub calm_rebind : (op : Operation) (r : Tcp2Socket) → IsBind op → Calm Any (poll_bind_asks op r)
-calm_rebind op r h = calm_poll_bind op r (subst IsCalmOperation (sym h.is) (calm_stage h.asker h.addr h.stage))
+pub calm_polled : (op : Operation) → IsBind op → Calm Any (poll_asks op)
+calm_polled op h = calm_poll op (subst IsCalmOperation (sym h.is) (calm_stage h.asker h.addr h.stage))
 
 pub calm_bound : (op : OpId) (s : Socket) → Calm Any (bound_asks op s)
 unfolding bind
@@ -206,30 +207,6 @@ calm_bound op s = by_kept s.bound
     by_kept : (b : Bool) → Calm Any (if b then Give (true, s) else ask_bound op s s.state)
     by_kept true = tt
     by_kept false = by_state s.state
-
-abbrev IsCalmStart : Result Operation ErrorCode × Socket → Type 0
-IsCalmStart (Ok op, s) = IsCalmOperation op
-IsCalmStart (Err c, s) = Unit {0}
-
-calm_allowed : (op : Operation) (s : Socket) (c : ErrorCode) (b : Bool) → IsCalmOperation op → IsCalmStart (if b then Ok op else Err c, s)
-calm_allowed op s c true h = h
-calm_allowed op s c false h = tt
-
-calm_state : (op : OpId) (s : Socket) (a : IpSocketAddress) (st : TcpState) → IsCalmStart (bind_allowed op s a st, s)
-calm_state op s a (state.Default side) = calm_allowed _ s _ _ (record { items = (tt, (tt, tt)); last = refl })
-calm_state op s a _ = tt
-
-calm_start : (op : OpId) (s : Socket) (a : IpSocketAddress) (b : Bool) → IsCalmStart (bind_start op s a b, s)
-calm_start op s a true = tt
-calm_start op s a false = calm_state op s a s.state
-
-calm_begun : (r : Tcp2Socket) (begun : Result Operation ErrorCode × Socket) → IsCalmStart begun → Calm Any (bind_begun r begun)
-calm_begun r (Ok op, s) h = calm_poll_bind op (with_inner r s) h
-calm_begun r (Err c, s) h = tt
-
-pub calm_begin_bind : (op : OpId) (r : Tcp2Socket) (a : IpSocketAddress) → Calm Any (begin_bind_asks op r a)
-calm_begin_bind op r a =
-    calm_then IsCalmStart Any (bind_asks op r.inner a) (bind_begun r) (calm_then Any IsCalmStart (bound_asks op r.inner) _ (calm_bound op r.inner) (λ b k. calm_start op b.1 a b.0)) (calm_begun r)
 
 -- == the start of a connect, and what a socket says of its addresses, are calm
 calm_start_in : (op : OpId) (s : Socket) (a : IpSocketAddress) (st : TcpState) → Calm Any (start_connect_in op s a st)
@@ -297,14 +274,17 @@ knows_refused op ctx family (refusal.Memory d) store h e k = rw e k
 pub calm_made : (op : OpId) (h : ℕ) (kind : HandleKind) (parent : Option ℕ) (side : Option OpId) → Calm Any (ask_made op h kind parent side)
 calm_made op h kind parent side = ((λ t. refl, refl), λ t. tt)
 
--- a call that stands holds no side of its own
-pub stood_sockets : (store : Records) (line place : ℕ) (begun : Option Operation) → (stood store line place begun).1.sockets ≡ store.sockets
-stood_sockets store line place None = refl
-stood_sockets store line place (Some op) = refl
-
 -- records that hold as many sides know them as well
 pub knows_same : {s : Seen} (a b : Records) → held_in b.sockets ≡ held_in a.sockets → KnowsSides s a → KnowsSides s b
 knows_same {s} a b e k = record { count = subst (λ (n : ℕ). IfSome s.log (λ log. closed_in log + n ≡ made_in log)) (sym e) k.count }
+
+-- a call that stands holds no side of its own
+stood_same : (store : Records) (line : ℕ) (call : StandingCall) (answer : Answer (Unit {0})) → (stood store line call answer).1.sockets ≡ store.sockets
+stood_same store line call (Ready done) = refl
+stood_same store line call Pending = refl
+
+pub knows_stood : {s : Seen} (store after : Records) (line : ℕ) (call : StandingCall) (answer told : Answer (Unit {0})) → (told, after) ≡ stood store line call answer → KnowsSides s store → KnowsSides s after
+knows_stood store after line call answer told e k = knows_same store after (ap (λ (d : Answer (Unit {0}) × Records). held_in d.1.sockets) e ∙ ap held_in (stood_same store line call answer)) k
 
 -- where no side was made or closed
 pub knows_none : {s t : Seen} (a b : Records) → MakesNone s t → held_in b.sockets ≡ held_in a.sockets → KnowsSides s a → KnowsSides t b

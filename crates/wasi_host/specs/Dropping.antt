@@ -12,11 +12,13 @@ use Rattle.wasi_tcp.specs.Shape.{Socket}
 use Rattle.wasi_tcp.specs.Closing.{close_asks}
 use Rattle.wasi_tcp.specs.Reader.{reader_shutdown_asks}
 use Rattle.wasi_tcp.specs.Writer.{look_asks, writer_give_up_asks}
-use Rattle.wasi_host.specs.declared.socket.InProgress.TheVariants as doing
+use Rattle.wasi_host.specs.declared.binding.InProgress.TheVariants as doing
 use Rattle.wasi_host.specs.declared.listening.Listening.TheVariants.{Not}
 use Rattle.wasi_host.specs.declared.socket.Streams.{Streams}
 use Rattle.wasi_host.specs.declared.socket.Tcp2Socket.{Tcp2Socket}
-use Rattle.wasi_host.specs.Store.{Records, with_socket, with_writer, standing_drop}
+use Rattle.wasi_host.specs.declared.store.StandingCall.TheVariants.{DropOutput}
+use Rattle.wasi_host.specs.Store.{Records, with_socket, with_writer}
+use Rattle.wasi_host.specs.Standing.{stood}
 use Rattle.wasi_host.specs.Jobs.{other_jobs}
 use Rattle.wasi_host.specs.Listening.{give_up_asks}
 
@@ -75,11 +77,9 @@ abbrev pub wait_at : Records → OpId → ℕ → Option Tcp2Socket → Asks (An
 wait_at store op place None = Give (Ready tt, store)
 wait_at store op place (Some r) = bind (wait_writer op r r.streams) (λ done. Give (wait_put store place done))
 
--- one that waits stands under its line's number
-abbrev pub waited : ℕ → ℕ → Answer (Unit {0}) × Records → Answer (Unit {0}) × Records
-waited line place (Ready done, store) = (Ready tt, record store { standing = None })
-waited line place (Pending, store) = (Pending, record store { standing = Some (standing_drop line place) })
+abbrev pub drop_waits : ℕ → ℕ → Answer (Unit {0}) × Records → Answer (Unit {0}) × Records
+drop_waits line place done = stood done.1 line (DropOutput place) done.0
 
--- waits, with nothing else standing
+-- while it waits, the drop stands
 abbrev pub drop_output_at : Records → OpId → ℕ → Option Tcp2Socket → Asks (Answer (Unit {0}) × Records)
-drop_output_at store op place found = bind (wait_at store op place found) (λ done. Give (waited op.step place done))
+drop_output_at store op place found = bind (wait_at store op place found) (λ done. Give (drop_waits op.step place done))

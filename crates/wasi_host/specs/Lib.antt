@@ -1,6 +1,9 @@
 pub mod Host
 pub mod Kinds
+pub mod InProgress
 pub mod Store
+pub mod Standing
+pub mod Binding
 pub mod Listening
 pub mod Options
 pub mod Jobs

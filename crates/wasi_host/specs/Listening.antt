@@ -23,12 +23,14 @@ use Rattle.wasi_tcp.specs.Listening.{listen_asks, listen_poll_asks}
 use Rattle.wasi_tcp.specs.Listener.{Listener, ids_after, listener_accept_asks, accepted_socket, accepted_state, untaken_side, listener_give_up_asks}
 use Rattle.wasi_host.specs.declared.listening.Listening.{Listening}
 use Rattle.wasi_host.specs.declared.listening.Listening.TheVariants.{Not, Begins, Accepts, Unclosed}
-use Rattle.wasi_host.specs.declared.socket.InProgress.TheVariants as doing
+use Rattle.wasi_host.specs.declared.binding.AsyncOperation.TheVariants.{Listen}
+use Rattle.wasi_host.specs.declared.binding.InProgress.TheVariants as doing
 use Rattle.wasi_host.specs.declared.socket.Tcp2Socket.{Tcp2Socket}
-use Rattle.wasi_host.specs.declared.store.Standing.{Standing}
 use Rattle.wasi_host.specs.declared.store.StandingCall.TheVariants as standing
 use Rattle.wasi_host.specs.Host.{Stop, Code, Trap, code_stop}
-use Rattle.wasi_host.specs.Store.{Records, new_record, with_inner, with_socket, allowed_answer, is_nothing, opened}
+use Rattle.wasi_host.specs.InProgress.{is_nothing}
+use Rattle.wasi_host.specs.Store.{Records, new_record, with_inner, with_socket, opened}
+use Rattle.wasi_host.specs.Standing.{call_answered}
 
 abbrev pub with_listening : Tcp2Socket → Listening → Tcp2Socket
 with_listening r l = record r { listening = l }
@@ -36,13 +38,13 @@ with_listening r l = record r { listening = l }
 -- == a listen
 -- a poll of it ended: done, there is a listener, and the listen is in progress; pending, it is kept; refused, it is over
 abbrev pub listen_polled : Tcp2Socket → Result (Answer Listener) ErrorCode × (Operation × Socket) → Result (Answer (Unit {0})) ErrorCode × Tcp2Socket
-listen_polled r (Ok (Ready listener), (op, socket)) = (Ok (Ready tt), record r { inner = socket; in_progress = doing.Listen; listening = Accepts listener })
+listen_polled r (Ok (Ready listener), (op, socket)) = (Ok (Ready tt), record r { inner = socket; in_progress = doing.Started Listen; listening = Accepts listener })
 listen_polled r (Ok Pending, (op, socket)) = (Ok Pending, record r { inner = socket; listening = Begins op })
 listen_polled r (Err c, (op, socket)) = (Err c, record r { inner = socket; listening = Not })
 
 -- the same of what the code answers: out of memory, it is kept
 abbrev pub listen_settled : Tcp2Socket → Result (Answer Listener) Refusal → Tcp2Socket
-listen_settled r (Ok (Ready listener)) = record r { in_progress = doing.Listen; listening = Accepts listener }
+listen_settled r (Ok (Ready listener)) = record r { in_progress = doing.Started Listen; listening = Accepts listener }
 listen_settled r (Ok Pending) = r
 listen_settled r (Err (refusal.Code c)) = with_listening r Not
 listen_settled r (Err (refusal.Memory e)) = r
@@ -85,21 +87,8 @@ listen_bound op r false = Give (Err InvalidState, r)
 abbrev pub begin_listen_asks : OpId → Tcp2Socket → Asks (Result (Answer (Unit {0})) ErrorCode × Tcp2Socket)
 begin_listen_asks op r = bind (bound_asks op r.inner) (λ b. listen_bound op (with_inner r b.1) b.0)
 
-abbrev pub standing_listen : ℕ → ℕ → Standing
-standing_listen line place = record { line = line; call = standing.Listen place }
-
--- a listen that is pending stands under its line's number
-abbrev pub listen_stood : Records → ℕ → ℕ → Answer (Unit {0}) → Answer (Unit {0}) × Records
-listen_stood store line place (Ready done) = (Ready tt, store)
-listen_stood store line place Pending = (Pending, record store { standing = Some (standing_listen line place) })
-
--- the answer to the guest
-abbrev pub listen_answered : Records → ℕ → ℕ → Result (Answer (Unit {0})) ErrorCode × Tcp2Socket → Result (Answer (Unit {0})) Stop × Records
-listen_answered store line place (Ok answer, r) = allowed_answer (listen_stood (with_socket store place r) line place answer)
-listen_answered store line place (Err c, r) = (Err (code_stop c), with_socket store place r)
-
 abbrev pub start_listen_by : Records → OpId → ℕ → Tcp2Socket → Bool → Asks (Result (Answer (Unit {0})) Stop × Records)
-start_listen_by store op place r true = bind (begin_listen_asks op r) (λ begun. Give (listen_answered store op.step place begun))
+start_listen_by store op place r true = bind (begin_listen_asks op r) (λ begun. Give (call_answered store op.step (standing.Listen place) begun))
 start_listen_by store op place r false = Give (Err (Code p2.ConcurrencyConflict), store)
 
 -- with an operation in progress it is refused

@@ -24,7 +24,8 @@ use Rattle.wasi_host.specs.declared.listening.Listening.TheVariants.{Accepts}
 use Rattle.wasi_host.specs.declared.socket.Streams.{Streams}
 use Rattle.wasi_host.specs.declared.socket.Tcp2Socket.{Tcp2Socket}
 use Rattle.wasi_host.specs.Host.{Stop, Trap}
-use Rattle.wasi_host.specs.Store.{Records, with_socket, with_inner, with_reader, with_writer, is_nothing, is_connect}
+use Rattle.wasi_host.specs.InProgress.{is_nothing, is_connect}
+use Rattle.wasi_host.specs.Store.{Records, with_socket, with_inner, with_reader, with_writer}
 use Rattle.wasi_host.specs.Listening.{with_listening, ids_of}
 
 -- it doesn't wait; an error is ready too

@@ -12,9 +12,8 @@ use Rattle.wasi_world.specs.declared.outcome.Refusal.{Refusal}
 use Rattle.wasi_world.specs.declared.outcome.Refusal.TheVariants as refusal
 use Rattle.wasi_world.specs.declared.outcome.TrapKind.TheVariants.{NoSuchHandle}
 use Rattle.wasi_world.specs.Asks.{Asks, Give, bind}
-use Rattle.wasi_world.specs.Operation.{Operation, Item, End, Waits, Done, Refused, poll_asks}
 use Rattle.wasi_tcp.specs.Shape.{Socket}
-use Rattle.wasi_tcp.specs.Socket.{bind_asks, side_of}
+use Rattle.wasi_tcp.specs.Socket.{side_of}
 use Rattle.wasi_streams.specs.StreamStop.{StreamStop}
 use Rattle.wasi_streams.specs.StreamStop as stream
 use Rattle.wasi_tcp.specs.declared.halves.TcpReceiveStream.{TcpReceiveStream}
@@ -27,14 +26,15 @@ use Rattle.wasi_tcp.specs.Connecting.{start_connect_asks, finish_connect_asks, i
 use Rattle.wasi_tcp.specs.Halves.{take_receive, take_send}
 use Rattle.wasi_tcp.specs.Writer.{flush_of}
 use Rattle.wasi_tcp.specs.Addresses.{local_asks, remote_asks, is_listening}
-use Rattle.wasi_host.specs.declared.socket.InProgress.{InProgress}
-use Rattle.wasi_host.specs.declared.socket.InProgress.TheVariants as doing
+use Rattle.wasi_host.specs.declared.binding.AsyncOperation.TheVariants.{Connect}
+use Rattle.wasi_host.specs.declared.binding.InProgress.{InProgress}
+use Rattle.wasi_host.specs.declared.binding.InProgress.TheVariants as doing
 use Rattle.wasi_host.specs.declared.listening.Listening.TheVariants as listening
 use Rattle.wasi_host.specs.declared.socket.Streams.{Streams}
 use Rattle.wasi_host.specs.declared.socket.Tcp2Socket.{Tcp2Socket}
 use Rattle.wasi_host.specs.declared.store.Standing.{Standing}
-use Rattle.wasi_host.specs.declared.store.StandingCall.TheVariants.{Bind, DropOutput}
 use Rattle.wasi_host.specs.Host.{Stop, Code, Trap, code_stop}
+use Rattle.wasi_host.specs.InProgress.{is_nothing, is_connect}
 
 pub record Records : Type 0 where
   pub sockets : List Tcp2Socket  -- by number
@@ -51,73 +51,15 @@ new_record socket = record { inner = socket; side = side_of socket; in_progress 
 abbrev pub with_inner : Tcp2Socket → Socket → Tcp2Socket
 with_inner r socket = record r { inner = socket }
 
--- what is left of an operation
-abbrev pub left_of : Operation → List Item → Operation
-left_of op items = record { who = op.who; left = items }
-
--- a poll of a bind ended: done, it is in progress; refused, the socket is as it was; pending, the operation stands
-abbrev pub bind_ended : Operation → Tcp2Socket → End × List Item → Result (Option Operation) ErrorCode × Tcp2Socket
-bind_ended op r (Waits, items) = (Ok (Some (left_of op items)), r)
-bind_ended op r (Done given, items) = (Ok None, record r { in_progress = doing.Bind })
-bind_ended op r (Refused c given, items) = (Err c, r)
-
-abbrev pub poll_bind_asks : Operation → Tcp2Socket → Asks (Result (Option Operation) ErrorCode × Tcp2Socket)
-poll_bind_asks op r = bind (poll_asks op) (λ ended. Give (bind_ended op r ended))
-
-abbrev pub bind_begun : Tcp2Socket → Result Operation ErrorCode × Socket → Asks (Result (Option Operation) ErrorCode × Tcp2Socket)
-bind_begun r (Err c, socket) = Give (Err c, with_inner r socket)
-bind_begun r (Ok op, socket) = poll_bind_asks op (with_inner r socket)
-
--- begins a bind and polls it
-abbrev pub begin_bind_asks : OpId → Tcp2Socket → IpSocketAddress → Asks (Result (Option Operation) ErrorCode × Tcp2Socket)
-begin_bind_asks op r a = bind (bind_asks op r.inner a) (bind_begun r)
+abbrev pub with_progress : Tcp2Socket → InProgress → Tcp2Socket
+with_progress r doing = record r { in_progress = doing }
 
 abbrev pub with_socket : Records → ℕ → Tcp2Socket → Records
 with_socket store place r = record store { sockets = slice_set store.sockets place r }
 
-abbrev pub standing_bind : ℕ → ℕ → Operation → Standing
-standing_bind line place op = record { line = line; call = Bind place op }
-
-abbrev pub standing_drop : ℕ → ℕ → Standing
-standing_drop line place = record { line = line; call = DropOutput place }
-
--- a bind that is pending stands under its line's number
-abbrev pub stood : Records → ℕ → ℕ → Option Operation → Answer (Unit {0}) × Records
-stood store line place None = (Ready tt, store)
-stood store line place (Some op) = (Pending, record store { standing = Some (standing_bind line place op) })
-
-abbrev pub allowed_answer : Answer (Unit {0}) × Records → Result (Answer (Unit {0})) Stop × Records
-allowed_answer done = (Ok done.0, done.1)
-
--- the answer to the guest
-abbrev pub bind_answered : Records → ℕ → ℕ → Result (Option Operation) ErrorCode × Tcp2Socket → Result (Answer (Unit {0})) Stop × Records
-bind_answered store line place (Ok begun, r) = allowed_answer (stood (with_socket store place r) line place begun)
-bind_answered store line place (Err c, r) = (Err (code_stop c), with_socket store place r)
-
--- with an operation in progress a start is refused
-abbrev pub is_nothing : InProgress → Bool
-is_nothing doing.Nothing = true
-is_nothing _ = false
-
-abbrev pub start_bind_by : Records → OpId → ℕ → IpSocketAddress → Tcp2Socket → Bool → Asks (Result (Answer (Unit {0})) Stop × Records)
-start_bind_by store op place a r true = bind (begin_bind_asks op r a) (λ begun. Give (bind_answered store op.step place begun))
-start_bind_by store op place a r false = Give (Err (Code ConcurrencyConflict), store)
-
-abbrev pub start_bind_at : Records → OpId → ℕ → IpSocketAddress → Option Tcp2Socket → Asks (Result (Answer (Unit {0})) Stop × Records)
-start_bind_at store op place a None = Give (Err (Trap NoSuchHandle), store)
-start_bind_at store op place a (Some r) = start_bind_by store op place a r (is_nothing r.in_progress)
-
--- only what is in progress is finished: a bind, or a listen
-abbrev pub is_bind : InProgress → Bool
-is_bind doing.Bind = true
-is_bind _ = false
-
-abbrev pub is_listen : InProgress → Bool
-is_listen doing.Listen = true
-is_listen _ = false
-
+-- only what was started is finished
 abbrev pub finish_by : Records → ℕ → Tcp2Socket → Bool → Result (Unit {0}) Stop × Records
-finish_by store place r true = (Ok tt, with_socket store place (record r { in_progress = doing.Nothing }))
+finish_by store place r true = (Ok tt, with_socket store place (with_progress r doing.Nothing))
 finish_by store place r false = (Err (Code NotInProgress), store)
 
 abbrev pub finish_at : (InProgress → Bool) → Records → ℕ → Option Tcp2Socket → Result (Unit {0}) Stop × Records
@@ -133,7 +75,7 @@ put_back store place (Err c, r) = (Err (code_stop c), with_socket store place r)
 -- the start of a connect is refused, or it is in progress
 abbrev pub connect_begun : Tcp2Socket → Result (Unit {0}) ErrorCode × Socket → Result (Unit {0}) ErrorCode × Tcp2Socket
 connect_begun r (Err c, socket) = (Err c, with_inner r socket)
-connect_begun r (Ok done, socket) = (Ok done, record r { inner = socket; in_progress = doing.Connect })
+connect_begun r (Ok done, socket) = (Ok done, record r { inner = socket; in_progress = doing.Started Connect })
 
 abbrev pub begin_connect_asks : OpId → Tcp2Socket → IpSocketAddress → Asks (Result (Unit {0}) ErrorCode × Tcp2Socket)
 begin_connect_asks op r a = bind (start_connect_asks op r.inner a) (λ done. Give (connect_begun r done))
@@ -187,10 +129,6 @@ connect_told r (Err (refusal.Memory e)) = Err e
 
 abbrev pub poll_connect_asks : Tcp2Socket → Asks (Result (Unit {0}) Stop × Tcp2Socket)
 poll_connect_asks r = bind (finish_connect_asks r.inner) (λ done. Give (connect_polled r done))
-
-abbrev pub is_connect : InProgress → Bool
-is_connect doing.Connect = true
-is_connect _ = false
 
 abbrev pub with_record_put : {T : Type 0} → Records → ℕ → T × Tcp2Socket → T × Records
 with_record_put store place done = (done.0, with_socket store place done.1)

@@ -2,7 +2,7 @@
 
 ghost use Rattle.std.specs.Prelude.{◌≡◌, false, Ok, slice_get};
 ghost use Rattle.wasi_world.specs.Asks.{AsksFor};
-ghost use Rattle.wasi_host.specs.Dropping.{release_at, released, wait_at, waited, drop_output_at};
+ghost use Rattle.wasi_host.specs.Dropping.{release_at, released, wait_at, drop_output_at};
 ghost use Rattle.wasi_host.specs.Host.{fault_outcome};
 ghost use Rattle.wasi_host.specs.Jobs.{other_jobs};
 ghost use Rattle.wasi_host.specs.Machine.{own_of, drop_asks, drop_kind};
@@ -11,7 +11,7 @@ ghost use Rattle.wasi_host.specs.Views.{SameView, state_of};
 
 use crate::handles;
 use crate::kind::Kind;
-use crate::store::{Standing, StandingCall, Store};
+use crate::store::{StandingCall, Store};
 use crate::view::WasiSocketsCtxView;
 use std::alloc::AllocError;
 use wasi_streams::{Fault, TrapKind};
@@ -60,7 +60,7 @@ impl Store {
         ensures open { (W.seen world.new).ended ≡ false }
     {
         let answer = self.poll_writer(world, op, place)?;
-        Ok(self.stand_waiting(op.step, place, answer))
+        Ok(self.stand(op.step, StandingCall::DropOutput { socket: place }, answer))
     }
 
     /// One look at the writer of the socket of this number; an error is ready too.
@@ -79,20 +79,6 @@ impl Store {
             return Ok(Answer::Ready(()));
         };
         record.poll_writer(world, op)
-    }
-
-    /// A drop that waits stands.
-    fn stand_waiting(&mut self, line: u32, socket: usize, answer: Answer<()>) -> Answer<()>
-        ensures { (result, self.new) ≡ waited line socket (answer, self.old) }
-    {
-        self.standing = match answer {
-            Answer::Ready(()) => None,
-            Answer::Pending => Some(Standing {
-                line,
-                call: StandingCall::DropOutput { socket },
-            }),
-        };
-        answer
     }
 }
 

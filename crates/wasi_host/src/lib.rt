@@ -2,6 +2,7 @@
 //! pollables, jobs and pending calls.
 #![tactic(auto)]
 
+pub mod binding;
 mod closing;
 mod dropping;
 pub mod error;
@@ -18,6 +19,7 @@ pub mod store;
 mod streams;
 pub mod view;
 
+pub use binding::{AsyncOperation, InProgress};
 pub use dropping::drop_handle;
 pub use error::{CallError, SocketError, of_fault};
 pub use jobs::turn;
@@ -26,7 +28,7 @@ pub use listening::Listening;
 pub use machine::Machine;
 pub use pending::{Outcome, resume};
 pub use pollables::{ready, subscribe};
-pub use socket::{InProgress, Streams, Tcp2Socket};
+pub use socket::{Streams, Tcp2Socket};
 pub use store::{Standing, StandingCall, Store};
 pub use streams::{check_write, convert_stream_error, flush, read, write};
 pub use view::{WasiSocketsCtxView, WasiSocketsView};

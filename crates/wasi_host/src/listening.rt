@@ -3,12 +3,13 @@
 ghost use Rattle.std.specs.Prelude.{◌≡◌, ◌+◌, ◌<◌, ◌^◌, false, IfOk, Ok, OnErr, slice_get, vec_capacity, vec_len};
 ghost use Rattle.wasi_world.specs.Asks.{AsksFor, outcome};
 ghost use Rattle.wasi_host.specs.Host.{host_outcome};
-ghost use Rattle.wasi_host.specs.Listening.{with_listening, listen_told, listen_settled, poll_listen_asks, listen_once, begin_listen_asks, listen_stood, start_listen_at, accept_record_asks, with_accepted_in, accept_at, ids_of, accept_ids_at, TakesOne, side_in, give_up_asks, unclosed, Accepted};
+ghost use Rattle.wasi_host.specs.Listening.{with_listening, listen_told, listen_settled, poll_listen_asks, listen_once, begin_listen_asks, start_listen_at, accept_record_asks, with_accepted_in, accept_at, ids_of, accept_ids_at, TakesOne, side_in, give_up_asks, unclosed, Accepted};
 ghost use Rattle.wasi_host.specs.Sides.{Balances, KnowsSides, given_by};
 
+use crate::binding::{AsyncOperation, InProgress};
 use crate::error::SocketError;
-use crate::socket::{InProgress, Tcp2Socket};
-use crate::store::{Standing, StandingCall, Store};
+use crate::socket::Tcp2Socket;
+use crate::store::{StandingCall, Store};
 use std::alloc::AllocError;
 use std::mem;
 use wasi_addr::{ErrorCode, p2};
@@ -133,7 +134,7 @@ impl Tcp2Socket {
     {
         match polled {
             Ok(Answer::Ready(listener)) => {
-                self.in_progress = InProgress::Listen;
+                self.in_progress = InProgress::Started(AsyncOperation::Listen);
                 self.listening = Listening::Accepts(listener);
                 Ok(Answer::Ready(()))
             }
@@ -222,28 +223,7 @@ impl Store {
             return Err(SocketError::Code(p2::ErrorCode::ConcurrencyConflict));
         }
         let answer = record.begin_listen(world, op)?;
-        Ok(self.stand_listening(op.step, place, answer))
-    }
-
-    /// A listen that is pending stands.
-    pub(crate) fn stand_listening(
-        &mut self,
-        line: u32,
-        socket: usize,
-        answer: Answer<()>,
-    ) -> Answer<()>
-        ensures { (result, self.new) ≡ listen_stood self.old line socket answer }
-    {
-        match answer {
-            Answer::Ready(()) => Answer::Ready(()),
-            Answer::Pending => {
-                self.standing = Some(Standing {
-                    line,
-                    call: StandingCall::Listen { socket },
-                });
-                Answer::Pending
-            }
-        }
+        Ok(self.stand(op.step, StandingCall::Listen { socket: place }, answer))
     }
 
     /// Accepts a connection of the listener of this number, and gives the number of its record, which has its streams. Room

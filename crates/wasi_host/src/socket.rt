@@ -5,7 +5,6 @@ ghost use Rattle.wasi_streams.specs.StreamStop.{stream_outcome};
 ghost use Rattle.wasi_tcp.specs.Reader.{read_state_asks};
 ghost use Rattle.wasi_tcp.specs.Writer.{check_write_asks, write_state_asks};
 ghost use Rattle.wasi_world.specs.Asks.{AsksFor, outcome};
-ghost use Rattle.wasi_tcp.specs.Bind.{IsBind};
 ghost use Rattle.wasi_tcp.specs.Socket.{side_of};
 ghost use Rattle.wasi_host.specs.Dropping.{give_streams_up, close_record, release_asks, release_connection, wait_writer, waits_told};
 ghost use Rattle.wasi_host.specs.Host.{fault_outcome, host_outcome};
@@ -15,52 +14,18 @@ ghost use Rattle.wasi_host.specs.Listening.{ids_of};
 ghost use Rattle.wasi_host.specs.Machine.{own_of};
 ghost use Rattle.wasi_host.specs.Shutdowns.{shut_receive, shut_send, shut_streams, shut_record};
 ghost use Rattle.wasi_host.specs.Sides.{Balances, MakesNone};
-ghost use Rattle.wasi_host.specs.Store.{is_nothing, is_bind, is_connect, is_listen, begin_bind_asks, poll_bind_asks, begin_connect_asks, poll_connect_asks, connect_told, connect_settled, opened, reader_asks, writer_asks, flush_asks, tell_local_asks, tell_remote_asks, new_record};
+ghost use Rattle.wasi_host.specs.InProgress.{is_connect};
+ghost use Rattle.wasi_host.specs.Store.{begin_connect_asks, poll_connect_asks, connect_told, connect_settled, opened, reader_asks, writer_asks, flush_asks, tell_local_asks, tell_remote_asks, new_record};
 
+use crate::binding::{AsyncOperation, InProgress};
 use crate::error::SocketError;
 use crate::kind::Watched;
 use crate::listening::Listening;
-use crate::pending::PendingBind;
 use std::alloc::{AllocError, Global};
 use wasi_addr::{IpSocketAddress, ShutdownType, p2};
 use wasi_streams::{Fault, StreamError};
 use wasi_tcp::{ReadState, TcpSocket, WriteState};
 use wasi_world::{Answer, Ids, Octets, OpId, Refusal, Sock, TrapKind, World};
-
-/// The operation that was started and isn't finished.
-#[derive(Clone, Copy, Debug, PartialEq, Eq)]
-pub enum InProgress {
-    Nothing,
-    Bind,
-    Connect,
-    Listen,
-}
-
-impl InProgress {
-    pub fn is_nothing(self) -> bool
-        ensures { result ≡ is_nothing self }
-    {
-        matches!(self, InProgress::Nothing)
-    }
-
-    pub fn is_bind(self) -> bool
-        ensures { result ≡ is_bind self }
-    {
-        matches!(self, InProgress::Bind)
-    }
-
-    pub fn is_connect(self) -> bool
-        ensures { result ≡ is_connect self }
-    {
-        matches!(self, InProgress::Connect)
-    }
-
-    pub fn is_listen(self) -> bool
-        ensures { result ≡ is_listen self }
-    {
-        matches!(self, InProgress::Listen)
-    }
-}
 
 /// What a guest reads from a connection by, and what it writes to it by.
 #[derive(Drop)]
@@ -201,47 +166,6 @@ impl Tcp2Socket {
         }
     }
 
-    /// Begins a bind and polls it. Where it is pending the operation is handed out; where it is done it is in progress.
-    pub fn begin_bind<W: World>(
-        &mut self,
-        world: &mut W,
-        op: OpId,
-        addr: IpSocketAddress,
-    ) -> Result<Option<PendingBind>, Refusal>
-        requires { (W.seen world.old).ended ≡ false }
-        ensures asked { AsksFor (begin_bind_asks op self.old addr) (W.seen world.old) (W.seen world.new) (λ begun. (begun, self.new)) (outcome result) }
-        ensures side { side_of self.new.inner ≡ side_of self.old.inner }
-        ensures listening { self.new.listening ≡ self.old.listening }
-        ensures open { (W.seen world.new).ended ≡ false }
-    {
-        let bind = self.inner.bind(world, op, addr)?;
-        self.poll_bind(world, PendingBind::new(bind))
-    }
-
-    /// Polls a bind. Where it is done it is in progress; where it is pending it is handed back.
-    pub fn poll_bind<W: World>(
-        &mut self,
-        world: &mut W,
-        bind: PendingBind,
-    ) -> Result<Option<PendingBind>, Refusal>
-        requires { (W.seen world.old).ended ≡ false }
-        ensures asked { AsksFor (poll_bind_asks bind self.old) (W.seen world.old) (W.seen world.new) (λ begun. (begun, self.new)) (outcome result) }
-        ensures bind { IsBind bind }
-        ensures side { side_of self.new.inner ≡ side_of self.old.inner }
-        ensures listening { self.new.listening ≡ self.old.listening }
-        ensures open { (W.seen world.new).ended ≡ false }
-    {
-        let mut bind = bind.into_inner();
-        let answer = bind.poll(world, &mut self.inner)?;
-        match answer {
-            Answer::Pending => return Ok(Some(PendingBind::new(bind))),
-            Answer::Ready(()) => {
-                self.in_progress = InProgress::Bind;
-                return Ok(None);
-            }
-        }
-    }
-
     /// Begins a connect, which is in progress then.
     pub fn begin_connect<W: World>(
         &mut self,
@@ -256,7 +180,7 @@ impl Tcp2Socket {
         ensures open { (W.seen world.new).ended ≡ false }
     {
         self.inner.start_connect(world, op, addr)?;
-        self.in_progress = InProgress::Connect;
+        self.in_progress = InProgress::Started(AsyncOperation::Connect);
         Ok(())
     }
 
@@ -506,7 +430,7 @@ impl Tcp2Socket {
         ensures sides { Balances (W.seen world.old) (W.seen world.new) 0 self.old self.new }
         ensures open { (W.seen world.new).ended ≡ false }
     {
-        if self.in_progress.is_connect() {
+        if self.in_progress.is_started(AsyncOperation::Connect) {
             let polled = self.inner.poll_finish_connect(world);
             return is_over(polled);
         }

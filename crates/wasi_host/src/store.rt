@@ -5,19 +5,19 @@ ghost use Rattle.wasi_world.specs.Asks.{AsksFor};
 ghost use Rattle.wasi_world.specs.Seen.{Seen};
 ghost use Rattle.wasi_host.specs.Host.{host_outcome};
 ghost use Rattle.wasi_host.specs.Jobs.{jobs_with, write_at};
-ghost use Rattle.wasi_host.specs.Pending.{exclusive_of, stands_as};
+ghost use Rattle.wasi_host.specs.Standing.{exclusive_of, stands_as, stood};
 ghost use Rattle.wasi_host.specs.Shutdowns.{shutdown_at};
-ghost use Rattle.wasi_host.specs.Store.{no_records, is_bind, is_listen, start_bind_at, finish_at, start_connect_at, finish_connect_at, local_address_at, remote_address_at, is_listening_at, address_family_at, reader_asks, writer_asks, flush_asks, stream_at, with_record, stood};
+ghost use Rattle.wasi_host.specs.Store.{no_records, start_connect_at, finish_connect_at, local_address_at, remote_address_at, is_listening_at, address_family_at, reader_asks, writer_asks, flush_asks, stream_at, with_record};
 ghost use Rattle.wasi_streams.specs.StreamStop.{stream_outcome};
 ghost use Rattle.wasi_tcp.specs.Reader.{read_state_asks};
 ghost use Rattle.wasi_tcp.specs.Writer.{check_write_asks, write_state_asks};
 
+use crate::binding::AsyncOperation;
 use crate::closing::close_sides;
 use crate::error::{SocketError, of_fault};
 use crate::handles;
 use crate::kind::Kind;
-use crate::pending::PendingBind;
-use crate::socket::{InProgress, Tcp2Socket};
+use crate::socket::Tcp2Socket;
 use std::alloc::{AllocError, Global};
 use std::marker::Model;
 use wasi_addr::{IpSocketAddress, ShutdownType, SocketAddressFamily, p2};
@@ -26,18 +26,18 @@ use wasi_tcp::TcpSocket;
 use wasi_world::{Answer, Handle, Octets, OpId, Sock, TrapKind, WasiSocketsCtx, World};
 
 /// What a call does that stands.
-#[derive(Drop)]
+#[derive(Clone, Copy, Debug, PartialEq, Eq)]
 pub enum StandingCall {
-    /// Binds the socket of this number.
-    Bind { socket: usize, bind: PendingBind },
-    /// Makes the socket of this number listen; its record has the operation.
+    /// Binds the socket of this number, whose record has the operation.
+    Bind { socket: usize },
+    /// Makes the socket of this number listen, likewise.
     Listen { socket: usize },
     /// Drops the output of the socket of this number, and waits until its writer is ready.
     DropOutput { socket: usize },
 }
 
 /// A call that stands pending: while it does, every other guest call is busy.
-#[derive(Drop)]
+#[derive(Clone, Copy, Debug, PartialEq, Eq)]
 pub struct Standing {
     /// The line that began it.
     pub line: u32,
@@ -101,62 +101,6 @@ impl Store {
         of_fault(made)
     }
 
-    /// Begins a bind of the socket of this number. An operation in progress: `ConcurrencyConflict`. A bind that is
-    /// pending stands.
-    pub fn start_bind<W: World>(
-        &mut self,
-        world: &mut W,
-        op: OpId,
-        place: usize,
-        addr: IpSocketAddress,
-    ) -> Result<Answer<()>, SocketError>
-        requires { (W.seen world.old).ended ≡ false }
-        ensures asked { AsksFor (start_bind_at self.old op place addr (slice_get self.old.sockets place)) (W.seen world.old) (W.seen world.new) (λ answer. (answer, self.new)) (host_outcome result) }
-        ensures sides { KnowsSides (W.seen world.old) self.old → KnowsSides (W.seen world.new) self.new }
-        ensures open { (W.seen world.new).ended ≡ false }
-    {
-        let Some(record) = self.sockets.get_mut(place) else {
-            return Err(SocketError::Trap(TrapKind::NoSuchHandle));
-        };
-        if !record.in_progress.is_nothing() {
-            return Err(SocketError::Code(p2::ErrorCode::ConcurrencyConflict));
-        }
-        let begun = record.begin_bind(world, op, addr)?;
-        Ok(self.stand(op.step, place, begun))
-    }
-
-    /// Ends the bind in progress. None is: `NotInProgress`.
-    pub fn finish_bind(&mut self, place: usize) -> Result<(), SocketError>
-        ensures sides { (s : Seen) → KnowsSides s self.old → KnowsSides s self.new }
-        ensures answer { host_outcome result ≡ Ok (finish_at is_bind self.old place (slice_get self.old.sockets place)).0 }
-        ensures state { self.new ≡ (finish_at is_bind self.old place (slice_get self.old.sockets place)).1 }
-    {
-        let Some(record) = self.sockets.get_mut(place) else {
-            return Err(SocketError::Trap(TrapKind::NoSuchHandle));
-        };
-        if !record.in_progress.is_bind() {
-            return Err(SocketError::Code(p2::ErrorCode::NotInProgress));
-        }
-        record.in_progress = InProgress::Nothing;
-        Ok(())
-    }
-
-    /// Ends the listen in progress. None is: `NotInProgress`.
-    pub fn finish_listen(&mut self, place: usize) -> Result<(), SocketError>
-        ensures sides { (s : Seen) → KnowsSides s self.old → KnowsSides s self.new }
-        ensures answer { host_outcome result ≡ Ok (finish_at is_listen self.old place (slice_get self.old.sockets place)).0 }
-        ensures state { self.new ≡ (finish_at is_listen self.old place (slice_get self.old.sockets place)).1 }
-    {
-        let Some(record) = self.sockets.get_mut(place) else {
-            return Err(SocketError::Trap(TrapKind::NoSuchHandle));
-        };
-        if !record.in_progress.is_listen() {
-            return Err(SocketError::Code(p2::ErrorCode::NotInProgress));
-        }
-        record.in_progress = InProgress::Nothing;
-        Ok(())
-    }
-
     /// Begins a connect of the socket of this number. An operation in progress: `ConcurrencyConflict`.
     pub fn start_connect<W: World>(
         &mut self,
@@ -195,7 +139,7 @@ impl Store {
         let Some(record) = self.sockets.get_mut(place) else {
             return Err(SocketError::Trap(TrapKind::NoSuchHandle));
         };
-        if !record.in_progress.is_connect() {
+        if !record.in_progress.is_started(AsyncOperation::Connect) {
             return Err(SocketError::Code(p2::ErrorCode::NotInProgress));
         }
         record.poll_connect(world)
@@ -388,23 +332,14 @@ impl Store {
         }
     }
 
-    /// A bind that is pending stands.
-    pub(crate) fn stand(
-        &mut self,
-        line: u32,
-        place: usize,
-        begun: Option<PendingBind>,
-    ) -> Answer<()>
-        ensures { (result, self.new) ≡ stood self.old line place begun }
+    /// A call that is pending stands under this number.
+    pub(crate) fn stand(&mut self, line: u32, call: StandingCall, answer: Answer<()>) -> Answer<()>
+        ensures { (result, self.new) ≡ stood self.old line call answer }
     {
-        match begun {
-            None => Answer::Ready(()),
-            Some(bind) => {
-                let socket = place;
-                self.standing = Some(Standing {
-                    line,
-                    call: StandingCall::Bind { socket, bind },
-                });
+        match answer {
+            Answer::Ready(()) => Answer::Ready(()),
+            Answer::Pending => {
+                self.standing = Some(Standing { line, call });
                 Answer::Pending
             }
         }

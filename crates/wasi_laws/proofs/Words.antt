@@ -1,24 +1,24 @@
 -- The words that the laws speak, passed on from the crates below.
 pub use Rattle.wasi_walks.proofs.Words.{Accept, Accepting, Accepts, Allows, Ask, AskWrite, Asks, Begins, Bind, Bool, Call, Check, CheckArrival}
 pub use Rattle.wasi_walks.proofs.Words.{CheckLocal, CloseLast, Connect, Done, End, Entry, Err, ErrorCode, ErrorValue, Fits, Front, FrontKeeps, Give}
-pub use Rattle.wasi_walks.proofs.Words.{Given, Handles, Has, HoldsAccept, HoldsConnect, IpSocketAddress, IsAcceptOn, IsConnect, IsDoneOrCode}
-pub use Rattle.wasi_walks.proofs.Words.{IsLeftOfConnect, IsLeftOfListen, Item, Job, Kind, Last, LastAsk, Left, List, Listen, Listener, Listening}
-pub use Rattle.wasi_walks.proofs.Words.{Machine, None, Not, Nothing, NothingLast, Ok, OpId, Operation, Option, Refuse, Refused, Reply, Result}
-pub use Rattle.wasi_walks.proofs.Words.{ShutdownLast, ShutdownSend, Socket, SocketAddressFamily, Some, Standing, Step, StreamStop, Streams, Tcp2}
-pub use Rattle.wasi_walks.proofs.Words.{Tcp2Socket, TcpState, Told, Unclosed, Waits, WasiSocketsCtx, Who, Write, WriteState, [], accept_ended}
+pub use Rattle.wasi_walks.proofs.Words.{Given, Handles, Has, HoldsAccept, HoldsConnect, InProgress, IpSocketAddress, IsAcceptOn, IsConnect}
+pub use Rattle.wasi_walks.proofs.Words.{IsDoneOrCode, IsLeftOfConnect, IsLeftOfListen, Item, Job, Kind, Last, LastAsk, Left, List, Listen, Listener}
+pub use Rattle.wasi_walks.proofs.Words.{Listening, Machine, None, Not, Nothing, NothingLast, Ok, OpId, Operation, Option, Refuse, Refused, Reply}
+pub use Rattle.wasi_walks.proofs.Words.{Result, ShutdownLast, ShutdownSend, Socket, SocketAddressFamily, Some, Standing, Step, StreamStop, Streams}
+pub use Rattle.wasi_walks.proofs.Words.{Tcp2, Tcp2Socket, TcpState, Told, Unclosed, Waits, WasiSocketsCtx, Who, Write, WriteState, [], accept_ended}
 pub use Rattle.wasi_walks.proofs.Words.{accept_front, accept_operation, admitted_front, after_create, allows_at, allows_if, allows_keep, allows_polls}
 pub use Rattle.wasi_walks.proofs.Words.{allows_then, allows_weaker, ap, append-nil, append_assoc, arith, arrival_front, arrived, asks_while}
-pub use Rattle.wasi_walks.proofs.Words.{bind_operation, check_front, check_write_asks, closed_by, closing_side, collected, connect_ended}
-pub use Rattle.wasi_walks.proofs.Words.{connect_first, connect_operation, create_asks, created_asks, done_front, entry, false, first_state, front}
-pub use Rattle.wasi_walks.proofs.Words.{give_up_asks, give_up_in, hand_front, if◌then◌else◌, in_hand, inl, inr, is_full, is_over, is_trap, job_asks}
-pub use Rattle.wasi_walks.proofs.Words.{job_in, last_ask, left_of, length, less_one, local_front, look_asks, look_in, machine_asks, make_asks}
-pub use Rattle.wasi_walks.proofs.Words.{name_of, nat_lt, new_asks, new_job, new_record, new_socket, number_fields, output_at, own_of, permitted}
-pub use Rattle.wasi_walks.proofs.Words.{poll_asks, polled_front, reached, refl, refuse_front, refuse_in, run, side_at, side_in, side_of, slice_get}
-pub use Rattle.wasi_walks.proofs.Words.{slice_set, standing_bind, standing_drop, standing_listen, stream_at, subst, suc, sym, taken_front}
-pub use Rattle.wasi_walks.proofs.Words.{then_closed, told_addr, told_arrival, told_done, told_polled, told_verdict, true, turn_asks, verdict_front}
-pub use Rattle.wasi_walks.proofs.Words.{with_inner, with_listening, with_reader, with_record, with_state, with_store, with_writer, write_front}
-pub use Rattle.wasi_walks.proofs.Words.{writer_asks, writer_of, writer_side, writing_side, written_by, zero, ℕ, ⊤, ◌&&◌, ◌++◌, ◌+◌, ◌<◌, ◌==◌, ◌∙◌}
-pub use Rattle.wasi_walks.proofs.Words.{◌∷◌, ◌≡◌, ◌≤◌, ◌⊎◌}
+pub use Rattle.wasi_walks.proofs.Words.{bind_operation, bind_progress, check_front, check_write_asks, closed_by, closing_side, collected}
+pub use Rattle.wasi_walks.proofs.Words.{connect_ended, connect_first, connect_operation, create_asks, created_asks, done_front, entry, false}
+pub use Rattle.wasi_walks.proofs.Words.{first_state, front, give_up_asks, give_up_in, hand_front, if◌then◌else◌, in_hand, inl, inr, is_full, is_over}
+pub use Rattle.wasi_walks.proofs.Words.{is_trap, job_asks, job_in, last_ask, left_of, length, less_one, local_front, look_asks, look_in, machine_asks}
+pub use Rattle.wasi_walks.proofs.Words.{make_asks, name_of, nat_lt, new_asks, new_job, new_record, new_socket, number_fields, output_at, own_of}
+pub use Rattle.wasi_walks.proofs.Words.{permitted, poll_asks, polled_front, reached, refl, refuse_front, refuse_in, run, side_at, side_in, side_of}
+pub use Rattle.wasi_walks.proofs.Words.{slice_get, slice_set, stream_at, subst, suc, sym, taken_front, then_closed, told_addr, told_arrival}
+pub use Rattle.wasi_walks.proofs.Words.{told_done, told_polled, told_verdict, true, turn_asks, verdict_front, with_inner, with_listening}
+pub use Rattle.wasi_walks.proofs.Words.{with_progress, with_reader, with_record, with_state, with_store, with_writer, write_front, writer_asks}
+pub use Rattle.wasi_walks.proofs.Words.{writer_of, writer_side, writing_side, written_by, zero, ℕ, ⊤, ◌&&◌, ◌++◌, ◌+◌, ◌<◌, ◌==◌, ◌∙◌, ◌∷◌, ◌≡◌, ◌≤◌}
+pub use Rattle.wasi_walks.proofs.Words.{◌⊎◌}
 unfoldable pub use Rattle.wasi_walks.proofs.Words.{bind}
 pub use Rattle.std.specs.Prelude.{IsSomeAnd, not}
 pub use Rattle.std.proofs.Common.{drop, rules, take}
@@ -39,15 +39,15 @@ pub use Rattle.wasi_walks.proofs.claims.Law.{Base, Claims, Named, accept_plain, 
 pub use Rattle.wasi_walks.proofs.claims.Lines.{BaseBetween, base_over, base_starts, first_base}
 pub use Rattle.wasi_walks.proofs.claims.Polls.{ArePlain, NoWrite, Quiet, none_taken, plain_poll, quiet_if, quiet_then}
 pub use Rattle.wasi_walks.proofs.fits.Law.{Fit, told_same, whatever}
-pub use Rattle.wasi_walks.proofs.fits.Records.{FitListening}
+pub use Rattle.wasi_walks.proofs.fits.Records.{FitListening, FitProgress}
 pub use Rattle.wasi_walks.proofs.licence.State.{accept_name, name_in}
 pub use Rattle.wasi_walks.proofs.walks.Law.{Law, Walks}
-pub use Rattle.wasi_walks.proofs.walks.Moves.{Awaits, BeginsAccept, BeginsBind, BeginsConnect, BeginsListen, BeginsWrite, Changes, Closes}
-pub use Rattle.wasi_walks.proofs.walks.Moves.{ClosesReader, Collects, Connects, Forgets, Found, Held, Here, InHand, IsGone, IsOn, IsQuestionOf, Joins}
-pub use Rattle.wasi_walks.proofs.walks.Moves.{Lasts, LastsAfter, Listens, Made, Move, NoBind, NoBindStands, OfReader, OfSocket, OfWriter, Opens, Own}
-pub use Rattle.wasi_walks.proofs.walks.Moves.{Permits, Reconnects, Resumes, Spends, Stands, StandsDrop, StandsListen, ToWrite, Unlistens, Unstands}
-pub use Rattle.wasi_walks.proofs.walks.Moves.{Unused, Used, WriterMoves, Writes, accepting_now, beginning_listen, begun_listen, closed_record, joined}
-pub use Rattle.wasi_walks.proofs.walks.Moves.{joining, listen_after, made_so, new_accept, opened_by, put, second_of}
+pub use Rattle.wasi_walks.proofs.walks.Moves.{Awaits, BeginsAccept, BeginsBind, BeginsConnect, BeginsListen, BeginsWrite, BindsOn, Changes, Closes}
+pub use Rattle.wasi_walks.proofs.walks.Moves.{ClosesReader, Collects, Connects, Forgets, Found, Held, Here, IsGone, IsOn, IsQuestionOf, Joins}
+pub use Rattle.wasi_walks.proofs.walks.Moves.{KeepsBinding, Lasts, LastsAfter, Listens, Made, Move, OfReader, OfSocket, OfWriter, Opens, Own, Permits}
+pub use Rattle.wasi_walks.proofs.walks.Moves.{Plain, Reconnects, Spends, ToWrite, Unlistens, Unused, Used, WriterMoves, Writes, accepting_now}
+pub use Rattle.wasi_walks.proofs.walks.Moves.{beginning_listen, begun_bind, begun_listen, closed_record, joined, joining, listen_after, made_so}
+pub use Rattle.wasi_walks.proofs.walks.Moves.{new_accept, opened_by, put, second_of}
 pub use Rattle.wasi_walks.proofs.walks.OnBase.{Above, both}
 pub use Rattle.wasi_walks.proofs.walks.States.{Over, Starts}
 pub use Rattle.wasi_walks.proofs.walks.Steps.{machine_walks, may_while}

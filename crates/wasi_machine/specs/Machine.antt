@@ -17,9 +17,8 @@ use Rattle.wasi_host.specs.declared.store.Standing.{Standing}
 use Rattle.wasi_host.specs.Host.{Stop, Code, Trap, CallStop, Failed, Closed, Traps}
 use Rattle.wasi_host.specs.Machine.{first_state, own_of, socket_at, create_asks, subscribe_asks, ready_asks, drop_asks, turn_machine_asks}
 use Rattle.wasi_host.specs.StreamCalls.{read_asks, check_asks, write_asks, flushed_asks}
-use Rattle.wasi_host.specs.Pending as host
-use Rattle.wasi_host.specs.Store.{is_bind, is_listen}
-use Rattle.wasi_p2.specs.Pending as p2
+use Rattle.wasi_host.specs.InProgress.{is_bind, is_listen}
+use Rattle.wasi_host.specs.Pending.{resume_asks}
 use Rattle.wasi_p2.specs.Tcp.{network_asks, start_bind_asks, finish_on, start_connect_asks, finish_connect_asks, local_address_on, remote_address_on, is_listening_on, address_family_on, shutdown_on, start_listen_on, accept_asks}
 use Rattle.wasi_p2.specs.Options.{get_option_on, set_option_on, set_backlog_on}
 use Rattle.wasi_steps.specs.declared.reply.Field.{Field}
@@ -95,20 +94,10 @@ abbrev pub outcome_reply : ℕ → Answer Outcome → Reply
 outcome_reply line (Ready Nothing) = reply.Ok no_fields
 outcome_reply line Pending = reply.Pending line
 
-abbrev pub resumed_reply : ℕ → Result (Option (Answer Outcome)) CallStop → Reply
+abbrev pub resumed_reply : ℕ → Result (Option (Answer Outcome)) Stop → Reply
 resumed_reply line (Ok None) = reply.NoSuchCall
 resumed_reply line (Ok (Some answer)) = outcome_reply line answer
-resumed_reply line (Err stop) = call_stop_reply stop
-
--- == a pending call
-abbrev pub poll_on : ℕ → Result (Option (Answer Outcome)) Stop × Machine → Asks (Reply × Machine)
-poll_on line (Ok None, m) = bind (host.resume_asks m line) (λ done. Give (resumed_reply line done.0, done.1))
-poll_on line (Ok (Some answer), m) = Give (outcome_reply line answer, m)
-poll_on line (Err stop, m) = Give (stop_reply stop, m)
-
--- polls the call that stands under this number, whichever interface it is of
-abbrev pub poll_asks : Machine → ℕ → Asks (Reply × Machine)
-poll_asks m line = bind (p2.resume_asks m line) (λ done. poll_on line done)
+resumed_reply line (Err stop) = stop_reply stop
 
 -- == settings
 -- sets the option or the backlog that was chosen
@@ -159,7 +148,7 @@ call_asks ctx m line (step.Ready c p) = bind (ready_asks m (first_ids line) p) (
 call_asks ctx m line (step.Drop c h) = bind (drop_asks m (own_of line) h) (λ done. Give (answer_reply line done.0, done.1))
 call_asks ctx m line (step.TcpShutdown c s how) = bind (shutdown_on m (own_of line) how (socket_at m s)) (λ done. Give (reply_of no_values done.0, done.1))
 call_asks ctx m line step.Turn = bind (turn_machine_asks m) (λ done. Give (reply.Ok no_fields, done.1))
-call_asks ctx m line (step.Poll n) = poll_asks m n
+call_asks ctx m line (step.Poll n) = bind (resume_asks m n) (λ done. Give (resumed_reply n done.0, done.1))
 
 -- what a step asks, its reply, and the machine afterwards
 abbrev pub step_asks : List WasiSocketsCtx → Machine → ℕ → Step → Asks (Reply × Machine)

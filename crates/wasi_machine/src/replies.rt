@@ -59,7 +59,7 @@ pub fn answer_reply(
 }
 
 /// The reply of a call that gives no value; want of memory has none.
-pub fn stop_reply(error: SocketError) -> Result<Reply, AllocError>
+fn stop_reply(error: SocketError) -> Result<Reply, AllocError>
     ensures { IfOk result (λ reply. IsStop error (λ stop. reply ≡ stop_reply stop)) }
 {
     match error {
@@ -85,7 +85,7 @@ fn call_stop_reply(error: CallError) -> Result<Reply, AllocError>
 }
 
 /// The reply of the call of this line that was resumed: pending, it stands on.
-pub fn outcome_reply(alloc: Global, line: u32, answer: Answer<Outcome>) -> Reply
+fn outcome_reply(alloc: Global, line: u32, answer: Answer<Outcome>) -> Reply
     ensures { result ≡ outcome_reply line answer }
 {
     match answer {
@@ -94,17 +94,17 @@ pub fn outcome_reply(alloc: Global, line: u32, answer: Answer<Outcome>) -> Reply
     }
 }
 
-/// The reply of a poll, where the call isn't one of an interface's own.
+/// The reply of a poll of the call of this line.
 pub fn resumed_reply(
     alloc: Global,
     line: u32,
-    resumed: Result<Option<Answer<Outcome>>, CallError>,
+    resumed: Result<Option<Answer<Outcome>>, SocketError>,
 ) -> Result<Reply, AllocError>
-    ensures { IfOk result (λ reply. IsOkAnd (call_outcome resumed) (λ x. reply ≡ resumed_reply line x)) }
+    ensures { IfOk result (λ reply. IsOkAnd (host_outcome resumed) (λ x. reply ≡ resumed_reply line x)) }
 {
     match resumed {
         Ok(Some(answer)) => Ok(outcome_reply(alloc, line, answer)),
         Ok(None) => Ok(Reply::NoSuchCall),
-        Err(error) => call_stop_reply(error),
+        Err(error) => stop_reply(error),
     }
 }

@@ -1,3 +1,2 @@
 pub mod Tcp
 pub mod Options
-pub mod Pending

@@ -10,10 +10,11 @@ use Rattle.wasi_world.specs.declared.outcome.TrapKind.TheVariants.{NoSuchHandle}
 use Rattle.wasi_world.specs.Asks.{Asks, Give, bind}
 use Rattle.wasi_host.specs.declared.kind.Kind.TheVariants.{Network, Tcp2, Input, Output}
 use Rattle.wasi_host.specs.declared.machine.Machine.{Machine}
-use Rattle.wasi_host.specs.declared.socket.InProgress.{InProgress}
+use Rattle.wasi_host.specs.declared.binding.InProgress.{InProgress}
 use Rattle.wasi_host.specs.Host.{Stop, Trap}
 use Rattle.wasi_host.specs.Kinds.{kind_at, is_network, make_asks}
-use Rattle.wasi_host.specs.Store.{start_bind_at, finish_at, start_connect_at, finish_connect_at, local_address_at, remote_address_at, is_listening_at, address_family_at}
+use Rattle.wasi_host.specs.Binding.{start_bind_at}
+use Rattle.wasi_host.specs.Store.{finish_at, start_connect_at, finish_connect_at, local_address_at, remote_address_at, is_listening_at, address_family_at}
 use Rattle.wasi_host.specs.Listening.{start_listen_at, accept_at, accept_ids_at}
 use Rattle.wasi_host.specs.Shutdowns.{shutdown_at}
 use Rattle.wasi_host.specs.Machine.{with_table, with_store, own_of, socket_at, no_such_handle, side_at}

@@ -1,21 +1,20 @@
 //! The calls of the 0.2 interface, one function each, over a view of a context, a table and a store.
 #![tactic(auto)]
 
-ghost use Rattle.std.specs.Prelude.{◌≡◌, None, Ok, false};
+ghost use Rattle.std.specs.Prelude.{◌≡◌, false};
 ghost use Rattle.wasi_world.specs.Asks.{AsksFor};
 ghost use Rattle.wasi_host.specs.Host.{host_outcome};
 ghost use Rattle.wasi_host.specs.Machine.{own_of};
 ghost use Rattle.wasi_host.specs.Sides.{KnowsSides};
 ghost use Rattle.wasi_host.specs.Views.{SameView, state_of};
-ghost use Rattle.wasi_p2.specs.Pending.{resume_asks, resume_listen};
 ghost use Rattle.wasi_p2.specs.Tcp.{network_asks};
 
 mod options;
 pub mod tcp;
 
 pub use wasi_host::SocketError;
-use wasi_host::{Kind, Outcome, WasiSocketsCtxView, handles, of_fault};
-use wasi_world::{Answer, Handle, Ids, World};
+use wasi_host::{Kind, WasiSocketsCtxView, handles, of_fault};
+use wasi_world::{Handle, Ids, World};
 
 /// A call that tells a code of the 0.2 interface (`SocketResult` of the crate wasmtime-wasi).
 pub type SocketResult<T> = Result<T, SocketError>;
@@ -35,43 +34,4 @@ pub fn instance_network<W: World>(
 {
     let made = handles::make(view.table, world, ids.own(), Kind::Network, None, None);
     of_fault(made)
-}
-
-/// Polls the call that stands under this number; none exactly where no call of this crate does. A bind or a listen that is
-/// pending stands on.
-pub fn resume<W: World>(
-    view: &mut WasiSocketsCtxView<'_>,
-    world: &mut W,
-    ids: &mut Ids,
-    line: u32,
-) -> Result<Option<Answer<Outcome>>, SocketError>
-    requires { (W.seen world.old).ended ≡ false }
-    ensures asked { AsksFor (resume_asks (state_of view.old) line) (W.seen world.old) (W.seen world.new) (λ answer. (answer, state_of view.new)) (host_outcome result) }
-    ensures sides { KnowsSides (W.seen world.old) view.old.store.now → KnowsSides (W.seen world.new) view.new.store.now }
-    ensures view { SameView view.old view.new }
-    ensures ids { ids.new ≡ ids.old }
-    ensures open { (W.seen world.new).ended ≡ false }
-{
-    match view.store.resume_bind(world, line)? {
-        Some(answer) => Ok(Some(Outcome::of_nothing(answer))),
-        None => resume_listen(view, world, line),
-    }
-}
-
-/// Polls the listen that stands under this number; none where no listen does.
-fn resume_listen<W: World>(
-    view: &mut WasiSocketsCtxView<'_>,
-    world: &mut W,
-    line: u32,
-) -> Result<Option<Answer<Outcome>>, SocketError>
-    requires { (W.seen world.old).ended ≡ false }
-    ensures asked { AsksFor (resume_listen line (Ok None, state_of view.old)) (W.seen world.old) (W.seen world.new) (λ answer. (answer, state_of view.new)) (host_outcome result) }
-    ensures sides { KnowsSides (W.seen world.old) view.old.store.now → KnowsSides (W.seen world.new) view.new.store.now }
-    ensures view { SameView view.old view.new }
-    ensures open { (W.seen world.new).ended ≡ false }
-{
-    match view.store.resume_listen(world, line)? {
-        Some(answer) => Ok(Some(Outcome::of_nothing(answer))),
-        None => Ok(None),
-    }
 }

@@ -4,11 +4,11 @@
 ghost use Rattle.std.specs.Prelude.{◌≡◌, ◌+◌, ◌<◌, ◌^◌, IfOk, IsSome, Ok, false};
 ghost use Rattle.wasi_world.specs.Asks.{AsksFor};
 ghost use Rattle.wasi_host.specs.Host.{host_outcome};
+ghost use Rattle.wasi_host.specs.InProgress.{is_bind, is_listen};
 ghost use Rattle.wasi_host.specs.Kinds.{kind_at};
 ghost use Rattle.wasi_host.specs.Listening.{TakesOne};
 ghost use Rattle.wasi_host.specs.Machine.{own_of, socket_at, create_asks};
 ghost use Rattle.wasi_host.specs.Sides.{KnowsSides};
-ghost use Rattle.wasi_host.specs.Store.{is_bind, is_listen};
 ghost use Rattle.wasi_host.specs.Views.{SameView, state_of};
 ghost use Rattle.wasi_p2.specs.Tcp.{start_bind_asks, finish_on, start_connect_asks, finish_connect_on, streams_asks, local_address_on, remote_address_on, is_listening_on, address_family_on, shutdown_on, start_listen_on, accepted_handles, accept_asks, ids_after_accept};
 
@@ -21,7 +21,7 @@ pub use crate::options::{
     set_send_buffer_size,
 };
 use wasi_addr::{IpSocketAddress, ShutdownType, SocketAddressFamily};
-use wasi_host::{Kind, WasiSocketsCtxView, handles, of_fault};
+use wasi_host::{AsyncOperation, Kind, WasiSocketsCtxView, handles, of_fault};
 use wasi_world::{Answer, Handle, Ids, Sock, TrapKind, World};
 
 /// Makes a TCP socket of this family (`create-tcp-socket`). Where the context forbids TCP: `AccessDenied`, and nothing is asked.
@@ -85,7 +85,7 @@ pub fn finish_bind<W: World>(
     let Some(place) = handles::socket(view.table, this) else {
         return Err(SocketError::Trap(TrapKind::NoSuchHandle));
     };
-    view.store.finish_bind(place)
+    view.store.finish(place, AsyncOperation::Bind)
 }
 
 /// Begins to connect a socket to an address (`start-connect`), which is in progress then. With any operation in progress:
@@ -208,7 +208,7 @@ pub fn finish_listen<W: World>(
     let Some(place) = handles::socket(view.table, this) else {
         return Err(SocketError::Trap(TrapKind::NoSuchHandle));
     };
-    view.store.finish_listen(place)
+    view.store.finish(place, AsyncOperation::Listen)
 }
 
 /// Accepts a connection of a listener (`accept`): its socket, its input and its output. No listener: `InvalidState`. Nothing

@@ -1,24 +1,22 @@
 //! The calls that a script's steps make, over a view of the line's context, the table and the store.
 
-ghost use Rattle.std.specs.Prelude.{◌≡◌, ◌&&◌, Ok, is_some, false};
+ghost use Rattle.std.specs.Prelude.{◌≡◌, ◌&&◌, is_some, false};
 ghost use Rattle.wasi_world.specs.Asks.{AsksFor};
 ghost use Rattle.wasi_host.specs.Host.{host_outcome};
 ghost use Rattle.wasi_host.specs.Machine.{own_of, socket_at};
 ghost use Rattle.wasi_host.specs.Sides.{KnowsSides};
 ghost use Rattle.wasi_host.specs.Views.{SameView, state_of};
-ghost use Rattle.wasi_machine.specs.Machine.{first_ids, machine_asks, set_chosen, is_guest_call, call_asks, poll_asks, poll_on, context_at, context_for};
+ghost use Rattle.wasi_machine.specs.Machine.{first_ids, machine_asks, set_chosen, is_guest_call, call_asks, context_at, context_for};
 ghost use Rattle.wasi_steps.specs.Settings.{chosen};
 ghost use Rattle.wasi_steps.specs.Steps.{context_of};
 
 use std::alloc::{AllocError, Global};
-use wasi_host::{Kind, Machine, Outcome, SocketError, Store, WasiSocketsCtxView, of_fault};
-use wasi_machine::replies::{
-    answer_reply, outcome_reply, reply_of, resumed_reply, stop_reply, stream_reply_of,
-};
+use wasi_host::{Kind, Machine, SocketError, Store, WasiSocketsCtxView, of_fault};
+use wasi_machine::replies::{answer_reply, reply_of, resumed_reply, stream_reply_of};
 use wasi_p2::tcp;
 use wasi_steps::{Reply, Step, TcpSetting};
 use wasi_streams::Table;
-use wasi_world::{Answer, Handle, Ids, WasiSocketsCtx, World};
+use wasi_world::{Handle, Ids, WasiSocketsCtx, World};
 
 /// Whether the step is a guest call, and a call stands.
 fn is_held_up(store: &Store, step: &Step) -> bool
@@ -197,7 +195,10 @@ fn call<W: World>(
             wasi_host::turn(view, world)?;
             Ok(Reply::done(alloc))
         }
-        Step::Poll { call } => poll(alloc, view, world, ids, call),
+        Step::Poll { call } => {
+            let resumed = wasi_host::resume(view, world, call);
+            resumed_reply(alloc, call, resumed)
+        }
     }
 }
 
@@ -226,50 +227,6 @@ fn set<W: World>(
         ReceiveBufferSize(value) => tcp::set_receive_buffer_size(view, world, ids, socket, value),
         SendBufferSize(value) => tcp::set_send_buffer_size(view, world, ids, socket, value),
         ListenBacklogSize(value) => tcp::set_listen_backlog_size(view, world, ids, socket, value),
-    }
-}
-
-/// Polls the call that stands under this number, whichever interface it is of.
-fn poll<W: World>(
-    alloc: Global,
-    view: &mut WasiSocketsCtxView<'_>,
-    world: &mut W,
-    ids: &mut Ids,
-    line: u32,
-) -> Result<Reply, AllocError>
-    requires { (W.seen world.old).ended ≡ false }
-    ensures asked { AsksFor (poll_asks (state_of view.old) line) (W.seen world.old) (W.seen world.new) (λ reply. (reply, state_of view.new)) result }
-    ensures sides { KnowsSides (W.seen world.old) view.old.store.now → KnowsSides (W.seen world.new) view.new.store.now }
-    ensures view { SameView view.old view.new }
-    ensures open { (W.seen world.new).ended ≡ false }
-{
-    match wasi_p2::resume(view, world, ids, line) {
-        Ok(answer) => poll_on(alloc, view, world, ids, line, answer),
-        Err(error) => stop_reply(error),
-    }
-}
-
-/// Answers a poll, where the 0.2 interface has that call; else asks the host for it.
-fn poll_on<W: World>(
-    alloc: Global,
-    view: &mut WasiSocketsCtxView<'_>,
-    world: &mut W,
-    ids: &mut Ids,
-    line: u32,
-    answer: Option<Answer<Outcome>>,
-) -> Result<Reply, AllocError>
-    requires { (W.seen world.old).ended ≡ false }
-    ensures asked { AsksFor (poll_on line (Ok answer, state_of view.old)) (W.seen world.old) (W.seen world.new) (λ reply. (reply, state_of view.new)) result }
-    ensures sides { KnowsSides (W.seen world.old) view.old.store.now → KnowsSides (W.seen world.new) view.new.store.now }
-    ensures view { SameView view.old view.new }
-    ensures open { (W.seen world.new).ended ≡ false }
-{
-    match answer {
-        Some(answer) => Ok(outcome_reply(alloc, line, answer)),
-        None => {
-            let resumed = wasi_host::resume(view, world, ids, line);
-            resumed_reply(alloc, line, resumed)
-        }
     }
 }
 

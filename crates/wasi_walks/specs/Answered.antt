@@ -46,11 +46,15 @@ use Rattle.wasi_host.specs.declared.kind.Kind.TheVariants as kind
 use Rattle.wasi_host.specs.declared.kind.Watched.{Watched}
 use Rattle.wasi_host.specs.declared.kind.Watched.TheVariants as watched
 use Rattle.wasi_host.specs.Kinds.{watched_by, watch_of, place_in}
-use Rattle.wasi_host.specs.Pending.{waiting_bind, waiting_listen}
+use Rattle.wasi_host.specs.declared.store.StandingCall.{StandingCall}
+use Rattle.wasi_host.specs.declared.store.StandingCall.TheVariants as standing
 use Rattle.wasi_steps.specs.Reply.{word_of_p2}
 use Rattle.wasi_steps.specs.Steps.{Kind, HandleOf, ALine, ANetwork, ASocket, AnInput, AnOutput, Watchable, APollable, Anything, Value, Values, signature}
 use Rattle.wasi_host.specs.Kinds.{kind_at, with_handle}
-use Rattle.wasi_host.specs.Store.{with_inner, with_reader, with_writer, with_socket, left_of, is_nothing, is_bind, is_connect, idle}
+use Rattle.wasi_host.specs.Binding.{left_of}
+use Rattle.wasi_host.specs.InProgress.{is_nothing, is_bind, is_connect}
+use Rattle.wasi_host.specs.Standing.{call_of}
+use Rattle.wasi_host.specs.Store.{with_inner, with_reader, with_writer, with_socket, idle}
 use Rattle.wasi_host.specs.Machine.{socket_at, input_at, output_at}
 use Rattle.wasi_host.specs.Kinds.{is_network}
 use Rattle.wasi_machine.specs.Machine.{machine_asks}
@@ -126,11 +130,15 @@ abbrev pub MissesWatched : Machine → Option Watched → Type 0
 MissesWatched m None = ⊤
 MissesWatched m (Some w) = MissesRecord w (slice_get m.store.sockets (place_in w))
 
--- the bind or the listen that stands under this number is of no socket
+-- the call is a bind or a listen of no socket
+abbrev pub IsOnNothing : Machine → StandingCall → Type 0
+IsOnNothing m (standing.Bind place) = slice_get m.store.sockets place ≡ None
+IsOnNothing m (standing.Listen place) = slice_get m.store.sockets place ≡ None
+IsOnNothing m (standing.DropOutput place) = ⊥
+
+-- the call that stands under this number is a bind or a listen of no socket
 abbrev pub StandsOnNothing : Machine → ℕ → Type 0
-StandsOnNothing m n =
-    IsSomeAnd (waiting_bind m.store.standing n) (λ b. slice_get m.store.sockets b.0 ≡ None)
-    ⊎ IsSomeAnd (waiting_listen m.store.standing n) (λ place. slice_get m.store.sockets place ≡ None)
+StandsOnNothing m n = IsSomeAnd (call_of m.store.standing n) (IsOnNothing m)
 
 -- == traps
 -- an argument misses what it names: a handle that isn't live, or is of something else; or the call of a line that stands on nothing

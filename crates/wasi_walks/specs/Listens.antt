@@ -22,7 +22,7 @@ use Rattle.wasi_host.specs.declared.listening.Listening.TheVariants as listening
 use Rattle.wasi_host.specs.declared.machine.Machine.{Machine}
 use Rattle.wasi_host.specs.declared.socket.Tcp2Socket.{Tcp2Socket}
 use Rattle.wasi_host.specs.Listening.{with_listening, accepted_record}
-use Rattle.wasi_host.specs.Store.{is_listen}
+use Rattle.wasi_host.specs.InProgress.{is_listen}
 use Rattle.wasi_steps.specs.declared.reply.CodeWord.{CodeWord}
 use Rattle.wasi_steps.specs.declared.reply.CodeWord.TheVariants as word
 use Rattle.wasi_walks.specs.Answered.{record_at, putting, word_of_code, EndsPending, StartRefusal, RefusedOf, IsBound, IsFree, IsPastDefault, knowing_bound}

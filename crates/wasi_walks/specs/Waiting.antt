@@ -22,6 +22,8 @@ use Rattle.wasi_tcp.specs.Listen.{IsListen, is_over}
 use Rattle.wasi_tcp.specs.Listener.{Listener}
 use Rattle.wasi_tcp.specs.Socket.{side_of}
 use Rattle.wasi_tcp.specs.Writer.{collected}
+use Rattle.wasi_host.specs.declared.binding.InProgress.{InProgress}
+use Rattle.wasi_host.specs.declared.binding.InProgress.TheVariants.{Binding}
 use Rattle.wasi_host.specs.declared.kind.Watched.{Watched}
 use Rattle.wasi_host.specs.declared.kind.Watched.TheVariants as watched
 use Rattle.wasi_host.specs.declared.listening.Listening.{Listening}
@@ -33,8 +35,8 @@ use Rattle.wasi_host.specs.declared.store.StandingCall.{StandingCall}
 use Rattle.wasi_host.specs.declared.store.StandingCall.TheVariants as standing
 use Rattle.wasi_host.specs.Kinds.{kind_at, watch_of, place_in}
 use Rattle.wasi_host.specs.Machine.{output_at, side_at}
-use Rattle.wasi_host.specs.Pending.{unstood}
-use Rattle.wasi_host.specs.Store.{is_nothing, is_connect}
+use Rattle.wasi_host.specs.InProgress.{is_nothing, is_connect}
+use Rattle.wasi_host.specs.Standing.{unstood}
 use Rattle.wasi_steps.specs.declared.reply.CodeWord.{CodeWord}
 use Rattle.wasi_steps.specs.declared.reply.Reply.{Reply}
 use Rattle.wasi_steps.specs.declared.reply.Reply.TheVariants as reply
@@ -134,14 +136,24 @@ abbrev pub IsListening : Listening → Type 0
 IsListening (listening.Begins op) = IsListen op
 IsListening _ = ⊤
 
+-- a bind goes on
+abbrev pub IsBinding : InProgress → Type 0
+IsBinding (Binding op) = IsRestOfBind op
+IsBinding _ = ⊥
+
 abbrev pub HoldsCall : Machine → StandingCall → Type 0
-HoldsCall m (standing.Bind place op) = IsRestOfBind op
+HoldsCall m (standing.Bind place) = IfSome (slice_get m.store.sockets place) (λ r. IsBinding r.in_progress)
 HoldsCall m (standing.Listen place) = IfSome (slice_get m.store.sockets place) (λ r. IsListening r.listening)
 HoldsCall m (standing.DropOutput place) = ⊤
 
--- where a bind stands, its operation is a bind; and where a listen stands, its is a listen
+-- where a bind stands, its record has a bind that goes on; and where a listen stands, its is a listen
 abbrev pub StandsByBind : Machine → Type 0
 StandsByBind m = IfSome m.store.standing (λ s. HoldsCall m s.call)
+
+-- the bind that goes on was told to wait
+abbrev pub BindWaits : InProgress → List Entry → Type 0
+BindWaits (Binding op) entries = EndsPending op.who.id entries
+BindWaits _ entries = ⊥
 
 -- the listen that goes on was told to wait
 abbrev pub ListenWaits : Listening → List Entry → Type 0
@@ -150,7 +162,7 @@ ListenWaits _ entries = ⊥
 
 -- the call waits: the last ask of the bind or of the listen was told to wait, or the output's writer waits
 abbrev pub CallWaits : Machine → OpId → List Entry → StandingCall → Type 0
-CallWaits m own entries (standing.Bind place op) = EndsPending op.who.id entries
+CallWaits m own entries (standing.Bind place) = IsSomeAnd (slice_get m.store.sockets place) (λ r. BindWaits r.in_progress entries)
 CallWaits m own entries (standing.Listen place) = IsSomeAnd (slice_get m.store.sockets place) (λ r. ListenWaits r.listening entries)
 CallWaits m own entries (standing.DropOutput place) = OutputWaits m own (Some place) entries
 
@@ -189,7 +201,7 @@ HasNoListen r = IsSome (side_of r.inner) ⊎ IsNoListen r.listening
 -- Why the call that stands failed with a code: its bind or its listen ended with it; or it was a listen that doesn't go on, which
 -- a poll refuses.
 pub data CallFails (m : Machine) (entries : List Entry) : StandingCall → ErrorCode → Type 0 where
-  BindFailed : (place : ℕ) (op : Operation) (c : ErrorCode) → BindFails op entries c → CallFails m entries (standing.Bind place op) c
+  BindFailed : (place : ℕ) (r : Tcp2Socket) (op : Operation) (c : ErrorCode) → slice_get m.store.sockets place ≡ Some r → r.in_progress ≡ Binding op → BindFails op entries c → CallFails m entries (standing.Bind place) c
   ListenFailed : (place : ℕ) (r : Tcp2Socket) (op : Operation) (c : ErrorCode) → slice_get m.store.sockets place ≡ Some r → r.listening ≡ listening.Begins op → ListenEnds op entries c → CallFails m entries (standing.Listen place) c
   NoListen : (place : ℕ) → IsSomeAnd (slice_get m.store.sockets place) HasNoListen → entries ≡ [] → CallFails m entries (standing.Listen place) InvalidState
 

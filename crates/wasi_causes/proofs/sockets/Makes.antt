@@ -1,5 +1,20 @@
 -- The steps that make handles of sockets and of streams: a network, a create, the finish of a connect, and an accept.
-use Rattle.wasi_causes.proofs.Words.{◌≡◌, ℕ, true, List, [], ◌∷◌, None, Result, Ok, Err, length, refl, ap, ◌≢◌, Bool, false, inr, inl, slice_get, subst, arith, ◌∙◌, ◌+◌, ◌++◌, Option, Some, slice_set, sym, append_assoc, IpSocketAddress, SocketAddressFamily, ErrorCode, InvalidState, Stop, Trap, code_stop, Handles, with_handle, with_listening, accept_listening, accepted_record, accept_answered, accept_at, created_asks, create_asks, own_of, side_at, with_store, with_record, Records, with_socket, is_connect, idle, opened_send, opened_receive, connect_polled, with_record_put, finish_connect_by, finish_connect_at, Network, Tcp2, Input, Output, Listening, Machine, Tcp2Socket, network_asks, connected_asks, finish_connect_on, finish_connect_asks, streams_asks, with_streams, accepted_streams, accepted_handles, accepted_asks, accept_on, get_seam, marks_in-push, word_of_code, CreateRefusal, NotAllowed, ToldCode, record_at, HasNoConnectInProgress, ClosedBy, FinishRefusal, NoConnect, Closes, NotConnecting, ListensAlready, ReceivesAlready, SendsAlready, ConnectsAt, entry, marks_in, accept_name, AcceptWaits, accepting_now, NoListener, StillAccepts, AcceptFailed, AcceptGives, accepted_marks, AcceptsAt, handle_reply, context_at, pair_reply, triple_reply, first_ids, triple_fields, still_connected, IsConnect, with_state, connect_ended, finish_in, in_socket, taken_receive, taken_send, Listener, accept_end, accepted_socket, accepted_state, HoldsAccept, Socket, side_of, new_socket, after_create, new_asks, Accepting, Connection, TcpState, Give, bind, IsDoneOrCode, Item, Operation, End, Waits, Done, Refused, told_done, Entry, Told, OpId, Answer, NoSuchHandle, WasiSocketsCtx}
+use Rattle.wasi_causes.proofs.Words.{AcceptFailed, AcceptGives, AcceptWaits, Accepting, AcceptsAt, Answer, Bool, ClosedBy, Closes, Connection}
+use Rattle.wasi_causes.proofs.Words.{ConnectsAt, CreateRefusal, Done, End, Entry, Err, ErrorCode, FinishRefusal, Give, Handles}
+use Rattle.wasi_causes.proofs.Words.{HasNoConnectInProgress, HoldsAccept, Input, InvalidState, IpSocketAddress, IsConnect, IsDoneOrCode, Item, List}
+use Rattle.wasi_causes.proofs.Words.{Listener, Listening, ListensAlready, Machine, Network, NoConnect, NoListener, NoSuchHandle, None, NotAllowed}
+use Rattle.wasi_causes.proofs.Words.{NotConnecting, Ok, OpId, Operation, Option, Output, ReceivesAlready, Records, Refused, Result, SendsAlready}
+use Rattle.wasi_causes.proofs.Words.{Socket, SocketAddressFamily, Some, StillAccepts, Stop, Tcp2, Tcp2Socket, TcpState, Told, ToldCode, Trap, Waits}
+use Rattle.wasi_causes.proofs.Words.{WasiSocketsCtx, [], accept_answered, accept_at, accept_end, accept_listening, accept_name, accept_on}
+use Rattle.wasi_causes.proofs.Words.{accepted_asks, accepted_handles, accepted_marks, accepted_record, accepted_socket, accepted_state}
+use Rattle.wasi_causes.proofs.Words.{accepted_streams, accepting_now, after_create, ap, append_assoc, arith, bind, code_stop, connect_ended}
+use Rattle.wasi_causes.proofs.Words.{connect_polled, connected_asks, context_at, create_asks, created_asks, entry, false, finish_connect_asks}
+use Rattle.wasi_causes.proofs.Words.{finish_connect_at, finish_connect_by, finish_connect_on, finish_in, first_ids, get_seam, handle_reply, idle}
+use Rattle.wasi_causes.proofs.Words.{in_socket, inl, inr, is_connect, length, marks_in, marks_in-push, network_asks, new_asks, new_socket}
+use Rattle.wasi_causes.proofs.Words.{opened_receive, opened_send, own_of, pair_reply, record_at, refl, side_at, side_of, slice_get, slice_set}
+use Rattle.wasi_causes.proofs.Words.{still_connected, streams_asks, subst, sym, taken_receive, taken_send, told_done, triple_fields, triple_reply}
+use Rattle.wasi_causes.proofs.Words.{true, with_handle, with_listening, with_record, with_record_put, with_socket, with_state, with_store}
+use Rattle.wasi_causes.proofs.Words.{with_streams, word_of_code, ℕ, ◌++◌, ◌+◌, ◌∙◌, ◌∷◌, ◌≡◌, ◌≢◌}
 use Rattle.wasi_causes.proofs.operations.Accepts.{AcceptRow, accepts}
 use Rattle.wasi_causes.proofs.operations.Marks.{poll_marks_none}
 use Rattle.wasi_causes.proofs.operations.Polls.{EndsFor, connect_ends}

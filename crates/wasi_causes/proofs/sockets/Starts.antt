@@ -1,5 +1,21 @@
 -- The starts and the finishes of a bind and of a listen, and the start of a connect.
-use Rattle.wasi_causes.proofs.Words.{◌≡◌, Bool, true, false, not, if◌then◌else◌, List, [], ◌∷◌, refl, sym, ap, subst, ℕ, inl, inr, ◌++◌, Option, Some, None, Result, Ok, Err, ◌∙◌, append_assoc, ◌⊎◌, IsSomeAnd, is_wildcard, wildcard, IpSocketAddress, ErrorCode, InvalidArgument, InvalidState, Other, kind_at, is_network, listen_polled, listen_begun, listen_once, listen_bound, begin_listen_asks, listen_answered, start_listen_by, start_listen_at, own_of, with_store, socket_at, is_nothing, bind_ended, bind_begun, begin_bind_asks, bind_answered, start_bind_by, start_bind_at, connect_begun, begin_connect_asks, start_connect_by, start_connect_at, with_inner, is_bind, is_listen, idle, finish_by, finish_at, Listening, Machine, Tcp2Socket, start_bind_on, start_bind_asks, start_connect_on, start_connect_asks, start_listen_on, finish_on, IsPastDefault, IsBound, Known, PastDefault, ToldBound, IsFree, putting, word_of_code, EndsPending, may_bind_to, BindRefusal, AlreadyBound, WrongAddress, Denied, Failed, InProgress, Begins, ConnectRefusal, NotDefault, BoundElsewhere, Elsewhere, knowing_bound, KnowsBound, OfRecord, record_at, ListensAlready, entry, ListenFails, LocalTold, ListenDenied, ListenTold, IsPastNot, ListenRefusal, NotBound, ListenRefused, closed_by_listen, answer_reply, done_reply, no_fields, CodeWord, Reply, bind_operation, is_connectable, connect_start, start_connect_in, with_state, listen_operation, listen_start, listen_ended, Socket, after_local, ask_bound, bound_asks, bind_allowed, TcpState, bind, Give, IsAddr, Given, Item, Operation, End, Waits, Done, Refused, told_addr, Entry, Told, OpId, Answer, Ready, Pending, NoSuchHandle, WasiSocketsCtx}
+use Rattle.wasi_causes.proofs.Words.{AlreadyBound, Answer, Begins, BindRefusal, Bool, BoundElsewhere, CodeWord, ConnectRefusal, Denied, Done}
+use Rattle.wasi_causes.proofs.Words.{Elsewhere, End, EndsPending, Entry, Err, ErrorCode, Failed, Give, Given, InvalidArgument}
+use Rattle.wasi_walks.specs.Answered.{InProgress}
+use Rattle.wasi_causes.proofs.Words.{InvalidState, IpSocketAddress, IsAddr, IsBound, IsFree, IsPastDefault, IsPastNot, IsSomeAnd, Item, Known}
+use Rattle.wasi_causes.proofs.Words.{KnowsBound, List, ListenDenied, ListenFails, ListenRefusal, ListenRefused, ListenTold, Listening, ListensAlready}
+use Rattle.wasi_causes.proofs.Words.{LocalTold, Machine, NoSuchHandle, None, NotBound, NotDefault, OfRecord, Ok, OpId, Operation, Option, Other}
+use Rattle.wasi_causes.proofs.Words.{PastDefault, Pending, Ready, Refused, Reply, Result, Socket, Some, StandingCall, Tcp2Socket, TcpState, Told}
+use Rattle.wasi_causes.proofs.Words.{ToldBound, Waits, WasiSocketsCtx, WrongAddress, [], after_local, answer_reply, ap, append_assoc, ask_bound}
+use Rattle.wasi_causes.proofs.Words.{begin_bind_asks, begin_connect_asks, begin_listen_asks, bind, bind_allowed, bind_begun, bind_ended}
+use Rattle.wasi_causes.proofs.Words.{bind_operation, bound_asks, call_answered, closed_by_listen, connect_begun, connect_start, done_reply, entry}
+use Rattle.wasi_causes.proofs.Words.{false, finish_at, finish_by, finish_on, idle, if◌then◌else◌, inl, inr, is_bind, is_connectable, is_listen}
+use Rattle.wasi_causes.proofs.Words.{is_network, is_nothing, is_wildcard, kind_at, knowing_bound, listen_begun, listen_bound, listen_ended}
+use Rattle.wasi_causes.proofs.Words.{listen_once, listen_operation, listen_polled, listen_start, may_bind_to, no_fields, not, own_of, putting}
+use Rattle.wasi_causes.proofs.Words.{record_at, refl, socket_at, start_bind_asks, start_bind_at, start_bind_by, start_bind_on, start_connect_asks}
+use Rattle.wasi_causes.proofs.Words.{start_connect_at, start_connect_by, start_connect_in, start_connect_on, start_listen_at, start_listen_by}
+use Rattle.wasi_causes.proofs.Words.{start_listen_on, subst, sym, told_addr, true, wildcard, with_inner, with_progress, with_state, with_store}
+use Rattle.wasi_causes.proofs.Words.{word_of_code, ℕ, ◌++◌, ◌∙◌, ◌∷◌, ◌≡◌, ◌⊎◌}
 use Rattle.wasi_causes.proofs.operations.Polls.{polled, ends_so, not_over}
 use Rattle.wasi_causes.proofs.tables.Meets.{Meets, ends, asks, branch, Rows, chain, onto, widen, After, shifted}
 use Rattle.wasi_causes.proofs.tables.Routes.{Replied, Says, put_back, Names, here, code_word, not_of_code, in_conflict, no_conflict, none_conflicts, on_idle, on_number, its as found_in, apart, none_has}
@@ -7,13 +23,13 @@ use Rattle.wasi_causes.specs.Outcomes.{Conflicts}
 use Rattle.wasi_causes.specs.Polls.{ToldYes, ToldNo, BindToldCode, Polled, GoesOn, Stops, LocalToldYes, LocalToldNo, LocalToldCode, ListenToldCode}
 use Rattle.wasi_host.specs.Store.{put_back as answer_put}
 use Rattle.wasi_host.specs.declared.listening.Listening.TheVariants as listening
-use Rattle.wasi_host.specs.declared.socket.InProgress.{InProgress as Doing}
+use Rattle.wasi_host.specs.declared.binding.InProgress.{InProgress as Doing}
 use Rattle.wasi_walks.specs.Listens.{NotDefault as ListensLate, ListensAlready}
 use Rattle.wasi_steps.specs.declared.reply.CodeWord.TheVariants as word
 use Rattle.wasi_steps.specs.declared.reply.Reply.TheVariants as reply
 use Rattle.wasi_steps.specs.declared.step.Step.TheVariants as step
 use Rattle.wasi_tcp.specs.Socket.{bind_start}
-use Rattle.wasi_tcp.specs.declared.bind.Asker.{Asker}
+use Rattle.wasi_common.specs.declared.asker.Asker.{Asker}
 use Rattle.wasi_tcp.specs.declared.bind.BindStage.TheVariants as stage
 use Rattle.wasi_tcp.specs.declared.listen.ListenStage.TheVariants as listen_stage
 use Rattle.wasi_tcp.specs.declared.socket.TcpState.TheVariants.{Default}
@@ -55,6 +71,11 @@ module _ (own : OpId) (socket : Socket) where
   pub bounds : Meets (BoundRow own socket) [] (bound_asks own socket)
   bounds = branch socket.bound (λ e. ends (is_known e)) (λ unknown. asks_side socket.state refl unknown)
 
+nothing_is : (doing : Doing) → is_nothing doing ≡ true → Doing.Nothing ≡ doing
+nothing_is Doing.Nothing e = refl
+nothing_is (Doing.Binding op) e = absurd (cc)
+nothing_is (Doing.Started o) e = absurd (cc)
+
 -- == a bind
 module _ (m : Machine) (own : OpId) (handle place : ℕ) (r : Tcp2Socket) (n : Names m handle place r) (a : IpSocketAddress) where
   -- why it is refused, and what stands then
@@ -62,15 +83,19 @@ module _ (m : Machine) (own : OpId) (handle place : ℕ) (r : Tcp2Socket) (n : N
   BindRefused es w after = BindRefusal m own place r a es w after × ((after ≡ m) ⊎ ((w ≡ word.InvalidState) × KnowsBound m handle after))
 
   -- a bind as it was begun: it stands, or is done, or is refused
-  abbrev BindRow : Rows (Result (Option Operation) ErrorCode × Tcp2Socket)
-  BindRow es (Ok (Some op), now) = EndsPending own es
-  BindRow es (Ok None, now) = Unit {0}
+  abbrev BindRow : Rows (Result (Answer (Unit {0})) ErrorCode × Tcp2Socket)
+  BindRow es (Ok Pending, now) = EndsPending own es
+  BindRow es (Ok (Ready done), now) = Unit {0}
   BindRow es (Err code, now) = BindRefused es (word_of_code code) (putting m place now)
 
   stays : (es : List Entry) (code : ErrorCode) → BindRefusal m own place r a es (word_of_code code) m → BindRow es (Err code, r)
   stays es code cause = put_back (BindRefused es (word_of_code code)) m place r n.at (cause, inl refl)
 
-  module _ (side : OpId) (local : Told) (free : IsFree r.inner side local) where
+  -- with nothing in progress the record is as it was
+  stays_idle : is_nothing r.in_progress ≡ true → (es : List Entry) (code : ErrorCode) → BindRefusal m own place r a es (word_of_code code) m → BindRow es (Err code, with_progress r Doing.Nothing)
+  stays_idle idle es code cause = subst (λ (now : Tcp2Socket). BindRow es (Err code, now)) (ap (with_progress r) (sym (nothing_is r.in_progress idle))) (stays es code cause)
+
+  module _ (side : OpId) (local : Told) (free : IsFree r.inner side local) (idle : is_nothing r.in_progress ≡ true) where
     abbrev asked : Entry
     asked = entry own (call.Local side) local
 
@@ -82,21 +107,21 @@ module _ (m : Machine) (own : OpId) (handle place : ℕ) (r : Tcp2Socket) (n : N
     refused _ _ _ _ may (GoesOn _ _ _ _ _ (ToldYes _ _) (Stops _ _ _ _ (BindToldCode _ code))) = Failed side local code free may
     refused _ _ _ _ may (GoesOn _ _ _ _ _ (ToldYes _ _) (GoesOn _ _ _ _ _ passed row)) = absurd (not_over row)
 
-    ended : may_bind_to r.inner.family a ≡ true → (es : List Entry) (end : End × List Item) → After (Polled its.who its.left) (asked ∷ []) es end → BindRow es (bind_ended its r end)
+    ended : may_bind_to r.inner.family a ≡ true → (es : List Entry) (end : End × List Item) → After (Polled its.who its.left) (asked ∷ []) es end → BindRow es (bind_ended its (with_progress r (Doing.Binding its)) end)
     ended may es (Waits, items) k = let w = ends_so its.who its.left k.rest (Waits, items) k.row in record { front = asked ∷ w.front; last = w.last; cut = k.cut ∙ ap (λ (xs : List Entry). asked ∷ xs) w.cut; op = w.op; told = w.told }
     ended may es (Done given, items) k = tt
-    ended may es (Refused code given, items) k = stays es code (rw k.cut (refused k.rest code given items may k.row))
+    ended may es (Refused code given, items) k = stays_idle idle es code (rw k.cut (refused k.rest code given items may k.row))
 
     tested : (b : Bool) → may_bind_to r.inner.family a ≡ b → Meets BindRow (asked ∷ []) (bind_begun r (if b then Ok its else Err InvalidArgument, r.inner))
-    tested true may = onto (bind_ended its r) (widen (ended may) (shifted (asked ∷ []) (polled its (tt, (tt, tt)))))
+    tested true may = onto (bind_ended its (with_progress r (Doing.Binding its))) (widen (ended may) (shifted (asked ∷ []) (polled its (tt, (tt, tt)))))
     tested false e = ends (stays _ InvalidArgument (WrongAddress side local free e))
 
-  by_bound : (es : List Entry) (b : Bool × Socket) → BoundRow own r.inner es b → Meets BindRow es (bind_begun r (bind_start own b.1 a b.0, b.1))
-  by_bound _ _ (ItsBound es is) = ends (AlreadyBound es is, inr (refl, here n refl))
-  by_bound _ _ (ItsFree side local free) = subst (λ (st : TcpState). Meets BindRow (asked side local free ∷ []) (bind_begun r (bind_allowed own r.inner a st, r.inner))) (sym free.open_side) (tested side local free (may_bind_to r.inner.family a) refl)
+  by_bound : is_nothing r.in_progress ≡ true → (es : List Entry) (b : Bool × Socket) → BoundRow own r.inner es b → Meets BindRow es (bind_begun r (bind_start own b.1 a b.0, b.1))
+  by_bound idle _ _ (ItsBound es is) = ends (AlreadyBound es is, inr (refl, here n refl))
+  by_bound idle _ _ (ItsFree side local free) = subst (λ (st : TcpState). Meets BindRow (asked side local free idle ∷ []) (bind_begun r (bind_allowed own r.inner a st, r.inner))) (sym free.open_side) (tested side local free idle (may_bind_to r.inner.family a) refl)
 
-  bind_begins : Meets BindRow [] (begin_bind_asks own r a)
-  bind_begins = chain {Mid = λ es start. Meets BindRow es (bind_begun r start)} (onto _ (widen by_bound (bounds own r.inner))) (λ es start k. k)
+  bind_begins : is_nothing r.in_progress ≡ true → Meets BindRow [] (begin_bind_asks own r a)
+  bind_begins idle = chain {Mid = λ es start. Meets BindRow es (bind_begun r start)} (onto _ (widen (by_bound idle) (bounds own r.inner))) (λ es start k. k)
 
 -- == a connect
 module _ (m : Machine) (own : OpId) (handle place : ℕ) (r : Tcp2Socket) (n : Names m handle place r) (a : IpSocketAddress) where
@@ -221,16 +246,16 @@ module _ (contexts : List WasiSocketsCtx) (m : Machine) (line c handle : ℕ) wh
 
   module _ (network : ℕ) (a : IpSocketAddress) where
     -- == a bind
-    bind_said : (place : ℕ) (r : Tcp2Socket) (n : Names m handle place r) → is_nothing r.in_progress ≡ true → (es : List Entry) (ended : Result (Option Operation) ErrorCode × Tcp2Socket) → BindRow m own handle place r n a es ended → (Replied contexts m line (step.TcpStartBind c handle network a) (answer_reply line)) es (with_store m (bind_answered m.store line place ended))
-    bind_said place r n idle es (Ok (Some op), now) h = (λ is. no_conflict n idle _ (λ e. cc), ((refl, refl), h))
-    bind_said place r n idle es (Ok None, now) h = (λ is. no_conflict n idle _ (λ e. cc), (tt, tt))
+    bind_said : (place : ℕ) (r : Tcp2Socket) (n : Names m handle place r) → is_nothing r.in_progress ≡ true → (es : List Entry) (ended : Result (Answer (Unit {0})) ErrorCode × Tcp2Socket) → BindRow m own handle place r n a es ended → (Replied contexts m line (step.TcpStartBind c handle network a) (answer_reply line)) es (with_store m (call_answered m.store line (StandingCall.Bind place) ended))
+    bind_said place r n idle es (Ok Pending, now) h = (λ is. no_conflict n idle _ (λ e. cc), ((refl, refl), h))
+    bind_said place r n idle es (Ok (Ready done), now) h = (λ is. no_conflict n idle _ (λ e. cc), (tt, tt))
     bind_said place r n idle es (Err code, now) h = (λ is. no_code n idle code, (inr (code_word code), (here n (Begins idle h.0), h.1)))
 
     pub start_bind : Meets (Says contexts m line (step.TcpStartBind c handle network a)) [] (bind (start_bind_asks m own handle network a) (λ done. Give (answer_reply line done.0, done.1)))
     start_bind =
         onto _ (branch (is_network (kind_at m.table network))
         (λ is. on_idle m handle (start_bind_on m own a) (λ place o. start_bind_at m.store own place a o) (λ place r b. start_bind_by m.store own place a r b) refl (λ place. refl) (λ place. refl) (λ place r. refl) (λ place r. refl)
-        (λ none. (λ is. none_conflicts m handle _ none (λ e. cc), (inr none, refl, refl))) (λ place r n e. (λ is. in_conflict n e, (inl refl, (here n (InProgress e refl refl refl), inl refl)))) (λ place r n idle. onto _ (widen (bind_said place r n idle) (bind_begins m own handle place r n a))))
+        (λ none. (λ is. none_conflicts m handle _ none (λ e. cc), (inr none, refl, refl))) (λ place r n e. (λ is. in_conflict n e, (inl refl, (here n (InProgress e refl refl refl), inl refl)))) (λ place r n idle. onto _ (widen (bind_said place r n idle) (bind_begins m own handle place r n a idle))))
         (λ no. ends (λ is. absurd (cc), (inl no, refl, refl))))
 
     -- == a connect
@@ -246,7 +271,7 @@ module _ (contexts : List WasiSocketsCtx) (m : Machine) (line c handle : ℕ) wh
         (λ no. ends (λ is. absurd (cc), (inl no, refl, refl))))
 
   -- == a listen
-  listen_said : (place : ℕ) (r : Tcp2Socket) (n : Names m handle place r) → is_nothing r.in_progress ≡ true → (es : List Entry) (done : Result (Answer (Unit {0})) ErrorCode × Tcp2Socket) → ListenRow m own handle place r n es done → (Replied contexts m line (step.TcpStartListen c handle) (answer_reply line)) es (with_store m (listen_answered m.store line place done))
+  listen_said : (place : ℕ) (r : Tcp2Socket) (n : Names m handle place r) → is_nothing r.in_progress ≡ true → (es : List Entry) (done : Result (Answer (Unit {0})) ErrorCode × Tcp2Socket) → ListenRow m own handle place r n es done → (Replied contexts m line (step.TcpStartListen c handle) (answer_reply line)) es (with_store m (call_answered m.store line (StandingCall.Listen place) done))
   listen_said place r n idle es (Ok Pending, now) h = (no_conflict n idle _ (λ e. cc), ((refl, refl), h))
   listen_said place r n idle es (Ok (Ready done), now) h = (no_conflict n idle _ (λ e. cc), (tt, tt))
   listen_said place r n idle es (Err code, now) h = (no_code n idle code, (inr (code_word code), (here n (Begins idle h.0), h.1)))

@@ -1,6 +1,20 @@
 -- What the halves of a connection give: reads, and looks at what may be written, writes and flushes; and why an output waits
 -- that is dropped.
-use Rattle.wasi_causes.proofs.Words.{◌≡◌, ℕ, List, [], ◌∷◌, Option, Some, None, Result, Ok, slice_get, refl, ◌∙◌, min, ◌==◌, Bool, true, false, if◌then◌else◌, Err, ap, zero, suc, nat_lt, ◌++◌, length, sym, subst, append_assoc, arith, not, ◌&&◌, eqb-true, ltb-true, ltb-false, ⊤, IsSomeAnd, Receive, Send, ErrorCode, wait_answer, wait_writer, wait_put, wait_at, waited, drop_output_at, has_job, with_job, begins_job, input_at, own_of, output_at, Records, with_writer, standing_drop, with_socket, with_reader, reader_of, flush_asks, writer_of, read_asks, check_asks, write_asks, flushed_asks, Machine, Streams, Tcp2Socket, marks_in-push, set_there, putting, read_entry, ReadsTold, ReadsNone, LengthZero, ReadsEnd, AlreadyClosed, ToldNone, ReadFails, with_error, Permits, NotReady, IsUnpermitted, CheckFails, WriteFails, ErrorKept, CodeTold, output_streams, closing_writer, entry, marks_in, bytes_reply, permit_reply, taken_reply, WriterWaits, WritesOn, ToldToWait, OutputWaits, StreamStop, polled_answer, new_job, after_read, read_state_asks, collected, look_in, look_asks, permitted, check_write_asks, begun, write_on_asks, write_state_asks, TcpReceiveStream, TcpSendStream, ReadState, WriteState, bind, Give, Asks, IsRead, IsDone, Item, Write, Front, Again, Ends, End, Waits, Done, Refused, write_front, taken_front, less_one, after, round, polls, poll_asks, told_ready, ask_read, told_bytes, told_taken, Entry, Told, OpId, Answer, Ready, Pending, NotPermitted, WasiSocketsCtx}
+use Rattle.wasi_host.specs.declared.store.StandingCall.TheVariants.{DropOutput}
+use Rattle.wasi_causes.proofs.Words.{Again, AlreadyClosed, Answer, Asks, Bool, CheckFails, CodeTold, Done, End, Ends, Entry, Err, ErrorCode}
+use Rattle.wasi_causes.proofs.Words.{ErrorKept, Front, Give, IsDone, IsRead, IsSomeAnd, IsUnpermitted, Item, LengthZero, List, Machine, None}
+use Rattle.wasi_causes.proofs.Words.{NotPermitted, NotReady, Ok, OpId, Option, OutputWaits, Pending, Permits, ReadFails, ReadState, ReadsEnd}
+use Rattle.wasi_causes.proofs.Words.{ReadsNone, ReadsTold, Ready, Receive, Records, Refused, Result, Send, Some, StreamStop, Streams, Tcp2Socket}
+use Rattle.wasi_causes.proofs.Words.{TcpReceiveStream, TcpSendStream, Told, ToldNone, ToldToWait, Waits, WasiSocketsCtx, Write, WriteFails}
+use Rattle.wasi_causes.proofs.Words.{WriteState, WriterWaits, WritesOn, [], after, after_read, ap, append_assoc, arith, ask_read, begins_job, begun}
+use Rattle.wasi_causes.proofs.Words.{bind, bytes_reply, check_asks, check_write_asks, closing_writer, collected, drop_output_at, drop_waits, entry}
+use Rattle.wasi_causes.proofs.Words.{eqb-true, false, flush_asks, flushed_asks, has_job, if◌then◌else◌, input_at, length, less_one, look_asks}
+use Rattle.wasi_causes.proofs.Words.{look_in, ltb-false, ltb-true, marks_in, marks_in-push, min, nat_lt, new_job, not, output_at, output_streams}
+use Rattle.wasi_causes.proofs.Words.{own_of, permit_reply, permitted, poll_asks, polled_answer, polls, putting, read_asks, read_entry}
+use Rattle.wasi_causes.proofs.Words.{read_state_asks, reader_of, refl, round, set_there, slice_get, standing_as, subst, suc, sym, taken_front}
+use Rattle.wasi_causes.proofs.Words.{taken_reply, told_bytes, told_ready, told_taken, true, wait_answer, wait_at, wait_put, wait_writer, with_error}
+use Rattle.wasi_causes.proofs.Words.{with_job, with_reader, with_socket, with_writer, write_asks, write_front, write_on_asks, write_state_asks}
+use Rattle.wasi_causes.proofs.Words.{writer_of, zero, ℕ, ⊤, ◌&&◌, ◌++◌, ◌==◌, ◌∙◌, ◌∷◌, ◌≡◌}
 use Rattle.wasi_causes.proofs.operations.Marks.{poll_marks_none}
 use Rattle.wasi_causes.proofs.streams.Routes.{failed_so, HasStreams, of_streams, streams_same, Told as TellsStream, on_stream, the_streams, job_noted, none_begun, on_write}
 use Rattle.wasi_causes.proofs.tables.Meets.{Rows, Meets, ends, asks, onto, widen, chain, branch, both}
@@ -41,34 +55,39 @@ module _ (own : OpId) (writer : WriteState) where
   looks = looks_as (collected writer) refl
 
 -- == an output that goes
-module _ (m : Machine) (own : OpId) (place : ℕ) where
-  -- one that waits stands under its line's number, and else nothing stands
+module _ (store : Records) (own : OpId) (place : ℕ) where
+  -- the output of this record waits
+  abbrev WaitsThere : List Entry → Type 0
+  WaitsThere es = (m : Machine) → m.store.sockets ≡ store.sockets → OutputWaits m own (Some place) es
+
+  -- one that waits stands under its line's number, and else what stood does
   abbrev pub OutputRow : Rows (Answer (Unit {0}) × Records)
-  OutputRow es (Pending, store) = OutputWaits m own (Some place) es × (store.standing ≡ Some (standing_drop own.step place))
-  OutputRow es (Ready done, store) = LooksOnce own es × (store.standing ≡ None)
+  OutputRow es (Pending, now) = WaitsThere es × (now.standing ≡ Some (standing_as own.step (DropOutput place)))
+  OutputRow es (Ready done, now) = LooksOnce own es × (now.standing ≡ store.standing)
 
   abbrev WaitRow : Rows (Answer (Unit {0}) × Records)
-  WaitRow es (Pending, store) = OutputWaits m own (Some place) es
-  WaitRow es (Ready done, store) = LooksOnce own es
+  WaitRow es (Pending, now) = WaitsThere es × (now.standing ≡ store.standing)
+  WaitRow es (Ready done, now) = LooksOnce own es × (now.standing ≡ store.standing)
 
-  module _ (r : Tcp2Socket) (at : slice_get m.store.sockets place ≡ Some r) where
-    of_look : (s : Streams) → r.streams ≡ Some s → (es : List Entry) (looked : Result (Answer (Unit {0})) StreamStop × WriteState) → LookRow own s.writer es looked → WaitRow es (wait_put m.store place (wait_answer looked.0, with_writer r s looked.1))
-    of_look s has es (Ok Pending, now) k = record { place = place; found = r; streams = s; names = refl; at = at; has = has; holds = k }
-    of_look s has es (_, now) k = k
+  module _ (r : Tcp2Socket) (at : slice_get store.sockets place ≡ Some r) where
+    of_look : (s : Streams) → r.streams ≡ Some s → (es : List Entry) (looked : Result (Answer (Unit {0})) StreamStop × WriteState) → LookRow own s.writer es looked → WaitRow es (wait_put store place (wait_answer looked.0, with_writer r s looked.1))
+    of_look s has es (Ok Pending, now) k = (λ m same. record { place = place; found = r; streams = s; names = refl; at = ap (λ (rs : List Tcp2Socket). slice_get rs place) same ∙ at; has = has; holds = k }, refl)
+    of_look s has es (Ok (Ready done), now) k = (k, refl)
+    of_look s has es (Err why, now) k = (k, refl)
 
-    by_streams : (o : Option Streams) → r.streams ≡ o → Meets (λ es done. WaitRow es (wait_put m.store place done)) [] (wait_writer own r o)
-    by_streams None has = ends NoLook
+    by_streams : (o : Option Streams) → r.streams ≡ o → Meets (λ es done. WaitRow es (wait_put store place done)) [] (wait_writer own r o)
+    by_streams None has = ends (NoLook, refl)
     by_streams (Some s) has = onto _ (widen (of_look s has) (looks own s.writer))
 
-  waits_at : (o : Option Tcp2Socket) → slice_get m.store.sockets place ≡ o → Meets WaitRow [] (wait_at m.store own place o)
-  waits_at None at = ends NoLook
+  waits_at : (o : Option Tcp2Socket) → slice_get store.sockets place ≡ o → Meets WaitRow [] (wait_at store own place o)
+  waits_at None at = ends (NoLook, refl)
   waits_at (Some r) at = onto _ (by_streams r at r.streams refl)
 
-  waits : (es : List Entry) (done : Answer (Unit {0}) × Records) → WaitRow es done → OutputRow es (waited own.step place done)
-  waits es (Ready done, store) k = (k, refl)
-  waits es (Pending, store) k = (k, refl)
+  waits : (es : List Entry) (done : Answer (Unit {0}) × Records) → WaitRow es done → OutputRow es (drop_waits own.step place done)
+  waits es (Ready done, now) k = k
+  waits es (Pending, now) k = (k.0, refl)
 
-  pub outputs : (o : Option Tcp2Socket) → slice_get m.store.sockets place ≡ o → Meets OutputRow [] (drop_output_at m.store own place o)
+  pub outputs : (o : Option Tcp2Socket) → slice_get store.sockets place ≡ o → Meets OutputRow [] (drop_output_at store own place o)
   outputs o at = onto _ (widen waits (waits_at o at))
 
 -- == what a reader gives

@@ -1,5 +1,10 @@
 -- How a call finds its record, and how a handle is made: what every step shares that does so.
-use Rattle.wasi_causes.proofs.Words.{output_asks, streams_asks, marks_in-push, Input, Output, ◌↔◌, IsSomeAnd, ◌+◌, Bool, ◌≡◌, ◌≢◌, ◌∙◌, ℕ, zero, suc, true, false, List, [], ◌∷◌, ◌++◌, Option, Some, None, Result, Ok, Err, slice_get, slice_set, refl, sym, ap, subst, arith, ErrorCode, AccessDenied, OpId, Entry, Told, NoSuchHandle, Full, WasiSocketsCtx, IsDone, Asks, Give, bind, is_full, Kind, Machine, Tcp2Socket, Stop, Code, Trap, Handles, name_of, with_handle, make_asks, socket_at, no_such_handle, with_store, Records, with_socket, is_nothing, CodeWord, Reply, Step, record_in, record_at, putting, word_of_code, OfRecord, entry, marks_in}
+use Rattle.wasi_causes.proofs.Words.{AccessDenied, Asks, Bool, Code, CodeWord, Entry, Err, ErrorCode, Full, Give, Handles, Input, IsDone, IsSomeAnd}
+use Rattle.wasi_causes.proofs.Words.{Kind, List, Machine, NoSuchHandle, None, OfRecord, Ok, OpId, Option, Output, Records, Reply, Result, Some, Step}
+use Rattle.wasi_causes.proofs.Words.{Stop, Tcp2Socket, Told, Trap, WasiSocketsCtx, [], ap, arith, bind, entry, false, is_full, is_nothing, make_asks}
+use Rattle.wasi_causes.proofs.Words.{marks_in, marks_in-push, name_of, no_such_handle, output_asks, putting, record_at, record_in, refl, slice_get}
+use Rattle.wasi_causes.proofs.Words.{slice_set, socket_at, streams_asks, subst, suc, sym, true, with_handle, with_socket, with_store, word_of_code}
+use Rattle.wasi_causes.proofs.Words.{zero, ℕ, ◌++◌, ◌+◌, ◌↔◌, ◌∙◌, ◌∷◌, ◌≡◌, ◌≢◌}
 use Rattle.wasi_world.specs.declared.call.HandleKind.TheVariants as name
 use Rattle.wasi_world.specs.declared.call.Call.TheVariants as call
 use Rattle.wasi_world.specs.declared.call.Told.TheVariants as told

@@ -6,7 +6,7 @@ use Rattle.wasi_tcp.specs.declared.listener.Accepting.TheVariants as accepting
 use Rattle.wasi_tcp.specs.declared.socket.TcpState.TheVariants as state
 use Rattle.wasi_walks.proofs.walks.Runs.{each_entry}
 use Rattle.wasi_walks.proofs.fits.Polls.{Anything}
-use Rattle.wasi_laws.proofs.Words.{◌≡◌, ℕ, true, List, [], ◌∷◌, ◌++◌, Option, Some, None, Result, Ok, Err, refl, sym, ap, subst, ◌∙◌, slice_get, length, ◌+◌, Law, both, on_names, on_along, IpSocketAddress, SocketAddressFamily, ErrorCode, WasiSocketsCtx, OpId, Call, Told, Entry, Asks, bind, IsDoneOrCode, told_addr, told_done, Operation, End, Item, poll_asks, Allows, allows_then, allows_if, allows_weaker, WriteState, Job, job_after, Listener, HoldsAccept, IsAcceptOn, Socket, side_in, side_of, after_create, new_socket, new_asks, Kind, Tcp2, Not, Begins, Accepts, Streams, Tcp2Socket, Handles, make_asks, with_listening, own_of, side_at, created_asks, with_record, with_writer, Step, entry, told_same, FitListening, Base, Here, put, Found, NoBind, Held, Move, Spends, Used, Unused, Made, closed_record, made_so, Walks, Above, socket_of, Left, Machine, first_state, Reply, machine_asks, run, Own, Starts, Over, may_while, machine_walks, BaseBetween, first_base, base_starts, base_over}
+use Rattle.wasi_laws.proofs.Words.{Above, Accepts, Allows, Asks, Base, BaseBetween, Begins, Call, End, Entry, Err, ErrorCode, FitListening, Found, Handles, Held, Here, HoldsAccept, IpSocketAddress, IsAcceptOn, IsDoneOrCode, Item, Job, Kind, Law, Left, List, Listener, Machine, Made, Move, None, Not, Ok, OpId, Operation, Option, Over, Own, Reply, Result, Socket, SocketAddressFamily, Some, Spends, Starts, Step, Streams, Tcp2, Tcp2Socket, Told, Unused, Used, Walks, WasiSocketsCtx, WriteState, [], after_create, allows_if, allows_then, allows_weaker, ap, base_over, base_starts, bind, both, closed_record, created_asks, entry, first_base, first_state, job_after, length, machine_asks, machine_walks, made_so, make_asks, may_while, new_asks, new_socket, on_along, on_names, own_of, poll_asks, put, refl, run, side_at, side_in, side_of, slice_get, socket_of, subst, sym, told_addr, told_done, told_same, true, with_listening, with_record, with_writer, ℕ, ◌++◌, ◌+◌, ◌∙◌, ◌∷◌, ◌≡◌}
 use Rattle.wasi_laws.proofs.asks.Fronts.{is_calm, CalmOn, question_calm}
 use Rattle.wasi_laws.proofs.asks.Trees as tree
 use Rattle.wasi_laws.proofs.asks.Trees.{GoesOn, Undoes, Then, makes_by, turns_by, gives_up_by}
@@ -42,7 +42,7 @@ module _ (contexts : List WasiSocketsCtx) (line : ℕ) (origin : Step) where
     -- what is asked: a calm call; a create that is told done; a close
     pub asks : (es : List Entry) (h : Here) (op : OpId) (c : Call) → is_calm c ≡ true → IsAskedOn h c → Inv es h → Then P (λ fs. Inv fs h) es op c
     pub creates : (es : List Entry) (h : Here) (ctx : WasiSocketsCtx) (family : SocketAddressFamily) → h.own ≡ Unused → Grounds h → Inv es h → Inv (es ++ entry (own_of line) (call.TcpCreate ctx.name family) told.Done ∷ []) (creating h (own_of line) ctx family)
-    pub closes : (es : List Entry) (h : Here) (place : ℕ) (r now : Tcp2Socket) (op side : OpId) → NoBind h → Found h place r → Closing r now side → Grounds h → Inv es h → Then P (λ fs. Inv fs (put h place now)) es op (call.Close side)
+    pub closes : (es : List Entry) (h : Here) (place : ℕ) (r now : Tcp2Socket) (op side : OpId) → Found h place r → Closing r now side → Grounds h → Inv es h → Then P (λ fs. Inv fs (put h place now)) es op (call.Close side)
     -- what goes on: an operation, and a write
     pub polls : (es : List Entry) (h : Here) (op : Operation) (after : End × List Item → Here) → Held h op after → Grounds h → Inv es h → Allows P (λ fs ended. Inv fs (after ended)) es (poll_asks op)
     pub turns : (es : List Entry) (h : Here) (place : ℕ) (r : Tcp2Socket) (s : Streams) (job : Job) (now : Job → WriteState) → Found h place r → r.streams ≡ Some s → GoesOn s.writer job now → Grounds h → Inv es h
@@ -81,14 +81,14 @@ module _ (contexts : List WasiSocketsCtx) (line : ℕ) (origin : Step) where
         (marked fs now (Tcp2 (length h.machine.store.sockets)) None (Some (own_of line)) k.1) (λ gs made i. a.tables gs now made.1 h.made i))
 
     -- a listening that is given up
-    undoes : (es : List Entry) (h : Here) (place : ℕ) (r : Tcp2Socket) (op : OpId) (c : Call) → NoBind h → Found h place r → Undoes r.listening op c → Grounds h → Inv es h → Then P (λ fs. Inv fs (put h place (with_listening r Not))) es op c
-    undoes es h place r _ _ q g (tree.ClosesBegun op e) b i = a.closes es h place r _ op.who.id op.who.side q g (ClosesListen op e) b i
-    undoes es h place r _ _ q g (tree.RefusesArrival l op peer e d) b i =
+    undoes : (es : List Entry) (h : Here) (place : ℕ) (r : Tcp2Socket) (op : OpId) (c : Call) → Found h place r → Undoes r.listening op c → Grounds h → Inv es h → Then P (λ fs. Inv fs (put h place (with_listening r Not))) es op c
+    undoes es h place r _ _ g (tree.ClosesBegun op e) b i = a.closes es h place r _ op.who.id op.who.side g (ClosesListen op e) b i
+    undoes es h place r _ _ g (tree.RefusesArrival l op peer e d) b i =
         let its : IsAcceptOn l.side l.maker op = subst (HoldsAccept l.side l.maker) d (subst FitListening e (b.0.0.records place r g).1) in
         let listens : r.inner.state ≡ state.Listening l.side = subst (ListenerShape r.inner.state) e (b.1 place r g).1 in
         let x = on_record es h place r op.who.id op.who.side (call.Refuse op.who.side peer) g (ap side_in listens ∙ ap (λ (y : OpId). Some y) (sym its.of_side)) (record { calm = refl; on = refl }) b i in
         (x.0, λ told. a.stops _ h place r g (x.1 told))
-    undoes es h place r _ _ q g (tree.ClosesArrived l new peer e d) b i = a.closes es h place r _ new new q g (ClosesArrived l new peer e d) b i
+    undoes es h place r _ _ g (tree.ClosesArrived l new peer e d) b i = a.closes es h place r _ new new g (ClosesArrived l new peer e d) b i
 
     -- the law, and with it that the records have their shape
     single : Above contexts line origin (λ es h. Base contexts line origin h)
@@ -100,8 +100,8 @@ module _ (contexts : List WasiSocketsCtx) (line : ℕ) (origin : Step) where
       sets = λ es h place r side backlog at g s is b i. let x = on_record es h place r (own_of line) side (call.SetBacklog side backlog) g (ap side_in s) (record { calm = refl; on = refl }) (b, i.0) i.1 in (x.0, λ told f. (i.0, x.1 told));
       learns = λ es h place r side at g e b i.
           let x = on_record es h place r (own_of line) side (call.Local side) g (ap side_in e) (record { calm = refl; on = refl }) (b, i.0) i.1 in
-          (x.0, λ told f. (put_shape h place _ (rw (told_same r.inner (told_addr told)) (i.0 place r g)) i.0, a.same _ h place r _ g (record { side = refl; streams = refl; listening = refl; does = told_same r.inner (told_addr told) }) (x.1 told)));
-      closes = λ es h place r side q g e b i. let x = a.closes es h place r _ (own_of line) side q g (ClosesSocket side e) (b, i.0) i.1 in (x.0, λ told f. (put_shape h place (closed_record r) (tt, tt) i.0, x.1 told));
+          (x.0, λ told f. (put_shape h place _ (rw (told_same r.inner (told_addr told)) (i.0 place r g)) i.0, a.same _ h place r _ g (record { side = refl; streams = refl; listening = refl; does = told_same r.inner (told_addr told); doing = refl }) (x.1 told)));
+      closes = λ es h place r side q g e b i. let x = a.closes es h place r _ (own_of line) side g (ClosesSocket side e) (b, i.0) i.1 in (x.0, λ told f. (put_shape h place (closed_record r) (tt, tt) i.0, x.1 told));
       marks = λ es h kind parent sock m b i. allows_weaker P (λ fs made. Inv fs h) (λ fs made. Shaped h × Inv fs (record h { machine = record h.machine { table = made.1 } })) (λ fs made k. (i.0, a.tables fs h made.1 h.made k)) es _ (marked es h kind parent sock i.1);
       creates = λ es h ctx family c at u m b i.
           both P Anything _ _ es _ (allows_then P (Created h ctx family) (λ fs done. Inv fs (record h { machine = done.1; own = Used })) es (new_asks (own_of line) ctx family) (created_asks h.machine (own_of line)) (created es h ctx family u (b, i.0) i.1) (λ fs made k. joins fs h ctx family made u k (b, i.0)))
@@ -110,11 +110,11 @@ module _ (contexts : List WasiSocketsCtx) (line : ℕ) (origin : Step) where
           allows_weaker P (λ fs made. Inv fs h) (λ fs made. Shaped h × Inv fs (record h { machine = record h.machine { table = made.1 }; made = made_so place made.0 })) (λ fs made k. (i.0, a.tables fs h made.1 (made_so place made.0) k)) es _
           (marked es h (Tcp2 place) (Some listener) (side_at (slice_get h.machine.store.sockets place)) i.1);
       polls = λ es h op after k b i. both P Anything _ _ es _ (a.polls es h op after k (b, i.0) i.1) (polls_shape contexts line origin es h op after k i.0);
-      turns = λ es h place r s g e b i. both P Anything _ _ es _ (turns_by P (λ fs w. Inv fs (put h place (with_writer r s w))) es s.writer (a.same es h place r (with_writer r s s.writer) g (record { side = refl; streams = sym e; listening = refl; does = refl }) i.1)
+      turns = λ es h place r s g e b i. both P Anything _ _ es _ (turns_by P (λ fs w. Inv fs (put h place (with_writer r s w))) es s.writer (a.same es h place r (with_writer r s s.writer) g (record { side = refl; streams = sym e; listening = refl; does = refl; doing = refl }) i.1)
           (λ job now on. a.turns es h place r s job now g e on (b, i.0) i.1)) (turns_shape contexts line origin es h place r s g e i.0);
-      gives_up = λ es h place r q g b i. let k = i.0 place r g in let now = put h place (with_listening r Not) in
+      gives_up = λ es h place r g b i. let k = i.0 place r g in let now = put h place (with_listening r Not) in
           allows_weaker P (λ fs done. Inv fs now) (λ fs done. Shaped now × Inv fs now) (λ fs done m. (put_shape h place (with_listening r Not) (k.0, tt) i.0, m)) es _
-          (gives_up_by P (λ fs. Inv fs now) es (a.stops es h place r g i.1) r.inner.state r.listening k.1 (λ op c u. undoes es h place r op c q g u (b, i.0) i.1));
+          (gives_up_by P (λ fs. Inv fs now) es (a.stops es h place r g i.1) r.inner.state r.listening k.1 (λ op c u. undoes es h place r op c g u (b, i.0) i.1));
     }
 
     -- what it says of a tree

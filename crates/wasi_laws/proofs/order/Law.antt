@@ -6,15 +6,14 @@ use Rattle.wasi_world.specs.declared.call.Told.TheVariants as told
 use Rattle.wasi_tcp.specs.declared.listener.Accepting.TheVariants as accepting
 use Rattle.wasi_tcp.specs.declared.writer.WriteState.TheVariants as writing
 use Rattle.wasi_tcp.specs.declared.accept.AcceptStage.TheVariants as accept
-use Rattle.wasi_tcp.specs.declared.bind.BindStage.TheVariants.{Check}
 use Rattle.wasi_tcp.specs.declared.socket.TcpState.TheVariants as state
-use Rattle.wasi_walks.proofs.walks.Moves.{Ends}
-use Rattle.wasi_laws.proofs.Words.{if◌then◌else◌, nat_lt, ◌≡◌, ℕ, ◌+◌, ◌≤◌, Bool, true, false, List, [], ◌∷◌, ◌++◌, Option, Some, None, refl, sym, ap, subst, ◌∙◌, arith, slice_set, IpSocketAddress, WasiSocketsCtx, OpId, Call, Told, Entry, Asks, Left, Operation, End, Waits, Done, Item, Write, poll_asks, Given, Connection, is_same, Allows, allows_weaker, Accepting, TcpState, WriteState, accept_operation, bind_operation, connect_first, connect_left, connect_operation, with_state, connect_ended, Job, job_after, new_job, then_closed, accept_ended, arrived, new_socket, written_by, closed_by, Listening, Machine, Streams, Tcp2Socket, Standing, own_of, first_state, standing_listen, standing_bind, standing_drop, left_of, new_record, with_inner, with_writer, Reply, Step, entry, run, next_of, Held, InHand, Connects, Listens, Awaits, Own, Used, Unused, ToWrite, Here, put, Found, WriterMoves, Collects, Permits, Lasts, LastsAfter, Closes, Move, Spends, Changes, ClosesReader, Writes, IsGone, Reconnects, Opens, BeginsConnect, BeginsBind, BeginsWrite, BeginsListen, BeginsAccept, Unlistens, Forgets, Joins, StandsListen, StandsDrop, Unstands, Stands, Resumes, listen_after, accepting_now, joined, joining, begun_listen, beginning_listen, new_accept, second_of, Starts, ChecksFirst, asked_by}
+use Rattle.wasi_host.specs.declared.binding.InProgress.TheVariants as progress
+use Rattle.wasi_laws.proofs.Words.{Accepting, Allows, Asks, Awaits, BeginsAccept, BeginsBind, BeginsConnect, BeginsListen, BeginsWrite, BindsOn, Bool, Call, Changes, ChecksFirst, Closes, ClosesReader, Collects, Connection, Connects, Done, End, Entry, Forgets, Found, Given, Held, Here, InProgress, IpSocketAddress, IsGone, Item, Job, Joins, KeepsBinding, Lasts, LastsAfter, Left, List, Listening, Listens, Machine, Move, OpId, Opens, Operation, Option, Own, Permits, Plain, Reconnects, Refused, Reply, Some, Spends, Starts, Step, Streams, Tcp2Socket, TcpState, ToWrite, Told, Unlistens, Unused, Used, Waits, WasiSocketsCtx, Write, WriteState, WriterMoves, Writes, [], accept_ended, accept_operation, accepting_now, allows_weaker, ap, arith, arrived, asked_by, beginning_listen, begun_bind, begun_listen, bind_progress, closed_by, connect_ended, connect_first, connect_left, connect_operation, entry, false, first_state, if◌then◌else◌, inl, inr, is_same, job_after, joined, joining, listen_after, nat_lt, new_accept, new_job, new_record, new_socket, next_of, own_of, poll_asks, put, refl, run, second_of, slice_set, subst, sym, then_closed, true, with_inner, with_progress, with_state, with_writer, written_by, ℕ, ◌++◌, ◌+◌, ◌∙◌, ◌∷◌, ◌≡◌, ◌≤◌}
 use Rattle.wasi_laws.proofs.asks.Single.{each_ask, Single, Closing, ClosesSocket, ClosesListen, ClosesArrived, creating}
 use Rattle.wasi_laws.proofs.asks.Trees.{GoesOn, InWriting, InClosing}
 use Rattle.wasi_laws.proofs.shapes.Shape.{same_side, Same}
 use Rattle.wasi_laws.proofs.order.Ordered.{Asked, gone_after, gone_along, gone_push, calm_may, asked_first, asked_one}
-use Rattle.wasi_laws.proofs.order.Weights.{checks_of, if_ours, op_weight, state_ops, accept_ops, listening_ops, writer_ops, streams_ops, standing_ops, hand_ops, total, half, record_weight, sockets_weight, half_sockets, sockets_push, beside, weight}
+use Rattle.wasi_laws.proofs.order.Weights.{checks_of, if_ours, op_weight, state_ops, accept_ops, listening_ops, writer_ops, streams_ops, progress_ops, total, half, record_weight, sockets_weight, half_sockets, sockets_push, beside, weight}
 use Rattle.wasi_laws.proofs.order.Polls.{Within, poll_kept}
 
 -- 1 up to the line of this number: its operations may still begin
@@ -92,7 +91,8 @@ module _ (it : OpId) where
         let x : total ours (state_ops now.inner.state) i ≡ total ours (state_ops r.inner.state) i = ap (λ (t : TcpState). total ours (state_ops t) i) s.does in
         let y : total ours (listening_ops now.listening) i ≡ total ours (listening_ops r.listening) i = ap (λ (t : Listening). total ours (listening_ops t) i) s.listening in
         let z : total ours (streams_ops now.streams) i ≡ total ours (streams_ops r.streams) i = ap (λ (t : Option Streams). total ours (streams_ops t) i) s.streams in
-        omega (arith, x, y, z)
+        let w : total ours (progress_ops now.in_progress) i ≡ total ours (progress_ops r.in_progress) i = ap (λ (t : InProgress). total ours (progress_ops t) i) s.doing in
+        omega (arith, x, y, z, w)
 
     written_less : (job : Job) (e : End) (i : Bool) → total ours (writer_ops (written_by job e)) i ≤ total ours (job.write ∷ []) i
     written_less job Waits i = omega arith
@@ -129,30 +129,39 @@ module _ (it : OpId) where
     begun_connect any a true = omega arith
     begun_connect any a false = omega arith
 
-    -- another call stands, or another bind is in hand
-    restands : (es : List Entry) (h : Here) (o : Option Standing) (hand : Option Operation) → ((i : Bool) → total ours (standing_ops o) i + total ours (hand_ops hand) i ≤ total ours (standing_ops h.machine.store.standing) i + total ours (hand_ops h.hand) i) → Kept line es h
-        → Kept line es (record h { machine = record h.machine { store = record h.machine.store { standing = o } }; hand = hand })
-    restands es h o hand l k = lighter es h (record h { machine = record h.machine { store = record h.machine.store { standing = o } }; hand = hand }) (λ i. let p = l i in omega (arith, p)) (omega arith) k
+    -- another is in progress
+    kept_ops : (old now : InProgress) → KeepsBinding old now → (i : Bool) → total ours (progress_ops now) i ≤ total ours (progress_ops old) i
+    kept_ops old now (inl e) i = let x : total ours (progress_ops now) i ≡ total ours (progress_ops old) i = ap (λ (d : InProgress). total ours (progress_ops d) i) e in omega (arith, x)
+    kept_ops old (progress.Binding op) (inr k) i = absurd k.1
+    kept_ops old progress.Nothing (inr k) i = omega arith
+    kept_ops old (progress.Started o) (inr k) i = omega arith
+
+    changed_less : (r now : Tcp2Socket) → Plain r now → (i : Bool) → record_weight ours now i ≤ record_weight ours r i
+    changed_less r now p i =
+        let x : total ours (state_ops now.inner.state) i ≡ total ours (state_ops r.inner.state) i = ap (λ (t : TcpState). total ours (state_ops t) i) p.does in
+        let y : total ours (listening_ops now.listening) i ≡ total ours (listening_ops r.listening) i = ap (λ (t : Listening). total ours (listening_ops t) i) p.listening in
+        let z : total ours (streams_ops now.streams) i ≡ total ours (streams_ops r.streams) i = ap (λ (t : Option Streams). total ours (streams_ops t) i) p.streams in
+        let w = kept_ops r.in_progress now.in_progress p.binds i in
+        omega (arith, x, y, z, w)
 
     -- == moves
     module _ {origin : Step} where
       moves : (es : List Entry) (h now : Here) → Move line origin h now → Kept line es h → Kept line es now
       moves es _ _ (Spends h e) k = lighter es h (record h { own = Used }) (λ i. omega arith) (less_room h.own) k
-      moves es _ _ (Changes h place r now g p) k = put_kept es h place r now g (same_weight r now (record { side = p.side; streams = p.streams; listening = p.listening; does = p.does })) k
+      moves es _ _ (Changes h place r now g p) k = put_kept es h place r now g (changed_less r now p) k
       moves es _ _ (ClosesReader h place r s g e) k = put_kept es h place r _ g (λ i. let x = streams_are r s i e in omega (arith, x)) k
       moves es _ _ (Writes h place r s w g e m) k = put_kept es h place r _ g (λ i. let x = streams_are r s i e in let y = writer_less s.writer w m i in omega (arith, x, y)) k
-      moves es _ _ (IsGone h place r g e) k = put_kept es h place r _ g (λ i. omega arith) k
+      moves es _ _ (IsGone h place r q g e) k = put_kept es h place r _ g (λ i. omega arith) k
       moves es _ _ (Reconnects h place r c now g e s t u) k = put_kept es h place r _ g (λ i. omega arith) k
-      moves es _ _ (Opens h place r c g e n) k = put_kept es h place r _ g (λ i. omega arith) k
-      moves es _ _ (BeginsConnect h place r side a bound at g d to known own) k =
+      moves es _ _ (Opens h place r c d g e n) k = put_kept es h place r _ g (λ i. omega arith) k
+      moves es _ _ (BeginsConnect h place r side a bound at g d to known idle own) k =
           let op = connect_operation (record { op = own_of line; side = side; maker = r.inner.maker }) (wildcard r.inner.family) a (connect_first bound) in
           put_begins es h place r (with_inner r (with_state r.inner (state.Connecting op))) op g (ap (next_of line) own) refl (begun_connect (wildcard r.inner.family) a bound) (λ i. omega arith) k
-      moves es _ _ (BeginsBind h place r side a at g d to own) k =
-          let op = bind_operation (record { op = own_of line; side = side; maker = r.inner.maker }) a Check in
-          begins es h (record h { hand = Some op }) op (ap (next_of line) own) refl (omega arith) (λ i. omega arith) k
+      moves es _ _ (BeginsBind h place r side a at g d to idle own) k =
+          let op = begun_bind (own_of line) side r a in put_begins es h place r (with_progress r (progress.Binding op)) op g (ap (next_of line) own) refl (omega arith) (λ i. omega arith) k
       moves es _ _ (BeginsWrite h place r s ready permit bytes at g e w within own) k =
           let job = new_job (own_of line) ready.side bytes in put_begins es h place r (with_writer r s (writing.Writing job)) job.write g (ap (next_of line) own) refl (omega arith) (λ i. omega arith) k
-      moves es _ _ (BeginsListen h place r side at g d bound none to own) k = put_begins es h place r (beginning_listen (own_of line) side r) (begun_listen (own_of line) side r) g (ap (next_of line) own) refl (omega arith) (λ i. omega arith) k
+      moves es _ _ (BeginsListen h place r side at g d bound none to idle own) k = put_begins es h place r (beginning_listen (own_of line) side r) (begun_listen (own_of line) side r) g (ap (next_of line) own) refl (omega arith) (λ i. omega arith) k
       moves es _ _ (BeginsAccept h place r l at g e a own) k =
           let op = accept_operation (record { op = second_of line; side = l.side; maker = l.maker }) accept.Accept in
           put_begins es h place r (accepting_now r l (new_accept line l)) op g (ap (next_of line) own) refl (omega arith) (λ i. omega arith) k
@@ -162,12 +171,6 @@ module _ (it : OpId) where
           let idle : Tcp2Socket = accepting_now r l accepting.Idle in
           let m = put_kept es h place r idle g (λ i. omega arith) k in
           lighter es (put h place idle) (joining h (slice_set h.machine.store.sockets place idle) (joined l new peer)) (λ i. let z = sockets_push ours (slice_set h.machine.store.sockets place idle) (joined l new peer) i in omega (arith, z)) (omega arith) m
-      moves es _ _ (StandsListen h n place r f) k = restands es h (Some (standing_listen n place)) h.hand (λ i. omega arith) k
-      moves es _ _ (StandsDrop h n place r at g) k = restands es h (Some (standing_drop n place)) h.hand (λ i. omega arith) k
-      moves es _ _ (Unstands h) k = restands es h None h.hand (λ i. omega arith) k
-      moves es _ _ (Stands h n place r op f e) k = restands es h (Some (standing_bind n place op)) None (λ i. let x : total ours (hand_ops h.hand) i ≡ total ours (op ∷ []) i = ap (λ (o : Option Operation). total ours (hand_ops o) i) e in omega (arith, x)) k
-      moves es _ _ (Resumes h n place op e) k = restands es h None (Some op) (λ i. let x : total ours (standing_ops h.machine.store.standing) i ≡ total ours (op ∷ []) i = ap (λ (o : Option Standing). total ours (standing_ops o) i) e in omega (arith, x)) k
-      moves es _ _ (Ends h) k = restands es h h.machine.store.standing None (λ i. omega arith) k
       -- the others leave all that is looked at
       moves es _ _ _ k = k
 
@@ -181,19 +184,25 @@ module _ (it : OpId) where
         (poll_kept ours others half (room line h.own) op es (omega (arith, x, u), omega (arith, y, v)))
 
     -- of a record, beside these other parts of it
-    polled : (es : List Entry) (h : Here) (place : ℕ) (r : Tcp2Socket) (op : Operation) (now : End × List Item → Tcp2Socket) (ops more : List Operation) → Found h place r → ((i : Bool) → record_weight ours r i ≡ total ours ops i + total ours more i + op_weight ours op.who.id op.left i)
-        → ((ended : End × List Item) (i : Bool) → record_weight ours (now ended) i ≤ total ours ops i + total ours more i + op_weight ours op.who.id ended.1 i) → Kept line es h → Allows (Asked ours) (λ fs ended. Kept line fs (put h place (now ended))) es (poll_asks op)
-    polled es h place r op now ops more g was less k =
-        let b = beside ours h.machine.store.sockets place r g in
-        held es h op (λ ended. put h place (now ended)) (λ i. b.others i + (total ours ops i + total ours more i) + (total ours (standing_ops h.machine.store.standing) i + total ours (hand_ops h.hand) i))
-        (let x = b.halved in let y = half ours ops in let z = half ours more in let u = half ours (standing_ops h.machine.store.standing) in let v = half ours (hand_ops h.hand) in omega (arith, x, y, z, u, v))
-        (λ i. let x = b.was i in let y = was i in omega (arith, x, y)) (λ ended i. let x = b.now (now ended) i in let y = less ended i in omega (arith, x, y)) (λ ended. refl) k
+    polled : (es : List Entry) (h : Here) (place : ℕ) (r : Tcp2Socket) (op : Operation) (now : End × List Item → Tcp2Socket) (a b c : List Operation) → Found h place r
+        → ((i : Bool) → record_weight ours r i ≡ total ours a i + total ours b i + total ours c i + op_weight ours op.who.id op.left i)
+        → ((ended : End × List Item) (i : Bool) → record_weight ours (now ended) i ≤ total ours a i + total ours b i + total ours c i + op_weight ours op.who.id ended.1 i) → Kept line es h
+        → Allows (Asked ours) (λ fs ended. Kept line fs (put h place (now ended))) es (poll_asks op)
+    polled es h place r op now a b c g was less k =
+        let e = beside ours h.machine.store.sockets place r g in
+        held es h op (λ ended. put h place (now ended)) (λ i. e.others i + (total ours a i + total ours b i + total ours c i)) (let w = e.halved in let x = half ours a in let y = half ours b in let z = half ours c in omega (arith, w, x, y, z))
+        (λ i. let x = e.was i in let y = was i in omega (arith, x, y)) (λ ended i. let x = e.now (now ended) i in let y = less ended i in omega (arith, x, y)) (λ ended. refl) k
 
     ended_weighs : (op : Operation) (end : End × List Item) (i : Bool) → total ours (state_ops (connect_ended op.who end).1) i ≤ op_weight ours op.who.id end.1 i
     ended_weighs op (Waits, items) i = omega arith
     ended_weighs op (_, items) i = omega arith
 
-    listened_weighs : (op : Operation) (r : Tcp2Socket) (end : End × List Item) (i : Bool) → record_weight ours (listen_after op r end) i ≤ total ours (state_ops r.inner.state) i + total ours (streams_ops r.streams) i + op_weight ours op.who.id end.1 i
+    bound_weighs : (op : Operation) (end : End × List Item) (i : Bool) → total ours (progress_ops (bind_progress op end)) i ≤ op_weight ours op.who.id end.1 i
+    bound_weighs op (Waits, items) i = omega arith
+    bound_weighs op (Done given, items) i = omega arith
+    bound_weighs op (Refused c given, items) i = omega arith
+
+    listened_weighs : (op : Operation) (r : Tcp2Socket) (end : End × List Item) (i : Bool) → record_weight ours (listen_after op r end) i ≤ total ours (state_ops r.inner.state) i + total ours (streams_ops r.streams) i + total ours (progress_ops r.in_progress) i + op_weight ours op.who.id end.1 i
     listened_weighs op r (Waits, items) i = omega arith
     listened_weighs op r (_, items) i = omega arith
 
@@ -206,16 +215,16 @@ module _ (it : OpId) where
     awaited_weighs op (_, items) i = omega arith
 
     polls : (es : List Entry) (h : Here) (op : Operation) (after : End × List Item → Here) → Held h op after → Kept line es h → Allows (Asked ours) (λ fs ended. Kept line fs (after ended)) es (poll_asks op)
-    polls es h _ _ (InHand op e) k =
-        held es h op (λ ended. record h { hand = Some (left_of op ended.1) }) (λ i. sockets_weight ours h.machine.store.sockets i + total ours (standing_ops h.machine.store.standing) i) (let x = half_sockets ours h.machine.store.sockets in let y = half ours (standing_ops h.machine.store.standing) in omega (arith, x, y))
-        (λ i. let x : total ours (hand_ops h.hand) i ≡ total ours (op ∷ []) i = ap (λ (o : Option Operation). total ours (hand_ops o) i) e in omega (arith, x)) (λ ended i. omega arith) (λ ended. refl) k
-    polls es h _ _ (Connects place r op q g e) k =
-        polled es h place r op _ (listening_ops r.listening) (streams_ops r.streams) g (λ i. let z : total ours (state_ops r.inner.state) i ≡ total ours (op ∷ []) i = ap (λ (t : TcpState). total ours (state_ops t) i) e in omega (arith, z))
+    polls es h _ _ (BindsOn place r op q g e) k =
+        polled es h place r op (λ ended. with_progress r (bind_progress op ended)) (state_ops r.inner.state) (listening_ops r.listening) (streams_ops r.streams) g
+        (λ i. let z : total ours (progress_ops r.in_progress) i ≡ total ours (op ∷ []) i = ap (λ (t : InProgress). total ours (progress_ops t) i) e in omega (arith, z)) (λ ended i. let l = bound_weighs op ended i in omega (arith, l)) k
+    polls es h _ _ (Connects place r op g e) k =
+        polled es h place r op _ (listening_ops r.listening) (streams_ops r.streams) (progress_ops r.in_progress) g (λ i. let z : total ours (state_ops r.inner.state) i ≡ total ours (op ∷ []) i = ap (λ (t : TcpState). total ours (state_ops t) i) e in omega (arith, z))
         (λ ended i. let l = ended_weighs op ended i in omega (arith, l)) k
     polls es h _ _ (Listens place r op q g e c) k =
-        polled es h place r op _ (state_ops r.inner.state) (streams_ops r.streams) g (λ i. let z : total ours (listening_ops r.listening) i ≡ total ours (op ∷ []) i = ap (λ (t : Listening). total ours (listening_ops t) i) e in omega (arith, z)) (listened_weighs op r) k
+        polled es h place r op _ (state_ops r.inner.state) (streams_ops r.streams) (progress_ops r.in_progress) g (λ i. let z : total ours (listening_ops r.listening) i ≡ total ours (op ∷ []) i = ap (λ (t : Listening). total ours (listening_ops t) i) e in omega (arith, z)) (listened_weighs op r) k
     polls es h _ _ (Awaits place r l op g e a) k =
-        polled es h place r op _ (state_ops r.inner.state) (streams_ops r.streams) g
+        polled es h place r op _ (state_ops r.inner.state) (streams_ops r.streams) (progress_ops r.in_progress) g
         (λ i. let z : total ours (listening_ops r.listening) i ≡ total ours (op ∷ []) i = ap (λ (t : Listening). total ours (listening_ops t) i) e ∙ ap (λ (t : Accepting). total ours (accept_ops t) i) a in omega (arith, z)) (λ ended i. let l = awaited_weighs op ended i in omega (arith, l)) k
 
     writes : (w : WriteState) (job : Job) (now : Job → WriteState) → GoesOn w job now → (i : Bool) → (total ours (writer_ops w) i ≡ op_weight ours job.write.who.id job.write.left i) × ((ended : End × List Item) → total ours (writer_ops (now (job_after job.write.who ended))) i ≡ op_weight ours job.write.who.id ended.1 i)
@@ -232,10 +241,10 @@ module _ (it : OpId) where
       creates = λ es h ctx family u b k.
           let now = creating h (own_of line) ctx family in
           after es now (own_of line) (call.TcpCreate ctx.name family) told.Done refl (lighter es h now (λ i. let x = sockets_push ours h.machine.store.sockets (new_record (new_socket (own_of line) ctx.name family)) i in omega (arith, x)) (less_room h.own) k);
-      closes = λ es h place r now op side q g c b k. (tt, λ told. after es (put h place now) op (call.Close side) told refl (put_kept es h place r now g (closed_less_record r now side c) k));
+      closes = λ es h place r now op side g c b k. (tt, λ told. after es (put h place now) op (call.Close side) told refl (put_kept es h place r now g (closed_less_record r now side c) k));
       polls = λ es h op now x b k. polls es h op now x k;
       turns = λ es h place r s job now g e on b k.
-          polled es h place r job.write (λ ended. with_writer r s (now (job_after job.write.who ended))) (state_ops r.inner.state) (listening_ops r.listening) g (λ i. let x = streams_are r s i e in let y = (writes s.writer job now on i).0 in omega (arith, x, y))
+          polled es h place r job.write (λ ended. with_writer r s (now (job_after job.write.who ended))) (state_ops r.inner.state) (listening_ops r.listening) (progress_ops r.in_progress) g (λ i. let x = streams_are r s i e in let y = (writes s.writer job now on i).0 in omega (arith, x, y))
           (λ ended i. let y = (writes s.writer job now on i).1 ended in omega (arith, y)) k;
     }
       where

@@ -3,9 +3,9 @@ use Rattle.wasi_tcp.specs.declared.socket.TcpState.TheVariants as state
 use Rattle.wasi_tcp.specs.declared.listener.Accepting.TheVariants as accepting
 use Rattle.wasi_tcp.specs.declared.writer.WriteState.TheVariants as writing
 use Rattle.wasi_host.specs.declared.listening.Listening.TheVariants as listening
-use Rattle.wasi_host.specs.declared.store.StandingCall.{StandingCall}
-use Rattle.wasi_host.specs.declared.store.StandingCall.TheVariants as standing
-use Rattle.wasi_laws.proofs.Words.{◌≡◌, ℕ, zero, suc, ◌+◌, ◌≤◌, Bool, true, false, List, [], ◌∷◌, ◌++◌, Option, Some, None, slice_get, slice_set, ap, arith, OpId, Item, Check, CheckLocal, Bind, Connect, Listen, Accept, CheckArrival, Refuse, Receive, CheckPeer, Operation, TcpState, Accepting, WriteState, Listening, Streams, Tcp2Socket, Standing, Here}
+use Rattle.wasi_host.specs.declared.binding.InProgress.{InProgress}
+use Rattle.wasi_host.specs.declared.binding.InProgress.TheVariants as progress
+use Rattle.wasi_laws.proofs.Words.{Accept, Accepting, Bind, Bool, Check, CheckArrival, CheckLocal, CheckPeer, Connect, Here, Item, List, Listen, Listening, None, OpId, Operation, Option, Receive, Refuse, Some, Streams, Tcp2Socket, TcpState, WriteState, [], ap, arith, false, slice_get, slice_set, suc, true, zero, ℕ, ◌++◌, ◌+◌, ◌∷◌, ◌≡◌, ◌≤◌}
 
 -- == the checks that are left
 -- what an item is to the checks of an operation: one, what they come before, or nothing
@@ -91,17 +91,9 @@ abbrev pub streams_ops : Option Streams → List Operation
 streams_ops None = []
 streams_ops (Some s) = writer_ops s.writer
 
-abbrev pub call_ops : StandingCall → List Operation
-call_ops (standing.Bind place op) = op ∷ []
-call_ops _ = []
-
-abbrev pub standing_ops : Option Standing → List Operation
-standing_ops None = []
-standing_ops (Some s) = call_ops s.call
-
-abbrev pub hand_ops : Option Operation → List Operation
-hand_ops None = []
-hand_ops (Some op) = op ∷ []
+abbrev pub progress_ops : InProgress → List Operation
+progress_ops (progress.Binding op) = op ∷ []
+progress_ops _ = []
 
 module _ (ours : OpId → Bool) where
   abbrev pub total : List Operation → Bool → ℕ
@@ -114,7 +106,7 @@ module _ (ours : OpId → Bool) where
   half (op ∷ ops) = let a = half_if (ours op.who.id) op.left in let b = half ops in omega (arith, a, b)
 
   abbrev pub record_weight : Tcp2Socket → Bool → ℕ
-  record_weight r i = total (state_ops r.inner.state) i + (total (listening_ops r.listening) i + total (streams_ops r.streams) i)
+  record_weight r i = total (state_ops r.inner.state) i + (total (listening_ops r.listening) i + (total (streams_ops r.streams) i + total (progress_ops r.in_progress) i))
 
   abbrev pub sockets_weight : List Tcp2Socket → Bool → ℕ
   sockets_weight [] i = 0
@@ -122,7 +114,7 @@ module _ (ours : OpId → Bool) where
 
   pub half_sockets : (rs : List Tcp2Socket) → sockets_weight rs true ≤ sockets_weight rs false + sockets_weight rs false
   half_sockets [] = omega arith
-  half_sockets (r ∷ rs) = let a = half (state_ops r.inner.state) in let b = half (listening_ops r.listening) in let c = half (streams_ops r.streams) in let d = half_sockets rs in omega (arith, a, b, c, d)
+  half_sockets (r ∷ rs) = let a = half (state_ops r.inner.state) in let b = half (listening_ops r.listening) in let c = half (streams_ops r.streams) in let p = half (progress_ops r.in_progress) in let d = half_sockets rs in omega (arith, a, b, c, p, d)
 
   pub sockets_push : (rs : List Tcp2Socket) (r : Tcp2Socket) (i : Bool) → sockets_weight (rs ++ r ∷ []) i ≡ sockets_weight rs i + record_weight r i
   sockets_push [] r i = omega arith
@@ -149,4 +141,4 @@ module _ (ours : OpId → Bool) where
 
   -- what a line weighs
   abbrev pub weight : Here → Bool → ℕ
-  weight h i = sockets_weight h.machine.store.sockets i + (total (standing_ops h.machine.store.standing) i + total (hand_ops h.hand) i)
+  weight h i = sockets_weight h.machine.store.sockets i

@@ -11,11 +11,11 @@ use Rattle.wasi_tcp.specs.Connect as connect
 use Rattle.wasi_tcp.specs.Listen as listen
 use Rattle.wasi_walks.specs.Waiting.{IsLeftOfBind}
 use Rattle.wasi_walks.specs.Waiting as binding
-use Rattle.wasi_laws.proofs.Words.{rules, ◌≡◌, inl, inr, ℕ, Bool, true, false, if◌then◌else◌, List, [], ◌∷◌, ◌++◌, Option, Some, None, refl, sym, ap, subst, ◌∙◌, slice_set, append-nil, append_assoc, ⊤, SocketAddressFamily, WasiSocketsCtx, OpId, Call, Told, Entry, Asks, Operation, End, Waits, Done, Refused, Item, poll_asks, is_same, Allows, allows_weaker, allows_keep, TcpState, WriteState, IsConnect, IsLeftOfConnect, HoldsConnect, with_state, connect_ended, Job, job_after, new_job, IsListen, IsLeftOfListen, HoldsAccept, IsAcceptOn, accept_ended, side_in, side_of, new_socket, taken_in, IsFrontOf, bytes_left, Not, Begins, Streams, Tcp2Socket, with_listening, own_of, new_record, with_inner, with_reader, with_writer, Step, entry, FitListening, Fit, accept_name, name_in, Named, fresh, taken_fresh, accept_plain, NoWrite, none_taken, Quiet, ArePlain, plain_poll, Held, InHand, Connects, Listens, Awaits, Own, Used, Unused, ToWrite, Here, put, Found, Move, Spends, Changes, ClosesReader, Writes, IsGone, opened_by, Reconnects, Opens, BeginsConnect, BeginsBind, BeginsWrite, BeginsListen, BeginsAccept, Unlistens, Forgets, Joins, accepting_now, closed_record, new_accept, joined}
+use Rattle.wasi_laws.proofs.Words.{Allows, ArePlain, Asks, Awaits, Begins, BeginsAccept, BeginsBind, BeginsConnect, BeginsListen, BeginsWrite, BindsOn, Bool, Call, Changes, ClosesReader, Connects, Done, End, Entry, Fit, FitListening, FitProgress, Forgets, Found, Held, Here, HoldsAccept, HoldsConnect, IsAcceptOn, IsConnect, IsFrontOf, IsGone, IsLeftOfConnect, IsLeftOfListen, IsListen, Item, Job, Joins, List, Listens, Move, Named, NoWrite, None, Not, OpId, Opens, Operation, Option, Own, Quiet, Reconnects, Refused, SocketAddressFamily, Some, Spends, Step, Streams, Tcp2Socket, TcpState, ToWrite, Told, Unlistens, Unused, Used, Waits, WasiSocketsCtx, WriteState, Writes, [], accept_ended, accept_name, accept_plain, accepting_now, allows_keep, allows_weaker, ap, append-nil, append_assoc, bytes_left, closed_record, connect_ended, entry, false, fresh, if◌then◌else◌, inl, inr, is_same, job_after, joined, name_in, new_accept, new_job, new_record, new_socket, none_taken, opened_by, own_of, plain_poll, poll_asks, put, refl, rules, side_in, side_of, slice_set, subst, sym, taken_fresh, taken_in, true, with_inner, with_listening, with_reader, with_state, with_writer, ℕ, ⊤, ◌++◌, ◌∙◌, ◌∷◌, ◌≡◌}
 use Rattle.wasi_laws.proofs.asks.Fronts.{unwritten, polls_by}
 use Rattle.wasi_laws.proofs.asks.Single.{Single, Grounds, Closing, ClosesSocket, ClosesListen, ClosesArrived, creating}
 use Rattle.wasi_laws.proofs.asks.Trees.{GoesOn, InWriting, InClosing}
-use Rattle.wasi_laws.proofs.shapes.Shape.{same_side, not_same, some_same, WriterIs, HasStreams, StreamsShape, IsBegun, Lives, Follows, follows_same, follows_state, follows_quiet, follows_begun, follows_gone, gone_lacks}
+use Rattle.wasi_laws.proofs.shapes.Shape.{same_side, not_same, some_same, WriterIs, HasStreams, StreamsShape, IsBegun, Lives, Follows, follows_plain, follows_same, follows_state, follows_quiet, follows_begun, follows_gone, gone_lacks}
 use Rattle.wasi_laws.proofs.shapes.Law.{job_of}
 use Rattle.wasi_laws.proofs.permits.Agreeing.{JobAgrees, Agrees, Agree, Agreeing, agrees_put, agrees_moved, agrees_push, writer_agrees}
 use Rattle.wasi_laws.proofs.permits.Taken.{After, write_law, taken_push, Fronts, quiet_keep, Accounts}
@@ -34,8 +34,8 @@ listen_plain _ listen.Ended = tt
 listen_plain _ _ = search rules
 
 held_plain : (h : Here) (op : Operation) (after : End × List Item → Here) → Held h op after → Fit h → ArePlain op.left
-held_plain h _ _ (InHand op e) f = bind_plain op.left (f.hand op e).left
-held_plain h _ _ (Connects place r op q g e) f = let its : IsConnect op = subst HoldsConnect e (f.records place r g).0 in connect_plain op.left its.left
+held_plain h _ _ (BindsOn place r op q g e) f = let its = subst (FitProgress r.inner.state) e (f.records place r g).2 in bind_plain op.left its.1.left
+held_plain h _ _ (Connects place r op g e) f = let its : IsConnect op = subst HoldsConnect e (f.records place r g).0 in connect_plain op.left its.left
 held_plain h _ _ (Listens place r op q g e c) f = let its : IsListen op = subst FitListening e (f.records place r g).1 in listen_plain op.left its.left
 held_plain h _ _ (Awaits place r l op g e a) f = let its : IsAcceptOn l.side l.maker op = subst (HoldsAccept l.side l.maker) a (subst FitListening e (f.records place r g).1) in accept_plain ⊤ op.left its.accept.left
 
@@ -137,19 +137,19 @@ module _ (side : OpId) (given : List ℕ) where
     module _ (contexts : List WasiSocketsCtx) (origin : Step) where
       moves : (es : List Entry) (h now : Here) → Move line origin h now → Grounds contexts line origin h → Kept es h → Kept es now
       moves es _ _ (Spends h e) b k = spends es _ h.own e k
-      moves es _ _ (Changes h place r now g p) b k = put_same es h place r now g (follows_same r now (record { side = p.side; streams = p.streams; listening = p.listening; does = p.does })) p.streams k
+      moves es _ _ (Changes h place r now g p) b k = put_same es h place r now g (follows_plain r now p) p.streams k
       moves es _ _ (ClosesReader h place r s g e) b k = put_kept es h place r (with_reader r s reading.Closed) g (record { side = refl; lives = λ x v. v }) (λ held v a. subst (Agree (taken_in side es) held) e a) k
       moves es _ _ (Writes h place r s w g e m) b k = put_kept es h place r (with_writer r s w) g (record { side = refl; lives = λ x v. v }) (λ held v a. writer_agrees (taken_in side es) held s.writer w m (subst (Agree (taken_in side es) held) e a)) k
-      moves es _ _ (IsGone h place r g e) b k = put_gone es h place r _ g refl e (λ b. b) k
+      moves es _ _ (IsGone h place r q g e) b k = put_gone es h place r _ g refl e (λ b. b) k
       moves es _ _ (Reconnects h place r c now g e s t u) b k = put_same es h place r _ g (follows_state r (with_inner r (with_state r.inner (state.Connected now))) refl refl (λ x p. ap side_in e ∙ (ap (λ (y : OpId). Some y) (sym s) ∙ p))) refl k
-      moves es _ _ (Opens h place r c g e f) b k =
+      moves es _ _ (Opens h place r c d g e f) b k =
           put_kept es h place r (opened_by r c) g (follows_state r (opened_by r c) refl refl (λ x p. ap side_in e ∙ p))
           (λ held v a. opens_agree es held c r.streams f (subst (λ (t : TcpState). StreamsShape t r.streams) e (b.1 place r g).0) a) k
-      moves es _ _ (BeginsConnect h place r x a bound at g d to known o) b k = spends es _ h.own o (put_same es h place r _ g (follows_state r _ refl refl (λ x p. ap side_in d ∙ p)) refl k)
-      moves es _ _ (BeginsBind h place r at a c g d to o) b k = spends es _ h.own o k
+      moves es _ _ (BeginsConnect h place r x a bound at g d to known idle o) b k = spends es _ h.own o (put_same es h place r _ g (follows_state r _ refl refl (λ x p. ap side_in d ∙ p)) refl k)
+      moves es _ _ (BeginsBind h place r x a at g d to idle o) b k = spends es _ h.own o (put_same es h place r _ g (record { side = refl; lives = λ x v. v }) refl k)
       moves es _ _ (BeginsWrite h place r s half permit bytes at g e w within o) b k =
           record { held = given; stands = begins es h place r s half permit bytes g e w (subst (StreamsShape r.inner.state) e (b.1 place r g).0) b.0.1 k (is_same half.side side) refl (subst (λ (x : Own). Owes x k.held) o k.owes); owes = refl }
-      moves es _ _ (BeginsListen h place r x p g d bound none to o) b k = spends es _ h.own o (put_same es h place r _ g (follows_begun line h place r x g d b.0.1) refl k)
+      moves es _ _ (BeginsListen h place r x p g d bound none to idle o) b k = spends es _ h.own o (put_same es h place r _ g (follows_begun line h place r x g d b.0.1) refl k)
       moves es _ _ (BeginsAccept h place r l p g e a o) b k = spends es _ h.own o (put_same es h place r _ g (follows_quiet r (accepting_now r l (new_accept line l)) refl refl (λ b. b)) refl k)
       moves es _ _ (Unlistens h place r op g e c o) b k = put_same es h place r _ g (follows_quiet r _ refl refl (λ b. b)) refl k
       moves es _ _ (Forgets h place r l c g e a) b k = put_same es h place r _ g (follows_quiet r (accepting_now r l accepting.Idle) refl refl (λ b. b)) refl k
@@ -170,8 +170,8 @@ module _ (side : OpId) (given : List ℕ) where
 
       -- what becomes of what is polled
       ended_kept : (es : List Entry) (h : Here) (op : Operation) (after : End × List Item → Here) (ended : End × List Item) → Held h op after → Named line h → Kept es h → Kept es (after ended)
-      ended_kept es h _ _ ended (InHand op e) n k = k
-      ended_kept es h _ _ ended (Connects place r op q g e) n k = put_same es h place r _ g (follows_state r (with_inner r (with_state r.inner (connect_ended op.who ended).1)) refl refl (λ x p. ap side_in e ∙ ended_side op ended x p)) refl k
+      ended_kept es h _ _ ended (BindsOn place r op q g e) n k = put_same es h place r _ g (record { side = refl; lives = λ x v. v }) refl k
+      ended_kept es h _ _ ended (Connects place r op g e) n k = put_same es h place r _ g (follows_state r (with_inner r (with_state r.inner (connect_ended op.who ended).1)) refl refl (λ x p. ap side_in e ∙ ended_side op ended x p)) refl k
       ended_kept es h _ _ (Waits, items) (Listens place r op q g e c) n k = put_same es h place r _ g (listen_follows r _ op e refl) refl k
       ended_kept es h _ _ (Done given, items) (Listens place r op q g e c) n k = put_same es h place r _ g (listen_follows r _ op e refl) refl k
       ended_kept es h _ _ (Refused c given, items) (Listens place r op q g e _) n k = put_same es h place r _ g (listen_follows r _ op e refl) refl k
@@ -225,7 +225,7 @@ module _ (side : OpId) (given : List ℕ) where
         stops = λ es h place r g k. put_same es h place r (with_listening r Not) g (follows_quiet r (with_listening r Not) refl refl (λ b. b)) refl k;
         asks = λ es h op c calm on k. (front es h k, λ told. asked es h op c told (unwritten c calm) k);
         creates = λ es h ctx family u b k. created es h ctx family u b.0.1 k;
-        closes = λ es h place r now op x q g c b k. (front es h k, λ told. asked es (put h place now) op (call.Close x) told tt (closed_kept es h place r now x g c k));
+        closes = λ es h place r now op x g c b k. (front es h k, λ told. asked es (put h place now) op (call.Close x) told tt (closed_kept es h place r now x g c k));
         polls = λ es h op after x b k. allows_weaker (Fronts side given) (λ fs ended. Kept fs h × ArePlain ended.1) (λ fs ended. Kept fs (after ended)) (λ fs ended y. ended_kept fs h op after ended x b.0.1 y.0) es (poll_asks op)
             (quiet_kept (λ ended. ArePlain ended.1) es h (poll_asks op) k (plain_poll op es (held_plain h op after x b.0.0)));
         turns = λ es h place r s job now g e on b k. turns es h place r s s.writer job now g e (subst (StreamsShape r.inner.state) e (b.1 place r g).0) refl on b.0.1 k;

@@ -3,7 +3,7 @@ use Rattle.wasi_tcp.specs.declared.reader.ReadState.TheVariants as reading
 use Rattle.wasi_tcp.specs.declared.socket.Connection.{Connection}
 use Rattle.wasi_tcp.specs.declared.socket.TcpState.TheVariants as state
 use Rattle.wasi_walks.proofs.fits.Polls.{Anything}
-use Rattle.wasi_laws.proofs.Words.{◌≡◌, ℕ, true, List, [], ◌∷◌, ◌++◌, Option, Some, None, Result, Ok, Err, refl, sym, ap, subst, ◌∙◌, slice_get, slice_set, length, inl, inr, ⊤, SocketAddressFamily, ErrorCode, WasiSocketsCtx, Entry, OpId, bind, Given, Item, Who, LastAsk, NothingLast, CloseLast, ShutdownLast, Operation, End, Done, last_ask, poll_asks, Allows, allows_then, allows_weaker, TcpState, WriteState, with_state, connect_ended, Job, job_after, Listener, Socket, side_of, new_asks, turn_asks, Listening, Accepts, Unclosed, Streams, Tcp2Socket, make_asks, Tcp2, own_of, created_asks, create_asks, with_inner, with_reader, with_writer, new_record, Step, get_set, get_split, whatever, Here, put, Found, Used, joined, listen_after, accepting_now, opened_by, Held, InHand, Connects, Listens, Awaits, Move, Changes, ClosesReader, Writes, IsGone, Reconnects, Opens, BeginsConnect, BeginsWrite, BeginsListen, BeginsAccept, Unlistens, Forgets, Joins}
+use Rattle.wasi_laws.proofs.Words.{Accepts, Allows, Awaits, BeginsAccept, BeginsBind, BeginsConnect, BeginsListen, BeginsWrite, BindsOn, Changes, CloseLast, ClosesReader, Connects, Done, End, Entry, Err, ErrorCode, Forgets, Found, Given, Held, Here, IsGone, Item, Job, Joins, LastAsk, List, Listener, Listening, Listens, Move, None, NothingLast, Ok, OpId, Opens, Operation, Option, Reconnects, Result, ShutdownLast, Socket, SocketAddressFamily, Some, Step, Streams, Tcp2, Tcp2Socket, TcpState, Unclosed, Unlistens, Used, WasiSocketsCtx, Who, WriteState, Writes, [], accepting_now, allows_then, allows_weaker, ap, bind, bind_progress, connect_ended, create_asks, created_asks, get_set, get_split, inl, inr, job_after, joined, last_ask, length, listen_after, make_asks, new_asks, new_record, opened_by, own_of, poll_asks, put, refl, side_of, slice_get, slice_set, subst, sym, true, turn_asks, whatever, with_inner, with_progress, with_reader, with_state, with_writer, ℕ, ⊤, ◌++◌, ◌∙◌, ◌∷◌, ◌≡◌}
 use Rattle.wasi_laws.proofs.asks.Fronts.{Becomes, ToldAddress, PollLaw, polls_by}
 use Rattle.wasi_laws.proofs.asks.Trees.{GoesOn, InWriting, InClosing, turns_by}
 use Rattle.wasi_laws.proofs.shapes.Shape.{IsOfWrite, AreOfWrite, end_write, JobIs, WriterIs, writer_moves, HasStreams, StreamsShape, ListenerShape, RecordShape, Unconnected, bare, sideless, restated}
@@ -98,16 +98,17 @@ module _ (contexts : List WasiSocketsCtx) (line : ℕ) (origin : Step) where
       let k = i place r g in let o = has_streams r s e k in
       put_shape h place (with_reader r s reading.Closed) (record { connection = o.connection; is = o.is; taken = o.taken; reader = λ half d. absurd (cc); writer = o.writer }, k.1) i
   moves_shape _ _ (Writes h place r s w g e m) i = let k = i place r g in put_shape h place _ (writes_on r s w e k (writer_moves _ s.writer w m (has_streams r s e k).writer)) i
-  moves_shape _ _ (IsGone h place r g e) i = put_shape h place _ (tt, tt) i
+  moves_shape _ _ (IsGone h place r q g e) i = put_shape h place _ (tt, tt) i
   moves_shape _ _ (Reconnects h place r c now g e s t u) i = put_shape h place _ (reconnected c now r.streams r.listening s t (subst (λ (x : TcpState). StreamsShape x r.streams × ListenerShape x r.listening) e (i place r g))) i
-  moves_shape _ _ (Opens h place r c g e n) i =
+  moves_shape _ _ (Opens h place r c d g e n) i =
       let now : Connection = record c { send_taken = true } in
       let k = reconnected c now r.streams r.listening refl (λ t. refl) (subst (λ (x : TcpState). StreamsShape x r.streams × ListenerShape x r.listening) e (i place r g)) in
       put_shape h place (opened_by r c) (record { connection = now; is = refl; taken = refl; reader = λ half d. (let q : record { side = c.side } ≡ half = cc in ap (λ y. y.side) (sym q)); writer = refl }, k.1) i
-  moves_shape _ _ (BeginsConnect h place r side a bound at g d to known own) i = put_shape h place _ (restates r _ (λ c e. let p : state.Default side ≡ state.Connected c = sym d ∙ e in absurd (cc)) (λ x e. let p : state.Default side ≡ state.Listening x = sym d ∙ e in absurd (cc)) (i place r g)) i
+  moves_shape _ _ (BeginsConnect h place r side a bound at g d to known idle own) i = put_shape h place _ (restates r _ (λ c e. let p : state.Default side ≡ state.Connected c = sym d ∙ e in absurd (cc)) (λ x e. let p : state.Default side ≡ state.Listening x = sym d ∙ e in absurd (cc)) (i place r g)) i
+  moves_shape _ _ (BeginsBind h place r side a at g d to idle own) i = put_shape h place _ (i place r g) i
   moves_shape _ _ (BeginsWrite h place r s half permit bytes at g e w within own) i =
       let k = i place r g in put_shape h place _ (writes_on r s _ e k (record { side = subst (WriterIs _) w (has_streams r s e k).writer; last = refl; left = (tt, tt) })) i
-  moves_shape _ _ (BeginsListen h place r side at g d bound none to own) i =
+  moves_shape _ _ (BeginsListen h place r side at g d bound none to idle own) i =
       let k = restates r (state.Closed _) (λ c e. let p : state.Default side ≡ state.Connected c = sym d ∙ e in absurd (cc)) (λ x e. let p : state.Default side ≡ state.Listening x = sym d ∙ e in absurd (cc)) (i place r g) in put_shape h place _ (k.0, tt) i
   moves_shape _ _ (BeginsAccept h place r l at g e a own) i = let k = i place r g in put_shape h place _ (k.0, accepts_shape r l e k) i
   moves_shape _ _ (Unlistens h place r op g e c o) i = put_shape h place _ ((i place r g).0, tt) i
@@ -120,8 +121,8 @@ module _ (contexts : List WasiSocketsCtx) (line : ℕ) (origin : Step) where
   moves_shape _ _ _ i = i
 
   pub polls_shape : (es : List Entry) (h : Here) (op : Operation) (after : End × List Item → Here) → Held h op after → Shaped h → Allows Anything (λ fs ended. Shaped (after ended)) es (poll_asks op)
-  polls_shape es h _ _ (InHand op e) i = whatever (λ ended. Shaped h) (λ ended. i) es (poll_asks op)
-  polls_shape es h _ _ (Connects place r op q g e) i = whatever (λ ended. Shaped (put h place (with_inner r (with_state r.inner (connect_ended op.who ended).1)))) (λ ended. put_shape h place _ (ended_shape r op ended e (i place r g)) i) es (poll_asks op)
+  polls_shape es h _ _ (BindsOn place r op q g e) i = whatever (λ ended. Shaped (put h place (with_progress r (bind_progress op ended)))) (λ ended. put_shape h place _ (i place r g) i) es (poll_asks op)
+  polls_shape es h _ _ (Connects place r op g e) i = whatever (λ ended. Shaped (put h place (with_inner r (with_state r.inner (connect_ended op.who ended).1)))) (λ ended. put_shape h place _ (ended_shape r op ended e (i place r g)) i) es (poll_asks op)
   polls_shape es h _ _ (Listens place r op q g e c) i = whatever (λ ended. Shaped (put h place (listen_after op r ended))) (λ ended. put_shape h place _ (listened_shape r op ended c (i place r g)) i) es (poll_asks op)
   polls_shape es h _ _ (Awaits place r l op g e a) i = let k = i place r g in whatever (λ ended. Shaped (put h place (accepting_now r l _))) (λ ended. put_shape h place _ (k.0, accepts_shape r l e k) i) es (poll_asks op)
 

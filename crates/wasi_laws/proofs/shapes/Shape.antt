@@ -6,7 +6,7 @@ use Rattle.wasi_tcp.specs.declared.reader.ReadState.TheVariants as reading
 use Rattle.wasi_tcp.specs.declared.socket.Connection.{Connection}
 use Rattle.wasi_tcp.specs.declared.socket.TcpState.TheVariants as state
 use Rattle.wasi_tcp.specs.declared.writer.WriteState.TheVariants as writing
-use Rattle.wasi_laws.proofs.Words.{◌==◌, ◌&&◌, Bool, false, arith, ◌≡◌, true, List, [], ◌∷◌, Option, Some, None, refl, sym, ap, subst, ◌∙◌, ◌⊎◌, inl, inr, ℕ, is_same, ⊤, OpId, Item, Write, ShutdownSend, Last, ShutdownLast, End, Waits, Done, Refused, TcpState, WriteState, Job, then_closed, side_in, side_of, writer_side, writing_side, closing_side, written_by, closed_by, Listening, Begins, Accepts, Unclosed, Streams, Tcp2Socket, IsOn, OfSocket, OfReader, OfWriter, WriterMoves, Collects, Permits, Lasts, LastsAfter, Closes, own_of, Named, no_some, Here, Found, beginning_listen}
+use Rattle.wasi_laws.proofs.Words.{Accepts, Begins, Bool, Closes, Collects, Done, End, Found, Here, IsOn, Item, Job, Last, Lasts, LastsAfter, List, Listening, Named, None, OfReader, OfSocket, OfWriter, OpId, Option, Permits, Plain, Refused, ShutdownLast, ShutdownSend, Some, Streams, Tcp2Socket, TcpState, Unclosed, Waits, Write, WriteState, WriterMoves, [], ap, arith, beginning_listen, closed_by, closing_side, false, inl, inr, is_same, no_some, own_of, refl, side_in, side_of, subst, sym, then_closed, true, writer_side, writing_side, written_by, ℕ, ⊤, ◌&&◌, ◌==◌, ◌∙◌, ◌∷◌, ◌≡◌, ◌⊎◌}
 
 pub some_same : {A : Type 0} (a b : A) → Some a ≡ Some b → a ≡ b
 some_same a b e = cc
@@ -162,6 +162,7 @@ pub record Same (r now : Tcp2Socket) : Type 0 where
   pub streams : now.streams ≡ r.streams
   pub listening : now.listening ≡ r.listening
   pub does : now.inner.state ≡ r.inner.state
+  pub doing : now.in_progress ≡ r.in_progress
 
 abbrev pub IsBegun : Listening → Type 0
 IsBegun (Begins op) = ⊤
@@ -175,12 +176,15 @@ pub record Follows (r now : Tcp2Socket) : Type 0 where
   pub side : now.side ≡ r.side
   pub lives : (x : OpId) → Lives x now → Lives x r
 
-pub follows_same : (r now : Tcp2Socket) → Same r now → Follows r now
-follows_same r now s = record { side = s.side; lives = λ x v. (sym s.side ∙ v.0, elim v.1 [ inl p ↦ inl (sym (ap side_in s.does) ∙ p) | inr p ↦ inr (subst IsBegun s.listening p) ]) }
-
 -- another state of the same side, or of none
 pub follows_state : (r now : Tcp2Socket) → now.side ≡ r.side → now.listening ≡ r.listening → ((x : OpId) → side_of now.inner ≡ Some x → side_of r.inner ≡ Some x) → Follows r now
 follows_state r now s l f = record { side = s; lives = λ x v. (sym s ∙ v.0, elim v.1 [ inl p ↦ inl (f x p) | inr p ↦ inr (subst IsBegun l p) ]) }
+
+pub follows_plain : (r now : Tcp2Socket) → Plain r now → Follows r now
+follows_plain r now p = follows_state r now p.side p.listening (λ x e. sym (ap side_in p.does) ∙ e)
+
+pub follows_same : (r now : Tcp2Socket) → Same r now → Follows r now
+follows_same r now s = follows_state r now s.side s.listening (λ x e. sym (ap side_in s.does) ∙ e)
 
 -- a listen that doesn't go on
 pub follows_quiet : (r now : Tcp2Socket) → now.side ≡ r.side → side_of now.inner ≡ side_of r.inner → (IsBegun now.listening → ⊥) → Follows r now

@@ -3,13 +3,11 @@ use Rattle.wasi_world.specs.declared.call.Call.TheVariants as call
 use Rattle.wasi_world.specs.declared.call.Told.TheVariants as told
 use Rattle.wasi_tcp.specs.declared.listener.Accepting.TheVariants as accepting
 use Rattle.wasi_tcp.specs.declared.socket.TcpState.TheVariants as state
-use Rattle.wasi_host.specs.declared.store.StandingCall.TheVariants as standing
-use Rattle.wasi_walks.proofs.walks.Moves.{Ends}
-use Rattle.wasi_laws.proofs.Words.{◌≡◌, ◌⊎◌, true, inl, inr, ℕ, ◌+◌, ◌≤◌, List, [], ◌∷◌, ◌++◌, Some, None, refl, sym, ap, subst, ◌∙◌, append_assoc, arith, IpSocketAddress, SocketAddressFamily, WasiSocketsCtx, OpId, Call, Told, Entry, Asks, Left, Operation, End, Waits, Done, Refused, Item, CloseLast, NothingLast, ShutdownLast, Given, Connection, poll_asks, Allows, Accepting, WriteState, with_state, connect_ended, Job, job_after, Listener, HoldsAccept, IsAcceptOn, accept_ended, arrived, side_in, side_of, new_socket, Listening, Not, Begins, Accepts, Machine, Streams, Tcp2Socket, Standing, with_listening, own_of, first_state, left_of, new_record, standing_bind, with_inner, with_writer, Reply, Step, Has, entry, run, cut_of, has_back, has_last, Fit, FitListening, accept_name, name_in, Named, next_of, no_some, Starts, Here, put, Own, Used, Unused, ToWrite, Found, NoBind, NoBindStands, Held, InHand, Connects, Listens, Awaits, listen_after, accepting_now, closed_record, new_accept, second_of, joined, Move, Spends, Changes, ClosesReader, Writes, IsGone, Reconnects, Opens, BeginsConnect, BeginsBind, BeginsWrite, BeginsListen, BeginsAccept, Unlistens, Forgets, Joins, StandsListen, StandsDrop, Unstands, Stands, Resumes, socket_of, IsMade, Created, IsOpen, IsAskedOpen, AsksOpenSockets}
+use Rattle.wasi_laws.proofs.Words.{Accepting, Accepts, Allows, Asks, AsksOpenSockets, Awaits, Begins, BeginsAccept, BeginsBind, BeginsConnect, BeginsListen, BeginsWrite, BindsOn, Call, Changes, CloseLast, ClosesReader, Connection, Connects, Created, Done, End, Entry, Fit, FitListening, FitProgress, Forgets, Found, Given, Has, Held, Here, HoldsAccept, IpSocketAddress, IsAcceptOn, IsAskedOpen, IsGone, IsMade, IsOpen, Item, Job, Joins, Left, List, Listener, Listening, Listens, Machine, Move, Named, None, Not, NothingLast, OpId, Opens, Operation, Own, Reconnects, Refused, Reply, ShutdownLast, SocketAddressFamily, Some, Spends, Starts, Step, Streams, Tcp2Socket, ToWrite, Told, Unlistens, Unused, Used, Waits, WasiSocketsCtx, WriteState, Writes, [], accept_ended, accept_name, accepting_now, ap, append_assoc, arith, arrived, closed_record, connect_ended, cut_of, entry, first_state, has_back, has_last, inl, inr, job_after, joined, listen_after, name_in, new_accept, new_record, new_socket, next_of, no_some, own_of, poll_asks, put, refl, run, second_of, side_in, side_of, socket_of, subst, sym, true, with_inner, with_listening, with_state, with_writer, ℕ, ◌++◌, ◌+◌, ◌∙◌, ◌∷◌, ◌≡◌, ◌≤◌, ◌⊎◌}
 use Rattle.wasi_laws.proofs.asks.Fronts.{is_calm, IsGivenMade}
 use Rattle.wasi_laws.proofs.asks.Single.{each_ask, Single, Closing, ClosesSocket, ClosesListen, ClosesArrived, IsAskedOn, OnNone, OnSide, creating}
 use Rattle.wasi_laws.proofs.asks.Trees.{GoesOn}
-use Rattle.wasi_laws.proofs.shapes.Shape.{some_same, WriterIs, HasStreams, StreamsShape, ListenerShape, IsBegun, Follows, follows_same, follows_state, follows_quiet, follows_begun, gone_lacks, follows_gone}
+use Rattle.wasi_laws.proofs.shapes.Shape.{some_same, WriterIs, HasStreams, StreamsShape, ListenerShape, IsBegun, Follows, follows_plain, follows_same, follows_state, follows_quiet, follows_begun, gone_lacks, follows_gone}
 use Rattle.wasi_laws.proofs.shapes.Law.{job_of}
 use Rattle.wasi_laws.proofs.sockets.Opened.{Grows, grows_none, grows_entry, RecordOpen, name_of, changed, HasIt, one_more, opened_more, put_open, push_open, later, Kept, closed_put}
 use Rattle.wasi_laws.proofs.sockets.Polls.{AskedOpen, calm_closes, PollLeaves, polled, calm_end}
@@ -44,18 +42,16 @@ module _ (line : ℕ) where
   module _ {origin : Step} where
     moves : (es : List Entry) (h now : Here) → Move line origin h now → Named line h → Kept line es h → Kept line es now
     moves es _ _ (Spends h e) n i = later es (line + 1) (by_own h.own) i
-    moves es _ _ (Changes h place r now g p) n i = put_kept es h place r now g (follows_same r now (record { side = p.side; streams = p.streams; listening = p.listening; does = p.does })) (inl p.listening) i
+    moves es _ _ (Changes h place r now g p) n i = put_kept es h place r now g (follows_plain r now p) (inl p.listening) i
     moves es _ _ (ClosesReader h place r s g e) n i = put_kept es h place r _ g (record { side = refl; lives = λ x v. v }) (inl refl) i
     moves es _ _ (Writes h place r s w g e m) n i = put_kept es h place r _ g (record { side = refl; lives = λ x v. v }) (inl refl) i
-    moves es _ _ (IsGone h place r g e) n i = put_kept es h place r _ g (follows_gone r _ refl e (λ b. b)) (inr refl) i
+    moves es _ _ (IsGone h place r q g e) n i = put_kept es h place r _ g (follows_gone r _ refl e (λ b. b)) (inr refl) i
     moves es _ _ (Reconnects h place r c now g e s t u) n i = put_kept es h place r _ g (follows_state r _ refl refl (λ x p. ap side_in e ∙ (ap (λ (y : OpId). Some y) (sym s) ∙ p))) (inl refl) i
-    moves es _ _ (Opens h place r c g e k) n i = put_kept es h place r _ g (follows_state r _ refl refl (λ x p. ap side_in e ∙ p)) (inl refl) i
-    moves es _ _ (BeginsConnect h place r side a bound at g d to known own) n i = later es (line + 1) (by_own h.own) (put_kept es h place r _ g (follows_state r _ refl refl (λ x p. ap side_in d ∙ p)) (inl refl) i)
-    moves es _ _ (BeginsBind h place r side a at g d to own) n i =
-        let k = later es (line + 1) (by_own h.own) i in
-        record { records = k.records; hand = λ op e. subst (λ (o : Operation). IsOpen es o.who.side) (some_same _ op e) (socket_open es h place r side g (ap side_in d) n i); stands = k.stands; older = k.older }
+    moves es _ _ (Opens h place r c d g e k) n i = put_kept es h place r _ g (follows_state r _ refl refl (λ x p. ap side_in e ∙ p)) (inl refl) i
+    moves es _ _ (BeginsConnect h place r side a bound at g d to known idle own) n i = later es (line + 1) (by_own h.own) (put_kept es h place r _ g (follows_state r _ refl refl (λ x p. ap side_in d ∙ p)) (inl refl) i)
+    moves es _ _ (BeginsBind h place r side a at g d to idle own) n i = later es (line + 1) (by_own h.own) (put_kept es h place r _ g (record { side = refl; lives = λ x v. v }) (inl refl) i)
     moves es _ _ (BeginsWrite h place r s half permit bytes at g e w within own) n i = later es (line + 1) (by_own h.own) (put_kept es h place r _ g (record { side = refl; lives = λ x v. v }) (inl refl) i)
-    moves es _ _ (BeginsListen h place r side at g d bound none to own) n i = later es (line + 1) (by_own h.own) (put_kept es h place r _ g (follows_begun line h place r side g d n) (inr refl) i)
+    moves es _ _ (BeginsListen h place r side at g d bound none to idle own) n i = later es (line + 1) (by_own h.own) (put_kept es h place r _ g (follows_begun line h place r side g d n) (inr refl) i)
     moves es _ _ (BeginsAccept h place r l at g e a own) n i =
         let k = i.records place r g in
         later es (line + 1) (by_own h.own) (put_open es place (accepting_now r l (new_accept line l)) (record {
@@ -69,23 +65,14 @@ module _ (line : ℕ) where
         let o = arrived_open es h place r l new peer g e a i in
         push_open es (joined l new peer) (record { lives = λ x v. subst (IsOpen es) (some_same new x v.0) o; named = λ x p. absurd (no_some x p); arrived = λ k x y p q. absurd (cc) })
         (put_kept es h place r (accepting_now r l accepting.Idle) g (follows_quiet r _ refl refl (λ b. b)) (inr refl) i)
-    moves es _ _ (StandsListen h m place r f) n i = record { records = i.records; hand = i.hand; stands = λ k p op e. absurd (subst NoBindStands e tt); older = i.older }
-    moves es _ _ (StandsDrop h m place r at g) n i = record { records = i.records; hand = i.hand; stands = λ k p op e. absurd (subst NoBindStands e tt); older = i.older }
-    moves es _ _ (Unstands h) n i = record { records = i.records; hand = i.hand; stands = λ k p op e. absurd (cc); older = i.older }
-    moves es _ _ (Stands h m place r op f e) n i = record { records = i.records; hand = λ o p. absurd (cc); stands = λ k p o q. subst (λ (x : Operation). IsOpen es x.who.side) (stood m k place p op o q) (i.hand op e); older = i.older }
-      where
-        stood : (m k place p : ℕ) (op o : Operation) → Some (standing_bind m place op) ≡ Some (standing_bind k p o) → op ≡ o
-        stood m k place p op o q = let s : standing_bind m place op ≡ standing_bind k p o = cc in let c : standing.Bind place op ≡ standing.Bind p o = ap (λ (x : Standing). x.call) s in cc
-    moves es _ _ (Resumes h m place op e) n i = record { records = i.records; hand = λ o p. subst (λ (x : Operation). IsOpen es x.who.side) (some_same op o p) (i.stands m place op e); stands = λ k p o q. absurd (cc); older = i.older }
-    moves es _ _ (Ends h) n i = record { records = i.records; hand = λ o p. absurd (cc); stands = i.stands; older = i.older }
     -- the others leave all that is looked at
     moves es _ _ _ n i = i
 
   -- == what goes on
   -- a side of the record is closed by these entries, and it is so then
   closes_so : (es fs : List Entry) (C : OpId → Type 0) (h : Here) (place : ℕ) (r now : Tcp2Socket) (side : OpId) → Found h place r → Follows r now → (now.listening ≡ r.listening) ⊎ (accept_name now.listening ≡ None) → (r.side ≡ Some side) ⊎ (accept_name r.listening ≡ Some side) → (HasIt now side → ⊥)
-      → ((x : OpId) → C x → side ≡ x) → Grows C es fs → NoBind h → Named line h → Kept line es h → Kept line fs (put h place now)
-  closes_so es fs C h place r now side g f l claims none of grows q n i = closed_put line C es fs h place r now side g claims of none grows q n (changed es r now f l (i.records place r g)) i
+      → ((x : OpId) → C x → side ≡ x) → Grows C es fs → Named line h → Kept line es h → Kept line fs (put h place now)
+  closes_so es fs C h place r now side g f l claims none of grows n i = closed_put line C es fs h place r now side g claims of none grows n (changed es r now f l (i.records place r g)) i
 
   -- one that has the side of a socket listens by none
   unbegun : (h : Here) (place : ℕ) (r : Tcp2Socket) (x : OpId) → Found h place r → side_of r.inner ≡ Some x → Named line h → IsBegun r.listening → ⊥
@@ -95,21 +82,21 @@ module _ (line : ℕ) where
       by_listening (Begins op) p b = no_some x (sym (n.held op place r g p).1 ∙ e)
       by_listening _ p b = b
 
-  connect_so : (es fs : List Entry) (h : Here) (place : ℕ) (r : Tcp2Socket) (op : Operation) (ended : End × List Item) → NoBind h → Found h place r → r.inner.state ≡ state.Connecting op → Named line h → Kept line es h → PollLeaves op.who es fs ended → Kept line fs (put h place (with_inner r (with_state r.inner (connect_ended op.who ended).1)))
-  connect_so es fs h place r op (Waits, items) q g e n i k = put_kept fs h place r _ g (follows_state r _ refl refl (λ x p. ap side_in e ∙ p)) (inl refl) (opened_more es fs (calm_end op.who es fs (Waits, items) (λ z. z.1) k) i)
-  connect_so es fs h place r op (Done given, items) q g e n i k = put_kept fs h place r _ g (follows_state r _ refl refl (λ x p. ap side_in e ∙ p)) (inl refl) (opened_more es fs (calm_end op.who es fs (Done given, items) (λ z. z.1) k) i)
-  connect_so es fs h place r op (Refused c given, items) q g e n i k =
+  connect_so : (es fs : List Entry) (h : Here) (place : ℕ) (r : Tcp2Socket) (op : Operation) (ended : End × List Item) → Found h place r → r.inner.state ≡ state.Connecting op → Named line h → Kept line es h → PollLeaves op.who es fs ended → Kept line fs (put h place (with_inner r (with_state r.inner (connect_ended op.who ended).1)))
+  connect_so es fs h place r op (Waits, items) g e n i k = put_kept fs h place r _ g (follows_state r _ refl refl (λ x p. ap side_in e ∙ p)) (inl refl) (opened_more es fs (calm_end op.who es fs (Waits, items) (λ z. z.1) k) i)
+  connect_so es fs h place r op (Done given, items) g e n i k = put_kept fs h place r _ g (follows_state r _ refl refl (λ x p. ap side_in e ∙ p)) (inl refl) (opened_more es fs (calm_end op.who es fs (Done given, items) (λ z. z.1) k) i)
+  connect_so es fs h place r op (Refused c given, items) g e n i k =
       let now = with_inner r (with_state r.inner (state.Closed c)) in
       let its = n.named op.who.side place r g (ap side_in e) in
       let none = unbegun h place r op.who.side g (ap side_in e) n in
-      closes_so es fs _ h place r now op.who.side g (follows_gone r now refl refl none) (inl refl) (inl its) (λ u. elim u [ inl v ↦ gone_lacks now refl none op.who.side v | inr a ↦ n.apart op.who.side place r g its a ]) (λ x d. d.0) k.grows q n i
+      closes_so es fs _ h place r now op.who.side g (follows_gone r now refl refl none) (inl refl) (inl its) (λ u. elim u [ inl v ↦ gone_lacks now refl none op.who.side v | inr a ↦ n.apart op.who.side place r g its a ]) (λ x d. d.0) k.grows n i
 
-  listen_so : (es fs : List Entry) (h : Here) (place : ℕ) (r : Tcp2Socket) (op : Operation) (ended : End × List Item) → NoBind h → Found h place r → r.listening ≡ Begins op → side_of r.inner ≡ None → Named line h → Kept line es h → PollLeaves op.who es fs ended → Kept line fs (put h place (listen_after op r ended))
-  listen_so es fs h place r op (Waits, items) q g e c n i k = put_kept fs h place r _ g (record { side = refl; lives = λ x v. (v.0, inr (subst IsBegun (sym e) tt)) }) (inr refl) (opened_more es fs (calm_end op.who es fs (Waits, items) (λ z. z.1) k) i)
-  listen_so es fs h place r op (Done given, items) q g e c n i k = put_kept fs h place r _ g (record { side = refl; lives = λ x v. (v.0, inr (subst IsBegun (sym e) tt)) }) (inr refl) (opened_more es fs (calm_end op.who es fs (Done given, items) (λ z. z.1) k) i)
-  listen_so es fs h place r op (Refused why given, items) q g e c n i k =
+  listen_so : (es fs : List Entry) (h : Here) (place : ℕ) (r : Tcp2Socket) (op : Operation) (ended : End × List Item) → Found h place r → r.listening ≡ Begins op → side_of r.inner ≡ None → Named line h → Kept line es h → PollLeaves op.who es fs ended → Kept line fs (put h place (listen_after op r ended))
+  listen_so es fs h place r op (Waits, items) g e c n i k = put_kept fs h place r _ g (record { side = refl; lives = λ x v. (v.0, inr (subst IsBegun (sym e) tt)) }) (inr refl) (opened_more es fs (calm_end op.who es fs (Waits, items) (λ z. z.1) k) i)
+  listen_so es fs h place r op (Done given, items) g e c n i k = put_kept fs h place r _ g (record { side = refl; lives = λ x v. (v.0, inr (subst IsBegun (sym e) tt)) }) (inr refl) (opened_more es fs (calm_end op.who es fs (Done given, items) (λ z. z.1) k) i)
+  listen_so es fs h place r op (Refused why given, items) g e c n i k =
       let now = listen_after op r (Refused why given, items) in let gone = follows_gone r now refl c (λ b. b) in
-      closes_so es fs _ h place r now op.who.side g gone (inr refl) (inl (n.held op place r g e).0) (λ u. elim u [ inl v ↦ gone_lacks now c (λ b. b) op.who.side v | inr a ↦ no_some op.who.side a ]) (λ x d. d.0) k.grows q n i
+      closes_so es fs _ h place r now op.who.side g gone (inr refl) (inl (n.held op place r g e).0) (λ u. elim u [ inl v ↦ gone_lacks now c (λ b. b) op.who.side v | inr a ↦ no_some op.who.side a ]) (λ x d. d.0) k.grows n i
 
   -- an accept: what it gives was made, and has its name
   module _ (es fs : List Entry) (r : Tcp2Socket) (l : Listener) (op : Operation) (e : r.listening ≡ Accepts l) (a : l.accept ≡ accepting.Asking op) where
@@ -131,11 +118,12 @@ module _ (line : ℕ) where
     accept_so (Refused c given, items) m k = changed fs r (accepting_now r l (accepting.Failed c)) (follows_quiet r (accepting_now r l (accepting.Failed c)) refl refl (λ b. b)) (inr refl) k
 
   polls : (es : List Entry) (h : Here) (op : Operation) (after : End × List Item → Here) → Held h op after → Fit h → ((place : ℕ) (r : Tcp2Socket) → Found h place r → ListenerShape r.inner.state r.listening) → Named line h → Kept line es h → Allows AskedOpen (λ fs ended. Kept line fs (after ended)) es (poll_asks op)
-  polls es h _ _ (InHand op e) f s n i = polled op es _ (i.hand op e) (λ fs ended k.
-      let m = opened_more es fs (calm_end op.who es fs ended (λ z. let p : NothingLast ≡ CloseLast = sym (f.hand op e).last ∙ z.0 in absurd (cc)) k) i in
-      record { records = m.records; hand = λ o p. subst (λ (x : Operation). IsOpen fs x.who.side) (some_same (left_of op ended.1) o p) (m.hand op e); stands = m.stands; older = m.older })
-  polls es h _ _ (Connects place r op q g e) f s n i = polled op es _ (socket_open es h place r op.who.side g (ap side_in e) n i) (λ fs ended k. connect_so es fs h place r op ended q g e n i k)
-  polls es h _ _ (Listens place r op q g e c) f s n i = polled op es _ (begun_open es h place r op g e n i) (λ fs ended k. listen_so es fs h place r op ended q g e c n i k)
+  polls es h _ _ (BindsOn place r op q g e) f s n i =
+      let its = subst (FitProgress r.inner.state) e (f.records place r g).2 in
+      polled op es _ (socket_open es h place r op.who.side g (ap side_in its.0) n i) (λ fs ended k.
+      put_kept fs h place r _ g (record { side = refl; lives = λ x v. v }) (inl refl) (opened_more es fs (calm_end op.who es fs ended (λ z. let p : NothingLast ≡ CloseLast = sym its.1.last ∙ z.0 in absurd (cc)) k) i))
+  polls es h _ _ (Connects place r op g e) f s n i = polled op es _ (socket_open es h place r op.who.side g (ap side_in e) n i) (λ fs ended k. connect_so es fs h place r op ended g e n i k)
+  polls es h _ _ (Listens place r op q g e c) f s n i = polled op es _ (begun_open es h place r op g e n i) (λ fs ended k. listen_so es fs h place r op ended g e c n i k)
   polls es h _ _ (Awaits place r l op g e a) f s n i =
       let its : IsAcceptOn l.side l.maker op = subst (HoldsAccept l.side l.maker) a (subst FitListening e (f.records place r g).1) in
       let at : side_of r.inner ≡ Some op.who.side = ap side_in (subst (ListenerShape r.inner.state) e (s place r g)) ∙ ap (λ (x : OpId). Some x) (sym its.of_side) in
@@ -150,20 +138,20 @@ module _ (line : ℕ) where
       polled job.write es _ (subst (IsOpen es) (sym k.side) (socket_open es h place r o.connection.side g (ap side_in o.is) n i)) (λ fs ended m.
       put_kept fs h place r _ g (record { side = refl; lives = λ x v. v }) (inl refl) (opened_more es fs (calm_end job.write.who es fs ended (λ z. let p : ShutdownLast ≡ CloseLast = sym k.last ∙ z.0 in absurd (cc)) m) i))
 
-  closes : (es : List Entry) (h : Here) (place : ℕ) (r now : Tcp2Socket) (op side : OpId) → NoBind h → Found h place r → Closing r now side → Named line h → Kept line es h → IsOpen es side × ((told : Told) → Kept line (es ++ entry op (call.Close side) told ∷ []) (put h place now))
-  closes es h place r _ op _ q g (ClosesSocket side e) n i = (
+  closes : (es : List Entry) (h : Here) (place : ℕ) (r now : Tcp2Socket) (op side : OpId) → Found h place r → Closing r now side → Named line h → Kept line es h → IsOpen es side × ((told : Told) → Kept line (es ++ entry op (call.Close side) told ∷ []) (put h place now))
+  closes es h place r _ op _ g (ClosesSocket side e) n i = (
     socket_open es h place r side g e n i,
-    λ told. closes_so es _ (λ x. side ≡ x) h place r (closed_record r) side g (follows_gone r (closed_record r) refl refl (λ b. b)) (inr refl) (inl (n.named side place r g e)) (λ u. elim u [ inl v ↦ gone_lacks (closed_record r) refl (λ b. b) side v | inr a ↦ no_some side a ]) (λ x d. d) (one_close es op side told) q n i,
+    λ told. closes_so es _ (λ x. side ≡ x) h place r (closed_record r) side g (follows_gone r (closed_record r) refl refl (λ b. b)) (inr refl) (inl (n.named side place r g e)) (λ u. elim u [ inl v ↦ gone_lacks (closed_record r) refl (λ b. b) side v | inr a ↦ no_some side a ]) (λ x d. d) (one_close es op side told) n i,
   )
-  closes es h place r _ op _ q g (ClosesListen o e) n i =
+  closes es h place r _ op _ g (ClosesListen o e) n i =
       let d = n.held o place r g e in (
         begun_open es h place r o g e n i,
-        λ told. closes_so es _ (λ x. o.who.side ≡ x) h place r (with_listening r Not) o.who.side g (follows_gone r (with_listening r Not) refl d.1 (λ b. b)) (inr refl) (inl d.0) (λ u. elim u [ inl v ↦ gone_lacks (with_listening r Not) d.1 (λ b. b) o.who.side v | inr a ↦ no_some o.who.side a ]) (λ x z. z) (one_close es op o.who.side told) q n i,
+        λ told. closes_so es _ (λ x. o.who.side ≡ x) h place r (with_listening r Not) o.who.side g (follows_gone r (with_listening r Not) refl d.1 (λ b. b)) (inr refl) (inl d.0) (λ u. elim u [ inl v ↦ gone_lacks (with_listening r Not) d.1 (λ b. b) o.who.side v | inr a ↦ no_some o.who.side a ]) (λ x z. z) (one_close es op o.who.side told) n i,
       )
-  closes es h place r _ op _ q g (ClosesArrived l new peer e a) n i =
+  closes es h place r _ op _ g (ClosesArrived l new peer e a) n i =
       let name = name_of r l new peer e a in (
         arrived_open es h place r l new peer g e a i,
-        λ told. closes_so es _ (λ x. new ≡ x) h place r (with_listening r Not) new g (follows_quiet r (with_listening r Not) refl refl (λ b. b)) (inr refl) (inr name) (λ u. elim u [ inl v ↦ n.apart new place r g v.0 name | inr z ↦ no_some new z ]) (λ x z. z) (one_close es op new told) q n i,
+        λ told. closes_so es _ (λ x. new ≡ x) h place r (with_listening r Not) new g (follows_quiet r (with_listening r Not) refl refl (λ b. b)) (inr refl) (inr name) (λ u. elim u [ inl v ↦ n.apart new place r g v.0 name | inr z ↦ no_some new z ]) (λ x z. z) (one_close es op new told) n i,
       )
 
   -- a calm call closes nothing
@@ -191,14 +179,14 @@ module _ (line : ℕ) where
       stops = λ es h place r g i. put_kept es h place r _ g (follows_quiet r _ refl refl (λ b. b)) (inr refl) i;
       asks = λ es h op c calm on i. (asked es h c on i, λ told. calmly es h op c told calm i);
       creates = λ es h ctx family u b i. created es h ctx family u i;
-      closes = λ es h place r now op side q g c b i. closes es h place r now op side q g c b.0.1 i;
+      closes = λ es h place r now op side g c b i. closes es h place r now op side g c b.0.1 i;
       polls = λ es h op after k b i. polls es h op after k b.0.0 (λ place r g. (b.1 place r g).1) b.0.1 i;
       turns = λ es h place r s job now g e on b i. turns es h place r s s.writer job now g (subst (StreamsShape r.inner.state) e (b.1 place r g).0) refl on b.0.1 i;
     }
 
 module _ (contexts : List WasiSocketsCtx) where
   pub runs_open : (steps : List Step) (log : List Entry) (rest : Asks (List Reply × Machine)) → Left (run contexts [] first_state 1 steps) log rest → AsksOpenSockets log
-  runs_open steps log rest w = record { each = each_ask contexts Kept (λ line origin. sockets line contexts origin) starts (λ line es m i. i) (record { records = λ place r e. absurd (cc); hand = λ op e. absurd (cc); stands = λ n place op e. absurd (cc); older = λ x c. absurd c.closed }) steps log rest w }
+  runs_open steps log rest w = record { each = each_ask contexts Kept (λ line origin. sockets line contexts origin) starts (λ line es m i. i) (record { records = λ place r e. absurd (cc); older = λ x c. absurd c.closed }) steps log rest w }
     where
       starts : (line : ℕ) (es : List Entry) (m : Machine) (own : Own) → Kept line es (Starts m Unused) → Kept line es (Starts m own)
       starts line es m Used i = later es (line + 1) (by_own line Unused) i

@@ -1,7 +1,7 @@
 -- A log that grows, and what holds of it between the asks of a line: each side that is alive is open, and what is closed is older.
 use Rattle.wasi_world.specs.declared.call.Call.TheVariants as call
 use Rattle.wasi_tcp.specs.declared.listener.Accepting.TheVariants as accepting
-use Rattle.wasi_laws.proofs.Words.{◌≡◌, ◌⊎◌, inl, inr, List, [], ◌∷◌, ◌++◌, refl, sym, ap, subst, ℕ, ◌<◌, ◌≤◌, Option, Some, None, ◌∙◌, slice_get, slice_set, arith, OpId, Call, Told, Entry, entry, IsMade, Created, HandedOver, IsClosed, IsOpen, has_front, has_split, IpSocketAddress, Operation, Listener, Accepts, Tcp2Socket, Standing, standing_bind, get_set, get_split, set_there, Claims, Named, next_of, no_some, accept_name, name_in, Here, put, Found, NoBind, NoBindStands}
+use Rattle.wasi_laws.proofs.Words.{Accepts, Call, Claims, Created, Entry, Found, HandedOver, Here, IpSocketAddress, IsClosed, IsMade, IsOpen, List, Listener, Named, None, OpId, Some, Tcp2Socket, Told, [], accept_name, ap, arith, entry, get_set, get_split, has_front, has_split, inl, inr, name_in, next_of, no_some, put, refl, set_there, slice_get, slice_set, subst, sym, ℕ, ◌++◌, ◌<◌, ◌∙◌, ◌∷◌, ◌≡◌, ◌≤◌, ◌⊎◌}
 use Rattle.wasi_laws.proofs.shapes.Shape.{some_same, Lives, Follows}
 
 -- a close, of this socket
@@ -75,45 +75,39 @@ record_more C es fs r g n i = record {
   arrived = λ l new peer e a. g.made new (i.arrived l new peer e a);
 }
 
-pub record Opened (bound : ℕ) (es : List Entry) (sockets : List Tcp2Socket) (held : Option Operation) (standing : Option Standing) : Type 0 where
+pub record Opened (bound : ℕ) (es : List Entry) (sockets : List Tcp2Socket) : Type 0 where
   pub records : (place : ℕ) (r : Tcp2Socket) → slice_get sockets place ≡ Some r → RecordOpen es r
-  pub hand : (op : Operation) → held ≡ Some op → IsOpen es op.who.side
-  pub stands : (n place : ℕ) (op : Operation) → standing ≡ Some (standing_bind n place op) → IsOpen es op.who.side
   pub older : (x : OpId) → IsClosed es x → x.step < bound
 
 pub one_more : (es : List Entry) (op : OpId) (c : Call) (t : Told) → ((x : OpId) → Closes c x → ⊥) → Grows NoneCloses es (es ++ entry op c t ∷ [])
 one_more es op c t n = grows_entry NoneCloses es es op c t n (grows_none NoneCloses es)
 
-module _ {bound : ℕ} {sockets : List Tcp2Socket} {held : Option Operation} {standing : Option Standing} where
+module _ {bound : ℕ} {sockets : List Tcp2Socket} where
   -- asks that close nothing
-  pub opened_more : (es fs : List Entry) → Grows NoneCloses es fs → Opened bound es sockets held standing → Opened bound fs sockets held standing
+  pub opened_more : (es fs : List Entry) → Grows NoneCloses es fs → Opened bound es sockets → Opened bound fs sockets
   opened_more es fs g i = record {
     records = λ place r e. record_more NoneCloses es fs r g (λ x u n. n) (i.records place r e);
-    hand = λ op e. open_more NoneCloses es fs op.who.side g (λ n. n) (i.hand op e);
-    stands = λ n place op e. open_more NoneCloses es fs op.who.side g (λ n. n) (i.stands n place op e);
     older = λ x c. elim (g.closed x c) [ inl a ↦ i.older x a | inr n ↦ absurd n ];
   }
 
   -- a record changes, or there is one more
-  pub put_open : (es : List Entry) (place : ℕ) (now : Tcp2Socket) → RecordOpen es now → Opened bound es sockets held standing → Opened bound es (slice_set sockets place now) held standing
-  put_open es place now k i = record { records = λ n r e. elim (get_set sockets place now n r e) [ inl p ↦ subst (RecordOpen es) p.1 k | inr p ↦ i.records n r p ]; hand = i.hand; stands = i.stands; older = i.older }
+  pub put_open : (es : List Entry) (place : ℕ) (now : Tcp2Socket) → RecordOpen es now → Opened bound es sockets → Opened bound es (slice_set sockets place now)
+  put_open es place now k i = record { records = λ n r e. elim (get_set sockets place now n r e) [ inl p ↦ subst (RecordOpen es) p.1 k | inr p ↦ i.records n r p ]; older = i.older }
 
-  pub push_open : (es : List Entry) (now : Tcp2Socket) → RecordOpen es now → Opened bound es sockets held standing → Opened bound es (sockets ++ now ∷ []) held standing
-  push_open es now k i = record { records = λ n r e. elim (get_split sockets now n r e) [ inl p ↦ i.records n r p | inr p ↦ subst (RecordOpen es) p k ]; hand = i.hand; stands = i.stands; older = i.older }
+  pub push_open : (es : List Entry) (now : Tcp2Socket) → RecordOpen es now → Opened bound es sockets → Opened bound es (sockets ++ now ∷ [])
+  push_open es now k i = record { records = λ n r e. elim (get_split sockets now n r e) [ inl p ↦ i.records n r p | inr p ↦ subst (RecordOpen es) p k ]; older = i.older }
 
   -- more may be closed by now
-  pub later : (es : List Entry) (more : ℕ) → bound ≤ more → Opened bound es sockets held standing → Opened more es sockets held standing
-  later es more l i = record { records = i.records; hand = i.hand; stands = i.stands; older = λ x c. let o = i.older x c in omega (arith, o, l) }
+  pub later : (es : List Entry) (more : ℕ) → bound ≤ more → Opened bound es sockets → Opened more es sockets
+  later es more l i = record { records = i.records; older = λ x c. let o = i.older x c in omega (arith, o, l) }
 
 abbrev pub Kept : ℕ → List Entry → Here → Type 0
-Kept line es h = Opened (next_of line h.own) es h.machine.store.sockets h.hand h.machine.store.standing
+Kept line es h = Opened (next_of line h.own) es h.machine.store.sockets
 
 -- a side is closed: the record that claims it has it no more
-pub closed_put : (line : ℕ) (C : OpId → Type 0) (es fs : List Entry) (h : Here) (place : ℕ) (r now : Tcp2Socket) (side : OpId) → Found h place r → Claims side r → ((x : OpId) → C x → side ≡ x) → (HasIt now side → ⊥) → Grows C es fs → NoBind h → Named line h → RecordOpen es now → Kept line es h → Kept line fs (put h place now)
-closed_put line C es fs h place r now side g claims of none grows quiet named k i = record {
+pub closed_put : (line : ℕ) (C : OpId → Type 0) (es fs : List Entry) (h : Here) (place : ℕ) (r now : Tcp2Socket) (side : OpId) → Found h place r → Claims side r → ((x : OpId) → C x → side ≡ x) → (HasIt now side → ⊥) → Grows C es fs → Named line h → RecordOpen es now → Kept line es h → Kept line fs (put h place now)
+closed_put line C es fs h place r now side g claims of none grows named k i = record {
   records = λ n q e. record_more C es fs q grows (λ x u d. lacks n q e (subst (HasIt q) (sym (of x d)) u)) ((put_open es place now k i).records n q e);
-  hand = λ op e. absurd (no_some op (sym quiet.0 ∙ e));
-  stands = λ n p op e. absurd (subst NoBindStands e quiet.1);
   older = λ x c. elim (grows.closed x c) [ inl a ↦ i.older x a | inr d ↦ subst (λ (y : OpId). y.step < next_of line h.own) (of x d) (named.older side place r g claims) ];
 }
   where

@@ -3,10 +3,10 @@
 use Rattle.wasi_walks.proofs.Words.{Accepting, Accepts, Allows, Ask, AskWrite, Asks, Begins, Done, End, Entry, Err, ErrorCode, Give, Given}
 use Rattle.wasi_walks.proofs.Words.{HoldsAccept, IsAcceptOn, IsLeftOfAccept, Item, List, Listener, Listening, None, Not, Ok, OpId, Operation, Option}
 use Rattle.wasi_walks.proofs.Words.{Refused, Result, Socket, SocketAddressFamily, Some, Step, Tcp2, Tcp2Socket, TcpState, Waits, WasiSocketsCtx, []}
-use Rattle.wasi_walks.proofs.Words.{accept_ended, after_create, allows_if, allows_then, allows_weaker, ap, arith, arrived, bind, connect_ended}
-use Rattle.wasi_walks.proofs.Words.{create_asks, created_asks, give_up_asks, gone, inl, inr, left_of, length, make_asks, new_asks, new_record, own_of}
-use Rattle.wasi_walks.proofs.Words.{poll_asks, refl, side_in, side_of, slice_get, slice_set, subst, sym, told_addr, told_done, turn_asks, with_inner}
-use Rattle.wasi_walks.proofs.Words.{with_listening, with_state, with_writer, ℕ, ⊤, ◌++◌, ◌+◌, ◌<◌, ◌∙◌, ◌∷◌, ◌≡◌, ◌≤◌, ◌⊎◌}
+use Rattle.wasi_walks.proofs.Words.{accept_ended, after_create, allows_if, allows_then, allows_weaker, ap, arith, arrived, bind, bind_progress}
+use Rattle.wasi_walks.proofs.Words.{connect_ended, create_asks, created_asks, give_up_asks, gone, inl, inr, length, make_asks, new_asks, new_record}
+use Rattle.wasi_walks.proofs.Words.{own_of, poll_asks, refl, side_in, side_of, slice_get, slice_set, subst, sym, told_addr, told_done, turn_asks}
+use Rattle.wasi_walks.proofs.Words.{with_inner, with_listening, with_progress, with_state, with_writer, ℕ, ⊤, ◌++◌, ◌+◌, ◌<◌, ◌∙◌, ◌∷◌, ◌≡◌, ◌≤◌, ◌⊎◌}
 use Rattle.wasi_world.specs.Operation.{Connection}
 use Rattle.wasi_walks.proofs.walks.OnBase.{both, Above, stand}
 use Rattle.wasi_walks.proofs.licence.State.{name_in, accept_name}
@@ -14,7 +14,7 @@ use Rattle.wasi_walks.proofs.fits.Polls.{Anything}
 use Rattle.wasi_walks.proofs.fits.Records.{FitListening}
 use Rattle.wasi_walks.proofs.Lists.{split_place, get_set, get_split, set_there}
 use Rattle.wasi_walks.proofs.claims.Polls.{AllAskBut, Quietly, ArePlain, GivesOwn, own_poll}
-use Rattle.wasi_walks.proofs.walks.Moves.{closed_record, Own, Used, Unused, ToWrite, Here, put, Found, joined, second_of, new_accept, accepting_now, listen_after, beginning_listen, made_so, Held, InHand, Connects, Listens, Awaits, Move, Spends, Changes, ClosesReader, Writes, IsGone, Reconnects, Opens, BeginsConnect, BeginsBind, BeginsWrite, BeginsListen, BeginsAccept, Unlistens, Forgets, Joins}
+use Rattle.wasi_walks.proofs.walks.Moves.{closed_record, Own, Used, Unused, ToWrite, Here, put, Found, joined, second_of, new_accept, accepting_now, listen_after, beginning_listen, made_so, Held, BindsOn, Connects, Listens, Awaits, Move, Spends, Changes, ClosesReader, Writes, IsGone, Reconnects, Opens, BeginsConnect, BeginsBind, BeginsWrite, BeginsListen, BeginsAccept, Unlistens, Forgets, Joins}
 use Rattle.wasi_walks.proofs.walks.Law.{Law, Walks}
 use Rattle.wasi_walks.proofs.fits.Law.{Fit, told_same, whatever, fits, moves_fit, polls_fit, put_fit, created}
 use Rattle.wasi_tcp.specs.Accept as accept
@@ -194,13 +194,13 @@ module _ (contexts : List WasiSocketsCtx) (line : ℕ) (origin : Step) where
   moves_named _ _ (Changes h place r now g p) n = put_inner h place r now g p.side p.listening (λ x e. sym (ap side_in p.does) ∙ e) n
   moves_named _ _ (ClosesReader h place r s g e) n = put_inner h place r _ g refl refl (λ x e. e) n
   moves_named _ _ (Writes h place r s w g e m) n = put_inner h place r _ g refl refl (λ x e. e) n
-  moves_named _ _ (IsGone h place r g e) n = put_named line h place r (gone r r.inner) g (record { side = refl; accepts = λ x p. absurd (cc); named = λ x p. n.named x place r g p; held = λ op p. absurd (cc) }) n
+  moves_named _ _ (IsGone h place r q g e) n = put_named line h place r (gone r r.inner) g (record { side = refl; accepts = λ x p. absurd (cc); named = λ x p. n.named x place r g p; held = λ op p. absurd (cc) }) n
   moves_named _ _ (Reconnects h place r c now g e s t u) n = put_inner h place r _ g refl refl (λ x p. ap side_in e ∙ (ap (λ (y : OpId). Some y) (sym s) ∙ p)) n
-  moves_named _ _ (Opens h place r c g e k) n = put_inner h place r _ g refl refl (λ x p. ap side_in e ∙ p) n
-  moves_named _ _ (BeginsConnect h place r side a bound at g d to known own) n = put_spent h place r _ g refl refl (λ x p. ap side_in d ∙ p) n
-  moves_named _ _ (BeginsBind h place r side a at g d to own) n = let k = spends_named h n (by_line h.own) in record { one = k.one; apart = k.apart; older = k.older; named = k.named; held = k.held }
+  moves_named _ _ (Opens h place r c d g e k) n = put_inner h place r _ g refl refl (λ x p. ap side_in e ∙ p) n
+  moves_named _ _ (BeginsConnect h place r side a bound at g d to known idle own) n = put_spent h place r _ g refl refl (λ x p. ap side_in d ∙ p) n
+  moves_named _ _ (BeginsBind h place r side a at g d to idle own) n = put_spent h place r _ g refl refl (λ x p. p) n
   moves_named _ _ (BeginsWrite h place r s half permit bytes at g e w within own) n = put_spent h place r _ g refl refl (λ x p. p) n
-  moves_named _ _ (BeginsListen h place r side at g d bound none to own) n =
+  moves_named _ _ (BeginsListen h place r side at g d bound none to idle own) n =
       let now = beginning_listen (own_of line) side r in
       spends_named (put h place now) (put_named line h place r now g (record { side = refl; accepts = λ x e. absurd (cc); named = λ x e. absurd (cc); held = λ op e. (let s = n.named side place r g (ap side_in d) in let p : Begins _ ≡ Begins op = e in (its side op r e s, refl)) }) n) (by_line h.own)
     where
@@ -235,8 +235,8 @@ module _ (contexts : List WasiSocketsCtx) (line : ℕ) (origin : Step) where
   Base h = Fit h × Named line h
 
   names_polled : (es : List Entry) (h : Here) (op : Operation) (after : End × List Item → Here) → Held h op after → Base h → Allows Anything (λ fs ended. Named line (after ended)) es (poll_asks op)
-  names_polled es h _ _ (InHand op e) n = whatever (λ ended. Named line (record h { hand = Some (left_of op ended.1) })) (λ ended. let k = n.1 in record { one = k.one; apart = k.apart; older = k.older; named = k.named; held = k.held }) es _
-  names_polled es h _ _ (Connects place r op q g e) n =
+  names_polled es h _ _ (BindsOn place r op q g e) n = whatever (λ ended. Named line (put h place (with_progress r (bind_progress op ended)))) (λ ended. put_inner h place r _ g refl refl (λ x p. p) n.1) es _
+  names_polled es h _ _ (Connects place r op g e) n =
       whatever (λ ended. Named line (put h place (with_inner r (with_state r.inner (connect_ended op.who ended).1)))) (λ ended. put_inner h place r _ g refl refl (λ x p. ap side_in e ∙ ended_sides op ended x p) n.1) es _
   names_polled es h _ _ (Listens place r op q g e c) n = whatever (λ ended. Named line (put h place (listen_after op r ended))) (λ ended. put_named line h place r _ g (listened_names h place r op ended g e n.1) n.1) es _
   names_polled es h _ _ (Awaits place r l op g e a) n =
@@ -283,14 +283,14 @@ module _ (contexts : List WasiSocketsCtx) (line : ℕ) (origin : Step) where
         sets = λ es h place r side b at g s is i. (tt, λ told k. i);
         learns = λ es h place r side at g e i. (tt, λ told k. ((f.learns es h place r side at g e i.0).1 told k, put_inner h place r _ g refl refl (λ x p. sym (ap side_in (told_same r.inner (told_addr told))) ∙ p) i.1));
         closes = λ es h place r side q g e i. (tt, λ told k. ((f.closes es h place r side q g e i.0).1 told k, put_named line h place r (closed_record r) g (record { side = refl; accepts = λ x p. absurd (cc); named = λ x p. absurd (cc); held = λ op p. absurd (cc) }) i.1));
-        marks = λ es h kind parent sock m i. whatever (λ made. Base (record h { machine = record h.machine { table = made.1 } })) (λ made. let k = i.1 in (record { records = i.0.records; stands = i.0.stands; hand = i.0.hand }, record { one = k.one; apart = k.apart; older = k.older; named = k.named; held = k.held })) es _;
+        marks = λ es h kind parent sock m i. whatever (λ made. Base (record h { machine = record h.machine { table = made.1 } })) (λ made. let k = i.1 in (record { records = i.0.records; stands = i.0.stands }, record { one = k.one; apart = k.apart; older = k.older; named = k.named; held = k.held })) es _;
         creates = λ es h ctx family c a o m i. both Anything Anything (λ fs done. Named line (record h { machine = done.1; own = Used })) (λ fs done. Fit (record h { machine = done.1; own = Used })) es _ (created_named es h ctx family o i.1) (created contexts line origin es h (own_of line) ctx family i.0);
-        accepted = λ es h c s place r is e o g i. whatever (λ made. Base (record h { machine = record h.machine { table = made.1 }; made = made_so place made.0 })) (λ made. let k = i.1 in (record { records = i.0.records; stands = i.0.stands; hand = i.0.hand }, record { one = k.one; apart = k.apart; older = k.older; named = k.named; held = k.held })) es _;
+        accepted = λ es h c s place r is e o g i. whatever (λ made. Base (record h { machine = record h.machine { table = made.1 }; made = made_so place made.0 })) (λ made. let k = i.1 in (record { records = i.0.records; stands = i.0.stands }, record { one = k.one; apart = k.apart; older = k.older; named = k.named; held = k.held })) es _;
         polls = λ es h op after k i. both Anything Anything (λ fs ended. Named line (after ended)) (λ fs ended. Fit (after ended)) es _ (names_polled es h op after k i) (polls_fit contexts line origin es h op after k i.0);
-        turns = λ es h place r s g e i. whatever (λ done. Base (put h place (with_writer r s done.1))) (λ done. (put_fit h place _ (i.0.records place r g) i.0, put_inner h place r _ g refl refl (λ x p. p) i.1)) es (turn_asks s.writer);
-        gives_up = λ es h place r q g i.
+        turns = λ es h place r s g e i. whatever (λ done. Base (put h place (with_writer r s done.1))) (λ done. (put_fit h place r _ g (inr (λ b. b)) (i.0.records place r g) i.0, put_inner h place r _ g refl refl (λ x p. p) i.1)) es (turn_asks s.writer);
+        gives_up = λ es h place r g i.
             whatever (λ done. Base (put h place (with_listening r Not)))
-            (λ done. (put_fit h place _ ((i.0.records place r g).0, tt) i.0, put_named line h place r (with_listening r Not) g (listening_names h place r Not g (λ x p. absurd (cc)) (λ op p. absurd (cc)) i.1) i.1)) es (give_up_asks r.listening);
+            (λ done. let b = i.0.records place r g in (put_fit h place r _ g (inr (λ x. x)) (b.0, tt, b.2) i.0, put_named line h place r (with_listening r Not) g (listening_names h place r Not g (λ x p. absurd (cc)) (λ op p. absurd (cc)) i.1) i.1)) es (give_up_asks r.listening);
       }
 
   -- the laws that stand on it

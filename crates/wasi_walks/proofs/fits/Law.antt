@@ -1,19 +1,19 @@
--- The law that what a socket connects by is a connect, what a listener accepts by is an accept, and what stands by a bind is a
--- bind, and by a listen a listen.
+-- The law that what a socket is bound by is a bind, what it connects by a connect, what a listener accepts by an accept, and that
+-- a bind goes on where one stands.
 use Rattle.wasi_walks.proofs.Words.{Accepting, Allows, Ask, AskWrite, Asks, Bool, Done, End, Entry, Err, ErrorCode, Give, Given, HoldsAccept}
-use Rattle.wasi_walks.proofs.Words.{HoldsConnect, IpSocketAddress, IsAcceptOn, IsConnect, IsLeftOfBind, IsLeftOfConnect, IsLeftOfListen, IsRestOfBind}
+use Rattle.wasi_walks.proofs.Words.{HoldsConnect, InProgress, IpSocketAddress, IsAcceptOn, IsConnect, IsLeftOfBind, IsLeftOfConnect, IsLeftOfListen}
 use Rattle.wasi_walks.proofs.Words.{Item, List, Listener, None, Not, Ok, OpId, Operation, Refused, Result, Socket, SocketAddressFamily, Some}
-use Rattle.wasi_walks.proofs.Words.{Standing, Step, Tcp2, Tcp2Socket, Waits, WasiSocketsCtx, accept_ended, after_create, after_local, allows_if}
-use Rattle.wasi_walks.proofs.Words.{allows_then, allows_weaker, arrived, bind, connect_ended, connect_first, connect_operation, create_asks}
-use Rattle.wasi_walks.proofs.Words.{created_asks, false, give_up_asks, if◌then◌else◌, inl, inr, is_wildcard, left_of, length, make_asks, new_asks}
-use Rattle.wasi_walks.proofs.Words.{new_record, own_of, poll_asks, refl, side_of, slice_set, standing_bind, standing_drop, standing_listen, subst}
-use Rattle.wasi_walks.proofs.Words.{sym, told_addr, told_done, true, turn_asks, wildcard, with_inner, with_listening, with_state, with_writer, ℕ, ⊤}
-use Rattle.wasi_walks.proofs.Words.{◌≡◌}
+use Rattle.wasi_walks.proofs.Words.{Standing, StandingCall, Step, Tcp2, Tcp2Socket, TcpState, Waits, WasiSocketsCtx, [], accept_ended, after_create}
+use Rattle.wasi_walks.proofs.Words.{after_local, allows_if, allows_then, allows_weaker, ap, arrived, bind, bind_progress, call_place, connect_ended}
+use Rattle.wasi_walks.proofs.Words.{connect_first, connect_operation, create_asks, created_asks, false, give_up_asks, if◌then◌else◌, inl, inr}
+use Rattle.wasi_walks.proofs.Words.{is_nothing, is_wildcard, length, make_asks, new_asks, new_record, own_of, poll_asks, refl, side_of, slice_get}
+use Rattle.wasi_walks.proofs.Words.{slice_set, standing_as, subst, sym, told_addr, told_done, true, turn_asks, wildcard, with_inner, with_listening}
+use Rattle.wasi_walks.proofs.Words.{with_progress, with_state, with_writer, ℕ, ⊤, ◌++◌, ◌∙◌, ◌∷◌, ◌≡◌, ◌⊎◌}
 use Rattle.wasi_world.specs.Operation.{Connection}
 use Rattle.wasi_tcp.specs.Listen.{IsListen}
-use Rattle.wasi_walks.proofs.walks.Moves.{closed_record, Held, InHand, Connects, Used, Here, put, Move, Changes, ClosesReader, Writes, IsGone, Reconnects, Opens, BeginsConnect, BeginsBind, BeginsWrite, Stands, Resumes, Ends, BeginsListen, BeginsAccept, Unlistens, Forgets, Joins, StandsListen, StandsDrop, Unstands, Listens, Awaits, listen_after, accepting_now, beginning_listen, new_accept, joined, made_so, Found}
-use Rattle.wasi_walks.proofs.fits.Records.{FitListening, FitRecord, FitCall}
-use Rattle.wasi_walks.proofs.Lists.{get_set, get_split}
+use Rattle.wasi_walks.proofs.walks.Moves.{NoBind, NoBindIn, NoBindStands, IsSettled, KeepsBinding, HasBinding, GoesOn, begun_bind, closed_record, Held, BindsOn, Connects, Used, Here, put, Move, Changes, ClosesReader, Writes, IsGone, Reconnects, Opens, BeginsConnect, BeginsBind, BeginsWrite, Stands, BeginsListen, BeginsAccept, Unlistens, Forgets, Joins, Unstands, Listens, Awaits, listen_after, accepting_now, beginning_listen, new_accept, joined, made_so, Found}
+use Rattle.wasi_walks.proofs.fits.Records.{BindGoesOn, FitListening, FitProgress, FitRecord, FitCall}
+use Rattle.wasi_walks.proofs.Lists.{get_front, get_set, get_split, set_get}
 use Rattle.wasi_walks.proofs.fits.Polls.{Anything, bind_left, connect_left, listen_left, accept_left, AcceptLeaves}
 use Rattle.wasi_walks.proofs.walks.Law.{Law, Walks}
 use Rattle.wasi_tcp.specs.Accept as accept
@@ -21,22 +21,81 @@ use Rattle.wasi_tcp.specs.Listen as listen
 use Rattle.wasi_tcp.specs.Connect as connect
 use Rattle.wasi_walks.specs.Waiting as binding
 
--- Each record fits, and so do the bind in hand and the call that stands.
+-- Each record fits, and so does the call that stands.
 pub record Fit (h : Here) : Type 0 where
   pub records : (place : ℕ) (r : Tcp2Socket) → Found h place r → FitRecord r
-  pub stands : (c : Standing) → h.machine.store.standing ≡ Some c → FitCall c.call
-  pub hand : (op : Operation) → h.hand ≡ Some op → IsRestOfBind op
+  pub stands : (c : Standing) → h.machine.store.standing ≡ Some c → FitCall h.machine.store.sockets c.call
+
+-- no bind stands, or the record goes on with its bind
+abbrev pub KeepsBind : Here → Tcp2Socket → Tcp2Socket → Type 0
+KeepsBind h r now = NoBind h ⊎ (HasBinding r.in_progress → HasBinding now.in_progress)
 
 -- one record changes
-pub put_fit : (h : Here) (place : ℕ) (now : Tcp2Socket) → FitRecord now → Fit h → Fit (put h place now)
-put_fit h place now f i = record {
-  records = λ k r e. elim (get_set h.machine.store.sockets place now k r e) [ inl p ↦ subst FitRecord p.1 f | inr p ↦ i.records k r p ];
-  stands = i.stands;
-  hand = i.hand;
-}
+module _ (h : Here) (place : ℕ) (r now : Tcp2Socket) (g : Found h place r) (k : KeepsBind h r now) where
+  call_put : (c : Standing) → h.machine.store.standing ≡ Some c → (call : StandingCall) → c.call ≡ call → FitCall h.machine.store.sockets call → FitCall (slice_set h.machine.store.sockets place now) call
+  call_put c e (StandingCall.Bind n) q b = elim (set_get h.machine.store.sockets place now n b.was b.at) [
+    | inl p ↦ record { was = b.was; at = p; goes = b.goes }
+    | inr p ↦ record { was = now; at = p.1; goes = goes (ap (slice_get h.machine.store.sockets) (sym p.0) ∙ b.at) }
+  ]
+    where
+      none : NoBind h → ⊥
+      none quiet = subst NoBindIn q (subst NoBindStands e quiet)
 
-pub in_hand : (h : Here) (op : Operation) → IsRestOfBind op → Fit h → Fit (record h { hand = Some op })
-in_hand h op f i = record { records = i.records; stands = i.stands; hand = λ o e. let p : op ≡ o = cc in subst IsRestOfBind p f }
+      goes : slice_get h.machine.store.sockets place ≡ Some b.was → HasBinding now.in_progress
+      goes at = let same : b.was ≡ r = cc in elim k [ inl quiet ↦ absurd (none quiet) | inr f ↦ f (subst (λ (x : Tcp2Socket). HasBinding x.in_progress) same b.goes) ]
+  call_put c e (StandingCall.Listen n) q b = tt
+  call_put c e (StandingCall.DropOutput n) q b = tt
+
+  pub put_fit : FitRecord now → Fit h → Fit (put h place now)
+  put_fit f i = record {
+    records = λ k r e. elim (get_set h.machine.store.sockets place now k r e) [ inl p ↦ subst FitRecord p.1 f | inr p ↦ i.records k r p ];
+    stands = λ c e. call_put c e c.call refl (i.stands c e);
+  }
+
+-- one joins them
+call_push : (sockets : List Tcp2Socket) (now : Tcp2Socket) (call : StandingCall) → FitCall sockets call → FitCall (sockets ++ now ∷ []) call
+call_push sockets now (StandingCall.Bind n) b = record { was = b.was; at = get_front sockets (now ∷ []) n b.was b.at; goes = b.goes }
+call_push sockets now (StandingCall.Listen n) b = tt
+call_push sockets now (StandingCall.DropOutput n) b = tt
+
+call_stands : (sockets : List Tcp2Socket) (call : StandingCall) (r : Tcp2Socket) → slice_get sockets (call_place call) ≡ Some r → GoesOn call r → FitCall sockets call
+call_stands sockets (StandingCall.Bind n) r g k = record { was = r; at = g; goes = k }
+call_stands sockets (StandingCall.Listen n) r g k = tt
+call_stands sockets (StandingCall.DropOutput n) r g k = tt
+
+-- a bind that goes on is of a socket that does nothing yet, and so is none of any other
+pub not_binding : {s t : TcpState} (doing : InProgress) → s ≡ t → ((side : OpId) → t ≡ TcpState.Default side → ⊥) → FitProgress s doing → (u : TcpState) → FitProgress u doing
+not_binding (InProgress.Binding op) e n f u = absurd (n op.who.side (sym e ∙ f.0))
+not_binding InProgress.Nothing e n f u = tt
+not_binding (InProgress.Started o) e n f u = tt
+
+pub same_progress : {s t : TcpState} (doing : InProgress) → t ≡ s → FitProgress s doing → FitProgress t doing
+same_progress doing e f = subst (λ (x : TcpState). FitProgress x doing) (sym e) f
+
+settled_progress : (doing : InProgress) (s : TcpState) → IsSettled doing → FitProgress s doing
+settled_progress (InProgress.Binding op) s k = absurd k
+settled_progress InProgress.Nothing s k = tt
+settled_progress (InProgress.Started o) s k = tt
+
+kept_progress : (old now : InProgress) (s : TcpState) → KeepsBinding old now → FitProgress s old → FitProgress s now
+kept_progress old now s (inl e) f = subst (FitProgress s) (sym e) f
+kept_progress old now s (inr k) f = settled_progress now s k.1
+
+kept_binding : (old now : InProgress) → KeepsBinding old now → HasBinding old → HasBinding now
+kept_binding old now (inl e) b = subst HasBinding (sym e) b
+kept_binding (InProgress.Binding op) now (inr k) b = absurd k.0
+kept_binding InProgress.Nothing now (inr k) b = absurd b
+kept_binding (InProgress.Started o) now (inr k) b = absurd b
+
+no_binding : (doing : InProgress) → IsSettled doing → HasBinding doing → ⊥
+no_binding (InProgress.Binding op) k b = k
+no_binding InProgress.Nothing k b = b
+no_binding (InProgress.Started o) k b = b
+
+idle_binding : (doing : InProgress) → is_nothing doing ≡ true → (s : TcpState) → FitProgress s doing
+idle_binding InProgress.Nothing e s = tt
+idle_binding (InProgress.Binding op) e s = absurd (cc)
+idle_binding (InProgress.Started o) e s = tt
 
 pub told_same : (socket : Socket) (told : Result IpSocketAddress ErrorCode) → (after_local socket told).1.state ≡ socket.state
 told_same socket (Ok a) = by_test (is_wildcard socket.family a)
@@ -61,10 +120,16 @@ pub ended_fits : (op : Operation) (end : End × List Item) → IsConnect op → 
 ended_fits op (Waits, items) its k = record { last = its.last; left = k }
 ended_fits op _ its k = tt
 
-listened_fits : (op : Operation) (r : Tcp2Socket) (end : End × List Item) → IsListen op → IsLeftOfListen end.1 → HoldsConnect r.inner.state → FitRecord (listen_after op r end)
-listened_fits op r (Waits, items) its k c = (c, record { last = its.last; left = k })
-listened_fits op r (Done given, items) its k c = (tt, tt)
-listened_fits op r (Refused why given, items) its k c = (c, tt)
+listened_fits : (op : Operation) (r : Tcp2Socket) (end : End × List Item) → IsListen op → IsLeftOfListen end.1 → FitRecord r → FitRecord (listen_after op r end)
+listened_fits op r (Waits, items) its k f = (f.0, record { last = its.last; left = k }, f.2)
+listened_fits op r (Done given, items) its k f = (tt, tt, tt)
+listened_fits op r (Refused why given, items) its k f = (f.0, tt, f.2)
+
+-- what is left of a bind, of the same socket
+bound_fits : (op : Operation) (r : Tcp2Socket) (end : End × List Item) → r.in_progress ≡ InProgress.Binding op → IsLeftOfBind end.1 → FitRecord r → FitRecord (with_progress r (bind_progress op end))
+bound_fits op r (Waits, items) e k f = let its = subst (FitProgress r.inner.state) e f.2 in (f.0, f.1, (its.0, record { last = its.1.last; left = k }))
+bound_fits op r (Done given, items) e k f = (f.0, f.1, tt)
+bound_fits op r (Refused why given, items) e k f = (f.0, f.1, tt)
 
 given_fits : (side : OpId) (maker : ℕ) (given : Given) → HoldsAccept side maker (arrived given)
 given_fits side maker (Connection new peer) = tt
@@ -77,36 +142,43 @@ accepted_fits side maker op (Refused c given, items) its k = tt
 
 -- the record of what was accepted
 joined_fits : (l : Listener) (new : OpId) (peer : IpSocketAddress) → FitRecord (joined l new peer)
-joined_fits l new peer = (tt, tt)
+joined_fits l new peer = (tt, tt, tt)
 
 module _ (contexts : List WasiSocketsCtx) (line : ℕ) (origin : Step) where
   pub moves_fit : (h now : Here) → Move line origin h now → Fit h → Fit now
-  moves_fit _ _ (Changes h place r now g p) i = let f = i.records place r g in put_fit h place now (subst HoldsConnect (sym p.does) f.0, subst FitListening (sym p.listening) f.1) i
-  moves_fit _ _ (ClosesReader h place r s g e) i = put_fit h place _ (i.records place r g) i
-  moves_fit _ _ (Writes h place r s w g e m) i = put_fit h place _ (i.records place r g) i
-  moves_fit _ _ (IsGone h place r g e) i = put_fit h place _ ((i.records place r g).0, tt) i
-  moves_fit _ _ (Reconnects h place r c now g e s t u) i = put_fit h place _ (tt, (i.records place r g).1) i
-  moves_fit _ _ (Opens h place r c g e n) i = put_fit h place _ (tt, (i.records place r g).1) i
-  moves_fit _ _ (BeginsConnect h place r side a bound at g d to known own) i = let k = put_fit h place _ (first_of (own_of line) side r.inner.maker (wildcard r.inner.family) a bound, (i.records place r g).1) i in record { records = k.records; stands = k.stands; hand = k.hand }
-  moves_fit _ _ (BeginsBind h place r side a at g d to own) i = let k = in_hand h _ (record { last = refl; left = binding.Unchecked a }) i in record { records = k.records; stands = k.stands; hand = k.hand }
-  moves_fit _ _ (BeginsWrite h place r s half permit bytes at g e w within own) i = let k = put_fit h place _ (i.records place r g) i in record { records = k.records; stands = k.stands; hand = k.hand }
-  moves_fit _ _ (BeginsListen h place r side at g d bound none to own) i =
-      let k = put_fit h place (beginning_listen (own_of line) side r) (tt, record { last = refl; left = listen.BoundBefore r.inner.backlog }) i in record { records = k.records; stands = k.stands; hand = k.hand }
+  moves_fit _ _ (Changes h place r now g p) i =
+      let f = i.records place r g in
+      put_fit h place r now g (inr (kept_binding r.in_progress now.in_progress p.binds))
+      (subst HoldsConnect (sym p.does) f.0, subst FitListening (sym p.listening) f.1, same_progress now.in_progress p.does (kept_progress r.in_progress now.in_progress r.inner.state p.binds f.2)) i
+  moves_fit _ _ (ClosesReader h place r s g e) i = put_fit h place r _ g (inr (λ b. b)) (i.records place r g) i
+  moves_fit _ _ (Writes h place r s w g e m) i = put_fit h place r _ g (inr (λ b. b)) (i.records place r g) i
+  moves_fit _ _ (IsGone h place r q g e) i = put_fit h place r _ g (inl q) ((i.records place r g).0, tt, tt) i
+  moves_fit _ _ (Reconnects h place r c now g e s t u) i = let f = i.records place r g in put_fit h place r _ g (inr (λ b. b)) (tt, f.1, not_binding r.in_progress e (λ side d. absurd (cc)) f.2 _) i
+  moves_fit _ _ (Opens h place r c k g e n) i = put_fit h place r _ g (inr (λ b. absurd (no_binding r.in_progress k b))) (tt, (i.records place r g).1, tt) i
+  moves_fit _ _ (BeginsConnect h place r side a bound at g d to known idle own) i =
+      let k = put_fit h place r _ g (inr (λ b. b)) (first_of (own_of line) side r.inner.maker (wildcard r.inner.family) a bound, (i.records place r g).1, idle_binding r.in_progress idle _) i in record { records = k.records; stands = k.stands }
+  moves_fit _ _ (BeginsBind h place r side a at g d to idle own) i =
+      let f = i.records place r g in
+      let k = put_fit h place r (with_progress r (InProgress.Binding (begun_bind (own_of line) side r a))) g (inr (λ b. tt)) (f.0, f.1, (d, record { last = refl; left = binding.Unchecked a })) i in record { records = k.records; stands = k.stands }
+  moves_fit _ _ (BeginsWrite h place r s half permit bytes at g e w within own) i = let k = put_fit h place r _ g (inr (λ b. b)) (i.records place r g) i in record { records = k.records; stands = k.stands }
+  moves_fit _ _ (BeginsListen h place r side at g d bound none to idle own) i =
+      let k = put_fit h place r (beginning_listen (own_of line) side r) g (inr (λ b. b)) (tt, record { last = refl; left = listen.BoundBefore r.inner.backlog }, idle_binding r.in_progress idle _) i in record { records = k.records; stands = k.stands }
   moves_fit _ _ (BeginsAccept h place r l at g e a own) i =
-      let k = put_fit h place (accepting_now r l (new_accept line l)) ((i.records place r g).0, record { accept = record { last = refl; left = accept.Unarrived }; of_side = refl; of_maker = refl; going = refl }) i in record { records = k.records; stands = k.stands; hand = k.hand }
-  moves_fit _ _ (Unlistens h place r op g e c o) i = put_fit h place _ ((i.records place r g).0, tt) i
-  moves_fit _ _ (Forgets h place r l c g e a) i = put_fit h place _ ((i.records place r g).0, tt) i
+      let f = i.records place r g in
+      let k = put_fit h place r (accepting_now r l (new_accept line l)) g (inr (λ b. b)) (f.0, record { accept = record { last = refl; left = accept.Unarrived }; of_side = refl; of_maker = refl; going = refl }, f.2) i in record { records = k.records; stands = k.stands }
+  moves_fit _ _ (Unlistens h place r op g e c o) i = let f = i.records place r g in put_fit h place r _ g (inr (λ b. b)) (f.0, tt, f.2) i
+  moves_fit _ _ (Forgets h place r l c g e a) i = let f = i.records place r g in put_fit h place r _ g (inr (λ b. b)) (f.0, tt, f.2) i
   moves_fit _ _ (Joins h c handle place r l new peer is of u g e a) i =
-      let k = put_fit h place (accepting_now r l Accepting.Idle) ((i.records place r g).0, tt) i in
-      record { records = λ p q d. elim (get_split (slice_set h.machine.store.sockets place (accepting_now r l Accepting.Idle)) (joined l new peer) p q d) [ inl x ↦ k.records p q x | inr x ↦ subst FitRecord x (joined_fits l new peer) ]; stands = k.stands; hand = k.hand }
-  moves_fit _ _ (StandsListen h n place r f) i = record { records = i.records; stands = λ c p. let q : standing_listen n place ≡ c = cc in subst (λ (x : Standing). FitCall x.call) q tt; hand = i.hand }
-  moves_fit _ _ (StandsDrop h n place r at g) i = record { records = i.records; stands = λ c p. let q : standing_drop n place ≡ c = cc in subst (λ (x : Standing). FitCall x.call) q tt; hand = i.hand }
-  moves_fit _ _ (Unstands h) i = record { records = i.records; stands = λ c p. absurd (cc); hand = i.hand }
-  moves_fit _ _ (Stands h n place r op f e) i =
-      record { records = i.records; stands = λ c p. let q : standing_bind n place op ≡ c = cc in subst (λ (x : Standing). FitCall x.call) q (i.hand op e); hand = λ o p. absurd (cc) }
-  moves_fit _ _ (Resumes h n place op e) i = let k = in_hand h op (i.stands (standing_bind n place op) e) i in record { records = k.records; stands = λ c p. absurd (cc); hand = k.hand }
-  moves_fit _ _ (Ends h) i = record { records = i.records; stands = i.stands; hand = λ o p. absurd (cc) }
-  moves_fit _ _ _ i = record { records = i.records; stands = i.stands; hand = i.hand }
+      let f = i.records place r g in
+      let idle : Tcp2Socket = accepting_now r l Accepting.Idle in
+      let k = put_fit h place r idle g (inr (λ b. b)) (f.0, tt, f.2) i in
+      record {
+        records = λ p q d. elim (get_split (slice_set h.machine.store.sockets place idle) (joined l new peer) p q d) [ inl x ↦ k.records p q x | inr x ↦ subst FitRecord x (joined_fits l new peer) ];
+        stands = λ c e. call_push (slice_set h.machine.store.sockets place idle) (joined l new peer) c.call (k.stands c e);
+      }
+  moves_fit _ _ (Stands h n call r at g b) i = record { records = i.records; stands = λ c p. let q : standing_as n call ≡ c = cc in subst (λ (x : Standing). FitCall h.machine.store.sockets x.call) q (call_stands h.machine.store.sockets call r g b) }
+  moves_fit _ _ (Unstands h) i = record { records = i.records; stands = λ c p. absurd (cc) }
+  moves_fit _ _ _ i = record { records = i.records; stands = i.stands }
 
   -- a socket that is created connects by nothing
   abbrev pub MadeFits : Result Socket ErrorCode → Type 0
@@ -125,30 +197,34 @@ module _ (contexts : List WasiSocketsCtx) (line : ℕ) (origin : Step) where
   joins es h op (Ok socket) f i =
       allows_then Anything (λ fs made. ⊤) (λ fs done. Fit (record h { machine = done.1; own = Used })) es (make_asks h.machine.table op (Tcp2 (length h.machine.store.sockets)) None (side_of socket)) _ (whatever (λ made. ⊤) (λ made. tt) es _)
       (λ fs made t. record {
-        records = λ p r e. elim (get_split h.machine.store.sockets (new_record socket) p r e) [ inl q ↦ i.records p r q | inr q ↦ subst FitRecord q (f, tt) ];
-        stands = i.stands;
-        hand = i.hand;
+        records = λ p r e. elim (get_split h.machine.store.sockets (new_record socket) p r e) [ inl q ↦ i.records p r q | inr q ↦ subst FitRecord q (f, tt, tt) ];
+        stands = λ c e. call_push h.machine.store.sockets (new_record socket) c.call (i.stands c e);
       })
-  joins es h op (Err c) f i = record { records = i.records; stands = i.stands; hand = i.hand }
+  joins es h op (Err c) f i = record { records = i.records; stands = i.stands }
 
   pub created : (es : List Entry) (h : Here) (op : OpId) (ctx : WasiSocketsCtx) (family : SocketAddressFamily) → Fit h → Allows Anything (λ fs done. Fit (record h { machine = done.1; own = Used })) es (create_asks h.machine op ctx family)
   created es h op ctx family i =
       allows_then Anything (λ fs made. MadeFits made) (λ fs done. Fit (record h { machine = done.1; own = Used })) es (new_asks op ctx family) (created_asks h.machine op) (made_fits es op ctx family) (λ fs made k. joins fs h op made k i)
 
   pub polls_fit : (es : List Entry) (h : Here) (op : Operation) (after : End × List Item → Here) → Held h op after → Fit h → Allows Anything (λ fs ended. Fit (after ended)) es (poll_asks op)
-  polls_fit es h _ _ (InHand op e) i = allows_weaker Anything (λ fs end. IsLeftOfBind end.1) (λ fs end. Fit (record h { hand = Some (left_of op end.1) })) (λ fs end k. in_hand h _ (record { last = (i.hand op e).last; left = k }) i) es (poll_asks op) (bind_left op (i.hand op e) es)
-  polls_fit es h _ _ (Connects place r op q g e) i =
+  polls_fit es h _ _ (BindsOn place r op q g e) i =
+      let f = i.records place r g in
+      let its = subst (FitProgress r.inner.state) e f.2 in
+      allows_weaker Anything (λ fs end. IsLeftOfBind end.1) (λ fs end. Fit (put h place (with_progress r (bind_progress op end)))) (λ fs end k. put_fit h place r _ g (inl q) (bound_fits op r end e k f) i) es (poll_asks op) (bind_left op its.1 es)
+  polls_fit es h _ _ (Connects place r op g e) i =
       let f = i.records place r g in
       let its : IsConnect op = subst HoldsConnect e f.0 in
-      allows_weaker Anything (λ fs end. IsLeftOfConnect end.1) (λ fs end. Fit (put h place (with_inner r (with_state r.inner (connect_ended op.who end).1)))) (λ fs end k. put_fit h place _ (ended_fits op end its k, f.1) i) es (poll_asks op) (connect_left op its es)
+      allows_weaker Anything (λ fs end. IsLeftOfConnect end.1) (λ fs end. Fit (put h place (with_inner r (with_state r.inner (connect_ended op.who end).1))))
+      (λ fs end k. put_fit h place r _ g (inr (λ b. b)) (ended_fits op end its k, f.1, not_binding r.in_progress e (λ side d. absurd (cc)) f.2 _) i) es (poll_asks op) (connect_left op its es)
   polls_fit es h _ _ (Listens place r op q g e c) i =
       let f = i.records place r g in
       let its : IsListen op = subst FitListening e f.1 in
-      allows_weaker Anything (λ fs end. IsLeftOfListen end.1) (λ fs end. Fit (put h place (listen_after op r end))) (λ fs end k. put_fit h place _ (listened_fits op r end its k f.0) i) es (poll_asks op) (listen_left op its es)
+      allows_weaker Anything (λ fs end. IsLeftOfListen end.1) (λ fs end. Fit (put h place (listen_after op r end))) (λ fs end k. put_fit h place r _ g (inl q) (listened_fits op r end its k f) i) es (poll_asks op) (listen_left op its es)
   polls_fit es h _ _ (Awaits place r l op g e a) i =
       let f = i.records place r g in
       let its : IsAcceptOn l.side l.maker op = subst (HoldsAccept l.side l.maker) a (subst FitListening e f.1) in
-      allows_weaker Anything (λ fs end. AcceptLeaves end) (λ fs end. Fit (put h place (accepting_now r l (accept_ended op.who end)))) (λ fs end k. put_fit h place _ (f.0, accepted_fits l.side l.maker op end its k) i) es (poll_asks op) (accept_left op its.accept its.going es)
+      allows_weaker Anything (λ fs end. AcceptLeaves end) (λ fs end. Fit (put h place (accepting_now r l (accept_ended op.who end))))
+      (λ fs end k. put_fit h place r _ g (inr (λ b. b)) (f.0, accepted_fits l.side l.maker op end its k, f.2) i) es (poll_asks op) (accept_left op its.accept its.going es)
 
   unfoldable pub fits : Law contexts line origin
   fits = record {
@@ -157,14 +233,14 @@ module _ (contexts : List WasiSocketsCtx) (line : ℕ) (origin : Step) where
     moves = λ es h now m i. moves_fit h now m i;
     asks = λ es h place n r side c at g o q i. (tt, λ told fits. i);
     sets = λ es h place r side b at g s is i. (tt, λ told fits. i);
-    learns = λ es h place r side at g e i. (tt, λ told fits. let f = i.records place r g in put_fit h place _ (subst HoldsConnect (sym (told_same r.inner (told_addr told))) f.0, f.1) i);
-    closes = λ es h place r side q g e i. (tt, λ told fits. put_fit h place (closed_record r) (tt, tt) i);
-    marks = λ es h kind parent sock m i. whatever (λ made. Fit (record h { machine = record h.machine { table = made.1 } })) (λ made. record { records = i.records; stands = i.stands; hand = i.hand }) es _;
+    learns = λ es h place r side at g e i. (tt, λ told fits. let f = i.records place r g in put_fit h place r _ g (inr (λ b. b)) (subst HoldsConnect (sym (told_same r.inner (told_addr told))) f.0, f.1, same_progress r.in_progress (told_same r.inner (told_addr told)) f.2) i);
+    closes = λ es h place r side q g e i. (tt, λ told fits. put_fit h place r (closed_record r) g (inl q) (tt, tt, tt) i);
+    marks = λ es h kind parent sock m i. whatever (λ made. Fit (record h { machine = record h.machine { table = made.1 } })) (λ made. record { records = i.records; stands = i.stands }) es _;
     creates = λ es h ctx family c a o m i. created es h (own_of line) ctx family i;
-    accepted = λ es h c s place r is e o g i. whatever (λ made. Fit (record h { machine = record h.machine { table = made.1 }; made = made_so place made.0 })) (λ made. record { records = i.records; stands = i.stands; hand = i.hand }) es _;
+    accepted = λ es h c s place r is e o g i. whatever (λ made. Fit (record h { machine = record h.machine { table = made.1 }; made = made_so place made.0 })) (λ made. record { records = i.records; stands = i.stands }) es _;
     polls = polls_fit;
-    turns = λ es h place r s g e i. whatever (λ done. Fit (put h place (with_writer r s done.1))) (λ done. put_fit h place _ (i.records place r g) i) es (turn_asks s.writer);
-    gives_up = λ es h place r q g i. whatever (λ done. Fit (put h place (with_listening r Not))) (λ done. put_fit h place _ ((i.records place r g).0, tt) i) es (give_up_asks r.listening);
+    turns = λ es h place r s g e i. whatever (λ done. Fit (put h place (with_writer r s done.1))) (λ done. put_fit h place r _ g (inr (λ b. b)) (i.records place r g) i) es (turn_asks s.writer);
+    gives_up = λ es h place r g i. whatever (λ done. Fit (put h place (with_listening r Not))) (λ done. let f = i.records place r g in put_fit h place r _ g (inr (λ b. b)) (f.0, tt, f.2) i) es (give_up_asks r.listening);
   }
 
   -- what it says of a tree

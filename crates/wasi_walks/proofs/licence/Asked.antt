@@ -9,9 +9,9 @@ use Rattle.wasi_walks.proofs.claims.Law.{Named, no_some}
 use Rattle.wasi_walks.proofs.walks.Moves.{Unused, Here, put, Found, IsQuestionOf, IsOn, OfSocket, OfReader, OfWriter, second_of}
 use Rattle.wasi_walks.proofs.Lists.{has_last, has_front}
 use Rattle.wasi_walks.proofs.licence.State.{ReadsOn, Names, WritesOn, RecordIsFine}
-use Rattle.wasi_walks.proofs.licence.Frames.{Touches, Spared, same_listening, unmarked_unless, handed_more, stay, NoMark, same_record, names_on, bind_more, record_kept, state_spared, maker_more, side_more, no_touch}
+use Rattle.wasi_walks.proofs.licence.Frames.{Touches, Spared, same_listening, unmarked_unless, handed_more, stay, NoMark, same_record, names_on, record_kept, state_spared, maker_more, side_more, no_touch}
 use Rattle.wasi_walks.proofs.licence.Binds.{learned_told, NoLocal}
-use Rattle.wasi_walks.proofs.licence.Line.{some_same, local_side, calm, ListenGoesOn, JoinedIsFine, Licensed, put_fine}
+use Rattle.wasi_walks.proofs.licence.Line.{some_same, local_side, ListenGoesOn, JoinedIsFine, Licensed, put_fine}
 use Rattle.wasi_walks.proofs.licence.Moves.{held_side, same_listen}
 
 module _ (contexts : List WasiSocketsCtx) (steps : List Step) (line : ℕ) (origin : Step) (is_line : step_at steps line ≡ Some origin) where
@@ -32,9 +32,8 @@ module _ (contexts : List WasiSocketsCtx) (steps : List Step) (line : ℕ) (orig
   -- a call that is no mark
   pub asked_by : (es : List Entry) (h : Here) (op : OpId) (c : Call) (told : Told) → marked_by c ≡ 0 → Spared h.machine.store.sockets op c → (h.own ≡ Unused → Touches op c (second_of line) → ⊥) → Spares h c → Licensed steps line origin es h → Licensed steps line origin (es ++ entry op c told ∷ []) h
   asked_by es h op c told z sp u n i = record {
-    fine = state_spared steps es (calm h.machine) op c told z sp i.fine;
+    fine = state_spared steps es h.machine op c told z sp i.fine;
     names = λ k j r a g side m. names_on (stay steps) es _ (own_of j) side (i.names k j r a g side m);
-    hand = λ o e. bind_more (stay steps) es _ o (i.hand o e);
     listens = listens_on es h op c told n i;
     new = λ o. (handed_more es op c told (second_of line) (i.new o).0 (u o), unmarked_unless es op c told (second_of line) (i.new o).1 z);
     unmade = λ e a s is. made_more es op (own_of line) c told z (i.unmade e a s is);
@@ -105,4 +104,4 @@ module _ (contexts : List WasiSocketsCtx) (steps : List Step) (line : ℕ) (orig
       let x = j.fine.sockets place r g in
       let l = learned_told contexts steps fs (own_of line) side r.inner told e f (has_last es _) x.socket in
       let now : Tcp2Socket = with_inner r (after_local r.inner (told_addr told)).1 in
-      put_fine fs h place r now g refl (same_listening r.listening) (same_listen contexts steps line origin is_line r now refl l.keeps.maker l.keeps.family) (record_kept steps fs r now (record { keeps = l.keeps; side = refl; streams = refl; listening = refl }) l.fine x) j
+      put_fine fs h place r now g refl (same_listening r.listening) (same_listen contexts steps line origin is_line r now refl l.keeps.maker l.keeps.family) (record_kept steps fs r now (record { keeps = l.keeps; side = refl; streams = refl; listening = refl; binds = inl refl }) l.fine x) j

@@ -1,17 +1,17 @@
 -- The invariant under one more entry, and under changes of the state.
 use Rattle.wasi_walks.proofs.Words.{Accepting, Accepts, Arrived, BeganBy, Call, Connection, Created, Entry, Hand, Handed, HandedNone, HandleKind}
-use Rattle.wasi_walks.proofs.Words.{HasWildcardYes, IpSocketAddress, IsBoundSide, IsMaker, IsMarkedWith, IsSide, Item, Job, Kind, List, Listening}
-use Rattle.wasi_walks.proofs.Words.{Listens, Machine, Made, MarksNoSocket, MayGoOut, NamesSide, None, Not, OpId, Operation, Option, Socket}
-use Rattle.wasi_walks.proofs.Words.{SocketAddrUse, SocketAddressFamily, Some, Standing, StandingCall, Step, Streams, Tcp2Socket, Told, WriteState, []}
-use Rattle.wasi_walks.proofs.Words.{ap, append_assoc, arith, entry, inl, inr, marked_by, new_record, own_of, refl, side_of, slice_get, slice_set}
-use Rattle.wasi_walks.proofs.Words.{step_at, subst, sym, table_parent, with_handle, with_record, with_socket, without_handle, ℕ, ⊤, ◌++◌, ◌∙◌, ◌∷◌}
-use Rattle.wasi_walks.proofs.Words.{◌≡◌, ◌⊎◌}
+use Rattle.wasi_walks.proofs.Words.{HasWildcardYes, InProgress, IpSocketAddress, IsBoundSide, IsMaker, IsMarkedWith, IsSide, Item, Job, Kind, List}
+use Rattle.wasi_walks.proofs.Words.{Listening, Listens, Machine, Made, MarksNoSocket, MayGoOut, NamesSide, None, Not, OpId, Operation, Option, Socket}
+use Rattle.wasi_walks.proofs.Words.{SocketAddrUse, SocketAddressFamily, Some, Standing, Step, Streams, Tcp2Socket, Told, WriteState, [], ap}
+use Rattle.wasi_walks.proofs.Words.{append_assoc, arith, call_place, entry, inl, inr, marked_by, new_record, own_of, refl, side_of, slice_get}
+use Rattle.wasi_walks.proofs.Words.{slice_set, step_at, subst, sym, table_parent, with_handle, with_record, with_socket, without_handle, ℕ, ⊤, ◌++◌}
+use Rattle.wasi_walks.proofs.Words.{◌∙◌, ◌∷◌, ◌≡◌, ◌⊎◌}
 use Rattle.wasi_world.specs.declared.call.Call.TheVariants.{Accept}
 use Rattle.wasi_streams.proofs.Tables.{value_without}
 use Rattle.wasi_tcp.specs.declared.socket.TcpState.TheVariants.{Connected}
 use Rattle.wasi_walks.proofs.Lists.{has_front, marks_in-push, get_front, get_split, get_set, set_get, value_split, has_split}
-use Rattle.wasi_walks.proofs.licence.State.{NamesRecord, NamesIf, HandleIsFine, KnowsMaker, BindLeft, Whole, Checked, Over, ConnectLeft, Unbound, Unchecked, Allowed, ToClose, Ended, Names, WorksOn, BindIsFine, ConnectIsFine, JobIsFine, WritesOn, IsConnectedOn, StreamsAreFine, ListeningStands, accept_name, AcceptIsFine, AcceptingIsFine, ListeningIsFine, SocketIsFine, RecordIsFine, DropIsFine, CallIsFine, StandingIsFine, StateIsFine, LastAccept, AcceptLeft, Unarrived, ToCheck, AcceptingStands, name_in, OneHolds}
-use Rattle.wasi_walks.proofs.walks.Moves.{record_of}
+use Rattle.wasi_walks.proofs.licence.State.{NamesRecord, NamesIf, HandleIsFine, KnowsMaker, BindLeft, Whole, Checked, Over, ConnectLeft, Unbound, Unchecked, Allowed, ToClose, Ended, Names, WorksOn, BindIsFine, ConnectIsFine, JobIsFine, WritesOn, IsConnectedOn, StreamsAreFine, ListeningStands, accept_name, AcceptIsFine, AcceptingIsFine, ListeningIsFine, ProgressIsFine, SocketIsFine, RecordIsFine, StandingIsFine, StateIsFine, LastAccept, AcceptLeft, Unarrived, ToCheck, AcceptingStands, name_in, OneHolds}
+use Rattle.wasi_walks.proofs.walks.Moves.{KeepsBinding, record_of}
 use Rattle.wasi_world.specs.declared.call.HandleKind.TheVariants.{Tcp2}
 
 -- == one more entry
@@ -229,6 +229,7 @@ pub record KeepsRecord (old now : Tcp2Socket) : Type 0 where
   pub side : now.side ≡ old.side
   pub streams : now.streams ≡ old.streams
   pub listening : now.listening ≡ old.listening
+  pub binds : KeepsBinding old.in_progress now.in_progress
 
 -- == the records by place
 -- The record of this place was made with this side.
@@ -315,6 +316,10 @@ module _ {steps now : List Step} (goes : Goes steps now) where
     connect = λ op s. connect_more es fs op (h.connect op s);
   }
 
+  progress_more : (es fs : List Entry) (doing : InProgress) → ProgressIsFine steps es doing → ProgressIsFine now (es ++ fs) doing
+  progress_more es fs (InProgress.Binding op) h = bind_more es fs op h
+  progress_more es fs _ h = tt
+
   pub streams_more : (es fs : List Entry) (socket : Socket) (streams : Streams) → StreamsAreFine steps es socket streams → StreamsAreFine now (es ++ fs) socket streams
   streams_more es fs socket streams h = record { side = h.side; connected = h.connected; reads = h.reads; writes = writes_more es fs h.side streams.writer h.writes }
 
@@ -324,15 +329,11 @@ module _ {steps now : List Step} (goes : Goes steps now) where
     named = h.named;
     streams = λ streams e. streams_more es fs r.inner streams (h.streams streams e);
     listening = listening_more es fs r.side r.listening h.listening;
+    progress = progress_more es fs r.in_progress h.progress;
   }
 
-  pub drop_more : (es fs : List Entry) (sockets : List Tcp2Socket) (op : OpId) (place : ℕ) → DropIsFine steps es sockets op place → DropIsFine now (es ++ fs) sockets op place
-  drop_more es fs sockets op place h = record { found = h.found; at = h.at; named = λ side e. names_on es fs op side (h.named side e) }
-
-  pub standing_more : (es fs : List Entry) (sockets : List Tcp2Socket) (line : ℕ) (c : StandingCall) → CallIsFine steps es sockets line c → CallIsFine now (es ++ fs) sockets line c
-  standing_more es fs sockets line (StandingCall.Bind place op) h = bind_more es fs op h
-  standing_more es fs sockets line (StandingCall.Listen place) h = h
-  standing_more es fs sockets line (StandingCall.DropOutput place) h = drop_more es fs sockets (own_of line) place h
+  pub standing_more : (es fs : List Entry) (sockets : List Tcp2Socket) (s : Standing) → StandingIsFine steps es sockets s → StandingIsFine now (es ++ fs) sockets s
+  standing_more es fs sockets s h = record { found = h.found; at = h.at; named = λ side e. names_on es fs (own_of s.line) side (h.named side e) }
 
 module _ (steps : List Step) where
   -- == a record that changes
@@ -342,12 +343,19 @@ module _ (steps : List Step) where
       let c = k.connected f.connected.connection f.connected.state in
       record { side = f.side; connected = record { connection = c.connection; state = c.state; same = c.same ∙ f.connected.same }; reads = f.reads; writes = f.writes }
 
+  progress_kept : (es : List Entry) (old now : InProgress) → KeepsBinding old now → ProgressIsFine steps es old → ProgressIsFine steps es now
+  progress_kept es old now (inl e) f = subst (ProgressIsFine steps es) (sym e) f
+  progress_kept es old (InProgress.Binding op) (inr k) f = absurd k.1
+  progress_kept es old InProgress.Nothing (inr k) f = tt
+  progress_kept es old (InProgress.Started o) (inr k) f = tt
+
   pub record_kept : (es : List Entry) (old now : Tcp2Socket) → KeepsRecord old now → SocketIsFine steps es now.inner → RecordIsFine steps es old → RecordIsFine steps es now
   record_kept es old now k f h = record {
     socket = f;
     named = λ side e. k.side ∙ h.named side (k.keeps.side side e);
     streams = λ streams e. streams_kept es old.inner now.inner streams k.keeps (h.streams streams (sym k.streams ∙ e));
     listening = rw (k.side, k.listening) h.listening;
+    progress = progress_kept es old.in_progress now.in_progress k.binds h.progress;
   }
 
   -- A call on a record leaves one that was made with the same side, has no other accept, and fits the log.
@@ -357,18 +365,13 @@ module _ (steps : List Step) where
     pub fine : RecordIsFine steps es done.1
 
   -- == the call that stands, where the records change
-  drop_put : (es : List Entry) (sockets : List Tcp2Socket) (i : ℕ) (old now : Tcp2Socket) (op : OpId) (place : ℕ) → slice_get sockets i ≡ Some old → now.side ≡ old.side → DropIsFine steps es sockets op place → DropIsFine steps es (slice_set sockets i now) op place
-  drop_put es sockets i old now op place g k h =
-      let m = made_put sockets i old now place h.found g k h.at in
+  standing_put : (es : List Entry) (sockets : List Tcp2Socket) (i : ℕ) (old now : Tcp2Socket) (s : Standing) → slice_get sockets i ≡ Some old → now.side ≡ old.side → StandingIsFine steps es sockets s → StandingIsFine steps es (slice_set sockets i now) s
+  standing_put es sockets i old now s g k h =
+      let m = made_put sockets i old now (call_place s.call) h.found g k h.at in
       record { found = m.found; at = m.at; named = λ side e. h.named side (sym m.same ∙ e) }
 
-  standing_put : (es : List Entry) (sockets : List Tcp2Socket) (i : ℕ) (old now : Tcp2Socket) (line : ℕ) (c : StandingCall) → slice_get sockets i ≡ Some old → now.side ≡ old.side → CallIsFine steps es sockets line c → CallIsFine steps es (slice_set sockets i now) line c
-  standing_put es sockets i old now line (StandingCall.DropOutput place) g k h = drop_put es sockets i old now (own_of line) place g k h
-  standing_put es sockets i old now line _ g k h = h
-
-  standing_push : (es : List Entry) (sockets : List Tcp2Socket) (r : Tcp2Socket) (line : ℕ) (c : StandingCall) → CallIsFine steps es sockets line c → CallIsFine steps es (sockets ++ r ∷ []) line c
-  standing_push es sockets r line (StandingCall.DropOutput place) h = record { found = h.found; at = get_front sockets (r ∷ []) place h.found h.at; named = h.named }
-  standing_push es sockets r line _ h = h
+  standing_push : (es : List Entry) (sockets : List Tcp2Socket) (r : Tcp2Socket) (s : Standing) → StandingIsFine steps es sockets s → StandingIsFine steps es (sockets ++ r ∷ []) s
+  standing_push es sockets r s h = record { found = h.found; at = get_front sockets (r ∷ []) (call_place s.call) h.found h.at; named = h.named }
 
   -- == the state
   -- an ask that is no mark, and that touches no accept, keeps the state
@@ -377,7 +380,7 @@ module _ (steps : List Step) where
     count = let p = marks_in-push es (entry op c told) in let k = h.count in omega arith;
     handles = λ handle kind e. handle_kept es _ m.store.sockets m.store.sockets handle (record_of (Some kind)) (names_record_more es _ m.store.sockets handle) (h.handles handle kind e);
     sockets = λ place r e. record_more (stay steps) es _ r (h.sockets place r e);
-    standing = λ s e. standing_more (stay steps) es _ m.store.sockets s.line s.call (h.standing s e);
+    standing = λ s e. standing_more (stay steps) es _ m.store.sockets s (h.standing s e);
     accepts = λ place r e. stands_more es op c told r.listening (h.accepts place r e) (λ x n. q place r x e n);
     one = h.one;
   }
@@ -393,7 +396,7 @@ module _ (steps : List Step) where
       | inr g ↦ (let fs = es ++ entry op (Made m.table.next name parent sock) told ∷ [] in subst (HandleIsFine fs m.store.sockets handle) g.1 (subst (λ (n : ℕ). HandleIsFine fs m.store.sockets n kind) g.0 f))
     ];
     sockets = λ place r e. record_more (stay steps) es _ r (h.sockets place r e);
-    standing = λ s e. standing_more (stay steps) es _ m.store.sockets s.line s.call (h.standing s e);
+    standing = λ s e. standing_more (stay steps) es _ m.store.sockets s (h.standing s e);
     accepts = λ place r e. stands_more es op _ told r.listening (h.accepts place r e) (λ x n. q place r x e n);
     one = h.one;
   }
@@ -420,7 +423,7 @@ module _ (steps : List Step) where
       | inl q ↦ subst (RecordIsFine steps es) q.1 f
       | inr q ↦ h.sockets i r q
     ];
-    standing = λ s e. standing_put es m.store.sockets place old now s.line s.call g k (h.standing s e);
+    standing = λ s e. standing_put es m.store.sockets place old now s g k (h.standing s e);
     accepts = stands_put es m.store.sockets place now a h.accepts;
     one = one_put m.store.sockets place now o h.one;
   }
@@ -440,13 +443,13 @@ module _ (steps : List Step) where
       | inl q ↦ h.sockets i r q
       | inr q ↦ subst (RecordIsFine steps es) q f
     ];
-    standing = λ s e. standing_push es m.store.sockets now s.line s.call (h.standing s e);
+    standing = λ s e. standing_push es m.store.sockets now s (h.standing s e);
     accepts = stands_push es m.store.sockets now a h.accepts;
     one = one_push m.store.sockets now n h.one;
   }
 
   pub state_push : (es : List Entry) (m : Machine) (socket : Socket) → SocketIsFine steps es socket → StateIsFine steps es m → StateIsFine steps es (record m { store = with_record m.store socket })
-  state_push es m socket f h = state_joined es m (new_record socket) (record { socket = f; named = λ side p. p; streams = λ streams p. absurd (cc); listening = tt }) tt refl h
+  state_push es m socket f h = state_joined es m (new_record socket) (record { socket = f; named = λ side p. p; streams = λ streams p. absurd (cc); listening = tt; progress = tt }) tt refl h
 
   -- a call stands
   pub state_stands : (es : List Entry) (m : Machine) (c : Standing) → StandingIsFine steps es m.store.sockets c → StateIsFine steps es m → StateIsFine steps es (record m { store = record m.store { standing = Some c } })

@@ -1,28 +1,28 @@
 -- What goes on is licensed: a bind, a connect, a listen, an accept, a write; and what is given up.
-use Rattle.wasi_walks.proofs.Words.{Accepting, Accepts, Allows, Asks, Begins, Bool, Call, End, Entry, Give, HoldsAccept, HoldsConnect}
-use Rattle.wasi_walks.proofs.Words.{IpSocketAddress, IsAcceptOn, IsConnect, IsLeftOfBind, IsLeftOfConnect, IsLeftOfListen, IsMaker, Item, List}
-use Rattle.wasi_walks.proofs.Words.{Listener, Listening, MayAsk, None, Not, OpId, Operation, Option, Some, Step, Streams, Tcp2Socket, TcpState}
-use Rattle.wasi_walks.proofs.Words.{Unclosed, Waits, WasiSocketsCtx, Who, WriteState, accept_ended, allows_keep, allows_then, allows_weaker, ap}
-use Rattle.wasi_walks.proofs.Words.{arith, ask_close, connect_ended, false, give_up_asks, give_up_in, if◌then◌else◌, in_hand, inl, inr, is_over}
-use Rattle.wasi_walks.proofs.Words.{job_asks, left_of, marked_by, poll_asks, refl, refuse_in, side_of, slice_get, slice_set, step_at, subst, sym}
-use Rattle.wasi_walks.proofs.Words.{true, turn_asks, with_inner, with_listening, with_state, with_writer, ℕ, ⊤, ◌∙◌, ◌≡◌}
+use Rattle.wasi_walks.proofs.Words.{Accepting, Accepts, Allows, Asks, Begins, Bool, Call, Done, End, Entry, Give, HoldsAccept, HoldsConnect}
+use Rattle.wasi_walks.proofs.Words.{InProgress, IpSocketAddress, IsAcceptOn, IsConnect, IsLeftOfBind, IsLeftOfConnect, IsLeftOfListen, IsMaker, Item}
+use Rattle.wasi_walks.proofs.Words.{List, Listener, Listening, MayAsk, None, Not, OpId, Operation, Option, Refused, Some, Step, Streams, Tcp2Socket}
+use Rattle.wasi_walks.proofs.Words.{TcpState, Unclosed, Waits, WasiSocketsCtx, Who, WriteState, accept_ended, allows_keep, allows_then, allows_weaker}
+use Rattle.wasi_walks.proofs.Words.{ap, arith, ask_close, bind_progress, connect_ended, false, give_up_asks, give_up_in, if◌then◌else◌, in_hand, inl}
+use Rattle.wasi_walks.proofs.Words.{inr, is_over, job_asks, left_of, marked_by, poll_asks, refl, refuse_in, side_of, slice_get, slice_set, step_at}
+use Rattle.wasi_walks.proofs.Words.{subst, sym, true, turn_asks, with_inner, with_listening, with_progress, with_state, with_writer, ℕ, ⊤, ◌∙◌, ◌≡◌}
 use Rattle.wasi_tcp.specs.Listen.{IsListen}
 use Rattle.wasi_walks.proofs.licence.AcceptAsks.{MayAs, StandsAfter, polled as polled_accept}
 use Rattle.wasi_walks.proofs.licence.ListenAsks.{ended as listen_ended_fine, ListenEnds, fine_poll_listen, also}
 use Rattle.wasi_walks.proofs.fits.Law.{Fit}
-use Rattle.wasi_walks.proofs.fits.Records.{FitListening}
+use Rattle.wasi_walks.proofs.fits.Records.{FitListening, FitProgress}
 use Rattle.wasi_walks.proofs.licence.Fresh.{spared_as}
 use Rattle.wasi_walks.proofs.claims.Polls.{AllAskBut, IsPlainCall, poll_plainly}
 use Rattle.wasi_walks.proofs.claims.Law.{accept_plain, Named, Base, same_begun, fresh, taken_fresh, Fresh}
-use Rattle.wasi_walks.proofs.walks.Moves.{Held, InHand, Connects, Unused, Here, put, Found, Listens, Awaits, listen_after, accepting_now, second_of}
+use Rattle.wasi_walks.proofs.walks.Moves.{Held, BindsOn, Connects, Unused, Here, put, Found, Listens, Awaits, listen_after, accepting_now, second_of}
 use Rattle.wasi_walks.proofs.Lists.{get_set, set_there}
-use Rattle.wasi_walks.proofs.licence.State.{ConnectIsFine, accept_name, Names, BindIsFine, JobIsFine, WritesOn, StreamsAreFine, AcceptingIsFine, ListeningIsFine, RecordIsFine, AcceptStands, AcceptingStands, ListeningStands, name_in, AcceptLeft, AcceptIsFine}
+use Rattle.wasi_walks.proofs.licence.State.{ConnectIsFine, accept_name, Names, BindIsFine, JobIsFine, WritesOn, StreamsAreFine, AcceptingIsFine, ListeningIsFine, ProgressIsFine, RecordIsFine, AcceptStands, AcceptingStands, ListeningStands, name_in, AcceptLeft, AcceptIsFine}
 use Rattle.wasi_walks.proofs.licence.Frames.{Touches, same_listening, listening_gone, same_record, record_kept, state_put, state_renewed, maker_more}
 use Rattle.wasi_walks.proofs.licence.Binds.{no_local, May, MayQuietly, NoLocal, fine_poll}
 use Rattle.wasi_walks.proofs.licence.Connects.{fine_poll_connect, ended}
 use Rattle.wasi_walks.proofs.licence.WriteJobs.{fine_job}
 use Rattle.wasi_walks.proofs.walks.Law.{put_put}
-use Rattle.wasi_walks.proofs.licence.Line.{put_with, same_op, some_same, no_listen, local_side, calm, ListenGoesOn, Licensed, put_fine, elsewhere}
+use Rattle.wasi_walks.proofs.licence.Line.{put_with, some_same, no_listen, local_side, ListenGoesOn, Licensed, put_fine}
 use Rattle.wasi_walks.proofs.licence.Moves.{streams_fine, held_side, same_listen, listener_fine}
 use Rattle.wasi_walks.proofs.licence.Asked.{Spares, spares, asked_by, asked_fine}
 use Rattle.wasi_tcp.specs.Listen as listen
@@ -70,11 +70,20 @@ module _ (contexts : List WasiSocketsCtx) (steps : List Step) (line : ℕ) (orig
   listen_quiet who _ (listen.ToClose c) = (tt, tt)
   listen_quiet who _ listen.Ended = tt
 
-  polled_fine : (es : List Entry) (h : Here) (op : Operation) → h.hand ≡ Some op → Fit h → Licensed steps line origin es h → Allows (MayAsk contexts steps) (λ fs ended. Licensed steps line origin fs (record h { hand = Some (left_of op ended.1) })) es (poll_asks op)
-  polled_fine es h op e b i =
-      allows_weaker (MayAsk contexts steps) (λ fs ended. Licensed steps line origin fs h × BindIsFine steps fs (left_of op ended.1)) (λ fs ended. Licensed steps line origin fs (record h { hand = Some (left_of op ended.1) }))
-      (λ fs ended k. elsewhere fs h (record h { hand = Some (left_of op ended.1) }) refl refl refl k.0 k.0.fine k.0.names (λ o p. subst (BindIsFine steps fs) (same_op _ o p) k.1)) es (poll_asks op)
-      (kept h (λ fs ended. BindIsFine steps fs (left_of op ended.1)) es (poll_asks op) i (quietly (λ fs ended. BindIsFine steps fs (left_of op ended.1)) es op (bind_quiet op.left (b.hand op e).left) (fine_poll contexts steps op es (i.hand op e))))
+  bound_after : (fs : List Entry) (op : Operation) (end : End × List Item) → BindIsFine steps fs (left_of op end.1) → ProgressIsFine steps fs (bind_progress op end)
+  bound_after fs op (Waits, items) k = k
+  bound_after fs op (Done given, items) k = tt
+  bound_after fs op (Refused c given, items) k = tt
+
+  bound_on : (es : List Entry) (h : Here) (place : ℕ) (r : Tcp2Socket) (op : Operation) → Found h place r → r.in_progress ≡ InProgress.Binding op → Fit h → Licensed steps line origin es h
+      → Allows (MayAsk contexts steps) (λ fs ended. Licensed steps line origin fs (put h place (with_progress r (bind_progress op ended)))) es (poll_asks op)
+  bound_on es h place r op g e b i =
+      let its = subst (FitProgress r.inner.state) e (b.records place r g).2 in
+      let f : BindIsFine steps es op = subst (ProgressIsFine steps es) e (i.fine.sockets place r g).progress in
+      allows_weaker (MayAsk contexts steps) (λ fs ended. Licensed steps line origin fs h × BindIsFine steps fs (left_of op ended.1)) (λ fs ended. Licensed steps line origin fs (put h place (with_progress r (bind_progress op ended))))
+      (λ fs ended k. let x = k.0.fine.sockets place r g in let now = with_progress r (bind_progress op ended) in
+      put_fine fs h place r now g refl (same_listening r.listening) (same_listen contexts steps line origin is_line r now refl refl refl) (record { socket = x.socket; named = x.named; streams = x.streams; listening = x.listening; progress = bound_after fs op ended k.1 }) k.0) es (poll_asks op)
+      (kept h (λ fs ended. BindIsFine steps fs (left_of op ended.1)) es (poll_asks op) i (quietly (λ fs ended. BindIsFine steps fs (left_of op ended.1)) es op (bind_quiet op.left its.1.left) (fine_poll contexts steps op es f)))
 
   connected_on : (es : List Entry) (h : Here) (place : ℕ) (r : Tcp2Socket) (op : Operation) → Found h place r → r.inner.state ≡ TcpState.Connecting op → Fit h → Licensed steps line origin es h
       → Allows (MayAsk contexts steps) (λ fs ended. Licensed steps line origin fs (put h place (with_inner r (with_state r.inner (connect_ended op.who ended).1)))) es (poll_asks op)
@@ -82,12 +91,12 @@ module _ (contexts : List WasiSocketsCtx) (steps : List Step) (line : ℕ) (orig
       let its : IsConnect op = subst HoldsConnect e (b.records place r g).0 in
       allows_weaker (MayAsk contexts steps) (λ fs ended. Licensed steps line origin fs h × ConnectIsFine steps fs (left_of op ended.1)) (λ fs ended. Licensed steps line origin fs (put h place (with_inner r (with_state r.inner (connect_ended op.who ended).1))))
       (λ fs end k. let x = k.0.fine.sockets place r g in let d = ended contexts steps fs r.inner op end e x.socket k.1 in let now = with_inner r (with_state r.inner (connect_ended op.who end).1) in
-      put_fine fs h place r now g refl (same_listening r.listening) (same_listen contexts steps line origin is_line r now refl refl refl) (record_kept steps fs r now (record { keeps = d.keeps; side = refl; streams = refl; listening = refl }) d.fine x) k.0) es (poll_asks op)
+      put_fine fs h place r now g refl (same_listening r.listening) (same_listen contexts steps line origin is_line r now refl refl refl) (record_kept steps fs r now (record { keeps = d.keeps; side = refl; streams = refl; listening = refl; binds = inl refl }) d.fine x) k.0) es (poll_asks op)
       (kept h (λ fs ended. ConnectIsFine steps fs (left_of op ended.1)) es (poll_asks op) i (quietly (λ fs ended. ConnectIsFine steps fs (left_of op ended.1)) es op (connect_quiet op.left its.left) (fine_poll_connect contexts steps op es ((i.fine.sockets place r g).socket.connect op e))))
 
   -- == a listen and an accept are taken out of their record, polled, and put back
   pub taken_out : (es : List Entry) (h : Here) (place : ℕ) (r : Tcp2Socket) → Found h place r → Licensed steps line origin es h → Licensed steps line origin es (put h place (with_listening r Not))
-  taken_out es h place r g i = let f = i.fine.sockets place r g in put_fine es h place r (with_listening r Not) g refl (listening_gone r.listening) (λ op p. absurd (cc)) (record { socket = f.socket; named = f.named; streams = f.streams; listening = tt }) i
+  taken_out es h place r g i = let f = i.fine.sockets place r g in put_fine es h place r (with_listening r Not) g refl (listening_gone r.listening) (λ op p. absurd (cc)) (record { socket = f.socket; named = f.named; streams = f.streams; listening = tt; progress = f.progress }) i
 
   there : (h : Here) (place : ℕ) (r now : Tcp2Socket) → Found h place r → Found (put h place now) place now
   there h place r now g = set_there h.machine.store.sockets place r now g
@@ -128,11 +137,11 @@ module _ (contexts : List WasiSocketsCtx) (steps : List Step) (line : ℕ) (orig
       put_after fs end k m q a s =
           let out = put h place (with_listening r Not) in
           let f = k.fine.sockets place (with_listening r Not) (there h place r (with_listening r Not) g) in
-          let whole : RecordIsFine steps fs r = record { socket = f.socket; named = f.named; streams = f.streams; listening = subst (ListeningIsFine steps fs r.side) (sym e) tt } in
+          let whole : RecordIsFine steps fs r = record { socket = f.socket; named = f.named; streams = f.streams; listening = subst (ListeningIsFine steps fs r.side) (sym e) tt; progress = f.progress } in
           let x = listen_ended_fine contexts steps fs (with_listening r Not) r op end refl s closed a m whole q in
           let now = listen_after op r end in
           subst (Licensed steps line origin fs) (put_put h place (with_listening r Not) now)
-          (put_with fs out place (with_listening r Not) now (there h place r (with_listening r Not) g) x.leaves.side k (state_put steps fs (calm out.machine) place (with_listening r Not) now (there h place r (with_listening r Not) g) x.leaves.side x.leaves.listening x.leaves.fine k.fine) (still_goes fs r op end a m q))
+          (put_with fs out place (with_listening r Not) now (there h place r (with_listening r Not) g) x.leaves.side k (state_put steps fs out.machine place (with_listening r Not) now (there h place r (with_listening r Not) g) x.leaves.side x.leaves.listening x.leaves.fine k.fine) (still_goes fs r op end a m q))
 
   -- an accept asks by its own name, and marks nothing
   touch_as : (op x : OpId) (c : Call) → marked_by c ≡ 0 → Touches op c x → op ≡ x
@@ -175,7 +184,7 @@ module _ (contexts : List WasiSocketsCtx) (steps : List Step) (line : ℕ) (orig
           let stands : AcceptingStands fs l.side (accept_ended op.who end) = subst (λ (y : OpId). AcceptingStands fs y (accept_ended op.who end)) on q.stands in
           subst (Licensed steps line origin fs) (put_put h place (with_listening r Not) now)
           (put_with fs out place (with_listening r Not) now (there h place r (with_listening r Not) g) refl k
-          (state_renewed steps fs (calm out.machine) place (with_listening r Not) now (there h place r (with_listening r Not) g) refl (record { socket = f.socket; named = f.named; streams = f.streams; listening = record { side = s; maker = m; accept = its } }) stands
+          (state_renewed steps fs out.machine place (with_listening r Not) now (there h place r (with_listening r Not) g) refl (record { socket = f.socket; named = f.named; streams = f.streams; listening = record { side = s; maker = m; accept = its }; progress = f.progress }) stands
           (λ y z p v w u. absurd (free p v w (inr (u ∙ ap (λ (o : OpId). Some o) (q.name y z))))) k.fine) (λ o p. absurd (cc)))
 
   turn_on : (es : List Entry) (side : OpId) (w : WriteState) → WritesOn steps es side w → Allows (MayQuietly contexts steps) (λ fs done. WritesOn steps fs side done.1) es (turn_asks w)
@@ -216,7 +225,7 @@ module _ (contexts : List WasiSocketsCtx) (steps : List Step) (line : ℕ) (orig
   given_up es made (Unclosed side) f = (((tt, tt), tt), λ t fits. tt)
 
   pub polls_fine : (es : List Entry) (h : Here) (op : Operation) (after : End × List Item → Here) → Held h op after → Base contexts line origin h → Licensed steps line origin es h → Allows (MayAsk contexts steps) (λ fs ended. Licensed steps line origin fs (after ended)) es (poll_asks op)
-  polls_fine es h _ _ (InHand op e) b i = polled_fine es h op e b.0 i
-  polls_fine es h _ _ (Connects place r op q g e) b i = connected_on es h place r op g e b.0 i
+  polls_fine es h _ _ (BindsOn place r op q g e) b i = bound_on es h place r op g e b.0 i
+  polls_fine es h _ _ (Connects place r op g e) b i = connected_on es h place r op g e b.0 i
   polls_fine es h _ _ (Listens place r op q g e c) b i = listened_on es h place r op g e c b.0 b.1 i
   polls_fine es h _ _ (Awaits place r l op g e a) b i = awaited_on es h place r l op g e a b.0 b.1 i

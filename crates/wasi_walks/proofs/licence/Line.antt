@@ -1,22 +1,18 @@
 -- What holds of a line: the state fits the log, and so does what the line works on.
-use Rattle.wasi_walks.proofs.Words.{Begins, Call, Entry, HandedNone, Has, IpSocketAddress, IsMaker, IsSide, Kind, List, Machine, MarksNoSocket, None}
-use Rattle.wasi_walks.proofs.Words.{Not, OpId, Operation, Option, SocketAddressFamily, Some, Standing, StandingCall, Step, Tcp2Socket, Told, [], ap}
-use Rattle.wasi_walks.proofs.Words.{entry, inl, inr, length, own_of, refl, side_in, slice_get, subst, sym, with_socket, ℕ, ⊤, ◌++◌, ◌∙◌, ◌∷◌, ◌≡◌}
-use Rattle.wasi_walks.proofs.Words.{◌⊎◌}
+use Rattle.wasi_walks.proofs.Words.{Begins, Call, Entry, HandedNone, Has, IpSocketAddress, IsMaker, IsSide, Kind, List, MarksNoSocket, None, Not}
+use Rattle.wasi_walks.proofs.Words.{OpId, Operation, Option, SocketAddressFamily, Some, Step, Tcp2Socket, Told, [], ap, entry, inl, inr, length}
+use Rattle.wasi_walks.proofs.Words.{own_of, refl, side_in, slice_get, subst, sym, with_socket, ℕ, ⊤, ◌++◌, ◌∙◌, ◌∷◌, ◌≡◌, ◌⊎◌}
 use Rattle.wasi_walks.proofs.licence.ListenAsks.{ListenIsFine}
 use Rattle.wasi_walks.proofs.licence.Fresh.{NoMadeBy}
 use Rattle.wasi_walks.proofs.walks.Moves.{Used, Unused, Here, put, Found, record_of, Plain, Made, Unmade, Joined, Marked, second_of}
 use Rattle.wasi_walks.proofs.Lists.{get_set, get_seam}
-use Rattle.wasi_walks.proofs.licence.State.{NamesIf, NamesRecord, HandleIsFine, Names, BindIsFine, RecordIsFine, StateIsFine, IsHanded}
+use Rattle.wasi_walks.proofs.licence.State.{NamesIf, NamesRecord, HandleIsFine, Names, RecordIsFine, StateIsFine, IsHanded}
 use Rattle.wasi_walks.proofs.licence.Frames.{KeepsListening, KeepsRecord, same_record, state_put}
 use Rattle.wasi_world.specs.declared.call.HandleKind.TheVariants as name
 
 pub names_record : (es : List Entry) (sockets : List Tcp2Socket) (handle place : ℕ) (k : Option Kind) → record_of k ≡ Some place → ((kind : Kind) → k ≡ Some kind → HandleIsFine es sockets handle kind) → NamesRecord es sockets handle place
 names_record es sockets handle place None e h = absurd (cc)
 names_record es sockets handle place (Some kind) e h = subst (NamesIf es sockets handle) e (h kind refl)
-
-pub same_op : (a b : Operation) → Some a ≡ Some b → a ≡ b
-same_op a b e = cc
 
 pub some_same : (a b : OpId) → Some b ≡ Some a → a ≡ b
 some_same a b e = cc
@@ -27,6 +23,7 @@ keeps_plain r now p = record {
   side = p.side;
   streams = p.streams;
   listening = p.listening;
+  binds = p.binds;
 }
 
 pub seam : (xs : List Tcp2Socket) (now : Tcp2Socket) (p : ℕ) (q : Tcp2Socket) → Joined (length xs) ≡ Joined p → slice_get (xs ++ now ∷ []) p ≡ Some q → now ≡ q
@@ -52,18 +49,6 @@ local_side a b e = cc
 
 pub second_names : {steps : List Step} (es : List Entry) (line : ℕ) (side : OpId) → Names steps es (own_of line) side → Names steps es (second_of line) side
 second_names es line side n = record { origin = n.origin; at = n.at; holds = n.holds }
-
--- a machine but for a listen that stands
-abbrev pub calm_by : Standing → StandingCall → Option Standing
-calm_by s (StandingCall.Listen place) = None
-calm_by s _ = Some s
-
-abbrev pub calm_standing : Option Standing → Option Standing
-calm_standing None = None
-calm_standing (Some s) = calm_by s s.call
-
-abbrev pub calm : Machine → Machine
-calm m = record m { store = record m.store { standing = calm_standing m.store.standing } }
 
 -- A listen that goes on, of this record.
 pub record ListenGoesOn (steps : List Step) (es : List Entry) (r : Tcp2Socket) (op : Operation) : Type 0 where
@@ -100,12 +85,10 @@ pub record MadeSocket (line : ℕ) (es : List Entry) (handle : ℕ) (sock : Opti
   pub told : Told
   pub mark : Has es (entry (own_of line) (Call.Made handle name.Tcp2 above sock) told)
 
--- The state fits the log, but that a listen stands, and so do the record that the line works on, the bind in hand, each listen
--- that goes on, and what an accept has made.
+-- The state fits the log, and so do the record that the line works on, each listen that goes on, and what an accept has made.
 pub record Licensed (steps : List Step) (line : ℕ) (origin : Step) (es : List Entry) (h : Here) : Type 0 where
-  pub fine : StateIsFine steps es (calm h.machine)
+  pub fine : StateIsFine steps es h.machine
   pub names : (place n : ℕ) (r : Tcp2Socket) → h.at ≡ Some (place, n) → Found h place r → NamesMade steps n es r
-  pub hand : (op : Operation) → h.hand ≡ Some op → BindIsFine steps es op
   pub listens : (place : ℕ) (r : Tcp2Socket) (op : Operation) → Found h place r → r.listening ≡ Begins op → ListenGoesOn steps es r op
   pub new : h.own ≡ Unused → HandedNone es (second_of line) × MarksNoSocket es (second_of line)
   pub unmade : (h.own ≡ Unused) ⊎ NotMarked h.made → (c s : ℕ) → origin ≡ Step.TcpAccept c s → NoMadeBy es (own_of line)
@@ -135,11 +118,10 @@ module _ {steps : List Step} {line : ℕ} {origin : Step} where
     joined_put : (p : ℕ) → JoinedIsFine origin es h p → JoinedIsFine origin es (put h place now) p
     joined_put p j = record { new = j.new; on = j.on; peer = j.peer; context = j.context; listener = j.listener; by = j.by; side = by_side (λ (o : Option OpId). o ≡ Some j.new) h place r now g s p j.side; of_listener = j.of_listener; handed = j.handed; fresh = j.fresh }
 
-    pub put_with : StateIsFine steps es (record (calm h.machine) { store = with_socket (calm h.machine).store place now }) → ((op : Operation) → now.listening ≡ Begins op → ListenGoesOn steps es now op) → Licensed steps line origin es (put h place now)
+    pub put_with : StateIsFine steps es (record h.machine { store = with_socket h.machine.store place now }) → ((op : Operation) → now.listening ≡ Begins op → ListenGoesOn steps es now op) → Licensed steps line origin es (put h place now)
     put_with f l = record {
       fine = f;
       names = λ k n q a e. by_side (λ (o : Option OpId). (side : OpId) → o ≡ Some side → Names steps es (own_of n) side) h place r now g s k (λ x d. i.names k n x a d) q e;
-      hand = i.hand;
       listens = λ k q op e b. elim (get_set h.machine.store.sockets place now k q e) [ inl p ↦ subst (λ (x : Tcp2Socket). ListenGoesOn steps es x op) p.1 (l op (ap (λ (x : Tcp2Socket). x.listening) p.1 ∙ b)) | inr p ↦ i.listens k q op p b ];
       new = i.new;
       unmade = i.unmade;
@@ -148,18 +130,17 @@ module _ {steps : List Step} {line : ℕ} {origin : Step} where
     }
 
   pub put_fine : (es : List Entry) (h : Here) (place : ℕ) (r now : Tcp2Socket) → Found h place r → now.side ≡ r.side → KeepsListening r.listening now.listening → KeepsListen r now → RecordIsFine steps es now → Licensed steps line origin es h → Licensed steps line origin es (put h place now)
-  put_fine es h place r now g s l k f i = put_with es h place r now g s i (state_put steps es (calm h.machine) place r now g s l f i.fine) (λ op e. let q = k op e in goes_kept es r now op q.1.0 q.1.1 (i.listens place r op g q.0))
+  put_fine es h place r now g s l k f i = put_with es h place r now g s i (state_put steps es h.machine place r now g s l f i.fine) (λ op e. let q = k op e in goes_kept es r now op q.1.0 q.1.1 (i.listens place r op g q.0))
 
   -- its own operation began something
   pub spent : (es : List Entry) (h : Here) → Licensed steps line origin es h → Licensed steps line origin es (record h { own = Used })
-  spent es h i = record { fine = i.fine; names = i.names; hand = i.hand; listens = i.listens; new = λ e. absurd (cc); unmade = λ e c s is. i.unmade (elim e [ inl u ↦ absurd (cc) | inr u ↦ inr u ]) c s is; joined = λ p e. (let j = i.joined p e in record { new = j.new; on = j.on; peer = j.peer; context = j.context; listener = j.listener; by = j.by; side = j.side; of_listener = j.of_listener; handed = j.handed; fresh = j.fresh }); marked = i.marked }
+  spent es h i = record { fine = i.fine; names = i.names; listens = i.listens; new = λ e. absurd (cc); unmade = λ e c s is. i.unmade (elim e [ inl u ↦ absurd (cc) | inr u ↦ inr u ]) c s is; joined = λ p e. (let j = i.joined p e in record { new = j.new; on = j.on; peer = j.peer; context = j.context; listener = j.listener; by = j.by; side = j.side; of_listener = j.of_listener; handed = j.handed; fresh = j.fresh }); marked = i.marked }
 
   -- what it works on is other
-  pub elsewhere : (es : List Entry) (h now : Here) → now.machine.store.sockets ≡ h.machine.store.sockets → now.own ≡ h.own → now.made ≡ h.made → Licensed steps line origin es h → StateIsFine steps es (calm now.machine) → ((place n : ℕ) (r : Tcp2Socket) → now.at ≡ Some (place, n) → Found now place r → NamesMade steps n es r) → ((op : Operation) → now.hand ≡ Some op → BindIsFine steps es op) → Licensed steps line origin es now
-  elsewhere es h now s o m i f n d = record {
+  pub elsewhere : (es : List Entry) (h now : Here) → now.machine.store.sockets ≡ h.machine.store.sockets → now.own ≡ h.own → now.made ≡ h.made → Licensed steps line origin es h → StateIsFine steps es now.machine → ((place n : ℕ) (r : Tcp2Socket) → now.at ≡ Some (place, n) → Found now place r → NamesMade steps n es r) → Licensed steps line origin es now
+  elsewhere es h now s o m i f n = record {
     fine = f;
     names = n;
-    hand = d;
     listens = λ k r op g e. i.listens k r op (there h now s k r g) e;
     new = λ e. i.new (sym o ∙ e);
     unmade = λ e c t is. i.unmade (elim e [ inl u ↦ inl (sym o ∙ u) | inr u ↦ inr (subst NotMarked m u) ]) c t is;

@@ -1,12 +1,13 @@
 -- A listen: each of its asks is allowed, what it leaves may be polled on, and where it is done its side listens; and one that goes on
 -- stays so, whatever else is asked.
-use Rattle.wasi_walks.proofs.Words.{Accepts, AccessDenied, Allows, Answer, Ask, AskWrite, Asks, BeganBy, Begins, Call, Check, CheckLocal, CloseLast}
-use Rattle.wasi_walks.proofs.Words.{Done, End, Entry, ErrorCode, FrontKeeps, Give, Given, Has, InProgress, IpSocketAddress, IsAddr, IsBoundSide}
-use Rattle.wasi_walks.proofs.Words.{IsDoneOrCode, IsLastLocal, IsListen, IsMaker, Item, LastAsk, List, Listen, Listening, Listens, None, Not, Nothing}
-use Rattle.wasi_walks.proofs.Words.{Ok, OpId, Operation, Pending, Refused, Result, Some, Step, Streams, Tcp2Socket, TcpListen, TcpState, Told, Waits}
-use Rattle.wasi_walks.proofs.Words.{WasiSocketsCtx, Who, [], allows_polls, ap, append_assoc, bind, check_front, done_front, entry, front, inl, inr}
-use Rattle.wasi_walks.proofs.Words.{last_ask, left_of, listen_ended, listen_polled, local_front, new_listener, poll_asks, refl, side_in, side_of}
-use Rattle.wasi_walks.proofs.Words.{subst, sym, told_addr, told_done, told_verdict, verdict_front, with_state, ℕ, ⊤, ◌++◌, ◌∙◌, ◌∷◌, ◌≡◌}
+use Rattle.wasi_walks.proofs.Words.{Accepts, AccessDenied, Allows, Answer, Ask, AskWrite, Asks, AsyncOperation, BeganBy, Begins, Call, Check}
+use Rattle.wasi_walks.proofs.Words.{CheckLocal, CloseLast, Done, End, Entry, ErrorCode, FrontKeeps, Give, Given, Has, InProgress, IpSocketAddress}
+use Rattle.wasi_walks.proofs.Words.{IsAddr, IsBoundSide, IsDoneOrCode, IsLastLocal, IsListen, IsMaker, Item, LastAsk, List, Listen, Listening}
+use Rattle.wasi_walks.proofs.Words.{Listens, None, Not, Nothing, Ok, OpId, Operation, Pending, Refused, Result, Some, Step, Streams, Tcp2Socket}
+use Rattle.wasi_walks.proofs.Words.{TcpListen, TcpState, Told, Waits, WasiSocketsCtx, Who, [], allows_polls, ap, append_assoc, bind, check_front}
+use Rattle.wasi_walks.proofs.Words.{done_front, entry, front, inl, inr, last_ask, left_of, listen_ended, listen_polled, local_front, new_listener}
+use Rattle.wasi_walks.proofs.Words.{poll_asks, refl, side_in, side_of, subst, sym, told_addr, told_done, told_verdict, verdict_front, with_state, ℕ}
+use Rattle.wasi_walks.proofs.Words.{⊤, ◌++◌, ◌∙◌, ◌∷◌, ◌≡◌}
 use Rattle.wasi_walks.proofs.Lists.{has_last, has_split, has_front}
 use Rattle.wasi_walks.proofs.licence.Binds.{NoLocal, May}
 use Rattle.wasi_walks.proofs.licence.State.{WorksOn, ListeningStands, accept_name, RecordIsFine}
@@ -175,7 +176,7 @@ module _ (contexts : List WasiSocketsCtx) (steps : List Step) where
 
   -- one that is done listens
   listens_now : (es : List Entry) (r : Tcp2Socket) (op : Operation) → r.side ≡ Some op.who.side → side_of r.inner ≡ None → op.who.context ≡ r.inner.maker → IsMaker es r.inner.maker r.inner.family op.who.side → Listens es op.who.side → RecordIsFine steps es r
-      → RecordIsFine steps es (record r { inner = with_state r.inner (TcpState.Listening op.who.side); in_progress = InProgress.Listen; listening = Accepts (new_listener op.who.side op.who.context r.inner.family) })
+      → RecordIsFine steps es (record r { inner = with_state r.inner (TcpState.Listening op.who.side); in_progress = InProgress.Started AsyncOperation.Listen; listening = Accepts (new_listener op.who.side op.who.context r.inner.family) })
   listens_now es r op s c a m l h = record {
     socket = record {
       knows = record { maker = λ side e. let p : op.who.side ≡ side = cc in subst (IsMaker es r.inner.maker r.inner.family) p m };
@@ -186,12 +187,13 @@ module _ (contexts : List WasiSocketsCtx) (steps : List Step) where
     named = λ side e. s ∙ e;
     streams = λ streams e. absurd (no_streams es r streams c h e);
     listening = record { side = s; maker = subst (λ (n : ℕ). IsMaker es n r.inner.family op.who.side) (sym a) m; accept = tt };
+    progress = tt;
   }
 
   pub ended : (es : List Entry) (old r : Tcp2Socket) (op : Operation) (end : End × List Item) → r.side ≡ old.side → r.side ≡ Some op.who.side → side_of r.inner ≡ None → op.who.context ≡ r.inner.maker → IsMaker es r.inner.maker r.inner.family op.who.side
       → RecordIsFine steps es r → ListenEnds steps es op.who end.0 end.1 → ListenLeaves old es (listen_polled r (listen_ended op.who r.inner end))
   ended es old r op (Waits, items) k s c a m h f = record {
-    leaves = record { side = k; listening = quiet old.listening (Begins (left_of op items)) (λ fs. tt) refl; fine = record { socket = h.socket; named = h.named; streams = h.streams; listening = tt } };
+    leaves = record { side = k; listening = quiet old.listening (Begins (left_of op items)) (λ fs. tt) refl; fine = record { socket = h.socket; named = h.named; streams = h.streams; listening = tt; progress = h.progress } };
     waits = record { op = left_of op items; begins = refl; fine = f; side = s; closed = c; asks = a; made = m };
   }
   ended es old r op (Done given, items) k s c a m h f = record {
@@ -199,6 +201,6 @@ module _ (contexts : List WasiSocketsCtx) (steps : List Step) where
     waits = tt;
   }
   ended es old r op (Refused code given, items) k s c a m h f = record {
-    leaves = record { side = k; listening = quiet old.listening Not (λ fs. tt) refl; fine = record { socket = h.socket; named = h.named; streams = h.streams; listening = tt } };
+    leaves = record { side = k; listening = quiet old.listening Not (λ fs. tt) refl; fine = record { socket = h.socket; named = h.named; streams = h.streams; listening = tt; progress = h.progress } };
     waits = tt;
   }

@@ -1,5 +1,5 @@
 -- The definitions on logs of a listener: that of a run, which is licensed, and others, which are not.
-use Rattle.wasi_walks.proofs.Words.{Accepting, Accepts, Call, Created, Entry, Give, Has, InProgress, IpSocketAddress, IsBoundSide, IsLicensed}
+use Rattle.wasi_walks.proofs.Words.{Accepting, Accepts, Call, Created, Entry, Give, Has, AsyncOperation, InProgress, IpSocketAddress, IsBoundSide, IsLicensed}
 use Rattle.wasi_walks.proofs.Words.{IsMarkOf, Left, List, Machine, MayListen, None, OpId, Reply, SocketAddrUse, SocketAddressFamily, Some, Step}
 use Rattle.wasi_walks.proofs.Words.{Tcp2Socket, TcpState, Told, [], accepted_record, accepted_socket, accepted_state, ap, arith, bind, entry}
 use Rattle.wasi_walks.proofs.Words.{first_state, inl, inr, no_fields, number_fields, own_of, polls, port_of, refl, run, subst, sym, triple_fields}
@@ -69,7 +69,7 @@ accepted = record {
         ∷ [];
   };
   store = record {
-    sockets = listening_record 128 InProgress.Listen
+    sockets = listening_record 128 (InProgress.Started AsyncOperation.Listen)
         ∷ (accepted_record (accepted_socket SocketAddressFamily.Ipv4 0 (accepted_state sixth (peer 8)))).1
         ∷ [];
     jobs = [];

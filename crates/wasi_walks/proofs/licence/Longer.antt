@@ -4,7 +4,7 @@ use Rattle.wasi_walks.proofs.Words.{Call, Entry, IsLicensed, List, Machine, MayA
 use Rattle.wasi_walks.proofs.Words.{WasiSocketsCtx, [], ap, append-nil, append_assoc, arith, inl, inr, length, length-append, step_at, subst, suc}
 use Rattle.wasi_walks.proofs.Words.{zero, ℕ, ⊤, ◌++◌, ◌∙◌, ◌∷◌, ◌≡◌, ◌≤◌}
 use Rattle.wasi_walks.proofs.Lists.{get_front}
-use Rattle.wasi_walks.proofs.licence.State.{WorksOn, RecordIsFine, CallIsFine, StateIsFine}
+use Rattle.wasi_walks.proofs.licence.State.{WorksOn, RecordIsFine, StandingIsFine, StateIsFine}
 use Rattle.wasi_walks.proofs.licence.ListenAsks.{ListenIsFine}
 use Rattle.wasi_walks.proofs.licence.Frames.{Goes, began_more, works_more, record_more, standing_more}
 
@@ -44,7 +44,7 @@ module _ (steps more : List Step) where
     count = h.count;
     handles = h.handles;
     sockets = λ place r e. subst (λ (fs : List Entry). RecordIsFine (steps ++ more) fs r) (append-nil es) (record_more on es [] r (h.sockets place r e));
-    standing = λ s e. subst (λ (fs : List Entry). CallIsFine (steps ++ more) fs m.store.sockets s.line s.call) (append-nil es) (standing_more on es [] m.store.sockets s.line s.call (h.standing s e));
+    standing = λ s e. subst (λ (fs : List Entry). StandingIsFine (steps ++ more) fs m.store.sockets s) (append-nil es) (standing_more on es [] m.store.sockets s (h.standing s e));
     accepts = h.accepts;
     one = h.one;
   }

@@ -9,8 +9,8 @@ use Rattle.wasi_walks.proofs.claims.Law.{Named, fresh}
 use Rattle.wasi_walks.proofs.walks.Moves.{Used, Unused, Marks, ANetwork, AStream, AnError, Here, Found, MarksError, Joined, Marked, made_so, APollable, AnAcceptedStream, second_of, Creates, Past}
 use Rattle.wasi_walks.proofs.Lists.{has_last, has_split, has_front, get_split, get_seam}
 use Rattle.wasi_walks.proofs.licence.State.{accept_name, NamesRecord, HandleIsFine, SocketIsFine}
-use Rattle.wasi_walks.proofs.licence.Frames.{Touches, Spared, handed_unless, stay, same_record, names_on, bind_more, state_made, state_push}
-use Rattle.wasi_walks.proofs.licence.Line.{names_record, calm, NotMarked, MadeSocket, Licensed, elsewhere, some_same, no_listen, spent}
+use Rattle.wasi_walks.proofs.licence.Frames.{Touches, Spared, handed_unless, stay, same_record, names_on, state_made, state_push}
+use Rattle.wasi_walks.proofs.licence.Line.{names_record, NotMarked, MadeSocket, Licensed, elsewhere, some_same, no_listen, spent}
 use Rattle.wasi_walks.proofs.licence.Asked.{listens_on, joined_on}
 use Rattle.wasi_walks.proofs.licence.Binds.{MayQuietly}
 use Rattle.wasi_world.specs.declared.call.HandleKind.TheVariants as name
@@ -42,16 +42,15 @@ module _ (contexts : List WasiSocketsCtx) (steps : List Step) (line : ℕ) (orig
       → Allows (MayAsk contexts steps) (λ fs made. Licensed steps line origin fs (record h { machine = record h.machine { table = made.1 } })) es (make_asks h.machine.table (own_of line) kind parent sock)
   unfolding bind
   made_fine es h kind parent sock o sp un ms f i =
-      allows_if (MayAsk contexts steps) (λ fs made. Licensed steps line origin fs (record h { machine = record h.machine { table = made.1 } })) es (is_full h.machine.table) _ _ (λ full. elsewhere es h (record h { machine = record h.machine { table = h.machine.table } }) refl refl refl i i.fine i.names i.hand)
+      allows_if (MayAsk contexts steps) (λ fs made. Licensed steps line origin fs (record h { machine = record h.machine { table = made.1 } })) es (is_full h.machine.table) _ _ (λ full. elsewhere es h (record h { machine = record h.machine { table = h.machine.table } }) refl refl refl i i.fine i.names)
       (λ room. (
         (i.fine.count, o),
         λ told fits.
             let c = Call.Made h.machine.table.next (name_of kind) parent sock in
             let e = entry (own_of line) c told in
             record {
-              fine = state_made steps es (calm h.machine) (own_of line) (name_of kind) parent sock told kind sp (f told) i.fine;
+              fine = state_made steps es h.machine (own_of line) (name_of kind) parent sock told kind sp (f told) i.fine;
               names = λ k n r a g side d. names_on (stay steps) es _ (own_of n) side (i.names k n r a g side d);
-              hand = λ o d. bind_more (stay steps) es _ o (i.hand o d);
               listens = listens_on contexts steps line origin is_line es h (own_of line) c told (λ k q op g d p. absurd (cc)) i;
               new = λ u. (handed_unless es (own_of line) c told (second_of line) (i.new u).0 (λ l p o d. absurd (cc)), unmarked_made es (own_of line) h.machine.table.next (name_of kind) parent sock told (second_of line) (i.new u).1 (ms (second_of line) (inl (u, refl))));
               unmade = λ d a s is. absurd (un a s is d);
@@ -147,16 +146,15 @@ module _ (contexts : List WasiSocketsCtx) (steps : List Step) (line : ℕ) (orig
       let same : j.listener ≡ s = same_listener j.context j.listener c s (sym j.by ∙ is) in
       let past : Used ≡ h.own = sym o in
       allows_if (MayAsk contexts steps) (λ fs made. Licensed steps line origin fs (record h { machine = record h.machine { table = made.1 }; made = made_so place made.0 })) es (is_full h.machine.table) _ _
-      (λ full. record { fine = i.fine; names = i.names; hand = i.hand; listens = i.listens; new = i.new; unmade = λ u. absurd (elim u [ inl p ↦ not_used (past ∙ p) | inr p ↦ p ]); joined = λ p d. absurd (cc); marked = λ a p d. absurd (cc) })
+      (λ full. record { fine = i.fine; names = i.names; listens = i.listens; new = i.new; unmade = λ u. absurd (elim u [ inl p ↦ not_used (past ∙ p) | inr p ↦ p ]); joined = λ p d. absurd (cc); marked = λ a p d. absurd (cc) })
       (λ room. (
         (i.fine.count, record { origin = origin; at = is_line; holds = subst (IsMarkOf es (own_of line) name.Tcp2 (Some s) sock) (sym is) (inl (record { first = i.unmade (inr (subst NotMarked (sym e) tt)) c s is; socket = refl; under = refl; accept = j.new; side = its; on = j.on; of_listener = subst (λ (x : ℕ). IsSide es x j.on) same j.of_listener; peer = j.peer; told = j.handed.told; handed = j.handed.hand; fresh = j.fresh })) }),
         λ told fits.
             let k = Call.Made n name.Tcp2 (Some s) sock in
             record {
-              fine = state_made steps es (calm h.machine) (own_of line) name.Tcp2 (Some s) sock told (Tcp2 place)
+              fine = state_made steps es h.machine (own_of line) name.Tcp2 (Some s) sock told (Tcp2 place)
                   (λ p q x d m t. apart_there j.new p q x d m (subst (λ (y : Option OpId). Touches (own_of line) (Call.Made n name.Tcp2 (Some s) y) x) its t) (j.side r g)) (new_names es h n place name.Tcp2 (Some s) r told g) i.fine;
               names = λ p m q a d side x. names_on (stay steps) es _ (own_of m) side (i.names p m q a d side x);
-              hand = λ op d. bind_more (stay steps) es _ op (i.hand op d);
               listens = listens_on contexts steps line origin is_line es h (own_of line) k told (λ p q op d m x. absurd (cc)) i;
               new = λ u. absurd (not_used (past ∙ u));
               unmade = λ u. absurd (elim u [ inl p ↦ not_used (past ∙ p) | inr p ↦ p ]);
@@ -233,9 +231,8 @@ module _ (contexts : List WasiSocketsCtx) (steps : List Step) (line : ℕ) (orig
         connect = λ op e. absurd (cc);
       } in
       let j : Licensed steps line origin es next = record {
-        fine = state_push steps es (calm h.machine) now made_it i.fine;
+        fine = state_push steps es h.machine now made_it i.fine;
         names = λ p n r a e. absurd (no_place p n (sym nowhere ∙ a));
-        hand = i.hand;
         listens = λ p q op d m. elim (get_split h.machine.store.sockets (new_record now) p q d) [ inl v ↦ i.listens p q op v m | inr v ↦ absurd (no_listen op (ap (λ (y : Tcp2Socket). y.listening) v ∙ m)) ];
         new = λ e. absurd (cc);
         unmade = λ e d s is. absurd (creates_only ctx family c d s is);

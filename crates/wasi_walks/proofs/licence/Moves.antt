@@ -1,18 +1,18 @@
 -- Each move keeps that the state fits the log.
-use Rattle.wasi_walks.proofs.Words.{Accepting, Accepts, Bool, Connection, Done, End, Entry, Handed, Has, IpSocketAddress, IsMaker, IsMarkedWith}
-use Rattle.wasi_walks.proofs.Words.{IsSide, Job, List, Listener, MarksNoSocket, MayGoOut, Not, OpId, Option, ReadState, Refused, Socket}
-use Rattle.wasi_walks.proofs.Words.{SocketAddressFamily, Some, Step, Streams, Tcp2Socket, TcpState, Waits, WasiSocketsCtx, WriteState}
-use Rattle.wasi_walks.proofs.Words.{accepted_socket, ap, closed_by, connect_first, connect_operation, false, gone, handles_of, inl, inr, kind_at}
-use Rattle.wasi_walks.proofs.Words.{new_job, new_streams, own_of, refl, side_in, side_of, slice_get, slice_set, standing_bind, standing_drop, step_at}
-use Rattle.wasi_walks.proofs.Words.{subst, sym, true, wildcard, with_inner, with_listening, with_state, written_by, ℕ, ◌∙◌, ◌≡◌}
+use Rattle.wasi_walks.proofs.Words.{Accepting, Accepts, Bool, Connection, Done, End, Entry, Handed, Has, InProgress, IpSocketAddress, IsMaker}
+use Rattle.wasi_walks.proofs.Words.{IsMarkedWith, IsSide, Job, List, Listener, MarksNoSocket, MayGoOut, Not, OpId, Option, ReadState, Refused, Socket}
+use Rattle.wasi_walks.proofs.Words.{SocketAddressFamily, Some, Standing, Step, Streams, Tcp2Socket, TcpState, Waits, WasiSocketsCtx, WriteState}
+use Rattle.wasi_walks.proofs.Words.{accepted_socket, ap, call_place, closed_by, connect_first, connect_operation, false, gone, handles_of, inl, inr}
+use Rattle.wasi_walks.proofs.Words.{kind_at, new_job, new_streams, own_of, refl, side_in, side_of, slice_get, slice_set, standing_as, step_at, subst}
+use Rattle.wasi_walks.proofs.Words.{sym, true, wildcard, with_inner, with_listening, with_progress, with_state, written_by, ℕ, ◌∙◌, ◌≡◌}
 use Rattle.wasi_walks.proofs.licence.ListenAsks.{Whole as WholeListen}
 use Rattle.wasi_walks.proofs.claims.Law.{Base, same_begun, fresh}
-use Rattle.wasi_walks.proofs.walks.Moves.{closed_record, Used, Here, put, Found, record_of, WriterMoves, Collects, LastsAfter, Closes, Plain, Move, Reaches, Leaves, Spends, Changes, ClosesReader, Writes, IsGone, opened_by, Reconnects, Opens, BeginsConnect, BeginsBind, BeginsWrite, Stands, Resumes, Ends, Lists, Takes, BeginsListen, BeginsAccept, Unlistens, Forgets, Watches, Joins, StandsListen, StandsDrop, ResumesDrop, Unstands, accepting_now, begun_listen, beginning_listen, new_accept, joined, second_of}
+use Rattle.wasi_walks.proofs.walks.Moves.{closed_record, Used, Here, put, Found, record_of, WriterMoves, Collects, LastsAfter, Closes, Plain, Move, Reaches, Leaves, Spends, Changes, ClosesReader, Writes, IsGone, opened_by, Reconnects, Opens, BeginsConnect, BeginsBind, BeginsWrite, begun_bind, Stands, Resumes, Unstands, Lists, Takes, BeginsListen, BeginsAccept, Unlistens, Forgets, Watches, Joins, accepting_now, begun_listen, beginning_listen, new_accept, joined, second_of}
 use Rattle.wasi_walks.proofs.Lists.{get_split}
-use Rattle.wasi_walks.proofs.licence.State.{ConnectIsFine, ConnectLeft, Unbound, Unchecked, ReadsOn, Whole, ToWrite, Names, BindIsFine, JobIsFine, WritesOn, StreamsAreFine, AcceptingIsFine, ListeningIsFine, SocketIsFine, RecordIsFine, IsHanded, Unarrived, AcceptingStands, ListeningStands, ListenerIsFine, name_in, DropIsFine}
+use Rattle.wasi_walks.proofs.licence.State.{ConnectIsFine, ConnectLeft, Unbound, Unchecked, ReadsOn, Whole, ToWrite, Names, BindIsFine, JobIsFine, WritesOn, StreamsAreFine, AcceptingIsFine, ListeningIsFine, SocketIsFine, RecordIsFine, IsHanded, Unarrived, AcceptingStands, ListeningStands, ListenerIsFine, StandingIsFine, name_in}
 use Rattle.wasi_walks.proofs.licence.Frames.{same_listening, listening_kept, listening_gone, Only, KeepsSide, same_record, record_kept, state_taken, state_put, state_stands, state_unstands, state_jobs, state_renewed, state_joined}
 use Rattle.wasi_walks.proofs.licence.WriteJobs.{shut_after}
-use Rattle.wasi_walks.proofs.licence.Line.{put_with, names_record, same_op, keeps_plain, seam, pair_first, pair_second, no_listen, second_names, calm_standing, calm, ListenGoesOn, NotMarked, NamesMade, Licensed, KeepsListen, put_fine, spent, elsewhere}
+use Rattle.wasi_walks.proofs.licence.Line.{put_with, names_record, keeps_plain, seam, pair_first, pair_second, no_listen, second_names, ListenGoesOn, NotMarked, NamesMade, Licensed, KeepsListen, put_fine, spent, elsewhere}
 
 module _ (contexts : List WasiSocketsCtx) (steps : List Step) (line : ℕ) (origin : Step) (is_line : step_at steps line ≡ Some origin) where
   plain_socket : (es : List Entry) (r now : Tcp2Socket) → Plain r now → SocketIsFine steps es r.inner → SocketIsFine steps es now.inner
@@ -37,7 +37,7 @@ module _ (contexts : List WasiSocketsCtx) (steps : List Step) (line : ℕ) (orig
       let on = k f in
       let it : StreamsAreFine steps es r.inner now = record { side = f.side; connected = f.connected; reads = on.0; writes = on.1 } in
       put_fine es h place r _ g refl (same_listening r.listening) (λ op p. (p, (refl, refl)))
-      (record { socket = x.socket; named = x.named; streams = λ others p. let q : now ≡ others = cc in subst (StreamsAreFine steps es r.inner) q it; listening = x.listening }) i
+      (record { socket = x.socket; named = x.named; streams = λ others p. let q : now ≡ others = cc in subst (StreamsAreFine steps es r.inner) q it; listening = x.listening; progress = x.progress }) i
 
   written_on : (es : List Entry) (side : OpId) (job : Job) (e : End) → JobIsFine steps es side job → WritesOn steps es side (written_by job e)
   written_on es side job Waits h = h
@@ -61,6 +61,7 @@ module _ (contexts : List WasiSocketsCtx) (steps : List Step) (line : ℕ) (orig
     named = λ side e. absurd (cc);
     streams = λ s e. absurd (cc);
     listening = tt;
+    progress = tt;
   }
 
   pub held_side : (es : List Entry) (r : Tcp2Socket) (s : Streams) (f : StreamsAreFine steps es r.inner s) → side_of r.inner ≡ Some f.side
@@ -125,7 +126,7 @@ module _ (contexts : List WasiSocketsCtx) (steps : List Step) (line : ℕ) (orig
   renewed_fine es h place r l a g e f s o i =
       let x = i.fine.sockets place r g in let lf = listener_fine es r l e x in
       put_with es h place r (accepting_now r l a) g refl i
-      (state_renewed steps es (calm h.machine) place r (accepting_now r l a) g refl (record { socket = x.socket; named = x.named; streams = x.streams; listening = record { side = lf.side; maker = lf.maker; accept = f } }) s o i.fine)
+      (state_renewed steps es h.machine place r (accepting_now r l a) g refl (record { socket = x.socket; named = x.named; streams = x.streams; listening = record { side = lf.side; maker = lf.maker; accept = f }; progress = x.progress }) s o i.fine)
       (λ op p. absurd (cc))
 
   joined_record : (es : List Entry) (l : Listener) (new : OpId) (peer : IpSocketAddress) → IsMaker es l.maker l.family l.side → IsHanded es new l.side peer → RecordIsFine steps es (joined l new peer)
@@ -139,30 +140,31 @@ module _ (contexts : List WasiSocketsCtx) (steps : List Step) (line : ℕ) (orig
         named = λ side e. e;
         streams = λ s e. (let p : new_streams (record { side = new }) (record { side = new }) ≡ s = cc in subst (StreamsAreFine steps es socket) p it);
         listening = tt;
+        progress = tt;
       }
 
   pub moves_fine : (es : List Entry) (h now : Here) → Move line origin h now → Base contexts line origin h → Licensed steps line origin es h → Licensed steps line origin es now
-  moves_fine es _ _ (Reaches h handle place named e) b i = elsewhere es h _ refl refl refl i i.fine (λ k n r a g. by_place h k n place r a g (names_at es h handle place named e i)) i.hand
+  moves_fine es _ _ (Reaches h handle place named e) b i = elsewhere es h _ refl refl refl i i.fine (λ k n r a g. by_place h k n place r a g (names_at es h handle place named e i))
     where
       by_place : (h : Here) (k n place : ℕ) (r : Tcp2Socket) → (let x : Option (ℕ × ℕ) = Some (place, line) in let y : Option (ℕ × ℕ) = Some (k, n) in x ≡ y) → Found h k r → ((q : Tcp2Socket) → Found h place q → NamesMade steps line es q) → NamesMade steps n es r
       by_place h k n place r a g f = let p = pair_first place line k n a in let q = pair_second place line k n a in subst (λ (x : ℕ). NamesMade steps x es r) q (f r (ap (slice_get h.machine.store.sockets) p ∙ g))
-  moves_fine es _ _ (Leaves h) b i = record { fine = i.fine; names = λ k n r a g. absurd (cc); hand = i.hand; listens = i.listens; new = i.new; unmade = λ e c s is. i.unmade (elim e [ inl u ↦ inl u | inr u ↦ absurd u ]) c s is; joined = λ p e. absurd (cc); marked = λ handle p e. absurd (cc) }
+  moves_fine es _ _ (Leaves h) b i = record { fine = i.fine; names = λ k n r a g. absurd (cc); listens = i.listens; new = i.new; unmade = λ e c s is. i.unmade (elim e [ inl u ↦ inl u | inr u ↦ absurd u ]) c s is; joined = λ p e. absurd (cc); marked = λ handle p e. absurd (cc) }
   moves_fine es _ _ (Spends h e) b i = spent es h i
   moves_fine es _ _ (Changes h place r now g p) b i = plain_fine es h place r now g p i
   moves_fine es _ _ (ClosesReader h place r s g e) b i = streams_fine es h place r s (record s { reader = ReadState.Closed }) g e (λ f. (tt, f.writes)) i
   moves_fine es _ _ (Writes h place r s w g e m) b i = streams_fine es h place r s (record s { writer = w }) g e (λ f. (f.reads, writes_on es f.side s.writer w m f.writes)) i
-  moves_fine es _ _ (IsGone h place r g e) b i =
+  moves_fine es _ _ (IsGone h place r q g e) b i =
       let f = i.fine.sockets place r g in
-      put_fine es h place r (gone r r.inner) g refl (listening_gone r.listening) (gone_maker r r.inner) (record { socket = f.socket; named = f.named; streams = λ s p. absurd (cc); listening = tt }) i
+      put_fine es h place r (gone r r.inner) g refl (listening_gone r.listening) (gone_maker r r.inner) (record { socket = f.socket; named = f.named; streams = λ s p. absurd (cc); listening = tt; progress = tt }) i
   moves_fine es _ _ (Reconnects h place r c now g e s t u) b i =
       let f = i.fine.sockets place r g in
-      put_fine es h place r _ g refl (same_listening r.listening) (same_listen r (with_inner r (with_state r.inner (TcpState.Connected now))) refl refl refl) (record_kept steps es r _ (record { keeps = still_connected r c now e s; side = refl; streams = refl; listening = refl }) (connected_fine es r.inner c now e s f.socket) f) i
-  moves_fine es _ _ (Opens h place r c g e n) b i =
+      put_fine es h place r _ g refl (same_listening r.listening) (same_listen r (with_inner r (with_state r.inner (TcpState.Connected now))) refl refl refl) (record_kept steps es r _ (record { keeps = still_connected r c now e s; side = refl; streams = refl; listening = refl; binds = inl refl }) (connected_fine es r.inner c now e s f.socket) f) i
+  moves_fine es _ _ (Opens h place r c d g e n) b i =
       let f = i.fine.sockets place r g in let now : Connection = record c { send_taken = true } in
       let it : StreamsAreFine steps es (with_state r.inner (TcpState.Connected now)) (new_streams (record { side = c.side }) (record { side = c.side })) = record { side = c.side; connected = record { connection = now; state = refl; same = refl }; reads = refl; writes = refl } in
       put_fine es h place r (opened_by r c) g refl (same_listening r.listening) (same_listen r (opened_by r c) refl refl refl)
-      (record { socket = connected_fine es r.inner c now e refl f.socket; named = λ side p. f.named side (ap side_in e ∙ p); streams = λ s p. let q : new_streams (record { side = c.side }) (record { side = c.side }) ≡ s = cc in subst (StreamsAreFine steps es (with_state r.inner (TcpState.Connected now))) q it; listening = f.listening }) i
-  moves_fine es _ _ (BeginsConnect h place r side a bound at g d to known o) b i =
+      (record { socket = connected_fine es r.inner c now e refl f.socket; named = λ side p. f.named side (ap side_in e ∙ p); streams = λ s p. let q : new_streams (record { side = c.side }) (record { side = c.side }) ≡ s = cc in subst (StreamsAreFine steps es (with_state r.inner (TcpState.Connected now))) q it; listening = f.listening; progress = tt }) i
+  moves_fine es _ _ (BeginsConnect h place r side a bound at g d to known idle o) b i =
       let f = i.fine.sockets place r g in
       let e : side_of r.inner ≡ Some side = ap side_in d in
       let op = connect_operation (record { op = own_of line; side = side; maker = r.inner.maker }) (wildcard r.inner.family) a (connect_first bound) in
@@ -180,22 +182,23 @@ module _ (contexts : List WasiSocketsCtx) (steps : List Step) (line : ℕ) (orig
         connect = λ x p. let same : op ≡ x = cc in subst (ConnectIsFine steps es) same may;
       } in
       spent es _ (put_fine es h place r (with_inner r (with_state r.inner (TcpState.Connecting op))) g refl (same_listening r.listening) (same_listen r (with_inner r (with_state r.inner (TcpState.Connecting op))) refl refl refl)
-      (record_kept steps es r _ (record { keeps = record { maker = refl; family = refl; side = λ s p. e ∙ p; connected = λ c p. absurd (not_default side c (sym d ∙ p)) }; side = refl; streams = refl; listening = refl }) socket f) i)
-  moves_fine es _ _ (BeginsBind h place r side a at g d to o) b i =
+      (record_kept steps es r _ (record { keeps = record { maker = refl; family = refl; side = λ s p. e ∙ p; connected = λ c p. absurd (not_default side c (sym d ∙ p)) }; side = refl; streams = refl; listening = refl; binds = inl refl }) socket f) i)
+  moves_fine es _ _ (BeginsBind h place r side a at g d to idle o) b i =
       let f = i.fine.sockets place r g in
       let e : side_of r.inner ≡ Some side = ap side_in d in
-      let begun : BindIsFine steps es _ = record {
+      let begun : BindIsFine steps es (begun_bind (own_of line) side r a) = record {
         addr = a;
         to = record { origin = origin; at = is_line; holds = to };
         works = record { family = r.inner.family; made = f.socket.knows.maker side e; named = i.names place line r at g side (f.named side e) };
         last = refl;
         left = Whole;
       } in
-      let k = spent es h i in elsewhere es (record h { own = Used }) _ refl refl refl k k.fine k.names (λ op p. subst (BindIsFine steps es) (same_op _ op p) begun)
+      let now = with_progress r (InProgress.Binding (begun_bind (own_of line) side r a)) in
+      spent es _ (put_fine es h place r now g refl (same_listening r.listening) (same_listen r now refl refl refl) (record { socket = f.socket; named = f.named; streams = f.streams; listening = f.listening; progress = begun }) i)
   moves_fine es _ _ (BeginsWrite h place r s half permit bytes at g e w within o) b i =
       spent es _ (streams_fine es h place r s (record s { writer = WriteState.Writing (new_job (own_of line) half.side bytes) }) g e
       (λ f. (f.reads, record { named = names_streams es r s (i.names place line r at g) (i.fine.sockets place r g) f; on = subst (WritesOn steps es f.side) w f.writes; last = refl; left = ToWrite bytes })) i)
-  moves_fine es _ _ (BeginsListen h place r side at g d bound none to o) b i =
+  moves_fine es _ _ (BeginsListen h place r side at g d bound none to idle o) b i =
       let f = i.fine.sockets place r g in
       let e : side_of r.inner ≡ Some side = ap side_in d in
       let now = beginning_listen (own_of line) side r in
@@ -205,8 +208,8 @@ module _ (contexts : List WasiSocketsCtx) (steps : List Step) (line : ℕ) (orig
         made = f.socket.knows.maker side e;
       } in
       spent es _ (put_with es h place r now g refl i
-      (state_put steps es (calm h.machine) place r now g refl (record { stands = λ fs k. tt; names = λ x p. absurd (cc) })
-      (record { socket = record { knows = record { maker = λ x p. absurd (cc) }; bound = λ x p q. absurd (cc); listens = λ x p. absurd (cc); connect = λ x p. absurd (cc) }; named = λ x p. absurd (cc); streams = λ t p. absurd (no_streams es r side t d f p); listening = tt }) i.fine)
+      (state_put steps es h.machine place r now g refl (record { stands = λ fs k. tt; names = λ x p. absurd (cc) })
+      (record { socket = record { knows = record { maker = λ x p. absurd (cc) }; bound = λ x p q. absurd (cc); listens = λ x p. absurd (cc); connect = λ x p. absurd (cc) }; named = λ x p. absurd (cc); streams = λ t p. absurd (no_streams es r side t d f p); listening = tt; progress = f.progress }) i.fine)
       (λ op p. subst (ListenGoesOn steps es now) (same_begun _ op p) goes))
   moves_fine es _ _ (BeginsAccept h place r l at g e a o) b i =
       let x = i.fine.sockets place r g in let lf = listener_fine es r l e x in let n = i.new o in
@@ -217,9 +220,9 @@ module _ (contexts : List WasiSocketsCtx) (steps : List Step) (line : ℕ) (orig
       of_line : (x : OpId) → Some (second_of line) ≡ Some x → x.step ≡ line
       of_line x p = let q : second_of line ≡ x = cc in ap (λ (y : OpId). y.step) (sym q)
   moves_fine es _ _ (Unlistens h place r op g e c o) b i =
-      let f = i.fine.sockets place r g in put_fine es h place r (with_listening r Not) g refl (listening_gone r.listening) (λ op p. absurd (cc)) (record { socket = f.socket; named = f.named; streams = f.streams; listening = tt }) i
+      let f = i.fine.sockets place r g in put_fine es h place r (with_listening r Not) g refl (listening_gone r.listening) (λ op p. absurd (cc)) (record { socket = f.socket; named = f.named; streams = f.streams; listening = tt; progress = f.progress }) i
   moves_fine es _ _ (Forgets h place r l c g e a) b i = renewed_fine es h place r l Accepting.Idle g e tt tt (λ x p. absurd (cc)) i
-  moves_fine es _ _ (Watches h o) b i = record { fine = i.fine; names = i.names; hand = i.hand; listens = i.listens; new = i.new; unmade = λ e c s is. i.unmade (inl o) c s is; joined = λ p e. absurd (cc); marked = λ handle p e. absurd (cc) }
+  moves_fine es _ _ (Watches h o) b i = record { fine = i.fine; names = i.names; listens = i.listens; new = i.new; unmade = λ e c s is. i.unmade (inl o) c s is; joined = λ p e. absurd (cc); marked = λ handle p e. absurd (cc) }
   moves_fine es _ _ (Joins h c handle place r l new peer is of u g e a) b i =
       let idle = accepting_now r l Accepting.Idle in
       let sockets = slice_set h.machine.store.sockets place idle in
@@ -228,9 +231,9 @@ module _ (contexts : List WasiSocketsCtx) (steps : List Step) (line : ℕ) (orig
       let free : MarksNoSocket es new = subst (AcceptingStands es l.side) a (subst (ListeningStands es) e (i.fine.accepts place r g)) in
       let k = renewed_fine es h place r l Accepting.Idle g e tt tt (λ y p. absurd (cc)) i in
       record {
-        fine = state_joined steps es (calm (put h place idle).machine) (joined l new peer) (joined_record es l new peer lf.maker handed) tt refl k.fine;
+        fine = state_joined steps es (put h place idle).machine (joined l new peer) (joined_record es l new peer lf.maker handed) tt refl k.fine;
         names = λ p n q at d. absurd (cc);
-        hand = i.hand;
+       
         listens = λ p q op d m. elim (get_split sockets (joined l new peer) p q d) [ inl v ↦ k.listens p q op v m | inr v ↦ absurd (no_listen op (ap (λ (y : Tcp2Socket). y.listening) v ∙ m)) ];
         new = i.new;
         unmade = λ t c s is. i.unmade (inr (subst NotMarked (sym u) tt)) c s is;
@@ -248,20 +251,14 @@ module _ (contexts : List WasiSocketsCtx) (steps : List Step) (line : ℕ) (orig
         };
         marked = λ s p m. absurd (cc);
       }
-  moves_fine es _ _ (StandsListen h n place r f) b i = elsewhere es h _ refl refl refl i (state_unstands steps es (calm h.machine) i.fine) i.names i.hand
-  moves_fine es _ _ (StandsDrop h n place r at g) b i = elsewhere es h _ refl refl refl i (state_stands steps es (calm h.machine) (standing_drop n place) (record { found = r; at = g; named = i.names place n r at g }) i.fine) i.names i.hand
-  moves_fine es _ _ (ResumesDrop h n place e) b i =
-      let d : DropIsFine steps es h.machine.store.sockets (own_of n) place = i.fine.standing (standing_drop n place) (ap calm_standing e) in
-      elsewhere es h _ refl refl refl i i.fine (λ k j r a g. dropped h n place k j r d a g) i.hand
+  moves_fine es _ _ (Stands h n call r at g k) b i = elsewhere es h _ refl refl refl i (state_stands steps es h.machine (standing_as n call) (record { found = r; at = g; named = i.names (call_place call) n r at g }) i.fine) i.names
+  moves_fine es _ _ (Resumes h s e) b i = elsewhere es h _ refl refl refl i i.fine (λ k j r a g. resumed h s k j r (i.fine.standing s e) a g)
     where
-      dropped : (h : Here) (n place k j : ℕ) (r : Tcp2Socket) → DropIsFine steps es h.machine.store.sockets (own_of n) place → (let x : Option (ℕ × ℕ) = Some (place, n) in let y : Option (ℕ × ℕ) = Some (k, j) in x ≡ y) → Found h k r → NamesMade steps j es r
-      dropped h n place k j r d a g =
-          let p = pair_first place n k j a in let q = pair_second place n k j a in
+      resumed : (h : Here) (s : Standing) (k j : ℕ) (r : Tcp2Socket) → StandingIsFine steps es h.machine.store.sockets s → (let x : Option (ℕ × ℕ) = Some (call_place s.call, s.line) in let y : Option (ℕ × ℕ) = Some (k, j) in x ≡ y) → Found h k r → NamesMade steps j es r
+      resumed h s k j r d a g =
+          let p = pair_first (call_place s.call) s.line k j a in let q = pair_second (call_place s.call) s.line k j a in
           let same : d.found ≡ r = same_record d.found r (sym d.at ∙ (ap (slice_get h.machine.store.sockets) p ∙ g)) in
-          subst (λ (x : ℕ). NamesMade steps x es r) q (subst (NamesMade steps n es) same d.named)
-  moves_fine es _ _ (Unstands h) b i = elsewhere es h _ refl refl refl i (state_unstands steps es (calm h.machine) i.fine) i.names i.hand
-  moves_fine es _ _ (Stands h n place r op f e) b i = elsewhere es h _ refl refl refl i (state_stands steps es (calm h.machine) (standing_bind n place op) (i.hand op e) i.fine) i.names (λ o p. absurd (cc))
-  moves_fine es _ _ (Resumes h n place op e) b i = elsewhere es h _ refl refl refl i (state_unstands steps es (calm h.machine) i.fine) i.names (λ o p. subst (BindIsFine steps es) (same_op op o p) (i.fine.standing (standing_bind n place op) (ap calm_standing e)))
-  moves_fine es _ _ (Ends h) b i = elsewhere es h _ refl refl refl i i.fine i.names (λ o p. absurd (cc))
-  moves_fine es _ _ (Lists h jobs) b i = elsewhere es h _ refl refl refl i (state_jobs steps es (calm h.machine) jobs i.fine) i.names i.hand
-  moves_fine es _ _ (Takes h handle) b i = elsewhere es h _ refl refl refl i (state_taken steps es (calm h.machine) handle i.fine) i.names i.hand
+          subst (λ (x : ℕ). NamesMade steps x es r) q (subst (NamesMade steps s.line es) same d.named)
+  moves_fine es _ _ (Unstands h) b i = elsewhere es h _ refl refl refl i (state_unstands steps es h.machine i.fine) i.names
+  moves_fine es _ _ (Lists h jobs) b i = elsewhere es h _ refl refl refl i (state_jobs steps es h.machine jobs i.fine) i.names
+  moves_fine es _ _ (Takes h handle) b i = elsewhere es h _ refl refl refl i (state_taken steps es h.machine handle i.fine) i.names

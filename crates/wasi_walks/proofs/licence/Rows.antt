@@ -1,8 +1,8 @@
 -- The definitions on logs of the machine's own runs, which are licensed.
-use Rattle.wasi_walks.proofs.Words.{BeganBy, Call, Created, Entry, Give, Handles, Has, IpSocketAddress, IsLicensed, Left, List, Machine, NamesSide}
-use Rattle.wasi_walks.proofs.Words.{None, Option, Reply, SocketAddrUse, SocketAddressFamily, Some, Standing, Step, Told, WasiSocketsCtx, [], bind}
-use Rattle.wasi_walks.proofs.Words.{bind_operation, entry, false, first_state, inl, inr, new_record, new_socket, no_fields, number_fields, own_of}
-use Rattle.wasi_walks.proofs.Words.{polls, refl, run, standing_bind, true, wildcard, ℕ, ◌++◌, ◌∷◌}
+use Rattle.wasi_walks.proofs.Words.{BeganBy, Call, Created, Entry, Give, Handles, Has, InProgress, IpSocketAddress, IsLicensed, Left, List, Machine}
+use Rattle.wasi_walks.proofs.Words.{NamesSide, None, Option, Reply, SocketAddrUse, SocketAddressFamily, Some, Standing, StandingCall, Step, Told}
+use Rattle.wasi_walks.proofs.Words.{WasiSocketsCtx, [], bind, bind_operation, entry, false, first_state, inl, inr, new_record, new_socket, no_fields}
+use Rattle.wasi_walks.proofs.Words.{number_fields, own_of, polls, refl, run, standing_as, true, wildcard, with_progress, ℕ, ◌++◌, ◌∷◌}
 use Rattle.wasi_tcp.specs.declared.bind.BindStage.TheVariants.{Check}
 use Rattle.wasi_walks.proofs.licence.Longer.{licensed}
 use Rattle.wasi_walks.proofs.licence.Runs.{whole_licensed}
@@ -31,11 +31,11 @@ local_80 = IpSocketAddress.Ipv4 (record { port = 80; address = (127, 0, 0, 1) })
 abbrev pub two_handles : Handles
 two_handles = record { next = 3; live = record { handle = 1; value = slot.Network; parent = None } ∷ record { handle = 2; value = slot.Tcp2 0; parent = None } ∷ [] }
 
--- the machine with these, the socket by this context, and a bind that may stand
-abbrev with_socket : ℕ → SocketAddressFamily → Option Standing → Machine
-with_socket ctx f standing = record {
+-- the machine with these, the socket by this context, which is in the middle of this, and a call that may stand
+abbrev with_socket : ℕ → SocketAddressFamily → InProgress → Option Standing → Machine
+with_socket ctx f doing standing = record {
   table = two_handles;
-  store = record { sockets = new_record (new_socket (own_of 2) ctx f) ∷ []; jobs = []; standing = standing };
+  store = record { sockets = with_progress (new_record (new_socket (own_of 2) ctx f)) doing ∷ []; jobs = []; standing = standing };
 }
 
 -- == a bind
@@ -57,7 +57,7 @@ abbrev pub bind_log : List Entry
 bind_log = begins ++ (entry (own_of 3) (Call.Check 0 local_80 SocketAddrUse.TcpBind) Told.Yes ∷ entry (own_of 3) (Call.Bind (own_of 2) local_80) Told.Done ∷ [])
 
 -- the machine makes these calls, and ends so
-bind_run : Left (run allowed [] first_state 1 bind_script) bind_log (Give (Reply.Ok (number_fields 1) ∷ Reply.Ok (number_fields 2) ∷ Reply.Ok no_fields ∷ Reply.Ok no_fields ∷ [], with_socket 0 SocketAddressFamily.Ipv4 None))
+bind_run : Left (run allowed [] first_state 1 bind_script) bind_log (Give (Reply.Ok (number_fields 1) ∷ Reply.Ok (number_fields 2) ∷ Reply.Ok no_fields ∷ Reply.Ok no_fields ∷ [], with_socket 0 SocketAddressFamily.Ipv4 InProgress.Nothing None))
 unfolding bind polls
 bind_run = ((refl, refl, tt), ((refl, refl, tt), ((refl, refl, tt), ((refl, refl, tt), ((refl, refl, tt), ((refl, refl, tt), refl))))))
 
@@ -110,7 +110,7 @@ abbrev stands_replies : List Reply
 stands_replies = Reply.Ok (number_fields 1) ∷ Reply.Ok (number_fields 2) ∷ Reply.Pending 3 ∷ Reply.Busy ∷ Reply.Busy ∷ []
 
 abbrev stands_end : Machine
-stands_end = with_socket 1 SocketAddressFamily.Ipv6 (Some (standing_bind 3 0 (bind_operation (record { op = own_of 3; side = own_of 2; maker = 1 }) local_six Check)))
+stands_end = with_socket 1 SocketAddressFamily.Ipv6 (InProgress.Binding (bind_operation (record { op = own_of 3; side = own_of 2; maker = 1 }) local_six Check)) (Some (standing_as 3 (StandingCall.Bind 0)))
 
 stands_run : Left (run two_contexts [] first_state 1 stands_script) stands_log (Give (stands_replies, stands_end))
 unfolding bind polls

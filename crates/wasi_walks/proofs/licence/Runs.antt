@@ -9,7 +9,7 @@ use Rattle.wasi_walks.proofs.licence.State.{StateIsFine}
 use Rattle.wasi_walks.proofs.licence.Fresh.{IsNew, next_is_new}
 use Rattle.wasi_walks.proofs.licence.Longer.{EachMayCome, licensed, with_replies, may_come, come_longer, may_more, state_more, listen_more}
 use Rattle.wasi_walks.proofs.Lists.{get_seam}
-use Rattle.wasi_walks.proofs.licence.Line.{ListenGoesOn, calm, Licensed, put_fine}
+use Rattle.wasi_walks.proofs.licence.Line.{ListenGoesOn, Licensed, put_fine}
 use Rattle.wasi_walks.proofs.walks.Steps.{may_while, machine_walks}
 use Rattle.wasi_walks.proofs.claims.Lines.{BaseBetween, first_base, base_starts, base_over}
 use Rattle.wasi_walks.proofs.walks.OnBase.{Above}
@@ -49,7 +49,7 @@ module _ (contexts : List WasiSocketsCtx) (steps : List Step) (line : ℕ) (orig
     accepted = λ es h c s place r is e o g b i. accepted_fine contexts steps line origin is_line es h c s place r is e o g b.1 i;
     polls = polls_fine contexts steps line origin is_line;
     turns = λ es h place r s g e b i. turned_fine contexts steps line origin is_line es h place r s g e i;
-    gives_up = λ es h place r q g b i.
+    gives_up = λ es h place r g b i.
         allows_weaker (MayAsk contexts steps) (λ fs done. Licensed steps line origin fs h × ⊤) (λ fs done. Licensed steps line origin fs (put h place (with_listening r Not))) (λ fs done k. taken_out contexts steps line origin is_line fs h place r g k.0) es (give_up_asks r.listening)
         (kept contexts steps line origin is_line h (λ fs done. ⊤) es (give_up_asks r.listening) i (given_up contexts steps line origin is_line es r.side r.listening (i.fine.sockets place r g).listening));
   }
@@ -65,13 +65,13 @@ module _ (contexts : List WasiSocketsCtx) (steps : List Step) (line : ℕ) (orig
 -- Between two lines.
 pub record Fine (steps : List Step) (line : ℕ) (es : List Entry) (m : Machine) : Type 0 where
   pub base : BaseBetween line m
-  pub fine : StateIsFine steps es (calm m)
+  pub fine : StateIsFine steps es m
   pub listens : (place : ℕ) (r : Tcp2Socket) (op : Operation) → slice_get m.store.sockets place ≡ Some r → r.listening ≡ Begins op → ListenGoesOn steps es r op
 
 fine_more : (contexts : List WasiSocketsCtx) (steps more : List Step) (line : ℕ) (es : List Entry) (m : Machine) → Fine steps line es m → Fine (steps ++ more) line es m
 fine_more contexts steps more line es m i = record {
   base = i.base;
-  fine = state_more steps more es (calm m) i.fine;
+  fine = state_more steps more es m i.fine;
   listens = λ place r op g e. (let l = i.listens place r op g e in record { fine = listen_more steps more es op l.fine; asks = l.asks; made = l.made });
 }
 
@@ -100,7 +100,6 @@ module _ (contexts : List WasiSocketsCtx) where
       (record {
         fine = i.fine;
         names = λ k j r a. absurd (cc);
-        hand = λ o a. absurd (cc);
         listens = i.listens;
         new = λ u. (n.handed (record { step = line; part = 1 }) refl, n.marked (record { step = line; part = 1 }) refl);
         unmade = λ u c t is. n.made (own_of line) refl;
@@ -115,7 +114,7 @@ module _ (contexts : List WasiSocketsCtx) where
   lines all replies m line before (s ∷ rest) es a e c h =
       let now = before ++ s ∷ [] in
       let b : all ≡ now ++ rest = a ∙ sym (append_assoc before (s ∷ []) rest) in
-      let new : IsNew es m.store.sockets line = subst (IsNew es m.store.sockets) (sym e) (next_is_new contexts before es (licensed contexts before es c) (calm m) h.fine) in
+      let new : IsNew es m.store.sockets line = subst (IsNew es m.store.sockets) (sym e) (next_is_new contexts before es (licensed contexts before es c) m h.fine) in
       allows_then (MayAsk contexts all) (λ fs done. EachMayCome contexts now [] fs × Fine now (line + 1) fs done.1) (λ fs done. ⊤) es (machine_asks contexts m line s) _
       (allows_keep (MayAsk contexts now) (MayAsk contexts all) (EachMayCome contexts now []) (λ fs done. Fine now (line + 1) fs done.1)
       (λ fs op c t fits k q. may_come contexts now fs _ k q)

@@ -1,10 +1,11 @@
 -- What the log says of the machine's state: the invariant that makes its next call a licensed one.
 use Rattle.wasi_walks.proofs.Words.{Accept, Accepting, Accepts, Arrived, BeganBy, Bind, Call, Check, CheckArrival, CloseLast, Connect, Connection}
-use Rattle.wasi_walks.proofs.Words.{Entry, ErrorCode, HandedNone, Has, IpSocketAddress, IsBindTo, IsBoundSide, IsConnectTo, IsMaker, IsMarkedWith}
-use Rattle.wasi_walks.proofs.Words.{Item, Job, Kind, Last, List, Listener, Listening, Listens, Machine, MarksNoSocket, MayGoOut, NamesSide, None}
-use Rattle.wasi_walks.proofs.Words.{Nothing, NothingLast, OpId, Operation, Option, ReadState, ShutdownLast, ShutdownSend, Socket, SocketAddressFamily}
-use Rattle.wasi_walks.proofs.Words.{Some, Standing, StandingCall, Step, Streams, Tcp2Socket, TcpBind, TcpConnect, TcpState, Told, Write, WriteState}
-use Rattle.wasi_walks.proofs.Words.{Yes, [], entry, kind_at, marks_in, own_of, side_of, slice_get, true, wildcard, ℕ, ⊤, ◌++◌, ◌+◌, ◌∷◌, ◌≡◌}
+use Rattle.wasi_walks.proofs.Words.{Entry, ErrorCode, HandedNone, Has, InProgress, IpSocketAddress, IsBindTo, IsBoundSide, IsConnectTo, IsMaker}
+use Rattle.wasi_walks.proofs.Words.{IsMarkedWith, Item, Job, Kind, Last, List, Listener, Listening, Listens, Machine, MarksNoSocket, MayGoOut}
+use Rattle.wasi_walks.proofs.Words.{NamesSide, None, Nothing, NothingLast, OpId, Operation, Option, ReadState, ShutdownLast, ShutdownSend, Socket}
+use Rattle.wasi_walks.proofs.Words.{SocketAddressFamily, Some, Standing, Step, Streams, Tcp2Socket, TcpBind, TcpConnect, TcpState, Told, Write}
+use Rattle.wasi_walks.proofs.Words.{WriteState, Yes, [], call_place, entry, kind_at, marks_in, own_of, side_of, slice_get, true, wildcard, ℕ, ⊤, ◌++◌}
+use Rattle.wasi_walks.proofs.Words.{◌+◌, ◌∷◌, ◌≡◌}
 use Rattle.wasi_walks.proofs.walks.Moves.{record_of}
 
 -- The handle stands for the record at this place, and its mark says the side that the record was made with.
@@ -183,27 +184,24 @@ module _ (steps : List Step) where
     pub listens : (side : OpId) → socket.state ≡ TcpState.Listening side → Listens es side
     pub connect : (op : Operation) → socket.state ≡ TcpState.Connecting op → ConnectIsFine es op
 
+  -- the bind that goes on may be polled
+  abbrev pub ProgressIsFine : List Entry → InProgress → Type 0
+  ProgressIsFine es (InProgress.Binding op) = BindIsFine es op
+  ProgressIsFine es _ = ⊤
+
   -- A socket that still has a side has the one that its record was made with.
   pub record RecordIsFine (es : List Entry) (r : Tcp2Socket) : Type 0 where
     pub socket : SocketIsFine es r.inner
     pub named : (side : OpId) → side_of r.inner ≡ Some side → r.side ≡ Some side
     pub streams : (streams : Streams) → r.streams ≡ Some streams → StreamsAreFine es r.inner streams
     pub listening : ListeningIsFine es r.side r.listening
+    pub progress : ProgressIsFine es r.in_progress
 
-  -- An output's drop that waits: the operation's step names a handle of the side that the record was made with.
-  pub record DropIsFine (es : List Entry) (sockets : List Tcp2Socket) (op : OpId) (place : ℕ) : Type 0 where
+  -- A call that stands: its line names a handle of the side that its record was made with.
+  pub record StandingIsFine (es : List Entry) (sockets : List Tcp2Socket) (s : Standing) : Type 0 where
     pub found : Tcp2Socket
-    pub at : slice_get sockets place ≡ Some found
-    pub named : (side : OpId) → found.side ≡ Some side → Names es op side
-
-  -- a drop goes on by its line's own operation; where a listen stands, another invariant holds
-  abbrev pub CallIsFine : List Entry → List Tcp2Socket → ℕ → StandingCall → Type 0
-  CallIsFine es sockets line (StandingCall.Bind place op) = BindIsFine es op
-  CallIsFine es sockets line (StandingCall.Listen place) = ⊥
-  CallIsFine es sockets line (StandingCall.DropOutput place) = DropIsFine es sockets (own_of line) place
-
-  abbrev pub StandingIsFine : List Entry → List Tcp2Socket → Standing → Type 0
-  StandingIsFine es sockets s = CallIsFine es sockets s.line s.call
+    pub at : slice_get sockets (call_place s.call) ≡ Some found
+    pub named : (side : OpId) → found.side ≡ Some side → Names es (own_of s.line) side
 
   pub record StateIsFine (es : List Entry) (m : Machine) : Type 0 where
     pub count : m.table.next ≡ marks_in es + 1

@@ -1,11 +1,11 @@
 -- A law of runs: what each ask must be, what holds between the asks, and that each move keeps it.
-use Rattle.wasi_walks.proofs.Words.{Accepting, Accepts, Allows, Ask, AskWrite, Asks, Begins, Bool, Call, End, Entry, Fits, Give, IsBacklogSet, Item}
-use Rattle.wasi_walks.proofs.Words.{Kind, List, Listener, None, Not, OpId, Operation, Option, SocketAddressFamily, Some, Step, Streams, Tcp2}
-use Rattle.wasi_walks.proofs.Words.{Tcp2Socket, TcpState, Told, WasiSocketsCtx, [], accept_ended, after_local, allows_then, allows_weaker, ap, bind}
-use Rattle.wasi_walks.proofs.Words.{connect_ended, create_asks, entry, false, give_up_asks, if◌then◌else◌, left_of, make_asks, own_of, poll_asks}
-use Rattle.wasi_walks.proofs.Words.{refl, side_at, side_of, slice_get, slice_set, subst, suc, sym, told_addr, true, turn_asks, with_inner}
-use Rattle.wasi_walks.proofs.Words.{with_listening, with_state, with_writer, zero, ℕ, ◌++◌, ◌∷◌, ◌≡◌}
-use Rattle.wasi_walks.proofs.walks.Moves.{Here, put, Found, NoBind, closed_record, Past, Joined, made_so, listen_after, accepting_now, Held, InHand, Connects, Listens, Awaits, IsQuestionOf, IsOn, Move, Marks, Creates, Used, Unused}
+use Rattle.wasi_walks.proofs.Words.{Accepting, Accepts, Allows, Ask, AskWrite, Asks, Begins, Bool, Call, End, Entry, Fits, Give, InProgress}
+use Rattle.wasi_walks.proofs.Words.{IsBacklogSet, Item, Kind, List, Listener, None, Not, OpId, Operation, Option, SocketAddressFamily, Some, Step}
+use Rattle.wasi_walks.proofs.Words.{Streams, Tcp2, Tcp2Socket, TcpState, Told, WasiSocketsCtx, [], accept_ended, after_local, allows_then}
+use Rattle.wasi_walks.proofs.Words.{allows_weaker, ap, bind, bind_progress, connect_ended, create_asks, entry, false, give_up_asks, if◌then◌else◌}
+use Rattle.wasi_walks.proofs.Words.{make_asks, own_of, poll_asks, refl, side_at, side_of, slice_get, slice_set, subst, suc, sym, told_addr, true}
+use Rattle.wasi_walks.proofs.Words.{turn_asks, with_inner, with_listening, with_progress, with_state, with_writer, zero, ℕ, ◌++◌, ◌∷◌, ◌≡◌}
+use Rattle.wasi_walks.proofs.walks.Moves.{Here, put, Found, NoBind, closed_record, Past, Joined, made_so, listen_after, accepting_now, Held, BindsOn, Connects, Listens, Awaits, IsQuestionOf, IsOn, Move, Marks, Creates, Used, Unused}
 use Rattle.wasi_walks.proofs.Lists.{set_there, set_set}
 
 pub record Law (contexts : List WasiSocketsCtx) (line : ℕ) (origin : Step) : Type 1 where
@@ -30,7 +30,7 @@ pub record Law (contexts : List WasiSocketsCtx) (line : ℕ) (origin : Step) : T
   -- what goes on
   pub polls : (es : List Entry) (h : Here) (op : Operation) (after : End × List Item → Here) → Held h op after → Inv es h → Allows P (λ fs ended. Inv fs (after ended)) es (poll_asks op)
   pub turns : (es : List Entry) (h : Here) (place : ℕ) (r : Tcp2Socket) (s : Streams) → Found h place r → r.streams ≡ Some s → Inv es h → Allows P (λ fs done. Inv fs (put h place (with_writer r s done.1))) es (turn_asks s.writer)
-  pub gives_up : (es : List Entry) (h : Here) (place : ℕ) (r : Tcp2Socket) → NoBind h → Found h place r → Inv es h → Allows P (λ fs done. Inv fs (put h place (with_listening r Not))) es (give_up_asks r.listening)
+  pub gives_up : (es : List Entry) (h : Here) (place : ℕ) (r : Tcp2Socket) → Found h place r → Inv es h → Allows P (λ fs done. Inv fs (put h place (with_listening r Not))) es (give_up_asks r.listening)
 
 -- A place that has a record.
 pub record HasRecord (h : Here) (place : ℕ) : Type 0 where
@@ -63,6 +63,12 @@ unfolding bind
 given_then R f k (Give a) = k a
 given_then R f k (Ask op c next) = λ told. given_then R f k (next told)
 given_then R f k (AskWrite op sock bytes next) = λ told. given_then R f k (next told)
+
+pub given_on : {A B : Type 0} (R : B → Type 0) (f : A → Asks B) → ((a : A) → Given R (f a)) → (asks : Asks A) → Given R (bind asks f)
+unfolding bind
+given_on R f k (Give a) = k a
+given_on R f k (Ask op c next) = λ told. given_on R f k (next told)
+given_on R f k (AskWrite op sock bytes next) = λ told. given_on R f k (next told)
 
 given_too : {A : Type 0} (P : List Entry → OpId → Call → Type 0) (Q : List Entry → A → Type 0) (R : A → Type 0) (es : List Entry) (asks : Asks A) → Allows P Q es asks → Given R asks → Allows P (λ fs a. Q fs a × R a) es asks
 given_too P Q R es (Give a) h g = (h, g)
@@ -119,9 +125,6 @@ module _ {contexts : List WasiSocketsCtx} {line : ℕ} {origin : Step} {law : La
   pub ends : {A : Type 0} {h : Here} {mid end : A → Here} {asks : Asks A} → ((a : A) → mid a ≡ end a) → Walks law h mid asks → Walks law h end asks
   ends {mid} {end} {asks} e w = record { along = λ es i. allows_weaker law.P (λ fs a. law.Inv fs (mid a)) (λ fs a. law.Inv fs (end a)) (λ fs a k. subst (law.Inv fs) (e a) k) es asks (w.along es i) }
 
-  pub poll : {h : Here} {op : Operation} → h.hand ≡ Some op → Walks law h (λ ended. record h { hand = Some (left_of op ended.1) }) (poll_asks op)
-  poll {h} {op} e = record { along = λ es i. law.polls es h op _ (InHand op e) i }
-
   pub mark : {h : Here} {kind : Kind} {parent : Option ℕ} {sock : Option OpId} → Marks origin h kind parent sock → Walks law h (λ made. record h { machine = record h.machine { table = made.1 } }) (make_asks h.machine.table (own_of line) kind parent sock)
   mark {h} {kind} {parent} {sock} m = record { along = λ es i. law.marks es h kind parent sock m i }
 
@@ -166,8 +169,11 @@ module _ {contexts : List WasiSocketsCtx} {line : ℕ} {origin : Step} {law : La
     polled : (r : Tcp2Socket) {op : Operation} (now : End × List Item → Tcp2Socket) → Held (put h place r) op (λ ended. put (put h place r) place (now ended)) → Walks law (put h place r) (λ ended. put h place (now ended)) (poll_asks op)
     polled r {op} now held = ends (λ ended. put_put h place r (now ended)) (record { along = λ es i. law.polls es (put h place r) op _ held i })
 
-    pub connect : (r : Tcp2Socket) (op : Operation) → NoBind h → r.inner.state ≡ TcpState.Connecting op → Walks law (put h place r) (λ ended. put h place (with_inner r (with_state r.inner (connect_ended op.who ended).1))) (poll_asks op)
-    connect r op q e = polled r _ (Connects place r op q (found here r) e)
+    pub poll_bind : (r : Tcp2Socket) (op : Operation) → NoBind h → r.in_progress ≡ InProgress.Binding op → Walks law (put h place r) (λ ended. put h place (with_progress r (bind_progress op ended))) (poll_asks op)
+    poll_bind r op q e = polled r _ (BindsOn place r op q (found here r) e)
+
+    pub connect : (r : Tcp2Socket) (op : Operation) → r.inner.state ≡ TcpState.Connecting op → Walks law (put h place r) (λ ended. put h place (with_inner r (with_state r.inner (connect_ended op.who ended).1))) (poll_asks op)
+    connect r op e = polled r _ (Connects place r op (found here r) e)
 
     pub listen : (r : Tcp2Socket) (op : Operation) → NoBind h → r.listening ≡ Begins op → side_of r.inner ≡ None → Walks law (put h place r) (λ ended. put h place (listen_after op r ended)) (poll_asks op)
     listen r op q e c = polled r _ (Listens place r op q (found here r) e c)
@@ -183,8 +189,8 @@ module _ {contexts : List WasiSocketsCtx} {line : ℕ} {origin : Step} {law : La
     }
 
     -- the record goes: its listening is given up, and its side is closed
-    pub give_up : (r : Tcp2Socket) → NoBind h → Walks law (put h place r) (λ done. put h place (with_listening r Not)) (give_up_asks r.listening)
-    give_up r q = ends (λ done. put_put h place r (with_listening r Not)) (record { along = λ es i. law.gives_up es (put h place r) place r q (found here r) i })
+    pub give_up : (r : Tcp2Socket) → Walks law (put h place r) (λ done. put h place (with_listening r Not)) (give_up_asks r.listening)
+    give_up r = ends (λ done. put_put h place r (with_listening r Not)) (record { along = λ es i. law.gives_up es (put h place r) place r (found here r) i })
 
     pub close : {A : Type 0} {end : A → Here} (r : Tcp2Socket) {side : OpId} {next : Told → Asks A} → NoBind h → side_of r.inner ≡ Some side → ((told : Told) → Walks law (put h place (closed_record r)) end (next told)) → Walks law (put h place r) end (Ask (own_of line) (Call.Close side) next)
     close r {side} q e k = record {

@@ -1,29 +1,25 @@
 -- The steps of listens and accepts, as moves.
 use Rattle.wasi_walks.proofs.Words.{Accepts, Answer, Bool, Err, ErrorCode, Give, Handles, Has, IsListen, List, Listening, Machine, None, Ok, Option}
-use Rattle.wasi_walks.proofs.Words.{Pending, Ready, Records, Result, Socket, Some, Step, Stop, Tcp2Socket, WasiSocketsCtx, accept_answered, accept_at}
-use Rattle.wasi_walks.proofs.Words.{accept_end, accept_listening, accept_on, accepted_asks, accepted_record, accepted_streams, false, first_ids}
-use Rattle.wasi_walks.proofs.Words.{handles_of, is_nothing, kept_accepted, kind_at, listen_answered, make_asks, own_of, refl, side_at, slice_get}
-use Rattle.wasi_walks.proofs.Words.{slice_set, socket_at, start_listen_at, start_listen_by, true, with_sockets, with_store, with_streams, with_table}
-use Rattle.wasi_walks.proofs.Words.{ℕ, ⊤, ◌≡◌}
-use Rattle.wasi_walks.proofs.walks.Moves.{NoBindStands, Used, Unused, put, Found, record_of, Reaches, Leaves, Spends, Marked, made_so, AnAcceptedStream, StandsListen, Watches}
-use Rattle.wasi_walks.proofs.walks.Law.{Law, HasRecord, found, put_same, Walks, give, and_then, and_given, move, gives, from, accept}
-use Rattle.wasi_walks.proofs.walks.Sockets.{joined_if, Took, takes_walks, listener_walks, begin_listen_walks}
+use Rattle.wasi_walks.proofs.Words.{Ready, Records, Result, Socket, Some, StandingCall, Step, Stop, Tcp2Socket, WasiSocketsCtx, accept_answered}
+use Rattle.wasi_walks.proofs.Words.{accept_at, accept_end, accept_listening, accept_on, accepted_asks, accepted_record, accepted_streams, false}
+use Rattle.wasi_walks.proofs.Words.{first_ids, handles_of, is_nothing, kept_accepted, kind_at, make_asks, own_of, refl, side_at, slice_get, slice_set}
+use Rattle.wasi_walks.proofs.Words.{socket_at, start_listen_at, start_listen_by, true, with_sockets, with_store, with_streams, with_table, ℕ, ⊤, ◌≡◌}
+use Rattle.wasi_walks.proofs.walks.Moves.{NoBindStands, Used, Unused, put, Found, record_of, Reaches, Leaves, Spends, Marked, made_so, AnAcceptedStream, Watches}
+use Rattle.wasi_walks.proofs.walks.Law.{Law, HasRecord, put_same, Walks, give, and_then, and_given, move, gives, from, accept}
+use Rattle.wasi_walks.proofs.walks.Sockets.{joined_if, Took, takes_walks, listener_walks, begin_listen_walks, listen_waits_so}
 use Rattle.wasi_walks.proofs.walks.States.{Watching, OverWith, Between, socket_record, JoinedSo, At, Starts, given_any, AcceptedSo, Put, joined_given, Over, there}
-use Rattle.wasi_walks.proofs.walks.SocketSteps.{streams_walks}
+use Rattle.wasi_walks.proofs.walks.SocketSteps.{answered_walks, streams_walks}
 
 module _ {contexts : List WasiSocketsCtx} {line : ℕ} {origin : Step} {law : Law contexts line origin} where
   -- == a listen
-  listen_answered_walks : (m : Machine) (n k place : ℕ) → HasRecord (At k m place Used) place → (begun : Result (Answer (Unit {0})) ErrorCode × Tcp2Socket) → Walks law (put (At k m place Used) place begun.1) (Put k m place) (Give (listen_answered m.store n place begun))
-  listen_answered_walks m n k place here (Ok Pending, r) = gives _ (StandsListen _ n place r (found here r))
-  listen_answered_walks m n k place here _ = give _
-
-  start_listen_by_walks : (m : Machine) (place : ℕ) (r : Tcp2Socket) (idle : Bool) → Found (At line m place Unused) place r → IsListen origin → NoBindStands m.store.standing → Walks law (At line m place Unused) (Put line m place) (start_listen_by m.store (own_of line) place r idle)
-  start_listen_by_walks m place r true g is q = from (put_same (At line m place Unused) place r g) (and_then (begin_listen_walks (there g) refl is refl (refl, q) r) (listen_answered_walks m line line place (record { was = r; found = g })))
-  start_listen_by_walks m place r false g is q = gives _ (Spends _ refl)
+  start_listen_by_walks : (m : Machine) (place : ℕ) (r : Tcp2Socket) (idle : Bool) → is_nothing r.in_progress ≡ idle → Found (At line m place Unused) place r → IsListen origin → NoBindStands m.store.standing → Walks law (At line m place Unused) (Put line m place) (start_listen_by m.store (own_of line) place r idle)
+  start_listen_by_walks m place r true e g is q =
+      from (put_same (At line m place Unused) place r g) (and_then (begin_listen_walks (there g) refl is refl q r e) (λ begun. answered_walks m line (StandingCall.Listen place) begun (record { was = r; found = g }) (listen_waits_so place begun)))
+  start_listen_by_walks m place r false e g is q = gives _ (Spends _ refl)
 
   pub start_listen_at_walks : (m : Machine) (place : ℕ) (o : Option Tcp2Socket) → slice_get m.store.sockets place ≡ o → IsListen origin → NoBindStands m.store.standing → Walks law (At line m place Unused) (Put line m place) (start_listen_at m.store (own_of line) place o)
   start_listen_at_walks m place None g is q = gives _ (Spends _ refl)
-  start_listen_at_walks m place (Some r) g is q = start_listen_by_walks m place r (is_nothing r.in_progress) g is q
+  start_listen_at_walks m place (Some r) g is q = start_listen_by_walks m place r (is_nothing r.in_progress) refl g is q
 
   -- == an accept
 

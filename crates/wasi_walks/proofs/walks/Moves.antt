@@ -5,11 +5,12 @@ use Rattle.wasi_walks.proofs.Words.{IpSocketAddress, IsBindTo, IsConnectTo, IsLi
 use Rattle.wasi_walks.proofs.Words.{Ok, OpId, Operation, Option, Other, Output, Pollable, ReadState, Result, SocketAddressFamily, Some, Standing}
 use Rattle.wasi_walks.proofs.Words.{StandingCall, Step, Stop, Streams, Tcp2, Tcp2Socket, TcpReceiveStream, TcpSendStream, TcpState, WasiSocketsCtx}
 use Rattle.wasi_walks.proofs.Words.{Watched, WriteState, [], accept_ended, accept_operation, accepted_record, accepted_socket, accepted_state}
-use Rattle.wasi_walks.proofs.Words.{bind_operation, closing_job, collected, connect_ended, connect_first, connect_operation, context_at, false, gone}
-use Rattle.wasi_walks.proofs.Words.{handles_of, is_connect, is_over, kind_at, left_of, length, listen_ended, listen_first, listen_operation}
-use Rattle.wasi_walks.proofs.Words.{listen_polled, nat_lt, new_job, new_streams, own_of, place_in, side_at, side_of, slice_get, slice_set}
-use Rattle.wasi_walks.proofs.Words.{standing_bind, standing_drop, standing_listen, true, wildcard, with_accept, with_inner, with_listening}
-use Rattle.wasi_walks.proofs.Words.{with_reader, with_socket, with_state, with_writer, without_handle, writer_side, ℕ, ⊤, ◌++◌, ◌∷◌, ◌≡◌, ◌⊎◌}
+use Rattle.wasi_walks.proofs.Words.{bind_operation, bind_progress, call_place, closing_job, collected, connect_ended, connect_first}
+use Rattle.wasi_walks.proofs.Words.{connect_operation, context_at, false, gone, handles_of, is_connect, is_nothing, is_over, kind_at, length}
+use Rattle.wasi_walks.proofs.Words.{listen_ended, listen_first, listen_operation, listen_polled, nat_lt, new_job, new_streams, own_of, place_in}
+use Rattle.wasi_walks.proofs.Words.{side_at, side_of, slice_get, slice_set, standing_as, true, wildcard, with_accept, with_inner, with_listening}
+use Rattle.wasi_walks.proofs.Words.{with_progress, with_reader, with_socket, with_state, with_writer, without_handle, writer_side, ℕ, ⊤, ◌++◌, ◌∷◌}
+use Rattle.wasi_walks.proofs.Words.{◌≡◌, ◌⊎◌}
 use Rattle.wasi_tcp.specs.declared.bind.BindStage.TheVariants.{Check}
 use Rattle.wasi_tcp.specs.declared.writer.WriteError.{WriteError}
 use Rattle.wasi_tcp.specs.declared.accept.AcceptStage.TheVariants as accept
@@ -31,7 +32,6 @@ pub data Made : Type 0 where
 pub record Here : Type 0 where
   pub machine : Machine
   pub at : Option (ℕ × ℕ)  -- the record that its handle stands for, once it was looked up, and the line whose operation asks
-  pub hand : Option Operation  -- a bind that is being polled
   pub made : Made
   pub own : Own
 
@@ -43,16 +43,33 @@ Found h place r = slice_get h.machine.store.sockets place ≡ Some r
 
 -- no bind stands
 abbrev pub NoBindIn : StandingCall → Type 0
-NoBindIn (StandingCall.Bind place op) = ⊥
+NoBindIn (StandingCall.Bind place) = ⊥
 NoBindIn _ = ⊤
 
 abbrev pub NoBindStands : Option Standing → Type 0
 NoBindStands None = ⊤
 NoBindStands (Some s) = NoBindIn s.call
 
--- no bind goes on: none is being polled, and none stands
 abbrev pub NoBind : Here → Type 0
-NoBind h = (h.hand ≡ None) × NoBindStands h.machine.store.standing
+NoBind h = NoBindStands h.machine.store.standing
+
+-- of binds, no other goes on: none does, or it is the same
+abbrev pub IsSettled : InProgress → Type 0
+IsSettled (InProgress.Binding op) = ⊥
+IsSettled _ = ⊤
+
+abbrev pub KeepsBinding : InProgress → InProgress → Type 0
+KeepsBinding old now = (now ≡ old) ⊎ (IsSettled old × IsSettled now)
+
+-- a bind goes on
+abbrev pub HasBinding : InProgress → Type 0
+HasBinding (InProgress.Binding op) = ⊤
+HasBinding _ = ⊥
+
+-- where a bind is to stand, it goes on
+abbrev pub GoesOn : StandingCall → Tcp2Socket → Type 0
+GoesOn (StandingCall.Bind place) r = HasBinding r.in_progress
+GoesOn _ r = ⊤
 
 -- == what may be asked of a record's side by the line that works on it
 -- a question, or that a half is given up
@@ -82,8 +99,8 @@ IsConnecting _ = ⊥
 abbrev pub TakesNone : Connection → Connection → Type 0
 TakesNone c now = (now.receive_taken ≡ c.receive_taken) × (now.send_taken ≡ c.send_taken)
 
--- The side, the streams and the listening are as they were, and so is what the socket does. A connect is in progress only where
--- one was, or where the socket connects.
+-- The side, the streams and the listening are as they were, and so is what the socket does, and a bind that goes on. A connect is
+-- in progress only where one was, or where the socket connects.
 pub record Plain (old now : Tcp2Socket) : Type 0 where
   pub side : now.side ≡ old.side
   pub streams : now.streams ≡ old.streams
@@ -92,6 +109,7 @@ pub record Plain (old now : Tcp2Socket) : Type 0 where
   pub maker : now.inner.maker ≡ old.inner.maker
   pub family : now.inner.family ≡ old.inner.family
   pub bound : (side : OpId) → old.inner.state ≡ TcpState.Default side → now.inner.bound ≡ true → old.inner.bound ≡ true
+  pub binds : KeepsBinding old.in_progress now.in_progress
   pub connects : is_connect now.in_progress ≡ true → (is_connect old.in_progress ≡ true) ⊎ IsConnecting old.inner.state
 
 -- of a writer: a job that ended is collected, another permit, a write that is to be the last, the end
@@ -130,6 +148,10 @@ pub data Marks (origin : Step) (h : Here) : Kind → Option ℕ → Option OpId 
   AnAcceptedStream : (c listener handle place : ℕ) (kind : Kind) (r : Tcp2Socket) → origin ≡ Step.TcpAccept c listener → (kind ≡ Input place) ⊎ (kind ≡ Output place) → h.made ≡ Marked handle place → h.own ≡ Used → Found h place r → Marks origin h kind (Some handle) (side_at (slice_get h.machine.store.sockets place))
   APollable : (c handle : ℕ) (w : Watched) → origin ≡ Step.Subscribe c handle → record_of (kind_at h.machine.table handle) ≡ Some (place_in w) → Marks origin h (Pollable w) (Some handle) (side_at (slice_get h.machine.store.sockets (place_in w)))
   AnError : (handle place : ℕ) → MarksError handle origin → record_of (kind_at h.machine.table handle) ≡ Some place → Marks origin h ErrorValue (Some handle) (side_at (slice_get h.machine.store.sockets place))
+
+-- == records of a bind
+abbrev pub begun_bind : OpId → OpId → Tcp2Socket → IpSocketAddress → Operation
+begun_bind own side r a = bind_operation (record { op = own; side = side; maker = r.inner.maker }) a Check
 
 -- == records of a listen and of a listener
 -- a listen begins, and takes the side
@@ -185,18 +207,18 @@ pub data Move (line : ℕ) (origin : Step) : Here → Here → Type 0 where
   Changes : (h : Here) (place : ℕ) (r now : Tcp2Socket) → Found h place r → Plain r now → Move line origin h (put h place now)
   ClosesReader : (h : Here) (place : ℕ) (r : Tcp2Socket) (s : Streams) → Found h place r → r.streams ≡ Some s → Move line origin h (put h place (with_reader r s ReadState.Closed))
   Writes : (h : Here) (place : ℕ) (r : Tcp2Socket) (s : Streams) (w : WriteState) → Found h place r → r.streams ≡ Some s → WriterMoves s.writer w → Move line origin h (put h place (with_writer r s w))
-  IsGone : (h : Here) (place : ℕ) (r : Tcp2Socket) → Found h place r → side_of r.inner ≡ None → Move line origin h (put h place (gone r r.inner))
+  IsGone : (h : Here) (place : ℕ) (r : Tcp2Socket) → NoBind h → Found h place r → side_of r.inner ≡ None → Move line origin h (put h place (gone r r.inner))
   -- a connection, whose halves are taken where no connect is in progress
   Reconnects : (h : Here) (place : ℕ) (r : Tcp2Socket) (c now : Connection) → Found h place r → r.inner.state ≡ TcpState.Connected c → now.side ≡ c.side → (c.send_taken ≡ true → now.send_taken ≡ true) → (is_connect r.in_progress ≡ true → TakesNone c now) → Move line origin h (put h place (with_inner r (with_state r.inner (TcpState.Connected now))))
-  Opens : (h : Here) (place : ℕ) (r : Tcp2Socket) (c : Connection) → Found h place r → r.inner.state ≡ TcpState.Connected c → c.send_taken ≡ false → Move line origin h (put h place (opened_by r c))
+  Opens : (h : Here) (place : ℕ) (r : Tcp2Socket) (c : Connection) → IsSettled r.in_progress → Found h place r → r.inner.state ≡ TcpState.Connected c → c.send_taken ≡ false → Move line origin h (put h place (opened_by r c))
   -- the line's own operation begins
-  BeginsConnect : (h : Here) (place : ℕ) (r : Tcp2Socket) (side : OpId) (a : IpSocketAddress) (bound : Bool) → h.at ≡ Some (place, line) → Found h place r → r.inner.state ≡ TcpState.Default side → IsConnectTo a origin → (bound ≡ true → r.inner.bound ≡ true) → h.own ≡ Unused
+  BeginsConnect : (h : Here) (place : ℕ) (r : Tcp2Socket) (side : OpId) (a : IpSocketAddress) (bound : Bool) → h.at ≡ Some (place, line) → Found h place r → r.inner.state ≡ TcpState.Default side → IsConnectTo a origin → (bound ≡ true → r.inner.bound ≡ true) → is_nothing r.in_progress ≡ true → h.own ≡ Unused
       → Move line origin h (record (put h place (with_inner r (with_state r.inner (TcpState.Connecting (connect_operation (record { op = own_of line; side = side; maker = r.inner.maker }) (wildcard r.inner.family) a (connect_first bound)))))) { own = Used })
-  BeginsBind : (h : Here) (place : ℕ) (r : Tcp2Socket) (side : OpId) (a : IpSocketAddress) → h.at ≡ Some (place, line) → Found h place r → r.inner.state ≡ TcpState.Default side → IsBindTo a origin → h.own ≡ Unused
-      → Move line origin h (record h { hand = Some (bind_operation (record { op = own_of line; side = side; maker = r.inner.maker }) a Check); own = Used })
+  BeginsBind : (h : Here) (place : ℕ) (r : Tcp2Socket) (side : OpId) (a : IpSocketAddress) → h.at ≡ Some (place, line) → Found h place r → r.inner.state ≡ TcpState.Default side → IsBindTo a origin → is_nothing r.in_progress ≡ true → h.own ≡ Unused
+      → Move line origin h (record (put h place (with_progress r (InProgress.Binding (begun_bind (own_of line) side r a)))) { own = Used })
   BeginsWrite : (h : Here) (place : ℕ) (r : Tcp2Socket) (s : Streams) (half : TcpSendStream) (permit : ℕ) (bytes : List ℕ) → h.at ≡ Some (place, line) → Found h place r → r.streams ≡ Some s → s.writer ≡ WriteState.Ready half permit → nat_lt permit (length bytes) ≡ false → h.own ≡ ToWrite half.side bytes
       → Move line origin h (record (put h place (with_writer r s (WriteState.Writing (new_job (own_of line) half.side bytes)))) { own = Used })
-  BeginsListen : (h : Here) (place : ℕ) (r : Tcp2Socket) (side : OpId) → h.at ≡ Some (place, line) → Found h place r → r.inner.state ≡ TcpState.Default side → r.inner.bound ≡ true → r.listening ≡ Not → IsListen origin → h.own ≡ Unused
+  BeginsListen : (h : Here) (place : ℕ) (r : Tcp2Socket) (side : OpId) → h.at ≡ Some (place, line) → Found h place r → r.inner.state ≡ TcpState.Default side → r.inner.bound ≡ true → r.listening ≡ Not → IsListen origin → is_nothing r.in_progress ≡ true → h.own ≡ Unused
       → Move line origin h (record (put h place (beginning_listen (own_of line) side r)) { own = Used })
   BeginsAccept : (h : Here) (place : ℕ) (r : Tcp2Socket) (l : Listener) → h.at ≡ Some (place, line) → Found h place r → r.listening ≡ Accepts l → l.accept ≡ Accepting.Idle → h.own ≡ Unused
       → Move line origin h (record (put h place (accepting_now r l (new_accept line l))) { own = Used })
@@ -207,22 +229,17 @@ pub data Move (line : ℕ) (origin : Step) : Here → Here → Type 0 where
   Watches : (h : Here) → h.own ≡ Unused → Move line origin h (record h { made = Unmade })
   Joins : (h : Here) (c handle place : ℕ) (r : Tcp2Socket) (l : Listener) (new : OpId) (peer : IpSocketAddress) → origin ≡ Step.TcpAccept c handle → record_of (kind_at h.machine.table handle) ≡ Some place → h.made ≡ Unmade → Found h place r → r.listening ≡ Accepts l → l.accept ≡ Accepting.Arrived new peer
       → Move line origin h (joining h (slice_set h.machine.store.sockets place (accepting_now r l Accepting.Idle)) (joined l new peer))
-  -- a listen stands, or a drop that waits, by the line that asks; such a drop goes on; nothing stands
-  StandsListen : (h : Here) (n place : ℕ) (r : Tcp2Socket) → Found h place r → Move line origin h (record h { machine = record h.machine { store = record h.machine.store { standing = Some (standing_listen n place) } } })
-  StandsDrop : (h : Here) (n place : ℕ) (r : Tcp2Socket) → h.at ≡ Some (place, n) → Found h place r → Move line origin h (record h { machine = record h.machine { store = record h.machine.store { standing = Some (standing_drop n place) } } })
-  ResumesDrop : (h : Here) (n place : ℕ) → h.machine.store.standing ≡ Some (standing_drop n place) → Move line origin h (record h { at = Some (place, n) })
+  -- a call stands, by the line that asks; it goes on; nothing stands
+  Stands : (h : Here) (n : ℕ) (call : StandingCall) (r : Tcp2Socket) → h.at ≡ Some (call_place call, n) → Found h (call_place call) r → GoesOn call r → Move line origin h (record h { machine = record h.machine { store = record h.machine.store { standing = Some (standing_as n call) } } })
+  Resumes : (h : Here) (s : Standing) → h.machine.store.standing ≡ Some s → Move line origin h (record h { at = Some (call_place s.call, s.line) })
   Unstands : (h : Here) → Move line origin h (record h { machine = record h.machine { store = record h.machine.store { standing = None } } })
-  -- a bind stands, or goes on, or is over
-  Stands : (h : Here) (n place : ℕ) (r : Tcp2Socket) (op : Operation) → Found h place r → h.hand ≡ Some op → Move line origin h (record h { machine = record h.machine { store = record h.machine.store { standing = Some (standing_bind n place op) } }; hand = None })
-  Resumes : (h : Here) (n place : ℕ) (op : Operation) → h.machine.store.standing ≡ Some (standing_bind n place op) → Move line origin h (record h { machine = record h.machine { store = record h.machine.store { standing = None } }; hand = Some op })
-  Ends : (h : Here) → Move line origin h (record h { hand = None })
   -- the rest
   Lists : (h : Here) (jobs : List ℕ) → Move line origin h (record h { machine = record h.machine { store = record h.machine.store { jobs = jobs } } })
   Takes : (h : Here) (handle : ℕ) → Move line origin h (record h { machine = record h.machine { table = without_handle h.machine.table handle } })
 
 -- an operation that the line polls: where it is kept, and what becomes of it
 pub data Held (h : Here) : Operation → (End × List Item → Here) → Type 0 where
-  InHand : (op : Operation) → h.hand ≡ Some op → Held h op (λ ended. record h { hand = Some (left_of op ended.1) })
-  Connects : (place : ℕ) (r : Tcp2Socket) (op : Operation) → NoBind h → Found h place r → r.inner.state ≡ TcpState.Connecting op → Held h op (λ ended. put h place (with_inner r (with_state r.inner (connect_ended op.who ended).1)))
+  BindsOn : (place : ℕ) (r : Tcp2Socket) (op : Operation) → NoBind h → Found h place r → r.in_progress ≡ InProgress.Binding op → Held h op (λ ended. put h place (with_progress r (bind_progress op ended)))
+  Connects : (place : ℕ) (r : Tcp2Socket) (op : Operation) → Found h place r → r.inner.state ≡ TcpState.Connecting op → Held h op (λ ended. put h place (with_inner r (with_state r.inner (connect_ended op.who ended).1)))
   Listens : (place : ℕ) (r : Tcp2Socket) (op : Operation) → NoBind h → Found h place r → r.listening ≡ Begins op → side_of r.inner ≡ None → Held h op (λ ended. put h place (listen_after op r ended))
   Awaits : (place : ℕ) (r : Tcp2Socket) (l : Listener) (op : Operation) → Found h place r → r.listening ≡ Accepts l → l.accept ≡ Accepting.Asking op → Held h op (λ ended. put h place (accepting_now r l (accept_ended op.who ended)))

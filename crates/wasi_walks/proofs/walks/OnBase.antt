@@ -32,7 +32,7 @@ pub record Above (contexts : List WasiSocketsCtx) (line : ℕ) (origin : Step) (
       → Allows P (λ fs made. Inv fs (record h { machine = record h.machine { table = made.1 }; made = made_so place made.0 })) es (make_asks h.machine.table (own_of line) (Tcp2 place) (Some listener) (side_at (slice_get h.machine.store.sockets place)))
   pub polls : (es : List Entry) (h : Here) (op : Operation) (after : End × List Item → Here) → Held h op after → B es h → Inv es h → Allows P (λ fs ended. Inv fs (after ended)) es (poll_asks op)
   pub turns : (es : List Entry) (h : Here) (place : ℕ) (r : Tcp2Socket) (s : Streams) → Found h place r → r.streams ≡ Some s → B es h → Inv es h → Allows P (λ fs done. Inv fs (put h place (with_writer r s done.1))) es (turn_asks s.writer)
-  pub gives_up : (es : List Entry) (h : Here) (place : ℕ) (r : Tcp2Socket) → NoBind h → Found h place r → B es h → Inv es h → Allows P (λ fs done. Inv fs (put h place (with_listening r Not))) es (give_up_asks r.listening)
+  pub gives_up : (es : List Entry) (h : Here) (place : ℕ) (r : Tcp2Socket) → Found h place r → B es h → Inv es h → Allows P (λ fs done. Inv fs (put h place (with_listening r Not))) es (give_up_asks r.listening)
 
 -- the two as one law
 unfoldable pub stand : {contexts : List WasiSocketsCtx} {line : ℕ} {origin : Step} (base : Law contexts line origin) → Above contexts line origin base.Inv → Law contexts line origin
@@ -49,5 +49,5 @@ stand base a = record {
   accepted = λ es h c listener place r is e o g i. both a.P base.P _ _ es _ (a.accepted es h c listener place r is e o g i.0 i.1) (base.accepted es h c listener place r is e o g i.0);
   polls = λ es h op after k i. both a.P base.P _ _ es _ (a.polls es h op after k i.0 i.1) (base.polls es h op after k i.0);
   turns = λ es h place r s g e i. both a.P base.P _ _ es _ (a.turns es h place r s g e i.0 i.1) (base.turns es h place r s g e i.0);
-  gives_up = λ es h place r q g i. both a.P base.P _ _ es _ (a.gives_up es h place r q g i.0 i.1) (base.gives_up es h place r q g i.0);
+  gives_up = λ es h place r g i. both a.P base.P _ _ es _ (a.gives_up es h place r g i.0 i.1) (base.gives_up es h place r g i.0);
 }

@@ -1,18 +1,18 @@
 -- The steps on sockets, as moves: the handle is looked up, its record does the call, and is put back.
-use Rattle.wasi_walks.proofs.Words.{AnOption, Asks, Bool, Chosen, Err, ErrorCode, Give, Handles, Has, InProgress, Input, IpSocketAddress}
-use Rattle.wasi_walks.proofs.Words.{IsBacklogSet, IsBindTo, IsConnectTo, Kind, List, Machine, None, Ok, Operation, Option, Output, Records, Result}
-use Rattle.wasi_walks.proofs.Words.{ShutdownType, Socket, Some, Step, Stop, Streams, Tcp2Socket, TheBacklog, WasiSocketsCtx, bind, bind_answered}
-use Rattle.wasi_walks.proofs.Words.{connected_asks, false, finish_at, finish_by, finish_connect_at, finish_connect_by, finish_connect_on, finish_on}
-use Rattle.wasi_walks.proofs.Words.{handles_of, inl, inner_answered, inr, is_connect, is_network, is_nothing, kind_at, local_address_at, make_asks}
-use Rattle.wasi_walks.proofs.Words.{output_asks, own_of, put_back, refl, remote_address_at, set_chosen, set_option_asks, shut_record, shutdown_at}
-use Rattle.wasi_walks.proofs.Words.{side_at, slice_get, socket_at, start_bind_asks, start_bind_at, start_bind_by, start_bind_on, start_connect_asks}
-use Rattle.wasi_walks.proofs.Words.{start_connect_at, start_connect_by, start_connect_on, streams_asks, sym, tell_local_asks, tell_remote_asks, true}
-use Rattle.wasi_walks.proofs.Words.{with_output, with_store, with_table, ℕ, ◌≡◌, ◌⊎◌}
+use Rattle.wasi_walks.proofs.Words.{AnOption, Answer, Asks, Bool, Chosen, Err, ErrorCode, Give, Handles, Has, InProgress, Input, IpSocketAddress}
+use Rattle.wasi_walks.proofs.Words.{IsBacklogSet, IsBindTo, IsConnectTo, Kind, List, Machine, None, Ok, Option, Output, Pending, Records, Result}
+use Rattle.wasi_walks.proofs.Words.{ShutdownType, Socket, Some, StandingCall, Step, Stop, Streams, Tcp2Socket, TheBacklog, WasiSocketsCtx, bind}
+use Rattle.wasi_walks.proofs.Words.{call_answered, call_place, connected_asks, false, finish_at, finish_by, finish_connect_at, finish_connect_by}
+use Rattle.wasi_walks.proofs.Words.{finish_connect_on, finish_on, handles_of, inl, inner_answered, inr, is_connect, is_network, is_nothing, kind_at}
+use Rattle.wasi_walks.proofs.Words.{local_address_at, make_asks, output_asks, own_of, put_back, refl, remote_address_at, set_chosen, set_option_asks}
+use Rattle.wasi_walks.proofs.Words.{shut_record, shutdown_at, side_at, slice_get, socket_at, start_bind_asks, start_bind_at, start_bind_by}
+use Rattle.wasi_walks.proofs.Words.{start_bind_on, start_connect_asks, start_connect_at, start_connect_by, start_connect_on, streams_asks, sym}
+use Rattle.wasi_walks.proofs.Words.{tell_local_asks, tell_remote_asks, true, with_output, with_store, with_table, ℕ, ◌≡◌, ◌⊎◌}
 use Rattle.wasi_host.specs.Options.{looked_at, set_backlog_at}
 use Rattle.wasi_p2.specs.Options.{record_asks}
-use Rattle.wasi_walks.proofs.walks.Moves.{NoBindStands, Used, Unused, Here, put, Found, record_of, AStream, Reaches, Leaves, Spends, Changes, Stands, Made, Past, Marks}
+use Rattle.wasi_walks.proofs.walks.Moves.{NoBindStands, IsSettled, Used, Unused, Here, put, Found, record_of, AStream, Reaches, Leaves, Spends, Changes, Stands, Made, Past, Marks}
 use Rattle.wasi_walks.proofs.walks.Law.{Law, HasRecord, found, put_same, Walks, Given, give, and_then, and_given, by_if, move, gives, from, mark}
-use Rattle.wasi_walks.proofs.walks.Sockets.{Begun, set_walks, begin_bind_walks, begin_connect_walks, poll_connect_walks, local_walks, remote_walks, backlog_walks}
+use Rattle.wasi_walks.proofs.walks.Sockets.{WaitsSo, begun_bind_given, idled, connect_settles, set_walks, begin_bind_walks, begin_connect_walks, poll_connect_walks, local_walks, remote_walks, backlog_walks}
 use Rattle.wasi_walks.proofs.walks.Streams.{shut_walks}
 use Rattle.wasi_walks.proofs.walks.States.{OverWith, Between, socket_record, make_given, At, Starts, streams_are, Put, Over, there}
 
@@ -31,41 +31,43 @@ module _ {contexts : List WasiSocketsCtx} {line : ℕ} {origin : Step} {law : La
       let here = put_same (At line m place Unused) place r g in
       from here (and_then (k r (there g)) (λ done. from (sym here) (gives _ (Spends _ refl))))
 
-  -- a bind that was begun
-  pub answered_walks : (m : Machine) (at : Option (ℕ × ℕ)) (n place : ℕ) (begun : Result (Option Operation) ErrorCode × Tcp2Socket) → let h : Here = record { machine = m; at = at; hand = None; made = Past; own = Used } in
-      HasRecord h place → Walks law (Begun h place begun) (λ done. record h { machine = record m { store = done.1 } }) (Give (bind_answered m.store n place begun))
-  answered_walks m at n place (Ok (Some op), r) here = gives _ (Stands _ n place r op (found here r) refl)
-  answered_walks m at n place _ here = give _
+  -- a call that may stand was answered
+  pub answered_walks : (m : Machine) (n : ℕ) (call : StandingCall) (begun : Result (Answer (Unit {0})) ErrorCode × Tcp2Socket) → HasRecord (At n m (call_place call) Used) (call_place call) → WaitsSo call begun
+      → Walks law (put (At n m (call_place call) Used) (call_place call) begun.1) (Put n m (call_place call)) (Give (call_answered m.store n call begun))
+  answered_walks m n call (Ok Pending, r) here waits = gives _ (Stands _ n call r refl (found here r) waits)
+  answered_walks m n call _ here waits = give _
 
   -- == a bind
-  start_by_walks : (m : Machine) (place : ℕ) (a : IpSocketAddress) (r : Tcp2Socket) (idle : Bool) → Found (At line m place Unused) place r → IsBindTo a origin → Walks law (At line m place Unused) (Put line m place) (start_bind_by m.store (own_of line) place a r idle)
-  start_by_walks m place a r true g to = from (put_same (At line m place Unused) place r g) (and_then (begin_bind_walks (there g) refl a to refl r) (λ begun. answered_walks m (Some (place, line)) line place begun (record { was = r; found = g })))
-  start_by_walks m place a r false g to = gives _ (Spends _ refl)
+  start_by_walks : (m : Machine) (place : ℕ) (a : IpSocketAddress) (r : Tcp2Socket) (idle : Bool) → is_nothing r.in_progress ≡ idle → Found (At line m place Unused) place r → IsBindTo a origin → NoBindStands m.store.standing → Walks law (At line m place Unused) (Put line m place) (start_bind_by m.store (own_of line) place a r idle)
+  start_by_walks m place a r true e g to q =
+      from (put_same (At line m place Unused) place r g)
+      (and_given (WaitsSo (StandingCall.Bind place)) (begun_bind_given place (own_of line) r a) (begin_bind_walks (there g) refl a to refl q r e) (λ begun w. answered_walks m line (StandingCall.Bind place) begun (record { was = r; found = g }) w))
+  start_by_walks m place a r false e g to q = gives _ (Spends _ refl)
 
-  start_at_walks : (m : Machine) (place : ℕ) (a : IpSocketAddress) (o : Option Tcp2Socket) → slice_get m.store.sockets place ≡ o → IsBindTo a origin → Walks law (At line m place Unused) (Put line m place) (start_bind_at m.store (own_of line) place a o)
-  start_at_walks m place a None g to = gives _ (Spends _ refl)
-  start_at_walks m place a (Some r) g to = start_by_walks m place a r (is_nothing r.in_progress) g to
+  start_at_walks : (m : Machine) (place : ℕ) (a : IpSocketAddress) (o : Option Tcp2Socket) → slice_get m.store.sockets place ≡ o → IsBindTo a origin → NoBindStands m.store.standing → Walks law (At line m place Unused) (Put line m place) (start_bind_at m.store (own_of line) place a o)
+  start_at_walks m place a None g to q = gives _ (Spends _ refl)
+  start_at_walks m place a (Some r) g to q = start_by_walks m place a r (is_nothing r.in_progress) refl g to q
 
-  start_on_walks : (m : Machine) (s : ℕ) (a : IpSocketAddress) (o : Option ℕ) → socket_at m s ≡ o → Has (handles_of origin) s → IsBindTo a origin → Walks law (Starts m Unused) OverWith (start_bind_on m (own_of line) a o)
-  start_on_walks m s a None e named to = gives _ (Spends _ refl)
-  start_on_walks m s a (Some place) e named to =
-      move (Reaches _ s place named (socket_record (kind_at m.table s) place e)) (and_then (start_at_walks m place a (slice_get m.store.sockets place) refl to) (λ done. gives _ (Leaves _)))
+  start_on_walks : (m : Machine) (s : ℕ) (a : IpSocketAddress) (o : Option ℕ) → socket_at m s ≡ o → Has (handles_of origin) s → IsBindTo a origin → NoBindStands m.store.standing → Walks law (Starts m Unused) OverWith (start_bind_on m (own_of line) a o)
+  start_on_walks m s a None e named to q = gives _ (Spends _ refl)
+  start_on_walks m s a (Some place) e named to q =
+      move (Reaches _ s place named (socket_record (kind_at m.table s) place e)) (and_then (start_at_walks m place a (slice_get m.store.sockets place) refl to q) (λ done. gives _ (Leaves _)))
 
-  pub start_bind_walks : (m : Machine) (s n : ℕ) (a : IpSocketAddress) → Has (handles_of origin) s → IsBindTo a origin → Walks law (Starts m Unused) OverWith (start_bind_asks m (own_of line) s n a)
-  start_bind_walks m s n a named to = by_if (is_network (kind_at m.table n)) (λ yes. start_on_walks m s a (socket_at m s) refl named to) (λ other. gives _ (Spends _ refl))
+  pub start_bind_walks : (m : Machine) (s n : ℕ) (a : IpSocketAddress) → Has (handles_of origin) s → IsBindTo a origin → NoBindStands m.store.standing → Walks law (Starts m Unused) OverWith (start_bind_asks m (own_of line) s n a)
+  start_bind_walks m s n a named to q = by_if (is_network (kind_at m.table n)) (λ yes. start_on_walks m s a (socket_at m s) refl named to q) (λ other. gives _ (Spends _ refl))
 
   -- == a connect
   put_back_walks : {T : Type 0} (m : Machine) (place : ℕ) (done : Result T ErrorCode × Tcp2Socket) → Walks law (record (put (At line m place Unused) place done.1) { own = Used }) (Put line m place) (Give (put_back m.store place done))
   put_back_walks m place (Ok value, r) = give _
   put_back_walks m place (Err c, r) = give _
 
-  start_connect_by_walks : (m : Machine) (place : ℕ) (a : IpSocketAddress) (r : Tcp2Socket) (idle : Bool) → Found (At line m place Unused) place r → IsConnectTo a origin → Walks law (At line m place Unused) (Put line m place) (start_connect_by m.store (own_of line) place a r idle)
-  start_connect_by_walks m place a r true g to = from (put_same (At line m place Unused) place r g) (and_then (begin_connect_walks (there g) refl r a to refl) (put_back_walks m place))
-  start_connect_by_walks m place a r false g to = gives _ (Spends _ refl)
+  start_connect_by_walks : (m : Machine) (place : ℕ) (a : IpSocketAddress) (r : Tcp2Socket) (idle : Bool) → is_nothing r.in_progress ≡ idle → Found (At line m place Unused) place r → IsConnectTo a origin → Walks law (At line m place Unused) (Put line m place) (start_connect_by m.store (own_of line) place a r idle)
+  start_connect_by_walks m place a r true e g to = from (put_same (At line m place Unused) place r g) (and_then (begin_connect_walks (there g) refl r a to e refl) (put_back_walks m place))
+  start_connect_by_walks m place a r false e g to = gives _ (Spends _ refl)
 
   start_connect_at_walks : (m : Machine) (place : ℕ) (a : IpSocketAddress) (o : Option Tcp2Socket) → slice_get m.store.sockets place ≡ o → IsConnectTo a origin → Walks law (At line m place Unused) (Put line m place) (start_connect_at m.store (own_of line) place a o)
   start_connect_at_walks m place a None g to = gives _ (Spends _ refl)
-  start_connect_at_walks m place a (Some r) g to = start_connect_by_walks m place a r (is_nothing r.in_progress) g to
+  start_connect_at_walks m place a (Some r) g to = start_connect_by_walks m place a r (is_nothing r.in_progress) refl g to
 
   start_connect_on_walks : (m : Machine) (s : ℕ) (a : IpSocketAddress) (o : Option ℕ) → socket_at m s ≡ o → Has (handles_of origin) s → IsConnectTo a origin → Walks law (Starts m Unused) OverWith (start_connect_on m (own_of line) a o)
   start_connect_on_walks m s a None e named to = gives _ (Spends _ refl)
@@ -75,17 +77,17 @@ module _ {contexts : List WasiSocketsCtx} {line : ℕ} {origin : Step} {law : La
   pub start_connect_walks : (m : Machine) (s n : ℕ) (a : IpSocketAddress) → Has (handles_of origin) s → IsConnectTo a origin → Walks law (Starts m Unused) OverWith (start_connect_asks m (own_of line) s n a)
   start_connect_walks m s n a named to = by_if (is_network (kind_at m.table n)) (λ yes. start_connect_on_walks m s a (socket_at m s) refl named to) (λ other. gives _ (Spends _ refl))
 
-  finish_by_walks : (m : Machine) (place : ℕ) (r : Tcp2Socket) (its : Bool) → Found (At line m place Unused) place r → NoBindStands m.store.standing → Walks law (At line m place Unused) (Put line m place) (finish_connect_by m.store place r its)
-  finish_by_walks m place r true g q = from (put_same (At line m place Unused) place r g) (and_then (poll_connect_walks (there g) (refl, q) r) (λ done. gives _ (Spends _ refl)))
-  finish_by_walks m place r false g q = gives _ (Spends _ refl)
+  finish_by_walks : (m : Machine) (place : ℕ) (r : Tcp2Socket) (its : Bool) → is_connect r.in_progress ≡ its → Found (At line m place Unused) place r → Walks law (At line m place Unused) (Put line m place) (finish_connect_by m.store place r its)
+  finish_by_walks m place r true e g = from (put_same (At line m place Unused) place r g) (and_then (poll_connect_walks (there g) r (connect_settles r.in_progress e)) (λ done. gives _ (Spends _ refl)))
+  finish_by_walks m place r false e g = gives _ (Spends _ refl)
 
-  finish_at_walks : (m : Machine) (place : ℕ) (o : Option Tcp2Socket) → slice_get m.store.sockets place ≡ o → NoBindStands m.store.standing → Walks law (At line m place Unused) (Put line m place) (finish_connect_at m.store place o)
-  finish_at_walks m place None g q = gives _ (Spends _ refl)
-  finish_at_walks m place (Some r) g q = finish_by_walks m place r (is_connect r.in_progress) g q
+  finish_at_walks : (m : Machine) (place : ℕ) (o : Option Tcp2Socket) → slice_get m.store.sockets place ≡ o → Walks law (At line m place Unused) (Put line m place) (finish_connect_at m.store place o)
+  finish_at_walks m place None g = gives _ (Spends _ refl)
+  finish_at_walks m place (Some r) g = finish_by_walks m place r (is_connect r.in_progress) refl g
 
   -- the two streams, under a socket's handle, by whatever is known of the table
   module _ (at : Option (ℕ × ℕ)) (made : Made) (s place : ℕ) (m : Machine) (G : Handles → Type 0) (more : (t : Handles) (kind : Kind) → G t → Given (λ x. G x.1) (make_asks t (own_of line) kind (Some s) (side_at (slice_get m.store.sockets place))))
-      (marks : (t : Handles) (kind : Kind) → (kind ≡ Input place) ⊎ (kind ≡ Output place) → G t → Marks origin (record { machine = record m { table = t }; at = at; hand = None; made = made; own = Used }) kind (Some s) (side_at (slice_get m.store.sockets place))) where
+      (marks : (t : Handles) (kind : Kind) → (kind ≡ Input place) ⊎ (kind ≡ Output place) → G t → Marks origin (record { machine = record m { table = t }; at = at; made = made; own = Used }) kind (Some s) (side_at (slice_get m.store.sockets place))) where
     second : (input : ℕ) (t : Handles) (done : Result ℕ Stop × Handles) → Walks law (Between at made (record m { table = done.1 })) OverWith (Give (with_output input (with_table (record m { table = t }) done)))
     second input t (Ok n, x) = gives _ (Leaves _)
     second input t (Err why, x) = gives _ (Leaves _)
@@ -103,11 +105,11 @@ module _ {contexts : List WasiSocketsCtx} {line : ℕ} {origin : Step} {law : La
       streams_walks (Some (place, line)) Past s place now (λ t. record_of (kind_at t s) ≡ Some place) (λ t kind g. make_given t (own_of line) kind (Some s) (side_at (slice_get store.sockets place)) s place g) (λ t kind which g. AStream c s place kind is which g) k
   connected_walks c s place m (Err why, store) is k = gives _ (Leaves _)
 
-  pub finish_on_walks : (c s : ℕ) (m : Machine) (o : Option ℕ) → socket_at m s ≡ o → Has (handles_of origin) s → origin ≡ Step.TcpFinishConnect c s → NoBindStands m.store.standing → Walks law (Starts m Unused) OverWith (finish_connect_on m (own_of line) s o)
-  finish_on_walks c s m None e named is q = gives _ (Spends _ refl)
-  finish_on_walks c s m (Some place) e named is q =
+  pub finish_on_walks : (c s : ℕ) (m : Machine) (o : Option ℕ) → socket_at m s ≡ o → Has (handles_of origin) s → origin ≡ Step.TcpFinishConnect c s → Walks law (Starts m Unused) OverWith (finish_connect_on m (own_of line) s o)
+  finish_on_walks c s m None e named is = gives _ (Spends _ refl)
+  finish_on_walks c s m (Some place) e named is =
       let k = socket_record (kind_at m.table s) place e in
-      move (Reaches _ s place named k) (and_then (finish_at_walks m place (slice_get m.store.sockets place) refl q) (λ done. connected_walks c s place m done is k))
+      move (Reaches _ s place named k) (and_then (finish_at_walks m place (slice_get m.store.sockets place) refl) (λ done. connected_walks c s place m done is k))
 
   -- == the addresses, and what is finished
   puts_back : {T : Type 0} (m : Machine) (place : ℕ) (r : Tcp2Socket) (call : Asks (Result T ErrorCode × Tcp2Socket)) → Found (At line m place Unused) place r → Walks law (put (At line m place Unused) place r) (λ done. put (At line m place Unused) place done.1) call
@@ -125,17 +127,17 @@ module _ {contexts : List WasiSocketsCtx} {line : ℕ} {origin : Step} {law : La
   pub as_left : {A : Type 0} {h : Here} {x : A} {now : Machine} → Walks law h (λ m. Over m) (Give now) → Walks law h OverWith (Give (x, now))
   as_left w = record { along = w.along }
 
-  finishes : (m : Machine) (place : ℕ) (is_it : InProgress → Bool) (o : Option Tcp2Socket) → slice_get m.store.sockets place ≡ o → Walks law (Starts m Unused) (λ now. Over now) (Give (with_store m (finish_at is_it m.store place o)).1)
-  finishes m place is_it None g = gives _ (Spends _ refl)
-  finishes m place is_it (Some r) g = by_test (is_it r.in_progress)
+  finishes : (m : Machine) (place : ℕ) (is_it : InProgress → Bool) → ((doing : InProgress) → is_it doing ≡ true → IsSettled doing) → (o : Option Tcp2Socket) → slice_get m.store.sockets place ≡ o → Walks law (Starts m Unused) (λ now. Over now) (Give (with_store m (finish_at is_it m.store place o)).1)
+  finishes m place is_it settles None g = gives _ (Spends _ refl)
+  finishes m place is_it settles (Some r) g = by_test (is_it r.in_progress) refl
     where
-      by_test : (b : Bool) → Walks law (Starts m Unused) (λ now. Over now) (Give (with_store m (finish_by m.store place r b)).1)
-      by_test true = move (Spends _ refl) (gives _ (Changes _ place r _ g (record { side = refl; streams = refl; listening = refl; does = refl; maker = refl; family = refl; bound = λ side d b. b; connects = λ e. absurd (cc) })))
-      by_test false = gives _ (Spends _ refl)
+      by_test : (b : Bool) → is_it r.in_progress ≡ b → Walks law (Starts m Unused) (λ now. Over now) (Give (with_store m (finish_by m.store place r b)).1)
+      by_test true e = move (Spends _ refl) (gives _ (Changes _ place r _ g (idled r (settles r.in_progress e))))
+      by_test false e = gives _ (Spends _ refl)
 
-  pub finish_on_bind : (m : Machine) (is_it : InProgress → Bool) (o : Option ℕ) → Walks law (Starts m Unused) (λ now. Over now) (Give (finish_on is_it m o).1)
-  finish_on_bind m is_it None = gives _ (Spends _ refl)
-  finish_on_bind m is_it (Some place) = finishes m place is_it (slice_get m.store.sockets place) refl
+  pub finish_started_walks : (m : Machine) (is_it : InProgress → Bool) → ((doing : InProgress) → is_it doing ≡ true → IsSettled doing) → (o : Option ℕ) → Walks law (Starts m Unused) (λ now. Over now) (Give (finish_on is_it m o).1)
+  finish_started_walks m is_it settles None = gives _ (Spends _ refl)
+  finish_started_walks m is_it settles (Some place) = finishes m place is_it settles (slice_get m.store.sockets place) refl
 
   -- == a shutdown
   shut_record_walks : {h : Here} {place : ℕ} (here : HasRecord h place) (at : h.at ≡ Some (place, line)) (how : ShutdownType) (r : Tcp2Socket) (o : Option Streams) → r.streams ≡ o → Walks law (put h place r) (λ done. put h place done.1) (shut_record (own_of line) how r o)

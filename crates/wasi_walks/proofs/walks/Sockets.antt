@@ -1,25 +1,24 @@
 -- The calls on a socket, and those of a listen and of a listener, as moves of the record that holds it.
 use Rattle.wasi_walks.proofs.Words.{Accepting, Accepts, Answer, Begins, Bool, Connection, Done, End, Err, ErrorCode, Give, InProgress}
 use Rattle.wasi_walks.proofs.Words.{InvalidArgument, InvalidState, IpSocketAddress, IsBacklogSet, IsBindTo, IsConnectTo, IsListen, Item, List}
-use Rattle.wasi_walks.proofs.Words.{Listener, Listening, None, Not, Ok, OpId, Operation, Option, Pending, Ready, Refused, Result, Socket, Some, Step}
-use Rattle.wasi_walks.proofs.Words.{Stop, Tcp2Socket, TcpState, Waits, WasiSocketsCtx, accept_asks, accept_end, accept_ended, accepted_record}
-use Rattle.wasi_walks.proofs.Words.{after_backlog, after_local, ap, ask_bound, ask_set_option, begin_bind_asks, begin_connect_asks, begin_listen_asks}
-use Rattle.wasi_walks.proofs.Words.{bind, bind_allowed, bind_asks, bind_begun, bind_ended, bind_operation, bound_asks, closed_listening}
+use Rattle.wasi_walks.proofs.Words.{Listener, Listening, None, Not, Ok, OpId, Operation, Option, Pending, Ready, Refused, Result, Socket, Some}
+use Rattle.wasi_walks.proofs.Words.{StandingCall, Step, Stop, Tcp2Socket, TcpState, Waits, WasiSocketsCtx, accept_asks, accept_end, accept_ended}
+use Rattle.wasi_walks.proofs.Words.{accepted_record, after_backlog, after_local, ap, ask_bound, ask_set_option, begin_bind_asks, begin_connect_asks}
+use Rattle.wasi_walks.proofs.Words.{begin_listen_asks, bind, bind_allowed, bind_asks, bind_begun, bind_ended, bound_asks, closed_listening}
 use Rattle.wasi_walks.proofs.Words.{connect_begun, connect_first, connect_operation, connect_polled, connect_start, false, finish_connect_asks}
 use Rattle.wasi_walks.proofs.Words.{finish_in, first_ids, get_option_asks, get_where, idle, if◌then◌else◌, in_socket, inl, inr, ip_of, is_connect}
-use Rattle.wasi_walks.proofs.Words.{is_connectable, is_of_family, is_over, is_unicast, is_wildcard, kind_at, left_of, listen_begun, listen_bound}
-use Rattle.wasi_walks.proofs.Words.{listen_once, listen_polled, listen_start, opened_receive, opened_send, own_of, poll_begun, poll_bind_asks}
-use Rattle.wasi_walks.proofs.Words.{poll_connect_asks, poll_listen_asks, poll_listening, refl, refused_after, refused_before, set_backlog_asks}
-use Rattle.wasi_walks.proofs.Words.{set_backlog_in, set_option_asks, set_where, side_in, side_of, slice_set, start_connect_in, subst, sym}
-use Rattle.wasi_walks.proofs.Words.{take_receive, taken_receive, taken_send, tell_local_asks, tell_remote_asks, told_addr, told_done, true, value_set}
-use Rattle.wasi_walks.proofs.Words.{wildcard, with_accept, with_backlog, with_inner, with_listening, with_state, zero_test, ℕ, ⊤, ◌&&◌, ◌==◌, ◌∙◌}
-use Rattle.wasi_walks.proofs.Words.{◌≡◌}
+use Rattle.wasi_walks.proofs.Words.{is_connectable, is_nothing, is_of_family, is_over, is_unicast, is_wildcard, kind_at, listen_begun, listen_bound}
+use Rattle.wasi_walks.proofs.Words.{listen_once, listen_polled, listen_start, opened_receive, opened_send, own_of, poll_asks, poll_begun}
+use Rattle.wasi_walks.proofs.Words.{poll_bind_asks, poll_binding, poll_connect_asks, poll_listen_asks, poll_listening, refl, refused_after}
+use Rattle.wasi_walks.proofs.Words.{refused_before, set_backlog_asks, set_backlog_in, set_option_asks, set_where, side_in, side_of, slice_set}
+use Rattle.wasi_walks.proofs.Words.{start_connect_in, subst, sym, take_receive, taken_receive, taken_send, tell_local_asks, tell_remote_asks}
+use Rattle.wasi_walks.proofs.Words.{told_addr, told_done, true, value_set, wildcard, with_accept, with_backlog, with_inner, with_listening}
+use Rattle.wasi_walks.proofs.Words.{with_progress, with_state, zero_test, ℕ, ⊤, ◌&&◌, ◌==◌, ◌∙◌, ◌≡◌}
 use Rattle.wasi_addr.specs.Clamp.{clamped_backlog}
 use Rattle.wasi_world.specs.declared.call.Opt.{Opt}
-use Rattle.wasi_tcp.specs.declared.bind.BindStage.TheVariants.{Check}
 use Rattle.wasi_tcp.specs.Addresses.{usable_side, local_side, local_from, after_peer, peer_known, remote_in, still_connected}
-use Rattle.wasi_walks.proofs.walks.Moves.{IsConnecting, NoBind, Used, Unused, Here, put, opened_by, Reconnects, Opens, BeginsConnect, OfSocket, Plain, Move, Spends, Changes, BeginsBind, Ends, Unmade, record_of, new_accept, accepting_now, beginning_listen, joined, joining, BeginsListen, BeginsAccept, Unlistens, Forgets, Joins}
-use Rattle.wasi_walks.proofs.walks.Law.{Law, HasRecord, spent, put_put, Given, given_then, Walks, give, and_then, and_given, connect, by_if, move, gives, from, poll, found, on, ask, learn, set, listen, await}
+use Rattle.wasi_walks.proofs.walks.Moves.{IsConnecting, NoBind, IsSettled, GoesOn, Used, Unused, Here, put, opened_by, Reconnects, Opens, BeginsConnect, OfSocket, Plain, Move, Spends, Changes, BeginsBind, begun_bind, Unmade, record_of, new_accept, accepting_now, beginning_listen, joined, joining, BeginsListen, BeginsAccept, Unlistens, Forgets, Joins}
+use Rattle.wasi_walks.proofs.walks.Law.{Law, HasRecord, spent, put_put, Given, given_then, given_on, Walks, give, and_then, and_given, connect, by_if, move, gives, from, poll_bind, found, on, ask, learn, set, listen, await}
 use Rattle.wasi_tcp.specs.Listener.{begun as accept_begun}
 use Rattle.wasi_walks.proofs.Lists.{set_set}
 
@@ -27,18 +26,10 @@ use Rattle.wasi_walks.proofs.Lists.{set_set}
 abbrev pub Inner : {A : Type 0} → Here → ℕ → Tcp2Socket → A × Socket → Here
 Inner h place r done = put h place (with_inner r done.1)
 
--- the line's own operation begins, or never will
-abbrev pub Handed : Here → Result Operation ErrorCode → Here
-Handed h (Ok op) = record h { hand = Some op; own = Used }
-Handed h (Err c) = record h { own = Used }
-
+-- the bind that was begun is kept; or the line's own operation never begins
 abbrev pub Started : Here → ℕ → Tcp2Socket → Result Operation ErrorCode × Socket → Here
-Started h place r start = Handed (put h place (with_inner r start.1)) start.0
-
-abbrev pub Begun : Here → ℕ → Result (Option Operation) ErrorCode × Tcp2Socket → Here
-Begun h place (Ok (Some op), r) = record (put h place r) { hand = Some op; own = Used }
-Begun h place (Ok None, r) = record (put h place r) { hand = None; own = Used }
-Begun h place (Err c, r) = record (put h place r) { hand = None; own = Used }
+Started h place r (Ok op, socket) = record (put h place (record r { inner = socket; in_progress = InProgress.Binding op })) { own = Used }
+Started h place r (Err c, socket) = record (put h place (with_inner r socket)) { own = Used }
 
 usable : (s : TcpState) (side : OpId) → usable_side s ≡ Ok side → side_in s ≡ Some side
 usable (TcpState.Connecting c) side e = absurd (cc)
@@ -49,9 +40,17 @@ usable_if : (s : TcpState) (bound : Bool) (side : OpId) → (if bound then usabl
 usable_if s true side e = usable s side e
 usable_if s false side e = absurd (cc)
 
--- it is in progress with something that is no connect
-pub with_progress : (r : Tcp2Socket) (doing : InProgress) → (is_connect doing ≡ true → ⊥) → Plain r (record r { in_progress = doing })
-with_progress r doing other = record { side = refl; streams = refl; listening = refl; does = refl; maker = refl; family = refl; bound = λ side d b. b; connects = λ e. absurd (other e) }
+-- nothing is in progress
+pub idled : (r : Tcp2Socket) → IsSettled r.in_progress → Plain r (with_progress r InProgress.Nothing)
+idled r settled = record { side = refl; streams = refl; listening = refl; does = refl; maker = refl; family = refl; bound = λ side d b. b; binds = inr (settled, tt); connects = λ e. absurd (cc) }
+
+pub connect_settles : (doing : InProgress) → is_connect doing ≡ true → IsSettled doing
+connect_settles (InProgress.Binding op) e = absurd (cc)
+connect_settles _ e = tt
+
+pub idle_settles : (doing : InProgress) → is_nothing doing ≡ true → IsSettled doing
+idle_settles InProgress.Nothing e = tt
+idle_settles _ e = absurd (cc)
 
 -- the line's own operation began something, or never will
 abbrev pub Spent : {A : Type 0} → Here → ℕ → Tcp2Socket → A × Socket → Here
@@ -103,72 +102,97 @@ abbrev pub In : Here → ℕ → Tcp2Socket → Socket → TcpState → Here
 In h place r socket s = put h place (with_inner r (with_state socket s))
 
 -- a poll of a connect asks by the line that began it
-module _ {contexts : List WasiSocketsCtx} {line : ℕ} {origin : Step} {law : Law contexts line origin} {h : Here} {place : ℕ} (here : HasRecord h place) (quiet : NoBind h) where
+module _ {contexts : List WasiSocketsCtx} {line : ℕ} {origin : Step} {law : Law contexts line origin} {h : Here} {place : ℕ} (here : HasRecord h place) where
   finish_in_walks : (r : Tcp2Socket) (s : TcpState) → Walks law (In h place r r.inner s) (λ done. In h place r r.inner done.1) (finish_in s)
-  finish_in_walks r (TcpState.Connecting op) = and_then (connect here (with_inner r (with_state r.inner (TcpState.Connecting op))) op quiet refl) (λ ended. give _)
+  finish_in_walks r (TcpState.Connecting op) = and_then (connect here (with_inner r (with_state r.inner (TcpState.Connecting op))) op refl) (λ ended. give _)
   finish_in_walks r _ = give _
 
   pub finish_walks : (r : Tcp2Socket) → Walks law (put h place r) (λ done. put h place (with_inner r done.1)) (finish_connect_asks r.inner)
   finish_walks r = and_then (finish_in_walks r r.inner.state) (λ done. give _)
 
   -- it is in progress no more
-  idles : {A : Type 0} (r : Tcp2Socket) (socket : Socket) (answer : A) → Walks law {A = A × Tcp2Socket} (put h place (with_inner r socket)) (λ done. put h place done.1) (Give (answer, idle r socket))
-  idles r socket answer = on here (with_inner r socket) _ (Changes _ _ _ _ (found here (with_inner r socket)) (with_progress (with_inner r socket) InProgress.Nothing (λ e. absurd (cc)))) (give _)
+  idles : {A : Type 0} (r : Tcp2Socket) (socket : Socket) (answer : A) → IsSettled r.in_progress → Walks law {A = A × Tcp2Socket} (put h place (with_inner r socket)) (λ done. put h place done.1) (Give (answer, idle r socket))
+  idles r socket answer settled = on here (with_inner r socket) _ (Changes _ _ _ _ (found here (with_inner r socket)) (idled (with_inner r socket) settled)) (give _)
 
-  sends : (r : Tcp2Socket) (socket : Socket) (c : Connection) (taken : Bool) → c.send_taken ≡ taken
+  sends : (r : Tcp2Socket) (socket : Socket) (c : Connection) (taken : Bool) → IsSettled r.in_progress → c.send_taken ≡ taken
       → Walks law (In h place r socket (TcpState.Connected c)) (λ done. put h place done.1) (Give (opened_send r (record { side = c.side }) (in_socket socket (still_connected (taken_send c taken)))))
-  sends r socket c true e = idles r (with_state socket (TcpState.Connected c)) _
-  sends r socket c false e = let now = with_inner r (with_state socket (TcpState.Connected c)) in on here now (opened_by now c) (Opens _ _ _ c (found here now) refl e) (give _)
+  sends r socket c true settled e = idles r (with_state socket (TcpState.Connected c)) _ settled
+  sends r socket c false settled e = let now = with_inner r (with_state socket (TcpState.Connected c)) in on here now (opened_by now c) (Opens _ _ _ c settled (found here now) refl e) (give _)
 
-  receives : (r : Tcp2Socket) (socket : Socket) (c : Connection) (taken : Bool) → Walks law (In h place r socket (TcpState.Connected c)) (λ done. put h place done.1) (Give (opened_receive r (in_socket socket (still_connected (taken_receive c taken)))))
-  receives r socket c true = idles r (with_state socket (TcpState.Connected c)) _
-  receives r socket c false =
+  receives : (r : Tcp2Socket) (socket : Socket) (c : Connection) (taken : Bool) → IsSettled r.in_progress → Walks law (In h place r socket (TcpState.Connected c)) (λ done. put h place done.1) (Give (opened_receive r (in_socket socket (still_connected (taken_receive c taken)))))
+  receives r socket c true settled = idles r (with_state socket (TcpState.Connected c)) _ settled
+  receives r socket c false settled =
       let now = with_inner r (with_state socket (TcpState.Connected c)) in
       let next : Connection = record c { receive_taken = true } in
-      let idled : Tcp2Socket = record r { in_progress = InProgress.Nothing } in
-      let waits = with_inner idled (with_state socket (TcpState.Connected c)) in
-      on here now waits (Changes _ _ _ _ (found here now) (with_progress now InProgress.Nothing (λ e. absurd (cc))))
-      (on here waits (with_inner idled (with_state socket (TcpState.Connected next))) (Reconnects _ _ _ c next (found here waits) refl refl (λ t. t) (λ e. absurd (cc))) (sends idled (with_state socket (TcpState.Connected next)) next next.send_taken refl))
+      let none : Tcp2Socket = with_progress r InProgress.Nothing in
+      let waits = with_inner none (with_state socket (TcpState.Connected c)) in
+      on here now waits (Changes _ _ _ _ (found here now) (idled now settled))
+      (on here waits (with_inner none (with_state socket (TcpState.Connected next))) (Reconnects _ _ _ c next (found here waits) refl refl (λ t. t) (λ e. absurd (cc))) (sends none (with_state socket (TcpState.Connected next)) next next.send_taken tt refl))
 
-  opens : (r : Tcp2Socket) (socket : Socket) (s : TcpState) → Walks law (In h place r socket s) (λ done. put h place done.1) (Give (opened_receive r (in_socket socket (take_receive s))))
-  opens r socket (TcpState.Connected c) = receives r socket c c.receive_taken
-  opens r socket s = idles r (with_state socket s) _
+  opens : (r : Tcp2Socket) (socket : Socket) (s : TcpState) → IsSettled r.in_progress → Walks law (In h place r socket s) (λ done. put h place done.1) (Give (opened_receive r (in_socket socket (take_receive s))))
+  opens r socket (TcpState.Connected c) settled = receives r socket c c.receive_taken settled
+  opens r socket s settled = idles r (with_state socket s) _ settled
 
-  pub poll_connect_walks : (r : Tcp2Socket) → Walks law (put h place r) (λ done. put h place done.1) (poll_connect_asks r)
-  poll_connect_walks r = and_then (finish_walks r) polled
+  pub poll_connect_walks : (r : Tcp2Socket) → IsSettled r.in_progress → Walks law (put h place r) (λ done. put h place done.1) (poll_connect_asks r)
+  poll_connect_walks r settled = and_then (finish_walks r) polled
     where
       polled : (done : Result (Answer (Unit {0})) ErrorCode × Socket) → Walks law (put h place (with_inner r done.1)) (λ d. put h place d.1) (Give (connect_polled r done))
       polled (Ok Pending, socket) = give _
-      polled (Ok (Ready d), socket) = opens r socket socket.state
-      polled (Err c, socket) = idles r socket _
+      polled (Ok (Ready d), socket) = opens r socket socket.state settled
+      polled (Err c, socket) = idles r socket _ settled
+
+-- a bind that waits goes on
+abbrev pub WaitsSo : StandingCall → Result (Answer (Unit {0})) ErrorCode × Tcp2Socket → Type 0
+WaitsSo call (Ok Pending, r) = GoesOn call r
+WaitsSo call _ = ⊤
+
+ended_so : (place : ℕ) (op : Operation) (r : Tcp2Socket) (ended : End × List Item) → WaitsSo (StandingCall.Bind place) (bind_ended op r ended)
+ended_so place op r (Waits, items) = tt
+ended_so place op r (Done given, items) = tt
+ended_so place op r (Refused c given, items) = tt
+
+pub polled_given : (place : ℕ) (r : Tcp2Socket) (doing : InProgress) → Given (WaitsSo (StandingCall.Bind place)) (poll_binding r doing)
+polled_given place r (InProgress.Binding op) = given_then (WaitsSo (StandingCall.Bind place)) (bind_ended op r) (ended_so place op r) (poll_asks op)
+polled_given place r _ = tt
+
+pub begun_bind_given : (place : ℕ) (op : OpId) (r : Tcp2Socket) (a : IpSocketAddress) → Given (WaitsSo (StandingCall.Bind place)) (begin_bind_asks op r a)
+begun_bind_given place op r a = given_on (WaitsSo (StandingCall.Bind place)) (bind_begun r) begun (bind_asks op r.inner a)
+  where
+    begun : (start : Result Operation ErrorCode × Socket) → Given (WaitsSo (StandingCall.Bind place)) (bind_begun r start)
+    begun (Ok o, socket) = polled_given place (record r { inner = socket; in_progress = InProgress.Binding o }) (InProgress.Binding o)
+    begun (Err c, socket) = tt
+
+-- any other call waits for nothing of its record
+pub listen_waits_so : (place : ℕ) (done : Result (Answer (Unit {0})) ErrorCode × Tcp2Socket) → WaitsSo (StandingCall.Listen place) done
+listen_waits_so place (Ok Pending, r) = tt
+listen_waits_so place _ = tt
 
 -- the tests of a bind
-module _ {line : ℕ} {origin : Step} {h : Here} {place : ℕ} (here : HasRecord h place) (at : h.at ≡ Some (place, line)) (a : IpSocketAddress) (to : IsBindTo a origin) (free : h.own ≡ Unused) where
-  allowed_if : (r : Tcp2Socket) (side : OpId) (b : Bool) → r.inner.state ≡ TcpState.Default side
-      → Move line origin (put h place r) (Handed (put h place r) (if b then Ok (bind_operation (record { op = own_of line; side = side; maker = r.inner.maker }) a Check) else Err InvalidArgument))
-  allowed_if r side true e = BeginsBind (put h place r) place r side a at (found here r) e to free
-  allowed_if r side false e = Spends (put h place r) free
+module _ {contexts : List WasiSocketsCtx} {line : ℕ} {origin : Step} {law : Law contexts line origin} {h : Here} {place : ℕ} (here : HasRecord h place) (at : h.at ≡ Some (place, line)) (a : IpSocketAddress) (to : IsBindTo a origin) (free : h.own ≡ Unused) (r : Tcp2Socket) (idle : is_nothing r.in_progress ≡ true) where
+  allowed_if : (socket : Socket) (side : OpId) (b : Bool) → socket.state ≡ TcpState.Default side
+      → Walks law (put h place (with_inner r socket)) (Started h place r) (Give (if b then Ok (begun_bind (own_of line) side (with_inner r socket) a) else Err InvalidArgument, socket))
+  allowed_if socket side true e =
+      let now : Tcp2Socket = with_inner r socket in
+      let begun : Tcp2Socket = with_progress now (InProgress.Binding (begun_bind (own_of line) side now a)) in
+      move (BeginsBind (put h place now) place now side a at (found here now) e to idle free) (from (ap (λ (x : Here). record x { own = Used }) (sym (put_put h place now begun))) (give _))
+  allowed_if socket side false e = gives _ (Spends _ free)
 
-  allowed : (r : Tcp2Socket) (s : TcpState) → r.inner.state ≡ s → Move line origin (put h place r) (Handed (put h place r) (bind_allowed (own_of line) r.inner a s))
-  allowed r (TcpState.Default side) e = allowed_if r side (is_unicast (ip_of a) && is_of_family (ip_of a) r.inner.family) e
-  allowed r _ e = Spends (put h place r) free
+  allowed : (socket : Socket) (s : TcpState) → socket.state ≡ s → Walks law (put h place (with_inner r socket)) (Started h place r) (Give (bind_allowed (own_of line) socket a s, socket))
+  allowed socket (TcpState.Default side) e = allowed_if socket side (is_unicast (ip_of a) && is_of_family (ip_of a) socket.family) e
+  allowed socket _ e = gives _ (Spends _ free)
 
-  started : (r : Tcp2Socket) (bound : Bool) → Move line origin (put h place r) (Handed (put h place r) (if bound then Err InvalidState else bind_allowed (own_of line) r.inner a r.inner.state))
-  started r true = Spends (put h place r) free
-  started r false = allowed r r.inner.state refl
+  started : (socket : Socket) (bound : Bool) → Walks law (put h place (with_inner r socket)) (Started h place r) (Give (if bound then Err InvalidState else bind_allowed (own_of line) socket a socket.state, socket))
+  started socket true = gives _ (Spends _ free)
+  started socket false = allowed socket socket.state refl
 
-module _ {contexts : List WasiSocketsCtx} {line : ℕ} {origin : Step} {law : Law contexts line origin} {h : Here} {place : ℕ} (here : HasRecord h place) where
-  -- a poll of a bind in hand
-  pub poll_bind_walks : (op : Operation) (r : Tcp2Socket) → Walks law (record (put h place r) { hand = Some op; own = Used }) (Begun h place) (poll_bind_asks op r)
-  poll_bind_walks op r = and_then (poll refl) ended
-    where
-      done : HasRecord (record h { hand = None; own = Used }) place
-      done = record { was = here.was; found = here.found }
+-- a poll of the bind that was begun
+module _ {contexts : List WasiSocketsCtx} {line : ℕ} {origin : Step} {law : Law contexts line origin} {h : Here} {place : ℕ} (here : HasRecord h place) (quiet : NoBind h) where
+  poll_binding_walks : (r : Tcp2Socket) (doing : InProgress) → r.in_progress ≡ doing → Walks law (put h place r) (λ done. put h place done.1) (poll_binding r doing)
+  poll_binding_walks r (InProgress.Binding op) e = and_then (poll_bind here r op quiet e) (λ ended. give _)
+  poll_binding_walks r _ e = give _
 
-      ended : (e : End × List Item) → Walks law (record (put h place r) { hand = Some (left_of op e.1); own = Used }) (Begun h place) (Give (bind_ended op r e))
-      ended (Waits, items) = give _
-      ended (Done given, items) = move (Ends _) (on done r _ (Changes _ _ _ _ (found done r) (with_progress r InProgress.Bind (λ e. absurd (cc)))) (give _))
-      ended (Refused c given, items) = gives _ (Ends _)
+  pub poll_bind_walks : (r : Tcp2Socket) → Walks law (put h place r) (λ done. put h place done.1) (poll_bind_asks r)
+  poll_bind_walks r = poll_binding_walks r r.in_progress refl
 
 module _ {contexts : List WasiSocketsCtx} {line : ℕ} {origin : Step} {law : Law contexts line origin} {h : Here} {place n : ℕ} (here : HasRecord h place) (at : h.at ≡ Some (place, n)) where
   -- == options
@@ -217,7 +241,7 @@ module _ {contexts : List WasiSocketsCtx} {line : ℕ} {origin : Step} {law : La
 module _ {contexts : List WasiSocketsCtx} {line : ℕ} {origin : Step} {law : Law contexts line origin} {h : Here} {place : ℕ} (here : HasRecord h place) (at : h.at ≡ Some (place, line)) where
   -- == a bind
   is_bound : (r : Tcp2Socket) → ((side : OpId) → r.inner.state ≡ TcpState.Default side → ⊥) → Walks law (put h place r) (Inner h place r) (Give (true, record r.inner { bound = true }))
-  is_bound r other = on here r _ (Changes _ _ _ _ (found here r) (record { side = refl; streams = refl; listening = refl; does = refl; maker = refl; family = refl; bound = λ side d b. absurd (other side d); connects = λ e. inl e })) (give _)
+  is_bound r other = on here r _ (Changes _ _ _ _ (found here r) (record { side = refl; streams = refl; listening = refl; does = refl; maker = refl; family = refl; bound = λ side d b. absurd (other side d); binds = inl refl; connects = λ e. inl e })) (give _)
 
   bound_in : (r : Tcp2Socket) (s : TcpState) → r.inner.state ≡ s → Walks law (put h place r) (Inner h place r) (ask_bound (own_of line) r.inner s)
   unfolding bind
@@ -227,35 +251,35 @@ module _ {contexts : List WasiSocketsCtx} {line : ℕ} {origin : Step} {law : La
   pub bound_walks : (r : Tcp2Socket) → Walks law (put h place r) (Inner h place r) (bound_asks (own_of line) r.inner)
   bound_walks r = by_if r.inner.bound (λ known. give _) (λ unknown. bound_in r r.inner.state refl)
 
-  module _ (a : IpSocketAddress) (to : IsBindTo a origin) (free : h.own ≡ Unused) where
-    bind_walks : (r : Tcp2Socket) → Walks law (put h place r) (Started h place r) (bind_asks (own_of line) r.inner a)
-    bind_walks r = and_then (bound_walks r) (λ b. gives _ (started here at a to free (with_inner r b.1) b.0))
+  module _ (a : IpSocketAddress) (to : IsBindTo a origin) (free : h.own ≡ Unused) (quiet : NoBind h) where
+    bind_walks : (r : Tcp2Socket) → is_nothing r.in_progress ≡ true → Walks law (put h place r) (Started h place r) (bind_asks (own_of line) r.inner a)
+    bind_walks r idle = and_then (bound_walks r) (λ b. started here at a to free r idle b.1 b.0)
 
-    begun_walks : (r : Tcp2Socket) (start : Result Operation ErrorCode × Socket) → Walks law (Started h place r start) (Begun h place) (bind_begun r start)
-    begun_walks r (Ok op, socket) = poll_bind_walks here op (with_inner r socket)
-    begun_walks r (Err c, socket) = gives _ (Ends _)
+    begun_walks : (r : Tcp2Socket) (start : Result Operation ErrorCode × Socket) → Walks law (Started h place r start) (λ done. record (put h place done.1) { own = Used }) (bind_begun r start)
+    begun_walks r (Ok op, socket) = poll_bind_walks (spent here) quiet (record r { inner = socket; in_progress = InProgress.Binding op })
+    begun_walks r (Err c, socket) = give _
 
-    pub begin_bind_walks : (r : Tcp2Socket) → Walks law (put h place r) (Begun h place) (begin_bind_asks (own_of line) r a)
-    begin_bind_walks r = and_then (bind_walks r) (begun_walks r)
+    pub begin_bind_walks : (r : Tcp2Socket) → is_nothing r.in_progress ≡ true → Walks law (put h place r) (λ done. record (put h place done.1) { own = Used }) (begin_bind_asks (own_of line) r a)
+    begin_bind_walks r idle = and_then (bind_walks r idle) (begun_walks r)
 
   -- == a connect
-  connect_if : (r : Tcp2Socket) (side : OpId) (a : IpSocketAddress) (bound able : Bool) (done : Unit {0}) → r.inner.state ≡ TcpState.Default side → IsConnectTo a origin → (bound ≡ true → r.inner.bound ≡ true) → h.own ≡ Unused
+  connect_if : (r : Tcp2Socket) (side : OpId) (a : IpSocketAddress) (bound able : Bool) (done : Unit {0}) → r.inner.state ≡ TcpState.Default side → IsConnectTo a origin → (bound ≡ true → r.inner.bound ≡ true) → is_nothing r.in_progress ≡ true → h.own ≡ Unused
       → Walks law (put h place r) (Spent h place r) (Give (if able then (Ok done, with_state r.inner (TcpState.Connecting (connect_operation (record { op = own_of line; side = side; maker = r.inner.maker }) (wildcard r.inner.family) a (connect_first bound)))) else (Err InvalidArgument, r.inner)))
-  connect_if r side a bound true done e to known free =
+  connect_if r side a bound true done e to known idle free =
       let now : Tcp2Socket = with_inner r (with_state r.inner (TcpState.Connecting (connect_operation (record { op = own_of line; side = side; maker = r.inner.maker }) (wildcard r.inner.family) a (connect_first bound)))) in
-      move (BeginsConnect (put h place r) place r side a bound at (found here r) e to known free) (from (ap (λ (x : Here). record x { own = Used }) (sym (put_put h place r now))) (give _))
-  connect_if r side a bound false done e to known free = gives _ (Spends _ free)
+      move (BeginsConnect (put h place r) place r side a bound at (found here r) e to known idle free) (from (ap (λ (x : Here). record x { own = Used }) (sym (put_put h place r now))) (give _))
+  connect_if r side a bound false done e to known idle free = gives _ (Spends _ free)
 
-  start_connect_walks : (r : Tcp2Socket) (a : IpSocketAddress) (s : TcpState) → r.inner.state ≡ s → IsConnectTo a origin → h.own ≡ Unused → Walks law (put h place r) (Spent h place r) (start_connect_in (own_of line) r.inner a s)
-  start_connect_walks r a (TcpState.Default side) e to free =
-      and_given (KnowsBound r.inner) (bound_given (own_of line) r.inner) (bound_walks r) (λ b k. connect_if (with_inner r b.1) side a b.0 (is_connectable b.1 a) tt (k.1 ∙ e) to k.0 free)
-  start_connect_walks r a _ e to free = gives _ (Spends _ free)
+  start_connect_walks : (r : Tcp2Socket) (a : IpSocketAddress) (s : TcpState) → r.inner.state ≡ s → IsConnectTo a origin → is_nothing r.in_progress ≡ true → h.own ≡ Unused → Walks law (put h place r) (Spent h place r) (start_connect_in (own_of line) r.inner a s)
+  start_connect_walks r a (TcpState.Default side) e to idle free =
+      and_given (KnowsBound r.inner) (bound_given (own_of line) r.inner) (bound_walks r) (λ b k. connect_if (with_inner r b.1) side a b.0 (is_connectable b.1 a) tt (k.1 ∙ e) to k.0 idle free)
+  start_connect_walks r a _ e to idle free = gives _ (Spends _ free)
 
-  pub begin_connect_walks : (r : Tcp2Socket) (a : IpSocketAddress) → IsConnectTo a origin → h.own ≡ Unused → Walks law (put h place r) (λ done. record (put h place done.1) { own = Used }) (begin_connect_asks (own_of line) r a)
-  begin_connect_walks r a to free = and_given BeginsSo (begun_given (own_of line) r.inner a r.inner.state) (start_connect_walks r a r.inner.state refl to free) begun
+  pub begin_connect_walks : (r : Tcp2Socket) (a : IpSocketAddress) → IsConnectTo a origin → is_nothing r.in_progress ≡ true → h.own ≡ Unused → Walks law (put h place r) (λ done. record (put h place done.1) { own = Used }) (begin_connect_asks (own_of line) r a)
+  begin_connect_walks r a to idle free = and_given BeginsSo (begun_given (own_of line) r.inner a r.inner.state) (start_connect_walks r a r.inner.state refl to idle free) begun
     where
       begun : (done : Result (Unit {0}) ErrorCode × Socket) → BeginsSo done → Walks law (Spent h place r done) (λ d. record (put h place d.1) { own = Used }) (Give (connect_begun r done))
-      begun (Ok d, socket) so = on (spent here) (with_inner r socket) _ (Changes _ _ _ _ (found (spent here) (with_inner r socket)) (record { side = refl; streams = refl; listening = refl; does = refl; maker = refl; family = refl; bound = λ side d b. b; connects = λ e. inr so })) (give _)
+      begun (Ok d, socket) so = on (spent here) (with_inner r socket) _ (Changes _ _ _ _ (found (spent here) (with_inner r socket)) (record { side = refl; streams = refl; listening = refl; does = refl; maker = refl; family = refl; bound = λ side d b. b; binds = inr (idle_settles r.in_progress idle, tt); connects = λ e. inr so })) (give _)
       begun (Err c, socket) so = give _
 
   pub local_walks : (r : Tcp2Socket) → Walks law (put h place r) (λ done. put h place done.1) (tell_local_asks (own_of line) r)
@@ -263,7 +287,7 @@ module _ {contexts : List WasiSocketsCtx} {line : ℕ} {origin : Step} {law : La
 
 -- == the backlog, and whether it is ready
 backlog_kept : (r : Tcp2Socket) (b : ℕ) → Plain r (with_inner r (with_backlog r.inner b))
-backlog_kept r b = record { side = refl; streams = refl; listening = refl; does = refl; maker = refl; family = refl; bound = λ side d e. e; connects = λ e. inl e }
+backlog_kept r b = record { side = refl; streams = refl; listening = refl; does = refl; maker = refl; family = refl; bound = λ side d e. e; binds = inl refl; connects = λ e. inl e }
 
 module _ {contexts : List WasiSocketsCtx} {line : ℕ} {origin : Step} {law : Law contexts line origin} {h : Here} {place : ℕ} (here : HasRecord h place) (at : h.at ≡ Some (place, line)) where
   backlog_told : (r : Tcp2Socket) (b : ℕ) (told : Result (Unit {0}) ErrorCode) → Walks law (put h place r) (Inner h place r) (Give (after_backlog r.inner b told))
@@ -309,29 +333,29 @@ Listened h place r (Ok op, socket) = record (put h place (record r { inner = soc
 Listened h place r (Err c, socket) = record (put h place (with_inner r socket)) { own = Used }
 
 module _ {contexts : List WasiSocketsCtx} {line : ℕ} {origin : Step} {law : Law contexts line origin} {h : Here} {place : ℕ} (here : HasRecord h place) (at : h.at ≡ Some (place, line)) (is : IsListen origin) (free : h.own ≡ Unused) (quiet : NoBind h) where
-  starts_listen : (r : Tcp2Socket) (s : TcpState) → r.inner.state ≡ s → r.listening ≡ Not → r.inner.bound ≡ true → Walks law (put h place r) (Listened h place r) (Give (listen_start (own_of line) r.inner true s))
-  starts_listen r (TcpState.Default side) e none bound = move (BeginsListen (put h place r) place r side at (found here r) e bound none is free) (from (ap (λ (x : Here). record x { own = Used }) (sym (put_put h place r (beginning_listen (own_of line) side r)))) (give _))
-  starts_listen r _ e none bound = gives _ (Spends _ free)
+  starts_listen : (r : Tcp2Socket) (s : TcpState) → r.inner.state ≡ s → r.listening ≡ Not → r.inner.bound ≡ true → is_nothing r.in_progress ≡ true → Walks law (put h place r) (Listened h place r) (Give (listen_start (own_of line) r.inner true s))
+  starts_listen r (TcpState.Default side) e none bound idle = move (BeginsListen (put h place r) place r side at (found here r) e bound none is idle free) (from (ap (λ (x : Here). record x { own = Used }) (sym (put_put h place r (beginning_listen (own_of line) side r)))) (give _))
+  starts_listen r _ e none bound idle = gives _ (Spends _ free)
 
-  starts_known : (r : Tcp2Socket) (b : Bool × Socket) → (b.0 ≡ true) × (b.1 ≡ r.inner) → r.listening ≡ Not → r.inner.bound ≡ true → Walks law (put h place (with_inner r b.1)) (Listened h place r) (Give (listen_start (own_of line) b.1 b.0 b.1.state))
-  starts_known r b k none bound =
+  starts_known : (r : Tcp2Socket) (b : Bool × Socket) → (b.0 ≡ true) × (b.1 ≡ r.inner) → r.listening ≡ Not → r.inner.bound ≡ true → is_nothing r.in_progress ≡ true → Walks law (put h place (with_inner r b.1)) (Listened h place r) (Give (listen_start (own_of line) b.1 b.0 b.1.state))
+  starts_known r b k none bound idle =
       let T : Bool × Socket → Type 0 = λ x. Walks law (put h place (with_inner r x.1)) (Listened h place r) (Give (listen_start (own_of line) x.1 x.0 x.1.state)) in
-      subst (λ (x : Bool). T (x, b.1)) (sym k.0) (subst (λ (y : Socket). T (true, y)) (sym k.1) (starts_listen r r.inner.state refl none bound))
+      subst (λ (x : Bool). T (x, b.1)) (sym k.0) (subst (λ (y : Socket). T (true, y)) (sym k.1) (starts_listen r r.inner.state refl none bound idle))
 
   listened_walks : (r : Tcp2Socket) (start : Result Operation ErrorCode × Socket) → Walks law (Listened h place r start) (λ done. record (put h place done.1) { own = Used }) (listen_begun r start)
   listened_walks r (Ok op, socket) = poll_listen_walks (spent here) quiet (record r { inner = socket; listening = Begins op })
   listened_walks r (Err c, socket) = give _
 
-  once_walks : (r : Tcp2Socket) (l : Listening) → r.listening ≡ l → r.inner.bound ≡ true → Walks law (put h place r) (λ done. record (put h place done.1) { own = Used }) (listen_once (own_of line) r l)
-  once_walks r Not e bound = and_then (and_given (λ b. (b.0 ≡ true) × (b.1 ≡ r.inner)) (known_given (own_of line) r.inner bound) (bound_walks here at r) (λ b k. starts_known r b k e bound)) (listened_walks r)
-  once_walks r _ e bound = gives _ (Spends _ free)
+  once_walks : (r : Tcp2Socket) (l : Listening) → r.listening ≡ l → r.inner.bound ≡ true → is_nothing r.in_progress ≡ true → Walks law (put h place r) (λ done. record (put h place done.1) { own = Used }) (listen_once (own_of line) r l)
+  once_walks r Not e bound idle = and_then (and_given (λ b. (b.0 ≡ true) × (b.1 ≡ r.inner)) (known_given (own_of line) r.inner bound) (bound_walks here at r) (λ b k. starts_known r b k e bound idle)) (listened_walks r)
+  once_walks r _ e bound idle = gives _ (Spends _ free)
 
-  if_bound_walks : (r : Tcp2Socket) (b : Bool) → (b ≡ true → r.inner.bound ≡ true) → Walks law (put h place r) (λ done. record (put h place done.1) { own = Used }) (listen_bound (own_of line) r b)
-  if_bound_walks r true k = once_walks r r.listening refl (k refl)
-  if_bound_walks r false k = gives _ (Spends _ free)
+  if_bound_walks : (r : Tcp2Socket) (b : Bool) → (b ≡ true → r.inner.bound ≡ true) → is_nothing r.in_progress ≡ true → Walks law (put h place r) (λ done. record (put h place done.1) { own = Used }) (listen_bound (own_of line) r b)
+  if_bound_walks r true k idle = once_walks r r.listening refl (k refl) idle
+  if_bound_walks r false k idle = gives _ (Spends _ free)
 
-  pub begin_listen_walks : (r : Tcp2Socket) → Walks law (put h place r) (λ done. record (put h place done.1) { own = Used }) (begin_listen_asks (own_of line) r)
-  begin_listen_walks r = and_given (KnowsBound r.inner) (bound_given (own_of line) r.inner) (bound_walks here at r) (λ b k. if_bound_walks (with_inner r b.1) b.0 k.0)
+  pub begin_listen_walks : (r : Tcp2Socket) → is_nothing r.in_progress ≡ true → Walks law (put h place r) (λ done. record (put h place done.1) { own = Used }) (begin_listen_asks (own_of line) r)
+  begin_listen_walks r idle = and_given (KnowsBound r.inner) (bound_given (own_of line) r.inner) (bound_walks here at r) (λ b k. if_bound_walks (with_inner r b.1) b.0 k.0 idle)
 
 -- == an accept
 same_accept : (h : Here) (place : ℕ) (r : Tcp2Socket) (l : Listener) (a : Accepting) → r.listening ≡ Accepts l → l.accept ≡ a → put h place (accepting_now r l a) ≡ put h place r

@@ -1,11 +1,10 @@
 -- What a line works on where it begins, in its midst and at its end, and what is known of handles there.
 use Rattle.wasi_walks.proofs.Words.{Answer, Ask, AskWrite, Asks, Bool, Err, ErrorCode, Full, Give, Handles, Input, Kind, List, Machine, None, Ok}
-use Rattle.wasi_walks.proofs.Words.{OpId, Operation, Option, Output, Pending, Pollable, Ready, Records, Result, Socket, Some, Standing, StandingCall}
-use Rattle.wasi_walks.proofs.Words.{Stop, Streams, Tcp2, Tcp2Socket, Trap, Watched, accept_answered, accept_at, accept_record_asks, accepted_record}
-use Rattle.wasi_walks.proofs.Words.{ap, ask_made, bind, bind_in, eqb-true, false, if◌then◌else◌, input_of, is_full, kept_accepted, kind_at, make_asks}
-use Rattle.wasi_walks.proofs.Words.{name_of, output_in, output_of, place_in, place_of, refl, slice_get, slice_set, standing_bind, standing_drop, sym}
-use Rattle.wasi_walks.proofs.Words.{table_parent, true, waiting_bind, waiting_drop, watch_of, watched_by, with_handle, with_sockets, ℕ, ⊤, ◌==◌, ◌∙◌}
-use Rattle.wasi_walks.proofs.Words.{◌≡◌}
+use Rattle.wasi_walks.proofs.Words.{OpId, Option, Output, Pending, Pollable, Ready, Records, Result, Socket, Some, Standing, StandingCall, Stop}
+use Rattle.wasi_walks.proofs.Words.{Streams, Tcp2, Tcp2Socket, Trap, Watched, accept_answered, accept_at, accept_record_asks, accepted_record, ap}
+use Rattle.wasi_walks.proofs.Words.{ask_made, bind, call_of, eqb-true, false, if◌then◌else◌, input_of, is_full, kept_accepted, kind_at, make_asks}
+use Rattle.wasi_walks.proofs.Words.{name_of, output_of, place_in, place_of, refl, slice_get, slice_set, standing_as, sym, table_parent, true}
+use Rattle.wasi_walks.proofs.Words.{watch_of, watched_by, with_handle, with_sockets, ℕ, ⊤, ◌==◌, ◌∙◌, ◌≡◌}
 use Rattle.wasi_world.specs.declared.ids.Ids.{Ids}
 use Rattle.wasi_walks.proofs.walks.Moves.{Own, Used, Here, put, Found, record_of, Made, Past, Unmade, Joined}
 use Rattle.wasi_walks.proofs.Lists.{value_front, get_seam}
@@ -13,17 +12,17 @@ use Rattle.wasi_walks.proofs.walks.Law.{HasRecord, Given, given_then}
 
 -- a line begins, and is over
 abbrev pub Starts : Machine → Own → Here
-Starts m more = record { machine = m; at = None; hand = None; made = Past; own = more }
+Starts m more = record { machine = m; at = None; made = Past; own = more }
 
 abbrev pub Over : Machine → Here
-Over m = record { machine = m; at = None; hand = None; made = Past; own = Used }
+Over m = record { machine = m; at = None; made = Past; own = Used }
 
 abbrev pub OverWith : {A : Type 0} → A × Machine → Here
 OverWith done = Over done.1
 
 -- it works on the record of this place by that line's operation, and has done so
 abbrev pub At : ℕ → Machine → ℕ → Own → Here
-At n m place more = record { machine = m; at = Some (place, n); hand = None; made = Past; own = more }
+At n m place more = record { machine = m; at = Some (place, n); made = Past; own = more }
 
 abbrev pub Put : {A : Type 0} → ℕ → Machine → ℕ → A × Records → Here
 Put n m place done = At n (record m { store = done.1 }) place Used
@@ -43,35 +42,28 @@ output_record _ place e = absurd (cc)
 pub there : {h : Here} {place : ℕ} {r : Tcp2Socket} → Found h place r → HasRecord h place
 there {r} g = record { was = r; found = g }
 
--- one that stands
-pub record StandsSo (o : Option Standing) (place : ℕ) (op : Operation) : Type 0 where
-  pub n : ℕ
-  pub is : o ≡ Some (standing_bind n place op)
-
-pub stands_so : (o : Option Standing) (n place : ℕ) (op : Operation) → waiting_bind o n ≡ Some (place, op) → StandsSo o place op
-stands_so None n place op e = absurd (cc)
-stands_so (Some s) n place op e = by_line s.call (s.line == n) refl e
+-- the call that stands under a number
+pub stands_so : (o : Option Standing) (n : ℕ) (call : StandingCall) → call_of o n ≡ Some call → o ≡ Some (standing_as n call)
+stands_so None n call e = absurd (cc)
+stands_so (Some s) n call e = by_line (s.line == n) refl e
   where
-    by_line : (call : StandingCall) (same : Bool) → s.call ≡ call → (if same then bind_in call else None) ≡ Some (place, op) → StandsSo (Some s) place op
-    by_line (StandingCall.Bind p o) true c q =
-        let was : ℕ × Operation = (p, o) in
-        let now : ℕ × Operation = (place, op) in
-        let both : was ≡ now = cc in
-        record { n = s.line; is = ap (λ (x : StandingCall). let t : Standing = record { line = s.line; call = x } in Some t) c ∙ ap (λ (x : ℕ × Operation). Some (standing_bind s.line x.0 x.1)) both }
-    by_line (StandingCall.Listen p) true c q = absurd (cc)
-    by_line (StandingCall.DropOutput p) true c q = absurd (cc)
-    by_line call false c q = absurd (cc)
+    by_line : (same : Bool) → (s.line == n) ≡ same → (if same then Some s.call else None) ≡ Some call → Some s ≡ Some (standing_as n call)
+    by_line true l q =
+        let at : s.line ≡ n = eqb-true s.line n l in
+        let its : s.call ≡ call = cc in
+        ap (λ (x : ℕ). Some (standing_as x s.call)) at ∙ ap (λ (x : StandingCall). Some (standing_as n x)) its
+    by_line false l q = absurd (cc)
 
 pub streams_are : (h : Here) (place : ℕ) (r : Tcp2Socket) (s : Streams) → r.streams ≡ Some s → put h place (record r { streams = Some s }) ≡ put h place r
 streams_are h place r s e = ap (λ (o : Option Streams). put h place (record r { streams = o })) (sym e)
 
 -- the streams of a connection are made
 abbrev pub Between : Option (ℕ × ℕ) → Made → Machine → Here
-Between at made m = record { machine = m; at = at; hand = None; made = made; own = Used }
+Between at made m = record { machine = m; at = at; made = made; own = Used }
 
 -- an accept looks, and has taken what was handed over
 abbrev pub Watching : ℕ → Machine → ℕ → Own → Here
-Watching line m place own = record { machine = m; at = Some (place, line); hand = None; made = Unmade; own = own }
+Watching line m place own = record { machine = m; at = Some (place, line); made = Unmade; own = own }
 
 abbrev pub AcceptedSo : ℕ → Machine → ℕ → Result ℕ Stop × Records → Here
 AcceptedSo line m place (Ok p, store) = Between None (Joined p) (record m { store = store })
@@ -79,7 +71,7 @@ AcceptedSo line m place (Err why, store) = Between (Some (place, line)) Unmade (
 
 -- with these records
 abbrev pub Sets : Machine → List Tcp2Socket → Here
-Sets m sockets = record { machine = record m { store = record m.store { sockets = sockets } }; at = None; hand = None; made = Past; own = Used }
+Sets m sockets = record { machine = record m { store = record m.store { sockets = sockets } }; at = None; made = Past; own = Used }
 
 -- a handle that is live stays so where another is made
 pub make_given : (t : Handles) (op : OpId) (kind : Kind) (parent : Option ℕ) (sock : Option OpId) (handle place : ℕ) → record_of (kind_at t handle) ≡ Some place → Given (λ made. record_of (kind_at made.1 handle) ≡ Some place) (make_asks t op kind parent sock)
@@ -103,20 +95,6 @@ watched_record _ w e = absurd (cc)
 pub watch_record : (k : Option Kind) (w : Watched) → watch_of k ≡ Some w → record_of k ≡ Some (place_in w)
 watch_record (Some (Pollable x)) w e = let p : x ≡ w = cc in ap (λ (y : Watched). Some (place_in y)) p
 watch_record _ w e = absurd (cc)
-
--- the drop that stands under a number
-pub stands_drop : (o : Option Standing) (n place : ℕ) → waiting_drop o n ≡ Some place → o ≡ Some (standing_drop n place)
-stands_drop None n place e = absurd (cc)
-stands_drop (Some s) n place e = by_line s.call (s.line == n) refl refl e
-  where
-    by_line : (call : StandingCall) (same : Bool) → s.call ≡ call → (s.line == n) ≡ same → (if same then output_in call else None) ≡ Some place → Some s ≡ Some (standing_drop n place)
-    by_line (StandingCall.DropOutput p) true c l q =
-        let here : p ≡ place = cc in
-        let there : s.line ≡ n = eqb-true s.line n l in
-        ap (λ (x : StandingCall). let t : Standing = record { line = s.line; call = x } in Some t) c ∙ (ap (λ (x : ℕ). Some (standing_drop s.line x)) here ∙ ap (λ (x : ℕ). Some (standing_drop x place)) there)
-    by_line (StandingCall.Bind p o) true c l q = absurd (cc)
-    by_line (StandingCall.Listen p) true c l q = absurd (cc)
-    by_line call false c l q = absurd (cc)
 
 pub given_any : {A : Type 0} (R : A → Type 0) → ((a : A) → R a) → (asks : Asks A) → Given R asks
 given_any R k (Give a) = k a

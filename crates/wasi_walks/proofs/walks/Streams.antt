@@ -2,21 +2,21 @@
 -- and turns.
 use Rattle.wasi_walks.proofs.Words.{Accepts, Answer, Asks, Bool, Done, End, Err, ErrorCode, ErrorValue, Give, Has, HasChildren, Input, Job, Kind}
 use Rattle.wasi_walks.proofs.Words.{List, Listening, Machine, Network, None, Not, NotPermitted, Ok, OpId, Option, Output, Pending, Pollable}
-use Rattle.wasi_walks.proofs.Words.{ReadState, Ready, Records, Refused, Result, ShutdownType, Some, Step, StreamStop, Streams, Tcp2, Tcp2Socket}
-use Rattle.wasi_walks.proofs.Words.{TcpReceiveStream, TcpSendStream, Trap, Waits, WasiSocketsCtx, Watched, WriteState, [], after_read, allows_weaker}
-use Rattle.wasi_walks.proofs.Words.{ap, ask_read, begun, bind, check_write_asks, collected, drop_output_at, drop_taken, false, first_ids}
-use Rattle.wasi_walks.proofs.Words.{give_streams_up, gone, handles_of, has_no_child, if◌then◌else◌, is_connect, is_nothing, kind_at, length}
-use Rattle.wasi_walks.proofs.Words.{look_asks, look_in, min, nat_lt, new_job, own_of, permitted, place_in, polled_answer, read_state_asks, reader_of}
-use Rattle.wasi_walks.proofs.Words.{reader_ready_asks, reader_shutdown_asks, ready_end, ready_on, refl, release_asks, release_at, shut_streams}
-use Rattle.wasi_walks.proofs.Words.{side_of, side_up_asks, slice_get, stream_at, subscribe_on, sym, taken_out, true, turn_machine_asks, wait_put}
-use Rattle.wasi_walks.proofs.Words.{wait_writer, waited, watch_of, watched_by, with_listening, with_permit, with_reader, with_store, with_writer}
+use Rattle.wasi_walks.proofs.Words.{ReadState, Ready, Records, Refused, Result, ShutdownType, Some, StandingCall, Step, StreamStop, Streams, Tcp2}
+use Rattle.wasi_walks.proofs.Words.{Tcp2Socket, TcpReceiveStream, TcpSendStream, Trap, Waits, WasiSocketsCtx, Watched, WriteState, [], after_read}
+use Rattle.wasi_walks.proofs.Words.{allows_weaker, ap, ask_read, begun, bind, check_write_asks, collected, drop_output_at, drop_taken, drop_waits}
+use Rattle.wasi_walks.proofs.Words.{false, first_ids, give_streams_up, gone, handles_of, has_no_child, if◌then◌else◌, is_connect, is_nothing, kind_at}
+use Rattle.wasi_walks.proofs.Words.{length, look_asks, look_in, min, nat_lt, new_job, own_of, permitted, place_in, polled_answer, read_state_asks}
+use Rattle.wasi_walks.proofs.Words.{reader_of, reader_ready_asks, reader_shutdown_asks, ready_end, ready_on, refl, release_asks, release_at}
+use Rattle.wasi_walks.proofs.Words.{shut_streams, side_of, side_up_asks, slice_get, stream_at, subscribe_on, sym, taken_out, true, turn_machine_asks}
+use Rattle.wasi_walks.proofs.Words.{wait_put, wait_writer, watch_of, watched_by, with_listening, with_permit, with_reader, with_store, with_writer}
 use Rattle.wasi_walks.proofs.Words.{without_handle, write_on_asks, write_state_asks, writer_asks, writer_give_up_asks, writer_of}
 use Rattle.wasi_walks.proofs.Words.{writer_shutdown_asks, writer_side, writing_side, ℕ, ◌==◌, ◌∷◌, ◌≡◌}
 use Rattle.wasi_addr.specs.declared.address.ShutdownType.TheVariants.{Receive, Send, Both}
 use Rattle.wasi_tcp.specs.Job.{finish_in as finish_job}
 use Rattle.wasi_host.specs.Shutdowns.{with_streams}
 use Rattle.wasi_walks.proofs.walks.Writes.{may_begin, may_of, may_in, may_at, may}
-use Rattle.wasi_walks.proofs.walks.Moves.{Own, Used, Unused, ToWrite, Here, put, OfReader, OfWriter, Collects, Permits, Lasts, LastsAfter, Closes, Spends, ClosesReader, Writes, BeginsWrite, NoBind, NoBindStands, record_of, MarksError, AnError, Reaches, Leaves, IsGone, Lists, Takes, Past, Unstands, StandsDrop, APollable}
+use Rattle.wasi_walks.proofs.walks.Moves.{Own, Used, Unused, ToWrite, Here, put, OfReader, OfWriter, Collects, Permits, Lasts, LastsAfter, Closes, Spends, ClosesReader, Writes, BeginsWrite, NoBind, NoBindStands, record_of, MarksError, AnError, Reaches, Leaves, IsGone, Lists, Takes, Past, Stands, APollable}
 use Rattle.wasi_walks.proofs.walks.Law.{Law, HasRecord, spent, put_put, Walks, give, and_then, by_if, move, gives, from, found, on, ask, turn, put_same, ends, close, mark, give_up, and_so}
 use Rattle.wasi_tcp.specs.Closing.{close_in}
 use Rattle.wasi_host.specs.Readiness.{ready_listening, ready_idle, ready_socket_by, ready_reader, ready_writer, ready_record, ready_at}
@@ -159,7 +159,7 @@ module _ {contexts : List WasiSocketsCtx} {line : ℕ} {origin : Step} {law : La
   converted_walks : {T : Type 0} (m : Machine) (handle place : ℕ) (done : Result T StreamStop × Records) → MarksError handle origin → record_of (kind_at m.table handle) ≡ Some place
       → Walks law (Put line m place done) OverWith (converted (own_of line) handle place (with_store m done))
   unfolding bind
-  converted_walks m handle place (Err (stop.Failed c), store) marks e = and_then {mid = λ c. record { machine = c.1; at = Some (place, line); hand = None; made = Past; own = Used }} (and_then (mark (AnError handle place marks e)) (λ made. give _)) (λ c. gives _ (Leaves _))
+  converted_walks m handle place (Err (stop.Failed c), store) marks e = and_then {mid = λ c. record { machine = c.1; at = Some (place, line); made = Past; own = Used }} (and_then (mark (AnError handle place marks e)) (λ made. give _)) (λ c. gives _ (Leaves _))
   converted_walks m handle place _ marks e = gives _ (Leaves _)
 
   stream_at_walks : {T : Type 0} (m : Machine) (place : ℕ) (may : Option Tcp2Socket → Own) (call : Tcp2Socket → Asks (Result T StreamStop × Tcp2Socket)) (o : Option Tcp2Socket) → slice_get m.store.sockets place ≡ o → may None ≡ Unused
@@ -205,15 +205,15 @@ module _ {contexts : List WasiSocketsCtx} {line : ℕ} {origin : Step} {law : La
 
     closes_walks : (r : Tcp2Socket) (o : Option OpId) → side_of r.inner ≡ o → Walks law (put h place r) (λ done. put h place (gone r done.1)) (close_in (own_of line) r.inner o)
     unfolding bind
-    closes_walks r None e = on here r _ (IsGone _ _ _ (found here r) e) (give _)
+    closes_walks r None e = on here r _ (IsGone _ _ _ quiet (found here r) e) (give _)
     closes_walks r (Some side) e = close here r quiet e (λ told. give _)
 
     release_walks : (r : Tcp2Socket) → Walks law (put h place r) (λ done. put h place done.1) (release_asks (own_of line) r)
-    release_walks r = let now = with_listening r Not in and_then (give_up here r quiet) (λ done. and_then (given_up_walks now r.streams refl) (λ done. and_then (closes_walks now (side_of r.inner) refl) (λ done. give _)))
+    release_walks r = let now = with_listening r Not in and_then (give_up here r) (λ done. and_then (given_up_walks now r.streams refl) (λ done. and_then (closes_walks now (side_of r.inner) refl) (λ done. give _)))
 
   release_at_walks : (m : Machine) (place : ℕ) (o : Option Tcp2Socket) → slice_get m.store.sockets place ≡ o → NoBindStands m.store.standing → Walks law (At line m place Unused) (Put line m place) (release_at m.store (own_of line) place o)
   release_at_walks m place None g q = gives _ (Spends _ refl)
-  release_at_walks m place (Some r) g q = from (put_same (At line m place Unused) place r g) (and_then (release_walks (there g) refl (refl, q) r) (λ done. move (Spends _ refl) (gives _ (Lists _ _))))
+  release_at_walks m place (Some r) g q = from (put_same (At line m place Unused) place r g) (and_then (release_walks (there g) refl q r) (λ done. move (Spends _ refl) (gives _ (Lists _ _))))
 
   -- a drop that waits: one look by the line that dropped it
   module _ (n place : ℕ) where
@@ -221,15 +221,15 @@ module _ {contexts : List WasiSocketsCtx} {line : ℕ} {origin : Step} {law : La
     wait_walks m r here None e = give _
     wait_walks m r here (Some s) e = from (streams_are (At n m place Used) place r s e) (and_then (look_walks here refl r s s.writer) (λ done. give _))
 
-    stands_or : (m : Machine) (r : Tcp2Socket) (here : HasRecord (At n m place Used) place) (done : Answer (Unit {0}) × Tcp2Socket) → Walks law (put (At n m place Used) place done.1) (Put n m place) (Give (waited n place (wait_put m.store place done)))
-    stands_or m r here (Ready d, now) = gives _ (Unstands _)
-    stands_or m r here (Pending, now) = gives _ (StandsDrop _ n place now refl (found here now))
+    stands_or : (m : Machine) (r : Tcp2Socket) (here : HasRecord (At n m place Used) place) (done : Answer (Unit {0}) × Tcp2Socket) → Walks law (put (At n m place Used) place done.1) (Put n m place) (Give (drop_waits n place (wait_put m.store place done)))
+    stands_or m r here (Ready d, now) = give _
+    stands_or m r here (Pending, now) = gives _ (Stands _ n (StandingCall.DropOutput place) now refl (found here now) tt)
 
     pub drop_output_walks : (m : Machine) (o : Option Tcp2Socket) → slice_get m.store.sockets place ≡ o → Walks law (At n m place Used) (Put n m place) (drop_output_at m.store (own_of n) place o)
     unfolding bind
-    drop_output_walks m None g = gives _ (Unstands _)
+    drop_output_walks m None g = give _
     drop_output_walks m (Some r) g =
-        from (put_same (At n m place Used) place r g) (and_so (wait_put m.store place) (λ done. Give (waited n place done)) (wait_walks m r (there g) r.streams refl) (stands_or m r (there g)))
+        from (put_same (At n m place Used) place r g) (and_so (wait_put m.store place) (λ done. Give (drop_waits n place done)) (wait_walks m r (there g) r.streams refl) (stands_or m r (there g)))
 
   dropped_walks : (m : Machine) (this : ℕ) (kind : Kind) (b : Bool) → Has (handles_of origin) this → kind_at m.table this ≡ Some kind → NoBindStands m.store.standing
       → Walks law (Starts m Unused) OverWith (drop_taken m (own_of line) (if b then (Ok kind, without_handle m.table this) else (Err (Trap HasChildren), m.table)))
@@ -270,7 +270,7 @@ module _ {contexts : List WasiSocketsCtx} {line : ℕ} {origin : Step} {law : La
   subscribe_walks c s m None e is = gives _ (Spends _ refl)
   subscribe_walks c s m (Some w) e is = move (Spends _ refl) (and_then (mark (APollable c s w is (watched_record (kind_at m.table s) w e))) (λ made. give _))
 
-  module _ {h : Here} {place : ℕ} (here : HasRecord h place) (at : h.at ≡ Some (place, line)) (free : h.own ≡ Unused) (quiet : NoBind h) where
+  module _ {h : Here} {place : ℕ} (here : HasRecord h place) (at : h.at ≡ Some (place, line)) (free : h.own ≡ Unused) where
     ready_listening_walks : (r : Tcp2Socket) (l : Listening) → r.listening ≡ l → Walks law (put h place r) (λ done. record (put h place done.1) { own = Used }) (ready_listening (first_ids line) r l)
     ready_listening_walks r (Accepts l) e = and_then {mid = λ done. record (put h place (with_listening r (Accepts done.1))) { own = Used }} (listener_walks here at r l (ready_end l) l.accept e refl free (λ now. give _)) (λ done. give _)
     ready_listening_walks r _ e = gives _ (Spends _ free)
@@ -280,7 +280,7 @@ module _ {contexts : List WasiSocketsCtx} {line : ℕ} {origin : Step} {law : La
     ready_idle_walks r false = gives _ (Spends _ free)
 
     ready_socket_walks : (r : Tcp2Socket) (connects : Bool) → Walks law (put h place r) (λ done. record (put h place done.1) { own = Used }) (ready_socket_by (first_ids line) r connects)
-    ready_socket_walks r true = and_then (finish_walks here quiet r) (λ done. gives _ (Spends _ free))
+    ready_socket_walks r true = and_then (finish_walks here r) (λ done. gives _ (Spends _ free))
     ready_socket_walks r false = ready_idle_walks r (is_nothing r.in_progress)
 
     ready_reader_walks : (r : Tcp2Socket) (o : Option Streams) → r.streams ≡ o → Walks law (put h place r) (λ done. record (put h place done.1) { own = Used }) (ready_reader (own_of line) r o)
@@ -296,10 +296,10 @@ module _ {contexts : List WasiSocketsCtx} {line : ℕ} {origin : Step} {law : La
     ready_record_walks (Watched.Input n) r = ready_reader_walks r r.streams refl
     ready_record_walks (Watched.Output n) r = ready_writer_walks r r.streams refl
 
-  ready_at_walks : (m : Machine) (place : ℕ) (w : Watched) (o : Option Tcp2Socket) → slice_get m.store.sockets place ≡ o → NoBindStands m.store.standing → Walks law (At line m place Unused) (Put line m place) (ready_at m.store (own_of line) (first_ids line) w place o)
-  ready_at_walks m place w None g q = gives _ (Spends _ refl)
-  ready_at_walks m place w (Some r) g q = from (put_same (At line m place Unused) place r g) (and_then (ready_record_walks (there g) refl refl (refl, q) w r) (λ done. give _))
+  ready_at_walks : (m : Machine) (place : ℕ) (w : Watched) (o : Option Tcp2Socket) → slice_get m.store.sockets place ≡ o → Walks law (At line m place Unused) (Put line m place) (ready_at m.store (own_of line) (first_ids line) w place o)
+  ready_at_walks m place w None g = gives _ (Spends _ refl)
+  ready_at_walks m place w (Some r) g = from (put_same (At line m place Unused) place r g) (and_then (ready_record_walks (there g) refl refl w r) (λ done. give _))
 
-  pub ready_walks : (m : Machine) (p : ℕ) (o : Option Watched) → watch_of (kind_at m.table p) ≡ o → Has (handles_of origin) p → NoBindStands m.store.standing → Walks law (Starts m Unused) OverWith (ready_on m (first_ids line) o)
-  ready_walks m p None e named q = gives _ (Spends _ refl)
-  ready_walks m p (Some w) e named q = move (Reaches _ p (place_in w) named (watch_record (kind_at m.table p) w e)) (and_then (ready_at_walks m (place_in w) w (slice_get m.store.sockets (place_in w)) refl q) (λ done. gives _ (Leaves _)))
+  pub ready_walks : (m : Machine) (p : ℕ) (o : Option Watched) → watch_of (kind_at m.table p) ≡ o → Has (handles_of origin) p → Walks law (Starts m Unused) OverWith (ready_on m (first_ids line) o)
+  ready_walks m p None e named = gives _ (Spends _ refl)
+  ready_walks m p (Some w) e named = move (Reaches _ p (place_in w) named (watch_record (kind_at m.table p) w e)) (and_then (ready_at_walks m (place_in w) w (slice_get m.store.sockets (place_in w)) refl) (λ done. gives _ (Leaves _)))

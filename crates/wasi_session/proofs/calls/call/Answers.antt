@@ -1,4 +1,6 @@
-use Rattle.wasi_session.proofs.Words.{refl, asks_answered, given_answered, asks_end, asks_exit, reply_of, stream_reply_of, answer_reply, no_values, number_fields, pair_values, triple_values, bytes_fields, truth_fields, family_fields, address_values}
+use Rattle.wasi_session.proofs.Words.{address_values, answer_reply, asks_answered, asks_end, asks_exit, bytes_fields, family_fields, given_answered}
+use Rattle.wasi_session.proofs.Words.{no_values, number_fields, pair_values, refl, reply_of, resumed_reply, stream_reply_of, triple_values}
+use Rattle.wasi_session.proofs.Words.{truth_fields}
 use Rattle.wasi_session.proofs.calls.call.Goals as goal
 
 pub returns-in-Network-clause-asked : goal.returns-in-Network-clause-asked
@@ -75,3 +77,6 @@ returns-in_err-turn-in-Turn-clause-asked g c = rw c.in-Turn.is (asks_exit _ _ c.
 
 pub returns-in_ok-turn-in-Turn-clause-asked : goal.returns-in_ok-turn-in-Turn-clause-asked
 returns-in_ok-turn-in-Turn-clause-asked g c = rw c.in-Turn.is (asks_end _ c.in_ok-turn-in-Turn.ensures.asked.ok (rw c.done.ensures refl))
+
+pub returns-in-Poll-clause-asked : goal.returns-in-Poll-clause-asked
+returns-in-Poll-clause-asked g c = rw c.in-Poll.is (asks_answered (resumed_reply c.in-Poll.call) _ _ c.resume-resumed.ensures.asked c.resumed_reply.ensures)

@@ -1,19 +1,17 @@
-use Rattle.std.proofs.Common.{refl}
-use Rattle.wasi_world.proofs.Walks.{refused_on, asks_end}
-use Rattle.wasi_world.proofs.Polls.{polls_asks}
+use Rattle.wasi_host.proofs.Binds.{bind_polled, bind_makes_none}
+use Rattle.wasi_host.proofs.SideCounts.{none_first}
 use Rattle.wasi_host.proofs.socket.Tcp2Socket.poll_bind.Goals as goal
 
-pub returns-in_err-answer-clause-asked : goal.returns-in_err-answer-clause-asked
-returns-in_err-answer-clause-asked g c =
-    let polled = c.in_err-answer.ensures.polled c.into_inner-bind.ensures.going in
-    rw (← c.into_inner-bind.ensures.bind) (refused_on _ _ c.from_residual.result c.from_residual.ensures.1 (polls_asks polled) (λ code. rw c.poll.ensures.same refl))
+pub returns-in-Binding-clause-asked : goal.returns-in-Binding-clause-asked
+returns-in-Binding-clause-asked g c =
+    rw (c.settle_bind.ensures.told, c.settle_bind.ensures.settled, c.poll-polled.ensures.same)
+    (bind_polled c.args.self.now c.in-Binding.bind c.poll-polled.new.self c.poll-polled.result (rw c.replace.ensures.value at c.in-Binding.is) (rw c.into_inner-bind.ensures.bind at (c.poll-polled.ensures.polled c.into_inner-bind.ensures.going)))
 
-pub returns-in-Pending-clause-asked : goal.returns-in-Pending-clause-asked
-returns-in-Pending-clause-asked g c =
-    let polled = c.in_ok-answer.ensures.polled c.into_inner-bind.ensures.going in
-    rw (← c.into_inner-bind.ensures.bind) (asks_end _ (rw c.in-Pending.is at polled.ended) (rw (c.poll.ensures.same, c.new.ensures, ← polled.who) refl))
+pub returns-in-Binding-clause-none : goal.returns-in-Binding-clause-none
+returns-in-Binding-clause-none g c = bind_makes_none c.into_inner-bind.result c.poll-polled.new.self c.poll-polled.result c.poll-polled.ensures.bind (c.poll-polled.ensures.polled c.into_inner-bind.ensures.going)
 
-pub returns-in-Ready-clause-asked : goal.returns-in-Ready-clause-asked
-returns-in-Ready-clause-asked g c =
-    let polled = c.in_ok-answer.ensures.polled c.into_inner-bind.ensures.going in
-    rw (← c.into_inner-bind.ensures.bind) (asks_end _ (rw c.in-Ready.is at polled.ended) (rw c.poll.ensures.same refl))
+pub returns-in-Nothing-clause-none : goal.returns-in-Nothing-clause-none
+returns-in-Nothing-clause-none g c = none_first _
+
+pub returns-in-Started-clause-none : goal.returns-in-Started-clause-none
+returns-in-Started-clause-none g c = none_first _

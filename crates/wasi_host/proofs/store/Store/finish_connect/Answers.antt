@@ -12,18 +12,18 @@ use Rattle.wasi_host.proofs.store.Store.finish_connect.Goals as goal
 pub returns-in_default-clause-asked : goal.returns-in_default-clause-asked
 returns-in_default-clause-asked g c = rw (← c.self.view_is, none_at c.self.inside.sockets.items c.args.place c.in_default.ensures.item) (asks_given _ _ refl refl)
 
-pub returns-then-not-is_connect-clause-asked : goal.returns-then-not-is_connect-clause-asked
-returns-then-not-is_connect-clause-asked g c =
+pub returns-then-not-is_started-clause-asked : goal.returns-then-not-is_started-clause-asked
+returns-then-not-is_started-clause-asked g c =
     let store : Records = record { sockets = c.self.inside.sockets.items; jobs = c.self.inside.jobs.items; standing = c.self.inside.standing } in
     rw (← c.self.view_is, found_at c.self.inside.sockets.items c.args.place c.in-Some.record c.in-Some.ensures.item)
-    (asks_at (finish_connect_by store c.args.place c.in-Some.record.now) (sym c.is_connect.ensures ∙ c.if-not-is_connect.true)
+    (asks_at (finish_connect_by store c.args.place c.in-Some.record.now) (sym c.is_started.ensures ∙ c.if-not-is_started.true)
     (asks_given (Err (Code NotInProgress)) _ refl (ap (λ (l : List Tcp2Socket). Give (Err (Code NotInProgress), record store { sockets = l })) (sym (set_back c.self.inside.sockets.items c.args.place c.in-Some.record c.in-Some.ensures.item)))))
 
 pub returns-clause-asked : goal.returns-clause-asked
 returns-clause-asked g c =
     let store : Records = record { sockets = c.self.inside.sockets.items; jobs = c.self.inside.jobs.items; standing = c.self.inside.standing } in
     rw (← c.self.view_is, found_at c.self.inside.sockets.items c.args.place c.in-Some.record c.in-Some.ensures.item)
-    (asks_at (finish_connect_by store c.args.place c.in-Some.record.now) (sym c.is_connect.ensures ∙ c.if-not-is_connect.false)
+    (asks_at (finish_connect_by store c.args.place c.in-Some.record.now) (sym c.is_started.ensures ∙ c.if-not-is_started.false)
     (asks_gives (with_record_put store c.args.place) c.poll_connect.ensures.asked))
 
 pub returns-clause-sides : goal.returns-clause-sides

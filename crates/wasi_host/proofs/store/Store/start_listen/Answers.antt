@@ -5,11 +5,12 @@ use Rattle.wasi_world.proofs.Walks.{asks_at, asks_end, asks_given}
 use Rattle.wasi_host.specs.declared.socket.Tcp2Socket.{Tcp2Socket}
 use Rattle.wasi_host.specs.Host.{Code}
 use Rattle.wasi_host.specs.Listening.{start_listen_by}
-use Rattle.wasi_host.specs.Store.{Records, allowed_answer, with_socket}
+use Rattle.wasi_host.specs.Standing.{allowed_answer}
+use Rattle.wasi_host.specs.Store.{Records, with_socket}
 use Rattle.wasi_host.proofs.Hosts.{host_refused}
 use Rattle.wasi_host.proofs.ConnectCounts.{knows_polled}
-use Rattle.wasi_host.proofs.ListenStarts.{knows_stood}
 use Rattle.wasi_host.proofs.Lookups.{found_at, none_at, set_back}
+use Rattle.wasi_host.proofs.SideCounts.{knows_stood}
 use Rattle.wasi_host.proofs.store.Store.start_listen.Goals as goal
 
 pub returns-in_default-clause-asked : goal.returns-in_default-clause-asked
@@ -39,10 +40,10 @@ returns-clause-asked g c =
     let store : Records = record { sockets = c.self.inside.sockets.items; jobs = c.self.inside.jobs.items; standing = c.self.inside.standing } in
     rw (← c.self.view_is, found_at c.self.inside.sockets.items c.args.place c.in-Some.record c.in-Some.ensures.item)
     (asks_at (start_listen_by store c.args.op c.args.place c.in-Some.record.now) (sym c.is_nothing.ensures ∙ c.if-not-is_nothing.false)
-    (asks_end _ c.in_ok-answer.ensures.asked.ok (ap (λ d. Give (allowed_answer d)) (sym c.stand_listening.ensures))))
+    (asks_end _ c.in_ok-answer.ensures.asked.ok (ap (λ d. Give (allowed_answer d)) (sym c.stand.ensures))))
 
 pub returns-clause-sides : goal.returns-clause-sides
 returns-clause-sides g c = λ k.
     let store : Records = record { sockets = c.self.inside.sockets.items; jobs = c.self.inside.jobs.items; standing = c.self.inside.standing } in
-    knows_stood (with_socket store c.args.place c.begin_listen.new.self) _ _ _ _ _ c.stand_listening.ensures
+    knows_stood (with_socket store c.args.place c.begin_listen.new.self) _ _ _ _ _ c.stand.ensures
     (knows_polled store c.args.place c.in-Some.record.now c.begin_listen.new.self (found_at c.self.inside.sockets.items c.args.place c.in-Some.record c.in-Some.ensures.item) c.begin_listen.ensures.sides (rw (← c.self.view_is) at k))

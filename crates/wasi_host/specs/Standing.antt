@@ -1,0 +1,52 @@
+-- The call that stands.
+use Rattle.std.specs.Prelude.{ℕ, ◌==◌, Bool, false, if◌then◌else◌, Option, Some, None, Result, Ok, Err}
+use Rattle.wasi_addr.specs.declared.code.ErrorCode.{ErrorCode}
+use Rattle.wasi_world.specs.declared.outcome.Answer.{Answer}
+use Rattle.wasi_world.specs.declared.outcome.Answer.TheVariants.{Ready, Pending}
+use Rattle.wasi_host.specs.declared.socket.Tcp2Socket.{Tcp2Socket}
+use Rattle.wasi_host.specs.declared.store.Standing.{Standing}
+use Rattle.wasi_host.specs.declared.store.StandingCall.{StandingCall}
+use Rattle.wasi_host.specs.declared.store.StandingCall.TheVariants.{Bind, Listen, DropOutput}
+use Rattle.wasi_host.specs.Host.{Stop, code_stop}
+use Rattle.wasi_host.specs.Store.{Records, with_socket}
+
+-- the number of the call that stands
+abbrev pub exclusive_of : Option Standing → Option ℕ
+exclusive_of None = None
+exclusive_of (Some s) = Some s.line
+
+-- a call of this number stands
+abbrev pub stands_as : Option Standing → ℕ → Bool
+stands_as None line = false
+stands_as (Some s) line = s.line == line
+
+-- the call that stands under this number
+abbrev pub call_of : Option Standing → ℕ → Option StandingCall
+call_of None line = None
+call_of (Some s) line = if s.line == line then Some s.call else None
+
+-- the number of the record that a call is on
+abbrev pub call_place : StandingCall → ℕ
+call_place (Bind place) = place
+call_place (Listen place) = place
+call_place (DropOutput place) = place
+
+-- nothing stands
+abbrev pub unstood : Records → Records
+unstood store = record store { standing = None }
+
+abbrev pub standing_as : ℕ → StandingCall → Standing
+standing_as line call = record { line = line; call = call }
+
+-- a call that is pending stands under its line's number
+abbrev pub stood : Records → ℕ → StandingCall → Answer (Unit {0}) → Answer (Unit {0}) × Records
+stood store line call (Ready done) = (Ready tt, store)
+stood store line call Pending = (Pending, record store { standing = Some (standing_as line call) })
+
+abbrev pub allowed_answer : Answer (Unit {0}) × Records → Result (Answer (Unit {0})) Stop × Records
+allowed_answer done = (Ok done.0, done.1)
+
+-- the answer to the guest, of a call on a record
+abbrev pub call_answered : Records → ℕ → StandingCall → Result (Answer (Unit {0})) ErrorCode × Tcp2Socket → Result (Answer (Unit {0})) Stop × Records
+call_answered store line call (Ok answer, r) = allowed_answer (stood (with_socket store (call_place call) r) line call answer)
+call_answered store line call (Err c, r) = (Err (code_stop c), with_socket store (call_place call) r)

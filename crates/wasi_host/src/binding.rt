@@ -1,0 +1,207 @@
+//! What a socket is in the middle of, and how it is bound.
+
+ghost use Rattle.std.specs.Prelude.{◌≡◌, false, Ok, slice_get, true};
+ghost use Rattle.wasi_world.specs.Asks.{AsksFor, outcome};
+ghost use Rattle.wasi_world.specs.Seen.{Seen};
+ghost use Rattle.wasi_common.specs.Rounds.{is_going, stays_going};
+ghost use Rattle.wasi_tcp.specs.Socket.{side_of};
+ghost use Rattle.wasi_host.specs.InProgress.{is_nothing, is_started};
+ghost use Rattle.wasi_host.specs.Binding.{begin_bind_asks, poll_bind_asks, bind_settled, start_bind_at};
+ghost use Rattle.wasi_host.specs.Store.{finish_at, with_progress};
+ghost use Rattle.wasi_host.specs.Host.{host_outcome};
+ghost use Rattle.wasi_host.specs.Sides.{KnowsSides, MakesNone};
+
+use crate::error::SocketError;
+use crate::socket::Tcp2Socket;
+use crate::store::{StandingCall, Store};
+use std::marker::Model;
+use std::mem;
+use wasi_addr::{ErrorCode, IpSocketAddress, p2};
+use wasi_tcp::BindOp;
+use wasi_world::{Answer, OpId, Refusal, TrapKind, World};
+
+/// An operation that one call starts and another finishes.
+#[derive(Clone, Copy, Debug, PartialEq, Eq)]
+pub enum AsyncOperation {
+    Bind,
+    Connect,
+    Listen,
+}
+
+/// A bind that was begun: it isn't over, so a poll of it asks.
+#[derive(Drop)]
+pub struct PendingBind {
+    bind: BindOp,
+}
+
+impl Model for PendingBind {
+    ghost use Rattle.std.specs.Prelude.{◌≡◌, true};
+    ghost use Rattle.wasi_common.specs.Rounds.{is_going};
+    ghost use Rattle.wasi_world.specs.Operation.{Operation};
+
+    ghost Value = { Operation };
+
+    ghost view = { λ p. p.bind };
+
+    ghost invariant = { λ p. is_going p.bind ≡ true };
+}
+
+impl PendingBind {
+    pub(crate) fn new(bind: BindOp) -> PendingBind
+        requires { is_going bind ≡ true }
+        ensures { result ≡ bind }
+    {
+        PendingBind { bind }
+    }
+
+    pub(crate) fn into_inner(self) -> BindOp
+        ensures bind { result ≡ self }
+        ensures going { is_going result ≡ true }
+    {
+        self.bind
+    }
+}
+
+/// What a socket is in the middle of.
+#[derive(Drop)]
+pub enum InProgress {
+    /// Nothing was started, or it was finished.
+    Nothing,
+    /// A bind was begun, and its start is pending.
+    Binding(PendingBind),
+    /// This was started, and isn't finished.
+    Started(AsyncOperation),
+}
+
+impl InProgress {
+    pub fn is_nothing(&self) -> bool
+        ensures { result ≡ is_nothing self.now }
+    {
+        matches!(self, InProgress::Nothing)
+    }
+
+    /// Whether this operation was started and isn't finished.
+    pub fn is_started(&self, operation: AsyncOperation) -> bool
+        ensures { result ≡ is_started operation self.now }
+    {
+        match self {
+            InProgress::Started(started) => *started == operation,
+            InProgress::Nothing | InProgress::Binding(_) => false,
+        }
+    }
+}
+
+impl Tcp2Socket {
+    /// Begins a bind and polls it.
+    pub(crate) fn begin_bind<W: World>(
+        &mut self,
+        world: &mut W,
+        op: OpId,
+        addr: IpSocketAddress,
+    ) -> Result<Answer<()>, Refusal>
+        requires { (W.seen world.old).ended ≡ false }
+        ensures asked { AsksFor (begin_bind_asks op self.old addr) (W.seen world.old) (W.seen world.new) (λ answer. (answer, self.new)) (outcome result) }
+        ensures none { MakesNone (W.seen world.old) (W.seen world.new) }
+        ensures side { side_of self.new.inner ≡ side_of self.old.inner }
+        ensures listening { self.new.listening ≡ self.old.listening }
+        ensures open { (W.seen world.new).ended ≡ false }
+    {
+        let bind = self.inner.bind(world, op, addr)?;
+        self.in_progress = InProgress::Binding(PendingBind::new(bind));
+        self.poll_bind(world)
+    }
+
+    /// Polls the bind that was begun: done, it was started; pending or out of memory, it is kept; refused, nothing is in progress.
+    /// None was begun: `InvalidState`.
+    pub(crate) fn poll_bind<W: World>(&mut self, world: &mut W) -> Result<Answer<()>, Refusal>
+        requires { (W.seen world.old).ended ≡ false }
+        ensures asked { AsksFor (poll_bind_asks self.old) (W.seen world.old) (W.seen world.new) (λ answer. (answer, self.new)) (outcome result) }
+        ensures none { MakesNone (W.seen world.old) (W.seen world.new) }
+        ensures side { side_of self.new.inner ≡ side_of self.old.inner }
+        ensures listening { self.new.listening ≡ self.old.listening }
+        ensures open { (W.seen world.new).ended ≡ false }
+    {
+        match mem::replace(&mut self.in_progress, InProgress::Nothing) {
+            InProgress::Binding(bind) => {
+                let mut bind = bind.into_inner();
+                let polled = bind.poll(world, &mut self.inner);
+                self.settle_bind(bind, polled)
+            }
+            InProgress::Nothing => Err(Refusal::Code(ErrorCode::InvalidState)),
+            InProgress::Started(operation) => {
+                self.in_progress = InProgress::Started(operation);
+                Err(Refusal::Code(ErrorCode::InvalidState))
+            }
+        }
+    }
+
+    /// What a poll of a bind, which was taken out for it, makes of the record.
+    fn settle_bind(
+        &mut self,
+        bind: BindOp,
+        polled: Result<Answer<()>, Refusal>,
+    ) -> Result<Answer<()>, Refusal>
+        requires nothing { self.old.in_progress ≡ InProgress.Nothing }
+        requires going { is_going bind ≡ stays_going polled }
+        ensures told { result ≡ polled }
+        ensures settled { self.new ≡ bind_settled (with_progress self.old (InProgress.Binding bind)) polled }
+    {
+        match polled {
+            Ok(Answer::Ready(())) => {
+                self.in_progress = InProgress::Started(AsyncOperation::Bind);
+                Ok(Answer::Ready(()))
+            }
+            Ok(Answer::Pending) => {
+                self.in_progress = InProgress::Binding(PendingBind::new(bind));
+                Ok(Answer::Pending)
+            }
+            Err(Refusal::Code(code)) => Err(Refusal::Code(code)),
+            Err(Refusal::Memory(e)) => {
+                self.in_progress = InProgress::Binding(PendingBind::new(bind));
+                Err(Refusal::Memory(e))
+            }
+        }
+    }
+}
+
+impl Store {
+    /// Begins a bind of the socket of this number. An operation in progress: `ConcurrencyConflict`. A bind that is
+    /// pending stands.
+    pub fn start_bind<W: World>(
+        &mut self,
+        world: &mut W,
+        op: OpId,
+        place: usize,
+        addr: IpSocketAddress,
+    ) -> Result<Answer<()>, SocketError>
+        requires { (W.seen world.old).ended ≡ false }
+        ensures asked { AsksFor (start_bind_at self.old op place addr (slice_get self.old.sockets place)) (W.seen world.old) (W.seen world.new) (λ answer. (answer, self.new)) (host_outcome result) }
+        ensures sides { KnowsSides (W.seen world.old) self.old → KnowsSides (W.seen world.new) self.new }
+        ensures open { (W.seen world.new).ended ≡ false }
+    {
+        let Some(record) = self.sockets.get_mut(place) else {
+            return Err(SocketError::Trap(TrapKind::NoSuchHandle));
+        };
+        if !record.in_progress.is_nothing() {
+            return Err(SocketError::Code(p2::ErrorCode::ConcurrencyConflict));
+        }
+        let answer = record.begin_bind(world, op, addr)?;
+        Ok(self.stand(op.step, StandingCall::Bind { socket: place }, answer))
+    }
+
+    /// Finishes an operation that was started. It wasn't: `NotInProgress`.
+    pub fn finish(&mut self, place: usize, operation: AsyncOperation) -> Result<(), SocketError>
+        ensures sides { (s : Seen) → KnowsSides s self.old → KnowsSides s self.new }
+        ensures answer { host_outcome result ≡ Ok (finish_at (is_started operation) self.old place (slice_get self.old.sockets place)).0 }
+        ensures state { self.new ≡ (finish_at (is_started operation) self.old place (slice_get self.old.sockets place)).1 }
+    {
+        let Some(record) = self.sockets.get_mut(place) else {
+            return Err(SocketError::Trap(TrapKind::NoSuchHandle));
+        };
+        if !record.in_progress.is_started(operation) {
+            return Err(SocketError::Code(p2::ErrorCode::NotInProgress));
+        }
+        record.in_progress = InProgress::Nothing;
+        Ok(())
+    }
+}
