@@ -1,5 +1,5 @@
 -- What the calls of locked pipes may answer, whatever other owners do.
-use Rattle.std.specs.Prelude.{◌≡◌, ◌<◌, ◌≤◌, ℕ, Bool, List, length, Option, None, Result, Ok, Err}
+use Rattle.std.specs.Prelude.{◌≡◌, ◌<◌, ◌≤◌, ℕ, Bool, List, length, None, Result, Ok, Err}
 use Rattle.wasi_world.specs.Io.{Reading, Writing}
 use Rattle.wasi_world.specs.declared.outcome.TrapKind.TheVariants as trap
 use Rattle.wasi_streams.specs.declared.error.StreamError.{StreamError}
