@@ -11,8 +11,8 @@ returns-in_err-u32-in_default c =
     rw c.from_residual-in_err-u32-in_default.ensures
     (past_words (rows_of (value_steps c.args.context)) (rows_of (handle_steps c.args.context)) c.args.word.now c.args.fields.now (assumption c)
     ∙ none_reads (rows_of (handle_steps c.args.context)) c.args.word.now c.args.fields.now
-    (rw c.in_err-u32-in_default.ensures (refl and refl and refl and refl and refl and refl and refl and refl and refl and refl and refl and refl and refl and refl and tt)))
+    (rw c.in_err-u32-in_default.ensures.read (refl and refl and refl and refl and refl and refl and refl and refl and refl and refl and refl and refl and refl and refl and tt)))
 
 pub returns-in_ok-u32-in_default : goal.returns-in_ok-u32-in_default
 returns-in_ok-u32-in_default c =
-    rw (past_words (rows_of (value_steps c.args.context)) (rows_of (handle_steps c.args.context)) c.args.word.now c.args.fields.now (assumption c)) (c.handle_step.ensures _ _ c.in_ok-u32-in_default.ensures)
+    rw (past_words (rows_of (value_steps c.args.context)) (rows_of (handle_steps c.args.context)) c.args.word.now c.args.fields.now (assumption c)) (c.handle_step.ensures _ _ c.in_ok-u32-in_default.ensures.read)
