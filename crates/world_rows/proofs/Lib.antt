@@ -1,1 +1,1 @@
-mod Addresses
+mod AddressRows
