@@ -381,14 +381,8 @@ fn tell_generated<K: Sink>(alloc: Global, seed: u64, steps: u32, sink: &mut K) -
     }
 }
 
-/// Does what the program's words say. `run LIMIT` reads the scenario, and then runs the script that the source gives, of at
-/// most LIMIT bytes, over the scenario's world; replies go to the sink. `pump BUDGET` moves all bytes of the source to the
-/// sink, by streams with this budget and a worker each, which `readers` and `writers` start; it may wait for its workers.
-/// `gen SEED STEPS` runs the script that is generated from the seed, of at most 100000 lines, over the empty scenario, and
-/// writes one line to the sink, which tells what it came to; it reads nothing. Other words are status 1.
-///
-/// The words are tested first, then the scenario is read whole (a failed read is status 8), then it is parsed (status 2).
-pub fn run_main<
+/// Does what the words say.
+fn run_command<
     R: Threads + Wait + Copy + Send + 'static,
     C: Source,
     S: Source + Drop + Send + 'static,
@@ -406,7 +400,6 @@ pub fn run_main<
     readers: &mut Q,
 ) -> Done<S, K>
     ensures ran { RanMain (map (λ w. string_bytes w) words.now) (C.reading scenario.old) (C.reading scenario.new) (S.reading source) (S.reading result.source) (K.writing sink) (K.writing result.sink) result.log.items result.status result.line }
-    ensures complete { ProgramCompletes (command_in (map (λ w. string_bytes w) words.now)) (C.reading scenario.old) (C.reading scenario.new) (S.reading source) (S.reading result.source) (K.writing sink) (K.writing result.sink) (Rose (P.refusals writers.old) (P.refusals writers.new) ⊎ Rose (Q.refusals readers.old) (Q.refusals readers.new)) result.status }
     ensures words { (result.status ≡ 1) ↔ (command_in (map (λ w. string_bytes w) words.now) ≡ None) }
     ensures no_worker { IsPump (command_in (map (λ w. string_bytes w) words.now)) → result.status ≡ 10 → Rose (P.refusals writers.old) (P.refusals writers.new) ⊎ Rose (Q.refusals readers.old) (Q.refusals readers.new) }
     ensures started { IsPump (command_in (map (λ w. string_bytes w) words.now)) → result.status ≡ 0 → Rose (P.starts writers.old) (P.starts writers.new) × Rose (Q.starts readers.old) (Q.starts readers.new) }
@@ -428,4 +421,37 @@ pub fn run_main<
             return Ended::without_run(alloc, status, 0).with(source, sink);
         }
     }
+}
+
+/// Does what the program's words say. `run LIMIT` reads the scenario, and then runs the script that the source gives, of at
+/// most LIMIT bytes, over the scenario's world; replies go to the sink. `pump BUDGET` moves all bytes of the source to the
+/// sink, by streams with this budget and a worker each, which `readers` and `writers` start; it may wait for its workers.
+/// `gen SEED STEPS` runs the script that is generated from the seed, of at most 100000 lines, over the empty scenario, and
+/// writes one line to the sink, which tells what it came to; it reads nothing. Other words are status 1.
+///
+/// The words are tested first, then the scenario is read whole (a failed read is status 8), then it is parsed (status 2).
+pub fn run_main<
+    R: Threads + Wait + Copy + Send + 'static,
+    C: Source,
+    S: Source + Drop + Send + 'static,
+    K: Sink + Drop + Send + 'static,
+    P: Spawner,
+    Q: Spawner,
+>(
+    rt: R,
+    alloc: Global,
+    words: &[String],
+    scenario: &mut C,
+    source: S,
+    sink: K,
+    writers: &mut P,
+    readers: &mut Q,
+) -> Done<S, K>
+    ensures ran { RanMain (map (λ w. string_bytes w) words.now) (C.reading scenario.old) (C.reading scenario.new) (S.reading source) (S.reading result.source) (K.writing sink) (K.writing result.sink) result.log.items result.status result.line }
+    ensures complete { ProgramCompletes (command_in (map (λ w. string_bytes w) words.now)) (C.reading scenario.old) (C.reading scenario.new) (S.reading source) (S.reading result.source) (K.writing sink) (K.writing result.sink) (Rose (P.refusals writers.old) (P.refusals writers.new) ⊎ Rose (Q.refusals readers.old) (Q.refusals readers.new)) result.status }
+    ensures words { (result.status ≡ 1) ↔ (command_in (map (λ w. string_bytes w) words.now) ≡ None) }
+    ensures no_worker { IsPump (command_in (map (λ w. string_bytes w) words.now)) → result.status ≡ 10 → Rose (P.refusals writers.old) (P.refusals writers.new) ⊎ Rose (Q.refusals readers.old) (Q.refusals readers.new) }
+    ensures started { IsPump (command_in (map (λ w. string_bytes w) words.now)) → result.status ≡ 0 → Rose (P.starts writers.old) (P.starts writers.new) × Rose (Q.starts readers.old) (Q.starts readers.new) }
+{
+    run_command(rt, alloc, words, scenario, source, sink, writers, readers)
 }
