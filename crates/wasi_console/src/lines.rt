@@ -1,6 +1,6 @@
 //! The lines of an input, so that the one at which a run stopped can be shown.
 
-ghost use Rattle.std.specs.Prelude.{◌≡◌, ◌≤◌};
+ghost use Rattle.std.specs.Prelude.{◌≤◌, length};
 
 use std::fmt::{self, Display, Formatter, Write};
 use wasi_world::{Failed, Source};
@@ -48,68 +48,70 @@ impl Display for Front {
 }
 
 /// The bytes before the first newline.
-fn first_line(bytes: &[u8]) -> &[u8] {
+fn first_line(bytes: &[u8]) -> &[u8]
+    ensures { length result.now ≤ length bytes.now }
+{
     match bytes.iter().position(|b| *b == b'\n') {
         Some(end) => &bytes[..end],
         None => bytes,
     }
 }
 
-/// A source that passes on what another one gives, and remembers the last piece of it. Takes no memory beside its own.
+/// The last piece of an input, and where it began.
 #[derive(Drop)]
-pub struct LineSource<S> {
-    inner: S,
-    /// The line in which the last piece began, counted from 1.
+struct LastPiece {
+    /// The line in which the piece began, counted from 1.
     line: u64,
     /// What earlier pieces gave of that line.
     front: Front,
-    piece: [u8; PIECE_SIZE],
+    bytes: [u8; PIECE_SIZE],
     len: usize,
-    ghost within: { len ≤ 4096 },
 }
 
-impl<S> LineSource<S> {
-    /// Nothing was read yet.
-    pub fn new(inner: S) -> LineSource<S> {
-        LineSource {
-            inner,
+impl LastPiece {
+    fn new() -> LastPiece {
+        LastPiece {
             line: 1,
             front: Front::new(),
-            piece: [0; PIECE_SIZE],
+            bytes: [0; PIECE_SIZE],
             len: 0,
         }
     }
 
-    fn piece(&self) -> &[u8] {
-        &self.piece[..self.len]
+    fn bytes(&self) -> &[u8] {
+        &self.bytes[..self.len.min(PIECE_SIZE)]
     }
 
-    /// Goes on to the line in which the last piece ended.
+    /// Goes on to the line in which the piece ended.
     fn settle(&mut self) {
-        for byte in &self.piece[..self.len] {
+        let mut line = self.line;
+        let mut front = self.front;
+        for byte in self.bytes() {
             if *byte == b'\n' {
-                self.line = self.line.saturating_add(1);
-                self.front = Front::new();
+                line = line.saturating_add(1);
+                front = Front::new();
             } else {
-                self.front.extend(&[*byte]);
+                front.extend(&[*byte]);
             }
         }
+        self.line = line;
+        self.front = front;
         self.len = 0;
     }
 
-    /// Remembers the front of what was read last.
-    fn remember(&mut self, bytes: &[u8]) {
+    /// Keeps the front of the next piece.
+    fn remember(&mut self, piece: &[u8]) {
         self.settle();
-        let len = bytes.len().min(PIECE_SIZE);
-        self.piece[..len].copy_from_slice(&bytes[..len]);
+        let len = piece.len().min(PIECE_SIZE);
+        self.bytes[..len].copy_from_slice(&piece[..len]);
         self.len = len;
     }
 
-    /// The first bytes of this line, counted from 1, if its newline was read last or not yet.
-    pub fn line(&self, number: u64) -> Option<Front> {
+    /// The first bytes of this line, if it lies in the piece or began before it and isn't over.
+    fn line(&self, number: u64) -> Option<Front> {
         let mut front = self.front;
         let mut left = number.checked_sub(self.line)?;
-        let mut rest = self.piece();
+        let mut rest = self.bytes();
         for _ in 0..PIECE_SIZE {
             let line = first_line(rest);
             if left == 0 {
@@ -127,13 +129,35 @@ impl<S> LineSource<S> {
     }
 }
 
+/// A source that passes on what another one gives, and remembers the last piece of it. Takes no memory beside its own.
+#[derive(Drop)]
+pub struct LineSource<S> {
+    inner: S,
+    last: LastPiece,
+}
+
+impl<S> LineSource<S> {
+    /// Nothing was read yet.
+    pub fn new(inner: S) -> LineSource<S> {
+        LineSource {
+            inner,
+            last: LastPiece::new(),
+        }
+    }
+
+    /// The first bytes of this line, counted from 1, if its newline was read last or not yet.
+    pub fn line(&self, number: u64) -> Option<Front> {
+        self.last.line(number)
+    }
+}
+
 impl<S: Source> Source for LineSource<S> {
     ghost reading = { λ s. S.reading s.inner };
 
     /// What the source gives that it is made of.
     fn read(&mut self, buf: &mut [u8]) -> Result<usize, Failed> {
         let count = self.inner.read(buf)?;
-        self.remember(&buf[..count]);
+        self.last.remember(&buf[..count]);
         Ok(count)
     }
 }
@@ -144,11 +168,11 @@ pub fn line_of<S: Source + Drop>(source: S, number: u64) -> Option<Front> {
     let mut lines = LineSource::new(source);
     let mut piece = [0; PIECE_SIZE];
     let mut found = None;
-    'reading: while lines.line <= number {
+    for _ in 0..u64::MAX {
         let Ok(count) = lines.read(&mut piece) else {
             return found;
         };
-        if lines.line > number {
+        if lines.last.line > number {
             return found;
         }
         found = lines.line(number);
