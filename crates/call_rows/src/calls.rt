@@ -96,7 +96,7 @@ fn resume_bind(
     Ok(resumed)
 }
 
-/// Whether a call stands, and whether it does under 3 and under 4.
+/// Whether a call is pending, and whether it is under 3 and under 4.
 fn standing(view: &WasiSocketsCtxView<'_>) -> (Option<u32>, bool, bool) {
     (
         view.store.exclusive(),

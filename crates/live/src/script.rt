@@ -27,7 +27,7 @@ fn contexts(alloc: Global) -> Result<Vec<WasiSocketsCtx>, AllocError>
     Ok(vec![in alloc; FREE]?)
 }
 
-/// How the program tells the end of a run.
+/// How the program reports the end of a run.
 pub fn status_of(outcome: Result<RunEnd, RunError>) -> Status
     ensures { result ≡ status_of outcome }
 {

@@ -15,7 +15,7 @@ const CARRIES: (&[u8], &[u8]) = (
     b"ok 1\nok 2\nok 3\nok\nok\nok\nok\nok\nok 4 5\nok 6 7 8\nok 65536\nok\nok 9\nok true\nok 0a\n",
 );
 
-/// The listener goes before it accepted the connection, which resets it. The look meets that, and the read tells it.
+/// The listener goes before it accepted the connection, which resets it. The look meets that, and the read reports it.
 const RESETS: (&[u8], &[u8]) = (
     b"0 network\n0 tcp-create 4\n0 tcp-create 4\n0 tcp-start-bind 2 1 4 127 0 0 1 40124\n0 tcp-finish-bind 2\n0 tcp-start-listen 2\n0 tcp-finish-listen 2\n0 tcp-start-connect 3 1 4 127 0 0 1 40124\n0 tcp-finish-connect 3\n0 drop 2\n0 subscribe 4\n0 ready 6\n0 read 4 9\n0 read 4 9\n",
     b"ok 1\nok 2\nok 3\nok\nok\nok\nok\nok\nok 4 5\nok\nok 6\nok true\nfailed connection-reset 7\nclosed\n",

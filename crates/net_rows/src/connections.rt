@@ -48,14 +48,15 @@ fn resets(guest: &mut Guest<HostRuntime>, from: Sock, to: Sock) -> Result<(), Fa
     )
 }
 
-/// Closing an end with bytes that it didn't read resets the connection. A look meets that, and the next read tells it.
+/// Closing an end with bytes that it didn't read resets the connection. A look meets that, and the next read reports
+/// it.
 #[test]
 fn a_reset_that_a_look_met_is_told_once(rt: HostRuntime) -> Result<(), Fail> {
     let mut guest = Guest::new(rt, rt.alloc(), Vec::new(rt.alloc()));
     resets(&mut guest, line(2), line(3))
 }
 
-/// Writes until the system has no more room, and tells how many bytes were taken.
+/// Writes until the system has no more room, and returns how many bytes were taken.
 fn fill(guest: &mut Guest<HostRuntime>, sock: Sock) -> Result<u64, Fail> {
     let mut taken: u64 = 0;
     for _ in 0..1000 {
@@ -90,7 +91,7 @@ fn waits(guest: &mut Guest<HostRuntime>, from: Sock, to: Sock) -> Result<(), Fai
     guest.expects(to, Call::Read { sock: to, size: 9 }, "bytes 6d6f7265")
 }
 
-/// A write to an end that doesn't read waits once the system's room is full, and goes on once the end has read.
+/// A write to an end that doesn't read waits once the system's room is full, and continues once the end has read.
 #[test]
 fn a_write_that_waits_loses_nothing(rt: HostRuntime) -> Result<(), Fail> {
     let mut guest = Guest::new(rt, rt.alloc(), Vec::new(rt.alloc()));

@@ -21,7 +21,7 @@ pub struct Guest<R> {
     ghost open: { (seen_by world).ended ≡ false },
 }
 
-/// The name of a line's own operation, and of the side that it makes.
+/// The name of a line's own operation, and of the network socket that it makes.
 pub fn line(step: u32) -> OpId {
     OpId { step, part: 0 }
 }
@@ -33,7 +33,7 @@ pub fn loopback(port: u16) -> IpSocketAddress {
     })
 }
 
-/// The text of an answer. An address is told by its port.
+/// The text of an answer. An address is reported by its port.
 fn told_text(alloc: Global, told: &Told) -> Result<String, AllocError> {
     match told {
         Told::Pending => "pending".to_string(alloc),
@@ -79,7 +79,7 @@ impl<R: Net<Listener = TcpListener, Stream = TcpStream> + Clock> Guest<R> {
         Err(Fail::new(format_args!("{told} in place of {text}")))
     }
 
-    /// Makes a call of this operation, and fails where another answer than this is told.
+    /// Makes a call of this operation, and fails where another answer than this is given.
     pub fn expects(&mut self, op: OpId, call: Call, text: &str) -> Result<(), Fail>
         requires { IsPlain call }
     {
@@ -87,7 +87,7 @@ impl<R: Net<Listener = TcpListener, Stream = TcpStream> + Clock> Guest<R> {
         self.compare(told, text)
     }
 
-    /// Writes, and fails where another answer than this is told.
+    /// Writes, and fails where another answer than this is given.
     pub fn writes(&mut self, sock: Sock, bytes: &[u8], text: &str) -> Result<(), Fail>
         requires some { 1 ≤ length bytes.now }
         requires short { length bytes.now < 2 ^ 32 }
@@ -106,13 +106,13 @@ impl<R: Net<Listener = TcpListener, Stream = TcpStream> + Clock> Guest<R> {
         self.expects(line(1), Call::Check { ctx, addr, usage }, text)
     }
 
-    /// Makes a side.
+    /// Makes a network socket.
     pub fn create(&mut self, sock: Sock) -> Result<(), Fail> {
         let family = SocketAddressFamily::Ipv4;
         self.expects(sock, Call::TcpCreate { ctx: 0, family }, "done")
     }
 
-    /// Makes a listener, and tells its port.
+    /// Makes a listener, and returns its port.
     pub fn listen(&mut self, sock: Sock, port: u16) -> Result<u16, Fail> {
         self.create(sock)?;
         let addr = loopback(port);
@@ -124,7 +124,7 @@ impl<R: Net<Listener = TcpListener, Stream = TcpStream> + Clock> Guest<R> {
         }
     }
 
-    /// Makes a side and connects it to the port; fails where another answer than this is told.
+    /// Makes a network socket and connects it to the port; fails where another answer than this is given.
     pub fn connect(&mut self, sock: Sock, port: u16, text: &str) -> Result<(), Fail> {
         self.create(sock)?;
         let addr = loopback(port);
@@ -152,7 +152,7 @@ impl<R: Net<Listener = TcpListener, Stream = TcpStream> + Clock> Guest<R> {
         }
     }
 
-    /// How many bytes a read gave, once the side was looked at.
+    /// How many bytes a read gave, once the network socket was looked at.
     pub fn read(&mut self, sock: Sock) -> Result<u64, Fail> {
         let _ = self.tell(sock, Call::ReadReady { sock })?;
         match self.tell(sock, Call::Read { sock, size: 65_536 })? {
@@ -161,14 +161,14 @@ impl<R: Net<Listener = TcpListener, Stream = TcpStream> + Clock> Guest<R> {
         }
     }
 
-    /// How many codes were told.
+    /// How many codes were reported.
     pub fn faults(&self) -> u64 {
         self.world.faults()
     }
 }
 
 impl<R: Net<Listener = TcpListener, Stream = TcpStream> + Clock + Drop> Guest<R> {
-    /// Ends the run with this side open, and tells how many were closed.
+    /// Ends the run with this network socket open, and returns how many were closed.
     pub fn end(self, sock: Sock) -> u64 {
         let Guest {
             alloc: _,

@@ -1,4 +1,4 @@
-//! What is told where a call can't be made.
+//! What is answered where a call can't be made.
 
 use crate::guest::{Guest, line, loopback};
 use std::test::Fail;

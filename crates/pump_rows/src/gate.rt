@@ -22,7 +22,7 @@ struct Gate {
 }
 
 impl Gate {
-    /// Tells whether the other came.
+    /// Returns whether the other came.
     fn meets(&self) -> bool {
         self.mine.store(true, Ordering::SeqCst);
         for _turn in 0..TURNS {

@@ -41,7 +41,7 @@ pub fn gated(alloc: Global, source: MemorySource) -> Result<(Gate, GatedSource),
     Ok((Gate { began, open }, source))
 }
 
-/// Looks until the flag is set. Tells whether it was.
+/// Looks until the flag is set. Returns whether it was.
 fn look(flag: &Arc<AtomicBool, Global>) -> bool {
     for _turn in 0..TURNS {
         if flag.load(Ordering::SeqCst) {
@@ -53,12 +53,12 @@ fn look(flag: &Arc<AtomicBool, Global>) -> bool {
 }
 
 impl Gate {
-    /// Looks until the first read began. Tells whether it did.
+    /// Looks until the first read began. Returns whether it did.
     pub fn sees_first_read(&self) -> bool {
         look(&self.began)
     }
 
-    /// Lets the first read go on.
+    /// Lets the first read continue.
     pub fn open(&self) {
         self.open.store(true, Ordering::SeqCst);
     }

@@ -74,7 +74,7 @@ fn poll_read_ready(rt: HostRuntime) -> Result<(), Fail> {
     plays(&rt, rt.alloc(), 123, Vec::new(rt.alloc()), &steps, Ok(()))
 }
 
-/// The worker's fault is told once, also after a cancel, and then the stream is closed.
+/// The worker's fault is reported once, also after a cancel, and then the stream is closed.
 #[test]
 fn a_fault_is_told_once(rt: HostRuntime) -> Result<(), Fail> {
     let steps = [

@@ -1,4 +1,4 @@
-//! The read stream with its worker in a real thread. These tests stand in a crate of their own, since a crate with tests
+//! The read stream with its worker in a real thread. These tests are in a crate of their own, since a crate with tests
 //! is proved twice.
 #![tactic(auto)]
 

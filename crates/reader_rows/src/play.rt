@@ -28,7 +28,7 @@ pub enum Step {
     Cancel,
     /// Look until the source's first read began.
     See,
-    /// Let the source's first read go on.
+    /// Let the source's first read continue.
     Open,
 }
 
@@ -49,7 +49,7 @@ fn answer_of(read: Result<Bytes, StreamError>) -> Answer {
     }
 }
 
-/// Polls until the stream is ready. Tells whether it was.
+/// Polls until the stream is ready. Returns whether it was.
 fn poll_on<N: Names + Send + Sync + 'static, R: Wait>(
     rt: &R,
     stream: &mut AsyncReadStream<GatedSource, N>,

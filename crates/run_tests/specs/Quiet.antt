@@ -1,4 +1,4 @@
--- What is known of a world that tells no log.
+-- What is known of a world that reports no log.
 use Rattle.std.specs.Prelude.{None}
 use Rattle.wasi_world.specs.Seen.{Seen}
 use Rattle.run_tests.specs.declared.quiet.QuietWorld.{QuietWorld}

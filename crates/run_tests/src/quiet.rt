@@ -1,4 +1,4 @@
-//! A world that tells no log. It shows that the trait is met without one, and that a script runs over it.
+//! A world that reports no log. It shows that the trait is met without one, and that a script runs over it.
 
 #[cfg(test)]
 mod tests;
@@ -63,7 +63,7 @@ impl QuietWorld {
         }
     }
 
-    /// How many sides were closed after the end mark.
+    /// How many network sockets were closed after the end mark.
     pub fn closed_after_end(&self) -> u64
         ensures { result ≡ (quiet self.now).closings }
     {

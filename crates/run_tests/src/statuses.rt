@@ -60,8 +60,8 @@ fn nothing_is_asked_after_a_trap(rt: HostRuntime) -> Result<(), Fail> {
     Ok(())
 }
 
-/// How many entries the log of a run has that read all of a script, whether the end mark is set, and how many sides were
-/// closed after it.
+/// How many entries the log of a run has that read all of a script, whether the end mark is set, and how many network sockets
+/// were closed after it.
 fn left(alloc: Global, script: &[u8]) -> Result<Option<(usize, bool, u64)>, Fail> {
     let (mut world, mut contexts) = ScriptedWorld::parse(alloc, b"")?;
     let mut source = MemorySource::new(script.to_vec(alloc)?, 9, Vec::new(alloc));

@@ -36,7 +36,8 @@ pub fn normalize_set_buffer_size(value: u64) -> u64
     value.clamp(1, LARGEST_INT)
 }
 
-/// The buffer size that is told for one that the system told, in bytes: Linux doubles what is set, so it is halved.
+/// The buffer size that is reported for one that the system reported, in bytes: Linux doubles what is set, so it is
+/// halved.
 pub fn normalize_get_buffer_size(value: u64) -> u64
     ensures { result ≡ halved_buffer_size value }
 {

@@ -1,4 +1,4 @@
--- What is given up: by a shutdown, by a drop of a handle, and what a drop leaves.
+-- What is released: by a shutdown, by a drop of a handle, and what a drop leaves.
 use Rattle.wasi_causes.proofs.Words.{◌≡◌, Bool, true, false, if◌then◌else◌, List, [], ◌∷◌, ◌++◌, Option, Some, None, refl, sym, ap, ◌∙◌, append-nil, append_assoc, ℕ, Result, ◌==◌, inl, inr, Ok, Err, slice_get, subst, ◌≢◌, eq-eqb, IsSome, IpSocketAddress, ShutdownType, Receive, Send, Both, give_streams_up, gone, release_asks, released, release_at, Stop, Trap, other_jobs, kind_at, output_of, has_no_child, without_handle, taken_out, place_of, give_up_asks, socket_at, own_of, with_store, answered, at_once, drop_kind, drop_taken, drop_asks, shut_streams, shut_record, shutdown_at, Records, Kind, Tcp2, Output, Listening, Machine, Streams, Tcp2Socket, shutdown_on, set_there, record_at, putting, record_in, OfRecord, entry, Has, done_reply, answer_reply, Each, no_fields, OutputWaits, WritesOn, ToldToWait, WriterWaits, Field, Reply, in_hand, refuse_in, Job, is_over, held_side, give_up_in, reader_shutdown_asks, Socket, side_of, writer_side, writer_shutdown_asks, side_up_asks, Accepting, ReadState, WriteState, Give, bind, IsDone, End, Done, Who, Operation, ask_close, Call, Entry, Told, OpId, Answer, Ready, Pending, HasChildren, NoSuchHandle, Full, NotPermitted, WasiSocketsCtx}
 use Rattle.wasi_causes.proofs.streams.Halves.{OutputRow, outputs}
 use Rattle.wasi_causes.proofs.tables.Meets.{Rows, Meets, ends, asks, chain, onto, widen}
@@ -23,7 +23,7 @@ use Rattle.wasi_world.specs.declared.call.Told.TheVariants as told
 abbrev Adds : {A : Type 0} → List Entry → List Entry → Rows A
 Adds es more fs done = fs ≡ es ++ more
 
--- a call that is only done is told so
+-- a call that is only done is answered so
 told_so : (op : OpId) (es : List Entry) (c : Call) (t : Told) → IsDone t → es ++ entry op c t ∷ [] ≡ es ++ entry op c told.Done ∷ []
 told_so op es c told.Done fits = refl
 told_so op es c _ fits = absurd fits
@@ -76,7 +76,7 @@ module _ (own : OpId) where
   closes es socket None e = ends (sym (append-nil es), e)
   closes es socket (Some side) e = asks (λ t fits. ends (told_so own es (call.Close side) t fits, refl))
 
-  -- of the record only its place is left, with a socket that has no side
+  -- of the record only its place is left, with a socket that has no network socket
   pub record Released (r : Tcp2Socket) (es : List Entry) (now : Tcp2Socket) : Type 0 where
     pub socket : Socket
     pub asked : es ≡ socket_given_up own r

@@ -1,4 +1,4 @@
--- A subscription and a look at a pollable, and a poll of the call that stands.
+-- A subscription and a look at a pollable, and a poll of the pending call.
 use Rattle.wasi_host.specs.declared.binding.InProgress.TheVariants.{Binding}
 use Rattle.wasi_walks.proofs.walks.States.{stands_so as stands_under}
 use Rattle.wasi_causes.proofs.Words.{AcceptWaits, AcceptWaitsOn, Accepting, AcceptsIn, Answer, BindFailed, BindFails, BindWaits, Bool, CallFails}
@@ -7,7 +7,7 @@ use Rattle.wasi_causes.proofs.Words.{HasNoListener, HoldsAccept, HoldsConnect, I
 use Rattle.wasi_causes.proofs.Words.{IsListen, IsListening, IsOnNothing, IsReady, IsRestOfBind, IsSomeAnd, IsUnready, Item, List, ListenEnds}
 use Rattle.wasi_causes.proofs.Words.{ListenFailed, ListenWaits, Listener, Listening, Machine, MissesRecord, NoListen, NoSuchHandle, None, OfWatched}
 use Rattle.wasi_causes.proofs.Words.{Ok, OpId, Operation, Option, Pending, Pollable, ReadState, Ready, Records, Refused, Reply, Result, Some}
-use Rattle.wasi_causes.proofs.Words.{Standing, StandingCall, StandsByBind, StandsOnNothing, Stop, StreamStop, Streams, Tcp2Socket, TcpReceiveStream}
+use Rattle.wasi_causes.proofs.Words.{Standing, StandingCall, PendingCallsFit, StandsOnNothing, Stop, StreamStop, Streams, Tcp2Socket, TcpReceiveStream}
 use Rattle.wasi_causes.proofs.Words.{TcpState, Told, Trap, Waits, WasiSocketsCtx, Watched, WatchesAccept, WatchesConnect, WatchesIdle, WriteState}
 use Rattle.wasi_causes.proofs.Words.{WriteWaits, [], accept_name, allowed_answer, ap, bind, bind_ended, call_answered, call_of, call_place}
 use Rattle.wasi_causes.proofs.Words.{closed_listening, connect_ended, entry, eq-eqb, eqb-true, false, finish_in, first_ids, go_on, handle_reply}
@@ -210,7 +210,7 @@ module _ (contexts : List WasiSocketsCtx) (m : Machine) (line c pollable : ℕ) 
   pub ready : Meets (Says contexts m line (step.Ready c pollable)) [] (bind (ready_asks m (first_ids line) pollable) (λ done. Give (truth_reply done.0, done.1)))
   ready = onto _ (by_watch (watch_of (kind_at m.table pollable)) refl)
 
--- == a poll of the call that stands
+-- == a poll of the pending call
 module _ (contexts : List WasiSocketsCtx) (m : Machine) (line n : ℕ) where
   abbrev Row : Rows (Reply × Machine)
   Row es done = Outcome contexts m line (step.Poll n) es done.0 done.1
@@ -224,11 +224,11 @@ module _ (contexts : List WasiSocketsCtx) (m : Machine) (line n : ℕ) where
   abbrev Under : StandingCall → Type 0
   Under call = m.store.standing ≡ Some (standing_as n call)
 
-  -- nothing stands any more
+  -- nothing is pending any more
   abbrev free : Records
   free = unstood m.store
 
-  -- == a call stands
+  -- == a call is pending
   module _ (call : StandingCall) (stands : Under call) where
     stands_so : stands_as m.store.standing n ≡ false → ⊥
     stands_so none = let same : stands_as m.store.standing n ≡ true = ap (λ (o : Option Standing). stands_as o n) stands ∙ eq-eqb n n refl in cc
@@ -239,17 +239,17 @@ module _ (contexts : List WasiSocketsCtx) (m : Machine) (line n : ℕ) where
     done : (es : List Entry) (after : Machine) → after.store.standing ≡ None → Row es (reply.Ok no_fields, after)
     done es after none = (it_ends es (reply.Ok no_fields) after (λ e. cc) none, (tt, tt))
 
-    fails : (es : List Entry) (after : Machine) (code : ErrorCode) → after.store.standing ≡ None → (StandsByBind m → CallFails m es call code) → Row es (reply.Err (word_of_code code), after)
+    fails : (es : List Entry) (after : Machine) (code : ErrorCode) → after.store.standing ≡ None → (PendingCallsFit m → CallFails m es call code) → Row es (reply.Err (word_of_code code), after)
     fails es after code none cause = (it_ends es (reply.Err (word_of_code code)) after (λ e. cc) none, (code_word code, λ binds. record { call = call; code = code; stands = stands; cause = cause binds; word_is = refl }))
 
-    waits : (es : List Entry) (after : Machine) → after.store.standing ≡ Some (standing_as n call) → (StandsByBind m → CallWaits m (own_of n) es call) → Row es (reply.Pending n, after)
+    waits : (es : List Entry) (after : Machine) → after.store.standing ≡ Some (standing_as n call) → (PendingCallsFit m → CallWaits m (own_of n) es call) → Row es (reply.Pending n, after)
     waits es after on cause = ((apart (λ e. cc) stands_so, λ same. inl refl), ((refl, rw on refl), λ binds. subst (λ (o : Option Standing). IsSomeAnd o (λ s. CallWaits m (own_of n) es s.call)) (sym stands) (cause binds)))
 
     -- what is due for an answer
     abbrev Due : List Entry → Result (Answer (Unit {0})) ErrorCode → Type 0
-    Due es (Ok Pending) = StandsByBind m → CallWaits m (own_of n) es call
+    Due es (Ok Pending) = PendingCallsFit m → CallWaits m (own_of n) es call
     Due es (Ok (Ready given)) = Unit {0}
-    Due es (Err code) = StandsByBind m → CallFails m es call code
+    Due es (Err code) = PendingCallsFit m → CallFails m es call code
 
     answered_so : (es : List Entry) (begun : Result (Answer (Unit {0})) ErrorCode × Tcp2Socket) → Due es begun.0 → CallRow es (call_answered free n call begun)
     answered_so es (Ok Pending, r) h = waits es (record m { store = record (with_socket free (call_place call) r) { standing = Some (standing_as n call) } }) refl h
@@ -274,7 +274,7 @@ module _ (contexts : List WasiSocketsCtx) (m : Machine) (line n : ℕ) where
       gives_up none = answered_so (Listen place) stands [] (Err InvalidState, r) (λ binds. NoListen place (rw at none) refl)
 
       module _ (op : Operation) (is : r.listening ≡ listening.Begins op) where
-        is_listen : StandsByBind m → IsListen op
+        is_listen : PendingCallsFit m → IsListen op
         is_listen binds =
             let k : IfSome (slice_get m.store.sockets place) (λ q. IsListening q.listening) = rw stands at binds in
             let held : IsListening r.listening = rw at at k in
@@ -311,11 +311,11 @@ module _ (contexts : List WasiSocketsCtx) (m : Machine) (line n : ℕ) where
       abbrev BindRow : Rows (Result (Answer (Unit {0})) ErrorCode × Tcp2Socket)
       BindRow es begun = CallRow es (call_answered free n (Bind place) begun)
 
-      goes_on : StandsByBind m → IsBinding r.in_progress
+      goes_on : PendingCallsFit m → IsBinding r.in_progress
       goes_on binds = let k : IfSome (slice_get m.store.sockets place) (λ q. IsBinding q.in_progress) = rw stands at binds in rw at at k
 
       module _ (op : Operation) (is : r.in_progress ≡ Binding op) where
-        is_bind : StandsByBind m → IsRestOfBind op
+        is_bind : PendingCallsFit m → IsRestOfBind op
         is_bind binds = let k = goes_on binds in rw is at k
 
         bind_waits : (es : List Entry) → EndsPending op.who.id es → CallWaits m (own_of n) es (Bind place)
@@ -334,7 +334,7 @@ module _ (contexts : List WasiSocketsCtx) (m : Machine) (line n : ℕ) where
     rebinds None at = ends (missing (Bind place) stands at)
     rebinds (Some r) at = onto _ (rebinds_by r at r.in_progress refl)
 
-  -- == by what stands
+  -- == by what is pending
   goes_on_as : (call : StandingCall) → Under call → Meets CallRow [] (go_on free n call)
   goes_on_as (Bind place) stands = rebinds place stands (slice_get m.store.sockets place) refl
   goes_on_as (Listen place) stands = relists place stands (slice_get m.store.sockets place) refl

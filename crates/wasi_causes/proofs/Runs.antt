@@ -1,13 +1,13 @@
--- Of the machines that runs lead to: what a socket connects by is a connect, what a listener accepts by an accept, what stands
--- by a bind is a bind, and by a listen a listen; each live handle and what stands are of a record that is there, a connect in
--- progress may be finished, and a socket that does nothing yet doesn't listen.
+-- Of the machines that runs lead to: what a socket connects by is a connect, what a listener accepts by an accept, what is
+-- pending as a bind is a bind, and as a listen a listen; each live handle and what is pending are of a record that is there, a
+-- connect in progress may be finished, and a socket that does nothing yet doesn't listen.
 use Rattle.wasi_host.specs.declared.binding.InProgress.TheVariants.{Nothing, Binding, Started}
 use Rattle.wasi_causes.proofs.Words.{Accepting, AcceptsAt, AcceptsIn, Allows, Answered, Bool, Closes, CodeWord, ConnectsAt, Done, End, Entry, Err}
 use Rattle.wasi_causes.proofs.Words.{ErrorCode, FinishRefusal, Full, Give, HasChildren, HoldsCall, IfSome, InProgress, Input, IsBinding, IsListening}
 use Rattle.wasi_causes.proofs.Words.{IsOnNothing, IsPastNot, IsSome, IsSomeAnd, Item, Kind, Left, List, Listener, Listening, ListensAlready, Machine}
 use Rattle.wasi_causes.proofs.Words.{NoConnect, NoSuchHandle, None, NotConnecting, NotPermitted, Nothing, Ok, OpId, Operation, Option, Output}
 use Rattle.wasi_causes.proofs.Words.{Pollable, ReceivesAlready, Refused, RefusedOf, Reply, Result, SendsAlready, Socket, Some, Standing, StandingCall}
-use Rattle.wasi_causes.proofs.Words.{StandsByBind, StandsOnNothing, Step, Tcp2, Tcp2Socket, TcpState, TrapKind, Waits, WasiSocketsCtx, Watched}
+use Rattle.wasi_causes.proofs.Words.{PendingCallsFit, StandsOnNothing, Step, Tcp2, Tcp2Socket, TcpState, TrapKind, Waits, WasiSocketsCtx, Watched}
 use Rattle.wasi_causes.proofs.Words.{WatchesAccept, WatchesConnect, Who, [], accept_ended, allows_if, allows_then, ap, bind, bind_progress, call_of}
 use Rattle.wasi_causes.proofs.Words.{call_place, connect_ended, created_asks, false, first_state, get_front, get_seam, get_set, get_split}
 use Rattle.wasi_causes.proofs.Words.{give_up_asks, if◌then◌else◌, inl, inr, is_connect, is_full, kind_at, length, machine_asks, make_asks, new_asks}
@@ -102,7 +102,7 @@ module _ (contexts : List WasiSocketsCtx) (steps : List Step) (es : List Entry) 
   pub runs_watch_accept : (pollable : ℕ) → WatchesAccept m pollable
   runs_watch_accept pollable = of_watched m fits _ (λ r k. accepts_so r.listening k.1) (watch_of (kind_at m.table pollable))
 
-  pub runs_bind : StandsByBind m
+  pub runs_bind : PendingCallsFit m
   runs_bind = stands_by m fits m.store.standing fits.stands
 
 -- == what holds of a machine
@@ -120,7 +120,7 @@ pub record Steady (m : Machine) : Type 0 where
   pub handles : (handle place : ℕ) → record_of (kind_at m.table handle) ≡ Some place → IsThere m.store.sockets place
   pub stands : (c : Standing) → m.store.standing ≡ Some c → IsThere m.store.sockets (call_place c.call)
 
--- == one record changes, one joins, a handle is made, a call stands
+-- == one record changes, one joins, a handle is made, a call is pending
 there_put : (sockets : List Tcp2Socket) (i : ℕ) (now : Tcp2Socket) (k : ℕ) → IsThere sockets k → IsThere (slice_set sockets i now) k
 there_put sockets i now k (r, g) = elim (set_get sockets i now k r g) [ inl e ↦ (r, e) | inr e ↦ (now, e.1) ]
 

@@ -37,7 +37,7 @@ pub use Rattle.wasi_walks.proofs.Words.{start_listen_by, step_asks, stream_at, s
 pub use Rattle.wasi_walks.proofs.Words.{taken_out, taken_receive, taken_send, told_addr, told_arrival, told_done, told_polled, told_verdict}
 pub use Rattle.wasi_walks.proofs.Words.{triple_fields, true, turn_asks, turn_machine_asks, unstood, value_set, verdict_front, wait_put, wait_writer}
 pub use Rattle.wasi_walks.proofs.Words.{watch_of, watched_by, wildcard, with_backlog, with_handle, with_inner, with_listening, with_progress}
-pub use Rattle.wasi_walks.proofs.Words.{with_reader, with_record, with_socket, with_state, with_store, with_streams, with_writer, without_handle}
+pub use Rattle.wasi_walks.proofs.Words.{with_reader, with_record, with_socket, with_state, with_store, socket_with_streams, with_writer, without_handle}
 pub use Rattle.wasi_walks.proofs.Words.{write_front, write_on_asks, write_state_asks, writer_of, writer_shutdown_asks, writer_side, zero, zero_test}
 pub use Rattle.wasi_walks.proofs.Words.{ℕ, ⊤, ◌&&◌, ◌++◌, ◌+◌, ◌<◌, ◌==◌, ◌∙◌, ◌∷◌, ◌≡◌, ◌⊎◌}
 unfoldable pub use Rattle.wasi_walks.proofs.Words.{bind, polls}
@@ -75,7 +75,7 @@ pub use Rattle.wasi_walks.proofs.Gives.{Gives, allows_ask, given, gives_any, giv
 pub use Rattle.wasi_walks.proofs.Lists.{get_front, get_seam, get_set, get_split, has_split, marks_in-push, set_get, set_there, value_split}
 pub use Rattle.wasi_walks.specs.Answered.{AlreadyBound, AlreadyClosed, Answered, Begins, BindRefusal, BoundElsewhere, CheckFails, ClosedBy, Closes}
 pub use Rattle.wasi_walks.specs.Answered.{CodeTold, ConnectRefusal, Connects, ConnectsAt, CreateRefusal, Denied, Elsewhere, EndsClosing, EndsPending}
-pub use Rattle.wasi_walks.specs.Answered.{ErrorKept, Failed, FailsWith, FinishRefusal, HasNoConnectInProgress, IsBound, IsFree}
+pub use Rattle.wasi_walks.specs.Answered.{ErrorKept, Failed, FailsWith, FinishRefusal, HasNoConnectInProgress, IsBound, IsFoundUnbound}
 pub use Rattle.wasi_walks.specs.Answered.{IsOnNothing, IsPastDefault, IsQuiet, IsUnpermitted, Known, KnowsBound, LengthZero, ListensAlready}
 pub use Rattle.wasi_walks.specs.Answered.{LocalClosed, LocalRefusal, MissesHandle, MissesRecord, NoConnect, NotAllowed, NotConnecting, NotDefault}
 pub use Rattle.wasi_walks.specs.Answered.{NotReady, OfRecord, OfStreams, PastDefault, Permits, ReadFails, ReadsEnd, ReadsNone, ReadsTold}
@@ -89,6 +89,6 @@ pub use Rattle.wasi_walks.specs.Listens.{NoListener, NotBound, RefusedMost, Stil
 pub use Rattle.wasi_walks.specs.Listens.{accepting_now, closed_by_listen, refused_by, refused_in}
 pub use Rattle.wasi_walks.specs.Waiting.{AcceptWaitsOn, BindFailed, BindFails, BindWaits, CallFails, CallWaits, Checked, ConnectWaits, Ended}
 pub use Rattle.wasi_walks.specs.Waiting.{EndsWith, HasNoListen, HoldsCall, InputWaits, IsBinding, IsFailure, IsIdleSocket, IsListening, IsUnready}
-pub use Rattle.wasi_walks.specs.Waiting.{ListenEnds, ListenFailed, ListenWaits, MayStand, NoListen, OfWatched, OutputWaits, StandsByBind, ToldToWait}
+pub use Rattle.wasi_walks.specs.Waiting.{ListenEnds, ListenFailed, ListenWaits, MayStand, NoListen, OfWatched, OutputWaits, PendingCallsFit, ToldToWait}
 pub use Rattle.wasi_walks.specs.Waiting.{Unchecked, WatchesAccept, WatchesConnect, WatchesIdle, WriteWaits, WriterWaits, WritesOn, nothing_stands}
 pub use Rattle.wasi_walks.specs.Waiting.{watched_in}

@@ -1,4 +1,4 @@
--- What a drop and a shutdown give up: what is asked then, and what stands afterwards.
+-- What a drop and a shutdown release: what is asked then, and what is left afterwards.
 use Rattle.std.specs.Prelude.{◌≡◌, ◌≢◌, ⊤, ℕ, true, List, [], ◌∷◌, ◌++◌, Option, Some, None, IsSome, IsSomeAnd, slice_get}
 use Rattle.wasi_addr.specs.declared.address.IpSocketAddress.{IpSocketAddress}
 use Rattle.wasi_addr.specs.declared.address.ShutdownType.{ShutdownType}
@@ -44,7 +44,7 @@ abbrev pub receive_given_up : OpId → ReadState → List Entry
 receive_given_up own (reading.Open half) = shut_entry own half ∷ []
 receive_given_up own reading.Closed = []
 
--- the sending half of this side, where there is one
+-- the sending half of this network socket, where there is one
 abbrev pub send_given_up : OpId → Option OpId → List Entry
 send_given_up own (Some side) = entry own (call.Shutdown side Send) told.Done ∷ []
 send_given_up own None = []
@@ -59,7 +59,7 @@ pub record HasLiveChildren (m : Machine) (handle : ℕ) : Type 0 where
   pub live : IsSome (kind_at m.table handle)
   pub children : children_of m.table.live handle ≢ []
 
--- the drop was done, or it stands
+-- the drop was done, or it is pending
 abbrev pub IsDropped : Reply → Type 0
 IsDropped (reply.Ok fields) = ⊤
 IsDropped (reply.Pending n) = ⊤
@@ -80,7 +80,7 @@ abbrev pub streams_given_up : OpId → Option Streams → List Entry
 streams_given_up own None = []
 streams_given_up own (Some s) = receive_given_up own s.reader ++ send_given_up own (writer_side s.writer)
 
--- the side, where there is one
+-- the network socket, where there is one
 abbrev pub side_closed : OpId → Option OpId → List Entry
 side_closed own (Some side) = entry own (call.Close side) told.Done ∷ []
 side_closed own None = []
@@ -97,7 +97,7 @@ accept_given_up (accepting.Asking op) = arrival_given_up op.who (in_hand op.left
 accept_given_up (accepting.Arrived new peer) = entry new (call.Close new) told.Done ∷ []
 accept_given_up (accepting.Failed c) = []
 
--- a listen that goes on closes the side that it holds, by its own name
+-- a listen in progress closes the network socket that it holds, by its own name
 abbrev pub listen_given_up : Operation → Option OpId → List Entry
 listen_given_up op None = []
 listen_given_up op (Some side) = entry op.who.id (call.Close side) told.Done ∷ []
@@ -108,11 +108,11 @@ listening_given_up (listening.Begins op) = listen_given_up op (held_side op)
 listening_given_up (listening.Accepts l) = accept_given_up l.accept
 listening_given_up (listening.Unclosed side) = entry side (call.Close side) told.Done ∷ []
 
--- a socket gives up what it listens by, its open halves, and then its side
+-- a socket releases what it listens by, its open halves, and then its network socket
 abbrev pub socket_given_up : OpId → Tcp2Socket → List Entry
 socket_given_up own r = listening_given_up r.listening ++ streams_given_up own r.streams ++ side_closed own (side_of r.inner)
 
--- Of the socket at this place nothing is left: no side, no listener, no streams, nothing in progress, and no job.
+-- Of the socket at this place nothing is left: no network socket, no listener, no streams, nothing in progress, and no job.
 pub record IsGone (m : Machine) (place : ℕ) : Type 0 where
   pub found : Tcp2Socket
   pub at : slice_get m.store.sockets place ≡ Some found
@@ -122,7 +122,7 @@ pub record IsGone (m : Machine) (place : ℕ) : Type 0 where
   pub idle : is_nothing found.in_progress ≡ true
   pub job : Has m.store.jobs place → ⊥
 
--- At most one look was made at whether a side may be written to.
+-- At most one look was made at whether a network socket may be written to.
 pub data LooksOnce (own : OpId) : List Entry → Type 0 where
   NoLook : LooksOnce own []
   OneLook : (side : OpId) (told : Told) → LooksOnce own (entry own (call.WriteReady side) told ∷ [])
@@ -132,20 +132,21 @@ pub data LooksOnce (own : OpId) : List Entry → Type 0 where
 abbrev pub HasNoStreams : Option Tcp2Socket → Type 0
 HasNoStreams found = IsSomeAnd found (λ r. r.streams ≡ None)
 
--- the side of a write's half, where the write ended well
+-- the network socket of a write's half, where the write ended well
 abbrev pub ended_side : Job → End → Option OpId
 ended_side job Waits = None
 ended_side job (Done given) = Some job.write.who.side
 ended_side job (Refused c given) = None
 
--- the side of the half that a shutdown gives up at once: none while a write goes on, or where the half was given up before
+-- the network socket of the half that a shutdown releases at once: none while a write is in progress, or where the half was
+-- released before
 abbrev pub shut_at_once : WriteState → Option OpId
 shut_at_once (writing.Ready half permit) = Some half.side
 shut_at_once (writing.Writing job) = ended_side job job.end
 shut_at_once (writing.Closing job) = None
 shut_at_once (writing.Closed e) = None
 
--- a write that goes on gives the half up once all is written
+-- a write in progress releases the half once all is written
 abbrev pub last_write : Job → End → Job
 last_write job Waits = closing_job job
 last_write job _ = job

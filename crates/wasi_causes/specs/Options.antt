@@ -1,4 +1,4 @@
--- How gets and sets of options and of the backlog are answered: where each answer comes from, and what stands afterwards.
+-- How gets and sets of options and of the backlog are answered: where each answer comes from, and what is left afterwards.
 use Rattle.std.specs.Prelude.{◌≡◌, ℕ, ◌<◌, ◌≤◌, true, false, List, [], ◌∷◌, Ok}
 use Rattle.wasi_addr.specs.declared.code.ErrorCode.{ErrorCode}
 use Rattle.wasi_addr.specs.Clamp.{clamped_backlog}
@@ -25,8 +25,8 @@ use Rattle.wasi_steps.specs.Reply.{number_fields}
 use Rattle.wasi_steps.specs.Settings.{Chosen, AnOption, TheBacklog, chosen}
 
 -- == refusals
--- A get is refused: the socket connects, or is closed with a code, and nothing is asked; or its side told a code; or its side
--- told a value that is too large for the option.
+-- A get is refused: the socket connects, or is closed with a code, and nothing is asked; or its network socket returned a code;
+-- or its network socket returned a value that is too large for the option.
 pub data GetRefusal (own : OpId) (option : Opt) (r : Tcp2Socket) : List Entry → CodeWord → Type 0 where
   GetConnects : (op : Operation) → r.inner.state ≡ state.Connecting op → GetRefusal own option r [] word.InvalidState
   GetClosed : (c : ErrorCode) → r.inner.state ≡ state.Closed c → GetRefusal own option r [] (word_of_code c)
@@ -35,8 +35,8 @@ pub data GetRefusal (own : OpId) (option : Opt) (r : Tcp2Socket) : List Entry �
       → GetRefusal own option r (entry own (call.GetOption side option) (told.Value value) ∷ []) word.NotSupported
 
 -- A set is refused: 0 is no value of the option, which is tested before the state; or the socket connects, or is closed with a
--- code; or it has a side that may be asked, and 0 is no value of the option; or, the value being one, its side told a code. Only
--- then is anything asked.
+-- code; or it has a network socket that may be asked, and 0 is no value of the option; or, the value being one, its network
+-- socket returned a code. Only then is anything asked.
 pub data SetRefusal (own : OpId) (option : Opt) (value : ℕ) (r : Tcp2Socket) : List Entry → CodeWord → Type 0 where
   ZeroBefore : refused_before (zero_test option) value ≡ true → SetRefusal own option value r [] word.InvalidArgument
   SetConnects : (op : Operation) → refused_before (zero_test option) value ≡ false → r.inner.state ≡ state.Connecting op → SetRefusal own option value r [] word.InvalidState
@@ -47,7 +47,7 @@ pub data SetRefusal (own : OpId) (option : Opt) (value : ℕ) (r : Tcp2Socket) :
       → SetRefusal own option value r (entry own (call.SetOption side option (value_set option value)) (told.Code c) ∷ []) (word_of_code c)
 
 -- A set of the backlog is refused: it is 0, in any state; or the socket connects, or is connected, or is closed with a code; or
--- the side that listens told a code, whichever.
+-- the network socket that listens returned a code, whichever.
 pub data BacklogRefusal (own : OpId) (value : ℕ) (r : Tcp2Socket) : List Entry → CodeWord → Type 0 where
   ZeroBacklog : value ≡ 0 → BacklogRefusal own value r [] word.InvalidArgument
   StillConnects : (op : Operation) → 0 < value → r.inner.state ≡ state.Connecting op → BacklogRefusal own value r [] word.InvalidState
@@ -74,8 +74,8 @@ abbrev pub RefusedSet : Machine → OpId → ℕ → TcpSetting → List Entry �
 RefusedSet m own handle setting = RefusedOf m handle (RefusedHere m (ChosenRefusal own (chosen setting)))
 
 -- == what is got and set
--- The one thing asked was the option of the socket's side, and the fields are the number that it was told, as the option reads
--- it, which isn't too large.
+-- The one thing asked was the option of the socket's network socket, and the fields are the number that it was answered, as the
+-- option reads it, which isn't too large.
 pub record GetsOption (own : OpId) (option : Opt) (r : Tcp2Socket) (fields : List Field) (entries : List Entry) : Type 0 where
   pub side : OpId
   pub value : ℕ
@@ -84,8 +84,8 @@ pub record GetsOption (own : OpId) (option : Opt) (r : Tcp2Socket) (fields : Lis
   pub within : value_told option value ≤ largest_value option
   pub gives : fields ≡ number_fields (value_told option value)
 
--- The value wasn't refused, and the one thing asked was to set the option of the socket's side to it, brought into its range,
--- and that was told done.
+-- The value wasn't refused, and the one thing asked was to set the option of the socket's network socket to it, brought into
+-- its range, and that was answered done.
 pub record SetsOption (own : OpId) (option : Opt) (value : ℕ) (r : Tcp2Socket) (entries : List Entry) : Type 0 where
   pub side : OpId
   pub has : option_side r.inner ≡ Ok side
@@ -93,7 +93,8 @@ pub record SetsOption (own : OpId) (option : Opt) (value : ℕ) (r : Tcp2Socket)
   pub after : refused_after (zero_test option) value ≡ false
   pub asked : entries ≡ entry own (call.SetOption side option (value_set option value)) told.Done ∷ []
 
--- The backlog is kept for a listen to come, and nothing was asked; or the side that listens was told it, and that was told done.
+-- The backlog is kept for a listen to come, and nothing was asked; or the network socket that listens was asked to take it, and
+-- that was answered done.
 pub data SetsBacklog (own : OpId) (value : ℕ) (r : Tcp2Socket) : List Entry → Type 0 where
   KeptForListen : (side : OpId) → r.inner.state ≡ state.Default side → SetsBacklog own value r []
   ToldListener : (side : OpId) → r.inner.state ≡ state.Listening side → SetsBacklog own value r (entry own (call.SetBacklog side (clamped_backlog value)) told.Done ∷ [])

@@ -1,4 +1,5 @@
--- How each step is answered: which replies it may give; and by the kind of its reply, where that comes from, and what stands afterwards.
+-- How each step is answered: which replies it may give; and by the kind of its reply, where that comes from, and what is left
+-- afterwards.
 use Rattle.std.specs.Prelude.{◌≡◌, ◌⊎◌, ⊤, ℕ, ◌+◌, true, List, [], ◌∷◌, ◌↔◌, false, length, Option, Some, None, IsSomeAnd, slice_get}
 use Rattle.wasi_addr.specs.declared.address.IpSocketAddress.{IpSocketAddress}
 use Rattle.wasi_addr.specs.declared.code.ErrorCode.{ErrorCode}
@@ -16,7 +17,7 @@ use Rattle.wasi_walks.specs.Answered.{word_of_code, MakesHandle, IsWrite, CheckF
 use Rattle.wasi_machine.specs.Machine.{is_guest_call, context_at}
 use Rattle.wasi_steps.specs.Replies.{FieldKind, ANumber, SomeBytes, Truth, FieldKinds, Each, AnAddress, kinds_of}
 use Rattle.wasi_steps.specs.Reply.{address_values, no_fields, number_fields, triple_fields, truth_fields}
-use Rattle.wasi_walks.specs.Waiting.{IsPoll, IsUnready, left_missing, MayStand, OfWatched, OutputWaits, pollable_mark, StandingFails, StandingWaits, StandsByBind, WatchesAccept, WatchesConnect, WatchesIdle}
+use Rattle.wasi_walks.specs.Waiting.{IsPoll, IsUnready, left_missing, MayStand, OfWatched, OutputWaits, pollable_mark, StandingFails, StandingWaits, PendingCallsFit, WatchesAccept, WatchesConnect, WatchesIdle}
 use Rattle.wasi_causes.specs.GivenUp.{IsDrop, HasLiveChildren, HasNoStreams, IsGone, LooksOnce, shut_down, shutdown_entries, socket_given_up, without}
 use Rattle.wasi_world.specs.declared.call.Call.TheVariants as call
 use Rattle.wasi_world.specs.declared.call.Entry.{Entry}
@@ -239,7 +240,7 @@ Refused contexts m line (step.TcpRemoteAddress c s) es w after = RefusedOf m s (
 Refused contexts m line (step.TcpGet c s option) es w after = RefusedGet m (own_of line) s option es w after
 Refused contexts m line (step.TcpSet c s setting) es w after = RefusedSet m (own_of line) s setting es w after
 Refused contexts m line (step.TcpShutdown c s how) es w after = Quiet m es after
-Refused contexts m line (step.Poll n) es w after = StandsByBind m → StandingFails m n es w
+Refused contexts m line (step.Poll n) es w after = PendingCallsFit m → StandingFails m n es w
 Refused contexts m line s es w after = ⊤
 
 -- == the ends of a stream's call
@@ -264,7 +265,7 @@ abbrev pub Pends : Machine → ℕ → Step → List Entry → Machine → Type 
 Pends m line (step.TcpStartBind c s n a) es after = EndsPending (own_of line) es
 Pends m line (step.TcpStartListen c s) es after = EndsPending (own_of line) es
 Pends m line (step.Drop c h) es after = (after.table ≡ without_handle m.table h) × OutputWaits m (own_of line) (output_at m h) es
-Pends m line (step.Poll n) es after = StandsByBind m → StandingWaits m (own_of n) es
+Pends m line (step.Poll n) es after = PendingCallsFit m → StandingWaits m (own_of n) es
 Pends m line s es after = ⊤
 
 -- == traps
@@ -272,7 +273,7 @@ Pends m line s es after = ⊤
 abbrev pub FullAfter : Machine → List Entry → Machine → Type 0
 FullAfter m es after = (is_full after.table ≡ true) × (after.table.next ≡ m.table.next + marks_in es)
 
--- what a create leaves then: the side and its record
+-- what a create leaves then: the network socket and its record
 abbrev pub LeftFull : List WasiSocketsCtx → Machine → ℕ → Step → List Entry → Machine → Type 0
 LeftFull contexts m line (step.TcpCreate c family) es after =
     (is_full m.table ≡ true) × (es ≡ entry (own_of line) (call.TcpCreate (context_at contexts c).name family) told.Done ∷ []) × (after ≡ record m { store = with_record m.store (new_socket (own_of line) (context_at contexts c).name family) })
@@ -285,7 +286,7 @@ Traps contexts m line s es Full after = MakesHandle s × FullAfter m es after ×
 Traps contexts m line s es NotPermitted after = IsWrite s × Quiet m es after
 Traps contexts m line s es _ after = ⊥
 
--- == the table: what the step of this line was told, what it replies, and the machine afterwards
+-- == the table: what the step of this line was answered, what it replies, and the machine afterwards
 abbrev pub Replies : List WasiSocketsCtx → Machine → ℕ → Step → List Entry → Reply → Machine → Type 0
 Replies contexts m line s es (reply.Ok fields) after = AreLike (kinds_of s) fields × Done m line s es fields after
 Replies contexts m line s es (reply.Err w) after = MayRefuse s w × Refused contexts m line s es w after

@@ -18,7 +18,7 @@ check_entry who a usage answer = entry who.id (call.Check who.context a usage) a
 abbrev pub local_entry : Who → Told → Entry
 local_entry who answer = entry who.id (call.Local who.side) answer
 
--- An item is done with, and the next one follows: what was asked and told.
+-- An item is done with, and the next one follows: what was asked and answered.
 pub data Passes (who : Who) : Item → List Entry → Type 0 where
   ToldYes : (a : IpSocketAddress) (usage : SocketAddrUse) → Passes who (Check a usage) (check_entry who a usage told.Yes ∷ [])
   LocalToldYes : (a : IpSocketAddress) (usage : SocketAddrUse) → Passes who (CheckLocal usage) (local_entry who (told.Addr a) ∷ check_entry who a usage told.Yes ∷ [])
@@ -26,7 +26,7 @@ pub data Passes (who : Who) : Item → List Entry → Type 0 where
   ConnectToldDone : (a : IpSocketAddress) → Passes who (Connect a) (entry who.id (call.Connect who.side a) told.Done ∷ [])
   ListenToldDone : (backlog : ℕ) → Passes who (Listen backlog) (entry who.id (call.Listen who.side backlog) told.Done ∷ [])
 
--- An item was told to wait, and is asked again in this form.
+-- An item was answered pending, and is asked again in this form.
 pub data Holds (who : Who) : Item → List Entry → Item → Type 0 where
   CheckToldPending : (a : IpSocketAddress) (usage : SocketAddrUse) → Holds who (Check a usage) (check_entry who a usage told.Pending ∷ []) (Check a usage)
   LocalToldPending : (a : IpSocketAddress) (usage : SocketAddrUse) → Holds who (CheckLocal usage) (local_entry who (told.Addr a) ∷ check_entry who a usage told.Pending ∷ []) (Check a usage)

@@ -29,14 +29,14 @@ OfItsRecord m (Pollable w) = HasRecord m (place_in w)
 OfItsRecord m ErrorValue = ⊤
 
 -- == a connect in progress
--- it goes on, or was closed, or it is done and neither half was taken
+-- it continues, or was closed, or it is done and neither half was taken
 abbrev pub MayFinish : TcpState → Type 0
 MayFinish (state.Connecting op) = ⊤
 MayFinish (state.Closed c) = ⊤
 MayFinish (state.Connected c) = (c.receive_taken ≡ false) × (c.send_taken ≡ false)
 MayFinish _ = ⊥
 
--- it goes on, or was closed
+-- it continues, or was closed
 abbrev pub IsUndone : TcpState → Type 0
 IsUndone (state.Connecting op) = ⊤
 IsUndone (state.Closed c) = ⊤

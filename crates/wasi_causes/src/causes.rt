@@ -1,4 +1,4 @@
-//! Laws over the definitions of specs/ that say where each answer of a step comes from, and what stands after a refusal:
+//! Laws over the definitions of specs/ that say where each answer of a step comes from, and what is left after a refusal:
 //! each is a function that does nothing, whose contract is the law.
 
 ghost use Rattle.std.specs.Prelude.{◌≡◌, ◌↔◌, ◌⊎◌, ℕ, ◌+◌, true, false, List, [], ◌∷◌, length, IsSome, IsSomeAnd, Some, None, slice_get};
@@ -33,7 +33,7 @@ ghost use Rattle.wasi_host.specs.Kinds.{is_network, kind_at, watched_by, with_ha
 ghost use Rattle.wasi_host.specs.Standing.{stands_as};
 ghost use Rattle.wasi_steps.specs.Reply.{bytes_fields, no_fields, number_fields, truth_fields};
 ghost use Rattle.wasi_causes.specs.Turns.{IsOfJob};
-ghost use Rattle.wasi_walks.specs.Waiting.{IsFailure, IsPoll, IsUnready, left_missing, MayStand, OfWatched, OutputWaits, pollable_mark, StandingFails, StandingWaits, StandsByBind, WatchesAccept, WatchesConnect, WatchesIdle};
+ghost use Rattle.wasi_walks.specs.Waiting.{IsFailure, IsPoll, IsUnready, left_missing, MayStand, OfWatched, OutputWaits, pollable_mark, StandingFails, StandingWaits, PendingCallsFit, WatchesAccept, WatchesConnect, WatchesIdle};
 ghost use Rattle.wasi_host.specs.InProgress.{is_connect};
 ghost use Rattle.wasi_host.specs.Store.{with_record};
 ghost use Rattle.wasi_streams.specs.Table.{children_of, is_full};
@@ -55,8 +55,8 @@ pub fn answers_are_in_the_table()
         → Answered contexts m line s entries reply after → (reply ≡ Reply.Busy → ⊥) → Outcome contexts m line s entries reply after }
 {}
 
-/// A step is busy exactly where a call stands and the step is a call of a guest. It asks nothing then, and the machine stays as
-/// it was.
+/// A step is busy exactly where a call is pending and the step is a call of a guest. It asks nothing then, and the machine
+/// stays as it was.
 pub fn busy_while_a_call_stands()
     ensures exactly { (contexts : List WasiSocketsCtx) (m : Machine) (line : ℕ) (s : Step) (entries : List Entry) (reply : Reply) (after : Machine)
         → Answered contexts m line s entries reply after → (reply ≡ Reply.Busy) ↔ (IsSome m.store.standing × IsSome (context_of s)) }
@@ -79,7 +79,7 @@ pub fn finish_bind_refusals()
 {}
 
 /// A step traps because a handle of it isn't live or is of another kind, and asks nothing then and leaves the machine as it
-/// was, but that a poll leaves nothing standing; or because a handle is dropped under which others are live, and asks nothing
+/// was, but that a poll leaves nothing pending; or because a handle is dropped under which others are live, and asks nothing
 /// then and leaves the machine; or because the table is full, where it is to make a handle: that was the last of the step, and
 /// the marks are those of the handles that were made before it; or because a write isn't permitted.
 pub fn traps_have_causes()
@@ -103,12 +103,12 @@ pub fn traps_have_causes()
         → Answered contexts m line s entries (Reply.Trap TrapKind.NotPermitted) after → IsWrite s }
 {}
 
-/// A poll finds no such call exactly where no call stands under its number. It asks nothing then, and the machine stays as it
-/// was; no other step is answered so. A poll of a call that stands leaves it standing, or it leaves nothing standing. It is
-/// refused with the word of the code by which the bind or the listen failed: a check was told no, or another of its asks was
-/// told the code, by its own operation, and a listen closed its side last. That is said where what stands by a bind is a bind,
-/// and by a listen a listen, as it does after any lines. In a run no poll traps.
-pub fn polls_of_no_call()
+/// A poll finds no such call exactly where no call is pending under its number. It asks nothing then, and the machine stays as
+/// it was; no other step is answered so. A poll of a pending call leaves it pending, or leaves nothing pending. It is refused
+/// with the word of the code by which the bind or the listen failed: a check was answered no, or another of its asks was
+/// answered with the code, by its own operation, and a listen closed its network socket last. That is said where what is
+/// pending as a bind is a bind, and as a listen a listen, as it does after any lines. In a run no poll traps.
+pub fn polls_find_their_call()
     ensures exactly { (contexts : List WasiSocketsCtx) (m : Machine) (line n : ℕ) (entries : List Entry) (reply : Reply) (after : Machine)
         → Answered contexts m line (Step.Poll n) entries reply after → (reply ≡ Reply.NoSuchCall) ↔ (stands_as m.store.standing n ≡ false) }
     ensures stays { (contexts : List WasiSocketsCtx) (m : Machine) (line n : ℕ) (entries : List Entry) (after : Machine)
@@ -118,16 +118,16 @@ pub fn polls_of_no_call()
     ensures ends { (contexts : List WasiSocketsCtx) (m : Machine) (line n : ℕ) (entries : List Entry) (reply : Reply) (after : Machine)
         → stands_as m.store.standing n ≡ true → Answered contexts m line (Step.Poll n) entries reply after → (reply ≡ Reply.Pending n) ⊎ (after.store.standing ≡ None) }
     ensures refused { (contexts : List WasiSocketsCtx) (m : Machine) (line n : ℕ) (entries : List Entry) (word : CodeWord) (after : Machine)
-        → StandsByBind m → Answered contexts m line (Step.Poll n) entries (Reply.Err word) after → StandingFails m n entries word }
+        → PendingCallsFit m → Answered contexts m line (Step.Poll n) entries (Reply.Err word) after → StandingFails m n entries word }
     ensures never_traps { (contexts : List WasiSocketsCtx) (steps : List Step) (log : List Entry) (replies : List Reply) (m : Machine) (line n : ℕ) (entries : List Entry) (kind : TrapKind) (after : Machine)
         → Left (run contexts [] first_state 1 steps) log (Give (replies, m)) → Answered contexts m line (Step.Poll n) entries (Reply.Trap kind) after → ⊥ }
 {}
 
 /// The start of a bind, that of a listen, the drop of an output and a poll may be pending: all but a poll under their line's
-/// number, and a poll under the number that it polls. A call stands under that number then. The last ask of a bind and of a
-/// listen was told to wait; a drop waits where its output's write goes on, or its one ask was told to wait; and a poll waits as
-/// the call does that it polls. That is said where what stands by a bind is a bind, and by a listen a listen, as it does after
-/// any lines.
+/// number, and a poll under the number that it polls. A call is pending under that number then. The last ask of a bind and of a
+/// listen was answered pending; a drop waits where its output's write is in progress, or its one ask was answered pending; and
+/// a poll waits as the call does that it polls. That is said where what is pending as a bind is a bind, and as a listen a
+/// listen, as it does after any lines.
 pub fn pending_where_told()
     ensures step { (contexts : List WasiSocketsCtx) (m : Machine) (line : ℕ) (s : Step) (entries : List Entry) (number : ℕ) (after : Machine)
         → Answered contexts m line s entries (Reply.Pending number) after → MayStand m line s number }
@@ -140,11 +140,11 @@ pub fn pending_where_told()
     ensures output { (contexts : List WasiSocketsCtx) (m : Machine) (line ctx handle : ℕ) (entries : List Entry) (number : ℕ) (after : Machine)
         → Answered contexts m line (Step.Drop ctx handle) entries (Reply.Pending number) after → OutputWaits m (own_of line) (output_at m handle) entries }
     ensures polled { (contexts : List WasiSocketsCtx) (m : Machine) (line n : ℕ) (entries : List Entry) (number : ℕ) (after : Machine)
-        → StandsByBind m → Answered contexts m line (Step.Poll n) entries (Reply.Pending number) after → StandingWaits m (own_of n) entries }
+        → PendingCallsFit m → Answered contexts m line (Step.Poll n) entries (Reply.Pending number) after → StandingWaits m (own_of n) entries }
 {}
 
 /// A create is refused with `access-denied` where the context may not use TCP, and it asks nothing then; or with the word of
-/// the code that its one ask was told. No handle, no record and no side stands then.
+/// the code that its one ask was answered. There is no handle, no record and no network socket then.
 pub fn create_refusals()
     ensures cause { (contexts : List WasiSocketsCtx) (m : Machine) (line ctx : ℕ) (family : SocketAddressFamily) (entries : List Entry) (word : CodeWord) (after : Machine)
         → Answered contexts m line (Step.TcpCreate ctx family) entries (Reply.Err word) after
@@ -153,7 +153,7 @@ pub fn create_refusals()
         → Answered contexts m line (Step.TcpCreate ctx family) entries (Reply.Err word) after → after ≡ m }
 {}
 
-/// A create that traps with `Full` has made its side, which stands in a record that no handle names.
+/// A create that traps with `Full` has made its network socket, which is in a record that no handle names.
 pub fn create_full()
     ensures full { (contexts : List WasiSocketsCtx) (m : Machine) (line ctx : ℕ) (family : SocketAddressFamily) (entries : List Entry) (after : Machine)
         → Answered contexts m line (Step.TcpCreate ctx family) entries (Reply.Trap TrapKind.Full) after → is_full m.table ≡ true }
@@ -165,8 +165,8 @@ pub fn create_full()
         → after ≡ record m { store = with_record m.store (new_socket (own_of line) (context_at contexts ctx).name family) } }
 {}
 
-/// The start of a bind is refused with `concurrency-conflict` exactly where an operation is in progress, whichever, and else
-/// by its own tests or by what was told. The machine is as it was then, but that a socket that was found bound is known to be.
+/// The start of a bind is refused with `concurrency-conflict` exactly where an operation is in progress, whichever, and else by
+/// its own tests or by what was reported. The machine is as it was then, but that a socket that was found bound is known to be.
 pub fn bind_refusals()
     ensures exactly { (contexts : List WasiSocketsCtx) (m : Machine) (line ctx handle network : ℕ) (a : IpSocketAddress) (entries : List Entry) (reply : Reply) (after : Machine)
         → m.store.standing ≡ None → is_network (kind_at m.table network) ≡ true
@@ -196,10 +196,10 @@ pub fn start_connect_refusals()
 {}
 
 /// The finish of a connect is refused with `not-in-progress` exactly where the socket is there and has no connect in progress,
-/// and it asks nothing then and leaves the machine as it was. With `would-block` the connect was told to wait and goes on; with
-/// any other word the socket is closed with that word's code, and nothing is in progress. The causes are those of a socket that
-/// connects by a connect, as all do after any lines. In a run the socket connects or was closed: the causes of other states don't
-/// come.
+/// and it asks nothing then and leaves the machine as it was. With `would-block` the connect was answered pending and is in
+/// progress; with any other word the socket is closed with that word's code, and nothing is in progress. The causes are those
+/// of a socket that connects by a connect, as all do after any lines. In a run the socket connects or was closed: the causes of
+/// other states don't come.
 pub fn finish_connect_refusals()
     ensures exactly { (contexts : List WasiSocketsCtx) (m : Machine) (line ctx handle : ℕ) (entries : List Entry) (reply : Reply) (after : Machine)
         → m.store.standing ≡ None → Answered contexts m line (Step.TcpFinishConnect ctx handle) entries reply after
@@ -222,10 +222,10 @@ pub fn runs_connect_by_connects()
         → Left (run contexts [] first_state 1 steps) entries (Give (replies, m)) → (pollable : ℕ) → WatchesConnect m pollable }
 {}
 
-/// After the lines of any script: each live handle of a socket, a stream or a pollable is of a record that is there, so a number
-/// of which no socket is found isn't live or stands for something else; a call that stands is of a socket that is there; and where
-/// a connect is in progress, the socket connects, or was closed with a code, or is connected and neither half of it was taken; and a
-/// socket that does nothing yet has no listener, and none begins.
+/// After the lines of any script: each live handle of a socket, a stream or a pollable is of a record that is there, so a
+/// number of which no socket is found isn't live or stands for something else; a pending call is of a socket that is there; and
+/// where a connect is in progress, the socket connects, or was closed with a code, or is connected and neither half of it was
+/// taken; and a socket that does nothing yet has no listener, and none begins.
 pub fn runs_keep_their_records()
     ensures handles { (contexts : List WasiSocketsCtx) (steps : List Step) (log : List Entry) (replies : List Reply) (m : Machine) (handle : ℕ) (kind : Kind)
         → Left (run contexts [] first_state 1 steps) log (Give (replies, m)) → kind_at m.table handle ≡ Some kind → OfItsRecord m kind }
@@ -239,14 +239,14 @@ pub fn runs_keep_their_records()
         → Left (run contexts [] first_state 1 steps) log (Give (replies, m)) → slice_get m.store.sockets place ≡ Some r → ListensLate r }
 {}
 
-/// After the lines of any script, what stands by a bind is a bind, and what stands by a listen is a listen.
-pub fn runs_stand_by_binds()
+/// After the lines of any script, what is pending as a bind is a bind, and what is pending as a listen is a listen.
+pub fn runs_keep_their_pending_calls()
     ensures { (contexts : List WasiSocketsCtx) (steps : List Step) (entries : List Entry) (replies : List Reply) (m : Machine)
-        → Left (run contexts [] first_state 1 steps) entries (Give (replies, m)) → StandsByBind m }
+        → Left (run contexts [] first_state 1 steps) entries (Give (replies, m)) → PendingCallsFit m }
 {}
 
 /// The local address is refused where the socket isn't bound or is connecting, with the code with which it is closed, or with
-/// the code that was told of it. The machine is as it was then, but that a socket that was found bound is known to be.
+/// the code that was reported of it. The machine is as it was then, but that a socket that was found bound is known to be.
 pub fn local_address_refusals()
     ensures cause { (contexts : List WasiSocketsCtx) (m : Machine) (line ctx handle : ℕ) (entries : List Entry) (word : CodeWord) (after : Machine)
         → Answered contexts m line (Step.TcpLocalAddress ctx handle) entries (Reply.Err word) after
@@ -256,7 +256,7 @@ pub fn local_address_refusals()
 {}
 
 /// The remote address is refused where the socket isn't connected, with the code with which it is closed, or with the code that
-/// was told of it. The machine stays as it was.
+/// was reported of it. The machine stays as it was.
 pub fn remote_address_refusals()
     ensures cause { (contexts : List WasiSocketsCtx) (m : Machine) (line ctx handle : ℕ) (entries : List Entry) (word : CodeWord) (after : Machine)
         → Answered contexts m line (Step.TcpRemoteAddress ctx handle) entries (Reply.Err word) after
@@ -273,8 +273,8 @@ pub fn listening_and_family_are_never_refused()
         → IsQuiet s → Answered contexts m line s entries reply after → (entries ≡ []) × (after ≡ m) }
 {}
 
-/// Each read that hands out at least one byte hands out exactly what its one ask, a read of its open half, was told; and with
-/// bytes or none the machine stays as it was.
+/// Each read that hands out at least one byte hands out exactly what its one ask, a read of its open half, was answered; and
+/// with bytes or none the machine stays as it was.
 pub fn reads_hand_out_what_was_told()
     ensures told { (contexts : List WasiSocketsCtx) (m : Machine) (line ctx input len b : ℕ) (bytes : List ℕ) (entries : List Entry) (after : Machine)
         → Answered contexts m line (Step.Read ctx input len) entries (Reply.Ok (bytes_fields (b ∷ bytes))) after
@@ -286,8 +286,8 @@ pub fn reads_hand_out_what_was_told()
         → Answered contexts m line (Step.Read ctx input len) entries (Reply.Ok fields) after → after ≡ m }
 {}
 
-/// A read is `closed` where the reader is, or the read was told no bytes; it failed where the read was told that code, and the
-/// error's mark is the last then. The reader is closed then, and its half was given up.
+/// A read is `closed` where the reader is, or the read was answered with no bytes; it failed where the read was answered with
+/// that code, and the error's mark is the last then. The reader is closed then, and its half was released.
 pub fn reads_end()
     ensures closed { (contexts : List WasiSocketsCtx) (m : Machine) (line ctx input len : ℕ) (entries : List Entry) (after : Machine)
         → Answered contexts m line (Step.Read ctx input len) entries Reply.Closed after
@@ -297,8 +297,8 @@ pub fn reads_end()
         → OfStreams m (input_at m input) (λ place r s. FailsWith m (own_of line) input (ReadFails (own_of line) len s.reader) entries word handle × (after ≡ with_error (closing_reader m place r s))) }
 {}
 
-/// What may be written comes of the writer and of what it was told: nothing where a write isn't finished or the writer was told
-/// to wait, and else 65536 bytes.
+/// What may be written comes of the writer and of what it was answered: nothing where a write isn't finished or the writer was
+/// answered pending, and else 65536 bytes.
 pub fn permits_have_causes()
     ensures { (contexts : List WasiSocketsCtx) (m : Machine) (line ctx output n : ℕ) (entries : List Entry) (after : Machine)
         → Answered contexts m line (Step.CheckWrite ctx output) entries (Reply.Ok (number_fields n)) after
@@ -315,7 +315,7 @@ pub fn writes_past_the_permit_trap()
         → Answered contexts m line (Step.Write ctx output bytes) entries (Reply.Trap TrapKind.NotPermitted) after → (entries ≡ []) × (after ≡ m) }
 {}
 
-/// A flush only tells the error with which the writer is closed. It asks nothing but the mark of that error.
+/// A flush only reports the error with which the writer is closed. It asks nothing but the mark of that error.
 pub fn flushes_tell_the_kept_error()
     ensures done { (contexts : List WasiSocketsCtx) (m : Machine) (line ctx output : ℕ) (fields : List Field) (entries : List Entry) (after : Machine)
         → Answered contexts m line (Step.Flush ctx output) entries (Reply.Ok fields) after → (entries ≡ []) × (after ≡ m) }
@@ -338,8 +338,8 @@ pub fn checks_tell_the_kept_error()
         → OfStreams m (output_at m output) (λ place r s. FailsWith m (own_of line) output (λ c before. CheckFails (WriteError.LastOperationFailed c) s.writer before × (after ≡ with_error (closing_writer m place r s (WriteError.LastOperationFailed c)))) entries word handle) }
 {}
 
-/// A write is `closed`, or fails, with the error that its writer is closed with; or because it was told a code itself, and then
-/// its last asks are that write and the shutdown of its half. The writer is closed with the error then.
+/// A write is `closed`, or fails, with the error that its writer is closed with; or because it was answered with a code itself,
+/// and then its last asks are that write and the shutdown of its half. The writer is closed with the error then.
 pub fn writes_tell_their_error()
     ensures closed { (contexts : List WasiSocketsCtx) (m : Machine) (line ctx output : ℕ) (bytes : List ℕ) (entries : List Entry) (after : Machine)
         → Answered contexts m line (Step.Write ctx output bytes) entries Reply.Closed after
@@ -349,9 +349,9 @@ pub fn writes_tell_their_error()
         → OfStreams m (output_at m output) (λ place r s. FailsWith m (own_of line) output (λ c before. WriteFails (own_of line) (WriteError.LastOperationFailed c) s.writer before × (after ≡ with_error (closing_writer m place r s (WriteError.LastOperationFailed c)))) entries word handle) }
 {}
 
-/// A drop of a socket is done, unless it traps. It gives up what is open: what it listens by, which refuses an arrival in hand
+/// A drop of a socket is done, unless it traps. It releases what is open: what it listens by, which refuses an arrival in hand
 /// and closes a connection that wasn't taken; the receiving half while that is open, then the sending half while there is one,
-/// and then the socket's side, each told done; and nothing is left of the socket. A drop of a
+/// and then the socket's network socket, each answered done; and nothing is left of the socket. A drop of a
 /// network, an input, a pollable or an error asks nothing and takes the handle out, and a drop of an output looks once at most.
 /// Whatever was dropped, its handle is live no more.
 pub fn drops_give_up_what_is_open()
@@ -378,7 +378,7 @@ pub fn drops_give_up_what_is_open()
 {}
 
 /// A shutdown is refused, with `invalid-state`, exactly where the socket is there and its streams weren't made yet. It asks
-/// nothing then, and the machine stays as it was. Else it asks for the shutdown of the halves that are given up at once, the
+/// nothing then, and the machine stays as it was. Else it asks for the shutdown of the halves that are released at once, the
 /// receiving one first, and leaves the streams shut down.
 pub fn shutdown_refusals()
     ensures exactly { (contexts : List WasiSocketsCtx) (m : Machine) (line ctx handle : ℕ) (how : ShutdownType) (entries : List Entry) (reply : Reply) (after : Machine)
@@ -396,11 +396,11 @@ pub fn shutdown_refusals()
         → OfStreams m (socket_at m handle) (λ place r s. after ≡ putting m place (with_streams r (shut_down how s))) }
 {}
 
-/// A pollable isn't ready where the connect in progress was told to wait, or with nothing in progress the accept of a listener
-/// waits, or the input that is open was told to wait, or the output's write goes on or its writer was told to wait: that is said
-/// where a socket connects by a connect and accepts by an accept, as all do after any lines. A socket with no connect in
-/// progress, and with no listener unless another operation is in progress, is ready, which asks nothing and leaves the machine
-/// as it was. A look never fails.
+/// A pollable isn't ready where the connect in progress was answered pending, or with nothing in progress the accept of a
+/// listener waits, or the input that is open was answered pending, or the output's write is in progress or its writer was
+/// answered pending: that is said where a socket connects by a connect and accepts by an accept, as all do after any lines. A
+/// socket with no connect in progress, and with no listener unless another operation is in progress, is ready, which asks
+/// nothing and leaves the machine as it was. A look never fails.
 pub fn readiness_has_causes()
     ensures values { (contexts : List WasiSocketsCtx) (m : Machine) (line ctx pollable : ℕ) (fields : List Field) (entries : List Entry) (after : Machine)
         → Answered contexts m line (Step.Ready ctx pollable) entries (Reply.Ok fields) after → (fields ≡ truth_fields true) ⊎ (fields ≡ truth_fields false) }
@@ -414,8 +414,8 @@ pub fn readiness_has_causes()
         → Answered contexts m line (Step.Ready ctx pollable) entries reply after → IsFailure reply → ⊥ }
 {}
 
-/// A subscription answers with the number of the next handle, which its one ask marks as a pollable under the handle that it was
-/// called on, with the side of the socket; and that pollable is made. It never fails.
+/// A subscription answers with the number of the next handle, which its one ask marks as a pollable under the handle that it
+/// was called on, with the network socket of the socket; and that pollable is made. It never fails.
 pub fn subscribe_makes_a_pollable()
     ensures number { (contexts : List WasiSocketsCtx) (m : Machine) (line ctx handle : ℕ) (fields : List Field) (entries : List Entry) (after : Machine)
         → Answered contexts m line (Step.Subscribe ctx handle) entries (Reply.Ok fields) after → fields ≡ number_fields m.table.next }
@@ -429,8 +429,8 @@ pub fn subscribe_makes_a_pollable()
         → Answered contexts m line (Step.Subscribe ctx handle) entries reply after → IsFailure reply → ⊥ }
 {}
 
-/// A turn is always ok, and leaves the handles as they were. Whatever it asks is asked by the operation of a write that goes on
-/// by itself, of a record with a job.
+/// A turn is always ok, and leaves the handles as they were. Whatever it asks is asked by the operation of a background write,
+/// of a record with a job.
 pub fn turns_are_ok()
     ensures ok { (contexts : List WasiSocketsCtx) (m : Machine) (line : ℕ) (entries : List Entry) (reply : Reply) (after : Machine)
         → Answered contexts m line Step.Turn entries reply after → reply ≡ Reply.Ok no_fields }

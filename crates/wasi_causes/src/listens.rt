@@ -35,11 +35,11 @@ pub fn finish_listen_refusals()
         → Answered contexts m line (Step.TcpFinishListen ctx handle) entries (Reply.Err word) after → after ≡ m }
 {}
 
-/// The start of a listen is refused with `concurrency-conflict` exactly where an operation is in progress, whichever; else by its
-/// own tests, and then the machine is as it was, but that a socket that was found bound is known to be; or by what it was told:
-/// its local address, the check of that address, or the listen. Then it closed its side last, and the socket stays closed, with
-/// the code `unknown` from then on; the refusal tells the true one. In a run none is refused because a socket that does nothing yet
-/// listens already.
+/// The start of a listen is refused with `concurrency-conflict` exactly where an operation is in progress, whichever; else by
+/// its own tests, and then the machine is as it was, but that a socket that was found bound is known to be; or by what it was
+/// answered: its local address, the check of that address, or the listen. Then it closed its network socket last, and the
+/// socket stays closed, with the code `unknown` from then on; the refusal reports the true one. In a run none is refused
+/// because a socket that does nothing yet listens already.
 pub fn start_listen_refusals()
     ensures exactly { (contexts : List WasiSocketsCtx) (m : Machine) (line ctx handle : ℕ) (entries : List Entry) (reply : Reply) (after : Machine)
         → m.store.standing ≡ None → Answered contexts m line (Step.TcpStartListen ctx handle) entries reply after
@@ -55,9 +55,10 @@ pub fn start_listen_refusals()
         → RefusedOf m handle (ListenRefusedInRun m (own_of line)) entries word after }
 {}
 
-/// An accept is refused with `invalid-state` where the socket has no listener, and it asks nothing then; with `would-block` where
-/// the last ask of the accept was told to wait, or it has refused 64 arrivals, and the accept stands on; or with the code that it
-/// was told, now or before, and then it is over. That is said where a listener's accept is one, as it is after any lines.
+/// An accept is refused with `invalid-state` where the socket has no listener, and it asks nothing then; with `would-block`
+/// where the last ask of the accept was answered pending, or it has refused 64 arrivals, and the accept stays in progress; or
+/// with the code that it was answered, now or before, and then it is over. That is said where a listener's accept is one, as it
+/// is after any lines.
 pub fn accept_refusals()
     ensures { (contexts : List WasiSocketsCtx) (m : Machine) (line ctx handle : ℕ) (entries : List Entry) (word : CodeWord) (after : Machine)
         → AcceptsAt m handle → Answered contexts m line (Step.TcpAccept ctx handle) entries (Reply.Err word) after
@@ -66,7 +67,7 @@ pub fn accept_refusals()
 
 /// An accept that is done answers with the numbers of the next three handles, the socket's, its input's and its output's. Its
 /// last asks but their marks handed a connection over, or that was handed over before and wasn't taken; and its socket is
-/// connected on the side that was handed over, with the address of the other end.
+/// connected on the network socket that was handed over, with the address of the other end.
 pub fn accepts_take_what_was_handed_over()
     ensures numbers { (contexts : List WasiSocketsCtx) (m : Machine) (line ctx handle : ℕ) (fields : List Field) (entries : List Entry) (after : Machine)
         → Answered contexts m line (Step.TcpAccept ctx handle) entries (Reply.Ok fields) after

@@ -12,7 +12,7 @@ use Rattle.wasi_world.specs.Operation.{Given, Operation, polls, poll_asks}
 use Rattle.wasi_world.proofs.Walks.{reaches_all, reaches_then}
 use Rattle.wasi_common.specs.Rounds.{is_going, round_rest, round_going, RoundFor, PollsRounds}
 
--- nothing was asked, for want of memory
+-- nothing was asked, for lack of memory
 pub round_none : {T : Type 0} (old : Operation) {s t : Seen} {gives : T → Given} {kept : Given} {d : AllocError} {r : Result (Option (Answer T)) Refusal} → IsErrAnd r (λ x. x ≡ refusal.Memory d) → t ≡ s → is_going old ≡ true → RoundFor gives kept old old s t r
 round_none old {r = Ok x} h e g = absurd h
 round_none old {s} {t} {gives} {kept} {r = Err x} h e g =
@@ -23,7 +23,7 @@ round_none old {s} {t} {gives} {kept} {r = Err x} h e g =
 pub round_end : {T : Type 0} {old new : Operation} {s t : Seen} {gives : T → Given} {kept : Given} {r : Result (Option (Answer T)) Refusal} → new.who ≡ old.who → is_going new ≡ round_going r → ((n : ℕ) → Reaches (polls (suc n) old.who old.left) (round_rest gives kept n new r) s t) → RoundFor gives kept old new s t r
 round_end w g h = record { who = w; reached = h; going = g }
 
--- the round goes on
+-- the round continues
 pub round_on : {T : Type 0} {old mid new : Operation} {s t u : Seen} {gives : T → Given} {kept : Given} {r : Result (Option (Answer T)) Refusal} → mid.who ≡ old.who → ((n : ℕ) → Reaches (polls (suc n) old.who old.left) (polls (suc n) mid.who mid.left) s t) → RoundFor gives kept mid new t u r → RoundFor gives kept old new s u r
 round_on w h k = record { who = k.who ∙ w; reached = λ n. reaches_then (h n) (k.reached n); going = k.going }
 
@@ -43,7 +43,7 @@ module _ {T : Type 0} {gives : T → Given} {kept : Given} (old now : Operation)
   pub rounds_end : {new : Operation} {u : Seen} {a : Answer T} → now.who ≡ old.who → Reaches (poll_asks old) (polls (64 - i) now.who now.left) s t → i < 64 → RoundFor gives kept now new t u (Ok (Some a)) → PollsRounds gives kept old new s u (Ok a)
   rounds_end w r h k = record { who = k.who ∙ w; ended = reaches_then (rw (one_less 64 i h) at r) (k.reached (64 - (i + 1))); going = k.going }
 
-  -- with a code, or for want of memory
+  -- with a code, or for lack of memory
   rounds_err : {new : Operation} {u : Seen} (x : Refusal) → now.who ≡ old.who → Reaches (poll_asks old) (polls (64 - i) now.who now.left) s t → i < 64 → RoundFor gives kept now new t u (Err x) → PollsRounds gives kept old new s u (Err x)
   rounds_err (refusal.Code c) w r h k = record { who = k.who ∙ w; ended = reaches_then (rw (one_less 64 i h) at r) (k.reached (64 - (i + 1))); going = k.going }
   rounds_err (refusal.Memory e) w r h k = record {

@@ -1,4 +1,4 @@
--- Whether a socket is bound, by the local address that the network tells.
+-- Whether a socket is bound, by the local address that the network reports.
 use Rattle.std.specs.Prelude.{Bool, false, not, Result, Ok, Err}
 use Rattle.wasi_addr.specs.declared.address.IpSocketAddress.{IpSocketAddress}
 use Rattle.wasi_addr.specs.declared.address.SocketAddressFamily.{SocketAddressFamily}

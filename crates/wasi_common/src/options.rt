@@ -1,5 +1,5 @@
-//! The options of a socket's side. One table (specs/Options) says of each option which values it has, when 0 is refused,
-//! which value is set for one that is given, and which is answered for one that is told.
+//! The options of a socket's network socket. One table (specs/Options) says of each option which values it has, when 0 is
+//! refused, which value is set for one that is given, and which is answered for one that is reported.
 
 ghost use Rattle.std.specs.Prelude.{◌≡◌, ◌≤◌, false, Ok, OnErr, IfOk};
 ghost use Rattle.wasi_world.specs.Asks.{AsksFor, outcome};
@@ -23,7 +23,7 @@ pub fn largest_value(option: Opt) -> u64
     }
 }
 
-/// The value that is answered for one that is told, where it isn't too large.
+/// The value that is answered for one that is reported, where it isn't too large.
 fn value_told(option: Opt, told: u64) -> u64
     ensures { result ≡ value_told option told }
 {
@@ -47,7 +47,7 @@ fn within(option: Opt, value: u64) -> Result<u64, ErrorCode>
     }
 }
 
-/// What is answered for what was told.
+/// What is answered for what was reported.
 fn answer(option: Opt, told: Result<u64, ErrorCode>) -> Result<u64, Refusal>
     ensures answer { outcome result ≡ Ok (option_answer option told) }
     ensures within { IfOk result (λ answer. answer ≤ largest_value option) }
@@ -61,9 +61,9 @@ fn answer(option: Opt, told: Result<u64, ErrorCode>) -> Result<u64, Refusal>
     }
 }
 
-/// The value of an option of a side: yes is 1 and no is 0, a time is in nanoseconds, a size in bytes. A code that is told
-/// is answered. A told size is halved, any told number but 0 is yes, and a told value above the option's `largest_value`
-/// is `NotSupported`. After want of memory nothing was asked.
+/// The value of an option of a network socket: yes is 1 and no is 0, a time is in nanoseconds, a size in bytes. A code that is
+/// reported is returned. A reported size is halved, any reported number but 0 is yes, and a reported value above the option's
+/// `largest_value` is `NotSupported`. After running out of memory nothing was asked.
 pub fn get_of_side<W: World>(
     world: &mut W,
     op: OpId,
@@ -80,8 +80,9 @@ pub fn get_of_side<W: World>(
     answer(option, told)
 }
 
-/// Sets an option of a side. 0 for the hop limit or a size: `InvalidArgument`, and nothing is asked. Times, sizes and numbers of
-/// probes are brought into their ranges first. A code that is told is answered. After want of memory nothing was asked.
+/// Sets an option of a network socket. 0 for the hop limit or a size: `InvalidArgument`, and nothing is asked. Times, sizes and
+/// numbers of probes are brought into their ranges first. A code that is reported is returned. After running out of memory
+/// nothing was asked.
 pub fn set_of_side<W: World>(
     world: &mut W,
     op: OpId,

@@ -32,8 +32,8 @@ pub trait InRounds {
         ensures open { (W.seen world.new).ended ≡ false };
 }
 
-/// Polls an operation that goes on: rounds follow each other until one ends the poll. After the 64th that was refused it is
-/// pending. After want of memory it may be polled again.
+/// Polls an operation in progress: rounds follow each other until one ends the poll. After the 64th that was refused it is
+/// pending. After running out of memory it may be polled again.
 pub fn poll_rounds<O: InRounds, W: World>(
     world: &mut W,
     operation: &mut O,

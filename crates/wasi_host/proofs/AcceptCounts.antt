@@ -1,4 +1,4 @@
--- What an accept makes of the sides that are held: one is made where a connection is handed over, and none is closed.
+-- What an accept makes of the network sockets that are held: one is made where a connection is handed over, and none is closed.
 use Rattle.std.proofs.Common.{◌≡◌, ℕ, zero, suc, ◌+◌, List, [], ◌∷◌, refl, sym, ap, subst, arith}
 use Rattle.wasi_addr.specs.declared.address.IpSocketAddress.{IpSocketAddress}
 use Rattle.wasi_addr.specs.declared.code.ErrorCode.{ErrorCode}
@@ -20,8 +20,9 @@ use Rattle.wasi_tcp.specs.Listener.{Listener, HoldsAccept, IsListener, begun, ac
 use Rattle.wasi_tcp.proofs.Listeners.{holds_new}
 use Rattle.wasi_host.specs.Sides.{made_by, closed_by, made_in, closed_in, one_if_some}
 
--- == trees that make and close sides: so many are held or were made, so many were closed, and this holds of both at the end
--- what a hand is told is done
+-- == trees that make and close network sockets: so many are held or were made, so many were closed, and this holds of both at
+-- the end
+-- what a hand is answered is done
 abbrev pub Suits : Call → Told → Type 0
 Suits (call.Hand sock peer) t = IsDone t
 Suits _ t = Unit {0}
@@ -64,7 +65,7 @@ weighed_left Q m n (AskWrite op sock bytes next) (e ∷ es) rest h w =
     let q : closed_by e.call ≡ 0 = rw w.0.1 refl in
     weighed_at Q (m + made_in es) (n + closed_in es) rest (omega arith) (omega arith) r
 
--- where the end tells how many more were made than closed, there is one such number
+-- where the end reports how many more were made than closed, there is one such number
 pub weighed_once : {A : Type 0} (Q : ℕ → ℕ → A → Type 0) → ((m n j k : ℕ) (a : A) → Q m n a → Q j k a → n + j ≡ k + m) → (m n j k : ℕ) (asks : Asks A) → Weighed Q m n asks → Weighed Q j k asks → n + j ≡ k + m
 weighed_once Q one m n j k (Give a) h g = one m n j k a h g
 weighed_once Q one m n j k (Ask op call next) h g =
@@ -72,7 +73,7 @@ weighed_once Q one m n j k (Ask op call next) h g =
 weighed_once Q one m n j k (AskWrite op sock bytes next) h g = weighed_once Q one m n j k (next told.Done) (h told.Done) (g told.Done)
 
 -- == a poll of an accept
--- it made one side where it ended with a connection, and closed none
+-- it made one network socket where it ended with a connection, and closed none
 abbrev Makes : Who → ℕ → ℕ → End × List Item → Type 0
 Makes who m n end = n + one_if_some (untaken_side (accept_ended who end)) ≡ m
 
@@ -132,7 +133,7 @@ holds_begun side maker ids (accepting.Asking op) h = h
 holds_begun side maker ids (accepting.Arrived new peer) h = tt
 holds_begun side maker ids (accepting.Failed c) h = tt
 
--- and holds as many sides
+-- and holds as many network sockets
 untaken_begun : (side : OpId) (maker : ℕ) (ids : Ids) (a : Accepting) → untaken_side (begun side maker ids a) ≡ untaken_side a
 untaken_begun side maker ids accepting.Idle = refl
 untaken_begun side maker ids (accepting.Asking op) = refl

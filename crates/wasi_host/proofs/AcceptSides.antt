@@ -1,4 +1,4 @@
--- What a call on a listener makes of the sides that its record holds, and what an accept gives.
+-- What a call on a listener makes of the network sockets that its record holds, and what an accept gives.
 use Rattle.std.proofs.Common.{◌≡◌, ℕ, suc, ◌+◌, Bool, List, refl, ap, subst, arith}
 use Rattle.std.specs.Prelude.{Result, Ok, Err, OnErr, IsErrAnd}
 use Rattle.std.specs.declared.alloc.AllocError.{AllocError}
@@ -25,13 +25,14 @@ use Rattle.wasi_host.proofs.SideCounts.{Any}
 use Rattle.wasi_host.proofs.AcceptCounts.{weighed_left, weighed_once, weigh_rest, weigh_listener}
 
 -- == a call on a listener
--- So many sides were held before, and so many are held or given away then.
+-- So many network sockets were held before, and so many are held or given away then.
 pub record Evens (before after : Seen) (was now : ℕ) : Type 0 where
   pub entries : List Entry
   pub passed : Passes before entries after
   pub balance : closed_in entries + now ≡ made_in entries + was
 
--- what a call makes of the accept holds or gives away the side that the accept had; and this holds of what the call gives
+-- what a call makes of the accept holds or gives away the network socket that the accept had; and this holds of what the call
+-- gives
 abbrev pub Keeps : {A : Type 0} → (A → ℕ) → (A → Type 0) → (Accepting → A) → Type 0
 Keeps weight P ends = (a : Accepting) → (weight (ends a) ≡ one_if_some (untaken_side a)) × P (ends a)
 
@@ -52,7 +53,7 @@ module _ {A : Type 0} (weight : A → ℕ) (P : A → Type 0) (ends : Accepting 
   pub given_done : (l : Listener) (ids : Ids) {x : A} {s t : Seen} → IsListener l → Reaches (listener_asks ends l ids) (Give x) s t → P x
   given_done l ids h r = (weighed l ids h r).1
 
-  -- or memory was wanted, and the accept stands
+  -- or memory ran out, and the accept stays in progress
   pub evens_stands : (l new : Listener) (ids : Ids) {s t : Seen} → IsListener l → IsListener new → StandsAccept (listener_asks ends l ids) ends new.accept s t → Evens s t (one_if_some (untaken_side l.accept)) (one_if_some (untaken_side new.accept))
   evens_stands l new ids h k stands =
       let op = stands.op in
@@ -86,7 +87,7 @@ pub looked_balances : (r : Tcp2Socket) (l new : Listener) (ids : Ids) (looked : 
     → OnErr looked (StandsAccept (listener_ready_asks l ids) (ready_end l) new.accept s t) → Balances s t 0 r (with_listening r (Accepts new))
 looked_balances r l new ids looked e h k asked stands = record_evens r l new 0 e (more_evens _ _ 0 refl (looked_evens l new ids looked h k asked stands))
 
--- how it is told
+-- how it is reported
 pub accept_over : (r : Tcp2Socket) (l new : Listener) (ids : Ids) {s t : Seen} (looked : Result (Answer (Unit {0})) AllocError) → AsksFor (listener_ready_asks l ids) s t (λ answer. (answer, new)) looked
     → AsksFor {A = Result Bool Stop × Tcp2Socket} (bind (listener_ready_asks l ids) (λ done. Give (accept_looked r done))) s t (λ (ready : Result Bool Stop). (ready, with_listening r (Accepts new))) (read_told looked)
 accept_over r l new ids (Ok answer) h = asks_end _ h.ok refl
@@ -115,7 +116,7 @@ given_none : (Q : Refusal → Type 0) (result : Result (Answer Socket) Refusal) 
 given_none Q (Ok answer) h = absurd h
 given_none Q (Err x) h = refl
 
--- for want of memory
+-- for lack of memory
 pub stood_balances : (Q : Refusal → Type 0) (r : Tcp2Socket) (l new : Listener) (ids : Ids) (result : Result (Answer Socket) Refusal) {s t : Seen} → IsErrAnd result Q → r.listening ≡ Accepts l → IsListener l → IsListener new
     → StandsAccept (listener_accept_asks l ids) (accept_end l) new.accept s t → Balances s t (given_by result) r (with_listening r (Accepts new))
 stood_balances Q r l new ids result x e h k stands = record_evens r l new (given_by result) e (more_evens _ _ (given_by result) (given_none Q result x) (evens_stands accepted_weight IsTaken (accept_end l) (accept_keeps l) l new ids h k stands))

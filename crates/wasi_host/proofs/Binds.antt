@@ -1,4 +1,4 @@
--- A bind of a record: what its poll asks, and that it makes no side and closes none.
+-- A bind of a record: what its poll asks, and that it makes no network socket and closes none.
 use Rattle.std.proofs.Common.{◌≡◌, refl, ap, sym, subst, Bool, true, false}
 use Rattle.std.specs.Prelude.{Result, Ok, Err}
 use Rattle.std.specs.declared.alloc.AllocError.{AllocError}

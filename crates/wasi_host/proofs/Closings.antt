@@ -14,7 +14,7 @@ use Rattle.wasi_host.specs.Listening.{side_in}
 pub quiet_again : {old mid new : Seen} → AsksNothing old mid → AsksNothing mid new → AsksNothing old new
 quiet_again h k = record { log = k.log ∙ h.log; faults = k.faults ∙ h.faults; plan = k.plan ∙ h.plan }
 
--- == the sides of some records
+-- == the network sockets of some records
 held_in-append : (xs ys : List Tcp2Socket) → held_in (xs ++ ys) ≡ held_in xs + held_in ys
 held_in-append [] ys = omega arith
 held_in-append (x ∷ xs) ys = let h = held_in-append xs ys in omega arith
@@ -40,7 +40,7 @@ closes_more {old} {mid} {new} {n} {k} h d f = record {
   counted = λ z. (let e = h.counted z in d.counted (omega (arith, e, f)) ∙ ap (λ m. m + k) e);
 }
 
--- both sides of the next record
+-- both network sockets of the next record
 pub closes_next : {old mid half new : Seen} (xs : List Tcp2Socket) (i : ℕ) (x : Tcp2Socket) (own other : Option OpId) → i < length xs → length xs + length xs < 2 ^ 64 → x ≡ get_or xs i x → own ≡ side_of x.inner → other ≡ side_in x.listening
     → ClosesSides old mid (held_in (take i xs)) → ClosesMore mid half (one_if_some own) → ClosesMore half new (one_if_some other) → ClosesSides old new (held_in (take (i + 1) xs))
 closes_next {old} {mid} {half} {new} xs i x own other h l e a b c d f =

@@ -1,4 +1,4 @@
--- What a connect makes of the sides that are held: one that is refused closes its side.
+-- What a connect makes of the network sockets that are held: one that is refused closes its network socket.
 use Rattle.std.proofs.Common.{◌≡◌, Bool, true, false, ℕ, zero, suc, ◌+◌, List, [], ◌∷◌, Some, refl, sym, ap, subst, ◌∙◌, arith, slice_get, slice_set}
 use Rattle.wasi_addr.specs.declared.address.IpSocketAddress.{IpSocketAddress}
 use Rattle.wasi_addr.specs.declared.address.SocketAddrUse.TheVariants.{TcpBind, TcpConnect}
@@ -33,7 +33,7 @@ use Rattle.wasi_host.specs.Store.{Records, with_socket, with_inner, opened_send,
 use Rattle.wasi_host.specs.Sides.{made_by, closed_by, made_in, closed_in, one_if_some, holds, held_in, Balances, KnowsSides}
 use Rattle.wasi_host.proofs.SideCounts.{knows_then, holds-same}
 
--- == trees that make no side: so many were closed before, and this holds of how many there are at the end
+-- == trees that make no network socket: so many were closed before, and this holds of how many there are at the end
 abbrev pub Counted : {A : Type 0} → (ℕ → A → Type 0) → ℕ → Asks A → Type 0
 Counted Q n (Give a) = Q n a
 Counted Q n (Ask op call next) = ((t : Told) → made_by call t ≡ 0) × ((t : Told) → Counted Q (n + closed_by call) (next t))
@@ -68,14 +68,14 @@ counted_left Q n (AskWrite op sock bytes next) (e ∷ es) rest h w =
     let z : n + closed_in es ≡ n + (closed_by e.call + closed_in es) = omega arith in
     record { made = omega arith; left = subst (λ (k : ℕ). Counted Q k rest) z r.left }
 
--- where the end tells how many were closed before, there is one such number
+-- where the end reports how many were closed before, there is one such number
 pub counted_once : {A : Type 0} (Q : ℕ → A → Type 0) → ((n m : ℕ) (a : A) → Q n a → Q m a → n ≡ m) → (n m : ℕ) (asks : Asks A) → Counted Q n asks → Counted Q m asks → n ≡ m
 counted_once Q one n m (Give a) h k = one n m a h k
 counted_once Q one n m (Ask op call next) h k = let e = counted_once Q one (n + closed_by call) (m + closed_by call) (next told.Done) (h.1 told.Done) (k.1 told.Done) in omega arith
 counted_once Q one n m (AskWrite op sock bytes next) h k = counted_once Q one n m (next told.Done) (h told.Done) (k told.Done)
 
 -- == a poll of a connect
--- refused, it closed its side; else it closed none
+-- refused, it closed its network socket; else it closed none
 abbrev Closes : ℕ → End × List Item → Type 0
 Closes n (Waits, items) = n ≡ 0
 Closes n (Done given, items) = n ≡ 0
@@ -152,7 +152,7 @@ closes_done r h e =
     let made = w.made in
     record { entries = e.entries; passed = e.passed; balance = omega arith }
 
--- or memory was wanted
+-- or memory ran out
 closes_memory : (r : Tcp2Socket) (now : Socket) {s t : Seen} → HoldsConnect r.inner.state → HoldsConnect now.state → side_of now ≡ side_of r.inner → Reaches (finish_connect_asks r.inner) (finish_connect_asks now) s t → Balances s t 0 r (with_inner r now)
 closes_memory r now h k e f =
     let same : held now.state ≡ held r.inner.state = ap one_if_some e in
@@ -170,7 +170,7 @@ poll_asked r now (Ok (Ready done)) h = asks_end _ h.ok refl
 poll_asked r now (Err (refusal.Code c)) h = asks_end _ h.ok refl
 poll_asked r now (Err (refusal.Memory e)) h = record { ok = tt; err = record { rest = bind h.err.rest (λ done. Give (connect_polled r done)); reached = reaches_in _ h.err.reached } }
 
--- taking a half leaves the side
+-- taking a half leaves the network socket
 receive_keeps : (s : TcpState) → side_in (take_receive s).1 ≡ side_in s
 receive_keeps (state.Default side) = refl
 receive_keeps (state.Listening side) = refl
@@ -228,7 +228,7 @@ settled_listening r (Ok (Ready done)) = opened_listening r r.inner
 settled_listening r (Err (refusal.Code c)) = refl
 settled_listening r (Err (refusal.Memory e)) = refl
 
--- another record that holds as many sides
+-- another record that holds as many network sockets
 pub balances_as : {s t : Seen} {n : ℕ} {old now : Tcp2Socket} (other : Tcp2Socket) → holds other ≡ holds now → Balances s t n old now → Balances s t n old other
 balances_as other e c = let b = c.balance in record { entries = c.entries; passed = c.passed; balance = omega arith }
 

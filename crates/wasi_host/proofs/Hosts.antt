@@ -1,4 +1,4 @@
--- How a host call's asks go on where it gives no value.
+-- How a host call's asks continue where it gives no value.
 use Rattle.std.specs.Prelude.{◌≡◌, ℕ, List, [], ◌∷◌, ◌++◌, length, Option, None, Result, Ok, Err, IsErrAnd}
 use Rattle.std.specs.declared.alloc.AllocError.{AllocError}
 use Rattle.std.proofs.Common.{ap, sym, subst}
@@ -29,7 +29,7 @@ host_memory : {T : Type 0} {d : AllocError} (r : Result T SocketError) → IsErr
 host_memory (Ok x) h = absurd h
 host_memory (Err x) h = ap (λ (y : SocketError). host_outcome (Err y)) h
 
--- want of memory before the first ask
+-- out of memory before the first ask
 pub host_none : {A T : Type 0} {asks : Asks A} {s t : Seen} {view : Result T Stop → A} {d : AllocError} (r : Result T SocketError) → IsErrAnd r (λ x. x ≡ Memory d) → t ≡ s → AsksFor asks s t view (host_outcome r)
 host_none {asks} {s} {t} r h e = rw (host_memory r h) (record { ok = tt; err = record { rest = asks; reached = rw e (reaches_all asks s) } })
 
@@ -61,12 +61,12 @@ host_passed {asks} f {s} {t} {view} {shown} (Memory d) (Err y) h k e =
     let P : SocketError → Type 0 = λ z. AsksFor (bind asks f) s t shown (host_outcome (Err z)) in
     subst P (sym h) (record { ok = tt; err = record { rest = bind k.err.rest f; reached = reaches_in f k.err.reached } })
 
--- == of a call that tells no codes
+-- == of a call that returns no codes
 fault_memory : {T : Type 0} {d : AllocError} (r : Result T Fault) → IsErrAnd r (λ x. x ≡ fault.Memory d) → fault_outcome r ≡ Err d
 fault_memory (Ok x) h = absurd h
 fault_memory (Err x) h = ap (λ (y : Fault). fault_outcome (Err y)) h
 
--- want of memory before the first ask
+-- out of memory before the first ask
 pub fault_none : {A T : Type 0} {asks : Asks A} {s t : Seen} {view : Result T Stop → A} {d : AllocError} (r : Result T Fault) → IsErrAnd r (λ x. x ≡ fault.Memory d) → t ≡ s → AsksFor asks s t view (fault_outcome r)
 fault_none {asks} {s} {t} r h e = rw (fault_memory r h) (record { ok = tt; err = record { rest = asks; reached = rw e (reaches_all asks s) } })
 

@@ -1,4 +1,5 @@
--- What a listen makes of the sides that are held: one that is refused closes its side, and one that is done gives it back.
+-- What a listen makes of the network sockets that are held: one that is refused closes its network socket, and one that is done
+-- gives it back.
 use Rattle.std.proofs.Common.{◌≡◌, Bool, true, false, if◌then◌else◌, ℕ, ◌+◌, List, [], ◌∷◌, Option, Some, None, is_some, refl, sym, ap, subst, arith}
 use Rattle.std.specs.Prelude.{Result, Ok, Err, OnErr}
 use Rattle.wasi_addr.specs.declared.address.IpSocketAddress.{IpSocketAddress}
@@ -33,7 +34,7 @@ use Rattle.wasi_world.proofs.Walks.{asks_at, asks_end, reaches_in}
 use Rattle.wasi_host.proofs.ConnectCounts.{Counted, counted_then, counted_left}
 
 -- == a poll of a listen
--- refused, it closed its side; pending, there is an ask left; done or pending, it closed none
+-- refused, it closed its network socket; pending, there is an ask left; done or pending, it closed none
 abbrev Stops : ℕ → End × List Item → Type 0
 Stops n (Waits, items) = (n ≡ 0) × (none_left items ≡ false)
 Stops n (Done given, items) = n ≡ 0
@@ -99,7 +100,7 @@ Ending = Result (Answer Listener) ErrorCode × (Operation × Socket)
 abbrev Balanced : Tcp2Socket → ℕ → ℕ → Ending → Type 0
 Balanced r before n done = n + holds (listen_polled r done).1 ≡ before
 
--- one that isn't over holds its side
+-- one that isn't over holds its network socket
 pub held_going : (op : Operation) → is_over op ≡ false → one_if_some (held_side op) ≡ 1
 held_going op h = rw h refl
 
@@ -129,8 +130,8 @@ balances_done r op now socket answer l e h reached =
     let b = w.left in
     record { entries = reached.entries; passed = reached.passed; balance = omega arith }
 
--- == or memory was wanted
--- one that isn't over may be refused, with its side closed
+-- == or memory ran out
+-- one that isn't over may be refused, with its network socket closed
 record Refuses (Q : ℕ → Ending → Type 0) (k : ℕ) (who : Who) (socket : Socket) : Type 0 where
   code : ErrorCode
   holds_of : Q (k + 1) (Err code, (record { who = who; left = [] }, socket))
@@ -206,7 +207,7 @@ pub listen_asked : (r : Tcp2Socket) (op now : Operation) (socket : Socket) (p : 
     → AsksFor (poll_listen_asks r) s t (λ answer. (answer, listen_settled (record r { inner = socket; listening = Begins now }) p)) (outcome (listen_told p))
 listen_asked r op now socket p l e h = asks_at (closed_listening r) e (asks_at (poll_listening r) l (begun_asked r op now socket p h))
 
--- there is no side where the test of it fails
+-- there is no network socket where the test of it fails
 pub none_of : (side : Option OpId) → is_some side ≡ false → side ≡ None
 none_of None h = refl
 none_of (Some side) h = absurd (cc)

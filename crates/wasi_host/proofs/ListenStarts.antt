@@ -1,4 +1,4 @@
--- How a listen begins: it takes the side of the socket.
+-- How a listen begins: it takes the network socket of the socket.
 use Rattle.std.proofs.Common.{◌≡◌, Bool, true, false, ℕ, List, [], ◌∷◌, Some, None, refl, ap, subst, ◌∙◌, arith}
 use Rattle.std.specs.Prelude.{Result, Ok, Err}
 use Rattle.std.specs.declared.alloc.AllocError.{AllocError}
@@ -30,7 +30,7 @@ calm_given Q (Give b) (e ∷ es) a h w = absurd w
 calm_given Q (Ask op call next) (e ∷ es) a h w = calm_given Q (next e.answer) es a (h.1 e.answer) w.1
 calm_given Q (AskWrite op sock bytes next) (e ∷ es) a h w = calm_given Q (next e.answer) es a (h e.answer) w.2
 
--- calm asks of the socket, which keeps its side
+-- calm asks of the socket, which keeps its network socket
 pub balances_inner : {A T : Type 0} {asks : Asks A} {s t : Seen} {view : T → A} (r : Tcp2Socket) (socket : Socket) (o : Result T AllocError) → Calm Any asks → AsksFor asks s t view o → side_of socket ≡ side_of r.inner → Balances s t 0 r (with_inner r socket)
 balances_inner r socket o q h e = balances_calm q o h (holds-same r (with_inner r socket) e refl)
 
@@ -50,7 +50,7 @@ fresh_start op socket bound _ = tt
 fresh_listen : (op : OpId) (socket : Socket) → Calm IsFresh (listen_asks op socket)
 fresh_listen op socket = calm_then Any IsFresh (bound_asks op socket) _ (calm_bound op socket) (λ b k. fresh_start op b.1 b.0 b.1.state)
 
--- the side goes from the socket to the operation
+-- the network socket goes from the socket to the operation
 pub listen_begins : (op : OpId) (r : Tcp2Socket) (begun : Operation) (now : Socket) {s t : Seen} → r.listening ≡ Not → (side_of r.inner ≡ Some begun.who.side) × (side_of now ≡ None) → Reaches (listen_asks op r.inner) (Give (Ok begun, now)) s t
     → Balances s t 0 r (record r { inner = now; listening = Begins begun })
 listen_begins op r begun now l taken reached =

@@ -1,4 +1,5 @@
--- Looks, shutdowns and closings of a record: how their answers are told, and what they make of the sides that are held.
+-- Looks, shutdowns and closings of a record: how their answers are reported, and what they make of the network sockets
+-- that are held.
 use Rattle.std.proofs.Common.{◌≡◌, ℕ, Bool, List, Option, Some, None, refl, ap}
 use Rattle.std.specs.Prelude.{Result, Ok, Err, OnErr}
 use Rattle.std.specs.declared.alloc.AllocError.{AllocError}
@@ -37,7 +38,7 @@ use Rattle.wasi_host.specs.Store.{Records, with_inner, with_reader, with_writer}
 use Rattle.wasi_host.proofs.SideCounts.{Calm, Any, calm_then}
 use Rattle.wasi_host.proofs.StreamCounts.{calm_look_in}
 
--- == how a look is told
+-- == how a look is reported
 waits_answer : (answer : Answer (Unit {0})) → wait_answer (Ok answer) ≡ answer
 waits_answer Pending = refl
 waits_answer (Ready tt) = refl
@@ -140,11 +141,11 @@ pub calm_give_up : (op : OpId) (o : Option Streams) → Calm Any (give_streams_u
 calm_give_up op None = tt
 calm_give_up op (Some s) = calm_then Any Any (reader_shutdown_asks op s.reader) _ (calm_reader_shutdown op s.reader) (λ d k. calm_side_up op (writer_side s.writer))
 
--- jobs hold no side
+-- jobs hold no network socket
 pub knows_jobs : {s : Seen} (store : Records) (jobs : List ℕ) → KnowsSides s store → KnowsSides s (record store { jobs = jobs })
 knows_jobs store jobs k = record { count = k.count }
 
--- at want of memory alone
+-- only when memory runs out
 pub on_err : {T E P : Type 0} (r : Result T E) → P → OnErr r P
 on_err (Ok x) p = tt
 on_err (Err e) p = p

@@ -43,7 +43,7 @@ last_live (s ∷ live) n kind parent = slot_live live s n kind parent (s.handle 
 pub comes_live : (t n : Handles) (kind : Kind) (parent : Option ℕ) (h : ℕ) → h ≡ t.next → n ≡ pushed t kind parent → IsSome (kind_at n h)
 comes_live t n kind parent h e k = rw (k, e) (last_live t.live t.next kind parent)
 
--- what was put stands there
+-- what was put is there
 pub set_there : {X : Type 0} (xs : List X) (i : ℕ) (now old : X) → slice_get xs i ≡ Some old → slice_get (slice_set xs i now) i ≡ Some now
 set_there [] i now old h = absurd (cc)
 set_there (x ∷ xs) zero now old h = refl

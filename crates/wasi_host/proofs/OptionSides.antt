@@ -1,4 +1,4 @@
--- The options of a socket, and its backlog, make and close no side.
+-- The options of a socket, and its backlog, make and close no network socket.
 use Rattle.std.proofs.Common.{ℕ, ◌==◌, Bool, true, false, if◌then◌else◌, Result, Ok, Err, refl}
 use Rattle.wasi_addr.specs.declared.code.ErrorCode.{ErrorCode}
 use Rattle.wasi_addr.specs.Clamp.{clamped_backlog}

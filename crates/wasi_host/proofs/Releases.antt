@@ -1,4 +1,4 @@
--- Records that are released: each side that one held is closed once.
+-- Records that are released: each network socket that one held is closed once.
 use Rattle.std.proofs.Common.{◌≡◌, ℕ, ◌+◌, Bool, true, false, if◌then◌else◌, Option, Some, None, refl, sym, ap, subst, arith}
 use Rattle.std.specs.Prelude.{Result, Ok, Err, OnErr}
 use Rattle.std.specs.declared.alloc.AllocError.{AllocError}
@@ -41,7 +41,7 @@ counted_calm n (Ask op call next) h =
     (h.0.0, λ t. subst (λ (m : ℕ). Counted (λ k a. k ≡ n) m (next t)) e (counted_calm n (next t) (h.1 t)))
 counted_calm n (AskWrite op sock bytes next) h = λ t. counted_calm n (next t) (h t)
 
--- a side that was there is closed once
+-- a network socket that was there is closed once
 count_close : (op : OpId) (socket : Socket) (o : Option OpId) → side_of socket ≡ o → Counted (λ n done. n + one_if_some (side_of done.1) ≡ one_if_some (side_of socket)) 0 (close_in op socket o)
 unfolding bind
 count_close op socket None e = omega arith
@@ -57,7 +57,7 @@ count_connection : (op : OpId) (r : Tcp2Socket) → Counted (Releases r) 0 (rele
 count_connection op r =
     counted_then (λ n done. n ≡ 0) (Releases r) 0 (give_streams_up op r.streams) _ (counted_calm 0 (give_streams_up op r.streams) (calm_give_up op r.streams)) (λ n done k. subst (λ (m : ℕ). Counted (Releases r) m (close_record op r)) (sym k) (count_record op r))
 
--- it is closed, unless memory was wanted before
+-- it is closed, unless memory ran out before
 pub connection_closes : (op : OpId) (r now : Tcp2Socket) {s t u : Seen} (result : Result (Unit {0}) AllocError) → r.listening ≡ Not → Reaches (give_streams_up op r.streams) (Give tt) s t
     → AsksFor (release_connection op r) s u (λ done. (done, now)) result → OnErr result (now ≡ record r { streams = None }) → OnErr result (u ≡ t) → Balances s u 0 r now
 connection_closes op r now (Ok done) l g h e q =
@@ -95,7 +95,7 @@ count_untaken (accepting.Asking op) = count_refuse op.who (in_hand op.left)
 count_untaken (accepting.Arrived new peer) = count_side_closed new new
 count_untaken (accepting.Failed c) = refl
 
--- the side that it held is closed, and no other
+-- the network socket that it held is closed, and no other
 count_given_up : (l : Listening) → Counted (Closed (one_if_some (side_in l))) 0 (give_up_asks l)
 count_given_up Not = refl
 count_given_up (Begins op) = count_cancel op

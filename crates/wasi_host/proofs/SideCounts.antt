@@ -1,4 +1,4 @@
--- Walks in which no side is made or closed, and the sides that the records hold.
+-- Walks in which no network socket is made or closed, and the network sockets that the records hold.
 use Rattle.std.proofs.Common.{◌≡◌, ℕ, zero, suc, ◌+◌, Bool, true, false, if◌then◌else◌, List, [], ◌∷◌, ◌++◌, Option, Some, None, option_map, IfSome, OnErr, Result, Ok, Err, refl, sym, ap, subst, ◌∙◌, arith, append-nil, append_assoc, slice_get, slice_set, length}
 use Rattle.std.specs.declared.alloc.AllocError.{AllocError}
 use Rattle.wasi_addr.specs.declared.address.IpSocketAddress.{IpSocketAddress}
@@ -42,7 +42,7 @@ use Rattle.wasi_host.specs.Standing.{stood}
 use Rattle.wasi_host.specs.Store.{Records, new_record, begin_connect_asks, tell_local_asks, tell_remote_asks, with_record}
 use Rattle.wasi_host.specs.Sides.{one_if_done, made_by, closed_by, made_in, closed_in, holds, held_in, Balances, KnowsSides, MakesNone}
 
--- == calls that neither make nor close a side
+-- == calls that neither make nor close a network socket
 abbrev pub IsQuiet : Call → Type 0
 IsQuiet c = ((t : Told) → made_by c t ≡ 0) × (closed_by c ≡ 0)
 
@@ -78,7 +78,7 @@ calm_left Q (Give a) (e ∷ es) rest h w = absurd w
 calm_left Q (Ask op call next) (e ∷ es) rest h w = none_more e es (rw w.0.1 h.0) (calm_left Q (next e.answer) es rest (h.1 e.answer) w.1)
 calm_left Q (AskWrite op sock bytes next) (e ∷ es) rest h w = none_more e es (rw w.0.1 (write_quiet sock (length bytes))) (calm_left Q (next e.answer) es rest (h e.answer) w.2)
 
--- == sides of a log that grew
+-- == network sockets of a log that grew
 made_in-append : (xs ys : List Entry) → made_in (xs ++ ys) ≡ made_in xs + made_in ys
 made_in-append [] ys = omega arith
 made_in-append (x ∷ xs) ys = let h = made_in-append xs ys in omega arith
@@ -87,7 +87,7 @@ closed_in-append : (xs ys : List Entry) → closed_in (xs ++ ys) ≡ closed_in x
 closed_in-append [] ys = omega arith
 closed_in-append (x ∷ xs) ys = let h = closed_in-append xs ys in omega arith
 
--- the records know the sides where as many more are held as were made
+-- the records know the network sockets where as many more are held as were made
 pub knows_grown : (old new : Option (List Entry)) (es : List Entry) (a b : ℕ) → new ≡ option_map (λ log. log ++ es) old → b + closed_in es ≡ a + made_in es → IfSome old (λ log. closed_in log + a ≡ made_in log) → IfSome new (λ log. closed_in log + b ≡ made_in log)
 knows_grown None new es a b e h k = rw e tt
 knows_grown (Some log) new es a b e h k = rw e (let m = made_in-append log es in let c = closed_in-append log es in omega arith)
@@ -103,7 +103,7 @@ pub knows_asked : {A T : Type 0} (Q : A → Type 0) {asks : Asks A} {s t : Seen}
 knows_asked Q (Ok x) a b q h e k = knows_calm Q a b q h.ok e k
 knows_asked Q (Err d) a b q h e k = knows_calm Q a b q h.err.reached e k
 
--- == a record that is replaced holds as many sides
+-- == a record that is replaced holds as many network sockets
 pub held_in-same : (rs : List Tcp2Socket) (i : ℕ) (r s : Tcp2Socket) → slice_get rs i ≡ Some r → holds s ≡ holds r → held_in (slice_set rs i s) ≡ held_in rs
 held_in-same [] i r s h e = refl
 held_in-same (x ∷ rs) zero r s h e = let k : x ≡ r = cc in ap (λ n. n + held_in rs) (e ∙ ap (λ (y : Tcp2Socket). holds y) (sym k))
@@ -119,7 +119,7 @@ pub held_in-append : (rs : List Tcp2Socket) (r : Tcp2Socket) → held_in (rs ++ 
 held_in-append [] r = omega arith
 held_in-append (x ∷ rs) r = let h = held_in-append rs r in omega arith
 
--- == what calm asks make of a record's sides
+-- == what calm asks make of a record's network sockets
 pub balances_walk : {A : Type 0} {asks rest : Asks A} {s t : Seen} {old now : Tcp2Socket} → Calm Any asks → Reaches asks rest s t → holds now ≡ holds old → Balances s t 0 old now
 balances_walk {asks = asks} {rest} q h e =
     let n = calm_left Any asks h.entries rest q h.left in
@@ -237,7 +237,7 @@ calm_remote_in op _ = tt
 pub calm_tell_remote : (op : OpId) (r : Tcp2Socket) → Calm Any (tell_remote_asks op r)
 calm_tell_remote op r = calm_then Any Any (remote_asks op r.inner) _ (calm_then Any Any (remote_in op r.inner.state) _ (calm_remote_in op r.inner.state) (λ d k. tt)) (λ d k. tt)
 
--- == a create makes one side where it gives a socket, and none where it doesn't
+-- == a create makes one network socket where it gives a socket, and none where it doesn't
 abbrev made_or_not : Result Socket ErrorCode → ℕ
 made_or_not (Ok s) = 1
 made_or_not (Err c) = 0
@@ -274,11 +274,11 @@ knows_refused op ctx family (refusal.Memory d) store h e k = rw e k
 pub calm_made : (op : OpId) (h : ℕ) (kind : HandleKind) (parent : Option ℕ) (side : Option OpId) → Calm Any (ask_made op h kind parent side)
 calm_made op h kind parent side = ((λ t. refl, refl), λ t. tt)
 
--- records that hold as many sides know them as well
+-- records that hold as many network sockets know them as well
 pub knows_same : {s : Seen} (a b : Records) → held_in b.sockets ≡ held_in a.sockets → KnowsSides s a → KnowsSides s b
 knows_same {s} a b e k = record { count = subst (λ (n : ℕ). IfSome s.log (λ log. closed_in log + n ≡ made_in log)) (sym e) k.count }
 
--- a call that stands holds no side of its own
+-- a pending call holds no network socket of its own
 stood_same : (store : Records) (line : ℕ) (call : StandingCall) (answer : Answer (Unit {0})) → (stood store line call answer).1.sockets ≡ store.sockets
 stood_same store line call (Ready done) = refl
 stood_same store line call Pending = refl
@@ -286,7 +286,7 @@ stood_same store line call Pending = refl
 pub knows_stood : {s : Seen} (store after : Records) (line : ℕ) (call : StandingCall) (answer told : Answer (Unit {0})) → (told, after) ≡ stood store line call answer → KnowsSides s store → KnowsSides s after
 knows_stood store after line call answer told e k = knows_same store after (ap (λ (d : Answer (Unit {0}) × Records). held_in d.1.sockets) e ∙ ap held_in (stood_same store line call answer)) k
 
--- where no side was made or closed
+-- where no network socket was made or closed
 pub knows_none : {s t : Seen} (a b : Records) → MakesNone s t → held_in b.sockets ≡ held_in a.sockets → KnowsSides s a → KnowsSides t b
 knows_none {s} {t} a b n e k =
     let m = n.made in let c = n.closed in record { count = knows_grown s.log t.log n.entries (held_in a.sockets) (held_in b.sockets) n.log (omega arith) k.count }

@@ -1,4 +1,4 @@
--- How a stream's call goes on where it gives no value.
+-- How a stream's call continues where it gives no value.
 use Rattle.std.specs.Prelude.{◌≡◌, ℕ, Option, Some, Result, Ok, Err, IsErrAnd, refl, slice_get}
 use Rattle.std.specs.declared.alloc.AllocError.{AllocError}
 use Rattle.std.proofs.Common.{ap}
@@ -59,7 +59,7 @@ module _ (m : Machine) (own : OpId) (handle place : ℕ) where
     converted_err (told.Trap kind) r h k z = asks_then _ h.ok (stopped_by r k)
     converted_err (told.Memory e) r h k z = rw (z.0, z.2) (record { ok = tt; err = record { rest = bind h.err.rest _; reached = reaches_in _ h.err.reached } })
 
--- want of memory in a call
+-- out of memory in a call
 call_memory : {T : Type 0} {d : AllocError} (r : Result T CallError) → IsErrAnd r (λ x. x ≡ call.Memory d) → call_outcome r ≡ Err d
 call_memory (Ok x) h = absurd h
 call_memory (Err x) h = ap (λ (y : CallError). call_outcome (Err y)) h

@@ -1,4 +1,4 @@
--- The calls of a connection's streams make and close no side.
+-- The calls of a connection's streams make and close no network socket.
 use Rattle.std.proofs.Common.{◌≡◌, ℕ, zero, suc, Bool, true, false, if◌then◌else◌, List, [], ◌∷◌, Option, Some, None, refl, sym, subst, length}
 use Rattle.std.specs.Prelude.{Result, Ok, Err, ◌==◌, nat_lt, min}
 use Rattle.wasi_addr.specs.declared.code.ErrorCode.{ErrorCode}

@@ -9,7 +9,7 @@ pub record AsksNothing (old new : Seen) : Type 0 where
   pub faults : new.faults ≡ old.faults
   pub plan : new.plan ≡ old.plan
 
--- After the end mark so many sides were closed, the first of all, and nothing else was done.
+-- After the end mark so many network sockets were closed, the first of all, and nothing else was done.
 pub record ClosesSides (old new : Seen) (count : ℕ) : Type 0 where
   pub quiet : AsksNothing old new
   pub ended : new.ended ≡ true
@@ -21,11 +21,11 @@ pub record ClosesMore (old new : Seen) (count : ℕ) : Type 0 where
   pub ended : new.ended ≡ true
   pub counted : old.closings + count < 2 ^ 64 → new.closings ≡ old.closings + count
 
--- No call is in the log, where it is told, and no closing was counted.
+-- No call is in the log, where it is reported, and no closing was counted.
 pub record IsFresh (seen : Seen) : Type 0 where
   pub log : IfSome seen.log (λ log. log ≡ [])
   pub closings : seen.closings ≡ 0
 
--- As many sides were closed after the end mark as the log made and didn't close, where it is told.
+-- As many network sockets were closed after the end mark as the log made and didn't close, where it is reported.
 pub record HasClosedAll (seen : Seen) : Type 0 where
   pub count : IfSome seen.log (λ log. closed_in log + seen.closings ≡ made_in log)

@@ -1,4 +1,4 @@
--- What goes with a handle: a socket gives its side up, and an output waits for its writer.
+-- What goes with a handle: a socket releases its network socket, and an output waits for its writer.
 use Rattle.std.specs.Prelude.{ℕ, Option, Some, None, Result, Ok, Err}
 use Rattle.std.specs.declared.alloc.AllocError.{AllocError}
 use Rattle.wasi_world.specs.declared.ids.OpId.{OpId}
@@ -23,7 +23,7 @@ use Rattle.wasi_host.specs.Jobs.{other_jobs}
 use Rattle.wasi_host.specs.Listening.{give_up_asks}
 
 -- == a socket
--- the open halves are given up, the receiving one first; a write that goes on ends there
+-- the open halves are released, the receiving one first; a write in progress ends there
 abbrev pub give_streams_up : OpId → Option Streams → Asks (Unit {0})
 give_streams_up op None = Give tt
 give_streams_up op (Some s) = bind (reader_shutdown_asks op s.reader) (λ done. writer_give_up_asks op s.writer)
@@ -35,7 +35,7 @@ gone r socket = record r { inner = socket; in_progress = doing.Nothing; listenin
 abbrev pub close_record : OpId → Tcp2Socket → Asks (Unit {0} × Tcp2Socket)
 close_record op r = bind (close_asks op r.inner) (λ done. Give (tt, gone r done.1))
 
--- then its side is closed, where it has one
+-- then its network socket is closed, where it has one
 abbrev pub release_connection : OpId → Tcp2Socket → Asks (Unit {0} × Tcp2Socket)
 release_connection op r = bind (give_streams_up op r.streams) (λ done. close_record op r)
 

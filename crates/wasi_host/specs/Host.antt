@@ -21,7 +21,7 @@ use Rattle.wasi_streams.specs.declared.fault.HostError.TheVariants as error
 abbrev pub SocketError : Type 0
 SocketError = HostError P2Code
 
--- why a call gave no value, but for want of memory
+-- why a call gave no value, other than for lack of memory
 pub data Stop : Type 0 where
   Code : P2Code → Stop
   Trap : TrapKind → Stop
@@ -29,14 +29,14 @@ pub data Stop : Type 0 where
 abbrev pub code_stop : ErrorCode → Stop
 code_stop c = Code (p2_of_code c)
 
--- a code and a trap are answers; only want of memory isn't
+-- a code and a trap are answers; only running out of memory isn't
 abbrev pub host_outcome : {T : Type 0} → Result T SocketError → Result (Result T Stop) AllocError
 host_outcome (Ok t) = Ok (Ok t)
 host_outcome (Err (error.Code c)) = Ok (Err (Code c))
 host_outcome (Err (error.Trap k)) = Ok (Err (Trap k))
 host_outcome (Err (error.Memory e)) = Err e
 
--- the same of a call that tells no codes
+-- the same of a call that returns no codes
 abbrev pub fault_outcome : {T : Type 0} → Result T Fault → Result (Result T Stop) AllocError
 fault_outcome (Ok t) = Ok (Ok t)
 fault_outcome (Err (fault.Trap k)) = Ok (Err (Trap k))
@@ -48,7 +48,7 @@ IsStop (error.Code c) P = P (Code c)
 IsStop (error.Trap k) P = P (Trap k)
 IsStop (error.Memory e) P = ⊥
 
--- why a call of a stream gave no value, but for want of memory
+-- why a call of a stream gave no value, other than for lack of memory
 pub data CallStop : Type 0 where
   Failed : ErrorCode → ℕ → CallStop  -- with the handle of the error
   Closed : CallStop
@@ -74,7 +74,7 @@ failed_with c (Ok e) = Failed c e
 failed_with c (Err (Trap k)) = Traps k
 failed_with c (Err (Code d)) = Traps Full
 
--- it is none but want of memory, of which this holds
+-- it is none but out of memory, of which this holds
 abbrev pub IsCallStop : CallError → (CallStop → Type 0) → Type 0
 IsCallStop (stream.Failed c e) P = P (Failed c e)
 IsCallStop stream.Closed P = P Closed
@@ -87,7 +87,7 @@ failed_outcome c (Ok e) = Ok (Failed c e)
 failed_outcome c (Err (fault.Trap k)) = Ok (Traps k)
 failed_outcome c (Err (fault.Memory e)) = Err e
 
--- of an error of a stream that isn't want of memory this holds
+-- of an error of a stream that isn't out of memory this holds
 abbrev pub IsStreamStop : StreamError → (StreamStop → Type 0) → Type 0
 IsStreamStop (told.LastOperationFailed c) P = P (stop.Failed c)
 IsStreamStop told.Closed P = P stop.Closed

@@ -1,4 +1,4 @@
--- Writes that go on by themselves: which records have one, and what a turn asks.
+-- Background writes: which records have one, and what a turn asks.
 use Rattle.std.specs.Prelude.{ℕ, Bool, true, false, not, ◌&&◌, ◌==◌, if◌then◌else◌, List, [], ◌∷◌, ◌++◌, Option, Some, None, Result, slice_get, slice_set}
 use Rattle.wasi_world.specs.Asks.{Asks, Give, bind}
 use Rattle.wasi_world.specs.Operation.{End, Waits}
@@ -39,7 +39,7 @@ abbrev pub with_job : Records → ℕ → Bool → Records
 with_job store place true = record store { jobs = store.jobs ++ place ∷ [] }
 with_job store place false = store
 
--- a write began on the record, and goes on
+-- a write began on the record, and is in progress
 abbrev pub begins_job : Option Tcp2Socket → Option Tcp2Socket → Bool
 begins_job before now = not (has_job before) && has_job now
 
@@ -51,7 +51,7 @@ abbrev pub write_at : {T : Type 0} → Records → ℕ → (Tcp2Socket → Asks 
 write_at store place call found = bind (stream_at store place call found) (λ done. Give (noted place found done))
 
 -- == a turn
--- the record's write is polled once, where one goes on
+-- the record's write is polled once, where one is in progress
 abbrev pub turned : Tcp2Socket → Option Streams → Asks Tcp2Socket
 turned r None = Give r
 turned r (Some s) = bind (turn_asks s.writer) (λ done. Give (with_writer r s done.1))

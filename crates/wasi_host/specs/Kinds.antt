@@ -67,7 +67,7 @@ place_in (watched.Input place) = place
 place_in (watched.Output place) = place
 
 -- == a handle is made
--- a pollable stands under what it watches, and the streams of a connection under its socket; an error's parent is named in its
+-- a pollable is a child of what it watches, and the streams of a connection under its socket; an error's parent is named in its
 -- mark alone
 abbrev pub table_parent : Kind → Option ℕ → Option ℕ
 table_parent (Input n) parent = parent

@@ -61,7 +61,7 @@ abbrev pub poll_listening : Tcp2Socket → Listening → Asks (Result (Answer (U
 poll_listening r (Begins op) = poll_begun r op
 poll_listening r _ = Give (Err InvalidState, r)
 
--- the socket has no side of its own while its listen goes on
+-- the socket has no network socket of its own while its listen is in progress
 abbrev pub closed_listening : Tcp2Socket → Option OpId → Asks (Result (Answer (Unit {0})) ErrorCode × Tcp2Socket)
 closed_listening r None = poll_listening r r.listening
 closed_listening r (Some side) = Give (Err InvalidState, r)
@@ -105,7 +105,7 @@ accept_listening ids r _ = Give (Err InvalidState, r)
 abbrev pub accept_record_asks : Ids → Tcp2Socket → Asks (Result (Answer Socket) ErrorCode × Tcp2Socket)
 accept_record_asks ids r = accept_listening ids r r.listening
 
--- the record of what was accepted, with its streams; one with a code has none, and the code is told
+-- the record of what was accepted, with its streams; one with a code has none, and the code is reported
 abbrev pub accepted_record : Socket → Result (Unit {0}) Stop × Tcp2Socket
 accepted_record socket = opened (new_record socket) socket
 
@@ -155,14 +155,14 @@ pub record TakesOne (old new : Ids) : Type 0 where
   pub one : new.next_part ≤ old.next_part + 1
 
 -- == a listener that goes
--- the side that is held beside the socket's own: of a listen that goes on, or of a connection that isn't taken
+-- the network socket that is held beside the socket's own: of a listen in progress, or of a connection that isn't taken
 abbrev pub side_in : Listening → Option OpId
 side_in Not = None
 side_in (Begins op) = held_side op
 side_in (Accepts l) = untaken_side l.accept
 side_in (Unclosed side) = Some side
 
--- A listen that goes on is cancelled; a listener's accept is given up: an arrival in hand is refused, and a connection that
+-- A listen in progress is cancelled; a listener's accept is released: an arrival in hand is refused, and a connection that
 -- isn't taken is closed.
 abbrev pub give_up_asks : Listening → Asks (Unit {0})
 give_up_asks Not = Give tt
@@ -170,7 +170,7 @@ give_up_asks (Begins op) = cancel_asks op
 give_up_asks (Accepts l) = listener_give_up_asks l
 give_up_asks (Unclosed side) = ask_close side side
 
--- out of memory, the side is known still
+-- out of memory, the network socket is known still
 abbrev pub unclosed : Option OpId → Listening
 unclosed None = Not
 unclosed (Some side) = Unclosed side

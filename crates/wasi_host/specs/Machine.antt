@@ -24,7 +24,7 @@ use Rattle.wasi_host.specs.Jobs.{turn_store_asks}
 use Rattle.wasi_host.specs.Readiness.{ready_at, ready_ids_at}
 use Rattle.wasi_host.specs.Dropping.{release_at, drop_output_at}
 
--- no handle, no record, no job, no call that stands
+-- no handle, no record, no job, no pending call
 abbrev pub first_state : Machine
 first_state = record { table = empty; store = no_records }
 
@@ -51,7 +51,7 @@ output_at m h = output_of (kind_at m.table h)
 abbrev pub no_such_handle : {A : Type 0} → Machine → Asks (Result A Stop × Machine)
 no_such_handle m = Give (Err (Trap NoSuchHandle), m)
 
--- the side that a record was made with, by which its handles are marked
+-- the network socket that a record was made with, by which its handles are marked
 abbrev pub side_at : Option Tcp2Socket → Option OpId
 side_at None = None
 side_at (Some r) = r.side
@@ -101,7 +101,7 @@ answered done = (Ok done.0, done.1)
 abbrev pub at_once : Unit {0} × Records → Answer (Unit {0}) × Records
 at_once done = (Ready tt, done.1)
 
--- a socket gives up what it has, an output waits for its writer, and the rest don't wait
+-- a socket releases what it has, an output waits for its writer, and the rest don't wait
 abbrev pub drop_kind : Machine → OpId → Kind → Asks (Result (Answer (Unit {0})) Stop × Machine)
 drop_kind m own (Tcp2 place) = bind (release_at m.store own place (slice_get m.store.sockets place)) (λ done. Give (answered (with_store m (at_once done))))
 drop_kind m own (Output place) = bind (drop_output_at m.store own place (slice_get m.store.sockets place)) (λ done. Give (answered (with_store m done)))

@@ -1,4 +1,4 @@
--- How a pending call goes on.
+-- How a pending call continues.
 use Rattle.std.specs.Prelude.{ℕ, Option, Some, None, Result, Ok, Err, slice_get}
 use Rattle.wasi_world.specs.declared.outcome.Answer.{Answer}
 use Rattle.wasi_world.specs.declared.outcome.Answer.TheVariants.{Ready, Pending}
@@ -31,7 +31,7 @@ abbrev pub relisten_at : Records → ℕ → ℕ → Option Tcp2Socket → Asks 
 relisten_at store line place None = Give (Err (Trap NoSuchHandle), store)
 relisten_at store line place (Some r) = bind (poll_listen_asks r) (λ done. Give (call_answered store line (Listen place) done))
 
--- a bind and a listen are polled again, and a drop looks again, by the line that dropped the output; pending, it stands on
+-- a bind and a listen are polled again, and a drop looks again, by the line that dropped the output; pending, it stays pending
 abbrev pub go_on : Records → ℕ → StandingCall → Asks (Result (Answer (Unit {0})) Stop × Records)
 go_on store line (Bind place) = rebind_at store line place (slice_get store.sockets place)
 go_on store line (Listen place) = relisten_at store line place (slice_get store.sockets place)

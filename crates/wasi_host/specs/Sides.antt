@@ -1,4 +1,4 @@
--- The network sides that a log made and closed, and those that the records hold.
+-- The network sockets that a log made and closed, and those that the records hold.
 use Rattle.std.specs.Prelude.{◌≡◌, ℕ, ◌+◌, List, [], ◌∷◌, ◌++◌, Option, Some, None, option_map, IfSome, Result, Ok}
 use Rattle.wasi_world.specs.declared.call.Call.{Call}
 use Rattle.wasi_world.specs.declared.call.Call.TheVariants.{TcpCreate, UdpCreate, Hand, Close}
@@ -20,7 +20,7 @@ abbrev pub one_if_done : Told → ℕ
 one_if_done Done = 1
 one_if_done _ = 0
 
--- how many sides a call made: a create or a hand that was told done makes one
+-- how many network sockets a call made: a create or a hand that was answered done makes one
 abbrev pub made_by : Call → Told → ℕ
 made_by (TcpCreate ctx family) told = one_if_done told
 made_by (UdpCreate ctx family) told = one_if_done told
@@ -43,38 +43,40 @@ abbrev pub one_if_some : Option OpId → ℕ
 one_if_some (Some side) = 1
 one_if_some None = 0
 
--- how many sides a record holds: its socket's, and that of a listen that goes on, or of a connection that isn't taken
+-- how many network sockets a record holds: its socket's, and that of a listen in progress, or of a connection that
+-- isn't taken
 abbrev pub holds : Tcp2Socket → ℕ
 holds r = one_if_some (side_of r.inner) + one_if_some (side_in r.listening)
 
--- how many sides the records hold
+-- how many network sockets the records hold
 abbrev pub held_in : List Tcp2Socket → ℕ
 held_in [] = 0
 held_in (r ∷ rs) = holds r + held_in rs
 
--- how many sides the answer of an accept gives away
+-- how many network sockets the answer of an accept gives away
 abbrev pub given_by : Result (Answer Socket) Refusal → ℕ
 given_by (Ok (Ready socket)) = one_if_some (side_of socket)
 given_by _ = 0
 
--- The record holds as many sides more than before, beside so many that it gave away, as were made and not closed.
+-- The record holds as many network sockets more than before, beside so many that it gave away, as were made and not
+-- closed.
 pub record Balances (before after : Seen) (given : ℕ) (old now : Tcp2Socket) : Type 0 where
   pub entries : List Entry
   pub passed : Passes before entries after
   pub balance : closed_in entries + (holds now + given) ≡ made_in entries + holds old
 
--- What was asked made no side and closed none.
+-- What was asked made no network socket and closed none.
 pub record MakesNone (before after : Seen) : Type 0 where
   pub entries : List Entry
   pub log : after.log ≡ option_map (λ log. log ++ entries) before.log
   pub made : made_in entries ≡ 0
   pub closed : closed_in entries ≡ 0
 
--- As many sides were made and not closed as records hold one, where the log is told.
+-- As many network sockets were made and not closed as records hold one, where the log is reported.
 pub record KnowsSides (seen : Seen) (records : Records) : Type 0 where
   pub count : IfSome seen.log (λ log. closed_in log + held_in records.sockets ≡ made_in log)
 
--- As many sides were closed after the end mark as the log made and didn't close.
+-- As many network sockets were closed after the end mark as the log made and didn't close.
 pub record ClosesAll (old new : Seen) : Type 0 where
   pub log : new.log ≡ old.log
   pub count : old.closings ≡ 0 → IfSome new.log (λ log. closed_in log + new.closings ≡ made_in log)

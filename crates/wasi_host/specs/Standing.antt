@@ -1,4 +1,4 @@
--- The call that stands.
+-- The pending call.
 use Rattle.std.specs.Prelude.{ℕ, ◌==◌, Bool, false, if◌then◌else◌, Option, Some, None, Result, Ok, Err}
 use Rattle.wasi_addr.specs.declared.code.ErrorCode.{ErrorCode}
 use Rattle.wasi_world.specs.declared.outcome.Answer.{Answer}
@@ -10,17 +10,17 @@ use Rattle.wasi_host.specs.declared.store.StandingCall.TheVariants.{Bind, Listen
 use Rattle.wasi_host.specs.Host.{Stop, code_stop}
 use Rattle.wasi_host.specs.Store.{Records, with_socket}
 
--- the number of the call that stands
+-- the number of the pending call
 abbrev pub exclusive_of : Option Standing → Option ℕ
 exclusive_of None = None
 exclusive_of (Some s) = Some s.line
 
--- a call of this number stands
+-- a call of this number is pending
 abbrev pub stands_as : Option Standing → ℕ → Bool
 stands_as None line = false
 stands_as (Some s) line = s.line == line
 
--- the call that stands under this number
+-- the pending call under this number
 abbrev pub call_of : Option Standing → ℕ → Option StandingCall
 call_of None line = None
 call_of (Some s) line = if s.line == line then Some s.call else None
@@ -31,14 +31,14 @@ call_place (Bind place) = place
 call_place (Listen place) = place
 call_place (DropOutput place) = place
 
--- nothing stands
+-- nothing is pending
 abbrev pub unstood : Records → Records
 unstood store = record store { standing = None }
 
 abbrev pub standing_as : ℕ → StandingCall → Standing
 standing_as line call = record { line = line; call = call }
 
--- a call that is pending stands under its line's number
+-- a call that is pending is kept under its line's number
 abbrev pub stood : Records → ℕ → StandingCall → Answer (Unit {0}) → Answer (Unit {0}) × Records
 stood store line call (Ready done) = (Ready tt, store)
 stood store line call Pending = (Pending, record store { standing = Some (standing_as line call) })

@@ -1,4 +1,4 @@
--- The records that handles name, and the call that stands.
+-- The records that handles name, and the pending call.
 use Rattle.std.specs.Prelude.{ℕ, Bool, true, false, List, [], ◌∷◌, ◌++◌, Option, Some, None, Result, Ok, Err, slice_set}
 use Rattle.std.specs.declared.alloc.AllocError.{AllocError}
 use Rattle.wasi_addr.specs.declared.address.IpSocketAddress.{IpSocketAddress}
@@ -44,7 +44,7 @@ pub record Records : Type 0 where
 abbrev pub no_records : Records
 no_records = record { sockets = []; jobs = []; standing = None }
 
--- its handles are marked with the side that it is made with
+-- its handles are marked with the network socket that it is made with
 abbrev pub new_record : Socket → Tcp2Socket
 new_record socket = record { inner = socket; side = side_of socket; in_progress = doing.Nothing; listening = listening.Not; streams = None }
 
@@ -200,6 +200,6 @@ abbrev pub stream_at : {T : Type 0} → Records → ℕ → (Tcp2Socket → Asks
 stream_at store place call None = Give (Err (stream.Trap NoSuchHandle), store)
 stream_at store place call (Some r) = bind (call r) (λ done. Give (with_record_put store place done))
 
--- a side that was made has its record, whether or not a handle is made for it
+-- a network socket that was made has its record, whether or not a handle is made for it
 abbrev pub with_record : Records → Socket → Records
 with_record store socket = record store { sockets = store.sockets ++ new_record socket ∷ [] }

@@ -165,8 +165,8 @@ impl Tcp2Socket {
 }
 
 impl Store {
-    /// Begins a bind of the socket of this number. An operation in progress: `ConcurrencyConflict`. A bind that is
-    /// pending stands.
+    /// Begins a bind of the socket of this number. An operation in progress: `ConcurrencyConflict`. A bind whose check is
+    /// pending is a pending call.
     pub fn start_bind<W: World>(
         &mut self,
         world: &mut W,

@@ -1,4 +1,4 @@
-//! Closes network sides after the end mark.
+//! Closes network sockets after the end mark.
 
 ghost use Rattle.std.specs.Prelude.{◌≡◌, true};
 ghost use Rattle.wasi_host.specs.Sides.{held_in, one_if_some};
@@ -7,7 +7,7 @@ ghost use Rattle.wasi_host.specs.Closing.{ClosesMore, ClosesSides};
 use crate::socket::Tcp2Socket;
 use wasi_world::{Sock, World};
 
-/// Closes a side, where there is one.
+/// Closes a network socket, where there is one.
 fn close_one<W: World>(world: &mut W, side: Option<Sock>)
     requires { (W.seen world.old).ended ≡ true }
     ensures { ClosesMore (W.seen world.old) (W.seen world.new) (one_if_some side) }
@@ -17,7 +17,7 @@ fn close_one<W: World>(world: &mut W, side: Option<Sock>)
     }
 }
 
-/// Closes the sides that the records hold; takes no memory.
+/// Closes the network sockets that the records hold; takes no memory.
 pub fn close_sides<W: World>(world: &mut W, sockets: &[Tcp2Socket])
     requires { (W.seen world.old).ended ≡ true }
     ensures { ClosesSides (W.seen world.old) (W.seen world.new) (held_in sockets.now) }

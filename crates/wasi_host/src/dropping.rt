@@ -18,8 +18,8 @@ use wasi_streams::{Fault, TrapKind};
 use wasi_world::{Answer, Handle, Ids, OpId, World};
 
 impl Store {
-    /// Gives up what the socket of this number has: its open halves, the receiving one first, and its side. A write that
-    /// goes on ends with its rest unwritten.
+    /// Releases what the socket of this number has: its open halves, the receiving one first, and its network socket. A write
+    /// in progress ends with its rest unwritten.
     pub(crate) fn release<W: World>(
         &mut self,
         world: &mut W,
@@ -46,7 +46,7 @@ impl Store {
         self.jobs.retain(|job| *job != place);
     }
 
-    /// Looks whether the writer of the socket of this number is ready. While it isn't, the drop of its output stands under
+    /// Looks whether the writer of the socket of this number is ready. While it isn't, the drop of its output is pending under
     /// the operation's line.
     pub(crate) fn drop_output<W: World>(
         &mut self,
@@ -83,8 +83,8 @@ impl Store {
 }
 
 /// Drops a handle (`drop` of each resource). Something made under it is live: `HasChildren`. The handle goes at once. A socket
-/// gives up its open halves and its network side; an output waits until its writer is ready, and while it isn't the call is
-/// pending and stands; nothing else waits.
+/// releases its open halves and its network socket; an output waits until its writer is ready, and while it isn't the call is
+/// pending; nothing else waits.
 pub fn drop_handle<W: World>(
     view: &mut WasiSocketsCtxView<'_>,
     world: &mut W,

@@ -12,7 +12,7 @@ use wasi_world::{Handle, TrapKind};
 /// The error of a 0.2 call (`SocketError` of the crate wasmtime-wasi).
 pub type SocketError = HostError<p2::ErrorCode>;
 
-/// The same result, of a call that tells no codes.
+/// The same result, of a call that returns no codes.
 pub fn of_fault<T: Drop>(done: Result<T, Fault>) -> Result<T, SocketError>
     ensures { host_outcome result ≡ fault_outcome done }
 {

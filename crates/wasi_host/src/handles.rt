@@ -93,8 +93,8 @@ pub fn remove(table: &mut Table<Kind>, handle: Handle) -> Result<Kind, Fault>
     }
 }
 
-/// Puts a new handle into the table, under a parent where there is one. It takes any refusal for want of memory: the caller has
-/// tested that there is room, and that the parent is live.
+/// Puts a new handle into the table, under a parent where there is one. It takes any refusal for running out of memory: the
+/// caller has tested that there is room, and that the parent is live.
 fn put(table: &mut Table<Kind>, kind: Kind, parent: Option<Handle>) -> Result<Handle, AllocError>
     ensures ok { IfOk result (λ h. (h ≡ table.old.next) × (table.new ≡ pushed table.old kind parent)) }
     ensures err { OnErr result (table.new ≡ table.old) }

@@ -1,4 +1,4 @@
-//! The turn of the writes that go on by themselves.
+//! The turn of the background writes.
 
 ghost use Rattle.std.specs.Prelude.{◌≡◌, false, slice_get};
 ghost use Rattle.wasi_world.specs.Asks.{AsksFor};
@@ -13,7 +13,7 @@ use crate::view::WasiSocketsCtxView;
 use std::alloc::AllocError;
 use wasi_world::World;
 
-/// Polls the write of the socket of this number once, where one goes on.
+/// Polls the write of the socket of this number once, where one is in progress.
 fn turn_socket<W: World>(
     sockets: &mut Vec<Tcp2Socket>,
     world: &mut W,
@@ -49,7 +49,7 @@ fn turn_sockets<W: World>(
     Ok(())
 }
 
-/// Whether the socket of this number has a write that goes on.
+/// Whether the socket of this number has a write in progress.
 fn has_job(sockets: &[Tcp2Socket], place: usize) -> bool
     ensures { result ≡ has_job (slice_get sockets.now place) }
 {
@@ -81,7 +81,7 @@ impl Store {
     }
 }
 
-/// Lets the host's background work go on: polls each write that goes on by itself once, in the order of making. It has no part
+/// Lets the host's background work continue: polls each background write once, in the order of making. It has no part
 /// of its own in the log: what a job asks carries the job's name.
 pub fn turn<W: World>(view: &mut WasiSocketsCtxView<'_>, world: &mut W) -> Result<(), AllocError>
     requires { (W.seen world.old).ended ≡ false }

@@ -58,7 +58,7 @@ impl Kind {
         }
     }
 
-    /// The parent in the table of a handle whose mark names this one: a pollable stands under what it watches, and the
+    /// The parent in the table of a handle whose mark names this one: a pollable is a child of what it watches, and the
     /// streams of a connection under its socket; an error's parent is named in its mark alone.
     pub fn table_parent(self, parent: Option<Handle>) -> Option<Handle>
         ensures { result ≡ table_parent self parent }

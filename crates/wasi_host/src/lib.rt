@@ -1,4 +1,4 @@
-//! What the calls of both generations stand on: the kinds of handles, the records that they name, views of both, streams and
+//! What the calls of both generations share: the kinds of handles, the records that they name, views of both, streams and
 //! pollables, jobs and pending calls.
 #![tactic(auto)]
 

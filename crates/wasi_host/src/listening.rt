@@ -21,16 +21,16 @@ use wasi_world::{Answer, Ids, OpId, Refusal, Sock, TrapKind, World, asks};
 pub enum Listening {
     /// It doesn't listen.
     Not,
-    /// A listen goes on, which holds the network side.
+    /// A listen is in progress, which holds the network socket.
     Begins(ListenOp),
     /// It listens.
     Accepts(TcpListenStream),
-    /// It was given up, and memory was wanted: this side isn't closed yet.
+    /// It was released, and memory ran out: this network socket isn't closed yet.
     Unclosed(Sock),
 }
 
 impl Listening {
-    /// The network side that it holds beside the socket's own: of a listen that goes on, or of a connection that isn't taken.
+    /// The network socket that it holds beside the socket's own: of a listen in progress, or of a connection that isn't taken.
     pub fn side(&self) -> Option<Sock>
         ensures { result ≡ side_in self.now }
     {
@@ -52,8 +52,8 @@ impl Listening {
         }
     }
 
-    /// Gives it up: a listen that goes on closes its side, and a listener refuses an arrival in hand and closes a connection
-    /// that isn't taken. Out of memory nothing was asked.
+    /// Releases it: a listen in progress closes its network socket, and a listener refuses an arrival in hand and closes a
+    /// connection that isn't taken. Out of memory nothing was asked.
     fn give_up<W: World>(self, world: &mut W) -> Result<(), AllocError>
         requires { (W.seen world.old).ended ≡ false }
         ensures asked { AsksFor (give_up_asks self) (W.seen world.old) (W.seen world.new) (λ done. done) result }
@@ -102,14 +102,14 @@ impl Tcp2Socket {
     }
 
     /// Polls the listen that was begun: done, the socket listens, and the listen is in progress. None was, or the socket has a
-    /// side of its own: `InvalidState`.
+    /// network socket of its own: `InvalidState`.
     pub fn poll_listen<W: World>(&mut self, world: &mut W) -> Result<Answer<()>, Refusal>
         requires { (W.seen world.old).ended ≡ false }
         ensures asked { AsksFor (poll_listen_asks self.old) (W.seen world.old) (W.seen world.new) (λ answer. (answer, self.new)) (outcome result) }
         ensures sides { Balances (W.seen world.old) (W.seen world.new) 0 self.old self.new }
         ensures open { (W.seen world.new).ended ≡ false }
     {
-        // The socket has no side of its own while its listen goes on.
+        // The socket has no network socket of its own while its listen is in progress.
         if self.inner.side().is_some() {
             return Err(Refusal::Code(ErrorCode::InvalidState));
         }
@@ -172,7 +172,7 @@ impl Tcp2Socket {
         }
     }
 
-    /// Gives up what it listens by. Out of memory a side that isn't closed is known still.
+    /// Releases what it listens by. Out of memory a network socket that isn't closed is known still.
     pub(crate) fn give_listening_up<W: World>(&mut self, world: &mut W) -> Result<(), AllocError>
         requires { (W.seen world.old).ended ≡ false }
         ensures asked { AsksFor (give_up_asks self.old.listening) (W.seen world.old) (W.seen world.new) (λ done. done) result }
@@ -189,7 +189,8 @@ impl Tcp2Socket {
     }
 }
 
-/// Keeps the record of what was accepted, for which there is room, and gives its number. A code is told, and there is no record.
+/// Keeps the record of what was accepted, for which there is room, and gives its number. A code is reported, and there is no
+/// record.
 fn keep_accepted(sockets: &mut Vec<Tcp2Socket>, socket: TcpSocket) -> Result<usize, SocketError>
     requires { vec_len sockets.old < vec_capacity sockets.old }
     ensures told { host_outcome result ≡ Ok (with_accepted_in sockets.old.items socket).0 }
@@ -203,8 +204,8 @@ fn keep_accepted(sockets: &mut Vec<Tcp2Socket>, socket: TcpSocket) -> Result<usi
 }
 
 impl Store {
-    /// Begins a listen of the socket of this number. An operation in progress: `ConcurrencyConflict`. A listen that is pending
-    /// stands.
+    /// Begins a listen of the socket of this number. An operation in progress: `ConcurrencyConflict`. A listen whose check is
+    /// pending is a pending call.
     pub fn start_listen<W: World>(
         &mut self,
         world: &mut W,
@@ -226,9 +227,9 @@ impl Store {
         Ok(self.stand(op.step, StandingCall::Listen { socket: place }, answer))
     }
 
-    /// Accepts a connection of the listener of this number, and gives the number of its record, which has its streams. Room
-    /// for the record is taken before anything is asked, so that a side that was handed over is always known. Nothing has
-    /// arrived that may be taken: `WouldBlock`. No listener: `InvalidState`. The code of a fault is told.
+    /// Accepts a connection of the listener of this number, and gives the number of its record, which has its streams. Room for
+    /// the record is taken before anything is asked, so that a network socket that was handed over is always known. Nothing has
+    /// arrived that may be taken: `WouldBlock`. No listener: `InvalidState`. The code of a fault is reported.
     pub fn accept<W: World>(
         &mut self,
         world: &mut W,

@@ -16,7 +16,7 @@ pub struct Machine {
 }
 
 impl Machine {
-    /// No handle, no record, no job, no call that stands. Takes no memory.
+    /// No handle, no record, no job, no pending call. Takes no memory.
     pub fn new(alloc: Global) -> Machine
         ensures { result ≡ first_state }
     {

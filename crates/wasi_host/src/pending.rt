@@ -1,4 +1,4 @@
-//! Calls that stand pending, and how they go on.
+//! Pending calls, and how they continue.
 
 ghost use Rattle.std.specs.Prelude.{◌≡◌, IfNone, IsSome, false, slice_get};
 ghost use Rattle.wasi_world.specs.Asks.{AsksFor};
@@ -33,7 +33,7 @@ impl Outcome {
 }
 
 impl Store {
-    /// Takes out the call that stands under this number; none where none does.
+    /// Takes out the pending call under this number; none where none is.
     fn take(&mut self, line: u32) -> Option<StandingCall>
         ensures taken { result ≡ call_of self.old.standing line }
         ensures some { IsSome result → self.new ≡ unstood self.old }
@@ -113,8 +113,8 @@ impl Store {
     }
 }
 
-/// Polls the call that stands under this number, by the names of that line; none exactly where none does. A call that is
-/// pending stands on. A code is that of a bind or of a listen.
+/// Polls the pending call under this number, by the names of that line; none exactly where none is. A call that is
+/// pending stays so. A code is that of a bind or of a listen.
 pub fn resume<W: World>(
     view: &mut WasiSocketsCtxView<'_>,
     world: &mut W,

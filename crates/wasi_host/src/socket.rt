@@ -34,7 +34,7 @@ pub struct Streams {
     pub writer: WriteState,
 }
 
-/// Whether a write goes on.
+/// Whether a write is in progress.
 fn is_working(writer: &WriteState) -> bool
     ensures { result ≡ is_working writer.now }
 {
@@ -64,7 +64,7 @@ impl Streams {
         self.writer.shutdown(world, op)
     }
 
-    /// Gives up the receiving half, the sending half, or the one after the other.
+    /// Releases the receiving half, the sending half, or the one after the other.
     pub fn shutdown<W: World>(
         &mut self,
         world: &mut W,
@@ -85,7 +85,7 @@ impl Streams {
         }
     }
 
-    /// Gives up the halves that are open, the receiving one first. A write that goes on ends with its rest unwritten.
+    /// Releases the halves that are open, the receiving one first. A write in progress ends with its rest unwritten.
     fn give_up<W: World>(self, world: &mut W, op: OpId) -> Result<(), AllocError>
         requires { (W.seen world.old).ended ≡ false }
         ensures asked { AsksFor (give_streams_up op (Some self)) (W.seen world.old) (W.seen world.new) (λ done. done) result }
@@ -145,7 +145,7 @@ fn wait_answer(looked: Result<Answer<()>, StreamError>) -> Result<Answer<()>, Al
 #[derive(Drop)]
 pub struct Tcp2Socket {
     pub inner: TcpSocket,
-    /// The network side that it was made with, also once that is closed: its handles are marked with it.
+    /// The network socket that it was made with, also once that is closed: its handles are marked with it.
     pub side: Option<Sock>,
     pub in_progress: InProgress,
     pub listening: Listening,
@@ -321,7 +321,7 @@ impl Tcp2Socket {
         }
     }
 
-    /// Writes to the connection, and says whether a write began that goes on.
+    /// Writes to the connection, and says whether a write began that is in progress.
     pub fn write_noting<W: World>(
         &mut self,
         world: &mut W,
@@ -341,7 +341,7 @@ impl Tcp2Socket {
         (written, begins)
     }
 
-    /// Tells a kept error of the writer.
+    /// Reports a kept error of the writer.
     pub fn flush<W: World>(&mut self, world: &mut W) -> Result<(), StreamError>
         requires { (W.seen world.old).ended ≡ false }
         ensures asked { AsksFor (writer_asks flush_asks self.old) (W.seen world.old) (W.seen world.new) (λ answer. (answer, self.new)) (stream_outcome result) }
@@ -355,7 +355,7 @@ impl Tcp2Socket {
         }
     }
 
-    /// Whether a write goes on by itself.
+    /// Whether a background write is in progress.
     pub fn has_job(&self) -> bool
         ensures { result ≡ works_in self.now.streams }
     {
@@ -365,7 +365,7 @@ impl Tcp2Socket {
         }
     }
 
-    /// Polls a write that goes on, once.
+    /// Polls a write in progress, once.
     pub fn turn<W: World>(&mut self, world: &mut W) -> Result<(), AllocError>
         requires { (W.seen world.old).ended ≡ false }
         ensures asked { AsksFor (turn_record self.old) (W.seen world.old) (W.seen world.new) (λ done. self.new) result }
@@ -380,7 +380,7 @@ impl Tcp2Socket {
         }
     }
 
-    /// Gives up one half of the connection, or both. Before its streams were made: `InvalidState`.
+    /// Releases one half of the connection, or both. Before its streams were made: `InvalidState`.
     pub fn shutdown<W: World>(
         &mut self,
         world: &mut W,
@@ -503,8 +503,8 @@ impl Tcp2Socket {
         }
     }
 
-    /// Gives up what it has: what it listens by, the open halves, the receiving one first, and then its network side. A write
-    /// that goes on ends with its rest unwritten.
+    /// Releases what it has: what it listens by, the open halves, the receiving one first, and then its network socket. A write
+    /// in progress ends with its rest unwritten.
     pub fn release<W: World>(&mut self, world: &mut W, op: OpId) -> Result<(), AllocError>
         requires { (W.seen world.old).ended ≡ false }
         ensures asked { AsksFor (release_asks op self.old) (W.seen world.old) (W.seen world.new) (λ done. (done, self.new)) result }
@@ -515,7 +515,7 @@ impl Tcp2Socket {
         self.release_connection(world, op)
     }
 
-    /// Gives up the open halves, the receiving one first, and then its network side. It doesn't listen.
+    /// Releases the open halves, the receiving one first, and then its network socket. It doesn't listen.
     fn release_connection<W: World>(&mut self, world: &mut W, op: OpId) -> Result<(), AllocError>
         requires open { (W.seen world.old).ended ≡ false }
         requires not { self.old.listening ≡ Listening.Not }
@@ -527,7 +527,7 @@ impl Tcp2Socket {
         self.close(world, op)
     }
 
-    /// Gives up the open halves.
+    /// Releases the open halves.
     fn give_streams_up<W: World>(&mut self, world: &mut W, op: OpId) -> Result<(), AllocError>
         requires { (W.seen world.old).ended ≡ false }
         ensures asked { AsksFor (give_streams_up op self.old.streams) (W.seen world.old) (W.seen world.new) (λ done. done) result }
@@ -540,7 +540,7 @@ impl Tcp2Socket {
         }
     }
 
-    /// Closes the network side, where there is one.
+    /// Closes the network socket, where there is one.
     fn close<W: World>(&mut self, world: &mut W, op: OpId) -> Result<(), AllocError>
         requires open { (W.seen world.old).ended ≡ false }
         requires not { self.old.listening ≡ Listening.Not }

@@ -1,4 +1,4 @@
-//! The records that handles name, and the call that stands.
+//! The records that handles name, and the pending call.
 
 ghost use Rattle.std.specs.Prelude.{◌≡◌, true, is_some, ◌<◌, false, IfOk, Ok, OnErr, slice_get, length, vec_capacity, vec_len};
 ghost use Rattle.wasi_world.specs.Asks.{AsksFor};
@@ -25,7 +25,7 @@ use wasi_streams::{StreamError, Table};
 use wasi_tcp::TcpSocket;
 use wasi_world::{Answer, Handle, Octets, OpId, Sock, TrapKind, WasiSocketsCtx, World};
 
-/// What a call does that stands.
+/// What a pending call does.
 #[derive(Clone, Copy, Debug, PartialEq, Eq)]
 pub enum StandingCall {
     /// Binds the socket of this number, whose record has the operation.
@@ -36,7 +36,7 @@ pub enum StandingCall {
     DropOutput { socket: usize },
 }
 
-/// A call that stands pending: while it does, every other guest call is busy.
+/// A pending call: while it does, every other guest call is busy.
 #[derive(Clone, Copy, Debug, PartialEq, Eq)]
 pub struct Standing {
     /// The line that began it.
@@ -44,9 +44,9 @@ pub struct Standing {
     pub call: StandingCall,
 }
 
-/// The records by number, the jobs in the order of making, and the call that stands.
+/// The records by number, the jobs in the order of making, and the pending call.
 ///
-/// A job is a write that goes on by itself, named by the number of its socket. Memory follows how many sockets were made.
+/// A job is a background write, named by the number of its socket. Memory follows how many sockets were made.
 #[derive(Drop)]
 pub struct Store {
     pub(crate) sockets: Vec<Tcp2Socket>,
@@ -77,8 +77,8 @@ impl Store {
         }
     }
 
-    /// Makes a TCP socket, its record and its handle. Room for the record is taken before the side is made, so that a side
-    /// that was made is always known, also where no handle can be made for it.
+    /// Makes a TCP socket, its record and its handle. Room for the record is taken before the network socket is made, so that a
+    /// network socket that was made is always known, also where no handle can be made for it.
     pub fn create_socket<W: World>(
         &mut self,
         table: &mut Table<Kind>,
@@ -203,7 +203,7 @@ impl Store {
         }
     }
 
-    /// The network side that the socket of this number was made with, where there is one.
+    /// The network socket that the socket of this number was made with, where there is one.
     pub fn side(&self, place: usize) -> Option<Sock>
         ensures { result ≡ side_at (slice_get self.now.sockets place) }
     {
@@ -248,7 +248,7 @@ impl Store {
         record.check_write(world, op)
     }
 
-    /// Writes to the connection of the socket of this number. A write that goes on becomes a job: the room for it is taken
+    /// Writes to the connection of the socket of this number. A write in progress becomes a job: the room for it is taken
     /// before the write begins.
     pub fn write<W: World>(
         &mut self,
@@ -271,7 +271,7 @@ impl Store {
         written
     }
 
-    /// Tells a kept error of the writer of the socket of this number.
+    /// Reports a kept error of the writer of the socket of this number.
     pub fn flush<W: World>(&mut self, world: &mut W, place: usize) -> Result<(), StreamError>
         requires { (W.seen world.old).ended ≡ false }
         ensures asked { AsksFor (stream_at self.old place (writer_asks flush_asks) (slice_get self.old.sockets place)) (W.seen world.old) (W.seen world.new) (λ answer. (answer, self.new)) (stream_outcome result) }
@@ -284,7 +284,7 @@ impl Store {
         record.flush(world)
     }
 
-    /// Gives up one half of the connection of the socket of this number, or both.
+    /// Releases one half of the connection of the socket of this number, or both.
     pub fn shutdown<W: World>(
         &mut self,
         world: &mut W,
@@ -303,7 +303,7 @@ impl Store {
         record.shutdown(world, op, how)
     }
 
-    /// Closes the network sides that the records hold, after the end mark; takes no memory.
+    /// Closes the network sockets that the records hold, after the end mark; takes no memory.
     pub fn close_all<W: World>(self, world: &mut W)
         requires { (W.seen world.old).ended ≡ true }
         ensures { ClosesSides (W.seen world.old) (W.seen world.new) (held_in self.sockets) }
@@ -311,8 +311,8 @@ impl Store {
         close_sides(world, self.sockets.as_slice());
     }
 
-    /// The number of the call that stands: while it does, every guest call is busy. That is the caller's to test: the calls of
-    /// this crate and of `wasi_p2` don't, and one that comes to stand takes the place of one that stood. Takes no memory.
+    /// The number of the pending call: while it does, every guest call is busy. That is the caller's to test: the calls of
+    /// this crate and of `wasi_p2` don't, and one that becomes pending takes the place of one that was. Takes no memory.
     pub fn exclusive(&self) -> Option<u32>
         ensures { result ≡ exclusive_of self.now.standing }
     {
@@ -332,7 +332,7 @@ impl Store {
         }
     }
 
-    /// A call that is pending stands under this number.
+    /// A call that is pending is kept under this number.
     pub(crate) fn stand(&mut self, line: u32, call: StandingCall, answer: Answer<()>) -> Answer<()>
         ensures { (result, self.new) ≡ stood self.old line call answer }
     {

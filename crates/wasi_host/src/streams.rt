@@ -93,7 +93,7 @@ pub fn write<W: World>(
     }
 }
 
-/// Tells a kept error of an output (`output-stream.flush`).
+/// Reports a kept error of an output (`output-stream.flush`).
 pub fn flush<W: World>(
     view: &mut WasiSocketsCtxView<'_>,
     world: &mut W,
@@ -117,7 +117,7 @@ pub fn flush<W: World>(
 }
 
 /// Makes the error of a stream's call (`convert_stream_error`): a failure gets the handle of a new error, whose parent is the
-/// stream; where that can't be made, `Trap(Full)` or want of memory. The stream is that of the record of this number.
+/// stream; where that can't be made, `Trap(Full)` or out of memory. The stream is that of the record of this number.
 pub fn convert_stream_error<W: World>(
     view: &mut WasiSocketsCtxView<'_>,
     world: &mut W,

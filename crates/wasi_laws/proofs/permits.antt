@@ -1,4 +1,4 @@
--- What a side takes is what it is let write.
+-- What a network socket takes is what it is let write.
 pub mod Agreeing
 pub mod Taken
 pub mod Law

@@ -1,3 +1,3 @@
--- How records stand between the asks.
+-- What holds of records between the asks.
 pub mod Shape
 pub mod Law

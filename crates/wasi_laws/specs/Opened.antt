@@ -10,7 +10,7 @@ use Rattle.wasi_world.specs.declared.call.Told.TheVariants.{Done}
 use Rattle.wasi_world.specs.declared.call.Entry.{Entry}
 use Rattle.wasi_walks.specs.Licence.{Has, entry}
 
--- the socket that is asked: none by a check, a lookup or a create, and none by a mark, which tells of a handle
+-- the socket that is asked: none by a check, a lookup or a create, and none by a mark, which is about a handle
 abbrev pub socket_of : Call → Option OpId
 socket_of (Check ctx addr usage) = None
 socket_of (Lookup host) = None
@@ -41,7 +41,7 @@ socket_of (SetOption sock option value) = Some sock
 socket_of (Close sock) = Some sock
 socket_of (Made handle kind parent sock) = None
 
--- A create of it was told done, or it was handed over.
+-- A create of it was answered done, or it was handed over.
 pub data IsMade (before : List Entry) (side : OpId) : Type 0 where
   Created : (ctx : ℕ) (family : SocketAddressFamily) → Has before (entry side (TcpCreate ctx family) Done) → IsMade before side
   HandedOver : (listener : OpId) (peer : IpSocketAddress) (told : Told) → Has before (entry side (Hand listener peer) told) → IsMade before side

@@ -25,14 +25,14 @@ ghost use Rattle.wasi_laws.specs.Order.{IsOutward, ChecksFirst, HasGone, NoCheck
 ghost use Rattle.wasi_laws.specs.Permitted.{WritesTo, permitted_by, Did, IsOfSteps};
 ghost use Rattle.wasi_steps.specs.Reply.{number_fields};
 
-/// The log of a run, wherever it stands, is that of the steps that were done and of the beginning of the next.
+/// The log of a run, at every point of it, is that of the steps that were done and of a prefix of the next.
 pub fn runs_are_of_steps()
     ensures { (contexts : List WasiSocketsCtx) (side : OpId) (steps : List Step) (log : List Entry) (rest : Asks (List Reply × Machine))
         → Left (run contexts [] first_state 1 steps) log rest → IsOfSteps contexts side first_state 1 steps log }
 {}
 
-/// What a side took is the front of what the machine let the steps write to it, along what their lines asked: once the steps are
-/// done, and in the middle of the next one.
+/// What a network socket took is a prefix of what the machine let the steps write to it, along what their lines asked: once the
+/// steps are done, and in the middle of the next one.
 pub fn taken_is_permitted()
     ensures done { (contexts : List WasiSocketsCtx) (side : OpId) (steps : List Step) (log : List Entry) (permitted : List ℕ) (after : Machine)
         → Did contexts side first_state 1 steps log permitted after
@@ -44,7 +44,8 @@ pub fn taken_is_permitted()
         → IsFrontOf (taken_in side (log ++ entries)) (permitted ++ permitted_by after side s entries) }
 {}
 
-/// Where a check-write on an output of a side answers a permit, the side took all that the machine let the steps write to it.
+/// Where a check-write on an output of a network socket answers a permit, the network socket took all that the machine let the
+/// steps write to it.
 pub fn permit_means_all_is_taken()
     ensures { (contexts : List WasiSocketsCtx) (side : OpId) (steps : List Step) (log : List Entry) (permitted : List ℕ) (after : Machine)
         (ctx output n : ℕ) (entries : List Entry) (next : Machine)
@@ -64,14 +65,15 @@ pub fn operations_check_first()
         → IsOutward op → Left (operation_polled op) entries (Give ended) → HasGone entries → NoCheckLeft ended.1 }
 {}
 
-/// Wherever a run stands, each operation asked its checks before its first bind, listen or connect.
+/// At every point of a run, each operation asked its checks before its first bind, listen or connect.
 pub fn checks_come_first()
     ensures { (contexts : List WasiSocketsCtx) (steps : List Step) (log : List Entry) (rest : Asks (List Reply × Machine))
         → Left (run contexts [] first_state 1 steps) log rest → (op : OpId) → ChecksFirst (asked_by op log) }
 {}
 
-/// Wherever a run stands, each call on a socket, its close too, is asked of one that was made before, by a create that was done or
-/// by being handed over, and that wasn't closed before. So once a socket was closed nothing is asked of it, no second close either.
+/// At every point of a run, each call on a socket, its close too, is asked of one that was made before, by a create that was
+/// done or by being handed over, and that wasn't closed before. So once a socket was closed nothing is asked of it, no second
+/// close either.
 pub fn sockets_are_asked_while_open()
     ensures asked { (contexts : List WasiSocketsCtx) (steps : List Step) (log : List Entry) (rest : Asks (List Reply × Machine))
         → Left (run contexts [] first_state 1 steps) log rest → AsksOpenSockets log }

@@ -14,7 +14,7 @@ use wasi_world::{Failed, Source};
 /// Bytes in memory that are read from their front, each by one of the owners (`MemoryInputPipe` of the crate
 /// wasmtime-wasi). Each call takes the lock of the pipe, so it may wait for another owner's.
 ///
-/// As a source it tells no bytes; contracts see whether this owner was told the end.
+/// As a source it reports no bytes; contracts see whether this owner was told the end.
 #[derive(Drop)]
 pub struct MemoryInputPipe<R: Wait + Copy> {
     rt: R,

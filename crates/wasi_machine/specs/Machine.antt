@@ -1,4 +1,4 @@
--- The machine that does a script's steps: what each asks, answers and leaves, and the run of the steps.
+-- The machine that does a script's steps: what each asks, returns and leaves, and the run of the steps.
 use Rattle.std.specs.Prelude.{◌≡◌, ℕ, ◌+◌, length, Bool, false, if◌then◌else◌, List, [], ◌∷◌, ◌++◌, Option, Some, None, is_some, Result, Ok, Err, slice_get}
 use Rattle.wasi_addr.specs.declared.address.IpSocketAddress.{IpSocketAddress}
 use Rattle.wasi_addr.specs.declared.address.SocketAddressFamily.{SocketAddressFamily}
@@ -35,7 +35,7 @@ abbrev pub stop_reply : Stop → Reply
 stop_reply (Code c) = reply.Err (word_of_p2 c)
 stop_reply (Trap kind) = reply.Trap kind
 
--- of a call, by the fields that tell what it gives
+-- of a call, by the fields that say what it gives
 abbrev pub reply_of : {A : Type 0} → (A → List Field) → Result A Stop → Reply
 reply_of fields (Ok value) = reply.Ok (fields value)
 reply_of fields (Err stop) = stop_reply stop
@@ -83,7 +83,7 @@ permit_reply = stream_reply_of number_fields
 abbrev pub taken_reply : Result (Unit {0}) CallStop → Reply
 taken_reply = stream_reply_of no_values
 
--- a call that is pending stands under its line's number
+-- a call that is pending is kept under its line's number
 abbrev pub answer_reply : ℕ → Result (Answer (Unit {0})) Stop → Reply
 answer_reply line (Ok (Ready done)) = reply.Ok no_fields
 answer_reply line (Ok Pending) = reply.Pending line
@@ -158,7 +158,7 @@ step_asks contexts m line s = call_asks (context_for contexts (context_of s)) m 
 abbrev pub is_guest_call : Step → Bool
 is_guest_call s = is_some (context_of s)
 
--- while a call stands every guest call is busy
+-- while a call is pending every guest call is busy
 abbrev pub asks_while : List WasiSocketsCtx → Machine → ℕ → Step → Option Standing → Asks (Reply × Machine)
 asks_while contexts m line s None = step_asks contexts m line s
 asks_while contexts m line s (Some standing) = if is_guest_call s then Give (reply.Busy, m) else step_asks contexts m line s
@@ -176,7 +176,7 @@ run contexts replies m line (s ∷ steps) =
     then Give (replies ++ done.0 ∷ [], done.1)
     else run contexts (replies ++ done.0 ∷ []) done.1 (line + 1) steps)
 
--- How far a run of the steps has come: the log is a beginning of what it asks; and its front is what the first of them asked, each
+-- How far a run of the steps has come: the log is a prefix of what it asks; and its front is what the first of them asked, each
 -- of which was done whole, one after another, and answered so.
 pub record HasRun (contexts : List WasiSocketsCtx) (steps : List Step) (log : List Entry) (replies : List Reply) : Type 0 where
   pub rest : Asks (List Reply × Machine)

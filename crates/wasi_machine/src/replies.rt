@@ -10,7 +10,7 @@ use wasi_host::{CallError, Outcome, SocketError};
 use wasi_steps::{CodeWord, IntoFields, Reply};
 use wasi_world::Answer;
 
-/// `ok` with the fields that tell this.
+/// `ok` with the fields that say this.
 fn ok<T: IntoFields>(alloc: Global, value: T) -> Result<Reply, AllocError>
     ensures { IfOk result (λ reply. reply ≡ Reply.Ok (T.fields value)) }
 {
@@ -43,7 +43,7 @@ pub fn stream_reply_of<T: IntoFields>(
     }
 }
 
-/// The reply of a call that may be pending; it then stands under its line's number.
+/// The reply of a call that may be pending; it then is pending under its line's number.
 pub fn answer_reply(
     alloc: Global,
     line: u32,
@@ -58,7 +58,7 @@ pub fn answer_reply(
     }
 }
 
-/// The reply of a call that gives no value; want of memory has none.
+/// The reply of a call that gives no value; running out of memory has none.
 fn stop_reply(error: SocketError) -> Result<Reply, AllocError>
     ensures { IfOk result (λ reply. IsStop error (λ stop. reply ≡ stop_reply stop)) }
 {
@@ -69,7 +69,7 @@ fn stop_reply(error: SocketError) -> Result<Reply, AllocError>
     }
 }
 
-/// The reply of a stream's call that gives no value; want of memory has none.
+/// The reply of a stream's call that gives no value; running out of memory has none.
 fn call_stop_reply(error: CallError) -> Result<Reply, AllocError>
     ensures { IfOk result (λ reply. IsCallStop error (λ stop. reply ≡ call_stop_reply stop)) }
 {
@@ -84,7 +84,7 @@ fn call_stop_reply(error: CallError) -> Result<Reply, AllocError>
     }
 }
 
-/// The reply of the call of this line that was resumed: pending, it stands on.
+/// The reply of the call of this line that was resumed: pending, it stays pending.
 fn outcome_reply(alloc: Global, line: u32, answer: Answer<Outcome>) -> Reply
     ensures { result ≡ outcome_reply line answer }
 {

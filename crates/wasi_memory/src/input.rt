@@ -51,7 +51,7 @@ impl InputPipeCore {
         Ok(self.bytes.split_to(count)?)
     }
 
-    /// Moves as many bytes as fit to the front of `buf`, and tells how many. Takes no memory.
+    /// Moves as many bytes as fit to the front of `buf`, and returns how many. Takes no memory.
     pub fn take_into(&mut self, buf: &mut [u8]) -> usize
         ensures count { result ≡ min (length buf.old) (length self.old) }
         ensures given { buf.new ≡ take result self.old ++ drop result buf.old }

@@ -19,7 +19,7 @@ use Rattle.wasi_net.specs.Answers.{LocalTells, PeerTells, BindTells, ListenTells
 told_is : (P : Told → Type 0) {t u : Told} → t ≡ u → P u → P t
 told_is P e p = subst P (sym e) p
 
--- == one side
+-- == one network socket
 local_fits : (side now : Known) (t : Told) → LocalTells side t now → IsAddr t
 local_fits (Unbound family) now t h = told_is IsAddr h.0 tt
 local_fits (Bound addr) now t h = told_is IsAddr h.0 tt
@@ -62,7 +62,7 @@ listen_fits Listening now t h = told_is IsDoneOrCode h.0 tt
 listen_fits (Arrived peer) now t h = told_is IsDoneOrCode h.0 tt
 listen_fits (Connected fault) now t h = told_is IsDoneOrCode h.0 tt
 
--- a connect is over in its call, so done and a code are all that it tells
+-- a connect is over in its call, so done and a code are all that it reports
 polled : (t : Told) → IsDoneOrCode t → IsPolled t
 polled told.Done h = tt
 polled (told.Code c) h = tt
@@ -121,7 +121,7 @@ ready_fits (Arrived peer) now t h = told_is IsReady h.0 tt
 ready_fits (Connected (Some c)) now t h = told_is IsReady h.0 tt
 ready_fits (Connected None) now t h = open_ready_fits now t h
 
--- an option that std doesn't have tells a code, which has to fit too
+-- an option that std doesn't have returns a code, which has to fit too
 option_fits : (P : Told → Type 0) → P (told.Code NotSupported) → (option : Opt) (side now : Known) (t : Told) → HasOption option P side t now → P t
 option_fits P code opt.HopLimit (Unbound family) now t h = told_is P h.0 code
 option_fits P code opt.HopLimit (Bound addr) now t h = told_is P h.0 code
@@ -135,8 +135,8 @@ option_fits P code opt.KeepAliveCount side now t h = told_is P h.0 code
 option_fits P code opt.ReceiveBufferSize side now t h = told_is P h.0 code
 option_fits P code opt.SendBufferSize side now t h = told_is P h.0 code
 
--- == the calls on a side
--- what is told fits, whether the side is there or not
+-- == the calls on a network socket
+-- what is reported fits, whether the network socket is there or not
 at_fits : (c : Call) (place : OpId) (side : Option Known) (before after : Sides) (t : Told) → ((k now : Known) → OnSide c k t now → Fits c t) → Fits c (missing c) → AnswersAt (OnSide c) (missing c) place side before t after → Fits c t
 at_fits c place (Some k) before after t on absent h = on k h.now h.told
 at_fits c place None before after t on absent h = told_is (Fits c) h.0 absent

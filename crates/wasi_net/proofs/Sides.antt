@@ -1,4 +1,4 @@
--- A side that is written through a lent value.
+-- A network socket that is written through a lent value.
 use Rattle.std.specs.Prelude.{◌&&◌, option_map, cond, OnErr}
 use Rattle.std.proofs.Common.{◌≡◌, ℕ, ◌==◌, Bool, true, false, Some, Result, Ok, Err, refl, sym, ap, ◌∙◌, arith}
 use Rattle.std.specs.declared.cmp.Ordering.{Ordering}
@@ -33,7 +33,7 @@ is_eq-then Greater p = refl
 finds_same : (a b : OpId) → is_eq (name_cmp a b) ≡ is_same a b
 finds_same a b = is_eq-then (nat_cmp a.step b.step) (nat_cmp a.part b.part) ∙ rw (is_eq-nat_cmp a.step b.step, is_eq-nat_cmp a.part b.part) refl
 
--- where the side that was lent is known as before, so are all
+-- where the network socket that was lent is known as before, so are all
 pub lent_same : {A E : Type 0} (result : Result A E) (before after : BTreeMap OpId Side) (place : OpId) (old now : Side) → get name_cmp before place ≡ Some old → ((name : OpId) → get name_cmp after name ≡ cond (is_eq (name_cmp place name)) (Some now) (get name_cmp before name)) → OnErr result (known_of now ≡ known_of old) → OnErr result (Same (known_sides before) (known_sides after))
 lent_same (Ok a) before after place old now was updates h = tt
 lent_same (Err e) before after place old now was updates h = λ name. by_test name (is_same place name) refl

@@ -1,4 +1,4 @@
--- What each call tells, and what it leaves of the sides.
+-- What each call answers, and what it leaves of the network sockets.
 use Rattle.std.specs.Prelude.{◌≡◌, ℕ, List, Option, Some, None, length}
 use Rattle.wasi_addr.specs.declared.address.IpSocketAddress.{IpSocketAddress}
 use Rattle.wasi_addr.specs.declared.code.ErrorCode.{ErrorCode}
@@ -16,16 +16,16 @@ use Rattle.wasi_world.specs.Asks.{IsFront}
 use Rattle.wasi_net.specs.Allowed.{verdict}
 use Rattle.wasi_net.specs.Known.{Known, Unbound, Bound, Listening, Arrived, Connected, Sides, Same, With}
 
--- == one side
--- this code is told, and the side stays
+-- == one network socket
+-- this code is reported, and the network socket stays
 abbrev pub Refuses : ErrorCode → Known → Told → Known → Type 0
 Refuses c before t after = (t ≡ told.Code c) × (after ≡ before)
 
--- an answer of this kind is told, and the side stays
+-- an answer of this kind is given, and the network socket stays
 abbrev pub Tells : (Told → Type 0) → Known → Told → Known → Type 0
 Tells P before t after = P t × (after ≡ before)
 
--- done, and the side stands so from then on; or a code, and it stays
+-- done, and the network socket is so from then on; or a code, and it stays
 abbrev pub Becomes : Known → Known → Told → Known → Type 0
 Becomes new before told.Done after = after ≡ new
 Becomes new before (told.Code c) after = after ≡ before
@@ -52,7 +52,7 @@ ListenTells (Unbound family) = Becomes Listening (Unbound family)
 ListenTells (Bound addr) = Becomes Listening (Bound addr)
 ListenTells side = Refuses InvalidState side
 
--- a bound side can't be connected by std
+-- a bound network socket can't be connected by std
 abbrev pub ConnectTells : Known → Told → Known → Type 0
 ConnectTells (Unbound family) = Becomes (Connected None) (Unbound family)
 ConnectTells (Bound addr) = Refuses NotSupported (Bound addr)
@@ -63,7 +63,7 @@ abbrev pub HandTells : Known → Told → Known → Type 0
 HandTells (Arrived peer) t after = (t ≡ told.Done) × ((fault : Option ErrorCode) × (after ≡ Connected fault))
 HandTells side t after = (t ≡ told.Done) × (after ≡ side)
 
--- a fault that a look met is told once, before anything else
+-- a fault that a look met is reported once, before anything else
 abbrev pub ReadTells : ℕ → Known → Told → Known → Type 0
 ReadTells size (Connected (Some c)) t after = (t ≡ told.Code c) × (after ≡ Connected None)
 ReadTells size (Connected None) t after = Tells (IsRead size) (Connected None) t after
@@ -102,8 +102,8 @@ OnSide (call.GetOption _ option) side t after = HasOption option IsValue side t 
 OnSide (call.SetOption _ option _) side t after = HasOption option IsDoneOrCode side t after
 OnSide _ side t after = Refuses NotSupported side t after
 
--- == all sides
--- the side that a call is on; an arrival has the name of the accept that hands it over
+-- == all network sockets
+-- the network socket that a call is on; an arrival has the name of the accept that hands it over
 abbrev pub side_of : OpId → Call → Option OpId
 side_of op (call.Local sock) = Some sock
 side_of op (call.Peer sock) = Some sock
@@ -120,7 +120,7 @@ side_of op (call.GetOption sock _) = Some sock
 side_of op (call.SetOption sock _ _) = Some sock
 side_of op _ = None
 
--- what a call on a side tells that isn't there
+-- what a call on a network socket reports that isn't there
 abbrev pub missing : Call → Told
 missing (call.Hand _ _) = told.Done
 missing (call.ReadReady _) = told.Done
@@ -128,22 +128,22 @@ missing (call.WriteReady _) = told.Done
 missing (call.Shutdown _ _) = told.Done
 missing _ = told.Code InvalidState
 
--- this is told, and all sides stay
+-- this is answered, and all network sockets stay
 abbrev pub TellsOnly : Told → Sides → Told → Sides → Type 0
 TellsOnly answer before t after = (t ≡ answer) × Same before after
 
--- The side of one name answered, and the others stay.
+-- The network socket of one name answered, and the others stay.
 pub record Answers (P : Known → Told → Known → Type 0) (place : OpId) (side : Known) (before : Sides) (t : Told) (after : Sides) : Type 0 where
   pub now : Known
   pub told : P side t now
   pub stands : With before place (Some now) after
 
--- a side answers where it is there
+-- a network socket answers where it is there
 abbrev pub AnswersAt : (Known → Told → Known → Type 0) → Told → OpId → Option Known → Sides → Told → Sides → Type 0
 AnswersAt P absent place (Some side) before t after = Answers P place side before t after
 AnswersAt P absent place None before t after = TellsOnly absent before t after
 
--- a call that is on no side is one that std's TCP sockets don't have
+-- a call that is on no network socket is one that std's TCP sockets don't have
 abbrev pub OnItsSide : Call → Option OpId → Sides → Told → Sides → Type 0
 OnItsSide c (Some place) before t after = AnswersAt (OnSide c) (missing c) place (before place) before t after
 OnItsSide c None before t after = TellsOnly (told.Code NotSupported) before t after
@@ -155,13 +155,14 @@ Arrives op before (told.Arrived peer) after = With before op (Some (Arrived peer
 Arrives op before (told.Code c) after = Same before after
 Arrives op before _ after = ⊥
 
--- it can be made of a listener alone, and by an operation whose name no other side has
+-- it can be made of a listener alone, and by an operation whose name no other network socket has
 abbrev pub AcceptTells : OpId → Option Known → Option Known → Sides → Told → Sides → Type 0
 AcceptTells op (Some (Arrived peer)) listener before t after = TellsOnly (told.Arrived peer) before t after
 AcceptTells op None (Some Listening) before t after = Arrives op before t after
 AcceptTells op own listener before t after = TellsOnly (told.Code InvalidState) before t after
 
--- what a call tells, by the ports that are allowed and the sides before it, and the sides after it
+-- what a call answers, by the ports that are allowed and the network sockets before it, and the network sockets after
+-- it
 abbrev pub OnNetwork : List ℕ → Sides → OpId → Call → Told → Sides → Type 0
 OnNetwork ports before op (call.Check _ addr usage) t after = TellsOnly (verdict ports addr usage) before t after
 OnNetwork ports before op (call.Lookup _) t after = TellsOnly (told.Code AccessDenied) before t after

@@ -44,7 +44,7 @@ may_retry system.WouldBlock = true
 may_retry system.Interrupted = true
 may_retry _ = false
 
--- what a call that failed tells
+-- what a call that failed reports
 abbrev pub told_failed : Error → Told
 told_failed error = if may_retry (error_kind error) then Pending else Code (fault_code error)
 

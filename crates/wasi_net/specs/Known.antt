@@ -1,4 +1,4 @@
--- What is known of the sides of the network, without what the system holds.
+-- What is known of the network sockets of the network, without what the system holds.
 use Rattle.std.specs.Prelude.{◌≡◌, if◌then◌else◌, Option, None, option_map}
 use Rattle.std.specs.BTreeMap.{BTreeMap, get}
 use Rattle.wasi_addr.specs.declared.address.IpSocketAddress.{IpSocketAddress}
@@ -9,8 +9,8 @@ use Rattle.wasi_world.specs.Sides.{is_same, name_cmp}
 use Rattle.wasi_net.specs.declared.side.Side.{Side}
 use Rattle.wasi_net.specs.declared.side.Side.TheVariants as side
 
--- a side: made; with the address of a bind, which isn't bound yet; a listener; an arrival in hand; a connection, with the
--- fault that a look met and that isn't told yet
+-- a network socket: made; with the address of a bind, which isn't bound yet; a listener; an arrival in hand; a connection, with
+-- the fault that a look met and that isn't reported yet
 pub data Known : Type 0 where
   Unbound : SocketAddressFamily → Known
   Bound : IpSocketAddress → Known
@@ -25,21 +25,21 @@ known_of (side.Listening listening) = Listening
 known_of (side.Arrived arrival) = Arrived arrival.peer
 known_of (side.Connected connection) = Connected connection.fault
 
--- the sides that are there, by their names
+-- the network sockets that are there, by their names
 abbrev pub Sides : Type 0
 Sides = OpId → Option Known
 
 abbrev pub known_sides : BTreeMap OpId Side → Sides
 known_sides sides name = option_map known_of (get name_cmp sides name)
 
--- there is no side
+-- there is no network socket
 abbrev pub IsUnused : Sides → Type 0
 IsUnused sides = (name : OpId) → sides name ≡ None
 
--- all sides stand as before
+-- all network sockets are as before
 abbrev pub Same : Sides → Sides → Type 0
 Same before after = (name : OpId) → after name ≡ before name
 
--- the side of one name stands so, and all others stand as before
+-- the network socket of one name is so, and all others are as before
 abbrev pub With : Sides → OpId → Option Known → Sides → Type 0
 With before place k after = (name : OpId) → after name ≡ (if is_same place name then k else before name)

@@ -1,10 +1,11 @@
--- What is known of a world of std's sockets: no log and no plan, but which ports it allows and which sides it has.
+-- What is known of a world of std's sockets: no log and no plan, but which ports it allows and which network sockets it
+-- has.
 use Rattle.std.specs.Prelude.{ℕ, Bool, List, None}
 use Rattle.wasi_world.specs.Seen.{Seen}
 use Rattle.wasi_net.specs.declared.net_world.NetWorld.{NetWorld}
 use Rattle.wasi_net.specs.Known.{Sides, known_sides}
 
--- a world that tells its end mark, its closings and its count of faults alone
+-- a world that reports its end mark, its closings and its count of faults alone
 abbrev pub counts_of : Bool → ℕ → ℕ → Seen
 counts_of ended closings faults = record { log = None; ended = ended; closings = closings; faults = faults; plan = None }
 

@@ -21,7 +21,7 @@ const MOST_BYTES: usize = 65_536;
 #[derive(Drop)]
 pub struct Connection {
     stream: TcpStream,
-    /// The code of a fault that a look met, which the next read or write tells: the system tells it once.
+    /// The code of a fault that a look met, which the next read or write reports: the system reports it once.
     fault: Option<ErrorCode>,
 }
 
@@ -151,7 +151,7 @@ impl Connection {
         }
     }
 
-    /// Gives up a half, or both. One that the other end gave up before is given up all the same.
+    /// Releases a half, or both. One that the other end released before is released all the same.
     pub fn shutdown(&self, how: ShutdownType) {
         let how = match how {
             ShutdownType::Receive => Shutdown::Read,

@@ -11,7 +11,7 @@ use std::time::Clock;
 use wasi_addr::{ErrorCode, IpSocketAddress};
 use wasi_world::{Call, OpId, Sock, Told, World};
 
-/// A world over std's TCP sockets, on this machine's loopback addresses. It tells no log.
+/// A world over std's TCP sockets, on this machine's loopback addresses. It reports no log.
 ///
 /// A check says yes to a loopback address with an allowed port. The wildcard may be bound, which is what a connect asks
 /// for that isn't bound; a connection that arrives may come from any port. Lookups are refused, and what std can't do or
@@ -64,14 +64,14 @@ impl<R> NetWorld<R> {
         self.ended
     }
 
-    /// How many sides were closed after the end mark. The count stays at its greatest value.
+    /// How many network sockets were closed after the end mark. The count stays at its greatest value.
     pub fn closed_after_end(&self) -> u64
         ensures { result ≡ (seen_by self.now).closings }
     {
         self.closings
     }
 
-    /// How many codes were told. The count stays at its greatest value.
+    /// How many codes were reported. The count stays at its greatest value.
     pub fn faults(&self) -> u64
         ensures { result ≡ (seen_by self.now).faults }
     {
@@ -100,7 +100,7 @@ impl<R: Net<Listener = TcpListener, Stream = TcpStream> + Clock> World for NetWo
         ensures err { OnErr result (seen_by self.new ≡ seen_by self.old) }
         ensures open { (seen_by self.new).ended ≡ false }
 
-        // Which answer it is, and what is left of the sides.
+        // Which answer it is, and what is left of the network sockets.
         ensures told { IfOk result (λ told. OnNetwork (ports_of self.old) (sides_of self.old) op call told (sides_of self.new)) }
         ensures sides { OnErr result (Same (sides_of self.old) (sides_of self.new)) }
         ensures ports { ports_of self.new ≡ ports_of self.old }
@@ -119,7 +119,7 @@ impl<R: Net<Listener = TcpListener, Stream = TcpStream> + Clock> World for NetWo
         ensures err { OnErr result (seen_by self.new ≡ seen_by self.old) }
         ensures open { (seen_by self.new).ended ≡ false }
 
-        // Which answer it is, and what is left of the sides.
+        // Which answer it is, and what is left of the network sockets.
         ensures told { IfOk result (λ told. AnswersAt (WriteTells bytes.now) (Told.Code ErrorCode.InvalidState) sock (sides_of self.old sock) (sides_of self.old) told (sides_of self.new)) }
         ensures sides { OnErr result (Same (sides_of self.old) (sides_of self.new)) }
         ensures ports { ports_of self.new ≡ ports_of self.old }

@@ -1,4 +1,4 @@
-//! The sides of the network, by their names, and the call on each.
+//! The network sockets of the network, by their names, and the call on each.
 
 ghost use Rattle.std.specs.Prelude.{◌≡◌, None, Some, IfOk, OnOk, OnErr, length};
 ghost use Rattle.wasi_net.specs.Answers.{side_of, missing};
@@ -14,7 +14,7 @@ use std::time::Clock;
 use wasi_addr::{ErrorCode, SocketAddressFamily};
 use wasi_world::{Call, OpId, Sock, Told};
 
-/// The sides that were made and aren't closed, and the arrivals in hand.
+/// The network sockets that were made and aren't closed, and the arrivals in hand.
 type Sides = BTreeMap<OpId, Side>;
 
 /// The network without what a world counts: what is open, what may be used, and the runtime that reaches the system.
@@ -26,7 +26,8 @@ pub struct Network<R> {
     sides: Sides,
 }
 
-/// The side that a call is on: a connection that arrived has the name of its accept, which hands it over or refuses it.
+/// The network socket that a call is on: a connection that arrived has the name of its accept, which hands it over or refuses
+/// it.
 fn side_of(op: OpId, call: &Call) -> Option<Sock>
     ensures { result ≡ side_of op call.now }
 {
@@ -48,7 +49,7 @@ fn side_of(op: OpId, call: &Call) -> Option<Sock>
     }
 }
 
-/// The answer to a call on a side that isn't there.
+/// The answer to a call on a network socket that isn't there.
 fn told_missing(call: &Call) -> Told
     ensures { result ≡ missing call.now }
 {
@@ -67,7 +68,7 @@ impl<R> Network<R> {
     ghost use Rattle.wasi_world.specs.Fits.{IsWritten};
     ghost use Rattle.wasi_world.specs.Asks.{IsFront};
 
-    /// A network with no side yet.
+    /// A network with no network socket yet.
     pub fn new(rt: R, alloc: Global, allowed: Allowed) -> Network<R>
         ensures allowed { result.allowed ≡ allowed }
         ensures sides { IsUnused (known_sides result.sides) }
@@ -80,7 +81,7 @@ impl<R> Network<R> {
         }
     }
 
-    /// Closes a side, where it is there.
+    /// Closes a network socket, where it is there.
     pub fn close(&mut self, sock: Sock)
         ensures gone { With (known_sides self.old.sides) sock None (known_sides self.new.sides) }
         ensures same { self.new.allowed ≡ self.old.allowed }
@@ -88,7 +89,7 @@ impl<R> Network<R> {
         self.sides.remove(&sock);
     }
 
-    /// Makes a side, which the system doesn't know yet. Takes memory for it.
+    /// Makes a network socket, which the system doesn't know yet. Takes memory for it.
     fn create(&mut self, op: OpId, family: SocketAddressFamily) -> Result<Told, AllocError>
         ensures told { IfOk result (λ told. told ≡ Told.Done) }
         ensures made { OnOk result (With (known_sides self.old.sides) op (Some (Unbound family)) (known_sides self.new.sides)) }
@@ -118,7 +119,7 @@ impl<R: Net<Listener = TcpListener, Stream = TcpStream> + Clock> Network<R> {
     ghost use Rattle.wasi_net.specs.Known.{known_sides, Same};
     ghost use Rattle.wasi_net.specs.Answers.{OnSide, missing, AcceptTells, AnswersAt, OnNetwork};
 
-    /// Takes the next arrival in hand, under the name of its accept; one that is in hand is told again. Where memory runs
+    /// Takes the next arrival in hand, under the name of its accept; one that is in hand is reported again. Where memory runs
     /// out for it, it is closed.
     fn accept(&mut self, op: OpId, sock: Sock) -> Result<Told, AllocError>
         ensures told { IfOk result (λ told. AcceptTells op (known_sides self.old.sides op) (known_sides self.old.sides sock) (known_sides self.old.sides) told (known_sides self.new.sides)) }
@@ -144,7 +145,7 @@ impl<R: Net<Listener = TcpListener, Stream = TcpStream> + Clock> Network<R> {
         }
     }
 
-    /// The answer to a call on one side.
+    /// The answer to a call on one network socket.
     fn answer_on(&mut self, sock: Sock, call: &Call) -> Result<Told, AllocError>
         ensures told { IfOk result (λ told. AnswersAt (OnSide call.now) (missing call.now) sock (known_sides self.old.sides sock) (known_sides self.old.sides) told (known_sides self.new.sides)) }
         ensures err { OnErr result (Same (known_sides self.old.sides) (known_sides self.new.sides)) }

@@ -1,4 +1,4 @@
-//! What stands under the name of one side, and what each call on it tells.
+//! What is under the name of one network socket, and what each call on it reports.
 
 ghost use Rattle.std.specs.Prelude.{◌≡◌, IfOk, OnErr};
 
@@ -13,19 +13,19 @@ use std::time::Clock;
 use wasi_addr::{ErrorCode, IpSocketAddress, ShutdownType, SocketAddressFamily, unspecified_addr};
 use wasi_world::{Call, Opt, Told};
 
-/// A side. The system has a socket for the last three alone.
+/// A network socket. The system has a socket for the last three alone.
 #[derive(Drop)]
 pub enum Side {
     Unbound(SocketAddressFamily),
-    /// The address of a bind, which is bound once the side listens.
+    /// The address of a bind, which is bound once the network socket listens.
     Bound(IpSocketAddress),
     Listening(Listening),
-    /// A connection that is neither handed over nor refused yet; the side has the name of its accept.
+    /// A connection that is neither handed over nor refused yet; the network socket has the name of its accept.
     Arrived(Arrival),
     Connected(Connection),
 }
 
-/// The answer where the side doesn't stand so that the call can be made.
+/// The answer where the network socket isn't in a state in which the call can be made.
 fn told_misplaced() -> Told
     ensures { result ≡ Told.Code ErrorCode.InvalidState }
 {
@@ -59,7 +59,7 @@ impl Side {
         }
     }
 
-    /// Keeps the address. That it can't be bound shows where the side listens.
+    /// Keeps the address. That it can't be bound shows where the network socket listens.
     fn bind(&mut self, addr: IpSocketAddress) -> Told
         ensures { BindTells addr (known_of self.old) result (known_of self.new) }
     {
@@ -88,7 +88,7 @@ impl Side {
         }
     }
 
-    /// Connects a side that isn't bound: std has no connect from an address of one's own.
+    /// Connects a network socket that isn't bound: std has no connect from an address of one's own.
     fn connect<R: Net<Listener = TcpListener, Stream = TcpStream>>(
         &mut self,
         rt: &R,
@@ -181,7 +181,7 @@ impl Side {
         }
     }
 
-    /// The answer to a call on this side, and what it does to the side.
+    /// The answer to a call on this network socket, and what it does to the network socket.
     pub fn answer<R: Net<Listener = TcpListener, Stream = TcpStream> + Clock>(
         &mut self,
         rt: &R,

@@ -1,4 +1,4 @@
--- The options of a TCP socket, and its backlog: what each 0.2 call asks, answers and leaves.
+-- The options of a TCP socket, and its backlog: what each 0.2 call asks, returns and leaves.
 use Rattle.std.specs.Prelude.{ℕ, Bool, Option, Some, None, Result, Ok, Err, slice_get}
 use Rattle.std.specs.Int.{from_bool}
 use Rattle.wasi_world.specs.declared.ids.OpId.{OpId}

@@ -1,4 +1,4 @@
--- The 0.2 calls of TCP sockets: what each asks, answers and leaves.
+-- The 0.2 calls of TCP sockets: what each asks, returns and leaves.
 use Rattle.std.specs.Prelude.{ℕ, Bool, if◌then◌else◌, Option, Some, None, Result, Ok, Err, slice_get}
 use Rattle.wasi_addr.specs.declared.address.IpSocketAddress.{IpSocketAddress}
 use Rattle.wasi_addr.specs.declared.address.ShutdownType.{ShutdownType}
@@ -99,15 +99,16 @@ start_listen_on m own None = no_such_handle m
 start_listen_on m own (Some place) = bind (start_listen_at m.store own place (slice_get m.store.sockets place)) (λ done. Give (with_store m done))
 
 -- the socket that was accepted, and its streams
-abbrev pub with_streams : ℕ → Result (ℕ × ℕ) Stop × Machine → Result (ℕ × ℕ × ℕ) Stop × Machine
-with_streams socket (Ok (input, output), m) = (Ok (socket, input, output), m)
-with_streams socket (Err stop, m) = (Err stop, m)
+abbrev pub socket_with_streams : ℕ → Result (ℕ × ℕ) Stop × Machine → Result (ℕ × ℕ × ℕ) Stop × Machine
+socket_with_streams socket (Ok (input, output), m) = (Ok (socket, input, output), m)
+socket_with_streams socket (Err stop, m) = (Err stop, m)
 
 abbrev pub accepted_streams : OpId → ℕ → Option OpId → Result ℕ Stop × Machine → Asks (Result (ℕ × ℕ × ℕ) Stop × Machine)
-accepted_streams own place side (Ok socket, m) = bind (streams_asks m own socket place side) (λ made. Give (with_streams socket made))
+accepted_streams own place side (Ok socket, m) = bind (streams_asks m own socket place side) (λ made. Give (socket_with_streams socket made))
 accepted_streams own place side (Err stop, m) = Give (Err stop, m)
 
--- Its mark names the listener as its parent, and its streams name it as theirs; all are of the side that was handed over.
+-- Its mark names the listener as its parent, and its streams name it as theirs; all are of the network socket that was handed
+-- over.
 abbrev pub accepted_handles : Machine → OpId → ℕ → ℕ → Option OpId → Asks (Result (ℕ × ℕ × ℕ) Stop × Machine)
 accepted_handles m own listener place side =
     bind (make_asks m.table own (Tcp2 place) (Some listener) side) (λ made. accepted_streams own place side (with_table m made))

@@ -16,7 +16,7 @@ pub use wasi_host::SocketError;
 use wasi_host::{Kind, WasiSocketsCtxView, handles, of_fault};
 use wasi_world::{Handle, Ids, World};
 
-/// A call that tells a code of the 0.2 interface (`SocketResult` of the crate wasmtime-wasi).
+/// A call that returns a code of the 0.2 interface (`SocketResult` of the crate wasmtime-wasi).
 pub type SocketResult<T> = Result<T, SocketError>;
 
 /// Makes a handle of the network (`instance-network`).

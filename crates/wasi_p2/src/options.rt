@@ -17,8 +17,8 @@ use wasi_tcp::Setting;
 use wasi_world::{Handle, Ids, Opt, TrapKind, World};
 
 /// The value of an option: yes is 1 and no is 0, a time is in nanoseconds, a size in bytes. The getters below are this call of
-/// their option. Connecting: `InvalidState`. Closed: its code. A code that is told is answered. A told size is halved, any told
-/// number but 0 is yes, and a told value above the option's `largest_value` is `NotSupported`.
+/// their option. Connecting: `InvalidState`. Closed: its code. A code that is reported is returned. A reported size is halved,
+/// any reported number but 0 is yes, and a reported value above the option's `largest_value` is `NotSupported`.
 pub fn get_option<W: World>(
     view: &mut WasiSocketsCtxView<'_>,
     world: &mut W,
@@ -40,9 +40,9 @@ pub fn get_option<W: World>(
     view.store.get_option(world, ids.own(), place, option)
 }
 
-/// Sets an option. The setters below are this call of their setting. Connecting: `InvalidState`. Closed: its code. A code that is told is
-/// answered. 0 is `InvalidArgument`: for a time or a number of probes in any state, for the hop limit or a size where the state
-/// allows a set. Times, sizes and numbers of probes are brought into their ranges first.
+/// Sets an option. The setters below are this call of their setting. Connecting: `InvalidState`. Closed: its code. A code that
+/// is reported is returned. 0 is `InvalidArgument`: for a time or a number of probes in any state, for the hop limit or a size
+/// where the state allows a set. Times, sizes and numbers of probes are brought into their ranges first.
 fn set_option<W: World>(
     view: &mut WasiSocketsCtxView<'_>,
     world: &mut W,
@@ -63,7 +63,7 @@ fn set_option<W: World>(
     view.store.set_option(world, ids.own(), place, setting)
 }
 
-/// Whether probes are sent on a connection that is idle (`keep-alive-enabled`): any told number but 0 is yes.
+/// Whether probes are sent on a connection that is idle (`keep-alive-enabled`): any reported number but 0 is yes.
 pub fn keep_alive_enabled<W: World>(
     view: &mut WasiSocketsCtxView<'_>,
     world: &mut W,
@@ -171,7 +171,7 @@ pub fn set_keep_alive_interval<W: World>(
     set_option(view, world, ids, this, Setting::KeepAliveInterval(value))
 }
 
-/// How many probes without an answer end a connection (`keep-alive-count`). A number above 4,294,967,295 that is told:
+/// How many probes without an answer end a connection (`keep-alive-count`). A number above 4,294,967,295 that is reported:
 /// `NotSupported`.
 pub fn keep_alive_count<W: World>(
     view: &mut WasiSocketsCtxView<'_>,
@@ -209,7 +209,7 @@ pub fn set_keep_alive_count<W: World>(
     set_option(view, world, ids, this, Setting::KeepAliveCount(value))
 }
 
-/// How many hops a packet lives (`hop-limit`). A number above 255 that is told: `NotSupported`.
+/// How many hops a packet lives (`hop-limit`). A number above 255 that is reported: `NotSupported`.
 pub fn hop_limit<W: World>(
     view: &mut WasiSocketsCtxView<'_>,
     world: &mut W,
@@ -245,7 +245,7 @@ pub fn set_hop_limit<W: World>(
     set_option(view, world, ids, this, Setting::HopLimit(value))
 }
 
-/// The size of the buffer for what comes in, in bytes (`receive-buffer-size`): half of what is told.
+/// The size of the buffer for what comes in, in bytes (`receive-buffer-size`): half of what is reported.
 pub fn receive_buffer_size<W: World>(
     view: &mut WasiSocketsCtxView<'_>,
     world: &mut W,
@@ -281,7 +281,7 @@ pub fn set_receive_buffer_size<W: World>(
     set_option(view, world, ids, this, Setting::ReceiveBufferSize(value))
 }
 
-/// The size of the buffer for what goes out, in bytes (`send-buffer-size`): half of what is told.
+/// The size of the buffer for what goes out, in bytes (`send-buffer-size`): half of what is reported.
 pub fn send_buffer_size<W: World>(
     view: &mut WasiSocketsCtxView<'_>,
     world: &mut W,
@@ -318,9 +318,9 @@ pub fn set_send_buffer_size<W: World>(
 }
 
 /// How many connections may wait to be accepted (`set-listen-backlog-size`): brought into 1 to 2,147,483,647. 0:
-/// `InvalidArgument`, in any state. Before the socket listens the number is kept for the listen to come, and nothing is asked; a
-/// listener asks the network, and where that tells a code the old number stays: `NotSupported`. Closed: its code. In any other
-/// state: `InvalidState`.
+/// `InvalidArgument`, in any state. Before the socket listens the number is kept for the listen to come, and nothing is asked;
+/// a listener asks the network, and where that returns a code the old number stays: `NotSupported`. Closed: its code. In any
+/// other state: `InvalidState`.
 pub fn set_listen_backlog_size<W: World>(
     view: &mut WasiSocketsCtxView<'_>,
     world: &mut W,

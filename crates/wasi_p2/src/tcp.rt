@@ -42,8 +42,8 @@ pub fn create_tcp_socket<W: World>(
         .create_socket(view.table, world, ids.own(), view.ctx, family)
 }
 
-/// Begins to bind a socket to an address (`start-bind`). The handle of the network is tested first. With any operation in progress:
-/// `ConcurrencyConflict`. The bind is in progress once it is done; pending, the call stands.
+/// Begins to bind a socket to an address (`start-bind`). The handle of the network is tested first. With any operation in
+/// progress: `ConcurrencyConflict`. The bind is in progress once it is done; while its check is pending, so is the call.
 pub fn start_bind<W: World>(
     view: &mut WasiSocketsCtxView<'_>,
     world: &mut W,
@@ -170,8 +170,8 @@ fn make_streams<W: World>(
 }
 
 /// Begins to make a socket listen (`start-listen`). With any operation in progress: `ConcurrencyConflict`. A socket that isn't
-/// bound, or isn't new: `InvalidState`. The listen is in progress once it is done; pending, the call stands. One that is refused
-/// leaves the socket closed.
+/// bound, or isn't new: `InvalidState`. The listen is in progress once it is done; while its check is pending, so is the call.
+/// One that is refused leaves the socket closed.
 pub fn start_listen<W: World>(
     view: &mut WasiSocketsCtxView<'_>,
     world: &mut W,
@@ -212,9 +212,9 @@ pub fn finish_listen<W: World>(
 }
 
 /// Accepts a connection of a listener (`accept`): its socket, its input and its output. No listener: `InvalidState`. Nothing
-/// has arrived that the check allows: `WouldBlock`, and the accept goes on. The code of a fault is told, and the next call
-/// begins the next accept. An accept that begins takes the next name of the line. Where a handle can't be made, `Trap(Full)`,
-/// the connection is taken all the same.
+/// has arrived that the check allows: `WouldBlock`, and the accept stays in progress. The code of a fault is reported, and the
+/// next call begins the next accept. An accept that begins takes the next name of the line. Where a handle can't be made,
+/// `Trap(Full)`, the connection is taken all the same.
 pub fn accept<W: World>(
     view: &mut WasiSocketsCtxView<'_>,
     world: &mut W,
@@ -341,8 +341,8 @@ pub fn address_family<W: World>(
     view.store.address_family(place)
 }
 
-/// Gives up the receiving half of a connection, the sending half, or both in that order (`shutdown`). Before the streams were
-/// made: `InvalidState`. The sending half goes once a write that goes on has ended.
+/// Releases the receiving half of a connection, the sending half, or both in that order (`shutdown`). Before the streams were
+/// made: `InvalidState`. The sending half goes once a write in progress has ended.
 pub fn shutdown<W: World>(
     view: &mut WasiSocketsCtxView<'_>,
     world: &mut W,

@@ -1,4 +1,4 @@
--- What is told of a fault.
+-- What is reported of a fault.
 use Rattle.std.proofs.Common.{◌≡◌, Bool, true, false, refl, sym}
 use Rattle.wasi_pipes.specs.declared.cores.fault.WorkerFault.{WorkerFault}
 use Rattle.wasi_pipes.specs.declared.cores.fault.WorkerFault.TheVariants.{Unmet, Kept, Told}

@@ -94,7 +94,7 @@ all_taken_at_error events e meets told = all_taken events meets (empty_at_error 
 
 -- Of faults.
 
--- with an empty slot a kept fault is told
+-- with an empty slot a kept fault is reported
 tells_empty : (kept : WorkerFault ReadFault) (over : Bool) → tells_fault (Taken (result_and (admission_of kept over) (Ok 0))) ≡ is_kept kept
 tells_empty (Kept (fault.Failed code)) over = refl
 tells_empty (Kept fault.Starved) over = refl

@@ -32,7 +32,7 @@ moved s Starve = record s { flags = record s.flags { fault = Kept fault.Starved 
 moved s Take = taken_from s s.slot
 moved s Stop = record s { flags = record s.flags { stopped = true } }
 
--- the record's answer is what is told
+-- the record's answer is what is reported
 pub alike : (s : ReadState) (r : ReadRecord) (e : ReadEvent) → StandsFor s r → told_by s e ≡ answer r e
 alike s r Take h = ap Taken (ap (λ flags. take_answer flags (option_to_list s.slot)) h.flags ∙ ap (take_answer r.flags) h.slot)
 alike s r (Offer len) h = refl

@@ -51,7 +51,7 @@ joining_fits flags most len = joining_within (admission flags) flags.flushing (n
 budget_kept : (s : WriteState) (r : WriteRecord) → StandsFor s r → s.budget ≡ budget r
 budget_kept s r h = let e = ap sum h.lengths in omega (arith, h.initial)
 
--- the record's answer is what is told
+-- the record's answer is what is reported
 pub alike : (s : WriteState) (r : WriteRecord) (e : WriteEvent) → MayNow s e → StandsFor s r → told_by s e ≡ answer r e
 alike s r (Accept len) may h = ap Answered (ap (λ flags. accept_answer flags s.budget len) h.flags ∙ ap (λ most. accept_answer r.flags most len) (budget_kept s r h))
 alike s r Flush may h = ap (λ flags. Answered (admission flags)) h.flags

@@ -15,7 +15,7 @@ after_telling Unmet = Unmet
 after_telling (Kept cause) = Told cause
 after_telling (Told cause) = Told cause
 
--- whether there was a fault, kept or told
+-- whether there was a fault, kept or reported
 abbrev pub is_met : {C : Type 0} → WorkerFault C → Bool
 is_met Unmet = false
 is_met (Kept cause) = true

@@ -40,13 +40,13 @@ fresh = record { offered = []; taken = 0; flags = record { ended = false; fault 
 abbrev pub untaken : ReadRecord → List ℕ
 untaken r = drop r.taken r.offered
 
--- how a fault is told
+-- how a fault is reported
 abbrev pub error_of : ReadFault → StreamError
 error_of (Failed code) = LastOperationFailed code
 error_of Starved = Memory alloc_error
 
 -- what the owner is answered where nothing is to be taken: a kept fault, or that the stream is closed, by its end or a
--- stop (it is over then) or since its fault was told
+-- stop (it is over then) or since its fault was reported
 abbrev pub admission_of : WorkerFault ReadFault → Bool → Result (Unit {0}) StreamError
 admission_of (Kept fault) over = Err (error_of fault)
 admission_of (Told fault) over = Err Closed
@@ -122,7 +122,7 @@ taken_by _ = []
 abbrev pub taken_lengths : List (Step ReadEvent ReadAnswer) → List ℕ
 taken_lengths steps = flat_map (λ step. taken_by step.answer) steps
 
--- whether an answer tells a fault
+-- whether an answer reports a fault
 abbrev pub tells_fault : ReadAnswer → Bool
 tells_fault (Taken (Err (LastOperationFailed code))) = true
 tells_fault (Taken (Err (Memory e))) = true

@@ -55,7 +55,8 @@ queued r = drop (if r.in_hand then r.written + 1 else r.written) r.accepted
 abbrev pub budget : WriteRecord → ℕ
 budget r = r.initial - sum (unwritten r)
 
--- what the owner is answered before all else: a kept fault, or that the stream is closed, by a stop or since its fault was told
+-- what the owner is answered before all else: a kept fault, or that the stream is closed, by a stop or since its fault was
+-- reported
 abbrev pub admission_of : WorkerFault ErrorCode → Bool → Result (Unit {0}) StreamError
 admission_of (Kept code) stopped = Err (LastOperationFailed code)
 admission_of (Told code) stopped = Err Closed
@@ -174,7 +175,7 @@ popped_by _ = []
 abbrev pub popped_lengths : List (Step WriteEvent WriteAnswer) → List ℕ
 popped_lengths steps = flat_map (λ step. popped_by step.answer) steps
 
--- whether an answer tells a fault
+-- whether an answer reports a fault
 abbrev pub tells_fault : WriteAnswer → Bool
 tells_fault (Answered (Err (LastOperationFailed code))) = true
 tells_fault (Allowed (Err (LastOperationFailed code))) = true

@@ -21,7 +21,7 @@ ahead_of None r w ahead = ahead
 ahead_of (Some count) r w (at, is) = record { lost = []; split = sym at.same ∙ sym (append-nil (concat w.chunks)) }
 
 module _ {r : ReadStream} {w : WriteStream} {s : Reading} {k : Writing} where
-  -- in every case the sink took the front of what the source gave
+  -- in every case the sink took a prefix of what the source gave
   front_of : IsAhead r w → (more : List ℕ) → Gave r.began (r.given ++ more) s → TookFront w.began (concat w.chunks) k → MovedFront r.began s w.began k
   front_of ahead more gave front = record {
     bytes = r.given ++ more;
@@ -83,7 +83,7 @@ pub took_none : {k k' : Writing} → TookFront k [] k' → Took k [] k'
 took_none {k} {k'} front = let F : List ℕ → Type 0 = λ l. Took k l k' in subst F (nil_front front.taken front.rest front.split) front.took
 
 module _ {s s' : Reading} {k k' : Writing} {outcome : Result ℕ PumpError} where
-  -- a pump that wanted memory before it did anything
+  -- a pump that ran out of memory before it did anything
   pub unmoved : s' ≡ s → k' ≡ k → outcome ≡ Err Memory → PumpEnds s s' k k' outcome
   unmoved source sink is =
       let F : Reading × Writing × Result ℕ PumpError → Type 0 = λ t. PumpEnds s t.0 k t.1 t.2 in

@@ -24,7 +24,7 @@ pub record AtEnd (r : ReadStream) (w : WriteStream) : Type 0 where
   pub heard : r.heard ≡ stage.Ended
   pub flush : w.flush ≡ true
 
--- What was written is the front of what was read.
+-- What was written is a prefix of what was read.
 pub record IsAhead (r : ReadStream) (w : WriteStream) : Type 0 where
   pub lost : List ℕ  -- bytes that were read and not written
   pub split : r.given ≡ concat w.chunks ++ lost

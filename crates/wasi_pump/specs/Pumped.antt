@@ -18,7 +18,7 @@ pub record MovedAll (s s' : Reading) (k k' : Writing) (count : ℕ) : Type 0 whe
   pub flushed : IsFlushed k'
   pub count_is : count ≡ counted (length bytes)
 
--- The sink took the front of what the source gave.
+-- The sink took a prefix of what the source gave.
 pub record MovedFront (s s' : Reading) (k k' : Writing) : Type 0 where
   pub bytes : List ℕ
   pub gave : Gave s bytes s'

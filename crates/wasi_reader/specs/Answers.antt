@@ -15,14 +15,14 @@ use Rattle.wasi_reader.specs.Knows.{OwnerKnows, WorkerKnows}
 abbrev pub with_chunk : End → List ℕ → End
 with_chunk end chunk = record end { chunks = end.chunks ++ chunk ∷ [] }
 
--- what is known once the owner was answered by this error: `Closed` tells the end, unless the stream was stopped
+-- what is known once the owner was answered by this error: `Closed` reports the end, unless the stream was stopped
 abbrev pub after_told : OwnerKnows → StreamError → OwnerKnows
 after_told knows (LastOperationFailed code) = record knows { heard = Failed }
 after_told knows (Memory e) = record knows { heard = Starved }
 after_told knows Closed = if knows.stopped then knows else record knows { heard = Ended }
 after_told knows (Trap kind) = knows
 
--- no trap is told
+-- no trap is reported
 abbrev pub IsNoTrap : StreamError → Type 0
 IsNoTrap (Trap kind) = ⊥
 IsNoTrap _ = Unit {0}
@@ -63,7 +63,7 @@ pub record Settled (owner : OwnerKnows) (worker : WorkerKnows) : Type 0 where
   pub heard : IsHeard owner.heard worker.stage
   pub popped : owner.heard ≡ Ended → owner.popped ≡ worker.pushed
 
--- What was popped is the front of what was pushed, and all of it where as many were popped.
+-- What was popped is a prefix of what was pushed, and all of it where as many were popped.
 pub record HasLeft (pushed popped : List (List ℕ)) : Type 0 where
   pub items : List (List ℕ)
   pub in_order : pushed ≡ popped ++ items

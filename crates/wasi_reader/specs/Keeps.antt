@@ -1,4 +1,4 @@
--- What the lock of a read stream keeps: how the core stands to what each side knows.
+-- What the lock of a read stream keeps: how the core relates to what each side knows.
 use Rattle.std.specs.Prelude.{◌≡◌, ◌+◌, Bool, true, false, length, None}
 use Rattle.std.specs.Option.{option_to_list}
 use Rattle.wasi_pipes.specs.declared.cores.fault.WorkerFault.{WorkerFault}
@@ -22,7 +22,7 @@ stage_by Unmet true = Ended
 stage_by (Kept fault) ended = stage_of fault
 stage_by (Told fault) ended = stage_of fault
 
--- the fault that was told
+-- the fault that was reported
 abbrev pub told_by : WorkerFault ReadFault → Stage
 told_by Unmet = Open
 told_by (Kept fault) = Open

@@ -46,11 +46,12 @@ pub record ReadBytes (old : ReadStream) (size : ℕ) (bytes : List ℕ) (new : R
   pub some : 0 < size → IsReady old → 0 < length bytes
   pub none : 0 < size → length bytes ≡ 0 → MayWait old  -- nothing only where there may be nothing yet
 
--- the stream once a read told `Closed`: the end of the source, unless the stream was cancelled or a read told an end before
+-- the stream once a read reported `Closed`: the end of the source, unless the stream was cancelled or a read reported an end
+-- before
 abbrev pub closed_of : ReadStream → ReadStream
 closed_of s = if s.closed then s else if s.stopped then record s { closed = true } else record s { closed = true; heard = stage.Ended }
 
--- From old to new a read told how the stream ended. Nothing that was given or kept changes.
+-- From old to new a read reported how the stream ended. Nothing that was given or kept changes.
 abbrev pub EndsReads : ReadStream → ReadStream → StreamError → Type 0
 EndsReads old new (LastOperationFailed code) = (old.closed ≡ false) × (new ≡ record old { closed = true; heard = stage.Failed })
 EndsReads old new Closed = new ≡ closed_of old
@@ -98,7 +99,7 @@ EndsBy (Err ended.Fault) began now = (now.ended ≡ began.ended) × Rose began.f
 EndsBy (Err ended.Cancelled) began now = (now.ended ≡ began.ended) × (now.faults ≡ began.faults)
 EndsBy (Err ended.Memory) began now = (now.ended ≡ began.ended) × (now.faults ≡ began.faults)
 
--- what a read told of the worker's end is how the stream ends
+-- what a read reported of the worker's end is how the stream ends
 abbrev pub IsOutcome : Stage → Result (Unit {0}) Ended → Type 0
 IsOutcome stage.Open outcome = Unit {0}
 IsOutcome stage.Ended outcome = outcome ≡ Ok tt

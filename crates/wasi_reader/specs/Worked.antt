@@ -48,7 +48,7 @@ pub record StoppedAt (stage : Stage) (old new : Reading) (chunks chunks' : List 
   pub loses : MayLose stage lost
   pub pushed : chunks' ≡ chunks
 
--- one read: the worker goes on, or stops at a stage
+-- one read: the worker continues, or stops at a stage
 abbrev pub HasStepped : Option Stage → Reading → Reading → List (List ℕ) → List (List ℕ) → Type 0
 HasStepped None old new chunks chunks' = HandedOn old new chunks chunks'
 HasStepped (Some stage) old new chunks chunks' = StoppedAt stage old new chunks chunks'

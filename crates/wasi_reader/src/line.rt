@@ -81,7 +81,7 @@ pub fn make_line(alloc: Global) -> Result<(Line, PushEnd, PopEnd), AllocError>
 }
 
 impl PushEnd {
-    /// Pushes a chunk that has bytes. Want of memory loses it.
+    /// Pushes a chunk that has bytes. Running out of memory loses it.
     pub fn push<R: Wait>(&mut self, rt: &R, line: &Line, chunk: Bytes) -> Result<(), AllocError>
         requires line { self.old.line ≡ line.now }
         requires filled { 0 < length chunk }

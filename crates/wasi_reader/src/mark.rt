@@ -1,4 +1,4 @@
-//! A stage that stands under a lock and that one side alone sets, once.
+//! A stage that is under a lock and that one side alone sets, once.
 
 ghost use Rattle.std.specs.Prelude.{◌≡◌};
 ghost use Rattle.wasi_reader.specs.declared.stage.Stage.TheVariants.{Open};

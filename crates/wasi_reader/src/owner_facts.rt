@@ -12,7 +12,7 @@ use std::marker::Model;
 use wasi_shared::{Count, Counter, Fact, Keeper};
 use wasi_streams::StreamError;
 
-/// What the owner knows, as it stands under the lock.
+/// What the owner knows, as it is under the lock.
 #[derive(Drop)]
 pub struct OwnerFacts<N: LedgerNames> {
     popped: Count<Popped<N>>,
@@ -120,7 +120,7 @@ impl<N: LedgerNames> OwnerFacts<N> {
         self.heard.set(&mut keys.heard, stage);
     }
 
-    /// The owner was answered by this error. `Closed` tells the end of the source, unless the stream was stopped.
+    /// The owner was answered by this error. `Closed` reports the end of the source, unless the stream was stopped.
     pub fn hear(&mut self, keys: &mut OwnerKeys<N>, error: &StreamError)
         requires agreed { self.old ≡ keys.old }
         requires first { self.old.heard ≡ Open }

@@ -141,7 +141,7 @@ impl<N: Names> Shared<N> {
         self.progress.notify_one();
     }
 
-    /// Both sides are back in one place: what was popped is the front of what was pushed.
+    /// Both sides are back in one place: what was popped is a prefix of what was pushed.
     pub fn settle<R: Wait>(
         &self,
         rt: &R,

@@ -66,8 +66,8 @@ impl<S: Source + Drop + Send + 'static, N: Names + Send + Sync + 'static> Model
 }
 
 impl<S: Source + Drop + Send + 'static, N: Names + Send + Sync + 'static> AsyncReadStream<S, N> {
-    /// Starts a worker for the source. Where none is to be had, the source comes back: as `NoWorker` only where the
-    /// spawner counted a refusal, as `Memory` for want of memory.
+    /// Starts a worker for the source. Where there is none, the source comes back: as `NoWorker` only where the
+    /// spawner counted a refusal, as `Memory` for lack of memory.
     ///
     /// The parts are those of `N`'s names.
     pub fn new<P: Spawner, R: Threads + Wait + Copy + Send + 'static>(
@@ -129,10 +129,10 @@ impl<S: Source + Drop + Send + 'static, N: Names + Send + Sync + 'static> AsyncR
 
     /// Reads at most `size` bytes; no bytes where there is nothing yet.
     ///
-    /// Gives the front of the chunk that was taken last, and takes the next where nothing is left of that. Where there is
-    /// none, tells a fault of the worker once, and then `Closed`, as after the end and after
-    /// [`cancel`](AsyncReadStream::cancel). Where the worker wanted memory, that is told like a fault. Takes memory to cut
-    /// a chunk, and want of it loses nothing; no byte is copied.
+    /// Gives the front of the chunk that was taken last, and takes the next where nothing is left of that. Where there is none,
+    /// reports a fault of the worker once, and then `Closed`, as after the end and after [`cancel`](AsyncReadStream::cancel).
+    /// Where the worker ran out of memory, that is reported like a fault. Takes memory to cut a chunk, and running out of it
+    /// loses nothing; no byte is copied.
     pub fn read<R: Wait>(&mut self, rt: &R, size: usize) -> Result<Bytes, StreamError>
         ensures read { HasRead self.old size result self.new }
         ensures closed { self.old.closed ≡ true → (result ≡ Err Closed) × (self.new ≡ self.old) }
@@ -199,8 +199,8 @@ impl<S: Source + Drop + Send + 'static, N: Names + Send + Sync + 'static> AsyncR
         self.shared.wait_ready(rt, &mut self.keys);
     }
 
-    /// Stops the stream. The worker's current call of the source goes on to its end. What was read before is still given,
-    /// and a kept fault told; later reads are answered `Closed`.
+    /// Stops the stream. The worker's current call of the source continues to its end. What was read before is still given,
+    /// and a kept fault reported; later reads are answered `Closed`.
     pub fn cancel<R: Wait>(&mut self, rt: &R)
         ensures { self.new ≡ record self.old { stopped = true } }
     {
@@ -209,7 +209,7 @@ impl<S: Source + Drop + Send + 'static, N: Names + Send + Sync + 'static> AsyncR
 
     /// Stops the stream, waits for the worker, and gives the source back.
     ///
-    /// In every case what reads gave is the front of what the source gave, in order, and all of it where a read told the
+    /// In every case what reads gave is a prefix of what the source gave, in order, and all of it where a read reported the
     /// end. It is Ok where the source gave its end, `Fault` where a read of it failed, `Memory` where the worker found
     /// none, else `Cancelled`.
     pub fn finish<P: Spawner, R: Threads + Wait>(self, rt: &R, spawner: &mut P) -> Finished<S>

@@ -70,7 +70,8 @@ impl<N: Names> WorkerSide<N> {
         shared.offer(rt, keys, push, chunk)
     }
 
-    /// Hands bytes on as a chunk. Tells how the worker stops, where it does: it is stopped (at `Open`), or wants memory.
+    /// Hands bytes on as a chunk. Returns how the worker stops, where it does: it is stopped (at `Open`), or runs out of
+    /// memory.
     fn hand_on<R: Wait>(&mut self, rt: &R, bytes: &[u8]) -> Option<Stage>
         requires filled { 0 < length bytes.now }
         requires open { self.old.keys.stage ≡ Open }
@@ -87,7 +88,7 @@ impl<N: Names> WorkerSide<N> {
         }
     }
 
-    /// Tells how the worker stops.
+    /// Returns how the worker stops.
     fn stop<R: Wait>(&mut self, rt: &R, stage: Stage)
         requires { self.old.keys.stage ≡ Open }
         ensures stage { self.new.keys.stage ≡ stage }
@@ -102,7 +103,7 @@ impl<N: Names> WorkerSide<N> {
     }
 }
 
-/// Reads once, and hands on what came. Tells how the worker stops, where it does.
+/// Reads once, and hands on what came. Returns how the worker stops, where it does.
 fn step<S: Source, N: Names, R: Wait>(
     rt: &R,
     source: &mut S,

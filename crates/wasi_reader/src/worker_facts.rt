@@ -10,7 +10,7 @@ use crate::stage::Stage;
 use std::marker::Model;
 use wasi_shared::{Count, Counter};
 
-/// What the worker knows, as it stands under the lock.
+/// What the worker knows, as it is under the lock.
 #[derive(Drop)]
 pub struct WorkerFacts<N: LedgerNames> {
     pushed: Count<Pushed<N>>,

@@ -1,4 +1,4 @@
--- How a generated script goes on, line by line.
+-- How a generated script continues, line by line.
 use Rattle.wasi_run.proofs.Words.{◌/◌, ◌%◌, if◌then◌else◌, codes, ◌==◌, ◌≡◌, ℕ, zero, suc, ◌+◌, ◌-◌, ◌*◌, ◌<◌, Bool, true, false, List, [], ◌∷◌, ◌++◌, refl, ap, sym, ◌∙◌, append_assoc, append-nil, add-one, arith, eqb-true, eqb-false, Step}
 use Rattle.wasi_run.specs.Generate.{drawn, next_drawn, step_in, generated_step, generated_steps, generated, script_line, script_text}
 use Rattle.wasi_run.proofs.GeneratedLines.{network_line}

@@ -9,7 +9,7 @@ use Rattle.wasi_walks.proofs.licence.Runs as licence
 use Rattle.wasi_host.proofs.Closings.{empty_known}
 use Rattle.wasi_run.proofs.CauseLaws.{whole_by}
 
--- at every return what was asked is a beginning of the run of the lines done and the one met
+-- at every return what was asked is a prefix of the run of the lines done and the one met
 pub begins_run : {contexts : List WasiSocketsCtx} {limit : ℕ} {before after : Reading} {k_old k_new : Writing} {w_old w_new : Seen} {result : Result RunEnd RunError} → RanScript contexts limit before after k_old k_new w_old w_new result → BeginsRun contexts limit before after w_old w_new
 begins_run h = record {
   text = h.over.text;
@@ -22,7 +22,7 @@ begins_run h = record {
 }
 
 -- == the log
--- what was asked after the lines done stands in the log after what they asked
+-- what was asked after the lines done is in the log after what they asked
 module _ (contexts : List WasiSocketsCtx) (state : Machine) (line : ℕ) (old now : Seen) (front : List Entry) (log : old.log ≡ Some front) where
   abbrev Follows : Type 0
   Follows = (back : List Entry) × (now.log ≡ Some (front ++ back))
@@ -44,7 +44,7 @@ module _ (contexts : List WasiSocketsCtx) (state : Machine) (line : ℕ) (old no
   follows (Err WriteFault) met h = nothing_follows h.1
 
 module _ {contexts : List WasiSocketsCtx} {limit : ℕ} {before after : Reading} {k_old k_new : Writing} {w_old w_new : Seen} {result : Result RunEnd RunError} where
-  -- of a world that tells its log, which was empty when the run began
+  -- of a world that reports its log, which was empty when the run began
   has_run : (h : RanScript contexts limit before after k_old k_new w_old w_new result) → w_old.log ≡ Some [] → (log : List Entry) × (w_new.log ≡ Some log) × HasRun contexts (h.over.ran.steps ++ h.over.ran.met) log h.over.ran.replies
   has_run h empty =
       let lines = h.over.ran in
@@ -89,7 +89,7 @@ module _ {contexts : List WasiSocketsCtx} {limit : ℕ} {before after : Reading}
   pub over_open : RanOver contexts limit before after k_old k_new w_old stopped last result → w_old.ended ≡ false → stopped.ended ≡ false
   over_open h e = stays_open h.ran e
 
-  -- all sides are closed at the end
+  -- all network sockets are closed at the end
   pub has_closed : {w_new : Seen} → RanOver contexts limit before after k_old k_new w_old stopped last result → (KnowsSides stopped last.store → ClosesAll stopped w_new) → IsFresh w_old → HasClosedAll w_new
   has_closed h closes fresh =
       let known : KnowsSides w_old first_state.store = record { count = empty_known w_old.log 0 fresh.log refl } in

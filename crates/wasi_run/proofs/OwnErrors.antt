@@ -1,5 +1,5 @@
 -- A valid script from a source without faults, into a sink that refuses nothing at first, ends with no other error than
--- want of memory and a write that failed.
+-- out of memory and a write that failed.
 use Rattle.wasi_run.proofs.Words.{◌⊎◌, ◌≡◌, ℕ, List, length, Result, Ok, Err, inl, inr, refl, sym, arith, WasiSocketsCtx, Seen, Rose, Reading, Writing, SameCounts, CountRose, LinesEnd, RunError, Memory, BadStep, TooLong, ReadFault, WriteFault, Counted}
 use Rattle.wasi_session.specs.declared.lines.LinesEnd.TheVariants as lines
 use Rattle.wasi_run.specs.Script.{Answers, RanScript, IsValid, IsOkOrMemory, Completes}

@@ -14,7 +14,7 @@ use Rattle.wasi_session.specs.Lines.{after_lines, StartWith, BadAfter}
 use Rattle.wasi_host.specs.Closing.{AsksNothing}
 use Rattle.wasi_session.specs.Ran.{texts, NoTrap, OneTrap, CutLast, Met}
 
--- What was asked is a beginning of the run of the first lines that the reader gave.
+-- What was asked is a prefix of the run of the first lines that the reader gave.
 pub record BeginsRun (contexts : List WasiSocketsCtx) (limit : ℕ) (before after : Reading) (w_old w_new : Seen) : Type 0 where
   pub text : List ℕ
   pub gave : Gave before text after

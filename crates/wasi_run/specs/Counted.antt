@@ -45,12 +45,12 @@ pub record CountsRun (seed steps : ℕ) (counts : Counts) : Type 0 where
   pub entries : counts.entries ≡ length log
   pub bytes : counts.bytes ≡ min (taken_bytes log) 18446744073709551615
 
--- the errors that such a run can end with: want of memory, and a write that found none
+-- the errors that such a run can end with: out of memory, and a write that found none
 abbrev pub IsOwn : RunError → Type 0
 IsOwn Memory = Unit {0}
 IsOwn WriteFault = Unit {0}
 IsOwn _ = ⊥
 
--- the line that tells the counts
+-- the line that reports the counts
 abbrev pub summary : Counts → List ℕ
 summary counts = codes "lines " ++ decimal counts.lines ++ codes " replies " ++ decimal counts.replies ++ codes " entries " ++ decimal counts.entries ++ codes " bytes " ++ decimal counts.bytes ++ codes "\n"

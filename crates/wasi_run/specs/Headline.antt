@@ -9,8 +9,8 @@ use Rattle.wasi_walks.specs.Licence.{IsLicensed}
 use Rattle.wasi_run.specs.declared.run.RunEnd.{RunEnd}
 use Rattle.wasi_run.specs.Script.{RanScript}
 
--- The script ran so; and where the world tells its log, which was empty, it is that of a run of the steps that were done and of
--- the one met, with these replies, and is licensed by them.
+-- The script ran so; and where the world reports its log, which was empty, it is that of a run of the steps that were done and
+-- of the one met, with these replies, and is licensed by them.
 pub record RunsLicensed (contexts : List WasiSocketsCtx) (limit : ℕ) (before after : Reading) (k_old k_new : Writing) (w_old w_new : Seen) (result : Result RunEnd RunError) : Type 0 where
   pub ran : RanScript contexts limit before after k_old k_new w_old w_new result
   pub licensed : w_old.log ≡ Some [] → IfSome w_new.log (λ log.

@@ -65,7 +65,7 @@ number_of status.NoWorker = 10
 number_of status.SourceFault = 11
 number_of status.SinkFault = 12
 
--- how a run's end is told
+-- how a run's end is reported
 abbrev pub status_of : Result RunEnd RunError → Status
 status_of (Ok end) = status.Ok
 status_of (Err error.Memory) = status.Memory
@@ -74,7 +74,7 @@ status_of (Err error.TooLong) = status.TooLong
 status_of (Err error.ReadFault) = status.ReadFault
 status_of (Err error.WriteFault) = status.WriteFault
 
--- how a pump's end is told
+-- how a pump's end is reported
 abbrev pub pump_status : Result ℕ PumpError → Status
 pump_status (Ok count) = status.Ok
 pump_status (Err pump.NoBudget) = status.NoBudget
@@ -157,7 +157,7 @@ RunEnds limit c_old c_new s_old s_new k_old k_new log line status.Memory =
 RunEnds limit c_old c_new s_old s_new k_old k_new log line end = ScriptRan limit c_old c_new s_old s_new k_old k_new log line end
 
 -- == `gen SEED STEPS`
--- The generated script was run over the empty scenario, and this holds of the line that tells its counts.
+-- The generated script was run over the empty scenario, and this holds of the line that reports its counts.
 pub record Told (seed steps : ℕ) (P : List ℕ → Type 0) : Type 0 where
   pub counts : Counts
   pub ran : CountsRun seed steps counts

@@ -32,7 +32,7 @@ Answers limit text before after (Ok lines.Trapped) _ = ⊥
 Answers limit text before after (Err e) (Err f) = e ≡ f
 Answers limit text before after (Err e) (Ok a) = ⊥
 
--- What a run made of the text that the reader gave, under a limit; the machine then stands so.
+-- What a run made of the text that the reader gave, under a limit; this is the machine then.
 pub record RanOver (contexts : List WasiSocketsCtx) (limit : ℕ) (before after : Reading) (k_old k_new : Writing) (w_old w_new : Seen) (last : Machine) (result : Result RunEnd RunError) : Type 0 where
   pub text : List ℕ
   pub gave : Gave before text after
@@ -64,6 +64,6 @@ IsOkOrMemory (Ok a) = Unit {0}
 IsOkOrMemory (Err Memory) = Unit {0}
 IsOkOrMemory (Err _) = ⊥
 
--- With a valid script, no fault and no refused piece it answers Ok or want of memory.
+-- With a valid script, no fault and no refused piece it answers Ok or out of memory.
 abbrev pub Completes : ℕ → ℕ → Reading → Reading → Writing → Writing → Result RunEnd RunError → Type 0
 Completes contexts limit before after k_old k_new result = (script : List ℕ) → before.left ≡ Some script → IsValid contexts limit script → ¬ Rose before.faults after.faults → ¬ CountRose k_old k_new → IsOkOrMemory result

@@ -67,8 +67,8 @@ fn taken_bytes(log: &[Entry]) -> u64
     taken
 }
 
-/// A run of a generated script ends with no other error than want of memory: its lines are steps, its source doesn't fail,
-/// and its sink only for want of it.
+/// A run of a generated script ends with no other error than out of memory: its lines are steps, its source doesn't fail,
+/// and its sink only for lack of it.
 fn no_memory(error: RunError) -> AllocError
     requires { IsOwn error }
 {
@@ -111,7 +111,7 @@ pub fn run_generated(alloc: Global, seed: u64, steps: u32) -> Result<Counts, All
 }
 
 impl Counts {
-    /// The line that tells them, with its newline. Takes memory for it.
+    /// The line that reports them, with its newline. Takes memory for it.
     pub fn summary(&self, alloc: Global) -> Result<String, AllocError>
         ensures { IfOk result (λ text. string_bytes text ≡ summary self.now) }
     {

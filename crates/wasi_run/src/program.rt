@@ -95,7 +95,7 @@ impl Status {
         }
     }
 
-    /// How a run's end is told.
+    /// How a run's end is reported.
     pub fn of_run(outcome: Result<RunEnd, RunError>) -> Status
         ensures { result ≡ status_of outcome }
     {
@@ -109,7 +109,7 @@ impl Status {
         }
     }
 
-    /// How a pump's end is told.
+    /// How a pump's end is reported.
     pub fn of_pump(outcome: Result<u64, PumpError>) -> Status
         ensures { result ≡ pump_status outcome }
     {
@@ -365,7 +365,7 @@ fn run_scenario<C: Source, S: Source, K: Sink>(
     run_text(alloc, limit, text.as_slice(), source, sink)
 }
 
-/// Runs a generated script, and writes the line that tells its counts.
+/// Runs a generated script, and writes the line that reports its counts.
 fn tell_generated<K: Sink>(alloc: Global, seed: u64, steps: u32, sink: &mut K) -> Status
     ensures { GeneratedEnds seed steps (K.writing sink.old) (K.writing sink.new) result }
 {
@@ -427,7 +427,7 @@ fn run_command<
 /// most LIMIT bytes, over the scenario's world; replies go to the sink. `pump BUDGET` moves all bytes of the source to the
 /// sink, by streams with this budget and a worker each, which `readers` and `writers` start; it may wait for its workers.
 /// `gen SEED STEPS` runs the script that is generated from the seed, of at most 100000 lines, over the empty scenario, and
-/// writes one line to the sink, which tells what it came to; it reads nothing. Other words are status 1.
+/// writes one line to the sink, which says what it came to; it reads nothing. Other words are status 1.
 ///
 /// The words are tested first, then the scenario is read whole (a failed read is status 8), then it is parsed (status 2).
 pub fn run_main<

@@ -80,7 +80,7 @@ fn run_lines<W: World, S: Source, K: Sink>(
 /// Runs the script that the reader gives, and writes one reply per line.
 ///
 /// Lines are done in order, each as soon as it is whole, and its reply is written before the next is done. A trap's reply
-/// ends the run. The writer isn't flushed. At every return the end mark is set, and the open network sides are closed.
+/// ends the run. The writer isn't flushed. At every return the end mark is set, and the open network sockets are closed.
 /// Takes memory for the line that isn't whole yet, besides what the steps take.
 pub fn run_script<W: World, S: Source, K: Sink>(
     alloc: Global,

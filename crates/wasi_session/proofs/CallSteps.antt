@@ -1,10 +1,10 @@
--- How a step goes on where a call stands.
+-- How a step continues where a call is pending.
 use Rattle.wasi_session.proofs.Words.{Asks, Bool, Give, List, Machine, None, Option, Reply, Some, Step, WasiSocketsCtx, ap, asks_while, false}
 use Rattle.wasi_session.proofs.Words.{if◌then◌else◌, is_guest_call, is_some, refl, step_asks, true, ℕ, ◌&&◌, ◌≡◌}
 use Rattle.wasi_host.specs.declared.store.Standing.{Standing}
 use Rattle.wasi_steps.specs.declared.reply.Reply.TheVariants as reply
 
--- == where a call stands
+-- == where a call is pending
 module _ (contexts : List WasiSocketsCtx) (m : Machine) (line : ℕ) (s : Step) where
   abbrev By : Bool → Asks (Reply × Machine)
   By b = if b then Give (reply.Busy, m) else step_asks contexts m line s

@@ -14,7 +14,7 @@ either_way : (b : Bool) (a : List Reply × Machine) → (if b then Give a else G
 either_way true a = refl
 either_way false a = refl
 
--- want of memory before any line is done
+-- out of memory before any line is done
 pub none_done : (contexts : List WasiSocketsCtx) (w : Seen) (k : Writing) (first last : Machine) (line : ℕ) (all : List (List ℕ)) → last ≡ first → LinesRan contexts w w k k first line all (Err Memory) last
 none_done contexts w k first last line all e =
     let P : Machine → Type 0 = λ m. KnowsSides w first.store → KnowsSides w m.store in
@@ -24,7 +24,7 @@ none_done contexts w k first last line all e =
 pub one_bad : (contexts : List WasiSocketsCtx) (w : Seen) (k : Writing) (first : Machine) (line : ℕ) (l : List ℕ) → step_of (length contexts) l ≡ None → LinesRan contexts w w k k first line (l ∷ []) (Err (BadStep line)) first
 one_bad contexts w k first line l h = before_any [] tt (none_began contexts w first line) (refl, refl) (tt, refl) (same_none k) (sym (add-zero line), h) (λ held. held)
 
--- want of memory in doing it
+-- out of memory in doing it
 module _ {contexts : List WasiSocketsCtx} {w_old w_new : Seen} {k : Writing} {first last : Machine} {line : ℕ} {l : List ℕ} {s : Step} where
   pub one_hungry : step_of (length contexts) l ≡ Some s → Started (machine_asks contexts first line s) w_old w_new → (KnowsSides w_old first.store → KnowsSides w_new last.store) → LinesRan contexts w_old w_new k k first line (l ∷ []) (Err Memory) last
   one_hungry e h held =

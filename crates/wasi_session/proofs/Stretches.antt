@@ -123,7 +123,7 @@ module _ {contexts : List WasiSocketsCtx} {first mid : Machine} {line : ℕ} {xs
   cause_then u state last ls more (Err ReadFault) ys qs e h k = absurd k
   cause_then u state last ls more (Err WriteFault) ys qs e h k = tt
 
--- the beginning of the run of all
+-- a prefix of the run of all
 began_then : {contexts : List WasiSocketsCtx} {first mid : Machine} {line : ℕ} {xs : List Step} {rs : List Reply} {s t u : Seen} (so_far : List Reply) (ys : List Step) → Stretch contexts first line xs rs mid s t → Started (run contexts (so_far ++ rs) mid (line + length xs) ys) t u → Started (run contexts so_far first line (xs ++ ys)) s u
 began_then so_far ys h k = record { rest = k.rest; reached = reaches_then (h.reached so_far ys) k.reached }
 

@@ -43,7 +43,7 @@ pub record CutLast (replies : List Reply) (written : List ℕ) : Type 0 where
   pub short : cut < length (text_of last)
   pub is : written ≡ texts front ++ take cut (text_of last)
 
--- These lines ran, and the run can go on.
+-- These lines ran, and the run can continue.
 pub record Stretch (contexts : List WasiSocketsCtx) (first : Machine) (line : ℕ) (steps : List Step) (replies : List Reply) (state : Machine) (old now : Seen) : Type 0 where
   pub reached : (so_far : List Reply) (more : List Step) → Reaches (run contexts so_far first line (steps ++ more)) (run contexts (so_far ++ replies) state (line + length steps) more) old now
 
@@ -53,7 +53,7 @@ Met contexts state line [] old now = now ≡ old
 Met contexts state line (s ∷ []) old now = Started (machine_asks contexts state line s) old now
 Met contexts state line _ old now = ⊥
 
--- what was asked after the lines done: nothing, but at want of memory the first asks of the line met
+-- what was asked after the lines done: nothing, but when memory runs out the first asks of the line met
 abbrev pub Beyond : List WasiSocketsCtx → Result LinesEnd RunError → Machine → ℕ → List Step → Seen → Seen → Type 0
 Beyond contexts (Err Memory) state line met old now = Met contexts state line met old now
 Beyond contexts _ state line met old now = (met ≡ []) × (now ≡ old)
@@ -69,7 +69,7 @@ abbrev pub Counted : Result LinesEnd RunError → Writing → Writing → Type 0
 Counted (Err WriteFault) old new = CountRose old new
 Counted _ old new = SameCounts old new
 
--- All lines were done, and the machine stands so.
+-- All lines were done, and this is the machine then.
 pub record AllDone (contexts : List WasiSocketsCtx) (first : Machine) (line : ℕ) (all : List (List ℕ)) (steps : List Step) (replies : List Reply) (state last : Machine) (old now : Seen) : Type 0 where
   pub count : length steps ≡ length all
   pub stands : state ≡ last
@@ -97,7 +97,7 @@ pub record LinesRan (contexts : List WasiSocketsCtx) (w_old w_new : Seen) (k_old
   -- The lines done ran whole, whatever was replied before, and each has its reply.
   pub ran : (so_far : List Reply) → Reaches (run contexts so_far first line steps) (Give (so_far ++ replies, state)) w_old seen
   pub answered : length replies ≡ length steps
-  -- All that was asked is a beginning of the run of them and the line met, and nothing else was asked.
+  -- All that was asked is a prefix of the run of them and the line met, and nothing else was asked.
   pub began : (so_far : List Reply) → Started (run contexts so_far first line (steps ++ met)) w_old w_new
   pub beyond : Beyond contexts outcome state (line + length steps) met seen w_new
   -- The replies' texts were written.
@@ -105,5 +105,5 @@ pub record LinesRan (contexts : List WasiSocketsCtx) (w_old w_new : Seen) (k_old
   pub wrote : Wrote outcome replies written
   pub counted : Counted outcome k_old k_new
   pub cause : Cause contexts first line all outcome steps replies state last w_old w_new
-  -- If the records held each side that was made and not closed, they still do.
+  -- If the records held each network socket that was made and not closed, they still do.
   pub sides : KnowsSides w_old first.store → KnowsSides w_new last.store

@@ -18,14 +18,14 @@ use wasi_steps::{Reply, Step, TcpSetting};
 use wasi_streams::Table;
 use wasi_world::{Handle, Ids, WasiSocketsCtx, World};
 
-/// Whether the step is a guest call, and a call stands.
+/// Whether the step is a guest call, and a call is pending.
 fn is_held_up(store: &Store, step: &Step) -> bool
     ensures { result ≡ (is_some store.now.standing && is_guest_call step.now) }
 {
     store.exclusive().is_some() && step.context().is_some()
 }
 
-/// Does one step, which is the line of this number. While a call stands every guest call is busy.
+/// Does one step, which is the line of this number. While a call is pending every guest call is busy.
 pub fn do_step<W: World>(
     alloc: Global,
     machine: &mut Machine,

@@ -1,4 +1,4 @@
-//! A count that stands under a lock and that one side alone raises.
+//! A count that is under a lock and that one side alone raises.
 
 ghost use Rattle.std.specs.Prelude.{◌≡◌, ◌+◌, ◌≤◌};
 

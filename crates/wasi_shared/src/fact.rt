@@ -1,4 +1,4 @@
-//! A fact that stands under a lock and that one side alone changes.
+//! A fact that is under a lock and that one side alone changes.
 
 ghost use Rattle.std.specs.Prelude.{◌≡◌, ◌≤◌, false};
 

@@ -80,7 +80,7 @@ pub fn make_line(alloc: Global) -> Result<(Line, PushEnd, PopEnd), AllocError>
 }
 
 impl PushEnd {
-    /// Pushes a chunk. For want of memory it comes back.
+    /// Pushes a chunk. For lack of memory it comes back.
     pub fn push<R: Wait>(&mut self, rt: &R, line: &Line, chunk: Bytes) -> Result<(), Bytes>
         requires { self.old.line ≡ line.now }
         ensures ok { OnOk result (self.new ≡ record self.old { chunks = self.old.chunks ++ chunk ∷ [] }) }

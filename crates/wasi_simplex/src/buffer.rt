@@ -38,7 +38,7 @@ impl Buffer {
         })
     }
 
-    /// Takes in as much of the front of the bytes as there is room for, and tells how much.
+    /// Takes in as much of the front of the bytes as there is room for, and returns how much.
     pub fn put(&mut self, bytes: &[u8]) -> usize
         ensures count { result ≡ min (length bytes.now) (self.old.capacity - length self.old.held) }
         ensures held { self.new ≡ record self.old { held = self.old.held ++ take result bytes.now } }
@@ -48,7 +48,7 @@ impl Buffer {
         count
     }
 
-    /// Moves as many bytes as fit to the front of `buf`, and tells how many.
+    /// Moves as many bytes as fit to the front of `buf`, and returns how many.
     pub fn take(&mut self, buf: &mut [u8]) -> usize
         ensures count { result ≡ min (length buf.old) (length self.old.held) }
         ensures given { buf.new ≡ take result self.old.held ++ drop result buf.old }

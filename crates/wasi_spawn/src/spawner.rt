@@ -44,7 +44,7 @@ pub trait Spawner {
         ensures refusals { refusals self.new ≡ refusals self.old };
 
     /// Starts a job. Where that isn't Ok the same job comes back: in `NoWorker` only where a refusal was counted, in
-    /// `Memory` for want of memory alone.
+    /// `Memory` for lack of memory alone.
     final fn start<J: Job, R: Threads + Wait + Copy + Send + 'static>(
         &mut self,
         rt: &R,

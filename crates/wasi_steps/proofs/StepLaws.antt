@@ -14,7 +14,7 @@ use Rattle.wasi_addr.specs.declared.address.ShutdownType.{ShutdownType}
 use Rattle.wasi_addr.specs.declared.address.ShutdownType.TheVariants.{Receive, Send, Both}
 use Rattle.wasi_steps.specs.declared.step.Step.{Step}
 use Rattle.wasi_steps.specs.declared.step.Step.TheVariants as step
-use Rattle.wasi_steps.specs.Steps.{Kind, HandleOf, ALine, ACount, AFamily, ASocketAddress, AnOption, ASetting, AHalf, AllBytes, Value, value_at, value_fields, FitsValue, Values, values_fields, FitsValues, Takes, made, values_at, Written, fields_of_written, signature, context_fields, shutdown_fields, shutdown_words, shutdown_at, context_of, fields_of_step, line_of, IsStep, row_of, rows_of, rows_by, is_read, steps, bare_steps, guest_call_at, after_first, step_at, step_of}
+use Rattle.wasi_steps.specs.Steps.{Kind, HandleOf, ALine, ACount, AFamily, ASocketAddress, AnOption, ASetting, AHalf, AllBytes, Value, value_at, value_fields, FitsValue, Values, values_fields, FitsValues, Takes, made, values_at, Written, fields_of_written, signature, context_fields, shutdown_fields, shutdown_words, shutdown_at, context_of, fields_of_step, line_of, IsStep, row_of, rows_of, rows_by, is_read, steps, bare_steps, guest_call_at, after_first, step_reader, step_of}
 use Rattle.wasi_steps.proofs.SettingLaws.{◌and◌, u64_exactly, option_exactly, option_visible, setting_exactly, setting_visible}
 
 -- the word of what is shut down is read exactly
@@ -136,18 +136,18 @@ call_all {contexts} {c} {word = word} below visible arguments =
     rw (lt-ltb c contexts below) (all_then _ word_exactly (visible_utf8 word visible) arguments)
 
 after : (contexts : ℕ) (context : Option ℕ) (word : List ℕ) (s : Step) {taken : List (List ℕ)} → IsContext contexts context → (context ≡ None → number_in word 4294967295 ≡ None) → IsTrue (list_all is_visible word) → All (after_word (rows_by context) word) s taken
-    → All (step_at contexts) s (context_fields context (word ∷ taken))
-unfolding step_at
+    → All (step_reader contexts) s (context_fields context (word ∷ taken))
+unfolding step_reader
 after contexts (Some c) word s is other visible arguments =
     all_then _ word_exactly (visible_utf8 (decimal c) (number_visible c (let width = is.1 in omega arith)))
     (rw (number_in_decimal (decimal c) 4294967295 c (omega arith) refl is.1) (call_all is.0 visible arguments))
 after contexts None word s is other visible arguments = all_then _ word_exactly (visible_utf8 word visible) (rw (other refl) arguments)
 
-step_all : (contexts : ℕ) (s : Step) → IsStep contexts s → All (step_at contexts) s (fields_of_step s)
+step_all : (contexts : ℕ) (s : Step) → IsStep contexts s → All (step_reader contexts) s (fields_of_step s)
 step_all contexts s is = after contexts (context_of s) (signature s).written.word s (is.context, is.width) (bare_word s) (visible_word s) (row_reads s is.arguments)
 
-pub step_exactly : (contexts : ℕ) → ReadsExactly (step_at contexts) fields_of_step (IsStep contexts)
-unfolding step_at
+pub step_exactly : (contexts : ℕ) → ReadsExactly (step_reader contexts) fields_of_step (IsStep contexts)
+unfolding step_reader
 step_exactly contexts = exactly
     (only_then _ word_exactly (λ first utf8. first_only contexts first (number_in first 4294967295) refl))
     (step_all contexts)
@@ -185,8 +185,8 @@ step_visible : {contexts : ℕ} (s : Step) → IsStep contexts s → AreVisible 
 step_visible {contexts} s is = context_visible contexts (context_of s) _ (is.context, is.width) (visible_word s and values_visible (signature s).written.kinds (signature s).written.values is.arguments)
 
 -- == lines
-no_step : (contexts : ℕ) → step_at contexts [] ≡ None
-unfolding step_at read_then word_at field_at
+no_step : (contexts : ℕ) → step_reader contexts [] ≡ None
+unfolding step_reader read_then word_at field_at
 no_step contexts = refl
 
 whole_is : (read : Option (Step × List (List ℕ))) (s : Step) → whole read ≡ Some s → ◌≡◌ {A = Option (Step × List (List ℕ))} read (Some (s, []))

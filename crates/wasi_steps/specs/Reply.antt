@@ -59,7 +59,7 @@ pair_fields a b = Number a ∷ Number b ∷ []
 abbrev pub triple_fields : ℕ → ℕ → ℕ → List Field
 triple_fields a b c = Number a ∷ Number b ∷ Number c ∷ []
 
--- the same of values that stand together
+-- the same of values that are together
 abbrev pub pair_values : ℕ × ℕ → List Field
 pair_values (a, b) = pair_fields a b
 

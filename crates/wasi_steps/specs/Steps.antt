@@ -171,7 +171,7 @@ guest_call c word kinds makes values gives = record { written = record { context
 abbrev pub bare : List ℕ → (kinds : List Kind) → Takes kinds → Values kinds → FieldKinds → Signature
 bare word kinds makes values gives = record { written = record { context = None; word = word; kinds = kinds; values = values }; makes = makes; gives = gives }
 
--- a poll has the reply of the call that it polls, and no call that can stand has a field in it
+-- a poll has the reply of the call that it polls, and no call that can be pending has a field in it
 abbrev pub signature : Step → Signature
 signature (step.Network c) = guest_call c (codes "network") [] (step.Network c) tt (Each (ANumber ∷ []))
 signature (step.TcpCreate c family) = guest_call c (codes "tcp-create") (AFamily ∷ []) (step.TcpCreate c) (family, tt) (Each (ANumber ∷ []))
@@ -316,11 +316,11 @@ abbrev pub after_first : ℕ → List ℕ → Option ℕ → Reader Step
 after_first contexts first (Some c) = guest_call_at contexts c
 after_first contexts first None = after_word (rows_of bare_steps) first
 
-unfoldable pub step_at : ℕ → Reader Step
-step_at contexts = do
+unfoldable pub step_reader : ℕ → Reader Step
+step_reader contexts = do
   first ← word_at
   after_first contexts first (number_in first 4294967295)
 
 -- the step that a line is, where there are so many contexts
 unfoldable pub step_of : ℕ → List ℕ → Option Step
-step_of contexts line = whole (step_at contexts (fields_of line))
+step_of contexts line = whole (step_reader contexts (fields_of line))

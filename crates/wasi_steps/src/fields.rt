@@ -1,4 +1,4 @@
-//! What a call gives, told as the fields of its reply.
+//! What a call gives, as the fields of its reply.
 
 ghost use Rattle.std.specs.Prelude.{◌≡◌, IfOk};
 ghost use Rattle.wasi_steps.specs.Reply.{address_values};
@@ -13,7 +13,7 @@ pub trait IntoFields {
     ghost use Rattle.std.specs.Prelude.{◌≡◌, IfOk, List};
     ghost use Rattle.wasi_steps.specs.declared.reply.Field.{Field};
 
-    /// The fields that tell it.
+    /// The fields that say it.
     ghost fields: { Self → List Field };
 
     /// Takes memory for the fields.

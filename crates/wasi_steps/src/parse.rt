@@ -5,7 +5,7 @@ ghost use Rattle.wasi_world.specs.Fields.{Reads, after_word, number_in};
 ghost use Rattle.wasi_world.specs.Written.{IsVisible};
 ghost use Rattle.wasi_steps.specs.declared.step.Step.{Step};
 ghost use Rattle.wasi_steps.specs.Settings.{ReadsNumber, option_at, wide_words, setting_words, setting_at};
-ghost use Rattle.wasi_steps.specs.Steps.{line_of, IsStep, steps, plain_steps, value_steps, handle_steps, bare_steps, write_step, row_of, rows_of, shutdown_at, guest_call_at, step_at, step_of};
+ghost use Rattle.wasi_steps.specs.Steps.{line_of, IsStep, steps, plain_steps, value_steps, handle_steps, bare_steps, write_step, row_of, rows_of, shutdown_at, guest_call_at, step_reader, step_of};
 
 use crate::setting::TcpSetting;
 use crate::step::Step;
@@ -231,7 +231,7 @@ fn guest_call(
     arguments(alloc, fields, context, word)
 }
 
-/// Takes the arguments of a step word that no context's number stands before.
+/// Takes the arguments of a step word that no context's number comes before.
 #[tactic(auto, unfolding(wasi_world::specs::Fields::read_then, wasi_world::specs::Fields::give))]
 fn bare_arguments(fields: &mut Fields<'_>, word: &str) -> Option<Step>
     ensures { Reads (after_word (rows_of bare_steps) word.now) fields.old result fields.new }
@@ -253,9 +253,9 @@ fn context_number(word: &str) -> Option<u32>
 }
 
 /// Takes a step: a guest call of one of so many contexts, or a step that no context makes.
-#[tactic(auto, unfolding(crate::specs::Steps::step_at, wasi_world::specs::Fields::read_then))]
+#[tactic(auto, unfolding(crate::specs::Steps::step_reader, wasi_world::specs::Fields::read_then))]
 fn step(alloc: Global, fields: &mut Fields<'_>, contexts: u32) -> Result<Option<Step>, AllocError>
-    ensures { IfOk result (λ step. Reads (step_at contexts) fields.old step fields.new) }
+    ensures { IfOk result (λ step. Reads (step_reader contexts) fields.old step fields.new) }
 {
     let Some(first) = fields.word() else {
         return Ok(None);
@@ -278,7 +278,7 @@ pub fn parse_step(alloc: Global, line: &[u8], contexts: u32) -> Result<Option<St
 }
 
 /// A line is a step exactly where it is that step's line, and its context, where it has one, is one of so many. Nothing
-/// but visible ASCII characters and spaces stands in it.
+/// but visible ASCII characters and spaces is in it.
 pub fn steps_are_their_lines()
     ensures exactly { (contexts : ℕ) (line : List ℕ) (s : Step) → (step_of contexts line ≡ Some s) ↔ ((line ≡ line_of s) × IsStep contexts s) }
     ensures visible { (contexts : ℕ) (line : List ℕ) (s : Step) → step_of contexts line ≡ Some s → IsVisible line }

@@ -135,9 +135,9 @@ pub enum Reply {
     Failed(CodeWord, Handle),
     /// Ends the run.
     Trap(TrapKind),
-    /// The call of this line stands pending.
+    /// The call of this line is pending.
     Pending(u32),
-    /// An exclusive call stands, and this step is another guest call.
+    /// An exclusive call is pending, and this step is another guest call.
     Busy,
     NoSuchCall,
     Cancelled,

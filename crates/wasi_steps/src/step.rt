@@ -113,7 +113,7 @@ pub enum Step {
         output: Handle,
         bytes: Octets,
     },
-    /// Tells a kept error of an output; asks nothing (`output-stream.flush`).
+    /// Reports a kept error of an output; asks nothing (`output-stream.flush`).
     Flush {
         context: u32,
         output: Handle,
@@ -134,9 +134,9 @@ pub enum Step {
         context: u32,
         handle: Handle,
     },
-    /// The host's background work goes on: each write that goes on by itself is polled once.
+    /// The host's background work continues: each background write is polled once.
     Turn,
-    /// Polls the call that stands under this number, which is that of the line that began it.
+    /// Polls the pending call under this number, which is that of the line that began it.
     Poll {
         call: u32,
     },

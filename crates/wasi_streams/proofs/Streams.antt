@@ -1,4 +1,4 @@
--- How a stream call's asks go on where it gives no value.
+-- How a stream call's asks continue where it gives no value.
 use Rattle.std.specs.Prelude.{◌≡◌, Result, Ok, Err, IsErrAnd, OnErr}
 use Rattle.std.specs.declared.alloc.AllocError.{AllocError}
 use Rattle.std.proofs.Common.{ap, sym, subst}
@@ -14,7 +14,7 @@ pub stream_memory : {T : Type 0} {d : AllocError} (r : Result T StreamError) →
 stream_memory (Ok x) h = absurd h
 stream_memory (Err x) h = ap (λ (y : StreamError). stream_outcome (Err y)) h
 
--- want of memory before the first ask
+-- out of memory before the first ask
 pub stream_none : {A T : Type 0} {asks : Asks A} {s t : Seen} {view : Result T StreamStop → A} {d : AllocError} (r : Result T StreamError) → IsErrAnd r (λ x. x ≡ Memory d) → t ≡ s → AsksFor asks s t view (stream_outcome r)
 stream_none {asks} {s} {t} r h e = rw (stream_memory r h) (record { ok = tt; err = record { rest = asks; reached = rw e (reaches_all asks s) } })
 
@@ -47,7 +47,7 @@ on_memory (Err Closed) h = tt
 on_memory (Err (Trap kind)) h = tt
 on_memory (Err (Memory d)) h = h
 
--- what holds for want of memory, where the error is passed on by a `?`
+-- what holds when memory runs out, where the error is passed on by a `?`
 pub memory_on : (T : Type 0) {U : Type 0} {P Q R : Type 0} (x : StreamError) (r : Result U StreamError) → IsErrAnd r (λ y. y ≡ x) → OnErr (stream_outcome {T = T} (Err x)) P → OnErr (stream_outcome {T = T} (Err x)) Q → (P → Q → R) → OnErr (stream_outcome r) R
 memory_on T x (Ok y) h p q k = absurd h
 memory_on T {U = U} {R = R} (LastOperationFailed c) (Err y) h p q k = let G : StreamError → Type 0 = λ z. OnErr (stream_outcome {T = U} (Err z)) R in subst G (sym h) tt

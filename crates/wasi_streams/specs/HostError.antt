@@ -8,7 +8,7 @@ use Rattle.wasi_streams.specs.declared.fault.Fault.TheVariants as fault
 use Rattle.wasi_streams.specs.declared.fault.HostError.{HostError}
 use Rattle.wasi_streams.specs.declared.fault.HostError.TheVariants.{Code, Trap, Memory}
 
--- a trap and want of memory stay what they are
+-- a trap and out of memory stay what they are
 abbrev pub of_fault : {C : Type 0} → Fault → HostError C
 of_fault (fault.Trap k) = Trap k
 of_fault (fault.Memory e) = Memory e

@@ -1,9 +1,9 @@
--- Answers that may be want of memory.
+-- Answers that may be out of memory.
 use Rattle.std.specs.Prelude.{Result, Ok, Err}
 use Rattle.wasi_streams.specs.declared.error.StreamError.{StreamError}
 use Rattle.wasi_streams.specs.declared.error.StreamError.TheVariants.{LastOperationFailed, Closed, Trap, Memory}
 
--- a fact for want of memory
+-- a fact for when memory runs out
 abbrev pub OnMemory : {A : Type 0} → Result A StreamError → Type 0 → Type 0
 OnMemory (Ok value) P = Unit {0}
 OnMemory (Err (LastOperationFailed code)) P = Unit {0}

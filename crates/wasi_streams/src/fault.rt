@@ -6,7 +6,7 @@ use thiserror::Error;
 use wasi_addr::p2;
 use wasi_world::{Refusal, TrapKind};
 
-/// Why a host call that tells no codes gave no value.
+/// Why a host call that returns no codes gave no value.
 #[derive(Debug, Drop, Error)]
 pub enum Fault {
     /// The call broke a rule, which ends the guest's run.

@@ -29,7 +29,8 @@ pub trait InputStream {
     /// What a read of so many bytes asks, what it answers, and the stream then.
     ghost reading: { OpId → Self → ℕ → Asks (Result (List ℕ) StreamStop × Self) };
 
-    /// Reads at most `size` bytes; no bytes where there is nothing yet. After want of memory the stream is as it was.
+    /// Reads at most `size` bytes; no bytes where there is nothing yet. After running out of memory the stream is as it
+    /// was.
     fn read<W: World>(
         &mut self,
         alloc: Global,
@@ -42,7 +43,7 @@ pub trait InputStream {
         ensures err { OnErr (stream_outcome result) (self.new ≡ self.old) }
         ensures open { (W.seen world.new).ended ≡ false };
 
-    /// Reads, and tells only how many bytes there were. After want of memory the stream is as it was.
+    /// Reads, and returns only how many bytes there were. After running out of memory the stream is as it was.
     fn skip<W: World>(
         &mut self,
         alloc: Global,
@@ -75,7 +76,8 @@ pub trait OutputStream {
 
     ghost flushing: { OpId → Self → Asks (Result (Unit {0}) StreamStop × Self) };
 
-    /// How many bytes the next write may have; none where there is no room yet. After want of memory nothing was asked.
+    /// How many bytes the next write may have; none where there is no room yet. After running out of memory nothing was
+    /// asked.
     fn check_write<W: World>(&mut self, world: &mut W, op: OpId) -> Result<usize, StreamError>
         requires { (W.seen world.old).ended ≡ false }
         ensures asked { AsksFor (checking op self.old) (W.seen world.old) (W.seen world.new) (λ answer. (answer, self.new)) (stream_outcome result) }
@@ -88,7 +90,7 @@ pub trait OutputStream {
         ensures asked { AsksFor (writing op self.old bytes) (W.seen world.old) (W.seen world.new) (λ answer. (answer, self.new)) (stream_outcome result) }
         ensures open { (W.seen world.new).ended ≡ false };
 
-    /// Begins a flush. After want of memory the stream is as it was.
+    /// Begins a flush. After running out of memory the stream is as it was.
     fn flush<W: World>(&mut self, world: &mut W, op: OpId) -> Result<(), StreamError>
         requires { (W.seen world.old).ended ≡ false }
         ensures asked { AsksFor (flushing op self.old) (W.seen world.old) (W.seen world.new) (λ answer. (answer, self.new)) (stream_outcome result) }
@@ -121,7 +123,8 @@ pub trait Pollable {
     /// What a look asks, what it answers, and the thing then.
     ghost looking: { OpId → Self → Asks (Bool × Self) };
 
-    /// Whether the next call on it gives something: bytes, room, or an error. After want of memory nothing was asked.
+    /// Whether the next call on it gives something: bytes, room, or an error. After running out of memory nothing was
+    /// asked.
     fn poll_ready<W: World>(&mut self, world: &mut W, op: OpId) -> Result<bool, AllocError>
         requires { (W.seen world.old).ended ≡ false }
         ensures asked { AsksFor (looking op self.old) (W.seen world.old) (W.seen world.new) (λ ready. (ready, self.new)) result }

@@ -1,6 +1,6 @@
 //! The table of handles: what a guest holds by number, and what is a child of what.
 //!
-//! The live handles stand in a vector that is scanned, in the order of their making. Each has the list of its children beside it.
+//! The live handles are in a vector that is scanned, in the order of their making. Each has the list of its children beside it.
 
 ghost use Rattle.std.specs.Prelude.{◌≡◌, ◌≢◌, ◌↔◌, ◌⊎◌, ◌==◌, ◌+◌, ◌<◌, ◌^◌, [], false, true, length, position, vec_len, IfOk, IfErr, OnOk, OnErr, IfSome, IfNone, OnSome, IsSome, Some, None, Err};
 ghost use Rattle.std.specs.Borrow.{sem};
@@ -230,7 +230,7 @@ fn index_of<K>(entries: &[Entry<K>], handle: u32) -> Option<usize>
     entries.iter().position(|entry| entry.handle == handle)
 }
 
-/// Where a live handle stands.
+/// Where a live handle is.
 fn place_of<K>(entries: &[Entry<K>], handle: u32) -> Option<usize>
     ensures place { IfSome result (λ at. IsPlace (slots_of entries.now) handle at) }
     ensures within { IfSome result (λ at. at < length entries.now) }
@@ -267,7 +267,7 @@ fn put<K: Drop>(entries: &mut Vec<Entry<K>>, handle: u32, value: K) -> Result<()
     Ok(())
 }
 
-/// Puts an entry at the end and its handle into the list of its parent, which stands at `at`. The entry's room is taken first, so
+/// Puts an entry at the end and its handle into the list of its parent, which is at `at`. The entry's room is taken first, so
 /// that either both come or neither does.
 fn put_child<K: Drop>(
     entries: &mut Vec<Entry<K>>,

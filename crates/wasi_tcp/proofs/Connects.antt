@@ -25,7 +25,7 @@ connect_asked op (Ok Pending) h = asks_end _ h.ended (rw (← h.who) refl)
 connect_asked op (Err (Code c)) h = asks_end _ h.ended refl
 connect_asked op {new} (Err (Memory e)) h = record { ok = tt; err = record { rest = bind (poll_asks new) (λ ended. Give (connect_ended op.who ended)); reached = reaches_in _ h.ended } }
 
--- after want of memory, what is left of the poll is a poll of what the connect is then
+-- after running out of memory, what is left of the poll is a poll of what the connect is then
 pub connect_left_over : (op : Operation) {new : Operation} {s t : Seen} (r : Result (Answer (Unit {0})) Refusal) → PollsFor (λ done. Nothing) Nothing op new s t r → OnErr (outcome r) (Reaches (finish_in (state.Connecting op)) (finish_in (settled op.who.side (state.Connecting new) r)) s t)
 connect_left_over op (Ok a) h = tt
 connect_left_over op (Err (Code c)) h = tt

@@ -79,7 +79,7 @@ job_ends {old} {new} (Ok Pending) w p e o = job_given old new Waits w p.who e p.
 job_ends {old} {new} (Err (refusal.Code c)) w p e o = job_given old new (Refused c Nothing) w p.who e p.ended
 job_ends (Err (refusal.Memory d)) w p e o = absurd (cc)
 
--- after want of memory, what is left is a poll of what the job is then
+-- after running out of memory, what is left is a poll of what the job is then
 pub job_left_over : {old new : Job} {s t : Seen} {d : AllocError} (r : Result (Answer (Unit {0})) Refusal) → old.end ≡ Waits → PollsFor (λ done. Nothing) Nothing old.write new.write s t r → new.end ≡ end_after r → Err d ≡ outcome r → Reaches (job_asks old) (job_asks new) s t
 job_left_over (Ok a) w p e o = absurd (cc)
 job_left_over (Err (refusal.Code c)) w p e o = absurd (cc)
@@ -89,7 +89,7 @@ job_left_over {old} {new} {s} {t} (Err (refusal.Memory d)) w p e o =
     let R : Who → Type 0 = λ who. Reaches (bind (poll_asks old.write) (λ x. Give (job_after old.write.who x))) (bind (poll_asks new.write) (λ x. Give (job_after who x))) s t in
     subst P (sym w) (subst Q (sym e) (subst R (sym p.who) (reaches_in (λ x. Give (job_after old.write.who x)) p.ended)))
 
--- want of memory on the way
+-- out of memory on the way
 pub stops : {A T : Type 0} (Q : AllocError → Type 0) {asks rest : Asks A} {s t : Seen} {view : T → A} {r : Result T AllocError} → IsErrAnd r Q → Reaches asks rest s t → AsksFor asks s t view r
 stops Q {r = Ok x} e h = absurd e
 stops Q {rest} {r = Err d} e h = record { ok = tt; err = record { rest = rest; reached = h } }
@@ -98,7 +98,7 @@ pub on_err : {T : Type 0} {P : Type 0} (r : Result T AllocError) → P → OnErr
 on_err (Ok x) h = tt
 on_err (Err d) h = h
 
--- the half is given up now, after a write that ended well
+-- the half is released now, after a write that ended well
 pub finish_well : {s t : Seen} {r : Result (Unit {0}) AllocError} (op : OpId) (job : Job) (e : End) (told : Option (Result (Unit {0}) ErrorCode)) (x : Result (Unit {0}) ErrorCode) {u : Unit {0}} → told ≡ told_end e → told ≡ Some x → x ≡ Ok u → AsksFor (ask_shutdown op job.write.who.side Send) s t (λ done. done) r → AsksFor (finish_in op job e) s t (λ done. (done, job)) r
 finish_well op job Waits told x h k e a = absurd (cc)
 finish_well op job (Done given) told x h k e a = asks_gives (λ done. (done, job)) a

@@ -80,7 +80,7 @@ turn_ends ends a {s} {t} h e =
     let P : Asks _ → Type 0 = λ rest. Reaches (accept_asks ends a) rest s t in
     record { ok = subst P (ap Give e) (turn_reaches ends a h); err = tt }
 
--- want of memory
+-- out of memory
 pub turn_exit : {A T : Type 0} (ends : Accepting → A) (a now : Accepting) (Q : AllocError → Type 0) {s t : Seen} {view : T → A} {d : AllocError} {r : Result T AllocError} → IsErrAnd r Q → TurnFor a now s t (Err d) → AsksFor (accept_asks ends a) s t view r
 turn_exit ends a now Q {r = Ok x} e h = absurd e
 turn_exit ends a now Q {r = Err d} e h = record { ok = tt; err = record { rest = _; reached = (turn_stands ends a h).reached } }

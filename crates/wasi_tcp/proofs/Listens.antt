@@ -40,7 +40,7 @@ pub listen_asked : (op : Operation) (socket : Socket) {new : Operation} {s t : S
     → AsksFor (listen_poll_asks op socket) s t (λ answer. (answer, (new, listen_settled op.who.side socket r))) (outcome (listen_told op.who.side op.who.context socket r))
 listen_asked op socket r going h = rw going (listen_went_on op socket r h)
 
--- after want of memory, what is left of the poll is a poll of what the listen is then
+-- after running out of memory, what is left of the poll is a poll of what the listen is then
 pub listen_left_over : (op : Operation) (socket : Socket) {new : Operation} {s t : Seen} (r : Result (Answer (Unit {0})) Refusal) → PollsFor (λ done. Nothing) Nothing op new s t r
     → OnErr (outcome (listen_told op.who.side op.who.context socket r)) (Reaches (listen_goes_on op socket) (listen_goes_on new (listen_settled op.who.side socket r)) s t)
 listen_left_over op socket (Ok (Ready done)) h = tt

@@ -1,4 +1,4 @@
--- A remote address that was told is kept by every call.
+-- A remote address that was reported is kept by every call.
 use Rattle.std.specs.Prelude.{◌≡◌, ◌==◌, Bool, true, false, if◌then◌else◌, List, [], ◌∷◌, Option, Some, None, Result, Ok, Err, refl}
 use Rattle.std.proofs.Common.{ap, sym, subst, ◌∙◌}
 use Rattle.wasi_addr.specs.declared.address.IpSocketAddress.{IpSocketAddress}
@@ -119,7 +119,7 @@ answered_here op a socket c = refl
 pub peer_answered : (op : OpId) (a : IpSocketAddress) (socket : Socket) → KnowsPeer a socket → remote_asks op socket ≡ Give (Ok a, socket)
 peer_answered op a socket k = subst (λ (s : Socket). remote_asks op s ≡ Give (Ok a, s)) (sym (is_connected a socket k)) (answered_here op a socket k.connection)
 
--- == what is told is kept
+-- == what is reported is kept
 abbrev Told : List Entry → Result IpSocketAddress ErrorCode × Socket → Type 0
 Told es (Ok a, socket) = KnowsPeer a socket
 Told es (Err c, socket) = Unit {0}

@@ -64,7 +64,7 @@ front_then bytes (x ∷ xs) b h some = ap (λ w. w ++ drop (length xs) bytes) h 
 other_more : (side : OpId) (es : List Entry) (e : Entry) → taken_by side e.call e.answer ≡ [] → taken_in side (es ++ e ∷ []) ≡ taken_in side es
 other_more side es e none = taken_more side es e ∙ (ap (λ more. taken_in side es ++ more) none ∙ append-nil (taken_in side es))
 
--- == of a write of these bytes to this side
+-- == of a write of these bytes to this network socket
 module _ (op side : OpId) (bytes : List ℕ) where
   abbrev Front : List Entry → Type 0
   Front es = IsFrontOf (taken_in side es) bytes

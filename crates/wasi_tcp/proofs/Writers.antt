@@ -10,7 +10,7 @@ use Rattle.wasi_tcp.specs.declared.writer.WriteState.{WriteState}
 use Rattle.wasi_tcp.specs.declared.writer.WriteState.TheVariants as state
 use Rattle.wasi_tcp.specs.Writer.{collected, look_in, look_asks, is_ready, turn_asks, begun, write_on_asks}
 
--- of a half that is ready nothing goes on
+-- of a half that is ready nothing is in progress
 idle : (op : OpId) (s : WriteState) → is_ready s ≡ true → bind (look_in op s) (λ looked. Give (begun looked)) ≡ write_on_asks op s
 unfolding bind
 idle op (state.Ready half permit) h = refl
@@ -18,7 +18,7 @@ idle op (state.Writing job) h = absurd (cc)
 idle op (state.Closing job) h = absurd (cc)
 idle op (state.Closed e) h = absurd (cc)
 
--- after want of memory in the look, the look of what the state is then is left
+-- after running out of memory in the look, the look of what the state is then is left
 pub look_left_over : (op : OpId) (old turned new : WriteState) {s t u : Seen} → Reaches (turn_asks old) (Give (tt, turned)) s t → new ≡ collected turned → is_ready new ≡ true → u ≡ t → Reaches (write_on_asks op old) (write_on_asks op new) s u
 look_left_over op old turned new {s} {t} {u} h c r e =
     let P : Asks (Result (Unit {0}) StreamStop × WriteState) → Type 0 = λ rest. Reaches (write_on_asks op old) rest s t in
@@ -26,7 +26,7 @@ look_left_over op old turned new {s} {t} {u} h c r e =
     let left : bind (look_asks op turned) (λ looked. Give (begun looked)) ≡ write_on_asks op new = subst Q c (idle op new r) in
     rw e (subst P left (reaches_on (λ (x : Unit {0} × WriteState). bind (look_asks op x.1) (λ looked. Give (begun looked))) h))
 
--- an answer that wants memory asked nothing where the one that it is made of did so
+-- an answer that runs out of memory asked nothing where the one that it is made of did so
 pub none_asked : {T U D E : Type 0} (P : Type 0) (told : Result T D) (looked : Result U E) → OnErr told (IsErr looked) → OnErr looked P → OnErr told P
 none_asked P (Ok t) looked h k = tt
 none_asked P (Err d) (Ok u) h k = absurd (cc)

@@ -33,7 +33,7 @@ most_until job (Refused c given) = 0
 abbrev pub most_polled : Job → ℕ
 most_polled job = most_until job job.end
 
--- the same of a writing end, which asks nothing where no write goes on
+-- the same of a writing end, which asks nothing where no write is in progress
 abbrev pub most_turned : WriteState → ℕ
 most_turned (state.Ready half permit) = 0
 most_turned (state.Writing job) = most_polled job

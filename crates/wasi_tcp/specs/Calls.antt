@@ -14,7 +14,7 @@ use Rattle.wasi_tcp.specs.Addresses.{local_asks, remote_asks}
 use Rattle.wasi_tcp.specs.Halves.{take_receive, take_send}
 use Rattle.wasi_tcp.specs.Options.{set_option_asks, set_backlog_asks}
 
--- the calls on a socket that may change it, but its close; a poll of a listen takes only one that has no side
+-- the calls on a socket that may change it, but its close; a poll of a listen takes only one that has no network socket
 pub data SocketCall : Type 0 where
   IsBound : OpId → SocketCall
   BindTo : OpId → IpSocketAddress → SocketCall

@@ -37,7 +37,7 @@ abbrev pub new_listener : OpId → ℕ → SocketAddressFamily → Listener
 new_listener side maker family = record { side = side; maker = maker; family = family; accept = accepting.Idle }
 
 -- == the accept that a call polls
--- a new one where none stands
+-- a new one where none is in progress
 abbrev pub begun : OpId → ℕ → Ids → Accepting → Accepting
 begun side maker ids accepting.Idle = accepting.Asking (accept_operation (record { op = record { step = ids.line; part = ids.next_part }; side = side; maker = maker }) stage.Accept)
 begun side maker ids (accepting.Asking op) = accepting.Asking op
@@ -85,7 +85,7 @@ abbrev pub listener_ready_asks : Listener → Ids → Asks (Answer (Unit {0}) ×
 listener_ready_asks listener ids = listener_asks (ready_end listener) listener ids
 
 -- == the result, taken
--- what an accept makes is bound, and has its listener's family and maker
+-- what an accept makes is bound, and has its listener's family and creator
 abbrev pub accepted_socket : SocketAddressFamily → ℕ → TcpState → Socket
 accepted_socket family maker s = record { state = s; family = family; backlog = 128; bound = true; maker = maker }
 
@@ -93,7 +93,7 @@ accepted_socket family maker s = record { state = s; family = family; backlog = 
 abbrev pub accepted_state : OpId → IpSocketAddress → TcpState
 accepted_state new peer = state.Connected (record { side = new; peer = Some peer; receive_taken = false; send_taken = false })
 
--- a fault makes a socket that has no side
+-- a fault makes a socket that has no network socket
 abbrev pub accepted : SocketAddressFamily → ℕ → Accepting → Answer Socket
 accepted family maker accepting.Idle = Pending
 accepted family maker (accepting.Asking op) = Pending
@@ -112,8 +112,8 @@ accept_end listener a = (accepted listener.family listener.maker a, with_accept 
 abbrev pub listener_accept_asks : Listener → Ids → Asks (Answer Socket × Listener)
 listener_accept_asks listener ids = listener_asks (accept_end listener) listener ids
 
--- == after want of memory
--- The accept stands as after its last answered ask: what is left of the call is a poll of it, of some rounds, and what
+-- == after running out of memory
+-- The accept is as after its last answered ask: what is left of the call is a poll of it, of some rounds, and what
 -- the call makes of that.
 pub record StandsAccept {A : Type 0} (asks : Asks A) (ends : Accepting → A) (now : Accepting) (before after : Seen) : Type 0 where
   pub op : Operation
@@ -122,7 +122,7 @@ pub record StandsAccept {A : Type 0} (asks : Asks A) (ends : Accepting → A) (n
   pub reached : Reaches asks (bind (polls (suc rounds_left) op.who op.left) (λ ended. Give (ends (accept_ended op.who ended)))) before after
 
 -- == giving it up
--- the side of a connection that wasn't taken
+-- the network socket of a connection that wasn't taken
 abbrev pub untaken_side : Accepting → Option OpId
 untaken_side accepting.Idle = None
 untaken_side (accepting.Asking op) = None
@@ -140,7 +140,7 @@ abbrev pub listener_give_up_asks : Listener → Asks (Unit {0})
 listener_give_up_asks listener = give_up_in listener.accept
 
 -- == what a listener keeps
--- An accept on this side, for this maker, with an ask left.
+-- An accept on this network socket, for this creator, with an ask left.
 pub record IsAcceptOn (side : OpId) (maker : ℕ) (op : Operation) : Type 0 where
   pub accept : IsAccept op
   pub of_side : op.who.side ≡ side
@@ -176,7 +176,7 @@ pub record PolledAccept (op : Operation) (now : Accepting) (before after : Seen)
   pub reached : Reaches (poll_asks op) (Give end) before after
   pub now_is : now ≡ accept_ended op.who end
 
--- It wanted memory.
+-- It ran out of memory.
 pub record CutAccept (op : Operation) (now : Accepting) (before after : Seen) : Type 0 where
   pub left : Operation
   pub who : left.who ≡ op.who

@@ -1,4 +1,4 @@
--- The bytes that a side took.
+-- The bytes that a network socket took.
 use Rattle.std.specs.Prelude.{◌≡◌, ℕ, if◌then◌else◌, List, [], ◌∷◌, ◌++◌, Result, Ok, Err}
 use Rattle.wasi_world.specs.declared.ids.OpId.{OpId}
 use Rattle.wasi_world.specs.declared.call.Call.{Call}
@@ -17,12 +17,12 @@ abbrev pub took : Told → List ℕ
 took (Took bytes) = bytes
 took _ = []
 
--- what a side took by one call
+-- what a network socket took by one call
 abbrev pub taken_by : OpId → Call → Told → List ℕ
 taken_by side (Write sock offered) told = if is_same sock side then took told else []
 taken_by side _ told = []
 
--- what a side took by these calls, in order
+-- what a network socket took by these calls, in order
 abbrev pub taken_in : OpId → List Entry → List ℕ
 taken_in side [] = []
 taken_in side (e ∷ es) = taken_by side e.call e.answer ++ taken_in side es
@@ -36,8 +36,8 @@ abbrev pub bytes_left : List Item → List ℕ
 bytes_left (item.Write bytes ∷ items) = bytes
 bytes_left items = []
 
--- What a write leaves: where the half is ready again all was taken, and a write that goes on goes on with the rest. Of a
--- write that isn't permitted nothing is taken; after a code it is the front, of any length.
+-- What a write leaves: where the half is ready again all was taken, and a write that is in progress continues with the rest. Of
+-- a write that isn't permitted nothing is taken; after a code it is the front, of any length.
 abbrev pub IsTakenBy : List ℕ → List ℕ → Result (Unit {0}) StreamStop × WriteState → Type 0
 IsTakenBy bytes taken (Ok done, state.Ready half permit) = taken ≡ bytes
 IsTakenBy bytes taken (Ok done, state.Writing job) = taken ++ bytes_left job.write.left ≡ bytes

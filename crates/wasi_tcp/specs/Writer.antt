@@ -21,7 +21,7 @@ use Rattle.wasi_tcp.specs.declared.writer.WriteState.TheVariants as state
 use Rattle.wasi_tcp.specs.Job.{Job, new_job, job_asks, finish_asks}
 
 -- == the kept error
--- a write that the other end broke is told as the end
+-- a write that the other end broke is reported as the end
 abbrev pub error_of_code : ErrorCode → WriteError
 error_of_code ConnectionBroken = error.Closed
 error_of_code c = error.LastOperationFailed c
@@ -88,7 +88,7 @@ permitted (Err stop, s) = (Err stop, s)
 abbrev pub check_write_asks : OpId → WriteState → Asks (Result ℕ StreamStop × WriteState)
 check_write_asks op s = bind (look_asks op s) (λ looked. Give (permitted looked))
 
--- == one poll of a job that goes on
+-- == one poll of a job in progress
 abbrev pub turn_asks : WriteState → Asks (Unit {0} × WriteState)
 turn_asks (state.Ready half permit) = Give (tt, state.Ready half permit)
 turn_asks (state.Writing job) = bind (job_asks job) (λ j. Give (tt, state.Writing j))
@@ -111,14 +111,14 @@ write_half_asks op half permit (b ∷ bytes) =
     if nat_lt permit (length (b ∷ bytes)) then Give (Err (Trap NotPermitted), state.Ready half permit)
     else write_on_asks op (state.Writing (new_job op half.side (b ∷ bytes)))
 
--- a write within the permit goes on by itself, and takes the permit with it
+-- a write within the permit continues in the background, and takes the permit with it
 abbrev pub write_state_asks : OpId → WriteState → List ℕ → Asks (Result (Unit {0}) StreamStop × WriteState)
 write_state_asks op (state.Ready half permit) bytes = write_half_asks op half permit bytes
 write_state_asks op (state.Writing job) bytes = Give (Err (Trap NotPermitted), state.Writing job)
 write_state_asks op (state.Closing job) bytes = Give (Err (Trap NotPermitted), state.Closing job)
 write_state_asks op (state.Closed e) bytes = Give (Err (stop_of e), state.Closed e)
 
--- a flush only tells the kept error
+-- a flush only reports the kept error
 abbrev pub flush_of : WriteState → Result (Unit {0}) StreamStop
 flush_of (state.Ready half permit) = Ok tt
 flush_of (state.Writing job) = Ok tt
@@ -126,7 +126,7 @@ flush_of (state.Closing job) = Ok tt
 flush_of (state.Closed e) = Err (stop_of e)
 
 -- == the end
--- the side of a job's half, unless the job gave it up
+-- the network socket of a job's half, unless the job gave it up
 abbrev pub writing_side : Job → End → Option OpId
 writing_side job Waits = Some job.write.who.side
 writing_side job (Done given) = Some job.write.who.side
@@ -137,7 +137,7 @@ closing_side job Waits = Some job.write.who.side
 closing_side job (Done given) = None
 closing_side job (Refused c given) = None
 
--- the side of the half, while there is one
+-- the network socket of the half, while there is one
 abbrev pub writer_side : WriteState → Option OpId
 writer_side (state.Ready half permit) = Some half.side
 writer_side (state.Writing job) = writing_side job job.end
@@ -151,7 +151,7 @@ now_closing (state.Writing job) = state.Closing job
 now_closing (state.Closing job) = state.Closing job
 now_closing (state.Closed e) = state.Closed e
 
--- the half is given up, after a write that goes on
+-- the half is released, after a write in progress
 abbrev pub writer_shutdown_asks : OpId → WriteState → Asks (Unit {0} × WriteState)
 writer_shutdown_asks op (state.Ready half permit) = bind (ask_shutdown op half.side Send) (λ done. Give (done, state.Closed error.Closed))
 writer_shutdown_asks op (state.Writing job) = bind (finish_asks op job) (λ finished. Give (finished.0, state.Closing finished.1))
@@ -162,6 +162,6 @@ abbrev pub side_up_asks : OpId → Option OpId → Asks (Unit {0})
 side_up_asks op (Some side) = ask_shutdown op side Send
 side_up_asks op None = Give tt
 
--- the half is given up now, where there is one; a write that goes on ends there
+-- the half is released now, where there is one; a write in progress ends there
 abbrev pub writer_give_up_asks : OpId → WriteState → Asks (Unit {0})
 writer_give_up_asks op s = side_up_asks op (writer_side s)

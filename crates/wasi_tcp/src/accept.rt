@@ -52,9 +52,9 @@ impl AcceptOp {
     }
 
     /// Asks what comes next. With no arrival in hand that is one accept: pending ends the poll, and a code is answered.
-    /// An arrival is checked for the listener's maker: a yes hands it over, and it is answered as a new side, which has
-    /// the accept's name, with the other end's address. A no refuses it, and the next is waited for; after the 64th in
-    /// one poll the answer is pending. After want of memory it may be polled again.
+    /// An arrival is checked for the listener's creator: a yes hands it over, and it is answered as a new network
+    /// socket, which has the accept's name, with the other end's address. A no refuses it, and the next is waited for;
+    /// after the 64th in one poll the answer is pending. After running out of memory it may be polled again.
     pub(crate) fn poll<W: World>(
         &mut self,
         world: &mut W,
@@ -85,7 +85,7 @@ impl AcceptOp {
         }
     }
 
-    /// Refuses the arrival that is in hand, where there is one. After want of memory nothing was asked.
+    /// Refuses the arrival that is in hand, where there is one. After running out of memory nothing was asked.
     pub(crate) fn give_up<W: World>(&self, world: &mut W) -> Result<(), AllocError>
         requires { (W.seen world.old).ended ≡ false }
         ensures asked { AsksFor (accept_give_up_asks self.now) (W.seen world.old) (W.seen world.new) (λ done. done) result }

@@ -48,9 +48,9 @@ impl BindOp {
         }
     }
 
-    /// Asks what comes next: a no is `AccessDenied`, and a code is answered. After want of memory it stands as after its last
-    /// answered ask, and may be polled again. One that was done or refused: `InvalidState`, without an ask. The socket that
-    /// began it stays in the state Default; any other is left as it is, too.
+    /// Asks what comes next: a no is `AccessDenied`, and a code is answered. After running out of memory it is as after its
+    /// last answered ask, and may be polled again. One that was done or refused: `InvalidState`, without an ask. The socket
+    /// that began it stays in the state Default; any other is left as it is, too.
     pub fn poll<W: World>(
         &mut self,
         world: &mut W,

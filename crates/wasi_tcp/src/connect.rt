@@ -1,4 +1,4 @@
-//! A connect that is polled. Where it is refused it closes its side last.
+//! A connect that is polled. Where it is refused it closes its network socket last.
 
 ghost use Rattle.std.specs.Prelude.{◌≡◌, Some, false};
 ghost use Rattle.wasi_world.specs.Operation.{PollsFor, Nothing};
@@ -63,15 +63,15 @@ impl ConnectOp {
         }
     }
 
-    /// The side that it works on.
+    /// The network socket that it works on.
     pub fn side(&self) -> Sock
         ensures { result ≡ self.now.who.side }
     {
         self.asker.side
     }
 
-    /// Asks what comes next. A no is `AccessDenied`, and a code is answered; both close the side first. After want of
-    /// memory it may be polled again.
+    /// Asks what comes next. A no is `AccessDenied`, and a code is answered; both close the network socket first. After
+    /// running out of memory it may be polled again.
     pub(crate) fn poll<W: World>(&mut self, world: &mut W) -> Result<Answer<()>, Refusal>
         requires { (W.seen world.old).ended ≡ false }
         ensures polled { PollsFor (λ done. Nothing) Nothing self.old self.new (W.seen world.old) (W.seen world.new) result }

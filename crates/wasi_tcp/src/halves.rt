@@ -13,13 +13,13 @@ use wasi_world::{Answer, Octets, OpId, Refusal, Sock, World, asks};
 /// One read asks for at most so many bytes.
 const MOST_READ: usize = 65536;
 
-/// What comes in over a connection. It must be given up in the end.
+/// What comes in over a connection. It must be released in the end.
 #[derive(Debug, Drop)]
 pub struct TcpReceiveStream {
     pub(crate) side: Sock,
 }
 
-/// What goes out over a connection. It must be given up in the end.
+/// What goes out over a connection. It must be released in the end.
 #[derive(Debug, Drop)]
 pub struct TcpSendStream {
     pub(crate) side: Sock,
@@ -36,7 +36,7 @@ fn answer<T: Drop>(told: Polled<T>) -> Result<Answer<T>, Refusal>
     }
 }
 
-/// An answer that may be a code, apart from want of memory.
+/// An answer that may be a code, apart from running out of memory.
 pub(crate) fn answered<T: Drop>(
     told: Result<T, Refusal>,
 ) -> Result<Result<T, ErrorCode>, AllocError>

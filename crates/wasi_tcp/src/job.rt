@@ -1,4 +1,4 @@
-//! A write that goes on by itself.
+//! A background write.
 
 ghost use Rattle.std.specs.Prelude.{◌≡◌, ◌≤◌, ◌<◌, ◌^◌, ℕ, Bool, List, false, length, drop, OnErr};
 ghost use Rattle.wasi_world.specs.Asks.{AsksFor, Reaches};
@@ -65,14 +65,14 @@ impl WriteJob {
         }
     }
 
-    /// The side that it writes to.
+    /// The network socket that it writes to.
     pub fn side(&self) -> Sock
         ensures { result ≡ self.now.write.who.side }
     {
         self.side
     }
 
-    /// How it ended, none where it goes on.
+    /// How it ended, none where it is in progress.
     pub fn end(&self) -> Option<Result<(), ErrorCode>>
         ensures told { result ≡ told_end self.now.end }
         ensures write { IsWrite self.now }
@@ -84,8 +84,8 @@ impl WriteJob {
         }
     }
 
-    /// Has the half given up after the write: by the job, or now, named `op`, where the write ended well already. After
-    /// want of memory the job is as it was.
+    /// Has the half released after the write: by the job, or now, named `op`, where the write ended well already. After
+    /// running out of memory the job is as it was.
     pub(crate) fn finish<W: World>(&mut self, world: &mut W, op: OpId) -> Result<(), AllocError>
         requires { (W.seen world.old).ended ≡ false }
         ensures asked { AsksFor (finish_asks op self.old) (W.seen world.old) (W.seen world.new) (λ done. (done, self.new)) result }
@@ -111,8 +111,8 @@ impl WriteJob {
     }
 
     /// Offers the rest again and again, until the answer is pending, a code came, or nothing is left. After a code the
-    /// half is shut down. One that ended stays as it is. After want of memory it stands as after its last answered ask,
-    /// and may be polled again.
+    /// half is shut down. One that ended stays as it is. After running out of memory it is as after its last answered
+    /// ask, and may be polled again.
     pub fn poll<W: World>(&mut self, world: &mut W) -> Result<(), AllocError>
         requires { (W.seen world.old).ended ≡ false }
         ensures asked { AsksFor (job_asks self.old) (W.seen world.old) (W.seen world.new) (λ done. self.new) result }

@@ -21,9 +21,9 @@ ghost use Rattle.wasi_tcp.specs.Taken.{taken_in, IsFrontOf, IsTakenBy};
 ghost use Rattle.wasi_tcp.specs.Bounds.{IsWrite, HoldsWrite, most_polled, most_turned};
 ghost use Rattle.wasi_tcp.specs.declared.writer.WriteState.TheVariants as WriteState;
 
-/// A remote address, once it is told, stays while the socket is connected: whatever calls are made on the socket but its
+/// A remote address, once it is reported, stays while the socket is connected: whatever calls are made on the socket but its
 /// close, and whatever the network answers, it is still connected with this address, which is answered without an ask. A
-/// poll of a listen isn't among them, since it takes only a socket that has no side.
+/// poll of a listen isn't among them, since it takes only a socket that has no network socket.
 ///
 /// It runs no code: its contract is a law about the definitions that contracts cite.
 pub fn remote_address_stays()
@@ -35,9 +35,9 @@ pub fn remote_address_stays()
         KnowsPeer a socket → remote_asks op socket ≡ Give (Ok a, socket) }
 {}
 
-/// A write's bytes are taken in order, each once: wherever the write stands, what its side took is the first of them. Where
-/// it is over and the half is ready again, all were taken; where it goes on, it goes on with the rest. The other calls of
-/// a stream give a side nothing.
+/// A write's bytes are taken in order, each once: at every point of the write, what its network socket took is the first of
+/// them. Where it is over and the half is ready again, all were taken; where it is in progress, it continues with the rest. The
+/// other calls of a stream give a network socket nothing.
 ///
 /// It runs no code: its contract is a law about the definitions that contracts cite.
 pub fn writes_are_taken_in_order()
@@ -55,9 +55,9 @@ pub fn writes_are_taken_in_order()
         Left (read_state_asks op s size) entries rest → taken_in side entries ≡ [] }
 {}
 
-/// One poll of a write makes at most one call for each byte that is left, and one more, which shuts the half down; where
-/// no byte is left, that one at most; of a write that ended, none. That holds whatever the network answers, and wherever
-/// the poll stands. A turn of a writing end is a poll of its write, and makes no call where no write goes on.
+/// One poll of a write makes at most one call for each byte that is left, and one more, which shuts the half down; where no
+/// byte is left, that one at most; of a write that ended, none. That holds whatever the network answers, and at every point of
+/// the poll. A turn of a writing end is a poll of its write, and makes no call where no write is in progress.
 ///
 /// It runs no code: its contract is a law about the definitions that contracts cite.
 pub fn write_jobs_are_bounded()

@@ -1,4 +1,4 @@
-//! A listen that is polled. Where it is refused it closes its side last.
+//! A listen that is polled. Where it is refused it closes its network socket last.
 
 ghost use Rattle.std.specs.Prelude.{◌≡◌, false, None, OnErr};
 ghost use Rattle.wasi_world.specs.Asks.{AsksFor, Reaches, outcome};
@@ -22,7 +22,7 @@ use wasi_world::{Answer, Refusal, Sock, World, asks};
 pub enum ListenStage {
     /// The socket was bound at the start: its local address is asked for.
     Local,
-    /// The address that was told is checked for the listen.
+    /// The address that was reported is checked for the listen.
     CheckTold(IpSocketAddress),
     /// The socket wasn't bound at the start: the wildcard is checked for the bind.
     CheckBind,
@@ -82,7 +82,7 @@ impl ListenOp {
         }
     }
 
-    /// The network side that it holds: that of the socket that began it, and none once it is over. Takes no memory.
+    /// The network socket that it holds: that of the socket that began it, and none once it is over. Takes no memory.
     pub fn held(&self) -> Option<Sock>
         ensures { result ≡ held_side self.now }
     {
@@ -92,19 +92,20 @@ impl ListenOp {
         Some(self.asker.side)
     }
 
-    /// The side that it was begun on.
+    /// The network socket that it was begun on.
     fn side(&self) -> Sock
         ensures { result ≡ self.now.who.side }
     {
         self.asker.side
     }
 
-    /// Goes on with the listen of the socket that began it (`tcp-socket.start-listen`): done, the socket is Listening on
-    /// the side that it had, and the listener is given. A check that is pending is asked again by the next poll. A no is
-    /// `AccessDenied`, and a code is answered; both close the side first, and the socket stays Closed. After want of memory
-    /// it stands as after its last answered ask, and may be polled again. After an answer that is pending, and after want of
-    /// memory, there is an ask left; else it is over. One that is over: `InvalidState`, without an ask. The socket must have
-    /// no side, which the listen holds meanwhile; so no other side is lost where it gets its own back.
+    /// Continues the listen of the socket that began it (`tcp-socket.start-listen`): done, the socket is Listening on the
+    /// network socket that it had, and the listener is given. A check that is pending is asked again by the next poll. A no is
+    /// `AccessDenied`, and a code is answered; both close the network socket first, and the socket stays Closed. After running
+    /// out of memory it is as after its last answered ask, and may be polled again. After an answer that is pending, and after
+    /// running out of memory, there is an ask left; else it is over. One that is over: `InvalidState`, without an ask. The
+    /// socket must have no network socket, which the listen holds meanwhile; so no other network socket is lost where it gets
+    /// its own back.
     pub fn poll<W: World>(
         &mut self,
         world: &mut W,
@@ -129,8 +130,8 @@ impl ListenOp {
     }
 
     /// Asks what comes next. A check that is pending is asked again by the next poll. A no is `AccessDenied`, and a code is
-    /// answered; both close the side first. After want of memory it stands as after its last answered ask, and may be
-    /// polled again. One that is over is ready, and asks nothing.
+    /// answered; both close the network socket first. After running out of memory it is as after its last answered ask, and may
+    /// be polled again. One that is over is ready, and asks nothing.
     pub(crate) fn poll_asks<W: World>(&mut self, world: &mut W) -> Result<Answer<()>, Refusal>
         requires { (W.seen world.old).ended ≡ false }
         ensures polled { PollsFor (λ done. Nothing) Nothing self.old self.new (W.seen world.old) (W.seen world.new) result }
@@ -160,9 +161,9 @@ impl ListenOp {
         }
     }
 
-    /// Gives up a listen that `tcp-socket.start-listen` began: its side is closed by the operation's own name. One that is
-    /// over asks nothing: a refusal has closed the side already, and else the side is the listener's. The only error is
-    /// want of memory; then nothing was asked, and the side isn't closed.
+    /// Releases a listen that `tcp-socket.start-listen` began: its network socket is closed by the operation's own name. One
+    /// that is over asks nothing: a refusal has closed the network socket already, and else the network socket is the
+    /// listener's. The only error is out of memory; then nothing was asked, and the network socket isn't closed.
     pub fn cancel<W: World>(self, world: &mut W) -> Result<(), AllocError>
         requires { (W.seen world.old).ended ≡ false }
         ensures asked { AsksFor (cancel_asks self) (W.seen world.old) (W.seen world.new) (λ done. done) result }

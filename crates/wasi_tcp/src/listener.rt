@@ -17,16 +17,16 @@ use wasi_world::{Answer, Ids, Refusal, Sock, World, asks};
 pub enum Accepting {
     /// No accept was begun.
     Idle,
-    /// One goes on.
+    /// One is in progress.
     Asking(AcceptOp),
-    /// It ended with a connection that isn't taken yet: a new side, and the other end's address.
+    /// It ended with a connection that isn't taken yet: a new network socket, and the other end's address.
     Arrived(Sock, IpSocketAddress),
     /// It ended with a fault that isn't taken yet.
     Failed(ErrorCode),
 }
 
 impl Accepting {
-    /// Begins an accept where none stands.
+    /// Begins an accept where none is in progress.
     fn begin(&mut self, side: Sock, maker: u32, ids: &mut Ids)
         requires names { ids.old.next_part + 1 < 2 ^ 64 }
         requires before { HoldsAccept side maker self.old }
@@ -88,7 +88,7 @@ fn connected(new: Sock, peer: IpSocketAddress) -> TcpState
     })
 }
 
-/// Begins an accept where none stands, and polls it unless it has its result.
+/// Begins an accept where none is in progress, and polls it unless it has its result.
 fn turn<W: World>(
     world: &mut W,
     side: Sock,
@@ -116,8 +116,8 @@ fn turn<W: World>(
     }
 }
 
-/// A listener: its network side, its family, and the context that made it, which its checks name. It keeps one result of
-/// an accept, a connection or a fault, until that is taken. It must be given up in the end.
+/// A listener: its network socket, its family, and the context that made it, which its checks name. It keeps one result of
+/// an accept, a connection or a fault, until that is taken. It must be released in the end.
 #[derive(Drop)]
 pub struct TcpListenStream {
     side: Sock,
@@ -148,7 +148,7 @@ impl TcpListenStream {
         }
     }
 
-    /// The listener's network side.
+    /// The listener's network socket.
     pub fn side(&self) -> Sock
         ensures { result ≡ self.now.side }
     {
@@ -156,8 +156,8 @@ impl TcpListenStream {
     }
 
     /// Whether [`poll_accept`](TcpListenStream::poll_accept) has something to take: a connection or a fault. Begins an
-    /// accept where none stands, named by the line's next part, and polls it unless it has its result; that is kept.
-    /// After want of memory the accept stands as after its last answered ask, and may be polled again.
+    /// accept where none is in progress, named by the line's next part, and polls it unless it has its result; that is kept.
+    /// After running out of memory the accept is as after its last answered ask, and may be polled again.
     pub fn poll_ready<W: World>(
         &mut self,
         world: &mut W,
@@ -177,11 +177,11 @@ impl TcpListenStream {
         Ok(self.accept.readiness())
     }
 
-    /// Accepts a connection (`tcp-socket.accept`), and the next call begins the next accept. Begins an accept where none
-    /// stands, named by the line's next part, polls it unless it has its result, and takes that: a socket that is
-    /// Connected on the side that was handed over, whose remote address is kept; or after a fault one that is Closed with
-    /// its code, and so has no side. Both are bound, with the listener's family and maker. Pending where there is no
-    /// result. After want of memory the accept stands as after its last answered ask, and may be polled again.
+    /// Accepts a connection (`tcp-socket.accept`), and the next call begins the next accept. Begins an accept where none is in
+    /// progress, named by the line's next part, polls it unless it has its result, and takes that: a socket that is Connected
+    /// on the network socket that was handed over, whose remote address is kept; or after a fault one that is Closed with its
+    /// code, and so has no network socket. Both are bound, with the listener's family and creator. Pending where there is no
+    /// result. After running out of memory the accept is as after its last answered ask, and may be polled again.
     pub fn poll_accept<W: World>(
         &mut self,
         world: &mut W,
@@ -223,7 +223,7 @@ impl TcpListenStream {
         Answer::Ready(TcpSocket::accepted(state, self.family, self.maker))
     }
 
-    /// The side of a connection that was handed over and isn't taken; takes no memory.
+    /// The network socket of a connection that was handed over and isn't taken; takes no memory.
     pub fn untaken(&self) -> Option<Sock>
         ensures { result ≡ untaken_side self.now.accept }
     {
@@ -233,8 +233,8 @@ impl TcpListenStream {
         }
     }
 
-    /// Gives it up, but for its own side: an arrival in hand is refused, and a connection that isn't taken is closed,
-    /// both by the accept's name. After want of memory nothing was asked.
+    /// Releases it, but for its own network socket: an arrival in hand is refused, and a connection that isn't taken is closed,
+    /// both by the accept's name. After running out of memory nothing was asked.
     pub fn give_up<W: World>(self, world: &mut W) -> Result<(), AllocError>
         requires { (W.seen world.old).ended ≡ false }
         ensures asked { AsksFor (listener_give_up_asks self) (W.seen world.old) (W.seen world.new) (λ done. done) result }

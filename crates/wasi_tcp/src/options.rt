@@ -1,4 +1,4 @@
-//! The options of a TCP socket: each call asks its side, where its state allows that.
+//! The options of a TCP socket: each call asks its network socket, where its state allows that.
 
 ghost use Rattle.std.specs.Prelude.{◌≡◌, ◌≤◌, false, OnErr, IfOk};
 ghost use Rattle.std.specs.Int.{from_bool};
@@ -15,9 +15,9 @@ impl TcpSocket {
     ghost use Rattle.wasi_tcp.specs.Options.{get_option_asks, set_option_asks, truth_answer};
 
     /// The value of an option: yes is 1 and no is 0, a time is in nanoseconds, a size in bytes. Connecting:
-    /// `InvalidState`. Closed: its code. A code that is told is answered. A told size is halved, any told number but 0
-    /// is yes, and a told value above the option's `largest_value` is `NotSupported`. The getters of `tcp-socket` in
-    /// `wasi:sockets/tcp` are this call of their option.
+    /// `InvalidState`. Closed: its code. A code that is reported is returned. A reported size is halved, any reported
+    /// number but 0 is yes, and a reported value above the option's `largest_value` is `NotSupported`. The getters of
+    /// `tcp-socket` in `wasi:sockets/tcp` are this call of their option.
     pub fn get_option<W: World>(&self, world: &mut W, op: OpId, option: Opt) -> Result<u64, Refusal>
         requires { (W.seen world.old).ended ≡ false }
         ensures asked { AsksFor (get_option_asks op self.now option) (W.seen world.old) (W.seen world.new) (λ answer. (answer, self.now)) (outcome result) }
@@ -31,7 +31,7 @@ impl TcpSocket {
         }
     }
 
-    /// Sets an option. Connecting: `InvalidState`. Closed: its code. A code that is told is answered. 0 is
+    /// Sets an option. Connecting: `InvalidState`. Closed: its code. A code that is reported is returned. 0 is
     /// `InvalidArgument`: for a time or a number of probes in any state, for the hop limit or a size where the state
     /// allows a set. Times, sizes and numbers of probes are brought into their ranges first. The socket stays as it is.
     /// The setters of `tcp-socket` in `wasi:sockets/tcp` are this call of their setting.
@@ -147,7 +147,7 @@ impl TcpSocket {
     }
 
     /// How many probes without an answer end a connection (`tcp-socket.keep-alive-count`). A number above 4,294,967,295
-    /// that is told: `NotSupported`. Other errors are those of `get_option`.
+    /// that is reported: `NotSupported`. Other errors are those of `get_option`.
     pub fn keep_alive_count<W: World>(&self, world: &mut W, op: OpId) -> Result<u32, Refusal>
         requires { (W.seen world.old).ended ≡ false }
         ensures asked { AsksFor (get_option_asks op self.now Opt.KeepAliveCount) (W.seen world.old) (W.seen world.new) (λ answer. (answer, self.now)) (outcome result) }
@@ -176,8 +176,8 @@ impl TcpSocket {
         self.set_option(world, op, Setting::KeepAliveCount(value))
     }
 
-    /// How many hops a packet lives (`tcp-socket.hop-limit`). A number above 255 that is told: `NotSupported`. Other
-    /// errors are those of `get_option`.
+    /// How many hops a packet lives (`tcp-socket.hop-limit`). A number above 255 that is reported: `NotSupported`.
+    /// Other errors are those of `get_option`.
     pub fn hop_limit<W: World>(&self, world: &mut W, op: OpId) -> Result<u8, Refusal>
         requires { (W.seen world.old).ended ≡ false }
         ensures asked { AsksFor (get_option_asks op self.now Opt.HopLimit) (W.seen world.old) (W.seen world.new) (λ answer. (answer, self.now)) (outcome result) }
@@ -206,7 +206,7 @@ impl TcpSocket {
         self.set_option(world, op, Setting::HopLimit(value))
     }
 
-    /// The size of the buffer for what comes in, in bytes (`tcp-socket.receive-buffer-size`): half of what is told.
+    /// The size of the buffer for what comes in, in bytes (`tcp-socket.receive-buffer-size`): half of what is reported.
     /// Errors are those of `get_option`.
     pub fn receive_buffer_size<W: World>(&self, world: &mut W, op: OpId) -> Result<u64, Refusal>
         requires { (W.seen world.old).ended ≡ false }
@@ -235,8 +235,8 @@ impl TcpSocket {
         self.set_option(world, op, Setting::ReceiveBufferSize(value))
     }
 
-    /// The size of the buffer for what goes out, in bytes (`tcp-socket.send-buffer-size`): half of what is told. Errors
-    /// are those of `get_option`.
+    /// The size of the buffer for what goes out, in bytes (`tcp-socket.send-buffer-size`): half of what is reported.
+    /// Errors are those of `get_option`.
     pub fn send_buffer_size<W: World>(&self, world: &mut W, op: OpId) -> Result<u64, Refusal>
         requires { (W.seen world.old).ended ≡ false }
         ensures asked { AsksFor (get_option_asks op self.now Opt.SendBufferSize) (W.seen world.old) (W.seen world.new) (λ answer. (answer, self.now)) (outcome result) }

@@ -11,11 +11,11 @@ use wasi_addr::ErrorCode;
 use wasi_streams::StreamError;
 use wasi_world::{Answer, Octets, OpId, Sock, World};
 
-/// What a guest reads from: the receiving half of a connection, until it is given up.
+/// What a guest reads from: the receiving half of a connection, until it is released.
 #[derive(Debug, Drop)]
 pub enum ReadState {
     Open(TcpReceiveStream),
-    /// The half was given up: at its end, after a code, or because it was asked for.
+    /// The half was released: at its end, after a code, or because it was asked for.
     Closed,
 }
 
@@ -27,7 +27,7 @@ fn nothing(alloc: Global) -> Octets
 }
 
 impl ReadState {
-    /// The side of the half, none where it was given up.
+    /// The network socket of the half, none where it was released.
     pub fn side(&self) -> Option<Sock>
         ensures { result ≡ reader_side self.now }
     {
@@ -38,8 +38,8 @@ impl ReadState {
     }
 
     /// Reads at most `size` bytes, and at most 65536. No bytes: there is nothing yet, or `size` is 0, where nothing is
-    /// asked. At the end, and after a code, the half is given up, and the answer is `Closed` or that the last operation
-    /// failed. Given up before: `Closed`. After want of memory the state is as it was.
+    /// asked. At the end, and after a code, the half is released, and the answer is `Closed` or that the last operation
+    /// failed. Released before: `Closed`. After running out of memory the state is as it was.
     pub fn read<W: World>(
         &mut self,
         alloc: Global,
@@ -91,7 +91,7 @@ impl ReadState {
         }
     }
 
-    /// Whether there is something to read; ready where the half was given up.
+    /// Whether there is something to read; ready where the half was released.
     pub fn poll_ready<W: World>(
         &mut self,
         world: &mut W,
@@ -109,7 +109,7 @@ impl ReadState {
         }
     }
 
-    /// Gives the half up, where it wasn't; after want of memory the state is as it was.
+    /// Releases the half, where it wasn't; after running out of memory the state is as it was.
     pub fn shutdown<W: World>(&mut self, world: &mut W, op: OpId) -> Result<(), AllocError>
         requires { (W.seen world.old).ended ≡ false }
         ensures asked { AsksFor (reader_shutdown_asks op self.old) (W.seen world.old) (W.seen world.new) (λ done. (done, self.new)) result }

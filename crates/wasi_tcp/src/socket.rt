@@ -1,4 +1,4 @@
-//! A TCP socket and its states. The calls that bind, connect and listen stand in `starts`, those on its addresses in
+//! A TCP socket and its states. The calls that bind, connect and listen are in `starts`, those on its addresses in
 //! `addresses`, and its backlog in `backlog`.
 
 ghost use Rattle.std.specs.Prelude.{◌≡◌, true, false, OnErr, OnOk, IfOk, Some, None};
@@ -19,7 +19,7 @@ use wasi_world::{Answer, OpId, Refusal, Sock, WasiSocketsCtx, World, asks};
 /// How many connections may wait at a listener, unless it is set.
 const DEFAULT_BACKLOG: u32 = 128;
 
-/// A connection: its network side, the remote address once it was told, and which of its two halves were taken.
+/// A connection: its network socket, the remote address once it was reported, and which of its two halves were taken.
 #[derive(Clone, Copy, Debug, PartialEq, Eq)]
 pub struct Connection {
     pub side: Sock,
@@ -64,7 +64,7 @@ impl Connection {
         Ok(TcpSendStream { side: self.side })
     }
 
-    /// The remote address, which is kept once it is told.
+    /// The remote address, which is kept once it is reported.
     fn remote_address<W: World>(
         &mut self,
         world: &mut W,
@@ -91,7 +91,7 @@ impl Connection {
     }
 }
 
-/// The state of a socket, with its network side where it has one.
+/// The state of a socket, with its network socket where it has one.
 #[derive(Drop)]
 pub enum TcpState {
     Default(Sock),
@@ -195,7 +195,7 @@ impl TcpSocket {
     ghost use Rattle.wasi_tcp.specs.Addresses.{state_text, is_listening};
 
     /// Makes a socket in the state Default, where the context may use TCP; else `AccessDenied` without a call.
-    /// A code that the create tells is answered.
+    /// A code that the create reports is answered.
     pub fn new<W: World>(
         world: &mut W,
         op: OpId,
@@ -250,7 +250,7 @@ impl TcpSocket {
         }
     }
 
-    /// The network side, none where it is closed; takes no memory.
+    /// The network socket, none where it is closed; takes no memory.
     pub fn side(&self) -> Option<Sock>
         ensures { result ≡ side_of self.now }
     {
@@ -294,7 +294,7 @@ impl TcpSocket {
         }
     }
 
-    /// What the local address tells; a yes is kept.
+    /// What the local address answers; a yes is kept.
     fn learn_bound(&mut self, told: Result<IpSocketAddress, ErrorCode>) -> bool
         ensures learned { (result, self.new) ≡ after_local self.old told }
         ensures side { side_of self.new ≡ side_of self.old }
@@ -336,9 +336,9 @@ impl TcpSocket {
         }
     }
 
-    /// Closes the network side, where there is one, as the drop of a `tcp-socket` does; the socket is Closed then, and
-    /// its code is `Other`. One that has no side asks nothing and stays as it is. After want of memory nothing was asked,
-    /// and the socket is as it was.
+    /// Closes the network socket, where there is one, as the drop of a `tcp-socket` does; the socket is Closed then, and its
+    /// code is `Other`. One that has no network socket asks nothing and stays as it is. After running out of memory nothing was
+    /// asked, and the socket is as it was.
     pub fn close<W: World>(&mut self, world: &mut W, op: OpId) -> Result<(), AllocError>
         requires { (W.seen world.old).ended ≡ false }
         ensures asked { AsksFor (close_asks op self.old) (W.seen world.old) (W.seen world.new) (λ done. (done, self.new)) result }

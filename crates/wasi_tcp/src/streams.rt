@@ -10,7 +10,7 @@ use std::alloc::{AllocError, Global};
 use wasi_streams::{InputStream, OutputStream, Pollable, StreamError};
 use wasi_world::{Answer, Octets, OpId, World};
 
-/// Whether a look tells something: room, or an error.
+/// Whether a look reports something: room, or an error.
 fn told(answer: Result<Answer<()>, StreamError>) -> Result<bool, AllocError>
     ensures told { IfOk result (λ told. IsOkAnd (stream_outcome answer) (λ answer. told ≡ is_told answer)) }
     ensures memory { OnErr result (IsErr (stream_outcome answer)) }

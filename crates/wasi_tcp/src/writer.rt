@@ -20,7 +20,7 @@ const PERMIT: u32 = 65536;
 /// Why a writing end is closed.
 #[derive(Clone, Copy, Debug, PartialEq, Eq)]
 pub enum WriteError {
-    /// The half was given up, or the other end broke the connection.
+    /// The half was released, or the other end broke the connection.
     Closed,
     /// A write was refused with this code.
     LastOperationFailed(ErrorCode),
@@ -59,20 +59,20 @@ fn refused<T: Drop>(error: WriteError) -> Result<T, StreamError>
     Err(StreamError::from(error))
 }
 
-/// What a guest writes to: the sending half of a connection, until it is given up.
+/// What a guest writes to: the sending half of a connection, until it is released.
 #[derive(Drop)]
 pub enum WriteState {
     /// A write of at most `permit` bytes may begin.
     Ready { half: TcpSendStream, permit: u32 },
-    /// A write goes on, or its end isn't collected yet.
+    /// A write is in progress, or its end isn't collected yet.
     Writing(WriteJob),
-    /// A write goes on after which the half is given up, or its end isn't collected yet.
+    /// A write is in progress after which the half is released, or its end isn't collected yet.
     Closing(WriteJob),
     Closed(WriteError),
 }
 
 impl WriteState {
-    /// The side of the half, none where it was given up.
+    /// The network socket of the half, none where it was released.
     pub fn side(&self) -> Option<Sock>
         ensures { result ≡ writer_side self.now }
     {
@@ -113,8 +113,8 @@ impl WriteState {
     }
 
     /// Whether something may be written. A write that ended is collected first: where it ended well the half is ready
-    /// again, with no permit, unless it was to be given up. One that goes on is pending. Closed: its error.
-    /// After want of memory only the collecting is done.
+    /// again, with no permit, unless it was to be released. One that is in progress is pending. Closed: its error.
+    /// After running out of memory only the collecting is done.
     pub fn poll_ready<W: World>(
         &mut self,
         world: &mut W,
@@ -159,7 +159,7 @@ impl WriteState {
     }
 
     /// How many bytes may be written: 65536 where a look is ready, none where it is pending, and the permit stays then.
-    /// After want of memory only the collecting of the look is done.
+    /// After running out of memory only the collecting of the look is done.
     pub fn check_write<W: World>(&mut self, world: &mut W, op: OpId) -> Result<usize, StreamError>
         requires { (W.seen world.old).ended ≡ false }
         ensures asked { AsksFor (check_write_asks op self.old) (W.seen world.old) (W.seen world.new) (λ count. (count, self.new)) (stream_outcome result) }
@@ -176,10 +176,10 @@ impl WriteState {
         }
     }
 
-    /// Begins a write that goes on by itself, polls it once and looks; an error that the look answers is answered. No
-    /// bytes to a half that is ready: nothing is done. More than the permit, or a write goes on: `NotPermitted`.
-    /// After want of memory the write has begun: what is left of the call is a poll of its job, where it goes on, and a
-    /// look.
+    /// Begins a background write, polls it once and looks; an error that the look answers is answered. No bytes to a
+    /// half that is ready: nothing is done. More than the permit, or a write is in progress: `NotPermitted`. After
+    /// running out of memory the write has begun: what is left of the call is a poll of its job, where it is in
+    /// progress, and a look.
     pub fn write<W: World>(
         &mut self,
         world: &mut W,
@@ -210,7 +210,7 @@ impl WriteState {
         }
     }
 
-    /// Polls the job once, where it goes on, and looks.
+    /// Polls the job once, where it is in progress, and looks.
     fn write_on<W: World>(&mut self, world: &mut W, op: OpId) -> Result<(), StreamError>
         requires { (W.seen world.old).ended ≡ false }
         ensures asked { AsksFor (write_on_asks op self.old) (W.seen world.old) (W.seen world.new) (λ done. (done, self.new)) (stream_outcome result) }
@@ -233,7 +233,7 @@ impl WriteState {
         }
     }
 
-    /// Polls a write that goes on, once. After want of memory it stands as after its last answered ask.
+    /// Polls a write in progress, once. After running out of memory it is as after its last answered ask.
     pub fn turn<W: World>(&mut self, world: &mut W) -> Result<(), AllocError>
         requires { (W.seen world.old).ended ≡ false }
         ensures asked { AsksFor (turn_asks self.old) (W.seen world.old) (W.seen world.new) (λ done. (done, self.new)) result }
@@ -248,8 +248,8 @@ impl WriteState {
         }
     }
 
-    /// Gives the half up: at once where no write goes on, else once it has ended. After want of memory the state is as
-    /// it was.
+    /// Releases the half: at once where no write is in progress, else once it has ended. After running out of memory
+    /// the state is as it was.
     pub fn shutdown<W: World>(&mut self, world: &mut W, op: OpId) -> Result<(), AllocError>
         requires { (W.seen world.old).ended ≡ false }
         ensures asked { AsksFor (writer_shutdown_asks op self.old) (W.seen world.old) (W.seen world.new) (λ done. (done, self.new)) result }
@@ -283,7 +283,7 @@ impl WriteState {
         };
     }
 
-    /// Gives the half up now, unless it was before. A write that goes on ends with its rest unwritten.
+    /// Releases the half now, unless it was before. A write in progress ends with its rest unwritten.
     pub fn give_up<W: World>(self, world: &mut W, op: OpId) -> Result<(), AllocError>
         requires { (W.seen world.old).ended ≡ false }
         ensures asked { AsksFor (writer_give_up_asks op self) (W.seen world.old) (W.seen world.new) (λ done. done) result }

@@ -10,7 +10,7 @@ use Rattle.std.proofs.lemmas.Slice.Eq.{bytes_eq-Decides}
 use Rattle.wasi_transcript.specs.Cases.{CaseText, IsCase, NotFirst, case_lines, after, next_planned, planned_at, shown_at, titled, case_at}
 use Rattle.wasi_transcript.proofs.CasesRead.{case_whole}
 
--- == what stands in front
+-- == what is in front
 some_is : {A : Type 0} (x y : A) → Some x ≡ Some y → x ≡ y
 some_is x y e = ap (λ o. unwrap_or o x) e
 

@@ -20,7 +20,7 @@ grown : (old : Option (List Entry)) (log_old log_new es : List Entry) → old �
 grown None log_old log_new es h k = absurd (let n : None ≡ Some log_old = h in cc)
 grown (Some log) log_old log_new es h k = let e : log ≡ log_old = cc in let f : log_new ≡ log ++ es = cc in f ∙ ap (λ l. l ++ es) e
 
--- the entries that stand behind those before
+-- the entries that are behind those before
 newer : (log_old log_new es : List Entry) → log_new ≡ log_old ++ es → take (length log_new - length log_old) (drop (length log_old) log_new) ≡ es
 newer log_old log_new es e = take_rest log_new (length log_old) ∙ ap (drop (length log_old)) e ∙ drop-append_seam log_old es
 

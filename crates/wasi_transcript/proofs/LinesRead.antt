@@ -10,7 +10,7 @@ use Rattle.wasi_session.proofs.Takes.{gave_again, gave_none}
 use Rattle.wasi_transcript.specs.declared.lines.Piece.TheVariants as piece
 use Rattle.wasi_transcript.specs.Reading.{Held, with_more, Reads, TakesLine, ReadsPiece}
 
--- Since the reading of a line began these bytes were read, and the line so far is the front of what is to be given.
+-- Since the reading of a line began these bytes were read, and the line so far is a prefix of what is to be given.
 pub record Going (s_old s_now : Reading) (old now : Held) (front : List ℕ) : Type 0 where
   pub more : List ℕ
   pub gave : Gave s_old more s_now

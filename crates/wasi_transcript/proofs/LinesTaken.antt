@@ -6,7 +6,7 @@ use Rattle.std.proofs.lemmas.List.{drop-drop, take_rest}
 use Rattle.wasi_world.specs.Lines.{lines_of, rest_of, lines_from, rest_from}
 use Rattle.wasi_world.proofs.LinesOf.{Cut, cut_at, no_cut, cut_line, cut_after, cut_within}
 
--- nothing stands behind the last byte
+-- nothing is behind the last byte
 pub nothing_after : (n : ℕ) (piece : List ℕ) → n ≡ length piece → drop n piece ≡ []
 nothing_after n piece e = ap (λ k. drop k piece) e ∙ drop-length piece
 

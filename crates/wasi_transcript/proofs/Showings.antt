@@ -1,4 +1,4 @@
--- The transcript of the lines so far, and how each line goes on from there.
+-- The transcript of the lines so far, and how each line continues from there.
 use Rattle.std.proofs.Common.{◌≡◌, ◌≢◌, ◌∙◌, ap, sym, refl, subst, ℕ, suc, ◌+◌, ◌-◌, ◌<◌, ◌≤◌, ◌^◌, Bool, true, false, List, [], ◌∷◌, ◌++◌, length, take, Some, None, Result, Ok, Err, append-nil, length-append, length-take, arith, inl, inr, ◌⊎◌}
 use Rattle.std.proofs.Math.Seq.{take-nil}
 use Rattle.std.specs.declared.alloc.AllocError.{AllocError}

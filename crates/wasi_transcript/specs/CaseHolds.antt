@@ -85,7 +85,8 @@ pub record FailsNext (left : List ℕ) (code : Case) (came : Came) : Type 0 wher
 abbrev pub count_of : List CaseText → ℕ
 count_of cases = min (length cases) 4294967295
 
--- How a file was found. All its cases hold, and nothing else stands in it; or these hold, and the next doesn't; or these hold, and no case follows in what is left.
+-- How a file was found. All its cases hold, and nothing else is in it; or these hold, and the next doesn't; or these hold, and
+-- no case follows in what is left.
 abbrev pub ChecksText : List ℕ → Checked → Type 0
 ChecksText text (Holds count) = (cases : List CaseText) × Held text cases [] × (count ≡ count_of cases)
 ChecksText text (Fails failed) = (cases : List CaseText) × (left : List ℕ) × Held text cases left × FailsNext left failed.case failed.came

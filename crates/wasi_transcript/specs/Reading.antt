@@ -36,7 +36,7 @@ pub record Reads (s_old s_new : Reading) (old new : Held) (line : List ℕ) (res
   pub within : new.taken ≤ new.limit + 1
   pub found : IfOk result (Found s_old s_new new (with_more old more) line)
 
--- The rest of a line was taken from what is held, or all that is held is the front of it.
+-- The rest of a line was taken from what is held, or all that is held is a prefix of it.
 abbrev pub TakesLine : Held → Held → List ℕ → List ℕ → Bool → Type 0
 TakesLine old new front line true = (lines_from front old.held ≡ line ∷ lines_of new.held) × (rest_from front old.held ≡ rest_of new.held) × (length new.held < length old.held)
 TakesLine old new front line false = (lines_from front old.held ≡ []) × (rest_from front old.held ≡ line) × (new.held ≡ [])

@@ -110,7 +110,7 @@ fn push_line(text: &mut Vec<u8>, line: &[u8]) -> Result<(), AllocError>
     text.extend_from_slice(b"\n")
 }
 
-/// Takes the lines of a scenario that stand next, and gives them as its text.
+/// Takes the lines of a scenario that come next, and gives them as its text.
 fn read_planned(alloc: Global, lines: &mut TextLines<'_>) -> Result<Vec<u8>, AllocError>
     ensures { IfOk result (λ scenario. ReadsPlanned lines.old lines.new scenario.items) }
 {

@@ -68,7 +68,7 @@ impl LineReader {
         }
     }
 
-    /// Takes the rest of a line from what is held, if it is whole; else all that is held is the front of it.
+    /// Takes the rest of a line from what is held, if it is whole; else all that is held is a prefix of it.
     fn take_line(&mut self, line: &mut Vec<u8>) -> Result<bool, AllocError>
         ensures whole { IfOk result (λ whole. TakesLine self.old self.new line.old.items line.new.items whole) }
         ensures limit { self.new.limit ≡ self.old.limit }
@@ -113,8 +113,8 @@ impl LineReader {
     }
 
     /// Puts the next line, without its newline, in place of what `line` holds; takes memory for it. Where there is no
-    /// whole line any more, `line` is what follows the last newline within the limit. After want of memory nothing is
-    /// said of what is held.
+    /// whole line any more, `line` is what follows the last newline within the limit. After running out of memory
+    /// nothing is said of what is held.
     pub fn next<S: Source>(
         &mut self,
         source: &mut S,

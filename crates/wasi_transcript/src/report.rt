@@ -34,7 +34,7 @@ fn push_found(text: &mut Vec<u8>, what: &str, line: Option<&[u8]>) -> Result<(),
     text.extend_from_slice(b"\n")
 }
 
-/// Appends the first line of what is told of a case: `FILE:LINE: ` and its title.
+/// Appends the first line of what is reported of a case: `FILE:LINE: ` and its title.
 fn push_place(
     alloc: Global,
     text: &mut Vec<u8>,
@@ -48,7 +48,7 @@ fn push_place(
     text.extend_from_slice(b"\n")
 }
 
-/// What is told of a case that doesn't hold: its place, and what was wanted there and came.
+/// What is reported of a case that doesn't hold: its place, and what was wanted there and came.
 fn failed_text(alloc: Global, file: &str, failed: &Failed<'_>) -> Result<Vec<u8>, AllocError> {
     let mut text = Vec::new(alloc);
     match &failed.came {

@@ -1,4 +1,4 @@
--- What a tree gives, whatever is told.
+-- What a tree gives, whatever is answered.
 use Rattle.std.specs.Prelude.{⊤}
 use Rattle.std.proofs.Common.{List, [], length}
 use Rattle.wasi_world.specs.declared.ids.OpId.{OpId}
@@ -42,6 +42,6 @@ gives_where P Q before (Give a) h = h
 gives_where P Q before (Ask op call next) h = (tt, λ told fits. gives_where P Q _ (next told) (λ p. (h p).1 told fits))
 gives_where P Q before (AskWrite op sock bytes next) h = (tt, λ told fits front. gives_where P Q _ (next told) (λ p. (h p).1 told fits front))
 
--- of what was asked and told
+-- of what was asked and answered
 pub given : {A : Type 0} (Q : List Entry → A → Type 0) (asks : Asks A) (entries : List Entry) (a : A) → Gives Q [] asks → Left asks entries (Give a) → Q entries a
 given Q asks entries a g w = reached (λ es op call. ⊤) Q [] asks entries (Give a) g w

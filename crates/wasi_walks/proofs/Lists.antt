@@ -28,7 +28,7 @@ has_split [] e x (inr h) = absurd h
 has_split (y ∷ es) e x (inl h) = inl (inl h)
 has_split (y ∷ es) e x (inr h) = elim (has_split es e x h) [ inl i ↦ inl (inr i) | inr i ↦ inr i ]
 
--- an entry of a list, with what stands before it and after it
+-- an entry of a list, with what is before it and after it
 pub record Cut (es : List Entry) (e : Entry) : Type 0 where
   pub front : List Entry
   pub back : List Entry
@@ -68,7 +68,7 @@ get_set (z ∷ xs) zero y (suc k) x h = inr h
 get_set (z ∷ xs) (suc i) y zero x h = inr h
 get_set (z ∷ xs) (suc i) y (suc k) x h = elim (get_set xs i y k x h) [ inl e ↦ inl (ap suc e.0, e.1) | inr e ↦ inr e ]
 
--- what stands at a place after one was replaced
+-- what is at a place after one was replaced
 pub set_get : {A : Type 0} (xs : List A) (i : ℕ) (y : A) (k : ℕ) (x : A) → slice_get xs k ≡ Some x → (slice_get (slice_set xs i y) k ≡ Some x) ⊎ ((k ≡ i) × (slice_get (slice_set xs i y) k ≡ Some y))
 set_get [] i y k x h = absurd (cc)
 set_get (z ∷ xs) zero y zero x h = inr (refl, refl)
@@ -81,7 +81,7 @@ set_there [] i x y h = absurd (cc)
 set_there (z ∷ xs) zero x y h = refl
 set_there (z ∷ xs) (suc i) x y h = set_there xs i x y h
 
--- what was put in a place stands no more once it is replaced again
+-- what was put in a place is there no more once it is replaced again
 pub set_set : {A : Type 0} (xs : List A) (i : ℕ) (x y : A) → slice_set (slice_set xs i x) i y ≡ slice_set xs i y
 set_set [] i x y = refl
 set_set (z ∷ xs) zero x y = refl

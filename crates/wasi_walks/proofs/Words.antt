@@ -99,7 +99,7 @@ pub use Rattle.wasi_host.specs.declared.socket.Tcp2Socket.{Tcp2Socket}
 pub use Rattle.wasi_host.specs.declared.store.Standing.{Standing}
 pub use Rattle.wasi_host.specs.declared.store.StandingCall.{StandingCall}
 pub use Rattle.wasi_p2.specs.Tcp.{accept_on, accepted_asks, accepted_streams, connected_asks, finish_connect_on, finish_on, output_asks}
-pub use Rattle.wasi_p2.specs.Tcp.{start_bind_asks, start_bind_on, start_connect_asks, start_connect_on, streams_asks, with_output, with_streams}
+pub use Rattle.wasi_p2.specs.Tcp.{start_bind_asks, start_bind_on, start_connect_asks, start_connect_on, streams_asks, with_output, socket_with_streams}
 pub use Rattle.wasi_steps.specs.Reply.{is_trap, no_fields, number_fields, triple_fields}
 pub use Rattle.wasi_steps.specs.Settings.{AnOption, Chosen, TheBacklog, chosen}
 pub use Rattle.wasi_steps.specs.declared.reply.Reply.{Reply}
@@ -108,7 +108,7 @@ pub use Rattle.wasi_steps.specs.declared.step.Step.{Step}
 pub use Rattle.wasi_machine.specs.Machine.{HasRun, asks_while, context_at, context_in, first_ids, is_guest_call, machine_asks, resumed_reply, run}
 pub use Rattle.wasi_machine.specs.Machine.{set_chosen, step_asks}
 pub use Rattle.wasi_walks.specs.Licence.{BeganBy, Created, Handed, HandedNone, Has, HasWildcardYes, IsAdmitted, IsBacklogSet, IsBindTo, IsBoundSide}
-pub use Rattle.wasi_walks.specs.Licence.{IsConnectTo, IsLastLocal, IsLicensed, IsListen, IsMaker, IsMarkOf, IsMarkedWith, IsSide, IsTcpCreate}
+pub use Rattle.wasi_walks.specs.Licence.{IsConnectTo, IsLastLocal, IsLicensed, IsListenStep, IsMaker, IsMarkOf, IsMarkedWith, IsSide, IsTcpCreate}
 pub use Rattle.wasi_walks.specs.Licence.{Listens, MarksNoSocket, MayAsk, MayGoOut, MayListen, MayUseTcp, NamesSide, ReachesSide, entry, handles_of}
 pub use Rattle.wasi_walks.specs.Licence.{marked_by, marks_in, step_at}
 pub use Rattle.wasi_walks.specs.Waiting.{IsBinding, IsLeftOfBind, IsRestOfBind}

@@ -1,4 +1,4 @@
--- The base law: numbers and sides are claimed once, and are of older lines.
+-- The base law: numbers and network sockets are claimed once, and are of older lines.
 pub mod Polls
 pub mod Law
 pub mod Lines

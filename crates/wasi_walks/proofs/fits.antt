@@ -1,4 +1,5 @@
--- What a socket connects by is a connect, what a listener accepts by is an accept, and what stands by a bind is a bind.
+-- What a socket connects by is a connect, what a listener accepts by is an accept, and what is pending as a bind is a
+-- bind.
 pub mod Records
 pub mod Polls
 pub mod Law

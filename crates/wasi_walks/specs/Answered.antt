@@ -1,4 +1,4 @@
--- How a step was answered, where its answer comes from, and what stands after a refusal.
+-- How a step was answered, where its answer comes from, and what is left after a refusal.
 use Rattle.std.specs.Prelude.{◌≡◌, ◌⊎◌, ⊤, ℕ, ◌<◌, Bool, true, false, not, ◌&&◌, min, List, [], ◌∷◌, ◌++◌, Option, Some, None, Ok, IsSomeAnd, IfSome, slice_get}
 use Rattle.wasi_addr.specs.declared.address.IpSocketAddress.{IpSocketAddress}
 use Rattle.wasi_addr.specs.declared.address.SocketAddressFamily.{SocketAddressFamily}
@@ -60,7 +60,7 @@ use Rattle.wasi_host.specs.Kinds.{is_network}
 use Rattle.wasi_machine.specs.Machine.{machine_asks}
 use Rattle.wasi_walks.specs.Licence.{Has, entry}
 
--- the step was done: what it asked was told by these entries, and these are its reply and the machine afterwards
+-- the step was done: what it asked was answered by these entries, and these are its reply and the machine afterwards
 abbrev pub Answered : List WasiSocketsCtx → Machine → ℕ → Step → List Entry → Reply → Machine → Type 0
 Answered contexts m line s entries reply after = Left (machine_asks contexts m line s) entries (Give (reply, after))
 
@@ -136,12 +136,12 @@ IsOnNothing m (standing.Bind place) = slice_get m.store.sockets place ≡ None
 IsOnNothing m (standing.Listen place) = slice_get m.store.sockets place ≡ None
 IsOnNothing m (standing.DropOutput place) = ⊥
 
--- the call that stands under this number is a bind or a listen of no socket
+-- the pending call under this number is a bind or a listen of no socket
 abbrev pub StandsOnNothing : Machine → ℕ → Type 0
 StandsOnNothing m n = IsSomeAnd (call_of m.store.standing n) (IsOnNothing m)
 
 -- == traps
--- an argument misses what it names: a handle that isn't live, or is of something else; or the call of a line that stands on nothing
+-- an argument misses what it names: a handle that isn't live, or is of something else; or the call of a line that is on nothing
 abbrev pub MissesValue : Machine → (kind : Kind) → Value kind → Type 0
 MissesValue m (HandleOf ANetwork) h = is_network (kind_at m.table h) ≡ false
 MissesValue m (HandleOf ASocket) h = record_at m h ≡ None
@@ -180,8 +180,8 @@ abbrev pub IsWrite : Step → Type 0
 IsWrite (step.Write ctx output bytes) = ⊤
 IsWrite _ = ⊥
 
--- == calls that stand
--- The last of the entries is this operation's, and it was told to wait.
+-- == pending calls
+-- The last of the entries is this operation's, and it was answered pending.
 pub record EndsPending (own : OpId) (entries : List Entry) : Type 0 where
   pub front : List Entry
   pub last : Entry
@@ -194,11 +194,11 @@ pub record EndsPending (own : OpId) (entries : List Entry) : Type 0 where
 abbrev pub word_of_code : ErrorCode → CodeWord
 word_of_code c = word_of_p2 (p2_of_code c)
 
--- what was asked and told, the word, and the machine afterwards, by the record that the handle names
+-- what was asked and answered, the word, and the machine afterwards, by the record that the handle names
 abbrev pub RefusedOf : Machine → ℕ → (ℕ → Tcp2Socket → List Entry → CodeWord → Machine → Type 0) → List Entry → CodeWord → Machine → Type 0
 RefusedOf m handle Cause entries reply after = OfRecord m handle (λ place r. Cause place r entries reply after)
 
--- A create is refused: the context may not use TCP, or the world told a code.
+-- A create is refused: the context may not use TCP, or the world returned a code.
 pub data CreateRefusal (own : OpId) (ctx : WasiSocketsCtx) (family : SocketAddressFamily) : List Entry → CodeWord → Type 0 where
   NotAllowed : ctx.tcp ≡ false → CreateRefusal own ctx family [] word.AccessDenied
   ToldCode : (c : ErrorCode) → ctx.tcp ≡ true → CreateRefusal own ctx family (entry own (call.TcpCreate ctx.name family) (told.Code c) ∷ []) (word_of_code c)
@@ -214,14 +214,14 @@ abbrev pub IsPastDefault : TcpState → Type 0
 IsPastDefault (state.Default side) = ⊥
 IsPastDefault _ = ⊤
 
--- A socket is bound: it is known to be, or its state isn't Default, or its side's local address says so.
+-- A socket is bound: it is known to be, or its state isn't Default, or its network socket's local address says so.
 pub data IsBound (own : OpId) (socket : Socket) : List Entry → Type 0 where
   Known : socket.bound ≡ true → IsBound own socket []
   PastDefault : IsPastDefault socket.state → IsBound own socket []
   ToldBound : (side : OpId) (told : Told) → socket.state ≡ state.Default side → says_bound socket.family told ≡ true → IsBound own socket (entry own (call.Local side) told ∷ [])
 
--- A socket isn't bound: it isn't known to be, and what its side told of its local address doesn't say so.
-pub record IsFree (socket : Socket) (side : OpId) (told : Told) : Type 0 where
+-- A socket isn't bound: it isn't known to be, and what its network socket reported of its local address doesn't say so.
+pub record IsFoundUnbound (socket : Socket) (side : OpId) (told : Told) : Type 0 where
   pub unknown : socket.bound ≡ false
   pub open_side : socket.state ≡ state.Default side
   pub free : says_bound socket.family told ≡ false
@@ -244,14 +244,14 @@ pub data StartRefusal (m : Machine) (r : Tcp2Socket) (Begun : List Entry → Cod
 abbrev pub may_bind_to : SocketAddressFamily → IpSocketAddress → Bool
 may_bind_to family a = is_unicast (ip_of a) && is_of_family (ip_of a) family
 
--- A bind that was begun is refused: what was asked and told, the word, and the machine afterwards.
+-- A bind that was begun is refused: what was asked and answered, the word, and the machine afterwards.
 pub data BindRefusal (m : Machine) (own : OpId) (place : ℕ) (r : Tcp2Socket) (a : IpSocketAddress) : List Entry → CodeWord → Machine → Type 0 where
   AlreadyBound : (asked : List Entry) → IsBound own r.inner asked → BindRefusal m own place r a asked word.InvalidState (knowing_bound m place r)
-  WrongAddress : (side : OpId) (local : Told) → IsFree r.inner side local → may_bind_to r.inner.family a ≡ false
+  WrongAddress : (side : OpId) (local : Told) → IsFoundUnbound r.inner side local → may_bind_to r.inner.family a ≡ false
       → BindRefusal m own place r a (entry own (call.Local side) local ∷ []) word.InvalidArgument m
-  Denied : (side : OpId) (local : Told) → IsFree r.inner side local → may_bind_to r.inner.family a ≡ true
+  Denied : (side : OpId) (local : Told) → IsFoundUnbound r.inner side local → may_bind_to r.inner.family a ≡ true
       → BindRefusal m own place r a (entry own (call.Local side) local ∷ entry own (call.Check r.inner.maker a TcpBind) told.No ∷ []) word.AccessDenied m
-  Failed : (side : OpId) (local : Told) (c : ErrorCode) → IsFree r.inner side local → may_bind_to r.inner.family a ≡ true
+  Failed : (side : OpId) (local : Told) (c : ErrorCode) → IsFoundUnbound r.inner side local → may_bind_to r.inner.family a ≡ true
       → BindRefusal m own place r a (entry own (call.Local side) local ∷ entry own (call.Check r.inner.maker a TcpBind) told.Yes ∷ entry own (call.Bind side a) (told.Code c) ∷ []) (word_of_code c) m
 
 -- the start of a bind to this address was refused
@@ -263,7 +263,7 @@ pub data ConnectRefusal (m : Machine) (own : OpId) (place : ℕ) (r : Tcp2Socket
   NotDefault : IsPastDefault r.inner.state → ConnectRefusal m own place r a [] word.InvalidState m
   BoundElsewhere : (side : OpId) (asked : List Entry) → r.inner.state ≡ state.Default side → IsBound own r.inner asked → is_connectable r.inner a ≡ false
       → ConnectRefusal m own place r a asked word.InvalidArgument (knowing_bound m place r)
-  Elsewhere : (side : OpId) (local : Told) → IsFree r.inner side local → is_connectable r.inner a ≡ false
+  Elsewhere : (side : OpId) (local : Told) → IsFoundUnbound r.inner side local → is_connectable r.inner a ≡ false
       → ConnectRefusal m own place r a (entry own (call.Local side) local ∷ []) word.InvalidArgument m
 
 -- the start of a connect to this address was refused
@@ -271,12 +271,13 @@ abbrev pub RefusedConnect : Machine → OpId → ℕ → IpSocketAddress → Lis
 RefusedConnect m own handle a = RefusedOf m handle (λ place r. StartRefusal m r (ConnectRefusal m own place r a))
 
 -- == the finish of a connect
--- The entries end with this one, and then the side is closed.
+-- The entries end with this one, and then the network socket is closed.
 pub record EndsClosing (who : Who) (last : Call) (answer : Told) (entries : List Entry) : Type 0 where
   pub front : List Entry
   pub cut : entries ≡ front ++ entry who.id last answer ∷ entry who.id (call.Close who.side) told.Done ∷ []
 
--- A connect was closed with a code: a check was told no, or the connect was told the code, or it was to be closed with that.
+-- A connect was closed with a code: a check was answered no, or the connect was answered with the code, or it was to be closed
+-- with that.
 pub data ClosedBy (op : Operation) (entries : List Entry) : ErrorCode → Type 0 where
   ToldNo : (a : IpSocketAddress) (usage : SocketAddrUse) → Has op.left (Check a usage) → EndsClosing op.who (call.Check op.who.context a usage) told.No entries → ClosedBy op entries AccessDenied
   ToldWhy : (a : IpSocketAddress) (c : ErrorCode) → Has op.left (Connect a) → EndsClosing op.who (call.Connect op.who.side a) (told.Code c) entries → ClosedBy op entries c
@@ -286,8 +287,8 @@ pub data ClosedBy (op : Operation) (entries : List Entry) : ErrorCode → Type 0
 abbrev pub closed_with : Machine → ℕ → Tcp2Socket → ErrorCode → Machine
 closed_with m place r c = putting m place (idle r (with_state r.inner (state.Closed c)))
 
--- The finish of a connect is refused: none is in progress; or it waits, and goes on; or it was closed with a code, now or
--- before; or what is in progress isn't connecting, or a half of the connection was taken before.
+-- The finish of a connect is refused: none is in progress; or it waits, and is in progress; or it was closed with a code, now
+-- or before; or what is in progress isn't connecting, or a half of the connection was taken before.
 pub data FinishRefusal (m : Machine) (place : ℕ) (r : Tcp2Socket) (entries : List Entry) : CodeWord → Machine → Type 0 where
   NoConnect : is_connect r.in_progress ≡ false → entries ≡ [] → FinishRefusal m place r entries word.NotInProgress m
   StillConnects : (op : Operation) (left : List Item) → is_connect r.in_progress ≡ true → r.inner.state ≡ state.Connecting op → EndsPending op.who.id entries
@@ -310,15 +311,17 @@ abbrev pub ConnectsAt : Machine → ℕ → Type 0
 ConnectsAt m handle = IfSome (record_at m handle) (λ r. HoldsConnect r.inner.state)
 
 -- == addresses
--- The local address is refused: the socket isn't bound, or connects, or is closed with a code, or its side told a code.
+-- The local address is refused: the socket isn't bound, or connects, or is closed with a code, or its network socket returned a
+-- code.
 pub data LocalRefusal (m : Machine) (own : OpId) (place : ℕ) (r : Tcp2Socket) : List Entry → CodeWord → Machine → Type 0 where
-  NotBound : (side : OpId) (local : Told) → IsFree r.inner side local → LocalRefusal m own place r (entry own (call.Local side) local ∷ []) word.InvalidState m
+  NotBound : (side : OpId) (local : Told) → IsFoundUnbound r.inner side local → LocalRefusal m own place r (entry own (call.Local side) local ∷ []) word.InvalidState m
   Connects : (op : Operation) → r.inner.state ≡ state.Connecting op → LocalRefusal m own place r [] word.InvalidState (knowing_bound m place r)
   LocalClosed : (c : ErrorCode) → r.inner.state ≡ state.Closed c → LocalRefusal m own place r [] (word_of_code c) (knowing_bound m place r)
   LocalTold : (asked : List Entry) (side : OpId) (c : ErrorCode) → IsBound own r.inner asked → usable_side r.inner.state ≡ Ok side
       → LocalRefusal m own place r (asked ++ entry own (call.Local side) (told.Code c) ∷ []) (word_of_code c) (knowing_bound m place r)
 
--- The remote address is refused, and the machine stays: the socket isn't connected yet, or is closed with a code, or its side told a code.
+-- The remote address is refused, and the machine stays: the socket isn't connected yet, or is closed with a code, or its
+-- network socket returned a code.
 pub data RemoteRefusal (m : Machine) (own : OpId) (place : ℕ) (r : Tcp2Socket) : List Entry → CodeWord → Machine → Type 0 where
   RemoteDefault : (side : OpId) → r.inner.state ≡ state.Default side → RemoteRefusal m own place r [] word.InvalidState m
   RemoteListening : (side : OpId) → r.inner.state ≡ state.Listening side → RemoteRefusal m own place r [] word.InvalidState m
@@ -338,27 +341,27 @@ IsQuiet _ = ⊥
 abbrev pub read_entry : OpId → ℕ → TcpReceiveStream → Told → Entry
 read_entry own len half told = entry own (call.Read half.side (min len 65536)) told
 
--- an open half is given up
+-- an open half is released
 abbrev pub shut_entry : OpId → TcpReceiveStream → Entry
 shut_entry own half = entry own (call.Shutdown half.side Receive) told.Done
 
--- The bytes are those that the one read of an open half was told.
+-- The bytes are those that the one read of an open half was answered.
 pub record ReadsTold (own : OpId) (len : ℕ) (reader : ReadState) (bytes : List ℕ) (entries : List Entry) : Type 0 where
   pub half : TcpReceiveStream
   pub is_open : reader ≡ reading.Open half
   pub asked : entries ≡ read_entry own len half (told.Bytes bytes) ∷ []
 
--- No bytes are read: none were to be, or the read was told to wait.
+-- No bytes are read: none were to be, or the read was answered pending.
 pub data ReadsNone (own : OpId) (len : ℕ) (reader : ReadState) : List Entry → Type 0 where
   LengthZero : (half : TcpReceiveStream) → reader ≡ reading.Open half → len ≡ 0 → ReadsNone own len reader []
   ToldToWait : (half : TcpReceiveStream) → reader ≡ reading.Open half → ReadsNone own len reader (read_entry own len half told.Pending ∷ [])
 
--- A read is at the end: the reader is closed, or the read was told no bytes, and gave the half up.
+-- A read is at the end: the reader is closed, or the read was answered with no bytes, and released the half.
 pub data ReadsEnd (own : OpId) (len : ℕ) (reader : ReadState) : List Entry → Type 0 where
   AlreadyClosed : reader ≡ reading.Closed → ReadsEnd own len reader []
   ToldNone : (half : TcpReceiveStream) → reader ≡ reading.Open half → ReadsEnd own len reader (read_entry own len half (told.Bytes []) ∷ shut_entry own half ∷ [])
 
--- The one read of an open half was told the code, and gave the half up.
+-- The one read of an open half was answered with the code, and released the half.
 pub record ReadFails (own : OpId) (len : ℕ) (reader : ReadState) (c : ErrorCode) (entries : List Entry) : Type 0 where
   pub half : TcpReceiveStream
   pub is_open : reader ≡ reading.Open half
@@ -385,15 +388,15 @@ abbrev pub with_error : Machine → Machine
 with_error m = record m { table = with_handle m.table kind.ErrorValue None }
 
 -- == writes
--- a write goes on
+-- a write is in progress
 abbrev pub IsUnfinished : WriteState → Type 0
 IsUnfinished (writing.Ready half permit) = ⊥
 IsUnfinished (writing.Writing job) = ⊤
 IsUnfinished (writing.Closing job) = ⊤
 IsUnfinished (writing.Closed e) = ⊥
 
--- How much may be written, once a write that ended is collected: none while it goes on, or where the writer was told to wait;
--- and 65536 bytes where it was told that it is ready.
+-- How much may be written, once a write that ended is collected: none while it is in progress, or where the writer was answered
+-- pending; and 65536 bytes where the answer was that it is ready.
 pub data Permits (own : OpId) (writer : WriteState) : ℕ → List Entry → Type 0 where
   GoesOn : IsUnfinished (collected writer) → Permits own writer 0 []
   NotReady : (half : TcpSendStream) (permit : ℕ) → collected writer ≡ writing.Ready half permit → Permits own writer 0 (entry own (call.WriteReady half.side) told.Pending ∷ [])
@@ -422,8 +425,8 @@ closing_writer m place r s e = putting m place (with_writer r s (writing.Closed 
 abbrev pub CheckFails : WriteError → WriteState → List Entry → Type 0
 CheckFails e writer entries = (collected writer ≡ writing.Closed e) × (entries ≡ [])
 
--- A write fails with the error that the writer is closed with, or because it was told a code itself: its last asks are then
--- that write and the shutdown of its half.
+-- A write fails with the error that the writer is closed with, or because it was answered with a code itself: its last asks are
+-- then that write and the shutdown of its half.
 pub data WriteFails (own : OpId) (e : WriteError) : WriteState → List Entry → Type 0 where
   ErrorKept : WriteFails own e (writing.Closed e) []
   CodeTold : (half : TcpSendStream) (permit offered : ℕ) (c : ErrorCode) (front : List Entry) → error_of_code c ≡ e

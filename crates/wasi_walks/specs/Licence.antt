@@ -51,8 +51,8 @@ pub record BeganBy (steps : List Step) (op : OpId) (P : Step → Type 0) : Type 
   pub at : step_at steps op.step ≡ Some origin
   pub holds : P origin
 
--- == sides
--- The side of a handle is the one in its mark.
+-- == network sockets
+-- The network socket of a handle is the one in its mark.
 pub record IsSide (before : List Entry) (handle : ℕ) (side : OpId) : Type 0 where
   pub op : OpId
   pub kind : HandleKind
@@ -60,7 +60,7 @@ pub record IsSide (before : List Entry) (handle : ℕ) (side : OpId) : Type 0 wh
   pub told : Told
   pub mark : Has before (entry op (Made handle kind parent (Some side)) told)
 
--- The mark of a handle says this of its side.
+-- The mark of a handle says this of its network socket.
 pub record IsMarkedWith (before : List Entry) (handle : ℕ) (sock : Option OpId) : Type 0 where
   pub op : OpId
   pub kind : HandleKind
@@ -68,36 +68,37 @@ pub record IsMarkedWith (before : List Entry) (handle : ℕ) (sock : Option OpId
   pub told : Told
   pub mark : Has before (entry op (Made handle kind parent sock) told)
 
--- The step names a handle of this side.
+-- The step names a handle of this network socket.
 pub record NamesSide (before : List Entry) (side : OpId) (origin : Step) : Type 0 where
   pub handle : ℕ
   pub named : Has (handles_of origin) handle
   pub is : IsSide before handle side
 
--- an operation reaches the sides that its step names, and the side that it makes itself
+-- an operation reaches the network sockets that its step names, and the network socket that it makes itself
 abbrev pub ReachesSide : List Step → List Entry → OpId → OpId → Type 0
 ReachesSide steps before op side = BeganBy steps op (NamesSide before side) ⊎ (op ≡ side)
 
--- The maker of a side and its family are those in its create, or where it was handed over those of the listener.
+-- The creator of a network socket and its family are those in its create, or where it was handed over those of the listener.
 pub data IsMaker (before : List Entry) (ctx : ℕ) (family : SocketAddressFamily) : OpId → Type 0 where
   Created : (side : OpId) (told : Told) → Has before (entry side (TcpCreate ctx family) told) → IsMaker before ctx family side
   Handed : (side listener : OpId) (peer : IpSocketAddress) (told : Told) → Has before (entry side (Hand listener peer) told) → IsMaker before ctx family listener → IsMaker before ctx family side
 
--- Among these entries the operation asked the side's maker about the address and its use, and was told yes.
+-- Among these entries the operation asked the network socket's creator about the address and its use, and was answered yes.
 pub record HasYes (before among : List Entry) (op side : OpId) (addr : IpSocketAddress) (usage : SocketAddrUse) : Type 0 where
   pub ctx : ℕ
   pub family : SocketAddressFamily
   pub maker : IsMaker before ctx family side
   pub checked : Has among (entry op (Check ctx addr usage) Yes)
 
--- Among these entries the operation asked the side's maker about the wildcard of the side's family, and was told yes.
+-- Among these entries the operation asked the network socket's creator about the wildcard of the network socket's family, and
+-- was answered yes.
 pub record HasWildcardYes (before : List Entry) (op side : OpId) (usage : SocketAddrUse) : Type 0 where
   pub ctx : ℕ
   pub family : SocketAddressFamily
   pub maker : IsMaker before ctx family side
   pub checked : Has before (entry op (Check ctx (wildcard family) usage) Yes)
 
--- The side's local address was told, and it is another than the wildcard of the side's family.
+-- The network socket's local address was reported, and it is another than the wildcard of the network socket's family.
 pub record IsBoundSide (before : List Entry) (side : OpId) : Type 0 where
   pub ctx : ℕ
   pub family : SocketAddressFamily
@@ -107,11 +108,11 @@ pub record IsBoundSide (before : List Entry) (side : OpId) : Type 0 where
   pub told : Has before (entry op (Local side) (Addr addr))
   pub other : is_wildcard family addr ≡ false
 
--- a side that was bound goes on from there; for one that wasn't the wildcard has its yes
+-- a network socket that was bound continues from there; for one that wasn't the wildcard has its yes
 abbrev pub MayGoOut : List Entry → OpId → OpId → Type 0
 MayGoOut before op side = IsBoundSide before side ⊎ HasWildcardYes before op side TcpBind
 
--- The last `local` of the side told this address.
+-- The last `local` of the network socket reported this address.
 pub record IsLastLocal (before : List Entry) (side : OpId) (addr : IpSocketAddress) : Type 0 where
   pub front : List Entry
   pub op : OpId
@@ -119,20 +120,20 @@ pub record IsLastLocal (before : List Entry) (side : OpId) (addr : IpSocketAddre
   pub cut : before ≡ front ++ entry op (Local side) (Addr addr) ∷ back
   pub last : (o : OpId) (told : Told) → Has back (entry o (Local side) told) → ⊥
 
--- a side that was bound has a yes for the address that its local address was last told to be; one that wasn't has two for the
--- wildcard
+-- a network socket that was bound has a yes for the address that its local address was last reported to be; one that wasn't has
+-- two for the wildcard
 abbrev pub MayListen : List Entry → OpId → OpId → Type 0
 MayListen before op side =
     (IsBoundSide before side × ((addr : IpSocketAddress) × IsLastLocal before side addr × HasYes before before op side addr TcpListen))
     ⊎ ((IsBoundSide before side → ⊥) × HasWildcardYes before op side TcpBind × HasWildcardYes before op side TcpListen)
 
--- The side listens: a `listen` of it was told done.
+-- The network socket listens: a `listen` of it was answered done.
 pub record Listens (before : List Entry) (side : OpId) : Type 0 where
   pub op : OpId
   pub backlog : ℕ
   pub told : Has before (entry op (Listen side backlog) Done)
 
--- The operation's last `accept` on the listener told this peer, and after it came a yes for the peer.
+-- The operation's last `accept` on the listener reported this peer, and after it came a yes for the peer.
 pub record IsAdmitted (before : List Entry) (op listener : OpId) (peer : IpSocketAddress) : Type 0 where
   pub front : List Entry
   pub back : List Entry
@@ -168,25 +169,25 @@ IsConnectTo addr (step.TcpStartConnect ctx socket network a) = a ≡ addr
 IsConnectTo addr _ = ⊥
 
 -- a listen
-abbrev pub IsListen : Step → Type 0
-IsListen (step.TcpStartListen ctx socket) = ⊤
-IsListen _ = ⊥
+abbrev pub IsListenStep : Step → Type 0
+IsListenStep (step.TcpStartListen ctx socket) = ⊤
+IsListenStep _ = ⊥
 
 -- a set of the backlog
 abbrev pub IsBacklogSet : Step → Type 0
 IsBacklogSet (step.TcpSet ctx socket (setting.ListenBacklogSize value)) = ⊤
 IsBacklogSet _ = ⊥
 
--- its parent is this handle, of whose side it is
+-- its parent is this handle, of whose network socket it is
 abbrev pub IsOfParent : List Entry → ℕ → Option ℕ → Option OpId → Type 0
 IsOfParent before handle parent sock = (parent ≡ Some handle) × IsMarkedWith before handle sock
 
--- the side stands in no mark of a socket
+-- the network socket is in no mark of a socket
 abbrev pub MarksNoSocket : List Entry → OpId → Type 0
 MarksNoSocket before side = (o : OpId) (handle : ℕ) (parent : Option ℕ) (told : Told) → Has before (entry o (Made handle Tcp2 parent (Some side)) told) → ⊥
 
--- The first mark of an accept's step is of the socket that was accepted: its parent is the listener's handle, and its side was
--- handed over on the listener's side, and stands in no earlier mark of a socket.
+-- The first mark of an accept's step is of the socket that was accepted: its parent is the listener's handle, and its network
+-- socket was handed over on the listener's network socket, and is in no earlier mark of a socket.
 pub record IsAcceptedMark (before : List Entry) (op : OpId) (listener : ℕ) (kind : HandleKind) (parent : Option ℕ) (sock : Option OpId) : Type 0 where
   pub first : (handle : ℕ) (name : HandleKind) (above : Option ℕ) (side : Option OpId) (told : Told) → Has before (entry op (Made handle name above side) told) → ⊥
   pub socket : kind ≡ Tcp2
@@ -200,7 +201,8 @@ pub record IsAcceptedMark (before : List Entry) (op : OpId) (listener : ℕ) (ki
   pub handed : Has before (entry accept (Hand on peer) told)
   pub fresh : MarksNoSocket before accept
 
--- Its later marks are of the streams of the socket that it marked first: the parent is that socket's handle, and the side is its.
+-- Its later marks are of the streams of the socket that it marked first: the parent is that socket's handle, and the network
+-- socket is its.
 pub record IsStreamMark (before : List Entry) (op : OpId) (kind : HandleKind) (parent : Option ℕ) (sock : Option OpId) : Type 0 where
   pub stream : (kind ≡ Input) ⊎ (kind ≡ Output)
   pub socket : ℕ
@@ -209,9 +211,9 @@ pub record IsStreamMark (before : List Entry) (op : OpId) (kind : HandleKind) (p
   pub told : Told
   pub marked : Has before (entry op (Made socket Tcp2 above sock) told)
 
--- what a mark says, by the step that makes the handle: a network has no side, a socket that was created has its own, one that
--- was accepted has what was handed over, and the two streams of a connection, an error and a pollable are of their parent's; no
--- other step makes a handle
+-- what a mark says, by the step that makes the handle: a network has no network socket, a socket that was created has its own,
+-- one that was accepted has what was handed over, and the two streams of a connection, an error and a pollable are of their
+-- parent's; no other step makes a handle
 abbrev pub IsMarkOf : List Entry → OpId → HandleKind → Option ℕ → Option OpId → Step → Type 0
 IsMarkOf before op kind parent sock (step.Network ctx) = (kind ≡ Network) × (parent ≡ None) × (sock ≡ None)
 IsMarkOf before op kind parent sock (step.TcpCreate ctx family) =
@@ -239,7 +241,7 @@ MayAsk contexts steps before op (Peer sock) = ReachesSide steps before op sock
 MayAsk contexts steps before op (Bind sock addr) = ReachesSide steps before op sock × BeganBy steps op (IsBindTo addr) × HasYes before before op sock addr TcpBind
 MayAsk contexts steps before op (UdpBind sock addr) = ⊥
 MayAsk contexts steps before op (UdpConnect sock addr) = ⊥
-MayAsk contexts steps before op (Listen sock backlog) = ReachesSide steps before op sock × BeganBy steps op IsListen × MayListen before op sock
+MayAsk contexts steps before op (Listen sock backlog) = ReachesSide steps before op sock × BeganBy steps op IsListenStep × MayListen before op sock
 MayAsk contexts steps before op (SetBacklog sock backlog) = ReachesSide steps before op sock × BeganBy steps op IsBacklogSet × Listens before sock
 MayAsk contexts steps before op (Connect sock addr) =
     ReachesSide steps before op sock × BeganBy steps op (IsConnectTo addr) × HasYes before before op sock addr TcpConnect × MayGoOut before op sock

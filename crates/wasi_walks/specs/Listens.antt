@@ -1,4 +1,4 @@
--- How listens and accepts are answered: where each answer comes from, and what stands after a refusal.
+-- How listens and accepts are answered: where each answer comes from, and what is left after a refusal.
 use Rattle.std.specs.Prelude.{◌≡◌, ⊤, ℕ, ◌+◌, true, false, List, [], ◌∷◌, ◌++◌, Option, Some, IfSome, IsSomeAnd}
 use Rattle.wasi_addr.specs.declared.address.IpSocketAddress.{IpSocketAddress}
 use Rattle.wasi_addr.specs.declared.address.SocketAddrUse.TheVariants.{TcpListen}
@@ -25,7 +25,7 @@ use Rattle.wasi_host.specs.Listening.{with_listening, accepted_record}
 use Rattle.wasi_host.specs.InProgress.{is_listen}
 use Rattle.wasi_steps.specs.declared.reply.CodeWord.{CodeWord}
 use Rattle.wasi_steps.specs.declared.reply.CodeWord.TheVariants as word
-use Rattle.wasi_walks.specs.Answered.{record_at, putting, word_of_code, EndsPending, StartRefusal, RefusedOf, IsBound, IsFree, IsPastDefault, knowing_bound}
+use Rattle.wasi_walks.specs.Answered.{record_at, putting, word_of_code, EndsPending, StartRefusal, RefusedOf, IsBound, IsFoundUnbound, IsPastDefault, knowing_bound}
 use Rattle.wasi_walks.specs.Licence.{entry}
 
 -- == a listen
@@ -33,8 +33,9 @@ use Rattle.wasi_walks.specs.Licence.{entry}
 abbrev pub HasNoListenInProgress : Option Tcp2Socket → Type 0
 HasNoListenInProgress found = IsSomeAnd found (λ r. is_listen r.in_progress ≡ false)
 
--- The last asks of a listen that is refused: what was asked of its side, the answer that refused it, and the close of the side.
--- Its local address wasn't told but a code, or the check of that address was told no, or the listen was told a code.
+-- The last asks of a listen that is refused: what was asked of its network socket, the answer that refused it, and the close of
+-- the network socket. Its local address wasn't reported but a code, or the check of that address was answered no, or the listen
+-- was answered with a code.
 pub data ListenFails (own side : OpId) (maker backlog : ℕ) : List Entry → ErrorCode → Type 0 where
   LocalTold : (c : ErrorCode) → ListenFails own side maker backlog (entry own (call.Local side) (told.Code c) ∷ entry own (call.Close side) told.Done ∷ []) c
   ListenDenied : (a : IpSocketAddress)
@@ -52,9 +53,9 @@ IsPastNot listening.Not = ⊥
 IsPastNot _ = ⊤
 
 -- A listen that was begun is refused: the socket isn't bound; or isn't in the state Default, or listens already; or it was
--- refused by what it was told, and then the socket is closed.
+-- refused by what it was answered, and then the socket is closed.
 pub data ListenRefusal (m : Machine) (own : OpId) (place : ℕ) (r : Tcp2Socket) : List Entry → CodeWord → Machine → Type 0 where
-  NotBound : (side : OpId) (local : Told) → IsFree r.inner side local → ListenRefusal m own place r (entry own (call.Local side) local ∷ []) word.InvalidState m
+  NotBound : (side : OpId) (local : Told) → IsFoundUnbound r.inner side local → ListenRefusal m own place r (entry own (call.Local side) local ∷ []) word.InvalidState m
   NotDefault : IsPastDefault r.inner.state → ListenRefusal m own place r [] word.InvalidState (knowing_bound m place r)
   ListensAlready : (side : OpId) (asked : List Entry) → r.inner.state ≡ state.Default side → IsBound own r.inner asked → IsPastNot r.listening
       → ListenRefusal m own place r asked word.InvalidState (knowing_bound m place r)
@@ -66,7 +67,7 @@ abbrev pub RefusedListen : Machine → OpId → ℕ → List Entry → CodeWord 
 RefusedListen m own handle = RefusedOf m handle (λ place r. StartRefusal m r (ListenRefusal m own place r))
 
 -- == an accept
--- the name of the accept that the line polls: the one that stands, or the line's next
+-- the name of the accept that the line polls: the one in progress, or the line's next
 abbrev pub accept_name : ℕ → Accepting → OpId
 accept_name line accepting.Idle = record { step = line; part = 1 }
 accept_name line (accepting.Asking op) = op.who.id
@@ -82,12 +83,12 @@ abbrev pub refused_in : List Entry → ℕ
 refused_in [] = 0
 refused_in (e ∷ es) = refused_by e.call + refused_in es
 
--- An accept waits: its last ask was told to wait, or it has refused 64 arrivals at once.
+-- An accept waits: its last ask was answered pending, or it has refused 64 arrivals at once.
 pub data AcceptWaits (id : OpId) (entries : List Entry) : Type 0 where
   LastWaits : EndsPending id entries → AcceptWaits id entries
   RefusedMost : refused_in entries ≡ 64 → AcceptWaits id entries
 
--- An accept failed with the code: the last of its asks was told it, or it was told before and wasn't taken.
+-- An accept failed with the code: the last of its asks was answered with it, or it was reported before and wasn't taken.
 pub data AcceptFails (id side : OpId) (accept : Accepting) (c : ErrorCode) : List Entry → Type 0 where
   WasTold : accept ≡ accepting.Failed c → AcceptFails id side accept c []
   IsTold : (front : List Entry) → AcceptFails id side accept c (front ++ entry id (call.Accept side) (told.Code c) ∷ [])
@@ -101,7 +102,7 @@ abbrev pub HasNoListener : Listening → Type 0
 HasNoListener (listening.Accepts l) = ⊥
 HasNoListener _ = ⊤
 
--- An accept is refused: the socket has no listener; or the accept waits, and stands; or it failed with a code, and is over.
+-- An accept is refused: the socket has no listener; or the accept waits, and stays; or it failed with a code, and is over.
 pub data AcceptRefusal (m : Machine) (line place : ℕ) (r : Tcp2Socket) (entries : List Entry) : CodeWord → Machine → Type 0 where
   NoListener : HasNoListener r.listening → entries ≡ [] → AcceptRefusal m line place r entries word.InvalidState m
   StillAccepts : (l : Listener) (op : Operation) → r.listening ≡ listening.Accepts l → op.who.id ≡ accept_name line l.accept → AcceptWaits op.who.id entries

@@ -1,4 +1,4 @@
--- What waits: what a pollable watches and isn't ready, and a call that stands.
+-- What waits: what a pollable watches and isn't ready, and a pending call.
 use Rattle.std.specs.Prelude.{◌≡◌, ◌⊎◌, ⊤, ℕ, true, false, List, [], ◌∷◌, ◌++◌, Option, Some, None, IsSome, IsSomeAnd, IfSome, slice_get}
 use Rattle.wasi_addr.specs.declared.address.IpSocketAddress.{IpSocketAddress}
 use Rattle.wasi_addr.specs.declared.address.SocketAddrUse.{SocketAddrUse}
@@ -47,7 +47,7 @@ use Rattle.wasi_walks.specs.Listens.{AcceptWaits, accept_name, AcceptsIn, HasNoL
 use Rattle.wasi_walks.specs.Licence.{Has, entry}
 
 -- == a writer
--- A writer waits, once a write that ended is collected: its write goes on, or it was told to wait.
+-- A writer waits, once a write that ended is collected: its write is in progress, or it was answered pending.
 pub data WriterWaits (own : OpId) (writer : WriteState) : List Entry → Type 0 where
   WritesOn : IsUnfinished (collected writer) → WriterWaits own writer []
   ToldToWait : (half : TcpSendStream) (permit : ℕ) → collected writer ≡ writing.Ready half permit → WriterWaits own writer (entry own (call.WriteReady half.side) told.Pending ∷ [])
@@ -70,7 +70,7 @@ pub record OfWatched (m : Machine) (pollable : ℕ) (P : Watched → Tcp2Socket 
   pub holds : P watch found
 
 -- What is watched isn't ready: the connect in progress waits, or with nothing in progress the listener's accept, or the open
--- input was told to wait, or the output's writer waits.
+-- input was answered pending, or the output's writer waits.
 pub data IsUnready (own : OpId) (r : Tcp2Socket) (entries : List Entry) : Watched → Type 0 where
   AcceptWaitsOn : (place : ℕ) (l : Listener) → is_nothing r.in_progress ≡ true → r.listening ≡ listening.Accepts l → AcceptWaits (accept_name own.step l.accept) entries → IsUnready own r entries (watched.Socket place)
   ConnectWaits : (place : ℕ) (op : Operation) → is_connect r.in_progress ≡ true → r.inner.state ≡ state.Connecting op → EndsPending op.who.id entries → IsUnready own r entries (watched.Socket place)
@@ -107,7 +107,7 @@ IsFailure reply.Closed = ⊤
 IsFailure (reply.Failed word handle) = ⊤
 IsFailure _ = ⊥
 
--- == calls that stand
+-- == pending calls
 abbrev pub IsPoll : Step → Type 0
 IsPoll (step.Poll n) = ⊤
 IsPoll _ = ⊥
@@ -136,7 +136,7 @@ abbrev pub IsListening : Listening → Type 0
 IsListening (listening.Begins op) = IsListen op
 IsListening _ = ⊤
 
--- a bind goes on
+-- a bind is in progress
 abbrev pub IsBinding : InProgress → Type 0
 IsBinding (Binding op) = IsRestOfBind op
 IsBinding _ = ⊥
@@ -146,27 +146,27 @@ HoldsCall m (standing.Bind place) = IfSome (slice_get m.store.sockets place) (λ
 HoldsCall m (standing.Listen place) = IfSome (slice_get m.store.sockets place) (λ r. IsListening r.listening)
 HoldsCall m (standing.DropOutput place) = ⊤
 
--- where a bind stands, its record has a bind that goes on; and where a listen stands, its is a listen
-abbrev pub StandsByBind : Machine → Type 0
-StandsByBind m = IfSome m.store.standing (λ s. HoldsCall m s.call)
+-- where a bind is pending, its record has a bind in progress; and where a listen is pending, its is a listen
+abbrev pub PendingCallsFit : Machine → Type 0
+PendingCallsFit m = IfSome m.store.standing (λ s. HoldsCall m s.call)
 
--- the bind that goes on was told to wait
+-- the bind in progress was answered pending
 abbrev pub BindWaits : InProgress → List Entry → Type 0
 BindWaits (Binding op) entries = EndsPending op.who.id entries
 BindWaits _ entries = ⊥
 
--- the listen that goes on was told to wait
+-- the listen in progress was answered pending
 abbrev pub ListenWaits : Listening → List Entry → Type 0
 ListenWaits (listening.Begins op) entries = EndsPending op.who.id entries
 ListenWaits _ entries = ⊥
 
--- the call waits: the last ask of the bind or of the listen was told to wait, or the output's writer waits
+-- the call waits: the last ask of the bind or of the listen was answered pending, or the output's writer waits
 abbrev pub CallWaits : Machine → OpId → List Entry → StandingCall → Type 0
 CallWaits m own entries (standing.Bind place) = IsSomeAnd (slice_get m.store.sockets place) (λ r. BindWaits r.in_progress entries)
 CallWaits m own entries (standing.Listen place) = IsSomeAnd (slice_get m.store.sockets place) (λ r. ListenWaits r.listening entries)
 CallWaits m own entries (standing.DropOutput place) = OutputWaits m own (Some place) entries
 
--- the call that stands waits
+-- the pending call waits
 abbrev pub StandingWaits : Machine → OpId → List Entry → Type 0
 StandingWaits m own entries = IsSomeAnd m.store.standing (λ s. CallWaits m own entries s.call)
 
@@ -175,13 +175,13 @@ pub record EndsWith (last : Entry) (entries : List Entry) : Type 0 where
   pub front : List Entry
   pub cut : entries ≡ front ++ last ∷ []
 
--- A bind ended with a code: its check was told no, or it was told the code.
+-- A bind ended with a code: its check was answered no, or it was answered with the code.
 pub data BindFails (op : Operation) (entries : List Entry) : ErrorCode → Type 0 where
   ToldNo : (a : IpSocketAddress) → Has op.left (Check a TcpBind) → EndsWith (entry op.who.id (call.Check op.who.context a TcpBind) told.No) entries → BindFails op entries AccessDenied
   ToldWhy : (a : IpSocketAddress) (c : ErrorCode) → Has op.left (Bind a) → EndsWith (entry op.who.id (call.Bind op.who.side a) (told.Code c)) entries → BindFails op entries c
 
--- A listen ended with a code, and closed its side: a check was told no, or its local address wasn't told but the code, or the
--- listen was told the code, or it was to be closed with that.
+-- A listen ended with a code, and closed its network socket: a check was answered no, or its local address wasn't reported but
+-- the code, or the listen was answered with the code, or it was to be closed with that.
 pub data ListenEnds (op : Operation) (entries : List Entry) : ErrorCode → Type 0 where
   CheckedNo : (a : IpSocketAddress) (usage : SocketAddrUse) → EndsClosing op.who (call.Check op.who.context a usage) told.No entries → ListenEnds op entries AccessDenied
   LocalCode : (c : ErrorCode) → EndsClosing op.who (call.Local op.who.side) (told.Code c) entries → ListenEnds op entries c
@@ -189,23 +189,24 @@ pub data ListenEnds (op : Operation) (entries : List Entry) : ErrorCode → Type
   ListenCode : (backlog : ℕ) (c : ErrorCode) → EndsClosing op.who (call.Listen op.who.side backlog) (told.Code c) entries → ListenEnds op entries c
   ListenCloses : (c : ErrorCode) → op.left ≡ Last c Nothing ∷ [] → entries ≡ entry op.who.id (call.Close op.who.side) told.Done ∷ [] → ListenEnds op entries c
 
--- the listening isn't one that was begun and goes on
+-- the listening isn't one that was begun and is in progress
 abbrev pub IsNoListen : Listening → Type 0
 IsNoListen (listening.Begins op) = is_over op ≡ true
 IsNoListen _ = ⊤
 
--- no listen of the record goes on: its socket has a side, which a listen would have taken, or none was begun, or it is over
+-- no listen of the record is in progress: its socket has a network socket, which a listen would have taken, or none was begun,
+-- or it is over
 abbrev pub HasNoListen : Tcp2Socket → Type 0
 HasNoListen r = IsSome (side_of r.inner) ⊎ IsNoListen r.listening
 
--- Why the call that stands failed with a code: its bind or its listen ended with it; or it was a listen that doesn't go on, which
--- a poll refuses.
+-- Why the pending call failed with a code: its bind or its listen ended with it; or it was a listen that isn't in progress,
+-- which a poll refuses.
 pub data CallFails (m : Machine) (entries : List Entry) : StandingCall → ErrorCode → Type 0 where
   BindFailed : (place : ℕ) (r : Tcp2Socket) (op : Operation) (c : ErrorCode) → slice_get m.store.sockets place ≡ Some r → r.in_progress ≡ Binding op → BindFails op entries c → CallFails m entries (standing.Bind place) c
   ListenFailed : (place : ℕ) (r : Tcp2Socket) (op : Operation) (c : ErrorCode) → slice_get m.store.sockets place ≡ Some r → r.listening ≡ listening.Begins op → ListenEnds op entries c → CallFails m entries (standing.Listen place) c
   NoListen : (place : ℕ) → IsSomeAnd (slice_get m.store.sockets place) HasNoListen → entries ≡ [] → CallFails m entries (standing.Listen place) InvalidState
 
--- A call stands under this number, and failed with a code of this word.
+-- A call is pending under this number, and failed with a code of this word.
 pub record StandingFails (m : Machine) (n : ℕ) (entries : List Entry) (word : CodeWord) : Type 0 where
   pub call : StandingCall
   pub code : ErrorCode
@@ -213,11 +214,11 @@ pub record StandingFails (m : Machine) (n : ℕ) (entries : List Entry) (word : 
   pub cause : CallFails m entries call code
   pub word_is : word ≡ word_of_code code
 
--- nothing stands
+-- nothing is pending
 abbrev pub nothing_stands : Machine → Machine
 nothing_stands m = record m { store = unstood m.store }
 
--- a trap for want of a handle leaves the machine, but a poll leaves nothing standing
+-- a trap for lack of a handle leaves the machine, but a poll leaves nothing pending
 abbrev pub left_missing : Machine → Step → Machine
 left_missing m (step.Poll n) = nothing_stands m
 left_missing m _ = m

@@ -13,8 +13,8 @@ ghost use Rattle.wasi_walks.specs.Licence.{IsLicensed, IsSide, IsMaker};
 ghost use Rattle.wasi_host.specs.Machine.{first_state};
 ghost use Rattle.wasi_machine.specs.Machine.{run, HasRun};
 
-/// The log of a run is licensed for its contexts and steps, whatever is answered, and wherever the run stands; and so it is with
-/// the replies that were given by then.
+/// The log of a run is licensed for its contexts and steps, whatever is answered, and at every point of the run; and so it is
+/// with the replies that were given by then.
 pub fn runs_are_licensed()
     ensures begun { (contexts : List WasiSocketsCtx) (steps : List Step) (log : List Entry) (rest : Asks (List Reply × Machine))
         → Left (run contexts [] first_state 1 steps) log rest → IsLicensed contexts steps log [] }
@@ -22,7 +22,7 @@ pub fn runs_are_licensed()
         → HasRun contexts steps log replies → IsLicensed contexts steps log replies }
 {}
 
-/// The beginning of a licensed log is licensed, before a reply is given.
+/// A prefix of a licensed log is licensed, before a reply is given.
 pub fn beginnings_are_licensed()
     ensures { (contexts : List WasiSocketsCtx) (steps : List Step) (front back : List Entry) (replies : List Reply)
         → IsLicensed contexts steps (front ++ back) replies → IsLicensed contexts steps front [] }
@@ -34,19 +34,19 @@ pub fn fewer_replies_are_licensed()
         → IsLicensed contexts steps log (replies ++ more) → IsLicensed contexts steps log replies }
 {}
 
-/// What is licensed by the steps so far is licensed by a script that goes on from them.
+/// What is licensed by the steps so far is licensed by a script that continues from them.
 pub fn longer_scripts_license()
     ensures { (contexts : List WasiSocketsCtx) (steps more : List Step) (log : List Entry) (replies : List Reply)
         → IsLicensed contexts steps log replies → IsLicensed contexts (steps ++ more) log replies }
 {}
 
-/// In a licensed log a handle has one side.
+/// In a licensed log a handle has one network socket.
 pub fn handles_have_one_side()
     ensures { (contexts : List WasiSocketsCtx) (steps : List Step) (log : List Entry) (replies : List Reply) (handle : ℕ) (side other : OpId)
         → IsLicensed contexts steps log replies → IsSide log handle side → IsSide log handle other → side ≡ other }
 {}
 
-/// In a licensed log a side has one maker and one family.
+/// In a licensed log a network socket has one creator and one family.
 pub fn sides_have_one_maker()
     ensures { (contexts : List WasiSocketsCtx) (steps : List Step) (log : List Entry) (replies : List Reply) (side : OpId)
         (ctx other : ℕ) (family its : SocketAddressFamily)

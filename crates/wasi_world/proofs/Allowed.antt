@@ -25,7 +25,7 @@ allows_then P R Q before (AskWrite op sock bytes next) f h k = (h.0, λ told fit
 the_entry : (e : Entry) (op : OpId) (call : Call) → e.op ≡ op → e.call ≡ call → record { op = op; call = call; answer = e.answer } ≡ e
 the_entry e op call h k = sym (ap (λ (o : OpId). let r : Entry = record { op = o; call = e.call; answer = e.answer } in r) h ∙ ap (λ (c : Call). let r : Entry = record { op = op; call = c; answer = e.answer } in r) k)
 
--- what is left of the tree after a beginning of its walk
+-- what is left of the tree after a prefix of its walk
 pub reached : {A : Type 0} (P : List Entry → OpId → Call → Type 0) (Q : List Entry → A → Type 0) (before : List Entry) (asks : Asks A) (es : List Entry) (rest : Asks A) → Allows P Q before asks → Left asks es rest → Allows P Q (before ++ es) rest
 reached P Q before asks [] rest h w = rw append-nil (subst (Allows P Q before) w h)
 reached P Q before (Give a) (e ∷ es) rest h w = absurd w

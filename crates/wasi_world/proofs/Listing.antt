@@ -109,7 +109,7 @@ module _ (queues : List Queued) (i : ℕ) (k : Kind) (here : i ≡ place k) (was
       (map-set_same (λ q. q.all) queues i now was (ap (λ q. q.all) e ∙ ap (λ q. q.all) stood))
       (map-set (λ q. q.left) queues i now ∙ rw (here, e, plan_after_kind (map (λ q. q.left) queues) c k o, part_is (λ q. q.left)) refl)
 
-  -- what the first of a list tells fits
+  -- what the first of a list reports fits
   first_fits : (c : Call) (t : Told) (answers : List Planned) → Some k ≡ kind_of c → Offers c → list_all (takes k) answers ≡ true → Some (as_planned t) ≡ option_map (given c) (slice_get answers 0) → Fits c t
   first_fits c t [] o some h e = cc
   first_fits c t (first ∷ answers) o some h e = planned_fits c k first t (sym o) (and_left (takes k first) _ h) some cc

@@ -21,7 +21,7 @@ answers_push now (first ∷ log) e = ap (λ rest. answer now first.call ∷ rest
 progress_push : (plan : Plan) (log : List Entry) (e : Entry) → progress plan (log ++ e ∷ []) ≡ after (progress plan log) e
 progress_push plan log e = fold_push after (start plan) log e
 
--- Where a world has come so far, it stands there after one entry more too. now is the log with that entry, as it stands.
+-- Where a world has come so far, it is there after one entry more too. now is the log with that entry, as it is.
 module _ (plan left : Plan) (known : OpId → Side) (log now : List Entry) (op : OpId) (call : Call) (told : Told)
     (left_now : left ≡ (progress plan log).left) (sides_now : (sock : OpId) → known sock ≡ (progress plan log).sides sock)
     (pushed : now ≡ log ++ record { op = op; call = call; answer = told } ∷ []) where

@@ -56,14 +56,14 @@ unfolding polls bind
 ended_by_shutdown n who js {c} {g} h k = rw h (reaches_on (λ answer. Give (Refused c g, [])) k)
 
 -- == of a whole poll
--- nothing was asked, for want of memory
+-- nothing was asked, for lack of memory
 pub polls_none : {T : Type 0} (old : Operation) {s t : Seen} {gives : T → Given} {kept : Given} {d : AllocError} {r : Result (Answer T) Refusal} → IsErrAnd r (λ x. x ≡ refusal.Memory d) → t ≡ s → PollsFor gives kept old old s t r
 polls_none old {s} {t} {r = Ok x} h e = absurd h
 polls_none old {s} {t} {gives} {kept} {d} {r = Err x} h e =
     let P : Refusal → Type 0 = λ y. PollsFor gives kept old old s t (Err y) in
     subst P (sym h) (record { who = refl; ended = rw e (reaches_all (poll_asks old) s) })
 
--- want of memory on the way
+-- out of memory on the way
 pub polls_err : {T : Type 0} {old new : Operation} {s t : Seen} {gives : T → Given} {kept : Given} {d : AllocError} {r : Result (Answer T) Refusal} → IsErrAnd r (λ x. x ≡ refusal.Memory d) → new.who ≡ old.who → Reaches (poll_asks old) (poll_asks new) s t → PollsFor gives kept old new s t r
 polls_err {r = Ok x} h w k = absurd h
 polls_err {old} {new} {s} {t} {gives} {kept} {r = Err x} h w k =
@@ -78,7 +78,7 @@ polls_end w h = record { who = w; ended = h }
 pub polls_refused : {T : Type 0} {old new : Operation} {s t : Seen} {gives : T → Given} {kept : Given} {c : ErrorCode} → new.who ≡ old.who → Reaches (poll_asks old) (Give (Refused c kept, new.left)) s t → PollsFor gives kept old new s t (Err (refusal.Code c))
 polls_refused w h = record { who = w; ended = h }
 
--- the poll goes on
+-- the poll continues
 pub polls_on : {T : Type 0} {old mid new : Operation} {s t u : Seen} {gives : T → Given} {kept : Given} {r : Result (Answer T) Refusal} → mid.who ≡ old.who → Reaches (poll_asks old) (poll_asks mid) s t → PollsFor gives kept mid new t u r → PollsFor gives kept old new s u r
 polls_on {r = Ok x} w h k = record { who = rw (← w) k.who; ended = reaches_then h k.ended }
 polls_on {r = Err (refusal.Code c)} w h k = record { who = rw (← w) k.who; ended = reaches_then h k.ended }

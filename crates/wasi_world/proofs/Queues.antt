@@ -3,9 +3,9 @@ use Rattle.std.proofs.Common.{◌≡◌, ℕ, ◌≤◌, List, [], ◌∷◌, �
 use Rattle.std.proofs.lemmas.List.{drop-append-le}
 use Rattle.wasi_world.specs.declared.plan.Planned.{Planned}
 use Rattle.wasi_world.specs.declared.plan.Planned.TheVariants.{Bytes}
-use Rattle.wasi_world.specs.Queued.{rest_of, without_front, HasFront}
+use Rattle.wasi_world.specs.Queued.{planned_after, without_front, HasFront}
 
-rest_of_unused : (answer : Planned) → rest_of 0 answer ≡ answer
+rest_of_unused : (answer : Planned) → planned_after 0 answer ≡ answer
 rest_of_unused (Bytes bytes) = refl
 rest_of_unused _ = refl
 

@@ -19,7 +19,7 @@ use Rattle.wasi_world.specs.Seen.{Plan}
 use Rattle.wasi_world.specs.Queued.{no_answers, with_answer}
 use Rattle.wasi_world.specs.Script.{given, left_after, answer, progress, IsScripted}
 
--- line n's own operation, and a side that line 1 made
+-- line n's own operation, and a network socket that line 1 made
 abbrev op : ℕ → OpId
 op n = record { step = n; part = 0 }
 

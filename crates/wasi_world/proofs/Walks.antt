@@ -65,7 +65,7 @@ pub reaches_on : {A B : Type 0} {asks : Asks A} {a : A} (f : A → Asks B) {s t 
 unfolding bind
 reaches_on f h = reaches_in f h
 
--- the same, where it is said of a want of memory
+-- the same, where it is said of running out of memory
 pub err_in : {A B T : Type 0} (asks rest : Asks A) (f : A → Asks B) (s t : Seen) (r : Result T AllocError) → OnErr r (Reaches asks rest s t) → OnErr r (Reaches (bind asks f) (bind rest f) s t)
 err_in asks rest f s t (Ok x) h = tt
 err_in asks rest f s t (Err d) h = reaches_in f h
@@ -85,7 +85,7 @@ asks_typed f {op} {call} {told} h e = record { ok = record { entries = h.entries
 pub asks_typed_write : {B : Type 0} (f : Told → B) {op sock : OpId} {bytes : List ℕ} {s t : Seen} {told : Told} {b : B} → Reaches (one_write op sock bytes) (Give told) s t → b ≡ f told → AsksFor (AskWrite op sock bytes (λ x. Give (f x))) s t (λ x. x) (Ok b)
 asks_typed_write f {op} {sock} {bytes} {told} h e = record { ok = record { entries = h.entries; passed = h.passed; left = rw e (left_typed_write f op sock bytes h.entries told h.left) }; err = tt }
 
--- want of memory before the first ask
+-- out of memory before the first ask
 pub asks_none : {A T : Type 0} (Q : AllocError → Type 0) (asks : Asks A) {s t : Seen} {view : T → A} {r : Result T AllocError} → IsErrAnd r Q → t ≡ s → AsksFor asks s t view r
 asks_none Q asks {s} {t} {r = Ok x} h e = absurd h
 asks_none Q asks {s} {t} {r = Err d} h e = record { ok = tt; err = record { rest = asks; reached = rw e (reaches_all asks s) } }
@@ -104,12 +104,12 @@ asks_exit Q f {r = Err d} e h = record { ok = tt; err = record { rest = bind h.r
 pub asks_end : {A B T : Type 0} {asks : Asks A} (f : A → Asks B) {s t : Seen} {view : T → B} {x : T} {a : A} → Reaches asks (Give a) s t → f a ≡ Give (view x) → AsksFor (bind asks f) s t view (Ok x)
 asks_end {asks} f {s} {t} h e = record { ok = let P : Asks _ → Type 0 = λ rest. Reaches (bind asks f) rest s t in subst P e (reaches_on f h); err = tt }
 
--- == of calls that may be refused: a code is an answer, want of memory isn't
+-- == of calls that may be refused: a code is an answer, running out of memory isn't
 outcome_memory : {T : Type 0} {d : AllocError} (r : Result T Refusal) → IsErrAnd r (λ x. x ≡ Memory d) → outcome r ≡ Err d
 outcome_memory (Ok x) h = absurd h
 outcome_memory (Err x) h = ap (λ (y : Refusal). outcome (Err y)) h
 
--- want of memory before the first ask
+-- out of memory before the first ask
 pub refused_none : {A T : Type 0} {asks : Asks A} {s t : Seen} {view : Result T ErrorCode → A} {d : AllocError} (r : Result T Refusal) → IsErrAnd r (λ x. x ≡ Memory d) → t ≡ s → AsksFor asks s t view (outcome r)
 refused_none {asks} {s} {t} r h e = rw (outcome_memory r h) (record { ok = tt; err = record { rest = asks; reached = rw e (reaches_all asks s) } })
 
@@ -143,7 +143,7 @@ pub asks_gives : {A B T : Type 0} {asks : Asks A} (g : A → B) {s t : Seen} {vi
 asks_gives g {r = Ok x} h = record { ok = reaches_on _ h.ok; err = tt }
 asks_gives g {r = Err d} h = record { ok = tt; err = record { rest = bind h.err.rest (λ a. Give (g a)); reached = reaches_in _ h.err.reached } }
 
--- an answer is made of what a call gave, which may want memory
+-- an answer is made of what a call gave, which may run out of memory
 pub asks_answered : {M T R : Type 0} {asks : Asks (T × M)} (g : T → R) {s t : Seen} {m : M} (o : Result T AllocError) (r : Result R AllocError) → AsksFor {A = T × M} asks s t (λ x. (x, m)) o → IfOk r (λ reply. IsOkAnd o (λ x. reply ≡ g x)) → AsksFor {A = R × M} (bind asks (λ done. Give (g done.0, done.1))) s t (λ reply. (reply, m)) r
 asks_answered g {m} (Ok x) (Ok reply) h e = asks_end _ h.ok (ap (λ (y : _). Give (y, m)) (sym e))
 asks_answered g (Err d) (Ok reply) h e = absurd e

@@ -1,4 +1,4 @@
--- The fields of a line, and what stands at the front of them.
+-- The fields of a line, and what is at the front of them.
 use Rattle.std.specs.Prelude.{◌≡◌, ℕ, Bool, ◌==◌, ◌&&◌, nat_le, if◌then◌else◌, List, [], ◌∷◌, bytes_eq, ◌⊎◌, slice_index, codes, decimal, find, not, length, ◌||◌, Option, Some, None, option_and_then, option_copied, MatchOption}
 use Rattle.std.specs.Option.{option_map_or}
 use Rattle.std.specs.Str.{is_utf8}
@@ -22,7 +22,7 @@ use Rattle.wasi_addr.specs.declared.address.IpSocketAddress.TheVariants as socke
 abbrev pub is_space : ℕ → Bool
 is_space b = b == 32
 
--- the fields of a line, which stand between its spaces; an empty line has one empty field
+-- the fields of a line, which are between its spaces; an empty line has one empty field
 abbrev pub fields_of : List ℕ → List (List ℕ)
 fields_of line = slice_split is_space line
 

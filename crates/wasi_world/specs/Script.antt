@@ -1,4 +1,5 @@
--- The answers of a world that goes by a plan: each list is used in order, over all sides, and then the default stands.
+-- The answers of a world that goes by a plan: each list is used in order, over all network sockets, and then the
+-- default holds.
 use Rattle.std.specs.Prelude.{◌≡◌, ℕ, ◌≤◌, nat_le, if◌then◌else◌, List, [], ◌∷◌, Option, Some, None, length, take, drop, map, min, slice_set, fold, unwrap_or, is_some, ⊤}
 use Rattle.std.proofs.Common.{ap, subst}
 use Rattle.std.proofs.lemmas.Bool.{false≢true}
@@ -33,7 +34,7 @@ abbrev pub Offers : Call → Type 0
 Offers (call.Write _ count) = 1 ≤ count
 Offers _ = ⊤
 
--- what a planned answer tells a call: a read gets the front of the bytes, and a write no more taken than it offers
+-- what a planned answer gives a call: a read gets a prefix of the bytes, and a write no more taken than it offers
 abbrev pub given : Call → Planned → Planned
 given c (Bytes bytes) = Bytes (take (asked c) bytes)
 given c (Took count) = Took (min count (offered c))
@@ -45,7 +46,7 @@ left_after c [] = []
 left_after c (Bytes bytes ∷ answers) = if nat_le (length bytes) (asked c) then answers else (Bytes (drop (asked c) bytes) ∷ answers)
 left_after c (_ ∷ answers) = answers
 
--- what `peer` tells by default
+-- what `peer` answers by default
 abbrev pub default_peer : Option IpSocketAddress → Planned
 default_peer (Some addr) = Addr addr
 default_peer None = Code code.InvalidState
@@ -99,7 +100,7 @@ abbrev pub next_answer : List Planned → (OpId → Side) → Call → Planned
 next_answer [] sides c = default sides c
 next_answer (answer ∷ _) sides c = given c answer
 
--- How far a world has come: what is left of its answers, and what is known of each side.
+-- How far a world has come: what is left of its answers, and what is known of each network socket.
 pub record Progress : Type 0 where
   pub left : Plan
   pub sides : OpId → Side
@@ -142,15 +143,15 @@ answers now (e ∷ es) = answer now e.call ∷ answers (after now e) es
 abbrev pub IsScripted : Plan → List Entry → Type 0
 IsScripted plan log = map (λ e. as_planned e.answer) log ≡ answers (start plan) log
 
--- where a world tells both its plan and its log, it answers by the plan
+-- where a world reports both its plan and its log, it answers by the plan
 abbrev pub GoesByPlan : Seen → Type 0
 GoesByPlan seen = (plan : Plan) (log : List Entry) → seen.plan ≡ Some plan → seen.log ≡ Some log → IsScripted plan log
 
--- a world that tells this plan and this log
+-- a world that reports this plan and this log
 pub goes_by_plan : (plan : Plan) (log : List Entry) → IsScripted plan log → (p : Plan) (l : List Entry) → Some plan ≡ Some p → Some log ≡ Some l → IsScripted p l
 goes_by_plan plan log h p l e f =
     subst (λ (q : Plan). IsScripted q l) (ap (λ o. unwrap_or o plan) e) (subst (λ (m : List Entry). IsScripted plan m) (ap (λ o. unwrap_or o log) f) h)
 
--- a world that tells no plan
+-- a world that reports no plan
 pub without_plan : (log : Option (List Entry)) (p : Plan) (l : List Entry) → ◌≡◌ {A = Option Plan} None (Some p) → log ≡ Some l → IsScripted p l
 without_plan log p l e f = absurd (false≢true (ap is_some e))

@@ -6,7 +6,7 @@ use Rattle.wasi_world.specs.Seen.{Plan, Seen}
 abbrev pub seen_by : ScriptedWorld → Seen
 seen_by world = record { log = Some world.log.items; ended = world.ended; closings = world.closings; faults = world.faults; plan = Some world.lists.all }
 
--- a world that was told nothing yet
+-- a world that was asked nothing yet
 abbrev pub at_start : Plan → Seen
 at_start plan = record { log = Some []; ended = false; closings = 0; faults = 0; plan = Some plan }
 

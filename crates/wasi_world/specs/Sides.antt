@@ -1,4 +1,5 @@
--- What is known of each side from the calls that were told done: what the defaults of `local`, `peer` and `get-option` go by.
+-- What is known of each network socket from the calls that were answered done: what the defaults of `local`, `peer` and
+-- `get-option` go by.
 use Rattle.std.specs.Prelude.{ℕ, ◌==◌, Bool, true, false, ◌&&◌, if◌then◌else◌, Option, Some, None, unwrap_or}
 use Rattle.std.specs.declared.cmp.Ordering.{Ordering}
 use Rattle.std.specs.Ordering.{nat_cmp, ordering_then}
@@ -40,15 +41,15 @@ with_value options HopLimit value = record options { hop_limit = value }
 with_value options ReceiveBufferSize value = record options { receive_buffer_size = value }
 with_value options SendBufferSize value = record options { send_buffer_size = value }
 
--- nothing but its family is known of a side that was just made
+-- nothing but its family is known of a network socket that was just made
 abbrev pub new_side : SocketAddressFamily → Side
 new_side family = record { family = family; local = None; peer = None; options = unset }
 
--- nothing is known of a side that wasn't made
+-- nothing is known of a network socket that wasn't made
 abbrev pub unmade : Side
 unmade = new_side Ipv4
 
--- port 50000 stands in the place of port 0
+-- port 50000 takes the place of port 0
 abbrev pub chosen_port : ℕ → ℕ
 chosen_port port = if port == 0 then 50000 else port
 
@@ -70,7 +71,7 @@ connected side addr = record (bound_anyway side) { peer = Some addr }
 abbrev pub disconnected : Side → Side
 disconnected side = record side { peer = None }
 
--- the address that `local` tells by default
+-- the address that `local` reports by default
 abbrev pub default_local : Side → IpSocketAddress
 default_local side = unwrap_or side.local (wildcard side.family)
 
@@ -81,7 +82,7 @@ handed listener peer = record { family = listener.family; local = listener.local
 abbrev pub with_option : Side → Opt → ℕ → Side
 with_option side option value = record side { options = with_value side.options option value }
 
--- the side that a call changes once it is told done, and what is known of that side then
+-- the network socket that a call changes once it is answered done, and what is known of that network socket then
 abbrev pub change : (OpId → Side) → OpId → Call → Option (OpId × Side)
 change sides op (call.TcpCreate _ family) = Some (op, new_side family)
 change sides op (call.UdpCreate _ family) = Some (op, new_side family)
@@ -102,12 +103,12 @@ is_done _ = false
 abbrev pub is_same : OpId → OpId → Bool
 is_same a b = (a.step == b.step) && (a.part == b.part)
 
--- what is known of each side after such a change
+-- what is known of each network socket after such a change
 abbrev pub changed : (OpId → Side) → Option (OpId × Side) → OpId → Side
 changed sides None sock = sides sock
 changed sides (Some change) sock = if is_same change.0 sock then change.1 else sides sock
 
--- what is known of each side after a call was answered; only done changes any
+-- what is known of each network socket after a call was answered; only done changes any
 abbrev pub sides_after : (OpId → Side) → OpId → Call → Told → OpId → Side
 sides_after sides op c answer = changed sides (if is_done answer then change sides op c else None)
 
@@ -115,6 +116,6 @@ sides_after sides op c answer = changed sides (if is_done answer then change sid
 abbrev pub name_cmp : OpId → OpId → Ordering
 name_cmp a b = ordering_then (nat_cmp a.step b.step) (nat_cmp a.part b.part)
 
--- what a map of sides knows of each
+-- what a map of network sockets knows of each
 abbrev pub known : BTreeMap OpId Side → OpId → Side
 known sides sock = unwrap_or (get name_cmp sides sock) unmade

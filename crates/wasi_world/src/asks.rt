@@ -1,5 +1,5 @@
-//! Each kind of ask, with a type that has just the answers that fit. Those of UDP stand in `udp`; only `told` looks at
-//! what a world told.
+//! Each kind of ask, with a type that has just the answers that fit. Those of UDP are in `udp`; only `told` looks at
+//! what a world answered.
 
 ghost use Rattle.std.specs.Prelude.{◌≡◌, ◌<◌, ◌≤◌, ◌^◌, OnErr, IfOk, length, false};
 ghost use Rattle.wasi_world.specs.Asks.{AsksFor};
@@ -29,7 +29,7 @@ pub enum Verdict {
     No,
 }
 
-/// What a call tells that may have to be asked again.
+/// What a call answers that may have to be asked again.
 #[derive(Drop)]
 pub enum Polled<T> {
     Pending,
@@ -316,7 +316,7 @@ pub fn close<W: World>(world: &mut W, op: OpId, sock: Sock) -> Result<(), AllocE
     Ok(())
 }
 
-/// Marks a new handle: its kind, the handle that it was made from, and its side.
+/// Marks a new handle: its kind, the handle that it was made from, and its network socket.
 pub fn made<W: World>(
     world: &mut W,
     op: OpId,
@@ -342,7 +342,7 @@ pub fn made<W: World>(
     Ok(())
 }
 
-/// Offers bytes; tells how many of them were taken.
+/// Offers bytes; returns how many of them were taken.
 pub fn write<W: World>(
     world: &mut W,
     op: OpId,

@@ -1,4 +1,4 @@
-//! What is asked of a world, and what it tells.
+//! What is asked of a world, and what it answers.
 
 ghost use Rattle.std.specs.Prelude.{◌≡◌, IfOk};
 
@@ -40,7 +40,7 @@ pub enum HandleKind {
     Result3,
 }
 
-/// One call of a world. A call that was told pending is asked again, the same, at the next poll of its operation.
+/// One call of a world. A call that was answered pending is asked again, the same, at the next poll of its operation.
 #[derive(Drop)]
 pub enum Call {
     Check {
@@ -95,7 +95,8 @@ pub enum Call {
     Accept {
         sock: Sock,
     },
-    /// Hands over the connection that arrived at the listener `sock`; its side has the name of this operation.
+    /// Hands over the connection that arrived at the listener `sock`; its network socket has the name of this
+    /// operation.
     Hand {
         sock: Sock,
         peer: IpSocketAddress,
@@ -148,7 +149,7 @@ pub enum Call {
     Close {
         sock: Sock,
     },
-    /// Marks that a handle was made: its kind, the handle it was made from, and the side it belongs to.
+    /// Marks that a handle was made: its kind, the handle it was made from, and the network socket it belongs to.
     Made {
         handle: u32,
         kind: HandleKind,
@@ -157,7 +158,7 @@ pub enum Call {
     },
 }
 
-/// What a world tells. Which answers fit which call is `Fits` in specs/.
+/// What a world answers. Which answers fit which call is `Fits` in specs/.
 #[derive(Drop)]
 pub enum Told {
     Pending,
@@ -208,7 +209,7 @@ impl Told {
     }
 }
 
-/// One call of the log: who asked, what, and what was told.
+/// One call of the log: who asked, what, and what was answered.
 #[derive(Drop)]
 pub struct Entry {
     pub op: OpId,

@@ -155,7 +155,7 @@ impl<'a> Fields<'a> {
         Some(code)
     }
 
-    /// Takes bytes, for which it takes memory, or nothing; after want of memory nothing was taken.
+    /// Takes bytes, for which it takes memory, or nothing; after running out of memory nothing was taken.
     pub fn octets(&mut self, alloc: Global) -> Result<Option<Octets>, AllocError>
         ensures read { IfOk result (λ bytes. Reads bytes_at self.old bytes self.new) }
         ensures kept { IfOk result (λ bytes. IfNone bytes (self.new ≡ self.old)) }
@@ -405,7 +405,7 @@ fn push_byte(text: &mut String, byte: u8) -> Result<(), AllocError>
     write!(text, "{byte:02x}")
 }
 
-/// Appends the text of the bytes; takes memory for it. After want of memory a part of it may stand there.
+/// Appends the text of the bytes; takes memory for it. After running out of memory a part of it may be there.
 pub fn push_octets(text: &mut String, bytes: &[u8]) -> Result<(), AllocError>
     ensures { OnOk result (string_bytes text.new ≡ string_bytes text.old ++ bytes_text bytes.now) }
 {

@@ -1,4 +1,4 @@
-//! Names of operations, of network sides and of resources.
+//! Names of operations, of network sockets and of resources.
 
 ghost use Rattle.std.specs.Prelude.{◌≡◌, ◌+◌, ◌<◌, ◌^◌};
 
@@ -10,7 +10,8 @@ pub struct OpId {
     pub part: u64,
 }
 
-/// A network side is named by the operation that made it, a create or an accept, so no two sides share a name.
+/// A network socket is named by the operation that made it, a create or an accept, so no two network sockets share a
+/// name.
 pub type Sock = OpId;
 
 /// The number of a resource: the k-th that is made is k, counted from 1, and it is never used again.

@@ -4,7 +4,7 @@
 #[derive(Clone, Copy, Debug, PartialEq, Eq)]
 pub struct Failed;
 
-/// Gives bytes. What is known of it is its ghost `reading`: the bytes left, where it tells them, whether it gave its end,
+/// Gives bytes. What is known of it is its ghost `reading`: the bytes left, where it reports them, whether it gave its end,
 /// and its count of faults, which never falls.
 pub trait Source {
     ghost use Rattle.std.specs.Prelude.{length};
@@ -12,20 +12,20 @@ pub trait Source {
 
     ghost reading: { Self → Reading };
 
-    /// Puts bytes into the front of the buffer and tells how many. None into a buffer that isn't empty is the end, and
-    /// where the bytes are told that comes only where none is left.
+    /// Puts bytes into the front of the buffer and returns how many. None into a buffer that isn't empty is the end, and
+    /// where the bytes are reported that comes only where none is left.
     fn read(&mut self, buf: &mut [u8]) -> Result<usize, Failed>
         ensures { HasRead (reading self.old) (reading self.new) (length buf.old) buf.new result };
 }
 
 /// Takes bytes. What is known of it is its ghost `writing`: the bytes written and whether they were flushed, where it
-/// tells them, its count of faults and its count of refused pieces; neither falls.
+/// reports them, its count of faults and its count of refused pieces; neither falls.
 pub trait Sink {
     ghost use Rattle.wasi_world.specs.Io.{Writing, HasWritten, HasFlushed};
 
     ghost writing: { Self → Writing };
 
-    /// Takes the front of the bytes and tells how many. A piece that isn't empty and of which it takes nothing is counted
+    /// Takes a prefix of the bytes and returns how many. A piece that isn't empty and of which it takes nothing is counted
     /// as refused.
     fn write(&mut self, bytes: &[u8]) -> Result<usize, Failed>
         ensures { HasWritten (writing self.old) (writing self.new) bytes.now result };

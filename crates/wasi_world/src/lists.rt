@@ -103,7 +103,7 @@ impl Lists {
         Ok(())
     }
 
-    /// What the next of its answers tells a call; none where all are used, or the call takes none. `bytes` are those
+    /// What the next of its answers gives a call; none where all are used, or the call takes none. `bytes` are those
     /// that a write offers. Takes memory for bytes and names.
     pub(crate) fn tell(
         &self,

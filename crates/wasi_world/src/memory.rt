@@ -9,7 +9,7 @@ use crate::io::{Failed, Sink, Source};
 use std::alloc::{AllocError, Global};
 use std::marker::Model;
 
-/// Counts a fault, which the answer tells.
+/// Counts a fault, which the answer reports.
 pub(crate) fn count_fault(faults: &mut u64) -> Failed
     ensures { faults.new ≡ one_more faults.old }
 {
@@ -43,7 +43,7 @@ struct Calls {
 }
 
 impl Calls {
-    /// Counts the next call and tells whether it fails.
+    /// Counts the next call and returns whether it fails.
     fn next_fails(&mut self) -> bool
         ensures fails { IsTrue result ↔ IsFailing self.old.fails.items self.old.made }
         ensures made { self.new ≡ record self.old { made = one_more self.old.made } }
@@ -78,7 +78,7 @@ impl Model for MemorySource {
 
 impl MemorySource {
     /// A source of these bytes, that gives at most `most` of them at a time. The reads whose numbers, counted from 1,
-    /// stand in `fails` fail.
+    /// are in `fails` fail.
     pub fn new(bytes: Vec<u8>, most: usize, fails: Vec<u32>) -> MemorySource
         requires { 1 ≤ most }
         ensures { result ≡ record { left = bytes.items; most = most; fails = fails.items; calls = 0; ended = false; faults = 0 } }
@@ -170,8 +170,8 @@ impl Model for MemorySink {
 
 impl MemorySink {
     /// An empty sink with room for so many bytes, that takes at most `most` of them at a time. The calls whose numbers
-    /// stand in `fails` fail: writes and flushes are counted together, from 1. The memory for all the room is taken
-    /// here, and none later, so a write never fails for want of it.
+    /// are in `fails` fail: writes and flushes are counted together, from 1. The memory for all the room is taken
+    /// here, and none later, so a write never fails for lack of it.
     pub fn new(
         alloc: Global,
         most: usize,

@@ -2,7 +2,7 @@
 
 ghost use Rattle.std.specs.Prelude.{◌≡◌, IfOk, OnOk, OnErr, [], ◌∷◌, ◌++◌, Some, None, length, take, drop, min, option_map, IfSome, ◌≤◌, slice_get};
 ghost use Rattle.wasi_world.specs.Asks.{IsFront};
-ghost use Rattle.wasi_world.specs.Queued.{rest_of, HasFront};
+ghost use Rattle.wasi_world.specs.Queued.{planned_after, HasFront};
 ghost use Rattle.wasi_world.specs.Script.{asked, offered, given, left_after, as_planned};
 
 use crate::call::{Call, Told};
@@ -58,7 +58,7 @@ fn part(alloc: Global, bytes: &[u8], front: usize, size: usize) -> Result<Octets
     Octets::copy_of(alloc, &rest[..size])
 }
 
-/// What a planned answer tells a call, once the first `front` of its bytes are used. `bytes` are those that the call
+/// What a planned answer gives a call, once the first `front` of its bytes are used. `bytes` are those that the call
 /// offers.
 fn tell(
     alloc: Global,
@@ -69,7 +69,7 @@ fn tell(
 ) -> Result<Told, AllocError>
     requires front { HasFront front (planned.now ∷ []) }
     requires offered { length bytes.now ≡ offered call.now }
-    ensures told { IfOk result (λ told. as_planned told ≡ given call.now (rest_of front planned.now)) }
+    ensures told { IfOk result (λ told. as_planned told ≡ given call.now (planned_after front planned.now)) }
     ensures front { IfOk result (λ told. IsFront told bytes.now) }
 {
     match planned {
@@ -123,7 +123,7 @@ impl Queue {
         Ok(())
     }
 
-    /// What the next answer tells a call; none where all are used. Takes memory for the bytes or names.
+    /// What the next answer gives a call; none where all are used. Takes memory for the bytes or names.
     pub fn tell(&self, alloc: Global, call: &Call, bytes: &[u8]) -> Result<Option<Told>, AllocError>
         requires { length bytes.now ≡ offered call.now }
         ensures told { IfOk result (λ told. option_map as_planned told ≡ option_map (given call.now) (slice_get self.now.left 0)) }

@@ -220,7 +220,7 @@ fn plan_line(
     Ok(())
 }
 
-/// Where the first newline stands; none where there is none.
+/// Where the first newline is; none where there is none.
 pub fn newline_at(bytes: &[u8]) -> Option<usize>
     ensures { result ≡ position (λ b. b == 10) bytes.now }
 {

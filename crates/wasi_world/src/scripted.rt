@@ -77,7 +77,7 @@ fn tell(
     }
 }
 
-/// A network that answers each call from a list for its kind, in order and over all sides, and by a default once that
+/// A network that answers each call from a list for its kind, in order and over all network sockets, and by a default once that
 /// list is used up. It keeps its log.
 #[derive(Drop)]
 pub struct ScriptedWorld {
@@ -155,14 +155,14 @@ impl ScriptedWorld {
         self.ended
     }
 
-    /// How many sides were closed after the end mark. The count stays at its greatest value.
+    /// How many network sockets were closed after the end mark. The count stays at its greatest value.
     pub fn closed_after_end(&self) -> u64
         ensures { result ≡ (seen_by self.now).closings }
     {
         self.closings
     }
 
-    /// How many codes were told. The count stays at its greatest value.
+    /// How many codes were reported. The count stays at its greatest value.
     pub fn faults(&self) -> u64
         ensures { result ≡ (seen_by self.now).faults }
     {

@@ -1,4 +1,4 @@
-//! What a scripted world knows of its network sides: what the defaults of `local`, `peer` and `get-option` go by.
+//! What a scripted world knows of its network sockets: what the defaults of `local`, `peer` and `get-option` go by.
 
 ghost use Rattle.std.specs.Prelude.{◌≡◌, OnOk, OnErr, None};
 ghost use Rattle.std.specs.BTreeMap.{IsUnchanged};
@@ -13,7 +13,7 @@ use wasi_addr::{
     IpSocketAddress, Ipv4SocketAddress, Ipv6SocketAddress, SocketAddressFamily, unspecified_addr,
 };
 
-/// The value of each option of a side.
+/// The value of each option of a network socket.
 #[derive(Clone, Copy)]
 pub struct Options {
     keep_alive_enabled: u64,
@@ -69,7 +69,7 @@ impl Options {
     }
 }
 
-/// A side: the family and the address that `local` and the wildcard go by, its peer, and its options.
+/// A network socket: the family and the address that `local` and the wildcard go by, its peer, and its options.
 #[derive(Clone, Copy)]
 pub struct Side {
     pub family: SocketAddressFamily,
@@ -78,7 +78,7 @@ pub struct Side {
     pub options: Options,
 }
 
-/// Port 50000 stands in the place of port 0.
+/// Port 50000 takes the place of port 0.
 fn with_port(addr: IpSocketAddress) -> IpSocketAddress
     ensures { result ≡ with_port addr }
 {
@@ -146,7 +146,7 @@ impl Side {
         Side { peer: None, ..self }
     }
 
-    /// The address that `local` tells by default.
+    /// The address that `local` reports by default.
     pub fn default_local(&self) -> IpSocketAddress
         ensures { result ≡ default_local self.now }
     {
@@ -173,7 +173,7 @@ impl Side {
     }
 }
 
-/// What is known of each side that was made or changed.
+/// What is known of each network socket that was made or changed.
 pub type Sides = BTreeMap<OpId, Side>;
 
 pub fn known(sides: &Sides, sock: Sock) -> Side
@@ -185,7 +185,7 @@ pub fn known(sides: &Sides, sock: Sock) -> Side
     }
 }
 
-/// The side that a call changes once it is told done, and what is known of that side then.
+/// The network socket that a call changes once it is answered done, and what is known of that network socket then.
 fn change(sides: &Sides, op: OpId, call: &Call) -> Option<(Sock, Side)>
     ensures { result ≡ change (known sides.now) op call.now }
 {
@@ -211,7 +211,7 @@ fn change(sides: &Sides, op: OpId, call: &Call) -> Option<(Sock, Side)>
     }
 }
 
-/// Keeps what an answered call changed; takes memory where its side is new.
+/// Keeps what an answered call changed; takes memory where its network socket is new.
 pub fn keep(sides: &mut Sides, op: OpId, call: &Call, told: &Told) -> Result<(), AllocError>
     ensures ok { OnOk result ((sock : OpId) → known sides.new sock ≡ sides_after (known sides.old) op call.now told.now sock) }
     ensures err { OnErr result (IsUnchanged sides.old sides.new) }

@@ -12,8 +12,8 @@ use std::fs;
 use std::io::{Read, Write};
 use std::rt::Files;
 
-/// A reader as a source, which it keeps: the standard input, say. It tells no bytes of its own; what each read gives is
-/// what the reader gave.
+/// A reader as a source, which it keeps: the standard input, say. It reports no bytes of its own; what each read gives
+/// is what the reader gave.
 ///
 /// ```
 /// fn main(rt: HostRuntime) {
@@ -77,8 +77,8 @@ impl<I: Read> Source for StdSource<I> {
     }
 }
 
-/// A file that is read from its start. One that can't be opened fails at each read. It tells no bytes of its own; what
-/// each read gives is what the file gave.
+/// A file that is read from its start. One that can't be opened fails at each read. It reports no bytes of its own;
+/// what each read gives is what the file gave.
 #[derive(Drop)]
 pub struct FileSource<F> {
     file: Option<F>,
@@ -121,7 +121,7 @@ impl<F: Read> Source for FileSource<F> {
 }
 
 /// A writer as a sink, which it keeps: the standard output, say. Each piece is passed on at once, and each flush. It
-/// tells no bytes and no flush of its own; what each write takes is what the writer took.
+/// reports no bytes and no flush of its own; what each write takes is what the writer took.
 ///
 /// ```
 /// fn main(rt: HostRuntime) {

@@ -8,8 +8,8 @@ use wasi_addr::IpSocketAddress;
 /// What the host asks: an address check, a network and name lookup.
 ///
 /// Each call that is answered appends one entry to the log, with an answer that fits, and raises the count of faults
-/// exactly where a code is told. Where a call wants memory it wasn't made. The log need not be told: what is known of a
-/// world is its ghost `seen`.
+/// exactly where a code is reported. Where a call runs out of memory it wasn't made. The log need not be reported: what
+/// is known of a world is its ghost `seen`.
 pub trait World {
     ghost use Rattle.std.specs.Prelude.{◌≡◌, ◌<◌, ◌≤◌, ◌^◌, IfOk, OnErr, length, true, false};
     ghost use Rattle.wasi_world.specs.Fits.{Fits, IsPlain, IsWritten};
@@ -57,11 +57,11 @@ pub trait World {
         requires open { (seen self.old).ended ≡ false }
         ensures { Ends (seen self.old) (seen self.new) };
 
-    /// Closes a side after the end mark. It is counted and not logged, and can't be refused.
+    /// Closes a network socket after the end mark. It is counted and not logged, and can't be refused.
     fn close_after_end(&mut self, sock: Sock)
         requires ended { (seen self.old).ended ≡ true }
         ensures { Closes (seen self.old) (seen self.new) };
 
-    /// A world that tells both its log and a plan answers by the plan.
+    /// A world that reports both its log and a plan answers by the plan.
     ghost scripted: { (world : Self) → GoesByPlan (seen world) };
 }

@@ -50,7 +50,7 @@ ErrorCause knows P (Trap kind) = P kind
 ErrorCause knows P (Memory e) = ⊤
 
 module _ {A : Type 0} where
-  -- Once the fault was told, and once the stream was stopped, a call is refused.
+  -- Once the fault was reported, and once the stream was stopped, a call is refused.
   pub record IsRefused (knows : OwnerKnows) (result : Result A StreamError) : Type 0 where
     pub told : knows.told ≡ true → UnlessMemory result (result ≡ Err Closed)
     pub stopped : knows.stopped ≡ true → IsErr result
@@ -81,7 +81,7 @@ pub record Settled (owner : OwnerKnows) (worker : WorkerKnows) : Type 0 where
   pub flushed : owner.done ≡ true → worker.met ≡ false → owner.flush ≡ true → worker.flushed ≡ true
   pub told : owner.told ≡ true → worker.met ≡ true
 
--- What was popped is the front of what was pushed, and all of it once all was done without a fault.
+-- What was popped is a prefix of what was pushed, and all of it once all was done without a fault.
 pub record HasLeft (pushed popped : List (List ℕ)) (Done NoFault : Type 0) : Type 0 where
   pub items : List (List ℕ)
   pub in_order : pushed ≡ popped ++ items

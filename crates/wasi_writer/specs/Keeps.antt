@@ -1,4 +1,4 @@
--- What the lock of a write stream keeps: how the core stands to what each side knows.
+-- What the lock of a write stream keeps: how the core relates to what each side knows.
 use Rattle.std.specs.Prelude.{◌≡◌, ◌≤◌, ◌+◌, ℕ, Bool, true, false, [], length, sum, is_some}
 use Rattle.wasi_addr.specs.declared.code.ErrorCode.{ErrorCode}
 use Rattle.wasi_pipes.specs.declared.cores.fault.WorkerFault.{WorkerFault}
@@ -7,7 +7,7 @@ use Rattle.wasi_pipes.specs.Fault.{is_met}
 use Rattle.wasi_pipes.specs.WriteState.{WriteState, initial_of, outstanding, is_ready}
 use Rattle.wasi_writer.specs.Knows.{OwnerKnows, WorkerKnows}
 
--- whether the fault was told
+-- whether the fault was reported
 abbrev pub is_told : WorkerFault ErrorCode → Bool
 is_told Unmet = false
 is_told (Kept code) = false

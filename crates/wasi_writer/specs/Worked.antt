@@ -4,7 +4,7 @@ use Rattle.std.specs.List.{concat}
 use Rattle.wasi_world.specs.Io.{Writing, Took, SameCounts, CountRose}
 use Rattle.wasi_writer.specs.Knows.{WorkerKnows}
 
--- it tells of flushes as it did
+-- it reports flushes as it did
 abbrev pub StillTells : Writing → Writing → Type 0
 StillTells old new = is_some new.flushed ≡ is_some old.flushed
 
@@ -14,14 +14,14 @@ pub record TookAll (old : Writing) (bytes : List ℕ) (new : Writing) : Type 0 w
   pub counts : SameCounts old new
   pub tells : StillTells old new
 
--- From old to new the sink took the front of these bytes.
+-- From old to new the sink took a prefix of these bytes.
 pub record TookFront (old : Writing) (bytes : List ℕ) (new : Writing) : Type 0 where
   pub taken : List ℕ
   pub rest : List ℕ
   pub split : bytes ≡ taken ++ rest
   pub took : Took old taken new
 
--- From old to new the sink took the front of these bytes, and failed or took nothing of the rest.
+-- From old to new the sink took a prefix of these bytes, and failed or took nothing of the rest.
 pub record TookFault (old : Writing) (bytes : List ℕ) (new : Writing) : Type 0 where
   pub front : TookFront old bytes new
   pub rose : CountRose old new
@@ -32,7 +32,7 @@ abbrev pub TookTo : Bool → Writing → List ℕ → Writing → Type 0
 TookTo false old bytes new = TookAll old bytes new
 TookTo true old bytes new = TookFault old bytes new
 
--- the last that is told of flushes is that one was answered Ok
+-- the last that is reported of flushes is that one was answered Ok
 abbrev pub IsFlushed : Writing → Type 0
 IsFlushed sink = IfSome sink.flushed (λ flushed. flushed ≡ true)
 

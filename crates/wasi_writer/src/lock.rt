@@ -46,7 +46,7 @@ impl<N: Names> Locked<N> {
 
     /// The owner writes a chunk, which is pushed in the same hold. An empty one isn't pushed.
     ///
-    /// Want of memory changes nothing.
+    /// Running out of memory changes nothing.
     pub fn write<R: Wait>(
         &mut self,
         rt: &R,

@@ -87,7 +87,7 @@ impl<N: LedgerNames> Ledger for Ready<N> {
     ghost parts = { 1 };
 }
 
-/// The fault was told. Its owner keeps it.
+/// The fault was reported. Its owner keeps it.
 pub struct Told<N>(PhantomData<N>);
 
 impl<N: LedgerNames> Ledger for Told<N> {

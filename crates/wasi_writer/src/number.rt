@@ -1,4 +1,4 @@
-//! A number that stands under a lock and that one side alone changes.
+//! A number that is under a lock and that one side alone changes.
 
 ghost use Rattle.std.specs.Prelude.{◌≡◌};
 

@@ -10,7 +10,7 @@ use crate::number::{Number, Setter};
 use std::marker::Model;
 use wasi_shared::{Count, Counter, Fact, Keeper};
 
-/// What the owner knows, as it stands under the lock.
+/// What the owner knows, as it is under the lock.
 #[derive(Drop)]
 pub struct OwnerFacts<N: LedgerNames> {
     accepted: Count<Accepted<N>>,
@@ -181,7 +181,7 @@ impl<N: LedgerNames> OwnerFacts<N> {
         self.ready.set(&mut keys.ready, true);
     }
 
-    /// The fault was told.
+    /// The fault was reported.
     pub fn tell(&mut self, keys: &mut OwnerKeys<N>)
         requires { self.old ≡ keys.old }
         ensures facts { self.new ≡ record self.old { told = true } }

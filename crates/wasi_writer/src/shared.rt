@@ -112,7 +112,7 @@ impl<N: Names> Shared<N> {
         self.work.notify_one();
     }
 
-    /// The owner waits until nothing is left to wait for, and stops the stream. Tells whether it was stopped before.
+    /// The owner waits until nothing is left to wait for, and stops the stream. Returns whether it was stopped before.
     pub fn close<R: Wait>(&self, rt: &R, keys: &mut OwnerKeys<N>) -> bool
         ensures was { result ≡ keys.old.stopped }
         ensures knows { keys.new ≡ record keys.old { stopped = true; done = not keys.old.stopped || keys.old.done } }
@@ -171,7 +171,7 @@ impl<N: Names> Shared<N> {
         self.progress.notify_one();
     }
 
-    /// Both sides are back in one place: what was popped is the front of what was pushed.
+    /// Both sides are back in one place: what was popped is a prefix of what was pushed.
     pub fn settle<R: Wait>(
         &self,
         rt: &R,

@@ -69,8 +69,8 @@ impl<K: Sink + Drop + Send + 'static, N: Names + Send + Sync + 'static> Model
 }
 
 impl<K: Sink + Drop + Send + 'static, N: Names + Send + Sync + 'static> AsyncWriteStream<K, N> {
-    /// Starts a worker for the sink. Where none is to be had, the sink comes back: as `NoWorker` only where the spawner
-    /// counted a refusal, as `Memory` for want of memory.
+    /// Starts a worker for the sink. Where there is none, the sink comes back: as `NoWorker` only where the spawner
+    /// counted a refusal, as `Memory` for lack of memory.
     ///
     /// The parts hold the budget, in bytes, and are those of `N`'s names.
     pub fn new<P: Spawner, R: Threads + Wait + Copy + Send + 'static>(
@@ -123,10 +123,10 @@ impl<K: Sink + Drop + Send + 'static, N: Names + Send + Sync + 'static> AsyncWri
 
     /// Writes the bytes in the background. No bytes are written at once.
     ///
-    /// Tells a fault of the worker once, and then `Closed`, as after [`cancel`](AsyncWriteStream::cancel). Traps
-    /// with `FlushPending` while a flush is pending, and with `Budget` for more bytes than the budget has: never for as many
-    /// as the last [`check_write`](AsyncWriteStream::check_write) told, less what was written since. Takes memory for a copy
-    /// of the bytes and a place in the line; want of it changes nothing.
+    /// Reports a fault of the worker once, and then `Closed`, as after [`cancel`](AsyncWriteStream::cancel). Traps with
+    /// `FlushPending` while a flush is pending, and with `Budget` for more bytes than the budget has: never for as many as the
+    /// last [`check_write`](AsyncWriteStream::check_write) reported, less what was written since. Takes memory for a copy of
+    /// the bytes and a place in the line; running out of it changes nothing.
     pub fn write<R: Wait>(&mut self, rt: &R, bytes: &[u8]) -> Result<(), StreamError>
         ensures stream { self.new ≡ after_write self.old bytes.now result }
         ensures cause { IfErr result (ErrorCause (knows_of self.old) (TrapCause N.initial (knows_of self.old) (length bytes.now))) }
@@ -147,7 +147,7 @@ impl<K: Sink + Drop + Send + 'static, N: Names + Send + Sync + 'static> AsyncWri
 
     /// Asks the worker to flush the sink once all that was accepted is written. Until then the budget is 0.
     ///
-    /// Tells a fault of the worker once, and then `Closed`, as after [`cancel`](AsyncWriteStream::cancel).
+    /// Reports a fault of the worker once, and then `Closed`, as after [`cancel`](AsyncWriteStream::cancel).
     pub fn flush<R: Wait>(&mut self, rt: &R) -> Result<(), StreamError>
         ensures stream { self.new ≡ after_flush self.old result }
         ensures cause { IfErr result (ErrorCause (knows_of self.old) (λ kind. ⊥)) }
@@ -159,7 +159,7 @@ impl<K: Sink + Drop + Send + 'static, N: Names + Send + Sync + 'static> AsyncWri
     /// How many bytes may be written now: at most the initial budget, and 0 only after an accepted flush, or where as many
     /// bytes were accepted as the initial budget has.
     ///
-    /// Tells a fault of the worker once, and then `Closed`, as after [`cancel`](AsyncWriteStream::cancel).
+    /// Reports a fault of the worker once, and then `Closed`, as after [`cancel`](AsyncWriteStream::cancel).
     pub fn check_write<R: Wait>(&mut self, rt: &R) -> Result<usize, StreamError>
         ensures stream { self.new ≡ after_check self.old result }
         ensures cause { IfErr result (ErrorCause (knows_of self.old) (λ kind. ⊥)) }
@@ -188,8 +188,8 @@ impl<K: Sink + Drop + Send + 'static, N: Names + Send + Sync + 'static> AsyncWri
         self.shared.wait_ready(rt, &mut self.keys);
     }
 
-    /// Stops the stream. The worker's current call of the sink goes on to its end. Later calls are answered `Closed`, once
-    /// a kept fault was told.
+    /// Stops the stream. The worker's current call of the sink continues to its end. Later calls are answered `Closed`, once
+    /// a kept fault was reported.
     pub fn cancel<R: Wait>(&mut self, rt: &R)
         ensures { self.new ≡ record self.old { stopped = true } }
     {
@@ -199,7 +199,7 @@ impl<K: Sink + Drop + Send + 'static, N: Names + Send + Sync + 'static> AsyncWri
     /// Waits until all is written and no flush is pending, or the worker failed, or the stream was cancelled. Then waits
     /// for the worker, and gives the sink back.
     ///
-    /// In every case the sink took the front of what was accepted, in order, and at Ok all of it. It is `Fault` where a
+    /// In every case the sink took a prefix of what was accepted, in order, and at Ok all of it. It is `Fault` where a
     /// call of the sink failed, or took nothing of a piece; else `Cancelled` where the stream was cancelled; else Ok.
     pub fn finish<P: Spawner, R: Threads + Wait>(self, rt: &R, spawner: &mut P) -> Finished<K>
         ensures finished { HasFinished self (K.writing result.inner) result.outcome }

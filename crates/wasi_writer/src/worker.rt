@@ -103,7 +103,7 @@ fn work<K: Sink, N: Names, R: Wait>(
     unreachable!()
 }
 
-/// Waits for a task and does it. Tells whether there may be another.
+/// Waits for a task and does it. Returns whether there may be another.
 fn step<K: Sink, N: Names, R: Wait>(
     rt: &R,
     sink: &mut K,

@@ -7,7 +7,7 @@ use crate::names::{Drained, Flushed, Hand, LedgerNames, Met, Popped, WorkerBlank
 use std::marker::Model;
 use wasi_shared::{Count, Counter, Fact, Keeper};
 
-/// What the worker knows, as it stands under the lock.
+/// What the worker knows, as it is under the lock.
 #[derive(Drop)]
 pub struct WorkerFacts<N: LedgerNames> {
     popped: Count<Popped<N>>,

@@ -7,7 +7,7 @@ use std::alloc::{AllocError, Global};
 use wasi_addr::{IpSocketAddress, Ipv4SocketAddress, SocketAddrUse, SocketAddressFamily};
 use wasi_world::{Call, NameText, OpId, ScriptedWorld, Sock, Told, World};
 
-/// The side that the first line makes.
+/// The network socket that the first line makes.
 pub const SIDE: Sock = OpId { step: 1, part: 0 };
 
 pub fn local(port: u16) -> IpSocketAddress {
@@ -17,7 +17,7 @@ pub fn local(port: u16) -> IpSocketAddress {
     })
 }
 
-/// Makes the call of this word on the side. A word that is none of these is that of a lookup.
+/// Makes the call of this word on the network socket. A word that is none of these is that of a lookup.
 pub fn ask(
     alloc: Global,
     world: &mut ScriptedWorld,

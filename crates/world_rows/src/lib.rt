@@ -1,4 +1,4 @@
-//! The scripted world and the sources and sinks: what no transcript of a script shows. These tests stand in a crate of
+//! The scripted world and the sources and sinks: what no transcript of a script shows. These tests are in a crate of
 //! their own, since a crate with tests is proved twice.
 #![tactic(auto)]
 

@@ -1,4 +1,5 @@
-//! The defaults of `local`, `peer` and `get-option`, which follow the calls that were told done, where no script shows them.
+//! The defaults of `local`, `peer` and `get-option`, which follow the calls that were answered done, where no script shows
+//! them.
 
 ghost use Rattle.std.specs.Prelude.{◌≡◌, false};
 ghost use Rattle.wasi_world.specs.Fits.{IsPlain};
@@ -18,7 +19,7 @@ fn family(number: u16) -> SocketAddressFamily {
     }
 }
 
-/// Makes the call of this word on the side. The number is its family, port or value.
+/// Makes the call of this word on the network socket. The number is its family, port or value.
 fn make(world: &mut ScriptedWorld, op: OpId, word: &str, number: u16) -> Result<Told, AllocError>
     requires { (seen_by world.old).ended ≡ false }
     ensures { (seen_by world.new).ended ≡ false }
@@ -52,7 +53,7 @@ fn make(world: &mut ScriptedWorld, op: OpId, word: &str, number: u16) -> Result<
     world.call(op, call)
 }
 
-/// What a call tells, as text.
+/// What a call answers, as text.
 fn told(alloc: Global, world: &mut ScriptedWorld, call: Call) -> Result<String, AllocError>
     requires open { (seen_by world.old).ended ≡ false }
     requires plain { IsPlain call }
@@ -62,7 +63,7 @@ fn told(alloc: Global, world: &mut ScriptedWorld, call: Call) -> Result<String, 
     told_text(alloc, &told)
 }
 
-/// What `local`, `peer` and `get-option` tell of a side.
+/// What `local`, `peer` and `get-option` report of a network socket.
 fn defaults(alloc: Global, world: &mut ScriptedWorld, sock: Sock) -> Result<String, AllocError>
     requires { (seen_by world.old).ended ≡ false }
 {
@@ -73,8 +74,8 @@ fn defaults(alloc: Global, world: &mut ScriptedWorld, sock: Sock) -> Result<Stri
     format!(in alloc; "{local}, {peer}, {value}")
 }
 
-/// Makes the calls, each of which is a word and a number and has an operation of its own, and tells the side that was
-/// handed over, or else the one that the first call made.
+/// Makes the calls, each of which is a word and a number and has an operation of its own, and returns the network socket that
+/// was handed over, or else the one that the first call made.
 fn side_after(world: &mut ScriptedWorld, calls: &str) -> Result<Sock, AllocError>
     requires { (seen_by world.old).ended ≡ false }
     ensures { (seen_by world.new).ended ≡ false }
@@ -127,7 +128,7 @@ fn defaults_follow_the_calls(rt: HostRuntime) -> Result<(), Fail> {
     Ok(())
 }
 
-/// A call that isn't told done changes nothing.
+/// A call that isn't answered done changes nothing.
 #[test]
 fn defaults_are_kept(rt: HostRuntime) -> Result<(), Fail> {
     for (scenario, calls) in [

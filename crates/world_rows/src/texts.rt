@@ -1,4 +1,4 @@
-//! What a world tells, as text.
+//! What a world answers, as text.
 
 use std::alloc::{AllocError, Global};
 use wasi_addr::{IpAddress, IpSocketAddress};

@@ -47,7 +47,7 @@ pub fn gated(alloc: Global) -> Result<(Gate, GatedSink), AllocError> {
     Ok((Gate { began, open, fails }, sink))
 }
 
-/// Looks until the flag is set. Tells whether it was.
+/// Looks until the flag is set. Returns whether it was.
 fn look(flag: &Arc<AtomicBool, Global>) -> bool {
     for _turn in 0..TURNS {
         if flag.load(Ordering::SeqCst) {
@@ -59,12 +59,12 @@ fn look(flag: &Arc<AtomicBool, Global>) -> bool {
 }
 
 impl Gate {
-    /// Looks until the first write began. Tells whether it did.
+    /// Looks until the first write began. Returns whether it did.
     pub fn sees_first_write(&self) -> bool {
         look(&self.began)
     }
 
-    /// Lets the first write go on.
+    /// Lets the first write continue.
     pub fn open(&self) {
         self.open.store(true, Ordering::SeqCst);
     }
@@ -82,7 +82,7 @@ impl GatedSink {
         self.bytes
     }
 
-    /// Tells that the first write began, and waits for the owner. Tells whether the write may go on.
+    /// Signals that the first write began, and waits for the owner. Returns whether the write may continue.
     fn pass(&mut self) -> bool
         ensures { self.new.faults ≡ self.old.faults }
     {

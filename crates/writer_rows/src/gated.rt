@@ -95,7 +95,7 @@ fn a_cancelled_stream_lets_the_call_end(rt: HostRuntime) -> Result<(), Fail> {
     plays(&rt, rt.alloc(), &steps, Err(Ended::Cancelled), 3)
 }
 
-/// The worker's fault is told once, also after a cancel, and then the stream is closed.
+/// The worker's fault is reported once, also after a cancel, and then the stream is closed.
 #[test]
 fn a_fault_is_told_once(rt: HostRuntime) -> Result<(), Fail> {
     let told = StreamError::LastOperationFailed(ErrorCode::Other);

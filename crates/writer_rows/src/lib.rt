@@ -1,4 +1,4 @@
-//! The write stream with its worker in a real thread, and what it stands on. These tests stand in a crate of their own,
+//! The write stream with its worker in a real thread, and what it builds on. These tests are in a crate of their own,
 //! since a crate with tests is proved twice.
 #![tactic(auto)]
 

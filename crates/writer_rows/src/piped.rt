@@ -24,7 +24,7 @@ fn send<R: Wait + Copy>(mut writer: SimplexWriter<R>, bytes: &[u8]) -> bool {
     write_all(&mut writer, bytes).is_ok()
 }
 
-/// Reads to the end. Tells whether just these bytes came.
+/// Reads to the end. Returns whether just these bytes came.
 fn receives<R: Wait + Copy>(mut reader: SimplexReader<R>, bytes: &[u8]) -> bool {
     let mut rest = bytes;
     for _read in 0..u64::MAX {

@@ -25,7 +25,7 @@ pub enum Step {
     Cancel,
     /// Look until the sink's first write began.
     See,
-    /// Let the sink's first write go on.
+    /// Let the sink's first write continue.
     Open,
     /// Let the sink's first write fail.
     Fail,

@@ -1,4 +1,4 @@
--- How a poll of an accept ends: it waits, or a connection was handed over, or it was told a code.
+-- How a poll of an accept ends: it waits, or a connection was handed over, or it was answered with a code.
 use Rattle.wasi_causes.proofs.Words.{◌≡◌, ◌∙◌, ℕ, zero, suc, ◌+◌, List, [], ◌∷◌, ◌++◌, refl, sym, subst, arith, true, IpSocketAddress, TcpAccept, ErrorCode, Gives, marks_in, entry, accept_name, AcceptFails, WasTold, IsTold, AcceptGives, WasHanded, IsHanded, refused_by, refused_in, AcceptWaits, LastWaits, RefusedMost, first_ids, IsAccept, IsLeftOfAccept, accept_operation, Listener, arrived, accept_ended, accept_asks, IsAcceptOn, HoldsAccept, Accepting, Asks, bind, IsVerdict, IsArrival, IsDone, Given, Nothing, Item, Accept, LastAsk, NothingLast, Who, Operation, End, Waits, Done, Refused, last_ask, after, round, polls, poll_asks, admitted_front, arrival_front, accept_front, told_verdict, told_arrival, Entry, Told, OpId}
 use Rattle.wasi_causes.proofs.operations.Marks.{poll_marks_none}
 use Rattle.wasi_causes.proofs.tables.Meets.{Rows, Meets, ends, onto, widen, both, granted}
@@ -22,7 +22,7 @@ module _ (who : Who) where
     pub is : es ≡ front ++ entry who.id (call.Hand who.side peer) told.Done ∷ []
     pub its : new ≡ who.id
 
-  -- The last of the entries was an accept, and it was told the code.
+  -- The last of the entries was an accept, and it was answered with the code.
   pub record TellsCode (es : List Entry) (c : ErrorCode) : Type 0 where
     pub front : List Entry
     pub is : es ≡ front ++ entry who.id (call.Accept who.side) (told.Code c) ∷ []
@@ -31,7 +31,7 @@ module _ (who : Who) where
   IsGivenOver es (Connection new peer) = HandsOver es new peer
   IsGivenOver es _ = ⊥
 
-  -- it waits, gave a connection, or was told a code
+  -- it waits, gave a connection, or was answered with a code
   abbrev pub AcceptEnds : List Entry → End × List Item → Type 0
   AcceptEnds es (Waits, items) = AcceptWaits who.id es
   AcceptEnds es (Done given, items) = IsGivenOver es given

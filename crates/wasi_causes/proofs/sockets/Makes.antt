@@ -14,7 +14,7 @@ use Rattle.wasi_causes.proofs.Words.{in_socket, inl, inr, is_connect, length, ma
 use Rattle.wasi_causes.proofs.Words.{opened_receive, opened_send, own_of, pair_reply, record_at, refl, side_at, side_of, slice_get, slice_set}
 use Rattle.wasi_causes.proofs.Words.{still_connected, streams_asks, subst, sym, taken_receive, taken_send, told_done, triple_fields, triple_reply}
 use Rattle.wasi_causes.proofs.Words.{true, with_handle, with_listening, with_record, with_record_put, with_socket, with_state, with_store}
-use Rattle.wasi_causes.proofs.Words.{with_streams, word_of_code, ℕ, ◌++◌, ◌+◌, ◌∙◌, ◌∷◌, ◌≡◌, ◌≢◌}
+use Rattle.wasi_causes.proofs.Words.{socket_with_streams, word_of_code, ℕ, ◌++◌, ◌+◌, ◌∙◌, ◌∷◌, ◌≡◌, ◌≢◌}
 use Rattle.wasi_causes.proofs.operations.Accepts.{AcceptRow, accepts}
 use Rattle.wasi_causes.proofs.operations.Marks.{poll_marks_none}
 use Rattle.wasi_causes.proofs.operations.Polls.{EndsFor, connect_ends}
@@ -150,7 +150,7 @@ module _ (contexts : List WasiSocketsCtx) (m : Machine) (line c handle : ℕ) wh
   abbrev taking : ℕ → Tcp2Socket → Listener → OpId → IpSocketAddress → Records
   taking place r l side peer = let left = accepting_now m place r l accepting.Idle in record left.store { sockets = left.store.sockets ++ (accepted_record (accepted_socket l.family l.maker (accepted_state side peer))).1 ∷ [] }
 
-  -- A connection was taken from the handle's listener, and stands at this place.
+  -- A connection was taken from the handle's listener, and is at this place.
   record Took (es : List Entry) (place : ℕ) (store : Records) : Type 0 where
     of : ℕ
     found : Tcp2Socket
@@ -257,7 +257,7 @@ module _ (contexts : List WasiSocketsCtx) (m : Machine) (line c handle : ℕ) wh
         (makes m.table own (Tcp2 place) (Some handle) side (λ full. ends (tt, (tt, (full, let none = t.none in omega arith), tt))) (onto _ streams))
         (λ fs made k. k)
       where
-        streams : Meets (λ fs made. AcceptSays fs (with_streams next made)) (es ++ first ∷ []) (streams_asks (now one) own next place side)
+        streams : Meets (λ fs made. AcceptSays fs (socket_with_streams next made)) (es ++ first ∷ []) (streams_asks (now one) own next place side)
         streams = makes_streams (now one) (es ++ first ∷ []) own next place side next (let p = marks_in-push es first in let none = t.none in omega arith) (λ fs table full count. (tt, (tt, (full, count), tt))) all_made
 
   accepted : (es : List Entry) (done : Result ℕ Stop × Records) → StoreRow es done → Meets AcceptSays es (accepted_asks own handle (with_store m done))

@@ -27,7 +27,7 @@ Answers Cause m place r es (Err code, now) = Cause es (word_of_code code) (putti
 
 -- == the local address
 module _ (m : Machine) (own : OpId) (handle place : ℕ) (r : Tcp2Socket) (n : Names m handle place r) where
-  -- why it is refused, and what stands then
+  -- why it is refused, and what is left then
   abbrev LocalRefused : List Entry → CodeWord → Machine → Type 0
   LocalRefused es w after = LocalRefusal m own place r es w after × ((after ≡ m) ⊎ KnowsBound m handle after)
 
@@ -92,7 +92,7 @@ module _ (m : Machine) (own : OpId) (place : ℕ) (r : Tcp2Socket) (at : slice_g
 
 -- == the options and the backlog
 module _ (own : OpId) (r : Tcp2Socket) where
-  -- a socket that has no side to be asked connects, or is closed
+  -- a socket that has no network socket to be asked connects, or is closed
   no_side : (P : ErrorCode → Type 0) → ((op : Operation) → r.inner.state ≡ state.Connecting op → P InvalidState) → ((c : ErrorCode) → r.inner.state ≡ state.Closed c → P c) → (code : ErrorCode) → option_side r.inner ≡ Err code → P code
   no_side P connects closed code none = by r.inner.state refl none
     where

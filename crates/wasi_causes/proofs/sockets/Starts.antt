@@ -2,7 +2,7 @@
 use Rattle.wasi_causes.proofs.Words.{AlreadyBound, Answer, Begins, BindRefusal, Bool, BoundElsewhere, CodeWord, ConnectRefusal, Denied, Done}
 use Rattle.wasi_causes.proofs.Words.{Elsewhere, End, EndsPending, Entry, Err, ErrorCode, Failed, Give, Given, InvalidArgument}
 use Rattle.wasi_walks.specs.Answered.{InProgress}
-use Rattle.wasi_causes.proofs.Words.{InvalidState, IpSocketAddress, IsAddr, IsBound, IsFree, IsPastDefault, IsPastNot, IsSomeAnd, Item, Known}
+use Rattle.wasi_causes.proofs.Words.{InvalidState, IpSocketAddress, IsAddr, IsBound, IsFoundUnbound, IsPastDefault, IsPastNot, IsSomeAnd, Item, Known}
 use Rattle.wasi_causes.proofs.Words.{KnowsBound, List, ListenDenied, ListenFails, ListenRefusal, ListenRefused, ListenTold, Listening, ListensAlready}
 use Rattle.wasi_causes.proofs.Words.{LocalTold, Machine, NoSuchHandle, None, NotBound, NotDefault, OfRecord, Ok, OpId, Operation, Option, Other}
 use Rattle.wasi_causes.proofs.Words.{PastDefault, Pending, Ready, Refused, Reply, Result, Socket, Some, StandingCall, Tcp2Socket, TcpState, Told}
@@ -40,7 +40,7 @@ use Rattle.wasi_world.specs.declared.call.Told.TheVariants as told
 -- The socket is bound, which is kept; or it is free, and stays as it was.
 pub data BoundRow (own : OpId) (socket : Socket) : List Entry → Bool × Socket → Type 0 where
   ItsBound : (es : List Entry) → IsBound own socket es → BoundRow own socket es (true, record socket { bound = true })
-  ItsFree : (side : OpId) (local : Told) → IsFree socket side local → BoundRow own socket (entry own (call.Local side) local ∷ []) (false, socket)
+  ItsFree : (side : OpId) (local : Told) → IsFoundUnbound socket side local → BoundRow own socket (entry own (call.Local side) local ∷ []) (false, socket)
 
 pub asked_none : (own : OpId) (socket : Socket) (es : List Entry) → IsBound own socket es → IsPastDefault socket.state → es ≡ []
 asked_none own socket _ (Known known) past = refl
@@ -78,11 +78,11 @@ nothing_is (Doing.Started o) e = absurd (cc)
 
 -- == a bind
 module _ (m : Machine) (own : OpId) (handle place : ℕ) (r : Tcp2Socket) (n : Names m handle place r) (a : IpSocketAddress) where
-  -- why it is refused, and what stands then
+  -- why it is refused, and what is left then
   abbrev BindRefused : List Entry → CodeWord → Machine → Type 0
   BindRefused es w after = BindRefusal m own place r a es w after × ((after ≡ m) ⊎ ((w ≡ word.InvalidState) × KnowsBound m handle after))
 
-  -- a bind as it was begun: it stands, or is done, or is refused
+  -- a bind as it was begun: it is pending, or is done, or is refused
   abbrev BindRow : Rows (Result (Answer (Unit {0})) ErrorCode × Tcp2Socket)
   BindRow es (Ok Pending, now) = EndsPending own es
   BindRow es (Ok (Ready done), now) = Unit {0}
@@ -95,7 +95,7 @@ module _ (m : Machine) (own : OpId) (handle place : ℕ) (r : Tcp2Socket) (n : N
   stays_idle : is_nothing r.in_progress ≡ true → (es : List Entry) (code : ErrorCode) → BindRefusal m own place r a es (word_of_code code) m → BindRow es (Err code, with_progress r Doing.Nothing)
   stays_idle idle es code cause = subst (λ (now : Tcp2Socket). BindRow es (Err code, now)) (ap (with_progress r) (sym (nothing_is r.in_progress idle))) (stays es code cause)
 
-  module _ (side : OpId) (local : Told) (free : IsFree r.inner side local) (idle : is_nothing r.in_progress ≡ true) where
+  module _ (side : OpId) (local : Told) (free : IsFoundUnbound r.inner side local) (idle : is_nothing r.in_progress ≡ true) where
     abbrev asked : Entry
     asked = entry own (call.Local side) local
 
@@ -125,11 +125,11 @@ module _ (m : Machine) (own : OpId) (handle place : ℕ) (r : Tcp2Socket) (n : N
 
 -- == a connect
 module _ (m : Machine) (own : OpId) (handle place : ℕ) (r : Tcp2Socket) (n : Names m handle place r) (a : IpSocketAddress) where
-  -- why it is refused, and what stands then
+  -- why it is refused, and what is left then
   abbrev ConnectRefused : List Entry → CodeWord → Machine → Type 0
   ConnectRefused es w after = ConnectRefusal m own place r a es w after × ((after ≡ m) ⊎ ((w ≡ word.InvalidArgument) × KnowsBound m handle after))
 
-  -- a connect as it was begun: it goes on, or is refused
+  -- a connect as it was begun: it is in progress, or is refused
   abbrev ConnectRow : Rows (Result (Unit {0}) ErrorCode × Tcp2Socket)
   ConnectRow es (Ok done, now) = Unit {0}
   ConnectRow es (Err code, now) = ConnectRefused es (word_of_code code) (putting m place now)
@@ -165,11 +165,11 @@ module _ (asker : Asker) (any : IpSocketAddress) (backlog : ℕ) where
 
 -- == a listen
 module _ (m : Machine) (own : OpId) (handle place : ℕ) (r : Tcp2Socket) (n : Names m handle place r) where
-  -- why it is refused, and what stands then
+  -- why it is refused, and what is left then
   abbrev ListenRefusedSo : List Entry → CodeWord → Machine → Type 0
   ListenRefusedSo es w after = ListenRefusal m own place r es w after × ((after ≡ m) ⊎ (KnowsBound m handle after ⊎ OfRecord m handle (λ place r. after ≡ closed_by_listen m place r)))
 
-  -- a listen as it was begun: it stands, or is done, or is refused
+  -- a listen as it was begun: it is pending, or is done, or is refused
   abbrev ListenRow : Rows (Result (Answer (Unit {0})) ErrorCode × Tcp2Socket)
   ListenRow es (Ok Pending, now) = EndsPending own es
   ListenRow es (Ok (Ready done), now) = Unit {0}

@@ -60,7 +60,7 @@ module _ (store : Records) (own : OpId) (place : ℕ) where
   abbrev WaitsThere : List Entry → Type 0
   WaitsThere es = (m : Machine) → m.store.sockets ≡ store.sockets → OutputWaits m own (Some place) es
 
-  -- one that waits stands under its line's number, and else what stood does
+  -- one that waits is pending under its line's number, and else what stood does
   abbrev pub OutputRow : Rows (Answer (Unit {0}) × Records)
   OutputRow es (Pending, now) = WaitsThere es × (now.standing ≡ Some (standing_as own.step (DropOutput place)))
   OutputRow es (Ready done, now) = LooksOnce own es × (now.standing ≡ store.standing)
@@ -175,7 +175,7 @@ module _ (own : OpId) where
   pub checks : (writer : WriteState) → Meets (CheckRow writer) [] (check_write_asks own writer)
   checks writer = checks_as writer (collected writer) refl
 
--- == a poll of a write, which ends with a code where that was told to its last write, and the half was given up then
+-- == a poll of a write, which ends with a code where that was the answer to its last write, and the half was released then
 module _ (own side : OpId) where
   pub record WasTold (es : List Entry) (c : ErrorCode) : Type 0 where
     pub front : List Entry
@@ -271,7 +271,7 @@ module _ (own : OpId) where
   writes bytes _ = ends (tt, refl, refl)
 
 -- == a flush
--- it asks nothing, and tells the kept error
+-- it asks nothing, and reports the kept error
 abbrev pub FlushRow : WriteState → Rows (Result (Unit {0}) StreamStop × WriteState)
 FlushRow writer es (Ok done, now) = (es ≡ []) × (now ≡ writer)
 FlushRow writer es (Err Closed, now) = (es ≡ []) × (now ≡ writer) × (writer ≡ writing.Closed error.Closed)

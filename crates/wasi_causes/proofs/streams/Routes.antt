@@ -1,4 +1,4 @@
--- How a call finds the stream of its handle, and how what the stream gives is told.
+-- How a call finds the stream of its handle, and how what the stream gives is reported.
 use Rattle.wasi_causes.proofs.Words.{◌≡◌, ◌∙◌, ℕ, Bool, true, false, not, ◌&&◌, List, [], ◌∷◌, ◌++◌, Option, Some, None, Result, Ok, Err, slice_get, refl, sym, ap, subst, ErrorCode, OpId, Entry, NoSuchHandle, Full, Asks, Give, bind, StreamStop, is_full, Machine, Streams, Tcp2Socket, ErrorValue, CallStop, with_handle, Records, with_socket, stream_at, with_record_put, side_at, with_store, has_job, with_job, begins_job, converted, stream_on, write_on, entry, FailsWith, word_of_code, record_in, streams_in, putting, OfStreams}
 use Rattle.wasi_world.specs.declared.call.Call.TheVariants as call
 use Rattle.wasi_world.specs.declared.call.HandleKind.TheVariants as name

@@ -4,7 +4,7 @@ use Rattle.wasi_causes.proofs.Words.{⊤, ◌≡◌, Bool, true, false, if◌the
 abbrev pub Rows : Type 0 → Type 1
 Rows A = List Entry → A → Type 0
 
--- Whatever is told, what the tree gives after these entries is in the table.
+-- Whatever is answered, what the tree gives after these entries is in the table.
 pub record Meets {A : Type 0} (Row : Rows A) (before : List Entry) (asks : Asks A) : Type 0 where
   pub along : Gives Row before asks
 

@@ -14,7 +14,7 @@ use Rattle.wasi_steps.specs.declared.reply.Reply.TheVariants as reply
 use Rattle.wasi_causes.specs.Outcomes.{IsCodeWord, FullAfter, Conflicts, Outcome}
 use Rattle.wasi_causes.proofs.tables.Meets.{onto, Rows, Meets, ends, asks, chain, widen, branch}
 
--- the step's replies, where what it gives is told so
+-- the step's replies, where what it gives is reported so
 abbrev pub Replied : {T : Type 0} → List WasiSocketsCtx → Machine → ℕ → Step → (T → Reply) → Rows (T × Machine)
 Replied contexts m line s tell es done = Outcome contexts m line s es (tell done.0) done.1
 

@@ -44,7 +44,7 @@ module _ (contexts : List WasiSocketsCtx) (m : Machine) (line : ℕ) where
   rows step.Turn = turn m contexts line
   rows (step.Poll n) = poll contexts m line n
 
-  -- a call stands, and the step is a call of a guest
+  -- a call is pending, and the step is a call of a guest
   abbrev pub IsHeldUp : Step → Type 0
   IsHeldUp s = IsSome m.store.standing × IsSome (context_of s)
 

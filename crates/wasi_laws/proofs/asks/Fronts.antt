@@ -20,7 +20,7 @@ is_calm (call.Write sock offered) = false
 is_calm (call.Close sock) = false
 is_calm _ = true
 
--- A calm call on the side.
+-- A calm call on the network socket.
 pub record CalmOn (side : OpId) (c : Call) : Type 0 where
   pub calm : is_calm c ≡ true
   pub on : socket_of c ≡ Some side
@@ -52,7 +52,7 @@ IsToGo (Connect a) = ⊤
 IsToGo (Listen backlog) = ⊤
 IsToGo _ = ⊥
 
--- of this side, where it is on one
+-- of this network socket, where it is on one
 abbrev pub IsOfSide : OpId → Option OpId → Type 0
 IsOfSide side None = ⊤
 IsOfSide side (Some s) = s ≡ side

@@ -1,5 +1,5 @@
--- A law by its single asks: what each ask of a line must be, and what its answer keeps. It stands on the base law, and on the shape of
--- records.
+-- A law by its single asks: what each ask of a line must be, and what its answer keeps. It rests on the base law, and on the
+-- shape of records.
 use Rattle.wasi_world.specs.declared.call.Call.TheVariants as call
 use Rattle.wasi_world.specs.declared.call.Told.TheVariants as told
 use Rattle.wasi_tcp.specs.declared.listener.Accepting.TheVariants as accepting
@@ -13,7 +13,7 @@ use Rattle.wasi_laws.proofs.asks.Trees.{GoesOn, Undoes, Then, makes_by, turns_by
 use Rattle.wasi_laws.proofs.shapes.Shape.{ListenerShape, on_socket, Same}
 use Rattle.wasi_laws.proofs.shapes.Law.{Shaped, put_shape, moves_shape, polls_shape, turns_shape, created_shape}
 
--- a close of this side leaves the record so
+-- a close of this network socket leaves the record so
 pub data Closing (r : Tcp2Socket) : Tcp2Socket → OpId → Type 0 where
   ClosesSocket : (side : OpId) → side_of r.inner ≡ Some side → Closing r (closed_record r) side
   ClosesListen : (op : Operation) → r.listening ≡ Begins op → Closing r (with_listening r Not) op.who.side
@@ -39,11 +39,11 @@ module _ (contexts : List WasiSocketsCtx) (line : ℕ) (origin : Step) where
     pub same : (es : List Entry) (h : Here) (place : ℕ) (r now : Tcp2Socket) → Found h place r → Same r now → Inv es h → Inv es (put h place now)
     pub tables : (es : List Entry) (h : Here) (t : Handles) (m : Made) → Inv es h → Inv es (record h { machine = record h.machine { table = t }; made = m })
     pub stops : (es : List Entry) (h : Here) (place : ℕ) (r : Tcp2Socket) → Found h place r → Inv es h → Inv es (put h place (with_listening r Not))
-    -- what is asked: a calm call; a create that is told done; a close
+    -- what is asked: a calm call; a create that is answered done; a close
     pub asks : (es : List Entry) (h : Here) (op : OpId) (c : Call) → is_calm c ≡ true → IsAskedOn h c → Inv es h → Then P (λ fs. Inv fs h) es op c
     pub creates : (es : List Entry) (h : Here) (ctx : WasiSocketsCtx) (family : SocketAddressFamily) → h.own ≡ Unused → Grounds h → Inv es h → Inv (es ++ entry (own_of line) (call.TcpCreate ctx.name family) told.Done ∷ []) (creating h (own_of line) ctx family)
     pub closes : (es : List Entry) (h : Here) (place : ℕ) (r now : Tcp2Socket) (op side : OpId) → Found h place r → Closing r now side → Grounds h → Inv es h → Then P (λ fs. Inv fs (put h place now)) es op (call.Close side)
-    -- what goes on: an operation, and a write
+    -- what is in progress: an operation, and a write
     pub polls : (es : List Entry) (h : Here) (op : Operation) (after : End × List Item → Here) → Held h op after → Grounds h → Inv es h → Allows P (λ fs ended. Inv fs (after ended)) es (poll_asks op)
     pub turns : (es : List Entry) (h : Here) (place : ℕ) (r : Tcp2Socket) (s : Streams) (job : Job) (now : Job → WriteState) → Found h place r → r.streams ≡ Some s → GoesOn s.writer job now → Grounds h → Inv es h
         → Allows P (λ fs ended. Inv fs (put h place (with_writer r s (now (job_after job.write.who ended))))) es (poll_asks job.write)
@@ -80,7 +80,7 @@ module _ (contexts : List WasiSocketsCtx) (line : ℕ) (origin : Step) where
         (let now = creating h (own_of line) ctx family in allows_then P (λ gs made. Inv gs now) (λ gs done. Inv gs (record h { machine = done.1; own = Used })) fs (make_asks h.machine.table (own_of line) (Tcp2 (length h.machine.store.sockets)) None (Some (own_of line))) _
         (marked fs now (Tcp2 (length h.machine.store.sockets)) None (Some (own_of line)) k.1) (λ gs made i. a.tables gs now made.1 h.made i))
 
-    -- a listening that is given up
+    -- a listening that is released
     undoes : (es : List Entry) (h : Here) (place : ℕ) (r : Tcp2Socket) (op : OpId) (c : Call) → Found h place r → Undoes r.listening op c → Grounds h → Inv es h → Then P (λ fs. Inv fs (put h place (with_listening r Not))) es op c
     undoes es h place r _ _ g (tree.ClosesBegun op e) b i = a.closes es h place r _ op.who.id op.who.side g (ClosesListen op e) b i
     undoes es h place r _ _ g (tree.RefusesArrival l op peer e d) b i =

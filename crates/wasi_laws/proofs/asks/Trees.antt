@@ -1,16 +1,17 @@
--- The trees that each law walks, by their single asks: a handle that is made, a writer's turn, and a listening that is given up.
+-- The trees that each law walks, by their single asks: a handle that is made, a writer's turn, and a listening that is
+-- released.
 use Rattle.wasi_world.specs.declared.call.Call.TheVariants as call
 use Rattle.wasi_tcp.specs.declared.listener.Accepting.TheVariants as accepting
 use Rattle.wasi_tcp.specs.declared.writer.WriteState.TheVariants as writing
 use Rattle.wasi_laws.proofs.Words.{◌≡◌, ℕ, List, [], ◌∷◌, ◌++◌, Option, Some, None, refl, IpSocketAddress, OpId, Call, Told, Entry, bind, End, Waits, Operation, Who, poll_asks, Allows, allows_then, allows_if, is_full, Accepting, TcpState, WriteState, in_hand, refuse_in, Job, job_after, job_in, job_asks, is_over, Listener, give_up_in, turn_asks, Kind, Listening, Not, Begins, Accepts, Unclosed, Handles, name_of, make_asks, give_up_asks, entry}
 use Rattle.wasi_laws.proofs.shapes.Shape.{ListenerShape}
 
--- a write that a writer goes on with, and the writer that has such a job
+-- a write that a writer continues with, and the writer that has such a job
 pub data GoesOn : WriteState → Job → (Job → WriteState) → Type 0 where
   InWriting : (job : Job) → job.end ≡ Waits → GoesOn (writing.Writing job) job (λ j. writing.Writing j)
   InClosing : (job : Job) → job.end ≡ Waits → GoesOn (writing.Closing job) job (λ j. writing.Closing j)
 
--- what is asked where a listening is given up
+-- what is asked where a listening is released
 pub data Undoes (l : Listening) : OpId → Call → Type 0 where
   ClosesBegun : (op : Operation) → l ≡ Begins op → Undoes l op.who.id (call.Close op.who.side)
   RefusesArrival : (k : Listener) (op : Operation) (peer : IpSocketAddress) → l ≡ Accepts k → k.accept ≡ accepting.Asking op → Undoes l op.who.id (call.Refuse op.who.side peer)

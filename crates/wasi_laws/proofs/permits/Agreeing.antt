@@ -1,4 +1,4 @@
--- What was taken and what was permitted, by the side that a record was made with.
+-- What was taken and what was permitted, by the network socket that a record was made with.
 use Rattle.wasi_tcp.specs.declared.writer.WriteState.TheVariants as writing
 use Rattle.wasi_world.specs.declared.outcome.Answer.{Answer}
 use Rattle.wasi_world.specs.declared.outcome.Answer.TheVariants.{Ready, Pending}
@@ -34,7 +34,8 @@ module _ (side : OpId) where
     pub at : slice_get sockets place ≡ Some was
     pub of : was.side ≡ Some side
 
-  -- What was taken is the front of what was permitted: nothing, until a record is made with the side, and then as that record says.
+  -- What was taken is a prefix of what was permitted: nothing, until a record is made with the network socket, and then as that
+  -- record says.
   pub record Agreeing (taken permitted : List ℕ) (sockets : List Tcp2Socket) : Type 0 where
     pub front : IsFrontOf taken permitted
     pub made : Untouched taken permitted ⊎ MadeWith sockets
@@ -54,7 +55,7 @@ module _ (side : OpId) where
       lives = λ i r e. elim (get_set sockets place now i r e) [ inl p ↦ subst (λ (x : Tcp2Socket). Lives side x → Agree taken permitted x.streams) p.1 f | inr p ↦ h.lives i r p ];
     }
 
-    -- the record of the side changes, and with it what was taken and permitted
+    -- the record of the network socket changes, and with it what was taken and permitted
     pub agrees_moved : (taken permitted more bytes : List ℕ) → now.side ≡ Some side → ((i : ℕ) (r : Tcp2Socket) → slice_get sockets i ≡ Some r → r.side ≡ Some side → i ≡ place) → IsFrontOf more bytes → Agree more bytes now.streams → Agreeing taken permitted sockets → Agreeing more bytes (slice_set sockets place now)
     agrees_moved taken permitted more bytes its one front f h = record {
       front = front;
@@ -65,7 +66,7 @@ module _ (side : OpId) where
       ];
     }
 
-  -- a record more: where it is of the side, no other is
+  -- a record more: where it is of the network socket, no other is
   pub agrees_push : (taken permitted : List ℕ) (sockets : List Tcp2Socket) (now : Tcp2Socket) → (now.side ≡ Some side → (i : ℕ) (r : Tcp2Socket) → slice_get sockets i ≡ Some r → r.side ≡ Some side → ⊥) → (Untouched taken permitted → Agree taken permitted now.streams) → Agreeing taken permitted sockets → Agreeing taken permitted (sockets ++ now ∷ [])
   agrees_push taken permitted sockets now fresh f h = record {
     front = h.front;

@@ -1,4 +1,4 @@
--- The law that what a side takes is the front of what it is let write.
+-- The law that what a network socket takes is a prefix of what it is let write.
 use Rattle.wasi_world.specs.declared.call.Call.TheVariants as call
 use Rattle.wasi_world.specs.declared.call.Told.TheVariants as told
 use Rattle.wasi_tcp.specs.declared.halves.TcpSendStream.{TcpSendStream}
@@ -20,7 +20,7 @@ use Rattle.wasi_laws.proofs.shapes.Law.{job_of}
 use Rattle.wasi_laws.proofs.permits.Agreeing.{JobAgrees, Agrees, Agree, Agreeing, agrees_put, agrees_moved, agrees_push, writer_agrees}
 use Rattle.wasi_laws.proofs.permits.Taken.{After, write_law, taken_push, Fronts, quiet_keep, Accounts}
 
--- == what goes on besides a write writes nothing
+-- == what is in progress besides a write writes nothing
 bind_plain : (items : List Item) → IsLeftOfBind items → ArePlain items
 bind_plain _ binding.Ended = tt
 bind_plain _ _ = search rules
@@ -39,16 +39,16 @@ held_plain h _ _ (Connects place r op g e) f = let its : IsConnect op = subst Ho
 held_plain h _ _ (Listens place r op q g e c) f = let its : IsListen op = subst FitListening e (f.records place r g).1 in listen_plain op.left its.left
 held_plain h _ _ (Awaits place r l op g e a) f = let its : IsAcceptOn l.side l.maker op = subst (HoldsAccept l.side l.maker) a (subst FitListening e (f.records place r g).1) in accept_plain ⊤ op.left its.accept.left
 
--- what becomes of a listen that goes on
+-- what becomes of a listen in progress
 listen_follows : (r now : Tcp2Socket) (op : Operation) → r.listening ≡ Begins op → now.side ≡ r.side → Follows r now
 listen_follows r now op e s = record { side = s; lives = λ x v. (sym s ∙ v.0, inr (subst IsBegun (sym e) tt)) }
 
--- a connect keeps its side, or ends it
+-- a connect keeps its network socket, or ends it
 ended_side : (op : Operation) (end : End × List Item) (x : OpId) → side_in (connect_ended op.who end).1 ≡ Some x → Some op.who.side ≡ Some x
 ended_side op (Refused c given, items) x e = absurd (cc)
 ended_side op (_, items) x e = e
 
--- what the job that a writer goes on with still owes
+-- what the job that a writer continues with still owes
 owes_still : (w : WriteState) (job : Job) (now : Job → WriteState) → GoesOn w job now → (taken bytes : List ℕ) → Agrees taken bytes w → taken ++ bytes_left job.write.left ≡ bytes
 owes_still _ _ _ (InWriting job e) taken bytes a = subst (JobAgrees taken bytes job.write.left) e a
 owes_still _ _ _ (InClosing job e) taken bytes a = subst (JobAgrees taken bytes job.write.left) e a
@@ -63,7 +63,7 @@ module _ (side : OpId) (given : List ℕ) where
   Owes (ToWrite at bytes) held = let more : List ℕ = if is_same at side then bytes else [] in given ≡ held ++ more
   Owes _ held = held ≡ given
 
-  -- What was let write, and that the records stand so.
+  -- What was let write, and that the records are so.
   pub record Permitted (es : List Entry) (sockets : List Tcp2Socket) (own : Own) : Type 0 where
     pub held : List ℕ
     pub stands : Agreeing side (taken_in side es) held sockets
@@ -90,7 +90,7 @@ module _ (side : OpId) (given : List ℕ) where
   asked : (es : List Entry) (h : Here) (op : OpId) (c : Call) (told : Told) → NoWrite c → Kept es h → Kept (es ++ entry op c told ∷ []) h
   asked es h op c told n k = took es (es ++ entry op c told ∷ []) h (taken_push side es (entry op c told) (none_taken side c told n)) k
 
-  -- a record changes, and agrees where its side is alive
+  -- a record changes, and agrees where its network socket is alive
   put_kept : (es : List Entry) (h : Here) (place : ℕ) (r now : Tcp2Socket) → Found h place r → Follows r now → ((held : List ℕ) → Lives side now → Agree (taken_in side es) held r.streams → Agree (taken_in side es) held now.streams) → Kept es h → Kept es (put h place now)
   put_kept es h place r now g f a k = record { held = k.held; stands = agrees_put side h.machine.store.sockets place r now g f.side (taken_in side es) k.held (λ v. a k.held v (k.stands.lives place r g (f.lives side v))) k.stands; owes = k.owes }
 
@@ -98,7 +98,7 @@ module _ (side : OpId) (given : List ℕ) where
   put_same : (es : List Entry) (h : Here) (place : ℕ) (r now : Tcp2Socket) → Found h place r → Follows r now → now.streams ≡ r.streams → Kept es h → Kept es (put h place now)
   put_same es h place r now g f s k = put_kept es h place r now g f (λ held v a. subst (Agree (taken_in side es) held) (sym s) a) k
 
-  -- it has no side any more
+  -- it has no network socket any more
   put_gone : (es : List Entry) (h : Here) (place : ℕ) (r now : Tcp2Socket) → Found h place r → now.side ≡ r.side → side_of now.inner ≡ None → (IsBegun now.listening → ⊥) → Kept es h → Kept es (put h place now)
   put_gone es h place r now g s d n k = put_kept es h place r now g (follows_gone r now s d n) (λ held v a. absurd (gone_lacks now d n side v)) k
 
@@ -106,7 +106,7 @@ module _ (side : OpId) (given : List ℕ) where
   spends es sockets own u k = record { held = k.held; stands = k.stands; owes = subst (λ (o : Own). Owes o k.held) u k.owes }
 
   module _ (line : ℕ) where
-    -- a write begins: its side is the connection's
+    -- a write begins: its network socket is the connection's
     module _ (es : List Entry) (h : Here) (place : ℕ) (r : Tcp2Socket) (s : Streams) (half : TcpSendStream) (permit : ℕ) (bytes : List ℕ) (g : Found h place r) (e : r.streams ≡ Some s) (w : s.writer ≡ writing.Ready half permit) (o : HasStreams r.inner.state s) (n : Named line h) (k : Kept es h) where
       abbrev begun : Tcp2Socket
       begun = with_writer r s (writing.Writing (new_job (own_of line) half.side bytes))
@@ -177,7 +177,7 @@ module _ (side : OpId) (given : List ℕ) where
       ended_kept es h _ _ (Refused c given, items) (Listens place r op q g e _) n k = put_same es h place r _ g (listen_follows r _ op e refl) refl k
       ended_kept es h _ _ ended (Awaits place r l op g e a) n k = put_same es h place r _ g (follows_quiet r (accepting_now r l (accept_ended op.who ended)) refl refl (λ b. b)) refl k
 
-      -- a write goes on
+      -- a write is in progress
       turns : (es : List Entry) (h : Here) (place : ℕ) (r : Tcp2Socket) (s : Streams) (w : WriteState) (job : Job) (now : Job → WriteState) → Found h place r → r.streams ≡ Some s → HasStreams r.inner.state s → s.writer ≡ w → GoesOn w job now → Named line h → Kept es h
           → Allows (Fronts side given) (λ fs ended. Kept fs (put h place (with_writer r s (now (job_after job.write.who ended))))) es (poll_asks job.write)
       turns es h place r s w job now g e o d on n k =

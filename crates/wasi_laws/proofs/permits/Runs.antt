@@ -1,4 +1,5 @@
--- Along a run what a side took is the front of what was permitted; and where a check-write answers a permit, all of it.
+-- Along a run what a network socket took is a prefix of what was permitted; and where a check-write answers a permit,
+-- all of it.
 use Rattle.wasi_streams.specs.StreamStop as stop
 use Rattle.wasi_host.specs.Host.{CallStop, Failed, Closed, Traps}
 use Rattle.wasi_host.specs.StreamCalls.{convert_asks, converted, stream_on, check_asks}
@@ -16,7 +17,7 @@ use Rattle.wasi_laws.proofs.asks.Single.{single_along}
 use Rattle.wasi_laws.proofs.permits.Law.{Owes, permits}
 
 module _ (side : OpId) (taken permitted : List ℕ) (m : Machine) (own : OpId) (output : ℕ) (line : ℕ) (h : Agreeing side taken permitted m.store.sockets) (shaped : Shaped (Over m)) (named : Named line (Starts m Unused)) where
-  -- the writer of the output writes to the side
+  -- the writer of the output writes to the network socket
   abbrev Writes : Option WriteState → Type 0
   Writes found = IsSomeAnd found (λ w. writer_side w ≡ Some side)
 
@@ -87,7 +88,7 @@ module _ (contexts : List WasiSocketsCtx) (side : OpId) (taken permitted : List 
   pub all_taken : (entries : List Entry) (next : Machine) → Answered contexts m line (step.CheckWrite ctx output) entries (reply.Ok (number_fields n)) next → taken ++ taken_in side entries ≡ permitted
   all_taken entries next walk = all_by m.store.standing entries next walk
 
--- what a line is let write to the side, said as the machine says it
+-- what a line is let write to the network socket, said as the machine says it
 module _ (side : OpId) where
   within_is : (half : OpId) (permit : ℕ) (bytes : List ℕ) (past same : Bool) → is_same half side ≡ same → let_write side (if past then Unused else ToWrite half bytes) ≡ (if same then if past then [] else bytes else [])
   within_is half permit bytes true true e = refl

@@ -1,9 +1,9 @@
--- The log of a run is that of the steps that were done, and of the beginning of the next.
+-- The log of a run is that of the steps that were done, and of a prefix of the next.
 use Rattle.wasi_laws.proofs.Words.{◌≡◌, ℕ, suc, ◌+◌, Bool, true, false, if◌then◌else◌, List, [], ◌∷◌, ◌++◌, length, refl, sym, ap, subst, ◌∙◌, arith, append_assoc, OpId, Entry, WasiSocketsCtx, Asks, Give, Ask, AskWrite, bind, Left, Machine, first_state, Reply, Step, is_trap, machine_asks, run, Answered, permitted_by, Then, Begun, IsOfSteps}
 use Rattle.wasi_laws.specs.Permitted.{Nothing}
 
 -- == the run
--- where a walk of one tree after another stands
+-- where a walk of one tree after another is
 data Split {A B : Type 0} (asks : Asks A) (f : A → Asks B) (es : List Entry) (rest : Asks B) : Type 0 where
   Within : (mid : Asks A) → Left asks es mid → Split asks f es rest
   Past : (a : A) (fs gs : List Entry) → es ≡ fs ++ gs → Left asks fs (Give a) → Left (f a) gs rest → Split asks f es rest

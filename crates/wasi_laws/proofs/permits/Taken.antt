@@ -1,4 +1,4 @@
--- What a side takes along a log, and by one poll of a write that goes on.
+-- What a network socket takes along a log, and by one poll of a write in progress.
 use Rattle.std.proofs.lemmas.List.{take-append-drop}
 use Rattle.wasi_world.specs.declared.call.Call.TheVariants as call
 use Rattle.wasi_world.specs.declared.call.Told.TheVariants as told
@@ -30,10 +30,10 @@ module _ (side : OpId) (bytes : List ℕ) where
   quiet_keep Q taken es (Ask op call next) f e h = (subst (λ m. IsFrontOf m bytes) (sym e) f, λ told fits. quiet_keep Q taken _ (next told) f (taken_push side es _ (none_taken side call told h.0) ∙ e) (h.1 told fits))
   quiet_keep Q taken es (AskWrite op sock offered next) f e h = absurd h.0
 
-  -- == by the side that a writer writes to, and what was taken before it wrote
+  -- == by the network socket that a writer writes to, and what was taken before it wrote
   module _ (at : OpId) (before : List ℕ) where
-    -- What is known where so much was taken: it is the front; where the writer's side is this one, this holds of it; else nothing
-    -- more was taken.
+    -- What is known where so much was taken: it is the front; where the writer's network socket is this one, this holds of it;
+    -- else nothing more was taken.
     pub record Accounts (A : List ℕ → Type 0) (all : List ℕ) : Type 0 where
       pub front : IsFrontOf all bytes
       pub ours : at ≡ side → A all

@@ -34,7 +34,7 @@ left_law who = record {
 job_now : (at : OpId) (job : Job) (ended : End × List Item) → JobIs at job → AreOfWrite ended.1 → JobIs at (job_after job.write.who ended)
 job_now at job (e, items) k l = record { side = k.side; last = k.last; left = l }
 
--- the job that a writer goes on with, and the writer with another
+-- the job that a writer continues with, and the writer with another
 pub job_of : {at : OpId} (w : WriteState) (job : Job) (now : Job → WriteState) → GoesOn w job now → WriterIs at w → JobIs at job × ((j : Job) → JobIs at j → WriterIs at (now j))
 job_of _ _ _ (InWriting job e) k = (k, λ j l. l)
 job_of _ _ _ (InClosing job e) k = (k, λ j l. l)
@@ -51,7 +51,7 @@ has_streams r s e k = subst (StreamsShape r.inner.state) e k.0
 writes_on : (r : Tcp2Socket) (s : Streams) (w : WriteState) (e : r.streams ≡ Some s) (k : RecordShape r) → WriterIs (has_streams r s e k).connection.side w → RecordShape (with_writer r s w)
 writes_on r s w e k is = let o = has_streams r s e k in (record { connection = o.connection; is = o.is; taken = o.taken; reader = o.reader; writer = is }, k.1)
 
--- a connection changes, on its side
+-- a connection changes, on its network socket
 reconnected : (c now : Connection) (o : Option Streams) (l : Listening) → now.side ≡ c.side → (c.send_taken ≡ true → now.send_taken ≡ true) → StreamsShape (state.Connected c) o × ListenerShape (state.Connected c) l → StreamsShape (state.Connected now) o × ListenerShape (state.Connected now) l
 reconnected c now o l s t k = (by_streams o k.0, by_listening l k.1)
   where

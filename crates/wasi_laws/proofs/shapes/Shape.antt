@@ -1,5 +1,5 @@
--- How a record stands: its streams are those of its connection, its writer writes on by itself to that side alone, and it listens
--- by its socket's side.
+-- What holds of a record: its streams are those of its connection, its writer writes on by itself to that network socket alone,
+-- and it listens by its socket's network socket.
 use Rattle.std.proofs.lemmas.Bool.{eqb-true}
 use Rattle.wasi_tcp.specs.declared.halves.TcpReceiveStream.{TcpReceiveStream}
 use Rattle.wasi_tcp.specs.declared.reader.ReadState.TheVariants as reading
@@ -11,7 +11,7 @@ use Rattle.wasi_laws.proofs.Words.{Accepts, Begins, Bool, Closes, Collects, Done
 pub some_same : {A : Type 0} (a b : A) → Some a ≡ Some b → a ≡ b
 some_same a b e = cc
 
--- == whether two sides are the same
+-- == whether two network sockets are the same
 pub same_side : (a b : OpId) → is_same a b ≡ true → a ≡ b
 same_side a b h = by_tests (a.step == b.step) (a.part == b.part) (eqb-true a.step b.step) (eqb-true a.part b.part) h
   where
@@ -62,7 +62,7 @@ left_closed (Write rest ∷ items) h = (tt, (tt, tt))
 left_closed (_ ∷ items) h = h
 
 -- == a writer
--- The write is on this side, and one that is refused shuts its half.
+-- The write is on this network socket, and one that is refused shuts its half.
 pub record JobIs (at : OpId) (job : Job) : Type 0 where
   pub side : job.write.who.side ≡ at
   pub last : job.write.who.last ≡ ShutdownLast
@@ -93,7 +93,7 @@ writer_moves at _ _ (Lasts job) k = k
 writer_moves at _ _ (LastsAfter job) k = record { side = k.side; last = k.last; left = left_closed job.write.left k.left }
 writer_moves at _ _ (Closes w e) k = tt
 
--- a writer that has a side has that one
+-- a writer that has a network socket has that one
 module _ (at x : OpId) where
   of_writing : (job : Job) (e : End) → JobIs at job → writing_side job e ≡ Some x → at ≡ x
   of_writing job (Refused c given) k w = absurd (cc)
@@ -150,7 +150,7 @@ restated t now o l n m k = (subst (StreamsShape now) (sym (bare t o n k.0)) tt, 
     by_listening (Unclosed x) h = h
     by_listening _ h = tt
 
--- whatever is on a side of the record is on the side of its socket
+-- whatever is on a network socket of the record is on the network socket of its socket
 pub on_socket : (r : Tcp2Socket) (x : OpId) → RecordShape r → IsOn r x → side_of r.inner ≡ Some x
 on_socket r x k (OfSocket e) = e
 on_socket r x k (OfReader s half e d z) = let o = subst (StreamsShape r.inner.state) e k.0 in ap side_in o.is ∙ ap (λ (y : OpId). Some y) (sym (o.reader half d) ∙ z)
@@ -171,12 +171,12 @@ IsBegun _ = ⊥
 abbrev pub Lives : OpId → Tcp2Socket → Type 0
 Lives x r = (r.side ≡ Some x) × ((side_of r.inner ≡ Some x) ⊎ IsBegun r.listening)
 
--- A record changes, and no side comes alive.
+-- A record changes, and no network socket comes alive.
 pub record Follows (r now : Tcp2Socket) : Type 0 where
   pub side : now.side ≡ r.side
   pub lives : (x : OpId) → Lives x now → Lives x r
 
--- another state of the same side, or of none
+-- another state of the same network socket, or of none
 pub follows_state : (r now : Tcp2Socket) → now.side ≡ r.side → now.listening ≡ r.listening → ((x : OpId) → side_of now.inner ≡ Some x → side_of r.inner ≡ Some x) → Follows r now
 follows_state r now s l f = record { side = s; lives = λ x v. (sym s ∙ v.0, elim v.1 [ inl p ↦ inl (f x p) | inr p ↦ inr (subst IsBegun l p) ]) }
 
@@ -186,17 +186,17 @@ follows_plain r now p = follows_state r now p.side p.listening (λ x e. sym (ap 
 pub follows_same : (r now : Tcp2Socket) → Same r now → Follows r now
 follows_same r now s = follows_state r now s.side s.listening (λ x e. sym (ap side_in s.does) ∙ e)
 
--- a listen that doesn't go on
+-- a listen that isn't in progress
 pub follows_quiet : (r now : Tcp2Socket) → now.side ≡ r.side → side_of now.inner ≡ side_of r.inner → (IsBegun now.listening → ⊥) → Follows r now
 follows_quiet r now s d n = record { side = s; lives = λ x v. (sym s ∙ v.0, elim v.1 [ inl p ↦ inl (sym d ∙ p) | inr p ↦ absurd (n p) ]) }
 
--- what has no side any more
+-- what has no network socket any more
 pub gone_lacks : (now : Tcp2Socket) → side_of now.inner ≡ None → (IsBegun now.listening → ⊥) → (x : OpId) → Lives x now → ⊥
 gone_lacks now d n x v = elim v.1 [ inl p ↦ no_some x (sym d ∙ p) | inr p ↦ n p ]
 
 pub follows_gone : (r now : Tcp2Socket) → now.side ≡ r.side → side_of now.inner ≡ None → (IsBegun now.listening → ⊥) → Follows r now
 follows_gone r now s d n = record { side = s; lives = λ x v. absurd (gone_lacks now d n x v) }
 
--- the listen that begins has the side that its socket had
+-- the listen that begins has the network socket that its socket had
 pub follows_begun : (line : ℕ) (h : Here) (place : ℕ) (r : Tcp2Socket) (side : OpId) → Found h place r → r.inner.state ≡ state.Default side → Named line h → Follows r (beginning_listen (own_of line) side r)
 follows_begun line h place r side g d n = record { side = refl; lives = λ x v. (v.0, inl (ap side_in d ∙ (sym (n.named side place r g (ap side_in d)) ∙ v.0))) }

@@ -20,7 +20,7 @@ one_close : (es : List Entry) (op side : OpId) (told : Told) → Grows (λ x. si
 one_close es op side told = grows_entry (λ x. side ≡ x) es es op (call.Close side) told (λ x c. c) (grows_none (λ x. side ≡ x) es)
 
 module _ (line : ℕ) where
-  -- a record that has its side alive has it open
+  -- a record that has its network socket alive has it open
   socket_open : (es : List Entry) (h : Here) (place : ℕ) (r : Tcp2Socket) (x : OpId) → Found h place r → side_of r.inner ≡ Some x → Named line h → Kept line es h → IsOpen es x
   socket_open es h place r x g e n i = (i.records place r g).lives x (n.named x place r g e, inl e)
 
@@ -68,13 +68,13 @@ module _ (line : ℕ) where
     -- the others leave all that is looked at
     moves es _ _ _ n i = i
 
-  -- == what goes on
-  -- a side of the record is closed by these entries, and it is so then
+  -- == what is in progress
+  -- a network socket of the record is closed by these entries, and it is so then
   closes_so : (es fs : List Entry) (C : OpId → Type 0) (h : Here) (place : ℕ) (r now : Tcp2Socket) (side : OpId) → Found h place r → Follows r now → (now.listening ≡ r.listening) ⊎ (accept_name now.listening ≡ None) → (r.side ≡ Some side) ⊎ (accept_name r.listening ≡ Some side) → (HasIt now side → ⊥)
       → ((x : OpId) → C x → side ≡ x) → Grows C es fs → Named line h → Kept line es h → Kept line fs (put h place now)
   closes_so es fs C h place r now side g f l claims none of grows n i = closed_put line C es fs h place r now side g claims of none grows n (changed es r now f l (i.records place r g)) i
 
-  -- one that has the side of a socket listens by none
+  -- one that has the network socket of a socket listens by none
   unbegun : (h : Here) (place : ℕ) (r : Tcp2Socket) (x : OpId) → Found h place r → side_of r.inner ≡ Some x → Named line h → IsBegun r.listening → ⊥
   unbegun h place r x g e n b = by_listening r.listening refl b
     where

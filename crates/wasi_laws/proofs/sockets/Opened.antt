@@ -1,4 +1,5 @@
--- A log that grows, and what holds of it between the asks of a line: each side that is alive is open, and what is closed is older.
+-- A log that grows, and what holds of it between the asks of a line: each network socket that is alive is open, and what is
+-- closed is older.
 use Rattle.wasi_world.specs.declared.call.Call.TheVariants as call
 use Rattle.wasi_tcp.specs.declared.listener.Accepting.TheVariants as accepting
 use Rattle.wasi_laws.proofs.Words.{Accepts, Call, Claims, Created, Entry, Found, HandedOver, Here, IpSocketAddress, IsClosed, IsMade, IsOpen, List, Listener, Named, None, OpId, Some, Tcp2Socket, Told, [], accept_name, ap, arith, entry, get_set, get_split, has_front, has_split, inl, inr, name_in, next_of, no_some, put, refl, set_there, slice_get, slice_set, subst, sym, ℕ, ◌++◌, ◌<◌, ◌∙◌, ◌∷◌, ◌≡◌, ◌≤◌, ◌⊎◌}
@@ -49,7 +50,7 @@ open_more C es fs x g n o = record { made = g.made x o.made; unclosed = λ c. el
 pub unclosed_more : (C : OpId → Type 0) (es fs : List Entry) (x : OpId) → Grows C es fs → (C x → ⊥) → (IsClosed es x → ⊥) → IsClosed fs x → ⊥
 unclosed_more C es fs x g n u c = elim (g.closed x c) [ inl a ↦ u a | inr p ↦ n p ]
 
--- Each side that is alive in it is open; the name of its accept isn't closed, and what arrived was made.
+-- Each network socket that is alive in it is open; the name of its accept isn't closed, and what arrived was made.
 pub record RecordOpen (es : List Entry) (r : Tcp2Socket) : Type 0 where
   pub lives : (x : OpId) → Lives x r → IsOpen es x
   pub named : (x : OpId) → accept_name r.listening ≡ Some x → IsClosed es x → ⊥
@@ -63,7 +64,7 @@ pub changed : (es : List Entry) (r now : Tcp2Socket) → Follows r now → (now.
 changed es r now f (inl l) i = record { lives = λ x v. i.lives x (f.lives x v); named = λ x e. i.named x (ap accept_name (sym l) ∙ e); arrived = λ k new peer e a. i.arrived k new peer (sym l ∙ e) a }
 changed es r now f (inr n) i = record { lives = λ x v. i.lives x (f.lives x v); named = λ x e. absurd (no_some x (sym n ∙ e)); arrived = λ k new peer e a. absurd (no_some new (sym n ∙ name_of now k new peer e a)) }
 
--- it has the side, or its accept has the name
+-- it has the network socket, or its accept has the name
 abbrev pub HasIt : Tcp2Socket → OpId → Type 0
 HasIt r x = Lives x r ⊎ (accept_name r.listening ≡ Some x)
 
@@ -104,7 +105,7 @@ module _ {bound : ℕ} {sockets : List Tcp2Socket} where
 abbrev pub Kept : ℕ → List Entry → Here → Type 0
 Kept line es h = Opened (next_of line h.own) es h.machine.store.sockets
 
--- a side is closed: the record that claims it has it no more
+-- a network socket is closed: the record that claims it has it no more
 pub closed_put : (line : ℕ) (C : OpId → Type 0) (es fs : List Entry) (h : Here) (place : ℕ) (r now : Tcp2Socket) (side : OpId) → Found h place r → Claims side r → ((x : OpId) → C x → side ≡ x) → (HasIt now side → ⊥) → Grows C es fs → Named line h → RecordOpen es now → Kept line es h → Kept line fs (put h place now)
 closed_put line C es fs h place r now side g claims of none grows named k i = record {
   records = λ n q e. record_more C es fs q grows (λ x u d. lacks n q e (subst (HasIt q) (sym (of x d)) u)) ((put_open es place now k i).records n q e);

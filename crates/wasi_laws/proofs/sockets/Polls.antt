@@ -1,4 +1,4 @@
--- One poll of an operation asks of its own side alone, and closes it only last, where it is refused.
+-- One poll of an operation asks of its own network socket alone, and closes it only last, where it is refused.
 use Rattle.wasi_world.specs.declared.call.Call.TheVariants as call
 use Rattle.wasi_laws.proofs.Words.{◌≡◌, true, inl, inr, List, Option, Some, None, refl, sym, subst, ⊤, ErrorCode, OpId, Call, Entry, bind, Given, Item, Who, Operation, LastAsk, NothingLast, CloseLast, ShutdownLast, End, Waits, Done, Refused, last_ask, poll_asks, Allows, allows_weaker, IsOpen, IsAskedOpen, socket_of, GoesOut}
 use Rattle.wasi_laws.proofs.asks.Fronts.{is_calm, IsOfSide, AsksBy, Checks, Goes, Calmly, of_side, IsGivenMade, PollLaw, polls_by}
@@ -7,7 +7,7 @@ use Rattle.wasi_laws.proofs.sockets.Opened.{Closes, NoneCloses, Grows, grows_non
 abbrev pub AskedOpen : List Entry → OpId → Call → Type 0
 AskedOpen es op c = IsAskedOpen es (socket_of c)
 
--- the end closes the side
+-- the end closes the network socket
 abbrev pub IsRefusal : End → Type 0
 IsRefusal (Refused c given) = ⊤
 IsRefusal _ = ⊥
@@ -37,7 +37,7 @@ asked_open es side None k s = tt
 asked_open es side (Some x) k s = subst (IsOpen es) (sym s) k
 
 module _ (who : Who) (es : List Entry) where
-  -- the side that the end of a poll closes
+  -- the network socket that the end of a poll closes
   abbrev pub ClosesAt : End → OpId → Type 0
   ClosesAt end x = (who.side ≡ x) × EndCloses who.last end
 
@@ -76,7 +76,7 @@ module _ (who : Who) (es : List Entry) where
       done = λ fs given m g. record { grows = ended fs (Done given) g; made = m };
     }
 
--- the side is open where it is polled
+-- the network socket is open where it is polled
 pub polled : (op : Operation) (es : List Entry) (Q : List Entry → End × List Item → Type 0) → IsOpen es op.who.side → ((fs : List Entry) (ended : End × List Item) → PollLeaves op.who es fs ended → Q fs ended) → Allows AskedOpen Q es (poll_asks op)
 polled op es Q o k = allows_weaker AskedOpen (PollLeaves op.who es) Q k es (poll_asks op) (polls_by (poll_law op.who es o) op.left es (grows_none NoneCloses es))
 

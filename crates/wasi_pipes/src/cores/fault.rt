@@ -15,7 +15,7 @@ pub enum WorkerFault<C> {
 }
 
 impl<C: Copy> WorkerFault<C> {
-    /// The cause of a kept fault, which is told by this.
+    /// The cause of a kept fault, which is reported by this.
     pub fn tell(&mut self) -> Option<C>
         ensures cause { result ≡ kept_cause self.old }
         ensures told { self.new ≡ after_telling self.old }
@@ -29,7 +29,7 @@ impl<C: Copy> WorkerFault<C> {
         }
     }
 
-    /// Whether there was a fault, kept or told.
+    /// Whether there was a fault, kept or reported.
     pub fn is_met(&self) -> bool
         ensures { result ≡ is_met self.now }
     {

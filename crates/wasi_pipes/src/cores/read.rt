@@ -142,7 +142,7 @@ impl ReadCore {
 
     /// The owner takes the length in the slot. With an empty slot the answer is 0, for which it is to wait.
     ///
-    /// With an empty slot, tells a kept fault, once (`Memory` where the worker found none), and then `Closed`, as after
+    /// With an empty slot, reports a kept fault, once (`Memory` where the worker found none), and then `Closed`, as after
     /// the end and after a stop.
     pub fn take(&mut self) -> Result<usize, StreamError>
         ensures answer { result ≡ take_answer self.old.flags (option_to_list self.old.slot) }

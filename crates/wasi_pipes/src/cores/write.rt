@@ -110,7 +110,7 @@ impl WriteCore {
         }
     }
 
-    /// Whether a write of so many bytes would be accepted, but for want of memory.
+    /// Whether a write of so many bytes would be accepted, unless memory runs out.
     pub fn would_accept(&self, len: usize) -> bool
         ensures { result ≡ is_ok (accept_answer self.now.state.flags self.now.state.budget len) }
     {
@@ -127,8 +127,9 @@ impl WriteCore {
 
     /// The owner writes so many bytes: the length leaves the budget and is queued. A write of no bytes queues nothing.
     ///
-    /// Tells a kept fault, once, and then `Closed`, as after a stop; else `FlushPending` while a flush is pending, and
-    /// `Budget` for a length above the budget. Want of memory, and a refusal that tells no fault, change nothing.
+    /// Reports a kept fault, once, and then `Closed`, as after a stop; else `FlushPending` while a flush is pending,
+    /// and `Budget` for a length above the budget. Running out of memory, and a refusal that reports no fault, change
+    /// nothing.
     pub fn accept(&mut self, len: usize) -> Result<(), StreamError>
         ensures answer { UnlessMemory result (result ≡ accept_answer self.old.state.flags self.old.state.budget len) }
         ensures reserved { self.old.room ≡ true → result ≡ accept_answer self.old.state.flags self.old.state.budget len }
@@ -162,7 +163,7 @@ impl WriteCore {
 
     /// The owner asks for a flush of all that was accepted: it is pending from now on.
     ///
-    /// Tells a kept fault, once, and then `Closed`, as after a stop.
+    /// Reports a kept fault, once, and then `Closed`, as after a stop.
     pub fn flush(&mut self) -> Result<(), StreamError>
         ensures answer { result ≡ admission self.old.state.flags }
         ensures ok { OnOk result (self.new ≡ with_flags self.old (record self.old.state.flags { flushing = true })) }
@@ -176,7 +177,7 @@ impl WriteCore {
 
     /// The owner asks how many bytes it may write: the budget, or 0 while a flush is pending.
     ///
-    /// Tells a kept fault, once, and then `Closed`, as after a stop.
+    /// Reports a kept fault, once, and then `Closed`, as after a stop.
     pub fn check(&mut self) -> Result<usize, StreamError>
         ensures answer { result ≡ check_answer self.old.state.flags self.old.state.budget }
         ensures ok { OnOk result (self.new ≡ self.old) }

@@ -12,7 +12,7 @@ impl TcpSocket {
     ghost use Rattle.wasi_tcp.specs.Socket.{side_of};
     ghost use Rattle.wasi_tcp.specs.Addresses.{usable_side, local_side, local_asks, local_where, remote_asks};
 
-    /// The local address. Not bound, or connecting: `InvalidState`. Closed: its code. A code that is told is answered.
+    /// The local address. Not bound, or connecting: `InvalidState`. Closed: its code. A code that is reported is returned.
     pub fn local_address<W: World>(
         &mut self,
         world: &mut W,
@@ -47,7 +47,7 @@ impl TcpSocket {
         }
     }
 
-    /// The side whose local address may be asked for.
+    /// The network socket whose local address may be asked for.
     fn local_side(&self, bound: bool) -> Result<Sock, ErrorCode>
         ensures { result ≡ local_side self.now bound }
     {
@@ -57,7 +57,7 @@ impl TcpSocket {
         self.usable_side()
     }
 
-    /// The side that may be asked about its address and its options: none while it connects. Closed: its code.
+    /// The network socket that may be asked about its address and its options: none while it connects. Closed: its code.
     pub(crate) fn usable_side(&self) -> Result<Sock, ErrorCode>
         ensures { result ≡ usable_side self.now.state }
     {
@@ -69,8 +69,8 @@ impl TcpSocket {
         }
     }
 
-    /// The remote address of a connection, which is kept once it is told. Closed: its code. Not Connected:
-    /// `InvalidState`. A code that is told is answered. After want of memory nothing was asked, and the socket is as it was.
+    /// The remote address of a connection, which is kept once it is reported. Closed: its code. Not Connected: `InvalidState`.
+    /// A code that is reported is returned. After running out of memory nothing was asked, and the socket is as it was.
     pub fn remote_address<W: World>(
         &mut self,
         world: &mut W,
@@ -87,7 +87,7 @@ impl TcpSocket {
     }
 }
 
-/// The local address of a side.
+/// The local address of a network socket.
 fn told_address<W: World>(world: &mut W, op: OpId, side: Sock) -> Result<IpSocketAddress, Refusal>
     requires { (W.seen world.old).ended ≡ false }
     ensures asked { AsksFor (ask_local op side) (W.seen world.old) (W.seen world.new) (λ told. told) (outcome result) }

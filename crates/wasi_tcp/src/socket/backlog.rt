@@ -13,8 +13,8 @@ impl TcpSocket {
 
     /// How many connections may wait at a listener (`tcp-socket.set-listen-backlog-size`): the value is brought into 1
     /// to 2,147,483,647. 0: `InvalidArgument`, in any state. In the state Default it is kept for the listen to come, and
-    /// nothing is asked. Listening, its side is asked for it: done, it is kept; a code is answered as `NotSupported`,
-    /// and the old one stays. Closed: its code. Connecting or Connected: `InvalidState`. After want of memory the socket
+    /// nothing is asked. Listening, its network socket is asked for it: done, it is kept; a code is answered as `NotSupported`,
+    /// and the old one stays. Closed: its code. Connecting or Connected: `InvalidState`. After running out of memory the socket
     /// is as it was.
     pub fn set_listen_backlog_size<W: World>(
         &mut self,
@@ -49,7 +49,7 @@ impl TcpSocket {
         }
     }
 
-    /// What the network tells of a backlog; one that it takes is kept.
+    /// What the network answers of a backlog; one that it takes is kept.
     fn learn_backlog(&mut self, backlog: u32, told: Result<(), ErrorCode>) -> Result<(), Refusal>
         ensures answer { outcome result ≡ Ok (after_backlog self.old backlog told).0 }
         ensures socket { self.new ≡ (after_backlog self.old backlog told).1 }

@@ -23,7 +23,7 @@ impl TcpSocket {
     ghost use Rattle.wasi_tcp.specs.Listening.{listen_asks, listen_start, listen_told, listen_settled};
 
     /// Begins a bind to the address. Bound, or not in the state Default: `InvalidState`. Not unicast, or not of the
-    /// socket's family: `InvalidArgument`. After want of memory nothing was asked, and the socket is as it was.
+    /// socket's family: `InvalidArgument`. After running out of memory nothing was asked, and the socket is as it was.
     pub fn bind<W: World>(
         &mut self,
         world: &mut W,
@@ -65,10 +65,9 @@ impl TcpSocket {
         }
     }
 
-    /// Begins a connect to the address, which `poll_finish_connect` polls; nothing is checked yet. Not in the state
-    /// Default: `InvalidState`, without an ask. Not unicast, not remote, or not of the socket's family:
-    /// `InvalidArgument`, and the socket stays in the state Default. After want of memory nothing was asked, and the socket
-    /// is as it was.
+    /// Begins a connect to the address, which `poll_finish_connect` polls; nothing is checked yet. Not in the state Default:
+    /// `InvalidState`, without an ask. Not unicast, not remote, or not of the socket's family: `InvalidArgument`, and the
+    /// socket stays in the state Default. After running out of memory nothing was asked, and the socket is as it was.
     pub fn start_connect<W: World>(
         &mut self,
         world: &mut W,
@@ -118,9 +117,9 @@ impl TcpSocket {
         Ok(())
     }
 
-    /// Polls the connect that was started: done, the socket is Connected; refused, its side is closed, and it is
+    /// Polls the connect that was started: done, the socket is Connected; refused, its network socket is closed, and it is
     /// Closed with the code that is answered. Connected already: ready. Closed: its code. Default: `InvalidState`.
-    /// After want of memory the connect stands as after its last answered ask, and may be polled again.
+    /// After running out of memory the connect is as after its last answered ask, and may be polled again.
     pub fn poll_finish_connect<W: World>(&mut self, world: &mut W) -> Result<Answer<()>, Refusal>
         requires { (W.seen world.old).ended ≡ false }
         ensures asked { AsksFor (finish_connect_asks self.old) (W.seen world.old) (W.seen world.new) (λ answer. (answer, self.new)) (outcome result) }
@@ -133,9 +132,9 @@ impl TcpSocket {
         self.state.poll_finish_connect(world)
     }
 
-    /// Begins to listen (`tcp-socket.start-listen`); `ListenOp::poll` goes on with it. Not in the state Default:
-    /// `InvalidState`. The operation takes the network side with it: from here on the socket is Closed, with the code
-    /// `Other`, until the listen is done. Nothing is checked yet. After want of memory nothing was asked, and
+    /// Begins to listen (`tcp-socket.start-listen`); `ListenOp::poll` continues with it. Not in the state Default:
+    /// `InvalidState`. The operation takes the network socket with it: from here on the socket is Closed, with the code
+    /// `Other`, until the listen is done. Nothing is checked yet. After running out of memory nothing was asked, and
     /// the socket is as it was.
     pub fn listen<W: World>(&mut self, world: &mut W, op: OpId) -> Result<ListenOp, Refusal>
         requires { (W.seen world.old).ended ≡ false }

@@ -1,5 +1,5 @@
--- The base law: numbers and sides are claimed once, and are of older lines. A side is claimed by the record that was made with it,
--- and the name of an accept by the record of its listener.
+-- The base law: numbers and network sockets are claimed once, and are of older lines. A network socket is claimed by the record
+-- that was made with it, and the name of an accept by the record of its listener.
 use Rattle.wasi_walks.proofs.Words.{Accepting, Accepts, Allows, Ask, AskWrite, Asks, Begins, Done, End, Entry, Err, ErrorCode, Give, Given}
 use Rattle.wasi_walks.proofs.Words.{HoldsAccept, IsAcceptOn, IsLeftOfAccept, Item, List, Listener, Listening, None, Not, Ok, OpId, Operation, Option}
 use Rattle.wasi_walks.proofs.Words.{Refused, Result, Socket, SocketAddressFamily, Some, Step, Tcp2, Tcp2Socket, TcpState, Waits, WasiSocketsCtx, []}
@@ -19,7 +19,7 @@ use Rattle.wasi_walks.proofs.walks.Law.{Law, Walks}
 use Rattle.wasi_walks.proofs.fits.Law.{Fit, told_same, whatever, fits, moves_fit, polls_fit, put_fit, created}
 use Rattle.wasi_tcp.specs.Accept as accept
 
--- it was made with this side, or its accept has this name, by which a side will be made
+-- it was made with this network socket, or its accept has this name, by which a network socket will be made
 abbrev pub Claims : OpId → Tcp2Socket → Type 0
 Claims x r = (r.side ≡ Some x) ⊎ (accept_name r.listening ≡ Some x)
 
@@ -93,7 +93,7 @@ module _ (line : ℕ) where
   pub put_named : (h : Here) (place : ℕ) (r now : Tcp2Socket) → Found h place r → KeepsNames h 0 r now → Named line h → Named line (put h place now)
   put_named h place r now g k n = put_by h place r now g 0 k n h.own (omega arith) (omega arith)
 
-  -- a record more, whose side is fresh
+  -- a record more, whose network socket is fresh
   pub push_named : (h : Here) (now : Tcp2Socket) (own : Own) → accept_name now.listening ≡ None → ((x : OpId) → now.side ≡ Some x → (x.step < next_of line own) × Fresh h x) → ((x : OpId) → side_of now.inner ≡ Some x → now.side ≡ Some x) → ((op : Operation) → now.listening ≡ Begins op → ⊥) → next_of line h.own ≤ next_of line own
       → Named line h → Named line (record h { machine = record h.machine { store = record h.machine.store { sockets = h.machine.store.sockets ++ now ∷ [] } }; own = own })
   push_named h now own none fresh named held l n = record {
@@ -293,7 +293,7 @@ module _ (contexts : List WasiSocketsCtx) (line : ℕ) (origin : Step) where
             (λ done. let b = i.0.records place r g in (put_fit h place r _ g (inr (λ x. x)) (b.0, tt, b.2) i.0, put_named line h place r (with_listening r Not) g (listening_names h place r Not g (λ x p. absurd (cc)) (λ op p. absurd (cc)) i.1) i.1)) es (give_up_asks r.listening);
       }
 
-  -- the laws that stand on it
+  -- the laws that rest on it
   pub on_names : Above contexts line origin (λ es h. Base h) → Law contexts line origin
   unfolding names
   on_names a = stand names a

@@ -1,5 +1,5 @@
--- The law that what a socket is bound by is a bind, what it connects by a connect, what a listener accepts by an accept, and that
--- a bind goes on where one stands.
+-- The law that what a socket is bound by is a bind, what it connects by a connect, what a listener accepts by an accept, and
+-- that a bind is in progress where one stands.
 use Rattle.wasi_walks.proofs.Words.{Accepting, Allows, Ask, AskWrite, Asks, Bool, Done, End, Entry, Err, ErrorCode, Give, Given, HoldsAccept}
 use Rattle.wasi_walks.proofs.Words.{HoldsConnect, InProgress, IpSocketAddress, IsAcceptOn, IsConnect, IsLeftOfBind, IsLeftOfConnect, IsLeftOfListen}
 use Rattle.wasi_walks.proofs.Words.{Item, List, Listener, None, Not, Ok, OpId, Operation, Refused, Result, Socket, SocketAddressFamily, Some}
@@ -21,12 +21,12 @@ use Rattle.wasi_tcp.specs.Listen as listen
 use Rattle.wasi_tcp.specs.Connect as connect
 use Rattle.wasi_walks.specs.Waiting as binding
 
--- Each record fits, and so does the call that stands.
+-- Each record fits, and so does the pending call.
 pub record Fit (h : Here) : Type 0 where
   pub records : (place : ℕ) (r : Tcp2Socket) → Found h place r → FitRecord r
   pub stands : (c : Standing) → h.machine.store.standing ≡ Some c → FitCall h.machine.store.sockets c.call
 
--- no bind stands, or the record goes on with its bind
+-- no bind is pending, or the record continues with its bind
 abbrev pub KeepsBind : Here → Tcp2Socket → Tcp2Socket → Type 0
 KeepsBind h r now = NoBind h ⊎ (HasBinding r.in_progress → HasBinding now.in_progress)
 
@@ -63,7 +63,7 @@ call_stands sockets (StandingCall.Bind n) r g k = record { was = r; at = g; goes
 call_stands sockets (StandingCall.Listen n) r g k = tt
 call_stands sockets (StandingCall.DropOutput n) r g k = tt
 
--- a bind that goes on is of a socket that does nothing yet, and so is none of any other
+-- a bind in progress is of a socket that does nothing yet, and so is none of any other
 pub not_binding : {s t : TcpState} (doing : InProgress) → s ≡ t → ((side : OpId) → t ≡ TcpState.Default side → ⊥) → FitProgress s doing → (u : TcpState) → FitProgress u doing
 not_binding (InProgress.Binding op) e n f u = absurd (n op.who.side (sym e ∙ f.0))
 not_binding InProgress.Nothing e n f u = tt

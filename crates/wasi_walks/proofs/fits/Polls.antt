@@ -36,18 +36,18 @@ module _ (who : Who) (C : List Item → Type 0) (over : C []) where
 
   -- these items follow the front ask
   module _ (items : List Item) (goes : C items) where
-    -- a check goes on, stays or ends
+    -- a check continues, stays or ends
     by_verdict : (es : List Entry) (item : Item) (v : Verdict) → C (item ∷ items) → Keeps items es (verdict_front item v)
     by_verdict es item Verdict.Yes stays = goes
     by_verdict es item Verdict.No stays = lasts who.last es AccessDenied Nothing
     by_verdict es item Verdict.Pending stays = stays
 
-    -- what is done or told a code goes on or ends
+    -- what is done or returned a code continues or ends
     by_done : (es : List Entry) (r : Result (Unit {0}) ErrorCode) → Keeps items es (done_front r)
     by_done es (Ok done) = goes
     by_done es (Err c) = lasts who.last es c Nothing
 
-    -- a connect goes on, stays or ends
+    -- a connect continues, stays or ends
     by_polled : (es : List Entry) (item : Item) (p : Polled (Unit {0})) → C (item ∷ items) → Keeps items es (polled_front item p)
     by_polled es item (Polled.Ready done) stays = goes
     by_polled es item (Polled.Code c) stays = lasts who.last es c Nothing
@@ -61,7 +61,7 @@ module _ (who : Who) (C : List Item → Type 0) (over : C []) where
     unfolding bind
     checks es a usage stays = (tt, λ t fits. by_verdict _ (Check a usage) (told_verdict t) stays)
 
-    -- once the local address was told
+    -- once the local address was reported
     after_local : (es : List Entry) (usage : SocketAddrUse) (r : Result IpSocketAddress ErrorCode) → ((a : IpSocketAddress) → C (Check a usage ∷ items)) → Gives (λ fs f. Keeps items fs f) es (local_front who usage r)
     after_local es usage (Ok a) stays = checks es a usage (stays a)
     after_local es usage (Err c) stays = lasts who.last es c Nothing
@@ -122,7 +122,7 @@ listen_fronts who es given _ _ (listen.ToClose c) = lasts who IsLeftOfListen lis
 pub listen_left : (op : Operation) → IsListen op → (es : List Entry) → Gives (λ fs end. IsLeftOfListen end.1) es (poll_asks op)
 listen_left op its es = kept op.who IsLeftOfListen listen.Ended (listen_fronts op.who) op.left its.left es
 
--- == an accept: with an ask left it goes on
+-- == an accept: with an ask left it is in progress
 abbrev pub GoesOn : List Item → Type 0
 GoesOn items = IsLeftOfAccept items × (some_left items ≡ true)
 
@@ -164,7 +164,7 @@ module _ (who : Who) where
   unfolding bind
   arrives es peer = (tt, λ t fits. admitted _ peer (told_verdict t))
 
-  -- once the accept was told
+  -- once the accept was answered
   accepted : (es : List Entry) (p : Polled IpSocketAddress) → ArrivalGives es (accept_front who p)
   accepted es Polled.Pending = (accept.Unarrived, refl)
   accepted es (Polled.Ready peer) = arrives es peer
@@ -183,6 +183,6 @@ module _ (who : Who) where
   fronts es (Connection new peer) item items k = absurd (cc)
   fronts es _ item items k = absurd k
 
--- an accept that waits goes on as one
+-- an accept that waits stays one
 pub accept_left : (op : Operation) → IsAccept op → is_going op ≡ true → (es : List Entry) → Gives (λ fs end. AcceptLeaves end) es (poll_asks op)
 accept_left op its going es = allows_polls Anything op.who (Going op.who) (Leaving op.who) (fronts op.who) (λ fs left k. k) (λ fs given k. tt) 64 op.left es (its.left, going)

@@ -26,13 +26,13 @@ FitProgress s _ = ⊤
 abbrev pub FitRecord : Tcp2Socket → Type 0
 FitRecord r = HoldsConnect r.inner.state × FitListening r.listening × FitProgress r.inner.state r.in_progress
 
--- A bind goes on in the record at this place.
+-- A bind is in progress in the record at this place.
 pub record BindGoesOn (sockets : List Tcp2Socket) (place : ℕ) : Type 0 where
   pub was : Tcp2Socket
   pub at : slice_get sockets place ≡ Some was
   pub goes : HasBinding was.in_progress
 
--- where a bind stands, it goes on
+-- where a bind is pending, it is in progress
 abbrev pub FitCall : List Tcp2Socket → StandingCall → Type 0
 FitCall sockets (StandingCall.Bind place) = BindGoesOn sockets place
 FitCall sockets _ = ⊤

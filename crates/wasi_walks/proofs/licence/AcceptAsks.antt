@@ -14,7 +14,7 @@ pub data PollLeft (es : List Entry) (op side : OpId) : Given → List Item → T
   Asking : (items : List Item) → HandedNone es op → AcceptLeft es op side items → PollLeft es op side Nothing items
   Taken : (peer : IpSocketAddress) → IsHanded es op side peer → PollLeft es op side (Connection op peer) []
 
--- the arrival was just told
+-- the arrival was just reported
 told_last : (es : List Entry) (op side : OpId) (peer : IpSocketAddress) → LastAccept (es ++ entry op (Call.Accept side) (Told.Arrived peer) ∷ []) op side peer
 told_last es op side peer = record { front = es; back = []; cut = refl; last = λ t i. i }
 
@@ -47,7 +47,7 @@ module _ (contexts : List WasiSocketsCtx) (steps : List Step) where
       ends_last : (es : List Entry) (c : ErrorCode) (given : Given) → Allows (MayAs who.id) StandsAfter es (last_ask who who.last c given)
       ends_last es c given = subst (λ (l : LastAsk). Allows (MayAs who.id) StandsAfter es (last_ask who l c given)) (sym last) (record { fine = tt; stands = tt; name = λ y e. absurd (cc) })
 
-      -- after the check that was told yes the arrival may be handed over
+      -- after the check that was answered yes the arrival may be handed over
       admitted : (es : List Entry) (peer : IpSocketAddress) → Works es → LastAccept es who.id who.side peer → IsAdmitted (es ++ entry who.id (Call.Check who.context peer TcpAccept) Told.Yes ∷ []) who.id who.side peer
       admitted es peer w h =
           let e = entry who.id (Call.Check who.context peer TcpAccept) Told.Yes in

@@ -1,4 +1,4 @@
--- What a line asks by its own operation is licensed, and what it is told fits.
+-- What a line asks by its own operation is licensed, and what it is answered fits.
 use Rattle.wasi_walks.proofs.Words.{Begins, Call, Done, End, Entry, IsAddr, List, MarksNoSocket, MayAsk, OpId, Operation, Refused, Some, Step}
 use Rattle.wasi_walks.proofs.Words.{Tcp2Socket, TcpState, Told, Waits, WasiSocketsCtx, WriteState, [], after_local, ap, closing_side, entry, inl}
 use Rattle.wasi_walks.proofs.Words.{marked_by, own_of, refl, side_in, side_of, slice_get, step_at, subst, sym, told_addr, with_inner, writer_side}
@@ -16,7 +16,7 @@ use Rattle.wasi_walks.proofs.licence.Moves.{held_side, same_listen}
 
 module _ (contexts : List WasiSocketsCtx) (steps : List Step) (line : ℕ) (origin : Step) (is_line : step_at steps line ≡ Some origin) where
   -- == asks
-  -- no listen that goes on is on a side whose local address is asked for
+  -- no listen in progress is on a network socket whose local address is asked for
   abbrev pub Spares : Here → Call → Type 0
   Spares h c = (k : ℕ) (q : Tcp2Socket) (op : Operation) → Found h k q → q.listening ≡ Begins op → c ≡ Call.Local op.who.side → ⊥
 
@@ -69,11 +69,11 @@ module _ (contexts : List WasiSocketsCtx) (steps : List Step) (line : ℕ) (orig
   on_side es r side (OfReader s half e w p) f = let t = f.streams s e in held_side contexts steps line origin is_line es r s t ∙ ap (λ (x : OpId). Some x) (sym (sym p ∙ subst (ReadsOn t.side) w t.reads))
   on_side es r side (OfWriter s e w) f = let t = f.streams s e in held_side contexts steps line origin is_line es r s t ∙ ap (λ (x : OpId). Some x) (sym (writer_is es t.side side s.writer t.writes w))
 
-  -- a line names the side that it asks of
+  -- a line names the network socket that it asks of
   pub names_on_side : (es : List Entry) (h : Here) (place n : ℕ) (r : Tcp2Socket) (side : OpId) → h.at ≡ Some (place, n) → Found h place r → IsOn r side → Licensed steps line origin es h → Names steps es (own_of n) side
   names_on_side es h place n r side at g o i = let f = i.fine.sockets place r g in i.names place n r at g side (f.named side (on_side es r side o f))
 
-  -- a side that a record has is not that of a listen that goes on
+  -- a network socket that a record has is not that of a listen in progress
   pub not_held : (h : Here) (place : ℕ) (r : Tcp2Socket) (side : OpId) → Found h place r → side_of r.inner ≡ Some side → Named line h → (k : ℕ) (q : Tcp2Socket) (op : Operation) → Found h k q → q.listening ≡ Begins op → side ≡ op.who.side → ⊥
   not_held h place r side g p n k q op gq e eq =
       let d = n.held op k q gq e in

@@ -10,7 +10,7 @@ use Rattle.wasi_addr.specs.declared.code.ErrorCode.TheVariants as code
 use Rattle.wasi_world.specs.declared.call.HandleKind.TheVariants as kind
 use Rattle.wasi_world.specs.declared.call.Opt.TheVariants as opt
 
--- == a backlog is set before the listen, which takes it, and again after it; and an option is set and told
+-- == a backlog is set before the listen, which takes it, and again after it; and an option is set and reported
 abbrev script : List Step
 script = bind_script
     ++ (Step.TcpSet 0 2 (TcpSetting.ListenBacklogSize 7)
@@ -21,7 +21,7 @@ script = bind_script
     ∷ Step.TcpGet 0 2 opt.HopLimit
     ∷ [])
 
--- until the listen was told this
+-- until the listen was answered this
 abbrev listens : Told → List Entry
 listens t = bind_log ++ listens_by (own_of 6) 7 t
 
@@ -52,12 +52,12 @@ sets_run = ((refl, refl, tt), ((refl, refl, tt), ((refl, refl, tt), ((refl, refl
 sets_licensed : IsLicensed allowed script sets replies
 sets_licensed = whole_licensed allowed script sets replies listening refl sets_run
 
--- == the listen was told a code
+-- == the listen was answered with a code
 abbrev NotDone : Told → Type 0
 NotDone Told.Done = ⊥
 NotDone _ = ⊤
 
--- no listen was told done
+-- no listen was answered done
 abbrev NoListenDone : Call → Told → Type 0
 NoListenDone (Call.Listen side backlog) t = NotDone t
 NoListenDone _ t = ⊤
@@ -92,7 +92,7 @@ one_listens = bind_log
 abbrev other : Entry
 other = entry (own_of 7) (Call.SetBacklog (own_of 5) 9) Told.Done
 
--- each listen is of the second line's side
+-- each listen is of the second line's network socket
 abbrev OfSecond : Call → Type 0
 OfSecond (Call.Listen side backlog) = side ≡ own_of 2
 OfSecond _ = ⊤

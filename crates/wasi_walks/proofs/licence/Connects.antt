@@ -33,7 +33,7 @@ module _ (contexts : List WasiSocketsCtx) (steps : List Step) where
       stands : (es : List Entry) (items : List Item) → Works es → ConnectLeft es who.id who.side who.context addr items → Stands es items
       stands es items w l = record { addr = addr; to = to; works = w; last = last; left = l }
 
-      -- one that ends with a code closes its side
+      -- one that ends with a code closes its network socket
       ends_last : (es : List Entry) (c : ErrorCode) (given : Given) → Works es → Allows (May contexts steps) StandsAfter es (last_ask who who.last c given)
       unfolding bind
       ends_last es c given w =

@@ -213,7 +213,7 @@ no_touch op (Hand sock peer) x h t = h
 no_touch op _ x h t = t
 
 -- == how a socket may change
--- It keeps its maker, its family and its connection, and has no side that it didn't have.
+-- It keeps its creator, its family and its connection, and has no network socket that it didn't have.
 pub record KeepsSide (old now : Socket) : Type 0 where
   pub maker : now.maker ≡ old.maker
   pub family : now.family ≡ old.family
@@ -223,7 +223,8 @@ pub record KeepsSide (old now : Socket) : Type 0 where
 pub keeps_side : (socket : Socket) → KeepsSide socket socket
 keeps_side socket = record { maker = refl; family = refl; side = λ s e. e; connected = λ c e. record { connection = c; state = e; same = refl } }
 
--- The record keeps its socket's side, the side that it was made with, its streams, and how far it is with listening.
+-- The record keeps its socket's network socket, the network socket that it was made with, its streams, and how far it
+-- is with listening.
 pub record KeepsRecord (old now : Tcp2Socket) : Type 0 where
   pub keeps : KeepsSide old.inner now.inner
   pub side : now.side ≡ old.side
@@ -232,7 +233,7 @@ pub record KeepsRecord (old now : Tcp2Socket) : Type 0 where
   pub binds : KeepsBinding old.in_progress now.in_progress
 
 -- == the records by place
--- The record of this place was made with this side.
+-- The record of this place was made with this network socket.
 pub record IsMadeWith (sockets : List Tcp2Socket) (place : ℕ) (side : Option OpId) : Type 0 where
   pub found : Tcp2Socket
   pub at : slice_get sockets place ≡ Some found
@@ -241,7 +242,7 @@ pub record IsMadeWith (sockets : List Tcp2Socket) (place : ℕ) (side : Option O
 pub same_record : (a b : Tcp2Socket) → Some a ≡ Some b → a ≡ b
 same_record a b p = cc
 
--- among those of which one was replaced by one that was made with the same side
+-- among those of which one was replaced by one that was made with the same network socket
 made_put : (sockets : List Tcp2Socket) (i : ℕ) (old now : Tcp2Socket) (place : ℕ) (found : Tcp2Socket) → slice_get sockets i ≡ Some old → now.side ≡ old.side → slice_get sockets place ≡ Some found → IsMadeWith (slice_set sockets i now) place found.side
 made_put sockets i old now place found g k h = elim (set_get sockets i now place found h) [
   | inl e ↦ record { found = found; at = e; same = refl }
@@ -358,13 +359,13 @@ module _ (steps : List Step) where
     progress = progress_kept es old.in_progress now.in_progress k.binds h.progress;
   }
 
-  -- A call on a record leaves one that was made with the same side, has no other accept, and fits the log.
+  -- A call on a record leaves one that was made with the same network socket, has no other accept, and fits the log.
   pub record LeavesRecord {A : Type 0} (old : Tcp2Socket) (es : List Entry) (done : A × Tcp2Socket) : Type 0 where
     pub side : done.1.side ≡ old.side
     pub listening : KeepsListening old.listening done.1.listening
     pub fine : RecordIsFine steps es done.1
 
-  -- == the call that stands, where the records change
+  -- == the pending call, where the records change
   standing_put : (es : List Entry) (sockets : List Tcp2Socket) (i : ℕ) (old now : Tcp2Socket) (s : Standing) → slice_get sockets i ≡ Some old → now.side ≡ old.side → StandingIsFine steps es sockets s → StandingIsFine steps es (slice_set sockets i now) s
   standing_put es sockets i old now s g k h =
       let m = made_put sockets i old now (call_place s.call) h.found g k h.at in
@@ -451,7 +452,7 @@ module _ (steps : List Step) where
   pub state_push : (es : List Entry) (m : Machine) (socket : Socket) → SocketIsFine steps es socket → StateIsFine steps es m → StateIsFine steps es (record m { store = with_record m.store socket })
   state_push es m socket f h = state_joined es m (new_record socket) (record { socket = f; named = λ side p. p; streams = λ streams p. absurd (cc); listening = tt; progress = tt }) tt refl h
 
-  -- a call stands
+  -- a call is pending
   pub state_stands : (es : List Entry) (m : Machine) (c : Standing) → StandingIsFine steps es m.store.sockets c → StateIsFine steps es m → StateIsFine steps es (record m { store = record m.store { standing = Some c } })
   state_stands es m c f h = record {
     count = h.count;
@@ -465,10 +466,10 @@ module _ (steps : List Step) where
       same : (a b : Standing) → Some a ≡ Some b → a ≡ b
       same a b p = cc
 
-  -- none stands
+  -- none is pending
   pub state_unstands : (es : List Entry) (m : Machine) → StateIsFine steps es m → StateIsFine steps es (record m { store = record m.store { standing = None } })
   state_unstands es m h = record { count = h.count; handles = h.handles; sockets = h.sockets; standing = λ d e. absurd (cc); accepts = h.accepts; one = h.one }
 
-  -- which writes go on is nothing to it
+  -- which writes are in progress is nothing to it
   pub state_jobs : (es : List Entry) (m : Machine) (jobs : List ℕ) → StateIsFine steps es m → StateIsFine steps es (record m { store = record m.store { jobs = jobs } })
   state_jobs es m jobs h = record { count = h.count; handles = h.handles; sockets = h.sockets; standing = h.standing; accepts = h.accepts; one = h.one }

@@ -13,7 +13,7 @@ use Rattle.wasi_world.specs.declared.call.HandleKind.TheVariants as name
 abbrev pub NoMadeBy : List Entry → OpId → Type 0
 NoMadeBy es op = (handle : ℕ) (kind : HandleKind) (above : Option ℕ) (side : Option OpId) (told : Told) → Has es (entry op (Call.Made handle kind above side) told) → ⊥
 
--- Nothing was asked by the names of this line: they handed nothing over, marked nothing, and stand in no mark and in no record.
+-- Nothing was asked by the names of this line: they handed nothing over, marked nothing, and are in no mark and in no record.
 pub record IsNew (es : List Entry) (sockets : List Tcp2Socket) (line : ℕ) : Type 0 where
   pub handed : (x : OpId) → x.step ≡ line → HandedNone es x
   pub marked : (x : OpId) → x.step ≡ line → MarksNoSocket es x
@@ -51,14 +51,14 @@ module _ (contexts : List WasiSocketsCtx) (steps : List Step) where
     may_at : (e : Entry) (c : Cut log e) → MayAsk contexts steps c.front e.op e.call
     may_at e c = h.each c.front e c.back c.is
 
-    -- in the beginning of the log that ends there
+    -- in the prefix of the log that ends there
     front_in : (c d : Entry) (k : Cut log c) → Has k.front d → Has log d
     front_in c d k i = subst (λ (es : List Entry). Has es d) (sym k.is) (has_front k.front (c ∷ k.back) d i)
 
     created_below : (op : OpId) (ctx : ℕ) (family : SocketAddressFamily) (t : Told) → Has log (entry op (Call.TcpCreate ctx family) t) → op.step ≤ length steps
     created_below op ctx family t i = began_below op _ (may_at _ (cut_of log _ i))
 
-    -- what was handed over on its own side was made before
+    -- what was handed over on its own network socket was made before
     own_below : (op : OpId) (ctx : ℕ) (family : SocketAddressFamily) (c : Entry) (k : Cut log c) → ((l : OpId) (p : IpSocketAddress) (t : Told) → Has k.front (entry op (Call.Hand l p) t) → ⊥) → IsMaker k.front ctx family op → op.step ≤ length steps
     own_below op ctx family c k n (Created s t i) = created_below op ctx family t (front_in c _ k i)
     own_below op ctx family c k n (Handed s l p t i m) = absurd (n l p t i)
@@ -75,7 +75,7 @@ module _ (contexts : List WasiSocketsCtx) (steps : List Step) where
     made_below : (op : OpId) (handle : ℕ) (kind : HandleKind) (parent : Option ℕ) (sock : Option OpId) (t : Told) → Has log (entry op (Call.Made handle kind parent sock) t) → op.step ≤ length steps
     made_below op handle kind parent sock t i = began_below op _ (may_at _ (cut_of log _ i)).1
 
-    -- the side in a socket's mark is of its own line, or was handed over
+    -- the network socket in a socket's mark is of its own line, or was handed over
     marked_below : (op : OpId) (parent : Option ℕ) (x : OpId) (c : Entry) (k : Cut log c) (s : Step) → op.step ≤ length steps → IsMarkOf k.front op name.Tcp2 parent (Some x) s → x.step ≤ length steps
     marked_below op parent x c k (Step.Network ctx) b m = absurd (let e = m.0 in cc)
     marked_below op parent x c k (Step.TcpCreate ctx family) b m = let e : x ≡ op = (let q = m.2 in cc) in subst (λ (o : OpId). o.step ≤ length steps) (sym e) b

@@ -1,4 +1,4 @@
--- What goes on is licensed: a bind, a connect, a listen, an accept, a write; and what is given up.
+-- What is in progress is licensed: a bind, a connect, a listen, an accept, a write; and what is released.
 use Rattle.wasi_walks.proofs.Words.{Accepting, Accepts, Allows, Asks, Begins, Bool, Call, Done, End, Entry, Give, HoldsAccept, HoldsConnect}
 use Rattle.wasi_walks.proofs.Words.{InProgress, IpSocketAddress, IsAcceptOn, IsConnect, IsLeftOfBind, IsLeftOfConnect, IsLeftOfListen, IsMaker, Item}
 use Rattle.wasi_walks.proofs.Words.{List, Listener, Listening, MayAsk, None, Not, OpId, Operation, Option, Refused, Some, Step, Streams, Tcp2Socket}
@@ -30,7 +30,7 @@ use Rattle.wasi_tcp.specs.Connect as connecting
 use Rattle.wasi_walks.specs.Waiting as binding
 
 module _ (contexts : List WasiSocketsCtx) (steps : List Step) (line : ℕ) (origin : Step) (is_line : step_at steps line ≡ Some origin) where
-  -- == what goes on
+  -- == what is in progress
   pub kept : {A : Type 0} (h : Here) (Q : List Entry → A → Type 0) (es : List Entry) (asks : Asks A) → Licensed steps line origin es h → Allows (MayQuietly contexts steps) Q es asks → Allows (MayAsk contexts steps) (λ fs a. Licensed steps line origin fs h × Q fs a) es asks
   kept h Q es asks i a = allows_keep (MayQuietly contexts steps) (MayAsk contexts steps) (λ fs. Licensed steps line origin fs h) Q (λ fs op c t fits k m. asked_fine contexts steps line origin is_line fs h op c t m.0.1 (spares contexts steps line origin is_line h c m.1) k) (λ fs op c m. m.0.0) es asks i a
 
@@ -50,7 +50,7 @@ module _ (contexts : List WasiSocketsCtx) (steps : List Step) (line : ℕ) (orig
   connect_quiet _ (connecting.ToClose c) = (tt, tt)
   connect_quiet _ connecting.Ended = tt
 
-  -- the local address of its own side alone
+  -- the local address of its own network socket alone
   abbrev Its : OpId → Call → Type 0
   Its side c = (x : OpId) → c ≡ Call.Local x → side ≡ x
 
@@ -101,7 +101,7 @@ module _ (contexts : List WasiSocketsCtx) (steps : List Step) (line : ℕ) (orig
   there : (h : Here) (place : ℕ) (r now : Tcp2Socket) → Found h place r → Found (put h place now) place now
   there h place r now g = set_there h.machine.store.sockets place r now g
 
-  -- the record that a listen leaves has one that goes on only where it waits
+  -- the record that a listen leaves has one that is in progress only where it waits
   still_goes : (fs : List Entry) (r : Tcp2Socket) (op : Operation) (end : End × List Item) → op.who.context ≡ r.inner.maker → IsMaker fs r.inner.maker r.inner.family op.who.side → ListenEnds steps fs op.who end.0 end.1 → (o : Operation) → (listen_after op r end).listening ≡ Begins o → ListenGoesOn steps fs (listen_after op r end) o
   still_goes fs r op (Waits, items) a m k o e = subst (ListenGoesOn steps fs (listen_after op r (Waits, items))) (same_begun (record { who = op.who; left = items }) o e) (record { fine = k; asks = a; made = m })
   still_goes fs r op _ a m k o e = absurd (cc)
@@ -122,7 +122,7 @@ module _ (contexts : List WasiSocketsCtx) (steps : List Step) (line : ℕ) (orig
       (taken_out es h place r g i, l.made)
       (also (May contexts steps) (λ fs o c. Its op.who.side c) Q _ es (poll_asks op) (fine_poll_listen contexts steps op es l.fine) (poll_plainly (Its op.who.side) (its_quiet op.who.side) op.who op.left es (listen_quiet op.who op.left its.left))))
     where
-      -- the other listens are on other sides
+      -- the other listens are on other network sockets
       others : (c : Call) → Its op.who.side c → r.side ≡ Some op.who.side → Spares contexts steps line origin is_line (put h place (with_listening r Not)) c
       others c m d k q o f x p = elim (get_set h.machine.store.sockets place (with_listening r Not) k q f) [
         | inl v ↦ no_listen o (ap (λ (y : Tcp2Socket). y.listening) v.1 ∙ x)
@@ -192,7 +192,7 @@ module _ (contexts : List WasiSocketsCtx) (steps : List Step) (line : ℕ) (orig
   turn_on es side (WriteState.Closing job) on = allows_then (MayQuietly contexts steps) (λ fs j. JobIsFine steps fs side j) (λ fs done. WritesOn steps fs side done.1) es (job_asks job) _ (fine_job contexts steps es side job on) (λ fs j k. k)
   turn_on es side _ on = on
 
-  -- the connection has one side
+  -- the connection has one network socket
   one_side : (fs es : List Entry) (r : Tcp2Socket) (s : Streams) (f : StreamsAreFine steps es r.inner s) (x : StreamsAreFine steps fs r.inner s) → f.side ≡ x.side
   one_side fs es r s f x = some_same f.side x.side (sym (held_side contexts steps line origin is_line fs r s x) ∙ held_side contexts steps line origin is_line es r s f)
 

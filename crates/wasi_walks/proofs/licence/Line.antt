@@ -50,7 +50,7 @@ local_side a b e = cc
 pub second_names : {steps : List Step} (es : List Entry) (line : ℕ) (side : OpId) → Names steps es (own_of line) side → Names steps es (second_of line) side
 second_names es line side n = record { origin = n.origin; at = n.at; holds = n.holds }
 
--- A listen that goes on, of this record.
+-- A listen in progress, of this record.
 pub record ListenGoesOn (steps : List Step) (es : List Entry) (r : Tcp2Socket) (op : Operation) : Type 0 where
   pub fine : ListenIsFine steps es op
   pub asks : op.who.context ≡ r.inner.maker
@@ -62,7 +62,7 @@ NotMarked Unmade = ⊤
 NotMarked (Joined place) = ⊤
 NotMarked _ = ⊥
 
--- a line's operation names a handle of the side that the record was made with
+-- a line's operation names a handle of the network socket that the record was made with
 abbrev pub NamesMade : List Step → ℕ → List Entry → Tcp2Socket → Type 0
 NamesMade steps n es r = (side : OpId) → r.side ≡ Some side → Names steps es (own_of n) side
 
@@ -79,13 +79,13 @@ pub record JoinedIsFine (origin : Step) (es : List Entry) (h : Here) (place : �
   pub handed : IsHanded es new on peer
   pub fresh : MarksNoSocket es new
 
--- The handle was marked by the line, with this side.
+-- The handle was marked by the line, with this network socket.
 pub record MadeSocket (line : ℕ) (es : List Entry) (handle : ℕ) (sock : Option OpId) : Type 0 where
   pub above : Option ℕ
   pub told : Told
   pub mark : Has es (entry (own_of line) (Call.Made handle name.Tcp2 above sock) told)
 
--- The state fits the log, and so do the record that the line works on, each listen that goes on, and what an accept has made.
+-- The state fits the log, and so do the record that the line works on, each listen in progress, and what an accept has made.
 pub record Licensed (steps : List Step) (line : ℕ) (origin : Step) (es : List Entry) (h : Here) : Type 0 where
   pub fine : StateIsFine steps es h.machine
   pub names : (place n : ℕ) (r : Tcp2Socket) → h.at ≡ Some (place, n) → Found h place r → NamesMade steps n es r
@@ -97,7 +97,7 @@ pub record Licensed (steps : List Step) (line : ℕ) (origin : Step) (es : List 
 
 -- == a record changes
 -- == moves
--- of a record at a place, by its side alone
+-- of a record at a place, by its network socket alone
 by_side : (P : Option OpId → Type 0) (h : Here) (place : ℕ) (r now : Tcp2Socket) → Found h place r → now.side ≡ r.side → (k : ℕ) → ((q : Tcp2Socket) → Found h k q → P q.side) → (q : Tcp2Socket) → Found (put h place now) k q → P q.side
 by_side P h place r now g s k f q e = elim (get_set h.machine.store.sockets place now k q e) [
   | inl p ↦ subst P (sym s ∙ ap (λ (x : Tcp2Socket). x.side) p.1) (f r (ap (slice_get h.machine.store.sockets) p.0 ∙ g))

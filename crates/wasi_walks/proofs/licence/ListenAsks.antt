@@ -1,8 +1,8 @@
--- A listen: each of its asks is allowed, what it leaves may be polled on, and where it is done its side listens; and one that goes on
--- stays so, whatever else is asked.
+-- A listen: each of its asks is allowed, what it leaves may be polled on, and where it is done its network socket listens; and
+-- one that is in progress stays so, whatever else is asked.
 use Rattle.wasi_walks.proofs.Words.{Accepts, AccessDenied, Allows, Answer, Ask, AskWrite, Asks, AsyncOperation, BeganBy, Begins, Call, Check}
 use Rattle.wasi_walks.proofs.Words.{CheckLocal, CloseLast, Done, End, Entry, ErrorCode, FrontKeeps, Give, Given, Has, InProgress, IpSocketAddress}
-use Rattle.wasi_walks.proofs.Words.{IsAddr, IsBoundSide, IsDoneOrCode, IsLastLocal, IsListen, IsMaker, Item, LastAsk, List, Listen, Listening}
+use Rattle.wasi_walks.proofs.Words.{IsAddr, IsBoundSide, IsDoneOrCode, IsLastLocal, IsListenStep, IsMaker, Item, LastAsk, List, Listen, Listening}
 use Rattle.wasi_walks.proofs.Words.{Listens, None, Not, Nothing, Ok, OpId, Operation, Pending, Refused, Result, Some, Step, Streams, Tcp2Socket}
 use Rattle.wasi_walks.proofs.Words.{TcpListen, TcpState, Told, Waits, WasiSocketsCtx, Who, [], allows_polls, ap, append_assoc, bind, check_front}
 use Rattle.wasi_walks.proofs.Words.{done_front, entry, front, inl, inr, last_ask, left_of, listen_ended, listen_polled, local_front, new_listener}
@@ -14,7 +14,7 @@ use Rattle.wasi_walks.proofs.licence.State.{WorksOn, ListeningStands, accept_nam
 use Rattle.wasi_walks.proofs.licence.Frames.{stay, works_more, bound_more, listens_more, LeavesRecord, KeepsListening}
 
 -- == the last local address
--- what was told last stays the last, where the side isn't asked
+-- what was reported last stays the last, where the network socket isn't asked
 pub local_unless : (es : List Entry) (op : OpId) (c : Call) (t : Told) (side : OpId) (a : IpSocketAddress) → (c ≡ Call.Local side → ⊥) → IsLastLocal es side a → IsLastLocal (es ++ entry op c t ∷ []) side a
 local_unless es op c t side a n h = record {
   front = h.front;
@@ -30,27 +30,27 @@ local_more es op c t side a n h = local_unless es op c t side a (λ e. subst NoL
 pub local_told : (es : List Entry) (op side : OpId) (a : IpSocketAddress) → IsLastLocal (es ++ entry op (Call.Local side) (Told.Addr a) ∷ []) side a
 local_told es op side a = record { front = es; op = op; back = []; cut = refl; last = λ o u i. i }
 
--- == what is left of a listen, and what it was told so far
+-- == what is left of a listen, and what it was answered so far
 pub data ListenLeft (es : List Entry) (op side : OpId) (maker : ℕ) : List Item → Type 0 where
   Whole : (backlog : ℕ) → ListenLeft es op side maker (CheckLocal TcpListen ∷ Listen backlog ∷ [])
   Untold : (a : IpSocketAddress) (backlog : ℕ) → IsLastLocal es side a → ListenLeft es op side maker (Check a TcpListen ∷ Listen backlog ∷ [])
   Allowed : (a : IpSocketAddress) (backlog : ℕ) → IsLastLocal es side a → Has es (entry op (Call.Check maker a TcpListen) Told.Yes) → ListenLeft es op side maker (Listen backlog ∷ [])
   Over : Listens es side → ListenLeft es op side maker []
 
--- with nothing left its `listen` was told done
+-- with nothing left its `listen` was answered done
 it_listens : (es : List Entry) (op side : OpId) (maker : ℕ) → ListenLeft es op side maker [] → Listens es side
 it_listens es op side maker (Over h) = h
 
 module _ (steps : List Step) where
-  -- A listen that may be polled: where it came from, that its side was bound, and what it has asked so far.
+  -- A listen that may be polled: where it came from, that its network socket was bound, and what it has asked so far.
   pub record ListenIsFine (es : List Entry) (op : Operation) : Type 0 where
-    pub to : BeganBy steps op.who.id IsListen
+    pub to : BeganBy steps op.who.id IsListenStep
     pub works : WorksOn steps es op.who.id op.who.side op.who.context
     pub bound : IsBoundSide es op.who.side
     pub last : op.who.last ≡ CloseLast
     pub so_far : ListenLeft es op.who.id op.who.side op.who.context op.left
 
-  -- what a poll of it leaves: one that waits may be polled on, and where it is done its side listens
+  -- what a poll of it leaves: one that waits may be polled on, and where it is done its network socket listens
   abbrev pub ListenEnds : List Entry → Who → End → List Item → Type 0
   ListenEnds es who Waits items = ListenIsFine es (record { who = who; left = items })
   ListenEnds es who (Done given) items = Listens es who.side
@@ -69,8 +69,8 @@ module _ (contexts : List WasiSocketsCtx) (steps : List Step) where
     abbrev StandsAfter : List Entry → End × List Item → Type 0
     StandsAfter es ended = ListenEnds steps es who ended.0 ended.1
 
-    module _ (to : BeganBy steps who.id IsListen) (last : who.last ≡ CloseLast) where
-      -- it works on its side, which was bound
+    module _ (to : BeganBy steps who.id IsListenStep) (last : who.last ≡ CloseLast) where
+      -- it works on its network socket, which was bound
       abbrev Works : List Entry → Type 0
       Works es = WorksOn steps es who.id who.side who.context × IsBoundSide es who.side
 
@@ -80,12 +80,12 @@ module _ (contexts : List WasiSocketsCtx) (steps : List Step) where
       stands : (es : List Entry) (items : List Item) → Works es → ListenLeft es who.id who.side who.context items → Stands es items
       stands es items w l = record { to = to; works = w.0; bound = w.1; last = last; so_far = l }
 
-      -- one that ends with a code closes its side
+      -- one that ends with a code closes its network socket
       ends_last : (es : List Entry) (c : ErrorCode) (given : Given) → Allows (May contexts steps) StandsAfter es (last_ask who who.last c given)
       unfolding bind
       ends_last es c given = subst (λ (l : LastAsk). Allows (May contexts steps) StandsAfter es (last_ask who l c given)) (sym last) ((tt, tt), λ t fits. tt)
 
-      -- the check of the address that was told
+      -- the check of the address that was reported
       asked_check : (es : List Entry) (a : IpSocketAddress) (backlog : ℕ) (t : Told) → Works es → IsLastLocal es who.side a
           → FrontKeeps (May contexts steps) who StandsBefore StandsAfter (Listen backlog ∷ []) (es ++ entry who.id (Call.Check who.context a TcpListen) t ∷ []) (verdict_front (Check a TcpListen) (told_verdict t))
       asked_check es a backlog Told.Yes w h = stands _ _ (works_on es _ Told.Yes w) (Allowed a backlog (local_more es who.id _ Told.Yes who.side a tt h) (has_last es _))
@@ -130,7 +130,7 @@ also P R Q S es (Give a) h k = h
 also P R Q S es (Ask op c next) h k = ((h.0, k.0), λ told f. also P R Q S _ (next told) (h.1 told f) (k.1 told f))
 also P R Q S es (AskWrite op sock bytes next) h k = ((h.0, k.0), λ told f g. also P R Q S _ (next told) (h.1 told f g) (k.1 told f g))
 
--- == what was told last stays the last, where the side isn't asked
+-- == what was reported last stays the last, where the network socket isn't asked
 left_unless : (es : List Entry) (o op side : OpId) (maker : ℕ) (c : Call) (t : Told) (items : List Item) → (c ≡ Call.Local side → ⊥) → ListenLeft es op side maker items → ListenLeft (es ++ entry o c t ∷ []) op side maker items
 left_unless es o op side maker c t _ n (Whole backlog) = Whole backlog
 left_unless es o op side maker c t _ n (Untold a backlog h) = Untold a backlog (local_unless es o c t side a n h)
@@ -147,7 +147,7 @@ listen_unless steps es o c t op n h = record {
 }
 
 module _ (contexts : List WasiSocketsCtx) (steps : List Step) where
-  -- The record's listen goes on: it holds the side that the record was made with, and the socket has none.
+  -- The record's listen is in progress: it holds the network socket that the record was made with, and the socket has none.
   pub record ListenRecord (es : List Entry) (r : Tcp2Socket) : Type 0 where
     pub op : Operation
     pub begins : r.listening ≡ Begins op
@@ -170,7 +170,7 @@ module _ (contexts : List WasiSocketsCtx) (steps : List Step) where
   quiet : (old now : Listening) → ((es : List Entry) → ListeningStands es now) → accept_name now ≡ None → KeepsListening old now
   quiet old now h n = record { stands = λ es k. h es; names = λ x e. let p : None ≡ Some x = sym n ∙ e in absurd (cc) }
 
-  -- a socket without a side has no streams
+  -- a socket without a network socket has no streams
   no_streams : (es : List Entry) (r : Tcp2Socket) (s : Streams) → side_of r.inner ≡ None → RecordIsFine steps es r → r.streams ≡ Some s → ⊥
   no_streams es r s c h e = let p : side_of r.inner ≡ Some (h.streams s e).connected.connection.side = ap side_in (h.streams s e).connected.state in absurd (cc)
 

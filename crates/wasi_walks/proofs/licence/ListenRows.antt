@@ -107,7 +107,7 @@ ListensAt80 _ = ⊤
 of_back : (log front back : List Entry) (e x : Entry) → log ≡ front ++ e ∷ back → Has back x → Has log x
 of_back log front back e x cut i = subst (λ (es : List Entry). Has es x) (sym cut) (has_back front (e ∷ back) x (inr i))
 
--- where a log is cut, its last entry is the one at the cut, with nothing behind it, or stands behind it
+-- where a log is cut, its last entry is the one at the cut, with nothing behind it, or is behind it
 last_at : (front back log : List Entry) (e last : Entry) → log ++ last ∷ [] ≡ front ++ e ∷ back → ((back ≡ []) × (last ≡ e)) ⊎ Has back last
 last_at [] back [] e last c = inl (cc, cc)
 last_at [] back (x ∷ log) e last c = let p : log ++ last ∷ [] ≡ back = cc in inr (subst (λ (es : List Entry). Has es last) p (has_last log last))
@@ -127,7 +127,7 @@ early_handout h =
     let a = (h.each arrived hand [] refl).1 in
     of_each (λ e. NoArrivalCheck e.call) arrived _ (tt, (tt, (tt, (tt, (tt, (tt, (tt, (tt, (tt, (tt, (tt, tt))))))))))) (of_back arrived a.front a.back _ _ a.cut a.yes.checked)
 
--- == its yes stands before another accept
+-- == its yes is before another accept
 abbrev checked : List Entry
 checked = arrived ++ entry sixth (Call.Check 0 (peer 8) SocketAddrUse.TcpAccept) Told.Yes ∷ []
 
@@ -176,7 +176,7 @@ is_bound = record {
   other = refl;
 }
 
--- the address of an entry that tells one
+-- the address of an entry that reports one
 told_port : (op : OpId) (addr : IpSocketAddress) → moved ≡ entry op (Call.Local (own_of 2)) (Told.Addr addr) → port_of addr ≡ 81
 told_port op addr e = let p : Told.Addr local_81 ≡ Told.Addr addr = ap (λ (x : Entry). x.answer) e in let q : local_81 ≡ addr = cc in sym (ap port_of q)
 
@@ -193,7 +193,7 @@ moved_away h = by_cases (h.each moves listen [] refl).2
       | inr i ↦ m.1.1.last (own_of 5) (Told.Addr local_81) i
     ]
 
--- == a mark has a side that was handed to nobody
+-- == a mark has a network socket that was handed to nobody
 abbrev unhanded : Entry
 unhanded = entry (own_of 6) (Call.Made 3 kind.Tcp2 (Some 2) (Some sixth)) Told.Done
 

@@ -1,5 +1,5 @@
--- Of a licensed log: it is one where each entry may come after those before it; its beginnings are licensed, and so it is with fewer
--- replies, and by a longer script.
+-- Of a licensed log: it is one where each entry may come after those before it; its prefixes are licensed, and so it is with
+-- fewer replies, and by a longer script.
 use Rattle.wasi_walks.proofs.Words.{Call, Entry, IsLicensed, List, Machine, MayAsk, NamesSide, OpId, Operation, ReachesSide, Reply, Some, Step}
 use Rattle.wasi_walks.proofs.Words.{WasiSocketsCtx, [], ap, append-nil, append_assoc, arith, inl, inr, length, length-append, step_at, subst, suc}
 use Rattle.wasi_walks.proofs.Words.{zero, ℕ, ⊤, ◌++◌, ◌∙◌, ◌∷◌, ◌≡◌, ◌≤◌}
@@ -83,13 +83,13 @@ module _ (contexts : List WasiSocketsCtx) (steps : List Step) where
   pub may_come : (es : List Entry) (e : Entry) → EachMayCome [] es → MayAsk contexts steps es e.op e.call → EachMayCome [] (es ++ e ∷ [])
   may_come es e h m = come_more [] es e h m
 
--- by a script that goes on
+-- by a longer script
 pub come_longer : (contexts : List WasiSocketsCtx) (steps more : List Step) (before es : List Entry) → EachMayCome contexts steps before es → EachMayCome contexts (steps ++ more) before es
 come_longer contexts steps more before [] h = tt
 come_longer contexts steps more before (e ∷ es) h = (may_more steps more contexts before e.op e.call h.0, come_longer contexts steps more (before ++ e ∷ []) es h.1)
 
 module _ (contexts : List WasiSocketsCtx) (steps : List Step) where
-  -- the beginning of a licensed log, before a reply is given
+  -- a prefix of a licensed log, before a reply is given
   pub prefix_is_licensed : (front back : List Entry) (replies : List Reply) → IsLicensed contexts steps (front ++ back) replies → IsLicensed contexts steps front []
   prefix_is_licensed front back replies h = record {
     each = λ before e after cut. h.each before e (after ++ back) (ap (λ (es : List Entry). es ++ back) cut ∙ append_assoc before (e ∷ after) back);
@@ -100,7 +100,7 @@ module _ (contexts : List WasiSocketsCtx) (steps : List Step) where
   pub fewer_replies : (log : List Entry) (replies more : List Reply) → IsLicensed contexts steps log (replies ++ more) → IsLicensed contexts steps log replies
   fewer_replies log replies more h = record { each = h.each; replied = let few = h.replied in omega (arith, length-append replies more, few) }
 
-  -- by a script that goes on
+  -- by a longer script
   pub longer_script : (more : List Step) (log : List Entry) (replies : List Reply) → IsLicensed contexts steps log replies → IsLicensed contexts (steps ++ more) log replies
   longer_script more log replies h = record {
     each = λ before e after cut. may_more steps more contexts before e.op e.call (h.each before e after cut);

@@ -1,4 +1,4 @@
--- In a licensed log a handle has one side, and a side one maker and one family.
+-- In a licensed log a handle has one network socket, and a network socket one creator and one family.
 use Rattle.wasi_walks.proofs.Words.{BeganBy, Call, Created, Entry, Hand, Handed, Has, IpSocketAddress, IsLicensed, IsMaker, IsSide, IsTcpCreate, List}
 use Rattle.wasi_walks.proofs.Words.{MayAsk, NamesSide, OpId, Reply, SocketAddressFamily, Step, TcpCreate, Told, WasiSocketsCtx, [], ap, arith, entry}
 use Rattle.wasi_walks.proofs.Words.{handles_of, inl, inr, marked_by, marks_in, refl, subst, sym, ℕ, ◌++◌, ◌∙◌, ◌∷◌, ◌≡◌, ◌⊎◌}
@@ -28,7 +28,7 @@ module _ (contexts : List WasiSocketsCtx) (steps : List Step) (log : List Entry)
   may_at : (e : Entry) (c : Cut log e) → MayAsk contexts steps c.front e.op e.call
   may_at e c = h.each c.front e c.back c.is
 
-  -- == one side
+  -- == one network socket
   pub one_side : (handle : ℕ) (s t : OpId) → IsSide log handle s → IsSide log handle t → s ≡ t
   one_side handle s t a b =
       let c = cut_of log _ a.mark in
@@ -39,7 +39,7 @@ module _ (contexts : List WasiSocketsCtx) (steps : List Step) (log : List Entry)
       let f = entry_call _ _ e in
       cc
 
-  -- == one maker
+  -- == one creator
   -- what holds of the step that an operation began by holds of it however it is found
   same_origin : (op : OpId) (P Q : Step → Type 0) (a : BeganBy steps op P) → BeganBy steps op Q → Q a.origin
   same_origin op P Q a b = let p = a.at in let q = b.at in let e : b.origin ≡ a.origin = cc in subst Q e b.holds

@@ -28,7 +28,7 @@ module _ (contexts : List WasiSocketsCtx) (steps : List Step) (line : ℕ) (orig
       let f = i.fine.sockets place r g in
       put_fine es h place r now g p.side (listening_kept r.listening now.listening p.listening) (λ op e. (sym p.listening ∙ e, (p.maker, p.family))) (record_kept steps es r now (keeps_plain r now p) (plain_socket es r now p f.socket) f) i
 
-  -- other streams, of the same side
+  -- other streams, of the same network socket
   pub streams_fine : (es : List Entry) (h : Here) (place : ℕ) (r : Tcp2Socket) (s now : Streams) → Found h place r → r.streams ≡ Some s
       → ((f : StreamsAreFine steps es r.inner s) → ReadsOn f.side now.reader × WritesOn steps es f.side now.writer) → Licensed steps line origin es h → Licensed steps line origin es (put h place (record r { streams = Some now }))
   streams_fine es h place r s now g e k i =
@@ -70,7 +70,7 @@ module _ (contexts : List WasiSocketsCtx) (steps : List Step) (line : ℕ) (orig
   names_streams : (es : List Entry) (r : Tcp2Socket) (s : Streams) → NamesMade steps line es r → RecordIsFine steps es r → (f : StreamsAreFine steps es r.inner s) → Names steps es (own_of line) f.side
   names_streams es r s n h f = n f.side (h.named f.side (held_side es r s f))
 
-  -- another connection of the same side
+  -- another connection of the same network socket
   still_connected : (r : Tcp2Socket) (c now : Connection) → r.inner.state ≡ TcpState.Connected c → now.side ≡ c.side → KeepsSide r.inner (with_state r.inner (TcpState.Connected now))
   still_connected r c now e s = record {
     maker = refl;
@@ -111,7 +111,7 @@ module _ (contexts : List WasiSocketsCtx) (steps : List Step) (line : ℕ) (orig
       let w = subst (IsMarkedWith es handle) (same ∙ m) n.marked in
       record { origin = origin; at = is_line; holds = record { handle = handle; named = named; is = record { op = w.op; kind = w.kind; parent = w.parent; told = w.told; mark = w.mark } } }
 
-  -- the side of a record that a handle of the line is of
+  -- the network socket of a record that a handle of the line is of
   is_side : (es : List Entry) (h : Here) (handle place : ℕ) → record_of (kind_at h.machine.table handle) ≡ Some place → Licensed steps line origin es h → (r : Tcp2Socket) → Found h place r → (side : OpId) → r.side ≡ Some side → IsSide es handle side
   is_side es h handle place e i r g side m =
       let n = names_record es h.machine.store.sockets handle place (kind_at h.machine.table handle) e (i.fine.handles handle) in
@@ -233,7 +233,6 @@ module _ (contexts : List WasiSocketsCtx) (steps : List Step) (line : ℕ) (orig
       record {
         fine = state_joined steps es (put h place idle).machine (joined l new peer) (joined_record es l new peer lf.maker handed) tt refl k.fine;
         names = λ p n q at d. absurd (cc);
-       
         listens = λ p q op d m. elim (get_split sockets (joined l new peer) p q d) [ inl v ↦ k.listens p q op v m | inr v ↦ absurd (no_listen op (ap (λ (y : Tcp2Socket). y.listening) v ∙ m)) ];
         new = i.new;
         unmade = λ t c s is. i.unmade (inr (subst NotMarked (sym u) tt)) c s is;

@@ -1,5 +1,5 @@
 -- The definitions on logs that are not licensed.
-use Rattle.wasi_walks.proofs.Words.{Call, Created, Entry, Handed, Has, IpSocketAddress, IsBindTo, IsLicensed, IsListen, IsMaker, IsMarkOf}
+use Rattle.wasi_walks.proofs.Words.{Call, Created, Entry, Handed, Has, IpSocketAddress, IsBindTo, IsLicensed, IsListenStep, IsMaker, IsMarkOf}
 use Rattle.wasi_walks.proofs.Words.{IsTcpCreate, List, NamesSide, None, OpId, ReachesSide, SocketAddrUse, SocketAddressFamily, Some, Step, Told}
 use Rattle.wasi_walks.proofs.Words.{WasiSocketsCtx, [], ap, arith, entry, false, inl, inr, own_of, port_of, refl, subst, true, wildcard, ℕ, ⊤, ◌++◌}
 use Rattle.wasi_walks.proofs.Words.{◌∷◌, ◌≡◌}
@@ -64,7 +64,7 @@ bind_80 = entry (own_of 3) (Call.Bind (own_of 2) local_80) Told.Done
 left_out : IsLicensed allowed bind_script (begins ++ bind_80 ∷ []) [] → ⊥
 left_out h = let may = h.each begins bind_80 [] refl in of_each (λ e. NoCheck e.call) begins _ (tt, (tt, (tt, (tt, tt)))) may.2.checked
 
--- == the check was told no
+-- == the check was answered no
 abbrev told_no : List Entry
 told_no = begins ++ entry (own_of 3) (Call.Check 0 local_80 SocketAddrUse.TcpBind) Told.No ∷ []
 
@@ -88,7 +88,7 @@ reused_check h =
     let line = of_each (λ e. ChecksByThird e.op e.call) first_bind _ (tt, (tt, (tt, (tt, (refl, (tt, (tt, tt))))))) may.2.checked in
     cc
 
--- == another context than the maker is asked
+-- == another context than the creator is asked
 abbrev asks_other : List Entry
 asks_other = begins ++ entry (own_of 3) (Call.Check 1 local_80 SocketAddrUse.TcpBind) Told.Yes ∷ []
 
@@ -148,7 +148,7 @@ forbidden_create h =
     let m = at_line (IsTcpCreate forbidden 0 SocketAddressFamily.Ipv4) (Step.TcpCreate 0 SocketAddressFamily.Ipv4) may.origin may.at may.holds in
     no_tcp m.0.ctx m.0.at m.0.tcp
 
--- == a side that the line doesn't name
+-- == a network socket that the line doesn't name
 abbrev two_sockets : List Step
 two_sockets = Step.Network 0 ∷ Step.TcpCreate 0 SocketAddressFamily.Ipv4 ∷ Step.TcpCreate 0 SocketAddressFamily.Ipv4 ∷ Step.TcpStartBind 0 2 1 local_80 ∷ []
 
@@ -163,7 +163,7 @@ checked_first = creates 0 SocketAddressFamily.Ipv4
 abbrev bind_second : Entry
 bind_second = entry (own_of 4) (Call.Bind (own_of 3) local_80) Told.Done
 
--- the side of the third line is that of handle 3 alone
+-- the network socket of the third line is that of handle 3 alone
 abbrev OnlyThird : Call → Type 0
 OnlyThird (Call.Made handle k parent sock) = sock ≡ Some (own_of 3) → handle ≡ 3
 OnlyThird _ = ⊤
@@ -202,7 +202,7 @@ not_created h =
 unmade : IsLicensed allowed bind_script (begins ++ entry (own_of 3) (Call.UdpBind (own_of 2) local_80) Told.Done ∷ []) [] → ⊥
 unmade h = h.each begins (entry (own_of 3) (Call.UdpBind (own_of 2) local_80) Told.Done) [] refl
 
--- == the backlog of a side that doesn't listen is set
+-- == the backlog of a network socket that doesn't listen is set
 -- no listen
 abbrev NoListen : Call → Type 0
 NoListen (Call.Listen side backlog) = ⊥
@@ -217,4 +217,4 @@ unasked h =
 no_listen : IsLicensed allowed bind_script (begins ++ entry (own_of 3) (Call.Listen (own_of 2) 128) Told.Done ∷ []) [] → ⊥
 no_listen h =
     let may = h.each begins (entry (own_of 3) (Call.Listen (own_of 2) 128) Told.Done) [] refl in
-    at_line IsListen (Step.TcpStartBind 0 2 1 local_80) may.1.origin may.1.at may.1.holds
+    at_line IsListenStep (Step.TcpStartBind 0 2 1 local_80) may.1.origin may.1.at may.1.holds

@@ -95,7 +95,7 @@ bind_licensed = licensed allowed bind_script bind_log (
   ),
 )
 
--- == the maker is asked, whoever binds; and a bind that is pending stands, with busy lines after it
+-- == the creator is asked, whoever binds; and a bind whose check is pending is a pending call, with busy lines after it
 abbrev local_six : IpSocketAddress
 local_six = IpSocketAddress.Ipv6 (record { port = 80; flow_info = 0; address = (8193, 3512, 0, 0, 0, 0, 0, 1); scope_id = 0 })
 

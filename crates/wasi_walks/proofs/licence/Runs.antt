@@ -122,7 +122,7 @@ module _ (contexts : List WasiSocketsCtx) where
       (line_licensed now line s (last_line before s line e) m es new (fine_more contexts before (s ∷ []) line es m h)))
       (λ fs done k. allows_if (MayAsk contexts all) (λ fs done. ⊤) fs (is_trap done.0) _ _ (λ trap. tt) (λ on. lines all (replies ++ done.0 ∷ []) done.1 (line + 1) now rest fs b (next_line before s line e) k.0 k.1))
 
-  -- wherever the run stands, before a reply is given
+  -- at every point of the run, before a reply is given
   pub begun_licensed : (steps : List Step) (log : List Entry) (rest : Asks (List Reply × Machine)) → Left (run contexts [] first_state 1 steps) log rest → IsLicensed contexts steps log []
   begun_licensed steps log rest w = record {
     each = λ before e after cut.

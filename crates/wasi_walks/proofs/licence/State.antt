@@ -8,7 +8,7 @@ use Rattle.wasi_walks.proofs.Words.{WriteState, Yes, [], call_place, entry, kind
 use Rattle.wasi_walks.proofs.Words.{◌+◌, ◌∷◌, ◌≡◌}
 use Rattle.wasi_walks.proofs.walks.Moves.{record_of}
 
--- The handle stands for the record at this place, and its mark says the side that the record was made with.
+-- The handle stands for the record at this place, and its mark says the network socket that the record was made with.
 pub record NamesRecord (es : List Entry) (sockets : List Tcp2Socket) (handle place : ℕ) : Type 0 where
   pub found : Tcp2Socket
   pub at : slice_get sockets place ≡ Some found
@@ -21,28 +21,28 @@ NamesIf es sockets handle None = ⊤
 abbrev pub HandleIsFine : List Entry → List Tcp2Socket → ℕ → Kind → Type 0
 HandleIsFine es sockets handle kind = NamesIf es sockets handle (record_of (Some kind))
 
--- The socket knows the maker of its side, and the side's family.
+-- The socket knows the creator of its network socket, and the network socket's family.
 pub record KnowsMaker (es : List Entry) (socket : Socket) : Type 0 where
   pub maker : (side : OpId) → side_of socket ≡ Some side → IsMaker es socket.maker socket.family side
 
--- The socket is connected, on this side.
+-- The socket is connected, on this network socket.
 pub record IsConnectedOn (socket : Socket) (side : OpId) : Type 0 where
   pub connection : Connection
   pub state : socket.state ≡ TcpState.Connected connection
   pub same : connection.side ≡ side
 
--- the half, while it is open, is of this side
+-- the half, while it is open, is of this network socket
 abbrev pub ReadsOn : OpId → ReadState → Type 0
 ReadsOn side (ReadState.Open half) = half.side ≡ side
 ReadsOn side ReadState.Closed = ⊤
 
--- what is left of a bind to the address, and the yes that it was told
+-- what is left of a bind to the address, and the yes that it was answered
 pub data BindLeft (es : List Entry) (op : OpId) (maker : ℕ) (addr : IpSocketAddress) : List Item → Type 0 where
   Whole : BindLeft es op maker addr (Check addr TcpBind ∷ Bind addr ∷ [])
   Checked : Has es (entry op (Call.Check maker addr TcpBind) Yes) → BindLeft es op maker addr (Bind addr ∷ [])
   Over : BindLeft es op maker addr []
 
--- what is left of a connect to the address, and what it was told so far
+-- what is left of a connect to the address, and what it was answered so far
 pub data ConnectLeft (es : List Entry) (op side : OpId) (maker : ℕ) (addr : IpSocketAddress) : List Item → Type 0 where
   Unbound : (family : SocketAddressFamily) → IsMaker es maker family side → ConnectLeft es op side maker addr (Check (wildcard family) TcpBind ∷ Check addr TcpConnect ∷ Connect addr ∷ [])
   Unchecked : MayGoOut es op side → ConnectLeft es op side maker addr (Check addr TcpConnect ∷ Connect addr ∷ [])
@@ -59,19 +59,19 @@ pub data WriteLeft : List Item → Type 0 where
   Written : WriteLeft []
 
 -- == an accept
--- The operation's last `accept` on the listener told this peer.
+-- The operation's last `accept` on the listener reported this peer.
 pub record LastAccept (es : List Entry) (op side : OpId) (peer : IpSocketAddress) : Type 0 where
   pub front : List Entry
   pub back : List Entry
   pub cut : es ≡ front ++ entry op (Call.Accept side) (Arrived peer) ∷ back
   pub last : (told : Told) → Has back (entry op (Call.Accept side) told) → ⊥
 
--- The log has what the operation handed over on the listener's side.
+-- The log has what the operation handed over on the listener's network socket.
 pub record IsHanded (es : List Entry) (op side : OpId) (peer : IpSocketAddress) : Type 0 where
   pub told : Told
   pub hand : Has es (entry op (Call.Hand side peer) told)
 
--- what is left of an accept that waits, and what it was told
+-- what is left of an accept that waits, and what it was answered
 pub data AcceptLeft (es : List Entry) (op side : OpId) : List Item → Type 0 where
   Unarrived : AcceptLeft es op side (Accept ∷ [])
   ToCheck : (peer : IpSocketAddress) → LastAccept es op side peer → AcceptLeft es op side (CheckArrival peer ∷ [])
@@ -107,11 +107,11 @@ abbrev pub OneHolds : List Tcp2Socket → Type 0
 OneHolds sockets = (i j : ℕ) (r s : Tcp2Socket) (x : OpId) → slice_get sockets i ≡ Some r → slice_get sockets j ≡ Some s → accept_name r.listening ≡ Some x → accept_name s.listening ≡ Some x → i ≡ j
 
 module _ (steps : List Step) where
-  -- the operation's step names a handle of this side
+  -- the operation's step names a handle of this network socket
   abbrev pub Names : List Entry → OpId → OpId → Type 0
   Names es op side = BeganBy steps op (NamesSide es side)
 
-  -- The operation is on a side that its step names, and knows the side's maker.
+  -- The operation is on a network socket that its step names, and knows the network socket's creator.
   pub record WorksOn (es : List Entry) (op side : OpId) (maker : ℕ) : Type 0 where
     pub family : SocketAddressFamily
     pub made : IsMaker es maker family side
@@ -133,14 +133,14 @@ module _ (steps : List Step) where
     pub last : op.who.last ≡ CloseLast
     pub left : ConnectLeft es op.who.id op.who.side op.who.context addr op.left
 
-  -- A write that may be polled: it is on this side, of which its own step names a handle.
+  -- A write that may be polled: it is on this network socket, of which its own step names a handle.
   pub record JobIsFine (es : List Entry) (side : OpId) (job : Job) : Type 0 where
     pub named : Names es job.write.who.id side
     pub on : job.write.who.side ≡ side
     pub last : job.write.who.last ≡ ShutdownLast
     pub left : WriteLeft job.write.left
 
-  -- the half, while there is one, is of this side, and a write that goes on may be polled
+  -- the half, while there is one, is of this network socket, and a write in progress may be polled
   abbrev pub WritesOn : List Entry → OpId → WriteState → Type 0
   WritesOn es side (WriteState.Ready half permit) = half.side ≡ side
   WritesOn es side (WriteState.Writing job) = JobIsFine es side job
@@ -154,7 +154,8 @@ module _ (steps : List Step) where
     pub reads : ReadsOn side streams.reader
     pub writes : WritesOn es side streams.writer
 
-  -- An accept that may be polled: it is on the listener's side, which its step names, and for the listener's maker.
+  -- An accept that may be polled: it is on the listener's network socket, which its step names, and for the listener's
+  -- creator.
   pub record AcceptIsFine (es : List Entry) (side : OpId) (maker : ℕ) (op : Operation) : Type 0 where
     pub named : Names es op.who.id side
     pub on : op.who.side ≡ side
@@ -167,7 +168,7 @@ module _ (steps : List Step) where
   AcceptingIsFine es side maker (Accepting.Arrived new peer) = IsHanded es new side peer
   AcceptingIsFine es side maker _ = ⊤
 
-  -- A listener is on the side that its record was made with, and knows its maker.
+  -- A listener is on the network socket that its record was made with, and knows its creator.
   pub record ListenerIsFine (es : List Entry) (made : Option OpId) (l : Listener) : Type 0 where
     pub side : made ≡ Some l.side
     pub maker : IsMaker es l.maker l.family l.side
@@ -177,19 +178,19 @@ module _ (steps : List Step) where
   ListeningIsFine es made (Accepts l) = ListenerIsFine es made l
   ListeningIsFine es made _ = ⊤
 
-  -- A socket knows its maker; it is bound, and it listens, only where the log says so; and its connect may be polled.
+  -- A socket knows its creator; it is bound, and it listens, only where the log says so; and its connect may be polled.
   pub record SocketIsFine (es : List Entry) (socket : Socket) : Type 0 where
     pub knows : KnowsMaker es socket
     pub bound : (side : OpId) → socket.state ≡ TcpState.Default side → socket.bound ≡ true → IsBoundSide es side
     pub listens : (side : OpId) → socket.state ≡ TcpState.Listening side → Listens es side
     pub connect : (op : Operation) → socket.state ≡ TcpState.Connecting op → ConnectIsFine es op
 
-  -- the bind that goes on may be polled
+  -- the bind in progress may be polled
   abbrev pub ProgressIsFine : List Entry → InProgress → Type 0
   ProgressIsFine es (InProgress.Binding op) = BindIsFine es op
   ProgressIsFine es _ = ⊤
 
-  -- A socket that still has a side has the one that its record was made with.
+  -- A socket that still has a network socket has the one that its record was made with.
   pub record RecordIsFine (es : List Entry) (r : Tcp2Socket) : Type 0 where
     pub socket : SocketIsFine es r.inner
     pub named : (side : OpId) → side_of r.inner ≡ Some side → r.side ≡ Some side
@@ -197,7 +198,7 @@ module _ (steps : List Step) where
     pub listening : ListeningIsFine es r.side r.listening
     pub progress : ProgressIsFine es r.in_progress
 
-  -- A call that stands: its line names a handle of the side that its record was made with.
+  -- A pending call: its line names a handle of the network socket that its record was made with.
   pub record StandingIsFine (es : List Entry) (sockets : List Tcp2Socket) (s : Standing) : Type 0 where
     pub found : Tcp2Socket
     pub at : slice_get sockets (call_place s.call) ≡ Some found

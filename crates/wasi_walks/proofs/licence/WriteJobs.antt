@@ -1,4 +1,4 @@
--- A write that goes on: each of its asks is allowed, and what it leaves may be polled on.
+-- A write in progress: each of its asks is allowed, and what it leaves may be polled on.
 use Rattle.wasi_walks.proofs.Words.{Allows, Call, End, Entry, ErrorCode, FrontKeeps, Given, Item, Job, List, Nothing, OpId, Polled, ReachesSide}
 use Rattle.wasi_walks.proofs.Words.{ShutdownLast, ShutdownSend, Step, Waits, WasiSocketsCtx, Who, Write, [], allows_polls, allows_then, bind, entry}
 use Rattle.wasi_walks.proofs.Words.{front, inl, job_asks, job_in, last_ask, length, less_one, poll_asks, subst, suc, sym, taken_front, then_closed}
@@ -10,7 +10,7 @@ use Rattle.wasi_walks.proofs.licence.Frames.{stay, names_on}
 module _ (contexts : List WasiSocketsCtx) (steps : List Step) where
   -- == a poll
   module _ (who : Who) (side : OpId) (on : who.side ≡ side) (last : who.last ≡ ShutdownLast) where
-    -- the step that began it names its side, and so much is left
+    -- the step that began it names its network socket, and so much is left
     abbrev Stands : List Entry → List Item → Type 0
     Stands es items = Names steps es who.id side × WriteLeft items
 

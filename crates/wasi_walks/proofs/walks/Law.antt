@@ -27,7 +27,7 @@ pub record Law (contexts : List WasiSocketsCtx) (line : ℕ) (origin : Step) : T
       → Allows P (λ fs done. Inv fs (record h { machine = done.1; own = Used })) es (create_asks h.machine (own_of line) ctx family)
   pub accepted : (es : List Entry) (h : Here) (c listener place : ℕ) (r : Tcp2Socket) → origin ≡ Step.TcpAccept c listener → h.made ≡ Joined place → h.own ≡ Used → Found h place r → Inv es h
       → Allows P (λ fs made. Inv fs (record h { machine = record h.machine { table = made.1 }; made = made_so place made.0 })) es (make_asks h.machine.table (own_of line) (Tcp2 place) (Some listener) (side_at (slice_get h.machine.store.sockets place)))
-  -- what goes on
+  -- what is in progress
   pub polls : (es : List Entry) (h : Here) (op : Operation) (after : End × List Item → Here) → Held h op after → Inv es h → Allows P (λ fs ended. Inv fs (after ended)) es (poll_asks op)
   pub turns : (es : List Entry) (h : Here) (place : ℕ) (r : Tcp2Socket) (s : Streams) → Found h place r → r.streams ≡ Some s → Inv es h → Allows P (λ fs done. Inv fs (put h place (with_writer r s done.1))) es (turn_asks s.writer)
   pub gives_up : (es : List Entry) (h : Here) (place : ℕ) (r : Tcp2Socket) → Found h place r → Inv es h → Allows P (λ fs done. Inv fs (put h place (with_listening r Not))) es (give_up_asks r.listening)
@@ -188,7 +188,7 @@ module _ {contexts : List WasiSocketsCtx} {line : ℕ} {origin : Step} {law : La
           (λ fs done k. subst (law.Inv fs) (put_put h place r (with_writer r s done.1)) k) es (turn_asks s.writer) (law.turns es (put h place r) place r s (found here r) e i);
     }
 
-    -- the record goes: its listening is given up, and its side is closed
+    -- the record goes: its listening is released, and its network socket is closed
     pub give_up : (r : Tcp2Socket) → Walks law (put h place r) (λ done. put h place (with_listening r Not)) (give_up_asks r.listening)
     give_up r = ends (λ done. put_put h place r (with_listening r Not)) (record { along = λ es i. law.gives_up es (put h place r) place r (found here r) i })
 

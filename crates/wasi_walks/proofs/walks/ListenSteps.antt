@@ -1,9 +1,9 @@
 -- The steps of listens and accepts, as moves.
-use Rattle.wasi_walks.proofs.Words.{Accepts, Answer, Bool, Err, ErrorCode, Give, Handles, Has, IsListen, List, Listening, Machine, None, Ok, Option}
+use Rattle.wasi_walks.proofs.Words.{Accepts, Answer, Bool, Err, ErrorCode, Give, Handles, Has, IsListenStep, List, Listening, Machine, None, Ok, Option}
 use Rattle.wasi_walks.proofs.Words.{Ready, Records, Result, Socket, Some, StandingCall, Step, Stop, Tcp2Socket, WasiSocketsCtx, accept_answered}
 use Rattle.wasi_walks.proofs.Words.{accept_at, accept_end, accept_listening, accept_on, accepted_asks, accepted_record, accepted_streams, false}
 use Rattle.wasi_walks.proofs.Words.{first_ids, handles_of, is_nothing, kept_accepted, kind_at, make_asks, own_of, refl, side_at, slice_get, slice_set}
-use Rattle.wasi_walks.proofs.Words.{socket_at, start_listen_at, start_listen_by, true, with_sockets, with_store, with_streams, with_table, ℕ, ⊤, ◌≡◌}
+use Rattle.wasi_walks.proofs.Words.{socket_at, start_listen_at, start_listen_by, true, with_sockets, with_store, socket_with_streams, with_table, ℕ, ⊤, ◌≡◌}
 use Rattle.wasi_walks.proofs.walks.Moves.{NoBindStands, Used, Unused, put, Found, record_of, Reaches, Leaves, Spends, Marked, made_so, AnAcceptedStream, Watches}
 use Rattle.wasi_walks.proofs.walks.Law.{Law, HasRecord, put_same, Walks, give, and_then, and_given, move, gives, from, accept}
 use Rattle.wasi_walks.proofs.walks.Sockets.{joined_if, Took, takes_walks, listener_walks, begin_listen_walks, listen_waits_so}
@@ -12,12 +12,12 @@ use Rattle.wasi_walks.proofs.walks.SocketSteps.{answered_walks, streams_walks}
 
 module _ {contexts : List WasiSocketsCtx} {line : ℕ} {origin : Step} {law : Law contexts line origin} where
   -- == a listen
-  start_listen_by_walks : (m : Machine) (place : ℕ) (r : Tcp2Socket) (idle : Bool) → is_nothing r.in_progress ≡ idle → Found (At line m place Unused) place r → IsListen origin → NoBindStands m.store.standing → Walks law (At line m place Unused) (Put line m place) (start_listen_by m.store (own_of line) place r idle)
+  start_listen_by_walks : (m : Machine) (place : ℕ) (r : Tcp2Socket) (idle : Bool) → is_nothing r.in_progress ≡ idle → Found (At line m place Unused) place r → IsListenStep origin → NoBindStands m.store.standing → Walks law (At line m place Unused) (Put line m place) (start_listen_by m.store (own_of line) place r idle)
   start_listen_by_walks m place r true e g is q =
       from (put_same (At line m place Unused) place r g) (and_then (begin_listen_walks (there g) refl is refl q r e) (λ begun. answered_walks m line (StandingCall.Listen place) begun (record { was = r; found = g }) (listen_waits_so place begun)))
   start_listen_by_walks m place r false e g is q = gives _ (Spends _ refl)
 
-  pub start_listen_at_walks : (m : Machine) (place : ℕ) (o : Option Tcp2Socket) → slice_get m.store.sockets place ≡ o → IsListen origin → NoBindStands m.store.standing → Walks law (At line m place Unused) (Put line m place) (start_listen_at m.store (own_of line) place o)
+  pub start_listen_at_walks : (m : Machine) (place : ℕ) (o : Option Tcp2Socket) → slice_get m.store.sockets place ≡ o → IsListenStep origin → NoBindStands m.store.standing → Walks law (At line m place Unused) (Put line m place) (start_listen_at m.store (own_of line) place o)
   start_listen_at_walks m place None g is q = gives _ (Spends _ refl)
   start_listen_at_walks m place (Some r) g is q = start_listen_by_walks m place r (is_nothing r.in_progress) refl g is q
 
@@ -49,7 +49,7 @@ module _ {contexts : List WasiSocketsCtx} {line : ℕ} {origin : Step} {law : La
       and_then (streams_walks None (Marked socket p) socket p now (λ t. ⊤) (λ t kind g. given_any (λ x. ⊤) (λ x. tt) (make_asks t (own_of line) kind (Some socket) (side_at (slice_get m.store.sockets p)))) (λ t kind which g. AnAcceptedStream c s socket p kind here.was is which refl refl here.found) tt)
       (λ done. with_streams_walks socket done)
     where
-      with_streams_walks : (socket : ℕ) (done : Result (ℕ × ℕ) Stop × Machine) → Walks law (Over done.1) OverWith (Give (with_streams socket done))
+      with_streams_walks : (socket : ℕ) (done : Result (ℕ × ℕ) Stop × Machine) → Walks law (Over done.1) OverWith (Give (socket_with_streams socket done))
       with_streams_walks socket (Ok pair, m) = give _
       with_streams_walks socket (Err why, m) = give _
   accepted_streams_walks c s p m (Err why, t) is here = gives _ (Leaves _)

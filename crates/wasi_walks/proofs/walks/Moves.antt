@@ -1,7 +1,7 @@
 -- What a line does, as moves: the state that it works on, what it may ask of the record that it works on, and how the state may
 -- move where nothing is asked.
 use Rattle.wasi_walks.proofs.Words.{Accepting, Accepts, Begins, Bool, Call, Connection, End, Err, ErrorCode, ErrorValue, Has, InProgress, Input}
-use Rattle.wasi_walks.proofs.Words.{IpSocketAddress, IsBindTo, IsConnectTo, IsListen, Item, Job, Kind, List, Listener, Machine, Network, None, Not}
+use Rattle.wasi_walks.proofs.Words.{IpSocketAddress, IsBindTo, IsConnectTo, IsListenStep, Item, Job, Kind, List, Listener, Machine, Network, None, Not}
 use Rattle.wasi_walks.proofs.Words.{Ok, OpId, Operation, Option, Other, Output, Pollable, ReadState, Result, SocketAddressFamily, Some, Standing}
 use Rattle.wasi_walks.proofs.Words.{StandingCall, Step, Stop, Streams, Tcp2, Tcp2Socket, TcpReceiveStream, TcpSendStream, TcpState, WasiSocketsCtx}
 use Rattle.wasi_walks.proofs.Words.{Watched, WriteState, [], accept_ended, accept_operation, accepted_record, accepted_socket, accepted_state}
@@ -15,7 +15,7 @@ use Rattle.wasi_tcp.specs.declared.bind.BindStage.TheVariants.{Check}
 use Rattle.wasi_tcp.specs.declared.writer.WriteError.{WriteError}
 use Rattle.wasi_tcp.specs.declared.accept.AcceptStage.TheVariants as accept
 
--- what the line's own operation has begun: something, or nothing yet; these bytes it is let write to this side
+-- what the line's own operation has begun: something, or nothing yet; these bytes it is let write to this network socket
 pub data Own : Type 0 where
   Used : Own
   Unused : Own
@@ -41,7 +41,7 @@ put h place r = record h { machine = record h.machine { store = with_socket h.ma
 abbrev pub Found : Here → ℕ → Tcp2Socket → Type 0
 Found h place r = slice_get h.machine.store.sockets place ≡ Some r
 
--- no bind stands
+-- no bind is pending
 abbrev pub NoBindIn : StandingCall → Type 0
 NoBindIn (StandingCall.Bind place) = ⊥
 NoBindIn _ = ⊤
@@ -53,7 +53,7 @@ NoBindStands (Some s) = NoBindIn s.call
 abbrev pub NoBind : Here → Type 0
 NoBind h = NoBindStands h.machine.store.standing
 
--- of binds, no other goes on: none does, or it is the same
+-- of binds, no other is in progress: none is, or it is the same
 abbrev pub IsSettled : InProgress → Type 0
 IsSettled (InProgress.Binding op) = ⊥
 IsSettled _ = ⊤
@@ -61,18 +61,18 @@ IsSettled _ = ⊤
 abbrev pub KeepsBinding : InProgress → InProgress → Type 0
 KeepsBinding old now = (now ≡ old) ⊎ (IsSettled old × IsSettled now)
 
--- a bind goes on
+-- a bind is in progress
 abbrev pub HasBinding : InProgress → Type 0
 HasBinding (InProgress.Binding op) = ⊤
 HasBinding _ = ⊥
 
--- where a bind is to stand, it goes on
+-- where a bind is to be pending, it is in progress
 abbrev pub GoesOn : StandingCall → Tcp2Socket → Type 0
 GoesOn (StandingCall.Bind place) r = HasBinding r.in_progress
 GoesOn _ r = ⊤
 
--- == what may be asked of a record's side by the line that works on it
--- a question, or that a half is given up
+-- == what may be asked of a record's network socket by the line that works on it
+-- a question, or that a half is released
 abbrev pub IsQuestionOf : OpId → Call → Type 0
 IsQuestionOf side (Call.Local s) = s ≡ side
 IsQuestionOf side (Call.Peer s) = s ≡ side
@@ -84,7 +84,7 @@ IsQuestionOf side (Call.WriteReady s) = s ≡ side
 IsQuestionOf side (Call.Shutdown s how) = s ≡ side
 IsQuestionOf side _ = ⊥
 
--- the side is the socket's, or that of one of its halves
+-- the network socket is the socket's, or that of one of its halves
 pub data IsOn (r : Tcp2Socket) (side : OpId) : Type 0 where
   OfSocket : side_of r.inner ≡ Some side → IsOn r side
   OfReader : (s : Streams) (half : TcpReceiveStream) → r.streams ≡ Some s → s.reader ≡ ReadState.Open half → half.side ≡ side → IsOn r side
@@ -99,8 +99,8 @@ IsConnecting _ = ⊥
 abbrev pub TakesNone : Connection → Connection → Type 0
 TakesNone c now = (now.receive_taken ≡ c.receive_taken) × (now.send_taken ≡ c.send_taken)
 
--- The side, the streams and the listening are as they were, and so is what the socket does, and a bind that goes on. A connect is
--- in progress only where one was, or where the socket connects.
+-- The network socket, the streams and the listening are as they were, and so is what the socket does, and a bind in progress. A
+-- connect is in progress only where one was, or where the socket connects.
 pub record Plain (old now : Tcp2Socket) : Type 0 where
   pub side : now.side ≡ old.side
   pub streams : now.streams ≡ old.streams
@@ -141,7 +141,7 @@ abbrev pub Creates : List WasiSocketsCtx → WasiSocketsCtx → SocketAddressFam
 Creates contexts ctx family (Step.TcpCreate n f) = (context_at contexts n ≡ ctx) × (f ≡ family)
 Creates contexts ctx family _ = ⊥
 
--- a handle that the line may mark, with its parent and its side
+-- a handle that the line may mark, with its parent and its network socket
 pub data Marks (origin : Step) (h : Here) : Kind → Option ℕ → Option OpId → Type 0 where
   ANetwork : (c : ℕ) → origin ≡ Step.Network c → Marks origin h Network None None
   AStream : (c handle place : ℕ) (kind : Kind) → origin ≡ Step.TcpFinishConnect c handle → (kind ≡ Input place) ⊎ (kind ≡ Output place) → record_of (kind_at h.machine.table handle) ≡ Some place → Marks origin h kind (Some handle) (side_at (slice_get h.machine.store.sockets place))
@@ -154,7 +154,7 @@ abbrev pub begun_bind : OpId → OpId → Tcp2Socket → IpSocketAddress → Ope
 begun_bind own side r a = bind_operation (record { op = own; side = side; maker = r.inner.maker }) a Check
 
 -- == records of a listen and of a listener
--- a listen begins, and takes the side
+-- a listen begins, and takes the network socket
 abbrev pub begun_listen : OpId → OpId → Tcp2Socket → Operation
 begun_listen own side r = listen_operation (record { op = own; side = side; maker = r.inner.maker }) (wildcard r.inner.family) r.inner.backlog (listen_first true)
 
@@ -189,7 +189,7 @@ abbrev pub made_so : ℕ → Result ℕ Stop → Made
 made_so place (Ok handle) = Marked handle place
 made_so place (Err why) = Past
 
--- the record that is left where its side was closed
+-- the record that is left where its network socket was closed
 abbrev pub closed_record : Tcp2Socket → Tcp2Socket
 closed_record r = gone r (with_state r.inner (TcpState.Closed Other))
 
@@ -218,7 +218,7 @@ pub data Move (line : ℕ) (origin : Step) : Here → Here → Type 0 where
       → Move line origin h (record (put h place (with_progress r (InProgress.Binding (begun_bind (own_of line) side r a)))) { own = Used })
   BeginsWrite : (h : Here) (place : ℕ) (r : Tcp2Socket) (s : Streams) (half : TcpSendStream) (permit : ℕ) (bytes : List ℕ) → h.at ≡ Some (place, line) → Found h place r → r.streams ≡ Some s → s.writer ≡ WriteState.Ready half permit → nat_lt permit (length bytes) ≡ false → h.own ≡ ToWrite half.side bytes
       → Move line origin h (record (put h place (with_writer r s (WriteState.Writing (new_job (own_of line) half.side bytes)))) { own = Used })
-  BeginsListen : (h : Here) (place : ℕ) (r : Tcp2Socket) (side : OpId) → h.at ≡ Some (place, line) → Found h place r → r.inner.state ≡ TcpState.Default side → r.inner.bound ≡ true → r.listening ≡ Not → IsListen origin → is_nothing r.in_progress ≡ true → h.own ≡ Unused
+  BeginsListen : (h : Here) (place : ℕ) (r : Tcp2Socket) (side : OpId) → h.at ≡ Some (place, line) → Found h place r → r.inner.state ≡ TcpState.Default side → r.inner.bound ≡ true → r.listening ≡ Not → IsListenStep origin → is_nothing r.in_progress ≡ true → h.own ≡ Unused
       → Move line origin h (record (put h place (beginning_listen (own_of line) side r)) { own = Used })
   BeginsAccept : (h : Here) (place : ℕ) (r : Tcp2Socket) (l : Listener) → h.at ≡ Some (place, line) → Found h place r → r.listening ≡ Accepts l → l.accept ≡ Accepting.Idle → h.own ≡ Unused
       → Move line origin h (record (put h place (accepting_now r l (new_accept line l))) { own = Used })
@@ -229,7 +229,7 @@ pub data Move (line : ℕ) (origin : Step) : Here → Here → Type 0 where
   Watches : (h : Here) → h.own ≡ Unused → Move line origin h (record h { made = Unmade })
   Joins : (h : Here) (c handle place : ℕ) (r : Tcp2Socket) (l : Listener) (new : OpId) (peer : IpSocketAddress) → origin ≡ Step.TcpAccept c handle → record_of (kind_at h.machine.table handle) ≡ Some place → h.made ≡ Unmade → Found h place r → r.listening ≡ Accepts l → l.accept ≡ Accepting.Arrived new peer
       → Move line origin h (joining h (slice_set h.machine.store.sockets place (accepting_now r l Accepting.Idle)) (joined l new peer))
-  -- a call stands, by the line that asks; it goes on; nothing stands
+  -- a call is pending, by the line that asks; it is in progress; nothing is pending
   Stands : (h : Here) (n : ℕ) (call : StandingCall) (r : Tcp2Socket) → h.at ≡ Some (call_place call, n) → Found h (call_place call) r → GoesOn call r → Move line origin h (record h { machine = record h.machine { store = record h.machine.store { standing = Some (standing_as n call) } } })
   Resumes : (h : Here) (s : Standing) → h.machine.store.standing ≡ Some s → Move line origin h (record h { at = Some (call_place s.call, s.line) })
   Unstands : (h : Here) → Move line origin h (record h { machine = record h.machine { store = record h.machine.store { standing = None } } })

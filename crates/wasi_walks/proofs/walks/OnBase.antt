@@ -1,4 +1,4 @@
--- A law that stands on another: what it asks, keeps and moves, where the other holds.
+-- A law that rests on another: what it asks, keeps and moves, where the other holds.
 use Rattle.wasi_walks.proofs.Words.{Allows, Ask, AskWrite, Asks, Call, End, Entry, Fits, Give, IsBacklogSet, Item, Kind, List, None, Not, OpId}
 use Rattle.wasi_walks.proofs.Words.{Operation, Option, SocketAddressFamily, Some, Step, Streams, Tcp2, Tcp2Socket, TcpState, Told, WasiSocketsCtx, []}
 use Rattle.wasi_walks.proofs.Words.{after_local, create_asks, entry, give_up_asks, make_asks, own_of, poll_asks, side_at, side_of, slice_get}

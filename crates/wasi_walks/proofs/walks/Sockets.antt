@@ -1,6 +1,6 @@
 -- The calls on a socket, and those of a listen and of a listener, as moves of the record that holds it.
 use Rattle.wasi_walks.proofs.Words.{Accepting, Accepts, Answer, Begins, Bool, Connection, Done, End, Err, ErrorCode, Give, InProgress}
-use Rattle.wasi_walks.proofs.Words.{InvalidArgument, InvalidState, IpSocketAddress, IsBacklogSet, IsBindTo, IsConnectTo, IsListen, Item, List}
+use Rattle.wasi_walks.proofs.Words.{InvalidArgument, InvalidState, IpSocketAddress, IsBacklogSet, IsBindTo, IsConnectTo, IsListenStep, Item, List}
 use Rattle.wasi_walks.proofs.Words.{Listener, Listening, None, Not, Ok, OpId, Operation, Option, Pending, Ready, Refused, Result, Socket, Some}
 use Rattle.wasi_walks.proofs.Words.{StandingCall, Step, Stop, Tcp2Socket, TcpState, Waits, WasiSocketsCtx, accept_asks, accept_end, accept_ended}
 use Rattle.wasi_walks.proofs.Words.{accepted_record, after_backlog, after_local, ap, ask_bound, ask_set_option, begin_bind_asks, begin_connect_asks}
@@ -141,7 +141,7 @@ module _ {contexts : List WasiSocketsCtx} {line : ℕ} {origin : Step} {law : La
       polled (Ok (Ready d), socket) = opens r socket socket.state settled
       polled (Err c, socket) = idles r socket _ settled
 
--- a bind that waits goes on
+-- a bind that waits is in progress
 abbrev pub WaitsSo : StandingCall → Result (Answer (Unit {0})) ErrorCode × Tcp2Socket → Type 0
 WaitsSo call (Ok Pending, r) = GoesOn call r
 WaitsSo call _ = ⊤
@@ -327,12 +327,12 @@ known_given op socket e = by_test socket.bound e
     by_test true p = (refl, refl)
     by_test false p = absurd (cc)
 
--- the operation that was begun holds the side
+-- the operation that was begun holds the network socket
 abbrev pub Listened : Here → ℕ → Tcp2Socket → Result Operation ErrorCode × Socket → Here
 Listened h place r (Ok op, socket) = record (put h place (record r { inner = socket; listening = Begins op })) { own = Used }
 Listened h place r (Err c, socket) = record (put h place (with_inner r socket)) { own = Used }
 
-module _ {contexts : List WasiSocketsCtx} {line : ℕ} {origin : Step} {law : Law contexts line origin} {h : Here} {place : ℕ} (here : HasRecord h place) (at : h.at ≡ Some (place, line)) (is : IsListen origin) (free : h.own ≡ Unused) (quiet : NoBind h) where
+module _ {contexts : List WasiSocketsCtx} {line : ℕ} {origin : Step} {law : Law contexts line origin} {h : Here} {place : ℕ} (here : HasRecord h place) (at : h.at ≡ Some (place, line)) (is : IsListenStep origin) (free : h.own ≡ Unused) (quiet : NoBind h) where
   starts_listen : (r : Tcp2Socket) (s : TcpState) → r.inner.state ≡ s → r.listening ≡ Not → r.inner.bound ≡ true → is_nothing r.in_progress ≡ true → Walks law (put h place r) (Listened h place r) (Give (listen_start (own_of line) r.inner true s))
   starts_listen r (TcpState.Default side) e none bound idle = move (BeginsListen (put h place r) place r side at (found here r) e bound none is idle free) (from (ap (λ (x : Here). record x { own = Used }) (sym (put_put h place r (beginning_listen (own_of line) side r)))) (give _))
   starts_listen r _ e none bound idle = gives _ (Spends _ free)

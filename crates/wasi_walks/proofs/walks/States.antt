@@ -42,7 +42,7 @@ output_record _ place e = absurd (cc)
 pub there : {h : Here} {place : ℕ} {r : Tcp2Socket} → Found h place r → HasRecord h place
 there {r} g = record { was = r; found = g }
 
--- the call that stands under a number
+-- the pending call under a number
 pub stands_so : (o : Option Standing) (n : ℕ) (call : StandingCall) → call_of o n ≡ Some call → o ≡ Some (standing_as n call)
 stands_so None n call e = absurd (cc)
 stands_so (Some s) n call e = by_line (s.line == n) refl e

@@ -1,4 +1,4 @@
--- A call that stands goes on; each step is made of moves, and so is a line while a call stands.
+-- A pending call continues; each step is made of moves, and so is a line while a call is pending.
 use Rattle.wasi_walks.proofs.Words.{Answer, Err, Give, InProgress, IsBacklogSet, List, Machine, None, Ok, Option, Records, Result, Some, Standing}
 use Rattle.wasi_walks.proofs.Words.{StandingCall, Step, Stop, Tcp2Socket, TcpSetting, TheBacklog, WasiSocketsCtx, asks_while, call_of, call_place}
 use Rattle.wasi_walks.proofs.Words.{check_write_asks, chosen, context_at, false, flush_asks, get_option_asks, go_on, inl, input_at, is_bind}
@@ -15,7 +15,7 @@ use Rattle.wasi_walks.proofs.walks.SocketSteps.{finish_started_walks, local_at_w
 use Rattle.wasi_walks.proofs.walks.ListenSteps.{accept_on_walks, start_listen_at_walks}
 
 module _ {contexts : List WasiSocketsCtx} {line : ℕ} {origin : Step} {law : Law contexts line origin} where
-  -- == a pending call goes on
+  -- == a pending call continues
   module _ (n : ℕ) (m : Machine) (quiet : NoBindStands m.store.standing) where
     rebind_walks : (place : ℕ) (o : Option Tcp2Socket) → slice_get m.store.sockets place ≡ o → Walks law (At n m place Used) (Put n m place) (rebind_at m.store n place o)
     rebind_walks place None g = give _
@@ -47,7 +47,7 @@ backlog_of : (c s : ℕ) (setting : TcpSetting) (value : ℕ) → chosen setting
 backlog_of c s (TcpSetting.ListenBacklogSize n) value e = tt
 backlog_of c s _ value e = absurd (cc)
 
--- what is finished is no bind that goes on
+-- what is finished is no bind in progress
 bind_settles : (doing : InProgress) → is_bind doing ≡ true → IsSettled doing
 bind_settles (InProgress.Binding op) e = absurd (cc)
 bind_settles _ e = tt
@@ -59,7 +59,7 @@ listen_settles _ e = tt
 none_stands : {o : Option Standing} → o ≡ None → NoBindStands o
 none_stands e = subst NoBindStands (sym e) tt
 
--- each step is made of moves; where a guest calls, nothing stands
+-- each step is made of moves; where a guest calls, nothing is pending
 pub step_walks : {contexts : List WasiSocketsCtx} (line : ℕ) (s : Step) {law : Law contexts line s} (m : Machine) → (is_guest_call s ≡ true → m.store.standing ≡ None) → Walks law (Starts m (may m s)) OverWith (step_asks contexts m line s)
 step_walks line (Step.Network c) m f = move (Spends _ refl) (and_then (and_then (mark (ANetwork c refl)) (λ made. give _)) (λ done. give _))
 step_walks {contexts} line (Step.TcpCreate c family) m f = and_then (create (context_at contexts c) family (refl, refl) refl refl refl) (λ done. give _)
@@ -87,7 +87,7 @@ step_walks line (Step.Drop c this) m f = and_then (drop_walks m this (kind_at m.
 step_walks line Step.Turn m f = and_then (turn_walks m) (λ done. give _)
 step_walks line (Step.Poll n) m f = and_then (resume_walks m n (call_of m.store.standing n) refl) (λ done. give _)
 
--- what a line may begin to write: nothing, while a call stands
+-- what a line may begin to write: nothing, while a call is pending
 abbrev pub may_while : Machine → Step → Option Standing → Own
 may_while m s None = may m s
 may_while m s (Some c) = Unused

@@ -77,7 +77,7 @@ module _ {contexts : List WasiSocketsCtx} {line : ℕ} {origin : Step} {law : La
   pub check_walks : (r : Tcp2Socket) (s : Streams) (w : WriteState) → Walks law (put h place (with_writer r s w)) (Writing h place r s) (check_write_asks (own_of n) w)
   check_walks r s w = and_then (look_walks r s w) (permitted_walks r s)
 
-  -- == the halves are given up; their record goes
+  -- == the halves are released; their record goes
   side_up_walks : (r : Tcp2Socket) (s : Streams) (w : WriteState) (o : Option OpId) → writer_side w ≡ o → Walks law (put h place (with_writer r s w)) (λ done. put h place (with_writer r s w)) (side_up_asks (own_of n) o)
   side_up_walks r s w (Some side) e = ask here (with_writer r s w) at (OfWriter _ refl e) refl (λ told fits. give _)
   side_up_walks r s w None e = give _

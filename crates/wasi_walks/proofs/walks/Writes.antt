@@ -28,7 +28,7 @@ abbrev pub may : Machine → Step → Own
 may m (Step.Write ctx output bytes) = may_at m bytes (output_at m output)
 may m _ = Unused
 
--- the bytes that a step is let write to a side
+-- the bytes that a step is let write to a network socket
 abbrev pub let_write : OpId → Own → List ℕ
 let_write side (ToWrite at bytes) = if is_same at side then bytes else []
 let_write side _ = []

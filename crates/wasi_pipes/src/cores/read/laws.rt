@@ -20,7 +20,7 @@ pub fn lengths_are_taken_in_order()
         taken_lengths (trace fresh events) ≡ offered_lengths (trace fresh events) }
 {}
 
-/// A fault is told at most once, and from then on an owner that finds the slot empty is answered `Closed`.
+/// A fault is reported at most once, and from then on an owner that finds the slot empty is answered `Closed`.
 pub fn fault_is_told_once()
     ensures once { (r : ReadRecord) (events : List ReadEvent) → Meets r events →
         count_by (λ step. tells_fault step.answer) (trace r events) ≤ 1 }

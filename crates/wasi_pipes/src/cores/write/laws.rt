@@ -37,7 +37,7 @@ pub fn nothing_is_accepted_before_a_flush_ends()
         (len : ℕ) → answer (run r (Flush ∷ between)) (Accept len) ≢ Answered (Ok tt) }
 {}
 
-/// A fault is told at most once, and from then on each of the owner's calls is answered `Closed`.
+/// A fault is reported at most once, and from then on each of the owner's calls is answered `Closed`.
 pub fn fault_is_told_once()
     ensures once { (r : WriteRecord) (events : List WriteEvent) → Meets r events →
         count_by (λ step. tells_fault step.answer) (trace r events) ≤ 1 }
@@ -54,7 +54,7 @@ pub fn budget_is_whole_after_a_flush()
     ensures initial { (r : WriteRecord) (events : List WriteEvent) → (run r events).initial ≡ r.initial }
 {}
 
-/// A refused write that tells no fault changes nothing.
+/// A refused write that reports no fault changes nothing.
 pub fn refused_write_changes_nothing()
     ensures { (r : WriteRecord) (len : ℕ) (e : StreamError) → answer r (Accept len) ≡ Answered (Err e) →
         tells_fault (answer r (Accept len)) ≡ false → happens r (Accept len) ≡ r }
