@@ -99,11 +99,15 @@ impl LastPiece {
         self.len = 0;
     }
 
-    /// Keeps the front of the next piece.
+    /// Keeps the next piece. One that is larger than those of a script is not kept, and no line is found from then on.
     fn remember(&mut self, piece: &[u8]) {
         self.settle();
-        let len = piece.len().min(PIECE_SIZE);
-        self.bytes[..len].copy_from_slice(&piece[..len]);
+        let len = piece.len();
+        if len > PIECE_SIZE {
+            self.line = u64::MAX;
+            return;
+        }
+        self.bytes[..len].copy_from_slice(piece);
         self.len = len;
     }
 
@@ -129,7 +133,8 @@ impl LastPiece {
     }
 }
 
-/// A source that passes on what another one gives, and remembers the last piece of it. Takes no memory beside its own.
+/// A source that passes on what another one gives, and remembers the last piece of it, of at most 4096 bytes. Takes no memory
+/// beside its own.
 #[derive(Drop)]
 pub struct LineSource<S> {
     inner: S,
