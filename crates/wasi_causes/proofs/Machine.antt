@@ -2,16 +2,16 @@
 use Rattle.wasi_host.specs.declared.binding.InProgress.TheVariants.{Binding}
 use Rattle.wasi_walks.proofs.walks.States.{stands_so as stands_under}
 use Rattle.wasi_causes.proofs.Words.{AcceptWaits, AcceptWaitsOn, Accepting, AcceptsIn, Answer, BindFailed, BindFails, BindWaits, Bool, CallFails}
-use Rattle.wasi_causes.proofs.Words.{CallStop, CallWaits, ClosedBy, ConnectWaits, Done, End, EndsPending, Entry, Err, ErrorCode, Give, HasNoListen}
+use Rattle.wasi_causes.proofs.Words.{CallWaits, ClosedBy, ConnectWaits, Done, End, EndsPending, Entry, Err, ErrorCode, Give, HasNoListen}
 use Rattle.wasi_causes.proofs.Words.{HasNoListener, HoldsAccept, HoldsConnect, IfSome, InProgress, InputWaits, InvalidState, IsBinding, IsIdleSocket}
 use Rattle.wasi_causes.proofs.Words.{IsListen, IsListening, IsOnNothing, IsReady, IsRestOfBind, IsSomeAnd, IsUnready, Item, List, ListenEnds}
 use Rattle.wasi_causes.proofs.Words.{ListenFailed, ListenWaits, Listener, Listening, Machine, MissesRecord, NoListen, NoSuchHandle, None, OfWatched}
 use Rattle.wasi_causes.proofs.Words.{Ok, OpId, Operation, Option, Pending, Pollable, ReadState, Ready, Records, Refused, Reply, Result, Some}
-use Rattle.wasi_causes.proofs.Words.{Standing, StandingCall, PendingCallsFit, StandsOnNothing, Stop, StreamStop, Streams, Tcp2Socket, TcpReceiveStream}
+use Rattle.wasi_causes.proofs.Words.{Standing, StandingCall, PendingCallsFit, Stop, StreamStop, Streams, Tcp2Socket, TcpReceiveStream}
 use Rattle.wasi_causes.proofs.Words.{TcpState, Told, Trap, Waits, WasiSocketsCtx, Watched, WatchesAccept, WatchesConnect, WatchesIdle, WriteState}
 use Rattle.wasi_causes.proofs.Words.{WriteWaits, [], accept_name, allowed_answer, ap, bind, bind_ended, call_answered, call_of, call_place}
-use Rattle.wasi_causes.proofs.Words.{closed_listening, connect_ended, entry, eq-eqb, eqb-true, false, finish_in, first_ids, go_on, handle_reply}
-use Rattle.wasi_causes.proofs.Words.{if◌then◌else◌, in_socket, inl, inr, is_connect, is_nothing, kind_at, left_of, listen_ended, listen_polled}
+use Rattle.wasi_causes.proofs.Words.{closed_listening, connect_ended, entry, eq-eqb, false, finish_in, first_ids, go_on, handle_reply}
+use Rattle.wasi_causes.proofs.Words.{if◌then◌else◌, in_socket, inl, inr, is_connect, is_nothing, kind_at, listen_ended, listen_polled}
 use Rattle.wasi_causes.proofs.Words.{marks_in, no_fields, nothing_stands, own_of, place_in, poll_begun, poll_binding, poll_listening}
 use Rattle.wasi_causes.proofs.Words.{reader_ready_asks, ready_asks, ready_end, ready_on, rebind_at, refl, relisten_at, resume_asks, resume_call}
 use Rattle.wasi_causes.proofs.Words.{resumed, resumed_reply, side_at, side_of, slice_get, standing_as, stands_as, subscribe_asks, subscribe_on, subst}
@@ -20,7 +20,7 @@ use Rattle.wasi_causes.proofs.Words.{with_writer, word_of_code, ℕ, ◌==◌, �
 use Rattle.wasi_causes.proofs.operations.Accepts.{AcceptRow, accepts}
 use Rattle.wasi_causes.proofs.operations.Polls.{EndsFor, connect_ends, bind_ends as bind_polls, listen_ends as listen_polls}
 use Rattle.wasi_causes.proofs.streams.Halves.{LookRow, looks, OutputRow, outputs}
-use Rattle.wasi_causes.proofs.tables.Meets.{Rows, Meets, ends, asks, onto, widen, granted, chain, branch}
+use Rattle.wasi_causes.proofs.tables.Meets.{Rows, Meets, ends, asks, onto, widen, granted, branch}
 use Rattle.wasi_causes.proofs.tables.Routes.{Replied, Says, put_store_same, makes, full_so, apart, code_word}
 use Rattle.wasi_causes.specs.Outcomes.{Outcome, Always}
 use Rattle.wasi_host.specs.Readiness.{is_over, is_done, connect_looked, accept_looked, ready_listening, ready_idle, ready_socket_by, ready_reader, ready_writer, ready_record, ready_put, ready_at}

@@ -2,11 +2,11 @@
 -- pending as a bind is a bind, and as a listen a listen; each live handle and what is pending are of a record that is there, a
 -- connect in progress may be finished, and a socket that does nothing yet doesn't listen.
 use Rattle.wasi_host.specs.declared.binding.InProgress.TheVariants.{Nothing, Binding, Started}
-use Rattle.wasi_causes.proofs.Words.{Accepting, AcceptsAt, AcceptsIn, Allows, Answered, Bool, Closes, CodeWord, ConnectsAt, Done, End, Entry, Err}
+use Rattle.wasi_causes.proofs.Words.{Accepting, AcceptsAt, AcceptsIn, Allows, Answered, Bool, CodeWord, ConnectsAt, Done, End, Entry, Err}
 use Rattle.wasi_causes.proofs.Words.{ErrorCode, FinishRefusal, Full, Give, HasChildren, HoldsCall, IfSome, InProgress, Input, IsBinding, IsListening}
-use Rattle.wasi_causes.proofs.Words.{IsOnNothing, IsPastNot, IsSome, IsSomeAnd, Item, Kind, Left, List, Listener, Listening, ListensAlready, Machine}
-use Rattle.wasi_causes.proofs.Words.{NoConnect, NoSuchHandle, None, NotConnecting, NotPermitted, Nothing, Ok, OpId, Operation, Option, Output}
-use Rattle.wasi_causes.proofs.Words.{Pollable, ReceivesAlready, Refused, RefusedOf, Reply, Result, SendsAlready, Socket, Some, Standing, StandingCall}
+use Rattle.wasi_causes.proofs.Words.{IsOnNothing, IsSome, IsSomeAnd, Item, Kind, Left, List, Listener, Listening, Machine}
+use Rattle.wasi_causes.proofs.Words.{NoSuchHandle, None, NotPermitted, Nothing, Ok, OpId, Operation, Option, Output}
+use Rattle.wasi_causes.proofs.Words.{Pollable, Refused, RefusedOf, Reply, Result, Socket, Some, Standing, StandingCall}
 use Rattle.wasi_causes.proofs.Words.{PendingCallsFit, StandsOnNothing, Step, Tcp2, Tcp2Socket, TcpState, TrapKind, Waits, WasiSocketsCtx, Watched}
 use Rattle.wasi_causes.proofs.Words.{WatchesAccept, WatchesConnect, Who, [], accept_ended, allows_if, allows_then, ap, bind, bind_progress, call_of}
 use Rattle.wasi_causes.proofs.Words.{call_place, connect_ended, created_asks, false, first_state, get_front, get_seam, get_set, get_split}
@@ -15,9 +15,10 @@ use Rattle.wasi_causes.proofs.Words.{new_record, own_of, place_in, poll_asks, re
 use Rattle.wasi_causes.proofs.Words.{slice_set, socket_at, standing_as, subst, sym, table_parent, told_addr, true, turn_asks, value_split}
 use Rattle.wasi_causes.proofs.Words.{value_without, watch_of, watched_in, with_handle, with_inner, with_listening, with_progress, with_record}
 use Rattle.wasi_causes.proofs.Words.{with_state, with_writer, without_handle, ℕ, ⊤, ◌++◌, ◌==◌, ◌∙◌, ◌∷◌, ◌≡◌, ◌⊎◌}
+use Rattle.wasi_causes.proofs.sockets.Starts.{IsPastNot}
 use Rattle.wasi_causes.proofs.tables.Steps.{its_own}
 use Rattle.wasi_causes.specs.Outcomes.{Traps}
-use Rattle.wasi_causes.specs.Reached.{MayFinish, ListensLate, HasRecord, OfItsRecord, IsUndone, RefusedInRun, ListenRefusedInRun}
+use Rattle.wasi_causes.specs.Reached.{Finishes, MayFinish, ListensLate, HasRecord, OfItsRecord}
 use Rattle.wasi_host.specs.declared.listening.Listening.TheVariants as listening
 use Rattle.wasi_host.specs.declared.store.StandingCall.TheVariants as standing
 use Rattle.wasi_walks.proofs.fits.Law.{Fit, fits_along, told_same, whatever}
@@ -29,7 +30,7 @@ use Rattle.wasi_walks.proofs.walks.Moves.{HasBinding, closed_record, Held, Binds
 use Rattle.wasi_walks.proofs.walks.Runs.{run_ends}
 use Rattle.wasi_walks.proofs.walks.States.{Over, socket_record}
 use Rattle.wasi_walks.proofs.walks.Steps.{may_while, machine_walks}
-use Rattle.wasi_walks.specs.Answered.{StillConnects, WasClosed}
+use Rattle.wasi_walks.specs.Listens.{RefusedListen}
 use Rattle.wasi_steps.specs.declared.reply.Reply.TheVariants as reply
 use Rattle.wasi_steps.specs.declared.step.Step.TheVariants as step
 use Rattle.wasi_tcp.specs.declared.listener.Accepting.TheVariants as accepting
@@ -44,20 +45,20 @@ listens_so : (l : Listening) → FitListening l → IsListening l
 listens_so (listening.Begins op) h = h
 listens_so _ h = tt
 
+module _ (m : Machine) (P : Tcp2Socket → Type 0) (so : (place : ℕ) (r : Tcp2Socket) → slice_get m.store.sockets place ≡ Some r → P r) where
+  at_place : (place : ℕ) (o : Option Tcp2Socket) → slice_get m.store.sockets place ≡ o → IfSome o P
+  at_place place None at = tt
+  at_place place (Some r) at = so place r at
+
+  of_record : (o : Option ℕ) → IfSome (record_in m o) P
+  of_record None = tt
+  of_record (Some place) = at_place place (slice_get m.store.sockets place) refl
+
+  of_watched : (o : Option Watched) → IfSome (watched_in m o) P
+  of_watched None = tt
+  of_watched (Some w) = at_place (place_in w) (slice_get m.store.sockets (place_in w)) refl
+
 module _ (m : Machine) (f : Fit (Over m)) where
-  module _ (P : Tcp2Socket → Type 0) (so : (r : Tcp2Socket) → FitRecord r → P r) where
-    at_place : (place : ℕ) (o : Option Tcp2Socket) → slice_get m.store.sockets place ≡ o → IfSome o P
-    at_place place None at = tt
-    at_place place (Some r) at = so r (f.records place r at)
-
-    of_record : (o : Option ℕ) → IfSome (record_in m o) P
-    of_record None = tt
-    of_record (Some place) = at_place place (slice_get m.store.sockets place) refl
-
-    of_watched : (o : Option Watched) → IfSome (watched_in m o) P
-    of_watched None = tt
-    of_watched (Some w) = at_place (place_in w) (slice_get m.store.sockets (place_in w)) refl
-
   binds_so : (r : Tcp2Socket) (doing : InProgress) → r.in_progress ≡ doing → FitRecord r → HasBinding doing → IsBinding doing
   binds_so r (Binding op) e k b = (subst (FitProgress r.inner.state) e k.2).1
   binds_so r Nothing e k b = absurd b
@@ -65,7 +66,7 @@ module _ (m : Machine) (f : Fit (Over m)) where
 
   by_call : (call : StandingCall) → FitCall m.store.sockets call → HoldsCall m call
   by_call (standing.Bind place) h = subst (λ (o : Option Tcp2Socket). IfSome o (λ r. IsBinding r.in_progress)) (sym h.at) (binds_so h.was h.was.in_progress refl (f.records place h.was h.at) h.goes)
-  by_call (standing.Listen place) h = at_place (λ r. IsListening r.listening) (λ r k. listens_so r.listening k.1) place (slice_get m.store.sockets place) refl
+  by_call (standing.Listen place) h = at_place m (λ r. IsListening r.listening) (λ place r g. listens_so r.listening (f.records place r g).1) place (slice_get m.store.sockets place) refl
   by_call (standing.DropOutput place) h = tt
 
   stands_by : (o : Option Standing) → ((s : Standing) → o ≡ Some s → FitCall m.store.sockets s.call) → IfSome o (λ s. HoldsCall m s.call)
@@ -74,10 +75,10 @@ module _ (m : Machine) (f : Fit (Over m)) where
 
 -- what its sockets connect by is a connect, and what its listeners accept by is an accept
 pub connects_at : (m : Machine) → Fit (Over m) → (handle : ℕ) → ConnectsAt m handle
-connects_at m f handle = of_record m f _ (λ r k. k.0) (socket_at m handle)
+connects_at m f handle = of_record m _ (λ place r g. (f.records place r g).0) (socket_at m handle)
 
 pub accepts_at : (m : Machine) → Fit (Over m) → (handle : ℕ) → AcceptsAt m handle
-accepts_at m f handle = of_record m f _ (λ r k. accepts_so r.listening k.1) (socket_at m handle)
+accepts_at m f handle = of_record m _ (λ place r g. accepts_so r.listening (f.records place r g).1) (socket_at m handle)
 
 -- == of a run
 abbrev pub Between : ℕ → List Entry → Machine → Type 0
@@ -94,13 +95,13 @@ module _ (contexts : List WasiSocketsCtx) (steps : List Step) (es : List Entry) 
   runs_connect = connects_at m fits
 
   pub runs_watch : (pollable : ℕ) → WatchesConnect m pollable
-  runs_watch pollable = of_watched m fits _ (λ r k. k.0) (watch_of (kind_at m.table pollable))
+  runs_watch pollable = of_watched m _ (λ place r g. (fits.records place r g).0) (watch_of (kind_at m.table pollable))
 
   pub runs_accept : (handle : ℕ) → AcceptsAt m handle
   runs_accept = accepts_at m fits
 
   pub runs_watch_accept : (pollable : ℕ) → WatchesAccept m pollable
-  runs_watch_accept pollable = of_watched m fits _ (λ r k. accepts_so r.listening k.1) (watch_of (kind_at m.table pollable))
+  runs_watch_accept pollable = of_watched m _ (λ place r g. accepts_so r.listening (fits.records place r g).1) (watch_of (kind_at m.table pollable))
 
   pub runs_bind : PendingCallsFit m
   runs_bind = stands_by m fits m.store.standing fits.stands
@@ -108,9 +109,6 @@ module _ (contexts : List WasiSocketsCtx) (steps : List Step) (es : List Entry) 
 -- == what holds of a machine
 abbrev pub IsThere : List Tcp2Socket → ℕ → Type 0
 IsThere sockets place = (r : Tcp2Socket) × (slice_get sockets place ≡ Some r)
-
-abbrev pub Finishes : Tcp2Socket → Type 0
-Finishes r = is_connect r.in_progress ≡ true → MayFinish r.inner.state
 
 abbrev pub Sound : Tcp2Socket → Type 0
 Sound r = Finishes r × ListensLate r
@@ -304,17 +302,6 @@ module _ (m : Machine) (i : Steady m) where
           by_line true on = on_nothing s.call (i.stands s e) on
           by_line false on = on
 
-  -- == a finish of a connect
-  undone : (place : ℕ) (r : Tcp2Socket) (entries : List Entry) (w : CodeWord) (after : Machine) → Finishes r → FinishRefusal m place r entries w after → is_connect r.in_progress ≡ true → IsUndone r.inner.state
-  undone place r _ _ _ f (NoConnect n e) k = absurd (cc)
-  undone place r _ _ _ f (StillConnects op left c s e) k = subst IsUndone (sym s) tt
-  undone place r _ _ _ f (Closes op why c s e) k = subst IsUndone (sym s) tt
-  undone place r _ _ _ f (WasClosed why c s e) k = subst IsUndone (sym s) tt
-  undone place r _ _ _ f (NotConnecting side c s e) k = absurd (subst MayFinish s (f k))
-  undone place r _ _ _ f (ListensAlready side c s e) k = absurd (subst MayFinish s (f k))
-  undone place r _ _ _ f (ReceivesAlready connection c s t e) k = let q : MayFinish (state.Connected connection) = subst MayFinish s (f k) in let p : connection.receive_taken ≡ false = q.0 in absurd (cc)
-  undone place r _ _ _ f (SendsAlready connection c s t e) k = let q : MayFinish (state.Connected connection) = subst MayFinish s (f k) in let p : connection.send_taken ≡ false = q.1 in absurd (cc)
-
 module _ (contexts : List WasiSocketsCtx) (steps : List Step) (log : List Entry) (replies : List Reply) (m : Machine) (w : Left (run contexts [] first_state 1 steps) log (Give (replies, m))) where
   run_steady : Steady m
   run_steady = runs_are_steady contexts steps log replies m w
@@ -334,21 +321,12 @@ module _ (contexts : List WasiSocketsCtx) (steps : List Step) (log : List Entry)
   pub runs_listen_late : (place : ℕ) (r : Tcp2Socket) → slice_get m.store.sockets place ≡ Some r → ListensLate r
   runs_listen_late place r g = (run_steady.records place r g).1
 
-  pub finishes_refused_in_runs : (line ctx handle : ℕ) (entries : List Entry) (word : CodeWord) (after : Machine) → Answered contexts m line (step.TcpFinishConnect ctx handle) entries (reply.Err word) after → RefusedOf m handle (RefusedInRun m) entries word after
+  pub finishes_refused_in_runs : (line ctx handle : ℕ) (entries : List Entry) (word : CodeWord) (after : Machine) → Answered contexts m line (step.TcpFinishConnect ctx handle) entries (reply.Err word) after → RefusedOf m handle (FinishRefusal m) entries word after
   finishes_refused_in_runs line ctx handle entries word after a =
-      let k = (its_own contexts m line (step.TcpFinishConnect ctx handle) entries (reply.Err word) after a (λ e. cc)).1.1.cause (runs_connect contexts steps log replies m w handle) in
-      record {
-        place = k.place;
-        found = k.found;
-        names = k.names;
-        at = k.at;
-        holds = record { cause = k.holds; undone = undone m run_steady k.place k.found entries word after (run_steady.records k.place k.found k.at).0 k.holds };
-      }
+      (its_own contexts m line (step.TcpFinishConnect ctx handle) entries (reply.Err word) after a (λ e. cc)).1.1.cause (runs_connect contexts steps log replies m w handle) (of_record m Finishes (λ place r g. (run_steady.records place r g).0) (socket_at m handle))
 
-  pub listens_refused_in_runs : (line ctx handle : ℕ) (entries : List Entry) (word : CodeWord) (after : Machine) → Answered contexts m line (step.TcpStartListen ctx handle) entries (reply.Err word) after → RefusedOf m handle (ListenRefusedInRun m (own_of line)) entries word after
-  listens_refused_in_runs line ctx handle entries word after a =
-      let k = (its_own contexts m line (step.TcpStartListen ctx handle) entries (reply.Err word) after a (λ e. cc)).1.1.0 in
-      record { place = k.place; found = k.found; names = k.names; at = k.at; holds = record { cause = k.holds; late = runs_listen_late k.place k.found k.at } }
+  pub listens_refused_in_runs : (line ctx handle : ℕ) (entries : List Entry) (word : CodeWord) (after : Machine) → Answered contexts m line (step.TcpStartListen ctx handle) entries (reply.Err word) after → RefusedListen m (own_of line) handle entries word after
+  listens_refused_in_runs line ctx handle entries word after a = (its_own contexts m line (step.TcpStartListen ctx handle) entries (reply.Err word) after a (λ e. cc)).1.1.0 (of_record m ListensLate runs_listen_late (socket_at m handle))
 
   no_trap : (line n : ℕ) (entries : List Entry) (kind : TrapKind) (after : Machine) → Traps contexts m line (step.Poll n) entries kind after → ⊥
   no_trap line n entries NoSuchHandle after h = stands_on m run_steady n h.0

@@ -39,6 +39,7 @@ use Rattle.wasi_walks.specs.Licence.{entry, Has, marks_in}
 use Rattle.wasi_walks.specs.Listens.{AcceptsAt, closed_by_listen, AcceptTakes, HasNoListenInProgress, RefusedAccept, RefusedListen}
 use Rattle.wasi_steps.specs.Settings.{chosen}
 use Rattle.wasi_causes.specs.Options.{GetsOption, RefusedGet, RefusedSet, SetsChosen}
+use Rattle.wasi_causes.specs.Reached.{FinishesAt, ListensLateAt}
 use Rattle.wasi_causes.specs.Turns.{IsOfJob}
 
 -- == the fields of a reply that is done
@@ -224,7 +225,7 @@ Done m line s es fields after = ⊤
 -- Why the finish of a connect is refused.
 pub record FinishRefused (m : Machine) (handle : ℕ) (es : List Entry) (w : CodeWord) (after : Machine) : Type 0 where
   pub none : w ≡ word.NotInProgress → Quiet m es after
-  pub cause : ConnectsAt m handle → RefusedOf m handle (FinishRefusal m) es w after
+  pub cause : ConnectsAt m handle → FinishesAt m handle → RefusedOf m handle (FinishRefusal m) es w after
 
 abbrev pub Refused : List WasiSocketsCtx → Machine → ℕ → Step → List Entry → CodeWord → Machine → Type 0
 Refused contexts m line (step.TcpCreate c family) es w after = CreateRefusal (own_of line) (context_at contexts c) family es w × (after ≡ m)
@@ -232,7 +233,7 @@ Refused contexts m line (step.TcpStartBind c s n a) es w after = RefusedBind m (
 Refused contexts m line (step.TcpFinishBind c s) es w after = after ≡ m
 Refused contexts m line (step.TcpStartConnect c s n a) es w after = RefusedConnect m (own_of line) s a es w after × ((after ≡ m) ⊎ ((w ≡ word.InvalidArgument) × KnowsBound m s after))
 Refused contexts m line (step.TcpFinishConnect c s) es w after = FinishRefused m s es w after
-Refused contexts m line (step.TcpStartListen c s) es w after = RefusedListen m (own_of line) s es w after × ((after ≡ m) ⊎ (KnowsBound m s after ⊎ OfRecord m s (λ place r. after ≡ closed_by_listen m place r)))
+Refused contexts m line (step.TcpStartListen c s) es w after = (ListensLateAt m s → RefusedListen m (own_of line) s es w after) × ((after ≡ m) ⊎ (KnowsBound m s after ⊎ OfRecord m s (λ place r. after ≡ closed_by_listen m place r)))
 Refused contexts m line (step.TcpFinishListen c s) es w after = after ≡ m
 Refused contexts m line (step.TcpAccept c s) es w after = AcceptsAt m s → RefusedAccept m line s es w after
 Refused contexts m line (step.TcpLocalAddress c s) es w after = RefusedOf m s (LocalRefusal m (own_of line)) es w after × ((after ≡ m) ⊎ KnowsBound m s after)

@@ -22,7 +22,7 @@ ghost use Rattle.wasi_steps.specs.declared.reply.Reply.{Reply};
 ghost use Rattle.wasi_steps.specs.declared.step.Step.{Step};
 ghost use Rattle.wasi_walks.specs.Answered.{Answered, CheckFails, closing_reader, closing_writer, ConnectsAt, CreateRefusal, EndsPending, FailsWith, FinishRefusal, HasNoBindInProgress, HasNoConnectInProgress, HasOperationInProgress, IsGivenUp, IsQuiet, IsUnpermitted, IsWrite, KnowsBound, LocalRefusal, MakesHandle, MissesHandle, OfRecord, OfStreams, output_streams, Permits, putting, ReadFails, ReadsEnd, ReadsNone, ReadsTold, record_at, RefusedBind, RefusedConnect, RefusedOf, RemoteRefusal, StandsOnNothing, WasClosedWith, with_error, WriteFails};
 ghost use Rattle.wasi_causes.specs.Outcomes.{may_answer, EachMayAnswer, Outcome};
-ghost use Rattle.wasi_causes.specs.Reached.{ListensLate, MayFinish, OfItsRecord, RefusedInRun};
+ghost use Rattle.wasi_causes.specs.Reached.{FinishesAt, ListensLate, MayFinish, OfItsRecord};
 ghost use Rattle.wasi_causes.specs.GivenUp.{GoesAtOnce, HasLiveChildren, HasNoStreams, IsDrop, IsDropped, IsGone, LooksOnce, shut_down, shutdown_entries, socket_given_up, without};
 ghost use Rattle.wasi_walks.specs.Licence.{entry, Has, marks_in};
 ghost use Rattle.wasi_machine.specs.Machine.{context_at, run};
@@ -198,8 +198,8 @@ pub fn start_connect_refusals()
 /// The finish of a connect is refused with `not-in-progress` exactly where the socket is there and has no connect in progress,
 /// and it asks nothing then and leaves the machine as it was. With `would-block` the connect was answered pending and is in
 /// progress; with any other word the socket is closed with that word's code, and nothing is in progress. The causes are those
-/// of a socket that connects by a connect, as all do after any lines. In a run the socket connects or was closed: the causes of
-/// other states don't come.
+/// of a socket that connects by a connect, and where one is in progress connects, or was closed, or is connected and neither
+/// half of it was taken, as all are after any lines. So in a run there are no others.
 pub fn finish_connect_refusals()
     ensures exactly { (contexts : List WasiSocketsCtx) (m : Machine) (line ctx handle : ℕ) (entries : List Entry) (reply : Reply) (after : Machine)
         → m.store.standing ≡ None → Answered contexts m line (Step.TcpFinishConnect ctx handle) entries reply after
@@ -207,11 +207,11 @@ pub fn finish_connect_refusals()
     ensures not_in_progress { (contexts : List WasiSocketsCtx) (m : Machine) (line ctx handle : ℕ) (entries : List Entry) (after : Machine)
         → Answered contexts m line (Step.TcpFinishConnect ctx handle) entries (Reply.Err CodeWord.NotInProgress) after → (entries ≡ []) × (after ≡ m) }
     ensures cause { (contexts : List WasiSocketsCtx) (m : Machine) (line ctx handle : ℕ) (entries : List Entry) (word : CodeWord) (after : Machine)
-        → ConnectsAt m handle → Answered contexts m line (Step.TcpFinishConnect ctx handle) entries (Reply.Err word) after
+        → ConnectsAt m handle → FinishesAt m handle → Answered contexts m line (Step.TcpFinishConnect ctx handle) entries (Reply.Err word) after
         → RefusedOf m handle (FinishRefusal m) entries word after }
     ensures in_runs { (contexts : List WasiSocketsCtx) (steps : List Step) (log : List Entry) (replies : List Reply) (m : Machine) (line ctx handle : ℕ) (entries : List Entry) (word : CodeWord) (after : Machine)
         → Left (run contexts [] first_state 1 steps) log (Give (replies, m)) → Answered contexts m line (Step.TcpFinishConnect ctx handle) entries (Reply.Err word) after
-        → RefusedOf m handle (RefusedInRun m) entries word after }
+        → RefusedOf m handle (FinishRefusal m) entries word after }
 {}
 
 /// After the lines of any script, what a socket connects by is a connect: that of a handle, and one that a pollable watches.

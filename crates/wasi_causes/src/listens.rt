@@ -14,12 +14,12 @@ ghost use Rattle.wasi_steps.specs.declared.reply.Reply.{Reply};
 ghost use Rattle.wasi_steps.specs.declared.reply.Reply.TheVariants as Reply;
 ghost use Rattle.wasi_steps.specs.declared.step.Step.{Step};
 ghost use Rattle.wasi_steps.specs.declared.step.Step.TheVariants as Step;
-ghost use Rattle.wasi_walks.specs.Answered.{Answered, HasOperationInProgress, KnowsBound, OfRecord, record_at, RefusedOf};
+ghost use Rattle.wasi_walks.specs.Answered.{Answered, HasOperationInProgress, KnowsBound, OfRecord, record_at};
 ghost use Rattle.wasi_walks.specs.Listens.{HasNoListenInProgress, RefusedListen, closed_by_listen, RefusedAccept, AcceptTakes, AcceptsAt};
 ghost use Rattle.wasi_machine.specs.Machine.{run};
 ghost use Rattle.wasi_steps.specs.Reply.{no_fields, triple_fields};
 ghost use Rattle.wasi_walks.specs.Waiting.{WatchesAccept};
-ghost use Rattle.wasi_causes.specs.Reached.{ListenRefusedInRun};
+ghost use Rattle.wasi_causes.specs.Reached.{ListensLateAt};
 
 /// The finish of a listen asks nothing. It is refused, with `not-in-progress`, exactly where the socket is there and has no
 /// listen in progress, and the machine stays as it was.
@@ -38,21 +38,21 @@ pub fn finish_listen_refusals()
 /// The start of a listen is refused with `concurrency-conflict` exactly where an operation is in progress, whichever; else by
 /// its own tests, and then the machine is as it was, but that a socket that was found bound is known to be; or by what it was
 /// answered: its local address, the check of that address, or the listen. Then it closed its network socket last, and the
-/// socket stays closed, with the code `unknown` from then on; the refusal reports the true one. In a run none is refused
-/// because a socket that does nothing yet listens already.
+/// socket stays closed, with the code `unknown` from then on; the refusal reports the true one. The causes are those of a socket
+/// that has no listener while it does nothing yet, as all are after any lines. So in a run there are no others.
 pub fn start_listen_refusals()
     ensures exactly { (contexts : List WasiSocketsCtx) (m : Machine) (line ctx handle : ℕ) (entries : List Entry) (reply : Reply) (after : Machine)
         → m.store.standing ≡ None → Answered contexts m line (Step.TcpStartListen ctx handle) entries reply after
         → (reply ≡ Reply.Err CodeWord.ConcurrencyConflict) ↔ HasOperationInProgress (record_at m handle) }
     ensures cause { (contexts : List WasiSocketsCtx) (m : Machine) (line ctx handle : ℕ) (entries : List Entry) (word : CodeWord) (after : Machine)
-        → Answered contexts m line (Step.TcpStartListen ctx handle) entries (Reply.Err word) after
+        → ListensLateAt m handle → Answered contexts m line (Step.TcpStartListen ctx handle) entries (Reply.Err word) after
         → RefusedListen m (own_of line) handle entries word after }
     ensures stays { (contexts : List WasiSocketsCtx) (m : Machine) (line ctx handle : ℕ) (entries : List Entry) (word : CodeWord) (after : Machine)
         → Answered contexts m line (Step.TcpStartListen ctx handle) entries (Reply.Err word) after
         → (after ≡ m) ⊎ (KnowsBound m handle after ⊎ OfRecord m handle (λ place r. after ≡ closed_by_listen m place r)) }
     ensures in_runs { (contexts : List WasiSocketsCtx) (steps : List Step) (log : List Entry) (replies : List Reply) (m : Machine) (line ctx handle : ℕ) (entries : List Entry) (word : CodeWord) (after : Machine)
         → Left (run contexts [] first_state 1 steps) log (Give (replies, m)) → Answered contexts m line (Step.TcpStartListen ctx handle) entries (Reply.Err word) after
-        → RefusedOf m handle (ListenRefusedInRun m (own_of line)) entries word after }
+        → RefusedListen m (own_of line) handle entries word after }
 {}
 
 /// An accept is refused with `invalid-state` where the socket has no listener, and it asks nothing then; with `would-block`

@@ -288,7 +288,7 @@ abbrev pub closed_with : Machine → ℕ → Tcp2Socket → ErrorCode → Machin
 closed_with m place r c = putting m place (idle r (with_state r.inner (state.Closed c)))
 
 -- The finish of a connect is refused: none is in progress; or it waits, and is in progress; or it was closed with a code, now
--- or before; or what is in progress isn't connecting, or a half of the connection was taken before.
+-- or before.
 pub data FinishRefusal (m : Machine) (place : ℕ) (r : Tcp2Socket) (entries : List Entry) : CodeWord → Machine → Type 0 where
   NoConnect : is_connect r.in_progress ≡ false → entries ≡ [] → FinishRefusal m place r entries word.NotInProgress m
   StillConnects : (op : Operation) (left : List Item) → is_connect r.in_progress ≡ true → r.inner.state ≡ state.Connecting op → EndsPending op.who.id entries
@@ -297,14 +297,6 @@ pub data FinishRefusal (m : Machine) (place : ℕ) (r : Tcp2Socket) (entries : L
       → FinishRefusal m place r entries (word_of_code c) (closed_with m place r c)
   WasClosed : (c : ErrorCode) → is_connect r.in_progress ≡ true → r.inner.state ≡ state.Closed c → entries ≡ []
       → FinishRefusal m place r entries (word_of_code c) (closed_with m place r c)
-  NotConnecting : (side : OpId) → is_connect r.in_progress ≡ true → r.inner.state ≡ state.Default side → entries ≡ []
-      → FinishRefusal m place r entries word.InvalidState (putting m place (idle r r.inner))
-  ListensAlready : (side : OpId) → is_connect r.in_progress ≡ true → r.inner.state ≡ state.Listening side → entries ≡ []
-      → FinishRefusal m place r entries word.InvalidState (putting m place (idle r r.inner))
-  ReceivesAlready : (connection : Connection) → is_connect r.in_progress ≡ true → r.inner.state ≡ state.Connected connection → connection.receive_taken ≡ true → entries ≡ []
-      → FinishRefusal m place r entries word.InvalidState (putting m place (idle r r.inner))
-  SendsAlready : (connection : Connection) → is_connect r.in_progress ≡ true → r.inner.state ≡ state.Connected connection → connection.send_taken ≡ true → entries ≡ []
-      → FinishRefusal m place r entries word.InvalidState (putting m place (idle r (with_state r.inner (state.Connected (record connection { receive_taken = true })))))
 
 -- where the handle's socket is connecting, its operation is a connect
 abbrev pub ConnectsAt : Machine → ℕ → Type 0

@@ -47,18 +47,11 @@ pub data ListenFails (own side : OpId) (maker backlog : ℕ) : List Entry → Er
 abbrev pub closed_by_listen : Machine → ℕ → Tcp2Socket → Machine
 closed_by_listen m place r = putting m place (with_listening (record r { inner = with_state (record r.inner { bound = true }) (state.Closed Other) }) listening.Not)
 
--- the socket listens, or is about to
-abbrev pub IsPastNot : Listening → Type 0
-IsPastNot listening.Not = ⊥
-IsPastNot _ = ⊤
-
--- A listen that was begun is refused: the socket isn't bound; or isn't in the state Default, or listens already; or it was
--- refused by what it was answered, and then the socket is closed.
+-- A listen that was begun is refused: the socket isn't bound; or isn't in the state Default; or it was refused by what it was
+-- answered, and then the socket is closed.
 pub data ListenRefusal (m : Machine) (own : OpId) (place : ℕ) (r : Tcp2Socket) : List Entry → CodeWord → Machine → Type 0 where
   NotBound : (side : OpId) (local : Told) → IsFoundUnbound r.inner side local → ListenRefusal m own place r (entry own (call.Local side) local ∷ []) word.InvalidState m
   NotDefault : IsPastDefault r.inner.state → ListenRefusal m own place r [] word.InvalidState (knowing_bound m place r)
-  ListensAlready : (side : OpId) (asked : List Entry) → r.inner.state ≡ state.Default side → IsBound own r.inner asked → IsPastNot r.listening
-      → ListenRefusal m own place r asked word.InvalidState (knowing_bound m place r)
   ListenRefused : (side : OpId) (asked entries : List Entry) (c : ErrorCode) → r.inner.state ≡ state.Default side → r.listening ≡ listening.Not → IsBound own r.inner asked
       → ListenFails own side r.inner.maker r.inner.backlog entries c → ListenRefusal m own place r (asked ++ entries) (word_of_code c) (closed_by_listen m place r)
 

@@ -2,8 +2,8 @@
 use Rattle.wasi_causes.proofs.Words.{AcceptFailed, AcceptGives, AcceptWaits, Accepting, AcceptsAt, Answer, Bool, ClosedBy, Closes, Connection}
 use Rattle.wasi_causes.proofs.Words.{ConnectsAt, CreateRefusal, Done, End, Entry, Err, ErrorCode, FinishRefusal, Give, Handles}
 use Rattle.wasi_causes.proofs.Words.{HasNoConnectInProgress, HoldsAccept, Input, InvalidState, IpSocketAddress, IsConnect, IsDoneOrCode, Item, List}
-use Rattle.wasi_causes.proofs.Words.{Listener, Listening, ListensAlready, Machine, Network, NoConnect, NoListener, NoSuchHandle, None, NotAllowed}
-use Rattle.wasi_causes.proofs.Words.{NotConnecting, Ok, OpId, Operation, Option, Output, ReceivesAlready, Records, Refused, Result, SendsAlready}
+use Rattle.wasi_causes.proofs.Words.{Listener, Listening, Machine, Network, NoConnect, NoListener, NoSuchHandle, None, NotAllowed}
+use Rattle.wasi_causes.proofs.Words.{Ok, OpId, Operation, Option, Output, Records, Refused, Result}
 use Rattle.wasi_causes.proofs.Words.{Socket, SocketAddressFamily, Some, StillAccepts, Stop, Tcp2, Tcp2Socket, TcpState, Told, ToldCode, Trap, Waits}
 use Rattle.wasi_causes.proofs.Words.{WasiSocketsCtx, [], accept_answered, accept_at, accept_end, accept_listening, accept_name, accept_on}
 use Rattle.wasi_causes.proofs.Words.{accepted_asks, accepted_handles, accepted_marks, accepted_record, accepted_socket, accepted_state}
@@ -21,6 +21,7 @@ use Rattle.wasi_causes.proofs.operations.Polls.{EndsFor, connect_ends}
 use Rattle.wasi_causes.proofs.tables.Meets.{Rows, Meets, ends, asks, chain, onto, branch, widen, both, granted}
 use Rattle.wasi_causes.proofs.tables.Routes.{Replied, Says, makes, full_so, code_word, makes_streams, Names, its, here, through_record, apart, none_has, not_of_code, put_back}
 use Rattle.wasi_causes.specs.Outcomes.{Outcome}
+use Rattle.wasi_causes.specs.Reached.{Finishes, FinishesAt, MayFinish}
 use Rattle.wasi_host.specs.declared.listening.Listening.TheVariants as listening
 use Rattle.wasi_p2.specs.Tcp.{accept_asks}
 use Rattle.wasi_walks.specs.Answered.{StillConnects, WasClosed}
@@ -89,19 +90,25 @@ module _ (contexts : List WasiSocketsCtx) (m : Machine) (line c handle : ℕ) wh
     abbrev StateRow : Rows (Result (Answer (Unit {0})) ErrorCode × TcpState)
     StateRow es done = RecordRow es (connect_polled r (in_socket r.inner done))
 
-    fails : (es : List Entry) (code : ErrorCode) (now : Tcp2Socket) → (ConnectsAt m handle → FinishRefusal m place r es (word_of_code code) (record m { store = with_socket m.store place now })) → RecordRow es (Err (code_stop code), now)
+    may : FinishesAt m handle → MayFinish r.inner.state
+    may h = let k : Finishes r = rw (its n) at h in k connects
+
+    fails : (es : List Entry) (code : ErrorCode) (now : Tcp2Socket) → (ConnectsAt m handle → FinishesAt m handle → FinishRefusal m place r es (word_of_code code) (record m { store = with_socket m.store place now })) → RecordRow es (Err (code_stop code), now)
     fails es code now cause =
         let other : reply.Err (word_of_code code) ≢ reply.Err word.NotInProgress = not_of_code code word.NotInProgress (λ no. no) in
-        (apart other some, (inr (inr (code_word code)), record { none = λ e. absurd (other (ap reply.Err e)); cause = λ holds. here n (cause holds) }))
+        (apart other some, (inr (inr (code_word code)), record { none = λ e. absurd (other (ap reply.Err e)); cause = λ holds finishes. here n (cause holds finishes) }))
+
+    never : (now : Tcp2Socket) → (MayFinish r.inner.state → ⊥) → RecordRow [] (Err (code_stop InvalidState), now)
+    never now unlike = fails [] InvalidState now (λ h k. absurd (unlike (may k)))
 
     module _ (op : Operation) (at_state : r.inner.state ≡ state.Connecting op) where
       is_one : ConnectsAt m handle → IsConnect op
       is_one h = let k = rw (its n) at h in rw at_state at k
 
       ended : (es : List Entry) (end : End × List Item) → (marks_in es ≡ 0) × (ConnectsAt m handle → EndsFor op (ClosedBy op) es end) → StateRow es (connect_ended op.who end)
-      ended es (Waits, items) k = (apart (λ e. cc) some, (inr (inl refl), record { none = λ e. absurd (cc); cause = λ h. here n (StillConnects op items connects at_state (k.1 h)) }))
+      ended es (Waits, items) k = (apart (λ e. cc) some, (inr (inl refl), record { none = λ e. absurd (cc); cause = λ h finishes. here n (StillConnects op items connects at_state (k.1 h)) }))
       ended es (Done given, items) k = (some, k.0)
-      ended es (Refused code given, items) k = fails es code _ (λ h. Closes op code connects at_state (k.1 h))
+      ended es (Refused code given, items) k = fails es code _ (λ h finishes. Closes op code connects at_state (k.1 h))
 
       polled : Meets StateRow [] (finish_in (state.Connecting op))
       polled = onto _ (widen ended (both (record { along = poll_marks_none op }) (granted (λ h. connect_ends op (is_one h)))))
@@ -110,22 +117,22 @@ module _ (contexts : List WasiSocketsCtx) (m : Machine) (line c handle : ℕ) wh
       opens_send : (taken : Bool) → connection.send_taken ≡ taken
           → RecordRow [] (opened_send r (record { side = connection.side }) (in_socket (with_state r.inner (state.Connected connection)) (still_connected (taken_send (record connection { receive_taken = true }) taken))))
       opens_send false e = (some, refl)
-      opens_send true e = fails [] InvalidState _ (λ h. SendsAlready connection connects at_state e refl)
+      opens_send true e = never _ (λ h. let k : MayFinish (state.Connected connection) = subst MayFinish at_state h in let free : connection.send_taken ≡ false = k.1 in cc)
 
       opens_receive : (taken : Bool) → connection.receive_taken ≡ taken → RecordRow [] (opened_receive r (in_socket (with_state r.inner (state.Connected connection)) (still_connected (taken_receive connection taken))))
       opens_receive false e = opens_send connection.send_taken refl
       opens_receive true e =
-          subst (λ (st : TcpState). RecordRow [] (Err (code_stop InvalidState), idle r (with_state r.inner st))) at_state (fails [] InvalidState _ (λ h. ReceivesAlready connection connects at_state e refl))
+          subst (λ (st : TcpState). RecordRow [] (Err (code_stop InvalidState), idle r (with_state r.inner st))) at_state (never _ (λ h. let k : MayFinish (state.Connected connection) = subst MayFinish at_state h in let free : connection.receive_taken ≡ false = k.0 in cc))
 
     by_state : (st : TcpState) → r.inner.state ≡ st → Meets StateRow [] (finish_in st)
-    by_state (state.Default side) e = ends (subst (λ (st : TcpState). StateRow [] (Err InvalidState, st)) e (fails [] InvalidState _ (λ h. NotConnecting side connects e refl)))
-    by_state (state.Listening side) e = ends (subst (λ (st : TcpState). StateRow [] (Err InvalidState, st)) e (fails [] InvalidState _ (λ h. ListensAlready side connects e refl)))
+    by_state (state.Default side) e = ends (subst (λ (st : TcpState). StateRow [] (Err InvalidState, st)) e (never _ (λ h. subst MayFinish e h)))
+    by_state (state.Listening side) e = ends (subst (λ (st : TcpState). StateRow [] (Err InvalidState, st)) e (never _ (λ h. subst MayFinish e h)))
     by_state (state.Connecting op) e = polled op e
     by_state (state.Connected connection) e = ends (opens_receive connection e connection.receive_taken refl)
-    by_state (state.Closed code) e = ends (fails [] code _ (λ h. WasClosed code connects e refl))
+    by_state (state.Closed code) e = ends (fails [] code _ (λ h finishes. WasClosed code connects e refl))
 
   by_progress : (place : ℕ) (r : Tcp2Socket) → Names m handle place r → (b : Bool) → is_connect r.in_progress ≡ b → Meets PollRow [] (finish_connect_by m.store place r b)
-  by_progress place r n false e = ends ((λ same. rw (its n) e, λ k. refl), (inl refl, record { none = λ same. (refl, refl); cause = λ holds. here n (NoConnect e refl) }))
+  by_progress place r n false e = ends ((λ same. rw (its n) e, λ k. refl), (inl refl, record { none = λ same. (refl, refl); cause = λ holds finishes. here n (NoConnect e refl) }))
   by_progress place r n true e = onto _ (onto _ (onto _ (by_state place r n e r.inner.state refl)))
 
   -- == the streams

@@ -2,10 +2,10 @@
 use Rattle.wasi_causes.proofs.Words.{AlreadyBound, Answer, Begins, BindRefusal, Bool, BoundElsewhere, CodeWord, ConnectRefusal, Denied, Done}
 use Rattle.wasi_causes.proofs.Words.{Elsewhere, End, EndsPending, Entry, Err, ErrorCode, Failed, Give, Given, InvalidArgument}
 use Rattle.wasi_walks.specs.Answered.{InProgress}
-use Rattle.wasi_causes.proofs.Words.{InvalidState, IpSocketAddress, IsAddr, IsBound, IsFoundUnbound, IsPastDefault, IsPastNot, IsSomeAnd, Item, Known}
-use Rattle.wasi_causes.proofs.Words.{KnowsBound, List, ListenDenied, ListenFails, ListenRefusal, ListenRefused, ListenTold, Listening, ListensAlready}
-use Rattle.wasi_causes.proofs.Words.{LocalTold, Machine, NoSuchHandle, None, NotBound, NotDefault, OfRecord, Ok, OpId, Operation, Option, Other}
-use Rattle.wasi_causes.proofs.Words.{PastDefault, Pending, Ready, Refused, Reply, Result, Socket, Some, StandingCall, Tcp2Socket, TcpState, Told}
+use Rattle.wasi_causes.proofs.Words.{InvalidState, IpSocketAddress, IsAddr, IsBound, IsFoundUnbound, IsPastDefault, IsSomeAnd, Item, Known}
+use Rattle.wasi_causes.proofs.Words.{KnowsBound, List, ListenDenied, ListenFails, ListenRefusal, ListenRefused, ListenTold, Listening}
+use Rattle.wasi_causes.proofs.Words.{LocalTold, Machine, NoSuchHandle, None, NotBound, NotDefault, OfRecord, Ok, OpId, Operation, Other}
+use Rattle.wasi_causes.proofs.Words.{PastDefault, Pending, Ready, Refused, Reply, Result, Socket, StandingCall, Tcp2Socket, TcpState, Told}
 use Rattle.wasi_causes.proofs.Words.{ToldBound, Waits, WasiSocketsCtx, WrongAddress, [], after_local, answer_reply, ap, append_assoc, ask_bound}
 use Rattle.wasi_causes.proofs.Words.{begin_bind_asks, begin_connect_asks, begin_listen_asks, bind, bind_allowed, bind_begun, bind_ended}
 use Rattle.wasi_causes.proofs.Words.{bind_operation, bound_asks, call_answered, closed_by_listen, connect_begun, connect_start, done_reply, entry}
@@ -15,16 +15,17 @@ use Rattle.wasi_causes.proofs.Words.{listen_once, listen_operation, listen_polle
 use Rattle.wasi_causes.proofs.Words.{record_at, refl, socket_at, start_bind_asks, start_bind_at, start_bind_by, start_bind_on, start_connect_asks}
 use Rattle.wasi_causes.proofs.Words.{start_connect_at, start_connect_by, start_connect_in, start_connect_on, start_listen_at, start_listen_by}
 use Rattle.wasi_causes.proofs.Words.{start_listen_on, subst, sym, told_addr, true, wildcard, with_inner, with_progress, with_state, with_store}
-use Rattle.wasi_causes.proofs.Words.{word_of_code, ℕ, ◌++◌, ◌∙◌, ◌∷◌, ◌≡◌, ◌⊎◌}
+use Rattle.wasi_causes.proofs.Words.{word_of_code, ℕ, ⊤, ◌++◌, ◌∙◌, ◌∷◌, ◌≡◌, ◌⊎◌}
 use Rattle.wasi_causes.proofs.operations.Polls.{polled, ends_so, not_over}
 use Rattle.wasi_causes.proofs.tables.Meets.{Meets, ends, asks, branch, Rows, chain, onto, widen, After, shifted}
 use Rattle.wasi_causes.proofs.tables.Routes.{Replied, Says, put_back, Names, here, code_word, not_of_code, in_conflict, no_conflict, none_conflicts, on_idle, on_number, its as found_in, apart, none_has}
 use Rattle.wasi_causes.specs.Outcomes.{Conflicts}
+use Rattle.wasi_causes.specs.Reached.{ListensLate, ListensLateAt}
 use Rattle.wasi_causes.specs.Polls.{ToldYes, ToldNo, BindToldCode, Polled, GoesOn, Stops, LocalToldYes, LocalToldNo, LocalToldCode, ListenToldCode}
 use Rattle.wasi_host.specs.Store.{put_back as answer_put}
 use Rattle.wasi_host.specs.declared.listening.Listening.TheVariants as listening
 use Rattle.wasi_host.specs.declared.binding.InProgress.{InProgress as Doing}
-use Rattle.wasi_walks.specs.Listens.{NotDefault as ListensLate, ListensAlready}
+use Rattle.wasi_walks.specs.Listens.{NotDefault as PastStart}
 use Rattle.wasi_steps.specs.declared.reply.CodeWord.TheVariants as word
 use Rattle.wasi_steps.specs.declared.reply.Reply.TheVariants as reply
 use Rattle.wasi_steps.specs.declared.step.Step.TheVariants as step
@@ -164,10 +165,15 @@ module _ (asker : Asker) (any : IpSocketAddress) (backlog : ℕ) where
   listen_refused _ _ _ _ (GoesOn _ _ _ _ _ (LocalToldYes a _) (GoesOn _ _ _ _ _ passed row)) = absurd (not_over row)
 
 -- == a listen
+-- the socket listens, or is about to
+abbrev pub IsPastNot : Listening → Type 0
+IsPastNot listening.Not = ⊥
+IsPastNot _ = ⊤
+
 module _ (m : Machine) (own : OpId) (handle place : ℕ) (r : Tcp2Socket) (n : Names m handle place r) where
   -- why it is refused, and what is left then
   abbrev ListenRefusedSo : List Entry → CodeWord → Machine → Type 0
-  ListenRefusedSo es w after = ListenRefusal m own place r es w after × ((after ≡ m) ⊎ (KnowsBound m handle after ⊎ OfRecord m handle (λ place r. after ≡ closed_by_listen m place r)))
+  ListenRefusedSo es w after = (ListensLateAt m handle → ListenRefusal m own place r es w after) × ((after ≡ m) ⊎ (KnowsBound m handle after ⊎ OfRecord m handle (λ place r. after ≡ closed_by_listen m place r)))
 
   -- a listen as it was begun: it is pending, or is done, or is refused
   abbrev ListenRow : Rows (Result (Answer (Unit {0})) ErrorCode × Tcp2Socket)
@@ -183,7 +189,7 @@ module _ (m : Machine) (own : OpId) (handle place : ℕ) (r : Tcp2Socket) (n : N
 
   module _ (es : List Entry) (is : IsBound own r.inner es) where
     past_default : IsPastDefault r.inner.state → ListenRow es (Err InvalidState, known)
-    past_default past = (subst (λ (fs : List Entry). ListenRefusal m own place r fs word.InvalidState (knowing_bound m place r)) (sym (asked_none own r.inner es is past)) (ListensLate past), inr (inl (here n refl)))
+    past_default past = (λ late. subst (λ (fs : List Entry). ListenRefusal m own place r fs word.InvalidState (knowing_bound m place r)) (sym (asked_none own r.inner es is past)) (PastStart past), inr (inl (here n refl)))
 
     module _ (side : OpId) (open_side : r.inner.state ≡ state.Default side) (nothing : r.listening ≡ listening.Not) where
       abbrev asker : Asker
@@ -200,14 +206,14 @@ module _ (m : Machine) (own : OpId) (handle place : ℕ) (r : Tcp2Socket) (n : N
           let w = ends_so op.who op.left k.rest (Waits, items) k.row in
           record { front = es ++ w.front; last = w.last; cut = k.cut ∙ (ap (λ (xs : List Entry). es ++ xs) w.cut ∙ sym (append_assoc es w.front (w.last ∷ []))); op = w.op; told = w.told }
       listen_poll_ended fs (Done given, items) k = tt
-      listen_poll_ended fs (Refused c given, items) k = (rw k.cut (ListenRefused side es k.rest c open_side nothing is (listen_refused asker (wildcard r.inner.family) r.inner.backlog k.rest c given items k.row)), inr (inr (here n refl)))
+      listen_poll_ended fs (Refused c given, items) k = (λ late. rw k.cut (ListenRefused side es k.rest c open_side nothing is (listen_refused asker (wildcard r.inner.family) r.inner.backlog k.rest c given items k.row)), inr (inr (here n refl)))
 
     by_state : (st : TcpState) → r.inner.state ≡ st → r.listening ≡ listening.Not → Meets ListenRow es (listen_begun known (listen_start own bound true st))
     by_state (state.Default side) e nothing = onto _ (onto _ (widen (listen_poll_ended side e nothing) (shifted es (polled (op side e nothing) (tt, (tt, tt))))))
     by_state _ e nothing = ends (past_default (rw e tt))
 
     already : (st : TcpState) → r.inner.state ≡ st → IsPastNot r.listening → ListenRow es (Err InvalidState, known)
-    already (state.Default side) e past = (ListensAlready side es e is past, inr (inl (here n refl)))
+    already (state.Default side) e past = (λ late. let k : ListensLate r = rw (found_in n) at late in absurd (subst IsPastNot (k side e) past), inr (inl (here n refl)))
     already _ e past = past_default (rw e tt)
 
     by_listening : (l : Listening) → r.listening ≡ l → Meets ListenRow es (listen_once own known l)
@@ -217,7 +223,7 @@ module _ (m : Machine) (own : OpId) (handle place : ℕ) (r : Tcp2Socket) (n : N
 
   listen_by_bound : (es : List Entry) (b : Bool × Socket) → BoundRow own r.inner es b → Meets ListenRow es (listen_bound own (with_inner r b.1) b.0)
   listen_by_bound _ _ (ItsBound es is) = by_listening es is r.listening refl
-  listen_by_bound _ _ (ItsFree side local free) = ends (put_back (ListenRefusedSo (entry own (call.Local side) local ∷ []) word.InvalidState) m place r n.at (NotBound side local free, inl refl))
+  listen_by_bound _ _ (ItsFree side local free) = ends (put_back (ListenRefusedSo (entry own (call.Local side) local ∷ []) word.InvalidState) m place r n.at (λ late. NotBound side local free, inl refl))
 
   listen_begins : Meets ListenRow [] (begin_listen_asks own r)
   listen_begins = chain (bounds own r.inner) listen_by_bound
@@ -274,12 +280,12 @@ module _ (contexts : List WasiSocketsCtx) (m : Machine) (line c handle : ℕ) wh
   listen_said : (place : ℕ) (r : Tcp2Socket) (n : Names m handle place r) → is_nothing r.in_progress ≡ true → (es : List Entry) (done : Result (Answer (Unit {0})) ErrorCode × Tcp2Socket) → ListenRow m own handle place r n es done → (Replied contexts m line (step.TcpStartListen c handle) (answer_reply line)) es (with_store m (call_answered m.store line (StandingCall.Listen place) done))
   listen_said place r n idle es (Ok Pending, now) h = (no_conflict n idle _ (λ e. cc), ((refl, refl), h))
   listen_said place r n idle es (Ok (Ready done), now) h = (no_conflict n idle _ (λ e. cc), (tt, tt))
-  listen_said place r n idle es (Err code, now) h = (no_code n idle code, (inr (code_word code), (here n (Begins idle h.0), h.1)))
+  listen_said place r n idle es (Err code, now) h = (no_code n idle code, (inr (code_word code), (λ late. here n (Begins idle (h.0 late)), h.1)))
 
   pub start_listen : Meets (Says contexts m line (step.TcpStartListen c handle)) [] (bind (start_listen_on m own (socket_at m handle)) (λ done. Give (answer_reply line done.0, done.1)))
   start_listen =
       onto _ (on_idle m handle (start_listen_on m own) (λ place o. start_listen_at m.store own place o) (λ place r b. start_listen_by m.store own place r b) refl (λ place. refl) (λ place. refl) (λ place r. refl) (λ place r. refl)
-      (λ none. (none_conflicts m handle _ none (λ e. cc), (none, refl, refl))) (λ place r n e. (in_conflict n e, (inl refl, (here n (InProgress e refl refl refl), inl refl)))) (λ place r n idle. onto _ (widen (listen_said place r n idle) (listen_begins m own handle place r n))))
+      (λ none. (none_conflicts m handle _ none (λ e. cc), (none, refl, refl))) (λ place r n e. (in_conflict n e, (inl refl, (λ late. here n (InProgress e refl refl refl), inl refl)))) (λ place r n idle. onto _ (widen (listen_said place r n idle) (listen_begins m own handle place r n))))
 
   pub finish_bind : let done = finish_on is_bind m (socket_at m handle) in Meets (Says contexts m line (step.TcpFinishBind c handle)) [] (Give (done_reply done.0, done.1))
   finish_bind =

@@ -10,6 +10,6 @@ pub returns : goal.returns
 returns c = record {
   exactly = λ contexts m line ctx handle entries reply after free w. (while_free contexts m line (step.TcpFinishConnect ctx handle) free entries reply after w).0;
   not_in_progress = λ contexts m line ctx handle entries after w. (its_own contexts m line (step.TcpFinishConnect ctx handle) entries (reply.Err word.NotInProgress) after w (λ e. cc)).1.1.none refl;
-  cause = λ contexts m line ctx handle entries word after holds w. (its_own contexts m line (step.TcpFinishConnect ctx handle) entries (reply.Err word) after w (λ e. cc)).1.1.cause holds;
+  cause = λ contexts m line ctx handle entries word after holds finishes w. (its_own contexts m line (step.TcpFinishConnect ctx handle) entries (reply.Err word) after w (λ e. cc)).1.1.cause holds finishes;
   in_runs = λ contexts steps log replies m line ctx handle entries word after w. finishes_refused_in_runs contexts steps log replies m w line ctx handle entries word after;
 }
