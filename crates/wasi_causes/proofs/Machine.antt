@@ -3,8 +3,8 @@ use Rattle.wasi_host.specs.declared.binding.InProgress.TheVariants.{Binding}
 use Rattle.wasi_walks.proofs.walks.States.{stands_so as stands_under}
 use Rattle.wasi_causes.proofs.Words.{AcceptWaits, AcceptWaitsOn, Accepting, AcceptsIn, Answer, BindFailed, BindFails, BindWaits, Bool, CallFails}
 use Rattle.wasi_causes.proofs.Words.{CallWaits, ClosedBy, ConnectWaits, Done, End, EndsPending, Entry, Err, ErrorCode, Give, HasNoListen}
-use Rattle.wasi_causes.proofs.Words.{HasNoListener, HoldsAccept, HoldsConnect, IfSome, InProgress, InputWaits, InvalidState, IsBinding, IsIdleSocket}
-use Rattle.wasi_causes.proofs.Words.{IsListen, IsListening, IsOnNothing, IsReady, IsRestOfBind, IsSomeAnd, IsUnready, Item, List, ListenEnds}
+use Rattle.wasi_causes.proofs.Words.{HasNoListener, HoldsAccept, IfSome, InProgress, InputWaits, InvalidState, IsBinding, IsIdleSocket}
+use Rattle.wasi_causes.proofs.Words.{IsListening, IsOnNothing, IsReady, IsRestOfBind, IsSomeAnd, IsUnready, Item, List, ListenEnds}
 use Rattle.wasi_causes.proofs.Words.{ListenFailed, ListenWaits, Listener, Listening, Machine, MissesRecord, NoListen, NoSuchHandle, None, OfWatched}
 use Rattle.wasi_causes.proofs.Words.{Ok, OpId, Operation, Option, Pending, Pollable, ReadState, Ready, Records, Refused, Reply, Result, Some}
 use Rattle.wasi_causes.proofs.Words.{Standing, StandingCall, PendingCallsFit, Stop, StreamStop, Streams, Tcp2Socket, TcpReceiveStream}
@@ -36,6 +36,7 @@ use Rattle.wasi_tcp.specs.declared.reader.ReadState.TheVariants as reading
 use Rattle.wasi_tcp.specs.declared.socket.TcpState.TheVariants as state
 use Rattle.wasi_world.specs.declared.call.Call.TheVariants as call
 use Rattle.wasi_world.specs.declared.call.Told.TheVariants as told
+use Rattle.wasi_walks.specs.Answered.{ConnectsOn}
 use Rattle.wasi_world.specs.declared.outcome.Answer.TheVariants as answer
 
 -- == a subscription
@@ -63,7 +64,7 @@ module _ (line : ℕ) (r : Tcp2Socket) where
 
   -- why it isn't ready, where it connects by a connect and accepts by an accept
   abbrev IsUnreadySo : List Entry → Watched → Type 0
-  IsUnreadySo es w = HoldsConnect r.inner.state → AcceptsIn r.listening → IsUnready its r es w
+  IsUnreadySo es w = ConnectsOn r.inner.state → AcceptsIn r.listening → IsUnready its r es w
 
   abbrev RecordRow : Watched → Rows (Result Bool Stop × Tcp2Socket)
   RecordRow w es (Ok true, now) = IsIdle es now w
@@ -83,7 +84,7 @@ module _ (line : ℕ) (r : Tcp2Socket) where
       over : (es : List Entry) (now : Tcp2Socket) → IsIdle es now (watched.Socket place)
       over es now idle = absurd (connecting idle)
 
-      ended : (op : Operation) → r.inner.state ≡ state.Connecting op → (es : List Entry) (end : End × List Item) → (HoldsConnect (state.Connecting op) → EndsFor op (ClosedBy op) es end) → SocketRow es (connect_looked r (in_socket r.inner (connect_ended op.who end)))
+      ended : (op : Operation) → r.inner.state ≡ state.Connecting op → (es : List Entry) (end : End × List Item) → (ConnectsOn (state.Connecting op) → EndsFor op (ClosedBy op) es end) → SocketRow es (connect_looked r (in_socket r.inner (connect_ended op.who end)))
       ended op e es (Waits, items) h = (connecting, λ holds accepts. ConnectWaits place op connects e (h (rw e at holds)))
       ended op e es (_, items) h = over es _
 
@@ -187,7 +188,7 @@ module _ (contexts : List WasiSocketsCtx) (m : Machine) (line c pollable : ℕ) 
       never_idle (watched.Socket place) none i = cc
       never_idle _ none i = i
 
-      holds : WatchesConnect m pollable → HoldsConnect r.inner.state
+      holds : WatchesConnect m pollable → ConnectsOn r.inner.state
       holds connects = rw (is, at) at connects
 
       listens_so : WatchesAccept m pollable → AcceptsIn r.listening
@@ -274,7 +275,7 @@ module _ (contexts : List WasiSocketsCtx) (m : Machine) (line n : ℕ) where
       gives_up none = answered_so (Listen place) stands [] (Err InvalidState, r) (λ binds. NoListen place (rw at none) refl)
 
       module _ (op : Operation) (is : r.listening ≡ listening.Begins op) where
-        is_listen : PendingCallsFit m → IsListen op
+        is_listen : PendingCallsFit m → IsListening (listening.Begins op)
         is_listen binds =
             let k : IfSome (slice_get m.store.sockets place) (λ q. IsListening q.listening) = rw stands at binds in
             let held : IsListening r.listening = rw at at k in
@@ -283,7 +284,7 @@ module _ (contexts : List WasiSocketsCtx) (m : Machine) (line n : ℕ) where
         listen_waits : (es : List Entry) → EndsPending op.who.id es → CallWaits m (own_of n) es (Listen place)
         listen_waits es h = let k : ListenWaits r.listening es = rw is h in rw at k
 
-        listen_ends : (es : List Entry) (end : End × List Item) → (IsListen op → EndsFor op (ListenEnds op) es end) → ListenRow es (listen_polled r (listen_ended op.who r.inner end))
+        listen_ends : (es : List Entry) (end : End × List Item) → (IsListening (listening.Begins op) → EndsFor op (ListenEnds op) es end) → ListenRow es (listen_polled r (listen_ended op.who r.inner end))
         listen_ends es (Waits, items) h = answered_so (Listen place) stands es (listen_polled r (listen_ended op.who r.inner (Waits, items))) (λ binds. listen_waits es (h (is_listen binds)))
         listen_ends es (Done given, items) h = answered_so (Listen place) stands es (listen_polled r (listen_ended op.who r.inner (Done given, items))) tt
         listen_ends es (Refused code given, items) h = answered_so (Listen place) stands es (listen_polled r (listen_ended op.who r.inner (Refused code given, items))) (λ binds. ListenFailed place r op code at is (h (is_listen binds)))

@@ -30,88 +30,35 @@ use Rattle.wasi_walks.proofs.walks.Moves.{HasBinding, closed_record, Held, Binds
 use Rattle.wasi_walks.proofs.walks.Runs.{run_ends}
 use Rattle.wasi_walks.proofs.walks.States.{Over, socket_record}
 use Rattle.wasi_walks.proofs.walks.Steps.{may_while, machine_walks}
+use Rattle.wasi_causes.proofs.operations.Polls.{Keeps, connect_leaves, listen_leaves}
+use Rattle.wasi_tcp.specs.Connect.{connect_first, connect_left}
+use Rattle.wasi_walks.specs.Answered.{AllOf, ConnectsOn, IsAskOfConnect}
 use Rattle.wasi_walks.specs.Listens.{RefusedListen}
+use Rattle.wasi_walks.specs.Waiting.{IsAskOfListen}
+use Rattle.wasi_causes.proofs.Words.{HoldsConnect, IpSocketAddress, SocketAddressFamily, after_create, gives_more, told_done}
 use Rattle.wasi_steps.specs.declared.reply.Reply.TheVariants as reply
 use Rattle.wasi_steps.specs.declared.step.Step.TheVariants as step
 use Rattle.wasi_tcp.specs.declared.listener.Accepting.TheVariants as accepting
 use Rattle.wasi_tcp.specs.declared.socket.TcpState.TheVariants as state
 
--- == of a record
-accepts_so : (l : Listening) → FitListening l → AcceptsIn l
-accepts_so (listening.Accepts l) h = h
-accepts_so _ h = tt
-
-listens_so : (l : Listening) → FitListening l → IsListening l
-listens_so (listening.Begins op) h = h
-listens_so _ h = tt
-
-module _ (m : Machine) (P : Tcp2Socket → Type 0) (so : (place : ℕ) (r : Tcp2Socket) → slice_get m.store.sockets place ≡ Some r → P r) where
-  at_place : (place : ℕ) (o : Option Tcp2Socket) → slice_get m.store.sockets place ≡ o → IfSome o P
-  at_place place None at = tt
-  at_place place (Some r) at = so place r at
-
-  of_record : (o : Option ℕ) → IfSome (record_in m o) P
-  of_record None = tt
-  of_record (Some place) = at_place place (slice_get m.store.sockets place) refl
-
-  of_watched : (o : Option Watched) → IfSome (watched_in m o) P
-  of_watched None = tt
-  of_watched (Some w) = at_place (place_in w) (slice_get m.store.sockets (place_in w)) refl
-
-module _ (m : Machine) (f : Fit (Over m)) where
-  binds_so : (r : Tcp2Socket) (doing : InProgress) → r.in_progress ≡ doing → FitRecord r → HasBinding doing → IsBinding doing
-  binds_so r (Binding op) e k b = (subst (FitProgress r.inner.state) e k.2).1
-  binds_so r Nothing e k b = absurd b
-  binds_so r (Started o) e k b = absurd b
-
-  by_call : (call : StandingCall) → FitCall m.store.sockets call → HoldsCall m call
-  by_call (standing.Bind place) h = subst (λ (o : Option Tcp2Socket). IfSome o (λ r. IsBinding r.in_progress)) (sym h.at) (binds_so h.was h.was.in_progress refl (f.records place h.was h.at) h.goes)
-  by_call (standing.Listen place) h = at_place m (λ r. IsListening r.listening) (λ place r g. listens_so r.listening (f.records place r g).1) place (slice_get m.store.sockets place) refl
-  by_call (standing.DropOutput place) h = tt
-
-  stands_by : (o : Option Standing) → ((s : Standing) → o ≡ Some s → FitCall m.store.sockets s.call) → IfSome o (λ s. HoldsCall m s.call)
-  stands_by None h = tt
-  stands_by (Some s) h = by_call s.call (h s refl)
-
--- what its sockets connect by is a connect, and what its listeners accept by is an accept
-pub connects_at : (m : Machine) → Fit (Over m) → (handle : ℕ) → ConnectsAt m handle
-connects_at m f handle = of_record m _ (λ place r g. (f.records place r g).0) (socket_at m handle)
-
-pub accepts_at : (m : Machine) → Fit (Over m) → (handle : ℕ) → AcceptsAt m handle
-accepts_at m f handle = of_record m _ (λ place r g. accepts_so r.listening (f.records place r g).1) (socket_at m handle)
-
--- == of a run
-abbrev pub Between : ℕ → List Entry → Machine → Type 0
-Between line es m = Fit (Over m)
-
-pub line_fits : (contexts : List WasiSocketsCtx) (line : ℕ) (s : Step) (m : Machine) (es : List Entry) → Fit (Over m) → Allows Anything (λ fs done. Fit (Over done.1)) es (machine_asks contexts m line s)
-line_fits contexts line s m es f = fits_along contexts line s (machine_walks line s m m.store.standing refl) es (starts_fit m (may_while m s m.store.standing) f)
-
-module _ (contexts : List WasiSocketsCtx) (steps : List Step) (es : List Entry) (replies : List Reply) (m : Machine) (w : Left (run contexts [] first_state 1 steps) es (Give (replies, m))) where
-  pub fits : Fit (Over m)
-  fits = (run_ends contexts Anything Between (line_fits contexts) first_fit steps es replies m w).1
-
-  pub runs_connect : (handle : ℕ) → ConnectsAt m handle
-  runs_connect = connects_at m fits
-
-  pub runs_watch : (pollable : ℕ) → WatchesConnect m pollable
-  runs_watch pollable = of_watched m _ (λ place r g. (fits.records place r g).0) (watch_of (kind_at m.table pollable))
-
-  pub runs_accept : (handle : ℕ) → AcceptsAt m handle
-  runs_accept = accepts_at m fits
-
-  pub runs_watch_accept : (pollable : ℕ) → WatchesAccept m pollable
-  runs_watch_accept pollable = of_watched m _ (λ place r g. accepts_so r.listening (fits.records place r g).1) (watch_of (kind_at m.table pollable))
-
-  pub runs_bind : PendingCallsFit m
-  runs_bind = stands_by m fits m.store.standing fits.stands
-
 -- == what holds of a machine
 abbrev pub IsThere : List Tcp2Socket → ℕ → Type 0
 IsThere sockets place = (r : Tcp2Socket) × (slice_get sockets place ≡ Some r)
 
+-- only asks are left of a connect and of a listen
+abbrev pub AsksToConnect : TcpState → Type 0
+AsksToConnect (state.Connecting op) = AllOf IsAskOfConnect op.left
+AsksToConnect _ = ⊤
+
+abbrev pub AsksToListen : Listening → Type 0
+AsksToListen (listening.Begins op) = AllOf IsAskOfListen op.left
+AsksToListen _ = ⊤
+
+abbrev pub Asking : Tcp2Socket → Type 0
+Asking r = AsksToConnect r.inner.state × AsksToListen r.listening
+
 abbrev pub Sound : Tcp2Socket → Type 0
-Sound r = Finishes r × ListensLate r
+Sound r = Finishes r × ListensLate r × Asking r
 
 pub record Steady (m : Machine) : Type 0 where
   pub records : (place : ℕ) (r : Tcp2Socket) → slice_get m.store.sockets place ≡ Some r → Sound r
@@ -182,30 +129,38 @@ never_unlistened : (r : Tcp2Socket) (l : Listening) (side : OpId) → r.listenin
 never_unlistened r l side e p s d = subst IsPastNot (sym e ∙ s.1 side d) p
 
 listens_on : (r : Tcp2Socket) (l : Listener) (a : Accepting) → r.listening ≡ listening.Accepts l → Sound r → Sound (accepting_now r l a)
-listens_on r l a e s = (s.0, λ side d. absurd (never_unlistened r (listening.Accepts l) side e tt s d))
+listens_on r l a e s = (s.0, λ side d. absurd (never_unlistened r (listening.Accepts l) side e tt s d), (s.2.0, tt))
 
-listened_sound : (op : Operation) (r : Tcp2Socket) (end : End × List Item) → r.listening ≡ listening.Begins op → Sound r → Sound (listen_after op r end)
-listened_sound op r (Waits, left) e s = (s.0, λ side d. absurd (never_unlistened r (listening.Begins op) side e tt s d))
-listened_sound op r (Done given, left) e s = (λ c. absurd (cc), λ side d. absurd (cc))
-listened_sound op r (Refused c given, left) e s = (s.0, λ side d. refl)
+listened_sound : (op : Operation) (r : Tcp2Socket) (end : End × List Item) → r.listening ≡ listening.Begins op → Keeps IsAskOfListen end → Sound r → Sound (listen_after op r end)
+listened_sound op r (Waits, left) e k s = (s.0, λ side d. absurd (never_unlistened r (listening.Begins op) side e tt s d), (s.2.0, k))
+listened_sound op r (Done given, left) e k s = (λ c. absurd (cc), λ side d. absurd (cc), (tt, tt))
+listened_sound op r (Refused c given, left) e k s = (s.0, λ side d. refl, (s.2.0, tt))
+
+asks_after : (who : Who) (end : End × List Item) → Keeps IsAskOfConnect end → AsksToConnect (connect_ended who end).1
+asks_after who (Waits, left) k = k
+asks_after who _ k = tt
+
+asks_first : (a wildcard : IpSocketAddress) (bound : Bool) → AllOf IsAskOfConnect (connect_left wildcard a (connect_first bound))
+asks_first a wildcard true = (tt, (tt, tt))
+asks_first a wildcard false = (tt, (tt, (tt, tt)))
 
 module _ (contexts : List WasiSocketsCtx) (line : ℕ) (origin : Step) where
   moves_steady : (h now : Here) → Move line origin h now → Steady h.machine → Steady now.machine
-  moves_steady _ _ (Changes h place r now g p) i = put_steady h place now (λ c. subst MayFinish (sym p.does) (elim (p.connects c) [ inl k ↦ (i.records place r g).0 k | inr k ↦ connecting_may r.inner.state k ]), λ side d. p.listening ∙ (i.records place r g).1 side (sym p.does ∙ d)) i
+  moves_steady _ _ (Changes h place r now g p) i = put_steady h place now (λ c. subst MayFinish (sym p.does) (elim (p.connects c) [ inl k ↦ (i.records place r g).0 k | inr k ↦ connecting_may r.inner.state k ]), λ side d. p.listening ∙ (i.records place r g).1 side (sym p.does ∙ d), (subst AsksToConnect (sym p.does) (i.records place r g).2.0, subst AsksToListen (sym p.listening) (i.records place r g).2.1)) i
   moves_steady _ _ (ClosesReader h place r s g e) i = put_steady h place _ (i.records place r g) i
   moves_steady _ _ (Writes h place r s w g e m) i = put_steady h place _ (i.records place r g) i
-  moves_steady _ _ (IsGone h place r q g e) i = put_steady h place _ (λ c. absurd (cc), λ side d. refl) i
-  moves_steady _ _ (Reconnects h place r c now g e s t u) i = put_steady h place _ (λ k. (let f : MayFinish (state.Connected c) = subst MayFinish e ((i.records place r g).0 k) in ((u k).0 ∙ f.0, (u k).1 ∙ f.1)), λ side d. absurd (cc)) i
-  moves_steady _ _ (Opens h place r c d g e n) i = put_steady h place _ (λ k. absurd (cc), λ side d. absurd (cc)) i
-  moves_steady _ _ (BeginsConnect h place r side a bound at g d to known idle own) i = put_steady h place _ (λ k. tt, λ s e. absurd (cc)) i
-  moves_steady _ _ (BeginsBind h place r side a at g d to idle own) i = put_steady h place _ (λ c. absurd (cc), (i.records place r g).1) i
+  moves_steady _ _ (IsGone h place r q g e) i = put_steady h place _ (λ c. absurd (cc), λ side d. refl, ((i.records place r g).2.0, tt)) i
+  moves_steady _ _ (Reconnects h place r c now g e s t u) i = put_steady h place _ (λ k. (let f : MayFinish (state.Connected c) = subst MayFinish e ((i.records place r g).0 k) in ((u k).0 ∙ f.0, (u k).1 ∙ f.1)), λ side d. absurd (cc), (tt, (i.records place r g).2.1)) i
+  moves_steady _ _ (Opens h place r c d g e n) i = put_steady h place _ (λ k. absurd (cc), λ side d. absurd (cc), (tt, (i.records place r g).2.1)) i
+  moves_steady _ _ (BeginsConnect h place r side a bound at g d to known idle own) i = put_steady h place _ (λ k. tt, λ s e. absurd (cc), (asks_first a _ bound, (i.records place r g).2.1)) i
+  moves_steady _ _ (BeginsBind h place r side a at g d to idle own) i = put_steady h place _ (λ c. absurd (cc), (i.records place r g).1, (i.records place r g).2) i
   moves_steady _ _ (BeginsWrite h place r s half permit bytes at g e w within own) i = put_steady h place _ (i.records place r g) i
-  moves_steady _ _ (BeginsListen h place r side at g d bound none to idle own) i = put_steady h place _ (λ k. tt, λ s e. absurd (cc)) i
+  moves_steady _ _ (BeginsListen h place r side at g d bound none to idle own) i = put_steady h place _ (λ k. tt, λ s e. absurd (cc), (tt, (tt, (tt, tt)))) i
   moves_steady _ _ (BeginsAccept h place r l at g e a own) i = put_steady h place _ (listens_on r l _ e (i.records place r g)) i
-  moves_steady _ _ (Unlistens h place r op g e c o) i = put_steady h place _ ((i.records place r g).0, λ side d. refl) i
+  moves_steady _ _ (Unlistens h place r op g e c o) i = put_steady h place _ ((i.records place r g).0, λ side d. refl, ((i.records place r g).2.0, tt)) i
   moves_steady _ _ (Forgets h place r l c g e a) i = put_steady h place _ (listens_on r l accepting.Idle e (i.records place r g)) i
   moves_steady _ _ (Joins h c handle place r l new peer is of u g e a) i =
-      let k = put_steady h place (accepting_now r l accepting.Idle) (listens_on r l accepting.Idle e (i.records place r g)) i in push_steady (put h place (accepting_now r l accepting.Idle)).machine (joined l new peer) (λ c. absurd (cc), λ side d. absurd (cc)) k
+      let k = put_steady h place (accepting_now r l accepting.Idle) (listens_on r l accepting.Idle e (i.records place r g)) i in push_steady (put h place (accepting_now r l accepting.Idle)).machine (joined l new peer) (λ c. absurd (cc), λ side d. absurd (cc), (tt, tt)) k
   moves_steady _ _ (Unstands h) i = record { records = i.records; handles = i.handles; stands = λ c e. absurd (cc) }
   moves_steady _ _ (Stands h n call r at g b) i = stand_steady h.machine (standing_as n call) (r, g) i
   moves_steady _ _ (Lists h jobs) i = record { records = i.records; handles = i.handles; stands = i.stands }
@@ -227,17 +182,34 @@ module _ (contexts : List WasiSocketsCtx) (line : ℕ) (origin : Step) where
   marks_there h _ _ _ (APollable c handle w is of) i place e = i.handles handle place (of ∙ e)
   marks_there h _ _ _ _ i place e = absurd (cc)
 
-  joins : (es : List Entry) (m : Machine) (op : OpId) (made : Result Socket ErrorCode) → Steady m → Allows Anything (λ fs done. Steady done.1) es (created_asks m op made)
-  joins es m op (Ok socket) i =
+  -- a socket that is created doesn't connect
+  abbrev MadeIdle : Result Socket ErrorCode → Type 0
+  MadeIdle (Ok socket) = AsksToConnect socket.state
+  MadeIdle (Err c) = ⊤
+
+  made_idle : (es : List Entry) (op : OpId) (ctx : WasiSocketsCtx) (family : SocketAddressFamily) → Allows Anything (λ fs made. MadeIdle made) es (new_asks op ctx family)
+  unfolding bind
+  made_idle es op ctx family = allows_if Anything (λ fs made. MadeIdle made) es ctx.tcp _ _ (λ tcp. (tt, λ t f. by_told (told_done t))) (λ other. tt)
+    where
+      by_told : (r : Result (Unit {0}) ErrorCode) → MadeIdle (after_create op ctx.name family r)
+      by_told (Ok done) = tt
+      by_told (Err c) = tt
+
+  joins : (es : List Entry) (m : Machine) (op : OpId) (made : Result Socket ErrorCode) → MadeIdle made → Steady m → Allows Anything (λ fs done. Steady done.1) es (created_asks m op made)
+  joins es m op (Ok socket) f i =
       let now : Machine = record m { store = with_record m.store socket } in
       allows_then Anything (λ fs made. Steady (record now { table = made.1 })) (λ fs done. Steady done.1) es (make_asks m.table op (Tcp2 (length m.store.sockets)) None (side_of socket)) _
-      (made_steady es now op (Tcp2 (length m.store.sockets)) None (side_of socket) (λ place e. let p : length m.store.sockets ≡ place = cc in subst (IsThere now.store.sockets) p (new_record socket, get_seam m.store.sockets (new_record socket))) (push_steady m (new_record socket) (λ c. absurd (cc), λ side d. refl) i)) (λ fs made k. k)
-  joins es m op (Err c) i = i
+      (made_steady es now op (Tcp2 (length m.store.sockets)) None (side_of socket) (λ place e. let p : length m.store.sockets ≡ place = cc in subst (IsThere now.store.sockets) p (new_record socket, get_seam m.store.sockets (new_record socket))) (push_steady m (new_record socket) (λ c. absurd (cc), λ side d. refl, (f, tt)) i)) (λ fs made k. k)
+  joins es m op (Err c) f i = i
 
   polls_steady : (es : List Entry) (h : Here) (op : Operation) (after : End × List Item → Here) → Held h op after → Steady h.machine → Allows Anything (λ fs ended. Steady (after ended).machine) es (poll_asks op)
-  polls_steady es h _ _ (BindsOn place r op q g e) i = whatever (λ end. Steady (put h place (with_progress r (bind_progress op end))).machine) (λ end. put_steady h place _ (λ c. absurd (no_connect op end c), (i.records place r g).1) i) es (poll_asks op)
-  polls_steady es h _ _ (Connects place r op g e) i = whatever (λ end. Steady (put h place (with_inner r (with_state r.inner (connect_ended op.who end).1))).machine) (λ end. put_steady h place _ (λ c. connected_may op.who end, λ side d. absurd (never_default op.who end side d)) i) es (poll_asks op)
-  polls_steady es h _ _ (Listens place r op q g e c) i = whatever (λ end. Steady (put h place (listen_after op r end)).machine) (λ end. put_steady h place _ (listened_sound op r end e (i.records place r g)) i) es (poll_asks op)
+  polls_steady es h _ _ (BindsOn place r op q g e) i = whatever (λ end. Steady (put h place (with_progress r (bind_progress op end))).machine) (λ end. put_steady h place _ (λ c. absurd (no_connect op end c), (i.records place r g).1, (i.records place r g).2) i) es (poll_asks op)
+  polls_steady es h _ _ (Connects place r op g e) i =
+      gives_more (λ fs end. Keeps IsAskOfConnect end) (λ fs end. Steady (put h place (with_inner r (with_state r.inner (connect_ended op.who end).1))).machine)
+      (λ fs end k. put_steady h place _ (λ c. connected_may op.who end, λ side d. absurd (never_default op.who end side d), (asks_after op.who end k, (i.records place r g).2.1)) i) es (poll_asks op) (connect_leaves op (subst AsksToConnect e (i.records place r g).2.0) es)
+  polls_steady es h _ _ (Listens place r op q g e c) i =
+      gives_more (λ fs end. Keeps IsAskOfListen end) (λ fs end. Steady (put h place (listen_after op r end)).machine)
+      (λ fs end k. put_steady h place _ (listened_sound op r end e k (i.records place r g)) i) es (poll_asks op) (listen_leaves op (subst AsksToListen e (i.records place r g).2.1) es)
   polls_steady es h _ _ (Awaits place r l op g e a) i = whatever (λ end. Steady (put h place (accepting_now r l (accept_ended op.who end))).machine) (λ end. put_steady h place _ (listens_on r l _ e (i.records place r g)) i) es (poll_asks op)
 
   unfoldable steady : Law contexts line origin
@@ -247,14 +219,14 @@ module _ (contexts : List WasiSocketsCtx) (line : ℕ) (origin : Step) where
     moves = λ es h now m i. moves_steady h now m i;
     asks = λ es h place n r side c at g o q i. (tt, λ told fits. i);
     sets = λ es h place r side b at g s is i. (tt, λ told fits. i);
-    learns = λ es h place r side at g e i. (tt, λ told fits. put_steady h place _ (λ c. subst MayFinish (sym (told_same r.inner (told_addr told))) ((i.records place r g).0 c), λ s d. (i.records place r g).1 s (sym (told_same r.inner (told_addr told)) ∙ d)) i);
-    closes = λ es h place r side q g e i. (tt, λ told fits. put_steady h place (closed_record r) (λ c. absurd (cc), λ s d. refl) i);
+    learns = λ es h place r side at g e i. (tt, λ told fits. put_steady h place _ (λ c. subst MayFinish (sym (told_same r.inner (told_addr told))) ((i.records place r g).0 c), λ s d. (i.records place r g).1 s (sym (told_same r.inner (told_addr told)) ∙ d), (subst AsksToConnect (sym (told_same r.inner (told_addr told))) (i.records place r g).2.0, (i.records place r g).2.1)) i);
+    closes = λ es h place r side q g e i. (tt, λ told fits. put_steady h place (closed_record r) (λ c. absurd (cc), λ s d. refl, (tt, tt)) i);
     marks = λ es h kind parent sock m i. made_steady es h.machine (own_of line) kind parent sock (marks_there h kind parent sock m i) i;
-    creates = λ es h ctx family c a o m i. allows_then Anything (λ fs made. ⊤) (λ fs done. Steady done.1) es (new_asks (own_of line) ctx family) (created_asks h.machine (own_of line)) (whatever (λ made. ⊤) (λ made. tt) es _) (λ fs made k. joins fs h.machine (own_of line) made i);
+    creates = λ es h ctx family c a o m i. allows_then Anything (λ fs made. MadeIdle made) (λ fs done. Steady done.1) es (new_asks (own_of line) ctx family) (created_asks h.machine (own_of line)) (made_idle es (own_of line) ctx family) (λ fs made k. joins fs h.machine (own_of line) made k i);
     accepted = λ es h c s place r is e o g i. made_steady es h.machine (own_of line) (Tcp2 place) (Some s) (side_at (slice_get h.machine.store.sockets place)) (λ k p. let q : place ≡ k = cc in subst (IsThere h.machine.store.sockets) q (r, g)) i;
     polls = polls_steady;
     turns = λ es h place r s g e i. whatever (λ done. Steady (put h place (with_writer r s done.1)).machine) (λ done. put_steady h place _ (i.records place r g) i) es (turn_asks s.writer);
-    gives_up = λ es h place r g i. whatever (λ done. Steady (put h place (with_listening r listening.Not)).machine) (λ done. put_steady h place _ ((i.records place r g).0, λ side d. refl) i) es (give_up_asks r.listening);
+    gives_up = λ es h place r g i. whatever (λ done. Steady (put h place (with_listening r listening.Not)).machine) (λ done. put_steady h place _ ((i.records place r g).0, λ side d. refl, ((i.records place r g).2.0, tt)) i) es (give_up_asks r.listening);
   }
 
   line_steady : (m : Machine) (es : List Entry) → Steady m → Allows Anything (λ fs done. Steady done.1) es (machine_asks contexts m line origin)
@@ -264,6 +236,82 @@ module _ (contexts : List WasiSocketsCtx) (line : ℕ) (origin : Step) where
 pub runs_are_steady : (contexts : List WasiSocketsCtx) (steps : List Step) (es : List Entry) (replies : List Reply) (m : Machine) → Left (run contexts [] first_state 1 steps) es (Give (replies, m)) → Steady m
 runs_are_steady contexts steps es replies m w =
     (run_ends contexts Anything (λ line fs now. Steady now) (λ line s now fs i. line_steady contexts line s now fs i) (record { records = λ place r e. absurd (cc); handles = λ handle place e. absurd (cc); stands = λ c e. absurd (cc) }) steps es replies m w).1
+
+-- == of a record
+accepts_so : (l : Listening) → FitListening l → AcceptsIn l
+accepts_so (listening.Accepts l) h = h
+accepts_so _ h = tt
+
+listens_so : (l : Listening) → FitListening l → AsksToListen l → IsListening l
+listens_so (listening.Begins op) h k = (h, k)
+listens_so _ h k = tt
+
+connects_so : (s : TcpState) → HoldsConnect s → AsksToConnect s → ConnectsOn s
+connects_so (state.Connecting op) h k = (h, k)
+connects_so _ h k = tt
+
+module _ (m : Machine) (P : Tcp2Socket → Type 0) (so : (place : ℕ) (r : Tcp2Socket) → slice_get m.store.sockets place ≡ Some r → P r) where
+  at_place : (place : ℕ) (o : Option Tcp2Socket) → slice_get m.store.sockets place ≡ o → IfSome o P
+  at_place place None at = tt
+  at_place place (Some r) at = so place r at
+
+  of_record : (o : Option ℕ) → IfSome (record_in m o) P
+  of_record None = tt
+  of_record (Some place) = at_place place (slice_get m.store.sockets place) refl
+
+  of_watched : (o : Option Watched) → IfSome (watched_in m o) P
+  of_watched None = tt
+  of_watched (Some w) = at_place (place_in w) (slice_get m.store.sockets (place_in w)) refl
+
+module _ (m : Machine) (f : Fit (Over m)) (i : Steady m) where
+  binds_so : (r : Tcp2Socket) (doing : InProgress) → r.in_progress ≡ doing → FitRecord r → HasBinding doing → IsBinding doing
+  binds_so r (Binding op) e k b = (subst (FitProgress r.inner.state) e k.2).1
+  binds_so r Nothing e k b = absurd b
+  binds_so r (Started o) e k b = absurd b
+
+  by_call : (call : StandingCall) → FitCall m.store.sockets call → HoldsCall m call
+  by_call (standing.Bind place) h = subst (λ (o : Option Tcp2Socket). IfSome o (λ r. IsBinding r.in_progress)) (sym h.at) (binds_so h.was h.was.in_progress refl (f.records place h.was h.at) h.goes)
+  by_call (standing.Listen place) h = at_place m (λ r. IsListening r.listening) (λ place r g. listens_so r.listening (f.records place r g).1 (i.records place r g).2.1) place (slice_get m.store.sockets place) refl
+  by_call (standing.DropOutput place) h = tt
+
+  stands_by : (o : Option Standing) → ((s : Standing) → o ≡ Some s → FitCall m.store.sockets s.call) → IfSome o (λ s. HoldsCall m s.call)
+  stands_by None h = tt
+  stands_by (Some s) h = by_call s.call (h s refl)
+
+-- == of a run
+abbrev pub Between : ℕ → List Entry → Machine → Type 0
+Between line es m = Fit (Over m)
+
+pub line_fits : (contexts : List WasiSocketsCtx) (line : ℕ) (s : Step) (m : Machine) (es : List Entry) → Fit (Over m) → Allows Anything (λ fs done. Fit (Over done.1)) es (machine_asks contexts m line s)
+line_fits contexts line s m es f = fits_along contexts line s (machine_walks line s m m.store.standing refl) es (starts_fit m (may_while m s m.store.standing) f)
+
+module _ (contexts : List WasiSocketsCtx) (steps : List Step) (es : List Entry) (replies : List Reply) (m : Machine) (w : Left (run contexts [] first_state 1 steps) es (Give (replies, m))) where
+  pub fits : Fit (Over m)
+  fits = (run_ends contexts Anything Between (line_fits contexts) first_fit steps es replies m w).1
+
+  run_steady : Steady m
+  run_steady = runs_are_steady contexts steps es replies m w
+
+  connects_there : (place : ℕ) (r : Tcp2Socket) → slice_get m.store.sockets place ≡ Some r → ConnectsOn r.inner.state
+  connects_there place r g = connects_so r.inner.state (fits.records place r g).0 (run_steady.records place r g).2.0
+
+  accepts_there : (place : ℕ) (r : Tcp2Socket) → slice_get m.store.sockets place ≡ Some r → AcceptsIn r.listening
+  accepts_there place r g = accepts_so r.listening (fits.records place r g).1
+
+  pub runs_connect : (handle : ℕ) → ConnectsAt m handle
+  runs_connect handle = of_record m _ connects_there (socket_at m handle)
+
+  pub runs_watch : (pollable : ℕ) → WatchesConnect m pollable
+  runs_watch pollable = of_watched m _ connects_there (watch_of (kind_at m.table pollable))
+
+  pub runs_accept : (handle : ℕ) → AcceptsAt m handle
+  runs_accept handle = of_record m _ accepts_there (socket_at m handle)
+
+  pub runs_watch_accept : (pollable : ℕ) → WatchesAccept m pollable
+  runs_watch_accept pollable = of_watched m _ accepts_there (watch_of (kind_at m.table pollable))
+
+  pub runs_bind : PendingCallsFit m
+  runs_bind = stands_by m fits run_steady m.store.standing fits.stands
 
 module _ (m : Machine) (i : Steady m) where
   has_record : (place : ℕ) → IsThere m.store.sockets place → HasRecord m place
@@ -303,33 +351,30 @@ module _ (m : Machine) (i : Steady m) where
           by_line false on = on
 
 module _ (contexts : List WasiSocketsCtx) (steps : List Step) (log : List Entry) (replies : List Reply) (m : Machine) (w : Left (run contexts [] first_state 1 steps) log (Give (replies, m))) where
-  run_steady : Steady m
-  run_steady = runs_are_steady contexts steps log replies m w
-
   pub runs_have_records : (handle : ℕ) (kind : Kind) → kind_at m.table handle ≡ Some kind → OfItsRecord m kind
-  runs_have_records = of_its_record m run_steady
+  runs_have_records = of_its_record m (run_steady contexts steps log replies m w)
 
   pub runs_miss_no_record : (handle : ℕ) → record_at m handle ≡ None → socket_at m handle ≡ None
-  runs_miss_no_record = is_no_socket m run_steady
+  runs_miss_no_record = is_no_socket m (run_steady contexts steps log replies m w)
 
   pub runs_stand_on_records : (n : ℕ) → StandsOnNothing m n → ⊥
-  runs_stand_on_records = stands_on m run_steady
+  runs_stand_on_records = stands_on m (run_steady contexts steps log replies m w)
 
   pub runs_may_finish : (place : ℕ) (r : Tcp2Socket) → slice_get m.store.sockets place ≡ Some r → is_connect r.in_progress ≡ true → MayFinish r.inner.state
-  runs_may_finish place r g = (run_steady.records place r g).0
+  runs_may_finish place r g = ((run_steady contexts steps log replies m w).records place r g).0
 
   pub runs_listen_late : (place : ℕ) (r : Tcp2Socket) → slice_get m.store.sockets place ≡ Some r → ListensLate r
-  runs_listen_late place r g = (run_steady.records place r g).1
+  runs_listen_late place r g = ((run_steady contexts steps log replies m w).records place r g).1
 
   pub finishes_refused_in_runs : (line ctx handle : ℕ) (entries : List Entry) (word : CodeWord) (after : Machine) → Answered contexts m line (step.TcpFinishConnect ctx handle) entries (reply.Err word) after → RefusedOf m handle (FinishRefusal m) entries word after
   finishes_refused_in_runs line ctx handle entries word after a =
-      (its_own contexts m line (step.TcpFinishConnect ctx handle) entries (reply.Err word) after a (λ e. cc)).1.1.cause (runs_connect contexts steps log replies m w handle) (of_record m Finishes (λ place r g. (run_steady.records place r g).0) (socket_at m handle))
+      (its_own contexts m line (step.TcpFinishConnect ctx handle) entries (reply.Err word) after a (λ e. cc)).1.1.cause (runs_connect contexts steps log replies m w handle) (of_record m Finishes (λ place r g. ((run_steady contexts steps log replies m w).records place r g).0) (socket_at m handle))
 
   pub listens_refused_in_runs : (line ctx handle : ℕ) (entries : List Entry) (word : CodeWord) (after : Machine) → Answered contexts m line (step.TcpStartListen ctx handle) entries (reply.Err word) after → RefusedListen m (own_of line) handle entries word after
   listens_refused_in_runs line ctx handle entries word after a = (its_own contexts m line (step.TcpStartListen ctx handle) entries (reply.Err word) after a (λ e. cc)).1.1.0 (of_record m ListensLate runs_listen_late (socket_at m handle))
 
   no_trap : (line n : ℕ) (entries : List Entry) (kind : TrapKind) (after : Machine) → Traps contexts m line (step.Poll n) entries kind after → ⊥
-  no_trap line n entries NoSuchHandle after h = stands_on m run_steady n h.0
+  no_trap line n entries NoSuchHandle after h = stands_on m (run_steady contexts steps log replies m w) n h.0
   no_trap line n entries HasChildren after h = h.0
   no_trap line n entries Full after h = h.0
   no_trap line n entries NotPermitted after h = h.0

@@ -214,7 +214,8 @@ pub fn finish_connect_refusals()
         → RefusedOf m handle (FinishRefusal m) entries word after }
 {}
 
-/// After the lines of any script, what a socket connects by is a connect: that of a handle, and one that a pollable watches.
+/// After the lines of any script, what a socket connects by is a connect, of which only checks and the connect itself are left:
+/// that of a handle, and one that a pollable watches.
 pub fn runs_connect_by_connects()
     ensures handles { (contexts : List WasiSocketsCtx) (steps : List Step) (entries : List Entry) (replies : List Reply) (m : Machine)
         → Left (run contexts [] first_state 1 steps) entries (Give (replies, m)) → (handle : ℕ) → ConnectsAt m handle }
@@ -239,7 +240,8 @@ pub fn runs_keep_their_records()
         → Left (run contexts [] first_state 1 steps) log (Give (replies, m)) → slice_get m.store.sockets place ≡ Some r → ListensLate r }
 {}
 
-/// After the lines of any script, what is pending as a bind is a bind, and what is pending as a listen is a listen.
+/// After the lines of any script, what is pending as a bind is a bind, and what is pending as a listen is a listen, of which only
+/// the local address, its check and the listen itself are left.
 pub fn runs_keep_their_pending_calls()
     ensures { (contexts : List WasiSocketsCtx) (steps : List Step) (entries : List Entry) (replies : List Reply) (m : Machine)
         → Left (run contexts [] first_state 1 steps) entries (Give (replies, m)) → PendingCallsFit m }

@@ -18,7 +18,7 @@ use Rattle.wasi_world.specs.declared.call.Told.{Told}
 use Rattle.wasi_world.specs.declared.call.Told.TheVariants as told
 use Rattle.wasi_world.specs.declared.outcome.WasiSocketsCtx.{WasiSocketsCtx}
 use Rattle.wasi_world.specs.Asks.{Give, Left}
-use Rattle.wasi_world.specs.Operation.{Item, Check, Connect, Last, Nothing, Who, Operation}
+use Rattle.wasi_world.specs.Operation.{Item, Check, Connect, Who, Operation}
 use Rattle.wasi_tcp.specs.declared.socket.Connection.{Connection}
 use Rattle.wasi_tcp.specs.declared.socket.TcpState.{TcpState}
 use Rattle.wasi_tcp.specs.declared.socket.TcpState.TheVariants as state
@@ -31,7 +31,8 @@ use Rattle.wasi_tcp.specs.declared.writer.WriteError.TheVariants as error
 use Rattle.wasi_tcp.specs.declared.writer.WriteState.{WriteState}
 use Rattle.wasi_tcp.specs.declared.writer.WriteState.TheVariants as writing
 use Rattle.wasi_tcp.specs.Shape.{Socket}
-use Rattle.wasi_tcp.specs.Connecting.{with_state, is_connectable, HoldsConnect}
+use Rattle.wasi_tcp.specs.Connect.{IsConnect}
+use Rattle.wasi_tcp.specs.Connecting.{with_state, is_connectable}
 use Rattle.wasi_tcp.specs.Addresses.{usable_side}
 use Rattle.wasi_tcp.specs.Writer.{error_of_code, collected}
 use Rattle.wasi_host.specs.declared.machine.Machine.{Machine}
@@ -276,12 +277,10 @@ pub record EndsClosing (who : Who) (last : Call) (answer : Told) (entries : List
   pub front : List Entry
   pub cut : entries ≡ front ++ entry who.id last answer ∷ entry who.id (call.Close who.side) told.Done ∷ []
 
--- A connect was closed with a code: a check was answered no, or the connect was answered with the code, or it was to be closed
--- with that.
+-- A connect was closed with a code: a check was answered no, or the connect was answered with the code.
 pub data ClosedBy (op : Operation) (entries : List Entry) : ErrorCode → Type 0 where
   ToldNo : (a : IpSocketAddress) (usage : SocketAddrUse) → Has op.left (Check a usage) → EndsClosing op.who (call.Check op.who.context a usage) told.No entries → ClosedBy op entries AccessDenied
   ToldWhy : (a : IpSocketAddress) (c : ErrorCode) → Has op.left (Connect a) → EndsClosing op.who (call.Connect op.who.side a) (told.Code c) entries → ClosedBy op entries c
-  ClosesLast : (c : ErrorCode) → op.left ≡ Last c Nothing ∷ [] → entries ≡ entry op.who.id (call.Close op.who.side) told.Done ∷ [] → ClosedBy op entries c
 
 -- the machine, where the socket is closed with the code and nothing is in progress
 abbrev pub closed_with : Machine → ℕ → Tcp2Socket → ErrorCode → Machine
@@ -298,9 +297,25 @@ pub data FinishRefusal (m : Machine) (place : ℕ) (r : Tcp2Socket) (entries : L
   WasClosed : (c : ErrorCode) → is_connect r.in_progress ≡ true → r.inner.state ≡ state.Closed c → entries ≡ []
       → FinishRefusal m place r entries (word_of_code c) (closed_with m place r c)
 
+-- this holds of each item
+abbrev pub AllOf : (Item → Type 0) → List Item → Type 0
+AllOf P [] = ⊤
+AllOf P (item ∷ items) = P item × AllOf P items
+
+-- a connect asks so: it closes its network socket only in the poll that is refused
+abbrev pub IsAskOfConnect : Item → Type 0
+IsAskOfConnect (Check a usage) = ⊤
+IsAskOfConnect (Connect a) = ⊤
+IsAskOfConnect _ = ⊥
+
+-- the operation of a state that is connecting is a connect, and only its asks are left
+abbrev pub ConnectsOn : TcpState → Type 0
+ConnectsOn (state.Connecting op) = IsConnect op × AllOf IsAskOfConnect op.left
+ConnectsOn _ = ⊤
+
 -- where the handle's socket is connecting, its operation is a connect
 abbrev pub ConnectsAt : Machine → ℕ → Type 0
-ConnectsAt m handle = IfSome (record_at m handle) (λ r. HoldsConnect r.inner.state)
+ConnectsAt m handle = IfSome (record_at m handle) (λ r. ConnectsOn r.inner.state)
 
 -- == addresses
 -- The local address is refused: the socket isn't bound, or connects, or is closed with a code, or its network socket returned a

@@ -1,8 +1,7 @@
 -- What waits: what a pollable watches and isn't ready, and a pending call.
 use Rattle.std.specs.Prelude.{◌≡◌, ◌⊎◌, ⊤, ℕ, true, false, List, [], ◌∷◌, ◌++◌, Option, Some, None, IsSome, IsSomeAnd, IfSome, slice_get}
 use Rattle.wasi_addr.specs.declared.address.IpSocketAddress.{IpSocketAddress}
-use Rattle.wasi_addr.specs.declared.address.SocketAddrUse.{SocketAddrUse}
-use Rattle.wasi_addr.specs.declared.address.SocketAddrUse.TheVariants.{TcpBind}
+use Rattle.wasi_addr.specs.declared.address.SocketAddrUse.TheVariants.{TcpBind, TcpListen}
 use Rattle.wasi_addr.specs.declared.code.ErrorCode.{ErrorCode}
 use Rattle.wasi_addr.specs.declared.code.ErrorCode.TheVariants.{AccessDenied, InvalidState}
 use Rattle.wasi_world.specs.declared.ids.OpId.{OpId}
@@ -10,14 +9,13 @@ use Rattle.wasi_world.specs.declared.call.Call.TheVariants as call
 use Rattle.wasi_world.specs.declared.call.Entry.{Entry}
 use Rattle.wasi_world.specs.declared.call.HandleKind.TheVariants as name
 use Rattle.wasi_world.specs.declared.call.Told.TheVariants as told
-use Rattle.wasi_world.specs.Operation.{Item, Check, Bind, Last, Nothing, NothingLast, Operation}
+use Rattle.wasi_world.specs.Operation.{Item, Check, CheckLocal, Bind, Listen, NothingLast, Operation}
 use Rattle.wasi_tcp.specs.declared.halves.TcpReceiveStream.{TcpReceiveStream}
 use Rattle.wasi_tcp.specs.declared.halves.TcpSendStream.{TcpSendStream}
 use Rattle.wasi_tcp.specs.declared.reader.ReadState.TheVariants as reading
 use Rattle.wasi_tcp.specs.declared.socket.TcpState.TheVariants as state
 use Rattle.wasi_tcp.specs.declared.writer.WriteState.{WriteState}
 use Rattle.wasi_tcp.specs.declared.writer.WriteState.TheVariants as writing
-use Rattle.wasi_tcp.specs.Connecting.{HoldsConnect}
 use Rattle.wasi_tcp.specs.Listen.{IsListen, is_over}
 use Rattle.wasi_tcp.specs.Listener.{Listener}
 use Rattle.wasi_tcp.specs.Socket.{side_of}
@@ -42,7 +40,7 @@ use Rattle.wasi_steps.specs.declared.reply.Reply.{Reply}
 use Rattle.wasi_steps.specs.declared.reply.Reply.TheVariants as reply
 use Rattle.wasi_steps.specs.declared.step.Step.{Step}
 use Rattle.wasi_steps.specs.declared.step.Step.TheVariants as step
-use Rattle.wasi_walks.specs.Answered.{OfStreams, EndsPending, EndsClosing, IsUnfinished, word_of_code}
+use Rattle.wasi_walks.specs.Answered.{AllOf, ConnectsOn, OfStreams, EndsPending, EndsClosing, IsUnfinished, word_of_code}
 use Rattle.wasi_walks.specs.Listens.{AcceptWaits, accept_name, AcceptsIn, HasNoListener}
 use Rattle.wasi_walks.specs.Licence.{Has, entry}
 
@@ -85,7 +83,7 @@ watched_in m (Some w) = slice_get m.store.sockets (place_in w)
 
 -- where the pollable's socket is connecting, its operation is a connect
 abbrev pub WatchesConnect : Machine → ℕ → Type 0
-WatchesConnect m pollable = IfSome (watched_in m (watch_of (kind_at m.table pollable))) (λ r. HoldsConnect r.inner.state)
+WatchesConnect m pollable = IfSome (watched_in m (watch_of (kind_at m.table pollable))) (λ r. ConnectsOn r.inner.state)
 
 -- where the pollable's socket listens, its accept is one
 abbrev pub WatchesAccept : Machine → ℕ → Type 0
@@ -132,8 +130,16 @@ pub record IsRestOfBind (op : Operation) : Type 0 where
   pub last : op.who.last ≡ NothingLast
   pub left : IsLeftOfBind op.left
 
+-- a listen of a socket that is bound asks so: it closes its network socket only in the poll that is refused
+abbrev pub IsAskOfListen : Item → Type 0
+IsAskOfListen (CheckLocal TcpListen) = ⊤
+IsAskOfListen (Check a TcpListen) = ⊤
+IsAskOfListen (Listen backlog) = ⊤
+IsAskOfListen _ = ⊥
+
+-- where a listen is in progress, it is one, and only its asks are left
 abbrev pub IsListening : Listening → Type 0
-IsListening (listening.Begins op) = IsListen op
+IsListening (listening.Begins op) = IsListen op × AllOf IsAskOfListen op.left
 IsListening _ = ⊤
 
 -- a bind is in progress
@@ -180,14 +186,12 @@ pub data BindFails (op : Operation) (entries : List Entry) : ErrorCode → Type 
   ToldNo : (a : IpSocketAddress) → Has op.left (Check a TcpBind) → EndsWith (entry op.who.id (call.Check op.who.context a TcpBind) told.No) entries → BindFails op entries AccessDenied
   ToldWhy : (a : IpSocketAddress) (c : ErrorCode) → Has op.left (Bind a) → EndsWith (entry op.who.id (call.Bind op.who.side a) (told.Code c)) entries → BindFails op entries c
 
--- A listen ended with a code, and closed its network socket: a check was answered no, or its local address wasn't reported but
--- the code, or the listen was answered with the code, or it was to be closed with that.
+-- A listen ended with a code, and closed its network socket: its check was answered no, or its local address wasn't reported but
+-- the code, or the listen was answered with the code.
 pub data ListenEnds (op : Operation) (entries : List Entry) : ErrorCode → Type 0 where
-  CheckedNo : (a : IpSocketAddress) (usage : SocketAddrUse) → EndsClosing op.who (call.Check op.who.context a usage) told.No entries → ListenEnds op entries AccessDenied
+  CheckedNo : (a : IpSocketAddress) → EndsClosing op.who (call.Check op.who.context a TcpListen) told.No entries → ListenEnds op entries AccessDenied
   LocalCode : (c : ErrorCode) → EndsClosing op.who (call.Local op.who.side) (told.Code c) entries → ListenEnds op entries c
-  BindCode : (a : IpSocketAddress) (c : ErrorCode) → EndsClosing op.who (call.Bind op.who.side a) (told.Code c) entries → ListenEnds op entries c
   ListenCode : (backlog : ℕ) (c : ErrorCode) → EndsClosing op.who (call.Listen op.who.side backlog) (told.Code c) entries → ListenEnds op entries c
-  ListenCloses : (c : ErrorCode) → op.left ≡ Last c Nothing ∷ [] → entries ≡ entry op.who.id (call.Close op.who.side) told.Done ∷ [] → ListenEnds op entries c
 
 -- the listening isn't one that was begun and is in progress
 abbrev pub IsNoListen : Listening → Type 0

@@ -1,18 +1,16 @@
 -- A poll of an operation whose items are asked in turn is in the one table of such polls, and how those of a bind, of a connect
 -- and of a listen end is read off it.
-use Rattle.wasi_causes.proofs.Words.{◌≡◌, ◌∙◌, inl, inr, List, [], ◌∷◌, ◌++◌, refl, sym, ap, subst, append_assoc, append-nil, ⊤, ◌⊎◌, IpSocketAddress, Send, SocketAddrUse, TcpBind, ErrorCode, AccessDenied, EndsPending, ClosedBy, Has, entry, IsRestOfBind, IsLeftOfBind, Unchecked, Checked, Ended, BindFails, ListenEnds, IsConnect, IsLeftOfConnect, IsListen, IsLeftOfListen, Asks, bind, IsVerdict, IsAddr, IsDone, IsDoneOrCode, IsPolled, Given, Nothing, Item, Check, CheckLocal, Bind, Connect, Listen, LastAsk, NothingLast, CloseLast, ShutdownLast, Who, Operation, End, Waits, Done, Refused, last_ask, after, round, polls, poll_asks, verdict_front, local_front, done_front, polled_front, Last, told_verdict, told_addr, told_done, told_polled, Call, Entry, Told}
+use Rattle.wasi_causes.proofs.Words.{◌≡◌, ◌∙◌, inl, inr, List, [], ◌∷◌, ◌++◌, refl, sym, ap, subst, append_assoc, append-nil, ⊤, IpSocketAddress, Send, SocketAddrUse, TcpBind, ErrorCode, AccessDenied, EndsPending, ClosedBy, Has, entry, IsRestOfBind, IsLeftOfBind, Unchecked, Checked, Ended, BindFails, ListenEnds, IsConnect, IsListen, Asks, bind, IsVerdict, IsAddr, IsDone, IsDoneOrCode, IsPolled, Given, Nothing, Item, Check, CheckLocal, Bind, Connect, Listen, LastAsk, NothingLast, CloseLast, ShutdownLast, Who, Operation, End, Waits, Done, Refused, last_ask, after, round, polls, poll_asks, verdict_front, local_front, done_front, polled_front, told_verdict, told_addr, told_done, told_polled, Call, Entry, Told}
 use Rattle.wasi_causes.proofs.tables.Meets.{Rows, Meets, ends, asks, widen, shifted}
 use Rattle.wasi_causes.specs.Polls.{check_entry, local_entry, Passes, ToldYes, LocalToldYes, BindToldDone, ConnectToldDone, ListenToldDone, Holds, CheckToldPending, LocalToldPending, ConnectToldPending, Breaks, ToldNo, LocalToldNo, LocalToldCode, BindToldCode, ConnectToldCode, ListenToldCode, last_entries, Polled, WasOver, GoesOn, Stays, Stops, Broken}
+use Rattle.wasi_addr.specs.declared.address.SocketAddrUse.TheVariants.{TcpListen}
+use Rattle.wasi_walks.specs.Answered.{AllOf, IsAskOfConnect}
+use Rattle.wasi_walks.specs.Waiting.{IsAskOfListen}
+use Rattle.wasi_walks.proofs.Gives.{Gives}
 use Rattle.wasi_walks.specs.Answered as refusal
 use Rattle.wasi_walks.specs.Waiting as waiting
-use Rattle.wasi_tcp.specs.Connect as connect
-use Rattle.wasi_tcp.specs.Listen as listen
 use Rattle.wasi_world.specs.declared.call.Call.TheVariants as call
 use Rattle.wasi_world.specs.declared.call.Told.TheVariants as told
-
-abbrev pub AllOf : (Item → Type 0) → List Item → Type 0
-AllOf P [] = ⊤
-AllOf P (item ∷ items) = P item × AllOf P items
 
 pub one_of : (P : Item → Type 0) (items : List Item) (item : Item) → AllOf P items → Has items item → P item
 one_of P (x ∷ items) item all (inl same) = subst P same all.0
@@ -132,9 +130,10 @@ all_more : (P Q : Item → Type 0) → ((item : Item) → P item → Q item) →
 all_more P Q more [] all = tt
 all_more P Q more (item ∷ items) all = (more item all.0, all_more P Q more items all.1)
 
--- asked in turn, and of this kind too; or a code is left alone
-abbrev Sorted : (Item → Type 0) → List Item → Type 0
-Sorted P items = AllOf (λ item. IsAsk item × P item) items ⊎ ((c : ErrorCode) × (items ≡ Last c Nothing ∷ []))
+-- where an operation waits, this holds of each item that is left
+abbrev pub Keeps : (Item → Type 0) → End × List Item → Type 0
+Keeps P (Waits, items) = AllOf P items
+Keeps P _ = ⊤
 
 module _ (op : Operation) where
   -- it waits, is done, or ends with a code for this reason
@@ -143,19 +142,29 @@ module _ (op : Operation) where
   EndsFor Why es (Done given, items) = ⊤
   EndsFor Why es (Refused c given, items) = Why es c
 
-  module _ (Why : List Entry → ErrorCode → Type 0) (P : Item → Type 0) (broken : (es : List Entry) (c : ErrorCode) (k : Broken op.who op.left es c) → P k.item → Why es c) where
-    reads : AllOf (λ item. IsAsk item × P item) op.left → (es : List Entry) (end : End × List Item) → Polled op.who op.left es end → EndsFor Why es end
-    reads all es (Waits, items) row = ends_so op.who op.left es (Waits, items) row
-    reads all es (Done given, items) row = tt
-    reads all es (Refused c given, items) row = let k = ends_so op.who op.left es (Refused c given, items) row in broken es c k (one_of (λ item. IsAsk item × P item) op.left k.item all k.its).1
+  module _ (P : Item → Type 0) (sorts : (item : Item) → P item → IsAsk item) (all : AllOf P op.left) where
+    in_table : Meets (Polled op.who op.left) [] (poll_asks op)
+    in_table = polled op (all_more P IsAsk sorts op.left all)
 
-    closes : (c : ErrorCode) → Why (last_entries op.who op.who.last) c → Meets (EndsFor Why) [] (polls 64 op.who (Last c Nothing ∷ []))
-    unfolding bind polls
-    closes c why = widen (λ es end k. rw (k.0, k.1) why) (lasts op.who (polls 63 op.who) [] c op.who.last)
+    module _ (Why : List Entry → ErrorCode → Type 0) (broken : (es : List Entry) (c : ErrorCode) (k : Broken op.who op.left es c) → P k.item → Why es c) where
+      reads : (es : List Entry) (end : End × List Item) → Polled op.who op.left es end → EndsFor Why es end
+      reads es (Waits, items) row = ends_so op.who op.left es (Waits, items) row
+      reads es (Done given, items) row = tt
+      reads es (Refused c given, items) row = let k = ends_so op.who op.left es (Refused c given, items) row in broken es c k (one_of P op.left k.item all k.its)
 
-    ends_for : ((c : ErrorCode) → op.left ≡ Last c Nothing ∷ [] → Why (last_entries op.who op.who.last) c) → Sorted P op.left → Meets (EndsFor Why) [] (poll_asks op)
-    ends_for last (inl all) = widen (reads all) (polled op (all_more (λ item. IsAsk item × P item) IsAsk (λ item p. p.0) op.left all))
-    ends_for last (inr (c, e)) = subst (λ (items : List Item). Meets (EndsFor Why) [] (polls 64 op.who items)) (sym e) (closes c (last c e))
+      ends_for : Meets (EndsFor Why) [] (poll_asks op)
+      ends_for = widen reads in_table
+
+    -- what waits is of this kind still
+    module _ (stays : (item now : Item) (es : List Entry) → Holds op.who item es now → P item → P now) where
+      keeps : (left : List Item) (es : List Entry) (end : End × List Item) → Polled op.who left es end → AllOf P left → Keeps P end
+      keeps _ _ _ WasOver of = tt
+      keeps _ _ _ (GoesOn item items es fs end passed row) of = keeps items fs end row of.1
+      keeps _ _ _ (Stays item now items es held) of = (stays item now es held of.0, of.1)
+      keeps _ _ _ (Stops item items es c broke) of = tt
+
+      leaves : (es : List Entry) → Gives (λ fs end. Keeps P end) es (poll_asks op)
+      leaves es = (widen (λ fs end k. keeps op.left k.rest end k.row all) (shifted es in_table)).along
 
   at_end : (es : List Entry) (c : ErrorCode) (k : Broken op.who op.left es c) (l : LastAsk) → op.who.last ≡ l → es ≡ k.front ++ (k.last ++ last_entries op.who l)
   at_end es c k l last = subst (λ (l : LastAsk). es ≡ k.front ++ (k.last ++ last_entries op.who l)) last k.cut
@@ -166,10 +175,15 @@ module _ (op : Operation) where
   OfBind (Bind a) = ⊤
   OfBind _ = ⊥
 
-  bind_sorted : (items : List Item) → IsLeftOfBind items → Sorted OfBind items
-  bind_sorted _ (Unchecked a) = inl ((tt, tt), ((tt, tt), tt))
-  bind_sorted _ (Checked a) = inl ((tt, tt), tt)
-  bind_sorted _ Ended = inl tt
+  bind_sorts : (item : Item) → OfBind item → IsAsk item
+  bind_sorts (Check a usage) of = tt
+  bind_sorts (Bind a) of = tt
+  bind_sorts _ of = absurd of
+
+  bind_items : (items : List Item) → IsLeftOfBind items → AllOf OfBind items
+  bind_items _ (Unchecked a) = (tt, (tt, tt))
+  bind_items _ (Checked a) = (tt, tt)
+  bind_items _ Ended = tt
 
   bind_broken : (es front last : List Entry) (item : Item) (c : ErrorCode) → OfBind item → Has op.left item → Breaks op.who item last c → es ≡ front ++ (last ++ []) → BindFails op es c
   bind_broken es front _ _ _ of has (ToldNo a TcpBind) cut = waiting.ToldNo a has (record { front = front; cut = cut })
@@ -177,62 +191,59 @@ module _ (op : Operation) where
   bind_broken es front _ _ _ of has (BindToldCode a c) cut = waiting.ToldWhy a c has (record { front = front; cut = cut })
   bind_broken es front _ _ _ of has _ cut = absurd of
 
-  bind_keeps : (c : ErrorCode) (items : List Item) → IsLeftOfBind items → items ≡ Last c Nothing ∷ [] → ⊥
-  bind_keeps c _ (Unchecked a) e = cc
-  bind_keeps c _ (Checked a) e = cc
-  bind_keeps c _ Ended e = cc
-
   pub bind_ends : IsRestOfBind op → Meets (EndsFor (BindFails op)) [] (poll_asks op)
-  bind_ends its = ends_for (BindFails op) OfBind (λ es c k of. bind_broken es k.front k.last k.item c of k.its k.broke (at_end es c k NothingLast its.last)) (λ c e. absurd (bind_keeps c op.left its.left e)) (bind_sorted op.left its.left)
+  bind_ends its = ends_for OfBind bind_sorts (bind_items op.left its.left) (BindFails op) (λ es c k of. bind_broken es k.front k.last k.item c of k.its k.broke (at_end es c k NothingLast its.last))
 
   -- == a connect
-  abbrev OfConnect : Item → Type 0
-  OfConnect (Check a usage) = ⊤
-  OfConnect (Connect a) = ⊤
-  OfConnect _ = ⊥
+  connect_sorts : (item : Item) → IsAskOfConnect item → IsAsk item
+  connect_sorts (Check a usage) of = tt
+  connect_sorts (Connect a) of = tt
+  connect_sorts _ of = absurd of
 
-  connect_sorted : (items : List Item) → IsLeftOfConnect items → Sorted OfConnect items
-  connect_sorted _ (connect.Unbound wildcard a) = inl ((tt, tt), ((tt, tt), ((tt, tt), tt)))
-  connect_sorted _ (connect.Unchecked a) = inl ((tt, tt), ((tt, tt), tt))
-  connect_sorted _ (connect.Checked a) = inl ((tt, tt), tt)
-  connect_sorted _ (connect.ToClose c) = inr (c, refl)
-  connect_sorted _ connect.Ended = inl tt
+  connect_stays : (item now : Item) (es : List Entry) → Holds op.who item es now → IsAskOfConnect item → IsAskOfConnect now
+  connect_stays _ _ _ (CheckToldPending a usage) of = of
+  connect_stays _ _ _ (LocalToldPending a usage) of = absurd of
+  connect_stays _ _ _ (ConnectToldPending a) of = of
 
   abbrev closed : Entry
   closed = entry op.who.id (call.Close op.who.side) told.Done
 
-  connect_broken : (es front last : List Entry) (item : Item) (c : ErrorCode) → OfConnect item → Has op.left item → Breaks op.who item last c → es ≡ front ++ (last ++ closed ∷ []) → ClosedBy op es c
+  connect_broken : (es front last : List Entry) (item : Item) (c : ErrorCode) → IsAskOfConnect item → Has op.left item → Breaks op.who item last c → es ≡ front ++ (last ++ closed ∷ []) → ClosedBy op es c
   connect_broken es front _ _ _ of has (ToldNo a usage) cut = refusal.ToldNo a usage has (record { front = front; cut = cut })
   connect_broken es front _ _ _ of has (ConnectToldCode a c) cut = refusal.ToldWhy a c has (record { front = front; cut = cut })
   connect_broken es front _ _ _ of has _ cut = absurd of
 
-  pub connect_ends : IsConnect op → Meets (EndsFor (ClosedBy op)) [] (poll_asks op)
-  connect_ends its =
-      ends_for (ClosedBy op) OfConnect (λ es c k of. connect_broken es k.front k.last k.item c of k.its k.broke (at_end es c k CloseLast its.last)) (λ c e. refusal.ClosesLast c e (ap (last_entries op.who) its.last))
-      (connect_sorted op.left its.left)
+  pub connect_ends : IsConnect op × AllOf IsAskOfConnect op.left → Meets (EndsFor (ClosedBy op)) [] (poll_asks op)
+  connect_ends its = ends_for IsAskOfConnect connect_sorts its.1 (ClosedBy op) (λ es c k of. connect_broken es k.front k.last k.item c of k.its k.broke (at_end es c k CloseLast its.0.last))
+
+  pub connect_leaves : AllOf IsAskOfConnect op.left → (es : List Entry) → Gives (λ fs end. Keeps IsAskOfConnect end) es (poll_asks op)
+  connect_leaves of = leaves IsAskOfConnect connect_sorts of connect_stays
 
   -- == a listen
-  abbrev OfListen : Item → Type 0
-  OfListen (Connect a) = ⊥
-  OfListen _ = ⊤
+  listen_sorts : (item : Item) → IsAskOfListen item → IsAsk item
+  listen_sorts (CheckLocal usage) of = tt
+  listen_sorts (Check a usage) of = tt
+  listen_sorts (Listen backlog) of = tt
+  listen_sorts _ of = absurd of
 
-  listen_sorted : (items : List Item) → IsLeftOfListen items → Sorted OfListen items
-  listen_sorted _ (listen.BoundBefore backlog) = inl ((tt, tt), ((tt, tt), tt))
-  listen_sorted _ (listen.AddressTold a backlog) = inl ((tt, tt), ((tt, tt), tt))
-  listen_sorted _ (listen.Unbound wildcard backlog) = inl ((tt, tt), ((tt, tt), ((tt, tt), ((tt, tt), tt))))
-  listen_sorted _ (listen.BindChecked wildcard backlog) = inl ((tt, tt), ((tt, tt), ((tt, tt), tt)))
-  listen_sorted _ (listen.Checked wildcard backlog) = inl ((tt, tt), ((tt, tt), tt))
-  listen_sorted _ (listen.Bound backlog) = inl ((tt, tt), tt)
-  listen_sorted _ (listen.ToClose c) = inr (c, refl)
-  listen_sorted _ listen.Ended = inl tt
+  listen_stays : (item now : Item) (es : List Entry) → Holds op.who item es now → IsAskOfListen item → IsAskOfListen now
+  listen_stays _ _ _ (CheckToldPending a usage) of = of
+  listen_stays _ _ _ (LocalToldPending a TcpListen) of = tt
+  listen_stays _ _ _ (LocalToldPending a _) of = absurd of
+  listen_stays _ _ _ (ConnectToldPending a) of = absurd of
 
-  listen_broken : (es front last : List Entry) (item : Item) (c : ErrorCode) → OfListen item → Breaks op.who item last c → es ≡ front ++ (last ++ closed ∷ []) → ListenEnds op es c
-  listen_broken es front _ _ _ of (ToldNo a usage) cut = waiting.CheckedNo a usage (record { front = front; cut = cut })
-  listen_broken es front _ _ _ of (LocalToldNo a usage) cut = waiting.CheckedNo a usage (record { front = front ++ entry op.who.id (call.Local op.who.side) (told.Addr a) ∷ []; cut = cut ∙ sym (append_assoc front (entry op.who.id (call.Local op.who.side) (told.Addr a) ∷ []) _) })
+  listen_broken : (es front last : List Entry) (item : Item) (c : ErrorCode) → IsAskOfListen item → Breaks op.who item last c → es ≡ front ++ (last ++ closed ∷ []) → ListenEnds op es c
+  listen_broken es front _ _ _ of (ToldNo a TcpListen) cut = waiting.CheckedNo a (record { front = front; cut = cut })
+  listen_broken es front _ _ _ of (ToldNo a _) cut = absurd of
+  listen_broken es front _ _ _ of (LocalToldNo a TcpListen) cut = waiting.CheckedNo a (record { front = front ++ entry op.who.id (call.Local op.who.side) (told.Addr a) ∷ []; cut = cut ∙ sym (append_assoc front (entry op.who.id (call.Local op.who.side) (told.Addr a) ∷ []) _) })
+  listen_broken es front _ _ _ of (LocalToldNo a _) cut = absurd of
   listen_broken es front _ _ _ of (LocalToldCode usage c) cut = waiting.LocalCode c (record { front = front; cut = cut })
-  listen_broken es front _ _ _ of (BindToldCode a c) cut = waiting.BindCode a c (record { front = front; cut = cut })
+  listen_broken es front _ _ _ of (BindToldCode a c) cut = absurd of
   listen_broken es front _ _ _ of (ConnectToldCode a c) cut = absurd of
   listen_broken es front _ _ _ of (ListenToldCode backlog c) cut = waiting.ListenCode backlog c (record { front = front; cut = cut })
 
-  pub listen_ends : IsListen op → Meets (EndsFor (ListenEnds op)) [] (poll_asks op)
-  listen_ends its = ends_for (ListenEnds op) OfListen (λ es c k of. listen_broken es k.front k.last k.item c of k.broke (at_end es c k CloseLast its.last)) (λ c e. waiting.ListenCloses c e (ap (last_entries op.who) its.last)) (listen_sorted op.left its.left)
+  pub listen_ends : IsListen op × AllOf IsAskOfListen op.left → Meets (EndsFor (ListenEnds op)) [] (poll_asks op)
+  listen_ends its = ends_for IsAskOfListen listen_sorts its.1 (ListenEnds op) (λ es c k of. listen_broken es k.front k.last k.item c of k.broke (at_end es c k CloseLast its.0.last))
+
+  pub listen_leaves : AllOf IsAskOfListen op.left → (es : List Entry) → Gives (λ fs end. Keeps IsAskOfListen end) es (poll_asks op)
+  listen_leaves of = leaves IsAskOfListen listen_sorts of listen_stays

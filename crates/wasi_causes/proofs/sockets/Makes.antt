@@ -1,7 +1,7 @@
 -- The steps that make handles of sockets and of streams: a network, a create, the finish of a connect, and an accept.
 use Rattle.wasi_causes.proofs.Words.{AcceptFailed, AcceptGives, AcceptWaits, Accepting, AcceptsAt, Answer, Bool, ClosedBy, Closes, Connection}
 use Rattle.wasi_causes.proofs.Words.{ConnectsAt, CreateRefusal, Done, End, Entry, Err, ErrorCode, FinishRefusal, Give, Handles}
-use Rattle.wasi_causes.proofs.Words.{HasNoConnectInProgress, HoldsAccept, Input, InvalidState, IpSocketAddress, IsConnect, IsDoneOrCode, Item, List}
+use Rattle.wasi_causes.proofs.Words.{HasNoConnectInProgress, HoldsAccept, Input, InvalidState, IpSocketAddress, IsDoneOrCode, Item, List}
 use Rattle.wasi_causes.proofs.Words.{Listener, Listening, Machine, Network, NoConnect, NoListener, NoSuchHandle, None, NotAllowed}
 use Rattle.wasi_causes.proofs.Words.{Ok, OpId, Operation, Option, Output, Records, Refused, Result}
 use Rattle.wasi_causes.proofs.Words.{Socket, SocketAddressFamily, Some, StillAccepts, Stop, Tcp2, Tcp2Socket, TcpState, Told, ToldCode, Trap, Waits}
@@ -24,7 +24,7 @@ use Rattle.wasi_causes.specs.Outcomes.{Outcome}
 use Rattle.wasi_causes.specs.Reached.{Finishes, FinishesAt, MayFinish}
 use Rattle.wasi_host.specs.declared.listening.Listening.TheVariants as listening
 use Rattle.wasi_p2.specs.Tcp.{accept_asks}
-use Rattle.wasi_walks.specs.Answered.{StillConnects, WasClosed}
+use Rattle.wasi_walks.specs.Answered.{ConnectsOn, StillConnects, WasClosed}
 use Rattle.wasi_steps.specs.declared.reply.CodeWord.TheVariants as word
 use Rattle.wasi_steps.specs.declared.reply.Reply.TheVariants as reply
 use Rattle.wasi_steps.specs.declared.step.Step.TheVariants as step
@@ -102,7 +102,7 @@ module _ (contexts : List WasiSocketsCtx) (m : Machine) (line c handle : ℕ) wh
     never now unlike = fails [] InvalidState now (λ h k. absurd (unlike (may k)))
 
     module _ (op : Operation) (at_state : r.inner.state ≡ state.Connecting op) where
-      is_one : ConnectsAt m handle → IsConnect op
+      is_one : ConnectsAt m handle → ConnectsOn (state.Connecting op)
       is_one h = let k = rw (its n) at h in rw at_state at k
 
       ended : (es : List Entry) (end : End × List Item) → (marks_in es ≡ 0) × (ConnectsAt m handle → EndsFor op (ClosedBy op) es end) → StateRow es (connect_ended op.who end)
