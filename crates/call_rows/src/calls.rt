@@ -7,9 +7,9 @@ ghost use Rattle.wasi_world.specs.Scripted.{seen_by};
 use crate::guest::{Guest, line, world};
 use std::test::Fail;
 use wasi_addr::{IpSocketAddress, Ipv4SocketAddress, SocketAddressFamily};
-use wasi_host::{Kind, Outcome, WasiSocketsCtxView, WasiSocketsView, Watched, handles, of_fault};
+use wasi_host::{Kind, Outcome, WasiSocketsCtxView, WasiSocketsView, Watched, handles};
 use wasi_p2::tcp;
-use wasi_streams::Table;
+use wasi_streams::{Fault, Table};
 use wasi_world::{Answer, HandleKind, OpId, ScriptedWorld, Sock, World};
 
 const ADDRESS: IpSocketAddress = IpSocketAddress::Ipv4(Ipv4SocketAddress {
@@ -133,21 +133,21 @@ fn connect_and_watch(
 }
 
 /// The records that the handles 2, 3 and 4 name.
-fn named(table: &Table<Kind>) -> [Option<usize>; 3] {
-    [
-        handles::socket(table, 2),
-        handles::input(table, 3),
-        handles::output(table, 4),
-    ]
+fn named(table: &Table<Kind>) -> Result<[usize; 3], Fault> {
+    Ok([
+        handles::socket(table, 2)?,
+        handles::input(table, 3)?,
+        handles::output(table, 4)?,
+    ])
 }
 
 /// What pollables of the handles 2 and 4 would watch, and what the pollable 5 does.
-fn watched(table: &Table<Kind>) -> [Option<Watched>; 3] {
-    [
-        handles::watched(table, 2),
-        handles::watched(table, 4),
-        handles::watch(table, 5),
-    ]
+fn watched(table: &Table<Kind>) -> Result<[Watched; 3], Fault> {
+    Ok([
+        handles::watched(table, 2)?,
+        handles::watched(table, 4)?,
+        handles::watch(table, 5)?,
+    ])
 }
 
 #[test]
@@ -156,16 +156,14 @@ fn a_handle_has_its_kind(rt: HostRuntime) -> Result<(), Fail> {
     let mut guest = Guest::new(rt.alloc());
     let mut view = guest.sockets();
     assert_eq!(rt; connect_and_watch(&mut view, &mut world)?, 5);
-    assert!(rt; handles::is_network(view.table, 1));
-    assert_eq!(rt; named(view.table), [Some(0), Some(0), Some(0)]);
+    handles::network(view.table, 1)?;
+    assert_eq!(rt; named(view.table)?, [0, 0, 0]);
     assert_eq!(rt;
-        watched(view.table),
-        [
-            Some(Watched::Socket(0)),
-            Some(Watched::Output(0)),
-            Some(Watched::Input(0))
-        ]
+        watched(view.table)?,
+        [Watched::Socket(0), Watched::Output(0), Watched::Input(0)]
     );
+    assert_eq!(rt; handles::stream(view.table, 4)?, 0);
+    assert!(rt; handles::stream(view.table, 2).is_err());
     assert_eq!(rt; view.store.side(0), Some(SIDE));
     Ok(())
 }
@@ -178,7 +176,7 @@ fn a_handle_is_made_and_removed(rt: HostRuntime) -> Result<(), Fail> {
     let op = OpId { step: 1, part: 0 };
     let network = handles::make(view.table, &mut world, op, Kind::Network, None, None)?;
     assert_eq!(rt; network, 1);
-    let removed = of_fault(handles::remove(view.table, network))?;
+    let removed = handles::remove(view.table, network)?;
     assert_eq!(rt; removed, Kind::Network);
     assert_eq!(rt; removed.name(), HandleKind::Network);
     assert_eq!(rt; Kind::Input(0).table_parent(Some(2)), Some(2));

@@ -1,5 +1,6 @@
 -- What is released: by a shutdown, by a drop of a handle, and what a drop leaves.
-use Rattle.wasi_causes.proofs.Words.{◌≡◌, Bool, true, false, if◌then◌else◌, List, [], ◌∷◌, ◌++◌, Option, Some, None, refl, sym, ap, ◌∙◌, append-nil, append_assoc, ℕ, Result, ◌==◌, inl, inr, Ok, Err, slice_get, subst, ◌≢◌, eq-eqb, IsSome, IpSocketAddress, ShutdownType, Receive, Send, Both, give_streams_up, gone, release_asks, released, release_at, Stop, Trap, other_jobs, kind_at, output_of, has_no_child, without_handle, taken_out, place_of, give_up_asks, socket_at, own_of, with_store, answered, at_once, drop_kind, drop_taken, drop_asks, shut_streams, shut_record, shutdown_at, Records, Kind, Tcp2, Output, Listening, Machine, Streams, Tcp2Socket, shutdown_on, set_there, record_at, putting, record_in, OfRecord, entry, Has, done_reply, answer_reply, Each, no_fields, OutputWaits, WritesOn, ToldToWait, WriterWaits, Field, Reply, in_hand, refuse_in, Job, is_over, held_side, give_up_in, reader_shutdown_asks, Socket, side_of, writer_side, writer_shutdown_asks, side_up_asks, Accepting, ReadState, WriteState, Give, bind, IsDone, End, Done, Who, Operation, ask_close, Call, Entry, Told, OpId, Answer, Ready, Pending, HasChildren, NoSuchHandle, Full, NotPermitted, WasiSocketsCtx}
+use Rattle.wasi_causes.proofs.Words.{◌≡◌, Bool, true, false, if◌then◌else◌, List, [], ◌∷◌, ◌++◌, Option, Some, None, refl, sym, ap, ◌∙◌, append-nil, append_assoc, ℕ, Result, ◌==◌, inl, inr, Ok, Err, slice_get, subst, ◌≢◌, eq-eqb, IsSome, IpSocketAddress, ShutdownType, Receive, Send, Both, give_streams_up, gone, release_asks, released, release_at, Stop, Trap, is_on, other_jobs, kind_at, output_of, has_no_child, without_handle, taken_out, place_of, give_up_asks, socket_at, own_of, with_store, answered, at_once, drop_kind, drop_taken, drop_asks, shut_streams, shut_record, shutdown_at, Records, Kind, Tcp2, Output, Listening, Machine, Streams, Tcp2Socket, shutdown_on, set_there, record_at, putting, record_in, OfRecord, entry, Has, done_reply, answer_reply, Each, no_fields, OutputWaits, WritesOn, ToldToWait, WriterWaits, Field, Reply, in_hand, refuse_in, Job, is_over, held_side, give_up_in, reader_shutdown_asks, Socket, side_of, writer_side, writer_shutdown_asks, side_up_asks, Accepting, ReadState, WriteState, Give, bind, IsDone, End, Done, Who, Operation, ask_close, Call, Entry, Told, OpId, Answer, Ready, Pending, HasChildren, NoSuchHandle, Full, NotPermitted, WasiSocketsCtx}
+use Rattle.wasi_host.specs.declared.jobs.HostJob.{HostJob}
 use Rattle.wasi_causes.proofs.streams.Halves.{OutputRow, outputs}
 use Rattle.wasi_causes.proofs.tables.Meets.{Rows, Meets, ends, asks, chain, onto, widen}
 use Rattle.wasi_causes.proofs.tables.Routes.{Replied, Says, put_back, Names, its, on_record, apart, none_has}
@@ -125,13 +126,13 @@ module _ (own : OpId) where
   shuts Both s = chain {Mid = ShutSo Receive s} (receives s) (then_sends s)
 
 -- a job that is over is taken out of the list
-no_job : (place : ℕ) (places : List ℕ) → Has (other_jobs place places) place → ⊥
-no_job place [] h = h
-no_job place (p ∷ places) h = by_same (p == place) refl (no_job place places) h
+no_job : (place : ℕ) (jobs : List HostJob) (job : HostJob) → Has (other_jobs place jobs) job → is_on place job ≡ true → ⊥
+no_job place [] job h on = h
+no_job place (j ∷ jobs) job h on = by_same (is_on place j) refl (λ k. no_job place jobs job k on) h
   where
-    by_same : (same : Bool) → (p == place) ≡ same → (Has (other_jobs place places) place → ⊥) → Has (if same then other_jobs place places else p ∷ other_jobs place places) place → ⊥
+    by_same : (same : Bool) → is_on place j ≡ same → (Has (other_jobs place jobs) job → ⊥) → Has (if same then other_jobs place jobs else j ∷ other_jobs place jobs) job → ⊥
     by_same true e rest k = rest k
-    by_same false e rest (inl is) = let k = eq-eqb p place is in cc
+    by_same false e rest (inl is) = let k : is_on place j ≡ true = ap (is_on place) is ∙ on in cc
     by_same false e rest (inr k) = rest k
 
 none_there : (hs : List ℕ) → none_in hs ≡ true → hs ≡ []

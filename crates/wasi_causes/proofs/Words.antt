@@ -57,7 +57,7 @@ pub use Rattle.wasi_tcp.specs.Addresses.{usable_side}
 pub use Rattle.wasi_tcp.specs.Listen.{IsListen, held_side}
 pub use Rattle.wasi_host.specs.Dropping.{released, wait_answer, wait_at}
 pub use Rattle.wasi_host.specs.Host.{CallStop, Code, code_stop}
-pub use Rattle.wasi_host.specs.Jobs.{begins_job, has_job, other_jobs, turn_at, turn_jobs, turn_record, turn_store_asks, turned, with_job}
+pub use Rattle.wasi_host.specs.Jobs.{begins_job, has_job, is_on, other_jobs, turn_at, turn_job, turn_jobs, turn_record, turn_store_asks, turned, with_job}
 pub use Rattle.wasi_host.specs.Machine.{answered, at_once, drop_asks, drop_kind, no_such_handle, ready_asks, subscribe_asks}
 pub use Rattle.wasi_host.specs.Pending.{resume_asks}
 pub use Rattle.wasi_host.specs.Standing.{allowed_answer, stands_as}

@@ -22,6 +22,7 @@ use Rattle.wasi_tcp.specs.Job.{Job, closing_job}
 use Rattle.wasi_tcp.specs.Listen.{held_side}
 use Rattle.wasi_tcp.specs.Socket.{side_of}
 use Rattle.wasi_tcp.specs.Writer.{writer_side}
+use Rattle.wasi_host.specs.declared.jobs.HostJob.{HostJob}
 use Rattle.wasi_host.specs.declared.kind.Kind.{Kind}
 use Rattle.wasi_host.specs.declared.kind.Kind.TheVariants as kind
 use Rattle.wasi_host.specs.declared.listening.Listening.{Listening}
@@ -31,6 +32,7 @@ use Rattle.wasi_host.specs.declared.socket.Streams.{Streams}
 use Rattle.wasi_host.specs.declared.socket.Tcp2Socket.{Tcp2Socket}
 use Rattle.wasi_host.specs.Kinds.{kind_at, without_handle}
 use Rattle.wasi_host.specs.InProgress.{is_nothing}
+use Rattle.wasi_host.specs.Jobs.{is_on}
 use Rattle.wasi_steps.specs.declared.reply.Reply.{Reply}
 use Rattle.wasi_steps.specs.declared.reply.Reply.TheVariants as reply
 use Rattle.wasi_steps.specs.declared.step.Step.{Step}
@@ -120,7 +122,7 @@ pub record IsGone (m : Machine) (place : ℕ) : Type 0 where
   pub listening : found.listening ≡ listening.Not
   pub streams : found.streams ≡ None
   pub idle : is_nothing found.in_progress ≡ true
-  pub job : Has m.store.jobs place → ⊥
+  pub job : (job : HostJob) → Has m.store.jobs job → is_on place job ≡ true → ⊥
 
 -- At most one look was made at whether a network socket may be written to.
 pub data LooksOnce (own : OpId) : List Entry → Type 0 where

@@ -3,6 +3,7 @@ use Rattle.std.specs.Prelude.{◌≡◌, ℕ, Option, Some, None, slice_get}
 use Rattle.wasi_world.specs.declared.ids.OpId.{OpId}
 use Rattle.wasi_tcp.specs.declared.writer.WriteState.{WriteState}
 use Rattle.wasi_tcp.specs.declared.writer.WriteState.TheVariants as writing
+use Rattle.wasi_host.specs.declared.jobs.HostJob.TheVariants.{Write}
 use Rattle.wasi_host.specs.declared.machine.Machine.{Machine}
 use Rattle.wasi_host.specs.declared.socket.Streams.{Streams}
 use Rattle.wasi_host.specs.declared.socket.Tcp2Socket.{Tcp2Socket}
@@ -27,5 +28,5 @@ job_of found = writer_asks_by (streams_in found)
 -- The operation is that of the write of a record with a job.
 pub record IsOfJob (m : Machine) (op : OpId) : Type 0 where
   pub place : ℕ
-  pub listed : Has m.store.jobs place
+  pub listed : Has m.store.jobs (Write place)
   pub is : job_of (slice_get m.store.sockets place) ≡ Some op

@@ -21,7 +21,7 @@ use Rattle.wasi_host.specs.Store.{new_record, with_record}
 use Rattle.wasi_host.specs.Machine.{with_table, create_handle}
 use Rattle.wasi_streams.specs.declared.fault.Fault.{Fault}
 use Rattle.wasi_streams.specs.declared.fault.Fault.TheVariants as fault
-use Rattle.wasi_streams.specs.HostError.{of_refusal as error_of}
+use Rattle.wasi_streams.specs.HostError.{of_fault, of_refusal as error_of}
 use Rattle.wasi_host.specs.Host.{Stop, code_stop, host_outcome, fault_outcome}
 use Rattle.wasi_host.specs.Host as host
 
@@ -46,6 +46,11 @@ host_refused {asks} f {s} {t} {view} {shown} (refusal.Memory d) (Err y) h k e =
     let P : SocketError → Type 0 = λ z. AsksFor (bind asks f) s t shown (host_outcome (Err z)) in
     subst P (sym h) (record { ok = tt; err = record { rest = bind k.err.rest f; reached = reaches_in f k.err.reached } })
 
+pub fault_told : {U : Type 0} (x : Fault) (r : Result U SocketError) → IsErrAnd r (λ y. y ≡ of_fault x) → host_outcome r ≡ fault_outcome {T = U} (Err x)
+fault_told x (Ok y) h = absurd h
+fault_told (fault.Trap k) (Err y) h = ap (λ (z : SocketError). host_outcome (Err z)) h
+fault_told (fault.Memory d) (Err y) h = ap (λ (z : SocketError). host_outcome (Err z)) h
+
 -- the handle of a socket that was made
 pub handle_asks : (m : Machine) (own : OpId) (socket : Socket) {place : ℕ} {side : Option OpId} {records : List Tcp2Socket} {table : Handles} {s t : Seen} {o : Result (Result ℕ Stop) AllocError} → place ≡ length m.store.sockets → side ≡ side_of socket → records ≡ m.store.sockets ++ new_record socket ∷ [] → AsksFor (make_asks m.table own (Tcp2 place) None side) s t (λ (made : Result ℕ Stop). (made, table)) o → AsksFor (create_handle m own socket) s t (λ (made : Result ℕ Stop). let n : Machine = record { table = table; store = record { sockets = records; jobs = m.store.jobs; standing = m.store.standing } } in (made, n)) o
 handle_asks m own socket p q r h = rw r (asks_gives (with_table (record m { store = with_record m.store socket })) (rw (p, q) at h))
@@ -60,6 +65,11 @@ host_passed {asks} f {s} {t} {view} {shown} (Trap kind) (Err y) h k e =
 host_passed {asks} f {s} {t} {view} {shown} (Memory d) (Err y) h k e =
     let P : SocketError → Type 0 = λ z. AsksFor (bind asks f) s t shown (host_outcome (Err z)) in
     subst P (sym h) (record { ok = tt; err = record { rest = bind k.err.rest f; reached = reaches_in f k.err.reached } })
+
+-- a fault that becomes the call's error by a `?`
+pub host_fault : {A B T U : Type 0} {asks : Asks A} (f : A → Asks B) {s t : Seen} {view : Result T Stop → A} {shown : Result U Stop → B} (x : Fault) (r : Result U SocketError) → IsErrAnd r (λ y. y ≡ of_fault x) → AsksFor asks s t view (fault_outcome {T = T} (Err x)) → ((stop : Stop) → f (view (Err stop)) ≡ Give (shown (Err stop))) → AsksFor (bind asks f) s t shown (host_outcome r)
+host_fault f (fault.Trap k) r h asked e = host_passed f (Trap k) r h asked e
+host_fault f (fault.Memory d) r h asked e = host_passed f (Memory d) r h asked e
 
 -- == of a call that returns no codes
 fault_memory : {T : Type 0} {d : AllocError} (r : Result T Fault) → IsErrAnd r (λ x. x ≡ fault.Memory d) → fault_outcome r ≡ Err d

@@ -27,6 +27,7 @@ use Rattle.wasi_tcp.specs.Job.{Job, finish_in, finish_asks}
 use Rattle.wasi_tcp.specs.Reader.{reader_ready_asks, reader_shutdown_asks}
 use Rattle.wasi_tcp.specs.Shape.{Socket}
 use Rattle.wasi_tcp.specs.Writer.{collected, look_asks, writer_side, writer_shutdown_asks, side_up_asks}
+use Rattle.wasi_host.specs.declared.jobs.HostJob.{HostJob}
 use Rattle.wasi_host.specs.declared.socket.Streams.{Streams}
 use Rattle.wasi_host.specs.declared.socket.Tcp2Socket.{Tcp2Socket}
 use Rattle.wasi_host.specs.Dropping.{give_streams_up, wait_answer, waits_told, wait_writer}
@@ -142,7 +143,7 @@ calm_give_up op None = tt
 calm_give_up op (Some s) = calm_then Any Any (reader_shutdown_asks op s.reader) _ (calm_reader_shutdown op s.reader) (λ d k. calm_side_up op (writer_side s.writer))
 
 -- jobs hold no network socket
-pub knows_jobs : {s : Seen} (store : Records) (jobs : List ℕ) → KnowsSides s store → KnowsSides s (record store { jobs = jobs })
+pub knows_jobs : {s : Seen} (store : Records) (jobs : List HostJob) → KnowsSides s store → KnowsSides s (record store { jobs = jobs })
 knows_jobs store jobs k = record { count = k.count }
 
 -- only when memory runs out

@@ -1,5 +1,5 @@
 -- How a stream's call continues where it gives no value.
-use Rattle.std.specs.Prelude.{◌≡◌, ℕ, Option, Some, Result, Ok, Err, IsErrAnd, refl, slice_get}
+use Rattle.std.specs.Prelude.{◌≡◌, ℕ, Option, Some, None, Result, Ok, Err, IsErrAnd, refl, slice_get}
 use Rattle.std.specs.declared.alloc.AllocError.{AllocError}
 use Rattle.std.proofs.Common.{ap}
 use Rattle.wasi_addr.specs.declared.code.ErrorCode.{ErrorCode}
@@ -16,12 +16,32 @@ use Rattle.wasi_host.specs.declared.error.CallError.TheVariants as call
 use Rattle.wasi_streams.specs.declared.fault.Fault.{Fault}
 use Rattle.wasi_streams.specs.declared.fault.Fault.TheVariants as fault
 use Rattle.wasi_host.specs.declared.machine.Machine.{Machine}
-use Rattle.wasi_host.specs.declared.kind.Kind.TheVariants.{ErrorValue}
+use Rattle.wasi_host.specs.declared.kind.Kind.{Kind}
+use Rattle.wasi_host.specs.declared.kind.Kind.TheVariants.{Network, Tcp2, Input, Output, Pollable, ErrorValue}
 use Rattle.wasi_host.specs.Host.{CallStop, fault_outcome, call_outcome, error_outcome, failed_outcome, IsStreamStop, IfStreamMemory}
-use Rattle.wasi_host.specs.Kinds.{Handles, make_asks}
+use Rattle.wasi_host.specs.Kinds.{Handles, input_of, output_of, stream_of, make_asks}
 use Rattle.wasi_host.specs.Store.{Records}
 use Rattle.wasi_host.specs.Machine.{with_store, side_at}
 use Rattle.wasi_host.specs.StreamCalls.{convert_asks, stopped, converted}
+
+-- an input is a stream, and so is an output
+pub input_stream : (k : Option Kind) (place : ℕ) → input_of k ≡ Some place → stream_of k ≡ Some place
+input_stream (Some (Input p)) place q = q
+input_stream None place q = absurd (cc)
+input_stream (Some Network) place q = absurd (cc)
+input_stream (Some (Tcp2 p)) place q = absurd (cc)
+input_stream (Some (Output p)) place q = absurd (cc)
+input_stream (Some (Pollable w)) place q = absurd (cc)
+input_stream (Some ErrorValue) place q = absurd (cc)
+
+pub output_stream : (k : Option Kind) (place : ℕ) → output_of k ≡ Some place → stream_of k ≡ Some place
+output_stream (Some (Output p)) place q = q
+output_stream None place q = absurd (cc)
+output_stream (Some Network) place q = absurd (cc)
+output_stream (Some (Tcp2 p)) place q = absurd (cc)
+output_stream (Some (Input p)) place q = absurd (cc)
+output_stream (Some (Pollable w)) place q = absurd (cc)
+output_stream (Some ErrorValue) place q = absurd (cc)
 
 module _ (m : Machine) (own : OpId) (handle place : ℕ) where
   -- the handle of an error

@@ -61,6 +61,11 @@ call_outcome (Err stream.Closed) = Ok (Err Closed)
 call_outcome (Err (stream.Trap k)) = Ok (Err (Traps k))
 call_outcome (Err (stream.Memory e)) = Err e
 
+-- a trap and out of memory stay what they are
+abbrev pub call_fault : Fault → CallError
+call_fault (fault.Trap k) = stream.Trap k
+call_fault (fault.Memory e) = stream.Memory e
+
 -- the error alone
 abbrev pub error_outcome : CallError → Result CallStop AllocError
 error_outcome (stream.Failed c e) = Ok (Failed c e)

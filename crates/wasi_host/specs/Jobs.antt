@@ -1,4 +1,4 @@
--- Background writes: which records have one, and what a turn asks.
+-- Jobs: which records have one, and what a turn asks.
 use Rattle.std.specs.Prelude.{ℕ, Bool, true, false, not, ◌&&◌, ◌==◌, if◌then◌else◌, List, [], ◌∷◌, ◌++◌, Option, Some, None, Result, slice_get, slice_set}
 use Rattle.wasi_world.specs.Asks.{Asks, Give, bind}
 use Rattle.wasi_world.specs.Operation.{End, Waits}
@@ -6,6 +6,8 @@ use Rattle.wasi_streams.specs.StreamStop.{StreamStop}
 use Rattle.wasi_tcp.specs.declared.writer.WriteState.{WriteState}
 use Rattle.wasi_tcp.specs.declared.writer.WriteState.TheVariants as writing
 use Rattle.wasi_tcp.specs.Writer.{turn_asks}
+use Rattle.wasi_host.specs.declared.jobs.HostJob.{HostJob}
+use Rattle.wasi_host.specs.declared.jobs.HostJob.TheVariants.{Write}
 use Rattle.wasi_host.specs.declared.socket.Streams.{Streams}
 use Rattle.wasi_host.specs.declared.socket.Tcp2Socket.{Tcp2Socket}
 use Rattle.wasi_host.specs.Store.{Records, with_writer, stream_at}
@@ -30,13 +32,13 @@ has_job None = false
 has_job (Some r) = works_in r.streams
 
 -- == a write that begins
-abbrev pub jobs_with : List ℕ → ℕ → Bool → List ℕ
-jobs_with jobs place true = jobs ++ place ∷ []
+abbrev pub jobs_with : List HostJob → ℕ → Bool → List HostJob
+jobs_with jobs place true = jobs ++ Write place ∷ []
 jobs_with jobs place false = jobs
 
 -- a job is the last of those that were made
 abbrev pub with_job : Records → ℕ → Bool → Records
-with_job store place true = record store { jobs = store.jobs ++ place ∷ [] }
+with_job store place true = record store { jobs = store.jobs ++ Write place ∷ [] }
 with_job store place false = store
 
 -- a write began on the record, and is in progress
@@ -63,15 +65,21 @@ abbrev pub turn_at : List Tcp2Socket → ℕ → Option Tcp2Socket → Asks (Lis
 turn_at sockets place None = Give sockets
 turn_at sockets place (Some r) = bind (turn_record r) (λ now. Give (slice_set sockets place now))
 
--- those of these numbers, in order
-abbrev pub turn_jobs : List ℕ → List Tcp2Socket → Asks (List Tcp2Socket)
+abbrev pub turn_job : List Tcp2Socket → HostJob → Asks (List Tcp2Socket)
+turn_job sockets (Write place) = turn_at sockets place (slice_get sockets place)
+
+-- these, in order
+abbrev pub turn_jobs : List HostJob → List Tcp2Socket → Asks (List Tcp2Socket)
 turn_jobs [] sockets = Give sockets
-turn_jobs (place ∷ places) sockets = bind (turn_at sockets place (slice_get sockets place)) (λ now. turn_jobs places now)
+turn_jobs (job ∷ jobs) sockets = bind (turn_job sockets job) (λ now. turn_jobs jobs now)
+
+abbrev pub is_going : List Tcp2Socket → HostJob → Bool
+is_going sockets (Write place) = has_job (slice_get sockets place)
 
 -- a job that is over is none
-abbrev pub still_going : List Tcp2Socket → List ℕ → List ℕ
+abbrev pub still_going : List Tcp2Socket → List HostJob → List HostJob
 still_going sockets [] = []
-still_going sockets (place ∷ places) = if has_job (slice_get sockets place) then place ∷ still_going sockets places else still_going sockets places
+still_going sockets (job ∷ jobs) = if is_going sockets job then job ∷ still_going sockets jobs else still_going sockets jobs
 
 abbrev pub after_turn : Records → List Tcp2Socket → Records
 after_turn store sockets = record store { sockets = sockets; jobs = still_going sockets store.jobs }
@@ -80,7 +88,10 @@ after_turn store sockets = record store { sockets = sockets; jobs = still_going 
 abbrev pub turn_store_asks : Records → Asks (Unit {0} × Records)
 turn_store_asks store = bind (turn_jobs store.jobs store.sockets) (λ sockets. Give (tt, after_turn store sockets))
 
--- == a socket that goes takes its job with it
-abbrev pub other_jobs : ℕ → List ℕ → List ℕ
+-- == a record that goes takes its jobs with it
+abbrev pub is_on : ℕ → HostJob → Bool
+is_on place (Write p) = p == place
+
+abbrev pub other_jobs : ℕ → List HostJob → List HostJob
 other_jobs place [] = []
-other_jobs place (p ∷ places) = if p == place then other_jobs place places else p ∷ other_jobs place places
+other_jobs place (job ∷ jobs) = if is_on place job then other_jobs place jobs else job ∷ other_jobs place jobs

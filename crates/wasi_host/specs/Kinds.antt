@@ -1,11 +1,13 @@
 -- Handles: what they stand for, and how one is made.
-use Rattle.std.specs.Prelude.{ℕ, Bool, true, false, if◌then◌else◌, List, [], ◌∷◌, Option, Some, None, Result, Ok, Err}
+use Rattle.std.specs.Prelude.{◌≡◌, ℕ, Bool, true, false, if◌then◌else◌, List, [], ◌∷◌, Option, Some, None, Result, Ok, Err}
 use Rattle.wasi_world.specs.declared.call.HandleKind.{HandleKind}
 use Rattle.wasi_world.specs.declared.call.HandleKind.TheVariants as name
 use Rattle.wasi_world.specs.declared.ids.OpId.{OpId}
 use Rattle.wasi_world.specs.declared.outcome.TrapKind.TheVariants.{Full, HasChildren, NoSuchHandle}
 use Rattle.wasi_world.specs.Asks.{Asks, Give, bind}
 use Rattle.wasi_world.specs.Typed.{ask_made}
+use Rattle.wasi_streams.specs.declared.fault.Fault.{Fault}
+use Rattle.wasi_streams.specs.declared.fault.Fault.TheVariants as fault
 use Rattle.wasi_streams.specs.Table.{Shown, value_at, children_of, is_full, pushed, without}
 use Rattle.wasi_host.specs.declared.kind.Kind.{Kind}
 use Rattle.wasi_host.specs.declared.kind.Kind.TheVariants.{Network, Tcp2, Input, Output, Pollable, ErrorValue}
@@ -48,6 +50,12 @@ abbrev pub output_of : Option Kind → Option ℕ
 output_of (Some (Output place)) = Some place
 output_of _ = None
 
+-- the number of the record of either
+abbrev pub stream_of : Option Kind → Option ℕ
+stream_of (Some (Input place)) = Some place
+stream_of (Some (Output place)) = Some place
+stream_of _ = None
+
 -- what a pollable of the handle watches
 abbrev pub watched_by : Option Kind → Option Watched
 watched_by (Some (Tcp2 place)) = Some (watched.Socket place)
@@ -59,6 +67,11 @@ watched_by _ = None
 abbrev pub watch_of : Option Kind → Option Watched
 watch_of (Some (Pollable w)) = Some w
 watch_of _ = None
+
+-- a look-up in the table: what the handle names, or that there is no such handle
+abbrev pub Names : {T : Type 0} → Result T Fault → Option T → Type 0
+Names (Ok named) o = o ≡ Some named
+Names (Err e) o = (e ≡ fault.Trap NoSuchHandle) × (o ≡ None)
 
 -- the number of the record that it is watched in
 abbrev pub place_in : Watched → ℕ

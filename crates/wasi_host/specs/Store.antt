@@ -29,6 +29,7 @@ use Rattle.wasi_tcp.specs.Addresses.{local_asks, remote_asks, is_listening}
 use Rattle.wasi_host.specs.declared.binding.AsyncOperation.TheVariants.{Connect}
 use Rattle.wasi_host.specs.declared.binding.InProgress.{InProgress}
 use Rattle.wasi_host.specs.declared.binding.InProgress.TheVariants as doing
+use Rattle.wasi_host.specs.declared.jobs.HostJob.{HostJob}
 use Rattle.wasi_host.specs.declared.listening.Listening.TheVariants as listening
 use Rattle.wasi_host.specs.declared.socket.Streams.{Streams}
 use Rattle.wasi_host.specs.declared.socket.Tcp2Socket.{Tcp2Socket}
@@ -38,7 +39,7 @@ use Rattle.wasi_host.specs.InProgress.{is_nothing, is_connect}
 
 pub record Records : Type 0 where
   pub sockets : List Tcp2Socket  -- by number
-  pub jobs : List ℕ  -- the numbers of those whose write goes on by itself, in the order in which the writes began
+  pub jobs : List HostJob  -- in the order in which they began
   pub standing : Option Standing
 
 abbrev pub no_records : Records

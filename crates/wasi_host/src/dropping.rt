@@ -1,10 +1,9 @@
 //! What goes with a handle.
 
-ghost use Rattle.std.specs.Prelude.{◌≡◌, false, Ok, slice_get};
+ghost use Rattle.std.specs.Prelude.{◌≡◌, is_some, false, Ok, slice_get};
 ghost use Rattle.wasi_world.specs.Asks.{AsksFor};
 ghost use Rattle.wasi_host.specs.Dropping.{release_at, released, wait_at, drop_output_at};
 ghost use Rattle.wasi_host.specs.Host.{fault_outcome};
-ghost use Rattle.wasi_host.specs.Jobs.{other_jobs};
 ghost use Rattle.wasi_host.specs.Machine.{own_of, drop_asks, drop_kind};
 ghost use Rattle.wasi_host.specs.Sides.{KnowsSides};
 ghost use Rattle.wasi_host.specs.Views.{SameView, state_of};
@@ -35,15 +34,8 @@ impl Store {
             return Ok(());
         };
         record.release(world, op)?;
-        self.forget_job(place);
+        self.forget_jobs(place);
         Ok(())
-    }
-
-    /// No job of this socket is left.
-    fn forget_job(&mut self, place: usize)
-        ensures { self.new ≡ record self.old { jobs = other_jobs place self.old.jobs } }
-    {
-        self.jobs.retain(|job| *job != place);
     }
 
     /// Looks whether the writer of the socket of this number is ready. While it isn't, the drop of its output is pending under
@@ -84,14 +76,15 @@ impl Store {
 
 /// Drops a handle (`drop` of each resource). Something made under it is live: `HasChildren`. The handle goes at once. A socket
 /// releases its open halves and its network socket; an output waits until its writer is ready, and while it isn't the call is
-/// pending; nothing else waits.
+/// pending; nothing else waits. No call is pending yet: a drop that is continues by [`resume`](crate::resume).
 pub fn drop_handle<W: World>(
     view: &mut WasiSocketsCtxView<'_>,
     world: &mut W,
     ids: &mut Ids,
     this: Handle,
 ) -> Result<Answer<()>, Fault>
-    requires { (W.seen world.old).ended ≡ false }
+    requires open { (W.seen world.old).ended ≡ false }
+    requires free { is_some view.old.store.now.standing ≡ false }
     ensures asked { AsksFor (drop_asks (state_of view.old) (own_of ids.old.line) this) (W.seen world.old) (W.seen world.new) (λ answer. (answer, state_of view.new)) (fault_outcome result) }
     ensures sides { KnowsSides (W.seen world.old) view.old.store.now → KnowsSides (W.seen world.new) view.new.store.now }
     ensures view { SameView view.old view.new }

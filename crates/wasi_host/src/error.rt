@@ -1,8 +1,5 @@
 //! How host calls end.
 
-ghost use Rattle.std.specs.Prelude.{◌≡◌};
-ghost use Rattle.wasi_host.specs.Host.{host_outcome, fault_outcome};
-
 use std::alloc::AllocError;
 use thiserror::Error;
 use wasi_addr::{ErrorCode, p2};
@@ -11,17 +8,6 @@ use wasi_world::{Handle, TrapKind};
 
 /// The error of a 0.2 call (`SocketError` of the crate wasmtime-wasi).
 pub type SocketError = HostError<p2::ErrorCode>;
-
-/// The same result, of a call that returns no codes.
-pub fn of_fault<T: Drop>(done: Result<T, Fault>) -> Result<T, SocketError>
-    ensures { host_outcome result ≡ fault_outcome done }
-{
-    match done {
-        Ok(value) => Ok(value),
-        Err(Fault::Trap(kind)) => Err(SocketError::Trap(kind)),
-        Err(Fault::Memory(e)) => Err(SocketError::Memory(e)),
-    }
-}
 
 /// Why a call of a stream gave no value: its last operation failed, with a handle of the new error; the stream is at its end
 /// or closed; a trap; or out of memory.
@@ -45,5 +31,19 @@ impl From<AllocError> for CallError {
 
     fn from(e: AllocError) -> CallError {
         CallError::Memory(e)
+    }
+}
+
+impl From<Fault> for CallError {
+    ghost use Rattle.std.specs.Prelude.{◌≡◌};
+    ghost use Rattle.wasi_host.specs.Host.{call_fault};
+
+    ghost from_gives = { λ fault error. error ≡ call_fault fault };
+
+    fn from(fault: Fault) -> CallError {
+        match fault {
+            Fault::Trap(kind) => CallError::Trap(kind),
+            Fault::Memory(e) => CallError::Memory(e),
+        }
     }
 }

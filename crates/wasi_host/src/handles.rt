@@ -1,12 +1,13 @@
-//! The table of handles: what one stands for, and how one is made.
+//! The table of handles: what one stands for, and how one is made. A handle that isn't live or is of another kind is a trap,
+//! `NoSuchHandle`.
 
-ghost use Rattle.std.specs.Prelude.{◌≡◌, ℕ, IfOk, IfSome, IsSome, Ok, OnErr, false};
+ghost use Rattle.std.specs.Prelude.{◌≡◌, ℕ, IfErr, IfOk, IfSome, IsSome, Ok, OnErr, OnOk, false, true};
 ghost use Rattle.wasi_world.specs.Asks.{AsksFor};
-ghost use Rattle.wasi_streams.specs.Table.{pushed};
+ghost use Rattle.wasi_streams.specs.Table.{is_full, pushed};
 ghost use Rattle.wasi_host.specs.Host.{fault_outcome};
 ghost use Rattle.wasi_host.specs.Store.{Records};
 ghost use Rattle.wasi_host.specs.Sides.{KnowsSides};
-ghost use Rattle.wasi_host.specs.Kinds.{kind_at, place_of, input_of, output_of, is_network, watched_by, watch_of, table_parent, make_asks, taken_out, with_handle};
+ghost use Rattle.wasi_host.specs.Kinds.{kind_at, place_of, input_of, output_of, stream_of, is_network, watched_by, watch_of, table_parent, make_asks, taken_out, with_handle, Names};
 
 use crate::kind::{Kind, Watched};
 use std::alloc::AllocError;
@@ -24,60 +25,75 @@ pub fn kind(table: &Table<Kind>, handle: Handle) -> Option<Kind>
 }
 
 /// The number of a socket's record.
-pub fn socket(table: &Table<Kind>, handle: Handle) -> Option<usize>
-    ensures { result ≡ place_of (kind_at table.now handle) }
+pub fn socket(table: &Table<Kind>, handle: Handle) -> Result<usize, Fault>
+    ensures { Names result (place_of (kind_at table.now handle)) }
 {
     match kind(table, handle) {
-        Some(Kind::Tcp2(place)) => Some(place),
-        _ => None,
+        Some(Kind::Tcp2(place)) => Ok(place),
+        _ => Err(Fault::Trap(TrapKind::NoSuchHandle)),
     }
 }
 
-pub fn is_network(table: &Table<Kind>, handle: Handle) -> bool
-    ensures { result ≡ is_network (kind_at table.now handle) }
+/// That the handle is the network's.
+pub fn network(table: &Table<Kind>, handle: Handle) -> Result<(), Fault>
+    ensures ok { OnOk result (is_network (kind_at table.now handle) ≡ true) }
+    ensures err { IfErr result (λ fault. (fault ≡ Fault.Trap TrapKind.NoSuchHandle) × (is_network (kind_at table.now handle) ≡ false)) }
 {
-    matches!(kind(table, handle), Some(Kind::Network))
+    match kind(table, handle) {
+        Some(Kind::Network) => Ok(()),
+        _ => Err(Fault::Trap(TrapKind::NoSuchHandle)),
+    }
 }
 
 /// The number of the record that an input reads from.
-pub fn input(table: &Table<Kind>, handle: Handle) -> Option<usize>
-    ensures { result ≡ input_of (kind_at table.now handle) }
+pub fn input(table: &Table<Kind>, handle: Handle) -> Result<usize, Fault>
+    ensures { Names result (input_of (kind_at table.now handle)) }
 {
     match kind(table, handle) {
-        Some(Kind::Input(place)) => Some(place),
-        _ => None,
+        Some(Kind::Input(place)) => Ok(place),
+        _ => Err(Fault::Trap(TrapKind::NoSuchHandle)),
     }
 }
 
 /// The number of the record that an output writes to.
-pub fn output(table: &Table<Kind>, handle: Handle) -> Option<usize>
-    ensures { result ≡ output_of (kind_at table.now handle) }
+pub fn output(table: &Table<Kind>, handle: Handle) -> Result<usize, Fault>
+    ensures { Names result (output_of (kind_at table.now handle)) }
 {
     match kind(table, handle) {
-        Some(Kind::Output(place)) => Some(place),
-        _ => None,
+        Some(Kind::Output(place)) => Ok(place),
+        _ => Err(Fault::Trap(TrapKind::NoSuchHandle)),
+    }
+}
+
+/// The number of the record that a stream reads from or writes to.
+pub fn stream(table: &Table<Kind>, handle: Handle) -> Result<usize, Fault>
+    ensures { Names result (stream_of (kind_at table.now handle)) }
+{
+    match kind(table, handle) {
+        Some(Kind::Input(place) | Kind::Output(place)) => Ok(place),
+        _ => Err(Fault::Trap(TrapKind::NoSuchHandle)),
     }
 }
 
 /// What a pollable of this handle would watch.
-pub fn watched(table: &Table<Kind>, handle: Handle) -> Option<Watched>
-    ensures { result ≡ watched_by (kind_at table.now handle) }
+pub fn watched(table: &Table<Kind>, handle: Handle) -> Result<Watched, Fault>
+    ensures { Names result (watched_by (kind_at table.now handle)) }
 {
     match kind(table, handle) {
-        Some(Kind::Tcp2(place)) => Some(Watched::Socket(place)),
-        Some(Kind::Input(place)) => Some(Watched::Input(place)),
-        Some(Kind::Output(place)) => Some(Watched::Output(place)),
-        _ => None,
+        Some(Kind::Tcp2(place)) => Ok(Watched::Socket(place)),
+        Some(Kind::Input(place)) => Ok(Watched::Input(place)),
+        Some(Kind::Output(place)) => Ok(Watched::Output(place)),
+        _ => Err(Fault::Trap(TrapKind::NoSuchHandle)),
     }
 }
 
 /// What a pollable watches.
-pub fn watch(table: &Table<Kind>, handle: Handle) -> Option<Watched>
-    ensures { result ≡ watch_of (kind_at table.now handle) }
+pub fn watch(table: &Table<Kind>, handle: Handle) -> Result<Watched, Fault>
+    ensures { Names result (watch_of (kind_at table.now handle)) }
 {
     match kind(table, handle) {
-        Some(Kind::Pollable(watched)) => Some(watched),
-        _ => None,
+        Some(Kind::Pollable(watched)) => Ok(watched),
+        _ => Err(Fault::Trap(TrapKind::NoSuchHandle)),
     }
 }
 
@@ -93,15 +109,22 @@ pub fn remove(table: &mut Table<Kind>, handle: Handle) -> Result<Kind, Fault>
     }
 }
 
-/// Puts a new handle into the table, under a parent where there is one. It takes any refusal for running out of memory: the
-/// caller has tested that there is room, and that the parent is live.
+/// Puts a new handle into the table, under a parent where there is one. There is room, and the parent is live, so that it's
+/// refused for running out of memory alone.
 fn put(table: &mut Table<Kind>, kind: Kind, parent: Option<Handle>) -> Result<Handle, AllocError>
+    requires room { is_full table.old ≡ false }
+    requires parent { IfSome parent (λ p. IsSome (kind_at table.old p)) }
     ensures ok { IfOk result (λ h. (h ≡ table.old.next) × (table.new ≡ pushed table.old kind parent)) }
     ensures err { OnErr result (table.new ≡ table.old) }
 {
-    match parent {
-        Some(parent) => table.push_child(kind, parent).map_err(|_| AllocError),
-        None => table.push(kind).map_err(|_| AllocError),
+    let pushed = match parent {
+        Some(parent) => table.push_child(kind, parent),
+        None => table.push(kind),
+    };
+    match pushed {
+        Ok(handle) => Ok(handle),
+        Err(TableError::Memory) => Err(AllocError),
+        Err(_) => unreachable!(),
     }
 }
 

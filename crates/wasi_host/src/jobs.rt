@@ -1,8 +1,8 @@
-//! The turn of the background writes.
+//! The host's background work, and its turn.
 
 ghost use Rattle.std.specs.Prelude.{◌≡◌, false, slice_get};
 ghost use Rattle.wasi_world.specs.Asks.{AsksFor};
-ghost use Rattle.wasi_host.specs.Jobs.{turn_at, turn_jobs, turn_store_asks, still_going, has_job};
+ghost use Rattle.wasi_host.specs.Jobs.{turn_at, turn_job, turn_jobs, turn_store_asks, still_going, has_job, is_going, is_on, other_jobs};
 ghost use Rattle.wasi_host.specs.Machine.{turn_machine_asks};
 ghost use Rattle.wasi_host.specs.Sides.{KnowsSides, MakesNone, held_in};
 ghost use Rattle.wasi_host.specs.Views.{SameView, state_of};
@@ -12,6 +12,24 @@ use crate::store::Store;
 use crate::view::WasiSocketsCtxView;
 use std::alloc::AllocError;
 use wasi_world::World;
+
+/// Background work of the host, which continues by itself until it is over.
+#[derive(Clone, Copy, Debug, PartialEq, Eq)]
+pub enum HostJob {
+    /// The write in progress of the socket of this number.
+    Write { socket: usize },
+}
+
+impl HostJob {
+    /// Whether it is work for the record of this number.
+    fn is_on(self, place: usize) -> bool
+        ensures { result ≡ is_on place self }
+    {
+        match self {
+            HostJob::Write { socket } => socket == place,
+        }
+    }
+}
 
 /// Polls the write of the socket of this number once, where one is in progress.
 fn turn_socket<W: World>(
@@ -31,11 +49,28 @@ fn turn_socket<W: World>(
     record.turn(world)
 }
 
-/// Polls the writes of the sockets of these numbers, in order.
-fn turn_sockets<W: World>(
+/// Polls a job once.
+fn turn_job<W: World>(
     sockets: &mut Vec<Tcp2Socket>,
     world: &mut W,
-    jobs: &[usize],
+    job: HostJob,
+) -> Result<(), AllocError>
+    requires { (W.seen world.old).ended ≡ false }
+    ensures asked { AsksFor (turn_job sockets.old.items job) (W.seen world.old) (W.seen world.new) (λ done. sockets.new.items) result }
+    ensures held { held_in sockets.new.items ≡ held_in sockets.old.items }
+    ensures none { MakesNone (W.seen world.old) (W.seen world.new) }
+    ensures open { (W.seen world.new).ended ≡ false }
+{
+    match job {
+        HostJob::Write { socket } => turn_socket(sockets, world, socket),
+    }
+}
+
+/// Polls these jobs, in order.
+fn turn_jobs<W: World>(
+    sockets: &mut Vec<Tcp2Socket>,
+    world: &mut W,
+    jobs: &[HostJob],
 ) -> Result<(), AllocError>
     requires { (W.seen world.old).ended ≡ false }
     ensures asked { AsksFor (turn_jobs jobs.now sockets.old.items) (W.seen world.old) (W.seen world.new) (λ done. sockets.new.items) result }
@@ -44,7 +79,7 @@ fn turn_sockets<W: World>(
     ensures open { (W.seen world.new).ended ≡ false }
 {
     for job in jobs {
-        turn_socket(sockets, world, *job)?;
+        turn_job(sockets, world, *job)?;
     }
     Ok(())
 }
@@ -59,6 +94,15 @@ fn has_job(sockets: &[Tcp2Socket], place: usize) -> bool
     }
 }
 
+/// Whether a job isn't over.
+fn is_going(sockets: &[Tcp2Socket], job: HostJob) -> bool
+    ensures { result ≡ is_going sockets.now job }
+{
+    match job {
+        HostJob::Write { socket } => has_job(sockets, socket),
+    }
+}
+
 impl Store {
     /// Polls each job once, in the order of making; one that is over is none any more.
     pub(crate) fn turn<W: World>(&mut self, world: &mut W) -> Result<(), AllocError>
@@ -67,7 +111,7 @@ impl Store {
         ensures sides { KnowsSides (W.seen world.old) self.old → KnowsSides (W.seen world.new) self.new }
         ensures open { (W.seen world.new).ended ≡ false }
     {
-        turn_sockets(&mut self.sockets, world, self.jobs.as_slice())?;
+        turn_jobs(&mut self.sockets, world, self.jobs.as_slice())?;
         self.settle_jobs();
         Ok(())
     }
@@ -77,11 +121,18 @@ impl Store {
         ensures { self.new ≡ record self.old { jobs = still_going self.old.sockets self.old.jobs } }
     {
         let sockets = self.sockets.as_slice();
-        self.jobs.retain(|job| has_job(sockets, *job));
+        self.jobs.retain(|job| is_going(sockets, *job));
+    }
+
+    /// No job of this record is left.
+    pub(crate) fn forget_jobs(&mut self, place: usize)
+        ensures { self.new ≡ record self.old { jobs = other_jobs place self.old.jobs } }
+    {
+        self.jobs.retain(|job| !job.is_on(place));
     }
 }
 
-/// Lets the host's background work continue: polls each background write once, in the order of making. It has no part
+/// Lets the host's background work continue: polls each job once, in the order of making. It has no part
 /// of its own in the log: what a job asks carries the job's name.
 pub fn turn<W: World>(view: &mut WasiSocketsCtxView<'_>, world: &mut W) -> Result<(), AllocError>
     requires { (W.seen world.old).ended ≡ false }

@@ -52,9 +52,7 @@ pub fn subscribe<W: World>(
     ensures ids { ids.new ≡ ids.old }
     ensures open { (W.seen world.new).ended ≡ false }
 {
-    let Some(watched) = handles::watched(view.table, this) else {
-        return Err(Fault::Trap(TrapKind::NoSuchHandle));
-    };
+    let watched = handles::watched(view.table, this)?;
     let side = view.store.side(watched.place());
     let kind = Kind::Pollable(watched);
     handles::make(view.table, world, ids.own(), kind, Some(this), side)
@@ -77,8 +75,6 @@ pub fn ready<W: World>(
     ensures ids { ids.new ≡ ids_after_ready (state_of view.old) ids.old pollable }
     ensures open { (W.seen world.new).ended ≡ false }
 {
-    let Some(watched) = handles::watch(view.table, pollable) else {
-        return Err(Fault::Trap(TrapKind::NoSuchHandle));
-    };
+    let watched = handles::watch(view.table, pollable)?;
     view.store.poll_ready(world, ids, watched)
 }

@@ -14,8 +14,9 @@ ghost use Rattle.wasi_tcp.specs.Writer.{check_write_asks, write_state_asks};
 
 use crate::binding::AsyncOperation;
 use crate::closing::close_sides;
-use crate::error::{SocketError, of_fault};
+use crate::error::SocketError;
 use crate::handles;
+use crate::jobs::HostJob;
 use crate::kind::Kind;
 use crate::socket::Tcp2Socket;
 use std::alloc::{AllocError, Global};
@@ -44,13 +45,11 @@ pub struct Standing {
     pub call: StandingCall,
 }
 
-/// The records by number, the jobs in the order of making, and the pending call.
-///
-/// A job is a background write, named by the number of its socket. Memory follows how many sockets were made.
+/// The records by number, the jobs in the order of making, and the pending call. Memory follows how many sockets were made.
 #[derive(Drop)]
 pub struct Store {
     pub(crate) sockets: Vec<Tcp2Socket>,
-    pub(crate) jobs: Vec<usize>,
+    pub(crate) jobs: Vec<HostJob>,
     pub(crate) standing: Option<Standing>,
 }
 
@@ -97,8 +96,8 @@ impl Store {
         let place = self.sockets.len();
         let side = socket.side();
         self.sockets.push_reserved(Tcp2Socket::new(socket));
-        let made = handles::make(table, world, own, Kind::Tcp2(place), None, side);
-        of_fault(made)
+        let handle = handles::make(table, world, own, Kind::Tcp2(place), None, side)?;
+        Ok(handle)
     }
 
     /// Begins a connect of the socket of this number. An operation in progress: `ConcurrencyConflict`.
@@ -347,11 +346,11 @@ impl Store {
 }
 
 /// Notes a job that begins, for which there is room.
-fn note_job(jobs: &mut Vec<usize>, place: usize, begins: bool)
+fn note_job(jobs: &mut Vec<HostJob>, place: usize, begins: bool)
     requires { vec_len jobs.old < vec_capacity jobs.old }
     ensures { jobs.new.items ≡ jobs_with jobs.old.items place begins }
 {
     if begins {
-        jobs.push_reserved(place);
+        jobs.push_reserved(HostJob::Write { socket: place });
     }
 }

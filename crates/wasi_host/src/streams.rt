@@ -4,9 +4,10 @@ ghost use Rattle.std.specs.Prelude.{◌≡◌, false};
 ghost use Rattle.wasi_world.specs.Asks.{AsksFor};
 ghost use Rattle.wasi_streams.specs.StreamStop.{StreamStop};
 ghost use Rattle.wasi_host.specs.Host.{call_outcome, error_outcome, failed_outcome, IsStreamStop, IfStreamMemory};
+ghost use Rattle.wasi_host.specs.Kinds.{kind_at, stream_of};
 ghost use Rattle.wasi_host.specs.Machine.{own_of};
 ghost use Rattle.wasi_host.specs.Sides.{KnowsSides};
-ghost use Rattle.wasi_host.specs.StreamCalls.{read_asks, check_asks, write_asks, flushed_asks, convert_asks};
+ghost use Rattle.wasi_host.specs.StreamCalls.{read_asks, check_asks, write_asks, flushed_asks, convert_on};
 ghost use Rattle.wasi_host.specs.Views.{SameView, state_of};
 
 use crate::error::CallError;
@@ -16,7 +17,7 @@ use crate::view::WasiSocketsCtxView;
 use std::alloc::Global;
 use wasi_addr::ErrorCode;
 use wasi_streams::{Fault, StreamError};
-use wasi_world::{Handle, Ids, Octets, TrapKind, World};
+use wasi_world::{Handle, Ids, Octets, World};
 
 /// Reads at most so many bytes from an input (`input-stream.read`). No bytes: there is nothing yet, or the length is 0.
 pub fn read<W: World>(
@@ -34,15 +35,13 @@ pub fn read<W: World>(
     ensures ids { ids.new ≡ ids.old }
     ensures open { (W.seen world.new).ended ≡ false }
 {
-    let Some(place) = handles::input(view.table, this) else {
-        return Err(CallError::Trap(TrapKind::NoSuchHandle));
-    };
+    let place = handles::input(view.table, this)?;
     match view
         .store
         .read(alloc, world, ids.own(), place, len as usize)
     {
         Ok(bytes) => Ok(bytes),
-        Err(error) => Err(convert_stream_error(view, world, ids, this, place, error)),
+        Err(error) => Err(convert_stream_error(view, world, ids, this, error)),
     }
 }
 
@@ -60,12 +59,10 @@ pub fn check_write<W: World>(
     ensures ids { ids.new ≡ ids.old }
     ensures open { (W.seen world.new).ended ≡ false }
 {
-    let Some(place) = handles::output(view.table, this) else {
-        return Err(CallError::Trap(TrapKind::NoSuchHandle));
-    };
+    let place = handles::output(view.table, this)?;
     match view.store.check_write(world, ids.own(), place) {
         Ok(permit) => Ok(permit as u64),
-        Err(error) => Err(convert_stream_error(view, world, ids, this, place, error)),
+        Err(error) => Err(convert_stream_error(view, world, ids, this, error)),
     }
 }
 
@@ -84,12 +81,10 @@ pub fn write<W: World>(
     ensures ids { ids.new ≡ ids.old }
     ensures open { (W.seen world.new).ended ≡ false }
 {
-    let Some(place) = handles::output(view.table, this) else {
-        return Err(CallError::Trap(TrapKind::NoSuchHandle));
-    };
+    let place = handles::output(view.table, this)?;
     match view.store.write(world, ids.own(), place, bytes) {
         Ok(()) => Ok(()),
-        Err(error) => Err(convert_stream_error(view, world, ids, this, place, error)),
+        Err(error) => Err(convert_stream_error(view, world, ids, this, error)),
     }
 }
 
@@ -107,27 +102,24 @@ pub fn flush<W: World>(
     ensures ids { ids.new ≡ ids.old }
     ensures open { (W.seen world.new).ended ≡ false }
 {
-    let Some(place) = handles::output(view.table, this) else {
-        return Err(CallError::Trap(TrapKind::NoSuchHandle));
-    };
+    let place = handles::output(view.table, this)?;
     match view.store.flush(world, place) {
         Ok(()) => Ok(()),
-        Err(error) => Err(convert_stream_error(view, world, ids, this, place, error)),
+        Err(error) => Err(convert_stream_error(view, world, ids, this, error)),
     }
 }
 
 /// Makes the error of a stream's call (`convert_stream_error`): a failure gets the handle of a new error, whose parent is the
-/// stream; where that can't be made, `Trap(Full)` or out of memory. The stream is that of the record of this number.
+/// stream; where that can't be made, `Trap(Full)` or out of memory, and where the handle is no stream's, `Trap(NoSuchHandle)`.
 pub fn convert_stream_error<W: World>(
     view: &mut WasiSocketsCtxView<'_>,
     world: &mut W,
     ids: &mut Ids,
     this: Handle,
-    place: usize,
     error: StreamError,
 ) -> CallError
     requires { (W.seen world.old).ended ≡ false }
-    ensures asked { IsStreamStop error (λ stop. AsksFor (convert_asks (state_of view.old) (own_of ids.old.line) this place stop) (W.seen world.old) (W.seen world.new) (λ converted. (converted, state_of view.new)) (error_outcome result)) }
+    ensures asked { IsStreamStop error (λ stop. AsksFor (convert_on (state_of view.old) (own_of ids.old.line) this (stream_of (kind_at view.old.table.now this)) stop) (W.seen world.old) (W.seen world.new) (λ converted. (converted, state_of view.new)) (error_outcome result)) }
     ensures memory { IfStreamMemory error (λ e. (result ≡ CallError.Memory e) × (state_of view.new ≡ state_of view.old) × (W.seen world.new ≡ W.seen world.old)) }
     ensures sides { KnowsSides (W.seen world.old) view.old.store.now → KnowsSides (W.seen world.new) view.new.store.now }
     ensures view { SameView view.old view.new }
@@ -135,7 +127,7 @@ pub fn convert_stream_error<W: World>(
     ensures open { (W.seen world.new).ended ≡ false }
 {
     match error {
-        StreamError::LastOperationFailed(code) => failed(view, world, ids, this, place, code),
+        StreamError::LastOperationFailed(code) => failed(view, world, ids, this, code),
         StreamError::Closed => CallError::Closed,
         StreamError::Trap(kind) => CallError::Trap(kind),
         StreamError::Memory(e) => CallError::Memory(e),
@@ -148,16 +140,19 @@ fn failed<W: World>(
     world: &mut W,
     ids: &mut Ids,
     this: Handle,
-    place: usize,
     code: ErrorCode,
 ) -> CallError
     requires { (W.seen world.old).ended ≡ false }
-    ensures asked { AsksFor (convert_asks (state_of view.old) (own_of ids.old.line) this place (StreamStop.Failed code)) (W.seen world.old) (W.seen world.new) (λ converted. (converted, state_of view.new)) (error_outcome result) }
+    ensures asked { AsksFor (convert_on (state_of view.old) (own_of ids.old.line) this (stream_of (kind_at view.old.table.now this)) (StreamStop.Failed code)) (W.seen world.old) (W.seen world.new) (λ converted. (converted, state_of view.new)) (error_outcome result) }
     ensures sides { KnowsSides (W.seen world.old) view.old.store.now → KnowsSides (W.seen world.new) view.new.store.now }
     ensures view { SameView view.old view.new }
     ensures ids { ids.new ≡ ids.old }
     ensures open { (W.seen world.new).ended ≡ false }
 {
+    let place = match handles::stream(view.table, this) {
+        Ok(place) => place,
+        Err(fault) => return CallError::from(fault),
+    };
     let side = view.store.side(place);
     let made = handles::make(
         view.table,

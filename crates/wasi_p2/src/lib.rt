@@ -13,11 +13,8 @@ mod options;
 pub mod tcp;
 
 pub use wasi_host::SocketError;
-use wasi_host::{Kind, WasiSocketsCtxView, handles, of_fault};
+use wasi_host::{Kind, WasiSocketsCtxView, handles};
 use wasi_world::{Handle, Ids, World};
-
-/// A call that returns a code of the 0.2 interface (`SocketResult` of the crate wasmtime-wasi).
-pub type SocketResult<T> = Result<T, SocketError>;
 
 /// Makes a handle of the network (`instance-network`).
 pub fn instance_network<W: World>(
@@ -32,6 +29,6 @@ pub fn instance_network<W: World>(
     ensures ids { ids.new ≡ ids.old }
     ensures open { (W.seen world.new).ended ≡ false }
 {
-    let made = handles::make(view.table, world, ids.own(), Kind::Network, None, None);
-    of_fault(made)
+    let handle = handles::make(view.table, world, ids.own(), Kind::Network, None, None)?;
+    Ok(handle)
 }

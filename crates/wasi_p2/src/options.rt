@@ -14,7 +14,7 @@ ghost use Rattle.wasi_p2.specs.Options.{get_option_on, set_option_on, set_backlo
 use crate::SocketError;
 use wasi_host::{WasiSocketsCtxView, handles};
 use wasi_tcp::Setting;
-use wasi_world::{Handle, Ids, Opt, TrapKind, World};
+use wasi_world::{Handle, Ids, Opt, World};
 
 /// The value of an option: yes is 1 and no is 0, a time is in nanoseconds, a size in bytes. The getters below are this call of
 /// their option. Connecting: `InvalidState`. Closed: its code. A code that is reported is returned. A reported size is halved,
@@ -34,9 +34,7 @@ pub fn get_option<W: World>(
     ensures ids { ids.new ≡ ids.old }
     ensures open { (W.seen world.new).ended ≡ false }
 {
-    let Some(place) = handles::socket(view.table, this) else {
-        return Err(SocketError::Trap(TrapKind::NoSuchHandle));
-    };
+    let place = handles::socket(view.table, this)?;
     view.store.get_option(world, ids.own(), place, option)
 }
 
@@ -57,9 +55,7 @@ fn set_option<W: World>(
     ensures ids { ids.new ≡ ids.old }
     ensures open { (W.seen world.new).ended ≡ false }
 {
-    let Some(place) = handles::socket(view.table, this) else {
-        return Err(SocketError::Trap(TrapKind::NoSuchHandle));
-    };
+    let place = handles::socket(view.table, this)?;
     view.store.set_option(world, ids.own(), place, setting)
 }
 
@@ -335,8 +331,6 @@ pub fn set_listen_backlog_size<W: World>(
     ensures ids { ids.new ≡ ids.old }
     ensures open { (W.seen world.new).ended ≡ false }
 {
-    let Some(place) = handles::socket(view.table, this) else {
-        return Err(SocketError::Trap(TrapKind::NoSuchHandle));
-    };
+    let place = handles::socket(view.table, this)?;
     view.store.set_backlog(world, ids.own(), place, value)
 }

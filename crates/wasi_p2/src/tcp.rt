@@ -21,8 +21,8 @@ pub use crate::options::{
     set_send_buffer_size,
 };
 use wasi_addr::{IpSocketAddress, ShutdownType, SocketAddressFamily};
-use wasi_host::{AsyncOperation, Kind, WasiSocketsCtxView, handles, of_fault};
-use wasi_world::{Answer, Handle, Ids, Sock, TrapKind, World};
+use wasi_host::{AsyncOperation, Kind, WasiSocketsCtxView, handles};
+use wasi_world::{Answer, Handle, Ids, Sock, World};
 
 /// Makes a TCP socket of this family (`create-tcp-socket`). Where the context forbids TCP: `AccessDenied`, and nothing is asked.
 pub fn create_tcp_socket<W: World>(
@@ -59,12 +59,8 @@ pub fn start_bind<W: World>(
     ensures ids { ids.new ≡ ids.old }
     ensures open { (W.seen world.new).ended ≡ false }
 {
-    if !handles::is_network(view.table, network) {
-        return Err(SocketError::Trap(TrapKind::NoSuchHandle));
-    }
-    let Some(place) = handles::socket(view.table, this) else {
-        return Err(SocketError::Trap(TrapKind::NoSuchHandle));
-    };
+    handles::network(view.table, network)?;
+    let place = handles::socket(view.table, this)?;
     view.store.start_bind(world, ids.own(), place, addr)
 }
 
@@ -82,9 +78,7 @@ pub fn finish_bind<W: World>(
     ensures view { SameView view.old view.new }
     ensures ids { _ids.new ≡ _ids.old }
 {
-    let Some(place) = handles::socket(view.table, this) else {
-        return Err(SocketError::Trap(TrapKind::NoSuchHandle));
-    };
+    let place = handles::socket(view.table, this)?;
     view.store.finish(place, AsyncOperation::Bind)
 }
 
@@ -105,12 +99,8 @@ pub fn start_connect<W: World>(
     ensures ids { ids.new ≡ ids.old }
     ensures open { (W.seen world.new).ended ≡ false }
 {
-    if !handles::is_network(view.table, network) {
-        return Err(SocketError::Trap(TrapKind::NoSuchHandle));
-    }
-    let Some(place) = handles::socket(view.table, this) else {
-        return Err(SocketError::Trap(TrapKind::NoSuchHandle));
-    };
+    handles::network(view.table, network)?;
+    let place = handles::socket(view.table, this)?;
     view.store.start_connect(world, ids.own(), place, addr)
 }
 
@@ -129,9 +119,7 @@ pub fn finish_connect<W: World>(
     ensures ids { ids.new ≡ ids.old }
     ensures open { (W.seen world.new).ended ≡ false }
 {
-    let Some(place) = handles::socket(view.table, this) else {
-        return Err(SocketError::Trap(TrapKind::NoSuchHandle));
-    };
+    let place = handles::socket(view.table, this)?;
     view.store.finish_connect(world, place)?;
     let side = view.store.side(place);
     make_streams(view, world, ids, this, place, side)
@@ -155,8 +143,7 @@ fn make_streams<W: World>(
     ensures open { (W.seen world.new).ended ≡ false }
 {
     let own = ids.own();
-    let input = handles::make(view.table, world, own, Kind::Input(place), Some(this), side);
-    let input = of_fault(input)?;
+    let input = handles::make(view.table, world, own, Kind::Input(place), Some(this), side)?;
     let output = handles::make(
         view.table,
         world,
@@ -164,8 +151,7 @@ fn make_streams<W: World>(
         Kind::Output(place),
         Some(this),
         side,
-    );
-    let output = of_fault(output)?;
+    )?;
     Ok((input, output))
 }
 
@@ -185,9 +171,7 @@ pub fn start_listen<W: World>(
     ensures ids { ids.new ≡ ids.old }
     ensures open { (W.seen world.new).ended ≡ false }
 {
-    let Some(place) = handles::socket(view.table, this) else {
-        return Err(SocketError::Trap(TrapKind::NoSuchHandle));
-    };
+    let place = handles::socket(view.table, this)?;
     view.store.start_listen(world, ids.own(), place)
 }
 
@@ -205,9 +189,7 @@ pub fn finish_listen<W: World>(
     ensures view { SameView view.old view.new }
     ensures ids { _ids.new ≡ _ids.old }
 {
-    let Some(place) = handles::socket(view.table, this) else {
-        return Err(SocketError::Trap(TrapKind::NoSuchHandle));
-    };
+    let place = handles::socket(view.table, this)?;
     view.store.finish(place, AsyncOperation::Listen)
 }
 
@@ -230,9 +212,7 @@ pub fn accept<W: World>(
     ensures names { IfOk (host_outcome result) (λ answer. ids.new ≡ ids_after_accept (state_of view.old) ids.old this) }
     ensures open { (W.seen world.new).ended ≡ false }
 {
-    let Some(place) = handles::socket(view.table, this) else {
-        return Err(SocketError::Trap(TrapKind::NoSuchHandle));
-    };
+    let place = handles::socket(view.table, this)?;
     let accepted = view.store.accept(world, ids, place)?;
     let side = view.store.side(accepted);
     make_accepted(view, world, ids, this, accepted, side)
@@ -255,8 +235,7 @@ fn make_accepted<W: World>(
     ensures open { (W.seen world.new).ended ≡ false }
 {
     let kind = Kind::Tcp2(place);
-    let socket = handles::make(view.table, world, ids.own(), kind, Some(listener), side);
-    let socket = of_fault(socket)?;
+    let socket = handles::make(view.table, world, ids.own(), kind, Some(listener), side)?;
     let (input, output) = make_streams(view, world, ids, socket, place, side)?;
     Ok((socket, input, output))
 }
@@ -275,9 +254,7 @@ pub fn local_address<W: World>(
     ensures ids { ids.new ≡ ids.old }
     ensures open { (W.seen world.new).ended ≡ false }
 {
-    let Some(place) = handles::socket(view.table, this) else {
-        return Err(SocketError::Trap(TrapKind::NoSuchHandle));
-    };
+    let place = handles::socket(view.table, this)?;
     view.store.local_address(world, ids.own(), place)
 }
 
@@ -295,9 +272,7 @@ pub fn remote_address<W: World>(
     ensures ids { ids.new ≡ ids.old }
     ensures open { (W.seen world.new).ended ≡ false }
 {
-    let Some(place) = handles::socket(view.table, this) else {
-        return Err(SocketError::Trap(TrapKind::NoSuchHandle));
-    };
+    let place = handles::socket(view.table, this)?;
     view.store.remote_address(world, ids.own(), place)
 }
 
@@ -315,9 +290,7 @@ pub fn is_listening<W: World>(
     ensures view { SameView view.old view.new }
     ensures ids { _ids.new ≡ _ids.old }
 {
-    let Some(place) = handles::socket(view.table, this) else {
-        return Err(SocketError::Trap(TrapKind::NoSuchHandle));
-    };
+    let place = handles::socket(view.table, this)?;
     view.store.is_listening(place)
 }
 
@@ -335,9 +308,7 @@ pub fn address_family<W: World>(
     ensures view { SameView view.old view.new }
     ensures ids { _ids.new ≡ _ids.old }
 {
-    let Some(place) = handles::socket(view.table, this) else {
-        return Err(SocketError::Trap(TrapKind::NoSuchHandle));
-    };
+    let place = handles::socket(view.table, this)?;
     view.store.address_family(place)
 }
 
@@ -357,8 +328,6 @@ pub fn shutdown<W: World>(
     ensures ids { ids.new ≡ ids.old }
     ensures open { (W.seen world.new).ended ≡ false }
 {
-    let Some(place) = handles::socket(view.table, this) else {
-        return Err(SocketError::Trap(TrapKind::NoSuchHandle));
-    };
+    let place = handles::socket(view.table, this)?;
     view.store.shutdown(world, ids.own(), place, how)
 }

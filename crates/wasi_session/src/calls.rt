@@ -2,7 +2,7 @@
 
 ghost use Rattle.std.specs.Prelude.{◌≡◌, ◌&&◌, is_some, false};
 ghost use Rattle.wasi_world.specs.Asks.{AsksFor};
-ghost use Rattle.wasi_host.specs.Host.{host_outcome};
+ghost use Rattle.wasi_host.specs.Host.{fault_outcome, host_outcome};
 ghost use Rattle.wasi_host.specs.Machine.{own_of, socket_at};
 ghost use Rattle.wasi_host.specs.Sides.{KnowsSides};
 ghost use Rattle.wasi_host.specs.Views.{SameView, state_of};
@@ -11,11 +11,11 @@ ghost use Rattle.wasi_steps.specs.Settings.{chosen};
 ghost use Rattle.wasi_steps.specs.Steps.{context_of};
 
 use std::alloc::{AllocError, Global};
-use wasi_host::{Kind, Machine, SocketError, Store, WasiSocketsCtxView, of_fault};
+use wasi_host::{Kind, Machine, SocketError, Store, WasiSocketsCtxView};
 use wasi_machine::replies::{answer_reply, reply_of, resumed_reply, stream_reply_of};
 use wasi_p2::tcp;
 use wasi_steps::{Reply, Step, TcpSetting};
-use wasi_streams::Table;
+use wasi_streams::{Fault, Table};
 use wasi_world::{Handle, Ids, WasiSocketsCtx, World};
 
 /// Whether the step is a guest call, and a call is pending.
@@ -61,6 +61,7 @@ fn do_call<W: World>(
 ) -> Result<Reply, AllocError>
     requires open { (W.seen world.old).ended ≡ false }
     requires first { ids.old ≡ first_ids ids.old.line }
+    requires free { (is_some store.old.standing && is_guest_call step) ≡ false }
     ensures asked { AsksFor (call_asks ctx.old (record { table = table.old; store = store.old }) ids.old.line step) (W.seen world.old) (W.seen world.new) (λ reply. (reply, record { table = table.new; store = store.new })) result }
     ensures sides { KnowsSides (W.seen world.old) store.old → KnowsSides (W.seen world.new) store.new }
     ensures open { (W.seen world.new).ended ≡ false }
@@ -79,6 +80,7 @@ fn call<W: World>(
 ) -> Result<Reply, AllocError>
     requires open { (W.seen world.old).ended ≡ false }
     requires first { ids.old ≡ first_ids ids.old.line }
+    requires free { (is_some view.old.store.now.standing && is_guest_call step) ≡ false }
     ensures asked { AsksFor (call_asks view.old.ctx.now (state_of view.old) ids.old.line step) (W.seen world.old) (W.seen world.new) (λ reply. (reply, state_of view.new)) result }
     ensures sides { KnowsSides (W.seen world.old) view.old.store.now → KnowsSides (W.seen world.new) view.new.store.now }
     ensures view { SameView view.old view.new }
@@ -181,15 +183,15 @@ fn call<W: World>(
         }
         Step::Subscribe { handle, .. } => {
             let made = wasi_host::subscribe(view, world, ids, handle);
-            reply_of(alloc, of_fault(made))
+            reply_of(alloc, socket_result(made))
         }
         Step::Ready { pollable, .. } => {
             let ready = wasi_host::ready(view, world, ids, pollable);
-            reply_of(alloc, of_fault(ready))
+            reply_of(alloc, socket_result(ready))
         }
         Step::Drop { handle, .. } => {
             let answer = wasi_host::drop_handle(view, world, ids, handle);
-            answer_reply(alloc, ids.line, of_fault(answer))
+            answer_reply(alloc, ids.line, socket_result(answer))
         }
         Step::Turn => {
             wasi_host::turn(view, world)?;
@@ -200,6 +202,13 @@ fn call<W: World>(
             resumed_reply(alloc, call, resumed)
         }
     }
+}
+
+/// The result of a call that returns no codes, as that of one that may.
+fn socket_result<T: Drop>(done: Result<T, Fault>) -> Result<T, SocketError>
+    ensures { host_outcome result ≡ fault_outcome done }
+{
+    Ok(done?)
 }
 
 /// Sets an option of a socket, or its backlog.

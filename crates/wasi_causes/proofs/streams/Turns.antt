@@ -1,5 +1,7 @@
 -- Who asks in a turn: the writes of the records with a job.
-use Rattle.wasi_causes.proofs.Words.{⊤, ◌≡◌, ℕ, zero, suc, inl, inr, List, [], ◌∷◌, ◌++◌, Option, Some, None, slice_get, slice_set, refl, sym, ap, subst, ◌∙◌, OpId, Call, Entry, Told, WasiSocketsCtx, Fits, Give, bind, End, Waits, poll_asks, allows_keep, Allows, allows_then, WriteState, Job, job_in, job_asks, turn_asks, Machine, Streams, Tcp2Socket, turned, turn_record, turn_at, turn_jobs, turn_store_asks, turn_machine_asks, Has, no_fields, has_split, allows_ask}
+use Rattle.wasi_causes.proofs.Words.{⊤, ◌≡◌, ℕ, zero, suc, inl, inr, List, [], ◌∷◌, ◌++◌, Option, Some, None, slice_get, slice_set, refl, sym, ap, subst, ◌∙◌, OpId, Call, Entry, Told, WasiSocketsCtx, Fits, Give, bind, End, Waits, poll_asks, allows_keep, Allows, allows_then, WriteState, Job, job_in, job_asks, turn_asks, Machine, Streams, Tcp2Socket, turned, turn_record, turn_at, turn_job, turn_jobs, turn_store_asks, turn_machine_asks, Has, no_fields, has_split, allows_ask}
+use Rattle.wasi_host.specs.declared.jobs.HostJob.{HostJob}
+use Rattle.wasi_host.specs.declared.jobs.HostJob.TheVariants.{Write}
 use Rattle.wasi_tcp.specs.declared.writer.WriteState.TheVariants as writing
 use Rattle.wasi_steps.specs.declared.reply.Reply.TheVariants as reply
 use Rattle.wasi_steps.specs.declared.step.Step.TheVariants as step
@@ -68,19 +70,22 @@ module _ (m : Machine) where
   abbrev SameJobs : List Entry → List Tcp2Socket → Type 0
   SameJobs es sockets = (place : ℕ) → job_of (slice_get sockets place) ≡ job_of (slice_get m.store.sockets place)
 
-  at_by : (sockets : List Tcp2Socket) (place : ℕ) (o : Option Tcp2Socket) → slice_get sockets place ≡ o → Has m.store.jobs place → (es : List Entry) → SameJobs es sockets → Allows TurnAsks SameJobs es (turn_at sockets place o)
+  at_by : (sockets : List Tcp2Socket) (place : ℕ) (o : Option Tcp2Socket) → slice_get sockets place ≡ o → Has m.store.jobs (Write place) → (es : List Entry) → SameJobs es sockets → Allows TurnAsks SameJobs es (turn_at sockets place o)
   at_by sockets place None at listed es same = same
   at_by sockets place (Some r) at listed es same =
       allows_then TurnAsks (SameRecord r) SameJobs es (turn_record r) _
       (allows_ask (RecordAsks r) TurnAsks (SameRecord r) (λ fs op call e. record { place = place; listed = listed; is = sym (same place) ∙ (ap job_of at ∙ e) }) es (turn_record r) (record_by r r.streams refl es))
       (λ fs now e k. set_job sockets place now k (e ∙ sym (ap job_of at)) ∙ same k)
 
-  jobs_by : (places : List ℕ) → ((p : ℕ) → Has places p → Has m.store.jobs p) → (sockets : List Tcp2Socket) (es : List Entry) → SameJobs es sockets → Allows TurnAsks SameJobs es (turn_jobs places sockets)
+  host_job_by : (job : HostJob) → Has m.store.jobs job → (sockets : List Tcp2Socket) (es : List Entry) → SameJobs es sockets → Allows TurnAsks SameJobs es (turn_job sockets job)
+  host_job_by (Write place) listed sockets es same = at_by sockets place (slice_get sockets place) refl listed es same
+
+  jobs_by : (jobs : List HostJob) → ((j : HostJob) → Has jobs j → Has m.store.jobs j) → (sockets : List Tcp2Socket) (es : List Entry) → SameJobs es sockets → Allows TurnAsks SameJobs es (turn_jobs jobs sockets)
   jobs_by [] listed sockets es same = same
-  jobs_by (place ∷ places) listed sockets es same =
-      allows_then TurnAsks SameJobs SameJobs es (turn_at sockets place (slice_get sockets place)) _
-      (at_by sockets place (slice_get sockets place) refl (listed place (inl refl)) es same)
-      (λ fs now k. jobs_by places (λ p h. listed p (inr h)) now fs k)
+  jobs_by (job ∷ jobs) listed sockets es same =
+      allows_then TurnAsks SameJobs SameJobs es (turn_job sockets job) _
+      (host_job_by job (listed job (inl refl)) sockets es same)
+      (λ fs now k. jobs_by jobs (λ j h. listed j (inr h)) now fs k)
 
   abbrev SameTable : List Entry → Unit {0} × Machine → Type 0
   SameTable es done = done.1.table ≡ m.table

@@ -8,6 +8,7 @@ use Rattle.wasi_walks.proofs.Words.{slice_set, step_at, subst, sym, table_parent
 use Rattle.wasi_walks.proofs.Words.{◌∙◌, ◌∷◌, ◌≡◌, ◌⊎◌}
 use Rattle.wasi_world.specs.declared.call.Call.TheVariants.{Accept}
 use Rattle.wasi_streams.proofs.Tables.{value_without}
+use Rattle.wasi_host.specs.declared.jobs.HostJob.{HostJob}
 use Rattle.wasi_tcp.specs.declared.socket.TcpState.TheVariants.{Connected}
 use Rattle.wasi_walks.proofs.Lists.{has_front, marks_in-push, get_front, get_split, get_set, set_get, value_split, has_split}
 use Rattle.wasi_walks.proofs.licence.State.{NamesRecord, NamesIf, HandleIsFine, KnowsMaker, BindLeft, Whole, Checked, Over, ConnectLeft, Unbound, Unchecked, Allowed, ToClose, Ended, Names, WorksOn, BindIsFine, ConnectIsFine, JobIsFine, WritesOn, IsConnectedOn, StreamsAreFine, ListeningStands, accept_name, AcceptIsFine, AcceptingIsFine, ListeningIsFine, ProgressIsFine, SocketIsFine, RecordIsFine, StandingIsFine, StateIsFine, LastAccept, AcceptLeft, Unarrived, ToCheck, AcceptingStands, name_in, OneHolds}
@@ -471,5 +472,5 @@ module _ (steps : List Step) where
   state_unstands es m h = record { count = h.count; handles = h.handles; sockets = h.sockets; standing = λ d e. absurd (cc); accepts = h.accepts; one = h.one }
 
   -- which writes are in progress is nothing to it
-  pub state_jobs : (es : List Entry) (m : Machine) (jobs : List ℕ) → StateIsFine steps es m → StateIsFine steps es (record m { store = record m.store { jobs = jobs } })
+  pub state_jobs : (es : List Entry) (m : Machine) (jobs : List HostJob) → StateIsFine steps es m → StateIsFine steps es (record m { store = record m.store { jobs = jobs } })
   state_jobs es m jobs h = record { count = h.count; handles = h.handles; sockets = h.sockets; standing = h.standing; accepts = h.accepts; one = h.one }

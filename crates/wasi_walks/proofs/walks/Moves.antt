@@ -11,6 +11,7 @@ use Rattle.wasi_walks.proofs.Words.{listen_ended, listen_first, listen_operation
 use Rattle.wasi_walks.proofs.Words.{side_at, side_of, slice_get, slice_set, standing_as, true, wildcard, with_accept, with_inner, with_listening}
 use Rattle.wasi_walks.proofs.Words.{with_progress, with_reader, with_socket, with_state, with_writer, without_handle, writer_side, ℕ, ⊤, ◌++◌, ◌∷◌}
 use Rattle.wasi_walks.proofs.Words.{◌≡◌, ◌⊎◌}
+use Rattle.wasi_host.specs.declared.jobs.HostJob.{HostJob}
 use Rattle.wasi_tcp.specs.declared.bind.BindStage.TheVariants.{Check}
 use Rattle.wasi_tcp.specs.declared.writer.WriteError.{WriteError}
 use Rattle.wasi_tcp.specs.declared.accept.AcceptStage.TheVariants as accept
@@ -234,7 +235,7 @@ pub data Move (line : ℕ) (origin : Step) : Here → Here → Type 0 where
   Resumes : (h : Here) (s : Standing) → h.machine.store.standing ≡ Some s → Move line origin h (record h { at = Some (call_place s.call, s.line) })
   Unstands : (h : Here) → Move line origin h (record h { machine = record h.machine { store = record h.machine.store { standing = None } } })
   -- the rest
-  Lists : (h : Here) (jobs : List ℕ) → Move line origin h (record h { machine = record h.machine { store = record h.machine.store { jobs = jobs } } })
+  Lists : (h : Here) (jobs : List HostJob) → Move line origin h (record h { machine = record h.machine { store = record h.machine.store { jobs = jobs } } })
   Takes : (h : Here) (handle : ℕ) → Move line origin h (record h { machine = record h.machine { table = without_handle h.machine.table handle } })
 
 -- an operation that the line polls: where it is kept, and what becomes of it

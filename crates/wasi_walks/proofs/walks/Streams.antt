@@ -14,13 +14,15 @@ use Rattle.wasi_walks.proofs.Words.{without_handle, write_on_asks, write_state_a
 use Rattle.wasi_walks.proofs.Words.{writer_shutdown_asks, writer_side, writing_side, ℕ, ◌==◌, ◌∷◌, ◌≡◌}
 use Rattle.wasi_addr.specs.declared.address.ShutdownType.TheVariants.{Receive, Send, Both}
 use Rattle.wasi_tcp.specs.Job.{finish_in as finish_job}
+use Rattle.wasi_host.specs.declared.jobs.HostJob.{HostJob}
+use Rattle.wasi_host.specs.declared.jobs.HostJob.TheVariants.{Write}
 use Rattle.wasi_host.specs.Shutdowns.{with_streams}
 use Rattle.wasi_walks.proofs.walks.Writes.{may_begin, may_of, may_in, may_at, may}
 use Rattle.wasi_walks.proofs.walks.Moves.{Own, Used, Unused, ToWrite, Here, put, OfReader, OfWriter, Collects, Permits, Lasts, LastsAfter, Closes, Spends, ClosesReader, Writes, BeginsWrite, NoBind, NoBindStands, record_of, MarksError, AnError, Reaches, Leaves, IsGone, Lists, Takes, Past, Stands, APollable}
 use Rattle.wasi_walks.proofs.walks.Law.{Law, HasRecord, spent, put_put, Walks, give, and_then, by_if, move, gives, from, found, on, ask, turn, put_same, ends, close, mark, give_up, and_so}
 use Rattle.wasi_tcp.specs.Closing.{close_in}
 use Rattle.wasi_host.specs.Readiness.{ready_listening, ready_idle, ready_socket_by, ready_reader, ready_writer, ready_record, ready_at}
-use Rattle.wasi_host.specs.Jobs.{with_job, begins_job, turned, turn_at, turn_jobs}
+use Rattle.wasi_host.specs.Jobs.{with_job, begins_job, turned, turn_at, turn_job, turn_jobs}
 use Rattle.wasi_host.specs.StreamCalls.{converted, stream_on, write_on}
 use Rattle.wasi_walks.proofs.walks.Sockets.{listener_walks, finish_walks}
 use Rattle.wasi_walks.proofs.walks.States.{watched_record, OverWith, At, Starts, watch_record, streams_are, Put, there, Sets}
@@ -258,9 +260,12 @@ module _ {contexts : List WasiSocketsCtx} {line : ℕ} {origin : Step} {law : La
   turn_at_walks m sockets place None g = give _
   turn_at_walks m sockets place (Some r) g = from (put_same (Sets m sockets) place r g) (and_then (turned_walks (there {h = Sets m sockets} g) r r.streams refl) (λ now. give _))
 
-  turn_jobs_walks : (m : Machine) (places : List ℕ) (sockets : List Tcp2Socket) → Walks law (Sets m sockets) (Sets m) (turn_jobs places sockets)
+  turn_job_walks : (m : Machine) (sockets : List Tcp2Socket) (job : HostJob) → Walks law (Sets m sockets) (Sets m) (turn_job sockets job)
+  turn_job_walks m sockets (Write place) = turn_at_walks m sockets place (slice_get sockets place) refl
+
+  turn_jobs_walks : (m : Machine) (jobs : List HostJob) (sockets : List Tcp2Socket) → Walks law (Sets m sockets) (Sets m) (turn_jobs jobs sockets)
   turn_jobs_walks m [] sockets = give _
-  turn_jobs_walks m (place ∷ places) sockets = and_then (turn_at_walks m sockets place (slice_get sockets place) refl) (turn_jobs_walks m places)
+  turn_jobs_walks m (job ∷ jobs) sockets = and_then (turn_job_walks m sockets job) (turn_jobs_walks m jobs)
 
   pub turn_walks : (m : Machine) → Walks law (Starts m Unused) OverWith (turn_machine_asks m)
   turn_walks m = move (Spends _ refl) (and_then (and_then (turn_jobs_walks m m.store.jobs m.store.sockets) (λ sockets. gives _ (Lists _ _))) (λ done. give _))

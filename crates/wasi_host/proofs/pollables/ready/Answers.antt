@@ -4,4 +4,4 @@ use Rattle.wasi_host.specs.Views.{state_of}
 use Rattle.wasi_host.proofs.pollables.ready.Goals as goal
 
 pub returns-clause-asked : goal.returns-clause-asked
-returns-clause-asked g c = rw (← c.watch.ensures, c.in-Some.is) (asks_gives (with_store (state_of c.args.view.now)) c.poll_ready.ensures.asked)
+returns-clause-asked g c = rw c.in_ok-watched.ensures (asks_gives (with_store (state_of c.args.view.now)) c.poll_ready.ensures.asked)

@@ -64,13 +64,13 @@ pub returns-in-Flush-clause-asked : goal.returns-in-Flush-clause-asked
 returns-in-Flush-clause-asked g c = rw c.in-Flush.is (asks_answered (stream_reply_of no_values) _ _ c.flush-flushed.ensures.asked c.stream_reply_of-in-Flush.ensures)
 
 pub returns-in-Subscribe-clause-asked : goal.returns-in-Subscribe-clause-asked
-returns-in-Subscribe-clause-asked g c = rw c.in-Subscribe.is (asks_answered (reply_of number_fields) _ _ (rw (← c.of_fault.ensures) at c.subscribe-made.ensures.asked) c.reply_of-in-Subscribe.ensures)
+returns-in-Subscribe-clause-asked g c = rw c.in-Subscribe.is (asks_answered (reply_of number_fields) _ _ (rw (← c.socket_result.ensures) at c.subscribe-made.ensures.asked) c.reply_of-in-Subscribe.ensures)
 
 pub returns-in-Ready-clause-asked : goal.returns-in-Ready-clause-asked
-returns-in-Ready-clause-asked g c = rw c.in-Ready.is (asks_answered (reply_of truth_fields) _ _ (rw (← c.of_fault-in-Ready.ensures, c.requires.first) at c.ready-ready.ensures.asked) c.reply_of-in-Ready.ensures)
+returns-in-Ready-clause-asked g c = rw c.in-Ready.is (asks_answered (reply_of truth_fields) _ _ (rw (← c.socket_result-in-Ready.ensures, c.requires.first) at c.ready-ready.ensures.asked) c.reply_of-in-Ready.ensures)
 
 pub returns-in-Drop-clause-asked : goal.returns-in-Drop-clause-asked
-returns-in-Drop-clause-asked g c = rw c.in-Drop.is (asks_answered (answer_reply c.args.ids.now.line) _ _ (rw (← c.of_fault-in-Drop.ensures) at c.drop_handle-answer.ensures.asked) (rw c.drop_handle-answer.ensures.ids at c.answer_reply-in-Drop.ensures))
+returns-in-Drop-clause-asked g c = rw c.in-Drop.is (asks_answered (answer_reply c.args.ids.now.line) _ _ (rw (← c.socket_result-in-Drop.ensures) at c.drop_handle-answer.ensures.asked) (rw c.drop_handle-answer.ensures.ids at c.answer_reply-in-Drop.ensures))
 
 pub returns-in_err-turn-in-Turn-clause-asked : goal.returns-in_err-turn-in-Turn-clause-asked
 returns-in_err-turn-in-Turn-clause-asked g c = rw c.in-Turn.is (asks_exit _ _ c.from_residual.ensures.1 c.in_err-turn-in-Turn.ensures.asked.err)

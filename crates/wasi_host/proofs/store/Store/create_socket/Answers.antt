@@ -6,7 +6,7 @@ use Rattle.wasi_host.specs.declared.socket.Tcp2Socket.{Tcp2Socket}
 use Rattle.wasi_host.specs.Host.{code_stop}
 use Rattle.wasi_host.specs.Store.{Records, with_record}
 use Rattle.wasi_host.specs.Sides.{KnowsSides}
-use Rattle.wasi_host.proofs.Hosts.{host_none, host_refused, handle_asks}
+use Rattle.wasi_host.proofs.Hosts.{fault_told, host_none, host_refused, handle_asks}
 use Rattle.wasi_host.proofs.SideCounts.{knows_created, knows_refused}
 use Rattle.wasi_host.proofs.store.Store.create_socket.Goals as goal
 
@@ -21,14 +21,26 @@ returns-in_err-socket-clause-asked g c = rw (← c.self.view_is)
 pub returns-in_err-socket-clause-sides : goal.returns-in_err-socket-clause-sides
 returns-in_err-socket-clause-sides g c = λ k. rw c.reserve.ensures.items (knows_refused c.args.own c.args.ctx.now c.args.family _ _ c.in_err-socket.ensures.asked c.in_err-socket.ensures.unasked (rw (← c.self.view_is) at k))
 
+pub returns-in_err-handle-clause-asked : goal.returns-in_err-handle-clause-asked
+returns-in_err-handle-clause-asked g c = rw (← c.self.view_is, fault_told _ c.from_residual-in_err-handle.result c.from_residual-in_err-handle.ensures.1)
+    (asks_then _ c.in_ok-socket.ensures.asked.ok
+    (handle_asks (record { table = c.args.table.now; store = record { sockets = c.self.inside.sockets.items; jobs = c.self.inside.jobs.items; standing = c.self.inside.standing } }) c.args.own c.in_ok-socket.socket
+    (c.len-place.ensures ∙ c.reserve.ensures.len ∙ c.self.inside.sockets.ok.0) c.side-side.ensures (rw (c.reserve.ensures.items, c.new-2.ensures) at c.push_reserved.ensures.items) c.in_err-handle.ensures.asked))
+
 pub returns-clause-asked : goal.returns-clause-asked
 returns-clause-asked g c = rw (← c.self.view_is)
     (asks_then _ c.in_ok-socket.ensures.asked.ok
-    (rw c.of_fault.ensures (handle_asks (record { table = c.args.table.now; store = record { sockets = c.self.inside.sockets.items; jobs = c.self.inside.jobs.items; standing = c.self.inside.standing } }) c.args.own c.in_ok-socket.socket
-    (c.len-place.ensures ∙ c.reserve.ensures.len ∙ c.self.inside.sockets.ok.0) c.side-side.ensures (rw (c.reserve.ensures.items, c.new-2.ensures) at c.push_reserved.ensures.items) c.make-made.ensures.asked)))
+    ((handle_asks (record { table = c.args.table.now; store = record { sockets = c.self.inside.sockets.items; jobs = c.self.inside.jobs.items; standing = c.self.inside.standing } }) c.args.own c.in_ok-socket.socket
+    (c.len-place.ensures ∙ c.reserve.ensures.len ∙ c.self.inside.sockets.ok.0) c.side-side.ensures (rw (c.reserve.ensures.items, c.new-2.ensures) at c.push_reserved.ensures.items) c.in_ok-handle.ensures.asked)))
+
+pub returns-in_err-handle-clause-sides : goal.returns-in_err-handle-clause-sides
+returns-in_err-handle-clause-sides g c = λ k.
+    let store : Records = record { sockets = c.self.inside.sockets.items; jobs = c.self.inside.jobs.items; standing = c.self.inside.standing } in
+    subst (λ (l : List Tcp2Socket). KnowsSides (g.W.World.seen c.make.new.world) (record store { sockets = l })) (sym (rw (c.reserve.ensures.items, c.new-2.ensures) at c.push_reserved.ensures.items))
+    (c.in_err-handle.ensures.sides (with_record store c.in_ok-socket.socket) (knows_created c.args.own c.args.ctx.now c.args.family c.in_ok-socket.socket store c.in_ok-socket.ensures.asked.ok c.in_ok-socket.ensures.side (rw (← c.self.view_is) at k)))
 
 pub returns-clause-sides : goal.returns-clause-sides
 returns-clause-sides g c = λ k.
     let store : Records = record { sockets = c.self.inside.sockets.items; jobs = c.self.inside.jobs.items; standing = c.self.inside.standing } in
-    subst (λ (l : List Tcp2Socket). KnowsSides (g.W.World.seen c.make-made.new.world) (record store { sockets = l })) (sym (rw (c.reserve.ensures.items, c.new-2.ensures) at c.push_reserved.ensures.items))
-    (c.make-made.ensures.sides (with_record store c.in_ok-socket.socket) (knows_created c.args.own c.args.ctx.now c.args.family c.in_ok-socket.socket store c.in_ok-socket.ensures.asked.ok c.in_ok-socket.ensures.side (rw (← c.self.view_is) at k)))
+    subst (λ (l : List Tcp2Socket). KnowsSides (g.W.World.seen c.make.new.world) (record store { sockets = l })) (sym (rw (c.reserve.ensures.items, c.new-2.ensures) at c.push_reserved.ensures.items))
+    (c.in_ok-handle.ensures.sides (with_record store c.in_ok-socket.socket) (knows_created c.args.own c.args.ctx.now c.args.family c.in_ok-socket.socket store c.in_ok-socket.ensures.asked.ok c.in_ok-socket.ensures.side (rw (← c.self.view_is) at k)))

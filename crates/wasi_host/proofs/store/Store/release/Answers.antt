@@ -21,10 +21,10 @@ returns-in_err-release-clause-sides g c = λ k.
 
 pub returns-clause-asked : goal.returns-clause-asked
 returns-clause-asked g c =
-    rw (← c.self.view_is, found_at c.self.inside.sockets.items c.args.place c.in-Some.record c.in-Some.ensures.item, c.forget_job.ensures)
+    rw (← c.self.view_is, found_at c.self.inside.sockets.items c.args.place c.in-Some.record c.in-Some.ensures.item, c.forget_jobs.ensures)
     (asks_end _ c.in_ok-release.ensures.asked.ok refl)
 
 pub returns-clause-sides : goal.returns-clause-sides
 returns-clause-sides g c = λ k.
     let store : Records = record { sockets = c.self.inside.sockets.items; jobs = c.self.inside.jobs.items; standing = c.self.inside.standing } in
-    rw c.forget_job.ensures (knows_jobs _ _ (knows_polled store c.args.place c.in-Some.record.now c.release.new.self (found_at c.self.inside.sockets.items c.args.place c.in-Some.record c.in-Some.ensures.item) c.release.ensures.sides (rw (← c.self.view_is) at k)))
+    rw c.forget_jobs.ensures (knows_jobs _ _ (knows_polled store c.args.place c.in-Some.record.now c.release.new.self (found_at c.self.inside.sockets.items c.args.place c.in-Some.record c.in-Some.ensures.item) c.release.ensures.sides (rw (← c.self.view_is) at k)))

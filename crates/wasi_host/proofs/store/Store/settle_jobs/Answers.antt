@@ -1,12 +1,13 @@
-use Rattle.std.proofs.Common.{◌≡◌, ◌∙◌, ap, rules, List, ℕ, slice_get}
+use Rattle.std.proofs.Common.{◌≡◌, ◌∙◌, ap, rules, List}
 use Rattle.std.specs.Prelude.{filter}
 use Rattle.std.proofs.lemmas.Fn.{filter_same}
-use Rattle.wasi_host.specs.Jobs.{has_job}
+use Rattle.wasi_host.specs.Jobs.{is_going}
+use Rattle.wasi_host.specs.declared.jobs.HostJob.{HostJob}
 use Rattle.wasi_host.specs.Store.{Records}
 use Rattle.wasi_host.proofs.JobLists.{still_going-filter}
 use Rattle.wasi_host.proofs.store.Store.settle_jobs.Goals as goal
 
 pub returns : goal.returns
 returns c =
-    let kept : c.retain.new.self.items ≡ filter (λ job. has_job (slice_get c.self.inside.sockets.items job)) c.self.inside.jobs.items = filter_same _ _ _ (λ x b f k. search rules) _ _ c.retain.ensures.filtered in
-    rw (← c.self.view_is) (ap (λ (jobs : List ℕ). let store : Records = record { sockets = c.self.inside.sockets.items; jobs = jobs; standing = c.self.inside.standing } in store) (kept ∙ still_going-filter c.self.inside.sockets.items c.self.inside.jobs.items))
+    let kept : c.retain.new.self.items ≡ filter (is_going c.self.inside.sockets.items) c.self.inside.jobs.items = filter_same _ _ _ (λ x b f k. search rules) _ _ c.retain.ensures.filtered in
+    rw (← c.self.view_is) (ap (λ (jobs : List HostJob). let store : Records = record { sockets = c.self.inside.sockets.items; jobs = jobs; standing = c.self.inside.standing } in store) (kept ∙ still_going-filter c.self.inside.sockets.items c.self.inside.jobs.items))

@@ -2,7 +2,7 @@ use Rattle.std.proofs.Common.{◌≡◌, false, drop}
 use Rattle.wasi_world.specs.Asks.{Reaches}
 use Rattle.wasi_host.specs.Jobs.{turn_jobs}
 use Rattle.wasi_host.specs.Sides.{MakesNone, held_in}
-use Rattle.wasi_host.proofs.jobs.turn_sockets.Given as goal
+use Rattle.wasi_host.proofs.jobs.turn_jobs.Given as goal
 
 -- the jobs before the place are polled
 abbrev pub invariant-loop-job : goal.invariant-loop-job
