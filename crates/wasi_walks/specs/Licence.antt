@@ -6,19 +6,22 @@ use Rattle.wasi_addr.specs.declared.address.SocketAddressFamily.{SocketAddressFa
 use Rattle.wasi_addr.specs.declared.address.SocketAddrUse.{SocketAddrUse}
 use Rattle.wasi_addr.specs.declared.address.SocketAddrUse.TheVariants.{TcpBind, TcpListen, TcpAccept, TcpConnect}
 use Rattle.wasi_addr.specs.Address.{is_wildcard, wildcard}
+use Rattle.wasi_addr.specs.Clamp.{clamped_backlog}
 use Rattle.wasi_world.specs.declared.ids.OpId.{OpId}
 use Rattle.wasi_world.specs.declared.call.Call.{Call}
 use Rattle.wasi_world.specs.declared.call.Call.TheVariants.{Check, Lookup, TcpCreate, UdpCreate, UdpWritable, Local, Peer, Bind, UdpBind, UdpConnect, Listen, SetBacklog, Connect, Accept, Hand, Refuse, Read, ReadReady, WriteReady, Write, Shutdown, UdpDisconnect, Send, Recv, GetOption, SetOption, Close, Made}
 use Rattle.wasi_world.specs.declared.call.HandleKind.{HandleKind}
 use Rattle.wasi_world.specs.declared.call.HandleKind.TheVariants.{Network, Tcp2, Input, Output, Pollable, ErrorValue}
+use Rattle.wasi_world.specs.declared.call.Opt.{Opt}
 use Rattle.wasi_world.specs.declared.call.Told.{Told}
 use Rattle.wasi_world.specs.declared.call.Told.TheVariants.{Done, Yes, Addr, Arrived}
 use Rattle.wasi_world.specs.declared.call.Entry.{Entry}
 use Rattle.wasi_world.specs.declared.outcome.WasiSocketsCtx.{WasiSocketsCtx}
-use Rattle.wasi_steps.specs.declared.setting.TcpSetting.TheVariants as setting
+use Rattle.wasi_common.specs.Options.{value_set}
 use Rattle.wasi_steps.specs.declared.reply.Reply.{Reply}
 use Rattle.wasi_steps.specs.declared.step.Step.{Step}
 use Rattle.wasi_steps.specs.declared.step.Step.TheVariants as step
+use Rattle.wasi_steps.specs.Settings.{Chosen, AnOption, TheBacklog, chosen}
 pub use Rattle.wasi_steps.specs.Steps.{handles_of}
 
 -- == entries
@@ -173,10 +176,28 @@ abbrev pub IsListenStep : Step → Type 0
 IsListenStep (step.TcpStartListen ctx socket) = ⊤
 IsListenStep _ = ⊥
 
--- a set of the backlog
-abbrev pub IsBacklogSet : Step → Type 0
-IsBacklogSet (step.TcpSet ctx socket (setting.ListenBacklogSize value)) = ⊤
-IsBacklogSet _ = ⊥
+-- a get of this option
+abbrev pub IsGetOf : Opt → Step → Type 0
+IsGetOf option (step.TcpGet ctx socket o) = o ≡ option
+IsGetOf option _ = ⊥
+
+-- what is set is this option, and its value, brought into the option's range, is this
+abbrev pub SetsOption : Opt → ℕ → Chosen → Type 0
+SetsOption option value (AnOption o n) = (o ≡ option) × (value ≡ value_set o n)
+SetsOption option value (TheBacklog n) = ⊥
+
+abbrev pub IsSetTo : Opt → ℕ → Step → Type 0
+IsSetTo option value (step.TcpSet ctx socket setting) = SetsOption option value (chosen setting)
+IsSetTo option value _ = ⊥
+
+-- what is set is the backlog, which is this, brought into its range
+abbrev pub SetsBacklog : ℕ → Chosen → Type 0
+SetsBacklog backlog (AnOption o n) = ⊥
+SetsBacklog backlog (TheBacklog n) = backlog ≡ clamped_backlog n
+
+abbrev pub IsBacklogSet : ℕ → Step → Type 0
+IsBacklogSet backlog (step.TcpSet ctx socket setting) = SetsBacklog backlog (chosen setting)
+IsBacklogSet backlog _ = ⊥
 
 -- its parent is this handle, of whose network socket it is
 abbrev pub IsOfParent : List Entry → ℕ → Option ℕ → Option OpId → Type 0
@@ -242,7 +263,7 @@ MayAsk contexts steps before op (Bind sock addr) = ReachesSide steps before op s
 MayAsk contexts steps before op (UdpBind sock addr) = ⊥
 MayAsk contexts steps before op (UdpConnect sock addr) = ⊥
 MayAsk contexts steps before op (Listen sock backlog) = ReachesSide steps before op sock × BeganBy steps op IsListenStep × MayListen before op sock
-MayAsk contexts steps before op (SetBacklog sock backlog) = ReachesSide steps before op sock × BeganBy steps op IsBacklogSet × Listens before sock
+MayAsk contexts steps before op (SetBacklog sock backlog) = ReachesSide steps before op sock × BeganBy steps op (IsBacklogSet backlog) × Listens before sock
 MayAsk contexts steps before op (Connect sock addr) =
     ReachesSide steps before op sock × BeganBy steps op (IsConnectTo addr) × HasYes before before op sock addr TcpConnect × MayGoOut before op sock
 MayAsk contexts steps before op (Accept sock) = ReachesSide steps before op sock
@@ -256,8 +277,8 @@ MayAsk contexts steps before op (Shutdown sock how) = ReachesSide steps before o
 MayAsk contexts steps before op (UdpDisconnect sock) = ReachesSide steps before op sock
 MayAsk contexts steps before op (Send sock addr bytes) = ⊥
 MayAsk contexts steps before op (Recv sock) = ReachesSide steps before op sock
-MayAsk contexts steps before op (GetOption sock option) = ReachesSide steps before op sock
-MayAsk contexts steps before op (SetOption sock option value) = ReachesSide steps before op sock
+MayAsk contexts steps before op (GetOption sock option) = ReachesSide steps before op sock × BeganBy steps op (IsGetOf option)
+MayAsk contexts steps before op (SetOption sock option value) = ReachesSide steps before op sock × BeganBy steps op (IsSetTo option value)
 MayAsk contexts steps before op (Close sock) = ⊤
 MayAsk contexts steps before op (Made handle kind parent sock) = (handle ≡ marks_in before + 1) × BeganBy steps op (IsMarkOf before op kind parent sock)
 

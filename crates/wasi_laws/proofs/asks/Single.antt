@@ -96,7 +96,7 @@ module _ (contexts : List WasiSocketsCtx) (line : ℕ) (origin : Step) where
       P = P;
       Inv = λ es h. Shaped h × Inv es h;
       moves = λ es h now m b i. (moves_shape contexts line origin h now m i.0, a.moves es h now m (b, i.0) i.1);
-      asks = λ es h place n r side c at g o q b i. let x = on_record es h place r (own_of n) side c g (on_socket r side (i.0 place r g) o) (question_calm side c q) (b, i.0) i.1 in (x.0, λ told f. (i.0, x.1 told));
+      asks = λ es h place n r side c at g o q b i. let x = on_record es h place r (own_of n) side c g (on_socket r side (i.0 place r g) o) (question_calm line origin n side c q) (b, i.0) i.1 in (x.0, λ told f. (i.0, x.1 told));
       sets = λ es h place r side backlog at g s is b i. let x = on_record es h place r (own_of line) side (call.SetBacklog side backlog) g (ap side_in s) (record { calm = refl; on = refl }) (b, i.0) i.1 in (x.0, λ told f. (i.0, x.1 told));
       learns = λ es h place r side at g e b i.
           let x = on_record es h place r (own_of line) side (call.Local side) g (ap side_in e) (record { calm = refl; on = refl }) (b, i.0) i.1 in

@@ -3,6 +3,7 @@ use Rattle.wasi_walks.proofs.Words.{Begins, Call, Done, End, Entry, IsAddr, List
 use Rattle.wasi_walks.proofs.Words.{Tcp2Socket, TcpState, Told, Waits, WasiSocketsCtx, WriteState, [], after_local, ap, closing_side, entry, inl}
 use Rattle.wasi_walks.proofs.Words.{marked_by, own_of, refl, side_in, side_of, slice_get, step_at, subst, sym, told_addr, with_inner, writer_side}
 use Rattle.wasi_walks.proofs.Words.{writing_side, ℕ, ◌++◌, ◌∙◌, ◌∷◌, ◌≡◌}
+use Rattle.wasi_walks.specs.Licence.{BeganBy, IsGetOf, IsSetTo}
 use Rattle.wasi_walks.proofs.licence.Fresh.{made_more}
 use Rattle.wasi_walks.proofs.licence.ListenAsks.{listen_unless}
 use Rattle.wasi_walks.proofs.claims.Law.{Named, no_some}
@@ -81,15 +82,19 @@ module _ (contexts : List WasiSocketsCtx) (steps : List Step) (line : ℕ) (orig
       let same : r ≡ q = same_record r q (sym g ∙ (ap (slice_get h.machine.store.sockets) at ∙ gq)) in
       no_some side (sym d.1 ∙ (ap (λ (x : Tcp2Socket). side_of x.inner) (sym same) ∙ p))
 
-  pub question_local : (side x : OpId) (c : Call) → IsQuestionOf side c → c ≡ Call.Local x → side ≡ x
-  question_local side x (Call.Local s) q e = let p : s ≡ x = cc in sym q ∙ p
-  question_local side x _ q e = absurd (cc)
+  pub question_local : (n : ℕ) (side x : OpId) (c : Call) → IsQuestionOf line origin n side c → c ≡ Call.Local x → side ≡ x
+  question_local n side x (Call.Local s) q e = let p : s ≡ x = cc in sym q ∙ p
+  question_local n side x _ q e = absurd (cc)
 
-  pub question_may : (n : ℕ) (es : List Entry) (side : OpId) (c : Call) → IsQuestionOf side c → Names steps es (own_of n) side → MayAsk contexts steps es (own_of n) c × NoMark c
+  -- the line itself began the operation
+  own_line : (n : ℕ) (Is : Step → Type 0) → n ≡ line → Is origin → BeganBy steps (own_of n) Is
+  own_line n Is own is = record { origin = origin; at = subst (λ (k : ℕ). step_at steps k ≡ Some origin) (sym own) is_line; holds = is }
+
+  pub question_may : (n : ℕ) (es : List Entry) (side : OpId) (c : Call) → IsQuestionOf line origin n side c → Names steps es (own_of n) side → MayAsk contexts steps es (own_of n) c × NoMark c
   question_may n es side (Call.Local s) q k = (inl (subst (Names steps es (own_of n)) (sym q) k), tt)
   question_may n es side (Call.Peer s) q k = (inl (subst (Names steps es (own_of n)) (sym q) k), tt)
-  question_may n es side (Call.GetOption s o) q k = (inl (subst (Names steps es (own_of n)) (sym q) k), tt)
-  question_may n es side (Call.SetOption s o v) q k = (inl (subst (Names steps es (own_of n)) (sym q) k), tt)
+  question_may n es side (Call.GetOption s o) q k = ((inl (subst (Names steps es (own_of n)) (sym q.0) k), own_line n (IsGetOf o) q.1 q.2), tt)
+  question_may n es side (Call.SetOption s o v) q k = ((inl (subst (Names steps es (own_of n)) (sym q.0) k), own_line n (IsSetTo o v) q.1 q.2), tt)
   question_may n es side (Call.Read s z) q k = (inl (subst (Names steps es (own_of n)) (sym q) k), tt)
   question_may n es side (Call.ReadReady s) q k = (inl (subst (Names steps es (own_of n)) (sym q) k), tt)
   question_may n es side (Call.WriteReady s) q k = (inl (subst (Names steps es (own_of n)) (sym q) k), tt)

@@ -2,6 +2,8 @@
 use Rattle.wasi_walks.proofs.Words.{Call, Entry, Give, InProgress, IsBacklogSet, IsLicensed, Left, List, Machine, None, OpId, Reply}
 use Rattle.wasi_walks.proofs.Words.{SocketAddressFamily, Some, Step, TcpSetting, Told, [], ap, bind, entry, first_state, no_fields, number_fields}
 use Rattle.wasi_walks.proofs.Words.{own_of, polls, refl, run, ⊤, ◌++◌, ◌∷◌, ◌≡◌}
+use Rattle.std.specs.Prelude.{ℕ, ◌==◌, true, false}
+use Rattle.wasi_walks.specs.Licence.{IsGetOf, IsSetTo}
 use Rattle.wasi_walks.proofs.licence.Runs.{whole_licensed}
 use Rattle.wasi_walks.proofs.licence.Rows.{bind_log, bind_script, two_handles, allowed, local_80}
 use Rattle.wasi_walks.proofs.licence.Refused.{of_each, at_line}
@@ -74,12 +76,25 @@ refused_listen h =
 by_a_bind : IsLicensed allowed script (listens Told.Done ++ set_by (own_of 3) ∷ []) [] → ⊥
 by_a_bind h =
     let may = h.each (listens Told.Done) (set_by (own_of 3)) [] refl in
-    at_line IsBacklogSet (Step.TcpStartBind 0 2 1 local_80) may.1.origin may.1.at may.1.holds
+    at_line (IsBacklogSet 9) (Step.TcpStartBind 0 2 1 local_80) may.1.origin may.1.at may.1.holds
 
 by_another_set : IsLicensed allowed script (listens Told.Done ++ set_by (own_of 9) ∷ []) [] → ⊥
 by_another_set h =
     let may = h.each (listens Told.Done) (set_by (own_of 9)) [] refl in
-    at_line IsBacklogSet (Step.TcpSet 0 2 (TcpSetting.HopLimit 3)) may.1.origin may.1.at may.1.holds
+    at_line (IsBacklogSet 9) (Step.TcpSet 0 2 (TcpSetting.HopLimit 3)) may.1.origin may.1.at may.1.holds
+
+-- == another option than that of the line is asked for, or another value set
+another_option : IsLicensed allowed script (listens Told.Done ++ entry (own_of 10) (Call.GetOption (own_of 2) opt.SendBufferSize) (Told.Value 3) ∷ []) [] → ⊥
+another_option h =
+    let may = h.each (listens Told.Done) (entry (own_of 10) (Call.GetOption (own_of 2) opt.SendBufferSize) (Told.Value 3)) [] refl in
+    let is : opt.HopLimit ≡ opt.SendBufferSize = at_line (IsGetOf opt.SendBufferSize) (Step.TcpGet 0 2 opt.HopLimit) may.1.origin may.1.at may.1.holds in cc
+
+another_value : IsLicensed allowed script (listens Told.Done ++ entry (own_of 9) (Call.SetOption (own_of 2) opt.HopLimit 4) Told.Done ∷ []) [] → ⊥
+another_value h =
+    let may = h.each (listens Told.Done) (entry (own_of 9) (Call.SetOption (own_of 2) opt.HopLimit 4) Told.Done) [] refl in
+    let is : 4 ≡ 3 = (at_line (IsSetTo opt.HopLimit 4) (Step.TcpSet 0 2 (TcpSetting.HopLimit 3)) may.1.origin may.1.at may.1.holds).1 in
+    let same : false ≡ true = ap (λ (n : ℕ). n == 3) is in
+    cc
 
 -- == another socket listens
 abbrev two_sockets : List Step

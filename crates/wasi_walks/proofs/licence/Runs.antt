@@ -31,7 +31,7 @@ module _ (contexts : List WasiSocketsCtx) (steps : List Step) (line : ℕ) (orig
     asks = λ es h place n r side c at g o q b i.
         let k = question_may contexts steps line origin is_line n es side c q (names_on_side contexts steps line origin is_line es h place n r side at g o i) in
         let s = on_side contexts steps line origin is_line es r side o (i.fine.sockets place r g) in
-        (k.0, λ told fits. asked_fine contexts steps line origin is_line es h (own_of n) c told k.1 (λ p z op d l e. not_held contexts steps line origin is_line h place r side g s b.1 p z op d l (question_local contexts steps line origin is_line side op.who.side c q e)) i);
+        (k.0, λ told fits. asked_fine contexts steps line origin is_line es h (own_of n) c told k.1 (λ p z op d l e. not_held contexts steps line origin is_line h place r side g s b.1 p z op d l (question_local contexts steps line origin is_line n side op.who.side c q e)) i);
     sets = λ es h place r side backlog at g s is b i.
         let f = i.fine.sockets place r g in
         ((inl (i.names place line r at g side (f.named side (ap side_in s))), record { origin = origin; at = is_line; holds = is }, f.socket.listens side s), λ told fits. asked_fine contexts steps line origin is_line es h (own_of line) (Call.SetBacklog side backlog) told tt (spares contexts steps line origin is_line h (Call.SetBacklog side backlog) tt) i);

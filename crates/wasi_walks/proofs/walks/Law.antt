@@ -13,9 +13,9 @@ pub record Law (contexts : List WasiSocketsCtx) (line : ℕ) (origin : Step) : T
   pub Inv : List Entry → Here → Type 0
   pub moves : (es : List Entry) (h now : Here) → Move line origin h now → Inv es h → Inv es now
   -- what the line's own operation asks
-  pub asks : (es : List Entry) (h : Here) (place n : ℕ) (r : Tcp2Socket) (side : OpId) (c : Call) → h.at ≡ Some (place, n) → Found h place r → IsOn r side → IsQuestionOf side c → Inv es h
+  pub asks : (es : List Entry) (h : Here) (place n : ℕ) (r : Tcp2Socket) (side : OpId) (c : Call) → h.at ≡ Some (place, n) → Found h place r → IsOn r side → IsQuestionOf line origin n side c → Inv es h
       → P es (own_of n) c × ((told : Told) → Fits c told → Inv (es ++ entry (own_of n) c told ∷ []) h)
-  pub sets : (es : List Entry) (h : Here) (place : ℕ) (r : Tcp2Socket) (side : OpId) (backlog : ℕ) → h.at ≡ Some (place, line) → Found h place r → r.inner.state ≡ TcpState.Listening side → IsBacklogSet origin → Inv es h
+  pub sets : (es : List Entry) (h : Here) (place : ℕ) (r : Tcp2Socket) (side : OpId) (backlog : ℕ) → h.at ≡ Some (place, line) → Found h place r → r.inner.state ≡ TcpState.Listening side → IsBacklogSet backlog origin → Inv es h
       → P es (own_of line) (Call.SetBacklog side backlog) × ((told : Told) → Fits (Call.SetBacklog side backlog) told → Inv (es ++ entry (own_of line) (Call.SetBacklog side backlog) told ∷ []) h)
   pub learns : (es : List Entry) (h : Here) (place : ℕ) (r : Tcp2Socket) (side : OpId) → h.at ≡ Some (place, line) → Found h place r → r.inner.state ≡ TcpState.Default side → Inv es h
       → P es (own_of line) (Call.Local side) × ((told : Told) → Fits (Call.Local side) told → Inv (es ++ entry (own_of line) (Call.Local side) told ∷ []) (put h place (with_inner r (after_local r.inner (told_addr told)).1)))
@@ -140,14 +140,14 @@ module _ {contexts : List WasiSocketsCtx} {line : ℕ} {origin : Step} {law : La
     pub on : {A : Type 0} {end : A → Here} {asks : Asks A} (r now : Tcp2Socket) → Move line origin (put h place r) (put (put h place r) place now) → Walks law (put h place now) end asks → Walks law (put h place r) end asks
     on r now m w = move m (from (sym (put_put h place r now)) w)
 
-    pub ask : {A : Type 0} {n : ℕ} {end : A → Here} (r : Tcp2Socket) {side : OpId} {c : Call} {next : Told → Asks A} → h.at ≡ Some (place, n) → IsOn r side → IsQuestionOf side c → ((told : Told) → Fits c told → Walks law (put h place r) end (next told)) → Walks law (put h place r) end (Ask (own_of n) c next)
+    pub ask : {A : Type 0} {n : ℕ} {end : A → Here} (r : Tcp2Socket) {side : OpId} {c : Call} {next : Told → Asks A} → h.at ≡ Some (place, n) → IsOn r side → IsQuestionOf line origin n side c → ((told : Told) → Fits c told → Walks law (put h place r) end (next told)) → Walks law (put h place r) end (Ask (own_of n) c next)
     ask {n} r {side} {c} at o q k = record {
       along = λ es i.
           let a = law.asks es (put h place r) place n r side c at (found here r) o q i in
           (a.0, λ told fits. (k told fits).along (es ++ entry (own_of n) c told ∷ []) (a.1 told fits));
     }
 
-    pub set : {A : Type 0} {end : A → Here} (r : Tcp2Socket) {side : OpId} {backlog : ℕ} {next : Told → Asks A} → h.at ≡ Some (place, line) → r.inner.state ≡ TcpState.Listening side → IsBacklogSet origin → ((told : Told) → Walks law (put h place r) end (next told)) → Walks law (put h place r) end (Ask (own_of line) (Call.SetBacklog side backlog) next)
+    pub set : {A : Type 0} {end : A → Here} (r : Tcp2Socket) {side : OpId} {backlog : ℕ} {next : Told → Asks A} → h.at ≡ Some (place, line) → r.inner.state ≡ TcpState.Listening side → IsBacklogSet backlog origin → ((told : Told) → Walks law (put h place r) end (next told)) → Walks law (put h place r) end (Ask (own_of line) (Call.SetBacklog side backlog) next)
     set r {side} {backlog} at s b k = record {
       along = λ es i.
           let a = law.sets es (put h place r) place r side backlog at (found here r) s b i in

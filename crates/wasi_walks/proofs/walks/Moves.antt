@@ -12,6 +12,7 @@ use Rattle.wasi_walks.proofs.Words.{side_at, side_of, slice_get, slice_set, stan
 use Rattle.wasi_walks.proofs.Words.{with_progress, with_reader, with_socket, with_state, with_writer, without_handle, writer_side, ℕ, ⊤, ◌++◌, ◌∷◌}
 use Rattle.wasi_walks.proofs.Words.{◌≡◌, ◌⊎◌}
 use Rattle.wasi_host.specs.declared.jobs.HostJob.{HostJob}
+use Rattle.wasi_walks.specs.Licence.{IsGetOf, IsSetTo}
 use Rattle.wasi_tcp.specs.declared.bind.BindStage.TheVariants.{Check}
 use Rattle.wasi_tcp.specs.declared.writer.WriteError.{WriteError}
 use Rattle.wasi_tcp.specs.declared.accept.AcceptStage.TheVariants as accept
@@ -73,17 +74,18 @@ GoesOn (StandingCall.Bind place) r = HasBinding r.in_progress
 GoesOn _ r = ⊤
 
 -- == what may be asked of a record's network socket by the line that works on it
--- a question, or that a half is released
-abbrev pub IsQuestionOf : OpId → Call → Type 0
-IsQuestionOf side (Call.Local s) = s ≡ side
-IsQuestionOf side (Call.Peer s) = s ≡ side
-IsQuestionOf side (Call.GetOption s option) = s ≡ side
-IsQuestionOf side (Call.SetOption s option value) = s ≡ side
-IsQuestionOf side (Call.Read s size) = s ≡ side
-IsQuestionOf side (Call.ReadReady s) = s ≡ side
-IsQuestionOf side (Call.WriteReady s) = s ≡ side
-IsQuestionOf side (Call.Shutdown s how) = s ≡ side
-IsQuestionOf side _ = ⊥
+-- a question, by an operation that the line of this number began, or that a half is released; an option is that which the line
+-- itself gets or sets
+abbrev pub IsQuestionOf : ℕ → Step → ℕ → OpId → Call → Type 0
+IsQuestionOf line origin n side (Call.Local s) = s ≡ side
+IsQuestionOf line origin n side (Call.Peer s) = s ≡ side
+IsQuestionOf line origin n side (Call.GetOption s option) = (s ≡ side) × (n ≡ line) × IsGetOf option origin
+IsQuestionOf line origin n side (Call.SetOption s option value) = (s ≡ side) × (n ≡ line) × IsSetTo option value origin
+IsQuestionOf line origin n side (Call.Read s size) = s ≡ side
+IsQuestionOf line origin n side (Call.ReadReady s) = s ≡ side
+IsQuestionOf line origin n side (Call.WriteReady s) = s ≡ side
+IsQuestionOf line origin n side (Call.Shutdown s how) = s ≡ side
+IsQuestionOf line origin n side _ = ⊥
 
 -- the network socket is the socket's, or that of one of its halves
 pub data IsOn (r : Tcp2Socket) (side : OpId) : Type 0 where

@@ -8,6 +8,10 @@ use Rattle.wasi_walks.proofs.Words.{local_address_at, make_asks, output_asks, ow
 use Rattle.wasi_walks.proofs.Words.{shut_record, shutdown_at, side_at, slice_get, socket_at, start_bind_asks, start_bind_at, start_bind_by}
 use Rattle.wasi_walks.proofs.Words.{start_bind_on, start_connect_asks, start_connect_at, start_connect_by, start_connect_on, streams_asks, sym}
 use Rattle.wasi_walks.proofs.Words.{tell_local_asks, tell_remote_asks, true, with_output, with_store, with_table, ℕ, ◌≡◌, ◌⊎◌}
+use Rattle.wasi_addr.specs.Clamp.{clamped_backlog}
+use Rattle.wasi_world.specs.declared.call.Opt.{Opt}
+use Rattle.wasi_common.specs.Options.{value_set}
+use Rattle.wasi_walks.specs.Licence.{IsSetTo}
 use Rattle.wasi_host.specs.Options.{looked_at, set_backlog_at}
 use Rattle.wasi_p2.specs.Options.{record_asks}
 use Rattle.wasi_walks.proofs.walks.Moves.{NoBindStands, IsSettled, Used, Unused, Here, put, Found, record_of, AStream, Reaches, Leaves, Spends, Changes, Stands, Made, Past, Marks}
@@ -149,11 +153,11 @@ module _ {contexts : List WasiSocketsCtx} {line : ℕ} {origin : Step} {law : La
   shutdown_at_walks m place how (Some r) g = from (put_same (At line m place Unused) place r g) (and_then (shut_record_walks (there g) refl how r r.streams refl) (λ done. gives _ (Spends _ refl)))
 
   -- == options and the backlog
-  pub set_chosen_walks : (m : Machine) (s : ℕ) (o : Option ℕ) (c : Chosen) → Has (handles_of origin) s → ((place : ℕ) → o ≡ Some place → record_of (kind_at m.table s) ≡ Some place) → ((value : ℕ) → c ≡ TheBacklog value → IsBacklogSet origin)
+  pub set_chosen_walks : (m : Machine) (s : ℕ) (o : Option ℕ) (c : Chosen) → Has (handles_of origin) s → ((place : ℕ) → o ≡ Some place → record_of (kind_at m.table s) ≡ Some place) → ((option : Opt) (value : ℕ) → c ≡ AnOption option value → IsSetTo option (value_set option value) origin) → ((value : ℕ) → c ≡ TheBacklog value → IsBacklogSet (clamped_backlog value) origin)
       → Walks law (Starts m Unused) OverWith (set_chosen m (own_of line) o c)
-  set_chosen_walks m s o (AnOption option value) named k b =
-      on_socket m s o named k (λ place. looked_walks m place (λ x. set_option_asks (own_of line) x option value) (slice_get m.store.sockets place) refl (λ r here. set_walks here refl r option value))
-  set_chosen_walks m s o (TheBacklog value) named k b = on_socket m s o named k (λ place. backlog_at_walks m place (slice_get m.store.sockets place) refl)
+  set_chosen_walks m s o (AnOption option value) named k q b =
+      on_socket m s o named k (λ place. looked_walks m place (λ x. set_option_asks (own_of line) x option value) (slice_get m.store.sockets place) refl (λ r here. set_walks here refl r option value refl (q option value refl)))
+  set_chosen_walks m s o (TheBacklog value) named k q b = on_socket m s o named k (λ place. backlog_at_walks m place (slice_get m.store.sockets place) refl)
     where
       backlog_at_walks : (m : Machine) (place : ℕ) (o : Option Tcp2Socket) → slice_get m.store.sockets place ≡ o → Walks law (At line m place Unused) (Put line m place) (set_backlog_at m.store (own_of line) place value o)
       backlog_at_walks m place None g = gives _ (Spends _ refl)

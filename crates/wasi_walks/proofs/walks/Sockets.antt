@@ -16,6 +16,7 @@ use Rattle.wasi_walks.proofs.Words.{told_addr, told_done, true, value_set, wildc
 use Rattle.wasi_walks.proofs.Words.{with_progress, with_state, zero_test, ℕ, ⊤, ◌&&◌, ◌==◌, ◌∙◌, ◌≡◌}
 use Rattle.wasi_addr.specs.Clamp.{clamped_backlog}
 use Rattle.wasi_world.specs.declared.call.Opt.{Opt}
+use Rattle.wasi_walks.specs.Licence.{IsGetOf, IsSetTo}
 use Rattle.wasi_tcp.specs.Addresses.{usable_side, local_side, local_from, after_peer, peer_known, remote_in, still_connected}
 use Rattle.wasi_walks.proofs.walks.Moves.{IsConnecting, NoBind, IsSettled, GoesOn, Used, Unused, Here, put, opened_by, Reconnects, Opens, BeginsConnect, OfSocket, Plain, Move, Spends, Changes, BeginsBind, begun_bind, Unmade, record_of, new_accept, accepting_now, beginning_listen, joined, joining, BeginsListen, BeginsAccept, Unlistens, Forgets, Joins}
 use Rattle.wasi_walks.proofs.walks.Law.{Law, HasRecord, spent, put_put, Given, given_then, given_on, Walks, give, and_then, and_given, connect, by_if, move, gives, from, poll_bind, found, on, ask, learn, set, listen, await}
@@ -196,25 +197,25 @@ module _ {contexts : List WasiSocketsCtx} {line : ℕ} {origin : Step} {law : La
 
 module _ {contexts : List WasiSocketsCtx} {line : ℕ} {origin : Step} {law : Law contexts line origin} {h : Here} {place n : ℕ} (here : HasRecord h place) (at : h.at ≡ Some (place, n)) where
   -- == options
-  get_where_walks : (r : Tcp2Socket) (option : Opt) (u : Result OpId ErrorCode) → ((side : OpId) → u ≡ Ok side → side_of r.inner ≡ Some side) → Walks law (put h place r) (λ done. put h place r) (get_where (own_of n) r.inner option u)
+  get_where_walks : (r : Tcp2Socket) (option : Opt) (u : Result OpId ErrorCode) → n ≡ line → IsGetOf option origin → ((side : OpId) → u ≡ Ok side → side_of r.inner ≡ Some side) → Walks law (put h place r) (λ done. put h place r) (get_where (own_of n) r.inner option u)
   unfolding bind
-  get_where_walks r option (Ok side) k = ask here r at (OfSocket (k side refl)) refl (λ told fits. give _)
-  get_where_walks r option (Err c) k = give _
+  get_where_walks r option (Ok side) own is k = ask here r at (OfSocket (k side refl)) (refl, own, is) (λ told fits. give _)
+  get_where_walks r option (Err c) own is k = give _
 
-  pub get_walks : (r : Tcp2Socket) (option : Opt) → Walks law (put h place r) (λ done. put h place r) (get_option_asks (own_of n) r.inner option)
-  get_walks r option = get_where_walks r option (usable_side r.inner.state) (usable r.inner.state)
+  pub get_walks : (r : Tcp2Socket) (option : Opt) → n ≡ line → IsGetOf option origin → Walks law (put h place r) (λ done. put h place r) (get_option_asks (own_of n) r.inner option)
+  get_walks r option own is = get_where_walks r option (usable_side r.inner.state) own is (usable r.inner.state)
 
-  set_of_side_walks : (r : Tcp2Socket) (side : OpId) (option : Opt) (value : ℕ) (zero : Bool) → side_of r.inner ≡ Some side
+  set_of_side_walks : (r : Tcp2Socket) (side : OpId) (option : Opt) (value : ℕ) (zero : Bool) → n ≡ line → IsSetTo option (value_set option value) origin → side_of r.inner ≡ Some side
       → Walks law (put h place r) (λ done. put h place r) (if zero then Give (Err InvalidArgument) else ask_set_option (own_of n) side option (value_set option value))
-  set_of_side_walks r side option value true e = give _
-  set_of_side_walks r side option value false e = ask here r at (OfSocket e) refl (λ told fits. give _)
+  set_of_side_walks r side option value true own is e = give _
+  set_of_side_walks r side option value false own is e = ask here r at (OfSocket e) (refl, own, is) (λ told fits. give _)
 
-  set_where_walks : (r : Tcp2Socket) (option : Opt) (value : ℕ) (u : Result OpId ErrorCode) → ((side : OpId) → u ≡ Ok side → side_of r.inner ≡ Some side) → Walks law (put h place r) (λ done. put h place r) (set_where (own_of n) r.inner option value u)
-  set_where_walks r option value (Ok side) k = and_then (set_of_side_walks r side option value (refused_after (zero_test option) value) (k side refl)) (λ answer. give _)
-  set_where_walks r option value (Err c) k = give _
+  set_where_walks : (r : Tcp2Socket) (option : Opt) (value : ℕ) (u : Result OpId ErrorCode) → n ≡ line → IsSetTo option (value_set option value) origin → ((side : OpId) → u ≡ Ok side → side_of r.inner ≡ Some side) → Walks law (put h place r) (λ done. put h place r) (set_where (own_of n) r.inner option value u)
+  set_where_walks r option value (Ok side) own is k = and_then (set_of_side_walks r side option value (refused_after (zero_test option) value) own is (k side refl)) (λ answer. give _)
+  set_where_walks r option value (Err c) own is k = give _
 
-  pub set_walks : (r : Tcp2Socket) (option : Opt) (value : ℕ) → Walks law (put h place r) (λ done. put h place r) (set_option_asks (own_of n) r.inner option value)
-  set_walks r option value = by_if (refused_before (zero_test option) value) (λ refused. give _) (λ allowed. set_where_walks r option value (usable_side r.inner.state) (usable r.inner.state))
+  pub set_walks : (r : Tcp2Socket) (option : Opt) (value : ℕ) → n ≡ line → IsSetTo option (value_set option value) origin → Walks law (put h place r) (λ done. put h place r) (set_option_asks (own_of n) r.inner option value)
+  set_walks r option value own is = by_if (refused_before (zero_test option) value) (λ refused. give _) (λ allowed. set_where_walks r option value (usable_side r.inner.state) own is (usable r.inner.state))
 
   -- == what a socket says of itself
   told_walks : (r : Tcp2Socket) (u : Result OpId ErrorCode) → ((side : OpId) → u ≡ Ok side → side_of r.inner ≡ Some side) → Walks law (put h place r) (Inner h place r) (local_from (own_of n) r.inner u)
@@ -294,13 +295,13 @@ module _ {contexts : List WasiSocketsCtx} {line : ℕ} {origin : Step} {law : La
   backlog_told r b (Ok done) = on here r _ (Changes _ _ _ _ (found here r) (backlog_kept r b)) (give _)
   backlog_told r b (Err c) = give _
 
-  backlog_in_walks : (r : Tcp2Socket) (b : ℕ) (s : TcpState) → r.inner.state ≡ s → IsBacklogSet origin → Walks law (put h place r) (Inner h place r) (set_backlog_in (own_of line) r.inner b s)
+  backlog_in_walks : (r : Tcp2Socket) (b : ℕ) (s : TcpState) → r.inner.state ≡ s → IsBacklogSet b origin → Walks law (put h place r) (Inner h place r) (set_backlog_in (own_of line) r.inner b s)
   unfolding bind
   backlog_in_walks r b (TcpState.Default side) e is = on here r _ (Changes _ _ _ _ (found here r) (backlog_kept r b)) (give _)
   backlog_in_walks r b (TcpState.Listening side) e is = set here r at e is (λ told. backlog_told r b (told_done told))
   backlog_in_walks r b _ e is = give _
 
-  pub backlog_walks : (r : Tcp2Socket) (value : ℕ) → IsBacklogSet origin → Walks law (put h place r) (Inner h place r) (set_backlog_asks (own_of line) r.inner value)
+  pub backlog_walks : (r : Tcp2Socket) (value : ℕ) → IsBacklogSet (clamped_backlog value) origin → Walks law (put h place r) (Inner h place r) (set_backlog_asks (own_of line) r.inner value)
   backlog_walks r value is = by_if (value == 0) (λ none. give _) (λ some. backlog_in_walks r (clamped_backlog value) r.inner.state refl is)
 
 -- == a listen

@@ -5,6 +5,11 @@ use Rattle.wasi_walks.proofs.Words.{check_write_asks, chosen, context_at, false,
 use Rattle.wasi_walks.proofs.Words.{is_guest_call, is_listen, kind_at, output_at, own_of, read_state_asks, reader_asks, rebind_at, refl, relisten_at}
 use Rattle.wasi_walks.proofs.Words.{resume_call, resumed, slice_get, socket_at, standing_as, step_asks, subst, sym, true, unstood, watch_of}
 use Rattle.wasi_walks.proofs.Words.{watched_by, with_store, writer_asks, ℕ, ◌≡◌}
+use Rattle.wasi_addr.specs.Clamp.{clamped_backlog}
+use Rattle.wasi_world.specs.declared.call.Opt.{Opt}
+use Rattle.wasi_common.specs.Options.{value_set}
+use Rattle.wasi_steps.specs.Settings.{AnOption}
+use Rattle.wasi_walks.specs.Licence.{IsSetTo, SetsOption, SetsBacklog}
 use Rattle.wasi_walks.proofs.walks.Writes.{may}
 use Rattle.wasi_walks.proofs.walks.Moves.{NoBindStands, IsSettled, Own, Unused, ANetwork, Spends, Used, Leaves, Resumes, Unstands}
 use Rattle.wasi_walks.proofs.walks.Law.{Law, Walks, give, and_then, and_given, by_if, move, gives, mark, create, put_same, from}
@@ -43,9 +48,12 @@ module _ {contexts : List WasiSocketsCtx} {line : ℕ} {origin : Step} {law : La
       let now : Machine = record m { store = unstood m.store } in
       move (Resumes _ (standing_as n call) (stands_so m.store.standing n call e)) (move (Unstands _) (move (Spends _ refl) (and_then (go_on_walks n now tt call) (resumed_walks m n (call_place call)))))
 
-backlog_of : (c s : ℕ) (setting : TcpSetting) (value : ℕ) → chosen setting ≡ TheBacklog value → IsBacklogSet (Step.TcpSet c s setting)
-backlog_of c s (TcpSetting.ListenBacklogSize n) value e = tt
-backlog_of c s _ value e = absurd (cc)
+-- what a set sets, by what its setting chooses
+option_set : (c s : ℕ) (setting : TcpSetting) (option : Opt) (value : ℕ) → chosen setting ≡ AnOption option value → IsSetTo option (value_set option value) (Step.TcpSet c s setting)
+option_set c s setting option value e = subst (SetsOption option (value_set option value)) (sym e) (refl, refl)
+
+backlog_set : (c s : ℕ) (setting : TcpSetting) (value : ℕ) → chosen setting ≡ TheBacklog value → IsBacklogSet (clamped_backlog value) (Step.TcpSet c s setting)
+backlog_set c s setting value e = subst (SetsBacklog (clamped_backlog value)) (sym e) refl
 
 -- what is finished is no bind in progress
 bind_settles : (doing : InProgress) → is_bind doing ≡ true → IsSettled doing
@@ -74,8 +82,8 @@ step_walks line (Step.TcpLocalAddress c s) m f = and_then (on_socket m s (socket
 step_walks line (Step.TcpRemoteAddress c s) m f = and_then (on_socket m s (socket_at m s) (inl refl) (socket_record (kind_at m.table s)) (λ place. remote_at_walks m place (slice_get m.store.sockets place) refl)) (λ done. give _)
 step_walks line (Step.TcpIsListening c s) m f = gives _ (Spends _ refl)
 step_walks line (Step.TcpAddressFamily c s) m f = gives _ (Spends _ refl)
-step_walks line (Step.TcpGet c s option) m f = and_then (on_socket m s (socket_at m s) (inl refl) (socket_record (kind_at m.table s)) (λ place. looked_walks m place (λ x. get_option_asks (own_of line) x option) (slice_get m.store.sockets place) refl (λ r here. get_walks here refl r option))) (λ done. give _)
-step_walks line (Step.TcpSet c s setting) m f = and_then (set_chosen_walks m s (socket_at m s) (chosen setting) (inl refl) (socket_record (kind_at m.table s)) (backlog_of c s setting)) (λ done. give _)
+step_walks line (Step.TcpGet c s option) m f = and_then (on_socket m s (socket_at m s) (inl refl) (socket_record (kind_at m.table s)) (λ place. looked_walks m place (λ x. get_option_asks (own_of line) x option) (slice_get m.store.sockets place) refl (λ r here. get_walks here refl r option refl refl))) (λ done. give _)
+step_walks line (Step.TcpSet c s setting) m f = and_then (set_chosen_walks m s (socket_at m s) (chosen setting) (inl refl) (socket_record (kind_at m.table s)) (option_set c s setting) (backlog_set c s setting)) (λ done. give _)
 step_walks line (Step.TcpShutdown c s how) m f = and_then (on_socket m s (socket_at m s) (inl refl) (socket_record (kind_at m.table s)) (λ place. shutdown_at_walks m place how (slice_get m.store.sockets place) refl)) (λ done. give _)
 step_walks line (Step.Read c input len) m f = and_then (stream_walks m input (reader_asks (λ r. read_state_asks (own_of line) r len)) (input_at m input) (inl refl) refl (input_record (kind_at m.table input)) (λ place r here. reader_walks here r (λ w. read_state_asks (own_of line) w len) r.streams refl (λ s w. read_walks here refl r s w len))) (λ done. give _)
 step_walks line (Step.CheckWrite c output) m f = and_then (stream_walks m output (writer_asks (check_write_asks (own_of line))) (output_at m output) (inl refl) refl (output_record (kind_at m.table output)) (λ place r here. writer_walks here r (check_write_asks (own_of line)) r.streams refl (check_walks here refl r))) (λ done. give _)
