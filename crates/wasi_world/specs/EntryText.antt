@@ -109,6 +109,37 @@ with_number_text word sock n = line_with (word ∷ sock_text sock ∷ decimal n 
 abbrev pub create_text : List ℕ → ℕ → SocketAddressFamily → List ℕ
 create_text word ctx family = line_with (word ∷ decimal ctx ∷ decimal (family_number family) ∷ [])
 
+-- the word of a call: its name, in lower case and with dashes
+abbrev pub call_word : Call → List ℕ
+call_word (call.Check _ _ _) = codes "check"
+call_word (call.Lookup _) = codes "lookup"
+call_word (call.TcpCreate _ _) = codes "tcp-create"
+call_word (call.UdpCreate _ _) = codes "udp-create"
+call_word (call.UdpWritable _) = codes "udp-writable"
+call_word (call.Local _) = codes "local"
+call_word (call.Peer _) = codes "peer"
+call_word (call.Bind _ _) = codes "bind"
+call_word (call.UdpBind _ _) = codes "udp-bind"
+call_word (call.UdpConnect _ _) = codes "udp-connect"
+call_word (call.Listen _ _) = codes "listen"
+call_word (call.SetBacklog _ _) = codes "set-backlog"
+call_word (call.Connect _ _) = codes "connect"
+call_word (call.Accept _) = codes "accept"
+call_word (call.Hand _ _) = codes "hand"
+call_word (call.Refuse _ _) = codes "refuse"
+call_word (call.Read _ _) = codes "read"
+call_word (call.ReadReady _) = codes "read-ready"
+call_word (call.WriteReady _) = codes "write-ready"
+call_word (call.Write _ _) = codes "write"
+call_word (call.Shutdown _ _) = codes "shutdown"
+call_word (call.UdpDisconnect _) = codes "udp-disconnect"
+call_word (call.Send _ _ _) = codes "send"
+call_word (call.Recv _) = codes "recv"
+call_word (call.GetOption _ _) = codes "get-option"
+call_word (call.SetOption _ _ _) = codes "set-option"
+call_word (call.Close _) = codes "close"
+call_word (call.Made _ _ _ _) = codes "made"
+
 abbrev pub call_text : Call → List ℕ
 call_text (call.Check ctx a use_of) = line_with (codes "check" ∷ decimal ctx ∷ address_text a ∷ use_text use_of ∷ [])
 call_text (call.Lookup host) = line_with (codes "lookup" ∷ bytes_text host ∷ [])

@@ -1,10 +1,11 @@
 //! The text of an entry of a log: its operation, its call and its answer, as in `3.0 bind 2 0 4 127 0 0 1 80 = done`.
 
-ghost use Rattle.std.specs.Prelude.{◌≡◌, ◌∷◌, [], Some};
+ghost use Rattle.std.specs.Prelude.{◌≡◌, ◌∷◌, ◌++◌, [], Some, codes, decimal};
 ghost use Rattle.std.specs.Fmt.{DisplaysOnOk};
 ghost use Rattle.hex.specs.Hex.{encode_lower};
 ghost use Rattle.wasi_world.specs.Written.{family_number};
-ghost use Rattle.wasi_world.specs.EntryText.{use_text, half_text, option_text, handle_kind_text};
+ghost use Rattle.wasi_world.specs.Fields.{line_with, bytes_text};
+ghost use Rattle.wasi_world.specs.EntryText.{use_text, half_text, option_text, handle_kind_text, sock_text, maybe_sock_text, maybe_handle_text, address_text, ip_text, call_word, on_text, to_text, with_number_text, create_text};
 
 use crate::call::{Call, Entry, HandleKind, Opt, Told};
 use crate::fields::code_text;
@@ -95,8 +96,6 @@ impl fmt::Display for OpId {
 struct SockText(Sock);
 
 impl fmt::Display for SockText {
-    ghost use Rattle.wasi_world.specs.EntryText.{sock_text};
-
     ghost output = { λ sock. Some (sock_text sock.0) };
 
     fn fmt<W: fmt::Write>(&self, f: &mut fmt::Formatter<W>) -> fmt::Result {
@@ -110,8 +109,6 @@ impl fmt::Display for SockText {
 struct MaybeSock(Option<Sock>);
 
 impl fmt::Display for MaybeSock {
-    ghost use Rattle.wasi_world.specs.EntryText.{maybe_sock_text};
-
     ghost output = { λ sock. Some (maybe_sock_text sock.0) };
 
     fn fmt<W: fmt::Write>(&self, f: &mut fmt::Formatter<W>) -> fmt::Result {
@@ -127,8 +124,6 @@ impl fmt::Display for MaybeSock {
 struct MaybeHandle(Option<u32>);
 
 impl fmt::Display for MaybeHandle {
-    ghost use Rattle.wasi_world.specs.EntryText.{maybe_handle_text};
-
     ghost output = { λ handle. Some (maybe_handle_text handle.0) };
 
     fn fmt<W: fmt::Write>(&self, f: &mut fmt::Formatter<W>) -> fmt::Result {
@@ -154,8 +149,6 @@ fn family_number(family: SocketAddressFamily) -> u8
 struct AddressText(IpSocketAddress);
 
 impl fmt::Display for AddressText {
-    ghost use Rattle.wasi_world.specs.EntryText.{address_text};
-
     ghost output = { λ addr. Some (address_text addr.0) };
 
     fn fmt<W: fmt::Write>(&self, f: &mut fmt::Formatter<W>) -> fmt::Result {
@@ -183,8 +176,6 @@ impl fmt::Display for AddressText {
 struct IpText(IpAddress);
 
 impl fmt::Display for IpText {
-    ghost use Rattle.wasi_world.specs.EntryText.{ip_text};
-
     ghost output = { λ addr. Some (ip_text addr.0) };
 
     fn fmt<W: fmt::Write>(&self, f: &mut fmt::Formatter<W>) -> fmt::Result {
@@ -213,8 +204,6 @@ fn write_byte<W: fmt::Write>(f: &mut fmt::Formatter<W>, byte: u8) -> fmt::Result
 struct BytesText<'a>(&'a [u8]);
 
 impl fmt::Display for BytesText<'_> {
-    ghost use Rattle.wasi_world.specs.Fields.{bytes_text};
-
     ghost output = { λ bytes. Some (bytes_text bytes.0.now) };
 
     fn fmt<W: fmt::Write>(&self, f: &mut fmt::Formatter<W>) -> fmt::Result {
@@ -228,6 +217,13 @@ impl fmt::Display for BytesText<'_> {
     }
 }
 
+/// Writes an address without a port, with a space before it.
+fn write_ip<W: fmt::Write>(f: &mut fmt::Formatter<W>, addr: IpAddress) -> fmt::Result
+    ensures { DisplaysOnOk W.write_str_gives f.old result (Some (codes " " ++ ip_text addr)) f.new }
+{
+    write!(f, " {}", IpText(addr))
+}
+
 /// Addresses without ports, each with a space before it.
 #[derive(Clone, Copy)]
 struct IpsText<'a>(&'a [IpAddress]);
@@ -239,10 +235,168 @@ impl fmt::Display for IpsText<'_> {
 
     fn fmt<W: fmt::Write>(&self, f: &mut fmt::Formatter<W>) -> fmt::Result {
         for addr in self.0 {
-            write!(f, " {}", IpText(*addr))?;
+            write_ip(f, *addr)?;
         }
         Ok(())
     }
+}
+
+/// Writes a call on a socket: its word, and the socket.
+fn write_on<W: fmt::Write>(f: &mut fmt::Formatter<W>, word: &str, sock: Sock) -> fmt::Result
+    ensures { DisplaysOnOk W.write_str_gives f.old result (Some (on_text word.now sock)) f.new }
+{
+    write!(f, "{word} {}", SockText(sock))
+}
+
+/// Writes a call on a socket, about an address.
+fn write_to<W: fmt::Write>(
+    f: &mut fmt::Formatter<W>,
+    word: &str,
+    sock: Sock,
+    addr: IpSocketAddress,
+) -> fmt::Result
+    ensures { DisplaysOnOk W.write_str_gives f.old result (Some (to_text word.now sock addr)) f.new }
+{
+    write!(f, "{word} {} {}", SockText(sock), AddressText(addr))
+}
+
+/// Writes a call on a socket, with a number.
+fn write_with_number<W: fmt::Write>(
+    f: &mut fmt::Formatter<W>,
+    word: &str,
+    sock: Sock,
+    number: u32,
+) -> fmt::Result
+    ensures { DisplaysOnOk W.write_str_gives f.old result (Some (with_number_text word.now sock number)) f.new }
+{
+    write!(f, "{word} {} {number}", SockText(sock))
+}
+
+/// Writes a call that makes a socket.
+fn write_create<W: fmt::Write>(
+    f: &mut fmt::Formatter<W>,
+    word: &str,
+    ctx: u32,
+    family: SocketAddressFamily,
+) -> fmt::Result
+    ensures { DisplaysOnOk W.write_str_gives f.old result (Some (create_text word.now ctx family)) f.new }
+{
+    write!(f, "{word} {ctx} {}", family_number(family))
+}
+
+/// The word of a call: its name, in lower case and with dashes.
+fn call_word(call: &Call) -> &'static str
+    ensures { result.now ≡ call_word call.now }
+{
+    match call {
+        Call::Check { .. } => "check",
+        Call::Lookup { .. } => "lookup",
+        Call::TcpCreate { .. } => "tcp-create",
+        Call::UdpCreate { .. } => "udp-create",
+        Call::UdpWritable { .. } => "udp-writable",
+        Call::Local { .. } => "local",
+        Call::Peer { .. } => "peer",
+        Call::Bind { .. } => "bind",
+        Call::UdpBind { .. } => "udp-bind",
+        Call::UdpConnect { .. } => "udp-connect",
+        Call::Listen { .. } => "listen",
+        Call::SetBacklog { .. } => "set-backlog",
+        Call::Connect { .. } => "connect",
+        Call::Accept { .. } => "accept",
+        Call::Hand { .. } => "hand",
+        Call::Refuse { .. } => "refuse",
+        Call::Read { .. } => "read",
+        Call::ReadReady { .. } => "read-ready",
+        Call::WriteReady { .. } => "write-ready",
+        Call::Write { .. } => "write",
+        Call::Shutdown { .. } => "shutdown",
+        Call::UdpDisconnect { .. } => "udp-disconnect",
+        Call::Send { .. } => "send",
+        Call::Recv { .. } => "recv",
+        Call::GetOption { .. } => "get-option",
+        Call::SetOption { .. } => "set-option",
+        Call::Close { .. } => "close",
+        Call::Made { .. } => "made",
+    }
+}
+
+/// Writes a call on a socket, with a word.
+fn write_with_word<W: fmt::Write>(
+    f: &mut fmt::Formatter<W>,
+    word: &str,
+    sock: Sock,
+    other: &str,
+) -> fmt::Result
+    ensures { DisplaysOnOk W.write_str_gives f.old result (Some (line_with (word.now ∷ sock_text sock ∷ other.now ∷ []))) f.new }
+{
+    write!(f, "{word} {} {other}", SockText(sock))
+}
+
+/// Writes the setting of an option.
+fn write_setting<W: fmt::Write>(
+    f: &mut fmt::Formatter<W>,
+    word: &str,
+    sock: Sock,
+    option: Opt,
+    value: u64,
+) -> fmt::Result
+    ensures { DisplaysOnOk W.write_str_gives f.old result (Some (line_with (word.now ∷ sock_text sock ∷ option_text option ∷ decimal value ∷ []))) f.new }
+{
+    let option = option_word(option);
+    write!(f, "{word} {} {option} {value}", SockText(sock))
+}
+
+/// Writes a call that asks whether an address may be used.
+fn write_check<W: fmt::Write>(
+    f: &mut fmt::Formatter<W>,
+    word: &str,
+    ctx: u32,
+    addr: IpSocketAddress,
+    usage: SocketAddrUse,
+) -> fmt::Result
+    ensures { DisplaysOnOk W.write_str_gives f.old result (Some (line_with (word.now ∷ decimal ctx ∷ address_text addr ∷ use_text usage ∷ []))) f.new }
+{
+    let usage = use_word(usage);
+    write!(f, "{word} {ctx} {} {usage}", AddressText(addr))
+}
+
+/// Writes a call that sends a datagram.
+fn write_send<W: fmt::Write>(
+    f: &mut fmt::Formatter<W>,
+    word: &str,
+    sock: Sock,
+    addr: IpSocketAddress,
+    bytes: &[u8],
+) -> fmt::Result
+    ensures { DisplaysOnOk W.write_str_gives f.old result (Some (line_with (word.now ∷ sock_text sock ∷ address_text addr ∷ bytes_text bytes.now ∷ []))) f.new }
+{
+    write!(
+        f,
+        "{word} {} {} {}",
+        SockText(sock),
+        AddressText(addr),
+        BytesText(bytes)
+    )
+}
+
+/// Writes that a handle was made.
+fn write_made<W: fmt::Write>(
+    f: &mut fmt::Formatter<W>,
+    word: &str,
+    handle: u32,
+    kind: HandleKind,
+    parent: Option<u32>,
+    sock: Option<Sock>,
+) -> fmt::Result
+    ensures { DisplaysOnOk W.write_str_gives f.old result (Some (line_with (word.now ∷ decimal handle ∷ handle_kind_text kind ∷ maybe_handle_text parent ∷ maybe_sock_text sock ∷ []))) f.new }
+{
+    let kind = handle_kind_word(kind);
+    write!(
+        f,
+        "{word} {handle} {kind} {} {}",
+        MaybeHandle(parent),
+        MaybeSock(sock)
+    )
 }
 
 /// A call as in a log: its word, and its fields.
@@ -252,118 +406,59 @@ impl fmt::Display for Call {
     ghost output = { λ call. Some (call_text call) };
 
     fn fmt<W: fmt::Write>(&self, f: &mut fmt::Formatter<W>) -> fmt::Result {
+        let word = call_word(self);
         match self {
-            Call::Check { ctx, addr, usage } => write!(
-                f,
-                "check {ctx} {} {}",
-                AddressText(*addr),
-                use_word(*usage)
-            ),
-            Call::Lookup { host } => write!(f, "lookup {}", BytesText(host.as_slice())),
-            Call::TcpCreate { ctx, family } => write!(
-                f,
-                "tcp-create {ctx} {}",
-                family_number(*family)
-            ),
-            Call::UdpCreate { ctx, family } => write!(
-                f,
-                "udp-create {ctx} {}",
-                family_number(*family)
-            ),
-            Call::UdpWritable { sock } => write!(f, "udp-writable {}", SockText(*sock)),
-            Call::Local { sock } => write!(f, "local {}", SockText(*sock)),
-            Call::Peer { sock } => write!(f, "peer {}", SockText(*sock)),
-            Call::Bind { sock, addr } => write!(
-                f,
-                "bind {} {}",
-                SockText(*sock),
-                AddressText(*addr)
-            ),
-            Call::UdpBind { sock, addr } => write!(
-                f,
-                "udp-bind {} {}",
-                SockText(*sock),
-                AddressText(*addr)
-            ),
-            Call::UdpConnect { sock, addr } => write!(
-                f,
-                "udp-connect {} {}",
-                SockText(*sock),
-                AddressText(*addr)
-            ),
-            Call::Listen { sock, backlog } => write!(f, "listen {} {backlog}", SockText(*sock)),
-            Call::SetBacklog { sock, backlog } => write!(
-                f,
-                "set-backlog {} {backlog}",
-                SockText(*sock)
-            ),
-            Call::Connect { sock, addr } => write!(
-                f,
-                "connect {} {}",
-                SockText(*sock),
-                AddressText(*addr)
-            ),
-            Call::Accept { sock } => write!(f, "accept {}", SockText(*sock)),
-            Call::Hand { sock, peer } => write!(
-                f,
-                "hand {} {}",
-                SockText(*sock),
-                AddressText(*peer)
-            ),
-            Call::Refuse { sock, peer } => write!(
-                f,
-                "refuse {} {}",
-                SockText(*sock),
-                AddressText(*peer)
-            ),
-            Call::Read { sock, size } => write!(f, "read {} {size}", SockText(*sock)),
-            Call::ReadReady { sock } => write!(f, "read-ready {}", SockText(*sock)),
-            Call::WriteReady { sock } => write!(f, "write-ready {}", SockText(*sock)),
-            Call::Write { sock, offered } => write!(f, "write {} {offered}", SockText(*sock)),
-            Call::Shutdown { sock, how } => write!(
-                f,
-                "shutdown {} {}",
-                SockText(*sock),
-                half_word(*how)
-            ),
-            Call::UdpDisconnect { sock } => write!(f, "udp-disconnect {}", SockText(*sock)),
-            Call::Send { sock, addr, bytes } => write!(
-                f,
-                "send {} {} {}",
-                SockText(*sock),
-                AddressText(*addr),
-                BytesText(bytes.as_slice())
-            ),
-            Call::Recv { sock } => write!(f, "recv {}", SockText(*sock)),
-            Call::GetOption { sock, option } => write!(
-                f,
-                "get-option {} {}",
-                SockText(*sock),
-                option_word(*option)
-            ),
+            Call::Check { ctx, addr, usage } => write_check(f, word, *ctx, *addr, *usage),
+            Call::Lookup { host } => write!(f, "{word} {}", BytesText(host.as_slice())),
+            Call::TcpCreate { ctx, family } | Call::UdpCreate { ctx, family } => {
+                write_create(f, word, *ctx, *family)
+            }
+            Call::UdpWritable { sock }
+            | Call::Local { sock }
+            | Call::Peer { sock }
+            | Call::Accept { sock }
+            | Call::ReadReady { sock }
+            | Call::WriteReady { sock }
+            | Call::UdpDisconnect { sock }
+            | Call::Recv { sock }
+            | Call::Close { sock } => write_on(f, word, *sock),
+            Call::Bind { sock, addr }
+            | Call::UdpBind { sock, addr }
+            | Call::UdpConnect { sock, addr }
+            | Call::Connect { sock, addr }
+            | Call::Hand { sock, peer: addr }
+            | Call::Refuse { sock, peer: addr } => write_to(f, word, *sock, *addr),
+            Call::Listen {
+                sock,
+                backlog: number,
+            }
+            | Call::SetBacklog {
+                sock,
+                backlog: number,
+            }
+            | Call::Read { sock, size: number }
+            | Call::Write {
+                sock,
+                offered: number,
+            } => write_with_number(f, word, *sock, *number),
+            Call::Shutdown { sock, how } => write_with_word(f, word, *sock, half_word(*how)),
+            Call::Send { sock, addr, bytes } => {
+                write_send(f, word, *sock, *addr, bytes.as_slice())
+            }
+            Call::GetOption { sock, option } => {
+                write_with_word(f, word, *sock, option_word(*option))
+            }
             Call::SetOption {
                 sock,
                 option,
                 value,
-            } => write!(
-                f,
-                "set-option {} {} {value}",
-                SockText(*sock),
-                option_word(*option)
-            ),
-            Call::Close { sock } => write!(f, "close {}", SockText(*sock)),
+            } => write_setting(f, word, *sock, *option, *value),
             Call::Made {
                 handle,
                 kind,
                 parent,
                 sock,
-            } => write!(
-                f,
-                "made {handle} {} {} {}",
-                handle_kind_word(*kind),
-                MaybeHandle(*parent),
-                MaybeSock(*sock)
-            ),
+            } => write_made(f, word, *handle, *kind, *parent, *sock),
         }
     }
 }
