@@ -291,7 +291,7 @@ module _ (contexts : List WasiSocketsCtx) (m : Machine) (line n : ℕ) where
 
         begun : Meets ListenRow [] (poll_begun r op)
         begun =
-            onto _ (branch (listen_over op) (λ over. ends (answered_so (Listen place) stands [] (listen_polled r (Err InvalidState, (op, r.inner))) (λ binds. NoListen place (rw at (inr (rw is over))) refl)))
+            onto _ (branch (listen_over op) (λ over. ends (answered_so (Listen place) stands [] (listen_polled r (Err InvalidState, (op, r.inner))) (λ binds. let going = (is_listen binds).2 in absurd (cc))))
             (λ on. onto _ (widen listen_ends (granted (listen_polls op)))))
 
       relists_by : (l : Listening) → r.listening ≡ l → Meets ListenRow [] (poll_listening r l)

@@ -32,6 +32,7 @@ use Rattle.wasi_walks.proofs.walks.States.{Over, socket_record}
 use Rattle.wasi_walks.proofs.walks.Steps.{may_while, machine_walks}
 use Rattle.wasi_causes.proofs.operations.Polls.{Keeps, connect_leaves, listen_leaves}
 use Rattle.wasi_tcp.specs.Connect.{connect_first, connect_left}
+use Rattle.wasi_tcp.specs.Listen.{is_over}
 use Rattle.wasi_walks.specs.Answered.{AllOf, ConnectsOn, IsAskOfConnect}
 use Rattle.wasi_walks.specs.Listens.{RefusedListen}
 use Rattle.wasi_walks.specs.Waiting.{IsAskOfListen}
@@ -51,7 +52,7 @@ AsksToConnect (state.Connecting op) = AllOf IsAskOfConnect op.left
 AsksToConnect _ = ⊤
 
 abbrev pub AsksToListen : Listening → Type 0
-AsksToListen (listening.Begins op) = AllOf IsAskOfListen op.left
+AsksToListen (listening.Begins op) = AllOf IsAskOfListen op.left × (is_over op ≡ false)
 AsksToListen _ = ⊤
 
 abbrev pub Asking : Tcp2Socket → Type 0
@@ -137,7 +138,7 @@ listened_sound op r (Done given, left) e k s = (λ c. absurd (cc), λ side d. ab
 listened_sound op r (Refused c given, left) e k s = (s.0, λ side d. refl, (s.2.0, tt))
 
 asks_after : (who : Who) (end : End × List Item) → Keeps IsAskOfConnect end → AsksToConnect (connect_ended who end).1
-asks_after who (Waits, left) k = k
+asks_after who (Waits, left) k = k.0
 asks_after who _ k = tt
 
 asks_first : (a wildcard : IpSocketAddress) (bound : Bool) → AllOf IsAskOfConnect (connect_left wildcard a (connect_first bound))
@@ -155,7 +156,7 @@ module _ (contexts : List WasiSocketsCtx) (line : ℕ) (origin : Step) where
   moves_steady _ _ (BeginsConnect h place r side a bound at g d to known idle own) i = put_steady h place _ (λ k. tt, λ s e. absurd (cc), (asks_first a _ bound, (i.records place r g).2.1)) i
   moves_steady _ _ (BeginsBind h place r side a at g d to idle own) i = put_steady h place _ (λ c. absurd (cc), (i.records place r g).1, (i.records place r g).2) i
   moves_steady _ _ (BeginsWrite h place r s half permit bytes at g e w within own) i = put_steady h place _ (i.records place r g) i
-  moves_steady _ _ (BeginsListen h place r side at g d bound none to idle own) i = put_steady h place _ (λ k. tt, λ s e. absurd (cc), (tt, (tt, (tt, tt)))) i
+  moves_steady _ _ (BeginsListen h place r side at g d bound none to idle own) i = put_steady h place _ (λ k. tt, λ s e. absurd (cc), (tt, ((tt, (tt, tt)), refl))) i
   moves_steady _ _ (BeginsAccept h place r l at g e a own) i = put_steady h place _ (listens_on r l _ e (i.records place r g)) i
   moves_steady _ _ (Unlistens h place r op g e c o) i = put_steady h place _ ((i.records place r g).0, λ side d. refl, ((i.records place r g).2.0, tt)) i
   moves_steady _ _ (Forgets h place r l c g e a) i = put_steady h place _ (listens_on r l accepting.Idle e (i.records place r g)) i
@@ -209,7 +210,7 @@ module _ (contexts : List WasiSocketsCtx) (line : ℕ) (origin : Step) where
       (λ fs end k. put_steady h place _ (λ c. connected_may op.who end, λ side d. absurd (never_default op.who end side d), (asks_after op.who end k, (i.records place r g).2.1)) i) es (poll_asks op) (connect_leaves op (subst AsksToConnect e (i.records place r g).2.0) es)
   polls_steady es h _ _ (Listens place r op q g e c) i =
       gives_more (λ fs end. Keeps IsAskOfListen end) (λ fs end. Steady (put h place (listen_after op r end)).machine)
-      (λ fs end k. put_steady h place _ (listened_sound op r end e k (i.records place r g)) i) es (poll_asks op) (listen_leaves op (subst AsksToListen e (i.records place r g).2.1) es)
+      (λ fs end k. put_steady h place _ (listened_sound op r end e k (i.records place r g)) i) es (poll_asks op) (listen_leaves op (subst AsksToListen e (i.records place r g).2.1).0 es)
   polls_steady es h _ _ (Awaits place r l op g e a) i = whatever (λ end. Steady (put h place (accepting_now r l (accept_ended op.who end))).machine) (λ end. put_steady h place _ (listens_on r l _ e (i.records place r g)) i) es (poll_asks op)
 
   unfoldable steady : Law contexts line origin
@@ -243,7 +244,7 @@ accepts_so (listening.Accepts l) h = h
 accepts_so _ h = tt
 
 listens_so : (l : Listening) → FitListening l → AsksToListen l → IsListening l
-listens_so (listening.Begins op) h k = (h, k)
+listens_so (listening.Begins op) h k = (h, k.0, k.1)
 listens_so _ h k = tt
 
 connects_so : (s : TcpState) → HoldsConnect s → AsksToConnect s → ConnectsOn s

@@ -137,9 +137,9 @@ IsAskOfListen (Check a TcpListen) = ⊤
 IsAskOfListen (Listen backlog) = ⊤
 IsAskOfListen _ = ⊥
 
--- where a listen is in progress, it is one, and only its asks are left
+-- where a listen is in progress, it is one, and only its asks are left, one at least
 abbrev pub IsListening : Listening → Type 0
-IsListening (listening.Begins op) = IsListen op × AllOf IsAskOfListen op.left
+IsListening (listening.Begins op) = IsListen op × AllOf IsAskOfListen op.left × (is_over op ≡ false)
 IsListening _ = ⊤
 
 -- a bind is in progress
@@ -193,13 +193,12 @@ pub data ListenEnds (op : Operation) (entries : List Entry) : ErrorCode → Type
   LocalCode : (c : ErrorCode) → EndsClosing op.who (call.Local op.who.side) (told.Code c) entries → ListenEnds op entries c
   ListenCode : (backlog : ℕ) (c : ErrorCode) → EndsClosing op.who (call.Listen op.who.side backlog) (told.Code c) entries → ListenEnds op entries c
 
--- the listening isn't one that was begun and is in progress
+-- the listening isn't one that was begun
 abbrev pub IsNoListen : Listening → Type 0
-IsNoListen (listening.Begins op) = is_over op ≡ true
+IsNoListen (listening.Begins op) = ⊥
 IsNoListen _ = ⊤
 
--- no listen of the record is in progress: its socket has a network socket, which a listen would have taken, or none was begun,
--- or it is over
+-- no listen of the record is in progress: its socket has a network socket, which a listen would have taken, or none was begun
 abbrev pub HasNoListen : Tcp2Socket → Type 0
 HasNoListen r = IsSome (side_of r.inner) ⊎ IsNoListen r.listening
 

@@ -1,9 +1,10 @@
 -- A poll of an operation whose items are asked in turn is in the one table of such polls, and how those of a bind, of a connect
 -- and of a listen end is read off it.
-use Rattle.wasi_causes.proofs.Words.{◌≡◌, ◌∙◌, inl, inr, List, [], ◌∷◌, ◌++◌, refl, sym, ap, subst, append_assoc, append-nil, ⊤, IpSocketAddress, Send, SocketAddrUse, TcpBind, ErrorCode, AccessDenied, EndsPending, ClosedBy, Has, entry, IsRestOfBind, IsLeftOfBind, Unchecked, Checked, Ended, BindFails, ListenEnds, IsConnect, IsListen, Asks, bind, IsVerdict, IsAddr, IsDone, IsDoneOrCode, IsPolled, Given, Nothing, Item, Check, CheckLocal, Bind, Connect, Listen, LastAsk, NothingLast, CloseLast, ShutdownLast, Who, Operation, End, Waits, Done, Refused, last_ask, after, round, polls, poll_asks, verdict_front, local_front, done_front, polled_front, told_verdict, told_addr, told_done, told_polled, Call, Entry, Told}
+use Rattle.wasi_causes.proofs.Words.{◌≡◌, ◌∙◌, inl, inr, List, [], ◌∷◌, ◌++◌, refl, sym, ap, subst, append_assoc, append-nil, ⊤, IpSocketAddress, Send, SocketAddrUse, TcpBind, ErrorCode, AccessDenied, EndsPending, ClosedBy, Has, entry, IsRestOfBind, IsLeftOfBind, Unchecked, Checked, Ended, BindFails, ListenEnds, IsConnect, IsListen, Asks, bind, IsVerdict, IsAddr, IsDone, IsDoneOrCode, IsPolled, false, Given, Nothing, Item, Check, CheckLocal, Bind, Connect, Listen, LastAsk, NothingLast, CloseLast, ShutdownLast, Who, Operation, End, Waits, Done, Refused, last_ask, after, round, polls, poll_asks, verdict_front, local_front, done_front, polled_front, told_verdict, told_addr, told_done, told_polled, Call, Entry, Told}
 use Rattle.wasi_causes.proofs.tables.Meets.{Rows, Meets, ends, asks, widen, shifted}
 use Rattle.wasi_causes.specs.Polls.{check_entry, local_entry, Passes, ToldYes, LocalToldYes, BindToldDone, ConnectToldDone, ListenToldDone, Holds, CheckToldPending, LocalToldPending, ConnectToldPending, Breaks, ToldNo, LocalToldNo, LocalToldCode, BindToldCode, ConnectToldCode, ListenToldCode, last_entries, Polled, WasOver, GoesOn, Stays, Stops, Broken}
 use Rattle.wasi_addr.specs.declared.address.SocketAddrUse.TheVariants.{TcpListen}
+use Rattle.wasi_tcp.specs.Listen.{none_left}
 use Rattle.wasi_walks.specs.Answered.{AllOf, IsAskOfConnect}
 use Rattle.wasi_walks.specs.Waiting.{IsAskOfListen}
 use Rattle.wasi_walks.proofs.Gives.{Gives}
@@ -130,9 +131,9 @@ all_more : (P Q : Item → Type 0) → ((item : Item) → P item → Q item) →
 all_more P Q more [] all = tt
 all_more P Q more (item ∷ items) all = (more item all.0, all_more P Q more items all.1)
 
--- where an operation waits, this holds of each item that is left
+-- where an operation waits, this holds of each item that is left, and there is one
 abbrev pub Keeps : (Item → Type 0) → End × List Item → Type 0
-Keeps P (Waits, items) = AllOf P items
+Keeps P (Waits, items) = AllOf P items × (none_left items ≡ false)
 Keeps P _ = ⊤
 
 module _ (op : Operation) where
@@ -160,7 +161,7 @@ module _ (op : Operation) where
       keeps : (left : List Item) (es : List Entry) (end : End × List Item) → Polled op.who left es end → AllOf P left → Keeps P end
       keeps _ _ _ WasOver of = tt
       keeps _ _ _ (GoesOn item items es fs end passed row) of = keeps items fs end row of.1
-      keeps _ _ _ (Stays item now items es held) of = (stays item now es held of.0, of.1)
+      keeps _ _ _ (Stays item now items es held) of = ((stays item now es held of.0, of.1), refl)
       keeps _ _ _ (Stops item items es c broke) of = tt
 
       leaves : (es : List Entry) → Gives (λ fs end. Keeps P end) es (poll_asks op)
@@ -242,7 +243,7 @@ module _ (op : Operation) where
   listen_broken es front _ _ _ of (ConnectToldCode a c) cut = absurd of
   listen_broken es front _ _ _ of (ListenToldCode backlog c) cut = waiting.ListenCode backlog c (record { front = front; cut = cut })
 
-  pub listen_ends : IsListen op × AllOf IsAskOfListen op.left → Meets (EndsFor (ListenEnds op)) [] (poll_asks op)
+  pub listen_ends : IsListen op × AllOf IsAskOfListen op.left × (none_left op.left ≡ false) → Meets (EndsFor (ListenEnds op)) [] (poll_asks op)
   listen_ends its = ends_for IsAskOfListen listen_sorts its.1 (ListenEnds op) (λ es c k of. listen_broken es k.front k.last k.item c of k.broke (at_end es c k CloseLast its.0.last))
 
   pub listen_leaves : AllOf IsAskOfListen op.left → (es : List Entry) → Gives (λ fs end. Keeps IsAskOfListen end) es (poll_asks op)
