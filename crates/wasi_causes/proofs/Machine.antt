@@ -2,7 +2,7 @@
 use Rattle.wasi_host.specs.declared.binding.InProgress.TheVariants.{Binding}
 use Rattle.wasi_walks.proofs.walks.States.{stands_so as stands_under}
 use Rattle.wasi_causes.proofs.Words.{AcceptWaits, AcceptWaitsOn, Accepting, AcceptsIn, Answer, BindFailed, BindFails, BindWaits, Bool, CallFails}
-use Rattle.wasi_causes.proofs.Words.{CallWaits, ClosedBy, ConnectWaits, Done, End, EndsPending, Entry, Err, ErrorCode, Give, HasNoListen}
+use Rattle.wasi_causes.proofs.Words.{CallWaits, ClosedBy, ConnectWaits, Done, End, EndsPending, Entry, Err, ErrorCode, Give}
 use Rattle.wasi_causes.proofs.Words.{HasNoListener, HoldsAccept, IfSome, InProgress, InputWaits, InvalidState, IsBinding, IsIdleSocket}
 use Rattle.wasi_causes.proofs.Words.{IsListening, IsOnNothing, IsReady, IsRestOfBind, IsSomeAnd, IsUnready, Item, List, ListenEnds}
 use Rattle.wasi_causes.proofs.Words.{ListenFailed, ListenWaits, Listener, Listening, Machine, MissesRecord, NoListen, NoSuchHandle, None, OfWatched}
@@ -37,6 +37,7 @@ use Rattle.wasi_tcp.specs.declared.socket.TcpState.TheVariants as state
 use Rattle.wasi_world.specs.declared.call.Call.TheVariants as call
 use Rattle.wasi_world.specs.declared.call.Told.TheVariants as told
 use Rattle.wasi_walks.specs.Answered.{ConnectsOn}
+use Rattle.wasi_walks.specs.Waiting.{IsNoListen}
 use Rattle.wasi_world.specs.declared.outcome.Answer.TheVariants as answer
 
 -- == a subscription
@@ -271,20 +272,20 @@ module _ (contexts : List WasiSocketsCtx) (m : Machine) (line n : ℕ) where
       abbrev ListenRow : Rows (Result (Answer (Unit {0})) ErrorCode × Tcp2Socket)
       ListenRow es begun = CallRow es (call_answered free n (Listen place) begun)
 
-      gives_up : HasNoListen r → ListenRow [] (Err InvalidState, r)
+      gives_up : IsNoListen r.listening → ListenRow [] (Err InvalidState, r)
       gives_up none = answered_so (Listen place) stands [] (Err InvalidState, r) (λ binds. NoListen place (rw at none) refl)
 
       module _ (op : Operation) (is : r.listening ≡ listening.Begins op) where
-        is_listen : PendingCallsFit m → IsListening (listening.Begins op)
+        is_listen : PendingCallsFit m → IsListening r.inner.state (listening.Begins op)
         is_listen binds =
-            let k : IfSome (slice_get m.store.sockets place) (λ q. IsListening q.listening) = rw stands at binds in
-            let held : IsListening r.listening = rw at at k in
+            let k : IfSome (slice_get m.store.sockets place) (λ q. IsListening q.inner.state q.listening) = rw stands at binds in
+            let held : IsListening r.inner.state r.listening = rw at at k in
             rw is at held
 
         listen_waits : (es : List Entry) → EndsPending op.who.id es → CallWaits m (own_of n) es (Listen place)
         listen_waits es h = let k : ListenWaits r.listening es = rw is h in rw at k
 
-        listen_ends : (es : List Entry) (end : End × List Item) → (IsListening (listening.Begins op) → EndsFor op (ListenEnds op) es end) → ListenRow es (listen_polled r (listen_ended op.who r.inner end))
+        listen_ends : (es : List Entry) (end : End × List Item) → (IsListening r.inner.state (listening.Begins op) → EndsFor op (ListenEnds op) es end) → ListenRow es (listen_polled r (listen_ended op.who r.inner end))
         listen_ends es (Waits, items) h = answered_so (Listen place) stands es (listen_polled r (listen_ended op.who r.inner (Waits, items))) (λ binds. listen_waits es (h (is_listen binds)))
         listen_ends es (Done given, items) h = answered_so (Listen place) stands es (listen_polled r (listen_ended op.who r.inner (Done given, items))) tt
         listen_ends es (Refused code given, items) h = answered_so (Listen place) stands es (listen_polled r (listen_ended op.who r.inner (Refused code given, items))) (λ binds. ListenFailed place r op code at is (h (is_listen binds)))
@@ -292,15 +293,20 @@ module _ (contexts : List WasiSocketsCtx) (m : Machine) (line n : ℕ) where
         begun : Meets ListenRow [] (poll_begun r op)
         begun =
             onto _ (branch (listen_over op) (λ over. ends (answered_so (Listen place) stands [] (listen_polled r (Err InvalidState, (op, r.inner))) (λ binds. let going = (is_listen binds).2 in absurd (cc))))
-            (λ on. onto _ (widen listen_ends (granted (listen_polls op)))))
+            (λ on. onto _ (widen listen_ends (granted (λ k. listen_polls op (k.0, k.1))))))
 
       relists_by : (l : Listening) → r.listening ≡ l → Meets ListenRow [] (poll_listening r l)
       relists_by (listening.Begins op) is = begun op is
-      relists_by _ is = ends (gives_up (inr (rw is tt)))
+      relists_by _ is = ends (gives_up (rw is tt))
+
+      -- a listen that was begun has taken the network socket
+      by_other : (of : OpId) → side_of r.inner ≡ Some of → (l : Listening) → r.listening ≡ l → ListenRow [] (Err InvalidState, r)
+      by_other of side (listening.Begins op) is = answered_so (Listen place) stands [] (Err InvalidState, r) (λ binds. let none = (is_listen op is binds).3 in absurd (cc))
+      by_other of side _ is = gives_up (rw is tt)
 
       by_side : (o : Option OpId) → side_of r.inner ≡ o → Meets ListenRow [] (closed_listening r o)
       by_side None side = relists_by r.listening refl
-      by_side (Some of) side = ends (gives_up (inl (rw side refl)))
+      by_side (Some of) side = ends (by_other of side r.listening refl)
 
     relists : (o : Option Tcp2Socket) → slice_get m.store.sockets place ≡ o → Meets CallRow [] (relisten_at free n place o)
     relists None at = ends (missing (Listen place) stands at)

@@ -31,12 +31,13 @@ use Rattle.wasi_walks.proofs.walks.Runs.{run_ends}
 use Rattle.wasi_walks.proofs.walks.States.{Over, socket_record}
 use Rattle.wasi_walks.proofs.walks.Steps.{may_while, machine_walks}
 use Rattle.wasi_causes.proofs.operations.Polls.{Keeps, connect_leaves, listen_leaves}
-use Rattle.wasi_tcp.specs.Connect.{connect_first, connect_left}
+use Rattle.wasi_tcp.specs.Connect.{connect_first, connect_left, connect_operation}
 use Rattle.wasi_tcp.specs.Listen.{is_over}
+use Rattle.wasi_tcp.specs.Socket.{side_in}
 use Rattle.wasi_walks.specs.Answered.{AllOf, ConnectsOn, IsAskOfConnect}
 use Rattle.wasi_walks.specs.Listens.{RefusedListen}
 use Rattle.wasi_walks.specs.Waiting.{IsAskOfListen}
-use Rattle.wasi_causes.proofs.Words.{HoldsConnect, IpSocketAddress, SocketAddressFamily, after_create, gives_more, told_done}
+use Rattle.wasi_causes.proofs.Words.{HoldsConnect, IpSocketAddress, SocketAddressFamily, after_create, gives_more, told_done, wildcard}
 use Rattle.wasi_steps.specs.declared.reply.Reply.TheVariants as reply
 use Rattle.wasi_steps.specs.declared.step.Step.TheVariants as step
 use Rattle.wasi_tcp.specs.declared.listener.Accepting.TheVariants as accepting
@@ -51,12 +52,13 @@ abbrev pub AsksToConnect : TcpState → Type 0
 AsksToConnect (state.Connecting op) = AllOf IsAskOfConnect op.left
 AsksToConnect _ = ⊤
 
-abbrev pub AsksToListen : Listening → Type 0
-AsksToListen (listening.Begins op) = AllOf IsAskOfListen op.left × (is_over op ≡ false)
-AsksToListen _ = ⊤
+-- and the listen has taken the network socket
+abbrev pub AsksToListen : TcpState → Listening → Type 0
+AsksToListen s (listening.Begins op) = AllOf IsAskOfListen op.left × (is_over op ≡ false) × (side_in s ≡ None)
+AsksToListen s _ = ⊤
 
 abbrev pub Asking : Tcp2Socket → Type 0
-Asking r = AsksToConnect r.inner.state × AsksToListen r.listening
+Asking r = AsksToConnect r.inner.state × AsksToListen r.inner.state r.listening
 
 abbrev pub Sound : Tcp2Socket → Type 0
 Sound r = Finishes r × ListensLate r × Asking r
@@ -133,9 +135,14 @@ listens_on : (r : Tcp2Socket) (l : Listener) (a : Accepting) → r.listening ≡
 listens_on r l a e s = (s.0, λ side d. absurd (never_unlistened r (listening.Accepts l) side e tt s d), (s.2.0, tt))
 
 listened_sound : (op : Operation) (r : Tcp2Socket) (end : End × List Item) → r.listening ≡ listening.Begins op → Keeps IsAskOfListen end → Sound r → Sound (listen_after op r end)
-listened_sound op r (Waits, left) e k s = (s.0, λ side d. absurd (never_unlistened r (listening.Begins op) side e tt s d), (s.2.0, k))
+listened_sound op r (Waits, left) e k s = let was = subst (AsksToListen r.inner.state) e s.2.1 in (s.0, λ side d. absurd (never_unlistened r (listening.Begins op) side e tt s d), (s.2.0, (k.0, k.1, was.2)))
 listened_sound op r (Done given, left) e k s = (λ c. absurd (cc), λ side d. absurd (cc), (tt, tt))
 listened_sound op r (Refused c given, left) e k s = (s.0, λ side d. refl, (s.2.0, tt))
+
+-- where there is a network socket, no listen is in progress
+no_listen : (old now : TcpState) (l : Listening) (side : OpId) → side_in old ≡ Some side → AsksToListen old l → AsksToListen now l
+no_listen old now (listening.Begins op) side e k = let none = k.2 in absurd (cc)
+no_listen old now _ side e k = tt
 
 asks_after : (who : Who) (end : End × List Item) → Keeps IsAskOfConnect end → AsksToConnect (connect_ended who end).1
 asks_after who (Waits, left) k = k.0
@@ -147,16 +154,16 @@ asks_first a wildcard false = (tt, (tt, (tt, tt)))
 
 module _ (contexts : List WasiSocketsCtx) (line : ℕ) (origin : Step) where
   moves_steady : (h now : Here) → Move line origin h now → Steady h.machine → Steady now.machine
-  moves_steady _ _ (Changes h place r now g p) i = put_steady h place now (λ c. subst MayFinish (sym p.does) (elim (p.connects c) [ inl k ↦ (i.records place r g).0 k | inr k ↦ connecting_may r.inner.state k ]), λ side d. p.listening ∙ (i.records place r g).1 side (sym p.does ∙ d), (subst AsksToConnect (sym p.does) (i.records place r g).2.0, subst AsksToListen (sym p.listening) (i.records place r g).2.1)) i
+  moves_steady _ _ (Changes h place r now g p) i = put_steady h place now (λ c. subst MayFinish (sym p.does) (elim (p.connects c) [ inl k ↦ (i.records place r g).0 k | inr k ↦ connecting_may r.inner.state k ]), λ side d. p.listening ∙ (i.records place r g).1 side (sym p.does ∙ d), (subst AsksToConnect (sym p.does) (i.records place r g).2.0, subst (AsksToListen now.inner.state) (sym p.listening) (subst (λ (s : TcpState). AsksToListen s r.listening) (sym p.does) (i.records place r g).2.1))) i
   moves_steady _ _ (ClosesReader h place r s g e) i = put_steady h place _ (i.records place r g) i
   moves_steady _ _ (Writes h place r s w g e m) i = put_steady h place _ (i.records place r g) i
   moves_steady _ _ (IsGone h place r q g e) i = put_steady h place _ (λ c. absurd (cc), λ side d. refl, ((i.records place r g).2.0, tt)) i
-  moves_steady _ _ (Reconnects h place r c now g e s t u) i = put_steady h place _ (λ k. (let f : MayFinish (state.Connected c) = subst MayFinish e ((i.records place r g).0 k) in ((u k).0 ∙ f.0, (u k).1 ∙ f.1)), λ side d. absurd (cc), (tt, (i.records place r g).2.1)) i
-  moves_steady _ _ (Opens h place r c d g e n) i = put_steady h place _ (λ k. absurd (cc), λ side d. absurd (cc), (tt, (i.records place r g).2.1)) i
-  moves_steady _ _ (BeginsConnect h place r side a bound at g d to known idle own) i = put_steady h place _ (λ k. tt, λ s e. absurd (cc), (asks_first a _ bound, (i.records place r g).2.1)) i
+  moves_steady _ _ (Reconnects h place r c now g e s t u) i = put_steady h place _ (λ k. (let f : MayFinish (state.Connected c) = subst MayFinish e ((i.records place r g).0 k) in ((u k).0 ∙ f.0, (u k).1 ∙ f.1)), λ side d. absurd (cc), (tt, no_listen r.inner.state (state.Connected now) r.listening c.side (ap side_in e) (i.records place r g).2.1)) i
+  moves_steady _ _ (Opens h place r c d g e n) i = put_steady h place _ (λ k. absurd (cc), λ side d. absurd (cc), (tt, no_listen r.inner.state (state.Connected (record c { send_taken = true })) r.listening c.side (ap side_in e) (i.records place r g).2.1)) i
+  moves_steady _ _ (BeginsConnect h place r side a bound at g d to known idle own) i = put_steady h place _ (λ k. tt, λ s e. absurd (cc), (asks_first a _ bound, no_listen r.inner.state (state.Connecting (connect_operation (record { op = own_of line; side = side; maker = r.inner.maker }) (wildcard r.inner.family) a (connect_first bound))) r.listening side (ap side_in d) (i.records place r g).2.1)) i
   moves_steady _ _ (BeginsBind h place r side a at g d to idle own) i = put_steady h place _ (λ c. absurd (cc), (i.records place r g).1, (i.records place r g).2) i
   moves_steady _ _ (BeginsWrite h place r s half permit bytes at g e w within own) i = put_steady h place _ (i.records place r g) i
-  moves_steady _ _ (BeginsListen h place r side at g d bound none to idle own) i = put_steady h place _ (λ k. tt, λ s e. absurd (cc), (tt, ((tt, (tt, tt)), refl))) i
+  moves_steady _ _ (BeginsListen h place r side at g d bound none to idle own) i = put_steady h place _ (λ k. tt, λ s e. absurd (cc), (tt, ((tt, (tt, tt)), refl, refl))) i
   moves_steady _ _ (BeginsAccept h place r l at g e a own) i = put_steady h place _ (listens_on r l _ e (i.records place r g)) i
   moves_steady _ _ (Unlistens h place r op g e c o) i = put_steady h place _ ((i.records place r g).0, λ side d. refl, ((i.records place r g).2.0, tt)) i
   moves_steady _ _ (Forgets h place r l c g e a) i = put_steady h place _ (listens_on r l accepting.Idle e (i.records place r g)) i
@@ -207,10 +214,10 @@ module _ (contexts : List WasiSocketsCtx) (line : ℕ) (origin : Step) where
   polls_steady es h _ _ (BindsOn place r op q g e) i = whatever (λ end. Steady (put h place (with_progress r (bind_progress op end))).machine) (λ end. put_steady h place _ (λ c. absurd (no_connect op end c), (i.records place r g).1, (i.records place r g).2) i) es (poll_asks op)
   polls_steady es h _ _ (Connects place r op g e) i =
       gives_more (λ fs end. Keeps IsAskOfConnect end) (λ fs end. Steady (put h place (with_inner r (with_state r.inner (connect_ended op.who end).1))).machine)
-      (λ fs end k. put_steady h place _ (λ c. connected_may op.who end, λ side d. absurd (never_default op.who end side d), (asks_after op.who end k, (i.records place r g).2.1)) i) es (poll_asks op) (connect_leaves op (subst AsksToConnect e (i.records place r g).2.0) es)
+      (λ fs end k. put_steady h place _ (λ c. connected_may op.who end, λ side d. absurd (never_default op.who end side d), (asks_after op.who end k, no_listen r.inner.state (connect_ended op.who end).1 r.listening op.who.side (ap side_in e) (i.records place r g).2.1)) i) es (poll_asks op) (connect_leaves op (subst AsksToConnect e (i.records place r g).2.0) es)
   polls_steady es h _ _ (Listens place r op q g e c) i =
       gives_more (λ fs end. Keeps IsAskOfListen end) (λ fs end. Steady (put h place (listen_after op r end)).machine)
-      (λ fs end k. put_steady h place _ (listened_sound op r end e k (i.records place r g)) i) es (poll_asks op) (listen_leaves op (subst AsksToListen e (i.records place r g).2.1).0 es)
+      (λ fs end k. put_steady h place _ (listened_sound op r end e k (i.records place r g)) i) es (poll_asks op) (listen_leaves op (subst (AsksToListen r.inner.state) e (i.records place r g).2.1).0 es)
   polls_steady es h _ _ (Awaits place r l op g e a) i = whatever (λ end. Steady (put h place (accepting_now r l (accept_ended op.who end))).machine) (λ end. put_steady h place _ (listens_on r l _ e (i.records place r g)) i) es (poll_asks op)
 
   unfoldable steady : Law contexts line origin
@@ -220,7 +227,7 @@ module _ (contexts : List WasiSocketsCtx) (line : ℕ) (origin : Step) where
     moves = λ es h now m i. moves_steady h now m i;
     asks = λ es h place n r side c at g o q i. (tt, λ told fits. i);
     sets = λ es h place r side b at g s is i. (tt, λ told fits. i);
-    learns = λ es h place r side at g e i. (tt, λ told fits. put_steady h place _ (λ c. subst MayFinish (sym (told_same r.inner (told_addr told))) ((i.records place r g).0 c), λ s d. (i.records place r g).1 s (sym (told_same r.inner (told_addr told)) ∙ d), (subst AsksToConnect (sym (told_same r.inner (told_addr told))) (i.records place r g).2.0, (i.records place r g).2.1)) i);
+    learns = λ es h place r side at g e i. (tt, λ told fits. put_steady h place _ (λ c. subst MayFinish (sym (told_same r.inner (told_addr told))) ((i.records place r g).0 c), λ s d. (i.records place r g).1 s (sym (told_same r.inner (told_addr told)) ∙ d), (subst AsksToConnect (sym (told_same r.inner (told_addr told))) (i.records place r g).2.0, subst (λ (s : TcpState). AsksToListen s r.listening) (sym (told_same r.inner (told_addr told))) (i.records place r g).2.1)) i);
     closes = λ es h place r side q g e i. (tt, λ told fits. put_steady h place (closed_record r) (λ c. absurd (cc), λ s d. refl, (tt, tt)) i);
     marks = λ es h kind parent sock m i. made_steady es h.machine (own_of line) kind parent sock (marks_there h kind parent sock m i) i;
     creates = λ es h ctx family c a o m i. allows_then Anything (λ fs made. MadeIdle made) (λ fs done. Steady done.1) es (new_asks (own_of line) ctx family) (created_asks h.machine (own_of line)) (made_idle es (own_of line) ctx family) (λ fs made k. joins fs h.machine (own_of line) made k i);
@@ -243,9 +250,9 @@ accepts_so : (l : Listening) → FitListening l → AcceptsIn l
 accepts_so (listening.Accepts l) h = h
 accepts_so _ h = tt
 
-listens_so : (l : Listening) → FitListening l → AsksToListen l → IsListening l
-listens_so (listening.Begins op) h k = (h, k.0, k.1)
-listens_so _ h k = tt
+listens_so : (s : TcpState) (l : Listening) → FitListening l → AsksToListen s l → IsListening s l
+listens_so s (listening.Begins op) h k = (h, k.0, k.1, k.2)
+listens_so s _ h k = tt
 
 connects_so : (s : TcpState) → HoldsConnect s → AsksToConnect s → ConnectsOn s
 connects_so (state.Connecting op) h k = (h, k)
@@ -272,7 +279,7 @@ module _ (m : Machine) (f : Fit (Over m)) (i : Steady m) where
 
   by_call : (call : StandingCall) → FitCall m.store.sockets call → HoldsCall m call
   by_call (standing.Bind place) h = subst (λ (o : Option Tcp2Socket). IfSome o (λ r. IsBinding r.in_progress)) (sym h.at) (binds_so h.was h.was.in_progress refl (f.records place h.was h.at) h.goes)
-  by_call (standing.Listen place) h = at_place m (λ r. IsListening r.listening) (λ place r g. listens_so r.listening (f.records place r g).1 (i.records place r g).2.1) place (slice_get m.store.sockets place) refl
+  by_call (standing.Listen place) h = at_place m (λ r. IsListening r.inner.state r.listening) (λ place r g. listens_so r.inner.state r.listening (f.records place r g).1 (i.records place r g).2.1) place (slice_get m.store.sockets place) refl
   by_call (standing.DropOutput place) h = tt
 
   stands_by : (o : Option Standing) → ((s : Standing) → o ≡ Some s → FitCall m.store.sockets s.call) → IfSome o (λ s. HoldsCall m s.call)

@@ -240,8 +240,9 @@ pub fn runs_keep_their_records()
         → Left (run contexts [] first_state 1 steps) log (Give (replies, m)) → slice_get m.store.sockets place ≡ Some r → ListensLate r }
 {}
 
-/// After the lines of any script, what is pending as a bind is a bind, and what is pending as a listen is a listen, of which only
-/// the local address, its check and the listen itself are left.
+/// After the lines of any script, what is pending as a bind is a bind; and where a listen is pending, what its record has begun is
+/// a listen, of which only the local address, its check and the listen itself are left, one of them at least, and its socket has
+/// no network socket.
 pub fn runs_keep_their_pending_calls()
     ensures { (contexts : List WasiSocketsCtx) (steps : List Step) (entries : List Entry) (replies : List Reply) (m : Machine)
         → Left (run contexts [] first_state 1 steps) entries (Give (replies, m)) → PendingCallsFit m }

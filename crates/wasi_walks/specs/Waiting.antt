@@ -13,12 +13,13 @@ use Rattle.wasi_world.specs.Operation.{Item, Check, CheckLocal, Bind, Listen, No
 use Rattle.wasi_tcp.specs.declared.halves.TcpReceiveStream.{TcpReceiveStream}
 use Rattle.wasi_tcp.specs.declared.halves.TcpSendStream.{TcpSendStream}
 use Rattle.wasi_tcp.specs.declared.reader.ReadState.TheVariants as reading
+use Rattle.wasi_tcp.specs.declared.socket.TcpState.{TcpState}
 use Rattle.wasi_tcp.specs.declared.socket.TcpState.TheVariants as state
 use Rattle.wasi_tcp.specs.declared.writer.WriteState.{WriteState}
 use Rattle.wasi_tcp.specs.declared.writer.WriteState.TheVariants as writing
 use Rattle.wasi_tcp.specs.Listen.{IsListen, is_over}
 use Rattle.wasi_tcp.specs.Listener.{Listener}
-use Rattle.wasi_tcp.specs.Socket.{side_of}
+use Rattle.wasi_tcp.specs.Socket.{side_in}
 use Rattle.wasi_tcp.specs.Writer.{collected}
 use Rattle.wasi_host.specs.declared.binding.InProgress.{InProgress}
 use Rattle.wasi_host.specs.declared.binding.InProgress.TheVariants.{Binding}
@@ -137,10 +138,10 @@ IsAskOfListen (Check a TcpListen) = ⊤
 IsAskOfListen (Listen backlog) = ⊤
 IsAskOfListen _ = ⊥
 
--- where a listen is in progress, it is one, and only its asks are left, one at least
-abbrev pub IsListening : Listening → Type 0
-IsListening (listening.Begins op) = IsListen op × AllOf IsAskOfListen op.left × (is_over op ≡ false)
-IsListening _ = ⊤
+-- where a listen is in progress, it is one, and only its asks are left, one at least; and the socket has no network socket
+abbrev pub IsListening : TcpState → Listening → Type 0
+IsListening s (listening.Begins op) = IsListen op × AllOf IsAskOfListen op.left × (is_over op ≡ false) × (side_in s ≡ None)
+IsListening s _ = ⊤
 
 -- a bind is in progress
 abbrev pub IsBinding : InProgress → Type 0
@@ -149,7 +150,7 @@ IsBinding _ = ⊥
 
 abbrev pub HoldsCall : Machine → StandingCall → Type 0
 HoldsCall m (standing.Bind place) = IfSome (slice_get m.store.sockets place) (λ r. IsBinding r.in_progress)
-HoldsCall m (standing.Listen place) = IfSome (slice_get m.store.sockets place) (λ r. IsListening r.listening)
+HoldsCall m (standing.Listen place) = IfSome (slice_get m.store.sockets place) (λ r. IsListening r.inner.state r.listening)
 HoldsCall m (standing.DropOutput place) = ⊤
 
 -- where a bind is pending, its record has a bind in progress; and where a listen is pending, its is a listen
@@ -198,16 +199,12 @@ abbrev pub IsNoListen : Listening → Type 0
 IsNoListen (listening.Begins op) = ⊥
 IsNoListen _ = ⊤
 
--- no listen of the record is in progress: its socket has a network socket, which a listen would have taken, or none was begun
-abbrev pub HasNoListen : Tcp2Socket → Type 0
-HasNoListen r = IsSome (side_of r.inner) ⊎ IsNoListen r.listening
-
 -- Why the pending call failed with a code: its bind or its listen ended with it; or it was a listen that isn't in progress,
 -- which a poll refuses.
 pub data CallFails (m : Machine) (entries : List Entry) : StandingCall → ErrorCode → Type 0 where
   BindFailed : (place : ℕ) (r : Tcp2Socket) (op : Operation) (c : ErrorCode) → slice_get m.store.sockets place ≡ Some r → r.in_progress ≡ Binding op → BindFails op entries c → CallFails m entries (standing.Bind place) c
   ListenFailed : (place : ℕ) (r : Tcp2Socket) (op : Operation) (c : ErrorCode) → slice_get m.store.sockets place ≡ Some r → r.listening ≡ listening.Begins op → ListenEnds op entries c → CallFails m entries (standing.Listen place) c
-  NoListen : (place : ℕ) → IsSomeAnd (slice_get m.store.sockets place) HasNoListen → entries ≡ [] → CallFails m entries (standing.Listen place) InvalidState
+  NoListen : (place : ℕ) → IsSomeAnd (slice_get m.store.sockets place) (λ r. IsNoListen r.listening) → entries ≡ [] → CallFails m entries (standing.Listen place) InvalidState
 
 -- A call is pending under this number, and failed with a code of this word.
 pub record StandingFails (m : Machine) (n : ℕ) (entries : List Entry) (word : CodeWord) : Type 0 where

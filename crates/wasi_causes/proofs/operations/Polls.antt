@@ -243,7 +243,7 @@ module _ (op : Operation) where
   listen_broken es front _ _ _ of (ConnectToldCode a c) cut = absurd of
   listen_broken es front _ _ _ of (ListenToldCode backlog c) cut = waiting.ListenCode backlog c (record { front = front; cut = cut })
 
-  pub listen_ends : IsListen op × AllOf IsAskOfListen op.left × (none_left op.left ≡ false) → Meets (EndsFor (ListenEnds op)) [] (poll_asks op)
+  pub listen_ends : IsListen op × AllOf IsAskOfListen op.left → Meets (EndsFor (ListenEnds op)) [] (poll_asks op)
   listen_ends its = ends_for IsAskOfListen listen_sorts its.1 (ListenEnds op) (λ es c k of. listen_broken es k.front k.last k.item c of k.broke (at_end es c k CloseLast its.0.last))
 
   pub listen_leaves : AllOf IsAskOfListen op.left → (es : List Entry) → Gives (λ fs end. Keeps IsAskOfListen end) es (poll_asks op)
