@@ -1,11 +1,11 @@
 -- Of the machines that runs lead to: what a socket connects by is a connect, what a listener accepts by an accept, what is
 -- pending as a bind is a bind, and as a listen a listen; each live handle and what is pending are of a record that is there, a
 -- connect in progress may be finished, and a socket that does nothing yet doesn't listen.
-use Rattle.wasi_host.specs.declared.binding.InProgress.TheVariants.{Nothing, Binding, Started}
+use Rattle.wasi_host.specs.declared.binding.InProgress.TheVariants.{Binding}
 use Rattle.wasi_causes.proofs.Words.{Accepting, AcceptsAt, AcceptsIn, Allows, Answered, Bool, CodeWord, ConnectsAt, Done, End, Entry, Err}
 use Rattle.wasi_causes.proofs.Words.{ErrorCode, FinishRefusal, Full, Give, HasChildren, HoldsCall, IfSome, InProgress, Input, IsBinding, IsListening}
 use Rattle.wasi_causes.proofs.Words.{IsOnNothing, IsSome, IsSomeAnd, Item, Kind, Left, List, Listener, Listening, Machine}
-use Rattle.wasi_causes.proofs.Words.{NoSuchHandle, None, NotPermitted, Nothing, Ok, OpId, Operation, Option, Output}
+use Rattle.wasi_causes.proofs.Words.{NoSuchHandle, None, NotPermitted, Ok, OpId, Operation, Option, Output}
 use Rattle.wasi_causes.proofs.Words.{Pollable, Refused, RefusedOf, Reply, Result, Socket, Some, Standing, StandingCall}
 use Rattle.wasi_causes.proofs.Words.{PendingCallsFit, StandsOnNothing, Step, Tcp2, Tcp2Socket, TcpState, TrapKind, Waits, WasiSocketsCtx, Watched}
 use Rattle.wasi_causes.proofs.Words.{WatchesAccept, WatchesConnect, Who, [], accept_ended, allows_if, allows_then, ap, bind, bind_progress, call_of}
@@ -119,14 +119,12 @@ connected_may who (_, left) = tt
 
 never_default : (who : Who) (end : End × List Item) (side : OpId) → (connect_ended who end).1 ≡ state.Default side → ⊥
 never_default who (Waits, left) side e = absurd (cc)
-never_default who (Done given, left) side e = absurd (cc)
-never_default who (Refused c given, left) side e = absurd (cc)
+never_default who (_, left) side e = absurd (cc)
 
 -- what a bind leaves in progress is no connect
 no_connect : (op : Operation) (end : End × List Item) → is_connect (bind_progress op end) ≡ true → ⊥
 no_connect op (Waits, left) c = absurd (cc)
-no_connect op (Done given, left) c = absurd (cc)
-no_connect op (Refused why given, left) c = absurd (cc)
+no_connect op (_, left) c = absurd (cc)
 
 never_unlistened : (r : Tcp2Socket) (l : Listening) (side : OpId) → r.listening ≡ l → IsPastNot l → Sound r → r.inner.state ≡ state.Default side → ⊥
 never_unlistened r l side e p s d = subst IsPastNot (sym e ∙ s.1 side d) p
@@ -274,8 +272,7 @@ module _ (m : Machine) (P : Tcp2Socket → Type 0) (so : (place : ℕ) (r : Tcp2
 module _ (m : Machine) (f : Fit (Over m)) (i : Steady m) where
   binds_so : (r : Tcp2Socket) (doing : InProgress) → r.in_progress ≡ doing → FitRecord r → HasBinding doing → IsBinding doing
   binds_so r (Binding op) e k b = (subst (FitProgress r.inner.state) e k.2).1
-  binds_so r Nothing e k b = absurd b
-  binds_so r (Started o) e k b = absurd b
+  binds_so r _ e k b = absurd b
 
   by_call : (call : StandingCall) → FitCall m.store.sockets call → HoldsCall m call
   by_call (standing.Bind place) h = subst (λ (o : Option Tcp2Socket). IfSome o (λ r. IsBinding r.in_progress)) (sym h.at) (binds_so h.was h.was.in_progress refl (f.records place h.was h.at) h.goes)
@@ -285,41 +282,6 @@ module _ (m : Machine) (f : Fit (Over m)) (i : Steady m) where
   stands_by : (o : Option Standing) → ((s : Standing) → o ≡ Some s → FitCall m.store.sockets s.call) → IfSome o (λ s. HoldsCall m s.call)
   stands_by None h = tt
   stands_by (Some s) h = by_call s.call (h s refl)
-
--- == of a run
-abbrev pub Between : ℕ → List Entry → Machine → Type 0
-Between line es m = Fit (Over m)
-
-pub line_fits : (contexts : List WasiSocketsCtx) (line : ℕ) (s : Step) (m : Machine) (es : List Entry) → Fit (Over m) → Allows Anything (λ fs done. Fit (Over done.1)) es (machine_asks contexts m line s)
-line_fits contexts line s m es f = fits_along contexts line s (machine_walks line s m m.store.standing refl) es (starts_fit m (may_while m s m.store.standing) f)
-
-module _ (contexts : List WasiSocketsCtx) (steps : List Step) (es : List Entry) (replies : List Reply) (m : Machine) (w : Left (run contexts [] first_state 1 steps) es (Give (replies, m))) where
-  pub fits : Fit (Over m)
-  fits = (run_ends contexts Anything Between (line_fits contexts) first_fit steps es replies m w).1
-
-  run_steady : Steady m
-  run_steady = runs_are_steady contexts steps es replies m w
-
-  connects_there : (place : ℕ) (r : Tcp2Socket) → slice_get m.store.sockets place ≡ Some r → ConnectsOn r.inner.state
-  connects_there place r g = connects_so r.inner.state (fits.records place r g).0 (run_steady.records place r g).2.0
-
-  accepts_there : (place : ℕ) (r : Tcp2Socket) → slice_get m.store.sockets place ≡ Some r → AcceptsIn r.listening
-  accepts_there place r g = accepts_so r.listening (fits.records place r g).1
-
-  pub runs_connect : (handle : ℕ) → ConnectsAt m handle
-  runs_connect handle = of_record m _ connects_there (socket_at m handle)
-
-  pub runs_watch : (pollable : ℕ) → WatchesConnect m pollable
-  runs_watch pollable = of_watched m _ connects_there (watch_of (kind_at m.table pollable))
-
-  pub runs_accept : (handle : ℕ) → AcceptsAt m handle
-  runs_accept handle = of_record m _ accepts_there (socket_at m handle)
-
-  pub runs_watch_accept : (pollable : ℕ) → WatchesAccept m pollable
-  runs_watch_accept pollable = of_watched m _ accepts_there (watch_of (kind_at m.table pollable))
-
-  pub runs_bind : PendingCallsFit m
-  runs_bind = stands_by m fits run_steady m.store.standing fits.stands
 
 module _ (m : Machine) (i : Steady m) where
   has_record : (place : ℕ) → IsThere m.store.sockets place → HasRecord m place
@@ -358,31 +320,65 @@ module _ (m : Machine) (i : Steady m) where
           by_line true on = on_nothing s.call (i.stands s e) on
           by_line false on = on
 
-module _ (contexts : List WasiSocketsCtx) (steps : List Step) (log : List Entry) (replies : List Reply) (m : Machine) (w : Left (run contexts [] first_state 1 steps) log (Give (replies, m))) where
+-- == of a run
+abbrev pub Between : ℕ → List Entry → Machine → Type 0
+Between line es m = Fit (Over m)
+
+pub line_fits : (contexts : List WasiSocketsCtx) (line : ℕ) (s : Step) (m : Machine) (es : List Entry) → Fit (Over m) → Allows Anything (λ fs done. Fit (Over done.1)) es (machine_asks contexts m line s)
+line_fits contexts line s m es f = fits_along contexts line s (machine_walks line s m m.store.standing refl) es (starts_fit m (may_while m s m.store.standing) f)
+
+module _ (contexts : List WasiSocketsCtx) (steps : List Step) (es : List Entry) (replies : List Reply) (m : Machine) (w : Left (run contexts [] first_state 1 steps) es (Give (replies, m))) where
+  pub fits : Fit (Over m)
+  fits = (run_ends contexts Anything Between (line_fits contexts) first_fit steps es replies m w).1
+
+  run_steady : Steady m
+  run_steady = runs_are_steady contexts steps es replies m w
+
+  connects_there : (place : ℕ) (r : Tcp2Socket) → slice_get m.store.sockets place ≡ Some r → ConnectsOn r.inner.state
+  connects_there place r g = connects_so r.inner.state (fits.records place r g).0 (run_steady.records place r g).2.0
+
+  accepts_there : (place : ℕ) (r : Tcp2Socket) → slice_get m.store.sockets place ≡ Some r → AcceptsIn r.listening
+  accepts_there place r g = accepts_so r.listening (fits.records place r g).1
+
+  pub runs_connect : (handle : ℕ) → ConnectsAt m handle
+  runs_connect handle = of_record m _ connects_there (socket_at m handle)
+
+  pub runs_watch : (pollable : ℕ) → WatchesConnect m pollable
+  runs_watch pollable = of_watched m _ connects_there (watch_of (kind_at m.table pollable))
+
+  pub runs_accept : (handle : ℕ) → AcceptsAt m handle
+  runs_accept handle = of_record m _ accepts_there (socket_at m handle)
+
+  pub runs_watch_accept : (pollable : ℕ) → WatchesAccept m pollable
+  runs_watch_accept pollable = of_watched m _ accepts_there (watch_of (kind_at m.table pollable))
+
+  pub runs_bind : PendingCallsFit m
+  runs_bind = stands_by m fits run_steady m.store.standing fits.stands
+
   pub runs_have_records : (handle : ℕ) (kind : Kind) → kind_at m.table handle ≡ Some kind → OfItsRecord m kind
-  runs_have_records = of_its_record m (run_steady contexts steps log replies m w)
+  runs_have_records = of_its_record m run_steady
 
   pub runs_miss_no_record : (handle : ℕ) → record_at m handle ≡ None → socket_at m handle ≡ None
-  runs_miss_no_record = is_no_socket m (run_steady contexts steps log replies m w)
+  runs_miss_no_record = is_no_socket m run_steady
 
   pub runs_stand_on_records : (n : ℕ) → StandsOnNothing m n → ⊥
-  runs_stand_on_records = stands_on m (run_steady contexts steps log replies m w)
+  runs_stand_on_records = stands_on m run_steady
 
   pub runs_may_finish : (place : ℕ) (r : Tcp2Socket) → slice_get m.store.sockets place ≡ Some r → is_connect r.in_progress ≡ true → MayFinish r.inner.state
-  runs_may_finish place r g = ((run_steady contexts steps log replies m w).records place r g).0
+  runs_may_finish place r g = (run_steady.records place r g).0
 
   pub runs_listen_late : (place : ℕ) (r : Tcp2Socket) → slice_get m.store.sockets place ≡ Some r → ListensLate r
-  runs_listen_late place r g = ((run_steady contexts steps log replies m w).records place r g).1
+  runs_listen_late place r g = (run_steady.records place r g).1
 
   pub finishes_refused_in_runs : (line ctx handle : ℕ) (entries : List Entry) (word : CodeWord) (after : Machine) → Answered contexts m line (step.TcpFinishConnect ctx handle) entries (reply.Err word) after → RefusedOf m handle (FinishRefusal m) entries word after
   finishes_refused_in_runs line ctx handle entries word after a =
-      (its_own contexts m line (step.TcpFinishConnect ctx handle) entries (reply.Err word) after a (λ e. cc)).1.1.cause (runs_connect contexts steps log replies m w handle) (of_record m Finishes (λ place r g. ((run_steady contexts steps log replies m w).records place r g).0) (socket_at m handle))
+      (its_own contexts m line (step.TcpFinishConnect ctx handle) entries (reply.Err word) after a (λ e. cc)).1.1.cause (runs_connect handle) (of_record m Finishes (λ place r g. (run_steady.records place r g).0) (socket_at m handle))
 
   pub listens_refused_in_runs : (line ctx handle : ℕ) (entries : List Entry) (word : CodeWord) (after : Machine) → Answered contexts m line (step.TcpStartListen ctx handle) entries (reply.Err word) after → RefusedListen m (own_of line) handle entries word after
   listens_refused_in_runs line ctx handle entries word after a = (its_own contexts m line (step.TcpStartListen ctx handle) entries (reply.Err word) after a (λ e. cc)).1.1.0 (of_record m ListensLate runs_listen_late (socket_at m handle))
 
   no_trap : (line n : ℕ) (entries : List Entry) (kind : TrapKind) (after : Machine) → Traps contexts m line (step.Poll n) entries kind after → ⊥
-  no_trap line n entries NoSuchHandle after h = stands_on m (run_steady contexts steps log replies m w) n h.0
+  no_trap line n entries NoSuchHandle after h = stands_on m run_steady n h.0
   no_trap line n entries HasChildren after h = h.0
   no_trap line n entries Full after h = h.0
   no_trap line n entries NotPermitted after h = h.0

@@ -1,7 +1,7 @@
 -- A poll of an operation whose items are asked in turn is in the one table of such polls, and how those of a bind, of a connect
 -- and of a listen end is read off it.
-use Rattle.wasi_causes.proofs.Words.{◌≡◌, ◌∙◌, inl, inr, List, [], ◌∷◌, ◌++◌, refl, sym, ap, subst, append_assoc, append-nil, ⊤, IpSocketAddress, Send, SocketAddrUse, TcpBind, ErrorCode, AccessDenied, EndsPending, ClosedBy, Has, entry, IsRestOfBind, IsLeftOfBind, Unchecked, Checked, Ended, BindFails, ListenEnds, IsConnect, IsListen, Asks, bind, IsVerdict, IsAddr, IsDone, IsDoneOrCode, IsPolled, false, Given, Nothing, Item, Check, CheckLocal, Bind, Connect, Listen, LastAsk, NothingLast, CloseLast, ShutdownLast, Who, Operation, End, Waits, Done, Refused, last_ask, after, round, polls, poll_asks, verdict_front, local_front, done_front, polled_front, told_verdict, told_addr, told_done, told_polled, Call, Entry, Told}
-use Rattle.wasi_causes.proofs.tables.Meets.{Rows, Meets, ends, asks, widen, shifted}
+use Rattle.wasi_causes.proofs.Words.{◌≡◌, ◌∙◌, inl, inr, List, [], ◌∷◌, ◌++◌, refl, sym, ap, subst, append_assoc, append-nil, ⊤, IpSocketAddress, Send, SocketAddrUse, TcpBind, ErrorCode, AccessDenied, EndsPending, ClosedBy, Has, entry, IsRestOfBind, IsLeftOfBind, Unchecked, Checked, Ended, BindFails, ListenEnds, IsConnect, IsListen, Asks, bind, IsVerdict, IsAddr, IsDoneOrCode, IsPolled, false, Given, Nothing, Item, Check, CheckLocal, Bind, Connect, Listen, LastAsk, NothingLast, CloseLast, ShutdownLast, Who, Operation, End, Waits, Done, Refused, last_ask, after, round, polls, poll_asks, verdict_front, local_front, done_front, polled_front, told_verdict, told_addr, told_done, told_polled, Entry, Told}
+use Rattle.wasi_causes.proofs.tables.Meets.{Rows, Meets, ends, asks, told_so, widen, shifted}
 use Rattle.wasi_causes.specs.Polls.{check_entry, local_entry, Passes, ToldYes, LocalToldYes, BindToldDone, ConnectToldDone, ListenToldDone, Holds, CheckToldPending, LocalToldPending, ConnectToldPending, Breaks, ToldNo, LocalToldNo, LocalToldCode, BindToldCode, ConnectToldCode, ListenToldCode, last_entries, Polled, WasOver, GoesOn, Stays, Stops, Broken}
 use Rattle.wasi_addr.specs.declared.address.SocketAddrUse.TheVariants.{TcpListen}
 use Rattle.wasi_tcp.specs.Listen.{none_left}
@@ -28,15 +28,11 @@ IsAsk _ = ⊥
 
 module _ (who : Who) (again : List Item → Asks (End × List Item)) where
   -- == the last ask
-  told_last : (es : List Entry) (last : Call) (t : Told) → IsDone t → es ++ entry who.id last t ∷ [] ≡ es ++ entry who.id last told.Done ∷ []
-  told_last es last told.Done fits = refl
-  told_last es last _ fits = absurd fits
-
   pub lasts : (es : List Entry) (c : ErrorCode) (l : LastAsk) → Meets (λ fs end. (fs ≡ es ++ last_entries who l) × (end ≡ (Refused c Nothing, []))) es (last_ask who l c Nothing)
   unfolding bind
   lasts es c NothingLast = ends (sym (append-nil es), refl)
-  lasts es c CloseLast = asks (λ t fits. ends (told_last es (call.Close who.side) t fits, refl))
-  lasts es c ShutdownLast = asks (λ t fits. ends (told_last es (call.Shutdown who.side Send) t fits, refl))
+  lasts es c CloseLast = asks (λ t fits. ends (told_so who.id es (call.Close who.side) t fits, refl))
+  lasts es c ShutdownLast = asks (λ t fits. ends (told_so who.id es (call.Shutdown who.side Send) t fits, refl))
 
   -- == an item, where these follow
   module _ (item : Item) (items : List Item) where

@@ -1,5 +1,6 @@
 -- How it is shown that whatever a tree gives is in a table.
-use Rattle.wasi_causes.proofs.Words.{⊤, ◌≡◌, Bool, true, false, if◌then◌else◌, List, [], ◌∷◌, ◌++◌, refl, sym, subst, append_assoc, append-nil, OpId, Call, Entry, Told, Fits, Asks, Give, Ask, AskWrite, bind, Left, entry, Gives, gives_then, gives_more, gives_any, gives_both, gives_where, given}
+use Rattle.wasi_causes.proofs.Words.{⊤, ◌≡◌, IsDone, Bool, true, false, if◌then◌else◌, List, [], ◌∷◌, ◌++◌, refl, sym, subst, append_assoc, append-nil, OpId, Call, Entry, Told, Fits, Asks, Give, Ask, AskWrite, bind, Left, entry, Gives, gives_then, gives_more, gives_any, gives_both, gives_where, given}
+use Rattle.wasi_world.specs.declared.call.Told.TheVariants as told
 
 abbrev pub Rows : Type 0 → Type 1
 Rows A = List Entry → A → Type 0
@@ -38,6 +39,11 @@ granted {P} {Row} {before} {first} t = record { along = gives_where P Row before
 
 pub met : {A : Type 0} {Row : Rows A} {first : Asks A} {es : List Entry} {a : A} → Meets Row [] first → Left first es (Give a) → Row es a
 met {Row} {first} {es} {a} t w = given Row first es a t.along w
+
+-- a call that is only done is answered so
+pub told_so : (op : OpId) (es : List Entry) (c : Call) (t : Told) → IsDone t → es ++ entry op c t ∷ [] ≡ es ++ entry op c told.Done ∷ []
+told_so op es c told.Done fits = refl
+told_so op es c _ fits = absurd fits
 
 -- == after other entries
 -- The entries are these and then some of which the table speaks.
