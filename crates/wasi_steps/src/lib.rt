@@ -2,14 +2,12 @@
 #![tactic(auto)]
 
 pub mod fields;
-pub mod forms;
 pub mod parse;
 pub mod reply;
 pub mod setting;
 pub mod step;
 
 pub use fields::IntoFields;
-pub use forms::STEP_FORMS;
 pub use reply::{CodeWord, Field, Reply, ReplyFields};
 pub use setting::TcpSetting;
-pub use step::Step;
+pub use step::{STEP_FORMS, Step};

@@ -1,9 +1,9 @@
 use Rattle.std.proofs.Common.{◌≡◌, true, refl}
-use Rattle.wasi_steps.specs.declared.forms.TheConstants.{STEP_FORMS}
+use Rattle.wasi_steps.specs.declared.step.TheConstants.{STEP_FORMS}
 use Rattle.wasi_steps.specs.declared.step.Step.{Step}
 use Rattle.wasi_steps.specs.declared.step.Step.TheVariants as step
 use Rattle.wasi_steps.specs.Forms.{has_form}
-use Rattle.wasi_steps.proofs.forms.step_forms_are_of_signatures.Goals as goal
+use Rattle.wasi_steps.proofs.step.step_forms_are_of_signatures.Goals as goal
 
 each : (s : Step) → has_form STEP_FORMS.now s ≡ true
 each step.Turn = refl
