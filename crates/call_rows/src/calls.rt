@@ -51,9 +51,9 @@ fn listen(view: &mut WasiSocketsCtxView<'_>, world: &mut ScriptedWorld) -> Resul
 {
     make_socket(view, world)?;
     tcp::start_bind(view, world, &mut line(3), 2, 1, ADDRESS)?;
-    tcp::finish_bind(view, world, &mut line(4), 2)?;
+    tcp::finish_bind(view, 2)?;
     let answer = tcp::start_listen(view, world, &mut line(5), 2)?;
-    tcp::finish_listen(view, world, &mut line(6), 2)?;
+    tcp::finish_listen(view, 2)?;
     Ok(answer)
 }
 
@@ -115,7 +115,7 @@ fn a_bind_waits_and_is_resumed(rt: HostRuntime) -> Result<(), Fail> {
     assert_eq!(rt; resume_bind(&mut view, &mut world)?, NOTHING);
     assert_eq!(rt; standing(&view), (None, false, false));
     assert_eq!(rt; resume_bind(&mut view, &mut world)?, None);
-    tcp::finish_bind(&mut view, &mut world, &mut line(6), 2)?;
+    tcp::finish_bind(&mut view, 2)?;
     Ok(())
 }
 

@@ -3,6 +3,7 @@
 
 ghost use Rattle.std.specs.Prelude.{◌≡◌, ◌+◌, ◌<◌, ◌^◌, IfOk, IsSome, Ok, false};
 ghost use Rattle.wasi_world.specs.Asks.{AsksFor};
+ghost use Rattle.wasi_world.specs.Seen.{Seen};
 ghost use Rattle.wasi_host.specs.Host.{host_outcome};
 ghost use Rattle.wasi_host.specs.InProgress.{is_bind, is_listen};
 ghost use Rattle.wasi_host.specs.Kinds.{kind_at};
@@ -65,18 +66,11 @@ pub fn start_bind<W: World>(
 }
 
 /// Ends a bind in progress (`finish-bind`). None is: `NotInProgress`. Asks nothing.
-pub fn finish_bind<W: World>(
-    view: &mut WasiSocketsCtxView<'_>,
-    _world: &mut W,
-    _ids: &mut Ids,
-    this: Handle,
-) -> Result<(), SocketError>
+pub fn finish_bind(view: &mut WasiSocketsCtxView<'_>, this: Handle) -> Result<(), SocketError>
     ensures answer { host_outcome result ≡ Ok (finish_on is_bind (state_of view.old) (socket_at (state_of view.old) this)).0 }
     ensures state { state_of view.new ≡ (finish_on is_bind (state_of view.old) (socket_at (state_of view.old) this)).1 }
-    ensures sides { KnowsSides (W.seen _world.old) view.old.store.now → KnowsSides (W.seen _world.new) view.new.store.now }
-    ensures quiet { _world.new ≡ _world.old }
+    ensures sides { (s : Seen) → KnowsSides s view.old.store.now → KnowsSides s view.new.store.now }
     ensures view { SameView view.old view.new }
-    ensures ids { _ids.new ≡ _ids.old }
 {
     let place = handles::socket(view.table, this)?;
     view.store.finish(place, AsyncOperation::Bind)
@@ -176,18 +170,11 @@ pub fn start_listen<W: World>(
 }
 
 /// Ends a listen in progress (`finish-listen`). None is: `NotInProgress`. Asks nothing.
-pub fn finish_listen<W: World>(
-    view: &mut WasiSocketsCtxView<'_>,
-    _world: &mut W,
-    _ids: &mut Ids,
-    this: Handle,
-) -> Result<(), SocketError>
+pub fn finish_listen(view: &mut WasiSocketsCtxView<'_>, this: Handle) -> Result<(), SocketError>
     ensures answer { host_outcome result ≡ Ok (finish_on is_listen (state_of view.old) (socket_at (state_of view.old) this)).0 }
     ensures state { state_of view.new ≡ (finish_on is_listen (state_of view.old) (socket_at (state_of view.old) this)).1 }
-    ensures sides { KnowsSides (W.seen _world.old) view.old.store.now → KnowsSides (W.seen _world.new) view.new.store.now }
-    ensures quiet { _world.new ≡ _world.old }
+    ensures sides { (s : Seen) → KnowsSides s view.old.store.now → KnowsSides s view.new.store.now }
     ensures view { SameView view.old view.new }
-    ensures ids { _ids.new ≡ _ids.old }
 {
     let place = handles::socket(view.table, this)?;
     view.store.finish(place, AsyncOperation::Listen)
@@ -277,36 +264,25 @@ pub fn remote_address<W: World>(
 }
 
 /// Whether a socket is listening (`is-listening`). Asks nothing.
-pub fn is_listening<W: World>(
-    view: &mut WasiSocketsCtxView<'_>,
-    _world: &mut W,
-    _ids: &mut Ids,
-    this: Handle,
-) -> Result<bool, SocketError>
+pub fn is_listening(view: &mut WasiSocketsCtxView<'_>, this: Handle) -> Result<bool, SocketError>
     ensures answer { host_outcome result ≡ Ok (is_listening_on (state_of view.old) (socket_at (state_of view.old) this)) }
     ensures state { state_of view.new ≡ state_of view.old }
-    ensures sides { KnowsSides (W.seen _world.old) view.old.store.now → KnowsSides (W.seen _world.new) view.new.store.now }
-    ensures quiet { _world.new ≡ _world.old }
+    ensures sides { (s : Seen) → KnowsSides s view.old.store.now → KnowsSides s view.new.store.now }
     ensures view { SameView view.old view.new }
-    ensures ids { _ids.new ≡ _ids.old }
 {
     let place = handles::socket(view.table, this)?;
     view.store.is_listening(place)
 }
 
 /// The family of a socket (`address-family`). Asks nothing.
-pub fn address_family<W: World>(
+pub fn address_family(
     view: &mut WasiSocketsCtxView<'_>,
-    _world: &mut W,
-    _ids: &mut Ids,
     this: Handle,
 ) -> Result<SocketAddressFamily, SocketError>
     ensures answer { host_outcome result ≡ Ok (address_family_on (state_of view.old) (socket_at (state_of view.old) this)) }
     ensures state { state_of view.new ≡ state_of view.old }
-    ensures sides { KnowsSides (W.seen _world.old) view.old.store.now → KnowsSides (W.seen _world.new) view.new.store.now }
-    ensures quiet { _world.new ≡ _world.old }
+    ensures sides { (s : Seen) → KnowsSides s view.old.store.now → KnowsSides s view.new.store.now }
     ensures view { SameView view.old view.new }
-    ensures ids { _ids.new ≡ _ids.old }
 {
     let place = handles::socket(view.table, this)?;
     view.store.address_family(place)

@@ -105,7 +105,7 @@ fn call<W: World>(
             answer_reply(alloc, ids.line, answer)
         }
         Step::TcpFinishBind { socket, .. } => {
-            let done = tcp::finish_bind(view, world, ids, socket);
+            let done = tcp::finish_bind(view, socket);
             reply_of(alloc, done)
         }
         Step::TcpStartConnect {
@@ -126,7 +126,7 @@ fn call<W: World>(
             answer_reply(alloc, ids.line, answer)
         }
         Step::TcpFinishListen { socket, .. } => {
-            let done = tcp::finish_listen(view, world, ids, socket);
+            let done = tcp::finish_listen(view, socket);
             reply_of(alloc, done)
         }
         Step::TcpAccept { socket, .. } => {
@@ -142,11 +142,11 @@ fn call<W: World>(
             reply_of(alloc, told)
         }
         Step::TcpIsListening { socket, .. } => {
-            let told = tcp::is_listening(view, world, ids, socket);
+            let told = tcp::is_listening(view, socket);
             reply_of(alloc, told)
         }
         Step::TcpAddressFamily { socket, .. } => {
-            let told = tcp::address_family(view, world, ids, socket);
+            let told = tcp::address_family(view, socket);
             reply_of(alloc, told)
         }
         Step::TcpGet { socket, option, .. } => {

@@ -13,7 +13,7 @@ pub returns-in-TcpStartBind-clause-asked : goal.returns-in-TcpStartBind-clause-a
 returns-in-TcpStartBind-clause-asked g c = rw c.in-TcpStartBind.is (asks_answered (answer_reply c.args.ids.now.line) _ _ c.start_bind-answer.ensures.asked (rw c.start_bind-answer.ensures.ids at c.answer_reply.ensures))
 
 pub returns-in-TcpFinishBind-clause-asked : goal.returns-in-TcpFinishBind-clause-asked
-returns-in-TcpFinishBind-clause-asked g c = rw (c.in-TcpFinishBind.is, c.finish_bind-done.ensures.state, c.finish_bind-done.ensures.quiet) (given_answered (reply_of no_values) _ _ _ c.finish_bind-done.ensures.answer c.reply_of-in-TcpFinishBind.ensures)
+returns-in-TcpFinishBind-clause-asked g c = rw (c.in-TcpFinishBind.is, c.finish_bind-done.ensures.state) (given_answered (reply_of no_values) _ _ _ c.finish_bind-done.ensures.answer c.reply_of-in-TcpFinishBind.ensures)
 
 pub returns-in-TcpStartConnect-clause-asked : goal.returns-in-TcpStartConnect-clause-asked
 returns-in-TcpStartConnect-clause-asked g c = rw c.in-TcpStartConnect.is (asks_answered (reply_of no_values) _ _ c.start_connect-done.ensures.asked c.reply_of-in-TcpStartConnect.ensures)
@@ -25,7 +25,7 @@ pub returns-in-TcpStartListen-clause-asked : goal.returns-in-TcpStartListen-clau
 returns-in-TcpStartListen-clause-asked g c = rw c.in-TcpStartListen.is (asks_answered (answer_reply c.args.ids.now.line) _ _ c.start_listen-answer.ensures.asked (rw c.start_listen-answer.ensures.ids at c.answer_reply-in-TcpStartListen.ensures))
 
 pub returns-in-TcpFinishListen-clause-asked : goal.returns-in-TcpFinishListen-clause-asked
-returns-in-TcpFinishListen-clause-asked g c = rw (c.in-TcpFinishListen.is, c.finish_listen-done.ensures.state, c.finish_listen-done.ensures.quiet) (given_answered (reply_of no_values) _ _ _ c.finish_listen-done.ensures.answer c.reply_of-in-TcpFinishListen.ensures)
+returns-in-TcpFinishListen-clause-asked g c = rw (c.in-TcpFinishListen.is, c.finish_listen-done.ensures.state) (given_answered (reply_of no_values) _ _ _ c.finish_listen-done.ensures.answer c.reply_of-in-TcpFinishListen.ensures)
 
 pub returns-in-TcpAccept-clause-asked : goal.returns-in-TcpAccept-clause-asked
 returns-in-TcpAccept-clause-asked g c = rw c.in-TcpAccept.is (asks_answered (reply_of triple_values) _ _ (rw c.requires.first at c.accept-made.ensures.asked) c.reply_of-in-TcpAccept.ensures)
@@ -37,10 +37,10 @@ pub returns-in-TcpRemoteAddress-clause-asked : goal.returns-in-TcpRemoteAddress-
 returns-in-TcpRemoteAddress-clause-asked g c = rw c.in-TcpRemoteAddress.is (asks_answered (reply_of address_values) _ _ c.remote_address-told.ensures.asked c.reply_of-in-TcpRemoteAddress.ensures)
 
 pub returns-in-TcpIsListening-clause-asked : goal.returns-in-TcpIsListening-clause-asked
-returns-in-TcpIsListening-clause-asked g c = rw (c.in-TcpIsListening.is, c.is_listening-told.ensures.state, c.is_listening-told.ensures.quiet) (given_answered (reply_of truth_fields) _ _ _ c.is_listening-told.ensures.answer c.reply_of-in-TcpIsListening.ensures)
+returns-in-TcpIsListening-clause-asked g c = rw (c.in-TcpIsListening.is, c.is_listening-told.ensures.state) (given_answered (reply_of truth_fields) _ _ _ c.is_listening-told.ensures.answer c.reply_of-in-TcpIsListening.ensures)
 
 pub returns-in-TcpAddressFamily-clause-asked : goal.returns-in-TcpAddressFamily-clause-asked
-returns-in-TcpAddressFamily-clause-asked g c = rw (c.in-TcpAddressFamily.is, c.address_family-told.ensures.state, c.address_family-told.ensures.quiet) (given_answered (reply_of family_fields) _ _ _ c.address_family-told.ensures.answer c.reply_of-in-TcpAddressFamily.ensures)
+returns-in-TcpAddressFamily-clause-asked g c = rw (c.in-TcpAddressFamily.is, c.address_family-told.ensures.state) (given_answered (reply_of family_fields) _ _ _ c.address_family-told.ensures.answer c.reply_of-in-TcpAddressFamily.ensures)
 
 pub returns-in-TcpGet-clause-asked : goal.returns-in-TcpGet-clause-asked
 returns-in-TcpGet-clause-asked g c = rw c.in-TcpGet.is (asks_answered (reply_of number_fields) _ _ c.get_option-told.ensures.asked c.reply_of-in-TcpGet.ensures)
