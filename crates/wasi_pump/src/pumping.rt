@@ -28,7 +28,8 @@ use wasi_writer::{AsyncWriteStream, WriteParts};
 /// or a refused piece, and the source no fault.
 ///
 /// Takes memory for the streams and for each chunk that is read. At most the budget is held for the sink at a time, beside
-/// two chunks of at most 65536 bytes that were read ahead. It waits for its workers.
+/// two chunks of at most 65536 bytes that were read ahead, and at most four buffers of 65536 bytes for further reads. It waits
+/// for its workers.
 pub fn pump<
     S: Source + Drop + Send + 'static,
     K: Sink + Drop + Send + 'static,

@@ -4,6 +4,7 @@
 //! knows while the other has the lock in `owner_facts` and `worker_facts`.
 #![tactic(auto)]
 
+pub mod buffer;
 pub mod line;
 mod lock;
 mod mark;

@@ -1,6 +1,6 @@
 //! The read stream.
 
-ghost use Rattle.std.specs.Prelude.{◌≡◌, IfOk, IfErr, OnOk, OnErr, ◌<◌, true, false, [], vec_len};
+ghost use Rattle.std.specs.Prelude.{◌≡◌, IfOk, IfErr, OnOk, OnErr, ◌<◌, true, false, []};
 ghost use Rattle.wasi_world.specs.Seen.{Rose};
 ghost use Rattle.wasi_spawn.specs.Start.{job_of, RefusedAs};
 ghost use Rattle.wasi_spawn.specs.Handles.{started_with};
@@ -8,6 +8,7 @@ ghost use Rattle.wasi_streams.specs.declared.error.StreamError.TheVariants.{Clos
 ghost use Rattle.wasi_reader.specs.Names.{ledgers_of};
 ghost use Rattle.wasi_reader.specs.Stream.{opened, outcome_of, IsReady, MayWait, Refilled, EndsReads, IsCut, IsMemory, HasRead, HasFinished};
 
+use crate::buffer::ReadBuffer;
 use crate::line::PopEnd;
 use crate::lock::Locked;
 use crate::names::{Names, ReadParts};
@@ -15,7 +16,7 @@ use crate::owner_facts::{OwnerFacts, OwnerKeys};
 use crate::shared::Shared;
 use crate::stage::Stage;
 use crate::taken::Taken;
-use crate::worker::{MOST_READ, ReadEnd, ReadWorker, WorkerSide};
+use crate::worker::{ReadEnd, ReadWorker, WorkerSide};
 use crate::worker_facts::WorkerFacts;
 use bytes::Bytes;
 use std::alloc::{AllocError, Global};
@@ -30,8 +31,9 @@ use wasi_world::Source;
 
 /// A stream whose reads a worker makes, beside its owner (`AsyncReadStream` of the crate wasmtime-wasi).
 ///
-/// The worker reads at most 65536 bytes at a time, one chunk ahead of the one that waits for the owner. It must be spent
-/// by [`finish`](AsyncReadStream::finish).
+/// The worker reads at most 65536 bytes at a time, one chunk ahead of the one that waits for the owner. Beside those it keeps
+/// a buffer of 65536 bytes, and the memory of at most three earlier chunks for later reads. It must be spent by
+/// [`finish`](AsyncReadStream::finish).
 ///
 /// Each call but [`new`](AsyncReadStream::new) takes a lock that the worker takes too, so it may wait.
 pub struct AsyncReadStream<S: Source + Drop + Send + 'static, N: Names + Send + Sync + 'static> {
@@ -243,14 +245,13 @@ impl<S: Source + Drop + Send + 'static, N: Names + Send + Sync + 'static> AsyncR
 struct Room<N: Names> {
     shared: Arc<Shared<N>, Global>,
     theirs: Arc<Shared<N>, Global>,
-    buffer: Vec<u8>,
-    ghost filled: { 0 < vec_len buffer },
+    buffer: ReadBuffer,
 }
 
 fn make_room<N: Names>(alloc: Global, shared: Shared<N>) -> Result<Room<N>, AllocError> {
     let shared = Arc::new(alloc, shared)?;
     let theirs = Arc::try_clone(&shared)?;
-    let buffer = vec![in alloc; 0; MOST_READ]?;
+    let buffer = ReadBuffer::new(alloc)?;
     Ok(Room {
         shared,
         theirs,

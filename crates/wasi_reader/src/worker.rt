@@ -1,11 +1,12 @@
 //! The worker of a read stream.
 
-ghost use Rattle.std.specs.Prelude.{◌≡◌, ◌<◌, [], ◌++◌, ◌∷◌, length, IfSome, IfNone, vec_len};
+ghost use Rattle.std.specs.Prelude.{◌≡◌, ◌<◌, ◌≤◌, [], ◌++◌, ◌∷◌, length, take, IfSome, IfNone};
 ghost use Rattle.wasi_reader.specs.declared.stage.Stage.TheVariants.{Open, Ended, Failed, Starved};
 ghost use Rattle.wasi_reader.specs.Knows.{idle};
 ghost use Rattle.wasi_reader.specs.Answers.{HasOffered, IsDone};
 ghost use Rattle.wasi_reader.specs.Worked.{Worked, HasStepped, HasHanded};
 
+use crate::buffer::ReadBuffer;
 use crate::line::PushEnd;
 use crate::names::Names;
 use crate::shared::Shared;
@@ -19,9 +20,6 @@ use std::thread::Threads;
 use wasi_addr::ErrorCode;
 use wasi_spawn::Job;
 use wasi_world::{Failed, Source};
-
-/// The most bytes of one read.
-pub const MOST_READ: usize = 65536;
 
 /// The worker's side of a read stream.
 #[derive(Drop)]
@@ -39,9 +37,8 @@ pub struct WorkerSide<N: Names> {
 pub struct ReadWorker<S: Source, N: Names> {
     pub(crate) source: S,
     pub(crate) side: WorkerSide<N>,
-    pub(crate) buffer: Vec<u8>,
+    pub(crate) buffer: ReadBuffer,
     ghost begins: { (side.keys ≡ idle) × (side.push.chunks ≡ []) },
-    ghost room: { 0 < vec_len buffer },
 }
 
 /// What a worker gives back.
@@ -70,15 +67,15 @@ impl<N: Names> WorkerSide<N> {
         shared.offer(rt, keys, push, chunk)
     }
 
-    /// Hands bytes on as a chunk. Returns how the worker stops, where it does: it is stopped (at `Open`), or runs out of
-    /// memory.
-    fn hand_on<R: Wait>(&mut self, rt: &R, bytes: &[u8]) -> Option<Stage>
-        requires filled { 0 < length bytes.now }
+    /// Hands the first bytes of the buffer on as a chunk. Returns how the worker stops, where it does: it is stopped (at
+    /// `Open`), or runs out of memory.
+    fn hand_on<R: Wait>(&mut self, rt: &R, buffer: &mut ReadBuffer, count: usize) -> Option<Stage>
+        requires filled { (0 < count) × (count ≤ length buffer.old) }
         requires open { self.old.keys.stage ≡ Open }
-        ensures handed { HasHanded result bytes.now self.old.push.chunks self.new.push.chunks }
+        ensures handed { HasHanded result (take count buffer.old) self.old.push.chunks self.new.push.chunks }
         ensures stage { self.new.keys.stage ≡ Open }
     {
-        let Ok(chunk) = Bytes::copy_from_slice(self.alloc, bytes) else {
+        let Ok(chunk) = buffer.chunk(self.alloc, count) else {
             return Some(Stage::Starved);
         };
         match self.offer(rt, chunk) {
@@ -108,16 +105,15 @@ fn step<S: Source, N: Names, R: Wait>(
     rt: &R,
     source: &mut S,
     side: &mut WorkerSide<N>,
-    buffer: &mut [u8],
+    buffer: &mut ReadBuffer,
 ) -> Option<Stage>
     requires open { side.old.keys.stage ≡ Open }
-    requires room { 0 < length buffer.old }
     ensures stepped { HasStepped result (S.reading source.old) (S.reading source.new) side.old.push.chunks side.new.push.chunks }
     ensures stage { side.new.keys.stage ≡ Open }
 {
-    match source.read(buffer) {
+    match buffer.fill(source) {
         Ok(0) => Some(Stage::Ended),
-        Ok(count) => side.hand_on(rt, &buffer[..count]),
+        Ok(count) => side.hand_on(rt, buffer, count),
         Err(Failed) => Some(Stage::Failed),
     }
 }
@@ -127,10 +123,9 @@ fn work<S: Source, N: Names, R: Wait>(
     rt: &R,
     source: &mut S,
     side: &mut WorkerSide<N>,
-    buffer: &mut [u8],
+    buffer: &mut ReadBuffer,
 ) -> Stage
     requires begins { (side.old.keys ≡ idle) × (side.old.push.chunks ≡ []) }
-    requires room { 0 < length buffer.old }
     ensures worked { Worked (S.reading source.old) side.new.push.chunks result (S.reading source.new) }
     ensures stage { side.new.keys.stage ≡ result }
 {
@@ -157,7 +152,7 @@ impl<S: Source + Drop + Send + 'static, N: Names + Send + Sync + 'static> Job fo
             mut side,
             mut buffer,
         } = self;
-        let stage = work(rt, &mut source, &mut side, buffer.as_mut_slice());
+        let stage = work(rt, &mut source, &mut side, &mut buffer);
         ReadEnd {
             source,
             side,
