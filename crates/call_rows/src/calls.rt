@@ -184,10 +184,7 @@ fn a_handle_is_made_and_removed(rt: HostRuntime) -> Result<(), Fail> {
 }
 
 /// Makes the socket 3 and drops it; tells whether no call was pending, without which nothing is dropped.
-fn make_and_drop(
-    view: &mut WasiSocketsCtxView<'_>,
-    world: &mut ScriptedWorld,
-) -> Result<bool, Fail>
+fn make_and_drop(view: &mut WasiSocketsCtxView<'_>, world: &mut ScriptedWorld) -> Result<bool, Fail>
     requires { (seen_by world.old).ended ≡ false }
     ensures { (seen_by world.new).ended ≡ false }
 {
