@@ -1,4 +1,3 @@
-pub mod Filled
 pub mod Works
 pub mod Handed
 pub mod Finished

@@ -1,6 +1,5 @@
 pub mod Stages
 pub mod Knows
-pub mod Filled
 pub mod Keeps
 pub mod Names
 pub mod Answers

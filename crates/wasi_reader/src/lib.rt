@@ -5,12 +5,10 @@
 #![tactic(auto)]
 
 pub mod buffer;
-pub mod line;
 mod lock;
 mod mark;
 pub mod names;
 mod owner_facts;
-pub mod rule;
 mod shared;
 pub mod stage;
 pub mod stream;

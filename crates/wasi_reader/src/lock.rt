@@ -7,7 +7,6 @@ ghost use Rattle.wasi_reader.specs.Knows.{nothing_yet, idle};
 ghost use Rattle.wasi_reader.specs.Keeps.{Keeps};
 ghost use Rattle.wasi_reader.specs.Answers.{HasTaken, TakesNone, HasOffered, Settled};
 
-use crate::line::{Line, PopEnd, PushEnd};
 use crate::names::Names;
 use crate::owner_facts::{OwnerFacts, OwnerKeys};
 use crate::stage::Stage;
@@ -17,6 +16,7 @@ use bytes::Bytes;
 use std::sync::Wait;
 use wasi_addr::ErrorCode;
 use wasi_pipes::ReadCore;
+use wasi_shared::{Line, PopEnd, PushEnd};
 
 /// The core of a read stream, beside what each side knows of it. One method is one hold of the lock.
 #[derive(Drop)]

@@ -4,7 +4,6 @@ ghost use Rattle.std.specs.Prelude.{◌≡◌, ◌<◌, true, false, length};
 ghost use Rattle.wasi_reader.specs.declared.stage.Stage.TheVariants.{Open, Ended, Failed, Starved};
 ghost use Rattle.wasi_reader.specs.Answers.{HasTaken, HasOffered, IsDone, Settled, HasLeft};
 
-use crate::line::{Line, PopEnd, PushEnd, count_left};
 use crate::lock::Locked;
 use crate::names::Names;
 use crate::owner_facts::OwnerKeys;
@@ -13,6 +12,7 @@ use crate::worker_facts::WorkerKeys;
 use bytes::Bytes;
 use std::sync::{Condvar, Mutex, Wait};
 use wasi_addr::ErrorCode;
+use wasi_shared::{Line, PopEnd, PushEnd, count_left};
 
 /// The lock of a read stream, and its line beside it: chunks are pushed and popped under the lock alone.
 #[derive(Drop)]

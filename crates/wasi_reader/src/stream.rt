@@ -9,7 +9,6 @@ ghost use Rattle.wasi_reader.specs.Names.{ledgers_of};
 ghost use Rattle.wasi_reader.specs.Stream.{opened, outcome_of, IsReady, MayWait, Refilled, EndsReads, IsCut, IsMemory, HasRead, HasFinished};
 
 use crate::buffer::ReadBuffer;
-use crate::line::PopEnd;
 use crate::lock::Locked;
 use crate::names::{Names, ReadParts};
 use crate::owner_facts::{OwnerFacts, OwnerKeys};
@@ -24,7 +23,7 @@ use std::marker::Model;
 use std::sync::{Arc, Wait};
 use std::thread::Threads;
 use wasi_pipes::ReadCore;
-use wasi_shared::{Ended, Finished};
+use wasi_shared::{Ended, Finished, PopEnd};
 use wasi_spawn::{Handle, Spawner, StartError};
 use wasi_streams::StreamError;
 use wasi_world::Source;

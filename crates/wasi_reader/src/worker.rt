@@ -7,7 +7,6 @@ ghost use Rattle.wasi_reader.specs.Answers.{HasOffered, IsDone};
 ghost use Rattle.wasi_reader.specs.Worked.{Worked, HasStepped, HasHanded};
 
 use crate::buffer::ReadBuffer;
-use crate::line::PushEnd;
 use crate::names::Names;
 use crate::shared::Shared;
 use crate::stage::Stage;
@@ -18,6 +17,7 @@ use std::alloc::Global;
 use std::sync::{Arc, Wait};
 use std::thread::Threads;
 use wasi_addr::ErrorCode;
+use wasi_shared::PushEnd;
 use wasi_spawn::Job;
 use wasi_world::{Failed, Source};
 

@@ -1,11 +1,11 @@
 -- Each move keeps the rule of the line.
-use Rattle.std.proofs.Common.{◌≡◌, ◌≢◌, ℕ, zero, suc, true, false, true≢false, List, [], ◌∷◌, ◌++◌, length, set, sym, refl, ap, ◌∙◌, subst, ⊎_elim, append_assoc}
+use Rattle.std.proofs.Common.{◌≡◌, ◌≢◌, ◌<◌, ℕ, zero, suc, true, false, true≢false, List, [], ◌∷◌, ◌++◌, length, set, sym, refl, ap, ◌∙◌, subst, ⊎_elim, append_assoc}
 use mathlib.Core.Option.{some, some-ne-none}
 use lib.ListN.{get_elem?}
 use Rattle.crossbeam_queue.specs.Fifo.{Pushes, Pops, Forks, Merges, Learns}
 use Rattle.crossbeam_queue.proofs.Lists.{at_set, at_snoc}
 use Rattle.wasi_shared.specs.declared.rule.Log.{Log}
-use Rattle.wasi_shared.specs.Relay.{log, Fits, Relayed}
+use Rattle.wasi_shared.specs.Relay.{log, Fits, AllFilled, Relayed}
 
 at_end : (l : List Log) (a b : Log) (j : ℕ) → get_elem? l j ≢ some b → get_elem? (l ++ a ∷ []) j ≡ some b → j ≡ length l
 at_end [] a b zero n e = refl
@@ -20,6 +20,10 @@ all_set : (F : ℕ → Log → Type 0) (views : List Log) (port : ℕ) (w : Log)
 all_set F views port w mine others j u e = ⊎_elim (λ (x : (j ≡ port) × (w ≡ u)). subst (λ (y : ℕ × Log). F y.0 y.1) (λ i. (sym x.0 i, x.1 i)) mine)
     (λ (x : (j ≢ port) × (get_elem? views j ≡ some u)). others j u x.0 x.1) (at_set views port j w u e)
 
+filled_end : (items : List (List ℕ)) (x : List ℕ) → AllFilled items → 0 < length x → AllFilled (items ++ x ∷ [])
+filled_end [] x all has = (has, tt)
+filled_end (y ∷ items) x all has = (all.0, filled_end items x all.1 has)
+
 -- a new line, with one pass for both
 pub begins : Relayed [] (log true true [] [] ∷ [])
 begins = record {
@@ -28,12 +32,13 @@ begins = record {
   pushed = [];
   popped = [];
   in_order = refl;
+  filled = tt;
   fits = all_set (Fits 0 0 [] []) (log true true [] [] ∷ []) 0 (log true true [] []) (record { pushes = λ _. (refl, refl); pops = λ _. (refl, refl) })
       (λ j u other e. absurd (other (at_end [] _ u j (λ x. some-ne-none u (sym x)) e)));
 }
 
-pub sends : (n port : ℕ) (v : Log) (x : List ℕ) → v.pushes ≡ true → Pushes Relayed n port v x (λ w. w ≡ log v.pushes v.pops (v.pushed ++ x ∷ []) v.popped)
-sends n port v x may items views _ h at = let w : Log = log v.pushes v.pops (v.pushed ++ x ∷ []) v.popped in let mine = h.fits port v at in let pushed = h.pushed ++ x ∷ [] in (
+pub sends : (n port : ℕ) (v : Log) (x : List ℕ) → v.pushes ≡ true → 0 < length x → Pushes Relayed n port v x (λ w. w ≡ log v.pushes v.pops (v.pushed ++ x ∷ []) v.popped)
+sends n port v x may has items views _ h at = let w : Log = log v.pushes v.pops (v.pushed ++ x ∷ []) v.popped in let mine = h.fits port v at in let pushed = h.pushed ++ x ∷ [] in (
   w,
   record {
     pusher = h.pusher;
@@ -41,13 +46,14 @@ sends n port v x may items views _ h at = let w : Log = log v.pushes v.pops (v.p
     pushed = pushed;
     popped = h.popped;
     in_order = ap (λ l. l ++ x ∷ []) h.in_order ∙ append_assoc h.popped items (x ∷ []);
+    filled = filled_end items x h.filled has;
     fits = all_set (Fits h.pusher h.popper pushed h.popped) views port w (record { pushes = λ _. ((mine.pushes may).0, ap (λ l. l ++ x ∷ []) (mine.pushes may).1); pops = mine.pops })
         (λ j u other e. record { pushes = λ p. absurd (other (((h.fits j u e).pushes p).0 ∙ sym (mine.pushes may).0)); pops = (h.fits j u e).pops });
   },
   refl,
 )
 
-pub gets : (port : ℕ) (v : Log) → v.pops ≡ true → Pops Relayed port v (λ x w. w ≡ log v.pushes v.pops v.pushed (v.popped ++ x ∷ []))
+pub gets : (port : ℕ) (v : Log) → v.pops ≡ true → Pops Relayed port v (λ x w. (w ≡ log v.pushes v.pops v.pushed (v.popped ++ x ∷ [])) × (0 < length x))
 gets port v may x items views h at = let w : Log = log v.pushes v.pops v.pushed (v.popped ++ x ∷ []) in let mine = h.fits port v at in let popped = h.popped ++ x ∷ [] in (
   w,
   record {
@@ -56,10 +62,11 @@ gets port v may x items views h at = let w : Log = log v.pushes v.pops v.pushed 
     pushed = h.pushed;
     popped = popped;
     in_order = h.in_order ∙ sym (append_assoc h.popped (x ∷ []) items);
+    filled = h.filled.1;
     fits = all_set (Fits h.pusher h.popper h.pushed popped) views port w (record { pushes = mine.pushes; pops = λ _. ((mine.pops may).0, ap (λ l. l ++ x ∷ []) (mine.pops may).1) })
         (λ j u other e. record { pushes = (h.fits j u e).pushes; pops = λ p. absurd (other (((h.fits j u e).pops p).0 ∙ sym (mine.pops may).0)) });
   },
-  refl,
+  (refl, h.filled.0),
 )
 
 pub forks : (port : ℕ) (v : Log) → v.pushes ≡ true → v.pops ≡ true → Forks Relayed port v (log true false v.pushed []) (log false true [] v.popped)
@@ -71,6 +78,7 @@ forks port v a b items views h at = let l : Log = log true false v.pushed [] in 
       pushed = h.pushed;
       popped = h.popped;
       in_order = h.in_order;
+      filled = h.filled;
       fits = λ j u e. ⊎_elim (λ x. record { pushes = (old j u x).0; pops = λ p. absurd ((old j u x).1 p) })
           (λ (is : r ≡ u). record {
             pushes = λ p. absurd (true≢false (sym (ap (λ (y : Log). y.pushes) is ∙ p)));
@@ -89,6 +97,7 @@ merges port v other u a b items views h at two at' = let both : Log = log true t
       pushed = h.pushed;
       popped = h.popped;
       in_order = h.in_order;
+      filled = h.filled;
       fits = all_set (Fits h.pusher port h.pushed h.popped) vs other (log false false [] []) (record { pushes = λ p. absurd (true≢false (sym p)); pops = λ p. absurd (true≢false (sym p)) })
           (λ j y apart e. now j y e apart);
     }

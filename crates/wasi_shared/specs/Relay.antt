@@ -1,5 +1,5 @@
--- The rule of a line: what was pushed is what was popped, followed by what the line holds.
-use Rattle.std.specs.Prelude.{◌≡◌, ℕ, Bool, true, List, ◌++◌}
+-- The rule of a line: what was pushed is what was popped, followed by what the line holds, and each chunk has bytes.
+use Rattle.std.specs.Prelude.{◌≡◌, ◌<◌, ⊤, ℕ, Bool, true, List, [], ◌∷◌, ◌++◌, length}
 use mathlib.Core.Option.{some}
 use lib.ListN.{get_elem?}
 use Rattle.wasi_shared.specs.declared.rule.Log.{Log}
@@ -12,11 +12,17 @@ pub record Fits (pusher popper : ℕ) (pushed popped : List (List ℕ)) (port : 
   pub pushes : v.pushes ≡ true → (port ≡ pusher) × (v.pushed ≡ pushed)
   pub pops : v.pops ≡ true → (port ≡ popper) × (v.popped ≡ popped)
 
--- all was pushed by one pass and popped by one, in order
+-- each chunk has bytes
+abbrev pub AllFilled : List (List ℕ) → Type 0
+AllFilled [] = ⊤
+AllFilled (chunk ∷ chunks) = (0 < length chunk) × AllFilled chunks
+
+-- All was pushed by one pass and popped by one, in order. Each chunk that is left has bytes.
 pub record Relayed (items : List (List ℕ)) (views : List Log) : Type 0 where
   pub pusher : ℕ
   pub popper : ℕ
   pub pushed : List (List ℕ)
   pub popped : List (List ℕ)
   pub in_order : pushed ≡ popped ++ items
+  pub filled : AllFilled items
   pub fits : (port : ℕ) (v : Log) → get_elem? views port ≡ some v → Fits pusher popper pushed popped port v

@@ -1,6 +1,6 @@
-//! A line of chunks between two threads, and its two ends.
+//! A line of chunks between two threads, and its two ends. Each chunk in it has bytes.
 
-ghost use Rattle.std.specs.Prelude.{◌≡◌, ◌++◌, ◌∷◌, [], IfOk, IfErr, OnOk, OnErr, IfSome, IfNone};
+ghost use Rattle.std.specs.Prelude.{◌≡◌, ◌<◌, ◌++◌, ◌∷◌, [], IfOk, IfErr, OnOk, OnErr, IfSome, IfNone, length};
 ghost use Rattle.wasi_shared.specs.Relay.{log};
 ghost use Rattle.wasi_shared.specs.Ends.{IsLeft};
 
@@ -80,9 +80,10 @@ pub fn make_line(alloc: Global) -> Result<(Line, PushEnd, PopEnd), AllocError>
 }
 
 impl PushEnd {
-    /// Pushes a chunk. For lack of memory it comes back.
+    /// Pushes a chunk that has bytes. For lack of memory it comes back.
     pub fn push<R: Wait>(&mut self, rt: &R, line: &Line, chunk: Bytes) -> Result<(), Bytes>
-        requires { self.old.line ≡ line.now }
+        requires line { self.old.line ≡ line.now }
+        requires filled { 0 < length chunk }
         ensures ok { OnOk result (self.new ≡ record self.old { chunks = self.old.chunks ++ chunk ∷ [] }) }
         ensures err { OnErr result (self.new ≡ self.old) }
         ensures back { IfErr result (λ back. back ≡ chunk) }
@@ -96,6 +97,7 @@ impl PopEnd {
     pub fn pop<R: Wait>(&mut self, rt: &R, line: &Line) -> Option<Bytes>
         requires { self.old.line ≡ line.now }
         ensures some { IfSome result (λ chunk. self.new ≡ record self.old { chunks = self.old.chunks ++ chunk ∷ [] }) }
+        ensures filled { IfSome result (λ chunk. 0 < length chunk) }
         ensures none { IfNone result (self.new ≡ self.old) }
     {
         line.queue.pop_as::<Popped, R>(rt, &mut self.pass)

@@ -1,4 +1,4 @@
-//! The rule of a line of chunks: what was pushed is what was popped, and then what the line holds.
+//! The rule of a line of chunks: what was pushed is what was popped, and then what the line holds; and each chunk has bytes.
 
 use bytes::Bytes;
 use crossbeam_queue::protocol::{Join, Lesson, Outcome, Protocol, Split};
@@ -13,7 +13,7 @@ pub struct Log {
     pub popped: LinkedList<Bytes>,
 }
 
-/// First in, first out.
+/// First in, first out, and each chunk has bytes.
 pub struct InOrder;
 
 impl Protocol<Bytes, Log> for InOrder {
@@ -56,14 +56,14 @@ impl Outcome<Bytes, Log> for Pushed {
     ghost then = { λ v x w. w ≡ log v.pushes v.pops (v.pushed ++ x ∷ []) v.popped };
 }
 
-/// A chunk was popped.
+/// A chunk was popped, which has bytes.
 pub struct Popped;
 
 impl Outcome<Bytes, Log> for Popped {
-    ghost use Rattle.std.specs.Prelude.{◌≡◌, ◌++◌, ◌∷◌, []};
+    ghost use Rattle.std.specs.Prelude.{◌≡◌, ◌<◌, ◌++◌, ◌∷◌, [], length};
     ghost use Rattle.wasi_shared.specs.Relay.{log};
 
-    ghost then = { λ v x w. w ≡ log v.pushes v.pops v.pushed (v.popped ++ x ∷ []) };
+    ghost then = { λ v x w. (w ≡ log v.pushes v.pops v.pushed (v.popped ++ x ∷ [])) × (0 < length x) };
 }
 
 impl Lesson<Bytes, Log> for Popped {

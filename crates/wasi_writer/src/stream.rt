@@ -1,10 +1,11 @@
 //! The write stream.
 
-ghost use Rattle.std.specs.Prelude.{◌≡◌, ◌≤◌, ◌<◌, IfOk, IfErr, OnOk, OnErr, true, false, length};
+ghost use Rattle.std.specs.Prelude.{◌≡◌, ◌≤◌, ◌<◌, IfOk, IfErr, OnOk, OnErr, true, false, [], length};
 ghost use Rattle.wasi_world.specs.Seen.{Rose};
 ghost use Rattle.wasi_spawn.specs.Start.{job_of, RefusedAs};
 ghost use Rattle.wasi_spawn.specs.Handles.{started_with};
 ghost use Rattle.wasi_writer.specs.Names.{ledgers_of};
+ghost use Rattle.wasi_writer.specs.Knows.{nothing_yet, idle};
 ghost use Rattle.wasi_writer.specs.Answers.{TrapCause, ErrorCause, IsRefused, IsFull};
 ghost use Rattle.wasi_writer.specs.Stream.{opened, knows_of, after_write, after_flush, after_check, outcome_of, HasFinished};
 
@@ -15,7 +16,7 @@ use crate::shared::Shared;
 use crate::worker::{WorkerSide, WriteEnd, WriteWorker};
 use crate::worker_facts::WorkerFacts;
 use bytes::Bytes;
-use std::alloc::Global;
+use std::alloc::{AllocError, Global};
 use std::marker::Model;
 use std::sync::{Arc, Wait};
 use std::thread::Threads;
@@ -88,27 +89,16 @@ impl<K: Sink + Drop + Send + 'static, N: Names + Send + Sync + 'static> AsyncWri
         ensures back { IfErr result (λ e. job_of e ≡ writer) }
         ensures refused { IfErr result (λ e. RefusedAs e (P.refusals spawner.old) (P.refusals spawner.new)) }
     {
-        let WriteParts {
-            budget,
-            line,
-            push,
-            pop,
-            owner,
-            worker,
-        } = parts;
-        let (owner, keys) = OwnerFacts::<N>::open(owner);
-        let (worker, worker_keys) = WorkerFacts::<N>::open(worker);
-        let locked = Locked::new(WriteCore::new(alloc, budget), owner, worker);
-        let Ok(shared) = Arc::new(alloc, Shared::new(locked, line)) else {
+        let Ok(
+            Sides {
+                shared,
+                push,
+                keys,
+                side,
+            },
+        ) = make_sides(alloc, parts)
+        else {
             return Err(StartError::Memory(writer));
-        };
-        let Ok(theirs) = Arc::try_clone(&shared) else {
-            return Err(StartError::Memory(writer));
-        };
-        let side = WorkerSide {
-            shared: theirs,
-            pop,
-            keys: worker_keys,
         };
         let worker = WriteWorker { sink: writer, side };
         let handle = start_worker(rt, alloc, spawner, worker)?;
@@ -220,6 +210,55 @@ impl<K: Sink + Drop + Send + 'static, N: Names + Send + Sync + 'static> AsyncWri
             outcome: outcome_of(failed, cancelled),
         }
     }
+}
+
+/// The two sides of a stream that did nothing yet.
+#[derive(Drop)]
+struct Sides<N: Names> {
+    shared: Arc<Shared<N>, Global>,
+    push: PushEnd,
+    keys: OwnerKeys<N>,
+    side: WorkerSide<N>,
+    ghost owner: { (push ≡ record { line = N.line; chunks = [] }) × (keys ≡ nothing_yet) },
+    ghost worker: { (side.keys ≡ idle) × (side.pop.chunks ≡ []) },
+}
+
+fn make_sides<N: Names>(alloc: Global, parts: WriteParts) -> Result<Sides<N>, AllocError>
+    requires ledgers { ledgers_of parts ≡ N.ledgers }
+    requires line { (parts.line ≡ N.line) × (parts.budget ≡ N.initial) }
+{
+    let WriteParts {
+        budget,
+        line,
+        push,
+        pop,
+        owner,
+        worker,
+    } = parts;
+    let (owner, keys) = OwnerFacts::<N>::open(owner);
+    let (worker, worker_keys) = WorkerFacts::<N>::open(worker);
+    let locked = Locked::new(WriteCore::new(alloc, budget), owner, worker);
+    let (shared, theirs) = share(alloc, Shared::new(locked, line))?;
+    Ok(Sides {
+        shared,
+        push,
+        keys,
+        side: WorkerSide {
+            shared: theirs,
+            pop,
+            keys: worker_keys,
+        },
+    })
+}
+
+/// The lock of a stream, once for each side.
+fn share<N: Names>(
+    alloc: Global,
+    shared: Shared<N>,
+) -> Result<(Arc<Shared<N>, Global>, Arc<Shared<N>, Global>), AllocError> {
+    let shared = Arc::new(alloc, shared)?;
+    let theirs = Arc::try_clone(&shared)?;
+    Ok((shared, theirs))
 }
 
 /// Starts the worker. Where that fails, its sink comes back.
