@@ -5,6 +5,7 @@ ghost use Rattle.std.specs.Prelude.{◌≡◌, false};
 ghost use Rattle.wasi_world.specs.Scripted.{seen_by};
 
 use crate::guest::{Guest, line, world};
+use crate::same::same;
 use std::test::Fail;
 use wasi_addr::{IpSocketAddress, Ipv4SocketAddress, SocketAddressFamily};
 use wasi_host::{Kind, Outcome, WasiSocketsCtxView, WasiSocketsView, Watched, handles};
@@ -63,11 +64,11 @@ fn an_accept_takes_the_lines_next_name(rt: HostRuntime) -> Result<(), Fail> {
     let mut guest = Guest::new(alloc);
     let mut world = world(alloc, "accept arrived 4 127 0 0 1 5000\n")?;
     let mut view = guest.sockets();
-    assert_eq!(rt; listen(&mut view, &mut world)?, DONE);
+    same(&rt, listen(&mut view, &mut world)?, DONE);
     let mut ids = line(7);
     let made = tcp::accept(&mut view, &mut world, &mut ids, 2)?;
-    assert_eq!(rt; made, (3, 4, 5));
-    assert_eq!(rt; ids.next_part, 2);
+    same(&rt, made, (3, 4, 5));
+    same(&rt, ids.next_part, 2);
     Ok(())
 }
 
@@ -110,11 +111,11 @@ fn a_bind_waits_and_is_resumed(rt: HostRuntime) -> Result<(), Fail> {
     let mut world = world(rt.alloc(), "check pending\n")?;
     let mut guest = Guest::new(rt.alloc());
     let mut view = guest.sockets();
-    assert_eq!(rt; begin_bind(&mut view, &mut world)?, Answer::Pending);
-    assert_eq!(rt; standing(&view), (Some(3), true, false));
-    assert_eq!(rt; resume_bind(&mut view, &mut world)?, NOTHING);
-    assert_eq!(rt; standing(&view), (None, false, false));
-    assert_eq!(rt; resume_bind(&mut view, &mut world)?, None);
+    same(&rt, begin_bind(&mut view, &mut world)?, Answer::Pending);
+    same(&rt, standing(&view), (Some(3), true, false));
+    same(&rt, resume_bind(&mut view, &mut world)?, NOTHING);
+    same(&rt, standing(&view), (None, false, false));
+    same(&rt, resume_bind(&mut view, &mut world)?, None);
     tcp::finish_bind(&mut view, 2)?;
     Ok(())
 }
@@ -155,16 +156,17 @@ fn a_handle_has_its_kind(rt: HostRuntime) -> Result<(), Fail> {
     let mut world = world(rt.alloc(), "")?;
     let mut guest = Guest::new(rt.alloc());
     let mut view = guest.sockets();
-    assert_eq!(rt; connect_and_watch(&mut view, &mut world)?, 5);
+    same(&rt, connect_and_watch(&mut view, &mut world)?, 5);
     handles::network(view.table, 1)?;
-    assert_eq!(rt; named(view.table)?, [0, 0, 0]);
-    assert_eq!(rt;
+    same(&rt, named(view.table)?, [0, 0, 0]);
+    same(
+        &rt,
         watched(view.table)?,
-        [Watched::Socket(0), Watched::Output(0), Watched::Input(0)]
+        [Watched::Socket(0), Watched::Output(0), Watched::Input(0)],
     );
-    assert_eq!(rt; handles::stream(view.table, 4)?, 0);
-    assert!(rt; handles::stream(view.table, 2).is_err());
-    assert_eq!(rt; view.store.side(0), Some(SIDE));
+    same(&rt, handles::stream(view.table, 4)?, 0);
+    same(&rt, handles::stream(view.table, 2).is_err(), true);
+    same(&rt, view.store.side(0), Some(SIDE));
     Ok(())
 }
 
@@ -175,11 +177,11 @@ fn a_handle_is_made_and_removed(rt: HostRuntime) -> Result<(), Fail> {
     let mut view = guest.sockets();
     let op = OpId { step: 1, part: 0 };
     let network = handles::make(view.table, &mut world, op, Kind::Network, None, None)?;
-    assert_eq!(rt; network, 1);
+    same(&rt, network, 1);
     let removed = handles::remove(view.table, network)?;
-    assert_eq!(rt; removed, Kind::Network);
-    assert_eq!(rt; removed.name(), HandleKind::Network);
-    assert_eq!(rt; Kind::Input(0).table_parent(Some(2)), Some(2));
+    same(&rt, removed, Kind::Network);
+    same(&rt, removed.name(), HandleKind::Network);
+    same(&rt, Kind::Input(0).table_parent(Some(2)), Some(2));
     Ok(())
 }
 
@@ -202,10 +204,10 @@ fn open_sides_are_closed_after_the_end(rt: HostRuntime) -> Result<(), Fail> {
     let mut guest = Guest::new(rt.alloc());
     let mut view = guest.sockets();
     make_socket(&mut view, &mut world)?;
-    assert!(rt; make_and_drop(&mut view, &mut world)?);
+    same(&rt, make_and_drop(&mut view, &mut world)?, true);
     world.end();
     let Guest { store, .. } = guest;
     store.close_all(&mut world);
-    assert_eq!(rt; world.closed_after_end(), 1);
+    same(&rt, world.closed_after_end(), 1);
     Ok(())
 }

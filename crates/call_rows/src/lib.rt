@@ -4,8 +4,11 @@
 
 #[cfg(test)]
 mod calls;
-pub mod guest;
+#[cfg(test)]
+mod guest;
 #[cfg(test)]
 mod options;
+#[cfg(test)]
+mod same;
 #[cfg(test)]
 mod tables;

@@ -5,6 +5,7 @@ ghost use Rattle.wasi_world.specs.Scripted.{seen_by};
 
 use crate::calls::make_socket;
 use crate::guest::{Guest, line, world};
+use crate::same::same;
 use std::test::Fail;
 use wasi_host::{WasiSocketsCtxView, WasiSocketsView};
 use wasi_p2::tcp;
@@ -40,12 +41,13 @@ fn a_socket_is_kept_alive(rt: HostRuntime) -> Result<(), Fail> {
     let mut guest = Guest::new(rt.alloc());
     let mut view = guest.sockets();
     make_socket(&mut view, &mut world)?;
-    assert_eq!(rt;
+    same(
+        &rt,
         times(&mut view, &mut world)?,
-        (1_000_000_000, 32_767_000_000_000)
+        (1_000_000_000, 32_767_000_000_000),
     );
-    assert_eq!(rt; probes(&mut view, &mut world)?, (true, 127));
-    assert_eq!(rt; world.entries().len(), 11);
+    same(&rt, probes(&mut view, &mut world)?, (true, 127));
+    same(&rt, world.entries().len(), 11);
     Ok(())
 }
 
@@ -88,9 +90,9 @@ fn a_socket_has_sizes_and_a_hop_limit(rt: HostRuntime) -> Result<(), Fail> {
     let mut guest = Guest::new(rt.alloc());
     let mut view = guest.sockets();
     make_socket(&mut view, &mut world)?;
-    assert_eq!(rt; sizes(&mut view, &mut world)?, (4096, 50));
-    assert_eq!(rt; hops(&mut view, &mut world)?, 255);
-    assert_eq!(rt; options(&mut view, &mut world)?, (9, 50));
-    assert_eq!(rt; world.entries().len(), 12);
+    same(&rt, sizes(&mut view, &mut world)?, (4096, 50));
+    same(&rt, hops(&mut view, &mut world)?, 255);
+    same(&rt, options(&mut view, &mut world)?, (9, 50));
+    same(&rt, world.entries().len(), 12);
     Ok(())
 }

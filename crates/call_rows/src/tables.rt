@@ -3,6 +3,7 @@
 ghost use Rattle.std.specs.Prelude.{◌≡◌, OnOk};
 ghost use Rattle.wasi_streams.specs.Table.{with_value};
 
+use crate::same::same;
 use std::test::Fail;
 use wasi_streams::{Table, TableError};
 
@@ -21,27 +22,35 @@ fn rewrite(table: &mut Table<char>, handle: u32, value: char) -> Result<(), Tabl
 #[test]
 fn each_call_and_each_refusal(rt: HostRuntime) -> Result<(), Fail> {
     let mut table = Table::new(rt.alloc());
-    assert_eq!(rt; table.push('s'), Ok(1));
-    assert_eq!(rt; table.push_child('i', 1), Ok(2));
-    assert_eq!(rt; table.push_child('o', 1), Ok(3));
-    assert_eq!(rt; table.push_child('x', 4), Err(TableError::NoSuchHandle));
-    assert_eq!(rt; table.next(), 4);
+    same(&rt, table.push('s'), Ok(1));
+    same(&rt, table.push_child('i', 1), Ok(2));
+    same(&rt, table.push_child('o', 1), Ok(3));
+    same(&rt, table.push_child('x', 4), Err(TableError::NoSuchHandle));
+    same(&rt, table.next(), 4);
 
-    assert_eq!(rt; table.get(2), Ok(&'i'));
-    assert_eq!(rt; table.get(4), Err(TableError::NoSuchHandle));
-    assert_eq!(rt; rewrite(&mut table, 2, 'j'), Ok(()));
-    assert_eq!(rt; rewrite(&mut table, 4, 'j'), Err(TableError::NoSuchHandle));
+    same(&rt, table.get(2), Ok(&'i'));
+    same(&rt, table.get(4), Err(TableError::NoSuchHandle));
+    same(&rt, rewrite(&mut table, 2, 'j'), Ok(()));
+    same(
+        &rt,
+        rewrite(&mut table, 4, 'j'),
+        Err(TableError::NoSuchHandle),
+    );
 
-    assert!(rt; matches!(table.children(1), Ok([2, 3])));
-    assert!(rt; matches!(table.children(3), Ok([])));
-    assert!(rt; matches!(table.children(4), Err(TableError::NoSuchHandle)));
+    same(&rt, matches!(table.children(1), Ok([2, 3])), true);
+    same(&rt, matches!(table.children(3), Ok([])), true);
+    same(
+        &rt,
+        matches!(table.children(4), Err(TableError::NoSuchHandle)),
+        true,
+    );
 
-    assert_eq!(rt; table.delete(1), Err(TableError::HasChildren));
-    assert_eq!(rt; table.delete(2), Ok('j'));
-    assert_eq!(rt; table.delete(2), Err(TableError::NoSuchHandle));
-    assert!(rt; matches!(table.children(1), Ok([3])));
-    assert_eq!(rt; table.delete(3), Ok('o'));
-    assert_eq!(rt; table.delete(1), Ok('s'));
+    same(&rt, table.delete(1), Err(TableError::HasChildren));
+    same(&rt, table.delete(2), Ok('j'));
+    same(&rt, table.delete(2), Err(TableError::NoSuchHandle));
+    same(&rt, matches!(table.children(1), Ok([3])), true);
+    same(&rt, table.delete(3), Ok('o'));
+    same(&rt, table.delete(1), Ok('s'));
     Ok(())
 }
 
@@ -49,16 +58,16 @@ fn each_call_and_each_refusal(rt: HostRuntime) -> Result<(), Fail> {
 fn a_full_table_makes_no_handle(rt: HostRuntime) -> Result<(), Fail> {
     let mut table = Table::new(rt.alloc());
     for handle in 1..=MOST {
-        assert!(rt; !table.is_full());
-        assert_eq!(rt; table.push(()), Ok(handle));
+        same(&rt, table.is_full(), false);
+        same(&rt, table.push(()), Ok(handle));
     }
-    assert!(rt; table.is_full());
-    assert_eq!(rt; table.push(()), Err(TableError::Full));
-    assert_eq!(rt; table.push_child((), 1), Err(TableError::Full));
-    assert_eq!(rt; table.push_child((), 0), Err(TableError::NoSuchHandle));
+    same(&rt, table.is_full(), true);
+    same(&rt, table.push(()), Err(TableError::Full));
+    same(&rt, table.push_child((), 1), Err(TableError::Full));
+    same(&rt, table.push_child((), 0), Err(TableError::NoSuchHandle));
 
     // a number isn't given again
-    assert_eq!(rt; table.delete(MOST), Ok(()));
-    assert_eq!(rt; table.push(()), Ok(MOST + 1));
+    same(&rt, table.delete(MOST), Ok(()));
+    same(&rt, table.push(()), Ok(MOST + 1));
     Ok(())
 }

@@ -1,6 +1,7 @@
 //! Which addresses may be used.
 
 use crate::guest::{Guest, line, loopback};
+use crate::same::same;
 use std::test::Fail;
 use wasi_addr::{
     IpSocketAddress, Ipv4SocketAddress, Ipv6SocketAddress, SocketAddrUse, SocketAddressFamily,
@@ -51,8 +52,8 @@ fn codes_and_closings_are_counted(rt: HostRuntime) -> Result<(), Fail> {
     let mut guest = Guest::new(rt, rt.alloc(), Vec::new(rt.alloc()));
     let sock = line(1);
     guest.expects(sock, Call::Local { sock }, "InvalidState")?;
-    assert_eq!(rt; guest.faults(), 1);
+    same(&rt, guest.faults(), 1);
     guest.create(sock)?;
-    assert_eq!(rt; guest.end(sock), 1);
+    same(&rt, guest.end(sock), 1);
     Ok(())
 }

@@ -5,8 +5,11 @@
 mod checks;
 #[cfg(test)]
 mod connections;
-pub mod guest;
+#[cfg(test)]
+mod guest;
 #[cfg(test)]
 mod listeners;
 #[cfg(test)]
 mod refusals;
+#[cfg(test)]
+mod same;

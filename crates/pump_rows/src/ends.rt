@@ -1,5 +1,6 @@
 //! Pumps that end early, and a pump of many bytes.
 
+use crate::same::same;
 use std::alloc::{AllocError, Global};
 use std::test::*;
 use wasi_pump::{PumpError, pump};
@@ -44,10 +45,11 @@ fn a_pump_ends_by_its_faults(rt: HostRuntime) -> Result<(), Fail> {
                 sink,
                 budget,
             );
-            assert_eq!(rt; pumped.outcome, outcome, "budget {budget}");
-            assert!(rt;
-                bytes.as_slice().starts_with(pumped.sink.bytes()),
-                "budget {budget}"
+            same(&rt, (budget, pumped.outcome), (budget, outcome));
+            same(
+                &rt,
+                (budget, bytes.as_slice().starts_with(pumped.sink.bytes())),
+                (budget, true),
             );
         }
     }
@@ -69,8 +71,8 @@ fn a_million_bytes_are_moved(rt: HostRuntime) -> Result<(), Fail> {
         sink,
         65_536,
     );
-    assert_eq!(rt; pumped.outcome, Ok(1_000_000));
-    assert!(rt; pumped.sink.bytes() == bytes.as_slice());
-    assert!(rt; pumped.sink.is_flushed());
+    same(&rt, pumped.outcome, Ok(1_000_000));
+    same(&rt, pumped.sink.bytes() == bytes.as_slice(), true);
+    same(&rt, pumped.sink.is_flushed(), true);
     Ok(())
 }

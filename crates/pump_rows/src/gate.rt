@@ -2,6 +2,7 @@
 
 ghost use Rattle.wasi_world.specs.Io.{HasRead, HasWritten, HasFlushed};
 
+use crate::same::same;
 use std::alloc::{AllocError, Global};
 use std::sync::Arc;
 use std::sync::atomic::{AtomicBool, Ordering};
@@ -135,9 +136,9 @@ fn gate_pump(rt: HostRuntime) -> Result<(), Fail> {
     };
     let (mut writers, mut readers) = (ThreadSpawner::new(), ThreadSpawner::new());
     let pumped = pump(&rt, rt.alloc(), &mut writers, &mut readers, source, sink, 4);
-    assert_eq!(rt; pumped.outcome, Ok(10));
-    assert_eq!(rt; pumped.sink.bytes, 10);
-    assert_eq!(rt; writers.starts(), 1);
-    assert_eq!(rt; readers.starts(), 1);
+    same(&rt, pumped.outcome, Ok(10));
+    same(&rt, pumped.sink.bytes, 10);
+    same(&rt, writers.starts(), 1);
+    same(&rt, readers.starts(), 1);
     Ok(())
 }

@@ -9,4 +9,6 @@ mod gate;
 #[cfg(test)]
 mod pipes;
 #[cfg(test)]
+mod same;
+#[cfg(test)]
 mod words;

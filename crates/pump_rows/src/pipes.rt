@@ -1,5 +1,6 @@
 //! Pipes in memory that several owners share.
 
+use crate::same::same;
 use bytes::Bytes;
 use std::test::*;
 use wasi_locked::{MemoryInputPipe, MemoryOutputPipe};
@@ -12,16 +13,16 @@ use wasi_world::{Sink, Source, TrapKind};
 fn an_output_pipe_holds_no_more_than_its_capacity(rt: HostRuntime) -> Result<(), Fail> {
     let pipe = MemoryOutputPipe::new(&rt, rt.alloc(), 4)?;
     let capacity = StreamError::Trap(TrapKind::Capacity);
-    assert_eq!(rt; pipe.check_write(), Ok(4));
-    assert_eq!(rt; pipe.write(&[1, 2, 3]), Ok(()));
-    assert_eq!(rt; pipe.check_write(), Ok(1));
-    assert_eq!(rt; pipe.write(&[4, 5]), Err(capacity));
-    assert_eq!(rt; pipe.check_write(), Ok(1));
-    assert_eq!(rt; pipe.write(&[6]), Ok(()));
-    assert_eq!(rt; pipe.check_write(), Err(StreamError::Closed));
-    assert_eq!(rt; pipe.write(&[]), Ok(()));
-    assert_eq!(rt; pipe.flush(), Ok(()));
-    assert_eq!(rt; pipe.contents()?.as_slice(), [1, 2, 3, 6].as_slice());
+    same(&rt, pipe.check_write(), Ok(4));
+    same(&rt, pipe.write(&[1, 2, 3]), Ok(()));
+    same(&rt, pipe.check_write(), Ok(1));
+    same(&rt, pipe.write(&[4, 5]), Err(capacity));
+    same(&rt, pipe.check_write(), Ok(1));
+    same(&rt, pipe.write(&[6]), Ok(()));
+    same(&rt, pipe.check_write(), Err(StreamError::Closed));
+    same(&rt, pipe.write(&[]), Ok(()));
+    same(&rt, pipe.flush(), Ok(()));
+    same(&rt, pipe.contents()?.as_slice(), [1, 2, 3, 6].as_slice());
     Ok(())
 }
 
@@ -32,18 +33,22 @@ fn an_input_pipe_gives_its_front(rt: HostRuntime) -> Result<(), Fail> {
         rt.alloc(),
         Bytes::copy_from_slice(rt.alloc(), &[1, 2])?,
     )?;
-    assert!(rt; !pipe.is_empty());
-    assert!(rt;
+    same(&rt, pipe.is_empty(), false);
+    same(
+        &rt,
         pipe.read(1)
-            .is_ok_and(|bytes| bytes.as_slice() == [1].as_slice())
+            .is_ok_and(|bytes| bytes.as_slice() == [1].as_slice()),
+        true,
     );
-    assert!(rt; pipe.read(0).is_ok_and(|bytes| bytes.is_empty()));
-    assert!(rt;
+    same(&rt, pipe.read(0).is_ok_and(|bytes| bytes.is_empty()), true);
+    same(
+        &rt,
         pipe.read(9)
-            .is_ok_and(|bytes| bytes.as_slice() == [2].as_slice())
+            .is_ok_and(|bytes| bytes.as_slice() == [2].as_slice()),
+        true,
     );
-    assert_eq!(rt; pipe.read(1).err(), Some(StreamError::Closed));
-    assert!(rt; pipe.is_empty());
+    same(&rt, pipe.read(1).err(), Some(StreamError::Closed));
+    same(&rt, pipe.is_empty(), true);
     Ok(())
 }
 
@@ -52,14 +57,16 @@ fn an_input_pipe_gives_its_front(rt: HostRuntime) -> Result<(), Fail> {
 fn owners_share_a_pipe(rt: HostRuntime) -> Result<(), Fail> {
     let mut mine = MemoryOutputPipe::new(&rt, rt.alloc(), 3)?;
     let mut theirs = mine.share()?;
-    assert_eq!(rt; Sink::write(&mut theirs, &[1, 2]), Ok(2));
-    assert_eq!(rt; Sink::write(&mut mine, &[3, 4]), Ok(1));
-    assert_eq!(rt; Sink::write(&mut theirs, &[5]), Ok(0));
-    assert_eq!(rt; Sink::flush(&mut theirs), Ok(()));
-    assert!(rt; theirs.try_into_inner().is_none());
-    assert!(rt;
+    same(&rt, Sink::write(&mut theirs, &[1, 2]), Ok(2));
+    same(&rt, Sink::write(&mut mine, &[3, 4]), Ok(1));
+    same(&rt, Sink::write(&mut theirs, &[5]), Ok(0));
+    same(&rt, Sink::flush(&mut theirs), Ok(()));
+    same(&rt, theirs.try_into_inner().is_none(), true);
+    same(
+        &rt,
         mine.try_into_inner()
-            .is_some_and(|bytes| bytes.as_slice() == [1, 2, 3].as_slice())
+            .is_some_and(|bytes| bytes.as_slice() == [1, 2, 3].as_slice()),
+        true,
     );
 
     let mut source = MemoryInputPipe::new(
@@ -69,14 +76,16 @@ fn owners_share_a_pipe(rt: HostRuntime) -> Result<(), Fail> {
     )?;
     let other = source.share()?;
     let mut buf = [0u8; 2];
-    assert_eq!(rt; Source::read(&mut source, &mut buf), Ok(2));
-    assert_eq!(rt; buf, [1, 2]);
-    assert!(rt;
+    same(&rt, Source::read(&mut source, &mut buf), Ok(2));
+    same(&rt, buf, [1, 2]);
+    same(
+        &rt,
         other
             .read(2)
-            .is_ok_and(|bytes| bytes.as_slice() == [3].as_slice())
+            .is_ok_and(|bytes| bytes.as_slice() == [3].as_slice()),
+        true,
     );
-    assert_eq!(rt; Source::read(&mut source, &mut buf), Ok(0));
+    same(&rt, Source::read(&mut source, &mut buf), Ok(0));
     Ok(())
 }
 
@@ -99,8 +108,8 @@ fn a_pump_between_pipes(rt: HostRuntime) -> Result<(), Fail> {
         sink.share()?,
         1000,
     );
-    assert_eq!(rt; pumped.outcome, Ok(100_000));
-    assert!(rt; source.is_empty());
-    assert!(rt; sink.contents()?.as_slice() == bytes.as_slice());
+    same(&rt, pumped.outcome, Ok(100_000));
+    same(&rt, source.is_empty(), true);
+    same(&rt, sink.contents()?.as_slice() == bytes.as_slice(), true);
     Ok(())
 }

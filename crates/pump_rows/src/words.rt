@@ -1,5 +1,6 @@
 //! The program's word `pump`.
 
+use crate::same::same;
 use std::alloc::{AllocError, Global};
 use std::sync::Wait;
 use std::test::*;
@@ -49,10 +50,10 @@ fn a_pump_moves_all_bytes(rt: HostRuntime) -> Result<(), Fail> {
         let (mut writers, mut readers) = (ThreadSpawner::new(), ThreadSpawner::new());
         let done = pumps(&rt, rt.alloc(), budget, bytes, &mut writers, &mut readers)?;
         let wanted: &[u8] = if status == 0 { bytes } else { b"" };
-        assert_eq!(rt; done.status, status, "pump {budget}");
-        assert_eq!(rt; done.sink.bytes(), wanted, "pump {budget}");
-        assert_eq!(rt; done.sink.is_flushed(), status == 0, "pump {budget}");
-        assert!(rt; done.log.is_empty());
+        same(&rt, (budget, done.status), (budget, status));
+        same(&rt, (budget, done.sink.bytes()), (budget, wanted));
+        same(&rt, (budget, done.sink.is_flushed()), (budget, status == 0));
+        same(&rt, done.log.is_empty(), true);
     }
     Ok(())
 }
@@ -67,10 +68,14 @@ fn a_pump_needs_both_workers(rt: HostRuntime) -> Result<(), Fail> {
     ] {
         let (mut writers, mut readers) = (FakeSpawner::new(refused), FakeSpawner::new(other));
         let done = pumps(&rt, alloc, "4", b"hello", &mut writers, &mut readers)?;
-        assert_eq!(rt; done.status, 10);
-        assert_eq!(rt; done.source.left(), b"hello".as_slice());
-        assert!(rt; done.sink.bytes().is_empty());
-        assert_eq!(rt; writers.refusals().saturating_add(readers.refusals()), 1);
+        same(&rt, done.status, 10);
+        same(&rt, done.source.left(), b"hello".as_slice());
+        same(&rt, done.sink.bytes().is_empty(), true);
+        same(
+            &rt,
+            writers.refusals().saturating_add(readers.refusals()),
+            1,
+        );
     }
     Ok(())
 }

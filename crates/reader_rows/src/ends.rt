@@ -1,6 +1,7 @@
 //! Streams that end early.
 
 use crate::drain::{Use, drain, pattern};
+use crate::same::same;
 use std::test::*;
 use wasi_addr::ErrorCode;
 use wasi_shared::Ended;
@@ -24,27 +25,22 @@ fn the_source_fails_at_each_call_in_turn(rt: HostRuntime) -> Result<(), Fail> {
             return Err(Fail::new("no worker"));
         };
         let given = 600usize.saturating_sub(finished.inner.left().len());
-        assert_eq!(rt; drained.bytes.len(), given, "call {call}");
-        assert!(rt;
-            bytes.as_slice().starts_with(drained.bytes.as_slice()),
-            "call {call}"
-        );
-        assert!(rt; !drained.was_empty, "call {call}");
-        assert_eq!(rt; drained.again, Some(StreamError::Closed), "call {call}");
+        let front = bytes.as_slice().starts_with(drained.bytes.as_slice());
+        let came = (call, front, drained.bytes.len(), drained.was_empty);
+        same(&rt, came, (call, true, given, false));
+        let end = (call, given, drained.error, finished.outcome);
         if finished.inner.faults() == 0 {
-            assert_eq!(rt; drained.error, Some(StreamError::Closed), "call {call}");
-            assert_eq!(rt; finished.outcome, Ok(()), "call {call}");
-            assert_eq!(rt; given, 600, "call {call}");
+            same(&rt, end, (call, 600, Some(StreamError::Closed), Ok(())));
         } else {
+            let before = (call as usize).saturating_sub(1).saturating_mul(20);
             let told = StreamError::LastOperationFailed(ErrorCode::Other);
-            assert_eq!(rt; drained.error, Some(told), "call {call}");
-            assert_eq!(rt; finished.outcome, Err(Ended::Fault), "call {call}");
-            assert_eq!(rt;
-                given,
-                (call as usize).saturating_sub(1).saturating_mul(20),
-                "call {call}"
-            );
+            same(&rt, end, (call, before, Some(told), Err(Ended::Fault)));
         }
+        same(
+            &rt,
+            (call, drained.again),
+            (call, Some(StreamError::Closed)),
+        );
     }
     Ok(())
 }
@@ -64,19 +60,30 @@ fn the_stream_is_cancelled_at_each_point(rt: HostRuntime) -> Result<(), Fail> {
             return Err(Fail::new("no worker"));
         };
         let given = 600usize.saturating_sub(finished.inner.left().len());
-        assert!(rt;
-            bytes.as_slice().starts_with(drained.bytes.as_slice()),
-            "{reads} reads"
+        let front = bytes.as_slice().starts_with(drained.bytes.as_slice());
+        let came = (
+            reads,
+            front,
+            drained.bytes.len() <= given,
+            drained.was_empty,
         );
-        assert!(rt; drained.bytes.len() <= given, "{reads} reads");
-        assert!(rt; !drained.was_empty, "{reads} reads");
-        assert_eq!(rt; drained.error, Some(StreamError::Closed), "{reads} reads");
-        assert_eq!(rt; drained.again, Some(StreamError::Closed), "{reads} reads");
-        if finished.inner.has_ended() {
-            assert_eq!(rt; finished.outcome, Ok(()), "{reads} reads");
+        same(&rt, came, (reads, true, true, false));
+        same(
+            &rt,
+            (reads, drained.error),
+            (reads, Some(StreamError::Closed)),
+        );
+        same(
+            &rt,
+            (reads, drained.again),
+            (reads, Some(StreamError::Closed)),
+        );
+        let outcome = if finished.inner.has_ended() {
+            Ok(())
         } else {
-            assert_eq!(rt; finished.outcome, Err(Ended::Cancelled), "{reads} reads");
-        }
+            Err(Ended::Cancelled)
+        };
+        same(&rt, (reads, finished.outcome), (reads, outcome));
     }
     Ok(())
 }
@@ -93,14 +100,14 @@ fn a_refused_start_hands_the_source_back(rt: HostRuntime) -> Result<(), Fail> {
     let Err(StartError::NoWorker(source)) = drain(&rt, rt.alloc(), &mut spawner, source, how) else {
         return Err(Fail::new("it started"));
     };
-    assert_eq!(rt; source.left().len(), 10);
-    assert_eq!(rt; spawner.starts(), 0);
-    assert_eq!(rt; spawner.refusals(), 1);
+    same(&rt, source.left().len(), 10);
+    same(&rt, spawner.starts(), 0);
+    same(&rt, spawner.refusals(), 1);
     let Ok((finished, drained)) = drain(&rt, rt.alloc(), &mut spawner, source, how) else {
         return Err(Fail::new("the second start was refused"));
     };
-    assert!(rt; drained.bytes == bytes);
-    assert_eq!(rt; finished.outcome, Ok(()));
-    assert_eq!(rt; spawner.starts(), 1);
+    same(&rt, drained.bytes == bytes, true);
+    same(&rt, finished.outcome, Ok(()));
+    same(&rt, spawner.starts(), 1);
     Ok(())
 }

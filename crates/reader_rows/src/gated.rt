@@ -3,6 +3,7 @@
 ghost use Rattle.std.specs.Prelude.{◌≤◌};
 
 use crate::play::{Answer, Step, play};
+use crate::same::same;
 use std::alloc::Global;
 use std::process::Abort;
 use std::sync::Wait;
@@ -33,9 +34,9 @@ fn plays<R: Threads + Wait + Abort + Copy + Send + 'static>(
 {
     let source = MemorySource::new(vec![in alloc; 1u8; 123]?, most, fails);
     let (other, finished) = play(rt, alloc, source, steps)?;
-    assert_eq!(rt; other, None);
-    assert_eq!(rt; finished.outcome, outcome);
-    assert_eq!(rt; finished.inner.inner().has_ended(), outcome.is_ok());
+    same(rt, other, None);
+    same(rt, finished.outcome, outcome);
+    same(rt, finished.inner.inner().has_ended(), outcome.is_ok());
     Ok(())
 }
 

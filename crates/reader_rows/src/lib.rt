@@ -14,3 +14,5 @@ mod gated;
 mod pieces;
 #[cfg(test)]
 mod play;
+#[cfg(test)]
+mod same;

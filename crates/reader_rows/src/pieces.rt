@@ -1,6 +1,7 @@
 //! Bytes in pieces of every size, from a source that gives some at a time.
 
 use crate::drain::{Use, drain, pattern};
+use crate::same::same;
 use std::test::*;
 use wasi_spawn::ThreadSpawner;
 use wasi_streams::StreamError;
@@ -36,15 +37,17 @@ fn reads_give_all_bytes_in_order(rt: HostRuntime) -> Result<(), Fail> {
         let Ok((finished, drained)) = drain(&rt, rt.alloc(), &mut spawner, source, how) else {
             return Err(Fail::new("no worker"));
         };
-        assert!(rt; drained.bytes == bytes, "pieces of {piece}");
-        assert!(rt;
-            !drained.was_empty && !drained.was_long,
-            "pieces of {piece}"
+        let came = (
+            piece,
+            drained.bytes == bytes,
+            drained.was_empty,
+            drained.was_long,
         );
-        assert_eq!(rt; drained.error, Some(StreamError::Closed));
-        assert_eq!(rt; drained.again, Some(StreamError::Closed));
-        assert_eq!(rt; finished.outcome, Ok(()));
-        assert!(rt; finished.inner.has_ended());
+        same(&rt, came, (piece, true, false, false));
+        same(&rt, drained.error, Some(StreamError::Closed));
+        same(&rt, drained.again, Some(StreamError::Closed));
+        same(&rt, finished.outcome, Ok(()));
+        same(&rt, finished.inner.has_ended(), true);
     }
     Ok(())
 }
@@ -61,7 +64,7 @@ fn an_empty_source_is_closed(rt: HostRuntime) -> Result<(), Fail> {
     else {
         return Err(Fail::new("no worker"));
     };
-    assert_eq!(rt; drained.error, Some(StreamError::Closed));
-    assert_eq!(rt; finished.outcome, Ok(()));
+    same(&rt, drained.error, Some(StreamError::Closed));
+    same(&rt, finished.outcome, Ok(()));
     Ok(())
 }

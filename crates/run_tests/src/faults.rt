@@ -1,6 +1,7 @@
 //! Sources and sinks that fail or are full.
 
 use crate::given::{BIND, Given, PLAIN, REPLIES};
+use crate::same::same;
 use std::fmt::Write;
 use std::test::Fail;
 
@@ -21,13 +22,12 @@ fn a_failed_read_is_status_5(rt: HostRuntime) -> Result<(), Fail> {
 // Each reply is written at once.
 #[test]
 fn a_failed_write_is_status_6(rt: HostRuntime) -> Result<(), Fail> {
-    let ends = [
-        "6 0: ",
-        "6 0: ok 1\n",
-        "6 0: ok 1\nok 2\n",
-        "6 0: ok 1\nok 2\nok\n",
-    ];
-    for (failing, end) in (1..5u32).zip(ends) {
+    for (failing, end) in [
+        (1, "6 0: "),
+        (2, "6 0: ok 1\n"),
+        (3, "6 0: ok 1\nok 2\n"),
+        (4, "6 0: ok 1\nok 2\nok\n"),
+    ] {
         let given = Given {
             failing_writes: &[failing],
             ..PLAIN
@@ -59,7 +59,7 @@ fn a_failed_scenario_is_status_8(rt: HostRuntime) -> Result<(), Fail> {
     };
     given.ends(&rt, rt.alloc(), "8 0: ")?;
     let done = given.run(&rt, rt.alloc())?;
-    assert!(rt; done.log.is_empty());
-    assert_eq!(rt; done.source.left(), BIND);
+    same(&rt, done.log.is_empty(), true);
+    same(&rt, done.source.left(), BIND);
     Ok(())
 }

@@ -1,6 +1,7 @@
 //! Generated scripts, and the words `gen SEED STEPS`.
 
 use crate::given::{Given, PLAIN};
+use crate::same::same;
 use std::test::Fail;
 use wasi_run::generate::generate;
 
@@ -14,10 +15,14 @@ const REST: &[u8] = b"0 tcp-shutdown 2 both\n0 drop 3\n0 drop 4\n0 drop 2\n0 tcp
 
 #[test]
 fn a_seed_gives_its_lines(rt: HostRuntime) -> Result<(), Fail> {
-    assert_eq!(rt; generate(rt.alloc(), 1, 6)?.as_slice(), FIRST);
+    same(&rt, generate(rt.alloc(), 1, 6)?.as_slice(), FIRST);
     let more = generate(rt.alloc(), 1, 11)?;
-    assert!(rt; more.as_slice().starts_with(FIRST) && more.as_slice().ends_with(REST));
-    assert_eq!(rt; more.len(), FIRST.len() + REST.len());
+    same(
+        &rt,
+        more.as_slice().starts_with(FIRST) && more.as_slice().ends_with(REST),
+        true,
+    );
+    same(&rt, more.len(), FIRST.len() + REST.len());
     Ok(())
 }
 
@@ -42,7 +47,7 @@ fn gen_tells_what_its_run_came_to(rt: HostRuntime) -> Result<(), Fail> {
 #[test]
 fn gen_gives_no_log(rt: HostRuntime) -> Result<(), Fail> {
     let done = given(&["gen", "1", "10"]).run(&rt, rt.alloc())?;
-    assert!(rt; done.log.is_empty());
+    same(&rt, done.log.is_empty(), true);
     Ok(())
 }
 

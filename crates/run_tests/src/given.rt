@@ -1,5 +1,6 @@
 //! A run of the program over streams in memory, and what it came to, as text.
 
+use crate::same::same;
 use std::alloc::{AllocError, Global};
 use std::fmt::Write;
 use std::process::Abort;
@@ -122,7 +123,7 @@ impl<'a> Given<'a> {
         end: &str,
     ) -> Result<(), Fail> {
         let came = self.end(rt, alloc)?;
-        assert_eq!(rt; came.as_str(), end);
+        same(rt, came.as_str(), end);
         Ok(())
     }
 
@@ -134,7 +135,7 @@ impl<'a> Given<'a> {
         faults: (u64, u64, u64),
     ) -> Result<(), Fail> {
         let came = self.faults(rt, alloc)?;
-        assert_eq!(rt; came, faults);
+        same(rt, came, faults);
         Ok(())
     }
 }

@@ -14,6 +14,8 @@ pub mod quiet;
 #[cfg(test)]
 mod replies;
 #[cfg(test)]
+mod same;
+#[cfg(test)]
 mod shown;
 #[cfg(test)]
 mod statuses;

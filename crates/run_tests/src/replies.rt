@@ -1,5 +1,6 @@
 //! The texts of replies that no script reaches yet.
 
+use crate::same::same;
 use std::test::Fail;
 use wasi_run::reply::reply_text;
 use wasi_run::{Field, Reply, ReplyFields};
@@ -26,7 +27,7 @@ fn each_reply_has_its_text(rt: HostRuntime) -> Result<(), Fail> {
     ];
     for (reply, line) in cases {
         let text = reply_text(rt.alloc(), &reply)?;
-        assert_eq!(rt; text.as_slice(), line.as_bytes(), "{line}");
+        same(&rt, (line, text.as_slice()), (line, line.as_bytes()));
     }
     Ok(())
 }

@@ -2,6 +2,7 @@
 
 ghost use Rattle.std.specs.Prelude.{◌≤◌};
 
+use crate::same::same;
 use std::alloc::Global;
 use std::test::Fail;
 use wasi_console::line_of;
@@ -31,7 +32,7 @@ fn a_line_is_shown_with_escapes(rt: HostRuntime) -> Result<(), Fail> {
     ] {
         for most in [1, 5, 6, 4096] {
             let line = shown(rt.alloc(), text, number, most)?;
-            assert_eq!(rt; line.as_str(), want);
+            same(&rt, line.as_str(), want);
         }
     }
     Ok(())
@@ -41,6 +42,6 @@ fn a_line_is_shown_with_escapes(rt: HostRuntime) -> Result<(), Fail> {
 fn a_long_line_is_cut(rt: HostRuntime) -> Result<(), Fail> {
     let long = [b'a'; 100];
     let line = shown(rt.alloc(), &long, 1, 7)?;
-    assert_eq!(rt; line.as_str().len(), 80);
+    same(&rt, line.as_str().len(), 80);
     Ok(())
 }

@@ -1,6 +1,7 @@
 //! The statuses of words, limits and scenarios, how a run ends, and what it leaves.
 
 use crate::given::{BIND, Given, PLAIN};
+use crate::same::same;
 use std::alloc::Global;
 use std::test::Fail;
 use wasi_run::{RunEnd, run_script};
@@ -56,7 +57,7 @@ fn runs_have_their_statuses(rt: HostRuntime) -> Result<(), Fail> {
 fn nothing_is_asked_after_a_trap(rt: HostRuntime) -> Result<(), Fail> {
     let script = b"0 network\n0 tcp-create 4\n0 drop 3\n0 tcp-create 4\n";
     let done = Given { script, ..PLAIN }.run(&rt, rt.alloc())?;
-    assert_eq!(rt; done.log.len(), 3);
+    same(&rt, done.log.len(), 3);
     Ok(())
 }
 
@@ -89,9 +90,9 @@ fn left(alloc: Global, script: &[u8]) -> Result<Option<(usize, bool, u64)>, Fail
 fn a_run_leaves_its_log_and_ends_its_world(rt: HostRuntime) -> Result<(), Fail> {
     for (script, entries, closings) in [(b"".as_slice(), 0, 0), (BIND, 6, 1)] {
         let done = Given { script, ..PLAIN }.run(&rt, rt.alloc())?;
-        assert_eq!(rt; done.log.len(), entries);
+        same(&rt, done.log.len(), entries);
         let left = left(rt.alloc(), script)?;
-        assert_eq!(rt; left, Some((entries, true, closings)));
+        same(&rt, left, Some((entries, true, closings)));
     }
     Ok(())
 }

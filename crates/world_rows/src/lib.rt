@@ -9,10 +9,10 @@ mod calls;
 #[cfg(test)]
 mod memory;
 #[cfg(test)]
+mod same;
+#[cfg(test)]
 mod scenarios;
 #[cfg(test)]
 mod sides;
 #[cfg(test)]
 mod standard;
-#[cfg(test)]
-mod texts;

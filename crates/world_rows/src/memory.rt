@@ -1,5 +1,6 @@
 //! Sources and sinks over memory.
 
+use crate::same::same;
 use std::alloc::Global;
 use std::io::{Stdin, Stdout};
 use std::process::Abort;
@@ -19,7 +20,7 @@ fn expect_reads(
     let mut buf = [0; 8];
     for answer in answers {
         let told = source.read(&mut buf[..size.min(8)]);
-        assert_eq!(rt; told, *answer);
+        same(rt, told, *answer);
         given.extend_from_slice(&buf[..told.unwrap_or(0)])?;
     }
     Ok(())
@@ -39,10 +40,10 @@ fn expect_source(
     let mut source = MemorySource::new(bytes, most, fails.to_vec(alloc)?);
     let mut given = Vec::new(alloc);
     expect_reads(rt, &mut source, size, answers, &mut given)?;
-    assert_eq!(rt; given.as_slice(), b"abc".as_slice());
-    assert!(rt; source.left().is_empty());
-    assert!(rt; source.has_ended());
-    assert_eq!(rt; source.faults(), fails.len() as u64);
+    same(rt, given.as_slice(), b"abc".as_slice());
+    same(rt, source.left().is_empty(), true);
+    same(rt, source.has_ended(), true);
+    same(rt, source.faults(), fails.len() as u64);
     Ok(())
 }
 
@@ -66,8 +67,8 @@ fn a_source_gives_pieces_and_its_end(rt: HostRuntime) -> Result<(), Fail> {
 #[test]
 fn an_empty_buffer_is_not_the_end(rt: HostRuntime) -> Result<(), Fail> {
     let mut source = MemorySource::new(Vec::new(rt.alloc()), 1, Vec::new(rt.alloc()));
-    assert_eq!(rt; source.read(&mut []), Ok(0));
-    assert!(rt; !source.has_ended());
+    same(&rt, source.read(&mut []), Ok(0));
+    same(&rt, source.has_ended(), false);
     Ok(())
 }
 
@@ -76,7 +77,7 @@ fn offer_text(rt: &impl Abort, sink: &mut MemorySink, answers: Answers) {
     let mut rest: &[u8] = b"abc";
     for answer in answers {
         let told = sink.write(rest);
-        assert_eq!(rt; told, *answer);
+        same(rt, told, *answer);
         rest = &rest[told.unwrap_or(0)..];
     }
 }
@@ -85,10 +86,10 @@ fn offer_text(rt: &impl Abort, sink: &mut MemorySink, answers: Answers) {
 fn expect_sink(rt: &impl Abort, sink: MemorySink, answers: Answers, text: &str, refused: u64) {
     let mut sink = sink;
     offer_text(rt, &mut sink, answers);
-    assert_eq!(rt; sink.bytes(), text.as_bytes());
-    assert_eq!(rt; sink.refused(), refused);
+    same(rt, sink.bytes(), text.as_bytes());
+    same(rt, sink.refused(), refused);
     let failures = answers.iter().filter(|answer| answer.is_err()).count();
-    assert_eq!(rt; sink.faults(), failures as u64);
+    same(rt, sink.faults(), failures as u64);
 }
 
 #[test]
@@ -112,11 +113,11 @@ fn a_sink_takes_what_it_has_room_for(rt: HostRuntime) -> Result<(), Fail> {
 /// Three writes and three flushes, of which the call with this number fails.
 fn expect_failure(rt: &impl Abort, sink: &mut MemorySink, failing: u32) {
     for call in [1, 3, 5] {
-        assert_eq!(rt; sink.write(b"hi").is_err(), call == failing);
-        assert_eq!(rt; sink.flush().is_err(), call + 1 == failing);
-        assert_eq!(rt; sink.is_flushed(), call + 1 != failing);
+        same(rt, sink.write(b"hi").is_err(), call == failing);
+        same(rt, sink.flush().is_err(), call + 1 == failing);
+        same(rt, sink.is_flushed(), call + 1 != failing);
     }
-    assert_eq!(rt; sink.faults(), 1);
+    same(rt, sink.faults(), 1);
 }
 
 #[test]

@@ -5,22 +5,23 @@ ghost use Rattle.std.specs.Prelude.{◌≡◌, false};
 ghost use Rattle.wasi_world.specs.Scripted.{seen_by};
 
 use crate::calls::{SIDE, ask};
-use crate::texts::told_text;
+use crate::same::same;
 use std::alloc::{AllocError, Global};
 use std::process::Abort;
 use std::test::Fail;
-use wasi_world::{Kind, Lists, Planned, ScenarioError, ScriptedWorld, World};
+use wasi_addr::IpAddress;
+use wasi_world::{Kind, Lists, Planned, ScenarioError, ScriptedWorld, Told, World};
 
 // The lines of a scenario, all of one kind, and the answers then: each of them in turn, and then the default.
 const CASES: &str = "\
-lookup pending; lookup names 4 192 0 2 1; lookup names 6 1 2 3 4 5 6 7 8; lookup code timeout = pending, 192.0.2.1, 1:2:3:4:5:6:7:8, code Timeout, code Other
-udp-create code out-of-memory; udp-create done = code OutOfMemory, done, done
-udp-writable pending; udp-writable code other; udp-writable done = pending, code Other, done, done
-udp-bind code address-not-bindable; udp-bind done = code AddressNotBindable, done, done
-udp-connect code remote-unreachable; udp-connect done = code RemoteUnreachable, done, done
-udp-disconnect code other; udp-disconnect done = code Other, done, done
-send pending; send code datagram-too-large; send done = pending, code DatagramTooLarge, done, done
-recv datagram 4 10 0 0 1 7 6869; recv pending; recv code timeout = hi from 10.0.0.1 7, pending, code Timeout, pending";
+lookup pending; lookup names 4 192 0 2 1; lookup names 6 1 2 3 4 5 6 7 8; lookup code timeout = pending, names 4 192 0 2 1, names 6 1 2 3 4 5 6 7 8, code timeout, code other
+udp-create code out-of-memory; udp-create done = code out-of-memory, done, done
+udp-writable pending; udp-writable code other; udp-writable done = pending, code other, done, done
+udp-bind code address-not-bindable; udp-bind done = code address-not-bindable, done, done
+udp-connect code remote-unreachable; udp-connect done = code remote-unreachable, done, done
+udp-disconnect code other; udp-disconnect done = code other, done, done
+send pending; send code datagram-too-large; send done = pending, code datagram-too-large, done, done
+recv datagram 4 10 0 0 1 7 6869; recv pending; recv code timeout = datagram 4 10 0 0 1 7 6869, pending, code timeout, pending";
 
 /// Asks for each of the answers in turn.
 fn expect_answers(
@@ -35,19 +36,16 @@ fn expect_answers(
 {
     for answer in answers.split(", ") {
         let told = ask(alloc, world, SIDE, word)?;
-        let text = told_text(alloc, &told)?;
-        assert_eq!(rt; text.as_str(), answer);
+        let text = format!(in alloc; "{told}")?;
+        same(rt, text.as_str(), answer);
     }
     Ok(())
 }
 
 /// A scenario of these lines.
 fn scenario(alloc: Global, lines: &str) -> Result<String, AllocError> {
-    let mut text = String::new(alloc);
-    for line in lines.split("; ") {
-        text.push_str(line)?;
-        text.push_str("\n")?;
-    }
+    let mut text = lines.replace(alloc, "; ", "\n")?;
+    text.push_str("\n")?;
     Ok(text)
 }
 
@@ -66,6 +64,36 @@ fn lists_are_used_in_order(rt: HostRuntime) -> Result<(), Fail> {
     for case in CASES.lines() {
         expect_case(&rt, rt.alloc(), case)?;
     }
+    Ok(())
+}
+
+/// The address that an answer has.
+fn address_of(told: &Told) -> Option<IpAddress> {
+    match told {
+        Told::Names(names) => names.as_slice().first().copied(),
+        Told::Datagram(_, addr) => Some(addr.ip()),
+        _ => None,
+    }
+}
+
+/// The address that the world of this one line answers to a call of its kind.
+fn told_address(alloc: Global, line: &str) -> Result<Option<IpAddress>, Fail> {
+    let (word, _) = line.split_once(" ").unwrap_or(("", ""));
+    let scenario = scenario(alloc, line)?;
+    let (mut world, _contexts) = ScriptedWorld::parse(alloc, scenario.as_bytes())?;
+    let told = ask(alloc, &mut world, SIDE, word)?;
+    Ok(address_of(&told))
+}
+
+/// The answers above are compared as text; here are those with addresses, by their parts.
+#[test]
+fn addresses_are_read_by_place(rt: HostRuntime) -> Result<(), Fail> {
+    let v4 = told_address(rt.alloc(), "lookup names 4 192 0 2 1")?;
+    same(&rt, v4, Some(IpAddress::Ipv4((192, 0, 2, 1))));
+    let v6 = told_address(rt.alloc(), "lookup names 6 1 2 3 4 5 6 7 8")?;
+    same(&rt, v6, Some(IpAddress::Ipv6((1, 2, 3, 4, 5, 6, 7, 8))));
+    let sender = told_address(rt.alloc(), "recv datagram 4 10 0 0 1 7 -")?;
+    same(&rt, sender, Some(IpAddress::Ipv4((10, 0, 0, 1))));
     Ok(())
 }
 
@@ -102,7 +130,7 @@ fn the_first_bad_line_is_named(rt: HostRuntime) -> Result<(), Fail> {
         (b"bind code would-block\n", Some(1)),
     ];
     for (bytes, line) in cases {
-        assert_eq!(rt; bad_line(rt.alloc(), bytes)?, line);
+        same(&rt, bad_line(rt.alloc(), bytes)?, line);
     }
     Ok(())
 }
@@ -117,12 +145,12 @@ fn a_scenario_has_a_size(rt: HostRuntime) -> Result<(), Fail> {
     for _ in 0..104_854 {
         text.push_str("bind done\n")?;
     }
-    assert_eq!(rt; text.len(), 1_048_576);
-    assert_eq!(rt; bad_line(rt.alloc(), text.as_bytes())?, None);
+    same(&rt, text.len(), 1_048_576);
+    same(&rt, bad_line(rt.alloc(), text.as_bytes())?, None);
     text.push_str("\n")?;
-    assert_eq!(rt; bad_line(rt.alloc(), text.as_bytes())?, Some(104_859));
+    same(&rt, bad_line(rt.alloc(), text.as_bytes())?, Some(104_859));
     text.push_str("check maybe\n")?;
-    assert_eq!(rt; bad_line(rt.alloc(), text.as_bytes())?, Some(104_859));
+    same(&rt, bad_line(rt.alloc(), text.as_bytes())?, Some(104_859));
     Ok(())
 }
 
@@ -132,15 +160,15 @@ fn a_world_keeps_its_log(rt: HostRuntime) -> Result<(), Fail> {
     lists.push(Kind::Check, Planned::Pending)?;
     let mut world = ScriptedWorld::new(rt.alloc(), lists);
     expect_answers(&rt, rt.alloc(), &mut world, "check", "pending, yes")?;
-    expect_answers(&rt, rt.alloc(), &mut world, "lookup", "code Other")?;
-    assert_eq!(rt; world.faults(), 1);
-    assert!(rt; !world.ended());
+    expect_answers(&rt, rt.alloc(), &mut world, "lookup", "code other")?;
+    same(&rt, world.faults(), 1);
+    same(&rt, world.ended(), false);
     world.end();
     world.close_after_end(SIDE);
     world.close_after_end(SIDE);
-    assert!(rt; world.ended());
-    assert_eq!(rt; world.closed_after_end(), 2);
-    assert_eq!(rt; world.entries().len(), 3);
-    assert_eq!(rt; world.into_entries().len(), 3);
+    same(&rt, world.ended(), true);
+    same(&rt, world.closed_after_end(), 2);
+    same(&rt, world.entries().len(), 3);
+    same(&rt, world.into_entries().len(), 3);
     Ok(())
 }

@@ -6,7 +6,7 @@ ghost use Rattle.wasi_world.specs.Fits.{IsPlain};
 ghost use Rattle.wasi_world.specs.Scripted.{seen_by};
 
 use crate::calls::{SIDE, local};
-use crate::texts::told_text;
+use crate::same::same;
 use std::alloc::{AllocError, Global};
 use std::test::Fail;
 use wasi_addr::SocketAddressFamily;
@@ -60,7 +60,7 @@ fn told(alloc: Global, world: &mut ScriptedWorld, call: Call) -> Result<String, 
     ensures { (seen_by world.new).ended ≡ false }
 {
     let told = world.call(SIDE, call)?;
-    told_text(alloc, &told)
+    format!(in alloc; "{told}")
 }
 
 /// What `local`, `peer` and `get-option` report of a network socket.
@@ -105,25 +105,25 @@ fn told_after(alloc: Global, scenario: &str, calls: &str) -> Result<String, Fail
 
 // Calls, and what the defaults tell after them.
 const CASES: &str = "\
-create 4: 0.0.0.0 0, code InvalidState, 64
-create 4 udp-bind 80: 127.0.0.1 80, code InvalidState, 64
-create 4 udp-bind 0: 127.0.0.1 50000, code InvalidState, 64
-create 6 connect 9: 0:0:0:0:0:0:0:0 50000, 127.0.0.1 9, 64
-create 4 udp-connect 9: 0.0.0.0 50000, 127.0.0.1 9, 64
-create 4 send 80: 0.0.0.0 50000, code InvalidState, 64
-create 4 send 80 bind 7: 127.0.0.1 7, code InvalidState, 64
-create 4 udp-connect 8 udp-connect 9: 0.0.0.0 50000, 127.0.0.1 9, 64
-create 4 udp-connect 9 disconnect 9: 0.0.0.0 50000, code InvalidState, 64
-create 4 bind 80 hand 9: 127.0.0.1 80, 127.0.0.1 9, 64
-create 6 hand 9: 0:0:0:0:0:0:0:0 0, 127.0.0.1 9, 64
-create 4 count 9: 0.0.0.0 0, code InvalidState, 64";
+create 4: addr 4 0 0 0 0 0, code invalid-state, value 64
+create 4 udp-bind 80: addr 4 127 0 0 1 80, code invalid-state, value 64
+create 4 udp-bind 0: addr 4 127 0 0 1 50000, code invalid-state, value 64
+create 6 connect 9: addr 6 0 0 0 0 0 0 0 0 50000 0 0, addr 4 127 0 0 1 9, value 64
+create 4 udp-connect 9: addr 4 0 0 0 0 50000, addr 4 127 0 0 1 9, value 64
+create 4 send 80: addr 4 0 0 0 0 50000, code invalid-state, value 64
+create 4 send 80 bind 7: addr 4 127 0 0 1 7, code invalid-state, value 64
+create 4 udp-connect 8 udp-connect 9: addr 4 0 0 0 0 50000, addr 4 127 0 0 1 9, value 64
+create 4 udp-connect 9 disconnect 9: addr 4 0 0 0 0 50000, code invalid-state, value 64
+create 4 bind 80 hand 9: addr 4 127 0 0 1 80, addr 4 127 0 0 1 9, value 64
+create 6 hand 9: addr 6 0 0 0 0 0 0 0 0 0 0 0, addr 4 127 0 0 1 9, value 64
+create 4 count 9: addr 4 0 0 0 0 0, code invalid-state, value 64";
 
 #[test]
 fn defaults_follow_the_calls(rt: HostRuntime) -> Result<(), Fail> {
     for line in CASES.lines() {
         let (calls, want) = line.split_once(": ").unwrap_or(("", ""));
         let told = told_after(rt.alloc(), "", calls)?;
-        assert_eq!(rt; told.as_str(), want);
+        same(&rt, told.as_str(), want);
     }
     Ok(())
 }
@@ -136,7 +136,11 @@ fn defaults_are_kept(rt: HostRuntime) -> Result<(), Fail> {
         ("udp-bind code other\n", "create 4 udp-bind 80"),
     ] {
         let told = told_after(rt.alloc(), scenario, calls)?;
-        assert_eq!(rt; told.as_str(), "0.0.0.0 0, code InvalidState, 64");
+        same(
+            &rt,
+            told.as_str(),
+            "addr 4 0 0 0 0 0, code invalid-state, value 64",
+        );
     }
     Ok(())
 }

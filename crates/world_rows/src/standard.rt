@@ -1,5 +1,6 @@
 //! Readers and writers of std as a source and a sink.
 
+use crate::same::same;
 use std::io::{self, Error, ErrorKind, Read, Write};
 use wasi_world::{Failed, Sink, Source, StdSink, StdSource};
 
@@ -8,21 +9,21 @@ use wasi_world::{Failed, Sink, Source, StdSink, StdSource};
 fn the_standard_input_ends(rt: HostRuntime) {
     let mut source = StdSource::new(rt.stdin());
     let mut buf = [0; 4];
-    assert_eq!(rt; source.read(&mut buf[..0]), Ok(0));
-    assert!(rt; !source.has_ended());
-    assert_eq!(rt; source.read(&mut buf), Ok(0));
-    assert!(rt; source.has_ended());
-    assert_eq!(rt; source.faults(), 0);
+    same(&rt, source.read(&mut buf[..0]), Ok(0));
+    same(&rt, source.has_ended(), false);
+    same(&rt, source.read(&mut buf), Ok(0));
+    same(&rt, source.has_ended(), true);
+    same(&rt, source.faults(), 0);
 }
 
 #[test]
 fn the_standard_output_takes_pieces(rt: HostRuntime) {
     let mut sink = StdSink::new(rt.stdout());
-    assert_eq!(rt; sink.write(b"hello\n"), Ok(6));
-    assert_eq!(rt; sink.write(b""), Ok(0));
-    assert_eq!(rt; sink.flush(), Ok(()));
-    assert_eq!(rt; sink.faults(), 0);
-    assert_eq!(rt; sink.refused(), 0);
+    same(&rt, sink.write(b"hello\n"), Ok(6));
+    same(&rt, sink.write(b""), Ok(0));
+    same(&rt, sink.flush(), Ok(()));
+    same(&rt, sink.faults(), 0);
+    same(&rt, sink.refused(), 0);
 }
 
 /// A device that fails at each call.
@@ -49,15 +50,15 @@ impl Write for Broken {
 fn an_error_is_a_fault_and_not_the_end(rt: HostRuntime) {
     let mut source = StdSource::new(Broken);
     let mut buf = [0; 4];
-    assert_eq!(rt; source.read(&mut buf), Err(Failed));
-    assert_eq!(rt; source.read(&mut buf), Err(Failed));
-    assert!(rt; !source.has_ended());
-    assert_eq!(rt; source.faults(), 2);
+    same(&rt, source.read(&mut buf), Err(Failed));
+    same(&rt, source.read(&mut buf), Err(Failed));
+    same(&rt, source.has_ended(), false);
+    same(&rt, source.faults(), 2);
     let mut sink = StdSink::new(Broken);
-    assert_eq!(rt; sink.write(b"hello"), Err(Failed));
-    assert_eq!(rt; sink.flush(), Err(Failed));
-    assert_eq!(rt; sink.faults(), 2);
-    assert_eq!(rt; sink.refused(), 0);
+    same(&rt, sink.write(b"hello"), Err(Failed));
+    same(&rt, sink.flush(), Err(Failed));
+    same(&rt, sink.faults(), 2);
+    same(&rt, sink.refused(), 0);
 }
 
 /// A writer that takes two bytes at a time, four in all, and counts its flushes.
@@ -87,25 +88,25 @@ fn a_short_write_is_reported_and_a_flush_passed_on(rt: HostRuntime) {
         flushes: 0,
     };
     let mut sink = StdSink::new(&mut narrow);
-    assert_eq!(rt; sink.write(b"abc"), Ok(2));
-    assert_eq!(rt; sink.write(b"c"), Ok(1));
-    assert_eq!(rt; sink.flush(), Ok(()));
-    assert_eq!(rt; sink.write(b"de"), Ok(1));
-    assert_eq!(rt; sink.write(b"e"), Ok(0));
-    assert_eq!(rt; sink.refused(), 1);
-    assert_eq!(rt; sink.faults(), 0);
-    assert_eq!(rt; narrow.flushes, 1);
+    same(&rt, sink.write(b"abc"), Ok(2));
+    same(&rt, sink.write(b"c"), Ok(1));
+    same(&rt, sink.flush(), Ok(()));
+    same(&rt, sink.write(b"de"), Ok(1));
+    same(&rt, sink.write(b"e"), Ok(0));
+    same(&rt, sink.refused(), 1);
+    same(&rt, sink.faults(), 0);
+    same(&rt, narrow.flushes, 1);
 }
 
 #[test]
 fn a_reader_gives_its_bytes_in_order(rt: HostRuntime) {
     let mut source = StdSource::new(b"hello".as_slice());
     let mut buf = [0; 3];
-    assert_eq!(rt; source.read(&mut buf), Ok(3));
-    assert_eq!(rt; buf, *b"hel");
-    assert_eq!(rt; source.read(&mut buf), Ok(2));
-    assert_eq!(rt; buf[..2], b"lo"[..]);
-    assert!(rt; !source.has_ended());
-    assert_eq!(rt; source.read(&mut buf), Ok(0));
-    assert!(rt; source.has_ended());
+    same(&rt, source.read(&mut buf), Ok(3));
+    same(&rt, buf, *b"hel");
+    same(&rt, source.read(&mut buf), Ok(2));
+    same(&rt, &buf[..2], b"lo".as_slice());
+    same(&rt, source.has_ended(), false);
+    same(&rt, source.read(&mut buf), Ok(0));
+    same(&rt, source.has_ended(), true);
 }

@@ -1,6 +1,7 @@
 //! Streams that end early.
 
 use crate::pour::{Use, pattern, pour};
+use crate::same::same;
 use std::test::*;
 use wasi_shared::Ended;
 use wasi_spawn::{FakeSpawner, StartError, ThreadSpawner};
@@ -28,13 +29,13 @@ fn the_sink_fails_at_each_call_in_turn(rt: HostRuntime) -> Result<(), Fail> {
             return Err(Fail::new("no worker"));
         };
         let sink = finished.inner;
-        assert!(rt; sink.bytes().len() <= accepted, "call {call}");
-        assert!(rt; bytes.as_slice().starts_with(sink.bytes()), "call {call}");
+        let taken = sink.bytes().len();
+        let front = bytes.as_slice().starts_with(sink.bytes());
+        same(&rt, (call, front, taken <= accepted), (call, true, true));
         if sink.faults() == 0 {
-            assert_eq!(rt; finished.outcome, Ok(()), "call {call}");
-            assert_eq!(rt; sink.bytes().len(), 600, "call {call}");
+            same(&rt, (call, finished.outcome, taken), (call, Ok(()), 600));
         } else {
-            assert_eq!(rt; finished.outcome, Err(Ended::Fault), "call {call}");
+            same(&rt, (call, finished.outcome), (call, Err(Ended::Fault)));
         }
     }
     Ok(())
@@ -60,10 +61,14 @@ fn the_sink_takes_nothing(rt: HostRuntime) -> Result<(), Fail> {
     ) else {
         return Err(Fail::new("no worker"));
     };
-    assert_eq!(rt; finished.outcome, Err(Ended::Fault));
-    assert!(rt; bytes.as_slice().starts_with(finished.inner.bytes()));
-    assert_eq!(rt; finished.inner.bytes().len(), 250);
-    assert_eq!(rt; finished.inner.refused(), 1);
+    same(&rt, finished.outcome, Err(Ended::Fault));
+    same(
+        &rt,
+        bytes.as_slice().starts_with(finished.inner.bytes()),
+        true,
+    );
+    same(&rt, finished.inner.bytes().len(), 250);
+    same(&rt, finished.inner.refused(), 1);
     Ok(())
 }
 
@@ -88,16 +93,19 @@ fn the_stream_is_cancelled_at_each_point(rt: HostRuntime) -> Result<(), Fail> {
         ) else {
             return Err(Fail::new("no worker"));
         };
-        assert!(rt;
-            bytes.as_slice().starts_with(finished.inner.bytes()),
-            "{writes} writes"
+        let taken = finished.inner.bytes().len();
+        let front = bytes.as_slice().starts_with(finished.inner.bytes());
+        same(
+            &rt,
+            (writes, front, taken <= accepted),
+            (writes, true, true),
         );
-        assert!(rt; finished.inner.bytes().len() <= accepted, "{writes} writes");
-        if accepted < 600 {
-            assert_eq!(rt; finished.outcome, Err(Ended::Cancelled), "{writes} writes");
+        let outcome = if accepted < 600 {
+            Err(Ended::Cancelled)
         } else {
-            assert_eq!(rt; finished.outcome, Ok(()), "{writes} writes");
-        }
+            Ok(())
+        };
+        same(&rt, (writes, finished.outcome), (writes, outcome));
     }
     Ok(())
 }
@@ -122,13 +130,13 @@ fn a_refused_start_hands_the_sink_back(rt: HostRuntime) -> Result<(), Fail> {
     ) else {
         return Err(Fail::new("it started"));
     };
-    assert_eq!(rt; sink.bytes().len(), 0);
-    assert_eq!(rt; spawner.starts(), 0);
-    assert_eq!(rt; spawner.refusals(), 1);
+    same(&rt, sink.bytes().len(), 0);
+    same(&rt, spawner.starts(), 0);
+    same(&rt, spawner.refusals(), 1);
     let Ok((finished, _)) = pour(&rt, rt.alloc(), &mut spawner, sink, bytes.as_slice(), how) else {
         return Err(Fail::new("the second start was refused"));
     };
-    assert!(rt; finished.inner.bytes() == bytes.as_slice());
-    assert_eq!(rt; spawner.starts(), 1);
+    same(&rt, finished.inner.bytes() == bytes.as_slice(), true);
+    same(&rt, spawner.starts(), 1);
     Ok(())
 }

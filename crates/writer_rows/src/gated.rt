@@ -2,6 +2,7 @@
 
 use crate::gate::gated;
 use crate::play::{Answer, Step, play};
+use crate::same::same;
 use std::alloc::Global;
 use std::process::Abort;
 use std::sync::Wait;
@@ -33,9 +34,9 @@ fn plays<R: Threads + Wait + Abort + Copy + Send + 'static>(
     let Ok((other, finished)) = play(rt, alloc, 10, gate, sink, steps) else {
         return Err(Fail::new("no worker"));
     };
-    assert_eq!(rt; other, None);
-    assert_eq!(rt; finished.outcome, outcome);
-    assert_eq!(rt; finished.inner.bytes(), bytes);
+    same(rt, other, None);
+    same(rt, finished.outcome, outcome);
+    same(rt, finished.inner.bytes(), bytes);
     Ok(())
 }
 

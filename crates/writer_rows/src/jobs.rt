@@ -1,5 +1,6 @@
 //! Jobs in threads of their own, and refused ones.
 
+use crate::same::same;
 use std::sync::Wait;
 use std::test::*;
 use std::thread::Threads;
@@ -40,10 +41,10 @@ fn a_thread_does_the_job(rt: HostRuntime) -> Result<(), Fail> {
     ) else {
         return Err(Fail::new("no second worker"));
     };
-    assert_eq!(rt; spawner.join(&rt, second), 510);
-    assert_eq!(rt; spawner.join(&rt, first), 3);
-    assert_eq!(rt; spawner.starts(), 2);
-    assert_eq!(rt; spawner.refusals(), 0);
+    same(&rt, spawner.join(&rt, second), 510);
+    same(&rt, spawner.join(&rt, first), 3);
+    same(&rt, spawner.starts(), 2);
+    same(&rt, spawner.refusals(), 0);
     Ok(())
 }
 
@@ -60,23 +61,24 @@ fn a_refused_start_hands_its_job_back(rt: HostRuntime) -> Result<(), Fail> {
             },
         ) {
             Ok(handle) => {
-                assert_eq!(rt; number % 2, 0);
-                assert_eq!(rt; spawner.join(&rt, handle), u64::from(number) + 5);
+                same(&rt, number % 2, 0);
+                same(&rt, spawner.join(&rt, handle), u64::from(number) + 5);
             }
             Err(StartError::NoWorker(job)) => {
-                assert_eq!(rt; number % 2, 1);
-                assert_eq!(rt;
+                same(&rt, number % 2, 1);
+                same(
+                    &rt,
                     job,
                     Sum {
                         one: number,
-                        other: 5
-                    }
+                        other: 5,
+                    },
                 );
             }
             Err(StartError::Memory(_)) => return Err(Fail::new("memory")),
         }
     }
-    assert_eq!(rt; spawner.starts(), 2);
-    assert_eq!(rt; spawner.refusals(), 2);
+    same(&rt, spawner.starts(), 2);
+    same(&rt, spawner.refusals(), 2);
     Ok(())
 }

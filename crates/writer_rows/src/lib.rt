@@ -20,3 +20,5 @@ mod piped;
 mod play;
 #[cfg(test)]
 mod pour;
+#[cfg(test)]
+mod same;

@@ -2,6 +2,7 @@
 
 ghost use Rattle.std.specs.Prelude.{◌≡◌};
 
+use crate::same::same;
 use bytes::Bytes;
 use std::alloc::{AllocError, Global};
 use std::sync::Wait;
@@ -32,12 +33,12 @@ fn push_all<R: Wait>(
 #[test]
 fn chunks_come_in_order(rt: HostRuntime) -> Result<(), Fail> {
     let (line, mut push, mut pop) = make_line(rt.alloc())?;
-    assert!(rt; pop.pop(&rt, &line).is_none());
+    same(&rt, pop.pop(&rt, &line).is_none(), true);
     push_all(&rt, rt.alloc(), &mut push, &line, 100)?;
     for n in 0..97u8 {
         let chunk = pop.pop(&rt, &line).expect(&rt, "a chunk");
-        assert_eq!(rt; chunk.as_slice(), [n, n].as_slice());
+        same(&rt, chunk.as_slice(), [n, n].as_slice());
     }
-    assert_eq!(rt; count_left(&rt, &line, push, pop), 3);
+    same(&rt, count_left(&rt, &line, push, pop), 3);
     Ok(())
 }

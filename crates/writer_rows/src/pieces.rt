@@ -1,6 +1,7 @@
 //! Bytes in pieces of every size, over a sink that takes some at a time.
 
 use crate::pour::{Use, pattern, pour};
+use crate::same::same;
 use std::test::*;
 use wasi_spawn::ThreadSpawner;
 use wasi_world::MemorySink;
@@ -39,13 +40,14 @@ fn the_sink_gets_all_bytes_in_order(rt: HostRuntime) -> Result<(), Fail> {
         ) else {
             return Err(Fail::new("no worker"));
         };
-        assert_eq!(rt; accepted, size, "pieces of {piece}");
-        assert_eq!(rt; finished.outcome, Ok(()));
-        assert!(rt;
-            finished.inner.bytes() == bytes.as_slice(),
-            "pieces of {piece}"
+        let all = finished.inner.bytes() == bytes.as_slice();
+        let flushed = finished.inner.is_flushed();
+        same(
+            &rt,
+            (piece, accepted, all, flushed),
+            (piece, size, true, true),
         );
-        assert!(rt; finished.inner.is_flushed());
+        same(&rt, finished.outcome, Ok(()));
     }
     Ok(())
 }
@@ -70,8 +72,8 @@ fn the_least_budget_is_enough(rt: HostRuntime) -> Result<(), Fail> {
     ) else {
         return Err(Fail::new("no worker"));
     };
-    assert_eq!(rt; accepted, 300);
-    assert_eq!(rt; finished.outcome, Ok(()));
-    assert!(rt; finished.inner.bytes() == bytes.as_slice());
+    same(&rt, accepted, 300);
+    same(&rt, finished.outcome, Ok(()));
+    same(&rt, finished.inner.bytes() == bytes.as_slice(), true);
     Ok(())
 }

@@ -4,6 +4,7 @@ ghost use Rattle.std.specs.Prelude.{◌≡◌};
 ghost use Rattle.wasi_writer.specs.Names.{ledgers_of};
 
 use crate::pour::pattern;
+use crate::same::same;
 use std::alloc::Global;
 use std::marker::Brand;
 use std::process::Abort;
@@ -54,7 +55,7 @@ fn a_pipe_hands_on_all_bytes_in_order(rt: HostRuntime) -> Result<(), Fail> {
             move || send(writer, all),
             move || receives(reader, all),
         );
-        assert!(rt; sent && received, "capacity {capacity}");
+        same(&rt, (capacity, sent && received), (capacity, true));
     }
     Ok(())
 }
@@ -62,11 +63,11 @@ fn a_pipe_hands_on_all_bytes_in_order(rt: HostRuntime) -> Result<(), Fail> {
 #[test]
 fn a_write_fails_once_the_reader_is_gone(rt: HostRuntime) -> Result<(), Fail> {
     let (reader, mut writer) = simplex(&rt, rt.alloc(), 4)?;
-    assert_eq!(rt; writer.write(&[1, 2, 3, 4, 5]), Ok(4));
-    assert_eq!(rt; writer.write(&[]), Ok(0));
+    same(&rt, writer.write(&[1, 2, 3, 4, 5]), Ok(4));
+    same(&rt, writer.write(&[]), Ok(0));
     drop(reader);
-    assert_eq!(rt; writer.write(&[5]), Err(Failed));
-    assert_eq!(rt; writer.flush(), Ok(()));
+    same(&rt, writer.write(&[5]), Err(Failed));
+    same(&rt, writer.flush(), Ok(()));
     Ok(())
 }
 
@@ -93,20 +94,21 @@ fn writes_into_a_pipe<
         writer,
     )?;
     let block = [7u8; 1024];
-    assert_eq!(rt; stream.write(rt, &block), Ok(()));
+    same(rt, stream.write(rt, &block), Ok(()));
     stream.ready(rt);
-    assert_eq!(rt; stream.check_write(rt), Ok(1024));
-    assert_eq!(rt; stream.write(rt, &block), Ok(()));
-    assert_eq!(rt;
+    same(rt, stream.check_write(rt), Ok(1024));
+    same(rt, stream.write(rt, &block), Ok(()));
+    same(
+        rt,
         stream.write(rt, &block),
-        Err(StreamError::Trap(TrapKind::Budget))
+        Err(StreamError::Trap(TrapKind::Budget)),
     );
     for _byte in 0..2048u32 {
-        assert_eq!(rt; reader.read(&mut [0]), Ok(1));
+        same(rt, reader.read(&mut [0]), Ok(1));
     }
     stream.ready(rt);
-    assert_eq!(rt; stream.check_write(rt), Ok(1024));
-    assert_eq!(rt; stream.flush(rt), Ok(()));
+    same(rt, stream.check_write(rt), Ok(1024));
+    same(rt, stream.flush(rt), Ok(()));
     Ok(stream.finish(rt, &mut spawner))
 }
 
@@ -117,6 +119,6 @@ fn a_stream_waits_for_the_pipe(rt: HostRuntime) -> Result<(), Fail> {
     let Ok(finished) = writes_into_a_pipe::<Brand, _>(&rt, rt.alloc(), parts, reader, writer) else {
         return Err(Fail::new("no worker"));
     };
-    assert_eq!(rt; finished.outcome, Ok(()));
+    same(&rt, finished.outcome, Ok(()));
     Ok(())
 }

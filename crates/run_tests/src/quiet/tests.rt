@@ -1,4 +1,5 @@
 use super::*;
+use crate::same::same;
 use std::test::Fail;
 use wasi_run::{RunEnd, run_script};
 use wasi_world::{MemorySink, MemorySource, WasiSocketsCtx};
@@ -26,11 +27,12 @@ fn a_script_runs_without_a_log(rt: HostRuntime) -> Result<(), Fail> {
         &mut source,
         &mut sink,
     );
-    assert!(rt; matches!(outcome, Ok(RunEnd::AllRead)));
-    assert_eq!(rt;
+    same(&rt, matches!(outcome, Ok(RunEnd::AllRead)), true);
+    same(
+        &rt,
         sink.bytes(),
-        b"ok 1\nok 2\nerr access-denied\nerr not-in-progress\n".as_slice()
+        b"ok 1\nok 2\nerr access-denied\nerr not-in-progress\n".as_slice(),
     );
-    assert_eq!(rt; world.closed_after_end(), 1);
+    same(&rt, world.closed_after_end(), 1);
     Ok(())
 }
