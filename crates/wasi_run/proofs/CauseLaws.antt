@@ -14,22 +14,14 @@ IsWhole (Err WriteFault) = ⊥
 IsWhole _ = Unit {0}
 
 whole_asked : (contexts : List WasiSocketsCtx) (outcome : Result LinesEnd RunError) (state : Machine) (line : ℕ) (met : List Step) (seen now : Seen) → IsWhole outcome → Beyond contexts outcome state line met seen now → (met ≡ []) × (now ≡ seen)
-whole_asked contexts (Ok lines.AllDone) state line met seen now h b = b
-whole_asked contexts (Ok lines.Trapped) state line met seen now h b = b
 whole_asked contexts (Err Memory) state line met seen now h b = absurd h
-whole_asked contexts (Err (BadStep n)) state line met seen now h b = b
-whole_asked contexts (Err TooLong) state line met seen now h b = b
-whole_asked contexts (Err ReadFault) state line met seen now h b = b
 whole_asked contexts (Err WriteFault) state line met seen now h b = absurd h
+whole_asked contexts _ state line met seen now h b = b
 
 whole_written : (outcome : Result LinesEnd RunError) (replies : List Reply) (written : List ℕ) → IsWhole outcome → Wrote outcome replies written → written ≡ texts replies
-whole_written (Ok lines.AllDone) replies written h w = w.1
-whole_written (Ok lines.Trapped) replies written h w = w.1
-whole_written (Err Memory) replies written h w = w.1
-whole_written (Err (BadStep n)) replies written h w = w.1
-whole_written (Err TooLong) replies written h w = w.1
-whole_written (Err ReadFault) replies written h w = w.1
 whole_written (Err WriteFault) replies written h w = absurd h
+whole_written (Ok lines.Trapped) replies written h w = w.1
+whole_written _ replies written h w = w.1
 
 module _ {contexts : List WasiSocketsCtx} {w_old stopped : Seen} {k_old k_new : Writing} {all : List (List ℕ)} {outcome : Result LinesEnd RunError} {last : Machine} where
   spelled : (r : LinesRan contexts w_old stopped k_old k_new first_state 1 all outcome last) → IsWhole outcome → StartWith (length contexts) all r.steps
@@ -65,7 +57,7 @@ module _ {contexts : List WasiSocketsCtx} {limit : ℕ} {before after : Reading}
   pub whole_by : (text : List ℕ) (a : RunEnd) → Gave before text after → (outcome : Result LinesEnd RunError) → LinesRan contexts w_old stopped k_old k_new first_state 1 (lines_of (take limit text)) outcome last → Answers limit text before after outcome (Ok a) → AsksNothing stopped w_new → DoneLines contexts limit before after k_old k_new w_old w_new
   whole_by text a gave (Ok lines.AllDone) r h quiet = done_lines text gave r tt quiet
   whole_by text a gave (Ok lines.Trapped) r h quiet = done_lines text gave r tt quiet
-  whole_by text a gave (Err e) r h quiet = absurd h
+  whole_by text a gave _ r h quiet = absurd h
 
   read_by : (text : List ℕ) → Gave before text after → (outcome : Result LinesEnd RunError) → LinesRan contexts w_old stopped k_old k_new first_state 1 (lines_of (take limit text)) outcome last → Answers limit text before after outcome (Ok end.AllRead) → AsksNothing stopped w_new → ReadsAll contexts limit before after k_old k_new w_old w_new
   read_by text gave (Ok lines.AllDone) r h quiet = record {
@@ -76,13 +68,11 @@ module _ {contexts : List WasiSocketsCtx} {limit : ℕ} {before after : Reading}
     no_trap = r.wrote.0;
     ended = h.0;
   }
-  read_by text gave (Ok lines.Trapped) r h quiet = absurd h
-  read_by text gave (Err e) r h quiet = absurd h
+  read_by text gave _ r h quiet = absurd h
 
   trap_by : (text : List ℕ) → Gave before text after → (outcome : Result LinesEnd RunError) → (r : LinesRan contexts w_old stopped k_old k_new first_state 1 (lines_of (take limit text)) outcome last) → Answers limit text before after outcome (Ok end.Trapped) → length (after_lines (length r.steps) text) ≤ 4095 → AsksNothing stopped w_new → StopsAtTrap 4095 contexts limit before after k_old k_new w_old w_new
-  trap_by text gave (Ok lines.AllDone) r h f quiet = absurd h
   trap_by text gave (Ok lines.Trapped) r h f quiet = record { done = done_lines text gave r tt quiet; trap = r.wrote.0; ahead = f }
-  trap_by text gave (Err e) r h f quiet = absurd h
+  trap_by text gave _ r h f quiet = absurd h
 
   bad_by : (text : List ℕ) (n : ℕ) → Gave before text after → (outcome : Result LinesEnd RunError) → LinesRan contexts w_old stopped k_old k_new first_state 1 (lines_of (take limit text)) outcome last → Answers limit text before after outcome (Err (BadStep n)) → AsksNothing stopped w_new → StopsAtBadStep contexts limit before after k_old k_new w_old w_new n
   bad_by text n gave (Ok lines.AllDone) r h quiet = record {
@@ -91,8 +81,6 @@ module _ {contexts : List WasiSocketsCtx} {limit : ℕ} {before after : Reading}
     bad = inr (record { within = h.1; all = lines_within limit (length r.steps) text h.1 r.cause.count; rest = h.2; ended = h.0 });
     no_trap = r.wrote.0;
   }
-  bad_by text n gave (Ok lines.Trapped) r h quiet = absurd h
-  bad_by text n gave (Err Memory) r h quiet = cc
   bad_by text n gave (Err (BadStep m)) r h quiet =
       let e : m ≡ n = cc in
       record {
@@ -101,35 +89,18 @@ module _ {contexts : List WasiSocketsCtx} {limit : ℕ} {before after : Reading}
         bad = inl r.cause.1;
         no_trap = r.wrote.0;
       }
-  bad_by text n gave (Err TooLong) r h quiet = cc
-  bad_by text n gave (Err ReadFault) r h quiet = cc
-  bad_by text n gave (Err WriteFault) r h quiet = cc
+  bad_by text n gave _ r h quiet = absurd (grind (arith, h, r.cause))
 
   long_by : (text : List ℕ) → Gave before text after → (outcome : Result LinesEnd RunError) → LinesRan contexts w_old stopped k_old k_new first_state 1 (lines_of (take limit text)) outcome last → Answers limit text before after outcome (Err TooLong) → AsksNothing stopped w_new → StopsTooLong contexts limit before after k_old k_new w_old w_new
   long_by text gave (Ok lines.AllDone) r h quiet = record { done = done_lines text gave r tt quiet; past = h; all = r.cause.count; no_trap = r.wrote.0 }
-  long_by text gave (Ok lines.Trapped) r h quiet = absurd h
-  long_by text gave (Err Memory) r h quiet = cc
-  long_by text gave (Err (BadStep m)) r h quiet = cc
-  long_by text gave (Err TooLong) r h quiet = absurd r.cause
-  long_by text gave (Err ReadFault) r h quiet = cc
-  long_by text gave (Err WriteFault) r h quiet = cc
+  long_by text gave _ r h quiet = absurd (grind (arith, h, r.cause))
 
   fault_by : (text : List ℕ) → Gave before text after → (outcome : Result LinesEnd RunError) → LinesRan contexts w_old stopped k_old k_new first_state 1 (lines_of (take limit text)) outcome last → Answers limit text before after outcome (Err ReadFault) → AsksNothing stopped w_new → StopsAtReadFault contexts limit before after k_old k_new w_old w_new
   fault_by text gave (Ok lines.AllDone) r h quiet = record { done = done_lines text gave r tt quiet; rose = h; all = r.cause.count; no_trap = r.wrote.0 }
-  fault_by text gave (Ok lines.Trapped) r h quiet = absurd h
-  fault_by text gave (Err Memory) r h quiet = cc
-  fault_by text gave (Err (BadStep m)) r h quiet = cc
-  fault_by text gave (Err TooLong) r h quiet = cc
-  fault_by text gave (Err ReadFault) r h quiet = absurd r.cause
-  fault_by text gave (Err WriteFault) r h quiet = cc
+  fault_by text gave _ r h quiet = absurd (grind (arith, h, r.cause))
 
   cut_by : (text : List ℕ) → Gave before text after → (outcome : Result LinesEnd RunError) → LinesRan contexts w_old stopped k_old k_new first_state 1 (lines_of (take limit text)) outcome last → Answers limit text before after outcome (Err WriteFault) → AsksNothing stopped w_new → StopsAtWriteFault contexts limit before after k_old k_new w_old w_new
   cut_by text gave (Ok lines.AllDone) r h quiet = absurd h
-  cut_by text gave (Ok lines.Trapped) r h quiet = absurd h
-  cut_by text gave (Err Memory) r h quiet = cc
-  cut_by text gave (Err (BadStep m)) r h quiet = cc
-  cut_by text gave (Err TooLong) r h quiet = cc
-  cut_by text gave (Err ReadFault) r h quiet = cc
   cut_by text gave (Err WriteFault) r h quiet =
       let b = r.beyond in
       record {
@@ -148,10 +119,10 @@ module _ {contexts : List WasiSocketsCtx} {limit : ℕ} {before after : Reading}
         took = r.took;
         cut = r.wrote;
       }
+  cut_by text gave _ r h quiet = absurd (grind (arith, h, r.cause))
 
   memory_by : (text : List ℕ) → Gave before text after → (outcome : Result LinesEnd RunError) → LinesRan contexts w_old stopped k_old k_new first_state 1 (lines_of (take limit text)) outcome last → Answers limit text before after outcome (Err Memory) → AsksNothing stopped w_new → StopsForMemory contexts limit before after k_old k_new w_old w_new
   memory_by text gave (Ok lines.AllDone) r h quiet = absurd h
-  memory_by text gave (Ok lines.Trapped) r h quiet = absurd h
   memory_by text gave (Err Memory) r h quiet = record {
     text = text;
     gave = gave;
@@ -170,10 +141,7 @@ module _ {contexts : List WasiSocketsCtx} {limit : ℕ} {before after : Reading}
     counted = r.counted;
     no_trap = r.wrote.0;
   }
-  memory_by text gave (Err (BadStep m)) r h quiet = cc
-  memory_by text gave (Err TooLong) r h quiet = cc
-  memory_by text gave (Err ReadFault) r h quiet = cc
-  memory_by text gave (Err WriteFault) r h quiet = cc
+  memory_by text gave _ r h quiet = absurd (grind (arith, h, r.cause))
 
 module _ {contexts : List WasiSocketsCtx} {limit : ℕ} {before after : Reading} {w_old w_new : Seen} {k_old k_new : Writing} where
   pub reads_all : RanScript contexts limit before after k_old k_new w_old w_new (Ok end.AllRead) → ReadsAll contexts limit before after k_old k_new w_old w_new

@@ -1,29 +1,20 @@
 -- A valid script is done.
-use Rattle.wasi_run.proofs.Words.{◌≡◌, ◌∙◌, sym, refl, ℕ, ◌≤◌, List, [], ◌∷◌, ◌++◌, length, take, Option, Some, None, Result, Ok, Err, length-append, append-nil, subst, arith, option_map, IfSome, take_all, WasiSocketsCtx, Seen, Rose, Reading, Writing, HasEnded, CountRose, Machine, Step, LinesEnd, RunError, Memory, BadStep, TooLong, ReadFault, WriteFault, step_of, first_state, lines_of, lines_from, rest_of, BadAfter, AllSteps, LinesRan, lines-append}
+use Rattle.wasi_run.proofs.Words.{◌≡◌, ◌∙◌, sym, refl, ℕ, ◌≤◌, List, [], ◌∷◌, ◌++◌, length, take, Option, Some, None, Result, Ok, Err, length-append, append-nil, subst, arith, option_map, IfSome, take_all, WasiSocketsCtx, Seen, Rose, Reading, Writing, HasEnded, CountRose, Machine, Step, LinesEnd, RunError, Memory, BadStep, TooLong, ReadFault, WriteFault, first_state, lines_of, lines_from, rest_of, BadAfter, AllSteps, LinesRan, lines-append}
 use Rattle.wasi_session.specs.declared.lines.LinesEnd.TheVariants as lines
 use Rattle.wasi_run.specs.declared.run.RunEnd.{RunEnd}
 use Rattle.wasi_run.specs.Script.{Answers, RanScript, IsValid, IsOkOrMemory, Completes}
 
-never : (script : List ℕ) → Some script ≡ None → ⊥
-never script h = cc
-
-inside : (a b : List ℕ) → Some a ≡ Some b → a ≡ b
-inside a b h = cc
-
 pub front_of : (text : List ℕ) (left : Option (List ℕ)) (script : List ℕ) → Some script ≡ option_map (λ l. text ++ l) left → (more : List ℕ) × (left ≡ Some more) × (script ≡ text ++ more)
-front_of text None script h = absurd (never script h)
-front_of text (Some more) script h = (more, refl, inside script (text ++ more) h)
+front_of text None script h = absurd (cc)
+front_of text (Some more) script h = (more, refl, cc)
 
 steps_front : (n : ℕ) (ls more : List (List ℕ)) → AllSteps n (ls ++ more) → AllSteps n ls
 steps_front n [] more h = tt
 steps_front n (l ∷ ls) more h = (h.0, steps_front n ls more h.1)
 
-some_none : (o : Option Step) (s : Step) → o ≡ Some s → o ≡ None → ⊥
-some_none o s h k = cc
-
 not_bad : (n : ℕ) (ls : List (List ℕ)) (xs : List Step) → AllSteps n ls → BadAfter n ls xs → ⊥
 not_bad n [] xs h b = b
-not_bad n (l ∷ ls) [] h b = some_none (step_of n l) h.0.0 h.0.1 b
+not_bad n (l ∷ ls) [] h b = cc (h.0.1, b)
 not_bad n (l ∷ ls) (x ∷ xs) h b = not_bad n ls xs h.1 b
 
 -- the lines that were read of a valid script are steps

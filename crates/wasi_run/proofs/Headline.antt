@@ -1,5 +1,5 @@
 -- What a script's record says of the run of its lines, and of the closings after it.
-use Rattle.wasi_run.proofs.Words.{◌∙◌, refl, ap, sym, append-nil, ℕ, List, [], ◌∷◌, ◌++◌, ◌+◌, length, Some, Result, Ok, Err, false, ◌≡◌, OnOk, Entry, WasiSocketsCtx, Seen, Reading, Writing, Machine, HasRun, Step, RunError, Memory, BadStep, TooLong, ReadFault, WriteFault, LinesEnd, Met, Beyond, first_state, IsFresh, HasClosedAll, stays_open}
+use Rattle.wasi_run.proofs.Words.{◌∙◌, refl, ap, sym, append-nil, ℕ, List, [], ◌∷◌, ◌++◌, ◌+◌, length, Some, Result, Ok, Err, false, ◌≡◌, OnOk, Entry, WasiSocketsCtx, Seen, Reading, Writing, Machine, HasRun, Step, RunError, Memory, LinesEnd, Met, Beyond, first_state, IsFresh, HasClosedAll, stays_open}
 use Rattle.wasi_run.specs.declared.run.RunEnd.{RunEnd}
 use Rattle.wasi_host.specs.Sides.{KnowsSides, ClosesAll}
 use Rattle.wasi_run.specs.Script.{RanOver, RanScript}
@@ -37,11 +37,7 @@ module _ (contexts : List WasiSocketsCtx) (state : Machine) (line : ℕ) (old no
 
   follows : (outcome : Result LinesEnd RunError) (met : List Step) → Beyond contexts outcome state line met old now → Follows
   follows (Err Memory) met h = met_follows met h
-  follows (Ok end) met h = nothing_follows h.1
-  follows (Err (BadStep n)) met h = nothing_follows h.1
-  follows (Err TooLong) met h = nothing_follows h.1
-  follows (Err ReadFault) met h = nothing_follows h.1
-  follows (Err WriteFault) met h = nothing_follows h.1
+  follows _ met h = nothing_follows h.1
 
 module _ {contexts : List WasiSocketsCtx} {limit : ℕ} {before after : Reading} {k_old k_new : Writing} {w_old w_new : Seen} {result : Result RunEnd RunError} where
   -- of a world that reports its log, which was empty when the run began

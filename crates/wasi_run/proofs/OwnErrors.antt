@@ -1,6 +1,6 @@
 -- A valid script from a source without faults, into a sink that refuses nothing at first, ends with no other error than
 -- out of memory and a write that failed.
-use Rattle.wasi_run.proofs.Words.{◌⊎◌, ◌≡◌, ℕ, List, length, Result, Ok, Err, inl, inr, refl, sym, arith, WasiSocketsCtx, Seen, Rose, Reading, Writing, SameCounts, CountRose, LinesEnd, RunError, Memory, BadStep, TooLong, ReadFault, WriteFault, Counted}
+use Rattle.wasi_run.proofs.Words.{◌⊎◌, ◌≡◌, ℕ, List, length, Result, Ok, Err, inl, inr, refl, sym, arith, WasiSocketsCtx, Seen, Rose, Reading, Writing, SameCounts, CountRose, LinesEnd, RunError, Memory, WriteFault, Counted}
 use Rattle.wasi_session.specs.declared.lines.LinesEnd.TheVariants as lines
 use Rattle.wasi_run.specs.Script.{Answers, RanScript, IsValid, IsOkOrMemory, Completes}
 use Rattle.wasi_run.specs.Counted.{unread, unwritten, IsOwn}
@@ -16,13 +16,9 @@ not_counted k same rose = by_rose rose.rose
     by_rose (inr h) = none_rose k.refused same.refused h
 
 counts_same : (limit : ℕ) (text : List ℕ) (before after : Reading) (k_old k_new : Writing) (e : RunError) (outcome : Result LinesEnd RunError) → (e ≡ WriteFault → ⊥) → Answers limit text before after outcome (Err e) → Counted outcome k_old k_new → SameCounts k_old k_new
-counts_same limit text before after k_old k_new e (Ok lines.AllDone) other a h = h
 counts_same limit text before after k_old k_new e (Ok lines.Trapped) other a h = absurd a
-counts_same limit text before after k_old k_new e (Err Memory) other a h = h
-counts_same limit text before after k_old k_new e (Err (BadStep n)) other a h = h
-counts_same limit text before after k_old k_new e (Err TooLong) other a h = h
-counts_same limit text before after k_old k_new e (Err ReadFault) other a h = h
 counts_same limit text before after k_old k_new e (Err WriteFault) other a h = absurd (other (sym a))
+counts_same limit text before after k_old k_new e _ other a h = h
 
 module _ (contexts : List WasiSocketsCtx) (script : List ℕ) (after : Reading) (k_new : Writing) (w_old w_new : Seen) (valid : IsValid (length contexts) (length script) script) (quiet : after.faults ≡ 0) where
   no_other : (e : RunError) → (e ≡ WriteFault → ⊥) → RanScript contexts (length script) (unread script) after unwritten k_new w_old w_new (Err e) → Completes (length contexts) (length script) (unread script) after unwritten k_new (Err e) → IsOkOrMemory (Err e)
@@ -32,9 +28,7 @@ module _ (contexts : List WasiSocketsCtx) (script : List ℕ) (after : Reading) 
   own_error : (e : RunError) → RanScript contexts (length script) (unread script) after unwritten k_new w_old w_new (Err e) → Completes (length contexts) (length script) (unread script) after unwritten k_new (Err e) → IsOwn e
   own_error Memory ran complete = tt
   own_error WriteFault ran complete = tt
-  own_error (BadStep n) ran complete = no_other (BadStep n) (λ e. cc) ran complete
-  own_error TooLong ran complete = no_other TooLong (λ e. cc) ran complete
-  own_error ReadFault ran complete = no_other ReadFault (λ e. cc) ran complete
+  own_error e ran complete = no_other e (λ same. cc) ran complete
 
 pub own_errors : (contexts : List WasiSocketsCtx) (limit : ℕ) (script : List ℕ) (before after : Reading) (k_old k_new : Writing) (w_old w_new : Seen) (e : RunError) → length contexts ≡ 1 → IsValid 1 (length script) script → limit ≡ length script → before ≡ unread script → k_old ≡ unwritten → after.faults ≡ 0 → RanScript contexts limit before after k_old k_new w_old w_new (Err e) → Completes (length contexts) limit before after k_old k_new (Err e) → IsOwn e
 own_errors contexts limit script before after k_old k_new w_old w_new e one valid is_limit is_before is_old quiet ran complete =

@@ -3,7 +3,7 @@ use Rattle.std.proofs.Common.{◌≡◌, ◌∙◌, sym, ap, refl, ℕ, ◌+◌,
 use Rattle.std.specs.Prelude.{◌⊎◌, IfSome}
 use Rattle.wasi_world.specs.declared.call.Entry.{Entry}
 use Rattle.wasi_world.specs.declared.outcome.WasiSocketsCtx.{WasiSocketsCtx}
-use Rattle.wasi_world.specs.Seen.{Plan, Rose}
+use Rattle.wasi_world.specs.Seen.{Plan}
 use Rattle.wasi_world.specs.Io.{Reading, Writing, HasEnded, CountRose}
 use Rattle.wasi_session.specs.declared.error.RunError.{RunError}
 use Rattle.wasi_session.specs.declared.error.RunError.TheVariants as error
@@ -15,8 +15,8 @@ use Rattle.wasi_run.specs.declared.program.Status.TheVariants as status
 use Rattle.wasi_pump.specs.declared.error.PumpError.{PumpError}
 use Rattle.wasi_pump.specs.declared.error.PumpError.TheVariants as pump
 use Rattle.wasi_pump.specs.Pumped.{PumpEnds}
-use Rattle.wasi_run.specs.Program.{RanMain, CommandEnds, RunEnds, GeneratedEnds, PumpRan, IsPump, pump_status, RanText, ReadScenario, command_in, most_scenario, number_of, scenario_of, status_of}
-use Rattle.wasi_run.specs.Script.{IsOkOrMemory, IsValid}
+use Rattle.wasi_run.specs.Program.{RanMain, CommandEnds, RunEnds, GeneratedEnds, IsPump, pump_status, RanText, ReadScenario, command_in, most_scenario, number_of, scenario_of, status_of}
+use Rattle.wasi_run.specs.Script.{IsOkOrMemory}
 use Rattle.wasi_run.specs.Completeness.{EndsOkOrMemory, IsWell, IsWellRun, IsWellPumped, ProgramCompletes}
 use Rattle.wasi_run.proofs.Completes.{completes, front_of}
 
@@ -46,10 +46,7 @@ planned_and_bad scenario text plan contexts line same e f = cc
 ok_or_memory : (result : Result RunEnd RunError) → IsOkOrMemory result → EndsOkOrMemory (number_of (status_of result))
 ok_or_memory (Ok end) h = inl refl
 ok_or_memory (Err error.Memory) h = inr refl
-ok_or_memory (Err (error.BadStep n)) h = absurd h
-ok_or_memory (Err error.TooLong) h = absurd h
-ok_or_memory (Err error.ReadFault) h = absurd h
-ok_or_memory (Err error.WriteFault) h = absurd h
+ok_or_memory _ h = absurd h
 
 module _ {limit : ℕ} {c_old c_new s_old s_new : Reading} {k_old k_new : Writing} (log : List Entry) (line : ℕ) (well : IsWellRun limit c_old c_new s_old s_new k_old k_new) where
   text_ends : (text : List ℕ) (end : Status) → well.scenario ≡ text → RanText limit text s_old s_new k_old k_new log line end → EndsOkOrMemory (number_of end)
@@ -58,9 +55,6 @@ module _ {limit : ℕ} {c_old c_new s_old s_new : Reading} {k_old k_new : Writin
       let done : IsOkOrMemory ran.result = completes ran.ran.licensed.ran well.script well.script_left (rw contexts well.valid) well.script_read well.written in
       rw ran.status_is (ok_or_memory ran.result done)
 
-  script_ends : (end : Status) → ((text : List ℕ) × ReadScenario c_old c_new text × RanText limit text s_old s_new k_old k_new log line end) → EndsOkOrMemory (number_of end)
-  script_ends end (text, read, ran) = text_ends text end (read_whole well.scenario text c_old c_new well.scenario_left well.within read) ran
-
   run_ends : (end : Status) → RunEnds limit c_old c_new s_old s_new k_old k_new log line end → EndsOkOrMemory (number_of end)
   run_ends status.Ok h = inl refl
   run_ends status.Memory h = inr refl
@@ -68,29 +62,13 @@ module _ {limit : ℕ} {c_old c_new s_old s_new : Reading} {k_old k_new : Writin
   run_ends status.BadScenario h =
       absurd (planned_and_bad well.scenario h.because.text well.plan well.contexts line (read_whole well.scenario h.because.text c_old c_new well.scenario_left well.within h.because.read) well.planned h.because.bad)
   run_ends status.ScenarioFault h = absurd (well.scenario_read h.because.0)
-  run_ends status.BadStep h = script_ends status.BadStep (h.text, h.read, h.ran)
-  run_ends status.TooLong h = script_ends status.TooLong (h.text, h.read, h.ran)
-  run_ends status.ReadFault h = script_ends status.ReadFault (h.text, h.read, h.ran)
-  run_ends status.WriteFault h = script_ends status.WriteFault (h.text, h.read, h.ran)
-  run_ends status.NoBudget h = script_ends status.NoBudget (h.text, h.read, h.ran)
-  run_ends status.NoWorker h = script_ends status.NoWorker (h.text, h.read, h.ran)
-  run_ends status.SourceFault h = script_ends status.SourceFault (h.text, h.read, h.ran)
-  run_ends status.SinkFault h = script_ends status.SinkFault (h.text, h.read, h.ran)
+  run_ends end h = text_ends h.text end (read_whole well.scenario h.text c_old c_new well.scenario_left well.within h.read) h.ran
 
 generated_ends : (seed steps : ℕ) (k_old k_new : Writing) (end : Status) → ¬ CountRose k_old k_new → GeneratedEnds seed steps k_old k_new end → EndsOkOrMemory (number_of end)
 generated_ends seed steps k_old k_new status.Ok c h = inl refl
 generated_ends seed steps k_old k_new status.Memory c h = inr refl
 generated_ends seed steps k_old k_new status.WriteFault c h = absurd (c h.told.counts)
-generated_ends seed steps k_old k_new status.BadWords c h = absurd h
-generated_ends seed steps k_old k_new status.BadScenario c h = absurd h
-generated_ends seed steps k_old k_new status.ScenarioFault c h = absurd h
-generated_ends seed steps k_old k_new status.BadStep c h = absurd h
-generated_ends seed steps k_old k_new status.TooLong c h = absurd h
-generated_ends seed steps k_old k_new status.ReadFault c h = absurd h
-generated_ends seed steps k_old k_new status.NoBudget c h = absurd h
-generated_ends seed steps k_old k_new status.NoWorker c h = absurd h
-generated_ends seed steps k_old k_new status.SourceFault c h = absurd h
-generated_ends seed steps k_old k_new status.SinkFault c h = absurd h
+generated_ends seed steps k_old k_new _ c h = absurd h
 
 -- a pump that isn't refused, with no fault counted
 pump_ends : (budget : ℕ) (s_old s_new : Reading) (k_old k_new : Writing) (refused : Type 0) (outcome : Result ℕ PumpError) → IsWellPumped budget s_old s_new k_old k_new refused → (number_of (pump_status outcome) ≡ 10 → refused) → (outcome ≡ Err pump.NoBudget → budget ≡ 0) → PumpEnds s_old s_new k_old k_new outcome → EndsOkOrMemory (number_of (pump_status outcome))

@@ -1,6 +1,7 @@
 -- The script so far, piece by piece.
 use Rattle.wasi_run.proofs.Words.{◌≡◌, ◌≢◌, ◌∙◌, ap, sym, refl, ℕ, zero, suc, ◌+◌, ◌-◌, ◌<◌, ◌≤◌, ◌==◌, Bool, true, false, if◌then◌else◌, min, List, [], ◌∷◌, ◌++◌, length, take, Result, Ok, Err, length-append, length-take, arith, take_all, take-append-le, nil_from_length, nat_tests, WasiSocketsCtx, Seen, Reading, Writing, Gave, GaveSome, GaveNone, Machine, LinesEnd, RunError, BadStep, TooLong, ReadFault, first_state, lines_of, rest_of, lines_from, rest_from, after_lines, KeptOf, LinesRan, lines_then, lines_none, trap_then, lines-append, rest-append, count_lines}
 use Rattle.std.proofs.Math.Seq.{take-append-add}
+use Rattle.std.proofs.lemmas.List.{take-take, take_min}
 use Rattle.wasi_session.specs.declared.lines.LinesEnd.TheVariants as lines
 use Rattle.wasi_run.specs.declared.run.RunEnd.{RunEnd}
 use Rattle.wasi_run.specs.declared.run.RunEnd.TheVariants as end
@@ -38,8 +39,11 @@ pub few : {contexts : List WasiSocketsCtx} {limit : ℕ} {before now : Reading} 
 few {limit} s = omega (arith, s.count, ap length s.line, count_lines [] (take limit s.text), length-take limit s.text, s.so_far)
 
 -- the code's piece
-pub piece_is : (taken limit count : ℕ) (buffer rest within : List ℕ) (size : ℕ) → within ≡ take (limit - taken) (take count (buffer ++ rest)) → count ≤ size → length buffer ≡ size → within ≡ take (limit - taken) (take count buffer)
-piece_is taken limit count buffer rest within size e h l = let f : count ≤ length buffer = omega (arith, h, l) in e ∙ ap (take (limit - taken)) (take-append-le count buffer rest f)
+pub piece_is : (taken limit count within : ℕ) (buffer rest : List ℕ) (size : ℕ) → within ≡ min count (limit - taken) → count ≤ size → length buffer ≡ size → take within (buffer ++ rest) ≡ take (limit - taken) (take count buffer)
+piece_is taken limit count within buffer rest size e h l =
+    let f : within ≤ length buffer = omega (arith, e, h, l) in
+    let m : min (limit - taken) (length (take count buffer)) ≡ within = omega (arith, e, h, l, length-take count buffer) in
+    take-append-le within buffer rest f ∙ (sym (take-take within count buffer (omega (arith, e))) ∙ (ap (λ n. take n (take count buffer)) (sym m) ∙ take_min (limit - taken) (take count buffer)))
 
 more_text : (limit : ℕ) (text bytes : List ℕ) → length text ≤ limit → take limit (text ++ bytes) ≡ text ++ take (limit - length text) bytes
 more_text limit text bytes h = let e : limit ≡ length text + (limit - length text) = omega arith in ap (λ n. take n (text ++ bytes)) e ∙ take-append-add text bytes (limit - length text)
@@ -102,16 +106,6 @@ after_more front (x ∷ text) bytes (suc n) h = after_byte front text bytes n x 
 all_text : {contexts : List WasiSocketsCtx} {limit : ℕ} {before now : Reading} {k_old k_now : Writing} {w_old w_now : Seen} {machine : Machine} {number taken : ℕ} {kept : List ℕ} → taken ≤ limit → (s : Streaming contexts limit before now k_old k_now w_old w_now machine number taken kept) → take limit s.text ≡ s.text
 all_text {limit} h s = take_all limit s.text (text_within h s)
 
--- the result of a run that ended so
-abbrev ok_end : RunEnd → Result RunEnd RunError
-ok_end a = Ok a
-
-err_is_no_trap : (e : RunError) → Err e ≡ Ok end.Trapped → ⊥
-err_is_no_trap e h = cc
-
-read_is_no_trap : ok_end end.AllRead ≡ Ok end.Trapped → ⊥
-read_is_no_trap h = cc
-
 few_bytes : (limit taken room count : ℕ) (buffer piece : List ℕ) → room ≡ min (limit + 1 - taken) 4096 → count ≤ length (take room piece) → length (take count buffer) - 1 ≤ 4095
 few_bytes limit taken room count buffer piece q f = omega (arith, length-take count buffer, length-take room piece, q, f)
 
@@ -125,7 +119,7 @@ module _ {contexts : List WasiSocketsCtx} {limit : ℕ} {before now new : Readin
     outcome = Err e;
     ran = ran_more (take count buffer) within h s i k;
     answer = refl;
-    ahead = λ t. absurd (err_is_no_trap e t);
+    ahead = λ t. absurd (cc);
   }
 
   pub over_trap : taken ≤ limit → room ≡ min (limit + 1 - taken) 4096 → Streaming contexts limit before now k_old k_now w_old w_now machine number taken kept → GaveSome now new (length (take room piece)) buffer count → within ≡ take (limit - taken) (take count buffer) → LinesRan contexts w_now w_new k_now k_new machine (number + 1) (lines_from kept within) (Ok lines.Trapped) last → RanOver contexts limit before new k_old k_new w_old w_new last (Ok end.Trapped)
@@ -171,24 +165,24 @@ module _ {contexts : List WasiSocketsCtx} {limit : ℕ} {before now new : Readin
   }
 
   pub over_fault : Streaming contexts limit before now k_old k_now w_old w_now machine number taken kept → GaveNone now new → RanOver contexts limit before new k_old k_now w_old w_now machine (Err ReadFault)
-  over_fault s g = done_over s (gave_fault s.gave g) (fault_rose before now new s.faults g) (err_is_no_trap ReadFault)
+  over_fault s g = done_over s (gave_fault s.gave g) (fault_rose before now new s.faults g) (λ t. cc)
 
   module _ {room count : ℕ} {buffer : List ℕ} (piece : List ℕ) where
     pub over_read : taken ≤ limit → room ≡ min (limit + 1 - taken) 4096 → length piece ≡ 4096 → Streaming contexts limit before now k_old k_now w_old w_now machine number taken kept → GaveSome now new (length (take room piece)) buffer count → count ≡ 0 → kept ≡ [] → RanOver contexts limit before new k_old k_now w_old w_now machine (Ok end.AllRead)
     over_read h q b s g z n =
-        done_over s (gave_end s.gave g z) (g.nothing (has_room limit taken room piece q (omega arith) b) z, text_within h s, ap rest_of (sym (all_text h s)) ∙ (sym s.line ∙ n)) read_is_no_trap
+        done_over s (gave_end s.gave g z) (g.nothing (has_room limit taken room piece q (omega arith) b) z, text_within h s, ap rest_of (sym (all_text h s)) ∙ (sym s.line ∙ n)) (λ t. cc)
 
     pub over_cut : taken ≤ limit → room ≡ min (limit + 1 - taken) 4096 → length piece ≡ 4096 → Streaming contexts limit before now k_old k_now w_old w_now machine number taken kept → GaveSome now new (length (take room piece)) buffer count → count ≡ 0 → kept ≢ [] → RanOver contexts limit before new k_old k_now w_old w_now machine (Err (BadStep (number + 1)))
     over_cut h q b s g z n =
         done_over s (gave_end s.gave g z) (g.nothing (has_room limit taken room piece q (omega arith) b) z, text_within h s, (λ r. n (s.line ∙ (ap rest_of (all_text h s) ∙ r))), ap (λ k. k + 1) (s.count ∙ ap (λ t. length (lines_of t)) (all_text h s)))
-        (err_is_no_trap (BadStep (number + 1)))
+        (λ t. cc)
 
 module _ {contexts : List WasiSocketsCtx} {limit : ℕ} {before now : Reading} {k_old k_now : Writing} {w_old w_now : Seen} {machine : Machine} {number taken : ℕ} {kept : List ℕ} where
   pub over_long : limit < taken → Streaming contexts limit before now k_old k_now w_old w_now machine number taken kept → RanOver contexts limit before now k_old k_now w_old w_now machine (Err TooLong)
-  over_long h s = done_over s s.gave (omega (arith, h, s.within, s.so_far)) (err_is_no_trap TooLong)
+  over_long h s = done_over s s.gave (omega (arith, h, s.within, s.so_far)) (λ t. cc)
 
-pub piece_numbers : {contexts : List WasiSocketsCtx} {limit : ℕ} {before now : Reading} {k_old k_now : Writing} {w_old w_now : Seen} {machine : Machine} {number taken : ℕ} {kept : List ℕ} (bytes within : List ℕ) → taken ≤ limit → Streaming contexts limit before now k_old k_now w_old w_now machine number taken kept → within ≡ take (limit - taken) bytes → number + length within ≤ limit
-piece_numbers {limit} {taken = taken} bytes within h s e = let f = few s in omega (arith, f, h, ap length e, length-take (limit - taken) bytes)
+pub piece_numbers : {contexts : List WasiSocketsCtx} {limit : ℕ} {before now : Reading} {k_old k_now : Writing} {w_old w_now : Seen} {machine : Machine} {number taken : ℕ} {kept : List ℕ} (count within most : ℕ) (bytes : List ℕ) → limit < most → taken ≤ limit → Streaming contexts limit before now k_old k_now w_old w_now machine number taken kept → within ≡ min count (limit - taken) → number + length (take within bytes) < most
+piece_numbers count within most bytes m h s e = let f = few s in omega (arith, f, h, e, m, length-take within bytes)
 
 is_zero : (n : ℕ) → true ≡ (n == 0) → n ≡ 0
 is_zero n e = grind (arith, nat_tests)

@@ -1,6 +1,6 @@
 //! Runs a script: reads its lines, does them in order, and writes one reply per line.
 
-ghost use Rattle.std.specs.Prelude.{◌≡◌, ℕ, ◌<◌, ◌^◌, OnOk, length, take, false, true};
+ghost use Rattle.std.specs.Prelude.{◌≡◌, ℕ, ◌<◌, ◌^◌, OnOk, length, false, true};
 ghost use Rattle.wasi_host.specs.Machine.{first_state};
 ghost use Rattle.wasi_host.specs.Closing.{IsFresh, HasClosedAll};
 ghost use Rattle.wasi_run.specs.Script.{AreNumbered, RanOver, RanScript, Completes};
@@ -22,14 +22,6 @@ pub enum RunEnd {
     AllRead,
     /// The last reply is a trap.
     Trapped,
-}
-
-/// As many of the bytes as lie within the limit.
-#[tactic(auto, using(std::proofs::lemmas::List::take_min))]
-fn first_bytes(bytes: &[u8], limit: usize) -> &[u8]
-    ensures { result.now ≡ take limit bytes.now }
-{
-    &bytes[..bytes.len().min(limit)]
 }
 
 /// Reads pieces until the run stops, and does each line as soon as it is whole.
@@ -65,10 +57,16 @@ fn run_lines<W: World, S: Source, K: Sink>(
             }
             return Err(RunError::BadStep(session.lines + 1));
         }
-        let within = first_bytes(&piece[..count], limit as usize - taken);
+        let within = count.min(limit as usize - taken);
         taken += count;
         let LinesEnd::AllDone = do_piece(
-            alloc, session, world, contexts, writer, &mut line, within,
+            alloc,
+            session,
+            world,
+            contexts,
+            writer,
+            &mut line,
+            &piece[..within],
         )?
         else {
             return Ok(RunEnd::Trapped);

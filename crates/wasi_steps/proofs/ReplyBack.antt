@@ -32,28 +32,7 @@ code_at = field_at >>= λ f. give_some (named code_text code_words f)
 code_back : (code : CodeWord) → named code_text code_words (code_text code) ≡ Some code
 unfolding code_words
 code_back word.Unknown = refl
-code_back word.AccessDenied = refl
-code_back word.NotSupported = refl
-code_back word.InvalidArgument = refl
-code_back word.OutOfMemory = refl
-code_back word.Timeout = refl
-code_back word.ConcurrencyConflict = refl
-code_back word.NotInProgress = refl
-code_back word.WouldBlock = refl
-code_back word.InvalidState = refl
-code_back word.NewSocketLimit = refl
-code_back word.AddressNotBindable = refl
-code_back word.AddressInUse = refl
-code_back word.RemoteUnreachable = refl
-code_back word.ConnectionRefused = refl
-code_back word.ConnectionBroken = refl
-code_back word.ConnectionReset = refl
-code_back word.ConnectionAborted = refl
-code_back word.DatagramTooLarge = refl
-code_back word.NameUnresolvable = refl
-code_back word.TemporaryResolverFailure = refl
-code_back word.PermanentResolverFailure = refl
-code_back word.Other = refl
+code_back _ = refl
 
 traps : List TrapKind
 traps =
@@ -66,15 +45,7 @@ trap_at = field_at >>= λ f. give_some (named trap_text traps f)
 trap_back : (kind : TrapKind) → named trap_text traps (trap_text kind) ≡ Some kind
 unfolding traps
 trap_back trap.NoSuchHandle = refl
-trap_back trap.HasChildren = refl
-trap_back trap.Full = refl
-trap_back trap.EmptyList = refl
-trap_back trap.NotPermitted = refl
-trap_back trap.Capacity = refl
-trap_back trap.TooLong = refl
-trap_back trap.StreamsAlive = refl
-trap_back trap.Budget = refl
-trap_back trap.FlushPending = refl
+trap_back _ = refl
 
 -- a field of a kind
 abbrev of_kind : FieldKind → Reader Field
@@ -151,15 +122,10 @@ reply_all : (s : Step) (r : Reply) → Gives s r → All (reply_at (kinds_of s))
 unfolding rows
 reply_all s (reply.Ok fields) gives = with_word (kinds_of s) _ refl (all_end _ (all_of_kinds (kinds_of s) fields gives) all_give)
 reply_all s (reply.Err code) gives = with_word (kinds_of s) _ refl (all_end _ (code_all code) all_give)
-reply_all s reply.Closed gives = with_word (kinds_of s) _ refl all_give
 reply_all s (reply.Failed code handle) gives = with_word (kinds_of s) _ refl (all_both _ (code_all code) (all_last _ u32_exactly gives all_give))
 reply_all s (reply.Trap kind) gives = with_word (kinds_of s) _ refl (all_end _ (trap_all kind) all_give)
 reply_all s (reply.Pending n) gives = with_word (kinds_of s) _ refl (all_last _ u32_exactly gives all_give)
-reply_all s reply.Busy gives = with_word (kinds_of s) _ refl all_give
-reply_all s reply.NoSuchCall gives = with_word (kinds_of s) _ refl all_give
-reply_all s reply.Cancelled gives = with_word (kinds_of s) _ refl all_give
-reply_all s reply.Dropped gives = with_word (kinds_of s) _ refl all_give
-reply_all s reply.Unfilled gives = with_word (kinds_of s) _ refl all_give
+reply_all s _ gives = with_word (kinds_of s) _ refl all_give
 
 -- the fields of replies are visible
 code_visible : (code : CodeWord) → IsTrue (list_all is_visible (code_text code))
@@ -191,15 +157,10 @@ fields_visible AnAddress fields are =
 reply_visible : (s : Step) (r : Reply) → Gives s r → AreVisible (fields_of_reply r)
 reply_visible s (reply.Ok fields) gives = (refl, fields_visible (kinds_of s) fields gives)
 reply_visible s (reply.Err code) gives = (refl, (code_visible code, tt))
-reply_visible s reply.Closed gives = (refl, tt)
 reply_visible s (reply.Failed code handle) gives = (refl, (code_visible code, (number_visible handle (omega arith), tt)))
 reply_visible s (reply.Trap kind) gives = (refl, (trap_visible kind, tt))
 reply_visible s (reply.Pending n) gives = (refl, (number_visible n (omega arith), tt))
-reply_visible s reply.Busy gives = (refl, tt)
-reply_visible s reply.NoSuchCall gives = (refl, tt)
-reply_visible s reply.Cancelled gives = (refl, tt)
-reply_visible s reply.Dropped gives = (refl, tt)
-reply_visible s reply.Unfilled gives = (refl, tt)
+reply_visible s _ gives = (refl, tt)
 
 no_reply : (kinds : FieldKinds) → reply_at kinds [] ≡ None
 unfolding reply_at read_then word_at field_at

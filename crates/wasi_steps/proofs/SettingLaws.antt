@@ -31,21 +31,11 @@ u64_exactly = number_exactly 18446744073709551615 (omega arith)
 -- == options
 pub option_visible : (option : Opt) → AreVisible (option_word option ∷ [])
 option_visible opt.KeepAliveEnabled = refl and tt
-option_visible opt.KeepAliveIdleTime = refl and tt
-option_visible opt.KeepAliveInterval = refl and tt
-option_visible opt.KeepAliveCount = refl and tt
-option_visible opt.HopLimit = refl and tt
-option_visible opt.ReceiveBufferSize = refl and tt
-option_visible opt.SendBufferSize = refl and tt
+option_visible _ = refl and tt
 
 option_all : (option : Opt) → All (after_word option_words (option_word option)) option []
 option_all opt.KeepAliveEnabled = all_give
-option_all opt.KeepAliveIdleTime = all_give
-option_all opt.KeepAliveInterval = all_give
-option_all opt.KeepAliveCount = all_give
-option_all opt.HopLimit = all_give
-option_all opt.ReceiveBufferSize = all_give
-option_all opt.SendBufferSize = all_give
+option_all _ = all_give
 
 abbrev ReadsOption : List ℕ → List (List ℕ) → Opt → Type 0
 ReadsOption word taken option = Unit {0} × (word ∷ taken ≡ option_word option ∷ [])
@@ -91,14 +81,10 @@ unfolding setting_at
 setting_by word visible value = all_then _ word_exactly (visible_utf8 word visible.0) value
 
 setting_all : (s : TcpSetting) → FitsSetting s → All setting_at s (setting_fields s)
-setting_all (setting.KeepAliveEnabled b) fits = setting_by (codes "keep-alive-enabled") (refl and tt) (bit_all b)
-setting_all (setting.KeepAliveIdleTime n) fits = setting_by (codes "keep-alive-idle-time") (refl and tt) (all_last _ u64_exactly fits all_give)
-setting_all (setting.KeepAliveInterval n) fits = setting_by (codes "keep-alive-interval") (refl and tt) (all_last _ u64_exactly fits all_give)
-setting_all (setting.KeepAliveCount n) fits = setting_by (codes "keep-alive-count") (refl and tt) (all_last _ u32_exactly fits all_give)
-setting_all (setting.HopLimit n) fits = setting_by (codes "hop-limit") (refl and tt) (all_last _ byte_exactly fits all_give)
-setting_all (setting.ReceiveBufferSize n) fits = setting_by (codes "receive-buffer-size") (refl and tt) (all_last _ u64_exactly fits all_give)
-setting_all (setting.SendBufferSize n) fits = setting_by (codes "send-buffer-size") (refl and tt) (all_last _ u64_exactly fits all_give)
-setting_all (setting.ListenBacklogSize n) fits = setting_by (codes "listen-backlog-size") (refl and tt) (all_last _ u64_exactly fits all_give)
+setting_all (setting.KeepAliveEnabled b) fits = setting_by _ (refl and tt) (bit_all b)
+setting_all (setting.KeepAliveCount n) fits = setting_by _ (refl and tt) (all_last _ u32_exactly fits all_give)
+setting_all (setting.HopLimit n) fits = setting_by _ (refl and tt) (all_last _ byte_exactly fits all_give)
+setting_all _ fits = setting_by _ (refl and tt) (all_last _ u64_exactly fits all_give)
 
 pub setting_exactly : ReadsExactly setting_at setting_fields FitsSetting
 unfolding setting_at
@@ -114,10 +100,4 @@ value_visible n fits = number_visible n (omega arith) and tt
 
 pub setting_visible : (s : TcpSetting) → FitsSetting s → AreVisible (setting_fields s)
 setting_visible (setting.KeepAliveEnabled b) fits = refl and bit_visible b
-setting_visible (setting.KeepAliveIdleTime n) fits = refl and value_visible n fits
-setting_visible (setting.KeepAliveInterval n) fits = refl and value_visible n fits
-setting_visible (setting.KeepAliveCount n) fits = refl and value_visible n (omega arith)
-setting_visible (setting.HopLimit n) fits = refl and value_visible n (omega arith)
-setting_visible (setting.ReceiveBufferSize n) fits = refl and value_visible n fits
-setting_visible (setting.SendBufferSize n) fits = refl and value_visible n fits
-setting_visible (setting.ListenBacklogSize n) fits = refl and value_visible n fits
+setting_visible _ fits = refl and value_visible _ (omega arith)

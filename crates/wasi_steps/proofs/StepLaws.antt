@@ -1,5 +1,5 @@
 -- Each step is read from exactly its line.
-use Rattle.std.proofs.Common.{◌≡◌, ℕ, ◌<◌, ◌≤◌, List, [], ◌∷◌, ◌++◌, slice_index, codes, decimal, Option, Some, None, refl, arith, inl, inr, Bool, true, false, cond, nat_lt, IsTrue, append-nil, ap, sym, subst, ◌∙◌}
+use Rattle.std.proofs.Common.{◌≡◌, ℕ, ◌<◌, ◌≤◌, List, [], ◌∷◌, ◌++◌, slice_index, decimal, Option, Some, None, refl, arith, inl, inr, Bool, true, false, cond, nat_lt, IsTrue, append-nil, ap, sym, subst, ◌∙◌}
 use Rattle.wasi_world.specs.Fields.{read_then, give_some, after_word, whole, fields_of, field_at, number_in, word_at, BeginsPlain}
 use Rattle.std.specs.Prelude.{IfSome}
 use Rattle.std.specs.List.{AllByRecursion, list_all}
@@ -14,15 +14,14 @@ use Rattle.wasi_addr.specs.declared.address.ShutdownType.{ShutdownType}
 use Rattle.wasi_addr.specs.declared.address.ShutdownType.TheVariants.{Receive, Send, Both}
 use Rattle.wasi_steps.specs.declared.step.Step.{Step}
 use Rattle.wasi_steps.specs.declared.step.Step.TheVariants as step
-use Rattle.wasi_steps.specs.Steps.{Kind, HandleOf, ALine, ACount, AFamily, ASocketAddress, AnOption, ASetting, AHalf, AllBytes, Value, value_at, value_fields, FitsValue, Values, values_fields, FitsValues, Takes, made, values_at, Written, fields_of_written, signature, context_fields, shutdown_fields, shutdown_words, shutdown_at, context_of, fields_of_step, line_of, IsStep, row_of, rows_of, rows_by, is_read, steps, bare_steps, guest_call_at, after_first, step_reader, step_of}
+use Rattle.wasi_steps.specs.Steps.{Kind, ACount, AFamily, ASocketAddress, AnOption, ASetting, AHalf, AllBytes, Value, value_at, value_fields, FitsValue, Values, values_fields, FitsValues, Takes, made, values_at, Written, fields_of_written, signature, context_fields, shutdown_fields, shutdown_words, shutdown_at, context_of, fields_of_step, line_of, IsStep, row_of, rows_of, rows_by, is_read, steps, bare_steps, guest_call_at, after_first, step_reader, step_of}
 use Rattle.wasi_steps.proofs.SettingLaws.{◌and◌, u64_exactly, option_exactly, option_visible, setting_exactly, setting_visible}
 
 -- the word of what is shut down is read exactly
 shutdown_all : (how : ShutdownType) → All shutdown_at how (shutdown_fields how)
 unfolding shutdown_at
-shutdown_all Receive = all_last _ word_exactly (visible_utf8 (codes "receive") refl) all_give
-shutdown_all Send = all_last _ word_exactly (visible_utf8 (codes "send") refl) all_give
-shutdown_all Both = all_last _ word_exactly (visible_utf8 (codes "both") refl) all_give
+shutdown_all Receive = all_last _ word_exactly (visible_utf8 _ refl) all_give
+shutdown_all _ = all_last _ word_exactly (visible_utf8 _ refl) all_give
 
 shutdown_exactly : ReadsExactly shutdown_at shutdown_fields (λ how. Unit {0})
 unfolding shutdown_at
@@ -33,8 +32,6 @@ shutdown_exactly = exactly
 
 -- == arguments
 kind_exactly : (kind : Kind) → ReadsExactly (value_at kind) (value_fields kind) (FitsValue kind)
-kind_exactly (HandleOf target) = u32_exactly
-kind_exactly ALine = u32_exactly
 kind_exactly ACount = u64_exactly
 kind_exactly AFamily = family_exactly
 kind_exactly ASocketAddress = address_exactly
@@ -42,6 +39,7 @@ kind_exactly AnOption = option_exactly
 kind_exactly ASetting = setting_exactly
 kind_exactly AHalf = shutdown_exactly
 kind_exactly AllBytes = bytes_exactly
+kind_exactly _ = u32_exactly
 
 values_only : (kinds : List Kind) (makes : Takes kinds) {Q : List (List ℕ) → Step → Type 0} → ((values : Values kinds) → FitsValues kinds values → Q (values_fields kinds values) (made kinds makes values)) → Only (values_at kinds makes) Q
 values_only [] s q = only_give s (q tt tt)
@@ -155,19 +153,16 @@ step_exactly contexts = exactly
 -- == visible characters
 shutdown_visible : (how : ShutdownType) → AreVisible (shutdown_fields how)
 shutdown_visible Receive = refl and tt
-shutdown_visible Send = refl and tt
-shutdown_visible Both = refl and tt
+shutdown_visible _ = refl and tt
 
 value_visible : (kind : Kind) (value : Value kind) → FitsValue kind value → AreVisible (value_fields kind value)
-value_visible (HandleOf target) n fits = number_visible n (omega arith) and tt
-value_visible ALine n fits = number_visible n (omega arith) and tt
-value_visible ACount n fits = number_visible n (omega arith) and tt
 value_visible AFamily family fits = family_visible family
 value_visible ASocketAddress a fits = address_visible a fits
 value_visible AnOption option fits = option_visible option
 value_visible ASetting setting fits = setting_visible setting fits
 value_visible AHalf how fits = shutdown_visible how
 value_visible AllBytes bytes fits = bytes_visible bytes fits
+value_visible _ n fits = number_visible n (omega arith) and tt
 
 both_visible : (fields more : List (List ℕ)) → AreVisible fields → AreVisible more → AreVisible (fields ++ more)
 both_visible [] more h k = k

@@ -1,11 +1,11 @@
 //! Reads a line of a script.
 
-ghost use Rattle.std.specs.Prelude.{◌≡◌, ◌↔◌, ◌++◌, ℕ, List, Some, IfOk};
+ghost use Rattle.std.specs.Prelude.{◌≡◌, ◌↔◌, ℕ, List, Some, IfOk, drop};
 ghost use Rattle.wasi_world.specs.Fields.{Reads, after_word, number_in};
 ghost use Rattle.wasi_world.specs.Written.{IsVisible};
 ghost use Rattle.wasi_steps.specs.declared.step.Step.{Step};
 ghost use Rattle.wasi_steps.specs.Settings.{ReadsNumber, option_at, wide_words, setting_words, setting_at};
-ghost use Rattle.wasi_steps.specs.Steps.{line_of, IsStep, steps, plain_steps, value_steps, handle_steps, bare_steps, write_step, row_of, rows_of, shutdown_at, guest_call_at, step_reader, step_of};
+ghost use Rattle.wasi_steps.specs.Steps.{line_of, IsStep, steps, plain_steps, handle_steps, bare_steps, write_step, row_of, rows_of, shutdown_at, guest_call_at, step_reader, step_of};
 
 use crate::setting::TcpSetting;
 use crate::step::Step;
@@ -118,33 +118,46 @@ fn handle_step(context: u32, word: &str, handle: u32) -> Option<Step>
     }
 }
 
-/// Takes the arguments of a step word that has a handle: that alone, or one thing more.
+/// Takes the arguments of a step word whose first one is a handle: that alone, or more after it.
 #[tactic(auto, unfolding(wasi_world::specs::Fields::read_then, wasi_world::specs::Fields::give, wasi_world::specs::Fields::give_some))]
-fn value_arguments(fields: &mut Fields<'_>, context: u32, word: &str) -> Option<Step>
-    ensures { Reads (after_word (rows_of (value_steps context ++ handle_steps context)) word.now) fields.old result fields.new }
+fn handle_arguments(fields: &mut Fields<'_>, context: u32, word: &str) -> Option<Step>
+    ensures { Reads (after_word (rows_of (drop 2 (plain_steps context))) word.now) fields.old result fields.new }
 {
+    let handle = fields.u32()?;
     match word {
+        "tcp-start-bind" => Some(Step::TcpStartBind {
+            context,
+            socket: handle,
+            network: fields.u32()?,
+            addr: fields.socket_address()?,
+        }),
+        "tcp-start-connect" => Some(Step::TcpStartConnect {
+            context,
+            socket: handle,
+            network: fields.u32()?,
+            addr: fields.socket_address()?,
+        }),
         "tcp-get" => Some(Step::TcpGet {
             context,
-            socket: fields.u32()?,
+            socket: handle,
             option: option(fields)?,
         }),
         "tcp-set" => Some(Step::TcpSet {
             context,
-            socket: fields.u32()?,
+            socket: handle,
             setting: setting(fields)?,
         }),
         "tcp-shutdown" => Some(Step::TcpShutdown {
             context,
-            socket: fields.u32()?,
+            socket: handle,
             how: shutdown_type(fields)?,
         }),
         "read" => Some(Step::Read {
             context,
-            input: fields.u32()?,
+            input: handle,
             len: fields.number(u64::MAX)?,
         }),
-        _ => handle_step(context, word, fields.u32()?),
+        _ => handle_step(context, word, handle),
     }
 }
 
@@ -159,19 +172,7 @@ fn plain_arguments(fields: &mut Fields<'_>, context: u32, word: &str) -> Option<
             context,
             family: fields.family()?,
         }),
-        "tcp-start-bind" => Some(Step::TcpStartBind {
-            context,
-            socket: fields.u32()?,
-            network: fields.u32()?,
-            addr: fields.socket_address()?,
-        }),
-        "tcp-start-connect" => Some(Step::TcpStartConnect {
-            context,
-            socket: fields.u32()?,
-            network: fields.u32()?,
-            addr: fields.socket_address()?,
-        }),
-        _ => value_arguments(fields, context, word),
+        _ => handle_arguments(fields, context, word),
     }
 }
 

@@ -1,4 +1,4 @@
-use Rattle.wasi_run.proofs.Words.{◌∙◌, ap, Ok, arith, stays_open}
+use Rattle.wasi_run.proofs.Words.{◌∙◌, ◌^◌, ap, Ok, arith, stays_open}
 use Rattle.std.proofs.lemmas.Result.{err_from_is_err_and}
 use Rattle.wasi_run.proofs.Streaming.{stream_start, stream_on, over_error, over_trap, over_fault, over_read, over_cut, over_long, piece_is, few, piece_numbers, empty_is, not_empty, some_byte}
 use Rattle.wasi_run.proofs.run.run_lines.Goals as goal
@@ -8,15 +8,13 @@ reading-init g c = rw (c.new-line.ensures.items) (stream_start _ _ _ _ _ _ _ c.r
 
 pub reading-preserved : goal.reading-preserved
 reading-preserved g c =
-    let b = c.read.auto.buf in
-    let i = piece_is c.reading.taken c.args.limit c.in-Ok.count c.read.new.buf _ c.first_bytes-within.result.now _ c.first_bytes-within.ensures c.in-Ok.ensures.fits b in
-    stream_on c.first_bytes-within.result.now c.reading.piece c.reading-test.true c.min-room.ensures b c.reading.invariant c.in-Ok.ensures i (rw (c.in_ok-do_piece.was, c.in-AllDone.is) at c.do_piece.ensures.ran) (c.do_piece.ensures.kept (c.in_ok-do_piece.was ∙ ap Ok c.in-AllDone.is))
+    stream_on _ c.reading.piece c.reading-test.true c.min-room.ensures c.read.auto.buf c.reading.invariant c.in-Ok.ensures (piece_is c.reading.taken c.args.limit c.in-Ok.count c.min-within.result c.read.new.buf _ _ c.min-within.ensures c.in-Ok.ensures.fits c.read.auto.buf) (rw (c.in_ok-do_piece.was, c.in-AllDone.is) at c.do_piece.ensures.ran) (c.do_piece.ensures.kept (c.in_ok-do_piece.was ∙ ap Ok c.in-AllDone.is))
 
 pub do_piece-requires-clause-open : goal.do_piece-requires-clause-open
 do_piece-requires-clause-open g c = stays_open c.reading.invariant.ran c.requires.open
 
 pub do_piece-requires-clause-numbers : goal.do_piece-requires-clause-numbers
-do_piece-requires-clause-numbers g c = let n = piece_numbers _ c.first_bytes-within.result.now c.reading-test.true c.reading.invariant c.first_bytes-within.ensures in omega (arith, n, c.ranges.limit.fits)
+do_piece-requires-clause-numbers g c = piece_numbers c.in-Ok.count c.min-within.result (2 ^ 32) _ (omega (arith, c.ranges.limit.fits)) c.reading-test.true c.reading.invariant c.min-within.ensures
 
 pub overflow_add-result : goal.overflow_add-result
 overflow_add-result g c =
@@ -27,13 +25,11 @@ overflow_add-result g c =
 pub returns-in_err-do_piece : goal.returns-in_err-do_piece
 returns-in_err-do_piece g c =
     let p = err_from_is_err_and c.from_residual.result c.from_residual.ensures.1 in
-    let i = piece_is c.reading.taken c.args.limit c.in-Ok.count c.read.new.buf _ c.first_bytes-within.result.now _ c.first_bytes-within.ensures c.in-Ok.ensures.fits c.read.auto.buf in
-    rw (p.1, p.2) (over_error c.first_bytes-within.result.now c.reading.piece c.reading-test.true c.min-room.ensures c.reading.invariant c.in-Ok.ensures i (rw c.in_err-do_piece.was at c.do_piece.ensures.ran))
+    rw (p.1, p.2) (over_error _ c.reading.piece c.reading-test.true c.min-room.ensures c.reading.invariant c.in-Ok.ensures (piece_is c.reading.taken c.args.limit c.in-Ok.count c.min-within.result c.read.new.buf _ _ c.min-within.ensures c.in-Ok.ensures.fits c.read.auto.buf) (rw c.in_err-do_piece.was at c.do_piece.ensures.ran))
 
 pub returns-in_default-2 : goal.returns-in_default-2
 returns-in_default-2 g c =
-    let i = piece_is c.reading.taken c.args.limit c.in-Ok.count c.read.new.buf _ c.first_bytes-within.result.now _ c.first_bytes-within.ensures c.in-Ok.ensures.fits c.read.auto.buf in
-    over_trap c.first_bytes-within.result.now c.reading.piece c.reading-test.true c.min-room.ensures c.reading.invariant c.in-Ok.ensures i (rw (c.in_ok-do_piece.was, c.in_default-2.is) at c.do_piece.ensures.ran)
+    over_trap _ c.reading.piece c.reading-test.true c.min-room.ensures c.reading.invariant c.in-Ok.ensures (piece_is c.reading.taken c.args.limit c.in-Ok.count c.min-within.result c.read.new.buf _ _ c.min-within.ensures c.in-Ok.ensures.fits c.read.auto.buf) (rw (c.in_ok-do_piece.was, c.in_default-2.is) at c.do_piece.ensures.ran)
 
 pub returns-in_default : goal.returns-in_default
 returns-in_default g c = over_fault c.reading.invariant c.in_default.ensures
