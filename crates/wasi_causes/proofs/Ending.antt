@@ -1,5 +1,7 @@
 -- What is released: by a shutdown, by a drop of a handle, and what a drop leaves.
-use Rattle.wasi_causes.proofs.Words.{◌≡◌, Bool, true, false, if◌then◌else◌, List, [], ◌∷◌, ◌++◌, Option, Some, None, refl, sym, ap, ◌∙◌, append-nil, append_assoc, ℕ, Result, ◌==◌, inl, inr, Ok, Err, slice_get, subst, ◌≢◌, eq-eqb, IsSome, IpSocketAddress, ShutdownType, Receive, Send, Both, give_streams_up, gone, release_asks, released, release_at, Stop, Trap, is_on, other_jobs, kind_at, output_of, has_no_child, without_handle, taken_out, place_of, give_up_asks, socket_at, own_of, with_store, answered, at_once, drop_kind, drop_taken, drop_asks, shut_streams, shut_record, shutdown_at, Records, Kind, Tcp2, Output, Listening, Machine, Streams, Tcp2Socket, shutdown_on, set_there, record_at, putting, record_in, OfRecord, Has, done_reply, answer_reply, Each, no_fields, OutputWaits, WritesOn, ToldToWait, WriterWaits, Field, Reply, in_hand, refuse_in, Job, is_over, held_side, give_up_in, reader_shutdown_asks, Socket, side_of, writer_side, writer_shutdown_asks, side_up_asks, Accepting, ReadState, WriteState, Give, bind, End, Done, Who, Operation, ask_close, Entry, OpId, Answer, Ready, Pending, HasChildren, NoSuchHandle, Full, NotPermitted, WasiSocketsCtx}
+use Rattle.wasi_causes.proofs.Words.{◌≡◌, Bool, true, false, if◌then◌else◌, List, [], ◌∷◌, ◌++◌, Option, Some, None, refl, sym, ap, ◌∙◌, append-nil, append_assoc, ℕ, Result, inl, inr, Ok, Err, subst, ◌≢◌, IsSome, IpSocketAddress, ShutdownType, Receive, Send, Both, give_streams_up, gone, release_asks, released, release_at, Stop, Trap, is_on, other_jobs, kind_at, output_of, has_no_child, without_handle, taken_out, place_of, give_up_asks, socket_at, own_of, with_store, answered, at_once, drop_kind, drop_taken, drop_asks, shut_streams, shut_record, shutdown_at, Records, Kind, Tcp2, Output, Listening, Machine, Streams, Tcp2Socket, shutdown_on, set_there, record_at, putting, record_in, OfRecord, Has, done_reply, answer_reply, Each, no_fields, OutputWaits, WritesOn, ToldToWait, WriterWaits, Field, Reply, in_hand, refuse_in, Job, is_over, held_side, give_up_in, reader_shutdown_asks, Socket, side_of, writer_side, writer_shutdown_asks, side_up_asks, Accepting, ReadState, WriteState, Give, bind, End, Done, Who, Operation, ask_close, Entry, OpId, Answer, Ready, Pending, HasChildren, NoSuchHandle, Full, NotPermitted, WasiSocketsCtx}
+use Rattle.wasi_machine.specs.Machine.{first_ids}
+use Rattle.wasi_host.specs.Records.{tcp2_at}
 use Rattle.wasi_host.specs.declared.jobs.HostJob.{HostJob}
 use Rattle.wasi_causes.proofs.streams.Halves.{OutputRow, outputs}
 use Rattle.wasi_causes.proofs.tables.Meets.{Rows, Meets, ends, asks, chain, onto, told_so, widen}
@@ -182,15 +184,15 @@ module _ (contexts : List WasiSocketsCtx) (m : Machine) (line c handle : ℕ) wh
 
     -- == of a socket
     module _ (place : ℕ) (is : IsKind (Tcp2 place)) where
-      left : (r : Tcp2Socket) → slice_get m.store.sockets place ≡ Some r → (es : List Entry) (done : Unit {0} × Tcp2Socket) → Released own r es done.1 → DropRow es (answered (with_store (without m handle) (at_once (tt, released m.store place done.1))))
+      left : (r : Tcp2Socket) → tcp2_at m.store.records place ≡ Some r → (es : List Entry) (done : Unit {0} × Tcp2Socket) → Released own r es done.1 → DropRow es (answered (with_store (without m handle) (at_once (tt, released m.store place done.1))))
       left r at es (done, now) k =
           let same : now ≡ gone r k.socket = k.is in
           rw same (
             (apart (λ e. cc) no_children, rw is tt),
-            (tt, (refl, rw is (λ q there. let its : r ≡ q = cc in (rw (sym its) k.asked, record { found = gone r k.socket; at = set_there m.store.sockets place r (gone r k.socket) at; side = k.no_side; listening = refl; streams = refl; idle = refl; job = no_job place m.store.jobs })))),
+            (tt, (refl, rw is (λ q there. let its : r ≡ q = cc in (rw (sym its) k.asked, record { found = gone r k.socket; at = set_there m.store.records place r (gone r k.socket) at; side = k.no_side; listening = refl; streams = refl; idle = refl; job = no_job place m.store.jobs })))),
           )
 
-      by_record : (o : Option Tcp2Socket) → slice_get m.store.sockets place ≡ o → Meets (λ es done. DropRow es (answered (with_store (without m handle) (at_once done)))) [] (release_at m.store own place o)
+      by_record : (o : Option Tcp2Socket) → tcp2_at m.store.records place ≡ o → Meets (λ es done. DropRow es (answered (with_store (without m handle) (at_once done)))) [] (release_at m.store own place o)
       by_record None at = ends ((apart (λ e. cc) no_children, rw is tt), (tt, (refl, rw is (λ r there. absurd (cc)))))
       by_record (Some r) at = onto _ (widen (left r at) (releases own r))
 
@@ -199,27 +201,27 @@ module _ (contexts : List WasiSocketsCtx) (m : Machine) (line c handle : ℕ) wh
     waits_once writer _ (WritesOn on) = NoLook
     waits_once writer _ (ToldToWait half permit e) = OneLook half.side told.Pending
 
-    of_output : (place : ℕ) → IsKind (Output place) → (es : List Entry) (done : Answer (Unit {0}) × Records) → OutputRow m.store own place es done → DropRow es (answered (with_store (without m handle) done))
+    of_output : (place : ℕ) → IsKind (Output place) → (es : List Entry) (done : Answer (Unit {0}) × Records) → OutputRow m.store (first_ids line) place es done → DropRow es (answered (with_store (without m handle) done))
     of_output place is es (Ready done, store) k = ((apart (λ e. cc) no_children, rw is k.0), (tt, (refl, rw is tt)))
     of_output place is es (Pending, store) k =
         let w : OutputWaits m own (Some place) es = k.0 m refl in
         ((apart (λ e. cc) no_children, rw is (waits_once w.streams.writer es w.holds)), (((rw is refl, refl), rw k.1 refl), (refl, subst (λ (o : Option ℕ). OutputWaits m own o es) (sym (ap output_of is)) w)))
 
-    by_kind : (kind : Kind) → IsKind kind → Meets DropRow [] (drop_kind (without m handle) own kind)
-    by_kind (Tcp2 place) is = onto _ (by_record place is (slice_get m.store.sockets place) refl)
-    by_kind (Output place) is = onto _ (widen (of_output place is) (outputs m.store own place (slice_get m.store.sockets place) refl))
+    by_kind : (kind : Kind) → IsKind kind → Meets DropRow [] (drop_kind (without m handle) (first_ids line) kind)
+    by_kind (Tcp2 place) is = onto _ (by_record place is (tcp2_at m.store.records place) refl)
+    by_kind (Output place) is = onto _ (widen (of_output place is) (outputs m.store (first_ids line) place (tcp2_at m.store.records place) refl))
     by_kind _ is = ends ((apart (λ e. cc) no_children, asks_none (kind_at m.table handle)), (tt, (refl, rw is refl)))
 
-  by_children : (kind : Kind) → IsKind kind → (b : Bool) → has_no_child m.table handle ≡ b → Meets DropRow [] (drop_taken m own (if b then (Ok kind, without_handle m.table handle) else (Err (Trap HasChildren), m.table)))
+  by_children : (kind : Kind) → IsKind kind → (b : Bool) → has_no_child m.table handle ≡ b → Meets DropRow [] (drop_taken m (first_ids line) (if b then (Ok kind, without_handle m.table handle) else (Err (Trap HasChildren), m.table)))
   by_children kind is true e = by_kind e kind is
   by_children kind is false e =
       ends (((λ same. record { live = rw is refl; children = λ none. let k : has_no_child m.table handle ≡ true = ap none_in none in cc }, λ k. refl), asks_none (kind_at m.table handle)), (tt, (refl, refl)))
 
-  by_live : (o : Option Kind) → kind_at m.table handle ≡ o → Meets DropRow [] (drop_taken m own (taken_out m.table handle o))
+  by_live : (o : Option Kind) → kind_at m.table handle ≡ o → Meets DropRow [] (drop_taken m (first_ids line) (taken_out m.table handle o))
   by_live None is = ends ((apart (λ e. cc) (λ h. not_live (kind_at m.table handle) is h.live), asks_none (kind_at m.table handle)), (is, refl, refl))
   by_live (Some kind) is = by_children kind is (has_no_child m.table handle) refl
 
-  pub drop : Meets (Says contexts m line (step.Drop c handle)) [] (bind (drop_asks m own handle) (λ done. Give (answer_reply line done.0, done.1)))
+  pub drop : Meets (Says contexts m line (step.Drop c handle)) [] (bind (drop_asks m (first_ids line) handle) (λ done. Give (answer_reply line done.0, done.1)))
   drop = onto _ (by_live (kind_at m.table handle) refl)
 
   -- == what a drop leaves

@@ -1,11 +1,12 @@
 -- A subscription and a look at a pollable, and a poll of the pending call.
+use Rattle.wasi_host.specs.Records.{tcp2_at}
 use Rattle.wasi_host.specs.declared.binding.InProgress.TheVariants.{Binding}
 use Rattle.wasi_walks.proofs.walks.States.{stands_so as stands_under}
 use Rattle.wasi_causes.proofs.Words.{AcceptWaits, AcceptWaitsOn, Accepting, AcceptsIn, Answer, BindFailed, BindFails, BindWaits, Bool, CallFails}
 use Rattle.wasi_causes.proofs.Words.{CallWaits, ClosedBy, ConnectWaits, Done, End, EndsPending, Entry, Err, ErrorCode, Give}
 use Rattle.wasi_causes.proofs.Words.{HasNoListener, HoldsAccept, IfSome, InProgress, InputWaits, InvalidState, IsBinding, IsIdleSocket}
 use Rattle.wasi_causes.proofs.Words.{IsListening, IsOnNothing, IsReady, IsRestOfBind, IsSomeAnd, IsUnready, Item, List, ListenEnds}
-use Rattle.wasi_causes.proofs.Words.{ListenFailed, ListenWaits, Listener, Listening, Machine, MissesRecord, NoListen, NoSuchHandle, None, OfWatched}
+use Rattle.wasi_causes.proofs.Words.{ListenFailed, ListenWaits, Listener, Listening, Machine, MissesRecord, NoSuchHandle, None, OfWatched}
 use Rattle.wasi_causes.proofs.Words.{Ok, OpId, Operation, Option, Pending, Pollable, ReadState, Ready, Records, Refused, Reply, Result, Some}
 use Rattle.wasi_causes.proofs.Words.{Standing, StandingCall, PendingCallsFit, Stop, StreamStop, Streams, Tcp2Socket, TcpReceiveStream}
 use Rattle.wasi_causes.proofs.Words.{TcpState, Told, Trap, Waits, WasiSocketsCtx, Watched, WatchesAccept, WatchesConnect, WatchesIdle, WriteState}
@@ -14,9 +15,10 @@ use Rattle.wasi_causes.proofs.Words.{closed_listening, connect_ended, entry, eq-
 use Rattle.wasi_causes.proofs.Words.{if◌then◌else◌, in_socket, inl, inr, is_connect, is_nothing, kind_at, listen_ended, listen_polled}
 use Rattle.wasi_causes.proofs.Words.{marks_in, no_fields, nothing_stands, own_of, place_in, poll_begun, poll_binding, poll_listening}
 use Rattle.wasi_causes.proofs.Words.{reader_ready_asks, ready_asks, ready_end, ready_on, rebind_at, refl, relisten_at, resume_asks, resume_call}
-use Rattle.wasi_causes.proofs.Words.{resumed, resumed_reply, side_at, side_of, slice_get, standing_as, stands_as, subscribe_asks, subscribe_on, subst}
+use Rattle.wasi_causes.proofs.Words.{resumed, resumed_reply, side_at, side_of, standing_as, stands_as, subscribe_asks, subscribe_on, subst}
 use Rattle.wasi_causes.proofs.Words.{sym, told_ready, true, truth_reply, unstood, watch_of, watched_by, with_reader, with_socket, with_store}
 use Rattle.wasi_causes.proofs.Words.{with_writer, word_of_code, ℕ, ◌==◌, ◌∙◌, ◌∷◌, ◌≡◌, ◌≢◌, ◌⊎◌}
+use Rattle.wasi_world.specs.declared.ids.Ids.{Ids}
 use Rattle.wasi_causes.proofs.operations.Accepts.{AcceptRow, accepts}
 use Rattle.wasi_causes.proofs.operations.Polls.{EndsFor, connect_ends, bind_ends as bind_polls, listen_ends as listen_polls}
 use Rattle.wasi_causes.proofs.streams.Halves.{LookRow, looks, OutputRow, outputs}
@@ -37,7 +39,6 @@ use Rattle.wasi_tcp.specs.declared.socket.TcpState.TheVariants as state
 use Rattle.wasi_world.specs.declared.call.Call.TheVariants as call
 use Rattle.wasi_world.specs.declared.call.Told.TheVariants as told
 use Rattle.wasi_walks.specs.Answered.{ConnectsOn}
-use Rattle.wasi_walks.specs.Waiting.{IsNoListen}
 use Rattle.wasi_world.specs.declared.outcome.Answer.TheVariants as answer
 
 -- == a subscription
@@ -45,7 +46,7 @@ module _ (contexts : List WasiSocketsCtx) (m : Machine) (line c handle : ℕ) wh
   on_subscribe : (o : Option Watched) → watched_by (kind_at m.table handle) ≡ o → Meets (Replied contexts m line (step.Subscribe c handle) handle_reply) [] (subscribe_on m (own_of line) handle o)
   on_subscribe None is = ends (tt, (is, refl, refl))
   on_subscribe (Some w) is =
-      onto _ (makes m.table (own_of line) (Pollable w) (Some handle) (side_at (slice_get m.store.sockets (place_in w))) (λ full. (tt, (tt, full_so m m [] full refl refl, tt)))
+      onto _ (makes m.table (own_of line) (Pollable w) (Some handle) (side_at (tcp2_at m.store.records (place_in w))) (λ full. (tt, (tt, full_so m m [] full refl refl, tt)))
       (tt, ((tt, tt), record { number = refl; marked = rw is refl; made = rw is refl })))
 
   pub subscribe : Meets (Says contexts m line (step.Subscribe c handle)) [] (bind (subscribe_asks m (own_of line) handle) (λ done. Give (handle_reply done.0, done.1)))
@@ -168,10 +169,10 @@ module _ (contexts : List WasiSocketsCtx) (m : Machine) (line c pollable : ℕ) 
     none_there (watched.Input place) = refl
     none_there (watched.Output place) = refl
 
-    the_record : {P : Watched → Tcp2Socket → Type 0} (on : OfWatched m pollable P) → slice_get m.store.sockets (place_in w) ≡ Some on.found
+    the_record : {P : Watched → Tcp2Socket → Type 0} (on : OfWatched m pollable P) → tcp2_at m.store.records (place_in w) ≡ Some on.found
     the_record on = let p = on.watches in let same : on.watch ≡ w = cc in rw (sym same) on.at
 
-    module _ (r : Tcp2Socket) (at : slice_get m.store.sockets (place_in w) ≡ Some r) where
+    module _ (r : Tcp2Socket) (at : tcp2_at m.store.records (place_in w) ≡ Some r) where
       idle_too : WatchesIdle m pollable → IsIdleSocket w r
       idle_too idle =
           let p = idle.watches in
@@ -201,30 +202,34 @@ module _ (contexts : List WasiSocketsCtx) (m : Machine) (line c pollable : ℕ) 
       said es (Err (Trap NoSuchHandle), now) k = (λ idle. absurd (never_idle w k.0 (idle_too idle)), (rw (is, at) k.0, k.1, put_again now k.2))
       said es (Err _, now) k = absurd k
 
-    by_record : (o : Option Tcp2Socket) → slice_get m.store.sockets (place_in w) ≡ o → Meets (λ es done. ReadyRow es (with_store m done)) [] (ready_at m.store own (first_ids line) w (place_in w) o)
+    by_record : (o : Option Tcp2Socket) → tcp2_at m.store.records (place_in w) ≡ o → Meets (λ es done. ReadyRow es (with_store m done)) [] (ready_at m.store own (first_ids line) w (place_in w) o)
     by_record None at = ends (λ idle. let there = the_record idle in absurd (cc), (rw (is, at) (none_there w), refl, refl))
     by_record (Some r) at = onto _ (widen (said r at) (looks_at line r w))
 
   by_watch : (o : Option Watched) → watch_of (kind_at m.table pollable) ≡ o → Meets ReadyRow [] (ready_on m (first_ids line) o)
   by_watch None is = ends (λ idle. let some = idle.watches in absurd (cc), (rw is tt, refl, refl))
-  by_watch (Some w) is = onto _ (by_record w is (slice_get m.store.sockets (place_in w)) refl)
+  by_watch (Some w) is = onto _ (by_record w is (tcp2_at m.store.records (place_in w)) refl)
 
   pub ready : Meets (Says contexts m line (step.Ready c pollable)) [] (bind (ready_asks m (first_ids line) pollable) (λ done. Give (truth_reply done.0, done.1)))
   ready = onto _ (by_watch (watch_of (kind_at m.table pollable)) refl)
 
 -- == a poll of the pending call
-module _ (contexts : List WasiSocketsCtx) (m : Machine) (line n : ℕ) where
-  abbrev Row : Rows (Reply × Machine)
+module _ (contexts : List WasiSocketsCtx) (m : Machine) (line : ℕ) (ids : Ids) where
+  -- its number
+  abbrev n : ℕ
+  n = ids.line
+
+  abbrev pub Row : Rows (Reply × Machine)
   Row es done = Outcome contexts m line (step.Poll n) es done.0 done.1
 
-  abbrev ResumedRow : Rows (Result (Option (Answer Given)) Stop × Machine)
+  abbrev pub ResumedRow : Rows (Result (Option (Answer Given)) Stop × Machine)
   ResumedRow es done = Row es (resumed_reply n done.0, done.1)
 
   abbrev CallRow : Rows (Result (Answer (Unit {0})) Stop × Records)
   CallRow es done = ResumedRow es (resumed (with_store m done))
 
-  abbrev Under : StandingCall → Type 0
-  Under call = m.store.standing ≡ Some (standing_as n call)
+  abbrev pub Under : StandingCall → Type 0
+  Under call = m.store.standing ≡ Some (standing_as ids call)
 
   -- nothing is pending any more
   abbrev free : Records
@@ -242,9 +247,9 @@ module _ (contexts : List WasiSocketsCtx) (m : Machine) (line n : ℕ) where
     done es after none = (it_ends es (reply.Ok no_fields) after (λ e. cc) none, (tt, tt))
 
     fails : (es : List Entry) (after : Machine) (code : ErrorCode) → after.store.standing ≡ None → (PendingCallsFit m → CallFails m es call code) → Row es (reply.Err (word_of_code code), after)
-    fails es after code none cause = (it_ends es (reply.Err (word_of_code code)) after (λ e. cc) none, (code_word code, λ binds. record { call = call; code = code; stands = stands; cause = cause binds; word_is = refl }))
+    fails es after code none cause = (it_ends es (reply.Err (word_of_code code)) after (λ e. cc) none, (code_word code, λ binds. record { ids = ids; call = call; code = code; stands = stands; number = refl; cause = cause binds; word_is = refl }))
 
-    waits : (es : List Entry) (after : Machine) → after.store.standing ≡ Some (standing_as n call) → (PendingCallsFit m → CallWaits m (own_of n) es call) → Row es (reply.Pending n, after)
+    waits : (es : List Entry) (after : Machine) → after.store.standing ≡ Some (standing_as ids call) → (PendingCallsFit m → CallWaits m (own_of n) es call) → Row es (reply.Pending n, after)
     waits es after on cause = ((apart (λ e. cc) stands_so, λ same. inl refl), ((refl, rw on refl), λ binds. subst (λ (o : Option Standing). IsSomeAnd o (λ s. CallWaits m (own_of n) es s.call)) (sym stands) (cause binds)))
 
     -- what is due for an answer
@@ -253,8 +258,8 @@ module _ (contexts : List WasiSocketsCtx) (m : Machine) (line n : ℕ) where
     Due es (Ok (Ready given)) = Unit {0}
     Due es (Err code) = PendingCallsFit m → CallFails m es call code
 
-    answered_so : (es : List Entry) (begun : Result (Answer (Unit {0})) ErrorCode × Tcp2Socket) → Due es begun.0 → CallRow es (call_answered free n call begun)
-    answered_so es (Ok Pending, r) h = waits es (record m { store = record (with_socket free (call_place call) r) { standing = Some (standing_as n call) } }) refl h
+    answered_so : (es : List Entry) (begun : Result (Answer (Unit {0})) ErrorCode × Tcp2Socket) → Due es begun.0 → CallRow es (call_answered free ids call begun)
+    answered_so es (Ok Pending, r) h = waits es (record m { store = record (with_socket free (call_place call) r) { standing = Some (standing_as ids call) } }) refl h
     answered_so es (Ok (Ready given), r) h = done es (record m { store = with_socket free (call_place call) r }) refl
     answered_so es (Err code, r) h = fails es (record m { store = with_socket free (call_place call) r }) code refl h
 
@@ -262,25 +267,26 @@ module _ (contexts : List WasiSocketsCtx) (m : Machine) (line n : ℕ) where
     missing nothing = (it_ends [] (reply.Trap NoSuchHandle) (nothing_stands m) (λ e. cc) refl, (rw (stands, eq-eqb n n refl) nothing, refl, refl))
 
   -- == of a drop
-  of_output : (place : ℕ) → Under (DropOutput place) → (es : List Entry) (done : Answer (Unit {0}) × Records) → OutputRow free (own_of n) place es done → CallRow es (allowed_answer done)
+  of_output : (place : ℕ) → Under (DropOutput place) → (es : List Entry) (done : Answer (Unit {0}) × Records) → OutputRow free ids place es done → CallRow es (allowed_answer done)
   of_output place stands es (Ready given, store) k = done (DropOutput place) stands es (record m { store = store }) k.1
   of_output place stands es (Pending, store) k = waits (DropOutput place) stands es (record m { store = store }) k.1 (λ binds. k.0 m refl)
 
   -- == of a listen
   module _ (place : ℕ) (stands : Under (Listen place)) where
-    module _ (r : Tcp2Socket) (at : slice_get m.store.sockets place ≡ Some r) where
+    module _ (r : Tcp2Socket) (at : tcp2_at m.store.records place ≡ Some r) where
       abbrev ListenRow : Rows (Result (Answer (Unit {0})) ErrorCode × Tcp2Socket)
-      ListenRow es begun = CallRow es (call_answered free n (Listen place) begun)
+      ListenRow es begun = CallRow es (call_answered free ids (Listen place) begun)
 
-      gives_up : IsNoListen r.listening → ListenRow [] (Err InvalidState, r)
-      gives_up none = answered_so (Listen place) stands [] (Err InvalidState, r) (λ binds. NoListen place (rw at none) refl)
+      listens_on : PendingCallsFit m → IsListening r.inner.state r.listening
+      listens_on binds = let k : IfSome (tcp2_at m.store.records place) (λ q. IsListening q.inner.state q.listening) = rw stands at binds in rw at at k
+
+      -- a pending listen is in progress
+      unheld : {l : Listening} → r.listening ≡ l → (IsListening r.inner.state l → ⊥) → ListenRow [] (Err InvalidState, r)
+      unheld is none = answered_so (Listen place) stands [] (Err InvalidState, r) (λ binds. absurd (none (subst (IsListening r.inner.state) is (listens_on binds))))
 
       module _ (op : Operation) (is : r.listening ≡ listening.Begins op) where
         is_listen : PendingCallsFit m → IsListening r.inner.state (listening.Begins op)
-        is_listen binds =
-            let k : IfSome (slice_get m.store.sockets place) (λ q. IsListening q.inner.state q.listening) = rw stands at binds in
-            let held : IsListening r.inner.state r.listening = rw at at k in
-            rw is at held
+        is_listen binds = subst (IsListening r.inner.state) is (listens_on binds)
 
         listen_waits : (es : List Entry) → EndsPending op.who.id es → CallWaits m (own_of n) es (Listen place)
         listen_waits es h = let k : ListenWaits r.listening es = rw is h in rw at k
@@ -297,29 +303,29 @@ module _ (contexts : List WasiSocketsCtx) (m : Machine) (line n : ℕ) where
 
       relists_by : (l : Listening) → r.listening ≡ l → Meets ListenRow [] (poll_listening r l)
       relists_by (listening.Begins op) is = begun op is
-      relists_by _ is = ends (gives_up (rw is tt))
+      relists_by _ is = ends (unheld is (λ k. k))
 
       -- a listen that was begun has taken the network socket
       by_other : (of : OpId) → side_of r.inner ≡ Some of → (l : Listening) → r.listening ≡ l → ListenRow [] (Err InvalidState, r)
       by_other of side (listening.Begins op) is = answered_so (Listen place) stands [] (Err InvalidState, r) (λ binds. let none = (is_listen op is binds).3 in absurd (cc))
-      by_other of side _ is = gives_up (rw is tt)
+      by_other of side _ is = unheld is (λ k. k)
 
       by_side : (o : Option OpId) → side_of r.inner ≡ o → Meets ListenRow [] (closed_listening r o)
       by_side None side = relists_by r.listening refl
       by_side (Some of) side = ends (by_other of side r.listening refl)
 
-    relists : (o : Option Tcp2Socket) → slice_get m.store.sockets place ≡ o → Meets CallRow [] (relisten_at free n place o)
+    relists : (o : Option Tcp2Socket) → tcp2_at m.store.records place ≡ o → Meets CallRow [] (relisten_at free ids place o)
     relists None at = ends (missing (Listen place) stands at)
     relists (Some r) at = onto _ (by_side r at (side_of r.inner) refl)
 
   -- == of a bind
   module _ (place : ℕ) (stands : Under (Bind place)) where
-    module _ (r : Tcp2Socket) (at : slice_get m.store.sockets place ≡ Some r) where
+    module _ (r : Tcp2Socket) (at : tcp2_at m.store.records place ≡ Some r) where
       abbrev BindRow : Rows (Result (Answer (Unit {0})) ErrorCode × Tcp2Socket)
-      BindRow es begun = CallRow es (call_answered free n (Bind place) begun)
+      BindRow es begun = CallRow es (call_answered free ids (Bind place) begun)
 
       goes_on : PendingCallsFit m → IsBinding r.in_progress
-      goes_on binds = let k : IfSome (slice_get m.store.sockets place) (λ q. IsBinding q.in_progress) = rw stands at binds in rw at at k
+      goes_on binds = let k : IfSome (tcp2_at m.store.records place) (λ q. IsBinding q.in_progress) = rw stands at binds in rw at at k
 
       module _ (op : Operation) (is : r.in_progress ≡ Binding op) where
         is_bind : PendingCallsFit m → IsRestOfBind op
@@ -337,27 +343,34 @@ module _ (contexts : List WasiSocketsCtx) (m : Machine) (line n : ℕ) where
       rebinds_by (Binding op) is = onto _ (widen (bind_ends op is) (granted (bind_polls op)))
       rebinds_by _ is = ends (answered_so (Bind place) stands [] (Err InvalidState, r) (λ binds. let k = goes_on binds in absurd (rw is at k)))
 
-    rebinds : (o : Option Tcp2Socket) → slice_get m.store.sockets place ≡ o → Meets CallRow [] (rebind_at free n place o)
+    rebinds : (o : Option Tcp2Socket) → tcp2_at m.store.records place ≡ o → Meets CallRow [] (rebind_at free ids place o)
     rebinds None at = ends (missing (Bind place) stands at)
     rebinds (Some r) at = onto _ (rebinds_by r at r.in_progress refl)
 
   -- == by what is pending
-  goes_on_as : (call : StandingCall) → Under call → Meets CallRow [] (go_on free n call)
-  goes_on_as (Bind place) stands = rebinds place stands (slice_get m.store.sockets place) refl
-  goes_on_as (Listen place) stands = relists place stands (slice_get m.store.sockets place) refl
-  goes_on_as (DropOutput place) stands = onto _ (widen (of_output place stands) (outputs free (own_of n) place (slice_get m.store.sockets place) refl))
+  goes_on_as : (call : StandingCall) → Under call → Meets CallRow [] (go_on free ids call)
+  goes_on_as (Bind place) stands = rebinds place stands (tcp2_at m.store.records place) refl
+  goes_on_as (Listen place) stands = relists place stands (tcp2_at m.store.records place) refl
+  goes_on_as (DropOutput place) stands = onto _ (widen (of_output place stands) (outputs free ids place (tcp2_at m.store.records place) refl))
 
+module _ (contexts : List WasiSocketsCtx) (m : Machine) (line n : ℕ) where
   none_so : (o : Option Standing) → call_of o n ≡ None → stands_as o n ≡ false
   none_so None e = refl
-  none_so (Some s) e = by_line (s.line == n) e
+  none_so (Some s) e = by_line (s.ids.line == n) e
     where
-      by_line : (same : Bool) → (if same then Some s.call else None) ≡ None → same ≡ false
+      by_line : (same : Bool) → (if same then Some s else None) ≡ None → same ≡ false
       by_line true k = absurd (cc)
       by_line false k = refl
 
-  by_call : (o : Option StandingCall) → call_of m.store.standing n ≡ o → Meets ResumedRow [] (resume_call m n o)
-  by_call None e = let none = none_so m.store.standing e in ends (((λ same. none, λ k. refl), λ same. absurd (cc)), (tt, (refl, refl)))
-  by_call (Some call) e = onto _ (goes_on_as call (stands_under m.store.standing n call e))
+  abbrev PolledRow : ℕ → Rows (Result (Option (Answer Given)) Stop × Machine)
+  PolledRow k es done = Outcome contexts m line (step.Poll k) es (resumed_reply k done.0) done.1
 
-  pub poll : Meets Row [] (bind (resume_asks m n) (λ done. Give (resumed_reply n done.0, done.1)))
+  by_call : (o : Option Standing) → call_of m.store.standing n ≡ o → Meets (PolledRow n) [] (resume_call m o)
+  by_call None e = let none = none_so m.store.standing e in ends (((λ same. none, λ k. refl), λ same. absurd (cc)), (tt, (refl, refl)))
+  by_call (Some s) e = let k = stands_under m.store.standing n s e in subst (λ (l : ℕ). Meets (PolledRow l) [] (resume_call m (Some s))) k.1 (onto _ (goes_on_as contexts m line s.ids s.call k.0))
+
+  abbrev Polled : Rows (Reply × Machine)
+  Polled es done = Outcome contexts m line (step.Poll n) es done.0 done.1
+
+  pub poll : Meets Polled [] (bind (resume_asks m n) (λ done. Give (resumed_reply n done.0, done.1)))
   poll = onto _ (by_call (call_of m.store.standing n) refl)

@@ -1,6 +1,8 @@
 -- Of the machines that runs lead to: what a socket connects by is a connect, what a listener accepts by an accept, what is
 -- pending as a bind is a bind, and as a listen a listen; each live handle and what is pending are of a record that is there, a
 -- connect in progress may be finished, and a socket that does nothing yet doesn't listen.
+use Rattle.wasi_host.specs.Records.{tcp2_at, tcp2_put, tcp2_pushed}
+use Rattle.wasi_host.specs.declared.records.Record.{Record}
 use Rattle.wasi_host.specs.declared.binding.InProgress.TheVariants.{Binding}
 use Rattle.wasi_causes.proofs.Words.{Accepting, AcceptsAt, AcceptsIn, Allows, Answered, Bool, CodeWord, ConnectsAt, Done, End, Entry, Err}
 use Rattle.wasi_causes.proofs.Words.{ErrorCode, FinishRefusal, Full, Give, HasChildren, HoldsCall, IfSome, InProgress, Input, IsBinding, IsListening}
@@ -9,24 +11,25 @@ use Rattle.wasi_causes.proofs.Words.{NoSuchHandle, None, NotPermitted, Ok, OpId,
 use Rattle.wasi_causes.proofs.Words.{Pollable, Refused, RefusedOf, Reply, Result, Socket, Some, Standing, StandingCall}
 use Rattle.wasi_causes.proofs.Words.{PendingCallsFit, StandsOnNothing, Step, Tcp2, Tcp2Socket, TcpState, TrapKind, Waits, WasiSocketsCtx, Watched}
 use Rattle.wasi_causes.proofs.Words.{WatchesAccept, WatchesConnect, Who, [], accept_ended, allows_if, allows_then, ap, bind, bind_progress, call_of}
-use Rattle.wasi_causes.proofs.Words.{call_place, connect_ended, created_asks, false, first_state, get_front, get_seam, get_set, get_split}
+use Rattle.wasi_causes.proofs.Words.{call_place, connect_ended, created_asks, false, first_state, get_set, get_split}
 use Rattle.wasi_causes.proofs.Words.{give_up_asks, if◌then◌else◌, inl, inr, is_connect, is_full, kind_at, length, machine_asks, make_asks, new_asks}
-use Rattle.wasi_causes.proofs.Words.{new_record, own_of, place_in, poll_asks, record_at, record_in, refl, run, set_get, side_at, side_of, slice_get}
-use Rattle.wasi_causes.proofs.Words.{slice_set, socket_at, standing_as, subst, sym, table_parent, told_addr, true, turn_asks, value_split}
+use Rattle.wasi_causes.proofs.Words.{new_record, own_of, place_in, poll_asks, record_at, record_in, refl, run, set_get, side_at, side_of}
+use Rattle.wasi_causes.proofs.Words.{socket_at, standing_as, subst, sym, table_parent, told_addr, true, turn_asks, value_split}
 use Rattle.wasi_causes.proofs.Words.{value_without, watch_of, watched_in, with_handle, with_inner, with_listening, with_progress, with_record}
-use Rattle.wasi_causes.proofs.Words.{with_state, with_writer, without_handle, ℕ, ⊤, ◌++◌, ◌==◌, ◌∙◌, ◌∷◌, ◌≡◌, ◌⊎◌}
+use Rattle.wasi_causes.proofs.Words.{with_state, with_writer, without_handle, ℕ, ⊤, ◌==◌, ◌∙◌, ◌≡◌, ◌⊎◌}
 use Rattle.wasi_causes.proofs.sockets.Starts.{IsPastNot}
 use Rattle.wasi_causes.proofs.tables.Steps.{its_own}
 use Rattle.wasi_causes.specs.Outcomes.{Traps}
 use Rattle.wasi_causes.specs.Reached.{Finishes, MayFinish, ListensLate, HasRecord, OfItsRecord}
 use Rattle.wasi_host.specs.declared.listening.Listening.TheVariants as listening
 use Rattle.wasi_host.specs.declared.store.StandingCall.TheVariants as standing
+use Rattle.wasi_walks.proofs.Lists.{tcp2_front, tcp2_seam}
 use Rattle.wasi_walks.proofs.fits.Law.{Fit, fits_along, told_same, whatever}
 use Rattle.wasi_walks.proofs.fits.Lines.{first_fit, starts_fit}
 use Rattle.wasi_walks.proofs.fits.Polls.{Anything}
 use Rattle.wasi_walks.proofs.fits.Records.{FitListening, FitProgress, FitRecord, FitCall}
 use Rattle.wasi_walks.proofs.walks.Law.{Law}
-use Rattle.wasi_walks.proofs.walks.Moves.{HasBinding, closed_record, Held, BindsOn, Connects, Here, put, Move, Changes, ClosesReader, Writes, IsGone, Reconnects, Opens, BeginsBind, BeginsConnect, BeginsWrite, Stands, Lists, Takes, BeginsListen, BeginsAccept, Unlistens, Forgets, Joins, Unstands, Listens, Awaits, listen_after, accepting_now, joined, IsConnecting, Marks, AStream, AnAcceptedStream, APollable, record_of}
+use Rattle.wasi_walks.proofs.walks.Moves.{HasBinding, HasListen, closed_record, Held, BindsOn, Connects, Here, put, Move, Changes, ClosesReader, Writes, IsGone, Reconnects, Opens, BeginsBind, BeginsConnect, BeginsWrite, Stands, Lists, Takes, BeginsListen, BeginsAccept, Unlistens, Forgets, Joins, Unstands, Listens, Awaits, listen_after, accepting_now, joined, IsConnecting, Marks, AStream, AnAcceptedStream, APollable, record_of}
 use Rattle.wasi_walks.proofs.walks.Runs.{run_ends}
 use Rattle.wasi_walks.proofs.walks.States.{Over, socket_record}
 use Rattle.wasi_walks.proofs.walks.Steps.{may_while, machine_walks}
@@ -36,7 +39,8 @@ use Rattle.wasi_tcp.specs.Listen.{is_over}
 use Rattle.wasi_tcp.specs.Socket.{side_in}
 use Rattle.wasi_walks.specs.Answered.{AllOf, ConnectsOn, IsAskOfConnect}
 use Rattle.wasi_walks.specs.Listens.{RefusedListen}
-use Rattle.wasi_walks.specs.Waiting.{IsAskOfListen}
+use Rattle.wasi_tcp.specs.Listen as listen
+use Rattle.wasi_walks.specs.Waiting.{IsAskLeft, IsAskOfListen, StartsTold}
 use Rattle.wasi_causes.proofs.Words.{HoldsConnect, IpSocketAddress, SocketAddressFamily, after_create, gives_more, told_done, wildcard}
 use Rattle.wasi_steps.specs.declared.reply.Reply.TheVariants as reply
 use Rattle.wasi_steps.specs.declared.step.Step.TheVariants as step
@@ -44,8 +48,8 @@ use Rattle.wasi_tcp.specs.declared.listener.Accepting.TheVariants as accepting
 use Rattle.wasi_tcp.specs.declared.socket.TcpState.TheVariants as state
 
 -- == what holds of a machine
-abbrev pub IsThere : List Tcp2Socket → ℕ → Type 0
-IsThere sockets place = (r : Tcp2Socket) × (slice_get sockets place ≡ Some r)
+abbrev pub IsThere : List Record → ℕ → Type 0
+IsThere records place = (r : Tcp2Socket) × (tcp2_at records place ≡ Some r)
 
 -- only asks are left of a connect and of a listen
 abbrev pub AsksToConnect : TcpState → Type 0
@@ -64,48 +68,48 @@ abbrev pub Sound : Tcp2Socket → Type 0
 Sound r = Finishes r × ListensLate r × Asking r
 
 pub record Steady (m : Machine) : Type 0 where
-  pub records : (place : ℕ) (r : Tcp2Socket) → slice_get m.store.sockets place ≡ Some r → Sound r
-  pub handles : (handle place : ℕ) → record_of (kind_at m.table handle) ≡ Some place → IsThere m.store.sockets place
-  pub stands : (c : Standing) → m.store.standing ≡ Some c → IsThere m.store.sockets (call_place c.call)
+  pub records : (place : ℕ) (r : Tcp2Socket) → tcp2_at m.store.records place ≡ Some r → Sound r
+  pub handles : (handle place : ℕ) → record_of (kind_at m.table handle) ≡ Some place → IsThere m.store.records place
+  pub stands : (c : Standing) → m.store.standing ≡ Some c → IsThere m.store.records (call_place c.call)
 
 -- == one record changes, one joins, a handle is made, a call is pending
-there_put : (sockets : List Tcp2Socket) (i : ℕ) (now : Tcp2Socket) (k : ℕ) → IsThere sockets k → IsThere (slice_set sockets i now) k
-there_put sockets i now k (r, g) = elim (set_get sockets i now k r g) [ inl e ↦ (r, e) | inr e ↦ (now, e.1) ]
+there_put : (records : List Record) (i : ℕ) (now : Tcp2Socket) (k : ℕ) → IsThere records k → IsThere (tcp2_put records i now) k
+there_put records i now k (r, g) = elim (set_get records i now k r g) [ inl e ↦ (r, e) | inr e ↦ (now, e.1) ]
 
-there_push : (sockets : List Tcp2Socket) (new : Tcp2Socket) (k : ℕ) → IsThere sockets k → IsThere (sockets ++ new ∷ []) k
-there_push sockets new k (r, g) = (r, get_front sockets (new ∷ []) k r g)
+there_push : (records : List Record) (new : Tcp2Socket) (k : ℕ) → IsThere records k → IsThere (tcp2_pushed records new) k
+there_push records new k (r, g) = (r, tcp2_front records new k r g)
 
 put_steady : (h : Here) (place : ℕ) (now : Tcp2Socket) → Sound now → Steady h.machine → Steady (put h place now).machine
 put_steady h place now f i = record {
-  records = λ k r e. elim (get_set h.machine.store.sockets place now k r e) [ inl p ↦ subst Sound p.1 f | inr p ↦ i.records k r p ];
-  handles = λ handle k e. there_put h.machine.store.sockets place now k (i.handles handle k e);
-  stands = λ c e. there_put h.machine.store.sockets place now (call_place c.call) (i.stands c e);
+  records = λ k r e. elim (get_set h.machine.store.records place now k r e) [ inl p ↦ subst Sound p.1 f | inr p ↦ i.records k r p ];
+  handles = λ handle k e. there_put h.machine.store.records place now k (i.handles handle k e);
+  stands = λ c e. there_put h.machine.store.records place now (call_place c.call) (i.stands c e);
 }
 
-push_steady : (m : Machine) (new : Tcp2Socket) → Sound new → Steady m → Steady (record m { store = record m.store { sockets = m.store.sockets ++ new ∷ [] } })
+push_steady : (m : Machine) (new : Tcp2Socket) → Sound new → Steady m → Steady (record m { store = record m.store { records = tcp2_pushed m.store.records new } })
 push_steady m new f i = record {
-  records = λ k r e. elim (get_split m.store.sockets new k r e) [ inl p ↦ i.records k r p | inr p ↦ subst Sound p f ];
-  handles = λ handle k e. there_push m.store.sockets new k (i.handles handle k e);
-  stands = λ c e. there_push m.store.sockets new (call_place c.call) (i.stands c e);
+  records = λ k r e. elim (get_split m.store.records new k r e) [ inl p ↦ i.records k r p | inr p ↦ subst Sound p f ];
+  handles = λ handle k e. there_push m.store.records new k (i.handles handle k e);
+  stands = λ c e. there_push m.store.records new (call_place c.call) (i.stands c e);
 }
 
-stand_steady : (m : Machine) (s : Standing) → IsThere m.store.sockets (call_place s.call) → Steady m → Steady (record m { store = record m.store { standing = Some s } })
-stand_steady m s t i = record { records = i.records; handles = i.handles; stands = λ c e. let p : s ≡ c = cc in subst (λ (x : Standing). IsThere m.store.sockets (call_place x.call)) p t }
+stand_steady : (m : Machine) (s : Standing) → IsThere m.store.records (call_place s.call) → Steady m → Steady (record m { store = record m.store { standing = Some s } })
+stand_steady m s t i = record { records = i.records; handles = i.handles; stands = λ c e. let p : s ≡ c = cc in subst (λ (x : Standing). IsThere m.store.records (call_place x.call)) p t }
 
-made_steady : (es : List Entry) (m : Machine) (op : OpId) (kind : Kind) (parent : Option ℕ) (sock : Option OpId) → ((place : ℕ) → record_of (Some kind) ≡ Some place → IsThere m.store.sockets place) → Steady m
+made_steady : (es : List Entry) (m : Machine) (op : OpId) (kind : Kind) (parent : Option ℕ) (sock : Option OpId) → ((place : ℕ) → record_of (Some kind) ≡ Some place → IsThere m.store.records place) → Steady m
     → Allows Anything (λ fs made. Steady (record m { table = made.1 })) es (make_asks m.table op kind parent sock)
 unfolding bind
 made_steady es m op kind parent sock t i =
     allows_if Anything (λ fs made. Steady (record m { table = made.1 })) es (is_full m.table) _ _ (λ full. i) (λ room. (tt, λ told fits. record { records = i.records; handles = handles; stands = i.stands }))
   where
-    live : (handle place : ℕ) (k : Option Kind) → kind_at (with_handle m.table kind parent) handle ≡ k → record_of k ≡ Some place → IsThere m.store.sockets place
+    live : (handle place : ℕ) (k : Option Kind) → kind_at (with_handle m.table kind parent) handle ≡ k → record_of k ≡ Some place → IsThere m.store.records place
     live handle place None q e = absurd (cc)
     live handle place (Some x) q e = elim (value_split m.table.live (record { handle = m.table.next; value = kind; parent = table_parent kind parent }) handle x q) [
       | inl g ↦ i.handles handle place (ap record_of g ∙ e)
       | inr g ↦ t place (ap (λ (y : Kind). record_of (Some y)) g.1 ∙ e)
     ]
 
-    handles : (handle place : ℕ) → record_of (kind_at (with_handle m.table kind parent) handle) ≡ Some place → IsThere m.store.sockets place
+    handles : (handle place : ℕ) → record_of (kind_at (with_handle m.table kind parent) handle) ≡ Some place → IsThere m.store.records place
     handles handle place e = live handle place (kind_at (with_handle m.table kind parent) handle) refl e
 
 -- == moves
@@ -163,12 +167,12 @@ module _ (contexts : List WasiSocketsCtx) (line : ℕ) (origin : Step) where
   moves_steady _ _ (BeginsWrite h place r s half permit bytes at g e w within own) i = put_steady h place _ (i.records place r g) i
   moves_steady _ _ (BeginsListen h place r side at g d bound none to idle own) i = put_steady h place _ (λ k. tt, λ s e. absurd (cc), (tt, ((tt, (tt, tt)), refl, refl))) i
   moves_steady _ _ (BeginsAccept h place r l at g e a own) i = put_steady h place _ (listens_on r l _ e (i.records place r g)) i
-  moves_steady _ _ (Unlistens h place r op g e c o) i = put_steady h place _ ((i.records place r g).0, λ side d. refl, ((i.records place r g).2.0, tt)) i
+  moves_steady _ _ (Unlistens h place r op q g e c o) i = put_steady h place _ ((i.records place r g).0, λ side d. refl, ((i.records place r g).2.0, tt)) i
   moves_steady _ _ (Forgets h place r l c g e a) i = put_steady h place _ (listens_on r l accepting.Idle e (i.records place r g)) i
   moves_steady _ _ (Joins h c handle place r l new peer is of u g e a) i =
       let k = put_steady h place (accepting_now r l accepting.Idle) (listens_on r l accepting.Idle e (i.records place r g)) i in push_steady (put h place (accepting_now r l accepting.Idle)).machine (joined l new peer) (λ c. absurd (cc), λ side d. absurd (cc), (tt, tt)) k
   moves_steady _ _ (Unstands h) i = record { records = i.records; handles = i.handles; stands = λ c e. absurd (cc) }
-  moves_steady _ _ (Stands h n call r at g b) i = stand_steady h.machine (standing_as n call) (r, g) i
+  moves_steady _ _ (Stands h ids call r at g b) i = stand_steady h.machine (standing_as ids call) (r, g) i
   moves_steady _ _ (Lists h jobs) i = record { records = i.records; handles = i.handles; stands = i.stands }
   moves_steady _ _ (Takes h handle) i = record { records = i.records; handles = λ k place e. i.handles k place (still k place (kind_at (without_handle h.machine.table handle) k) refl e); stands = i.stands }
     where
@@ -182,9 +186,9 @@ module _ (contexts : List WasiSocketsCtx) (line : ℕ) (origin : Step) where
   one_of_two kind its place (inl e) p = let q : record_of (Some kind) ≡ Some its = ap (λ (x : Kind). record_of (Some x)) e in cc
   one_of_two kind its place (inr e) p = let q : record_of (Some kind) ≡ Some its = ap (λ (x : Kind). record_of (Some x)) e in cc
 
-  marks_there : (h : Here) (kind : Kind) (parent : Option ℕ) (sock : Option OpId) → Marks origin h kind parent sock → Steady h.machine → (place : ℕ) → record_of (Some kind) ≡ Some place → IsThere h.machine.store.sockets place
+  marks_there : (h : Here) (kind : Kind) (parent : Option ℕ) (sock : Option OpId) → Marks origin h kind parent sock → Steady h.machine → (place : ℕ) → record_of (Some kind) ≡ Some place → IsThere h.machine.store.records place
   marks_there h kind _ _ (AStream c handle its _ is two of) i place e = i.handles handle place (of ∙ ap (λ (x : ℕ). Some x) (one_of_two kind its place two e))
-  marks_there h kind _ _ (AnAcceptedStream c listener handle its _ r is two made own g) i place e = subst (IsThere h.machine.store.sockets) (one_of_two kind its place two e) (r, g)
+  marks_there h kind _ _ (AnAcceptedStream c listener handle its _ r is two made own g) i place e = subst (IsThere h.machine.store.records) (one_of_two kind its place two e) (r, g)
   marks_there h _ _ _ (APollable c handle w is of) i place e = i.handles handle place (of ∙ e)
   marks_there h _ _ _ _ i place e = absurd (cc)
 
@@ -204,8 +208,8 @@ module _ (contexts : List WasiSocketsCtx) (line : ℕ) (origin : Step) where
   joins : (es : List Entry) (m : Machine) (op : OpId) (made : Result Socket ErrorCode) → MadeIdle made → Steady m → Allows Anything (λ fs done. Steady done.1) es (created_asks m op made)
   joins es m op (Ok socket) f i =
       let now : Machine = record m { store = with_record m.store socket } in
-      allows_then Anything (λ fs made. Steady (record now { table = made.1 })) (λ fs done. Steady done.1) es (make_asks m.table op (Tcp2 (length m.store.sockets)) None (side_of socket)) _
-      (made_steady es now op (Tcp2 (length m.store.sockets)) None (side_of socket) (λ place e. let p : length m.store.sockets ≡ place = cc in subst (IsThere now.store.sockets) p (new_record socket, get_seam m.store.sockets (new_record socket))) (push_steady m (new_record socket) (λ c. absurd (cc), λ side d. refl, (f, tt)) i)) (λ fs made k. k)
+      allows_then Anything (λ fs made. Steady (record now { table = made.1 })) (λ fs done. Steady done.1) es (make_asks m.table op (Tcp2 (length m.store.records)) None (side_of socket)) _
+      (made_steady es now op (Tcp2 (length m.store.records)) None (side_of socket) (λ place e. let p : length m.store.records ≡ place = cc in subst (IsThere now.store.records) p (new_record socket, tcp2_seam m.store.records (new_record socket))) (push_steady m (new_record socket) (λ c. absurd (cc), λ side d. refl, (f, tt)) i)) (λ fs made k. k)
   joins es m op (Err c) f i = i
 
   polls_steady : (es : List Entry) (h : Here) (op : Operation) (after : End × List Item → Here) → Held h op after → Steady h.machine → Allows Anything (λ fs ended. Steady (after ended).machine) es (poll_asks op)
@@ -229,10 +233,10 @@ module _ (contexts : List WasiSocketsCtx) (line : ℕ) (origin : Step) where
     closes = λ es h place r side q g e i. (tt, λ told fits. put_steady h place (closed_record r) (λ c. absurd (cc), λ s d. refl, (tt, tt)) i);
     marks = λ es h kind parent sock m i. made_steady es h.machine (own_of line) kind parent sock (marks_there h kind parent sock m i) i;
     creates = λ es h ctx family c a o m i. allows_then Anything (λ fs made. MadeIdle made) (λ fs done. Steady done.1) es (new_asks (own_of line) ctx family) (created_asks h.machine (own_of line)) (made_idle es (own_of line) ctx family) (λ fs made k. joins fs h.machine (own_of line) made k i);
-    accepted = λ es h c s place r is e o g i. made_steady es h.machine (own_of line) (Tcp2 place) (Some s) (side_at (slice_get h.machine.store.sockets place)) (λ k p. let q : place ≡ k = cc in subst (IsThere h.machine.store.sockets) q (r, g)) i;
+    accepted = λ es h c s place r is e o g i. made_steady es h.machine (own_of line) (Tcp2 place) (Some s) (side_at (tcp2_at h.machine.store.records place)) (λ k p. let q : place ≡ k = cc in subst (IsThere h.machine.store.records) q (r, g)) i;
     polls = polls_steady;
     turns = λ es h place r s g e i. whatever (λ done. Steady (put h place (with_writer r s done.1)).machine) (λ done. put_steady h place _ (i.records place r g) i) es (turn_asks s.writer);
-    gives_up = λ es h place r g i. whatever (λ done. Steady (put h place (with_listening r listening.Not)).machine) (λ done. put_steady h place _ ((i.records place r g).0, λ side d. refl, ((i.records place r g).2.0, tt)) i) es (give_up_asks r.listening);
+    gives_up = λ es h place r q g i. whatever (λ done. Steady (put h place (with_listening r listening.Not)).machine) (λ done. put_steady h place _ ((i.records place r g).0, λ side d. refl, ((i.records place r g).2.0, tt)) i) es (give_up_asks r.listening);
   }
 
   line_steady : (m : Machine) (es : List Entry) → Steady m → Allows Anything (λ fs done. Steady done.1) es (machine_asks contexts m line origin)
@@ -248,43 +252,56 @@ accepts_so : (l : Listening) → FitListening l → AcceptsIn l
 accepts_so (listening.Accepts l) h = h
 accepts_so _ h = tt
 
-listens_so : (s : TcpState) (l : Listening) → FitListening l → AsksToListen s l → IsListening s l
-listens_so s (listening.Begins op) h k = (h, k.0, k.1, k.2)
-listens_so s _ h k = tt
+-- what is left of a listen that was pending has no question for the local address
+asks_left : (items : List Item) → listen.IsLeftOfListen items → StartsTold items → AllOf IsAskOfListen items → AllOf IsAskLeft items
+asks_left _ (listen.BoundBefore backlog) told asks = absurd told
+asks_left _ (listen.AddressTold a backlog) told asks = (tt, (tt, tt))
+asks_left _ (listen.Unbound wildcard backlog) told asks = absurd asks.0
+asks_left _ (listen.BindChecked wildcard backlog) told asks = absurd asks.1.0
+asks_left _ (listen.Checked wildcard backlog) told asks = absurd asks.0
+asks_left _ (listen.Bound backlog) told asks = (tt, tt)
+asks_left _ (listen.ToClose c) told asks = absurd asks.0
+asks_left _ listen.Ended told asks = tt
+
+listens_so : (s : TcpState) (l : Listening) → FitListening l → AsksToListen s l → HasListen l → IsListening s l
+listens_so s (listening.Begins op) h k told = (h, asks_left op.left h.left told k.0, k.1, k.2)
+listens_so s _ h k none = absurd none
 
 connects_so : (s : TcpState) → HoldsConnect s → AsksToConnect s → ConnectsOn s
 connects_so (state.Connecting op) h k = (h, k)
 connects_so _ h k = tt
 
-module _ (m : Machine) (P : Tcp2Socket → Type 0) (so : (place : ℕ) (r : Tcp2Socket) → slice_get m.store.sockets place ≡ Some r → P r) where
-  at_place : (place : ℕ) (o : Option Tcp2Socket) → slice_get m.store.sockets place ≡ o → IfSome o P
+module _ (m : Machine) (P : Tcp2Socket → Type 0) (so : (place : ℕ) (r : Tcp2Socket) → tcp2_at m.store.records place ≡ Some r → P r) where
+  at_place : (place : ℕ) (o : Option Tcp2Socket) → tcp2_at m.store.records place ≡ o → IfSome o P
   at_place place None at = tt
   at_place place (Some r) at = so place r at
 
   of_record : (o : Option ℕ) → IfSome (record_in m o) P
   of_record None = tt
-  of_record (Some place) = at_place place (slice_get m.store.sockets place) refl
+  of_record (Some place) = at_place place (tcp2_at m.store.records place) refl
 
   of_watched : (o : Option Watched) → IfSome (watched_in m o) P
   of_watched None = tt
-  of_watched (Some w) = at_place (place_in w) (slice_get m.store.sockets (place_in w)) refl
+  of_watched (Some w) = at_place (place_in w) (tcp2_at m.store.records (place_in w)) refl
 
 module _ (m : Machine) (f : Fit (Over m)) (i : Steady m) where
   binds_so : (r : Tcp2Socket) (doing : InProgress) → r.in_progress ≡ doing → FitRecord r → HasBinding doing → IsBinding doing
   binds_so r (Binding op) e k b = (subst (FitProgress r.inner.state) e k.2).1
   binds_so r _ e k b = absurd b
 
-  by_call : (call : StandingCall) → FitCall m.store.sockets call → HoldsCall m call
+  by_call : (call : StandingCall) → FitCall m.store.records call → HoldsCall m call
   by_call (standing.Bind place) h = subst (λ (o : Option Tcp2Socket). IfSome o (λ r. IsBinding r.in_progress)) (sym h.at) (binds_so h.was h.was.in_progress refl (f.records place h.was h.at) h.goes)
-  by_call (standing.Listen place) h = at_place m (λ r. IsListening r.inner.state r.listening) (λ place r g. listens_so r.inner.state r.listening (f.records place r g).1 (i.records place r g).2.1) place (slice_get m.store.sockets place) refl
+  by_call (standing.Listen place) h =
+      subst (λ (o : Option Tcp2Socket). IfSome o (λ r. IsListening r.inner.state r.listening)) (sym h.at)
+      (listens_so h.was.inner.state h.was.listening (f.records place h.was h.at).1 (i.records place h.was h.at).2.1 h.goes)
   by_call (standing.DropOutput place) h = tt
 
-  stands_by : (o : Option Standing) → ((s : Standing) → o ≡ Some s → FitCall m.store.sockets s.call) → IfSome o (λ s. HoldsCall m s.call)
+  stands_by : (o : Option Standing) → ((s : Standing) → o ≡ Some s → FitCall m.store.records s.call) → IfSome o (λ s. HoldsCall m s.call)
   stands_by None h = tt
   stands_by (Some s) h = by_call s.call (h s refl)
 
 module _ (m : Machine) (i : Steady m) where
-  has_record : (place : ℕ) → IsThere m.store.sockets place → HasRecord m place
+  has_record : (place : ℕ) → IsThere m.store.records place → HasRecord m place
   has_record place (r, g) = subst IsSome (sym g) refl
 
   of_its_record : (handle : ℕ) (kind : Kind) → kind_at m.table handle ≡ Some kind → OfItsRecord m kind
@@ -294,7 +311,7 @@ module _ (m : Machine) (i : Steady m) where
   of_its_record handle (Pollable w) e = has_record _ (i.handles handle _ (ap record_of e))
   of_its_record handle _ e = tt
 
-  not_none : (place : ℕ) → IsThere m.store.sockets place → slice_get m.store.sockets place ≡ None → ⊥
+  not_none : (place : ℕ) → IsThere m.store.records place → tcp2_at m.store.records place ≡ None → ⊥
   not_none place (r, g) e = absurd (cc)
 
   is_no_socket : (handle : ℕ) → record_at m handle ≡ None → socket_at m handle ≡ None
@@ -304,7 +321,7 @@ module _ (m : Machine) (i : Steady m) where
       by_place None q k = refl
       by_place (Some place) q k = absurd (not_none place (i.handles handle place (socket_record (kind_at m.table handle) place q)) k)
 
-  on_nothing : (call : StandingCall) → IsThere m.store.sockets (call_place call) → IsOnNothing m call → ⊥
+  on_nothing : (call : StandingCall) → IsThere m.store.records (call_place call) → IsOnNothing m call → ⊥
   on_nothing (standing.Bind place) there none = not_none place there none
   on_nothing (standing.Listen place) there none = not_none place there none
   on_nothing (standing.DropOutput place) there none = none
@@ -312,11 +329,11 @@ module _ (m : Machine) (i : Steady m) where
   stands_on : (n : ℕ) → StandsOnNothing m n → ⊥
   stands_on n k = by_standing m.store.standing refl k
     where
-      by_standing : (o : Option Standing) → m.store.standing ≡ o → IsSomeAnd (call_of o n) (IsOnNothing m) → ⊥
+      by_standing : (o : Option Standing) → m.store.standing ≡ o → IsSomeAnd (call_of o n) (λ s. IsOnNothing m s.call) → ⊥
       by_standing None e none = none
-      by_standing (Some s) e none = by_line (s.line == n) none
+      by_standing (Some s) e none = by_line (s.ids.line == n) none
         where
-          by_line : (same : Bool) → IsSomeAnd (if same then Some s.call else None) (IsOnNothing m) → ⊥
+          by_line : (same : Bool) → IsSomeAnd (if same then Some s else None) (λ c. IsOnNothing m c.call) → ⊥
           by_line true on = on_nothing s.call (i.stands s e) on
           by_line false on = on
 
@@ -334,10 +351,10 @@ module _ (contexts : List WasiSocketsCtx) (steps : List Step) (es : List Entry) 
   run_steady : Steady m
   run_steady = runs_are_steady contexts steps es replies m w
 
-  connects_there : (place : ℕ) (r : Tcp2Socket) → slice_get m.store.sockets place ≡ Some r → ConnectsOn r.inner.state
+  connects_there : (place : ℕ) (r : Tcp2Socket) → tcp2_at m.store.records place ≡ Some r → ConnectsOn r.inner.state
   connects_there place r g = connects_so r.inner.state (fits.records place r g).0 (run_steady.records place r g).2.0
 
-  accepts_there : (place : ℕ) (r : Tcp2Socket) → slice_get m.store.sockets place ≡ Some r → AcceptsIn r.listening
+  accepts_there : (place : ℕ) (r : Tcp2Socket) → tcp2_at m.store.records place ≡ Some r → AcceptsIn r.listening
   accepts_there place r g = accepts_so r.listening (fits.records place r g).1
 
   pub runs_connect : (handle : ℕ) → ConnectsAt m handle
@@ -364,10 +381,10 @@ module _ (contexts : List WasiSocketsCtx) (steps : List Step) (es : List Entry) 
   pub runs_stand_on_records : (n : ℕ) → StandsOnNothing m n → ⊥
   runs_stand_on_records = stands_on m run_steady
 
-  pub runs_may_finish : (place : ℕ) (r : Tcp2Socket) → slice_get m.store.sockets place ≡ Some r → is_connect r.in_progress ≡ true → MayFinish r.inner.state
+  pub runs_may_finish : (place : ℕ) (r : Tcp2Socket) → tcp2_at m.store.records place ≡ Some r → is_connect r.in_progress ≡ true → MayFinish r.inner.state
   runs_may_finish place r g = (run_steady.records place r g).0
 
-  pub runs_listen_late : (place : ℕ) (r : Tcp2Socket) → slice_get m.store.sockets place ≡ Some r → ListensLate r
+  pub runs_listen_late : (place : ℕ) (r : Tcp2Socket) → tcp2_at m.store.records place ≡ Some r → ListensLate r
   runs_listen_late place r g = (run_steady.records place r g).1
 
   pub finishes_refused_in_runs : (line ctx handle : ℕ) (entries : List Entry) (word : CodeWord) (after : Machine) → Answered contexts m line (step.TcpFinishConnect ctx handle) entries (reply.Err word) after → RefusedOf m handle (FinishRefusal m) entries word after

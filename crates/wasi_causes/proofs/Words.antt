@@ -89,6 +89,6 @@ pub use Rattle.wasi_walks.specs.Listens.{NoListener, NotBound, RefusedMost, Stil
 pub use Rattle.wasi_walks.specs.Listens.{accepting_now, closed_by_listen, refused_by, refused_in}
 pub use Rattle.wasi_walks.specs.Waiting.{AcceptWaitsOn, BindFailed, BindFails, BindWaits, CallFails, CallWaits, Checked, ConnectWaits, Ended}
 pub use Rattle.wasi_walks.specs.Waiting.{EndsWith, HoldsCall, InputWaits, IsBinding, IsFailure, IsIdleSocket, IsListening, IsUnready}
-pub use Rattle.wasi_walks.specs.Waiting.{ListenEnds, ListenFailed, ListenWaits, MayStand, NoListen, OfWatched, OutputWaits, PendingCallsFit, ToldToWait}
+pub use Rattle.wasi_walks.specs.Waiting.{ListenEnds, ListenFailed, ListenWaits, MayStand, OfWatched, OutputWaits, PendingCallsFit, ToldToWait}
 pub use Rattle.wasi_walks.specs.Waiting.{Unchecked, WatchesAccept, WatchesConnect, WatchesIdle, WriteWaits, WriterWaits, WritesOn, nothing_stands}
 pub use Rattle.wasi_walks.specs.Waiting.{watched_in}

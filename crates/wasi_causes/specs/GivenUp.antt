@@ -1,5 +1,5 @@
 -- What a drop and a shutdown release: what is asked then, and what is left afterwards.
-use Rattle.std.specs.Prelude.{◌≡◌, ◌≢◌, ⊤, ℕ, true, List, [], ◌∷◌, ◌++◌, Option, Some, None, IsSome, IsSomeAnd, slice_get}
+use Rattle.std.specs.Prelude.{◌≡◌, ◌≢◌, ⊤, ℕ, true, List, [], ◌∷◌, ◌++◌, Option, Some, None, IsSome, IsSomeAnd}
 use Rattle.wasi_addr.specs.declared.address.IpSocketAddress.{IpSocketAddress}
 use Rattle.wasi_addr.specs.declared.address.ShutdownType.{ShutdownType}
 use Rattle.wasi_addr.specs.declared.address.ShutdownType.TheVariants.{Receive, Send, Both}
@@ -22,6 +22,7 @@ use Rattle.wasi_tcp.specs.Job.{Job, closing_job}
 use Rattle.wasi_tcp.specs.Listen.{held_side}
 use Rattle.wasi_tcp.specs.Socket.{side_of}
 use Rattle.wasi_tcp.specs.Writer.{writer_side}
+use Rattle.wasi_host.specs.Records.{tcp2_at}
 use Rattle.wasi_host.specs.declared.jobs.HostJob.{HostJob}
 use Rattle.wasi_host.specs.declared.kind.Kind.{Kind}
 use Rattle.wasi_host.specs.declared.kind.Kind.TheVariants as kind
@@ -117,7 +118,7 @@ socket_given_up own r = listening_given_up r.listening ++ streams_given_up own r
 -- Of the socket at this place nothing is left: no network socket, no listener, no streams, nothing in progress, and no job.
 pub record IsGone (m : Machine) (place : ℕ) : Type 0 where
   pub found : Tcp2Socket
-  pub at : slice_get m.store.sockets place ≡ Some found
+  pub at : tcp2_at m.store.records place ≡ Some found
   pub side : side_of found.inner ≡ None
   pub listening : found.listening ≡ listening.Not
   pub streams : found.streams ≡ None

@@ -1,6 +1,6 @@
 -- How each step is answered: which replies it may give; and by the kind of its reply, where that comes from, and what is left
 -- afterwards.
-use Rattle.std.specs.Prelude.{◌≡◌, ◌⊎◌, ⊤, ℕ, ◌+◌, true, List, [], ◌∷◌, ◌↔◌, false, length, Option, Some, None, IsSomeAnd, slice_get}
+use Rattle.std.specs.Prelude.{◌≡◌, ◌⊎◌, ⊤, ℕ, ◌+◌, true, List, [], ◌∷◌, ◌↔◌, false, length, Option, Some, None, IsSomeAnd}
 use Rattle.wasi_addr.specs.declared.address.IpSocketAddress.{IpSocketAddress}
 use Rattle.wasi_addr.specs.declared.code.ErrorCode.{ErrorCode}
 use Rattle.wasi_world.specs.declared.outcome.TrapKind.{TrapKind}
@@ -26,6 +26,7 @@ use Rattle.wasi_world.specs.declared.outcome.WasiSocketsCtx.{WasiSocketsCtx}
 use Rattle.wasi_streams.specs.Table.{is_full}
 use Rattle.wasi_tcp.specs.declared.writer.WriteError.TheVariants as error
 use Rattle.wasi_tcp.specs.Socket.{new_socket}
+use Rattle.wasi_host.specs.Records.{tcp2_at}
 use Rattle.wasi_host.specs.declared.kind.Kind.{Kind}
 use Rattle.wasi_host.specs.declared.kind.Kind.TheVariants as kind
 use Rattle.wasi_host.specs.declared.machine.Machine.{Machine}
@@ -204,7 +205,7 @@ Looks m line pollable es _ = ⊥
 
 -- what is left where the handle that was dropped is of this kind
 abbrev pub Gone : Machine → ℕ → ℕ → Option Kind → List Entry → Machine → Type 0
-Gone m line handle (Some (kind.Tcp2 place)) es after = (r : Tcp2Socket) → slice_get m.store.sockets place ≡ Some r → (es ≡ socket_given_up (own_of line) r) × IsGone after place
+Gone m line handle (Some (kind.Tcp2 place)) es after = (r : Tcp2Socket) → tcp2_at m.store.records place ≡ Some r → (es ≡ socket_given_up (own_of line) r) × IsGone after place
 Gone m line handle (Some (kind.Output place)) es after = ⊤
 Gone m line handle _ es after = after ≡ without m handle
 
@@ -294,7 +295,7 @@ Replies contexts m line s es (reply.Err w) after = MayRefuse s w × Refused cont
 Replies contexts m line s es reply.Closed after = IsStreamCall s × Ends m line s es after
 Replies contexts m line s es (reply.Failed w handle) after = (IsStreamCall s × IsCodeWord w) × Fails m line s es w handle after
 Replies contexts m line s es (reply.Trap kind) after = Traps contexts m line s es kind after
-Replies contexts m line s es (reply.Pending n) after = (MayStand m line s n × IsSomeAnd after.store.standing (λ call. call.line ≡ n)) × Pends m line s es after
+Replies contexts m line s es (reply.Pending n) after = (MayStand m line s n × IsSomeAnd after.store.standing (λ call. call.ids.line ≡ n)) × Pends m line s es after
 Replies contexts m line s es reply.NoSuchCall after = IsPoll s × Quiet m es after
 Replies contexts m line s es _ after = ⊥
 

@@ -1,8 +1,9 @@
 -- What holds of every machine that the lines of a script lead to.
-use Rattle.std.specs.Prelude.{◌≡◌, ⊤, ℕ, true, false, IfSome, IsSome, slice_get}
+use Rattle.std.specs.Prelude.{◌≡◌, ⊤, ℕ, true, false, IfSome, IsSome}
 use Rattle.wasi_world.specs.declared.ids.OpId.{OpId}
 use Rattle.wasi_tcp.specs.declared.socket.TcpState.{TcpState}
 use Rattle.wasi_tcp.specs.declared.socket.TcpState.TheVariants as state
+use Rattle.wasi_host.specs.Records.{tcp2_at}
 use Rattle.wasi_host.specs.declared.kind.Kind.{Kind}
 use Rattle.wasi_host.specs.declared.kind.Kind.TheVariants.{Network, Tcp2, Input, Output, Pollable, ErrorValue}
 use Rattle.wasi_host.specs.declared.listening.Listening.TheVariants as listening
@@ -14,7 +15,7 @@ use Rattle.wasi_walks.specs.Answered.{record_at}
 
 -- == records
 abbrev pub HasRecord : Machine → ℕ → Type 0
-HasRecord m place = IsSome (slice_get m.store.sockets place)
+HasRecord m place = IsSome (tcp2_at m.store.records place)
 
 -- a handle of a socket, a stream or a pollable is of a record that is there
 abbrev pub OfItsRecord : Machine → Kind → Type 0

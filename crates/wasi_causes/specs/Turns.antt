@@ -1,8 +1,9 @@
 -- Who asks in a turn.
-use Rattle.std.specs.Prelude.{◌≡◌, ℕ, Option, Some, None, slice_get}
+use Rattle.std.specs.Prelude.{◌≡◌, ℕ, Option, Some, None}
 use Rattle.wasi_world.specs.declared.ids.OpId.{OpId}
 use Rattle.wasi_tcp.specs.declared.writer.WriteState.{WriteState}
 use Rattle.wasi_tcp.specs.declared.writer.WriteState.TheVariants as writing
+use Rattle.wasi_host.specs.Records.{tcp2_at}
 use Rattle.wasi_host.specs.declared.jobs.HostJob.TheVariants.{Write}
 use Rattle.wasi_host.specs.declared.machine.Machine.{Machine}
 use Rattle.wasi_host.specs.declared.socket.Streams.{Streams}
@@ -29,4 +30,4 @@ job_of found = writer_asks_by (streams_in found)
 pub record IsOfJob (m : Machine) (op : OpId) : Type 0 where
   pub place : ℕ
   pub listed : Has m.store.jobs (Write place)
-  pub is : job_of (slice_get m.store.sockets place) ≡ Some op
+  pub is : job_of (tcp2_at m.store.records place) ≡ Some op

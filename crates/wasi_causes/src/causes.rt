@@ -28,6 +28,7 @@ ghost use Rattle.wasi_walks.specs.Licence.{entry, Has, marks_in};
 ghost use Rattle.wasi_machine.specs.Machine.{context_at, run};
 ghost use Rattle.wasi_steps.specs.Steps.{context_of};
 ghost use Rattle.wasi_host.specs.Machine.{first_state, input_at, output_at, own_of, socket_at};
+ghost use Rattle.wasi_host.specs.Records.{tcp2_at};
 ghost use Rattle.wasi_host.specs.Shutdowns.{with_streams};
 ghost use Rattle.wasi_host.specs.Kinds.{is_network, kind_at, watched_by, with_handle, without_handle};
 ghost use Rattle.wasi_host.specs.Standing.{stands_as};
@@ -132,7 +133,7 @@ pub fn pending_where_told()
     ensures step { (contexts : List WasiSocketsCtx) (m : Machine) (line : ℕ) (s : Step) (entries : List Entry) (number : ℕ) (after : Machine)
         → Answered contexts m line s entries (Reply.Pending number) after → MayStand m line s number }
     ensures stands { (contexts : List WasiSocketsCtx) (m : Machine) (line : ℕ) (s : Step) (entries : List Entry) (number : ℕ) (after : Machine)
-        → Answered contexts m line s entries (Reply.Pending number) after → IsSomeAnd after.store.standing (λ call. call.line ≡ number) }
+        → Answered contexts m line s entries (Reply.Pending number) after → IsSomeAnd after.store.standing (λ call. call.ids.line ≡ number) }
     ensures told { (contexts : List WasiSocketsCtx) (m : Machine) (line ctx handle network : ℕ) (a : IpSocketAddress) (entries : List Entry) (number : ℕ) (after : Machine)
         → Answered contexts m line (Step.TcpStartBind ctx handle network a) entries (Reply.Pending number) after → EndsPending (own_of line) entries }
     ensures listen { (contexts : List WasiSocketsCtx) (m : Machine) (line ctx handle : ℕ) (entries : List Entry) (number : ℕ) (after : Machine)
@@ -235,14 +236,14 @@ pub fn runs_keep_their_records()
     ensures stands { (contexts : List WasiSocketsCtx) (steps : List Step) (log : List Entry) (replies : List Reply) (m : Machine) (number : ℕ)
         → Left (run contexts [] first_state 1 steps) log (Give (replies, m)) → StandsOnNothing m number → ⊥ }
     ensures connects { (contexts : List WasiSocketsCtx) (steps : List Step) (log : List Entry) (replies : List Reply) (m : Machine) (place : ℕ) (r : Tcp2Socket)
-        → Left (run contexts [] first_state 1 steps) log (Give (replies, m)) → slice_get m.store.sockets place ≡ Some r → is_connect r.in_progress ≡ true → MayFinish r.inner.state }
+        → Left (run contexts [] first_state 1 steps) log (Give (replies, m)) → tcp2_at m.store.records place ≡ Some r → is_connect r.in_progress ≡ true → MayFinish r.inner.state }
     ensures listens { (contexts : List WasiSocketsCtx) (steps : List Step) (log : List Entry) (replies : List Reply) (m : Machine) (place : ℕ) (r : Tcp2Socket)
-        → Left (run contexts [] first_state 1 steps) log (Give (replies, m)) → slice_get m.store.sockets place ≡ Some r → ListensLate r }
+        → Left (run contexts [] first_state 1 steps) log (Give (replies, m)) → tcp2_at m.store.records place ≡ Some r → ListensLate r }
 {}
 
-/// After the lines of any script, what is pending as a bind is a bind; and where a listen is pending, what its record has begun is
-/// a listen, of which only the local address, its check and the listen itself are left, one of them at least, and its socket has
-/// no network socket.
+/// After the lines of any script, what is pending as a bind is a bind that is in progress in its record; and what is pending as a
+/// listen is a listen that its record has begun, of which only the check of its address, which was reported, and the listen itself
+/// are left, one of them at least, and its socket has no network socket.
 pub fn runs_keep_their_pending_calls()
     ensures { (contexts : List WasiSocketsCtx) (steps : List Step) (entries : List Entry) (replies : List Reply) (m : Machine)
         → Left (run contexts [] first_state 1 steps) entries (Give (replies, m)) → PendingCallsFit m }

@@ -1,5 +1,5 @@
 -- A bind of a record: what its poll asks, and that it makes no network socket and closes none.
-use Rattle.std.proofs.Common.{◌≡◌, refl, ap, sym, subst, Bool, true, false}
+use Rattle.std.proofs.Common.{◌≡◌, refl}
 use Rattle.std.specs.Prelude.{Result, Ok, Err}
 use Rattle.std.specs.declared.alloc.AllocError.{AllocError}
 use Rattle.wasi_addr.specs.declared.address.IpSocketAddress.{IpSocketAddress}
@@ -9,7 +9,7 @@ use Rattle.wasi_world.specs.declared.outcome.Answer.TheVariants.{Ready, Pending}
 use Rattle.wasi_world.specs.declared.outcome.Refusal.{Refusal}
 use Rattle.wasi_world.specs.declared.outcome.Refusal.TheVariants as refusal
 use Rattle.wasi_world.specs.Seen.{Seen}
-use Rattle.wasi_world.specs.Asks.{Asks, Give, bind, AsksFor, outcome}
+use Rattle.wasi_world.specs.Asks.{Give, bind, AsksFor, outcome}
 use Rattle.wasi_world.specs.Operation.{Operation, Nothing, PollsFor, poll_asks}
 use Rattle.wasi_world.proofs.Polls.{polls_asks}
 use Rattle.wasi_world.proofs.Walks.{asks_at, asks_end, reaches_in}

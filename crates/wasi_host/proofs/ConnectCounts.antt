@@ -1,5 +1,5 @@
 -- What a connect makes of the network sockets that are held: one that is refused closes its network socket.
-use Rattle.std.proofs.Common.{◌≡◌, Bool, true, false, ℕ, zero, suc, ◌+◌, List, [], ◌∷◌, Some, refl, sym, ap, subst, ◌∙◌, arith, slice_get, slice_set}
+use Rattle.std.proofs.Common.{◌≡◌, Bool, true, false, ℕ, zero, suc, ◌+◌, List, [], ◌∷◌, Some, refl, sym, ap, subst, ◌∙◌, arith}
 use Rattle.wasi_addr.specs.declared.address.IpSocketAddress.{IpSocketAddress}
 use Rattle.wasi_addr.specs.declared.address.SocketAddrUse.TheVariants.{TcpBind, TcpConnect}
 use Rattle.wasi_addr.specs.declared.code.ErrorCode.{ErrorCode}
@@ -27,6 +27,9 @@ use Rattle.wasi_tcp.specs.Addresses.{still_connected}
 use Rattle.wasi_tcp.specs.Halves.{taken_receive, taken_send, take_receive, take_send}
 use Rattle.wasi_tcp.specs.Connect.{IsConnect, IsLeftOfConnect, Unbound, Unchecked, Checked, ToClose, Ended}
 use Rattle.wasi_tcp.specs.Connecting.{HoldsConnect, connect_ended, finish_in, in_socket, finish_connect_asks}
+use Rattle.wasi_host.specs.Records.{tcp2_at, tcp2_put}
+use Rattle.wasi_host.specs.declared.records.Record.{Record}
+use Rattle.wasi_host.specs.declared.records.Record.TheVariants.{Tcp2}
 use Rattle.wasi_host.specs.declared.socket.Tcp2Socket.{Tcp2Socket}
 use Rattle.wasi_world.proofs.Walks.{asks_end, reaches_in}
 use Rattle.wasi_host.specs.Store.{Records, with_socket, with_inner, opened_send, opened_receive, opened, connect_polled, connect_settled, connect_told, poll_connect_asks}
@@ -244,13 +247,13 @@ poll_closes r now p h k asked e side =
     balances_as (connect_settled (with_inner r now) p) (holds-same (with_inner r now) (connect_settled (with_inner r now) p) (settled_side (with_inner r now) p) (settled_listening (with_inner r now) p)) (closed_by_poll r now p h k asked e side)
 
 -- == the records, where one of them was polled
-pub held_in-swap : (rs : List Tcp2Socket) (i : ℕ) (old now : Tcp2Socket) → slice_get rs i ≡ Some old → held_in (slice_set rs i now) + holds old ≡ held_in rs + holds now
+pub held_in-swap : (rs : List Record) (i : ℕ) (old now : Tcp2Socket) → tcp2_at rs i ≡ Some old → held_in (tcp2_put rs i now) + holds old ≡ held_in rs + holds now
 held_in-swap [] i old now h = absurd (cc)
-held_in-swap (x ∷ rs) zero old now h = let k : x ≡ old = cc in let p = ap (λ (r : Tcp2Socket). holds r) k in omega arith
+held_in-swap (Tcp2 x ∷ rs) zero old now h = let k : x ≡ old = cc in let p = ap (λ (r : Tcp2Socket). holds r) k in omega arith
 held_in-swap (x ∷ rs) (suc i) old now h = let p = held_in-swap rs i old now h in omega arith
 
-pub knows_polled : {s t : Seen} (store : Records) (place : ℕ) (old now : Tcp2Socket) → slice_get store.sockets place ≡ Some old → Balances s t 0 old now → KnowsSides s store → KnowsSides t (with_socket store place now)
+pub knows_polled : {s t : Seen} (store : Records) (place : ℕ) (old now : Tcp2Socket) → tcp2_at store.records place ≡ Some old → Balances s t 0 old now → KnowsSides s store → KnowsSides t (with_socket store place now)
 knows_polled store place old now g c k =
-    let p = held_in-swap store.sockets place old now g in
+    let p = held_in-swap store.records place old now g in
     let b = c.balance in
     knows_then c.entries store (with_socket store place now) c.passed (omega arith) k

@@ -1,5 +1,5 @@
 -- How a host call's asks continue where it gives no value.
-use Rattle.std.specs.Prelude.{◌≡◌, ℕ, List, [], ◌∷◌, ◌++◌, length, Option, None, Result, Ok, Err, IsErrAnd}
+use Rattle.std.specs.Prelude.{◌≡◌, ℕ, List, length, Option, None, Result, Ok, Err, IsErrAnd}
 use Rattle.std.specs.declared.alloc.AllocError.{AllocError}
 use Rattle.std.proofs.Common.{ap, sym, subst}
 use Rattle.wasi_addr.specs.declared.code.ErrorCode.{ErrorCode}
@@ -11,8 +11,9 @@ use Rattle.wasi_world.proofs.Walks.{reaches_all, reaches_in, reaches_on, asks_en
 use Rattle.wasi_world.specs.declared.ids.OpId.{OpId}
 use Rattle.wasi_tcp.specs.Shape.{Socket}
 use Rattle.wasi_tcp.specs.Socket.{side_of}
+use Rattle.wasi_host.specs.Records.{tcp2_pushed}
+use Rattle.wasi_host.specs.declared.records.Record.{Record}
 use Rattle.wasi_host.specs.declared.machine.Machine.{Machine}
-use Rattle.wasi_host.specs.declared.socket.Tcp2Socket.{Tcp2Socket}
 use Rattle.wasi_host.specs.declared.kind.Kind.TheVariants.{Tcp2}
 use Rattle.wasi_host.specs.Host.{SocketError}
 use Rattle.wasi_streams.specs.declared.fault.HostError.TheVariants.{Code, Trap, Memory}
@@ -52,7 +53,7 @@ fault_told (fault.Trap k) (Err y) h = ap (λ (z : SocketError). host_outcome (Er
 fault_told (fault.Memory d) (Err y) h = ap (λ (z : SocketError). host_outcome (Err z)) h
 
 -- the handle of a socket that was made
-pub handle_asks : (m : Machine) (own : OpId) (socket : Socket) {place : ℕ} {side : Option OpId} {records : List Tcp2Socket} {table : Handles} {s t : Seen} {o : Result (Result ℕ Stop) AllocError} → place ≡ length m.store.sockets → side ≡ side_of socket → records ≡ m.store.sockets ++ new_record socket ∷ [] → AsksFor (make_asks m.table own (Tcp2 place) None side) s t (λ (made : Result ℕ Stop). (made, table)) o → AsksFor (create_handle m own socket) s t (λ (made : Result ℕ Stop). let n : Machine = record { table = table; store = record { sockets = records; jobs = m.store.jobs; standing = m.store.standing } } in (made, n)) o
+pub handle_asks : (m : Machine) (own : OpId) (socket : Socket) {place : ℕ} {side : Option OpId} {records : List Record} {table : Handles} {s t : Seen} {o : Result (Result ℕ Stop) AllocError} → place ≡ length m.store.records → side ≡ side_of socket → records ≡ tcp2_pushed m.store.records (new_record socket) → AsksFor (make_asks m.table own (Tcp2 place) None side) s t (λ (made : Result ℕ Stop). (made, table)) o → AsksFor (create_handle m own socket) s t (λ (made : Result ℕ Stop). let n : Machine = record { table = table; store = record { records = records; jobs = m.store.jobs; standing = m.store.standing } } in (made, n)) o
 handle_asks m own socket p q r h = rw r (asks_gives (with_table (record m { store = with_record m.store socket })) (rw (p, q) at h))
 
 -- an error that is passed on by a `?`

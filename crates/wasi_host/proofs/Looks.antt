@@ -1,6 +1,6 @@
 -- Looks, shutdowns and closings of a record: how their answers are reported, and what they make of the network sockets
 -- that are held.
-use Rattle.std.proofs.Common.{◌≡◌, ℕ, Bool, List, Option, Some, None, refl, ap}
+use Rattle.std.proofs.Common.{◌≡◌, Bool, List, Option, Some, None, refl, ap}
 use Rattle.std.specs.Prelude.{Result, Ok, Err, OnErr}
 use Rattle.std.specs.declared.alloc.AllocError.{AllocError}
 use Rattle.wasi_addr.specs.declared.address.ShutdownType.{ShutdownType}

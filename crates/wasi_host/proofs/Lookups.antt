@@ -1,27 +1,32 @@
 -- Look-ups in the store.
 use Rattle.std.specs.Prelude.{IsSome, is_some}
-use Rattle.std.proofs.Common.{◌≡◌, ℕ, zero, suc, ◌==◌, Bool, true, false, List, [], ◌∷◌, ◌++◌, Option, Some, None, refl, sym, ap, subst, slice_get, slice_set, length}
+use Rattle.std.proofs.Common.{◌≡◌, ℕ, zero, suc, ◌==◌, Bool, true, false, List, [], ◌∷◌, ◌++◌, Option, Some, None, refl, sym, ap}
 use Rattle.wasi_streams.specs.Table.{Slot, value_at, pushed}
 use Rattle.wasi_streams.proofs.Tables.{value_front}
 use Rattle.wasi_host.specs.declared.kind.Kind.{Kind}
+use Rattle.wasi_host.specs.declared.records.Record.{Record}
+use Rattle.wasi_host.specs.declared.records.Record.TheVariants.{Tcp2}
+use Rattle.wasi_host.specs.declared.socket.Tcp2Socket.{Tcp2Socket}
 use Rattle.wasi_host.specs.Kinds.{Handles, kind_at}
+use Rattle.wasi_host.specs.Records.{tcp2_at, tcp2_put}
 use Rattle.std.specs.Borrow.{Bor, MutBor}
-use Rattle.std.specs.List.{IsItemAtMut}
-use Rattle.std.specs.Slice.{IsItemAt}
-use Rattle.std.proofs.lemmas.Option.{slice_get_past, slice_get_read}
-use Rattle.std.proofs.lemmas.List.{set-get_or}
 use Rattle.std.proofs.lemmas.Bool.{eq-eqb}
 
--- what `get_mut` lends, by `slice_get`
-pub found_at : {X : Type 0} (xs : List X) (i : ℕ) (x : MutBor X) → IsItemAtMut xs i (Some x) → slice_get xs i ≡ Some x.now
-found_at xs i x h = slice_get_read xs (length xs) i x.now refl h.3.0 h.1
+-- what is lent, by its number
+pub found_at : (xs : List Record) (i : ℕ) (x : MutBor Tcp2Socket) → Some x.now ≡ tcp2_at xs i → tcp2_at xs i ≡ Some x.now
+found_at xs i x h = sym h
 
-pub none_at : {X : Type 0} (xs : List X) (i : ℕ) → IsItemAtMut xs i None → slice_get xs i ≡ None
-none_at xs i h = slice_get_past xs i h.3
+pub none_at : (xs : List Record) (i : ℕ) → None ≡ tcp2_at xs i → tcp2_at xs i ≡ None
+none_at xs i h = sym h
 
 -- and it is given back as it was
-pub set_back : {X : Type 0} (xs : List X) (i : ℕ) (x : MutBor X) → IsItemAtMut xs i (Some x) → slice_set xs i x.now ≡ xs
-set_back xs i x h = subst (λ (v : _). slice_set xs i v ≡ xs) (sym h.1) (set-get_or xs i x.now)
+pub set_back : (xs : List Record) (i : ℕ) (x : MutBor Tcp2Socket) → Some x.now ≡ tcp2_at xs i → tcp2_put xs i x.now ≡ xs
+set_back xs i x h = put_same xs i x.now (sym h)
+  where
+    put_same : (ys : List Record) (k : ℕ) (r : Tcp2Socket) → tcp2_at ys k ≡ Some r → tcp2_put ys k r ≡ ys
+    put_same [] k r e = absurd (cc)
+    put_same (Tcp2 y ∷ ys) zero r e = cc
+    put_same (y ∷ ys) (suc k) r e = ap (λ (l : List Record). y ∷ l) (put_same ys k r e)
 
 -- what is live stays so where a handle is made
 pub stays_live : (t n : Handles) (kind : Kind) (parent : Option ℕ) (h : ℕ) → n ≡ pushed t kind parent → IsSome (kind_at t h) → IsSome (kind_at n h)
@@ -44,14 +49,14 @@ pub comes_live : (t n : Handles) (kind : Kind) (parent : Option ℕ) (h : ℕ) �
 comes_live t n kind parent h e k = rw (k, e) (last_live t.live t.next kind parent)
 
 -- what was put is there
-pub set_there : {X : Type 0} (xs : List X) (i : ℕ) (now old : X) → slice_get xs i ≡ Some old → slice_get (slice_set xs i now) i ≡ Some now
+pub set_there : (xs : List Record) (i : ℕ) (now old : Tcp2Socket) → tcp2_at xs i ≡ Some old → tcp2_at (tcp2_put xs i now) i ≡ Some now
 set_there [] i now old h = absurd (cc)
 set_there (x ∷ xs) zero now old h = refl
 set_there (x ∷ xs) (suc i) now old h = set_there xs i now old h
 
--- and what `get` lends
-pub got_at : {X : Type 0} (xs : List X) (i : ℕ) (x : Bor X) → IsItemAt xs i (Some x) → slice_get xs i ≡ Some x.now
-got_at xs i x h = slice_get_read xs (length xs) i x.now refl h.3.0 h.1
+-- and what is lent to be read
+pub got_at : (xs : List Record) (i : ℕ) (x : Bor Tcp2Socket) → Some x.now ≡ tcp2_at xs i → tcp2_at xs i ≡ Some x.now
+got_at xs i x h = sym h
 
-pub not_got : {X : Type 0} (xs : List X) (i : ℕ) → IsItemAt xs i None → slice_get xs i ≡ None
-not_got xs i h = slice_get_past xs i h.3
+pub not_got : (xs : List Record) (i : ℕ) → None ≡ tcp2_at xs i → tcp2_at xs i ≡ None
+not_got xs i h = sym h

@@ -1,5 +1,5 @@
 -- Walks in which no network socket is made or closed, and the network sockets that the records hold.
-use Rattle.std.proofs.Common.{◌≡◌, ℕ, zero, suc, ◌+◌, Bool, true, false, if◌then◌else◌, List, [], ◌∷◌, ◌++◌, Option, Some, None, option_map, IfSome, OnErr, Result, Ok, Err, refl, sym, ap, subst, ◌∙◌, arith, append-nil, append_assoc, slice_get, slice_set, length}
+use Rattle.std.proofs.Common.{◌≡◌, ℕ, zero, suc, ◌+◌, Bool, true, false, if◌then◌else◌, List, [], ◌∷◌, ◌++◌, Option, Some, None, option_map, IfSome, OnErr, Result, Ok, Err, refl, sym, ap, subst, ◌∙◌, arith, append-nil, append_assoc, length}
 use Rattle.std.specs.declared.alloc.AllocError.{AllocError}
 use Rattle.wasi_addr.specs.declared.address.IpSocketAddress.{IpSocketAddress}
 use Rattle.wasi_addr.specs.declared.address.SocketAddressFamily.{SocketAddressFamily}
@@ -11,6 +11,7 @@ use Rattle.wasi_world.specs.declared.call.Told.{Told}
 use Rattle.wasi_world.specs.declared.call.Told.TheVariants as told
 use Rattle.wasi_world.specs.declared.call.Entry.{Entry}
 use Rattle.wasi_world.specs.declared.call.HandleKind.{HandleKind}
+use Rattle.wasi_world.specs.declared.ids.Ids.{Ids}
 use Rattle.wasi_world.specs.declared.ids.OpId.{OpId}
 use Rattle.wasi_world.specs.declared.asks.Verdict.{Verdict}
 use Rattle.wasi_world.specs.declared.asks.Verdict.TheVariants as verdict
@@ -36,11 +37,14 @@ use Rattle.wasi_tcp.specs.Bind.{bind_operation, IsBind}
 use Rattle.wasi_tcp.specs.Shape.{Socket}
 use Rattle.wasi_tcp.specs.Socket.{side_of, new_asks, after_create, ask_bound, bound_asks}
 use Rattle.wasi_world.proofs.Walks.{reaches_all}
+use Rattle.wasi_host.specs.Records.{tcp2_put, tcp2_at, tcp2_pushed}
+use Rattle.wasi_host.specs.declared.records.Record.{Record}
+use Rattle.wasi_host.specs.declared.records.Record.TheVariants.{Tcp2}
 use Rattle.wasi_host.specs.declared.socket.Tcp2Socket.{Tcp2Socket}
 use Rattle.wasi_host.specs.declared.store.StandingCall.{StandingCall}
 use Rattle.wasi_host.specs.Standing.{stood}
 use Rattle.wasi_host.specs.Store.{Records, new_record, begin_connect_asks, tell_local_asks, tell_remote_asks, with_record}
-use Rattle.wasi_host.specs.Sides.{one_if_done, made_by, closed_by, made_in, closed_in, holds, held_in, Balances, KnowsSides, MakesNone}
+use Rattle.wasi_host.specs.Sides.{one_if_done, made_by, closed_by, made_in, closed_in, holds, held_in, Balances, KnowsSides, MakesNone, held_by}
 
 -- == calls that neither make nor close a network socket
 abbrev pub IsQuiet : Call → Type 0
@@ -92,30 +96,30 @@ pub knows_grown : (old new : Option (List Entry)) (es : List Entry) (a b : ℕ) 
 knows_grown None new es a b e h k = rw e tt
 knows_grown (Some log) new es a b e h k = rw e (let m = made_in-append log es in let c = closed_in-append log es in omega arith)
 
-pub knows_then : {s t : Seen} (es : List Entry) (a b : Records) → Passes s es t → held_in b.sockets + closed_in es ≡ held_in a.sockets + made_in es → KnowsSides s a → KnowsSides t b
-knows_then {s} {t} es a b p h k = record { count = knows_grown s.log t.log es (held_in a.sockets) (held_in b.sockets) p.log h k.count }
+pub knows_then : {s t : Seen} (es : List Entry) (a b : Records) → Passes s es t → held_in b.records + closed_in es ≡ held_in a.records + made_in es → KnowsSides s a → KnowsSides t b
+knows_then {s} {t} es a b p h k = record { count = knows_grown s.log t.log es (held_in a.records) (held_in b.records) p.log h k.count }
 
-pub knows_calm : {A : Type 0} (Q : A → Type 0) {asks rest : Asks A} {s t : Seen} (a b : Records) → Calm Q asks → Reaches asks rest s t → held_in b.sockets ≡ held_in a.sockets → KnowsSides s a → KnowsSides t b
+pub knows_calm : {A : Type 0} (Q : A → Type 0) {asks rest : Asks A} {s t : Seen} (a b : Records) → Calm Q asks → Reaches asks rest s t → held_in b.records ≡ held_in a.records → KnowsSides s a → KnowsSides t b
 knows_calm Q {asks} {rest} a b q h e k = let n = calm_left Q asks h.entries rest q h.left in knows_then h.entries a b h.passed (rw (n.made, n.closed) (ap (λ m. m + 0) e)) k
 
 -- of a call, whatever it answered
-pub knows_asked : {A T : Type 0} (Q : A → Type 0) {asks : Asks A} {s t : Seen} {view : T → A} (r : Result T AllocError) (a b : Records) → Calm Q asks → AsksFor asks s t view r → held_in b.sockets ≡ held_in a.sockets → KnowsSides s a → KnowsSides t b
+pub knows_asked : {A T : Type 0} (Q : A → Type 0) {asks : Asks A} {s t : Seen} {view : T → A} (r : Result T AllocError) (a b : Records) → Calm Q asks → AsksFor asks s t view r → held_in b.records ≡ held_in a.records → KnowsSides s a → KnowsSides t b
 knows_asked Q (Ok x) a b q h e k = knows_calm Q a b q h.ok e k
 knows_asked Q (Err d) a b q h e k = knows_calm Q a b q h.err.reached e k
 
 -- == a record that is replaced holds as many network sockets
-pub held_in-same : (rs : List Tcp2Socket) (i : ℕ) (r s : Tcp2Socket) → slice_get rs i ≡ Some r → holds s ≡ holds r → held_in (slice_set rs i s) ≡ held_in rs
+pub held_in-same : (rs : List Record) (i : ℕ) (r s : Tcp2Socket) → tcp2_at rs i ≡ Some r → holds s ≡ holds r → held_in (tcp2_put rs i s) ≡ held_in rs
 held_in-same [] i r s h e = refl
-held_in-same (x ∷ rs) zero r s h e = let k : x ≡ r = cc in ap (λ n. n + held_in rs) (e ∙ ap (λ (y : Tcp2Socket). holds y) (sym k))
-held_in-same (x ∷ rs) (suc i) r s h e = ap (λ n. holds x + n) (held_in-same rs i r s h e)
+held_in-same (Tcp2 x ∷ rs) zero r s h e = let k : x ≡ r = cc in ap (λ n. n + held_in rs) (e ∙ ap (λ (y : Tcp2Socket). holds y) (sym k))
+held_in-same (x ∷ rs) (suc i) r s h e = ap (λ n. held_by x + n) (held_in-same rs i r s h e)
 
 pub holds-same : (r s : Tcp2Socket) → side_of s.inner ≡ side_of r.inner → s.listening ≡ r.listening → holds s ≡ holds r
 holds-same r s e l = rw (e, l) refl
 
-pub held_in-set : (rs : List Tcp2Socket) (i : ℕ) (r s : Tcp2Socket) → slice_get rs i ≡ Some r → side_of s.inner ≡ side_of r.inner → s.listening ≡ r.listening → held_in (slice_set rs i s) ≡ held_in rs
+pub held_in-set : (rs : List Record) (i : ℕ) (r s : Tcp2Socket) → tcp2_at rs i ≡ Some r → side_of s.inner ≡ side_of r.inner → s.listening ≡ r.listening → held_in (tcp2_put rs i s) ≡ held_in rs
 held_in-set rs i r s h e l = held_in-same rs i r s h (holds-same r s e l)
 
-pub held_in-append : (rs : List Tcp2Socket) (r : Tcp2Socket) → held_in (rs ++ r ∷ []) ≡ held_in rs + holds r
+pub held_in-append : (rs : List Record) (r : Tcp2Socket) → held_in (tcp2_pushed rs r) ≡ held_in rs + holds r
 held_in-append [] r = omega arith
 held_in-append (x ∷ rs) r = let h = held_in-append rs r in omega arith
 
@@ -264,7 +268,7 @@ created op ctx family false (e ∷ es) r w = absurd w
 pub knows_created : (op : OpId) (ctx : WasiSocketsCtx) (family : SocketAddressFamily) {s t : Seen} (socket : Socket) (store : Records) → Reaches (new_asks op ctx family) (Give (Ok socket)) s t → side_of socket ≡ Some op → KnowsSides s store → KnowsSides t (with_record store socket)
 knows_created op ctx family socket store h i k =
     let m = created op ctx family ctx.tcp h.entries (Ok socket) h.left in
-    knows_then h.entries store (with_record store socket) h.passed (rw (m.made, m.closed, held_in-append store.sockets (new_record socket), i) (omega arith)) k
+    knows_then h.entries store (with_record store socket) h.passed (rw (m.made, m.closed, held_in-append store.records (new_record socket), i) (omega arith)) k
 
 pub knows_refused : (op : OpId) (ctx : WasiSocketsCtx) (family : SocketAddressFamily) {s t : Seen} (x : Refusal) (store : Records) → AsksFor (new_asks op ctx family) s t (λ (made : Result Socket ErrorCode). made) (outcome {T = Socket} (Err x)) → OnErr (outcome {T = Socket} (Err x)) (t ≡ s) → KnowsSides s store → KnowsSides t store
 knows_refused op ctx family (refusal.Code c) store h e k = let m = created op ctx family ctx.tcp h.ok.entries (Err c) h.ok.left in knows_then h.ok.entries store store h.ok.passed (rw (m.made, m.closed) refl) k
@@ -275,21 +279,21 @@ pub calm_made : (op : OpId) (h : ℕ) (kind : HandleKind) (parent : Option ℕ) 
 calm_made op h kind parent side = ((λ t. refl, refl), λ t. tt)
 
 -- records that hold as many network sockets know them as well
-pub knows_same : {s : Seen} (a b : Records) → held_in b.sockets ≡ held_in a.sockets → KnowsSides s a → KnowsSides s b
+pub knows_same : {s : Seen} (a b : Records) → held_in b.records ≡ held_in a.records → KnowsSides s a → KnowsSides s b
 knows_same {s} a b e k = record { count = subst (λ (n : ℕ). IfSome s.log (λ log. closed_in log + n ≡ made_in log)) (sym e) k.count }
 
 -- a pending call holds no network socket of its own
-stood_same : (store : Records) (line : ℕ) (call : StandingCall) (answer : Answer (Unit {0})) → (stood store line call answer).1.sockets ≡ store.sockets
-stood_same store line call (Ready done) = refl
-stood_same store line call Pending = refl
+stood_same : (store : Records) (ids : Ids) (call : StandingCall) (answer : Answer (Unit {0})) → (stood store ids call answer).1.records ≡ store.records
+stood_same store ids call (Ready done) = refl
+stood_same store ids call Pending = refl
 
-pub knows_stood : {s : Seen} (store after : Records) (line : ℕ) (call : StandingCall) (answer told : Answer (Unit {0})) → (told, after) ≡ stood store line call answer → KnowsSides s store → KnowsSides s after
-knows_stood store after line call answer told e k = knows_same store after (ap (λ (d : Answer (Unit {0}) × Records). held_in d.1.sockets) e ∙ ap held_in (stood_same store line call answer)) k
+pub knows_stood : {s : Seen} (store after : Records) (ids : Ids) (call : StandingCall) (answer told : Answer (Unit {0})) → (told, after) ≡ stood store ids call answer → KnowsSides s store → KnowsSides s after
+knows_stood store after ids call answer told e k = knows_same store after (ap (λ (d : Answer (Unit {0}) × Records). held_in d.1.records) e ∙ ap held_in (stood_same store ids call answer)) k
 
 -- where no network socket was made or closed
-pub knows_none : {s t : Seen} (a b : Records) → MakesNone s t → held_in b.sockets ≡ held_in a.sockets → KnowsSides s a → KnowsSides t b
+pub knows_none : {s t : Seen} (a b : Records) → MakesNone s t → held_in b.records ≡ held_in a.records → KnowsSides s a → KnowsSides t b
 knows_none {s} {t} a b n e k =
-    let m = n.made in let c = n.closed in record { count = knows_grown s.log t.log n.entries (held_in a.sockets) (held_in b.sockets) n.log (omega arith) k.count }
+    let m = n.made in let c = n.closed in record { count = knows_grown s.log t.log n.entries (held_in a.records) (held_in b.records) n.log (omega arith) k.count }
 
 pub none_calm : {A T : Type 0} {asks : Asks A} {s t : Seen} {view : T → A} → Calm Any asks → (r : Result T AllocError) → AsksFor asks s t view r → MakesNone s t
 none_calm {asks = asks} q (Ok x) h = let n = calm_left Any asks h.ok.entries _ q h.ok.left in record { entries = h.ok.entries; log = h.ok.passed.log; made = n.made; closed = n.closed }

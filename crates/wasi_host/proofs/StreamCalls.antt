@@ -1,5 +1,5 @@
 -- How a stream's call continues where it gives no value.
-use Rattle.std.specs.Prelude.{◌≡◌, ℕ, Option, Some, None, Result, Ok, Err, IsErrAnd, refl, slice_get}
+use Rattle.std.specs.Prelude.{◌≡◌, ℕ, Option, Some, None, Result, Ok, Err, IsErrAnd, refl}
 use Rattle.std.specs.declared.alloc.AllocError.{AllocError}
 use Rattle.std.proofs.Common.{ap}
 use Rattle.wasi_addr.specs.declared.code.ErrorCode.{ErrorCode}
@@ -11,6 +11,7 @@ use Rattle.wasi_streams.specs.declared.error.StreamError.{StreamError}
 use Rattle.wasi_streams.specs.declared.error.StreamError.TheVariants as told
 use Rattle.wasi_streams.specs.StreamStop.{StreamStop, stream_outcome}
 use Rattle.wasi_streams.specs.StreamStop as stop
+use Rattle.wasi_host.specs.Records.{tcp2_at}
 use Rattle.wasi_host.specs.declared.error.CallError.{CallError}
 use Rattle.wasi_host.specs.declared.error.CallError.TheVariants as call
 use Rattle.wasi_streams.specs.declared.fault.Fault.{Fault}
@@ -45,7 +46,7 @@ output_stream (Some ErrorValue) place q = absurd (cc)
 
 module _ (m : Machine) (own : OpId) (handle place : ℕ) where
   -- the handle of an error
-  pub made_failed : (c : ErrorCode) {table : Handles} (made : Result ℕ Fault) {side : Option OpId} {s t : Seen} → side ≡ side_at (slice_get m.store.sockets place)
+  pub made_failed : (c : ErrorCode) {table : Handles} (made : Result ℕ Fault) {side : Option OpId} {s t : Seen} → side ≡ side_at (tcp2_at m.store.records place)
       → AsksFor (make_asks m.table own ErrorValue (Some handle) side) s t (λ x. (x, table)) (fault_outcome made)
       → AsksFor (convert_asks m own handle place (stop.Failed c)) s t (λ x. let after : Machine = record m { table = table } in (x, after)) (failed_outcome c made)
   made_failed c (Ok e) p h = asks_end _ (rw p at h).ok refl

@@ -5,6 +5,7 @@ use Rattle.wasi_addr.specs.declared.code.ErrorCode.{ErrorCode}
 use Rattle.wasi_addr.specs.declared.code.ErrorCode.TheVariants.{InvalidState}
 use Rattle.wasi_addr.specs.declared.p2.ErrorCode.TheVariants.{ConcurrencyConflict}
 use Rattle.wasi_world.specs.declared.ids.OpId.{OpId}
+use Rattle.wasi_world.specs.declared.ids.Ids.{Ids}
 use Rattle.wasi_world.specs.declared.outcome.Answer.{Answer}
 use Rattle.wasi_world.specs.declared.outcome.Answer.TheVariants.{Ready, Pending}
 use Rattle.wasi_world.specs.declared.outcome.Refusal.{Refusal}
@@ -21,6 +22,7 @@ use Rattle.wasi_host.specs.declared.socket.Tcp2Socket.{Tcp2Socket}
 use Rattle.wasi_host.specs.declared.store.StandingCall.TheVariants as standing
 use Rattle.wasi_host.specs.Host.{Stop, Code, Trap}
 use Rattle.wasi_host.specs.InProgress.{is_nothing}
+use Rattle.wasi_host.specs.Names.{own_of}
 use Rattle.wasi_host.specs.Store.{Records, with_inner, with_progress}
 use Rattle.wasi_host.specs.Standing.{call_answered}
 
@@ -65,11 +67,11 @@ bind_begun r (Err c, socket) = Give (Err c, with_inner r socket)
 abbrev pub begin_bind_asks : OpId → Tcp2Socket → IpSocketAddress → Asks (Result (Answer (Unit {0})) ErrorCode × Tcp2Socket)
 begin_bind_asks op r a = bind (bind_asks op r.inner a) (bind_begun r)
 
-abbrev pub start_bind_by : Records → OpId → ℕ → IpSocketAddress → Tcp2Socket → Bool → Asks (Result (Answer (Unit {0})) Stop × Records)
-start_bind_by store op place a r true = bind (begin_bind_asks op r a) (λ begun. Give (call_answered store op.step (standing.Bind place) begun))
-start_bind_by store op place a r false = Give (Err (Code ConcurrencyConflict), store)
+abbrev pub start_bind_by : Records → Ids → ℕ → IpSocketAddress → Tcp2Socket → Bool → Asks (Result (Answer (Unit {0})) Stop × Records)
+start_bind_by store ids place a r true = bind (begin_bind_asks (own_of ids.line) r a) (λ begun. Give (call_answered store ids (standing.Bind place) begun))
+start_bind_by store ids place a r false = Give (Err (Code ConcurrencyConflict), store)
 
 -- with an operation in progress it is refused
-abbrev pub start_bind_at : Records → OpId → ℕ → IpSocketAddress → Option Tcp2Socket → Asks (Result (Answer (Unit {0})) Stop × Records)
-start_bind_at store op place a None = Give (Err (Trap NoSuchHandle), store)
-start_bind_at store op place a (Some r) = start_bind_by store op place a r (is_nothing r.in_progress)
+abbrev pub start_bind_at : Records → Ids → ℕ → IpSocketAddress → Option Tcp2Socket → Asks (Result (Answer (Unit {0})) Stop × Records)
+start_bind_at store ids place a None = Give (Err (Trap NoSuchHandle), store)
+start_bind_at store ids place a (Some r) = start_bind_by store ids place a r (is_nothing r.in_progress)

@@ -2,6 +2,7 @@
 use Rattle.std.specs.Prelude.{ℕ, Option, Some, None, Result, Ok, Err}
 use Rattle.std.specs.declared.alloc.AllocError.{AllocError}
 use Rattle.wasi_world.specs.declared.ids.OpId.{OpId}
+use Rattle.wasi_world.specs.declared.ids.Ids.{Ids}
 use Rattle.wasi_world.specs.declared.outcome.Answer.{Answer}
 use Rattle.wasi_world.specs.declared.outcome.Answer.TheVariants.{Ready, Pending}
 use Rattle.wasi_world.specs.Asks.{Asks, Give, bind}
@@ -17,6 +18,7 @@ use Rattle.wasi_host.specs.declared.listening.Listening.TheVariants.{Not}
 use Rattle.wasi_host.specs.declared.socket.Streams.{Streams}
 use Rattle.wasi_host.specs.declared.socket.Tcp2Socket.{Tcp2Socket}
 use Rattle.wasi_host.specs.declared.store.StandingCall.TheVariants.{DropOutput}
+use Rattle.wasi_host.specs.Names.{own_of}
 use Rattle.wasi_host.specs.Store.{Records, with_socket, with_writer}
 use Rattle.wasi_host.specs.Standing.{stood}
 use Rattle.wasi_host.specs.Jobs.{other_jobs}
@@ -77,9 +79,9 @@ abbrev pub wait_at : Records → OpId → ℕ → Option Tcp2Socket → Asks (An
 wait_at store op place None = Give (Ready tt, store)
 wait_at store op place (Some r) = bind (wait_writer op r r.streams) (λ done. Give (wait_put store place done))
 
-abbrev pub drop_waits : ℕ → ℕ → Answer (Unit {0}) × Records → Answer (Unit {0}) × Records
-drop_waits line place done = stood done.1 line (DropOutput place) done.0
+abbrev pub drop_waits : Ids → ℕ → Answer (Unit {0}) × Records → Answer (Unit {0}) × Records
+drop_waits ids place done = stood done.1 ids (DropOutput place) done.0
 
 -- while it waits, the drop stands
-abbrev pub drop_output_at : Records → OpId → ℕ → Option Tcp2Socket → Asks (Answer (Unit {0}) × Records)
-drop_output_at store op place found = bind (wait_at store op place found) (λ done. Give (drop_waits op.step place done))
+abbrev pub drop_output_at : Records → Ids → ℕ → Option Tcp2Socket → Asks (Answer (Unit {0}) × Records)
+drop_output_at store ids place found = bind (wait_at store (own_of ids.line) place found) (λ done. Give (drop_waits ids place done))

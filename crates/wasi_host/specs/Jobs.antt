@@ -1,11 +1,13 @@
 -- Jobs: which records have one, and what a turn asks.
-use Rattle.std.specs.Prelude.{ℕ, Bool, true, false, not, ◌&&◌, ◌==◌, if◌then◌else◌, List, [], ◌∷◌, ◌++◌, Option, Some, None, Result, slice_get, slice_set}
+use Rattle.std.specs.Prelude.{ℕ, Bool, true, false, not, ◌&&◌, ◌==◌, if◌then◌else◌, List, [], ◌∷◌, ◌++◌, Option, Some, None, Result}
 use Rattle.wasi_world.specs.Asks.{Asks, Give, bind}
 use Rattle.wasi_world.specs.Operation.{End, Waits}
 use Rattle.wasi_streams.specs.StreamStop.{StreamStop}
 use Rattle.wasi_tcp.specs.declared.writer.WriteState.{WriteState}
 use Rattle.wasi_tcp.specs.declared.writer.WriteState.TheVariants as writing
 use Rattle.wasi_tcp.specs.Writer.{turn_asks}
+use Rattle.wasi_host.specs.Records.{tcp2_at, tcp2_put}
+use Rattle.wasi_host.specs.declared.records.Record.{Record}
 use Rattle.wasi_host.specs.declared.jobs.HostJob.{HostJob}
 use Rattle.wasi_host.specs.declared.jobs.HostJob.TheVariants.{Write}
 use Rattle.wasi_host.specs.declared.socket.Streams.{Streams}
@@ -46,7 +48,7 @@ abbrev pub begins_job : Option Tcp2Socket → Option Tcp2Socket → Bool
 begins_job before now = not (has_job before) && has_job now
 
 abbrev pub noted : {T : Type 0} → ℕ → Option Tcp2Socket → Result T StreamStop × Records → Result T StreamStop × Records
-noted place before done = (done.0, with_job done.1 place (begins_job before (slice_get done.1.sockets place)))
+noted place before done = (done.0, with_job done.1 place (begins_job before (tcp2_at done.1.records place)))
 
 -- a write on a record, by which a job may begin
 abbrev pub write_at : {T : Type 0} → Records → ℕ → (Tcp2Socket → Asks (Result T StreamStop × Tcp2Socket)) → Option Tcp2Socket → Asks (Result T StreamStop × Records)
@@ -61,32 +63,32 @@ turned r (Some s) = bind (turn_asks s.writer) (λ done. Give (with_writer r s do
 abbrev pub turn_record : Tcp2Socket → Asks Tcp2Socket
 turn_record r = turned r r.streams
 
-abbrev pub turn_at : List Tcp2Socket → ℕ → Option Tcp2Socket → Asks (List Tcp2Socket)
-turn_at sockets place None = Give sockets
-turn_at sockets place (Some r) = bind (turn_record r) (λ now. Give (slice_set sockets place now))
+abbrev pub turn_at : List Record → ℕ → Option Tcp2Socket → Asks (List Record)
+turn_at records place None = Give records
+turn_at records place (Some r) = bind (turn_record r) (λ now. Give (tcp2_put records place now))
 
-abbrev pub turn_job : List Tcp2Socket → HostJob → Asks (List Tcp2Socket)
-turn_job sockets (Write place) = turn_at sockets place (slice_get sockets place)
+abbrev pub turn_job : List Record → HostJob → Asks (List Record)
+turn_job records (Write place) = turn_at records place (tcp2_at records place)
 
 -- these, in order
-abbrev pub turn_jobs : List HostJob → List Tcp2Socket → Asks (List Tcp2Socket)
-turn_jobs [] sockets = Give sockets
-turn_jobs (job ∷ jobs) sockets = bind (turn_job sockets job) (λ now. turn_jobs jobs now)
+abbrev pub turn_jobs : List HostJob → List Record → Asks (List Record)
+turn_jobs [] records = Give records
+turn_jobs (job ∷ jobs) records = bind (turn_job records job) (λ now. turn_jobs jobs now)
 
-abbrev pub is_going : List Tcp2Socket → HostJob → Bool
-is_going sockets (Write place) = has_job (slice_get sockets place)
+abbrev pub is_going : List Record → HostJob → Bool
+is_going records (Write place) = has_job (tcp2_at records place)
 
 -- a job that is over is none
-abbrev pub still_going : List Tcp2Socket → List HostJob → List HostJob
-still_going sockets [] = []
-still_going sockets (job ∷ jobs) = if is_going sockets job then job ∷ still_going sockets jobs else still_going sockets jobs
+abbrev pub still_going : List Record → List HostJob → List HostJob
+still_going records [] = []
+still_going records (job ∷ jobs) = if is_going records job then job ∷ still_going records jobs else still_going records jobs
 
-abbrev pub after_turn : Records → List Tcp2Socket → Records
-after_turn store sockets = record store { sockets = sockets; jobs = still_going sockets store.jobs }
+abbrev pub after_turn : Records → List Record → Records
+after_turn store records = record store { records = records; jobs = still_going records store.jobs }
 
 -- each job is polled once, in the order of making
 abbrev pub turn_store_asks : Records → Asks (Unit {0} × Records)
-turn_store_asks store = bind (turn_jobs store.jobs store.sockets) (λ sockets. Give (tt, after_turn store sockets))
+turn_store_asks store = bind (turn_jobs store.jobs store.records) (λ records. Give (tt, after_turn store records))
 
 -- == a record that goes takes its jobs with it
 abbrev pub is_on : ℕ → HostJob → Bool

@@ -1,6 +1,9 @@
 pub mod Host
 pub mod Kinds
+pub mod Names
 pub mod InProgress
+pub mod Records
+pub mod Rows
 pub mod Store
 pub mod Standing
 pub mod Binding

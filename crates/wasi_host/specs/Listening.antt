@@ -1,5 +1,5 @@
 -- Sockets that listen: what a listen and an accept ask and answer, and what the record is then.
-use Rattle.std.specs.Prelude.{◌≡◌, ℕ, ◌+◌, ◌≤◌, ⊤, Bool, true, false, List, [], ◌∷◌, ◌++◌, length, Option, Some, None, Result, Ok, Err, slice_set}
+use Rattle.std.specs.Prelude.{◌≡◌, ℕ, ◌+◌, ◌≤◌, ⊤, Bool, true, false, List, length, Option, Some, None, Result, Ok, Err}
 use Rattle.wasi_addr.specs.declared.address.IpSocketAddress.{IpSocketAddress}
 use Rattle.wasi_addr.specs.declared.address.SocketAddressFamily.{SocketAddressFamily}
 use Rattle.wasi_addr.specs.declared.code.ErrorCode.{ErrorCode}
@@ -21,6 +21,8 @@ use Rattle.wasi_tcp.specs.Socket.{side_of, bound_asks}
 use Rattle.wasi_tcp.specs.Listen.{held_side, cancel_asks}
 use Rattle.wasi_tcp.specs.Listening.{listen_asks, listen_poll_asks}
 use Rattle.wasi_tcp.specs.Listener.{Listener, ids_after, listener_accept_asks, accepted_socket, accepted_state, untaken_side, listener_give_up_asks}
+use Rattle.wasi_host.specs.Records.{tcp2_put, tcp2_pushed}
+use Rattle.wasi_host.specs.declared.records.Record.{Record}
 use Rattle.wasi_host.specs.declared.listening.Listening.{Listening}
 use Rattle.wasi_host.specs.declared.listening.Listening.TheVariants.{Not, Begins, Accepts, Unclosed}
 use Rattle.wasi_host.specs.declared.binding.AsyncOperation.TheVariants.{Listen}
@@ -29,6 +31,7 @@ use Rattle.wasi_host.specs.declared.socket.Tcp2Socket.{Tcp2Socket}
 use Rattle.wasi_host.specs.declared.store.StandingCall.TheVariants as standing
 use Rattle.wasi_host.specs.Host.{Stop, Code, Trap, code_stop}
 use Rattle.wasi_host.specs.InProgress.{is_nothing}
+use Rattle.wasi_host.specs.Names.{own_of}
 use Rattle.wasi_host.specs.Store.{Records, new_record, with_inner, with_socket, opened}
 use Rattle.wasi_host.specs.Standing.{call_answered}
 
@@ -87,14 +90,14 @@ listen_bound op r false = Give (Err InvalidState, r)
 abbrev pub begin_listen_asks : OpId → Tcp2Socket → Asks (Result (Answer (Unit {0})) ErrorCode × Tcp2Socket)
 begin_listen_asks op r = bind (bound_asks op r.inner) (λ b. listen_bound op (with_inner r b.1) b.0)
 
-abbrev pub start_listen_by : Records → OpId → ℕ → Tcp2Socket → Bool → Asks (Result (Answer (Unit {0})) Stop × Records)
-start_listen_by store op place r true = bind (begin_listen_asks op r) (λ begun. Give (call_answered store op.step (standing.Listen place) begun))
-start_listen_by store op place r false = Give (Err (Code p2.ConcurrencyConflict), store)
+abbrev pub start_listen_by : Records → Ids → ℕ → Tcp2Socket → Bool → Asks (Result (Answer (Unit {0})) Stop × Records)
+start_listen_by store ids place r true = bind (begin_listen_asks (own_of ids.line) r) (λ begun. Give (call_answered store ids (standing.Listen place) begun))
+start_listen_by store ids place r false = Give (Err (Code p2.ConcurrencyConflict), store)
 
 -- with an operation in progress it is refused
-abbrev pub start_listen_at : Records → OpId → ℕ → Option Tcp2Socket → Asks (Result (Answer (Unit {0})) Stop × Records)
-start_listen_at store op place None = Give (Err (Trap NoSuchHandle), store)
-start_listen_at store op place (Some r) = start_listen_by store op place r (is_nothing r.in_progress)
+abbrev pub start_listen_at : Records → Ids → ℕ → Option Tcp2Socket → Asks (Result (Answer (Unit {0})) Stop × Records)
+start_listen_at store ids place None = Give (Err (Trap NoSuchHandle), store)
+start_listen_at store ids place (Some r) = start_listen_by store ids place r (is_nothing r.in_progress)
 
 -- == an accept
 -- of a listener; any other socket is refused
@@ -109,20 +112,20 @@ accept_record_asks ids r = accept_listening ids r r.listening
 abbrev pub accepted_record : Socket → Result (Unit {0}) Stop × Tcp2Socket
 accepted_record socket = opened (new_record socket) socket
 
-abbrev pub kept_accepted : List Tcp2Socket → Result (Unit {0}) Stop × Tcp2Socket → Result ℕ Stop × List Tcp2Socket
-kept_accepted sockets (Ok done, r) = (Ok (length sockets), sockets ++ r ∷ [])
-kept_accepted sockets (Err stop, r) = (Err stop, sockets)
+abbrev pub kept_accepted : List Record → Result (Unit {0}) Stop × Tcp2Socket → Result ℕ Stop × List Record
+kept_accepted records (Ok done, r) = (Ok (length records), tcp2_pushed records r)
+kept_accepted records (Err stop, r) = (Err stop, records)
 
 -- the number of the new record, with the records
-abbrev pub with_accepted_in : List Tcp2Socket → Socket → Result ℕ Stop × List Tcp2Socket
-with_accepted_in sockets socket = kept_accepted sockets (accepted_record socket)
+abbrev pub with_accepted_in : List Record → Socket → Result ℕ Stop × List Record
+with_accepted_in records socket = kept_accepted records (accepted_record socket)
 
-abbrev pub with_sockets : Records → Result ℕ Stop × List Tcp2Socket → Result ℕ Stop × Records
-with_sockets store done = (done.0, record store { sockets = done.1 })
+abbrev pub with_records : Records → Result ℕ Stop × List Record → Result ℕ Stop × Records
+with_records store done = (done.0, record store { records = done.1 })
 
 -- or why there is none
 abbrev pub accept_answered : Records → ℕ → Result (Answer Socket) ErrorCode × Tcp2Socket → Result ℕ Stop × Records
-accept_answered store place (Ok (Ready socket), r) = with_sockets store (with_accepted_in (slice_set store.sockets place r) socket)
+accept_answered store place (Ok (Ready socket), r) = with_records store (with_accepted_in (tcp2_put store.records place r) socket)
 accept_answered store place (Ok Pending, r) = (Err (Code p2.WouldBlock), with_socket store place r)
 accept_answered store place (Err c, r) = (Err (code_stop c), with_socket store place r)
 

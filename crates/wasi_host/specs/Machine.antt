@@ -1,5 +1,5 @@
 -- The state behind a guest's calls: its table and its store, and what a handle names in them.
-use Rattle.std.specs.Prelude.{ℕ, Bool, length, Option, Some, None, Result, Ok, Err, slice_get}
+use Rattle.std.specs.Prelude.{ℕ, Bool, length, Option, Some, None, Result, Ok, Err}
 use Rattle.wasi_addr.specs.declared.address.SocketAddressFamily.{SocketAddressFamily}
 use Rattle.wasi_addr.specs.declared.code.ErrorCode.{ErrorCode}
 use Rattle.wasi_world.specs.declared.ids.OpId.{OpId}
@@ -12,6 +12,7 @@ use Rattle.wasi_world.specs.Asks.{Asks, Give, bind}
 use Rattle.wasi_tcp.specs.Shape.{Socket}
 use Rattle.wasi_tcp.specs.Socket.{new_asks, side_of}
 use Rattle.wasi_streams.specs.Table.{empty}
+use Rattle.wasi_host.specs.Records.{tcp2_at}
 use Rattle.wasi_host.specs.declared.kind.Kind.{Kind}
 use Rattle.wasi_host.specs.declared.kind.Kind.TheVariants.{Tcp2, Output, Pollable}
 use Rattle.wasi_host.specs.declared.kind.Watched.{Watched}
@@ -19,6 +20,7 @@ use Rattle.wasi_host.specs.declared.machine.Machine.{Machine}
 use Rattle.wasi_host.specs.declared.socket.Tcp2Socket.{Tcp2Socket}
 use Rattle.wasi_host.specs.Host.{Stop, Trap, code_stop}
 use Rattle.wasi_host.specs.Kinds.{Handles, kind_at, place_of, input_of, output_of, watched_by, watch_of, place_in, make_asks, taken_out}
+pub use Rattle.wasi_host.specs.Names.{own_of}
 use Rattle.wasi_host.specs.Store.{Records, no_records, with_record}
 use Rattle.wasi_host.specs.Jobs.{turn_store_asks}
 use Rattle.wasi_host.specs.Readiness.{ready_at, ready_ids_at}
@@ -33,10 +35,6 @@ with_table m made = (made.0, record m { table = made.1 })
 
 abbrev pub with_store : {A : Type 0} → Machine → A × Records → A × Machine
 with_store m done = (done.0, record m { store = done.1 })
-
--- the line's own operation
-abbrev pub own_of : ℕ → OpId
-own_of line = record { step = line; part = 0 }
 
 -- == the handles of a call, or a trap
 abbrev pub socket_at : Machine → ℕ → Option ℕ
@@ -59,7 +57,7 @@ side_at (Some r) = r.side
 -- == a socket is made
 abbrev pub create_handle : Machine → OpId → Socket → Asks (Result ℕ Stop × Machine)
 create_handle m own socket =
-    bind (make_asks m.table own (Tcp2 (length m.store.sockets)) None (side_of socket)) (λ made. Give (with_table (record m { store = with_record m.store socket }) made))
+    bind (make_asks m.table own (Tcp2 (length m.store.records)) None (side_of socket)) (λ made. Give (with_table (record m { store = with_record m.store socket }) made))
 
 abbrev pub created_asks : Machine → OpId → Result Socket ErrorCode → Asks (Result ℕ Stop × Machine)
 created_asks m own (Err c) = Give (Err (code_stop c), m)
@@ -72,7 +70,7 @@ create_asks m own ctx family = bind (new_asks own ctx family) (created_asks m ow
 abbrev pub subscribe_on : Machine → OpId → ℕ → Option Watched → Asks (Result ℕ Stop × Machine)
 subscribe_on m own this None = no_such_handle m
 subscribe_on m own this (Some w) =
-    bind (make_asks m.table own (Pollable w) (Some this) (side_at (slice_get m.store.sockets (place_in w)))) (λ made. Give (with_table m made))
+    bind (make_asks m.table own (Pollable w) (Some this) (side_at (tcp2_at m.store.records (place_in w)))) (λ made. Give (with_table m made))
 
 -- a pollable of a socket or of a stream
 abbrev pub subscribe_asks : Machine → OpId → ℕ → Asks (Result ℕ Stop × Machine)
@@ -80,7 +78,7 @@ subscribe_asks m own this = subscribe_on m own this (watched_by (kind_at m.table
 
 abbrev pub ready_on : Machine → Ids → Option Watched → Asks (Result Bool Stop × Machine)
 ready_on m ids None = no_such_handle m
-ready_on m ids (Some w) = bind (ready_at m.store (own_of ids.line) ids w (place_in w) (slice_get m.store.sockets (place_in w))) (λ done. Give (with_store m done))
+ready_on m ids (Some w) = bind (ready_at m.store (own_of ids.line) ids w (place_in w) (tcp2_at m.store.records (place_in w))) (λ done. Give (with_store m done))
 
 -- one look at what a pollable watches
 abbrev pub ready_asks : Machine → Ids → ℕ → Asks (Result Bool Stop × Machine)
@@ -88,7 +86,7 @@ ready_asks m ids pollable = ready_on m ids (watch_of (kind_at m.table pollable))
 
 abbrev pub ready_ids_on : Machine → Ids → Option Watched → Ids
 ready_ids_on m ids None = ids
-ready_ids_on m ids (Some w) = ready_ids_at ids w (slice_get m.store.sockets (place_in w))
+ready_ids_on m ids (Some w) = ready_ids_at ids w (tcp2_at m.store.records (place_in w))
 
 -- the names that are left to the line then
 abbrev pub ids_after_ready : Machine → Ids → ℕ → Ids
@@ -102,18 +100,18 @@ abbrev pub at_once : Unit {0} × Records → Answer (Unit {0}) × Records
 at_once done = (Ready tt, done.1)
 
 -- a socket releases what it has, an output waits for its writer, and the rest don't wait
-abbrev pub drop_kind : Machine → OpId → Kind → Asks (Result (Answer (Unit {0})) Stop × Machine)
-drop_kind m own (Tcp2 place) = bind (release_at m.store own place (slice_get m.store.sockets place)) (λ done. Give (answered (with_store m (at_once done))))
-drop_kind m own (Output place) = bind (drop_output_at m.store own place (slice_get m.store.sockets place)) (λ done. Give (answered (with_store m done)))
-drop_kind m own _ = Give (Ok (Ready tt), m)
+abbrev pub drop_kind : Machine → Ids → Kind → Asks (Result (Answer (Unit {0})) Stop × Machine)
+drop_kind m ids (Tcp2 place) = bind (release_at m.store (own_of ids.line) place (tcp2_at m.store.records place)) (λ done. Give (answered (with_store m (at_once done))))
+drop_kind m ids (Output place) = bind (drop_output_at m.store ids place (tcp2_at m.store.records place)) (λ done. Give (answered (with_store m done)))
+drop_kind m ids _ = Give (Ok (Ready tt), m)
 
-abbrev pub drop_taken : Machine → OpId → Result Kind Stop × Handles → Asks (Result (Answer (Unit {0})) Stop × Machine)
-drop_taken m own (Ok kind, t) = drop_kind (record m { table = t }) own kind
-drop_taken m own (Err stop, t) = Give (Err stop, record m { table = t })
+abbrev pub drop_taken : Machine → Ids → Result Kind Stop × Handles → Asks (Result (Answer (Unit {0})) Stop × Machine)
+drop_taken m ids (Ok kind, t) = drop_kind (record m { table = t }) ids kind
+drop_taken m ids (Err stop, t) = Give (Err stop, record m { table = t })
 
 -- the handle goes at once
-abbrev pub drop_asks : Machine → OpId → ℕ → Asks (Result (Answer (Unit {0})) Stop × Machine)
-drop_asks m own this = drop_taken m own (taken_out m.table this (kind_at m.table this))
+abbrev pub drop_asks : Machine → Ids → ℕ → Asks (Result (Answer (Unit {0})) Stop × Machine)
+drop_asks m ids this = drop_taken m ids (taken_out m.table this (kind_at m.table this))
 
 -- == jobs
 abbrev pub turn_machine_asks : Machine → Asks (Unit {0} × Machine)

@@ -12,6 +12,8 @@ use Rattle.wasi_world.specs.declared.outcome.Refusal.{Refusal}
 use Rattle.wasi_world.specs.Seen.{Seen, Passes}
 use Rattle.wasi_tcp.specs.Shape.{Socket}
 use Rattle.wasi_tcp.specs.Socket.{side_of}
+use Rattle.wasi_host.specs.declared.records.Record.{Record}
+use Rattle.wasi_host.specs.declared.records.Record.TheVariants.{Tcp2}
 use Rattle.wasi_host.specs.declared.socket.Tcp2Socket.{Tcp2Socket}
 use Rattle.wasi_host.specs.Listening.{side_in}
 use Rattle.wasi_host.specs.Store.{Records}
@@ -43,15 +45,18 @@ abbrev pub one_if_some : Option OpId → ℕ
 one_if_some (Some side) = 1
 one_if_some None = 0
 
--- how many network sockets a record holds: its socket's, and that of a listen in progress, or of a connection that
+-- how many network sockets the record of a socket holds: the socket's, and that of a listen in progress, or of a connection that
 -- isn't taken
 abbrev pub holds : Tcp2Socket → ℕ
 holds r = one_if_some (side_of r.inner) + one_if_some (side_in r.listening)
 
+abbrev pub held_by : Record → ℕ
+held_by (Tcp2 r) = holds r
+
 -- how many network sockets the records hold
-abbrev pub held_in : List Tcp2Socket → ℕ
+abbrev pub held_in : List Record → ℕ
 held_in [] = 0
-held_in (r ∷ rs) = holds r + held_in rs
+held_in (x ∷ rs) = held_by x + held_in rs
 
 -- how many network sockets the answer of an accept gives away
 abbrev pub given_by : Result (Answer Socket) Refusal → ℕ
@@ -74,7 +79,7 @@ pub record MakesNone (before after : Seen) : Type 0 where
 
 -- As many network sockets were made and not closed as records hold one, where the log is reported.
 pub record KnowsSides (seen : Seen) (records : Records) : Type 0 where
-  pub count : IfSome seen.log (λ log. closed_in log + held_in records.sockets ≡ made_in log)
+  pub count : IfSome seen.log (λ log. closed_in log + held_in records.records ≡ made_in log)
 
 -- As many network sockets were closed after the end mark as the log made and didn't close.
 pub record ClosesAll (old new : Seen) : Type 0 where

@@ -1,5 +1,5 @@
 -- The records that handles name, and the pending call.
-use Rattle.std.specs.Prelude.{ℕ, Bool, true, false, List, [], ◌∷◌, ◌++◌, Option, Some, None, Result, Ok, Err, slice_set}
+use Rattle.std.specs.Prelude.{ℕ, Bool, true, false, List, [], Option, Some, None, Result, Ok, Err}
 use Rattle.std.specs.declared.alloc.AllocError.{AllocError}
 use Rattle.wasi_addr.specs.declared.address.IpSocketAddress.{IpSocketAddress}
 use Rattle.wasi_addr.specs.declared.address.SocketAddressFamily.{SocketAddressFamily}
@@ -33,17 +33,19 @@ use Rattle.wasi_host.specs.declared.jobs.HostJob.{HostJob}
 use Rattle.wasi_host.specs.declared.listening.Listening.TheVariants as listening
 use Rattle.wasi_host.specs.declared.socket.Streams.{Streams}
 use Rattle.wasi_host.specs.declared.socket.Tcp2Socket.{Tcp2Socket}
+use Rattle.wasi_host.specs.declared.records.Record.{Record}
 use Rattle.wasi_host.specs.declared.store.Standing.{Standing}
 use Rattle.wasi_host.specs.Host.{Stop, Code, Trap, code_stop}
 use Rattle.wasi_host.specs.InProgress.{is_nothing, is_connect}
+use Rattle.wasi_host.specs.Records.{tcp2_put, tcp2_pushed}
 
 pub record Records : Type 0 where
-  pub sockets : List Tcp2Socket  -- by number
+  pub records : List Record  -- by number
   pub jobs : List HostJob  -- in the order in which they began
   pub standing : Option Standing
 
 abbrev pub no_records : Records
-no_records = record { sockets = []; jobs = []; standing = None }
+no_records = record { records = []; jobs = []; standing = None }
 
 -- its handles are marked with the network socket that it is made with
 abbrev pub new_record : Socket → Tcp2Socket
@@ -56,7 +58,7 @@ abbrev pub with_progress : Tcp2Socket → InProgress → Tcp2Socket
 with_progress r doing = record r { in_progress = doing }
 
 abbrev pub with_socket : Records → ℕ → Tcp2Socket → Records
-with_socket store place r = record store { sockets = slice_set store.sockets place r }
+with_socket store place r = record store { records = tcp2_put store.records place r }
 
 -- only what was started is finished
 abbrev pub finish_by : Records → ℕ → Tcp2Socket → Bool → Result (Unit {0}) Stop × Records
@@ -203,4 +205,4 @@ stream_at store place call (Some r) = bind (call r) (λ done. Give (with_record_
 
 -- a network socket that was made has its record, whether or not a handle is made for it
 abbrev pub with_record : Records → Socket → Records
-with_record store socket = record store { sockets = store.sockets ++ new_record socket ∷ [] }
+with_record store socket = record store { records = tcp2_pushed store.records (new_record socket) }

@@ -1,5 +1,5 @@
 -- The calls of a connection's streams.
-use Rattle.std.specs.Prelude.{ℕ, List, Option, Some, None, Result, Ok, Err, slice_get}
+use Rattle.std.specs.Prelude.{ℕ, List, Option, Some, None, Result, Ok, Err}
 use Rattle.wasi_addr.specs.declared.code.ErrorCode.{ErrorCode}
 use Rattle.wasi_world.specs.declared.ids.OpId.{OpId}
 use Rattle.wasi_world.specs.declared.outcome.TrapKind.TheVariants.{NoSuchHandle}
@@ -8,6 +8,7 @@ use Rattle.wasi_streams.specs.StreamStop.{StreamStop}
 use Rattle.wasi_streams.specs.StreamStop as stream
 use Rattle.wasi_tcp.specs.Reader.{read_state_asks}
 use Rattle.wasi_tcp.specs.Writer.{check_write_asks, write_state_asks}
+use Rattle.wasi_host.specs.Records.{tcp2_at}
 use Rattle.wasi_host.specs.declared.kind.Kind.TheVariants.{ErrorValue}
 use Rattle.wasi_host.specs.declared.machine.Machine.{Machine}
 use Rattle.wasi_host.specs.declared.socket.Tcp2Socket.{Tcp2Socket}
@@ -23,7 +24,7 @@ failed_made c (made, m) = (failed_with c made, m)
 -- why a stream's call gave no value: a failure gets the handle of a new error, whose parent is the stream
 abbrev pub convert_asks : Machine → OpId → ℕ → ℕ → StreamStop → Asks (CallStop × Machine)
 convert_asks m own handle place (stream.Failed c) =
-    bind (make_asks m.table own ErrorValue (Some handle) (side_at (slice_get m.store.sockets place))) (λ made. Give (failed_made c (with_table m made)))
+    bind (make_asks m.table own ErrorValue (Some handle) (side_at (tcp2_at m.store.records place))) (λ made. Give (failed_made c (with_table m made)))
 convert_asks m own handle place stream.Closed = Give (Closed, m)
 convert_asks m own handle place (stream.Trap kind) = Give (Traps kind, m)
 
@@ -44,12 +45,12 @@ converted own handle place (Err stop, m) = bind (convert_asks m own handle place
 -- a call on a stream of the record of this number
 abbrev pub stream_on : {T : Type 0} → Machine → OpId → ℕ → (Tcp2Socket → Asks (Result T StreamStop × Tcp2Socket)) → Option ℕ → Asks (Result T CallStop × Machine)
 stream_on m own handle call None = Give (Err (Traps NoSuchHandle), m)
-stream_on m own handle call (Some place) = bind (stream_at m.store place call (slice_get m.store.sockets place)) (λ done. converted own handle place (with_store m done))
+stream_on m own handle call (Some place) = bind (stream_at m.store place call (tcp2_at m.store.records place)) (λ done. converted own handle place (with_store m done))
 
 -- a write, which may become a job
 abbrev pub write_on : {T : Type 0} → Machine → OpId → ℕ → (Tcp2Socket → Asks (Result T StreamStop × Tcp2Socket)) → Option ℕ → Asks (Result T CallStop × Machine)
 write_on m own handle call None = Give (Err (Traps NoSuchHandle), m)
-write_on m own handle call (Some place) = bind (write_at m.store place call (slice_get m.store.sockets place)) (λ done. converted own handle place (with_store m done))
+write_on m own handle call (Some place) = bind (write_at m.store place call (tcp2_at m.store.records place)) (λ done. converted own handle place (with_store m done))
 
 abbrev pub read_asks : Machine → OpId → ℕ → ℕ → Asks (Result (List ℕ) CallStop × Machine)
 read_asks m own input len = stream_on m own input (reader_asks (λ r. read_state_asks own r len)) (input_at m input)

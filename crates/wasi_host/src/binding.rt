@@ -1,10 +1,11 @@
 //! What a socket is in the middle of, and how it is bound.
 
-ghost use Rattle.std.specs.Prelude.{◌≡◌, false, Ok, slice_get, true};
+ghost use Rattle.std.specs.Prelude.{◌≡◌, false, Ok, true};
 ghost use Rattle.wasi_world.specs.Asks.{AsksFor, outcome};
 ghost use Rattle.wasi_world.specs.Seen.{Seen};
 ghost use Rattle.wasi_common.specs.Rounds.{is_going, stays_going};
 ghost use Rattle.wasi_tcp.specs.Socket.{side_of};
+ghost use Rattle.wasi_host.specs.Records.{tcp2_at};
 ghost use Rattle.wasi_host.specs.InProgress.{is_nothing, is_started};
 ghost use Rattle.wasi_host.specs.Binding.{begin_bind_asks, poll_bind_asks, bind_settled, start_bind_at};
 ghost use Rattle.wasi_host.specs.Store.{finish_at, with_progress};
@@ -12,13 +13,14 @@ ghost use Rattle.wasi_host.specs.Host.{host_outcome};
 ghost use Rattle.wasi_host.specs.Sides.{KnowsSides, MakesNone};
 
 use crate::error::SocketError;
+use crate::records::tcp2_mut;
 use crate::socket::Tcp2Socket;
 use crate::store::{StandingCall, Store};
 use std::marker::Model;
 use std::mem;
 use wasi_addr::{ErrorCode, IpSocketAddress, p2};
 use wasi_tcp::BindOp;
-use wasi_world::{Answer, OpId, Refusal, TrapKind, World};
+use wasi_world::{Answer, Ids, OpId, Refusal, TrapKind, World};
 
 /// An operation that one call starts and another finishes.
 #[derive(Clone, Copy, Debug, PartialEq, Eq)]
@@ -170,32 +172,32 @@ impl Store {
     pub fn start_bind<W: World>(
         &mut self,
         world: &mut W,
-        op: OpId,
+        ids: Ids,
         place: usize,
         addr: IpSocketAddress,
     ) -> Result<Answer<()>, SocketError>
         requires { (W.seen world.old).ended ≡ false }
-        ensures asked { AsksFor (start_bind_at self.old op place addr (slice_get self.old.sockets place)) (W.seen world.old) (W.seen world.new) (λ answer. (answer, self.new)) (host_outcome result) }
+        ensures asked { AsksFor (start_bind_at self.old ids place addr (tcp2_at self.old.records place)) (W.seen world.old) (W.seen world.new) (λ answer. (answer, self.new)) (host_outcome result) }
         ensures sides { KnowsSides (W.seen world.old) self.old → KnowsSides (W.seen world.new) self.new }
         ensures open { (W.seen world.new).ended ≡ false }
     {
-        let Some(record) = self.sockets.get_mut(place) else {
+        let Some(record) = tcp2_mut(&mut self.records, place) else {
             return Err(SocketError::Trap(TrapKind::NoSuchHandle));
         };
         if !record.in_progress.is_nothing() {
             return Err(SocketError::Code(p2::ErrorCode::ConcurrencyConflict));
         }
-        let answer = record.begin_bind(world, op, addr)?;
-        Ok(self.stand(op.step, StandingCall::Bind { socket: place }, answer))
+        let answer = record.begin_bind(world, ids.own(), addr)?;
+        Ok(self.stand(ids, StandingCall::Bind { socket: place }, answer))
     }
 
     /// Finishes an operation that was started. It wasn't: `NotInProgress`.
     pub fn finish(&mut self, place: usize, operation: AsyncOperation) -> Result<(), SocketError>
         ensures sides { (s : Seen) → KnowsSides s self.old → KnowsSides s self.new }
-        ensures answer { host_outcome result ≡ Ok (finish_at (is_started operation) self.old place (slice_get self.old.sockets place)).0 }
-        ensures state { self.new ≡ (finish_at (is_started operation) self.old place (slice_get self.old.sockets place)).1 }
+        ensures answer { host_outcome result ≡ Ok (finish_at (is_started operation) self.old place (tcp2_at self.old.records place)).0 }
+        ensures state { self.new ≡ (finish_at (is_started operation) self.old place (tcp2_at self.old.records place)).1 }
     {
-        let Some(record) = self.sockets.get_mut(place) else {
+        let Some(record) = tcp2_mut(&mut self.records, place) else {
             return Err(SocketError::Trap(TrapKind::NoSuchHandle));
         };
         if !record.in_progress.is_started(operation) {

@@ -1,10 +1,10 @@
 //! Closes network sockets after the end mark.
 
 ghost use Rattle.std.specs.Prelude.{◌≡◌, true};
-ghost use Rattle.wasi_host.specs.Sides.{held_in, one_if_some};
+ghost use Rattle.wasi_host.specs.Sides.{held_by, held_in, one_if_some};
 ghost use Rattle.wasi_host.specs.Closing.{ClosesMore, ClosesSides};
 
-use crate::socket::Tcp2Socket;
+use crate::records::Record;
 use wasi_world::{Sock, World};
 
 /// Closes a network socket, where there is one.
@@ -17,13 +17,25 @@ fn close_one<W: World>(world: &mut W, side: Option<Sock>)
     }
 }
 
-/// Closes the network sockets that the records hold; takes no memory.
-pub fn close_sides<W: World>(world: &mut W, sockets: &[Tcp2Socket])
+/// Closes the network sockets that a record holds.
+fn close_record<W: World>(world: &mut W, closed: &Record)
     requires { (W.seen world.old).ended ≡ true }
-    ensures { ClosesSides (W.seen world.old) (W.seen world.new) (held_in sockets.now) }
+    ensures { ClosesMore (W.seen world.old) (W.seen world.new) (held_by closed.now) }
 {
-    for socket in sockets {
-        close_one(world, socket.inner.side());
-        close_one(world, socket.listening.side());
+    match closed {
+        Record::Tcp2(socket) => {
+            close_one(world, socket.inner.side());
+            close_one(world, socket.listening.side());
+        }
+    }
+}
+
+/// Closes the network sockets that the records hold; takes no memory.
+pub fn close_sides<W: World>(world: &mut W, records: &[Record])
+    requires { (W.seen world.old).ended ≡ true }
+    ensures { ClosesSides (W.seen world.old) (W.seen world.new) (held_in records.now) }
+{
+    for record in records {
+        close_record(world, record);
     }
 }

@@ -1,15 +1,17 @@
 //! What goes with a handle.
 
-ghost use Rattle.std.specs.Prelude.{◌≡◌, is_some, false, Ok, slice_get};
+ghost use Rattle.std.specs.Prelude.{◌≡◌, is_some, false, Ok};
 ghost use Rattle.wasi_world.specs.Asks.{AsksFor};
+ghost use Rattle.wasi_host.specs.Records.{tcp2_at};
 ghost use Rattle.wasi_host.specs.Dropping.{release_at, released, wait_at, drop_output_at};
 ghost use Rattle.wasi_host.specs.Host.{fault_outcome};
-ghost use Rattle.wasi_host.specs.Machine.{own_of, drop_asks, drop_kind};
+ghost use Rattle.wasi_host.specs.Machine.{drop_asks, drop_kind};
 ghost use Rattle.wasi_host.specs.Sides.{KnowsSides};
 ghost use Rattle.wasi_host.specs.Views.{SameView, state_of};
 
 use crate::handles;
 use crate::kind::Kind;
+use crate::records::tcp2_mut;
 use crate::store::{StandingCall, Store};
 use crate::view::WasiSocketsCtxView;
 use std::alloc::AllocError;
@@ -26,11 +28,11 @@ impl Store {
         place: usize,
     ) -> Result<(), AllocError>
         requires { (W.seen world.old).ended ≡ false }
-        ensures asked { AsksFor (release_at self.old op place (slice_get self.old.sockets place)) (W.seen world.old) (W.seen world.new) (λ done. (done, self.new)) result }
+        ensures asked { AsksFor (release_at self.old op place (tcp2_at self.old.records place)) (W.seen world.old) (W.seen world.new) (λ done. (done, self.new)) result }
         ensures sides { KnowsSides (W.seen world.old) self.old → KnowsSides (W.seen world.new) self.new }
         ensures open { (W.seen world.new).ended ≡ false }
     {
-        let Some(record) = self.sockets.get_mut(place) else {
+        let Some(record) = tcp2_mut(&mut self.records, place) else {
             return Ok(());
         };
         record.release(world, op)?;
@@ -39,20 +41,20 @@ impl Store {
     }
 
     /// Looks whether the writer of the socket of this number is ready. While it isn't, the drop of its output is pending under
-    /// the operation's line.
+    /// the line of these names.
     pub(crate) fn drop_output<W: World>(
         &mut self,
         world: &mut W,
-        op: OpId,
+        ids: Ids,
         place: usize,
     ) -> Result<Answer<()>, AllocError>
         requires { (W.seen world.old).ended ≡ false }
-        ensures asked { AsksFor (drop_output_at self.old op place (slice_get self.old.sockets place)) (W.seen world.old) (W.seen world.new) (λ answer. (answer, self.new)) result }
+        ensures asked { AsksFor (drop_output_at self.old ids place (tcp2_at self.old.records place)) (W.seen world.old) (W.seen world.new) (λ answer. (answer, self.new)) result }
         ensures sides { KnowsSides (W.seen world.old) self.old → KnowsSides (W.seen world.new) self.new }
         ensures open { (W.seen world.new).ended ≡ false }
     {
-        let answer = self.poll_writer(world, op, place)?;
-        Ok(self.stand(op.step, StandingCall::DropOutput { socket: place }, answer))
+        let answer = self.poll_writer(world, ids.own(), place)?;
+        Ok(self.stand(ids, StandingCall::DropOutput { socket: place }, answer))
     }
 
     /// One look at the writer of the socket of this number; an error is ready too.
@@ -63,11 +65,11 @@ impl Store {
         place: usize,
     ) -> Result<Answer<()>, AllocError>
         requires { (W.seen world.old).ended ≡ false }
-        ensures asked { AsksFor (wait_at self.old op place (slice_get self.old.sockets place)) (W.seen world.old) (W.seen world.new) (λ answer. (answer, self.new)) result }
+        ensures asked { AsksFor (wait_at self.old op place (tcp2_at self.old.records place)) (W.seen world.old) (W.seen world.new) (λ answer. (answer, self.new)) result }
         ensures sides { KnowsSides (W.seen world.old) self.old → KnowsSides (W.seen world.new) self.new }
         ensures open { (W.seen world.new).ended ≡ false }
     {
-        let Some(record) = self.sockets.get_mut(place) else {
+        let Some(record) = tcp2_mut(&mut self.records, place) else {
             return Ok(Answer::Ready(()));
         };
         record.poll_writer(world, op)
@@ -85,7 +87,7 @@ pub fn drop_handle<W: World>(
 ) -> Result<Answer<()>, Fault>
     requires open { (W.seen world.old).ended ≡ false }
     requires free { is_some view.old.store.now.standing ≡ false }
-    ensures asked { AsksFor (drop_asks (state_of view.old) (own_of ids.old.line) this) (W.seen world.old) (W.seen world.new) (λ answer. (answer, state_of view.new)) (fault_outcome result) }
+    ensures asked { AsksFor (drop_asks (state_of view.old) ids.old this) (W.seen world.old) (W.seen world.new) (λ answer. (answer, state_of view.new)) (fault_outcome result) }
     ensures sides { KnowsSides (W.seen world.old) view.old.store.now → KnowsSides (W.seen world.new) view.new.store.now }
     ensures view { SameView view.old view.new }
     ensures ids { ids.new ≡ ids.old }
@@ -103,7 +105,7 @@ fn release_kind<W: World>(
     kind: Kind,
 ) -> Result<Answer<()>, Fault>
     requires { (W.seen world.old).ended ≡ false }
-    ensures asked { AsksFor (drop_kind (state_of view.old) (own_of ids.old.line) kind) (W.seen world.old) (W.seen world.new) (λ answer. (answer, state_of view.new)) (fault_outcome result) }
+    ensures asked { AsksFor (drop_kind (state_of view.old) ids.old kind) (W.seen world.old) (W.seen world.new) (λ answer. (answer, state_of view.new)) (fault_outcome result) }
     ensures sides { KnowsSides (W.seen world.old) view.old.store.now → KnowsSides (W.seen world.new) view.new.store.now }
     ensures view { SameView view.old view.new }
     ensures ids { ids.new ≡ ids.old }
@@ -115,7 +117,7 @@ fn release_kind<W: World>(
             Ok(Answer::Ready(()))
         }
         Kind::Output(place) => {
-            let answer = view.store.drop_output(world, ids.own(), place)?;
+            let answer = view.store.drop_output(world, *ids, place)?;
             Ok(answer)
         }
         Kind::Network | Kind::Input(_) | Kind::Pollable(_) | Kind::ErrorValue => {

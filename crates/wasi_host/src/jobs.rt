@@ -1,12 +1,14 @@
 //! The host's background work, and its turn.
 
-ghost use Rattle.std.specs.Prelude.{◌≡◌, false, slice_get};
+ghost use Rattle.std.specs.Prelude.{◌≡◌, false};
 ghost use Rattle.wasi_world.specs.Asks.{AsksFor};
+ghost use Rattle.wasi_host.specs.Records.{tcp2_at};
 ghost use Rattle.wasi_host.specs.Jobs.{turn_at, turn_job, turn_jobs, turn_store_asks, still_going, has_job, is_going, is_on, other_jobs};
 ghost use Rattle.wasi_host.specs.Machine.{turn_machine_asks};
 ghost use Rattle.wasi_host.specs.Sides.{KnowsSides, MakesNone, held_in};
 ghost use Rattle.wasi_host.specs.Views.{SameView, state_of};
 
+use crate::records::{Record, tcp2, tcp2_mut};
 use crate::socket::Tcp2Socket;
 use crate::store::Store;
 use crate::view::WasiSocketsCtxView;
@@ -33,17 +35,17 @@ impl HostJob {
 
 /// Polls the write of the socket of this number once, where one is in progress.
 fn turn_socket<W: World>(
-    sockets: &mut Vec<Tcp2Socket>,
+    records: &mut Vec<Record>,
     world: &mut W,
     place: usize,
 ) -> Result<(), AllocError>
     requires { (W.seen world.old).ended ≡ false }
-    ensures asked { AsksFor (turn_at sockets.old.items place (slice_get sockets.old.items place)) (W.seen world.old) (W.seen world.new) (λ done. sockets.new.items) result }
-    ensures held { held_in sockets.new.items ≡ held_in sockets.old.items }
+    ensures asked { AsksFor (turn_at records.old.items place (tcp2_at records.old.items place)) (W.seen world.old) (W.seen world.new) (λ done. records.new.items) result }
+    ensures held { held_in records.new.items ≡ held_in records.old.items }
     ensures none { MakesNone (W.seen world.old) (W.seen world.new) }
     ensures open { (W.seen world.new).ended ≡ false }
 {
-    let Some(record) = sockets.get_mut(place) else {
+    let Some(record) = tcp2_mut(records, place) else {
         return Ok(());
     };
     record.turn(world)
@@ -51,55 +53,55 @@ fn turn_socket<W: World>(
 
 /// Polls a job once.
 fn turn_job<W: World>(
-    sockets: &mut Vec<Tcp2Socket>,
+    records: &mut Vec<Record>,
     world: &mut W,
     job: HostJob,
 ) -> Result<(), AllocError>
     requires { (W.seen world.old).ended ≡ false }
-    ensures asked { AsksFor (turn_job sockets.old.items job) (W.seen world.old) (W.seen world.new) (λ done. sockets.new.items) result }
-    ensures held { held_in sockets.new.items ≡ held_in sockets.old.items }
+    ensures asked { AsksFor (turn_job records.old.items job) (W.seen world.old) (W.seen world.new) (λ done. records.new.items) result }
+    ensures held { held_in records.new.items ≡ held_in records.old.items }
     ensures none { MakesNone (W.seen world.old) (W.seen world.new) }
     ensures open { (W.seen world.new).ended ≡ false }
 {
     match job {
-        HostJob::Write { socket } => turn_socket(sockets, world, socket),
+        HostJob::Write { socket } => turn_socket(records, world, socket),
     }
 }
 
 /// Polls these jobs, in order.
 fn turn_jobs<W: World>(
-    sockets: &mut Vec<Tcp2Socket>,
+    records: &mut Vec<Record>,
     world: &mut W,
     jobs: &[HostJob],
 ) -> Result<(), AllocError>
     requires { (W.seen world.old).ended ≡ false }
-    ensures asked { AsksFor (turn_jobs jobs.now sockets.old.items) (W.seen world.old) (W.seen world.new) (λ done. sockets.new.items) result }
-    ensures held { held_in sockets.new.items ≡ held_in sockets.old.items }
+    ensures asked { AsksFor (turn_jobs jobs.now records.old.items) (W.seen world.old) (W.seen world.new) (λ done. records.new.items) result }
+    ensures held { held_in records.new.items ≡ held_in records.old.items }
     ensures none { MakesNone (W.seen world.old) (W.seen world.new) }
     ensures open { (W.seen world.new).ended ≡ false }
 {
     for job in jobs {
-        turn_job(sockets, world, *job)?;
+        turn_job(records, world, *job)?;
     }
     Ok(())
 }
 
 /// Whether the socket of this number has a write in progress.
-fn has_job(sockets: &[Tcp2Socket], place: usize) -> bool
-    ensures { result ≡ has_job (slice_get sockets.now place) }
+fn has_job(records: &[Record], place: usize) -> bool
+    ensures { result ≡ has_job (tcp2_at records.now place) }
 {
-    match sockets.get(place) {
+    match tcp2(records, place) {
         Some(record) => record.has_job(),
         None => false,
     }
 }
 
 /// Whether a job isn't over.
-fn is_going(sockets: &[Tcp2Socket], job: HostJob) -> bool
-    ensures { result ≡ is_going sockets.now job }
+fn is_going(records: &[Record], job: HostJob) -> bool
+    ensures { result ≡ is_going records.now job }
 {
     match job {
-        HostJob::Write { socket } => has_job(sockets, socket),
+        HostJob::Write { socket } => has_job(records, socket),
     }
 }
 
@@ -111,17 +113,17 @@ impl Store {
         ensures sides { KnowsSides (W.seen world.old) self.old → KnowsSides (W.seen world.new) self.new }
         ensures open { (W.seen world.new).ended ≡ false }
     {
-        turn_jobs(&mut self.sockets, world, self.jobs.as_slice())?;
+        turn_jobs(&mut self.records, world, self.jobs.as_slice())?;
         self.settle_jobs();
         Ok(())
     }
 
     /// Takes out the jobs that are over.
     fn settle_jobs(&mut self)
-        ensures { self.new ≡ record self.old { jobs = still_going self.old.sockets self.old.jobs } }
+        ensures { self.new ≡ record self.old { jobs = still_going self.old.records self.old.jobs } }
     {
-        let sockets = self.sockets.as_slice();
-        self.jobs.retain(|job| is_going(sockets, *job));
+        let records = self.records.as_slice();
+        self.jobs.retain(|job| is_going(records, *job));
     }
 
     /// No job of this record is left.

@@ -1,13 +1,15 @@
 //! Sockets that listen: how far one is with it, its listen, and what it accepts.
 
-ghost use Rattle.std.specs.Prelude.{◌≡◌, ◌+◌, ◌<◌, ◌^◌, false, IfOk, Ok, OnErr, slice_get, vec_capacity, vec_len};
+ghost use Rattle.std.specs.Prelude.{◌≡◌, ◌+◌, ◌<◌, ◌^◌, false, IfOk, Ok, OnErr, vec_capacity, vec_len};
 ghost use Rattle.wasi_world.specs.Asks.{AsksFor, outcome};
+ghost use Rattle.wasi_host.specs.Records.{tcp2_at};
 ghost use Rattle.wasi_host.specs.Host.{host_outcome};
 ghost use Rattle.wasi_host.specs.Listening.{with_listening, listen_told, listen_settled, poll_listen_asks, listen_once, begin_listen_asks, start_listen_at, accept_record_asks, with_accepted_in, accept_at, ids_of, accept_ids_at, TakesOne, side_in, give_up_asks, unclosed, Accepted};
 ghost use Rattle.wasi_host.specs.Sides.{Balances, KnowsSides, given_by};
 
 use crate::binding::{AsyncOperation, InProgress};
 use crate::error::SocketError;
+use crate::records::{Record, tcp2_mut};
 use crate::socket::Tcp2Socket;
 use crate::store::{StandingCall, Store};
 use std::alloc::AllocError;
@@ -191,15 +193,15 @@ impl Tcp2Socket {
 
 /// Keeps the record of what was accepted, for which there is room, and gives its number. A code is reported, and there is no
 /// record.
-fn keep_accepted(sockets: &mut Vec<Tcp2Socket>, socket: TcpSocket) -> Result<usize, SocketError>
-    requires { vec_len sockets.old < vec_capacity sockets.old }
-    ensures told { host_outcome result ≡ Ok (with_accepted_in sockets.old.items socket).0 }
-    ensures sockets { sockets.new.items ≡ (with_accepted_in sockets.old.items socket).1 }
+fn keep_accepted(records: &mut Vec<Record>, socket: TcpSocket) -> Result<usize, SocketError>
+    requires { vec_len records.old < vec_capacity records.old }
+    ensures told { host_outcome result ≡ Ok (with_accepted_in records.old.items socket).0 }
+    ensures records { records.new.items ≡ (with_accepted_in records.old.items socket).1 }
 {
-    let place = sockets.len();
+    let place = records.len();
     let mut accepted = Tcp2Socket::new(socket);
     accepted.open_streams()?;
-    sockets.push_reserved(accepted);
+    records.push_reserved(Record::Tcp2(accepted));
     Ok(place)
 }
 
@@ -209,22 +211,22 @@ impl Store {
     pub fn start_listen<W: World>(
         &mut self,
         world: &mut W,
-        op: OpId,
+        ids: Ids,
         place: usize,
     ) -> Result<Answer<()>, SocketError>
         requires { (W.seen world.old).ended ≡ false }
-        ensures asked { AsksFor (start_listen_at self.old op place (slice_get self.old.sockets place)) (W.seen world.old) (W.seen world.new) (λ answer. (answer, self.new)) (host_outcome result) }
+        ensures asked { AsksFor (start_listen_at self.old ids place (tcp2_at self.old.records place)) (W.seen world.old) (W.seen world.new) (λ answer. (answer, self.new)) (host_outcome result) }
         ensures sides { KnowsSides (W.seen world.old) self.old → KnowsSides (W.seen world.new) self.new }
         ensures open { (W.seen world.new).ended ≡ false }
     {
-        let Some(record) = self.sockets.get_mut(place) else {
+        let Some(record) = tcp2_mut(&mut self.records, place) else {
             return Err(SocketError::Trap(TrapKind::NoSuchHandle));
         };
         if !record.in_progress.is_nothing() {
             return Err(SocketError::Code(p2::ErrorCode::ConcurrencyConflict));
         }
-        let answer = record.begin_listen(world, op)?;
-        Ok(self.stand(op.step, StandingCall::Listen { socket: place }, answer))
+        let answer = record.begin_listen(world, ids.own())?;
+        Ok(self.stand(ids, StandingCall::Listen { socket: place }, answer))
     }
 
     /// Accepts a connection of the listener of this number, and gives the number of its record, which has its streams. Room for
@@ -238,20 +240,20 @@ impl Store {
     ) -> Result<usize, SocketError>
         requires open { (W.seen world.old).ended ≡ false }
         requires names { ids.old.next_part + 1 < 2 ^ 64 }
-        ensures asked { AsksFor (accept_at self.old ids.old place (slice_get self.old.sockets place)) (W.seen world.old) (W.seen world.new) (λ accepted. (accepted, self.new)) (host_outcome result) }
+        ensures asked { AsksFor (accept_at self.old ids.old place (tcp2_at self.old.records place)) (W.seen world.old) (W.seen world.new) (λ accepted. (accepted, self.new)) (host_outcome result) }
         ensures sides { KnowsSides (W.seen world.old) self.old → KnowsSides (W.seen world.new) self.new }
         ensures ids { TakesOne ids.old ids.new }
-        ensures names { IfOk (host_outcome result) (λ answer. ids.new ≡ accept_ids_at ids.old (slice_get self.old.sockets place)) }
+        ensures names { IfOk (host_outcome result) (λ answer. ids.new ≡ accept_ids_at ids.old (tcp2_at self.old.records place)) }
         ensures open { (W.seen world.new).ended ≡ false }
     {
-        self.sockets.reserve(1)?;
-        let Some(record) = self.sockets.get_mut(place) else {
+        self.records.reserve(1)?;
+        let Some(record) = tcp2_mut(&mut self.records, place) else {
             return Err(SocketError::Trap(TrapKind::NoSuchHandle));
         };
         let answer = record.poll_accept(world, ids)?;
         match answer {
             Answer::Pending => Err(SocketError::Code(p2::ErrorCode::WouldBlock)),
-            Answer::Ready(socket) => keep_accepted(&mut self.sockets, socket),
+            Answer::Ready(socket) => keep_accepted(&mut self.records, socket),
         }
     }
 }

@@ -1,12 +1,14 @@
 //! The options of a socket, and its backlog, by the number of its record.
 
-ghost use Rattle.std.specs.Prelude.{◌≡◌, ◌≤◌, false, IfOk, slice_get};
+ghost use Rattle.std.specs.Prelude.{◌≡◌, ◌≤◌, false, IfOk};
 ghost use Rattle.wasi_world.specs.Asks.{AsksFor};
 ghost use Rattle.wasi_common.specs.Options.{largest_value, option_of, number_of};
+ghost use Rattle.wasi_host.specs.Records.{tcp2_at};
 ghost use Rattle.wasi_host.specs.Host.{host_outcome};
 ghost use Rattle.wasi_host.specs.Sides.{KnowsSides};
 
 use crate::error::SocketError;
+use crate::records::{tcp2, tcp2_mut};
 use crate::store::Store;
 use wasi_tcp::Setting;
 use wasi_world::{OpId, Opt, TrapKind, World};
@@ -23,12 +25,12 @@ impl Store {
         option: Opt,
     ) -> Result<u64, SocketError>
         requires { (W.seen world.old).ended ≡ false }
-        ensures asked { AsksFor (get_option_at self.now op option (slice_get self.now.sockets place)) (W.seen world.old) (W.seen world.new) (λ told. (told, self.now)) (host_outcome result) }
+        ensures asked { AsksFor (get_option_at self.now op option (tcp2_at self.now.records place)) (W.seen world.old) (W.seen world.new) (λ told. (told, self.now)) (host_outcome result) }
         ensures within { IfOk result (λ value. value ≤ largest_value option) }
         ensures sides { KnowsSides (W.seen world.old) self.now → KnowsSides (W.seen world.new) self.now }
         ensures open { (W.seen world.new).ended ≡ false }
     {
-        let Some(record) = self.sockets.get(place) else {
+        let Some(record) = tcp2(self.records.as_slice(), place) else {
             return Err(SocketError::Trap(TrapKind::NoSuchHandle));
         };
         let value = record.inner.get_option(world, op, option)?;
@@ -44,11 +46,11 @@ impl Store {
         setting: Setting,
     ) -> Result<(), SocketError>
         requires { (W.seen world.old).ended ≡ false }
-        ensures asked { AsksFor (set_option_at self.old op (option_of setting) (number_of setting) (slice_get self.old.sockets place)) (W.seen world.old) (W.seen world.new) (λ told. (told, self.new)) (host_outcome result) }
+        ensures asked { AsksFor (set_option_at self.old op (option_of setting) (number_of setting) (tcp2_at self.old.records place)) (W.seen world.old) (W.seen world.new) (λ told. (told, self.new)) (host_outcome result) }
         ensures sides { KnowsSides (W.seen world.old) self.old → KnowsSides (W.seen world.new) self.new }
         ensures open { (W.seen world.new).ended ≡ false }
     {
-        let Some(record) = self.sockets.get_mut(place) else {
+        let Some(record) = tcp2_mut(&mut self.records, place) else {
             return Err(SocketError::Trap(TrapKind::NoSuchHandle));
         };
         record.inner.set_option(world, op, setting)?;
@@ -64,11 +66,11 @@ impl Store {
         value: u64,
     ) -> Result<(), SocketError>
         requires { (W.seen world.old).ended ≡ false }
-        ensures asked { AsksFor (set_backlog_at self.old op place value (slice_get self.old.sockets place)) (W.seen world.old) (W.seen world.new) (λ told. (told, self.new)) (host_outcome result) }
+        ensures asked { AsksFor (set_backlog_at self.old op place value (tcp2_at self.old.records place)) (W.seen world.old) (W.seen world.new) (λ told. (told, self.new)) (host_outcome result) }
         ensures sides { KnowsSides (W.seen world.old) self.old → KnowsSides (W.seen world.new) self.new }
         ensures open { (W.seen world.new).ended ≡ false }
     {
-        let Some(record) = self.sockets.get_mut(place) else {
+        let Some(record) = tcp2_mut(&mut self.records, place) else {
             return Err(SocketError::Trap(TrapKind::NoSuchHandle));
         };
         record.inner.set_listen_backlog_size(world, op, value)?;

@@ -1,7 +1,8 @@
 //! Pending calls, and how they continue.
 
-ghost use Rattle.std.specs.Prelude.{◌≡◌, IfNone, IsSome, false, slice_get};
+ghost use Rattle.std.specs.Prelude.{◌≡◌, IfNone, IsSome, false};
 ghost use Rattle.wasi_world.specs.Asks.{AsksFor};
+ghost use Rattle.wasi_host.specs.Records.{tcp2_at};
 ghost use Rattle.wasi_host.specs.Host.{host_outcome};
 ghost use Rattle.wasi_host.specs.Pending.{outcome_of, rebind_at, relisten_at, go_on, resume_asks};
 ghost use Rattle.wasi_host.specs.Sides.{KnowsSides};
@@ -9,9 +10,10 @@ ghost use Rattle.wasi_host.specs.Standing.{call_of, unstood};
 ghost use Rattle.wasi_host.specs.Views.{SameView, state_of};
 
 use crate::error::SocketError;
-use crate::store::{StandingCall, Store};
+use crate::records::tcp2_mut;
+use crate::store::{Standing, StandingCall, Store};
 use crate::view::WasiSocketsCtxView;
-use wasi_world::{Answer, OpId, TrapKind, World};
+use wasi_world::{Answer, Ids, TrapKind, World};
 
 /// What a resumed call answers.
 #[derive(Clone, Copy, Debug, PartialEq, Eq)]
@@ -33,87 +35,83 @@ impl Outcome {
 }
 
 impl Store {
-    /// Takes out the pending call under this number; none where none is.
-    fn take(&mut self, line: u32) -> Option<StandingCall>
+    /// Takes out the pending call under this number, with the names that it continues by; none where none is.
+    fn take(&mut self, line: u32) -> Option<Standing>
         ensures taken { result ≡ call_of self.old.standing line }
         ensures some { IsSome result → self.new ≡ unstood self.old }
         ensures none { IfNone result (self.new ≡ self.old) }
     {
         let standing = self.standing?;
-        if standing.line != line {
+        if standing.ids.line != line {
             return None;
         }
         self.standing = None;
-        Some(standing.call)
+        Some(standing)
     }
 
     /// Polls the bind of the socket of this number again. Pending, it stands on.
     fn rebind<W: World>(
         &mut self,
         world: &mut W,
-        line: u32,
+        ids: Ids,
         place: usize,
     ) -> Result<Answer<()>, SocketError>
         requires { (W.seen world.old).ended ≡ false }
-        ensures asked { AsksFor (rebind_at self.old line place (slice_get self.old.sockets place)) (W.seen world.old) (W.seen world.new) (λ answer. (answer, self.new)) (host_outcome result) }
+        ensures asked { AsksFor (rebind_at self.old ids place (tcp2_at self.old.records place)) (W.seen world.old) (W.seen world.new) (λ answer. (answer, self.new)) (host_outcome result) }
         ensures sides { KnowsSides (W.seen world.old) self.old → KnowsSides (W.seen world.new) self.new }
         ensures open { (W.seen world.new).ended ≡ false }
     {
-        let Some(record) = self.sockets.get_mut(place) else {
+        let Some(record) = tcp2_mut(&mut self.records, place) else {
             return Err(SocketError::Trap(TrapKind::NoSuchHandle));
         };
         let answer = record.poll_bind(world)?;
-        Ok(self.stand(line, StandingCall::Bind { socket: place }, answer))
+        Ok(self.stand(ids, StandingCall::Bind { socket: place }, answer))
     }
 
     /// Polls the listen of the socket of this number again. Pending, it stands on.
     fn relisten<W: World>(
         &mut self,
         world: &mut W,
-        line: u32,
+        ids: Ids,
         place: usize,
     ) -> Result<Answer<()>, SocketError>
         requires { (W.seen world.old).ended ≡ false }
-        ensures asked { AsksFor (relisten_at self.old line place (slice_get self.old.sockets place)) (W.seen world.old) (W.seen world.new) (λ answer. (answer, self.new)) (host_outcome result) }
+        ensures asked { AsksFor (relisten_at self.old ids place (tcp2_at self.old.records place)) (W.seen world.old) (W.seen world.new) (λ answer. (answer, self.new)) (host_outcome result) }
         ensures sides { KnowsSides (W.seen world.old) self.old → KnowsSides (W.seen world.new) self.new }
         ensures open { (W.seen world.new).ended ≡ false }
     {
-        let Some(record) = self.sockets.get_mut(place) else {
+        let Some(record) = tcp2_mut(&mut self.records, place) else {
             return Err(SocketError::Trap(TrapKind::NoSuchHandle));
         };
         let answer = record.poll_listen(world)?;
-        Ok(self.stand(line, StandingCall::Listen { socket: place }, answer))
+        Ok(self.stand(ids, StandingCall::Listen { socket: place }, answer))
     }
 
-    /// Makes a call that stood under this number go on: a bind and a listen are polled again, and the drop of an output looks at
+    /// Makes a call that stood go on, by these names: a bind and a listen are polled again, and the drop of an output looks at
     /// its writer again. Pending, it stands on.
     fn go_on<W: World>(
         &mut self,
         world: &mut W,
-        line: u32,
+        ids: Ids,
         call: StandingCall,
     ) -> Result<Answer<()>, SocketError>
         requires { (W.seen world.old).ended ≡ false }
-        ensures asked { AsksFor (go_on self.old line call) (W.seen world.old) (W.seen world.new) (λ answer. (answer, self.new)) (host_outcome result) }
+        ensures asked { AsksFor (go_on self.old ids call) (W.seen world.old) (W.seen world.new) (λ answer. (answer, self.new)) (host_outcome result) }
         ensures sides { KnowsSides (W.seen world.old) self.old → KnowsSides (W.seen world.new) self.new }
         ensures open { (W.seen world.new).ended ≡ false }
     {
         match call {
-            StandingCall::Bind { socket } => self.rebind(world, line, socket),
-            StandingCall::Listen { socket } => self.relisten(world, line, socket),
+            StandingCall::Bind { socket } => self.rebind(world, ids, socket),
+            StandingCall::Listen { socket } => self.relisten(world, ids, socket),
             StandingCall::DropOutput { socket } => {
-                let own = OpId {
-                    step: line,
-                    part: 0,
-                };
-                let answer = self.drop_output(world, own, socket)?;
+                let answer = self.drop_output(world, ids, socket)?;
                 Ok(answer)
             }
         }
     }
 }
 
-/// Polls the pending call under this number, by the names of that line; none exactly where none is. A call that is
+/// Polls the pending call under this number, by the names that were left to it; none exactly where none is. A call that is
 /// pending stays so. A code is that of a bind or of a listen.
 pub fn resume<W: World>(
     view: &mut WasiSocketsCtxView<'_>,
@@ -126,9 +124,9 @@ pub fn resume<W: World>(
     ensures view { SameView view.old view.new }
     ensures open { (W.seen world.new).ended ≡ false }
 {
-    let Some(call) = view.store.take(line) else {
+    let Some(standing) = view.store.take(line) else {
         return Ok(None);
     };
-    let answer = view.store.go_on(world, line, call)?;
+    let answer = view.store.go_on(world, standing.ids, standing.call)?;
     Ok(Some(Outcome::of_nothing(answer)))
 }

@@ -1,7 +1,8 @@
 //! Pollables, and whether what they watch is ready.
 
-ghost use Rattle.std.specs.Prelude.{◌≡◌, ◌+◌, ◌<◌, ◌^◌, false, slice_get};
+ghost use Rattle.std.specs.Prelude.{◌≡◌, ◌+◌, ◌<◌, ◌^◌, false};
 ghost use Rattle.wasi_world.specs.Asks.{AsksFor};
+ghost use Rattle.wasi_host.specs.Records.{tcp2_at};
 ghost use Rattle.wasi_host.specs.Host.{fault_outcome};
 ghost use Rattle.wasi_host.specs.Kinds.{place_in};
 ghost use Rattle.wasi_host.specs.Machine.{own_of, subscribe_asks, ready_asks, ids_after_ready};
@@ -11,6 +12,7 @@ ghost use Rattle.wasi_host.specs.Views.{SameView, state_of};
 
 use crate::handles;
 use crate::kind::{Kind, Watched};
+use crate::records::tcp2_mut;
 use crate::store::Store;
 use crate::view::WasiSocketsCtxView;
 use wasi_streams::{Fault, TrapKind};
@@ -26,12 +28,12 @@ impl Store {
     ) -> Result<bool, Fault>
         requires open { (W.seen world.old).ended ≡ false }
         requires names { ids.old.next_part + 1 < 2 ^ 64 }
-        ensures asked { AsksFor (ready_at self.old (own_of ids.old.line) ids.old watched (place_in watched) (slice_get self.old.sockets (place_in watched))) (W.seen world.old) (W.seen world.new) (λ ready. (ready, self.new)) (fault_outcome result) }
+        ensures asked { AsksFor (ready_at self.old (own_of ids.old.line) ids.old watched (place_in watched) (tcp2_at self.old.records (place_in watched))) (W.seen world.old) (W.seen world.new) (λ ready. (ready, self.new)) (fault_outcome result) }
         ensures sides { KnowsSides (W.seen world.old) self.old → KnowsSides (W.seen world.new) self.new }
-        ensures ids { ids.new ≡ ready_ids_at ids.old watched (slice_get self.old.sockets (place_in watched)) }
+        ensures ids { ids.new ≡ ready_ids_at ids.old watched (tcp2_at self.old.records (place_in watched)) }
         ensures open { (W.seen world.new).ended ≡ false }
     {
-        let Some(record) = self.sockets.get_mut(watched.place()) else {
+        let Some(record) = tcp2_mut(&mut self.records, watched.place()) else {
             return Err(Fault::Trap(TrapKind::NoSuchHandle));
         };
         record.poll_ready(world, ids, watched)

@@ -1,8 +1,9 @@
 //! The records that handles name, and the pending call.
 
-ghost use Rattle.std.specs.Prelude.{◌≡◌, true, is_some, ◌<◌, false, IfOk, Ok, OnErr, slice_get, length, vec_capacity, vec_len};
+ghost use Rattle.std.specs.Prelude.{◌≡◌, true, is_some, ◌<◌, false, IfOk, Ok, OnErr, length, vec_capacity, vec_len};
 ghost use Rattle.wasi_world.specs.Asks.{AsksFor};
 ghost use Rattle.wasi_world.specs.Seen.{Seen};
+ghost use Rattle.wasi_host.specs.Records.{tcp2_at};
 ghost use Rattle.wasi_host.specs.Host.{host_outcome};
 ghost use Rattle.wasi_host.specs.Jobs.{jobs_with, write_at};
 ghost use Rattle.wasi_host.specs.Standing.{exclusive_of, stands_as, stood};
@@ -18,13 +19,14 @@ use crate::error::SocketError;
 use crate::handles;
 use crate::jobs::HostJob;
 use crate::kind::Kind;
+use crate::records::{Record, tcp2, tcp2_mut};
 use crate::socket::Tcp2Socket;
 use std::alloc::{AllocError, Global};
 use std::marker::Model;
 use wasi_addr::{IpSocketAddress, ShutdownType, SocketAddressFamily, p2};
 use wasi_streams::{StreamError, Table};
 use wasi_tcp::TcpSocket;
-use wasi_world::{Answer, Handle, Octets, OpId, Sock, TrapKind, WasiSocketsCtx, World};
+use wasi_world::{Answer, Handle, Ids, Octets, OpId, Sock, TrapKind, WasiSocketsCtx, World};
 
 /// What a pending call does.
 #[derive(Clone, Copy, Debug, PartialEq, Eq)]
@@ -40,15 +42,16 @@ pub enum StandingCall {
 /// A pending call: while it does, every other guest call is busy.
 #[derive(Clone, Copy, Debug, PartialEq, Eq)]
 pub struct Standing {
-    /// The line that began it.
-    pub line: u32,
+    /// The line that began it, and the next of the names that its operations take: what begins while it is polled again takes
+    /// them from here.
+    pub ids: Ids,
     pub call: StandingCall,
 }
 
 /// The records by number, the jobs in the order of making, and the pending call. Memory follows how many sockets were made.
 #[derive(Drop)]
 pub struct Store {
-    pub(crate) sockets: Vec<Tcp2Socket>,
+    pub(crate) records: Vec<Record>,
     pub(crate) jobs: Vec<HostJob>,
     pub(crate) standing: Option<Standing>,
 }
@@ -58,7 +61,7 @@ impl Model for Store {
 
     ghost Value = { Records };
 
-    ghost view = { λ s. record { sockets = s.sockets.items; jobs = s.jobs.items; standing = s.standing } };
+    ghost view = { λ s. record { records = s.records.items; jobs = s.jobs.items; standing = s.standing } };
 }
 
 impl Store {
@@ -70,7 +73,7 @@ impl Store {
         ensures { result ≡ no_records }
     {
         Store {
-            sockets: Vec::new(alloc),
+            records: Vec::new(alloc),
             jobs: Vec::new(alloc),
             standing: None,
         }
@@ -91,11 +94,12 @@ impl Store {
         ensures sides { KnowsSides (W.seen world.old) self.old → KnowsSides (W.seen world.new) self.new }
         ensures open { (W.seen world.new).ended ≡ false }
     {
-        self.sockets.reserve(1)?;
+        self.records.reserve(1)?;
         let socket = TcpSocket::new(world, own, ctx, family)?;
-        let place = self.sockets.len();
+        let place = self.records.len();
         let side = socket.side();
-        self.sockets.push_reserved(Tcp2Socket::new(socket));
+        self.records
+            .push_reserved(Record::Tcp2(Tcp2Socket::new(socket)));
         let handle = handles::make(table, world, own, Kind::Tcp2(place), None, side)?;
         Ok(handle)
     }
@@ -109,11 +113,11 @@ impl Store {
         addr: IpSocketAddress,
     ) -> Result<(), SocketError>
         requires { (W.seen world.old).ended ≡ false }
-        ensures asked { AsksFor (start_connect_at self.old op place addr (slice_get self.old.sockets place)) (W.seen world.old) (W.seen world.new) (λ done. (done, self.new)) (host_outcome result) }
+        ensures asked { AsksFor (start_connect_at self.old op place addr (tcp2_at self.old.records place)) (W.seen world.old) (W.seen world.new) (λ done. (done, self.new)) (host_outcome result) }
         ensures sides { KnowsSides (W.seen world.old) self.old → KnowsSides (W.seen world.new) self.new }
         ensures open { (W.seen world.new).ended ≡ false }
     {
-        let Some(record) = self.sockets.get_mut(place) else {
+        let Some(record) = tcp2_mut(&mut self.records, place) else {
             return Err(SocketError::Trap(TrapKind::NoSuchHandle));
         };
         if !record.in_progress.is_nothing() {
@@ -131,11 +135,11 @@ impl Store {
         place: usize,
     ) -> Result<(), SocketError>
         requires { (W.seen world.old).ended ≡ false }
-        ensures asked { AsksFor (finish_connect_at self.old place (slice_get self.old.sockets place)) (W.seen world.old) (W.seen world.new) (λ done. (done, self.new)) (host_outcome result) }
+        ensures asked { AsksFor (finish_connect_at self.old place (tcp2_at self.old.records place)) (W.seen world.old) (W.seen world.new) (λ done. (done, self.new)) (host_outcome result) }
         ensures sides { KnowsSides (W.seen world.old) self.old → KnowsSides (W.seen world.new) self.new }
         ensures open { (W.seen world.new).ended ≡ false }
     {
-        let Some(record) = self.sockets.get_mut(place) else {
+        let Some(record) = tcp2_mut(&mut self.records, place) else {
             return Err(SocketError::Trap(TrapKind::NoSuchHandle));
         };
         if !record.in_progress.is_started(AsyncOperation::Connect) {
@@ -152,11 +156,11 @@ impl Store {
         place: usize,
     ) -> Result<IpSocketAddress, SocketError>
         requires { (W.seen world.old).ended ≡ false }
-        ensures asked { AsksFor (local_address_at self.old op place (slice_get self.old.sockets place)) (W.seen world.old) (W.seen world.new) (λ told. (told, self.new)) (host_outcome result) }
+        ensures asked { AsksFor (local_address_at self.old op place (tcp2_at self.old.records place)) (W.seen world.old) (W.seen world.new) (λ told. (told, self.new)) (host_outcome result) }
         ensures sides { KnowsSides (W.seen world.old) self.old → KnowsSides (W.seen world.new) self.new }
         ensures open { (W.seen world.new).ended ≡ false }
     {
-        let Some(record) = self.sockets.get_mut(place) else {
+        let Some(record) = tcp2_mut(&mut self.records, place) else {
             return Err(SocketError::Trap(TrapKind::NoSuchHandle));
         };
         let addr = record.local_address(world, op)?;
@@ -171,11 +175,11 @@ impl Store {
         place: usize,
     ) -> Result<IpSocketAddress, SocketError>
         requires { (W.seen world.old).ended ≡ false }
-        ensures asked { AsksFor (remote_address_at self.old op place (slice_get self.old.sockets place)) (W.seen world.old) (W.seen world.new) (λ told. (told, self.new)) (host_outcome result) }
+        ensures asked { AsksFor (remote_address_at self.old op place (tcp2_at self.old.records place)) (W.seen world.old) (W.seen world.new) (λ told. (told, self.new)) (host_outcome result) }
         ensures sides { KnowsSides (W.seen world.old) self.old → KnowsSides (W.seen world.new) self.new }
         ensures open { (W.seen world.new).ended ≡ false }
     {
-        let Some(record) = self.sockets.get_mut(place) else {
+        let Some(record) = tcp2_mut(&mut self.records, place) else {
             return Err(SocketError::Trap(TrapKind::NoSuchHandle));
         };
         let addr = record.remote_address(world, op)?;
@@ -184,9 +188,9 @@ impl Store {
 
     /// Whether the socket of this number is listening.
     pub fn is_listening(&self, place: usize) -> Result<bool, SocketError>
-        ensures { host_outcome result ≡ Ok (is_listening_at (slice_get self.now.sockets place)) }
+        ensures { host_outcome result ≡ Ok (is_listening_at (tcp2_at self.now.records place)) }
     {
-        match self.sockets.get(place) {
+        match tcp2(self.records.as_slice(), place) {
             Some(record) => Ok(record.inner.is_listening()),
             None => Err(SocketError::Trap(TrapKind::NoSuchHandle)),
         }
@@ -194,9 +198,9 @@ impl Store {
 
     /// The family of the socket of this number.
     pub fn address_family(&self, place: usize) -> Result<SocketAddressFamily, SocketError>
-        ensures { host_outcome result ≡ Ok (address_family_at (slice_get self.now.sockets place)) }
+        ensures { host_outcome result ≡ Ok (address_family_at (tcp2_at self.now.records place)) }
     {
-        match self.sockets.get(place) {
+        match tcp2(self.records.as_slice(), place) {
             Some(record) => Ok(record.inner.address_family()),
             None => Err(SocketError::Trap(TrapKind::NoSuchHandle)),
         }
@@ -204,9 +208,9 @@ impl Store {
 
     /// The network socket that the socket of this number was made with, where there is one.
     pub fn side(&self, place: usize) -> Option<Sock>
-        ensures { result ≡ side_at (slice_get self.now.sockets place) }
+        ensures { result ≡ side_at (tcp2_at self.now.records place) }
     {
-        self.sockets.get(place)?.side
+        tcp2(self.records.as_slice(), place)?.side
     }
 
     /// Reads from the connection of the socket of this number.
@@ -219,11 +223,11 @@ impl Store {
         len: usize,
     ) -> Result<Octets, StreamError>
         requires { (W.seen world.old).ended ≡ false }
-        ensures asked { AsksFor (stream_at self.old place (reader_asks (λ r. read_state_asks op r len)) (slice_get self.old.sockets place)) (W.seen world.old) (W.seen world.new) (λ answer. (answer, self.new)) (stream_outcome result) }
+        ensures asked { AsksFor (stream_at self.old place (reader_asks (λ r. read_state_asks op r len)) (tcp2_at self.old.records place)) (W.seen world.old) (W.seen world.new) (λ answer. (answer, self.new)) (stream_outcome result) }
         ensures sides { KnowsSides (W.seen world.old) self.old → KnowsSides (W.seen world.new) self.new }
         ensures open { (W.seen world.new).ended ≡ false }
     {
-        let Some(record) = self.sockets.get_mut(place) else {
+        let Some(record) = tcp2_mut(&mut self.records, place) else {
             return Err(StreamError::Trap(TrapKind::NoSuchHandle));
         };
         record.read(alloc, world, op, len)
@@ -237,11 +241,11 @@ impl Store {
         place: usize,
     ) -> Result<usize, StreamError>
         requires { (W.seen world.old).ended ≡ false }
-        ensures asked { AsksFor (stream_at self.old place (writer_asks (check_write_asks op)) (slice_get self.old.sockets place)) (W.seen world.old) (W.seen world.new) (λ answer. (answer, self.new)) (stream_outcome result) }
+        ensures asked { AsksFor (stream_at self.old place (writer_asks (check_write_asks op)) (tcp2_at self.old.records place)) (W.seen world.old) (W.seen world.new) (λ answer. (answer, self.new)) (stream_outcome result) }
         ensures sides { KnowsSides (W.seen world.old) self.old → KnowsSides (W.seen world.new) self.new }
         ensures open { (W.seen world.new).ended ≡ false }
     {
-        let Some(record) = self.sockets.get_mut(place) else {
+        let Some(record) = tcp2_mut(&mut self.records, place) else {
             return Err(StreamError::Trap(TrapKind::NoSuchHandle));
         };
         record.check_write(world, op)
@@ -257,12 +261,12 @@ impl Store {
         bytes: Octets,
     ) -> Result<(), StreamError>
         requires { (W.seen world.old).ended ≡ false }
-        ensures asked { AsksFor (write_at self.old place (writer_asks (λ w. write_state_asks op w bytes)) (slice_get self.old.sockets place)) (W.seen world.old) (W.seen world.new) (λ answer. (answer, self.new)) (stream_outcome result) }
+        ensures asked { AsksFor (write_at self.old place (writer_asks (λ w. write_state_asks op w bytes)) (tcp2_at self.old.records place)) (W.seen world.old) (W.seen world.new) (λ answer. (answer, self.new)) (stream_outcome result) }
         ensures sides { KnowsSides (W.seen world.old) self.old → KnowsSides (W.seen world.new) self.new }
         ensures open { (W.seen world.new).ended ≡ false }
     {
         self.jobs.reserve(1)?;
-        let Some(record) = self.sockets.get_mut(place) else {
+        let Some(record) = tcp2_mut(&mut self.records, place) else {
             return Err(StreamError::Trap(TrapKind::NoSuchHandle));
         };
         let (written, begins) = record.write_noting(world, op, bytes);
@@ -273,11 +277,11 @@ impl Store {
     /// Reports a kept error of the writer of the socket of this number.
     pub fn flush<W: World>(&mut self, world: &mut W, place: usize) -> Result<(), StreamError>
         requires { (W.seen world.old).ended ≡ false }
-        ensures asked { AsksFor (stream_at self.old place (writer_asks flush_asks) (slice_get self.old.sockets place)) (W.seen world.old) (W.seen world.new) (λ answer. (answer, self.new)) (stream_outcome result) }
+        ensures asked { AsksFor (stream_at self.old place (writer_asks flush_asks) (tcp2_at self.old.records place)) (W.seen world.old) (W.seen world.new) (λ answer. (answer, self.new)) (stream_outcome result) }
         ensures sides { KnowsSides (W.seen world.old) self.old → KnowsSides (W.seen world.new) self.new }
         ensures open { (W.seen world.new).ended ≡ false }
     {
-        let Some(record) = self.sockets.get_mut(place) else {
+        let Some(record) = tcp2_mut(&mut self.records, place) else {
             return Err(StreamError::Trap(TrapKind::NoSuchHandle));
         };
         record.flush(world)
@@ -292,11 +296,11 @@ impl Store {
         how: ShutdownType,
     ) -> Result<(), SocketError>
         requires { (W.seen world.old).ended ≡ false }
-        ensures asked { AsksFor (shutdown_at self.old op how place (slice_get self.old.sockets place)) (W.seen world.old) (W.seen world.new) (λ done. (done, self.new)) (host_outcome result) }
+        ensures asked { AsksFor (shutdown_at self.old op how place (tcp2_at self.old.records place)) (W.seen world.old) (W.seen world.new) (λ done. (done, self.new)) (host_outcome result) }
         ensures sides { KnowsSides (W.seen world.old) self.old → KnowsSides (W.seen world.new) self.new }
         ensures open { (W.seen world.new).ended ≡ false }
     {
-        let Some(record) = self.sockets.get_mut(place) else {
+        let Some(record) = tcp2_mut(&mut self.records, place) else {
             return Err(SocketError::Trap(TrapKind::NoSuchHandle));
         };
         record.shutdown(world, op, how)
@@ -305,9 +309,9 @@ impl Store {
     /// Closes the network sockets that the records hold, after the end mark; takes no memory.
     pub fn close_all<W: World>(self, world: &mut W)
         requires { (W.seen world.old).ended ≡ true }
-        ensures { ClosesSides (W.seen world.old) (W.seen world.new) (held_in self.sockets) }
+        ensures { ClosesSides (W.seen world.old) (W.seen world.new) (held_in self.records) }
     {
-        close_sides(world, self.sockets.as_slice());
+        close_sides(world, self.records.as_slice());
     }
 
     /// The number of the pending call: while it does, every guest call is busy. That is the caller's to test: the calls of
@@ -316,7 +320,7 @@ impl Store {
         ensures { result ≡ exclusive_of self.now.standing }
     {
         match &self.standing {
-            Some(standing) => Some(standing.line),
+            Some(standing) => Some(standing.ids.line),
             None => None,
         }
     }
@@ -326,19 +330,19 @@ impl Store {
         ensures { result ≡ stands_as self.now.standing line }
     {
         match &self.standing {
-            Some(standing) => standing.line == line,
+            Some(standing) => standing.ids.line == line,
             None => false,
         }
     }
 
-    /// A call that is pending is kept under this number.
-    pub(crate) fn stand(&mut self, line: u32, call: StandingCall, answer: Answer<()>) -> Answer<()>
-        ensures { (result, self.new) ≡ stood self.old line call answer }
+    /// A call that is pending is kept under its line's number, with the names that it continues by.
+    pub(crate) fn stand(&mut self, ids: Ids, call: StandingCall, answer: Answer<()>) -> Answer<()>
+        ensures { (result, self.new) ≡ stood self.old ids call answer }
     {
         match answer {
             Answer::Ready(()) => Answer::Ready(()),
             Answer::Pending => {
-                self.standing = Some(Standing { line, call });
+                self.standing = Some(Standing { ids, call });
                 Answer::Pending
             }
         }

@@ -54,7 +54,7 @@ pub fn start_bind<W: World>(
     addr: IpSocketAddress,
 ) -> Result<Answer<()>, SocketError>
     requires { (W.seen world.old).ended ≡ false }
-    ensures asked { AsksFor (start_bind_asks (state_of view.old) (own_of ids.old.line) this network addr) (W.seen world.old) (W.seen world.new) (λ answer. (answer, state_of view.new)) (host_outcome result) }
+    ensures asked { AsksFor (start_bind_asks (state_of view.old) ids.old this network addr) (W.seen world.old) (W.seen world.new) (λ answer. (answer, state_of view.new)) (host_outcome result) }
     ensures sides { KnowsSides (W.seen world.old) view.old.store.now → KnowsSides (W.seen world.new) view.new.store.now }
     ensures view { SameView view.old view.new }
     ensures ids { ids.new ≡ ids.old }
@@ -62,7 +62,7 @@ pub fn start_bind<W: World>(
 {
     handles::network(view.table, network)?;
     let place = handles::socket(view.table, this)?;
-    view.store.start_bind(world, ids.own(), place, addr)
+    view.store.start_bind(world, *ids, place, addr)
 }
 
 /// Ends a bind in progress (`finish-bind`). None is: `NotInProgress`. Asks nothing.
@@ -159,14 +159,14 @@ pub fn start_listen<W: World>(
     this: Handle,
 ) -> Result<Answer<()>, SocketError>
     requires { (W.seen world.old).ended ≡ false }
-    ensures asked { AsksFor (start_listen_on (state_of view.old) (own_of ids.old.line) (socket_at (state_of view.old) this)) (W.seen world.old) (W.seen world.new) (λ answer. (answer, state_of view.new)) (host_outcome result) }
+    ensures asked { AsksFor (start_listen_on (state_of view.old) ids.old (socket_at (state_of view.old) this)) (W.seen world.old) (W.seen world.new) (λ answer. (answer, state_of view.new)) (host_outcome result) }
     ensures sides { KnowsSides (W.seen world.old) view.old.store.now → KnowsSides (W.seen world.new) view.new.store.now }
     ensures view { SameView view.old view.new }
     ensures ids { ids.new ≡ ids.old }
     ensures open { (W.seen world.new).ended ≡ false }
 {
     let place = handles::socket(view.table, this)?;
-    view.store.start_listen(world, ids.own(), place)
+    view.store.start_listen(world, *ids, place)
 }
 
 /// Ends a listen in progress (`finish-listen`). None is: `NotInProgress`. Asks nothing.

@@ -28,15 +28,12 @@ going_start contexts w k first start bytes number h = record {
   few = omega arith;
 }
 
-slice_is : (at : ℕ) (bytes : List ℕ) → take (length bytes - at) (drop at bytes) ≡ drop at bytes
-slice_is at bytes = take_rest bytes at
-
 -- the code's next newline
 pub found : (at end : ℕ) (bytes : List ℕ) → Some end ≡ position (λ b. b == 10) (take (length bytes - at) (drop at bytes)) → Cut [] (drop at bytes) end
-found at end bytes h = cut_at [] (drop at bytes) end (ap (position (λ b. b == 10)) (sym (slice_is at bytes)) ∙ sym h)
+found at end bytes h = cut_at [] (drop at bytes) end (ap (position (λ b. b == 10)) (sym (take_rest bytes at)) ∙ sym h)
 
 pub found_none : (at : ℕ) (bytes : List ℕ) → None ≡ position (λ b. b == 10) (take (length bytes - at) (drop at bytes)) → NoCut [] (drop at bytes)
-found_none at bytes h = no_cut [] (drop at bytes) (ap (position (λ b. b == 10)) (sym (slice_is at bytes)) ∙ sym h)
+found_none at bytes h = no_cut [] (drop at bytes) (ap (position (λ b. b == 10)) (sym (take_rest bytes at)) ∙ sym h)
 
 -- the code's line
 line_is : (at end : ℕ) (bytes : List ℕ) (cut : Cut [] (drop at bytes) end) → take (at + end - at) (drop at bytes) ≡ cut.line

@@ -1,5 +1,6 @@
 -- What one line makes, by how it ends.
-use Rattle.wasi_session.proofs.Words.{◌≡◌, sym, refl, subst, ℕ, Bool, true, false, if◌then◌else◌, List, [], ◌∷◌, ◌++◌, ◌+◌, length, take, Some, None, Result, Ok, Err, append-nil, add-zero, WasiSocketsCtx, Seen, Asks, Give, Reaches, Started, Writing, Took, reaches_on, reaches_in, Machine, Step, Reply, is_trap, text_of, machine_asks, run, KnowsSides}
+use Rattle.wasi_session.proofs.Words.{◌≡◌, sym, refl, subst, ℕ, Bool, true, false, if◌then◌else◌, List, [], ◌∷◌, ◌++◌, ◌+◌, length, take, Some, None, Result, Ok, Err, append-nil, add-zero, WasiSocketsCtx, Seen, Asks, Give, Reaches, Started, Writing, Took, reaches_on, reaches_in, Machine, Step, Reply, is_trap, text_of, machine_asks, run, KnowsSides, err_from_is_err_and}
+use Rattle.std.specs.Prelude.{IsErrAnd}
 use Rattle.wasi_session.specs.declared.lines.LinesEnd.{LinesEnd}
 use Rattle.wasi_session.specs.declared.lines.LinesEnd.TheVariants as lines
 use Rattle.wasi_session.specs.declared.error.RunError.{RunError}
@@ -19,6 +20,11 @@ pub none_done : (contexts : List WasiSocketsCtx) (w : Seen) (k : Writing) (first
 none_done contexts w k first last line all e =
     let P : Machine → Type 0 = λ m. KnowsSides w first.store → KnowsSides w m.store in
     before_any [] tt (none_began contexts w first line) refl (tt, refl) (same_none k) tt (subst P (sym e) (λ held. held))
+
+-- the exit of a `?`
+module _ {contexts : List WasiSocketsCtx} {w_old w_new : Seen} {k_old k_new : Writing} {first last : Machine} {line : ℕ} {all : List (List ℕ)} {e : RunError} where
+  pub at_exit : (r : Result LinesEnd RunError) → IsErrAnd r (λ x. x ≡ e) → LinesRan contexts w_old w_new k_old k_new first line all (Err e) last → LinesRan contexts w_old w_new k_old k_new first line all r last
+  at_exit r h ran = let p = err_from_is_err_and r h in rw (p.1, p.2) ran
 
 -- it isn't a step
 pub one_bad : (contexts : List WasiSocketsCtx) (w : Seen) (k : Writing) (first : Machine) (line : ℕ) (l : List ℕ) → step_of (length contexts) l ≡ None → LinesRan contexts w w k k first line (l ∷ []) (Err (BadStep line)) first

@@ -3,7 +3,7 @@ use Rattle.wasi_session.proofs.Words.{◌≡◌, ◌∙◌, ap, sym, refl, subst
 use Rattle.wasi_session.specs.declared.lines.LinesEnd.{LinesEnd}
 use Rattle.wasi_session.specs.declared.lines.LinesEnd.TheVariants as lines
 use Rattle.wasi_session.specs.declared.error.RunError.{RunError}
-use Rattle.wasi_session.specs.declared.error.RunError.TheVariants.{Memory, BadStep, TooLong, ReadFault, WriteFault}
+use Rattle.wasi_session.specs.declared.error.RunError.TheVariants.{BadStep, WriteFault}
 use Rattle.wasi_session.specs.Lines.{StartWith, BadAfter}
 use Rattle.wasi_session.specs.Ran.{texts, NoTrap, OneTrap, CutLast, Stretch, Beyond, Wrote, Counted, Cause, LinesRan}
 use Rattle.wasi_session.proofs.Takes.{took_again, took_none, same_again, same_none, rose_again}
@@ -92,36 +92,20 @@ bad_then n (l ∷ ls) more [] ys e k = absurd (omega arith)
 bad_then n (l ∷ ls) more (x ∷ xs) ys e k = bad_then n ls more xs ys (omega arith) k
 
 -- == lines, and then others
-plain_then : (rs qs : List Reply) (w v : List ℕ) → NoTrap rs × (w ≡ texts rs) → NoTrap qs × (v ≡ texts qs) → NoTrap (rs ++ qs) × (w ++ v ≡ texts (rs ++ qs))
-plain_then rs qs w v h k = (no_trap-append rs qs h.0 k.0, rw (h.1, k.1) (sym (texts-append rs qs)))
-
 wrote_then : (outcome : Result LinesEnd RunError) (rs qs : List Reply) (w v : List ℕ) → NoTrap rs × (w ≡ texts rs) → Wrote outcome qs v → Wrote outcome (rs ++ qs) (w ++ v)
-wrote_then (Ok lines.AllDone) rs qs w v h k = plain_then rs qs w v h k
 wrote_then (Ok lines.Trapped) rs qs w v h k = (one_trap-append rs qs h.0 k.0, rw (h.1, k.1) (sym (texts-append rs qs)))
-wrote_then (Err Memory) rs qs w v h k = plain_then rs qs w v h k
-wrote_then (Err (BadStep n)) rs qs w v h k = plain_then rs qs w v h k
-wrote_then (Err TooLong) rs qs w v h k = plain_then rs qs w v h k
-wrote_then (Err ReadFault) rs qs w v h k = plain_then rs qs w v h k
 wrote_then (Err WriteFault) rs qs w v h k = cut_last-append rs qs w v h.0 h.1 k
+wrote_then _ rs qs w v h k = (no_trap-append rs qs h.0 k.0, rw (h.1, k.1) (sym (texts-append rs qs)))
 
 counted_then : (outcome : Result LinesEnd RunError) (old mid new : Writing) → SameCounts old mid → Counted outcome mid new → Counted outcome old new
-counted_then (Ok lines.AllDone) old mid new h k = same_again h k
-counted_then (Ok lines.Trapped) old mid new h k = same_again h k
-counted_then (Err Memory) old mid new h k = same_again h k
-counted_then (Err (BadStep n)) old mid new h k = same_again h k
-counted_then (Err TooLong) old mid new h k = same_again h k
-counted_then (Err ReadFault) old mid new h k = same_again h k
 counted_then (Err WriteFault) old mid new h k = rose_again h k
+counted_then _ old mid new h k = same_again h k
 
 module _ {contexts : List WasiSocketsCtx} {first mid : Machine} {line : ℕ} {xs : List Step} {rs : List Reply} {s t : Seen} where
   cause_then : (u : Seen) (state last : Machine) (ls more : List (List ℕ)) (outcome : Result LinesEnd RunError) (ys : List Step) (qs : List Reply) → length xs ≡ length ls → Stretch contexts first line xs rs mid s t → Cause contexts mid (line + length xs) more outcome ys qs state last t u → Cause contexts first line (ls ++ more) outcome (xs ++ ys) (rs ++ qs) state last s u
   cause_then u state last ls more (Ok lines.AllDone) ys qs e h k = record { count = omega (arith, length-append xs ys, length-append ls more, k.count); stands = k.stands; on = stretch_then h k.on }
-  cause_then u state last ls more (Ok lines.Trapped) ys qs e h k = tt
-  cause_then u state last ls more (Err Memory) ys qs e h k = tt
   cause_then u state last ls more (Err (BadStep n)) ys qs e h k = (k.0 ∙ numbered line xs ys, bad_then (length contexts) ls more xs ys e k.1)
-  cause_then u state last ls more (Err TooLong) ys qs e h k = absurd k
-  cause_then u state last ls more (Err ReadFault) ys qs e h k = absurd k
-  cause_then u state last ls more (Err WriteFault) ys qs e h k = tt
+  cause_then u state last ls more _ ys qs e h k = k
 
 -- a prefix of the run of all
 began_then : {contexts : List WasiSocketsCtx} {first mid : Machine} {line : ℕ} {xs : List Step} {rs : List Reply} {s t u : Seen} (so_far : List Reply) (ys : List Step) → Stretch contexts first line xs rs mid s t → Started (run contexts (so_far ++ rs) mid (line + length xs) ys) t u → Started (run contexts so_far first line (xs ++ ys)) s u
@@ -206,12 +190,8 @@ IsOver _ = Unit {0}
 
 cause_ahead : (contexts : List WasiSocketsCtx) (first state last : Machine) (line : ℕ) (ls more : List (List ℕ)) (outcome : Result LinesEnd RunError) (xs : List Step) (rs : List Reply) (s t : Seen) → IsOver outcome → Cause contexts first line ls outcome xs rs state last s t → Cause contexts first line (ls ++ more) outcome xs rs state last s t
 cause_ahead contexts first state last line ls more (Ok lines.AllDone) xs rs s t o k = absurd o
-cause_ahead contexts first state last line ls more (Ok lines.Trapped) xs rs s t o k = tt
-cause_ahead contexts first state last line ls more (Err Memory) xs rs s t o k = tt
 cause_ahead contexts first state last line ls more (Err (BadStep n)) xs rs s t o k = (k.0, bad_more (length contexts) ls more xs k.1)
-cause_ahead contexts first state last line ls more (Err TooLong) xs rs s t o k = absurd k
-cause_ahead contexts first state last line ls more (Err ReadFault) xs rs s t o k = absurd k
-cause_ahead contexts first state last line ls more (Err WriteFault) xs rs s t o k = tt
+cause_ahead contexts first state last line ls more _ xs rs s t o k = k
 
 pub lines_ahead : {contexts : List WasiSocketsCtx} {w_old w_new : Seen} {k_old k_new : Writing} {first last : Machine} {line : ℕ} {ls : List (List ℕ)} {outcome : Result LinesEnd RunError} (more : List (List ℕ)) → IsOver outcome → LinesRan contexts w_old w_new k_old k_new first line ls outcome last → LinesRan contexts w_old w_new k_old k_new first line (ls ++ more) outcome last
 lines_ahead {contexts} {w_old} {w_new} {first = first} {last} {line} {ls} {outcome} more o h = record {

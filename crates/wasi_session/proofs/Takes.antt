@@ -47,14 +47,11 @@ pub gave_none : {old new : Reading} → new.left ≡ old.left → Gave old [] ne
 gave_none {old} {new} e = record { left = sym e ∙ lost_none new.left }
 
 -- what is left of the bytes to write
-rest_is : (at : ℕ) (bytes : List ℕ) → take (length bytes - at) (drop at bytes) ≡ drop at bytes
-rest_is at bytes = take_rest bytes at
-
 front_is : (at count : ℕ) (bytes : List ℕ) → take at bytes ++ take count (take (length bytes - at) (drop at bytes)) ≡ take (at + count) bytes
-front_is at count bytes = ap (λ w. take at bytes ++ take count w) (rest_is at bytes) ∙ sym (take-add at count bytes)
+front_is at count bytes = ap (λ w. take at bytes ++ take count w) (take_rest bytes at) ∙ sym (take-add at count bytes)
 
 count_fits : (at count : ℕ) (bytes : List ℕ) → at < length bytes → count ≤ length (take (length bytes - at) (drop at bytes)) → at + count ≤ length bytes
-count_fits at count bytes h k = let e = ap length (rest_is at bytes) ∙ length-drop at bytes in omega (arith, k, e)
+count_fits at count bytes h k = let e = ap length (take_rest bytes at) ∙ length-drop at bytes in omega (arith, k, e)
 
 pub write_more : {old mid new : Writing} (bytes : List ℕ) (at : ℕ) {count : ℕ} → Took old (take at bytes) mid → TookSome mid new (take (length bytes - at) (drop at bytes)) count → Took old (take (at + count) bytes) new
 write_more bytes at {count} h k = rw (front_is at count bytes) at (took_again h k.took)

@@ -72,7 +72,7 @@ pub use Rattle.wasi_host.specs.Kinds.{table_parent, taken_out, watch_of, watched
 pub use Rattle.wasi_host.specs.Listening.{accept_answered, accept_at, accept_listening, accept_record_asks, accepted_record, begin_listen_asks}
 pub use Rattle.wasi_host.specs.Listening.{closed_listening, give_up_asks, kept_accepted, listen_begun, listen_bound, listen_once}
 pub use Rattle.wasi_host.specs.Listening.{listen_polled, poll_begun, poll_listen_asks, poll_listening, start_listen_at}
-pub use Rattle.wasi_host.specs.Listening.{start_listen_by, with_listening, with_sockets}
+pub use Rattle.wasi_host.specs.Listening.{start_listen_by, with_listening, with_records}
 pub use Rattle.wasi_host.specs.Machine.{create_asks, create_handle, created_asks, drop_taken, first_state, input_at, output_at, own_of, ready_on}
 pub use Rattle.wasi_host.specs.Machine.{side_at, socket_at, subscribe_on, turn_machine_asks, with_store, with_table}
 pub use Rattle.wasi_host.specs.Pending.{go_on, rebind_at, relisten_at, resume_call, resumed}

@@ -2,6 +2,7 @@
 pub mod Moves
 pub mod Writes
 pub mod Law
+pub mod Told
 pub mod OnBase
 pub mod Sockets
 pub mod Streams

@@ -1,5 +1,5 @@
 -- How a step was answered, where its answer comes from, and what is left after a refusal.
-use Rattle.std.specs.Prelude.{◌≡◌, ◌⊎◌, ⊤, ℕ, ◌<◌, Bool, true, false, not, ◌&&◌, min, List, [], ◌∷◌, ◌++◌, Option, Some, None, Ok, IsSomeAnd, IfSome, slice_get}
+use Rattle.std.specs.Prelude.{◌≡◌, ◌⊎◌, ⊤, ℕ, ◌<◌, Bool, true, false, not, ◌&&◌, min, List, [], ◌∷◌, ◌++◌, Option, Some, None, Ok, IsSomeAnd, IfSome}
 use Rattle.wasi_addr.specs.declared.address.IpSocketAddress.{IpSocketAddress}
 use Rattle.wasi_addr.specs.declared.address.SocketAddressFamily.{SocketAddressFamily}
 use Rattle.wasi_addr.specs.declared.address.ShutdownType.TheVariants.{Receive, Send}
@@ -35,6 +35,7 @@ use Rattle.wasi_tcp.specs.Connect.{IsConnect}
 use Rattle.wasi_tcp.specs.Connecting.{with_state, is_connectable}
 use Rattle.wasi_tcp.specs.Addresses.{usable_side}
 use Rattle.wasi_tcp.specs.Writer.{error_of_code, collected}
+use Rattle.wasi_host.specs.Records.{tcp2_at}
 use Rattle.wasi_host.specs.declared.machine.Machine.{Machine}
 use Rattle.wasi_steps.specs.declared.reply.CodeWord.{CodeWord}
 use Rattle.wasi_steps.specs.declared.reply.CodeWord.TheVariants as word
@@ -68,7 +69,7 @@ Answered contexts m line s entries reply after = Left (machine_asks contexts m l
 -- == the records that handles name
 abbrev pub record_in : Machine → Option ℕ → Option Tcp2Socket
 record_in m None = None
-record_in m (Some place) = slice_get m.store.sockets place
+record_in m (Some place) = tcp2_at m.store.records place
 
 -- the record of a live handle of a socket
 abbrev pub record_at : Machine → ℕ → Option Tcp2Socket
@@ -79,7 +80,7 @@ pub record OfRecord (m : Machine) (handle : ℕ) (P : ℕ → Tcp2Socket → Typ
   pub place : ℕ
   pub found : Tcp2Socket
   pub names : socket_at m handle ≡ Some place
-  pub at : slice_get m.store.sockets place ≡ Some found
+  pub at : tcp2_at m.store.records place ≡ Some found
   pub holds : P place found
 
 -- the machine, where this is the record at that place
@@ -116,7 +117,7 @@ pub record OfStreams (m : Machine) (number : Option ℕ) (P : ℕ → Tcp2Socket
   pub found : Tcp2Socket
   pub streams : Streams
   pub names : number ≡ Some place
-  pub at : slice_get m.store.sockets place ≡ Some found
+  pub at : tcp2_at m.store.records place ≡ Some found
   pub has : found.streams ≡ Some streams
   pub holds : P place found streams
 
@@ -129,17 +130,17 @@ MissesRecord (watched.Output place) found = streams_in found ≡ None
 
 abbrev pub MissesWatched : Machine → Option Watched → Type 0
 MissesWatched m None = ⊤
-MissesWatched m (Some w) = MissesRecord w (slice_get m.store.sockets (place_in w))
+MissesWatched m (Some w) = MissesRecord w (tcp2_at m.store.records (place_in w))
 
 -- the call is a bind or a listen of no socket
 abbrev pub IsOnNothing : Machine → StandingCall → Type 0
-IsOnNothing m (standing.Bind place) = slice_get m.store.sockets place ≡ None
-IsOnNothing m (standing.Listen place) = slice_get m.store.sockets place ≡ None
+IsOnNothing m (standing.Bind place) = tcp2_at m.store.records place ≡ None
+IsOnNothing m (standing.Listen place) = tcp2_at m.store.records place ≡ None
 IsOnNothing m (standing.DropOutput place) = ⊥
 
 -- the pending call under this number is a bind or a listen of no socket
 abbrev pub StandsOnNothing : Machine → ℕ → Type 0
-StandsOnNothing m n = IsSomeAnd (call_of m.store.standing n) (IsOnNothing m)
+StandsOnNothing m n = IsSomeAnd (call_of m.store.standing n) (λ s. IsOnNothing m s.call)
 
 -- == traps
 -- an argument misses what it names: a handle that isn't live, or is of something else; or the call of a line that is on nothing

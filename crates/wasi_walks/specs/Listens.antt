@@ -17,6 +17,7 @@ use Rattle.wasi_tcp.specs.declared.listener.Accepting.TheVariants as accepting
 use Rattle.wasi_tcp.specs.declared.socket.TcpState.TheVariants as state
 use Rattle.wasi_tcp.specs.Connecting.{with_state}
 use Rattle.wasi_tcp.specs.Listener.{Listener, with_accept, accepted_socket, accepted_state, HoldsAccept}
+use Rattle.wasi_host.specs.Records.{tcp2_pushed}
 use Rattle.wasi_host.specs.declared.listening.Listening.{Listening}
 use Rattle.wasi_host.specs.declared.listening.Listening.TheVariants as listening
 use Rattle.wasi_host.specs.declared.machine.Machine.{Machine}
@@ -128,7 +129,7 @@ pub record AcceptTakes (m : Machine) (own : OpId) (line handle place : ℕ) (r :
   pub front : List Entry
   pub given : AcceptGives (accept_name line listener.accept) listener.side listener.accept side peer front
   pub asked : entries ≡ front ++ accepted_marks own handle m.table.next side
-  pub store : after.store ≡ (let left = accepting_now m place r listener accepting.Idle in record left.store { sockets = left.store.sockets ++ (accepted_record (accepted_socket listener.family listener.maker (accepted_state side peer))).1 ∷ [] })
+  pub store : after.store ≡ (let left = accepting_now m place r listener accepting.Idle in record left.store { records = tcp2_pushed left.store.records (accepted_record (accepted_socket listener.family listener.maker (accepted_state side peer))).1 })
 
 -- where the handle's socket listens, its accept is one
 abbrev pub AcceptsIn : Listening → Type 0

@@ -1,9 +1,10 @@
 -- What waits: what a pollable watches and isn't ready, and a pending call.
-use Rattle.std.specs.Prelude.{◌≡◌, ◌⊎◌, ⊤, ℕ, true, false, List, [], ◌∷◌, ◌++◌, Option, Some, None, IsSome, IsSomeAnd, IfSome, slice_get}
+use Rattle.std.specs.Prelude.{◌≡◌, ◌⊎◌, ⊤, ℕ, true, false, List, [], ◌∷◌, ◌++◌, Option, Some, None, IsSome, IsSomeAnd, IfSome}
 use Rattle.wasi_addr.specs.declared.address.IpSocketAddress.{IpSocketAddress}
 use Rattle.wasi_addr.specs.declared.address.SocketAddrUse.TheVariants.{TcpBind, TcpListen}
 use Rattle.wasi_addr.specs.declared.code.ErrorCode.{ErrorCode}
-use Rattle.wasi_addr.specs.declared.code.ErrorCode.TheVariants.{AccessDenied, InvalidState}
+use Rattle.wasi_addr.specs.declared.code.ErrorCode.TheVariants.{AccessDenied}
+use Rattle.wasi_world.specs.declared.ids.Ids.{Ids}
 use Rattle.wasi_world.specs.declared.ids.OpId.{OpId}
 use Rattle.wasi_world.specs.declared.call.Call.TheVariants as call
 use Rattle.wasi_world.specs.declared.call.Entry.{Entry}
@@ -21,6 +22,7 @@ use Rattle.wasi_tcp.specs.Listen.{IsListen, is_over}
 use Rattle.wasi_tcp.specs.Listener.{Listener}
 use Rattle.wasi_tcp.specs.Socket.{side_in}
 use Rattle.wasi_tcp.specs.Writer.{collected}
+use Rattle.wasi_host.specs.Records.{tcp2_at}
 use Rattle.wasi_host.specs.declared.binding.InProgress.{InProgress}
 use Rattle.wasi_host.specs.declared.binding.InProgress.TheVariants.{Binding}
 use Rattle.wasi_host.specs.declared.kind.Watched.{Watched}
@@ -58,14 +60,14 @@ OutputWaits m own named entries = OfStreams m named (λ place r s. WriterWaits o
 -- == pollables
 -- the mark of a pollable that watches this, under the handle by which it was made
 abbrev pub pollable_mark : Machine → OpId → ℕ → Watched → Entry
-pollable_mark m own handle w = entry own (call.Made m.table.next name.Pollable (Some handle) (side_at (slice_get m.store.sockets (place_in w)))) told.Done
+pollable_mark m own handle w = entry own (call.Made m.table.next name.Pollable (Some handle) (side_at (tcp2_at m.store.records (place_in w)))) told.Done
 
 -- The pollable watches this in a record, and of both this holds.
 pub record OfWatched (m : Machine) (pollable : ℕ) (P : Watched → Tcp2Socket → Type 0) : Type 0 where
   pub watch : Watched
   pub found : Tcp2Socket
   pub watches : watch_of (kind_at m.table pollable) ≡ Some watch
-  pub at : slice_get m.store.sockets (place_in watch) ≡ Some found
+  pub at : tcp2_at m.store.records (place_in watch) ≡ Some found
   pub holds : P watch found
 
 -- What is watched isn't ready: the connect in progress waits, or with nothing in progress the listener's accept, or the open
@@ -80,7 +82,7 @@ pub data IsUnready (own : OpId) (r : Tcp2Socket) (entries : List Entry) : Watche
 -- the record that the pollable watches in
 abbrev pub watched_in : Machine → Option Watched → Option Tcp2Socket
 watched_in m None = None
-watched_in m (Some w) = slice_get m.store.sockets (place_in w)
+watched_in m (Some w) = tcp2_at m.store.records (place_in w)
 
 -- where the pollable's socket is connecting, its operation is a connect
 abbrev pub WatchesConnect : Machine → ℕ → Type 0
@@ -138,10 +140,21 @@ IsAskOfListen (Check a TcpListen) = ⊤
 IsAskOfListen (Listen backlog) = ⊤
 IsAskOfListen _ = ⊥
 
+-- what is left doesn't begin with the question for the local address
+abbrev pub StartsTold : List Item → Type 0
+StartsTold (CheckLocal usage ∷ items) = ⊥
+StartsTold _ = ⊤
+
+-- the asks of a listen that was pending: its address was reported then
+abbrev pub IsAskLeft : Item → Type 0
+IsAskLeft (Check a TcpListen) = ⊤
+IsAskLeft (Listen backlog) = ⊤
+IsAskLeft _ = ⊥
+
 -- where a listen is in progress, it is one, and only its asks are left, one at least; and the socket has no network socket
 abbrev pub IsListening : TcpState → Listening → Type 0
-IsListening s (listening.Begins op) = IsListen op × AllOf IsAskOfListen op.left × (is_over op ≡ false) × (side_in s ≡ None)
-IsListening s _ = ⊤
+IsListening s (listening.Begins op) = IsListen op × AllOf IsAskLeft op.left × (is_over op ≡ false) × (side_in s ≡ None)
+IsListening s _ = ⊥
 
 -- a bind is in progress
 abbrev pub IsBinding : InProgress → Type 0
@@ -149,8 +162,8 @@ IsBinding (Binding op) = IsRestOfBind op
 IsBinding _ = ⊥
 
 abbrev pub HoldsCall : Machine → StandingCall → Type 0
-HoldsCall m (standing.Bind place) = IfSome (slice_get m.store.sockets place) (λ r. IsBinding r.in_progress)
-HoldsCall m (standing.Listen place) = IfSome (slice_get m.store.sockets place) (λ r. IsListening r.inner.state r.listening)
+HoldsCall m (standing.Bind place) = IfSome (tcp2_at m.store.records place) (λ r. IsBinding r.in_progress)
+HoldsCall m (standing.Listen place) = IfSome (tcp2_at m.store.records place) (λ r. IsListening r.inner.state r.listening)
 HoldsCall m (standing.DropOutput place) = ⊤
 
 -- where a bind is pending, its record has a bind in progress; and where a listen is pending, its is a listen
@@ -169,8 +182,8 @@ ListenWaits _ entries = ⊥
 
 -- the call waits: the last ask of the bind or of the listen was answered pending, or the output's writer waits
 abbrev pub CallWaits : Machine → OpId → List Entry → StandingCall → Type 0
-CallWaits m own entries (standing.Bind place) = IsSomeAnd (slice_get m.store.sockets place) (λ r. BindWaits r.in_progress entries)
-CallWaits m own entries (standing.Listen place) = IsSomeAnd (slice_get m.store.sockets place) (λ r. ListenWaits r.listening entries)
+CallWaits m own entries (standing.Bind place) = IsSomeAnd (tcp2_at m.store.records place) (λ r. BindWaits r.in_progress entries)
+CallWaits m own entries (standing.Listen place) = IsSomeAnd (tcp2_at m.store.records place) (λ r. ListenWaits r.listening entries)
 CallWaits m own entries (standing.DropOutput place) = OutputWaits m own (Some place) entries
 
 -- the pending call waits
@@ -187,30 +200,23 @@ pub data BindFails (op : Operation) (entries : List Entry) : ErrorCode → Type 
   ToldNo : (a : IpSocketAddress) → Has op.left (Check a TcpBind) → EndsWith (entry op.who.id (call.Check op.who.context a TcpBind) told.No) entries → BindFails op entries AccessDenied
   ToldWhy : (a : IpSocketAddress) (c : ErrorCode) → Has op.left (Bind a) → EndsWith (entry op.who.id (call.Bind op.who.side a) (told.Code c)) entries → BindFails op entries c
 
--- A listen ended with a code, and closed its network socket: its check was answered no, or its local address wasn't reported but
--- the code, or the listen was answered with the code.
+-- A listen ended with a code, and closed its network socket: its check was answered no, or the listen was answered with the code.
 pub data ListenEnds (op : Operation) (entries : List Entry) : ErrorCode → Type 0 where
   CheckedNo : (a : IpSocketAddress) → EndsClosing op.who (call.Check op.who.context a TcpListen) told.No entries → ListenEnds op entries AccessDenied
-  LocalCode : (c : ErrorCode) → EndsClosing op.who (call.Local op.who.side) (told.Code c) entries → ListenEnds op entries c
   ListenCode : (backlog : ℕ) (c : ErrorCode) → EndsClosing op.who (call.Listen op.who.side backlog) (told.Code c) entries → ListenEnds op entries c
 
--- the listening isn't one that was begun
-abbrev pub IsNoListen : Listening → Type 0
-IsNoListen (listening.Begins op) = ⊥
-IsNoListen _ = ⊤
-
--- Why the pending call failed with a code: its bind or its listen ended with it; or it was a listen that isn't in progress,
--- which a poll refuses.
+-- Why the pending call failed with a code: its bind or its listen ended with it.
 pub data CallFails (m : Machine) (entries : List Entry) : StandingCall → ErrorCode → Type 0 where
-  BindFailed : (place : ℕ) (r : Tcp2Socket) (op : Operation) (c : ErrorCode) → slice_get m.store.sockets place ≡ Some r → r.in_progress ≡ Binding op → BindFails op entries c → CallFails m entries (standing.Bind place) c
-  ListenFailed : (place : ℕ) (r : Tcp2Socket) (op : Operation) (c : ErrorCode) → slice_get m.store.sockets place ≡ Some r → r.listening ≡ listening.Begins op → ListenEnds op entries c → CallFails m entries (standing.Listen place) c
-  NoListen : (place : ℕ) → IsSomeAnd (slice_get m.store.sockets place) (λ r. IsNoListen r.listening) → entries ≡ [] → CallFails m entries (standing.Listen place) InvalidState
+  BindFailed : (place : ℕ) (r : Tcp2Socket) (op : Operation) (c : ErrorCode) → tcp2_at m.store.records place ≡ Some r → r.in_progress ≡ Binding op → BindFails op entries c → CallFails m entries (standing.Bind place) c
+  ListenFailed : (place : ℕ) (r : Tcp2Socket) (op : Operation) (c : ErrorCode) → tcp2_at m.store.records place ≡ Some r → r.listening ≡ listening.Begins op → ListenEnds op entries c → CallFails m entries (standing.Listen place) c
 
 -- A call is pending under this number, and failed with a code of this word.
 pub record StandingFails (m : Machine) (n : ℕ) (entries : List Entry) (word : CodeWord) : Type 0 where
+  pub ids : Ids
   pub call : StandingCall
   pub code : ErrorCode
-  pub stands : m.store.standing ≡ Some (record { line = n; call = call })
+  pub stands : m.store.standing ≡ Some (record { ids = ids; call = call })
+  pub number : ids.line ≡ n
   pub cause : CallFails m entries call code
   pub word_is : word ≡ word_of_code code
 

@@ -6,7 +6,7 @@ use Rattle.wasi_causes.specs.Polls.{check_entry, local_entry, Passes, ToldYes, L
 use Rattle.wasi_addr.specs.declared.address.SocketAddrUse.TheVariants.{TcpListen}
 use Rattle.wasi_tcp.specs.Listen.{none_left}
 use Rattle.wasi_walks.specs.Answered.{AllOf, IsAskOfConnect}
-use Rattle.wasi_walks.specs.Waiting.{IsAskOfListen}
+use Rattle.wasi_walks.specs.Waiting.{IsAskLeft, IsAskOfListen}
 use Rattle.wasi_walks.proofs.Gives.{Gives}
 use Rattle.wasi_walks.specs.Answered as refusal
 use Rattle.wasi_walks.specs.Waiting as waiting
@@ -229,18 +229,19 @@ module _ (op : Operation) where
   listen_stays _ _ _ (LocalToldPending a _) of = absurd of
   listen_stays _ _ _ (ConnectToldPending a) of = absurd of
 
-  listen_broken : (es front last : List Entry) (item : Item) (c : ErrorCode) → IsAskOfListen item → Breaks op.who item last c → es ≡ front ++ (last ++ closed ∷ []) → ListenEnds op es c
+  left_sorts : (item : Item) → IsAskLeft item → IsAsk item
+  left_sorts (Check a usage) of = tt
+  left_sorts (Listen backlog) of = tt
+  left_sorts _ of = absurd of
+
+  listen_broken : (es front last : List Entry) (item : Item) (c : ErrorCode) → IsAskLeft item → Breaks op.who item last c → es ≡ front ++ (last ++ closed ∷ []) → ListenEnds op es c
   listen_broken es front _ _ _ of (ToldNo a TcpListen) cut = waiting.CheckedNo a (record { front = front; cut = cut })
   listen_broken es front _ _ _ of (ToldNo a _) cut = absurd of
-  listen_broken es front _ _ _ of (LocalToldNo a TcpListen) cut = waiting.CheckedNo a (record { front = front ++ entry op.who.id (call.Local op.who.side) (told.Addr a) ∷ []; cut = cut ∙ sym (append_assoc front (entry op.who.id (call.Local op.who.side) (told.Addr a) ∷ []) _) })
-  listen_broken es front _ _ _ of (LocalToldNo a _) cut = absurd of
-  listen_broken es front _ _ _ of (LocalToldCode usage c) cut = waiting.LocalCode c (record { front = front; cut = cut })
-  listen_broken es front _ _ _ of (BindToldCode a c) cut = absurd of
-  listen_broken es front _ _ _ of (ConnectToldCode a c) cut = absurd of
   listen_broken es front _ _ _ of (ListenToldCode backlog c) cut = waiting.ListenCode backlog c (record { front = front; cut = cut })
+  listen_broken es front _ _ _ of _ cut = absurd of
 
-  pub listen_ends : IsListen op × AllOf IsAskOfListen op.left → Meets (EndsFor (ListenEnds op)) [] (poll_asks op)
-  listen_ends its = ends_for IsAskOfListen listen_sorts its.1 (ListenEnds op) (λ es c k of. listen_broken es k.front k.last k.item c of k.broke (at_end es c k CloseLast its.0.last))
+  pub listen_ends : IsListen op × AllOf IsAskLeft op.left → Meets (EndsFor (ListenEnds op)) [] (poll_asks op)
+  listen_ends its = ends_for IsAskLeft left_sorts its.1 (ListenEnds op) (λ es c k of. listen_broken es k.front k.last k.item c of k.broke (at_end es c k CloseLast its.0.last))
 
   pub listen_leaves : AllOf IsAskOfListen op.left → (es : List Entry) → Gives (λ fs end. Keeps IsAskOfListen end) es (poll_asks op)
   listen_leaves of = leaves IsAskOfListen listen_sorts of listen_stays

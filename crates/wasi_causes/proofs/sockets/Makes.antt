@@ -9,9 +9,9 @@ use Rattle.wasi_causes.proofs.Words.{WasiSocketsCtx, [], accept_answered, accept
 use Rattle.wasi_causes.proofs.Words.{accepted_asks, accepted_handles, accepted_marks, accepted_record, accepted_socket, accepted_state}
 use Rattle.wasi_causes.proofs.Words.{accepted_streams, accepting_now, after_create, ap, append_assoc, arith, bind, code_stop, connect_ended}
 use Rattle.wasi_causes.proofs.Words.{connect_polled, connected_asks, context_at, create_asks, created_asks, entry, false, finish_connect_asks}
-use Rattle.wasi_causes.proofs.Words.{finish_connect_at, finish_connect_by, finish_connect_on, finish_in, first_ids, get_seam, handle_reply, idle}
+use Rattle.wasi_causes.proofs.Words.{finish_connect_at, finish_connect_by, finish_connect_on, finish_in, first_ids, handle_reply, idle}
 use Rattle.wasi_causes.proofs.Words.{in_socket, inl, inr, is_connect, length, marks_in, marks_in-push, network_asks, new_asks, new_socket}
-use Rattle.wasi_causes.proofs.Words.{opened_receive, opened_send, own_of, pair_reply, record_at, refl, side_at, side_of, slice_get, slice_set}
+use Rattle.wasi_causes.proofs.Words.{opened_receive, opened_send, own_of, pair_reply, record_at, refl, side_at, side_of}
 use Rattle.wasi_causes.proofs.Words.{still_connected, streams_asks, subst, sym, taken_receive, taken_send, told_done, triple_fields, triple_reply}
 use Rattle.wasi_causes.proofs.Words.{true, with_handle, with_listening, with_record, with_record_put, with_socket, with_state, with_store}
 use Rattle.wasi_causes.proofs.Words.{socket_with_streams, word_of_code, ℕ, ◌++◌, ◌+◌, ◌∙◌, ◌∷◌, ◌≡◌, ◌≢◌}
@@ -22,8 +22,10 @@ use Rattle.wasi_causes.proofs.tables.Meets.{Rows, Meets, ends, asks, chain, onto
 use Rattle.wasi_causes.proofs.tables.Routes.{Replied, Says, makes, full_so, code_word, makes_streams, Names, its, here, through_record, apart, none_has, not_of_code, put_back}
 use Rattle.wasi_causes.specs.Outcomes.{Outcome}
 use Rattle.wasi_causes.specs.Reached.{Finishes, FinishesAt, MayFinish}
+use Rattle.wasi_host.specs.Records.{tcp2_at, tcp2_put, tcp2_pushed}
 use Rattle.wasi_host.specs.declared.listening.Listening.TheVariants as listening
 use Rattle.wasi_p2.specs.Tcp.{accept_asks}
+use Rattle.wasi_walks.proofs.Lists.{tcp2_seam}
 use Rattle.wasi_walks.specs.Answered.{ConnectsOn, StillConnects, WasClosed}
 use Rattle.wasi_steps.specs.declared.reply.CodeWord.TheVariants as word
 use Rattle.wasi_steps.specs.declared.reply.Reply.TheVariants as reply
@@ -60,7 +62,7 @@ module _ (contexts : List WasiSocketsCtx) (m : Machine) (line c : ℕ) where
     created es (Err code) k = ends (tt, (code_word code, (k, refl)))
     created es (Ok socket) k =
         let with_it : Machine = record m { store = with_record m.store socket } in
-        onto _ (makes m.table (own_of line) (Tcp2 (length m.store.sockets)) None (side_of socket)
+        onto _ (makes m.table (own_of line) (Tcp2 (length m.store.records)) None (side_of socket)
         (λ full. (tt, (tt, full_so m with_it es full refl (ap marks_in k.1), (full, k.1, ap (λ (made : Socket). let left : Machine = record m { store = with_record m.store made } in left) k.0))))
         (tt, ((tt, tt), tt)))
 
@@ -138,7 +140,7 @@ module _ (contexts : List WasiSocketsCtx) (m : Machine) (line c handle : ℕ) wh
   -- == the streams
   connected : (place : ℕ) (es : List Entry) (done : Result (Unit {0}) Stop × Records) → PollRow es done → Meets FinishSays es (connected_asks own handle place (with_store m done))
   connected place es (Ok done, store) k =
-      makes_streams (record m { store = store }) es own handle place (side_at (slice_get store.sockets place)) m.table.next (let none = k.1 in omega arith) (λ fs table full count. (apart (λ e. cc) k.0, (tt, (full, count), tt))) (apart (λ e. cc) k.0, ((tt, (tt, tt)), tt))
+      makes_streams (record m { store = store }) es own handle place (side_at (tcp2_at store.records place)) m.table.next (let none = k.1 in omega arith) (λ fs table full count. (apart (λ e. cc) k.0, (tt, (full, count), tt))) (apart (λ e. cc) k.0, ((tt, (tt, tt)), tt))
   connected place es (Err stop, store) k = ends k
 
   pub finish_connect : Meets (Says contexts m line (step.TcpFinishConnect c handle)) [] (bind (finish_connect_asks m own handle) (λ done. Give (pair_reply done.0, done.1)))
@@ -155,7 +157,7 @@ module _ (contexts : List WasiSocketsCtx) (m : Machine) (line c handle : ℕ) wh
 
   -- the records, where this connection was taken from the listener
   abbrev taking : ℕ → Tcp2Socket → Listener → OpId → IpSocketAddress → Records
-  taking place r l side peer = let left = accepting_now m place r l accepting.Idle in record left.store { sockets = left.store.sockets ++ (accepted_record (accepted_socket l.family l.maker (accepted_state side peer))).1 ∷ [] }
+  taking place r l side peer = let left = accepting_now m place r l accepting.Idle in record left.store { records = tcp2_pushed left.store.records (accepted_record (accepted_socket l.family l.maker (accepted_state side peer))).1 }
 
   -- A connection was taken from the handle's listener, and is at this place.
   record Took (es : List Entry) (place : ℕ) (store : Records) : Type 0 where
@@ -168,7 +170,7 @@ module _ (contexts : List WasiSocketsCtx) (m : Machine) (line c handle : ℕ) wh
     peer : IpSocketAddress
     given : AcceptsAt m handle → AcceptGives (accept_name line listener.accept) listener.side listener.accept side peer es
     left : store ≡ taking of found listener side peer
-    its_side : side_at (slice_get store.sockets place) ≡ Some side
+    its_side : side_at (tcp2_at store.records place) ≡ Some side
     none : marks_in es ≡ 0
 
   abbrev StoreRow : Rows (Result ℕ Stop × Records)
@@ -198,7 +200,7 @@ module _ (contexts : List WasiSocketsCtx) (m : Machine) (line c handle : ℕ) wh
         peer = peer;
         given = given;
         left = refl;
-        its_side = ap side_at (get_seam (slice_set m.store.sockets place (with_listening r (listening.Accepts (accept_end l (accepting.Arrived new peer)).1))) (accepted_record (accepted_socket l.family l.maker (accepted_state new peer))).1);
+        its_side = ap side_at (tcp2_seam (tcp2_put m.store.records place (with_listening r (listening.Accepts (accept_end l (accepting.Arrived new peer)).1))) (accepted_record (accepted_socket l.family l.maker (accepted_state new peer))).1);
         none = none;
       }
 

@@ -1,5 +1,5 @@
 -- What a socket says of itself: its addresses, whether it listens, its family, and its options and backlog, which are set too.
-use Rattle.wasi_causes.proofs.Words.{◌≡◌, ◌⊎◌, inl, inr, ℕ, Bool, true, false, List, [], ◌∷◌, ◌++◌, Option, Some, None, Result, Ok, Err, slice_get, refl, sym, subst, ◌<◌, ◌==◌, if◌then◌else◌, nat_le, arith, eqb-true, eqb-false, leb-true, leb-false, IpSocketAddress, ErrorCode, InvalidState, Stop, code_stop, socket_at, own_of, with_store, with_inner, inner_answered, local_address_at, remote_address_at, is_listening_at, address_family_at, Machine, Tcp2Socket, local_address_on, remote_address_on, is_listening_on, address_family_on, KnowsBound, putting, word_of_code, IsPastDefault, IsBound, LocalRefusal, Connects, LocalClosed, RemoteRefusal, RemoteDefault, RemoteListening, RemoteConnecting, RemoteClosed, RemoteTold, entry, address_reply, truth_reply, family_reply, value_reply, done_reply, set_chosen, Each, Truth, truth_fields, number_fields, Chosen, AnOption, TheBacklog, chosen, CodeWord, TcpSetting, is_listening, usable_side, local_from, local_where, local_asks, after_peer, peer_known, still_connected, remote_in, with_state, in_socket, zero_test, value_set, refused_before, refused_after, get_where, set_where, set_option_asks, with_backlog, after_backlog, set_backlog_in, set_backlog_asks, Socket, Connection, TcpState, Give, bind, IsAddr, IsDoneOrCode, IsValue, told_addr, told_done, told_value, Entry, Told, OpId, Operation, WasiSocketsCtx}
+use Rattle.wasi_causes.proofs.Words.{◌≡◌, ◌⊎◌, inl, inr, ℕ, Bool, true, false, List, [], ◌∷◌, ◌++◌, Option, Some, None, Result, Ok, Err, refl, sym, subst, ◌<◌, ◌==◌, if◌then◌else◌, nat_le, arith, eqb-true, eqb-false, leb-true, leb-false, IpSocketAddress, ErrorCode, InvalidState, Stop, code_stop, socket_at, own_of, with_store, with_inner, inner_answered, local_address_at, remote_address_at, is_listening_at, address_family_at, Machine, Tcp2Socket, local_address_on, remote_address_on, is_listening_on, address_family_on, KnowsBound, putting, word_of_code, IsPastDefault, IsBound, LocalRefusal, Connects, LocalClosed, RemoteRefusal, RemoteDefault, RemoteListening, RemoteConnecting, RemoteClosed, RemoteTold, entry, address_reply, truth_reply, family_reply, value_reply, done_reply, set_chosen, Each, Truth, truth_fields, number_fields, Chosen, AnOption, TheBacklog, chosen, CodeWord, TcpSetting, is_listening, usable_side, local_from, local_where, local_asks, after_peer, peer_known, still_connected, remote_in, with_state, in_socket, zero_test, value_set, refused_before, refused_after, get_where, set_where, set_option_asks, with_backlog, after_backlog, set_backlog_in, set_backlog_asks, Socket, Connection, TcpState, Give, bind, IsAddr, IsDoneOrCode, IsValue, told_addr, told_done, told_value, Entry, Told, OpId, Operation, WasiSocketsCtx}
 use Rattle.wasi_addr.specs.Clamp.{clamped_backlog}
 use Rattle.wasi_addr.specs.declared.code.ErrorCode.TheVariants.{NotSupported}
 use Rattle.wasi_causes.proofs.sockets.Starts.{BoundRow, ItsBound, ItsFree, asked_none, bounds}
@@ -7,6 +7,7 @@ use Rattle.wasi_causes.proofs.tables.Meets.{Rows, Meets, ends, asks, chain, onto
 use Rattle.wasi_causes.proofs.tables.Routes.{Replied, on_number, Says, put_back, Names, here, on_record, code_word}
 use Rattle.wasi_causes.specs.Options.{GetRefusal, GetConnects, GetClosed, GetTold, ToldTooLarge, SetRefusal, ZeroBefore, SetConnects, SetClosed, ZeroAfter, SetTold, BacklogRefusal, ZeroBacklog, StillConnects, IsConnected, WasClosed, BacklogTold, GetsOption, SetsOption, SetsBacklog, KeptForListen, ToldListener}
 use Rattle.wasi_causes.specs.Outcomes.{AreLike, Outcome}
+use Rattle.wasi_host.specs.Records.{tcp2_at}
 use Rattle.wasi_host.specs.Options.{code_told, get_option_at, set_option_at, set_backlog_at}
 use Rattle.wasi_host.specs.Store.{put_back as answer_put}
 use Rattle.wasi_p2.specs.Options.{get_option_on, set_option_on, set_backlog_on}
@@ -62,7 +63,7 @@ module _ (m : Machine) (own : OpId) (handle place : ℕ) (r : Tcp2Socket) (n : N
   local_row = chain (bounds own r.inner) by_bound
 
 -- == the remote address
-module _ (m : Machine) (own : OpId) (place : ℕ) (r : Tcp2Socket) (at : slice_get m.store.sockets place ≡ Some r) where
+module _ (m : Machine) (own : OpId) (place : ℕ) (r : Tcp2Socket) (at : tcp2_at m.store.records place ≡ Some r) where
   abbrev RemoteRefused : List Entry → CodeWord → Machine → Type 0
   RemoteRefused es w after = RemoteRefusal m own place r es w after × (after ≡ m)
 

@@ -16,6 +16,7 @@ use Rattle.wasi_causes.proofs.Words.{record_at, refl, socket_at, start_bind_asks
 use Rattle.wasi_causes.proofs.Words.{start_connect_at, start_connect_by, start_connect_in, start_connect_on, start_listen_at, start_listen_by}
 use Rattle.wasi_causes.proofs.Words.{start_listen_on, subst, sym, told_addr, true, wildcard, with_inner, with_progress, with_state, with_store}
 use Rattle.wasi_causes.proofs.Words.{word_of_code, ℕ, ⊤, ◌++◌, ◌∙◌, ◌∷◌, ◌≡◌, ◌⊎◌}
+use Rattle.wasi_machine.specs.Machine.{first_ids}
 use Rattle.wasi_causes.proofs.operations.Polls.{polled, ends_so, not_over}
 use Rattle.wasi_causes.proofs.tables.Meets.{Meets, ends, asks, branch, Rows, chain, onto, widen, After, shifted}
 use Rattle.wasi_causes.proofs.tables.Routes.{Replied, Says, put_back, Names, here, code_word, not_of_code, in_conflict, no_conflict, none_conflicts, on_idle, on_number, its as found_in, apart, none_has}
@@ -252,15 +253,15 @@ module _ (contexts : List WasiSocketsCtx) (m : Machine) (line c handle : ℕ) wh
 
   module _ (network : ℕ) (a : IpSocketAddress) where
     -- == a bind
-    bind_said : (place : ℕ) (r : Tcp2Socket) (n : Names m handle place r) → is_nothing r.in_progress ≡ true → (es : List Entry) (ended : Result (Answer (Unit {0})) ErrorCode × Tcp2Socket) → BindRow m own handle place r n a es ended → (Replied contexts m line (step.TcpStartBind c handle network a) (answer_reply line)) es (with_store m (call_answered m.store line (StandingCall.Bind place) ended))
+    bind_said : (place : ℕ) (r : Tcp2Socket) (n : Names m handle place r) → is_nothing r.in_progress ≡ true → (es : List Entry) (ended : Result (Answer (Unit {0})) ErrorCode × Tcp2Socket) → BindRow m own handle place r n a es ended → (Replied contexts m line (step.TcpStartBind c handle network a) (answer_reply line)) es (with_store m (call_answered m.store (first_ids line) (StandingCall.Bind place) ended))
     bind_said place r n idle es (Ok Pending, now) h = (λ is. no_conflict n idle _ (λ e. cc), ((refl, refl), h))
     bind_said place r n idle es (Ok (Ready done), now) h = (λ is. no_conflict n idle _ (λ e. cc), (tt, tt))
     bind_said place r n idle es (Err code, now) h = (λ is. no_code n idle code, (inr (code_word code), (here n (Begins idle h.0), h.1)))
 
-    pub start_bind : Meets (Says contexts m line (step.TcpStartBind c handle network a)) [] (bind (start_bind_asks m own handle network a) (λ done. Give (answer_reply line done.0, done.1)))
+    pub start_bind : Meets (Says contexts m line (step.TcpStartBind c handle network a)) [] (bind (start_bind_asks m (first_ids line) handle network a) (λ done. Give (answer_reply line done.0, done.1)))
     start_bind =
         onto _ (branch (is_network (kind_at m.table network))
-        (λ is. on_idle m handle (start_bind_on m own a) (λ place o. start_bind_at m.store own place a o) (λ place r b. start_bind_by m.store own place a r b) refl (λ place. refl) (λ place. refl) (λ place r. refl) (λ place r. refl)
+        (λ is. on_idle m handle (start_bind_on m (first_ids line) a) (λ place o. start_bind_at m.store (first_ids line) place a o) (λ place r b. start_bind_by m.store (first_ids line) place a r b) refl (λ place. refl) (λ place. refl) (λ place r. refl) (λ place r. refl)
         (λ none. (λ is. none_conflicts m handle _ none (λ e. cc), (inr none, refl, refl))) (λ place r n e. (λ is. in_conflict n e, (inl refl, (here n (InProgress e refl refl refl), inl refl)))) (λ place r n idle. onto _ (widen (bind_said place r n idle) (bind_begins m own handle place r n a idle))))
         (λ no. ends (λ is. absurd (cc), (inl no, refl, refl))))
 
@@ -277,14 +278,14 @@ module _ (contexts : List WasiSocketsCtx) (m : Machine) (line c handle : ℕ) wh
         (λ no. ends (λ is. absurd (cc), (inl no, refl, refl))))
 
   -- == a listen
-  listen_said : (place : ℕ) (r : Tcp2Socket) (n : Names m handle place r) → is_nothing r.in_progress ≡ true → (es : List Entry) (done : Result (Answer (Unit {0})) ErrorCode × Tcp2Socket) → ListenRow m own handle place r n es done → (Replied contexts m line (step.TcpStartListen c handle) (answer_reply line)) es (with_store m (call_answered m.store line (StandingCall.Listen place) done))
+  listen_said : (place : ℕ) (r : Tcp2Socket) (n : Names m handle place r) → is_nothing r.in_progress ≡ true → (es : List Entry) (done : Result (Answer (Unit {0})) ErrorCode × Tcp2Socket) → ListenRow m own handle place r n es done → (Replied contexts m line (step.TcpStartListen c handle) (answer_reply line)) es (with_store m (call_answered m.store (first_ids line) (StandingCall.Listen place) done))
   listen_said place r n idle es (Ok Pending, now) h = (no_conflict n idle _ (λ e. cc), ((refl, refl), h))
   listen_said place r n idle es (Ok (Ready done), now) h = (no_conflict n idle _ (λ e. cc), (tt, tt))
   listen_said place r n idle es (Err code, now) h = (no_code n idle code, (inr (code_word code), (λ late. here n (Begins idle (h.0 late)), h.1)))
 
-  pub start_listen : Meets (Says contexts m line (step.TcpStartListen c handle)) [] (bind (start_listen_on m own (socket_at m handle)) (λ done. Give (answer_reply line done.0, done.1)))
+  pub start_listen : Meets (Says contexts m line (step.TcpStartListen c handle)) [] (bind (start_listen_on m (first_ids line) (socket_at m handle)) (λ done. Give (answer_reply line done.0, done.1)))
   start_listen =
-      onto _ (on_idle m handle (start_listen_on m own) (λ place o. start_listen_at m.store own place o) (λ place r b. start_listen_by m.store own place r b) refl (λ place. refl) (λ place. refl) (λ place r. refl) (λ place r. refl)
+      onto _ (on_idle m handle (start_listen_on m (first_ids line)) (λ place o. start_listen_at m.store (first_ids line) place o) (λ place r b. start_listen_by m.store (first_ids line) place r b) refl (λ place. refl) (λ place. refl) (λ place r. refl) (λ place r. refl)
       (λ none. (none_conflicts m handle _ none (λ e. cc), (none, refl, refl))) (λ place r n e. (in_conflict n e, (inl refl, (λ late. here n (InProgress e refl refl refl), inl refl)))) (λ place r n idle. onto _ (widen (listen_said place r n idle) (listen_begins m own handle place r n))))
 
   pub finish_bind : let done = finish_on is_bind m (socket_at m handle) in Meets (Says contexts m line (step.TcpFinishBind c handle)) [] (Give (done_reply done.0, done.1))

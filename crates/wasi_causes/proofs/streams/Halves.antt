@@ -1,5 +1,7 @@
 -- What the halves of a connection give: reads, and looks at what may be written, writes and flushes; and why an output waits
 -- that is dropped.
+use Rattle.wasi_host.specs.Records.{tcp2_at}
+use Rattle.wasi_host.specs.declared.records.Record.{Record}
 use Rattle.wasi_host.specs.declared.store.StandingCall.TheVariants.{DropOutput}
 use Rattle.wasi_causes.proofs.Words.{Again, AlreadyClosed, Answer, Asks, Bool, CheckFails, CodeTold, Done, End, Ends, Entry, Err, ErrorCode}
 use Rattle.wasi_causes.proofs.Words.{ErrorKept, Front, Give, IsDone, IsRead, IsSomeAnd, IsUnpermitted, Item, LengthZero, List, Machine, None}
@@ -11,10 +13,11 @@ use Rattle.wasi_causes.proofs.Words.{bind, bytes_reply, check_asks, check_write_
 use Rattle.wasi_causes.proofs.Words.{eqb-true, false, flush_asks, flushed_asks, has_job, if◌then◌else◌, input_at, length, less_one, look_asks}
 use Rattle.wasi_causes.proofs.Words.{look_in, ltb-false, ltb-true, marks_in, marks_in-push, min, nat_lt, new_job, not, output_at, output_streams}
 use Rattle.wasi_causes.proofs.Words.{own_of, permit_reply, permitted, poll_asks, polled_answer, polls, putting, read_asks, read_entry}
-use Rattle.wasi_causes.proofs.Words.{read_state_asks, reader_of, refl, round, set_there, slice_get, standing_as, subst, suc, sym, taken_front}
+use Rattle.wasi_causes.proofs.Words.{read_state_asks, reader_of, refl, round, set_there, standing_as, subst, suc, sym, taken_front}
 use Rattle.wasi_causes.proofs.Words.{taken_reply, told_bytes, told_ready, told_taken, true, wait_answer, wait_at, wait_put, wait_writer, with_error}
 use Rattle.wasi_causes.proofs.Words.{with_job, with_reader, with_socket, with_writer, write_asks, write_front, write_on_asks, write_state_asks}
 use Rattle.wasi_causes.proofs.Words.{writer_of, zero, ℕ, ⊤, ◌&&◌, ◌++◌, ◌==◌, ◌∙◌, ◌∷◌, ◌≡◌}
+use Rattle.wasi_world.specs.declared.ids.Ids.{Ids}
 use Rattle.wasi_causes.proofs.operations.Marks.{poll_marks_none}
 use Rattle.wasi_causes.proofs.streams.Routes.{failed_so, HasStreams, of_streams, streams_same, Told as TellsStream, on_stream, the_streams, job_noted, none_begun, on_write}
 use Rattle.wasi_causes.proofs.tables.Meets.{Rows, Meets, ends, asks, onto, widen, chain, branch, both}
@@ -55,39 +58,39 @@ module _ (own : OpId) (writer : WriteState) where
   looks = looks_as (collected writer) refl
 
 -- == an output that goes
-module _ (store : Records) (own : OpId) (place : ℕ) where
+module _ (store : Records) (ids : Ids) (place : ℕ) where
   -- the output of this record waits
   abbrev WaitsThere : List Entry → Type 0
-  WaitsThere es = (m : Machine) → m.store.sockets ≡ store.sockets → OutputWaits m own (Some place) es
+  WaitsThere es = (m : Machine) → m.store.records ≡ store.records → OutputWaits m (own_of ids.line) (Some place) es
 
   -- one that waits is pending under its line's number, and else what stood does
   abbrev pub OutputRow : Rows (Answer (Unit {0}) × Records)
-  OutputRow es (Pending, now) = WaitsThere es × (now.standing ≡ Some (standing_as own.step (DropOutput place)))
-  OutputRow es (Ready done, now) = LooksOnce own es × (now.standing ≡ store.standing)
+  OutputRow es (Pending, now) = WaitsThere es × (now.standing ≡ Some (standing_as ids (DropOutput place)))
+  OutputRow es (Ready done, now) = LooksOnce (own_of ids.line) es × (now.standing ≡ store.standing)
 
   abbrev WaitRow : Rows (Answer (Unit {0}) × Records)
   WaitRow es (Pending, now) = WaitsThere es × (now.standing ≡ store.standing)
-  WaitRow es (Ready done, now) = LooksOnce own es × (now.standing ≡ store.standing)
+  WaitRow es (Ready done, now) = LooksOnce (own_of ids.line) es × (now.standing ≡ store.standing)
 
-  module _ (r : Tcp2Socket) (at : slice_get store.sockets place ≡ Some r) where
-    of_look : (s : Streams) → r.streams ≡ Some s → (es : List Entry) (looked : Result (Answer (Unit {0})) StreamStop × WriteState) → LookRow own s.writer es looked → WaitRow es (wait_put store place (wait_answer looked.0, with_writer r s looked.1))
-    of_look s has es (Ok Pending, now) k = (λ m same. record { place = place; found = r; streams = s; names = refl; at = ap (λ (rs : List Tcp2Socket). slice_get rs place) same ∙ at; has = has; holds = k }, refl)
+  module _ (r : Tcp2Socket) (at : tcp2_at store.records place ≡ Some r) where
+    of_look : (s : Streams) → r.streams ≡ Some s → (es : List Entry) (looked : Result (Answer (Unit {0})) StreamStop × WriteState) → LookRow (own_of ids.line) s.writer es looked → WaitRow es (wait_put store place (wait_answer looked.0, with_writer r s looked.1))
+    of_look s has es (Ok Pending, now) k = (λ m same. record { place = place; found = r; streams = s; names = refl; at = ap (λ (rs : List Record). tcp2_at rs place) same ∙ at; has = has; holds = k }, refl)
     of_look s has es (Ok (Ready done), now) k = (k, refl)
     of_look s has es (Err why, now) k = (k, refl)
 
-    by_streams : (o : Option Streams) → r.streams ≡ o → Meets (λ es done. WaitRow es (wait_put store place done)) [] (wait_writer own r o)
+    by_streams : (o : Option Streams) → r.streams ≡ o → Meets (λ es done. WaitRow es (wait_put store place done)) [] (wait_writer (own_of ids.line) r o)
     by_streams None has = ends (NoLook, refl)
-    by_streams (Some s) has = onto _ (widen (of_look s has) (looks own s.writer))
+    by_streams (Some s) has = onto _ (widen (of_look s has) (looks (own_of ids.line) s.writer))
 
-  waits_at : (o : Option Tcp2Socket) → slice_get store.sockets place ≡ o → Meets WaitRow [] (wait_at store own place o)
+  waits_at : (o : Option Tcp2Socket) → tcp2_at store.records place ≡ o → Meets WaitRow [] (wait_at store (own_of ids.line) place o)
   waits_at None at = ends (NoLook, refl)
   waits_at (Some r) at = onto _ (by_streams r at r.streams refl)
 
-  waits : (es : List Entry) (done : Answer (Unit {0}) × Records) → WaitRow es done → OutputRow es (drop_waits own.step place done)
+  waits : (es : List Entry) (done : Answer (Unit {0}) × Records) → WaitRow es done → OutputRow es (drop_waits ids place done)
   waits es (Ready done, now) k = k
   waits es (Pending, now) k = (k.0, refl)
 
-  pub outputs : (o : Option Tcp2Socket) → slice_get store.sockets place ≡ o → Meets OutputRow [] (drop_output_at store own place o)
+  pub outputs : (o : Option Tcp2Socket) → tcp2_at store.records place ≡ o → Meets OutputRow [] (drop_output_at store ids place o)
   outputs o at = onto _ (widen waits (waits_at o at))
 
 -- == what a reader gives
@@ -329,7 +332,7 @@ module _ (contexts : List WasiSocketsCtx) (m : Machine) (line c output : ℕ) wh
       written_closed now e p =
           let closed : Tcp2Socket = with_writer r s (writing.Closed e) in
           let store : Records = with_socket m.store place closed in
-          let there : slice_get store.sockets place ≡ Some closed = set_there m.store.sockets place r closed n.at in
+          let there : tcp2_at store.records place ≡ Some closed = set_there m.store.records place r closed n.at in
           ap written p
           ∙ ap (λ (kept : Records). let after : Machine = record m { store = kept } in after)
           (ap (λ (o : Option Tcp2Socket). with_job store place (begins_job (Some r) o)) there ∙ ap (with_job store place) (and_not (not (has_job (Some r)))))

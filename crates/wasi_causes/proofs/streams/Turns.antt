@@ -1,5 +1,7 @@
 -- Who asks in a turn: the writes of the records with a job.
-use Rattle.wasi_causes.proofs.Words.{⊤, ◌≡◌, ℕ, zero, suc, inl, inr, List, [], ◌∷◌, ◌++◌, Option, Some, None, slice_get, slice_set, refl, sym, ap, subst, ◌∙◌, OpId, Call, Entry, Told, WasiSocketsCtx, Fits, Give, bind, End, Waits, poll_asks, allows_keep, Allows, allows_then, WriteState, Job, job_in, job_asks, turn_asks, Machine, Streams, Tcp2Socket, turned, turn_record, turn_at, turn_job, turn_jobs, turn_store_asks, turn_machine_asks, Has, no_fields, has_split, allows_ask}
+use Rattle.wasi_causes.proofs.Words.{⊤, ◌≡◌, ℕ, zero, suc, inl, inr, List, [], ◌∷◌, ◌++◌, Option, Some, None, refl, sym, ap, subst, ◌∙◌, OpId, Call, Entry, Told, WasiSocketsCtx, Fits, Give, bind, End, Waits, poll_asks, allows_keep, Allows, allows_then, WriteState, Job, job_in, job_asks, turn_asks, Machine, Streams, Tcp2Socket, turned, turn_record, turn_at, turn_job, turn_jobs, turn_store_asks, turn_machine_asks, Has, no_fields, has_split, allows_ask}
+use Rattle.wasi_host.specs.Records.{tcp2_at, tcp2_put}
+use Rattle.wasi_host.specs.declared.records.Record.{Record}
 use Rattle.wasi_host.specs.declared.jobs.HostJob.{HostJob}
 use Rattle.wasi_host.specs.declared.jobs.HostJob.TheVariants.{Write}
 use Rattle.wasi_tcp.specs.declared.writer.WriteState.TheVariants as writing
@@ -55,7 +57,7 @@ record_by r (Some s) has es =
     (λ fs done e. e ∙ sym (ap writer_asks_by has))
 
 -- == all of them
-set_job : (xs : List Tcp2Socket) (i : ℕ) (y : Tcp2Socket) (k : ℕ) → job_of (Some y) ≡ job_of (slice_get xs i) → job_of (slice_get (slice_set xs i y) k) ≡ job_of (slice_get xs k)
+set_job : (xs : List Record) (i : ℕ) (y : Tcp2Socket) (k : ℕ) → job_of (Some y) ≡ job_of (tcp2_at xs i) → job_of (tcp2_at (tcp2_put xs i y) k) ≡ job_of (tcp2_at xs k)
 set_job [] i y k h = refl
 set_job (z ∷ xs) zero y zero h = h
 set_job (z ∷ xs) zero y (suc k) h = refl
@@ -67,24 +69,24 @@ module _ (m : Machine) where
   TurnAsks es op call = IsOfJob m op
 
   -- each record asks by the operation by which it asked first
-  abbrev SameJobs : List Entry → List Tcp2Socket → Type 0
-  SameJobs es sockets = (place : ℕ) → job_of (slice_get sockets place) ≡ job_of (slice_get m.store.sockets place)
+  abbrev SameJobs : List Entry → List Record → Type 0
+  SameJobs es records = (place : ℕ) → job_of (tcp2_at records place) ≡ job_of (tcp2_at m.store.records place)
 
-  at_by : (sockets : List Tcp2Socket) (place : ℕ) (o : Option Tcp2Socket) → slice_get sockets place ≡ o → Has m.store.jobs (Write place) → (es : List Entry) → SameJobs es sockets → Allows TurnAsks SameJobs es (turn_at sockets place o)
-  at_by sockets place None at listed es same = same
-  at_by sockets place (Some r) at listed es same =
+  at_by : (records : List Record) (place : ℕ) (o : Option Tcp2Socket) → tcp2_at records place ≡ o → Has m.store.jobs (Write place) → (es : List Entry) → SameJobs es records → Allows TurnAsks SameJobs es (turn_at records place o)
+  at_by records place None at listed es same = same
+  at_by records place (Some r) at listed es same =
       allows_then TurnAsks (SameRecord r) SameJobs es (turn_record r) _
       (allows_ask (RecordAsks r) TurnAsks (SameRecord r) (λ fs op call e. record { place = place; listed = listed; is = sym (same place) ∙ (ap job_of at ∙ e) }) es (turn_record r) (record_by r r.streams refl es))
-      (λ fs now e k. set_job sockets place now k (e ∙ sym (ap job_of at)) ∙ same k)
+      (λ fs now e k. set_job records place now k (e ∙ sym (ap job_of at)) ∙ same k)
 
-  host_job_by : (job : HostJob) → Has m.store.jobs job → (sockets : List Tcp2Socket) (es : List Entry) → SameJobs es sockets → Allows TurnAsks SameJobs es (turn_job sockets job)
-  host_job_by (Write place) listed sockets es same = at_by sockets place (slice_get sockets place) refl listed es same
+  host_job_by : (job : HostJob) → Has m.store.jobs job → (records : List Record) (es : List Entry) → SameJobs es records → Allows TurnAsks SameJobs es (turn_job records job)
+  host_job_by (Write place) listed records es same = at_by records place (tcp2_at records place) refl listed es same
 
-  jobs_by : (jobs : List HostJob) → ((j : HostJob) → Has jobs j → Has m.store.jobs j) → (sockets : List Tcp2Socket) (es : List Entry) → SameJobs es sockets → Allows TurnAsks SameJobs es (turn_jobs jobs sockets)
-  jobs_by [] listed sockets es same = same
-  jobs_by (job ∷ jobs) listed sockets es same =
-      allows_then TurnAsks SameJobs SameJobs es (turn_job sockets job) _
-      (host_job_by job (listed job (inl refl)) sockets es same)
+  jobs_by : (jobs : List HostJob) → ((j : HostJob) → Has jobs j → Has m.store.jobs j) → (records : List Record) (es : List Entry) → SameJobs es records → Allows TurnAsks SameJobs es (turn_jobs jobs records)
+  jobs_by [] listed records es same = same
+  jobs_by (job ∷ jobs) listed records es same =
+      allows_then TurnAsks SameJobs SameJobs es (turn_job records job) _
+      (host_job_by job (listed job (inl refl)) records es same)
       (λ fs now k. jobs_by jobs (λ j h. listed j (inr h)) now fs k)
 
   abbrev SameTable : List Entry → Unit {0} × Machine → Type 0
@@ -93,7 +95,7 @@ module _ (m : Machine) where
   turn_by : Allows TurnAsks SameTable [] (turn_machine_asks m)
   turn_by =
       allows_then TurnAsks (λ es done. ⊤) SameTable [] (turn_store_asks m.store) _
-      (allows_then TurnAsks SameJobs (λ es done. ⊤) [] (turn_jobs m.store.jobs m.store.sockets) _ (jobs_by m.store.jobs (λ p h. h) m.store.sockets [] (λ place. refl)) (λ es sockets k. tt))
+      (allows_then TurnAsks SameJobs (λ es done. ⊤) [] (turn_jobs m.store.jobs m.store.records) _ (jobs_by m.store.jobs (λ p h. h) m.store.records [] (λ place. refl)) (λ es records k. tt))
       (λ es done k. refl)
 
   abbrev AllByJobs : List Entry → Type 0

@@ -1,10 +1,11 @@
 -- How a call finds its record, and how a handle is made: what every step shares that does so.
+use Rattle.wasi_walks.proofs.Lists.{set_same}
 use Rattle.wasi_causes.proofs.Words.{AccessDenied, Asks, Bool, Code, CodeWord, Entry, Err, ErrorCode, Full, Give, Handles, Input, IsDone, IsSomeAnd}
 use Rattle.wasi_causes.proofs.Words.{Kind, List, Machine, NoSuchHandle, None, OfRecord, Ok, OpId, Option, Output, Records, Reply, Result, Some, Step}
 use Rattle.wasi_causes.proofs.Words.{Stop, Tcp2Socket, Told, Trap, WasiSocketsCtx, [], ap, arith, bind, entry, false, is_full, is_nothing, make_asks}
-use Rattle.wasi_causes.proofs.Words.{marks_in, marks_in-push, name_of, no_such_handle, output_asks, putting, record_at, record_in, refl, slice_get}
-use Rattle.wasi_causes.proofs.Words.{slice_set, socket_at, streams_asks, subst, suc, sym, true, with_handle, with_socket, with_store, word_of_code}
-use Rattle.wasi_causes.proofs.Words.{zero, ℕ, ◌++◌, ◌+◌, ◌↔◌, ◌∙◌, ◌∷◌, ◌≡◌, ◌≢◌}
+use Rattle.wasi_causes.proofs.Words.{marks_in, marks_in-push, name_of, no_such_handle, output_asks, putting, record_at, record_in, refl}
+use Rattle.wasi_causes.proofs.Words.{socket_at, streams_asks, subst, sym, true, with_handle, with_socket, with_store, word_of_code}
+use Rattle.wasi_causes.proofs.Words.{ℕ, ◌++◌, ◌+◌, ◌↔◌, ◌∙◌, ◌∷◌, ◌≡◌, ◌≢◌}
 use Rattle.wasi_world.specs.declared.call.HandleKind.TheVariants as name
 use Rattle.wasi_world.specs.declared.call.Call.TheVariants as call
 use Rattle.wasi_world.specs.declared.call.Told.TheVariants as told
@@ -13,6 +14,8 @@ use Rattle.wasi_steps.specs.declared.reply.CodeWord.TheVariants as word
 use Rattle.wasi_steps.specs.declared.reply.Reply.TheVariants as reply
 use Rattle.wasi_causes.specs.Outcomes.{IsCodeWord, FullAfter, Conflicts, Outcome}
 use Rattle.wasi_causes.proofs.tables.Meets.{onto, Rows, Meets, ends, asks, chain, widen, branch}
+use Rattle.wasi_host.specs.Records.{tcp2_at}
+use Rattle.wasi_host.specs.declared.records.Record.{Record}
 
 -- the step's replies, where what it gives is reported so
 abbrev pub Replied : {T : Type 0} → List WasiSocketsCtx → Machine → ℕ → Step → (T → Reply) → Rows (T × Machine)
@@ -22,25 +25,20 @@ abbrev pub Says : List WasiSocketsCtx → Machine → ℕ → Step → Rows (Rep
 Says contexts m line s es done = Outcome contexts m line s es done.0 done.1
 
 -- == a record that is put back
-set_same : {A : Type 0} (xs : List A) (i : ℕ) (x : A) → slice_get xs i ≡ Some x → slice_set xs i x ≡ xs
-set_same [] i x e = absurd (cc)
-set_same (y ∷ xs) zero x e = let p : y ≡ x = cc in ap (λ (z : _). z ∷ xs) (sym p)
-set_same (y ∷ xs) (suc i) x e = ap (λ (ys : List _). y ∷ ys) (set_same xs i x e)
+pub put_store_same : (store : Records) (place : ℕ) (r : Tcp2Socket) → tcp2_at store.records place ≡ Some r → with_socket store place r ≡ store
+put_store_same store place r at = ap (λ (rs : List Record). let left : Records = record store { records = rs } in left) (set_same store.records place r at)
 
-pub put_store_same : (store : Records) (place : ℕ) (r : Tcp2Socket) → slice_get store.sockets place ≡ Some r → with_socket store place r ≡ store
-put_store_same store place r at = ap (λ (rs : List Tcp2Socket). let left : Records = record store { sockets = rs } in left) (set_same store.sockets place r at)
-
-pub put_same : (m : Machine) (place : ℕ) (r : Tcp2Socket) → slice_get m.store.sockets place ≡ Some r → putting m place r ≡ m
+pub put_same : (m : Machine) (place : ℕ) (r : Tcp2Socket) → tcp2_at m.store.records place ≡ Some r → putting m place r ≡ m
 put_same m place r at = ap (λ (store : Records). let left : Machine = record m { store = store } in left) (put_store_same m.store place r at)
 
-pub put_back : (P : Machine → Type 0) (m : Machine) (place : ℕ) (r : Tcp2Socket) → slice_get m.store.sockets place ≡ Some r → P m → P (putting m place r)
+pub put_back : (P : Machine → Type 0) (m : Machine) (place : ℕ) (r : Tcp2Socket) → tcp2_at m.store.records place ≡ Some r → P m → P (putting m place r)
 put_back P m place r at h = subst P (sym (put_same m place r at)) h
 
 -- == the record that a handle names
 -- The handle names this record, at this place.
 pub record Names (m : Machine) (handle place : ℕ) (r : Tcp2Socket) : Type 0 where
   pub names : socket_at m handle ≡ Some place
-  pub at : slice_get m.store.sockets place ≡ Some r
+  pub at : tcp2_at m.store.records place ≡ Some r
 
 pub its : {m : Machine} {handle place : ℕ} {r : Tcp2Socket} → Names m handle place r → record_at m handle ≡ Some r
 its {m} n = ap (record_in m) n.names ∙ n.at
@@ -48,22 +46,22 @@ its {m} n = ap (record_in m) n.names ∙ n.at
 pub here : {m : Machine} {handle place : ℕ} {r : Tcp2Socket} {P : ℕ → Tcp2Socket → Type 0} → Names m handle place r → P place r → OfRecord m handle P
 here {place} {r} n h = record { place = place; found = r; names = n.names; at = n.at; holds = h }
 
-pub on_number : {B : Type 0} {Row : Rows B} (m : Machine) (handle : ℕ) (on : Option ℕ → Asks B) (call : ℕ → Option Tcp2Socket → Asks B) → ((place : ℕ) → on (Some place) ≡ call place (slice_get m.store.sockets place))
+pub on_number : {B : Type 0} {Row : Rows B} (m : Machine) (handle : ℕ) (on : Option ℕ → Asks B) (call : ℕ → Option Tcp2Socket → Asks B) → ((place : ℕ) → on (Some place) ≡ call place (tcp2_at m.store.records place))
     → (record_at m handle ≡ None → Meets Row [] (on None)) → (record_at m handle ≡ None → (place : ℕ) → Meets Row [] (call place None)) → ((place : ℕ) (r : Tcp2Socket) → Names m handle place r → Meets Row [] (call place (Some r)))
     → Meets Row [] (on (socket_at m handle))
 on_number {B} {Row} m handle on call calls none lost rows = by_number (socket_at m handle) refl
   where
-    by_place : (place : ℕ) (o : Option Tcp2Socket) → socket_at m handle ≡ Some place → slice_get m.store.sockets place ≡ o → Meets Row [] (call place o)
+    by_place : (place : ℕ) (o : Option Tcp2Socket) → socket_at m handle ≡ Some place → tcp2_at m.store.records place ≡ o → Meets Row [] (call place o)
     by_place place None names at = lost (ap (record_in m) names ∙ at) place
     by_place place (Some r) names at = rows place r (record { names = names; at = at })
 
     by_number : (o : Option ℕ) → socket_at m handle ≡ o → Meets Row [] (on o)
     by_number None names = none (ap (record_in m) names)
-    by_number (Some place) names = subst (Meets Row []) (sym (calls place)) (by_place place (slice_get m.store.sockets place) names refl)
+    by_number (Some place) names = subst (Meets Row []) (sym (calls place)) (by_place place (tcp2_at m.store.records place) names refl)
 
 -- a call on it, and what follows it
 pub through_record : {A B : Type 0} {Row : Rows B} (m : Machine) (handle : ℕ) (on : Option ℕ → Asks B) (call : ℕ → Option Tcp2Socket → Asks (Result A Stop × Records)) (next : ℕ → Result A Stop × Machine → Asks B)
-    → ((place : ℕ) → on (Some place) ≡ bind (call place (slice_get m.store.sockets place)) (λ done. next place (with_store m done))) → ((place : ℕ) → call place None ≡ Give (Err (Trap NoSuchHandle), m.store))
+    → ((place : ℕ) → on (Some place) ≡ bind (call place (tcp2_at m.store.records place)) (λ done. next place (with_store m done))) → ((place : ℕ) → call place None ≡ Give (Err (Trap NoSuchHandle), m.store))
     → (record_at m handle ≡ None → Meets Row [] (on None)) → (record_at m handle ≡ None → (place : ℕ) → Meets Row [] (next place (Err (Trap NoSuchHandle), m)))
     → ((place : ℕ) (r : Tcp2Socket) → Names m handle place r → Meets (λ es done. Meets Row es (next place (with_store m done))) [] (call place (Some r))) → Meets Row [] (on (socket_at m handle))
 through_record {A} {B} {Row} m handle on call next calls lost none missing rows =
@@ -75,14 +73,14 @@ through_record {A} {B} {Row} m handle on call next calls lost none missing rows 
 
 -- a call on it alone, which traps where the handle or its record isn't there
 pub on_record : {A : Type 0} {Row : Rows (Result A Stop × Machine)} (m : Machine) (handle : ℕ) (on : Option ℕ → Asks (Result A Stop × Machine)) (call : ℕ → Option Tcp2Socket → Asks (Result A Stop × Records))
-    → on None ≡ no_such_handle m → ((place : ℕ) → on (Some place) ≡ bind (call place (slice_get m.store.sockets place)) (λ done. Give (with_store m done))) → ((place : ℕ) → call place None ≡ Give (Err (Trap NoSuchHandle), m.store))
+    → on None ≡ no_such_handle m → ((place : ℕ) → on (Some place) ≡ bind (call place (tcp2_at m.store.records place)) (λ done. Give (with_store m done))) → ((place : ℕ) → call place None ≡ Give (Err (Trap NoSuchHandle), m.store))
     → (record_at m handle ≡ None → Row [] (Err (Trap NoSuchHandle), m)) → ((place : ℕ) (r : Tcp2Socket) → Names m handle place r → Meets (λ es done. Row es (with_store m done)) [] (call place (Some r))) → Meets Row [] (on (socket_at m handle))
 on_record {A} {Row} m handle on call gone calls lost missing rows =
     through_record m handle on call (λ place done. Give done) calls lost (λ none. subst (Meets Row []) (sym gone) (ends (missing none))) (λ none place. ends (missing none)) (λ place r n. widen (λ es done row. ends row) (rows place r n))
 
 -- one that begins an operation, which is refused while another is in progress
 pub on_idle : {A : Type 0} {Row : Rows (Result A Stop × Machine)} (m : Machine) (handle : ℕ) (on : Option ℕ → Asks (Result A Stop × Machine)) (call : ℕ → Option Tcp2Socket → Asks (Result A Stop × Records)) (by : ℕ → Tcp2Socket → Bool → Asks (Result A Stop × Records))
-    → on None ≡ no_such_handle m → ((place : ℕ) → on (Some place) ≡ bind (call place (slice_get m.store.sockets place)) (λ done. Give (with_store m done))) → ((place : ℕ) → call place None ≡ Give (Err (Trap NoSuchHandle), m.store))
+    → on None ≡ no_such_handle m → ((place : ℕ) → on (Some place) ≡ bind (call place (tcp2_at m.store.records place)) (λ done. Give (with_store m done))) → ((place : ℕ) → call place None ≡ Give (Err (Trap NoSuchHandle), m.store))
     → ((place : ℕ) (r : Tcp2Socket) → call place (Some r) ≡ by place r (is_nothing r.in_progress)) → ((place : ℕ) (r : Tcp2Socket) → by place r false ≡ Give (Err (Code p2.ConcurrencyConflict), m.store))
     → (record_at m handle ≡ None → Row [] (Err (Trap NoSuchHandle), m)) → ((place : ℕ) (r : Tcp2Socket) → Names m handle place r → is_nothing r.in_progress ≡ false → Row [] (Err (Code p2.ConcurrencyConflict), m))
     → ((place : ℕ) (r : Tcp2Socket) → Names m handle place r → is_nothing r.in_progress ≡ true → Meets (λ es done. Row es (with_store m done)) [] (by place r true)) → Meets Row [] (on (socket_at m handle))

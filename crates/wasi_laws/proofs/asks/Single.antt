@@ -6,12 +6,13 @@ use Rattle.wasi_tcp.specs.declared.listener.Accepting.TheVariants as accepting
 use Rattle.wasi_tcp.specs.declared.socket.TcpState.TheVariants as state
 use Rattle.wasi_walks.proofs.walks.Runs.{each_entry}
 use Rattle.wasi_walks.proofs.fits.Polls.{Anything}
-use Rattle.wasi_laws.proofs.Words.{Above, Accepts, Allows, Asks, Base, BaseBetween, Begins, Call, End, Entry, Err, ErrorCode, FitListening, Found, Handles, Held, Here, HoldsAccept, IpSocketAddress, IsAcceptOn, IsDoneOrCode, Item, Job, Kind, Law, Left, List, Listener, Machine, Made, Move, None, Not, Ok, OpId, Operation, Option, Over, Own, Reply, Result, Socket, SocketAddressFamily, Some, Spends, Starts, Step, Streams, Tcp2, Tcp2Socket, Told, Unused, Used, Walks, WasiSocketsCtx, WriteState, [], after_create, allows_if, allows_then, allows_weaker, ap, base_over, base_starts, bind, both, closed_record, created_asks, entry, first_base, first_state, job_after, length, machine_asks, machine_walks, made_so, make_asks, may_while, new_asks, new_socket, on_along, on_names, own_of, poll_asks, put, refl, run, side_at, side_in, side_of, slice_get, socket_of, subst, sym, told_addr, told_done, told_same, true, with_listening, with_record, with_writer, ℕ, ◌++◌, ◌+◌, ◌∙◌, ◌∷◌, ◌≡◌}
+use Rattle.wasi_laws.proofs.Words.{Above, Accepts, Allows, Asks, Base, BaseBetween, Begins, Call, End, Entry, Err, ErrorCode, FitListening, Found, Handles, Held, Here, HoldsAccept, IpSocketAddress, IsAcceptOn, IsDoneOrCode, Item, Job, Kind, Law, Left, List, Listener, Machine, Made, Move, None, Not, Ok, OpId, Operation, Option, Over, Own, Reply, Result, Socket, SocketAddressFamily, Some, Spends, Starts, Step, Streams, Tcp2, Tcp2Socket, Told, Unused, Used, Walks, WasiSocketsCtx, WriteState, [], after_create, allows_if, allows_then, allows_weaker, ap, base_over, base_starts, bind, both, closed_record, created_asks, entry, first_base, first_state, job_after, length, machine_asks, machine_walks, made_so, make_asks, may_while, new_asks, new_socket, on_along, on_names, own_of, poll_asks, put, refl, run, side_at, side_in, side_of, socket_of, subst, sym, told_addr, told_done, told_same, true, with_listening, with_record, with_writer, ℕ, ◌++◌, ◌+◌, ◌∙◌, ◌∷◌, ◌≡◌}
 use Rattle.wasi_laws.proofs.asks.Fronts.{is_calm, CalmOn, question_calm}
 use Rattle.wasi_laws.proofs.asks.Trees as tree
 use Rattle.wasi_laws.proofs.asks.Trees.{GoesOn, Undoes, Then, makes_by, turns_by, gives_up_by}
 use Rattle.wasi_laws.proofs.shapes.Shape.{ListenerShape, on_socket, Same}
 use Rattle.wasi_laws.proofs.shapes.Law.{Shaped, put_shape, moves_shape, polls_shape, turns_shape, created_shape}
+use Rattle.wasi_host.specs.Records.{tcp2_at}
 
 -- a close of this network socket leaves the record so
 pub data Closing (r : Tcp2Socket) : Tcp2Socket → OpId → Type 0 where
@@ -77,8 +78,8 @@ module _ (contexts : List WasiSocketsCtx) (line : ℕ) (origin : Step) where
     joins fs h ctx family (Err c) u k b = a.moves fs h _ (Spends h u) b k
     joins fs h ctx family (Ok socket) u k b =
         subst (λ (x : Socket). Allows P (λ gs done. Inv gs (record h { machine = done.1; own = Used })) fs (created_asks h.machine (own_of line) (Ok x))) (sym k.0)
-        (let now = creating h (own_of line) ctx family in allows_then P (λ gs made. Inv gs now) (λ gs done. Inv gs (record h { machine = done.1; own = Used })) fs (make_asks h.machine.table (own_of line) (Tcp2 (length h.machine.store.sockets)) None (Some (own_of line))) _
-        (marked fs now (Tcp2 (length h.machine.store.sockets)) None (Some (own_of line)) k.1) (λ gs made i. a.tables gs now made.1 h.made i))
+        (let now = creating h (own_of line) ctx family in allows_then P (λ gs made. Inv gs now) (λ gs done. Inv gs (record h { machine = done.1; own = Used })) fs (make_asks h.machine.table (own_of line) (Tcp2 (length h.machine.store.records)) None (Some (own_of line))) _
+        (marked fs now (Tcp2 (length h.machine.store.records)) None (Some (own_of line)) k.1) (λ gs made i. a.tables gs now made.1 h.made i))
 
     -- a listening that is released
     undoes : (es : List Entry) (h : Here) (place : ℕ) (r : Tcp2Socket) (op : OpId) (c : Call) → Found h place r → Undoes r.listening op c → Grounds h → Inv es h → Then P (λ fs. Inv fs (put h place (with_listening r Not))) es op c
@@ -108,11 +109,11 @@ module _ (contexts : List WasiSocketsCtx) (line : ℕ) (origin : Step) where
           (created_shape contexts line origin es h ctx family i.0);
       accepted = λ es h c listener place r is e o g b i.
           allows_weaker P (λ fs made. Inv fs h) (λ fs made. Shaped h × Inv fs (record h { machine = record h.machine { table = made.1 }; made = made_so place made.0 })) (λ fs made k. (i.0, a.tables fs h made.1 (made_so place made.0) k)) es _
-          (marked es h (Tcp2 place) (Some listener) (side_at (slice_get h.machine.store.sockets place)) i.1);
+          (marked es h (Tcp2 place) (Some listener) (side_at (tcp2_at h.machine.store.records place)) i.1);
       polls = λ es h op after k b i. both P Anything _ _ es _ (a.polls es h op after k (b, i.0) i.1) (polls_shape contexts line origin es h op after k i.0);
       turns = λ es h place r s g e b i. both P Anything _ _ es _ (turns_by P (λ fs w. Inv fs (put h place (with_writer r s w))) es s.writer (a.same es h place r (with_writer r s s.writer) g (record { side = refl; streams = sym e; listening = refl; does = refl; doing = refl }) i.1)
           (λ job now on. a.turns es h place r s job now g e on (b, i.0) i.1)) (turns_shape contexts line origin es h place r s g e i.0);
-      gives_up = λ es h place r g b i. let k = i.0 place r g in let now = put h place (with_listening r Not) in
+      gives_up = λ es h place r q g b i. let k = i.0 place r g in let now = put h place (with_listening r Not) in
           allows_weaker P (λ fs done. Inv fs now) (λ fs done. Shaped now × Inv fs now) (λ fs done m. (put_shape h place (with_listening r Not) (k.0, tt) i.0, m)) es _
           (gives_up_by P (λ fs. Inv fs now) es (a.stops es h place r g i.1) r.inner.state r.listening k.1 (λ op c u. undoes es h place r op c g u (b, i.0) i.1));
     }

@@ -7,13 +7,14 @@ use Rattle.wasi_tcp.specs.declared.listener.Accepting.TheVariants as accepting
 use Rattle.wasi_tcp.specs.declared.writer.WriteState.TheVariants as writing
 use Rattle.wasi_tcp.specs.declared.accept.AcceptStage.TheVariants as accept
 use Rattle.wasi_tcp.specs.declared.socket.TcpState.TheVariants as state
+use Rattle.wasi_host.specs.Records.{tcp2_put}
 use Rattle.wasi_host.specs.declared.binding.InProgress.TheVariants as progress
-use Rattle.wasi_laws.proofs.Words.{Accepting, Allows, Asks, Awaits, BeginsAccept, BeginsBind, BeginsConnect, BeginsListen, BeginsWrite, BindsOn, Bool, Call, Changes, ChecksFirst, Closes, ClosesReader, Collects, Connection, Connects, Done, End, Entry, Forgets, Found, Given, Held, Here, InProgress, IpSocketAddress, IsGone, Item, Job, Joins, KeepsBinding, Lasts, LastsAfter, Left, List, Listening, Listens, Machine, Move, OpId, Opens, Operation, Option, Own, Permits, Plain, Reconnects, Refused, Reply, Some, Spends, Starts, Step, Streams, Tcp2Socket, TcpState, ToWrite, Told, Unlistens, Unused, Used, Waits, WasiSocketsCtx, Write, WriteState, WriterMoves, Writes, [], accept_ended, accept_operation, accepting_now, allows_weaker, ap, arith, arrived, asked_by, beginning_listen, begun_bind, begun_listen, bind_progress, closed_by, connect_ended, connect_first, connect_left, connect_operation, entry, false, first_state, if◌then◌else◌, inl, inr, is_same, job_after, joined, joining, listen_after, nat_lt, new_accept, new_job, new_record, new_socket, next_of, own_of, poll_asks, put, refl, run, second_of, slice_set, subst, sym, then_closed, true, with_inner, with_progress, with_state, with_writer, written_by, ℕ, ◌++◌, ◌+◌, ◌∙◌, ◌∷◌, ◌≡◌, ◌≤◌}
+use Rattle.wasi_laws.proofs.Words.{Accepting, Allows, Asks, Awaits, BeginsAccept, BeginsBind, BeginsConnect, BeginsListen, BeginsWrite, BindsOn, Bool, Call, Changes, ChecksFirst, Closes, ClosesReader, Collects, Connection, Connects, Done, End, Entry, Forgets, Found, Given, Held, Here, InProgress, IpSocketAddress, IsGone, Item, Job, Joins, KeepsBinding, Lasts, LastsAfter, Left, List, Listening, Listens, Machine, Move, OpId, Opens, Operation, Option, Own, Permits, Plain, Reconnects, Refused, Reply, Some, Spends, Starts, Step, Streams, Tcp2Socket, TcpState, ToWrite, Told, Unlistens, Unused, Used, Waits, WasiSocketsCtx, Write, WriteState, WriterMoves, Writes, [], accept_ended, accept_operation, accepting_now, allows_weaker, ap, arith, arrived, asked_by, beginning_listen, begun_bind, begun_listen, bind_progress, closed_by, connect_ended, connect_first, connect_left, connect_operation, entry, false, first_state, if◌then◌else◌, inl, inr, is_same, job_after, joined, joining, listen_after, nat_lt, new_accept, new_job, new_record, new_socket, next_of, own_of, poll_asks, put, refl, run, second_of, subst, sym, then_closed, true, with_inner, with_progress, with_state, with_writer, written_by, ℕ, ◌++◌, ◌+◌, ◌∙◌, ◌∷◌, ◌≡◌, ◌≤◌}
 use Rattle.wasi_laws.proofs.asks.Single.{each_ask, Single, Closing, ClosesSocket, ClosesListen, ClosesArrived, creating}
 use Rattle.wasi_laws.proofs.asks.Trees.{GoesOn, InWriting, InClosing}
 use Rattle.wasi_laws.proofs.shapes.Shape.{same_side, Same}
 use Rattle.wasi_laws.proofs.order.Ordered.{Asked, gone_after, gone_along, gone_push, calm_may, asked_first, asked_one}
-use Rattle.wasi_laws.proofs.order.Weights.{checks_of, if_ours, op_weight, state_ops, accept_ops, listening_ops, writer_ops, streams_ops, progress_ops, total, half, record_weight, sockets_weight, half_sockets, sockets_push, beside, weight}
+use Rattle.wasi_laws.proofs.order.Weights.{checks_of, if_ours, op_weight, state_ops, accept_ops, listening_ops, writer_ops, streams_ops, progress_ops, total, half, record_weight, sockets_push, beside, weight}
 use Rattle.wasi_laws.proofs.order.Polls.{Within, poll_kept}
 
 -- 1 up to the line of this number: its operations may still begin
@@ -71,7 +72,7 @@ module _ (it : OpId) where
     less_room (ToWrite at bytes) = future_less it.step line
 
     put_kept : (es : List Entry) (h : Here) (place : ℕ) (r now : Tcp2Socket) → Found h place r → ((i : Bool) → record_weight ours now i ≤ record_weight ours r i) → Kept line es h → Kept line es (put h place now)
-    put_kept es h place r now g l k = let b = beside ours h.machine.store.sockets place r g in lighter es h (put h place now) (λ i. let p = l i in let x = b.was i in let y = b.now now i in omega (arith, p, x, y)) (omega arith) k
+    put_kept es h place r now g l k = let b = beside ours h.machine.store.records place r g in lighter es h (put h place now) (λ i. let p = l i in let x = b.was i in let y = b.now now i in omega (arith, p, x, y)) (omega arith) k
 
     -- the line's own operation begins
     begins : (es : List Entry) (h now : Here) (op : Operation) → next_of line h.own ≡ line → op.who.id.step ≡ line → checks_of op.left ≤ 1 → ((i : Bool) → weight ours now i ≤ weight ours h i + op_weight ours op.who.id op.left i) → Kept line es h → Within (λ i. 0) (room line Used) (gone_along ours 0 es) (weight ours now)
@@ -83,7 +84,7 @@ module _ (it : OpId) where
 
     put_begins : (es : List Entry) (h : Here) (place : ℕ) (r now : Tcp2Socket) (op : Operation) → Found h place r → next_of line h.own ≡ line → op.who.id.step ≡ line → checks_of op.left ≤ 1 → ((i : Bool) → record_weight ours now i ≤ record_weight ours r i + op_weight ours op.who.id op.left i) → Kept line es h → Kept line es (record (put h place now) { own = Used })
     put_begins es h place r now op g u s c l k =
-        let b = beside ours h.machine.store.sockets place r g in
+        let b = beside ours h.machine.store.records place r g in
         begins es h (put h place now) op u s c (λ i. let p = l i in let x = b.was i in let y = b.now now i in omega (arith, p, x, y)) k
 
     same_weight : (r now : Tcp2Socket) → Same r now → (i : Bool) → record_weight ours now i ≤ record_weight ours r i
@@ -165,12 +166,12 @@ module _ (it : OpId) where
       moves es _ _ (BeginsAccept h place r l at g e a own) k =
           let op = accept_operation (record { op = second_of line; side = l.side; maker = l.maker }) accept.Accept in
           put_begins es h place r (accepting_now r l (new_accept line l)) op g (ap (next_of line) own) refl (omega arith) (λ i. omega arith) k
-      moves es _ _ (Unlistens h place r op g e c o) k = put_kept es h place r _ g (λ i. omega arith) k
+      moves es _ _ (Unlistens h place r op q g e c o) k = put_kept es h place r _ g (λ i. omega arith) k
       moves es _ _ (Forgets h place r l c g e a) k = put_kept es h place r _ g (λ i. omega arith) k
       moves es _ _ (Joins h c handle place r l new peer is of u g e a) k =
           let idle : Tcp2Socket = accepting_now r l accepting.Idle in
           let m = put_kept es h place r idle g (λ i. omega arith) k in
-          lighter es (put h place idle) (joining h (slice_set h.machine.store.sockets place idle) (joined l new peer)) (λ i. let z = sockets_push ours (slice_set h.machine.store.sockets place idle) (joined l new peer) i in omega (arith, z)) (omega arith) m
+          lighter es (put h place idle) (joining h (tcp2_put h.machine.store.records place idle) (joined l new peer)) (λ i. let z = sockets_push ours (tcp2_put h.machine.store.records place idle) (joined l new peer) i in omega (arith, z)) (omega arith) m
       -- the others leave all that is looked at
       moves es _ _ _ k = k
 
@@ -189,7 +190,7 @@ module _ (it : OpId) where
         → ((ended : End × List Item) (i : Bool) → record_weight ours (now ended) i ≤ total ours a i + total ours b i + total ours c i + op_weight ours op.who.id ended.1 i) → Kept line es h
         → Allows (Asked ours) (λ fs ended. Kept line fs (put h place (now ended))) es (poll_asks op)
     polled es h place r op now a b c g was less k =
-        let e = beside ours h.machine.store.sockets place r g in
+        let e = beside ours h.machine.store.records place r g in
         held es h op (λ ended. put h place (now ended)) (λ i. e.others i + (total ours a i + total ours b i + total ours c i)) (let w = e.halved in let x = half ours a in let y = half ours b in let z = half ours c in omega (arith, w, x, y, z))
         (λ i. let x = e.was i in let y = was i in omega (arith, x, y)) (λ ended i. let x = e.now (now ended) i in let y = less ended i in omega (arith, x, y)) (λ ended. refl) k
 
@@ -240,7 +241,7 @@ module _ (it : OpId) where
       asks = λ es h op c calm on k. let m = calm_may ours (gone_along ours 0 es) op c calm in (m.0, λ told. after es h op c told m.1 k);
       creates = λ es h ctx family u b k.
           let now = creating h (own_of line) ctx family in
-          after es now (own_of line) (call.TcpCreate ctx.name family) told.Done refl (lighter es h now (λ i. let x = sockets_push ours h.machine.store.sockets (new_record (new_socket (own_of line) ctx.name family)) i in omega (arith, x)) (less_room h.own) k);
+          after es now (own_of line) (call.TcpCreate ctx.name family) told.Done refl (lighter es h now (λ i. let x = sockets_push ours h.machine.store.records (new_record (new_socket (own_of line) ctx.name family)) i in omega (arith, x)) (less_room h.own) k);
       closes = λ es h place r now op side g c b k. (tt, λ told. after es (put h place now) op (call.Close side) told refl (put_kept es h place r now g (closed_less_record r now side c) k));
       polls = λ es h op now x b k. polls es h op now x k;
       turns = λ es h place r s job now g e on b k.

@@ -2,10 +2,13 @@
 use Rattle.wasi_tcp.specs.declared.socket.TcpState.TheVariants as state
 use Rattle.wasi_tcp.specs.declared.listener.Accepting.TheVariants as accepting
 use Rattle.wasi_tcp.specs.declared.writer.WriteState.TheVariants as writing
+use Rattle.wasi_host.specs.Records.{tcp2_put, tcp2_at, tcp2_pushed}
+use Rattle.wasi_host.specs.declared.records.Record.{Record}
+use Rattle.wasi_host.specs.declared.records.Record.TheVariants as rec
 use Rattle.wasi_host.specs.declared.listening.Listening.TheVariants as listening
 use Rattle.wasi_host.specs.declared.binding.InProgress.{InProgress}
 use Rattle.wasi_host.specs.declared.binding.InProgress.TheVariants as progress
-use Rattle.wasi_laws.proofs.Words.{Accept, Accepting, Bind, Bool, Check, CheckArrival, CheckLocal, CheckPeer, Connect, Here, Item, List, Listen, Listening, None, OpId, Operation, Option, Receive, Refuse, Some, Streams, Tcp2Socket, TcpState, WriteState, [], ap, arith, false, slice_get, slice_set, suc, true, zero, ℕ, ◌++◌, ◌+◌, ◌∷◌, ◌≡◌, ◌≤◌}
+use Rattle.wasi_laws.proofs.Words.{Accept, Accepting, Bind, Bool, Check, CheckArrival, CheckLocal, CheckPeer, Connect, Here, Item, List, Listen, Listening, None, OpId, Operation, Option, Receive, Refuse, Some, Streams, Tcp2Socket, TcpState, WriteState, [], ap, arith, false, suc, true, zero, ℕ, ◌+◌, ◌∷◌, ◌≡◌, ◌≤◌}
 
 -- == the checks that are left
 -- what an item is to the checks of an operation: one, what they come before, or nothing
@@ -108,32 +111,35 @@ module _ (ours : OpId → Bool) where
   abbrev pub record_weight : Tcp2Socket → Bool → ℕ
   record_weight r i = total (state_ops r.inner.state) i + (total (listening_ops r.listening) i + (total (streams_ops r.streams) i + total (progress_ops r.in_progress) i))
 
-  abbrev pub sockets_weight : List Tcp2Socket → Bool → ℕ
+  abbrev pub weight_of : Record → Bool → ℕ
+  weight_of (rec.Tcp2 r) i = record_weight r i
+
+  abbrev pub sockets_weight : List Record → Bool → ℕ
   sockets_weight [] i = 0
-  sockets_weight (r ∷ rs) i = record_weight r i + sockets_weight rs i
+  sockets_weight (x ∷ rs) i = weight_of x i + sockets_weight rs i
 
-  pub half_sockets : (rs : List Tcp2Socket) → sockets_weight rs true ≤ sockets_weight rs false + sockets_weight rs false
+  pub half_sockets : (rs : List Record) → sockets_weight rs true ≤ sockets_weight rs false + sockets_weight rs false
   half_sockets [] = omega arith
-  half_sockets (r ∷ rs) = let a = half (state_ops r.inner.state) in let b = half (listening_ops r.listening) in let c = half (streams_ops r.streams) in let p = half (progress_ops r.in_progress) in let d = half_sockets rs in omega (arith, a, b, c, p, d)
+  half_sockets (rec.Tcp2 r ∷ rs) = let a = half (state_ops r.inner.state) in let b = half (listening_ops r.listening) in let c = half (streams_ops r.streams) in let p = half (progress_ops r.in_progress) in let d = half_sockets rs in omega (arith, a, b, c, p, d)
 
-  pub sockets_push : (rs : List Tcp2Socket) (r : Tcp2Socket) (i : Bool) → sockets_weight (rs ++ r ∷ []) i ≡ sockets_weight rs i + record_weight r i
+  pub sockets_push : (rs : List Record) (r : Tcp2Socket) (i : Bool) → sockets_weight (tcp2_pushed rs r) i ≡ sockets_weight rs i + record_weight r i
   sockets_push [] r i = omega arith
   sockets_push (x ∷ rs) r i = let k = sockets_push rs r i in omega (arith, k)
 
   -- The records but one, which weighs so much wherever it changes.
-  pub record Beside (rs : List Tcp2Socket) (place : ℕ) (r : Tcp2Socket) : Type 0 where
+  pub record Beside (rs : List Record) (place : ℕ) (r : Tcp2Socket) : Type 0 where
     pub others : Bool → ℕ
     pub halved : others true ≤ others false + others false
     pub was : (i : Bool) → sockets_weight rs i ≡ others i + record_weight r i
-    pub now : (q : Tcp2Socket) (i : Bool) → sockets_weight (slice_set rs place q) i ≡ others i + record_weight q i
+    pub now : (q : Tcp2Socket) (i : Bool) → sockets_weight (tcp2_put rs place q) i ≡ others i + record_weight q i
 
-  pub beside : (rs : List Tcp2Socket) (place : ℕ) (r : Tcp2Socket) → slice_get rs place ≡ Some r → Beside rs place r
+  pub beside : (rs : List Record) (place : ℕ) (r : Tcp2Socket) → tcp2_at rs place ≡ Some r → Beside rs place r
   beside [] place r g = absurd (cc)
-  beside (x ∷ rs) zero r g = record { others = sockets_weight rs; halved = half_sockets rs; was = λ i. (let e : x ≡ r = cc in let s : record_weight x i ≡ record_weight r i = ap (λ (y : Tcp2Socket). record_weight y i) e in omega (arith, s)); now = λ q i. omega arith }
+  beside (rec.Tcp2 x ∷ rs) zero r g = record { others = sockets_weight rs; halved = half_sockets rs; was = λ i. (let e : x ≡ r = cc in let s : record_weight x i ≡ record_weight r i = ap (λ (y : Tcp2Socket). record_weight y i) e in omega (arith, s)); now = λ q i. omega arith }
   beside (x ∷ rs) (suc place) r g =
       let k = beside rs place r g in
       record {
-        others = λ i. record_weight x i + k.others i;
+        others = λ i. weight_of x i + k.others i;
         halved = (let a = half_sockets (x ∷ []) in let h = k.halved in omega (arith, a, h));
         was = λ i. (let e = k.was i in omega (arith, e));
         now = λ q i. (let e = k.now q i in omega (arith, e));
@@ -141,4 +147,4 @@ module _ (ours : OpId → Bool) where
 
   -- what a line weighs
   abbrev pub weight : Here → Bool → ℕ
-  weight h i = sockets_weight h.machine.store.sockets i
+  weight h i = sockets_weight h.machine.store.records i

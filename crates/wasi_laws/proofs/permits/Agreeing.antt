@@ -2,8 +2,11 @@
 use Rattle.wasi_tcp.specs.declared.writer.WriteState.TheVariants as writing
 use Rattle.wasi_world.specs.declared.outcome.Answer.{Answer}
 use Rattle.wasi_world.specs.declared.outcome.Answer.TheVariants.{Ready, Pending}
-use Rattle.wasi_laws.proofs.Words.{◌≡◌, ◌⊎◌, inl, inr, ℕ, List, [], ◌∷◌, ◌++◌, Option, Some, None, sym, ap, subst, ◌∙◌, slice_set, slice_get, ◌<◌, Ok, Err, Result, refl, arith, ⊤, OpId, Item, End, Waits, Done, Refused, WriteState, IsFrontOf, bytes_left, Streams, Tcp2Socket, get_front, get_set, get_split, set_get, set_there, Entry, bind, told_ready, Write, StreamStop, Job, then_closed, written_by, closed_by, collected, look_in, look_asks, permitted, check_write_asks, Quiet, quiet_then, WriterMoves, Collects, Permits, Lasts, LastsAfter, Closes}
+use Rattle.wasi_laws.proofs.Words.{◌≡◌, ◌⊎◌, inl, inr, ℕ, List, [], ◌∷◌, ◌++◌, Option, Some, None, sym, ap, subst, ◌∙◌, ◌<◌, Ok, Err, Result, refl, arith, ⊤, OpId, Item, End, Waits, Done, Refused, WriteState, IsFrontOf, bytes_left, Streams, Tcp2Socket, get_set, get_split, set_get, set_there, Entry, bind, told_ready, Write, StreamStop, Job, then_closed, written_by, closed_by, collected, look_in, look_asks, permitted, check_write_asks, Quiet, quiet_then, WriterMoves, Collects, Permits, Lasts, LastsAfter, Closes}
 use Rattle.wasi_laws.proofs.shapes.Shape.{some_same, Lives}
+use Rattle.wasi_host.specs.Records.{tcp2_at, tcp2_put, tcp2_pushed}
+use Rattle.wasi_host.specs.declared.records.Record.{Record}
+use Rattle.wasi_walks.proofs.Lists.{tcp2_front}
 
 -- what was taken, with what a job is still to write, is what was permitted; after a code it is the front, of any length
 abbrev pub JobAgrees : List ℕ → List ℕ → List Item → End → Type 0
@@ -28,50 +31,50 @@ Agree taken permitted None = Untouched taken permitted
 Agree taken permitted (Some s) = Agrees taken permitted s.writer
 
 module _ (side : OpId) where
-  pub record MadeWith (sockets : List Tcp2Socket) : Type 0 where
+  pub record MadeWith (records : List Record) : Type 0 where
     pub place : ℕ
     pub was : Tcp2Socket
-    pub at : slice_get sockets place ≡ Some was
+    pub at : tcp2_at records place ≡ Some was
     pub of : was.side ≡ Some side
 
   -- What was taken is a prefix of what was permitted: nothing, until a record is made with the network socket, and then as that
   -- record says.
-  pub record Agreeing (taken permitted : List ℕ) (sockets : List Tcp2Socket) : Type 0 where
+  pub record Agreeing (taken permitted : List ℕ) (records : List Record) : Type 0 where
     pub front : IsFrontOf taken permitted
-    pub made : Untouched taken permitted ⊎ MadeWith sockets
-    pub lives : (i : ℕ) (r : Tcp2Socket) → slice_get sockets i ≡ Some r → Lives side r → Agree taken permitted r.streams
+    pub made : Untouched taken permitted ⊎ MadeWith records
+    pub lives : (i : ℕ) (r : Tcp2Socket) → tcp2_at records i ≡ Some r → Lives side r → Agree taken permitted r.streams
 
-  module _ (sockets : List Tcp2Socket) (place : ℕ) (old now : Tcp2Socket) (g : slice_get sockets place ≡ Some old) (s : now.side ≡ old.side) where
-    made_put : MadeWith sockets → MadeWith (slice_set sockets place now)
-    made_put m = elim (set_get sockets place now m.place m.was m.at) [
+  module _ (records : List Record) (place : ℕ) (old now : Tcp2Socket) (g : tcp2_at records place ≡ Some old) (s : now.side ≡ old.side) where
+    made_put : MadeWith records → MadeWith (tcp2_put records place now)
+    made_put m = elim (set_get records place now m.place m.was m.at) [
       | inl e ↦ record { place = m.place; was = m.was; at = e; of = m.of }
-      | inr e ↦ record { place = m.place; was = now; at = e.1; of = s ∙ (ap (λ (r : Tcp2Socket). r.side) (some_same old m.was (sym g ∙ (ap (slice_get sockets) (sym e.0) ∙ m.at))) ∙ m.of) }
+      | inr e ↦ record { place = m.place; was = now; at = e.1; of = s ∙ (ap (λ (r : Tcp2Socket). r.side) (some_same old m.was (sym g ∙ (ap (tcp2_at records) (sym e.0) ∙ m.at))) ∙ m.of) }
     ]
 
-    pub agrees_put : (taken permitted : List ℕ) → (Lives side now → Agree taken permitted now.streams) → Agreeing taken permitted sockets → Agreeing taken permitted (slice_set sockets place now)
+    pub agrees_put : (taken permitted : List ℕ) → (Lives side now → Agree taken permitted now.streams) → Agreeing taken permitted records → Agreeing taken permitted (tcp2_put records place now)
     agrees_put taken permitted f h = record {
       front = h.front;
       made = elim h.made [ inl u ↦ inl u | inr m ↦ inr (made_put m) ];
-      lives = λ i r e. elim (get_set sockets place now i r e) [ inl p ↦ subst (λ (x : Tcp2Socket). Lives side x → Agree taken permitted x.streams) p.1 f | inr p ↦ h.lives i r p ];
+      lives = λ i r e. elim (get_set records place now i r e) [ inl p ↦ subst (λ (x : Tcp2Socket). Lives side x → Agree taken permitted x.streams) p.1 f | inr p ↦ h.lives i r p ];
     }
 
     -- the record of the network socket changes, and with it what was taken and permitted
-    pub agrees_moved : (taken permitted more bytes : List ℕ) → now.side ≡ Some side → ((i : ℕ) (r : Tcp2Socket) → slice_get sockets i ≡ Some r → r.side ≡ Some side → i ≡ place) → IsFrontOf more bytes → Agree more bytes now.streams → Agreeing taken permitted sockets → Agreeing more bytes (slice_set sockets place now)
+    pub agrees_moved : (taken permitted more bytes : List ℕ) → now.side ≡ Some side → ((i : ℕ) (r : Tcp2Socket) → tcp2_at records i ≡ Some r → r.side ≡ Some side → i ≡ place) → IsFrontOf more bytes → Agree more bytes now.streams → Agreeing taken permitted records → Agreeing more bytes (tcp2_put records place now)
     agrees_moved taken permitted more bytes its one front f h = record {
       front = front;
       made = inr (made_put (record { place = place; was = old; at = g; of = sym s ∙ its }));
-      lives = λ i r e l. elim (get_set sockets place now i r e) [
+      lives = λ i r e l. elim (get_set records place now i r e) [
         | inl p ↦ subst (λ (x : Tcp2Socket). Agree more bytes x.streams) p.1 f
-        | inr p ↦ (let at = ap (slice_get (slice_set sockets place now)) (one i r p l.0) ∙ set_there sockets place old now g in subst (λ (x : Tcp2Socket). Agree more bytes x.streams) (some_same now r (sym at ∙ e)) f)
+        | inr p ↦ (let at = ap (tcp2_at (tcp2_put records place now)) (one i r p l.0) ∙ set_there records place old now g in subst (λ (x : Tcp2Socket). Agree more bytes x.streams) (some_same now r (sym at ∙ e)) f)
       ];
     }
 
   -- a record more: where it is of the network socket, no other is
-  pub agrees_push : (taken permitted : List ℕ) (sockets : List Tcp2Socket) (now : Tcp2Socket) → (now.side ≡ Some side → (i : ℕ) (r : Tcp2Socket) → slice_get sockets i ≡ Some r → r.side ≡ Some side → ⊥) → (Untouched taken permitted → Agree taken permitted now.streams) → Agreeing taken permitted sockets → Agreeing taken permitted (sockets ++ now ∷ [])
-  agrees_push taken permitted sockets now fresh f h = record {
+  pub agrees_push : (taken permitted : List ℕ) (records : List Record) (now : Tcp2Socket) → (now.side ≡ Some side → (i : ℕ) (r : Tcp2Socket) → tcp2_at records i ≡ Some r → r.side ≡ Some side → ⊥) → (Untouched taken permitted → Agree taken permitted now.streams) → Agreeing taken permitted records → Agreeing taken permitted (tcp2_pushed records now)
+  agrees_push taken permitted records now fresh f h = record {
     front = h.front;
-    made = elim h.made [ inl u ↦ inl u | inr m ↦ inr (record { place = m.place; was = m.was; at = get_front sockets (now ∷ []) m.place m.was m.at; of = m.of }) ];
-    lives = λ i r e l. elim (get_split sockets now i r e) [ inl p ↦ h.lives i r p l | inr p ↦ subst (λ (x : Tcp2Socket). Agree taken permitted x.streams) p (f (elim h.made [ inl u ↦ u | inr m ↦ absurd (fresh (ap (λ (x : Tcp2Socket). x.side) p ∙ l.0) m.place m.was m.at m.of) ])) ];
+    made = elim h.made [ inl u ↦ inl u | inr m ↦ inr (record { place = m.place; was = m.was; at = tcp2_front records now m.place m.was m.at; of = m.of }) ];
+    lives = λ i r e l. elim (get_split records now i r e) [ inl p ↦ h.lives i r p l | inr p ↦ subst (λ (x : Tcp2Socket). Agree taken permitted x.streams) p (f (elim h.made [ inl u ↦ u | inr m ↦ absurd (fresh (ap (λ (x : Tcp2Socket). x.side) p ∙ l.0) m.place m.was m.at m.of) ])) ];
   }
 
 module _ (taken bytes : List ℕ) where

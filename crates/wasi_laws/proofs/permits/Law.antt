@@ -11,7 +11,7 @@ use Rattle.wasi_tcp.specs.Connect as connect
 use Rattle.wasi_tcp.specs.Listen as listen
 use Rattle.wasi_walks.specs.Waiting.{IsLeftOfBind}
 use Rattle.wasi_walks.specs.Waiting as binding
-use Rattle.wasi_laws.proofs.Words.{Allows, ArePlain, Asks, Awaits, Begins, BeginsAccept, BeginsBind, BeginsConnect, BeginsListen, BeginsWrite, BindsOn, Bool, Call, Changes, ClosesReader, Connects, Done, End, Entry, Fit, FitListening, FitProgress, Forgets, Found, Held, Here, HoldsAccept, HoldsConnect, IsAcceptOn, IsConnect, IsFrontOf, IsGone, IsLeftOfConnect, IsLeftOfListen, IsListen, Item, Job, Joins, List, Listens, Move, Named, NoWrite, None, Not, OpId, Opens, Operation, Option, Own, Quiet, Reconnects, Refused, SocketAddressFamily, Some, Spends, Step, Streams, Tcp2Socket, TcpState, ToWrite, Told, Unlistens, Unused, Used, Waits, WasiSocketsCtx, WriteState, Writes, [], accept_ended, accept_name, accept_plain, accepting_now, allows_keep, allows_weaker, ap, append-nil, append_assoc, bytes_left, closed_record, connect_ended, entry, false, fresh, if◌then◌else◌, inl, inr, is_same, job_after, joined, name_in, new_accept, new_job, new_record, new_socket, none_taken, opened_by, own_of, plain_poll, poll_asks, put, refl, rules, side_in, side_of, slice_set, subst, sym, taken_fresh, taken_in, true, with_inner, with_listening, with_reader, with_state, with_writer, ℕ, ⊤, ◌++◌, ◌∙◌, ◌∷◌, ◌≡◌}
+use Rattle.wasi_laws.proofs.Words.{Allows, ArePlain, Asks, Awaits, Begins, BeginsAccept, BeginsBind, BeginsConnect, BeginsListen, BeginsWrite, BindsOn, Bool, Call, Changes, ClosesReader, Connects, Done, End, Entry, Fit, FitListening, FitProgress, Forgets, Found, Held, Here, HoldsAccept, HoldsConnect, IsAcceptOn, IsConnect, IsFrontOf, IsGone, IsLeftOfConnect, IsLeftOfListen, IsListen, Item, Job, Joins, List, Listens, Move, Named, NoWrite, None, Not, OpId, Opens, Operation, Option, Own, Quiet, Reconnects, Refused, SocketAddressFamily, Some, Spends, Step, Streams, Tcp2Socket, TcpState, ToWrite, Told, Unlistens, Unused, Used, Waits, WasiSocketsCtx, WriteState, Writes, [], accept_ended, accept_name, accept_plain, accepting_now, allows_keep, allows_weaker, ap, append-nil, append_assoc, bytes_left, closed_record, connect_ended, entry, false, fresh, if◌then◌else◌, inl, inr, is_same, job_after, joined, name_in, new_accept, new_job, new_record, new_socket, none_taken, opened_by, own_of, plain_poll, poll_asks, put, refl, rules, side_in, side_of, subst, sym, taken_fresh, taken_in, true, with_inner, with_listening, with_reader, with_state, with_writer, ℕ, ⊤, ◌++◌, ◌∙◌, ◌∷◌, ◌≡◌}
 use Rattle.wasi_laws.proofs.asks.Fronts.{unwritten, polls_by}
 use Rattle.wasi_laws.proofs.asks.Single.{Single, Grounds, Closing, ClosesSocket, ClosesListen, ClosesArrived, creating}
 use Rattle.wasi_laws.proofs.asks.Trees.{GoesOn, InWriting, InClosing}
@@ -19,6 +19,8 @@ use Rattle.wasi_laws.proofs.shapes.Shape.{same_side, not_same, some_same, Writer
 use Rattle.wasi_laws.proofs.shapes.Law.{job_of}
 use Rattle.wasi_laws.proofs.permits.Agreeing.{JobAgrees, Agrees, Agree, Agreeing, agrees_put, agrees_moved, agrees_push, writer_agrees}
 use Rattle.wasi_laws.proofs.permits.Taken.{After, write_law, taken_push, Fronts, quiet_keep, Accounts}
+use Rattle.wasi_host.specs.Records.{tcp2_put}
+use Rattle.wasi_host.specs.declared.records.Record.{Record}
 
 -- == what is in progress besides a write writes nothing
 bind_plain : (items : List Item) → IsLeftOfBind items → ArePlain items
@@ -64,13 +66,13 @@ module _ (side : OpId) (given : List ℕ) where
   Owes _ held = held ≡ given
 
   -- What was let write, and that the records are so.
-  pub record Permitted (es : List Entry) (sockets : List Tcp2Socket) (own : Own) : Type 0 where
+  pub record Permitted (es : List Entry) (records : List Record) (own : Own) : Type 0 where
     pub held : List ℕ
-    pub stands : Agreeing side (taken_in side es) held sockets
+    pub stands : Agreeing side (taken_in side es) held records
     pub owes : Owes own held
 
   abbrev pub Kept : List Entry → Here → Type 0
-  Kept es h = Permitted es h.machine.store.sockets h.own
+  Kept es h = Permitted es h.machine.store.records h.own
 
   front_on : (taken held more : List ℕ) → IsFrontOf taken held → given ≡ held ++ more → IsFrontOf taken given
   front_on taken held more f e = (f.0 ++ more, sym (append_assoc taken f.0 more) ∙ (ap (λ (t : List ℕ). t ++ more) f.1 ∙ sym e))
@@ -85,14 +87,14 @@ module _ (side : OpId) (given : List ℕ) where
 
   -- so much was taken by now
   took : (es fs : List Entry) (h : Here) → taken_in side fs ≡ taken_in side es → Kept es h → Kept fs h
-  took es fs h e k = record { held = k.held; stands = subst (λ (t : List ℕ). Agreeing side t k.held h.machine.store.sockets) (sym e) k.stands; owes = k.owes }
+  took es fs h e k = record { held = k.held; stands = subst (λ (t : List ℕ). Agreeing side t k.held h.machine.store.records) (sym e) k.stands; owes = k.owes }
 
   asked : (es : List Entry) (h : Here) (op : OpId) (c : Call) (told : Told) → NoWrite c → Kept es h → Kept (es ++ entry op c told ∷ []) h
   asked es h op c told n k = took es (es ++ entry op c told ∷ []) h (taken_push side es (entry op c told) (none_taken side c told n)) k
 
   -- a record changes, and agrees where its network socket is alive
   put_kept : (es : List Entry) (h : Here) (place : ℕ) (r now : Tcp2Socket) → Found h place r → Follows r now → ((held : List ℕ) → Lives side now → Agree (taken_in side es) held r.streams → Agree (taken_in side es) held now.streams) → Kept es h → Kept es (put h place now)
-  put_kept es h place r now g f a k = record { held = k.held; stands = agrees_put side h.machine.store.sockets place r now g f.side (taken_in side es) k.held (λ v. a k.held v (k.stands.lives place r g (f.lives side v))) k.stands; owes = k.owes }
+  put_kept es h place r now g f a k = record { held = k.held; stands = agrees_put side h.machine.store.records place r now g f.side (taken_in side es) k.held (λ v. a k.held v (k.stands.lives place r g (f.lives side v))) k.stands; owes = k.owes }
 
   -- and its streams are as they were
   put_same : (es : List Entry) (h : Here) (place : ℕ) (r now : Tcp2Socket) → Found h place r → Follows r now → now.streams ≡ r.streams → Kept es h → Kept es (put h place now)
@@ -102,8 +104,8 @@ module _ (side : OpId) (given : List ℕ) where
   put_gone : (es : List Entry) (h : Here) (place : ℕ) (r now : Tcp2Socket) → Found h place r → now.side ≡ r.side → side_of now.inner ≡ None → (IsBegun now.listening → ⊥) → Kept es h → Kept es (put h place now)
   put_gone es h place r now g s d n k = put_kept es h place r now g (follows_gone r now s d n) (λ held v a. absurd (gone_lacks now d n side v)) k
 
-  spends : (es : List Entry) (sockets : List Tcp2Socket) (own : Own) → own ≡ Unused → Permitted es sockets own → Permitted es sockets Used
-  spends es sockets own u k = record { held = k.held; stands = k.stands; owes = subst (λ (o : Own). Owes o k.held) u k.owes }
+  spends : (es : List Entry) (records : List Record) (own : Own) → own ≡ Unused → Permitted es records own → Permitted es records Used
+  spends es records own u k = record { held = k.held; stands = k.stands; owes = subst (λ (o : Own). Owes o k.held) u k.owes }
 
   module _ (line : ℕ) where
     -- a write begins: its network socket is the connection's
@@ -120,14 +122,14 @@ module _ (side : OpId) (given : List ℕ) where
       all_taken : half.side ≡ side → taken_in side es ≡ k.held
       all_taken ours = let o = ap (λ (x : OpId). Some x) ours in subst (Agrees (taken_in side es) k.held) w (subst (Agree (taken_in side es) k.held) e (k.stands.lives place r g (its_made ∙ o, inl (its_side ∙ o))))
 
-      begins : (b : Bool) → is_same half.side side ≡ b → (let more : List ℕ = if b then bytes else [] in given ≡ k.held ++ more) → Agreeing side (taken_in side es) given (slice_set h.machine.store.sockets place begun)
+      begins : (b : Bool) → is_same half.side side ≡ b → (let more : List ℕ = if b then bytes else [] in given ≡ k.held ++ more) → Agreeing side (taken_in side es) given (tcp2_put h.machine.store.records place begun)
       begins true b o =
           let is = same_side half.side side b in let m : r.side ≡ Some side = its_made ∙ ap (λ (x : OpId). Some x) is in
-          agrees_moved side h.machine.store.sockets place r begun g refl (taken_in side es) k.held (taken_in side es) given m (λ i q e v. n.one side i place q r e g (inl v) (inl m)) (front_on (taken_in side es) k.held bytes k.stands.front o)
+          agrees_moved side h.machine.store.records place r begun g refl (taken_in side es) k.held (taken_in side es) given m (λ i q e v. n.one side i place q r e g (inl v) (inl m)) (front_on (taken_in side es) k.held bytes k.stands.front o)
           (ap (λ (t : List ℕ). t ++ bytes) (all_taken is) ∙ sym o) k.stands
       begins false b o =
-          subst (λ (q : List ℕ). Agreeing side (taken_in side es) q (slice_set h.machine.store.sockets place begun)) (sym (append-nil k.held) ∙ sym o)
-          (agrees_put side h.machine.store.sockets place r begun g refl (taken_in side es) k.held (λ v. absurd (not_same half.side side (some_same half.side side (sym its_made ∙ v.0)) b)) k.stands)
+          subst (λ (q : List ℕ). Agreeing side (taken_in side es) q (tcp2_put h.machine.store.records place begun)) (sym (append-nil k.held) ∙ sym o)
+          (agrees_put side h.machine.store.records place r begun g refl (taken_in side es) k.held (λ v. absurd (not_same half.side side (some_same half.side side (sym its_made ∙ v.0)) b)) k.stands)
 
     -- where the streams are made nothing was taken
     opens_agree : (es : List Entry) (held : List ℕ) (c : Connection) (o : Option Streams) → c.send_taken ≡ false → StreamsShape (state.Connected c) o → Agree (taken_in side es) held o → taken_in side es ≡ held
@@ -151,14 +153,14 @@ module _ (side : OpId) (given : List ℕ) where
           record { held = given; stands = begins es h place r s half permit bytes g e w (subst (StreamsShape r.inner.state) e (b.1 place r g).0) b.0.1 k (is_same half.side side) refl (subst (λ (x : Own). Owes x k.held) o k.owes); owes = refl }
       moves es _ _ (BeginsListen h place r x p g d bound none to idle o) b k = spends es _ h.own o (put_same es h place r _ g (follows_begun line h place r x g d b.0.1) refl k)
       moves es _ _ (BeginsAccept h place r l p g e a o) b k = spends es _ h.own o (put_same es h place r _ g (follows_quiet r (accepting_now r l (new_accept line l)) refl refl (λ b. b)) refl k)
-      moves es _ _ (Unlistens h place r op g e c o) b k = put_same es h place r _ g (follows_quiet r _ refl refl (λ b. b)) refl k
+      moves es _ _ (Unlistens h place r op q g e c o) b k = put_same es h place r _ g (follows_quiet r _ refl refl (λ b. b)) refl k
       moves es _ _ (Forgets h place r l c g e a) b k = put_same es h place r _ g (follows_quiet r (accepting_now r l accepting.Idle) refl refl (λ b. b)) refl k
       moves es _ _ (Joins h c handle place r l new peer is of u g e a) b k =
           let idle = accepting_now r l accepting.Idle in
           let i = put_same es h place r idle g (follows_quiet r idle refl refl (λ b. b)) refl k in
           record {
             held = i.held;
-            stands = agrees_push side (taken_in side es) i.held (slice_set h.machine.store.sockets place idle) (joined l new peer) (λ q j x d v. taken_fresh contexts line origin h place r idle new g (ap accept_name e ∙ ap name_in a) refl refl b.0.1 j x d (inl (v ∙ sym q))) (λ t. t.0 ∙ sym t.1) i.stands;
+            stands = agrees_push side (taken_in side es) i.held (tcp2_put h.machine.store.records place idle) (joined l new peer) (λ q j x d v. taken_fresh contexts line origin h place r idle new g (ap accept_name e ∙ ap name_in a) refl refl b.0.1 j x d (inl (v ∙ sym q))) (λ t. t.0 ∙ sym t.1) i.stands;
             owes = i.owes;
           }
       -- the others leave all that is looked at
@@ -194,13 +196,13 @@ module _ (side : OpId) (given : List ℕ) where
           (allows_keep (Fronts side k.held) (Fronts side given) (λ fs. ⊤) (After side k.held (taken_in side es) job.write.who) (λ fs op c t f x m. tt) (λ fs op c m. front_by (taken_in side fs) k.held h.own k.owes m) es (poll_asks job.write) tt
           (polls_by (write_law side k.held (taken_in side es) job.write.who) job.write.left es (j.left, begun)))
         where
-          turned : (fs : List Entry) (ended : End × List Item) (ours : Bool) → is_same job.write.who.side side ≡ ours → r.side ≡ Some job.write.who.side → After side k.held (taken_in side es) job.write.who fs ended → Agreeing side (taken_in side fs) k.held (slice_set h.machine.store.sockets place (with_writer r s (now (job_after job.write.who ended))))
+          turned : (fs : List Entry) (ended : End × List Item) (ours : Bool) → is_same job.write.who.side side ≡ ours → r.side ≡ Some job.write.who.side → After side k.held (taken_in side es) job.write.who fs ended → Agreeing side (taken_in side fs) k.held (tcp2_put h.machine.store.records place (with_writer r s (now (job_after job.write.who ended))))
           turned fs ended true b its x =
               let is = same_side job.write.who.side side b in let m : r.side ≡ Some side = its ∙ ap (λ (y : OpId). Some y) is in
-              agrees_moved side h.machine.store.sockets place r _ g refl (taken_in side es) k.held (taken_in side fs) k.held m (λ j q d v. n.one side j place q r d g (inl v) (inl m)) x.front (agrees_now w job now on (taken_in side fs) k.held ended (x.ours is)) k.stands
+              agrees_moved side h.machine.store.records place r _ g refl (taken_in side es) k.held (taken_in side fs) k.held m (λ j q d v. n.one side j place q r d g (inl v) (inl m)) x.front (agrees_now w job now on (taken_in side fs) k.held ended (x.ours is)) k.stands
           turned fs ended false b its x =
-              subst (λ (t : List ℕ). Agreeing side t k.held (slice_set h.machine.store.sockets place (with_writer r s (now (job_after job.write.who ended))))) (sym (x.theirs b))
-              (agrees_put side h.machine.store.sockets place r _ g refl (taken_in side es) k.held (λ v. absurd (not_same job.write.who.side side (some_same job.write.who.side side (sym its ∙ v.0)) b)) k.stands)
+              subst (λ (t : List ℕ). Agreeing side t k.held (tcp2_put h.machine.store.records place (with_writer r s (now (job_after job.write.who ended))))) (sym (x.theirs b))
+              (agrees_put side h.machine.store.records place r _ g refl (taken_in side es) k.held (λ v. absurd (not_same job.write.who.side side (some_same job.write.who.side side (sym its ∙ v.0)) b)) k.stands)
 
       -- a socket that is created is of the line's own name
       created : (es : List Entry) (h : Here) (ctx : WasiSocketsCtx) (family : SocketAddressFamily) → h.own ≡ Unused → Named line h → Kept es h → Kept (es ++ entry (own_of line) (call.TcpCreate ctx.name family) told.Done ∷ []) (creating h (own_of line) ctx family)
@@ -208,7 +210,7 @@ module _ (side : OpId) (given : List ℕ) where
           let k = asked es h (own_of line) (call.TcpCreate ctx.name family) told.Done tt i in
           spends _ _ h.own u (record {
             held = k.held;
-            stands = agrees_push side _ k.held h.machine.store.sockets (new_record (new_socket (own_of line) ctx.name family)) (λ q p x d v. fresh contexts line origin h u n side (ap (λ (x : OpId). x.step) (sym (some_same (own_of line) side q))) p x d (inl v)) (λ t. t) k.stands;
+            stands = agrees_push side _ k.held h.machine.store.records (new_record (new_socket (own_of line) ctx.name family)) (λ q p x d v. fresh contexts line origin h u n side (ap (λ (x : OpId). x.step) (sym (some_same (own_of line) side q))) p x d (inl v)) (λ t. t) k.stands;
             owes = k.owes;
           })
 

@@ -1,13 +1,14 @@
 -- Along a run what a network socket took is a prefix of what was permitted; and where a check-write answers a permit,
 -- all of it.
 use Rattle.wasi_streams.specs.StreamStop as stop
+use Rattle.wasi_host.specs.Records.{tcp2_at}
 use Rattle.wasi_host.specs.Host.{CallStop, Failed, Closed, Traps}
 use Rattle.wasi_host.specs.StreamCalls.{convert_asks, converted, stream_on, check_asks}
 use Rattle.wasi_steps.specs.declared.reply.Reply.TheVariants as reply
 use Rattle.wasi_steps.specs.declared.step.Step.TheVariants as step
 use Rattle.wasi_tcp.specs.declared.writer.WriteState.TheVariants as writing
 use Rattle.wasi_walks.proofs.walks.Writes.{may_begin, may_of, may_in, may_at, may, let_write}
-use Rattle.wasi_laws.proofs.Words.{◌≡◌, ℕ, ◌<◌, List, [], ◌++◌, Option, Some, None, Ok, Err, Result, slice_get, refl, sym, ap, subst, ◌∙◌, append-nil, inl, suc, ◌+◌, nat_lt, Bool, true, false, if◌then◌else◌, ◌∷◌, length, arith, append_assoc, ⊤, IsSomeAnd, OpId, Entry, WasiSocketsCtx, Give, bind, Left, reached, StreamStop, is_full, side_of, side_in, WriteState, writer_side, check_write_asks, taken_in, ErrorValue, make_asks, Machine, Streams, Tcp2Socket, Standing, writer_of, writer_asks, stream_at, with_store, output_at, own_of, side_at, Reply, number_fields, permit_reply, machine_asks, asks_while, record_in, Answered, writer_in, writer_of_record, WritesTo, Quiet, quiet_then, quiet_if, Named, Unused, Starts, Over, Asks, is_same, Allows, allows_weaker, holds, IsFrontOf, first_state, let_begin, permitted_in, permitted_by, Did, Then, Step, Own, Used, ToWrite, may_while, machine_walks, BaseBetween, first_base, base_starts, base_over}
+use Rattle.wasi_laws.proofs.Words.{◌≡◌, ℕ, ◌<◌, List, [], ◌++◌, Option, Some, None, Ok, Err, Result, refl, sym, ap, subst, ◌∙◌, append-nil, inl, suc, ◌+◌, nat_lt, Bool, true, false, if◌then◌else◌, ◌∷◌, length, arith, append_assoc, ⊤, IsSomeAnd, OpId, Entry, WasiSocketsCtx, Give, bind, Left, reached, StreamStop, is_full, side_of, side_in, WriteState, writer_side, check_write_asks, taken_in, ErrorValue, make_asks, Machine, Streams, Tcp2Socket, Standing, writer_of, writer_asks, stream_at, with_store, output_at, own_of, side_at, Reply, number_fields, permit_reply, machine_asks, asks_while, record_in, Answered, writer_in, writer_of_record, WritesTo, Quiet, quiet_then, quiet_if, Named, Unused, Starts, Over, Asks, is_same, Allows, allows_weaker, holds, IsFrontOf, first_state, let_begin, permitted_in, permitted_by, Did, Then, Step, Own, Used, ToWrite, may_while, machine_walks, BaseBetween, first_base, base_starts, base_over}
 use Rattle.wasi_laws.proofs.shapes.Shape.{HasStreams, StreamsShape, of_writer}
 use Rattle.wasi_laws.proofs.shapes.Law.{Shaped}
 use Rattle.wasi_laws.proofs.permits.Agreeing.{Agree, Agreeing, SaysAll, quiet_check}
@@ -16,7 +17,7 @@ use Rattle.wasi_laws.specs.Permitted.{Nothing}
 use Rattle.wasi_laws.proofs.asks.Single.{single_along}
 use Rattle.wasi_laws.proofs.permits.Law.{Owes, permits}
 
-module _ (side : OpId) (taken permitted : List ℕ) (m : Machine) (own : OpId) (output : ℕ) (line : ℕ) (h : Agreeing side taken permitted m.store.sockets) (shaped : Shaped (Over m)) (named : Named line (Starts m Unused)) where
+module _ (side : OpId) (taken permitted : List ℕ) (m : Machine) (own : OpId) (output : ℕ) (line : ℕ) (h : Agreeing side taken permitted m.store.records) (shaped : Shaped (Over m)) (named : Named line (Starts m Unused)) where
   -- the writer of the output writes to the network socket
   abbrev Writes : Option WriteState → Type 0
   Writes found = IsSomeAnd found (λ w. writer_side w ≡ Some side)
@@ -28,12 +29,12 @@ module _ (side : OpId) (taken permitted : List ℕ) (m : Machine) (own : OpId) (
   Tells (Ok n, now) = 0 < n → taken ≡ permitted
   Tells (Err stop, now) = ⊤
 
-  marks : (es : List Entry) (now : Machine) (place : ℕ) → Quiet (λ made. ⊤) es (make_asks now.table own ErrorValue (Some output) (side_at (slice_get now.store.sockets place)))
+  marks : (es : List Entry) (now : Machine) (place : ℕ) → Quiet (λ made. ⊤) es (make_asks now.table own ErrorValue (Some output) (side_at (tcp2_at now.store.records place)))
   unfolding bind
   marks es now place = quiet_if (λ made. ⊤) es (is_full now.table) _ _ (λ full. tt) (λ room. (tt, λ told fits. tt))
 
   converts : (es : List Entry) (now : Machine) (place : ℕ) (why : StreamStop) → Quiet (λ c. ⊤) es (convert_asks now own output place why)
-  converts es now place (stop.Failed c) = quiet_then (λ made. ⊤) (λ c. ⊤) es (make_asks now.table own ErrorValue (Some output) (side_at (slice_get now.store.sockets place))) _ (marks es now place) (λ fs made k. tt)
+  converts es now place (stop.Failed c) = quiet_then (λ made. ⊤) (λ c. ⊤) es (make_asks now.table own ErrorValue (Some output) (side_at (tcp2_at now.store.records place))) _ (marks es now place) (λ fs made k. tt)
   converts es now place _ = tt
 
   tells : (es : List Entry) (place : ℕ) (done : Result ℕ StreamStop × Machine) → Says done → Quiet Tells es (converted own output place done)
@@ -41,21 +42,21 @@ module _ (side : OpId) (taken permitted : List ℕ) (m : Machine) (own : OpId) (
   tells es place (Err why, now) k =
       quiet_then (λ c. ⊤) Tells es (convert_asks now own output place why) _ (converts es now place why) (λ fs c q. tt)
 
-  says_of : (place : ℕ) (r : Tcp2Socket) (o : Option Streams) → slice_get m.store.sockets place ≡ Some r → r.streams ≡ o → Writes (writer_in o) → Quiet Says [] (writer_of r (check_write_asks own) o)
+  says_of : (place : ℕ) (r : Tcp2Socket) (o : Option Streams) → tcp2_at m.store.records place ≡ Some r → r.streams ≡ o → Writes (writer_in o) → Quiet Says [] (writer_of r (check_write_asks own) o)
   says_of place r None g e w = absurd w
   says_of place r (Some s) g e w =
       let o : HasStreams r.inner.state s = subst (StreamsShape r.inner.state) e (shaped place r g).0 in
       let held : side_of r.inner ≡ Some side = ap side_in o.is ∙ ap (λ (x : OpId). Some x) (of_writer o.connection.side side s.writer o.writer w) in
       quiet_then (λ done. SaysAll taken permitted done.0) Says [] (check_write_asks own s.writer) _ (quiet_check taken permitted [] own s.writer (subst (Agree taken permitted) e (h.lives place r g (named.named side place r g held, inl held)))) (λ fs done k. k)
 
-  says_at : (place : ℕ) (o : Option Tcp2Socket) → slice_get m.store.sockets place ≡ o → Writes (writer_of_record o) → Quiet Says [] (stream_at m.store place (writer_asks (check_write_asks own)) o)
+  says_at : (place : ℕ) (o : Option Tcp2Socket) → tcp2_at m.store.records place ≡ o → Writes (writer_of_record o) → Quiet Says [] (stream_at m.store place (writer_asks (check_write_asks own)) o)
   says_at place None g w = absurd w
   says_at place (Some r) g w = quiet_then Says Says [] (writer_asks (check_write_asks own) r) _ (says_of place r r.streams g refl w) (λ fs done k. k)
 
   tells_on : (o : Option ℕ) → Writes (writer_of_record (record_in m o)) → Quiet Tells [] (stream_on m own output (writer_asks (check_write_asks own)) o)
   tells_on None w = absurd w
   tells_on (Some place) w =
-      let o = slice_get m.store.sockets place in
+      let o = tcp2_at m.store.records place in
       quiet_then Says Tells [] (stream_at m.store place (writer_asks (check_write_asks own)) o) _ (says_at place o refl w) (λ fs done k. tells fs place (with_store m done) k)
 
   -- of the reply
@@ -71,7 +72,7 @@ module _ (side : OpId) (taken permitted : List ℕ) (m : Machine) (own : OpId) (
   check_replies : WritesTo m output side → Quiet Replies [] (bind (check_asks m own output) (λ done. Give (permit_reply done.0, done.1)))
   check_replies w = quiet_then Tells Replies [] (check_asks m own output) _ (tells_on (output_at m output) w) (λ fs done k. replies done k)
 
-module _ (contexts : List WasiSocketsCtx) (side : OpId) (taken permitted : List ℕ) (line : ℕ) (m : Machine) (ctx output n : ℕ) (h : Agreeing side taken permitted m.store.sockets) (shaped : Shaped (Over m)) (named : Named line (Starts m Unused)) (w : WritesTo m output side) (some : 0 < n) where
+module _ (contexts : List WasiSocketsCtx) (side : OpId) (taken permitted : List ℕ) (line : ℕ) (m : Machine) (ctx output n : ℕ) (h : Agreeing side taken permitted m.store.records) (shaped : Shaped (Over m)) (named : Named line (Starts m Unused)) (w : WritesTo m output side) (some : 0 < n) where
   abbrev IsBusy : List Entry → Reply × Machine → Type 0
   IsBusy es done = done.0 ≡ reply.Busy
 
@@ -116,7 +117,7 @@ module _ (side : OpId) where
 
   place_is : (m : Machine) (o : Option ℕ) (bytes : List ℕ) → let_write side (may_at m bytes o) ≡ let_begin side bytes (writer_of_record (record_in m o))
   place_is m None bytes = refl
-  place_is m (Some place) bytes = record_is (slice_get m.store.sockets place) bytes
+  place_is m (Some place) bytes = record_is (tcp2_at m.store.records place) bytes
 
   step_is : (m : Machine) (s : Step) (es : List Entry) → let_write side (may m s) ≡ permitted_in m side None s es
   step_is m (step.Write c output bytes) es = place_is m (output_at m output) bytes
@@ -131,7 +132,7 @@ module _ (contexts : List WasiSocketsCtx) (side : OpId) where
   record Lets (line : ℕ) (given : List ℕ) (es : List Entry) (m : Machine) : Type 0 where
     pub base : BaseBetween line m
     pub shaped : Shaped (Over m)
-    pub stands : Agreeing side (taken_in side es) given m.store.sockets
+    pub stands : Agreeing side (taken_in side es) given m.store.records
 
   owes : (held : List ℕ) (o : Own) → Owes side (held ++ let_write side o) o held
   owes held Used = sym (append-nil held)
@@ -153,7 +154,7 @@ module _ (contexts : List WasiSocketsCtx) (side : OpId) where
       (λ fs done k. record {
         base = base_over contexts line s done.1 k.0;
         shaped = k.1.0;
-        stands = subst (λ (t : List ℕ). Agreeing side (taken_in side fs) t done.1.store.sockets) k.1.1.owes k.1.1.stands;
+        stands = subst (λ (t : List ℕ). Agreeing side (taken_in side fs) t done.1.store.records) k.1.1.owes k.1.1.stands;
       }) es (machine_asks contexts m line s)
       (single_along contexts line s (permits side all line contexts s) (machine_walks line s m m.store.standing refl) es (base_starts contexts line s m o i.base) i.shaped (record { held = given; stands = i.stands; owes = owes given o }))
 

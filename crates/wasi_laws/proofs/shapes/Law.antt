@@ -3,10 +3,12 @@ use Rattle.wasi_tcp.specs.declared.reader.ReadState.TheVariants as reading
 use Rattle.wasi_tcp.specs.declared.socket.Connection.{Connection}
 use Rattle.wasi_tcp.specs.declared.socket.TcpState.TheVariants as state
 use Rattle.wasi_walks.proofs.fits.Polls.{Anything}
-use Rattle.wasi_laws.proofs.Words.{Accepts, Allows, Awaits, BeginsAccept, BeginsBind, BeginsConnect, BeginsListen, BeginsWrite, BindsOn, Changes, CloseLast, ClosesReader, Connects, Done, End, Entry, Err, ErrorCode, Forgets, Found, Given, Held, Here, IsGone, Item, Job, Joins, LastAsk, List, Listener, Listening, Listens, Move, None, NothingLast, Ok, OpId, Opens, Operation, Option, Reconnects, Result, ShutdownLast, Socket, SocketAddressFamily, Some, Step, Streams, Tcp2, Tcp2Socket, TcpState, Unclosed, Unlistens, Used, WasiSocketsCtx, Who, WriteState, Writes, [], accepting_now, allows_then, allows_weaker, ap, bind, bind_progress, connect_ended, create_asks, created_asks, get_set, get_split, inl, inr, job_after, joined, last_ask, length, listen_after, make_asks, new_asks, new_record, opened_by, own_of, poll_asks, put, refl, side_of, slice_get, slice_set, subst, sym, true, turn_asks, whatever, with_inner, with_progress, with_reader, with_state, with_writer, ℕ, ⊤, ◌++◌, ◌∙◌, ◌∷◌, ◌≡◌}
+use Rattle.wasi_laws.proofs.Words.{Accepts, Allows, Awaits, BeginsAccept, BeginsBind, BeginsConnect, BeginsListen, BeginsWrite, BindsOn, Changes, CloseLast, ClosesReader, Connects, Done, End, Entry, Err, ErrorCode, Forgets, Found, Given, Held, Here, IsGone, Item, Job, Joins, LastAsk, List, Listener, Listening, Listens, Move, None, NothingLast, Ok, OpId, Opens, Operation, Option, Reconnects, Result, ShutdownLast, Socket, SocketAddressFamily, Some, Step, Streams, Tcp2, Tcp2Socket, TcpState, Unclosed, Unlistens, Used, WasiSocketsCtx, Who, WriteState, Writes, accepting_now, allows_then, allows_weaker, ap, bind, bind_progress, connect_ended, create_asks, created_asks, get_set, get_split, inl, inr, job_after, joined, last_ask, length, listen_after, make_asks, new_asks, new_record, opened_by, own_of, poll_asks, put, refl, side_of, subst, sym, true, turn_asks, whatever, with_inner, with_progress, with_reader, with_state, with_writer, ℕ, ⊤, ◌∙◌, ◌≡◌}
 use Rattle.wasi_laws.proofs.asks.Fronts.{Becomes, ToldAddress, PollLaw, polls_by}
 use Rattle.wasi_laws.proofs.asks.Trees.{GoesOn, InWriting, InClosing, turns_by}
 use Rattle.wasi_laws.proofs.shapes.Shape.{IsOfWrite, AreOfWrite, end_write, JobIs, WriterIs, writer_moves, HasStreams, StreamsShape, ListenerShape, RecordShape, Unconnected, bare, sideless, restated}
+use Rattle.wasi_host.specs.Records.{tcp2_at, tcp2_put, tcp2_pushed}
+use Rattle.wasi_host.specs.declared.records.Record.{Record}
 
 -- what is left of a write takes no other form
 pub never : (i j : Item) → Becomes i j → IsOfWrite i → ⊥
@@ -86,10 +88,10 @@ abbrev pub Shaped : Here → Type 0
 Shaped h = (place : ℕ) (r : Tcp2Socket) → Found h place r → RecordShape r
 
 pub put_shape : (h : Here) (place : ℕ) (now : Tcp2Socket) → RecordShape now → Shaped h → Shaped (put h place now)
-put_shape h place now k i = λ n r e. elim (get_set h.machine.store.sockets place now n r e) [ inl p ↦ subst RecordShape p.1 k | inr p ↦ i n r p ]
+put_shape h place now k i = λ n r e. elim (get_set h.machine.store.records place now n r e) [ inl p ↦ subst RecordShape p.1 k | inr p ↦ i n r p ]
 
-push_shape : (sockets : List Tcp2Socket) (now : Tcp2Socket) → RecordShape now → ((place : ℕ) (r : Tcp2Socket) → slice_get sockets place ≡ Some r → RecordShape r) → (place : ℕ) (r : Tcp2Socket) → slice_get (sockets ++ now ∷ []) place ≡ Some r → RecordShape r
-push_shape sockets now k i place r e = elim (get_split sockets now place r e) [ inl p ↦ i place r p | inr p ↦ subst RecordShape p k ]
+push_shape : (records : List Record) (now : Tcp2Socket) → RecordShape now → ((place : ℕ) (r : Tcp2Socket) → tcp2_at records place ≡ Some r → RecordShape r) → (place : ℕ) (r : Tcp2Socket) → tcp2_at (tcp2_pushed records now) place ≡ Some r → RecordShape r
+push_shape records now k i place r e = elim (get_split records now place r e) [ inl p ↦ i place r p | inr p ↦ subst RecordShape p k ]
 
 module _ (contexts : List WasiSocketsCtx) (line : ℕ) (origin : Step) where
   pub moves_shape : (h now : Here) → Move line origin h now → Shaped h → Shaped now
@@ -111,12 +113,12 @@ module _ (contexts : List WasiSocketsCtx) (line : ℕ) (origin : Step) where
   moves_shape _ _ (BeginsListen h place r side at g d bound none to idle own) i =
       let k = restates r (state.Closed _) (λ c e. let p : state.Default side ≡ state.Connected c = sym d ∙ e in absurd (cc)) (λ x e. let p : state.Default side ≡ state.Listening x = sym d ∙ e in absurd (cc)) (i place r g) in put_shape h place _ (k.0, tt) i
   moves_shape _ _ (BeginsAccept h place r l at g e a own) i = let k = i place r g in put_shape h place _ (k.0, accepts_shape r l e k) i
-  moves_shape _ _ (Unlistens h place r op g e c o) i = put_shape h place _ ((i place r g).0, tt) i
+  moves_shape _ _ (Unlistens h place r op q g e c o) i = put_shape h place _ ((i place r g).0, tt) i
   moves_shape _ _ (Forgets h place r l c g e a) i = let k = i place r g in put_shape h place _ (k.0, accepts_shape r l e k) i
   moves_shape _ _ (Joins h c handle place r l new peer is of u g e a) i =
       let k = i place r g in
       let idle : Tcp2Socket = accepting_now r l _ in
-      push_shape (slice_set h.machine.store.sockets place idle) (joined l new peer) (record { connection = _; is = refl; taken = refl; reader = λ half d. (let q : record { side = new } ≡ half = cc in ap (λ y. y.side) (sym q)); writer = refl }, tt) (put_shape h place idle (k.0, accepts_shape r l e k) i)
+      push_shape (tcp2_put h.machine.store.records place idle) (joined l new peer) (record { connection = _; is = refl; taken = refl; reader = λ half d. (let q : record { side = new } ≡ half = cc in ap (λ y. y.side) (sym q)); writer = refl }, tt) (put_shape h place idle (k.0, accepts_shape r l e k) i)
   -- the others leave all that is looked at
   moves_shape _ _ _ i = i
 
@@ -138,4 +140,4 @@ module _ (contexts : List WasiSocketsCtx) (line : ℕ) (origin : Step) where
     where
       joins : (fs : List Entry) (made : Result Socket ErrorCode) → Allows Anything (λ gs done. Shaped (record h { machine = done.1; own = Used })) fs (created_asks h.machine (own_of line) made)
       joins fs (Err c) = i
-      joins fs (Ok socket) = allows_then Anything (λ gs made. ⊤) (λ gs done. Shaped (record h { machine = done.1; own = Used })) fs (make_asks h.machine.table (own_of line) (Tcp2 (length h.machine.store.sockets)) None (side_of socket)) _ (whatever (λ made. ⊤) (λ made. tt) fs _) (λ gs made k. push_shape h.machine.store.sockets (new_record socket) (tt, tt) i)
+      joins fs (Ok socket) = allows_then Anything (λ gs made. ⊤) (λ gs done. Shaped (record h { machine = done.1; own = Used })) fs (make_asks h.machine.table (own_of line) (Tcp2 (length h.machine.store.records)) None (side_of socket)) _ (whatever (λ made. ⊤) (λ made. tt) fs _) (λ gs made k. push_shape h.machine.store.records (new_record socket) (tt, tt) i)

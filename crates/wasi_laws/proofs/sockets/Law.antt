@@ -59,7 +59,7 @@ module _ (line : ℕ) where
           named = λ x p c. (let o = i.older x c in let z : next_of line h.own ≡ line = ap (next_of line) own in let s : x.step ≡ line = sym (ap (λ (y : OpId). y.step) (some_same (second_of line) x p)) in omega (arith, o, z, s));
           arrived = λ m new peer p q. (let s : new_accept line l ≡ accepting.Arrived new peer = ap accept_of p ∙ q in absurd (cc));
         }) i)
-    moves es _ _ (Unlistens h place r op g e c o) n i = put_kept es h place r _ g (follows_quiet r _ refl refl (λ b. b)) (inr refl) i
+    moves es _ _ (Unlistens h place r op q g e c o) n i = put_kept es h place r _ g (follows_quiet r _ refl refl (λ b. b)) (inr refl) i
     moves es _ _ (Forgets h place r l c g e a) n i = put_kept es h place r _ g (follows_quiet r _ refl refl (λ b. b)) (inr refl) i
     moves es _ _ (Joins h c handle place r l new peer is of u g e a) n i =
         let o = arrived_open es h place r l new peer g e a i in

@@ -2,8 +2,10 @@
 -- closed is older.
 use Rattle.wasi_world.specs.declared.call.Call.TheVariants as call
 use Rattle.wasi_tcp.specs.declared.listener.Accepting.TheVariants as accepting
-use Rattle.wasi_laws.proofs.Words.{Accepts, Call, Claims, Created, Entry, Found, HandedOver, Here, IpSocketAddress, IsClosed, IsMade, IsOpen, List, Listener, Named, None, OpId, Some, Tcp2Socket, Told, [], accept_name, ap, arith, entry, get_set, get_split, has_front, has_split, inl, inr, name_in, next_of, no_some, put, refl, set_there, slice_get, slice_set, subst, sym, ℕ, ◌++◌, ◌<◌, ◌∙◌, ◌∷◌, ◌≡◌, ◌≤◌, ◌⊎◌}
+use Rattle.wasi_laws.proofs.Words.{Accepts, Call, Claims, Created, Entry, Found, HandedOver, Here, IpSocketAddress, IsClosed, IsMade, IsOpen, List, Listener, Named, None, OpId, Some, Tcp2Socket, Told, [], accept_name, ap, arith, entry, get_set, get_split, has_front, has_split, inl, inr, name_in, next_of, no_some, put, refl, set_there, subst, sym, ℕ, ◌++◌, ◌<◌, ◌∙◌, ◌∷◌, ◌≡◌, ◌≤◌, ◌⊎◌}
 use Rattle.wasi_laws.proofs.shapes.Shape.{some_same, Lives, Follows}
+use Rattle.wasi_host.specs.Records.{tcp2_at, tcp2_put, tcp2_pushed}
+use Rattle.wasi_host.specs.declared.records.Record.{Record}
 
 -- a close, of this socket
 abbrev pub Closes : Call → OpId → Type 0
@@ -76,34 +78,34 @@ record_more C es fs r g n i = record {
   arrived = λ l new peer e a. g.made new (i.arrived l new peer e a);
 }
 
-pub record Opened (bound : ℕ) (es : List Entry) (sockets : List Tcp2Socket) : Type 0 where
-  pub records : (place : ℕ) (r : Tcp2Socket) → slice_get sockets place ≡ Some r → RecordOpen es r
+pub record Opened (bound : ℕ) (es : List Entry) (rs : List Record) : Type 0 where
+  pub records : (place : ℕ) (r : Tcp2Socket) → tcp2_at rs place ≡ Some r → RecordOpen es r
   pub older : (x : OpId) → IsClosed es x → x.step < bound
 
 pub one_more : (es : List Entry) (op : OpId) (c : Call) (t : Told) → ((x : OpId) → Closes c x → ⊥) → Grows NoneCloses es (es ++ entry op c t ∷ [])
 one_more es op c t n = grows_entry NoneCloses es es op c t n (grows_none NoneCloses es)
 
-module _ {bound : ℕ} {sockets : List Tcp2Socket} where
+module _ {bound : ℕ} {records : List Record} where
   -- asks that close nothing
-  pub opened_more : (es fs : List Entry) → Grows NoneCloses es fs → Opened bound es sockets → Opened bound fs sockets
+  pub opened_more : (es fs : List Entry) → Grows NoneCloses es fs → Opened bound es records → Opened bound fs records
   opened_more es fs g i = record {
     records = λ place r e. record_more NoneCloses es fs r g (λ x u n. n) (i.records place r e);
     older = λ x c. elim (g.closed x c) [ inl a ↦ i.older x a | inr n ↦ absurd n ];
   }
 
   -- a record changes, or there is one more
-  pub put_open : (es : List Entry) (place : ℕ) (now : Tcp2Socket) → RecordOpen es now → Opened bound es sockets → Opened bound es (slice_set sockets place now)
-  put_open es place now k i = record { records = λ n r e. elim (get_set sockets place now n r e) [ inl p ↦ subst (RecordOpen es) p.1 k | inr p ↦ i.records n r p ]; older = i.older }
+  pub put_open : (es : List Entry) (place : ℕ) (now : Tcp2Socket) → RecordOpen es now → Opened bound es records → Opened bound es (tcp2_put records place now)
+  put_open es place now k i = record { records = λ n r e. elim (get_set records place now n r e) [ inl p ↦ subst (RecordOpen es) p.1 k | inr p ↦ i.records n r p ]; older = i.older }
 
-  pub push_open : (es : List Entry) (now : Tcp2Socket) → RecordOpen es now → Opened bound es sockets → Opened bound es (sockets ++ now ∷ [])
-  push_open es now k i = record { records = λ n r e. elim (get_split sockets now n r e) [ inl p ↦ i.records n r p | inr p ↦ subst (RecordOpen es) p k ]; older = i.older }
+  pub push_open : (es : List Entry) (now : Tcp2Socket) → RecordOpen es now → Opened bound es records → Opened bound es (tcp2_pushed records now)
+  push_open es now k i = record { records = λ n r e. elim (get_split records now n r e) [ inl p ↦ i.records n r p | inr p ↦ subst (RecordOpen es) p k ]; older = i.older }
 
   -- more may be closed by now
-  pub later : (es : List Entry) (more : ℕ) → bound ≤ more → Opened bound es sockets → Opened more es sockets
+  pub later : (es : List Entry) (more : ℕ) → bound ≤ more → Opened bound es records → Opened more es records
   later es more l i = record { records = i.records; older = λ x c. let o = i.older x c in omega (arith, o, l) }
 
 abbrev pub Kept : ℕ → List Entry → Here → Type 0
-Kept line es h = Opened (next_of line h.own) es h.machine.store.sockets
+Kept line es h = Opened (next_of line h.own) es h.machine.store.records
 
 -- a network socket is closed: the record that claims it has it no more
 pub closed_put : (line : ℕ) (C : OpId → Type 0) (es fs : List Entry) (h : Here) (place : ℕ) (r now : Tcp2Socket) (side : OpId) → Found h place r → Claims side r → ((x : OpId) → C x → side ≡ x) → (HasIt now side → ⊥) → Grows C es fs → Named line h → RecordOpen es now → Kept line es h → Kept line fs (put h place now)
@@ -119,8 +121,8 @@ closed_put line C es fs h place r now side g claims of none grows named k i = re
     other : (n : ℕ) (q : Tcp2Socket) → Found (put h place now) n q → Found h n q → HasIt q side → ⊥
     other n q e p u =
         let at : n ≡ place = named.one side n place q r p g (its q u) claims in
-        let is : now ≡ q = some_same now q (sym (ap (slice_get (slice_set h.machine.store.sockets place now)) at ∙ set_there h.machine.store.sockets place r now g) ∙ e) in
+        let is : now ≡ q = some_same now q (sym (ap (tcp2_at (tcp2_put h.machine.store.records place now)) at ∙ set_there h.machine.store.records place r now g) ∙ e) in
         none (subst (λ (y : Tcp2Socket). HasIt y side) (sym is) u)
 
     lacks : (n : ℕ) (q : Tcp2Socket) → Found (put h place now) n q → HasIt q side → ⊥
-    lacks n q e u = elim (get_set h.machine.store.sockets place now n q e) [ inl p ↦ none (subst (λ (y : Tcp2Socket). HasIt y side) (sym p.1) u) | inr p ↦ other n q e p u ]
+    lacks n q e u = elim (get_set h.machine.store.records place now n q e) [ inl p ↦ none (subst (λ (y : Tcp2Socket). HasIt y side) (sym p.1) u) | inr p ↦ other n q e p u ]

@@ -2,11 +2,11 @@
 -- that was made with it, and the name of an accept by the record of its listener.
 use Rattle.wasi_walks.proofs.Words.{Accepting, Accepts, Allows, Ask, AskWrite, Asks, Begins, Done, End, Entry, Err, ErrorCode, Give, Given}
 use Rattle.wasi_walks.proofs.Words.{HoldsAccept, IsAcceptOn, IsLeftOfAccept, Item, List, Listener, Listening, None, Not, Ok, OpId, Operation, Option}
-use Rattle.wasi_walks.proofs.Words.{Refused, Result, Socket, SocketAddressFamily, Some, Step, Tcp2, Tcp2Socket, TcpState, Waits, WasiSocketsCtx, []}
+use Rattle.wasi_walks.proofs.Words.{Refused, Result, Socket, SocketAddressFamily, Some, Step, Tcp2, Tcp2Socket, TcpState, Waits, WasiSocketsCtx}
 use Rattle.wasi_walks.proofs.Words.{accept_ended, after_create, allows_if, allows_then, allows_weaker, ap, arith, arrived, bind, bind_progress}
 use Rattle.wasi_walks.proofs.Words.{connect_ended, create_asks, created_asks, give_up_asks, gone, inl, inr, length, make_asks, new_asks, new_record}
-use Rattle.wasi_walks.proofs.Words.{own_of, poll_asks, refl, side_in, side_of, slice_get, slice_set, subst, sym, told_addr, told_done, turn_asks}
-use Rattle.wasi_walks.proofs.Words.{with_inner, with_listening, with_progress, with_state, with_writer, ℕ, ⊤, ◌++◌, ◌+◌, ◌<◌, ◌∙◌, ◌∷◌, ◌≡◌, ◌≤◌, ◌⊎◌}
+use Rattle.wasi_walks.proofs.Words.{own_of, poll_asks, refl, side_in, side_of, subst, sym, told_addr, told_done, turn_asks}
+use Rattle.wasi_walks.proofs.Words.{with_inner, with_listening, with_progress, with_state, with_writer, ℕ, ⊤, ◌+◌, ◌<◌, ◌∙◌, ◌≡◌, ◌≤◌, ◌⊎◌}
 use Rattle.wasi_world.specs.Operation.{Connection}
 use Rattle.wasi_walks.proofs.walks.OnBase.{both, Above, stand}
 use Rattle.wasi_walks.proofs.licence.State.{name_in, accept_name}
@@ -18,6 +18,7 @@ use Rattle.wasi_walks.proofs.walks.Moves.{closed_record, Own, Used, Unused, ToWr
 use Rattle.wasi_walks.proofs.walks.Law.{Law, Walks}
 use Rattle.wasi_walks.proofs.fits.Law.{Fit, told_same, whatever, fits, moves_fit, polls_fit, put_fit, created}
 use Rattle.wasi_tcp.specs.Accept as accept
+use Rattle.wasi_host.specs.Records.{tcp2_at, tcp2_put, tcp2_pushed}
 
 -- it was made with this network socket, or its accept has this name, by which a network socket will be made
 abbrev pub Claims : OpId → Tcp2Socket → Type 0
@@ -67,9 +68,9 @@ module _ (line : ℕ) where
     at_most x i q e c d = elim (claimed x d) [ inl p ↦ n.one x i place q r e g c p | inr p ↦ absurd (p.1 i q e c) ]
 
     one_put : (x : OpId) (i j : ℕ) (a b : Tcp2Socket) → Found (put h place now) i a → Found (put h place now) j b → Claims x a → Claims x b → i ≡ j
-    one_put x i j a b e f c d = elim (get_set h.machine.store.sockets place now i a e) [
-      | inl p ↦ elim (get_set h.machine.store.sockets place now j b f) [ inl q ↦ p.0 ∙ sym q.0 | inr q ↦ p.0 ∙ sym (at_most x j b q d (subst (Claims x) (sym p.1) c)) ]
-      | inr p ↦ elim (get_set h.machine.store.sockets place now j b f) [ inl q ↦ at_most x i a p c (subst (Claims x) (sym q.1) d) ∙ sym q.0 | inr q ↦ n.one x i j a b p q c d ]
+    one_put x i j a b e f c d = elim (get_set h.machine.store.records place now i a e) [
+      | inl p ↦ elim (get_set h.machine.store.records place now j b f) [ inl q ↦ p.0 ∙ sym q.0 | inr q ↦ p.0 ∙ sym (at_most x j b q d (subst (Claims x) (sym p.1) c)) ]
+      | inr p ↦ elim (get_set h.machine.store.records place now j b f) [ inl q ↦ at_most x i a p c (subst (Claims x) (sym q.1) d) ∙ sym q.0 | inr q ↦ n.one x i j a b p q c d ]
     ]
 
     apart_now : (x : OpId) → now.side ≡ Some x → accept_name now.listening ≡ Some x → ⊥
@@ -78,13 +79,13 @@ module _ (line : ℕ) where
     pub put_by : (own : Own) → next_of line h.own ≤ next_of line own → bound ≤ next_of line own → Named line (record (put h place now) { own = own })
     put_by own l b = record {
       one = one_put;
-      apart = λ x i q e s a. elim (get_set h.machine.store.sockets place now i q e) [ inl p ↦ apart_now x (ap (λ (y : Tcp2Socket). y.side) p.1 ∙ s) (ap (λ (y : Tcp2Socket). accept_name y.listening) p.1 ∙ a) | inr p ↦ n.apart x i q p s a ];
-      older = λ x i q e c. elim (get_set h.machine.store.sockets place now i q e) [
+      apart = λ x i q e s a. elim (get_set h.machine.store.records place now i q e) [ inl p ↦ apart_now x (ap (λ (y : Tcp2Socket). y.side) p.1 ∙ s) (ap (λ (y : Tcp2Socket). accept_name y.listening) p.1 ∙ a) | inr p ↦ n.apart x i q p s a ];
+      older = λ x i q e c. elim (get_set h.machine.store.records place now i q e) [
         | inl p ↦ elim (claimed x (subst (Claims x) (sym p.1) c)) [ inl d ↦ (let o = n.older x place r g d in omega (arith, o, l)) | inr d ↦ (let o = d.0 in omega (arith, o, b)) ]
         | inr p ↦ (let o = n.older x i q p c in omega (arith, o, l))
       ];
-      named = λ x i q e s. elim (get_set h.machine.store.sockets place now i q e) [ inl p ↦ subst (λ (y : Tcp2Socket). y.side ≡ Some x) p.1 (k.named x (ap (λ (y : Tcp2Socket). side_of y.inner) p.1 ∙ s)) | inr p ↦ n.named x i q p s ];
-      held = λ op i q e s. elim (get_set h.machine.store.sockets place now i q e) [
+      named = λ x i q e s. elim (get_set h.machine.store.records place now i q e) [ inl p ↦ subst (λ (y : Tcp2Socket). y.side ≡ Some x) p.1 (k.named x (ap (λ (y : Tcp2Socket). side_of y.inner) p.1 ∙ s)) | inr p ↦ n.named x i q p s ];
+      held = λ op i q e s. elim (get_set h.machine.store.records place now i q e) [
         | inl p ↦ subst (λ (y : Tcp2Socket). (y.side ≡ Some op.who.side) × (side_of y.inner ≡ None)) p.1 (k.held op (ap (λ (y : Tcp2Socket). y.listening) p.1 ∙ s))
         | inr p ↦ n.held op i q p s
       ];
@@ -95,23 +96,23 @@ module _ (line : ℕ) where
 
   -- a record more, whose network socket is fresh
   pub push_named : (h : Here) (now : Tcp2Socket) (own : Own) → accept_name now.listening ≡ None → ((x : OpId) → now.side ≡ Some x → (x.step < next_of line own) × Fresh h x) → ((x : OpId) → side_of now.inner ≡ Some x → now.side ≡ Some x) → ((op : Operation) → now.listening ≡ Begins op → ⊥) → next_of line h.own ≤ next_of line own
-      → Named line h → Named line (record h { machine = record h.machine { store = record h.machine.store { sockets = h.machine.store.sockets ++ now ∷ [] } }; own = own })
+      → Named line h → Named line (record h { machine = record h.machine { store = record h.machine.store { records = tcp2_pushed h.machine.store.records now } }; own = own })
   push_named h now own none fresh named held l n = record {
     one = one;
-    apart = λ x i q e s a. elim (get_split h.machine.store.sockets now i q e) [ inl p ↦ n.apart x i q p s a | inr p ↦ no_some x (sym none ∙ (ap (λ (y : Tcp2Socket). accept_name y.listening) p ∙ a)) ];
-    older = λ x i q e c. elim (get_split h.machine.store.sockets now i q e) [ inl p ↦ (let o = n.older x i q p c in omega (arith, o, l)) | inr p ↦ (fresh x (its x q p c)).0 ];
-    named = λ x i q e s. elim (get_split h.machine.store.sockets now i q e) [ inl p ↦ n.named x i q p s | inr p ↦ subst (λ (y : Tcp2Socket). y.side ≡ Some x) p (named x (ap (λ (y : Tcp2Socket). side_of y.inner) p ∙ s)) ];
-    held = λ op i q e s. elim (get_split h.machine.store.sockets now i q e) [ inl p ↦ n.held op i q p s | inr p ↦ absurd (held op (ap (λ (y : Tcp2Socket). y.listening) p ∙ s)) ];
+    apart = λ x i q e s a. elim (get_split h.machine.store.records now i q e) [ inl p ↦ n.apart x i q p s a | inr p ↦ no_some x (sym none ∙ (ap (λ (y : Tcp2Socket). accept_name y.listening) p ∙ a)) ];
+    older = λ x i q e c. elim (get_split h.machine.store.records now i q e) [ inl p ↦ (let o = n.older x i q p c in omega (arith, o, l)) | inr p ↦ (fresh x (its x q p c)).0 ];
+    named = λ x i q e s. elim (get_split h.machine.store.records now i q e) [ inl p ↦ n.named x i q p s | inr p ↦ subst (λ (y : Tcp2Socket). y.side ≡ Some x) p (named x (ap (λ (y : Tcp2Socket). side_of y.inner) p ∙ s)) ];
+    held = λ op i q e s. elim (get_split h.machine.store.records now i q e) [ inl p ↦ n.held op i q p s | inr p ↦ absurd (held op (ap (λ (y : Tcp2Socket). y.listening) p ∙ s)) ];
   }
     where
       its : (x : OpId) (q : Tcp2Socket) → now ≡ q → Claims x q → now.side ≡ Some x
       its x q p (inl e) = ap (λ (y : Tcp2Socket). y.side) p ∙ e
       its x q p (inr e) = absurd (no_some x (sym none ∙ (ap (λ (y : Tcp2Socket). accept_name y.listening) p ∙ e)))
 
-      one : (x : OpId) (i k : ℕ) (a b : Tcp2Socket) → slice_get (h.machine.store.sockets ++ now ∷ []) i ≡ Some a → slice_get (h.machine.store.sockets ++ now ∷ []) k ≡ Some b → Claims x a → Claims x b → i ≡ k
-      one x i k a b e f c d = elim (split_place h.machine.store.sockets now i a e) [
-        | inl p ↦ elim (split_place h.machine.store.sockets now k b f) [ inl q ↦ n.one x i k a b p q c d | inr q ↦ absurd ((fresh x (its x b q.1 d)).1 i a p c) ]
-        | inr p ↦ elim (split_place h.machine.store.sockets now k b f) [ inl q ↦ absurd ((fresh x (its x a p.1 c)).1 k b q d) | inr q ↦ p.0 ∙ sym q.0 ]
+      one : (x : OpId) (i k : ℕ) (a b : Tcp2Socket) → tcp2_at (tcp2_pushed h.machine.store.records now) i ≡ Some a → tcp2_at (tcp2_pushed h.machine.store.records now) k ≡ Some b → Claims x a → Claims x b → i ≡ k
+      one x i k a b e f c d = elim (split_place h.machine.store.records now i a e) [
+        | inl p ↦ elim (split_place h.machine.store.records now k b f) [ inl q ↦ n.one x i k a b p q c d | inr q ↦ absurd ((fresh x (its x b q.1 d)).1 i a p c) ]
+        | inr p ↦ elim (split_place h.machine.store.records now k b f) [ inl q ↦ absurd ((fresh x (its x a p.1 c)).1 k b q d) | inr q ↦ p.0 ∙ sym q.0 ]
       ]
 
 none_of : {A : Type 0} (o : Option A) → ((x : A) → o ≡ Some x → ⊥) → o ≡ None
@@ -177,11 +178,11 @@ module _ (contexts : List WasiSocketsCtx) (line : ℕ) (origin : Step) where
 
   -- the name of an accept is claimed by no record, once its record has it no more
   pub taken_fresh : (h : Here) (place : ℕ) (r now : Tcp2Socket) (new : OpId) → Found h place r → accept_name r.listening ≡ Some new → now.side ≡ r.side → accept_name now.listening ≡ None → Named line h → Fresh (put h place now) new
-  taken_fresh h place r now new g a s none n i q e c = elim (get_set h.machine.store.sockets place now i q e) [
+  taken_fresh h place r now new g a s none n i q e c = elim (get_set h.machine.store.records place now i q e) [
     | inl p ↦ idle (subst (Claims new) (sym p.1) c)
     | inr p ↦ (
         let here : i ≡ place = n.one new i place q r p g c (inr a) in
-        let there : Found (put h place now) i now = ap (slice_get (slice_set h.machine.store.sockets place now)) here ∙ set_there h.machine.store.sockets place r now g in
+        let there : Found (put h place now) i now = ap (tcp2_at (tcp2_put h.machine.store.records place now)) here ∙ set_there h.machine.store.records place r now g in
         idle (subst (Claims new) (sym (same_record now q (sym there ∙ e))) c))
   ]
     where
@@ -211,7 +212,7 @@ module _ (contexts : List WasiSocketsCtx) (line : ℕ) (origin : Step) where
     where
       its : (x : OpId) → Some (second_of line) ≡ Some x → x.step ≡ line
       its x p = let q : second_of line ≡ x = cc in ap (λ (o : OpId). o.step) (sym q)
-  moves_named _ _ (Unlistens h place r op g e c o) n = put_named line h place r _ g (listening_names h place r Not g (λ x p. absurd (cc)) (λ op p. absurd (cc)) n) n
+  moves_named _ _ (Unlistens h place r op q g e c o) n = put_named line h place r _ g (listening_names h place r Not g (λ x p. absurd (cc)) (λ op p. absurd (cc)) n) n
   moves_named _ _ (Forgets h place r l c g e a) n = put_named line h place r _ g (listening_names h place r _ g (λ x p. absurd (cc)) (λ op p. absurd (cc)) n) n
   moves_named _ _ (Joins h c handle place r l new peer is of u g e a) n =
       let mid = put h place (accepting_now r l Accepting.Idle) in
@@ -266,7 +267,7 @@ module _ (contexts : List WasiSocketsCtx) (line : ℕ) (origin : Step) where
       joins : (fs : List Entry) (made : Result Socket ErrorCode) → MadeNamed made → Allows Anything (λ fs done. Named line (record h { machine = done.1; own = Used })) fs (created_asks h.machine (own_of line) made)
       joins fs (Err c) k = spends_named h n (by_line h.own)
       joins fs (Ok socket) k =
-          allows_then Anything (λ fs made. ⊤) (λ fs done. Named line (record h { machine = done.1; own = Used })) fs (make_asks h.machine.table (own_of line) (Tcp2 (length h.machine.store.sockets)) None (side_of socket)) _ (whatever (λ made. ⊤) (λ made. tt) fs _)
+          allows_then Anything (λ fs made. ⊤) (λ fs done. Named line (record h { machine = done.1; own = Used })) fs (make_asks h.machine.table (own_of line) (Tcp2 (length h.machine.store.records)) None (side_of socket)) _ (whatever (λ made. ⊤) (λ made. tt) fs _)
           (λ gs made t. let j = push_named line h (new_record socket) Used refl (λ x p. (let s : own_of line ≡ x = same socket x k p in let z : x.step ≡ line = ap (λ (o : OpId). o.step) (sym s) in (omega (arith, z), fresh h u n x z))) (λ x p. p) (λ op p. absurd (cc)) (by_line h.own) n in
           record { one = j.one; apart = j.apart; older = j.older; named = j.named; held = j.held })
 
@@ -287,10 +288,10 @@ module _ (contexts : List WasiSocketsCtx) (line : ℕ) (origin : Step) where
         creates = λ es h ctx family c a o m i. both Anything Anything (λ fs done. Named line (record h { machine = done.1; own = Used })) (λ fs done. Fit (record h { machine = done.1; own = Used })) es _ (created_named es h ctx family o i.1) (created contexts line origin es h (own_of line) ctx family i.0);
         accepted = λ es h c s place r is e o g i. whatever (λ made. Base (record h { machine = record h.machine { table = made.1 }; made = made_so place made.0 })) (λ made. let k = i.1 in (record { records = i.0.records; stands = i.0.stands }, record { one = k.one; apart = k.apart; older = k.older; named = k.named; held = k.held })) es _;
         polls = λ es h op after k i. both Anything Anything (λ fs ended. Named line (after ended)) (λ fs ended. Fit (after ended)) es _ (names_polled es h op after k i) (polls_fit contexts line origin es h op after k i.0);
-        turns = λ es h place r s g e i. whatever (λ done. Base (put h place (with_writer r s done.1))) (λ done. (put_fit h place r _ g (inr (λ b. b)) (i.0.records place r g) i.0, put_inner h place r _ g refl refl (λ x p. p) i.1)) es (turn_asks s.writer);
-        gives_up = λ es h place r g i.
+        turns = λ es h place r s g e i. whatever (λ done. Base (put h place (with_writer r s done.1))) (λ done. (put_fit h place r _ g (inr (λ b. b, λ l. l)) (i.0.records place r g) i.0, put_inner h place r _ g refl refl (λ x p. p) i.1)) es (turn_asks s.writer);
+        gives_up = λ es h place r q g i.
             whatever (λ done. Base (put h place (with_listening r Not)))
-            (λ done. let b = i.0.records place r g in (put_fit h place r _ g (inr (λ x. x)) (b.0, tt, b.2) i.0, put_named line h place r (with_listening r Not) g (listening_names h place r Not g (λ x p. absurd (cc)) (λ op p. absurd (cc)) i.1) i.1)) es (give_up_asks r.listening);
+            (λ done. let b = i.0.records place r g in (put_fit h place r _ g (inl q) (b.0, tt, b.2) i.0, put_named line h place r (with_listening r Not) g (listening_names h place r Not g (λ x p. absurd (cc)) (λ op p. absurd (cc)) i.1) i.1)) es (give_up_asks r.listening);
       }
 
   -- the laws that rest on it

@@ -3,65 +3,76 @@
 use Rattle.wasi_walks.proofs.Words.{Accepting, Allows, Ask, AskWrite, Asks, Bool, Done, End, Entry, Err, ErrorCode, Give, Given, HoldsAccept}
 use Rattle.wasi_walks.proofs.Words.{HoldsConnect, InProgress, IpSocketAddress, IsAcceptOn, IsConnect, IsLeftOfBind, IsLeftOfConnect, IsLeftOfListen}
 use Rattle.wasi_walks.proofs.Words.{Item, List, Listener, None, Not, Ok, OpId, Operation, Refused, Result, Socket, SocketAddressFamily, Some}
-use Rattle.wasi_walks.proofs.Words.{Standing, StandingCall, Step, Tcp2, Tcp2Socket, TcpState, Waits, WasiSocketsCtx, [], accept_ended, after_create}
+use Rattle.wasi_walks.proofs.Words.{Standing, StandingCall, Step, Tcp2, Tcp2Socket, TcpState, Waits, WasiSocketsCtx, accept_ended, after_create}
 use Rattle.wasi_walks.proofs.Words.{after_local, allows_if, allows_then, allows_weaker, ap, arrived, bind, bind_progress, call_place, connect_ended}
 use Rattle.wasi_walks.proofs.Words.{connect_first, connect_operation, create_asks, created_asks, false, give_up_asks, if◌then◌else◌, inl, inr}
-use Rattle.wasi_walks.proofs.Words.{is_nothing, is_wildcard, length, make_asks, new_asks, new_record, own_of, poll_asks, refl, side_of, slice_get}
-use Rattle.wasi_walks.proofs.Words.{slice_set, standing_as, subst, sym, told_addr, told_done, true, turn_asks, wildcard, with_inner, with_listening}
-use Rattle.wasi_walks.proofs.Words.{with_progress, with_state, with_writer, ℕ, ⊤, ◌++◌, ◌∙◌, ◌∷◌, ◌≡◌, ◌⊎◌}
+use Rattle.wasi_walks.proofs.Words.{is_nothing, is_wildcard, length, make_asks, new_asks, new_record, own_of, poll_asks, refl, side_of}
+use Rattle.wasi_walks.proofs.Words.{standing_as, subst, sym, told_addr, told_done, true, turn_asks, wildcard, with_inner, with_listening}
+use Rattle.wasi_walks.proofs.Words.{with_progress, with_state, with_writer, ℕ, ⊤, ◌∙◌, ◌≡◌, ◌⊎◌}
 use Rattle.wasi_world.specs.Operation.{Connection}
 use Rattle.wasi_tcp.specs.Listen.{IsListen}
-use Rattle.wasi_walks.proofs.walks.Moves.{NoBind, NoBindIn, NoBindStands, IsSettled, KeepsBinding, HasBinding, GoesOn, begun_bind, closed_record, Held, BindsOn, Connects, Used, Here, put, Move, Changes, ClosesReader, Writes, IsGone, Reconnects, Opens, BeginsConnect, BeginsBind, BeginsWrite, Stands, BeginsListen, BeginsAccept, Unlistens, Forgets, Joins, Unstands, Listens, Awaits, listen_after, accepting_now, beginning_listen, new_accept, joined, made_so, Found}
-use Rattle.wasi_walks.proofs.fits.Records.{BindGoesOn, FitListening, FitProgress, FitRecord, FitCall}
-use Rattle.wasi_walks.proofs.Lists.{get_front, get_set, get_split, set_get}
+use Rattle.wasi_walks.proofs.walks.Moves.{NoStart, NoStartIn, NoStartStands, IsSettled, KeepsBinding, HasBinding, HasListen, GoesOn, begun_bind, closed_record, Held, BindsOn, Connects, Used, Here, put, Move, Changes, ClosesReader, Writes, IsGone, Reconnects, Opens, BeginsConnect, BeginsBind, BeginsWrite, Stands, BeginsListen, BeginsAccept, Unlistens, Forgets, Joins, Unstands, Listens, Awaits, listen_after, accepting_now, beginning_listen, new_accept, joined, made_so, Found}
+use Rattle.wasi_walks.proofs.fits.Records.{FitListening, FitProgress, FitRecord, FitCall}
+use Rattle.wasi_walks.proofs.Lists.{get_set, get_split, set_get, tcp2_front}
 use Rattle.wasi_walks.proofs.fits.Polls.{Anything, bind_left, connect_left, listen_left, accept_left, AcceptLeaves}
 use Rattle.wasi_walks.proofs.walks.Law.{Law, Walks}
 use Rattle.wasi_tcp.specs.Accept as accept
 use Rattle.wasi_tcp.specs.Listen as listen
 use Rattle.wasi_tcp.specs.Connect as connect
 use Rattle.wasi_walks.specs.Waiting as binding
+use Rattle.wasi_host.specs.Records.{tcp2_at, tcp2_put, tcp2_pushed}
+use Rattle.wasi_host.specs.declared.records.Record.{Record}
 
 -- Each record fits, and so does the pending call.
 pub record Fit (h : Here) : Type 0 where
   pub records : (place : ℕ) (r : Tcp2Socket) → Found h place r → FitRecord r
-  pub stands : (c : Standing) → h.machine.store.standing ≡ Some c → FitCall h.machine.store.sockets c.call
+  pub stands : (c : Standing) → h.machine.store.standing ≡ Some c → FitCall h.machine.store.records c.call
 
--- no bind is pending, or the record continues with its bind
+-- neither is pending, or the record continues with its bind and with its listen
 abbrev pub KeepsBind : Here → Tcp2Socket → Tcp2Socket → Type 0
-KeepsBind h r now = NoBind h ⊎ (HasBinding r.in_progress → HasBinding now.in_progress)
+KeepsBind h r now = NoStart h ⊎ ((HasBinding r.in_progress → HasBinding now.in_progress) × (HasListen r.listening → HasListen now.listening))
 
 -- one record changes
 module _ (h : Here) (place : ℕ) (r now : Tcp2Socket) (g : Found h place r) (k : KeepsBind h r now) where
-  call_put : (c : Standing) → h.machine.store.standing ≡ Some c → (call : StandingCall) → c.call ≡ call → FitCall h.machine.store.sockets call → FitCall (slice_set h.machine.store.sockets place now) call
-  call_put c e (StandingCall.Bind n) q b = elim (set_get h.machine.store.sockets place now n b.was b.at) [
+  call_put : (c : Standing) → h.machine.store.standing ≡ Some c → (call : StandingCall) → c.call ≡ call → FitCall h.machine.store.records call → FitCall (tcp2_put h.machine.store.records place now) call
+  call_put c e (StandingCall.Bind n) q b = elim (set_get h.machine.store.records place now n b.was b.at) [
     | inl p ↦ record { was = b.was; at = p; goes = b.goes }
-    | inr p ↦ record { was = now; at = p.1; goes = goes (ap (slice_get h.machine.store.sockets) (sym p.0) ∙ b.at) }
+    | inr p ↦ record { was = now; at = p.1; goes = goes (ap (tcp2_at h.machine.store.records) (sym p.0) ∙ b.at) }
   ]
     where
-      none : NoBind h → ⊥
-      none quiet = subst NoBindIn q (subst NoBindStands e quiet)
+      none : NoStart h → ⊥
+      none quiet = subst NoStartIn q (subst NoStartStands e quiet)
 
-      goes : slice_get h.machine.store.sockets place ≡ Some b.was → HasBinding now.in_progress
-      goes at = let same : b.was ≡ r = cc in elim k [ inl quiet ↦ absurd (none quiet) | inr f ↦ f (subst (λ (x : Tcp2Socket). HasBinding x.in_progress) same b.goes) ]
-  call_put c e (StandingCall.Listen n) q b = tt
+      goes : tcp2_at h.machine.store.records place ≡ Some b.was → HasBinding now.in_progress
+      goes at = let same : b.was ≡ r = cc in elim k [ inl quiet ↦ absurd (none quiet) | inr f ↦ f.0 (subst (λ (x : Tcp2Socket). HasBinding x.in_progress) same b.goes) ]
+  call_put c e (StandingCall.Listen n) q b = elim (set_get h.machine.store.records place now n b.was b.at) [
+    | inl p ↦ record { was = b.was; at = p; goes = b.goes }
+    | inr p ↦ record { was = now; at = p.1; goes = goes (ap (tcp2_at h.machine.store.records) (sym p.0) ∙ b.at) }
+  ]
+    where
+      none : NoStart h → ⊥
+      none quiet = subst NoStartIn q (subst NoStartStands e quiet)
+
+      goes : tcp2_at h.machine.store.records place ≡ Some b.was → HasListen now.listening
+      goes at = let same : b.was ≡ r = cc in elim k [ inl quiet ↦ absurd (none quiet) | inr f ↦ f.1 (subst (λ (x : Tcp2Socket). HasListen x.listening) same b.goes) ]
   call_put c e (StandingCall.DropOutput n) q b = tt
 
   pub put_fit : FitRecord now → Fit h → Fit (put h place now)
   put_fit f i = record {
-    records = λ k r e. elim (get_set h.machine.store.sockets place now k r e) [ inl p ↦ subst FitRecord p.1 f | inr p ↦ i.records k r p ];
+    records = λ k r e. elim (get_set h.machine.store.records place now k r e) [ inl p ↦ subst FitRecord p.1 f | inr p ↦ i.records k r p ];
     stands = λ c e. call_put c e c.call refl (i.stands c e);
   }
 
 -- one joins them
-call_push : (sockets : List Tcp2Socket) (now : Tcp2Socket) (call : StandingCall) → FitCall sockets call → FitCall (sockets ++ now ∷ []) call
-call_push sockets now (StandingCall.Bind n) b = record { was = b.was; at = get_front sockets (now ∷ []) n b.was b.at; goes = b.goes }
-call_push sockets now (StandingCall.Listen n) b = tt
-call_push sockets now (StandingCall.DropOutput n) b = tt
+call_push : (records : List Record) (now : Tcp2Socket) (call : StandingCall) → FitCall records call → FitCall (tcp2_pushed records now) call
+call_push records now (StandingCall.Bind n) b = record { was = b.was; at = tcp2_front records now n b.was b.at; goes = b.goes }
+call_push records now (StandingCall.Listen n) b = record { was = b.was; at = tcp2_front records now n b.was b.at; goes = b.goes }
+call_push records now (StandingCall.DropOutput n) b = tt
 
-call_stands : (sockets : List Tcp2Socket) (call : StandingCall) (r : Tcp2Socket) → slice_get sockets (call_place call) ≡ Some r → GoesOn call r → FitCall sockets call
-call_stands sockets (StandingCall.Bind n) r g k = record { was = r; at = g; goes = k }
-call_stands sockets (StandingCall.Listen n) r g k = tt
-call_stands sockets (StandingCall.DropOutput n) r g k = tt
+call_stands : (records : List Record) (call : StandingCall) (r : Tcp2Socket) → tcp2_at records (call_place call) ≡ Some r → GoesOn call r → FitCall records call
+call_stands records (StandingCall.Bind n) r g k = record { was = r; at = g; goes = k }
+call_stands records (StandingCall.Listen n) r g k = record { was = r; at = g; goes = k }
+call_stands records (StandingCall.DropOutput n) r g k = tt
 
 -- a bind in progress is of a socket that does nothing yet, and so is none of any other
 pub not_binding : {s t : TcpState} (doing : InProgress) → s ≡ t → ((side : OpId) → t ≡ TcpState.Default side → ⊥) → FitProgress s doing → (u : TcpState) → FitProgress u doing
@@ -148,35 +159,35 @@ module _ (contexts : List WasiSocketsCtx) (line : ℕ) (origin : Step) where
   pub moves_fit : (h now : Here) → Move line origin h now → Fit h → Fit now
   moves_fit _ _ (Changes h place r now g p) i =
       let f = i.records place r g in
-      put_fit h place r now g (inr (kept_binding r.in_progress now.in_progress p.binds))
+      put_fit h place r now g (inr (kept_binding r.in_progress now.in_progress p.binds, subst HasListen (sym p.listening)))
       (subst HoldsConnect (sym p.does) f.0, subst FitListening (sym p.listening) f.1, same_progress now.in_progress p.does (kept_progress r.in_progress now.in_progress r.inner.state p.binds f.2)) i
-  moves_fit _ _ (ClosesReader h place r s g e) i = put_fit h place r _ g (inr (λ b. b)) (i.records place r g) i
-  moves_fit _ _ (Writes h place r s w g e m) i = put_fit h place r _ g (inr (λ b. b)) (i.records place r g) i
+  moves_fit _ _ (ClosesReader h place r s g e) i = put_fit h place r _ g (inr (λ b. b, λ l. l)) (i.records place r g) i
+  moves_fit _ _ (Writes h place r s w g e m) i = put_fit h place r _ g (inr (λ b. b, λ l. l)) (i.records place r g) i
   moves_fit _ _ (IsGone h place r q g e) i = put_fit h place r _ g (inl q) ((i.records place r g).0, tt, tt) i
-  moves_fit _ _ (Reconnects h place r c now g e s t u) i = let f = i.records place r g in put_fit h place r _ g (inr (λ b. b)) (tt, f.1, not_binding r.in_progress e (λ side d. absurd (cc)) f.2 _) i
-  moves_fit _ _ (Opens h place r c k g e n) i = put_fit h place r _ g (inr (λ b. absurd (no_binding r.in_progress k b))) (tt, (i.records place r g).1, tt) i
+  moves_fit _ _ (Reconnects h place r c now g e s t u) i = let f = i.records place r g in put_fit h place r _ g (inr (λ b. b, λ l. l)) (tt, f.1, not_binding r.in_progress e (λ side d. absurd (cc)) f.2 _) i
+  moves_fit _ _ (Opens h place r c k g e n) i = put_fit h place r _ g (inr (λ b. absurd (no_binding r.in_progress k b), λ l. l)) (tt, (i.records place r g).1, tt) i
   moves_fit _ _ (BeginsConnect h place r side a bound at g d to known idle own) i =
-      let k = put_fit h place r _ g (inr (λ b. b)) (first_of (own_of line) side r.inner.maker (wildcard r.inner.family) a bound, (i.records place r g).1, idle_binding r.in_progress idle _) i in record { records = k.records; stands = k.stands }
+      let k = put_fit h place r _ g (inr (λ b. b, λ l. l)) (first_of (own_of line) side r.inner.maker (wildcard r.inner.family) a bound, (i.records place r g).1, idle_binding r.in_progress idle _) i in record { records = k.records; stands = k.stands }
   moves_fit _ _ (BeginsBind h place r side a at g d to idle own) i =
       let f = i.records place r g in
-      let k = put_fit h place r (with_progress r (InProgress.Binding (begun_bind (own_of line) side r a))) g (inr (λ b. tt)) (f.0, f.1, (d, record { last = refl; left = binding.Unchecked a })) i in record { records = k.records; stands = k.stands }
-  moves_fit _ _ (BeginsWrite h place r s half permit bytes at g e w within own) i = let k = put_fit h place r _ g (inr (λ b. b)) (i.records place r g) i in record { records = k.records; stands = k.stands }
+      let k = put_fit h place r (with_progress r (InProgress.Binding (begun_bind (own_of line) side r a))) g (inr (λ b. tt, λ l. l)) (f.0, f.1, (d, record { last = refl; left = binding.Unchecked a })) i in record { records = k.records; stands = k.stands }
+  moves_fit _ _ (BeginsWrite h place r s half permit bytes at g e w within own) i = let k = put_fit h place r _ g (inr (λ b. b, λ l. l)) (i.records place r g) i in record { records = k.records; stands = k.stands }
   moves_fit _ _ (BeginsListen h place r side at g d bound none to idle own) i =
-      let k = put_fit h place r (beginning_listen (own_of line) side r) g (inr (λ b. b)) (tt, record { last = refl; left = listen.BoundBefore r.inner.backlog }, idle_binding r.in_progress idle _) i in record { records = k.records; stands = k.stands }
+      let k = put_fit h place r (beginning_listen (own_of line) side r) g (inr (λ b. b, λ l. absurd (subst HasListen none l))) (tt, record { last = refl; left = listen.BoundBefore r.inner.backlog }, idle_binding r.in_progress idle _) i in record { records = k.records; stands = k.stands }
   moves_fit _ _ (BeginsAccept h place r l at g e a own) i =
       let f = i.records place r g in
-      let k = put_fit h place r (accepting_now r l (new_accept line l)) g (inr (λ b. b)) (f.0, record { accept = record { last = refl; left = accept.Unarrived }; of_side = refl; of_maker = refl; going = refl }, f.2) i in record { records = k.records; stands = k.stands }
-  moves_fit _ _ (Unlistens h place r op g e c o) i = let f = i.records place r g in put_fit h place r _ g (inr (λ b. b)) (f.0, tt, f.2) i
-  moves_fit _ _ (Forgets h place r l c g e a) i = let f = i.records place r g in put_fit h place r _ g (inr (λ b. b)) (f.0, tt, f.2) i
+      let k = put_fit h place r (accepting_now r l (new_accept line l)) g (inr (λ b. b, λ k. absurd (subst HasListen e k))) (f.0, record { accept = record { last = refl; left = accept.Unarrived }; of_side = refl; of_maker = refl; going = refl }, f.2) i in record { records = k.records; stands = k.stands }
+  moves_fit _ _ (Unlistens h place r op q g e c o) i = let f = i.records place r g in put_fit h place r _ g (inl q) (f.0, tt, f.2) i
+  moves_fit _ _ (Forgets h place r l c g e a) i = let f = i.records place r g in put_fit h place r _ g (inr (λ b. b, λ k. absurd (subst HasListen e k))) (f.0, tt, f.2) i
   moves_fit _ _ (Joins h c handle place r l new peer is of u g e a) i =
       let f = i.records place r g in
       let idle : Tcp2Socket = accepting_now r l Accepting.Idle in
-      let k = put_fit h place r idle g (inr (λ b. b)) (f.0, tt, f.2) i in
+      let k = put_fit h place r idle g (inr (λ b. b, λ k. absurd (subst HasListen e k))) (f.0, tt, f.2) i in
       record {
-        records = λ p q d. elim (get_split (slice_set h.machine.store.sockets place idle) (joined l new peer) p q d) [ inl x ↦ k.records p q x | inr x ↦ subst FitRecord x (joined_fits l new peer) ];
-        stands = λ c e. call_push (slice_set h.machine.store.sockets place idle) (joined l new peer) c.call (k.stands c e);
+        records = λ p q d. elim (get_split (tcp2_put h.machine.store.records place idle) (joined l new peer) p q d) [ inl x ↦ k.records p q x | inr x ↦ subst FitRecord x (joined_fits l new peer) ];
+        stands = λ c e. call_push (tcp2_put h.machine.store.records place idle) (joined l new peer) c.call (k.stands c e);
       }
-  moves_fit _ _ (Stands h n call r at g b) i = record { records = i.records; stands = λ c p. let q : standing_as n call ≡ c = cc in subst (λ (x : Standing). FitCall h.machine.store.sockets x.call) q (call_stands h.machine.store.sockets call r g b) }
+  moves_fit _ _ (Stands h ids call r at g b) i = record { records = i.records; stands = λ c p. let q : standing_as ids call ≡ c = cc in subst (λ (x : Standing). FitCall h.machine.store.records x.call) q (call_stands h.machine.store.records call r g b) }
   moves_fit _ _ (Unstands h) i = record { records = i.records; stands = λ c p. absurd (cc) }
   moves_fit _ _ _ i = record { records = i.records; stands = i.stands }
 
@@ -195,10 +206,10 @@ module _ (contexts : List WasiSocketsCtx) (line : ℕ) (origin : Step) where
 
   pub joins : (es : List Entry) (h : Here) (op : OpId) (made : Result Socket ErrorCode) → MadeFits made → Fit h → Allows Anything (λ fs done. Fit (record h { machine = done.1; own = Used })) es (created_asks h.machine op made)
   joins es h op (Ok socket) f i =
-      allows_then Anything (λ fs made. ⊤) (λ fs done. Fit (record h { machine = done.1; own = Used })) es (make_asks h.machine.table op (Tcp2 (length h.machine.store.sockets)) None (side_of socket)) _ (whatever (λ made. ⊤) (λ made. tt) es _)
+      allows_then Anything (λ fs made. ⊤) (λ fs done. Fit (record h { machine = done.1; own = Used })) es (make_asks h.machine.table op (Tcp2 (length h.machine.store.records)) None (side_of socket)) _ (whatever (λ made. ⊤) (λ made. tt) es _)
       (λ fs made t. record {
-        records = λ p r e. elim (get_split h.machine.store.sockets (new_record socket) p r e) [ inl q ↦ i.records p r q | inr q ↦ subst FitRecord q (f, tt, tt) ];
-        stands = λ c e. call_push h.machine.store.sockets (new_record socket) c.call (i.stands c e);
+        records = λ p r e. elim (get_split h.machine.store.records (new_record socket) p r e) [ inl q ↦ i.records p r q | inr q ↦ subst FitRecord q (f, tt, tt) ];
+        stands = λ c e. call_push h.machine.store.records (new_record socket) c.call (i.stands c e);
       })
   joins es h op (Err c) f i = record { records = i.records; stands = i.stands }
 
@@ -215,7 +226,7 @@ module _ (contexts : List WasiSocketsCtx) (line : ℕ) (origin : Step) where
       let f = i.records place r g in
       let its : IsConnect op = subst HoldsConnect e f.0 in
       allows_weaker Anything (λ fs end. IsLeftOfConnect end.1) (λ fs end. Fit (put h place (with_inner r (with_state r.inner (connect_ended op.who end).1))))
-      (λ fs end k. put_fit h place r _ g (inr (λ b. b)) (ended_fits op end its k, f.1, not_binding r.in_progress e (λ side d. absurd (cc)) f.2 _) i) es (poll_asks op) (connect_left op its es)
+      (λ fs end k. put_fit h place r _ g (inr (λ b. b, λ l. l)) (ended_fits op end its k, f.1, not_binding r.in_progress e (λ side d. absurd (cc)) f.2 _) i) es (poll_asks op) (connect_left op its es)
   polls_fit es h _ _ (Listens place r op q g e c) i =
       let f = i.records place r g in
       let its : IsListen op = subst FitListening e f.1 in
@@ -224,7 +235,7 @@ module _ (contexts : List WasiSocketsCtx) (line : ℕ) (origin : Step) where
       let f = i.records place r g in
       let its : IsAcceptOn l.side l.maker op = subst (HoldsAccept l.side l.maker) a (subst FitListening e f.1) in
       allows_weaker Anything (λ fs end. AcceptLeaves end) (λ fs end. Fit (put h place (accepting_now r l (accept_ended op.who end))))
-      (λ fs end k. put_fit h place r _ g (inr (λ b. b)) (f.0, accepted_fits l.side l.maker op end its k, f.2) i) es (poll_asks op) (accept_left op its.accept its.going es)
+      (λ fs end k. put_fit h place r _ g (inr (λ b. b, λ l. absurd (subst HasListen e l))) (f.0, accepted_fits l.side l.maker op end its k, f.2) i) es (poll_asks op) (accept_left op its.accept its.going es)
 
   unfoldable pub fits : Law contexts line origin
   fits = record {
@@ -233,14 +244,14 @@ module _ (contexts : List WasiSocketsCtx) (line : ℕ) (origin : Step) where
     moves = λ es h now m i. moves_fit h now m i;
     asks = λ es h place n r side c at g o q i. (tt, λ told fits. i);
     sets = λ es h place r side b at g s is i. (tt, λ told fits. i);
-    learns = λ es h place r side at g e i. (tt, λ told fits. let f = i.records place r g in put_fit h place r _ g (inr (λ b. b)) (subst HoldsConnect (sym (told_same r.inner (told_addr told))) f.0, f.1, same_progress r.in_progress (told_same r.inner (told_addr told)) f.2) i);
+    learns = λ es h place r side at g e i. (tt, λ told fits. let f = i.records place r g in put_fit h place r _ g (inr (λ b. b, λ l. l)) (subst HoldsConnect (sym (told_same r.inner (told_addr told))) f.0, f.1, same_progress r.in_progress (told_same r.inner (told_addr told)) f.2) i);
     closes = λ es h place r side q g e i. (tt, λ told fits. put_fit h place r (closed_record r) g (inl q) (tt, tt, tt) i);
     marks = λ es h kind parent sock m i. whatever (λ made. Fit (record h { machine = record h.machine { table = made.1 } })) (λ made. record { records = i.records; stands = i.stands }) es _;
     creates = λ es h ctx family c a o m i. created es h (own_of line) ctx family i;
     accepted = λ es h c s place r is e o g i. whatever (λ made. Fit (record h { machine = record h.machine { table = made.1 }; made = made_so place made.0 })) (λ made. record { records = i.records; stands = i.stands }) es _;
     polls = polls_fit;
-    turns = λ es h place r s g e i. whatever (λ done. Fit (put h place (with_writer r s done.1))) (λ done. put_fit h place r _ g (inr (λ b. b)) (i.records place r g) i) es (turn_asks s.writer);
-    gives_up = λ es h place r g i. whatever (λ done. Fit (put h place (with_listening r Not))) (λ done. let f = i.records place r g in put_fit h place r _ g (inr (λ b. b)) (f.0, tt, f.2) i) es (give_up_asks r.listening);
+    turns = λ es h place r s g e i. whatever (λ done. Fit (put h place (with_writer r s done.1))) (λ done. put_fit h place r _ g (inr (λ b. b, λ l. l)) (i.records place r g) i) es (turn_asks s.writer);
+    gives_up = λ es h place r q g i. whatever (λ done. Fit (put h place (with_listening r Not))) (λ done. let f = i.records place r g in put_fit h place r _ g (inl q) (f.0, tt, f.2) i) es (give_up_asks r.listening);
   }
 
   -- what it says of a tree

@@ -1,15 +1,17 @@
 -- What it is that a socket is bound by a bind, connects by a connect, listens by a listen and accepts by an accept.
-use Rattle.std.specs.Prelude.{◌≡◌, ℕ, List, Some, ⊤, slice_get}
+use Rattle.std.specs.Prelude.{◌≡◌, ℕ, List, Some, ⊤}
 use Rattle.wasi_tcp.specs.Connecting.{HoldsConnect}
 use Rattle.wasi_tcp.specs.Listen.{IsListen}
 use Rattle.wasi_tcp.specs.Listener.{HoldsAccept}
 use Rattle.wasi_tcp.specs.declared.socket.TcpState.{TcpState}
+use Rattle.wasi_host.specs.Records.{tcp2_at}
+use Rattle.wasi_host.specs.declared.records.Record.{Record}
 use Rattle.wasi_host.specs.declared.binding.InProgress.{InProgress}
 use Rattle.wasi_host.specs.declared.listening.Listening.{Listening}
 use Rattle.wasi_host.specs.declared.socket.Tcp2Socket.{Tcp2Socket}
 use Rattle.wasi_host.specs.declared.store.StandingCall.{StandingCall}
 use Rattle.wasi_walks.specs.Waiting.{IsRestOfBind}
-use Rattle.wasi_walks.proofs.walks.Moves.{HasBinding}
+use Rattle.wasi_walks.proofs.walks.Moves.{HasBinding, HasListen}
 
 -- what it listens by is a listen, and what it accepts by an accept
 abbrev pub FitListening : Listening → Type 0
@@ -27,12 +29,19 @@ abbrev pub FitRecord : Tcp2Socket → Type 0
 FitRecord r = HoldsConnect r.inner.state × FitListening r.listening × FitProgress r.inner.state r.in_progress
 
 -- A bind is in progress in the record at this place.
-pub record BindGoesOn (sockets : List Tcp2Socket) (place : ℕ) : Type 0 where
+pub record BindGoesOn (records : List Record) (place : ℕ) : Type 0 where
   pub was : Tcp2Socket
-  pub at : slice_get sockets place ≡ Some was
+  pub at : tcp2_at records place ≡ Some was
   pub goes : HasBinding was.in_progress
 
--- where a bind is pending, it is in progress
-abbrev pub FitCall : List Tcp2Socket → StandingCall → Type 0
-FitCall sockets (StandingCall.Bind place) = BindGoesOn sockets place
-FitCall sockets _ = ⊤
+-- A listen is in progress in the record at this place.
+pub record ListenGoesOn (records : List Record) (place : ℕ) : Type 0 where
+  pub was : Tcp2Socket
+  pub at : tcp2_at records place ≡ Some was
+  pub goes : HasListen was.listening
+
+-- where a bind or a listen is pending, it is in progress
+abbrev pub FitCall : List Record → StandingCall → Type 0
+FitCall records (StandingCall.Bind place) = BindGoesOn records place
+FitCall records (StandingCall.Listen place) = ListenGoesOn records place
+FitCall records (StandingCall.DropOutput place) = ⊤

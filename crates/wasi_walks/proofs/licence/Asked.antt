@@ -1,7 +1,7 @@
 -- What a line asks by its own operation is licensed, and what it is answered fits.
 use Rattle.wasi_walks.proofs.Words.{Begins, Call, Done, End, Entry, IsAddr, List, MarksNoSocket, MayAsk, OpId, Operation, Refused, Some, Step}
 use Rattle.wasi_walks.proofs.Words.{Tcp2Socket, TcpState, Told, Waits, WasiSocketsCtx, WriteState, [], after_local, ap, closing_side, entry, inl}
-use Rattle.wasi_walks.proofs.Words.{marked_by, own_of, refl, side_in, side_of, slice_get, step_at, subst, sym, told_addr, with_inner, writer_side}
+use Rattle.wasi_walks.proofs.Words.{marked_by, own_of, refl, side_in, side_of, step_at, subst, sym, told_addr, with_inner, writer_side}
 use Rattle.wasi_walks.proofs.Words.{writing_side, ℕ, ◌++◌, ◌∙◌, ◌∷◌, ◌≡◌}
 use Rattle.wasi_walks.specs.Licence.{BeganBy, IsGetOf, IsSetTo}
 use Rattle.wasi_walks.proofs.licence.Fresh.{made_more}
@@ -14,6 +14,7 @@ use Rattle.wasi_walks.proofs.licence.Frames.{Touches, Spared, same_listening, un
 use Rattle.wasi_walks.proofs.licence.Binds.{learned_told, NoLocal}
 use Rattle.wasi_walks.proofs.licence.Line.{some_same, local_side, ListenGoesOn, JoinedIsFine, Licensed, put_fine}
 use Rattle.wasi_walks.proofs.licence.Moves.{held_side, same_listen}
+use Rattle.wasi_host.specs.Records.{tcp2_at}
 
 module _ (contexts : List WasiSocketsCtx) (steps : List Step) (line : ℕ) (origin : Step) (is_line : step_at steps line ≡ Some origin) where
   -- == asks
@@ -31,7 +32,7 @@ module _ (contexts : List WasiSocketsCtx) (steps : List Step) (line : ℕ) (orig
   joined_on es h e p j f = record { new = j.new; on = j.on; peer = j.peer; context = j.context; listener = j.listener; by = j.by; side = j.side; of_listener = side_more es _ j.listener j.on j.of_listener; handed = record { told = j.handed.told; hand = has_front es _ _ j.handed.hand }; fresh = f }
 
   -- a call that is no mark
-  pub asked_by : (es : List Entry) (h : Here) (op : OpId) (c : Call) (told : Told) → marked_by c ≡ 0 → Spared h.machine.store.sockets op c → (h.own ≡ Unused → Touches op c (second_of line) → ⊥) → Spares h c → Licensed steps line origin es h → Licensed steps line origin (es ++ entry op c told ∷ []) h
+  pub asked_by : (es : List Entry) (h : Here) (op : OpId) (c : Call) (told : Told) → marked_by c ≡ 0 → Spared h.machine.store.records op c → (h.own ≡ Unused → Touches op c (second_of line) → ⊥) → Spares h c → Licensed steps line origin es h → Licensed steps line origin (es ++ entry op c told ∷ []) h
   asked_by es h op c told z sp u n i = record {
     fine = state_spared steps es h.machine op c told z sp i.fine;
     names = λ k j r a g side m. names_on (stay steps) es _ (own_of j) side (i.names k j r a g side m);
@@ -72,14 +73,14 @@ module _ (contexts : List WasiSocketsCtx) (steps : List Step) (line : ℕ) (orig
 
   -- a line names the network socket that it asks of
   pub names_on_side : (es : List Entry) (h : Here) (place n : ℕ) (r : Tcp2Socket) (side : OpId) → h.at ≡ Some (place, n) → Found h place r → IsOn r side → Licensed steps line origin es h → Names steps es (own_of n) side
-  names_on_side es h place n r side at g o i = let f = i.fine.sockets place r g in i.names place n r at g side (f.named side (on_side es r side o f))
+  names_on_side es h place n r side at g o i = let f = i.fine.records place r g in i.names place n r at g side (f.named side (on_side es r side o f))
 
   -- a network socket that a record has is not that of a listen in progress
   pub not_held : (h : Here) (place : ℕ) (r : Tcp2Socket) (side : OpId) → Found h place r → side_of r.inner ≡ Some side → Named line h → (k : ℕ) (q : Tcp2Socket) (op : Operation) → Found h k q → q.listening ≡ Begins op → side ≡ op.who.side → ⊥
   not_held h place r side g p n k q op gq e eq =
       let d = n.held op k q gq e in
       let at : place ≡ k = n.one side place k r q g gq (inl (n.named side place r g p)) (inl (d.0 ∙ ap (λ (x : OpId). Some x) (sym eq))) in
-      let same : r ≡ q = same_record r q (sym g ∙ (ap (slice_get h.machine.store.sockets) at ∙ gq)) in
+      let same : r ≡ q = same_record r q (sym g ∙ (ap (tcp2_at h.machine.store.records) at ∙ gq)) in
       no_some side (sym d.1 ∙ (ap (λ (x : Tcp2Socket). side_of x.inner) (sym same) ∙ p))
 
   pub question_local : (n : ℕ) (side x : OpId) (c : Call) → IsQuestionOf line origin n side c → c ≡ Call.Local x → side ≡ x
@@ -106,7 +107,7 @@ module _ (contexts : List WasiSocketsCtx) (steps : List Step) (line : ℕ) (orig
   learned_fine es h place r side told g e f b i =
       let fs : List Entry = es ++ entry (own_of line) (Call.Local side) told ∷ [] in
       let j = asked_fine es h (own_of line) (Call.Local side) told tt (λ k q op d l p. not_held h place r side g (ap side_in e) b k q op d l (local_side side op.who.side p)) i in
-      let x = j.fine.sockets place r g in
+      let x = j.fine.records place r g in
       let l = learned_told contexts steps fs (own_of line) side r.inner told e f (has_last es _) x.socket in
       let now : Tcp2Socket = with_inner r (after_local r.inner (told_addr told)).1 in
       put_fine fs h place r now g refl (same_listening r.listening) (same_listen contexts steps line origin is_line r now refl l.keeps.maker l.keeps.family) (record_kept steps fs r now (record { keeps = l.keeps; side = refl; streams = refl; listening = refl; binds = inl refl }) l.fine x) j

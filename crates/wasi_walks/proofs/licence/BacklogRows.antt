@@ -11,6 +11,7 @@ use Rattle.wasi_walks.proofs.licence.ListenRows.{listening_record, listens_by}
 use Rattle.wasi_addr.specs.declared.code.ErrorCode.TheVariants as code
 use Rattle.wasi_world.specs.declared.call.HandleKind.TheVariants as kind
 use Rattle.wasi_world.specs.declared.call.Opt.TheVariants as opt
+use Rattle.wasi_host.specs.declared.records.Record.TheVariants as rec
 
 -- == a backlog is set before the listen, which takes it, and again after it; and an option is set and reported
 abbrev script : List Step
@@ -39,7 +40,7 @@ sets = listens Told.Done
     ∷ [])
 
 abbrev listening : Machine
-listening = record { table = two_handles; store = record { sockets = listening_record 9 InProgress.Nothing ∷ []; jobs = []; standing = None } }
+listening = record { table = two_handles; store = record { records = rec.Tcp2 (listening_record 9 InProgress.Nothing) ∷ []; jobs = []; standing = None } }
 
 abbrev done : Reply
 done = Reply.Ok no_fields

@@ -3,14 +3,16 @@ use Rattle.wasi_walks.proofs.Words.{Accepting, Accepts, Arrived, BeganBy, Call, 
 use Rattle.wasi_walks.proofs.Words.{HasWildcardYes, InProgress, IpSocketAddress, IsBoundSide, IsMaker, IsMarkedWith, IsSide, Item, Job, Kind, List}
 use Rattle.wasi_walks.proofs.Words.{Listening, Listens, Machine, Made, MarksNoSocket, MayGoOut, NamesSide, None, Not, OpId, Operation, Option, Socket}
 use Rattle.wasi_walks.proofs.Words.{SocketAddrUse, SocketAddressFamily, Some, Standing, Step, Streams, Tcp2Socket, Told, WriteState, [], ap}
-use Rattle.wasi_walks.proofs.Words.{append_assoc, arith, call_place, entry, inl, inr, marked_by, new_record, own_of, refl, side_of, slice_get}
-use Rattle.wasi_walks.proofs.Words.{slice_set, step_at, subst, sym, table_parent, with_handle, with_record, with_socket, without_handle, ℕ, ⊤, ◌++◌}
+use Rattle.wasi_walks.proofs.Words.{append_assoc, arith, call_place, entry, inl, inr, marked_by, new_record, own_of, refl, side_of}
+use Rattle.wasi_walks.proofs.Words.{step_at, subst, sym, table_parent, with_handle, with_record, with_socket, without_handle, ℕ, ⊤, ◌++◌}
 use Rattle.wasi_walks.proofs.Words.{◌∙◌, ◌∷◌, ◌≡◌, ◌⊎◌}
 use Rattle.wasi_world.specs.declared.call.Call.TheVariants.{Accept}
 use Rattle.wasi_streams.proofs.Tables.{value_without}
+use Rattle.wasi_host.specs.Records.{tcp2_at, tcp2_put, tcp2_pushed}
+use Rattle.wasi_host.specs.declared.records.Record.{Record}
 use Rattle.wasi_host.specs.declared.jobs.HostJob.{HostJob}
 use Rattle.wasi_tcp.specs.declared.socket.TcpState.TheVariants.{Connected}
-use Rattle.wasi_walks.proofs.Lists.{has_front, marks_in-push, get_front, get_split, get_set, set_get, value_split, has_split}
+use Rattle.wasi_walks.proofs.Lists.{has_front, marks_in-push, get_split, get_set, set_get, value_split, has_split, tcp2_front}
 use Rattle.wasi_walks.proofs.licence.State.{NamesRecord, NamesIf, HandleIsFine, KnowsMaker, BindLeft, Whole, Checked, Over, ConnectLeft, Unbound, Unchecked, Allowed, ToClose, Ended, Names, WorksOn, BindIsFine, ConnectIsFine, JobIsFine, WritesOn, IsConnectedOn, StreamsAreFine, ListeningStands, accept_name, AcceptIsFine, AcceptingIsFine, ListeningIsFine, ProgressIsFine, SocketIsFine, RecordIsFine, StandingIsFine, StateIsFine, LastAccept, AcceptLeft, Unarrived, ToCheck, AcceptingStands, name_in, OneHolds}
 use Rattle.wasi_walks.proofs.walks.Moves.{KeepsBinding, record_of}
 use Rattle.wasi_world.specs.declared.call.HandleKind.TheVariants.{Tcp2}
@@ -24,8 +26,8 @@ Touches op (Made handle Tcp2 parent (Some side)) x = side ≡ x
 Touches op _ x = ⊥
 
 -- the call touches no accept of these records
-abbrev pub Spared : List Tcp2Socket → OpId → Call → Type 0
-Spared sockets op c = (place : ℕ) (r : Tcp2Socket) (x : OpId) → slice_get sockets place ≡ Some r → accept_name r.listening ≡ Some x → Touches op c x → ⊥
+abbrev pub Spared : List Record → OpId → Call → Type 0
+Spared records op c = (place : ℕ) (r : Tcp2Socket) (x : OpId) → tcp2_at records place ≡ Some r → accept_name r.listening ≡ Some x → Touches op c x → ⊥
 
 op_of : (a b : Entry) → a ≡ b → a.op ≡ b.op
 op_of a b e = ap (λ (x : Entry). x.op) e
@@ -104,31 +106,31 @@ pub listening_gone : (old : Listening) → KeepsListening old Not
 listening_gone old = record { stands = λ es h. tt; names = λ x e. absurd (cc) }
 
 -- only the record of this place may have an accept of this name
-abbrev pub Only : List Tcp2Socket → ℕ → OpId → Type 0
-Only sockets place x = (k : ℕ) (s : Tcp2Socket) → slice_get sockets k ≡ Some s → accept_name s.listening ≡ Some x → k ≡ place
+abbrev pub Only : List Record → ℕ → OpId → Type 0
+Only records place x = (k : ℕ) (s : Tcp2Socket) → tcp2_at records k ≡ Some s → accept_name s.listening ≡ Some x → k ≡ place
 
-pub stands_put : (es : List Entry) (sockets : List Tcp2Socket) (i : ℕ) (now : Tcp2Socket) → ListeningStands es now.listening → ((k : ℕ) (s : Tcp2Socket) → slice_get sockets k ≡ Some s → ListeningStands es s.listening)
-    → (k : ℕ) (s : Tcp2Socket) → slice_get (slice_set sockets i now) k ≡ Some s → ListeningStands es s.listening
-stands_put es sockets i now f h k s e = elim (get_set sockets i now k s e) [
+pub stands_put : (es : List Entry) (records : List Record) (i : ℕ) (now : Tcp2Socket) → ListeningStands es now.listening → ((k : ℕ) (s : Tcp2Socket) → tcp2_at records k ≡ Some s → ListeningStands es s.listening)
+    → (k : ℕ) (s : Tcp2Socket) → tcp2_at (tcp2_put records i now) k ≡ Some s → ListeningStands es s.listening
+stands_put es records i now f h k s e = elim (get_set records i now k s e) [
   | inl q ↦ subst (λ (r : Tcp2Socket). ListeningStands es r.listening) q.1 f
   | inr q ↦ h k s q
 ]
 
 -- where the record is that which was put, or another
-one_of : (sockets : List Tcp2Socket) (i : ℕ) (now : Tcp2Socket) → ((x : OpId) → accept_name now.listening ≡ Some x → Only sockets i x) → OneHolds sockets → (k j : ℕ) (r s : Tcp2Socket) (x : OpId)
-    → ((k ≡ i) × (now ≡ r)) ⊎ (slice_get sockets k ≡ Some r) → ((j ≡ i) × (now ≡ s)) ⊎ (slice_get sockets j ≡ Some s) → accept_name r.listening ≡ Some x → accept_name s.listening ≡ Some x → k ≡ j
-one_of sockets i now o h k j r s x (inl a) (inl b) n m = a.0 ∙ sym b.0
-one_of sockets i now o h k j r s x (inl a) (inr b) n m = a.0 ∙ sym (o x (subst (λ (t : Tcp2Socket). accept_name t.listening ≡ Some x) (sym a.1) n) j s b m)
-one_of sockets i now o h k j r s x (inr a) (inl b) n m = o x (subst (λ (t : Tcp2Socket). accept_name t.listening ≡ Some x) (sym b.1) m) k r a n ∙ sym b.0
-one_of sockets i now o h k j r s x (inr a) (inr b) n m = h k j r s x a b n m
+one_of : (records : List Record) (i : ℕ) (now : Tcp2Socket) → ((x : OpId) → accept_name now.listening ≡ Some x → Only records i x) → OneHolds records → (k j : ℕ) (r s : Tcp2Socket) (x : OpId)
+    → ((k ≡ i) × (now ≡ r)) ⊎ (tcp2_at records k ≡ Some r) → ((j ≡ i) × (now ≡ s)) ⊎ (tcp2_at records j ≡ Some s) → accept_name r.listening ≡ Some x → accept_name s.listening ≡ Some x → k ≡ j
+one_of records i now o h k j r s x (inl a) (inl b) n m = a.0 ∙ sym b.0
+one_of records i now o h k j r s x (inl a) (inr b) n m = a.0 ∙ sym (o x (subst (λ (t : Tcp2Socket). accept_name t.listening ≡ Some x) (sym a.1) n) j s b m)
+one_of records i now o h k j r s x (inr a) (inl b) n m = o x (subst (λ (t : Tcp2Socket). accept_name t.listening ≡ Some x) (sym b.1) m) k r a n ∙ sym b.0
+one_of records i now o h k j r s x (inr a) (inr b) n m = h k j r s x a b n m
 
-pub one_put : (sockets : List Tcp2Socket) (i : ℕ) (now : Tcp2Socket) → ((x : OpId) → accept_name now.listening ≡ Some x → Only sockets i x) → OneHolds sockets → OneHolds (slice_set sockets i now)
-one_put sockets i now o h k j r s x a b n m = one_of sockets i now o h k j r s x (get_set sockets i now k r a) (get_set sockets i now j s b) n m
+pub one_put : (records : List Record) (i : ℕ) (now : Tcp2Socket) → ((x : OpId) → accept_name now.listening ≡ Some x → Only records i x) → OneHolds records → OneHolds (tcp2_put records i now)
+one_put records i now o h k j r s x a b n m = one_of records i now o h k j r s x (get_set records i now k r a) (get_set records i now j s b) n m
 
 -- a record more, which has no accept
-pub stands_push : (es : List Entry) (sockets : List Tcp2Socket) (now : Tcp2Socket) → ListeningStands es now.listening → ((k : ℕ) (s : Tcp2Socket) → slice_get sockets k ≡ Some s → ListeningStands es s.listening)
-    → (k : ℕ) (s : Tcp2Socket) → slice_get (sockets ++ now ∷ []) k ≡ Some s → ListeningStands es s.listening
-stands_push es sockets now f h k s e = elim (get_split sockets now k s e) [
+pub stands_push : (es : List Entry) (records : List Record) (now : Tcp2Socket) → ListeningStands es now.listening → ((k : ℕ) (s : Tcp2Socket) → tcp2_at records k ≡ Some s → ListeningStands es s.listening)
+    → (k : ℕ) (s : Tcp2Socket) → tcp2_at (tcp2_pushed records now) k ≡ Some s → ListeningStands es s.listening
+stands_push es records now f h k s e = elim (get_split records now k s e) [
   | inl q ↦ h k s q
   | inr q ↦ subst (λ (r : Tcp2Socket). ListeningStands es r.listening) q f
 ]
@@ -136,18 +138,18 @@ stands_push es sockets now f h k s e = elim (get_split sockets now k s e) [
 pub unnamed : (now r : Tcp2Socket) (x : OpId) → accept_name now.listening ≡ None → now ≡ r → accept_name r.listening ≡ Some x → ⊥
 unnamed now r x none e n = let p : accept_name now.listening ≡ Some x = subst (λ (t : Tcp2Socket). accept_name t.listening ≡ Some x) (sym e) n in let q : None ≡ Some x = sym none ∙ p in absurd (cc)
 
-one_among : (sockets : List Tcp2Socket) (now : Tcp2Socket) → accept_name now.listening ≡ None → OneHolds sockets → (k j : ℕ) (r s : Tcp2Socket) (x : OpId)
-    → (slice_get sockets k ≡ Some r) ⊎ (now ≡ r) → (slice_get sockets j ≡ Some s) ⊎ (now ≡ s) → accept_name r.listening ≡ Some x → accept_name s.listening ≡ Some x → k ≡ j
-one_among sockets now none h k j r s x (inr a) b n m = absurd (unnamed now r x none a n)
-one_among sockets now none h k j r s x (inl a) (inr b) n m = absurd (unnamed now s x none b m)
-one_among sockets now none h k j r s x (inl a) (inl b) n m = h k j r s x a b n m
+one_among : (records : List Record) (now : Tcp2Socket) → accept_name now.listening ≡ None → OneHolds records → (k j : ℕ) (r s : Tcp2Socket) (x : OpId)
+    → (tcp2_at records k ≡ Some r) ⊎ (now ≡ r) → (tcp2_at records j ≡ Some s) ⊎ (now ≡ s) → accept_name r.listening ≡ Some x → accept_name s.listening ≡ Some x → k ≡ j
+one_among records now none h k j r s x (inr a) b n m = absurd (unnamed now r x none a n)
+one_among records now none h k j r s x (inl a) (inr b) n m = absurd (unnamed now s x none b m)
+one_among records now none h k j r s x (inl a) (inl b) n m = h k j r s x a b n m
 
-pub one_push : (sockets : List Tcp2Socket) (now : Tcp2Socket) → accept_name now.listening ≡ None → OneHolds sockets → OneHolds (sockets ++ now ∷ [])
-one_push sockets now none h k j r s x a b n m = one_among sockets now none h k j r s x (get_split sockets now k r a) (get_split sockets now j s b) n m
+pub one_push : (records : List Record) (now : Tcp2Socket) → accept_name now.listening ≡ None → OneHolds records → OneHolds (tcp2_pushed records now)
+one_push records now none h k j r s x a b n m = one_among records now none h k j r s x (get_split records now k r a) (get_split records now j s b) n m
 
 -- no record has an accept of this name
-abbrev pub Free : List Tcp2Socket → OpId → Type 0
-Free sockets x = (k : ℕ) (s : Tcp2Socket) → slice_get sockets k ≡ Some s → accept_name s.listening ≡ Some x → ⊥
+abbrev pub Free : List Record → OpId → Type 0
+Free records x = (k : ℕ) (s : Tcp2Socket) → tcp2_at records k ≡ Some s → accept_name s.listening ≡ Some x → ⊥
 
 -- == what more entries keep
 pub side_more : (es fs : List Entry) (handle : ℕ) (side : OpId) → IsSide es handle side → IsSide (es ++ fs) handle side
@@ -163,11 +165,11 @@ pub maker_more : (es fs : List Entry) (ctx : ℕ) (family : SocketAddressFamily)
 maker_more es fs ctx family side (Created s t h) = Created s t (has_front es fs _ h)
 maker_more es fs ctx family side (Handed s l p t h m) = Handed s l p t (has_front es fs _ h) (maker_more es fs ctx family l m)
 
-pub names_record_more : (es fs : List Entry) (sockets : List Tcp2Socket) (handle place : ℕ) → NamesRecord es sockets handle place → NamesRecord (es ++ fs) sockets handle place
-names_record_more es fs sockets handle place h = record { found = h.found; at = h.at; marked = marked_more es fs handle h.found.side h.marked }
+pub names_record_more : (es fs : List Entry) (records : List Record) (handle place : ℕ) → NamesRecord es records handle place → NamesRecord (es ++ fs) records handle place
+names_record_more es fs records handle place h = record { found = h.found; at = h.at; marked = marked_more es fs handle h.found.side h.marked }
 
 -- what a handle stands for is kept where its record is
-handle_kept : (es fs : List Entry) (xs ys : List Tcp2Socket) (handle : ℕ) (o : Option ℕ) → ((place : ℕ) → NamesRecord es xs handle place → NamesRecord fs ys handle place) → NamesIf es xs handle o → NamesIf fs ys handle o
+handle_kept : (es fs : List Entry) (xs ys : List Record) (handle : ℕ) (o : Option ℕ) → ((place : ℕ) → NamesRecord es xs handle place → NamesRecord fs ys handle place) → NamesIf es xs handle o → NamesIf fs ys handle o
 handle_kept es fs xs ys handle (Some place) k h = k place h
 handle_kept es fs xs ys handle None k h = tt
 
@@ -235,28 +237,28 @@ pub record KeepsRecord (old now : Tcp2Socket) : Type 0 where
 
 -- == the records by place
 -- The record of this place was made with this network socket.
-pub record IsMadeWith (sockets : List Tcp2Socket) (place : ℕ) (side : Option OpId) : Type 0 where
+pub record IsMadeWith (records : List Record) (place : ℕ) (side : Option OpId) : Type 0 where
   pub found : Tcp2Socket
-  pub at : slice_get sockets place ≡ Some found
+  pub at : tcp2_at records place ≡ Some found
   pub same : found.side ≡ side
 
 pub same_record : (a b : Tcp2Socket) → Some a ≡ Some b → a ≡ b
 same_record a b p = cc
 
 -- among those of which one was replaced by one that was made with the same network socket
-made_put : (sockets : List Tcp2Socket) (i : ℕ) (old now : Tcp2Socket) (place : ℕ) (found : Tcp2Socket) → slice_get sockets i ≡ Some old → now.side ≡ old.side → slice_get sockets place ≡ Some found → IsMadeWith (slice_set sockets i now) place found.side
-made_put sockets i old now place found g k h = elim (set_get sockets i now place found h) [
+made_put : (records : List Record) (i : ℕ) (old now : Tcp2Socket) (place : ℕ) (found : Tcp2Socket) → tcp2_at records i ≡ Some old → now.side ≡ old.side → tcp2_at records place ≡ Some found → IsMadeWith (tcp2_put records i now) place found.side
+made_put records i old now place found g k h = elim (set_get records i now place found h) [
   | inl e ↦ record { found = found; at = e; same = refl }
-  | inr e ↦ (let p : found ≡ old = same_record found old (sym h ∙ (ap (slice_get sockets) e.0 ∙ g)) in record { found = now; at = e.1; same = k ∙ ap (λ (r : Tcp2Socket). r.side) (sym p) })
+  | inr e ↦ (let p : found ≡ old = same_record found old (sym h ∙ (ap (tcp2_at records) e.0 ∙ g)) in record { found = now; at = e.1; same = k ∙ ap (λ (r : Tcp2Socket). r.side) (sym p) })
 ]
 
-names_put : (es : List Entry) (sockets : List Tcp2Socket) (i : ℕ) (old now : Tcp2Socket) (handle place : ℕ) → slice_get sockets i ≡ Some old → now.side ≡ old.side → NamesRecord es sockets handle place → NamesRecord es (slice_set sockets i now) handle place
-names_put es sockets i old now handle place g k h =
-    let m = made_put sockets i old now place h.found g k h.at in
+names_put : (es : List Entry) (records : List Record) (i : ℕ) (old now : Tcp2Socket) (handle place : ℕ) → tcp2_at records i ≡ Some old → now.side ≡ old.side → NamesRecord es records handle place → NamesRecord es (tcp2_put records i now) handle place
+names_put es records i old now handle place g k h =
+    let m = made_put records i old now place h.found g k h.at in
     record { found = m.found; at = m.at; marked = rw m.same h.marked }
 
-names_push : (es : List Entry) (sockets : List Tcp2Socket) (r : Tcp2Socket) (handle place : ℕ) → NamesRecord es sockets handle place → NamesRecord es (sockets ++ r ∷ []) handle place
-names_push es sockets r handle place h = record { found = h.found; at = get_front sockets (r ∷ []) place h.found h.at; marked = h.marked }
+names_push : (es : List Entry) (records : List Record) (r : Tcp2Socket) (handle place : ℕ) → NamesRecord es records handle place → NamesRecord es (tcp2_pushed records r) handle place
+names_push es records r handle place h = record { found = h.found; at = tcp2_front records r place h.found h.at; marked = h.marked }
 
 -- A script that has the steps of this one.
 pub record Goes (steps now : List Step) : Type 0 where
@@ -334,8 +336,8 @@ module _ {steps now : List Step} (goes : Goes steps now) where
     progress = progress_more es fs r.in_progress h.progress;
   }
 
-  pub standing_more : (es fs : List Entry) (sockets : List Tcp2Socket) (s : Standing) → StandingIsFine steps es sockets s → StandingIsFine now (es ++ fs) sockets s
-  standing_more es fs sockets s h = record { found = h.found; at = h.at; named = λ side e. names_on es fs (own_of s.line) side (h.named side e) }
+  pub standing_more : (es fs : List Entry) (records : List Record) (s : Standing) → StandingIsFine steps es records s → StandingIsFine now (es ++ fs) records s
+  standing_more es fs records s h = record { found = h.found; at = h.at; named = λ side e. names_on es fs (own_of s.ids.line) side (h.named side e) }
 
 module _ (steps : List Step) where
   -- == a record that changes
@@ -367,38 +369,38 @@ module _ (steps : List Step) where
     pub fine : RecordIsFine steps es done.1
 
   -- == the pending call, where the records change
-  standing_put : (es : List Entry) (sockets : List Tcp2Socket) (i : ℕ) (old now : Tcp2Socket) (s : Standing) → slice_get sockets i ≡ Some old → now.side ≡ old.side → StandingIsFine steps es sockets s → StandingIsFine steps es (slice_set sockets i now) s
-  standing_put es sockets i old now s g k h =
-      let m = made_put sockets i old now (call_place s.call) h.found g k h.at in
+  standing_put : (es : List Entry) (records : List Record) (i : ℕ) (old now : Tcp2Socket) (s : Standing) → tcp2_at records i ≡ Some old → now.side ≡ old.side → StandingIsFine steps es records s → StandingIsFine steps es (tcp2_put records i now) s
+  standing_put es records i old now s g k h =
+      let m = made_put records i old now (call_place s.call) h.found g k h.at in
       record { found = m.found; at = m.at; named = λ side e. h.named side (sym m.same ∙ e) }
 
-  standing_push : (es : List Entry) (sockets : List Tcp2Socket) (r : Tcp2Socket) (s : Standing) → StandingIsFine steps es sockets s → StandingIsFine steps es (sockets ++ r ∷ []) s
-  standing_push es sockets r s h = record { found = h.found; at = get_front sockets (r ∷ []) (call_place s.call) h.found h.at; named = h.named }
+  standing_push : (es : List Entry) (records : List Record) (r : Tcp2Socket) (s : Standing) → StandingIsFine steps es records s → StandingIsFine steps es (tcp2_pushed records r) s
+  standing_push es records r s h = record { found = h.found; at = tcp2_front records r (call_place s.call) h.found h.at; named = h.named }
 
   -- == the state
   -- an ask that is no mark, and that touches no accept, keeps the state
-  pub state_spared : (es : List Entry) (m : Machine) (op : OpId) (c : Call) (told : Told) → marked_by c ≡ 0 → Spared m.store.sockets op c → StateIsFine steps es m → StateIsFine steps (es ++ entry op c told ∷ []) m
+  pub state_spared : (es : List Entry) (m : Machine) (op : OpId) (c : Call) (told : Told) → marked_by c ≡ 0 → Spared m.store.records op c → StateIsFine steps es m → StateIsFine steps (es ++ entry op c told ∷ []) m
   state_spared es m op c told z q h = record {
     count = let p = marks_in-push es (entry op c told) in let k = h.count in omega arith;
-    handles = λ handle kind e. handle_kept es _ m.store.sockets m.store.sockets handle (record_of (Some kind)) (names_record_more es _ m.store.sockets handle) (h.handles handle kind e);
-    sockets = λ place r e. record_more (stay steps) es _ r (h.sockets place r e);
-    standing = λ s e. standing_more (stay steps) es _ m.store.sockets s (h.standing s e);
+    handles = λ handle kind e. handle_kept es _ m.store.records m.store.records handle (record_of (Some kind)) (names_record_more es _ m.store.records handle) (h.handles handle kind e);
+    records = λ place r e. record_more (stay steps) es _ r (h.records place r e);
+    standing = λ s e. standing_more (stay steps) es _ m.store.records s (h.standing s e);
     accepts = λ place r e. stands_more es op c told r.listening (h.accepts place r e) (λ x n. q place r x e n);
     one = h.one;
   }
 
   -- a mark, and the handle that it makes
-  pub state_made : (es : List Entry) (m : Machine) (op : OpId) (name : HandleKind) (parent : Option ℕ) (sock : Option OpId) (told : Told) (kind : Kind) → Spared m.store.sockets op (Made m.table.next name parent sock)
-      → HandleIsFine (es ++ entry op (Made m.table.next name parent sock) told ∷ []) m.store.sockets m.table.next kind
+  pub state_made : (es : List Entry) (m : Machine) (op : OpId) (name : HandleKind) (parent : Option ℕ) (sock : Option OpId) (told : Told) (kind : Kind) → Spared m.store.records op (Made m.table.next name parent sock)
+      → HandleIsFine (es ++ entry op (Made m.table.next name parent sock) told ∷ []) m.store.records m.table.next kind
       → StateIsFine steps es m → StateIsFine steps (es ++ entry op (Made m.table.next name parent sock) told ∷ []) (record m { table = with_handle m.table kind parent })
   state_made es m op name parent sock told kind q f h = record {
     count = let p = marks_in-push es (entry op (Made m.table.next name parent sock) told) in let k = h.count in omega arith;
     handles = λ handle x e. elim (value_split m.table.live (record { handle = m.table.next; value = kind; parent = table_parent kind parent }) handle x e) [
-      | inl g ↦ handle_kept es _ m.store.sockets m.store.sockets handle (record_of (Some x)) (names_record_more es _ m.store.sockets handle) (h.handles handle x g)
-      | inr g ↦ (let fs = es ++ entry op (Made m.table.next name parent sock) told ∷ [] in subst (HandleIsFine fs m.store.sockets handle) g.1 (subst (λ (n : ℕ). HandleIsFine fs m.store.sockets n kind) g.0 f))
+      | inl g ↦ handle_kept es _ m.store.records m.store.records handle (record_of (Some x)) (names_record_more es _ m.store.records handle) (h.handles handle x g)
+      | inr g ↦ (let fs = es ++ entry op (Made m.table.next name parent sock) told ∷ [] in subst (HandleIsFine fs m.store.records handle) g.1 (subst (λ (n : ℕ). HandleIsFine fs m.store.records n kind) g.0 f))
     ];
-    sockets = λ place r e. record_more (stay steps) es _ r (h.sockets place r e);
-    standing = λ s e. standing_more (stay steps) es _ m.store.sockets s (h.standing s e);
+    records = λ place r e. record_more (stay steps) es _ r (h.records place r e);
+    standing = λ s e. standing_more (stay steps) es _ m.store.records s (h.standing s e);
     accepts = λ place r e. stands_more es op _ told r.listening (h.accepts place r e) (λ x n. q place r x e n);
     one = h.one;
   }
@@ -408,58 +410,58 @@ module _ (steps : List Step) where
   state_taken es m gone h = record {
     count = h.count;
     handles = λ handle kind e. h.handles handle kind (value_without m.table.live gone handle kind e);
-    sockets = h.sockets;
+    records = h.records;
     standing = h.standing;
     accepts = h.accepts;
     one = h.one;
   }
 
   -- one record changes, and its accept may be another
-  pub state_renewed : (es : List Entry) (m : Machine) (place : ℕ) (old now : Tcp2Socket) → slice_get m.store.sockets place ≡ Some old → now.side ≡ old.side → RecordIsFine steps es now
-      → ListeningStands es now.listening → ((x : OpId) → accept_name now.listening ≡ Some x → Only m.store.sockets place x)
+  pub state_renewed : (es : List Entry) (m : Machine) (place : ℕ) (old now : Tcp2Socket) → tcp2_at m.store.records place ≡ Some old → now.side ≡ old.side → RecordIsFine steps es now
+      → ListeningStands es now.listening → ((x : OpId) → accept_name now.listening ≡ Some x → Only m.store.records place x)
       → StateIsFine steps es m → StateIsFine steps es (record m { store = with_socket m.store place now })
   state_renewed es m place old now g k f a o h = record {
     count = h.count;
-    handles = λ handle x e. handle_kept es es m.store.sockets _ handle (record_of (Some x)) (λ i n. names_put es m.store.sockets place old now handle i g k n) (h.handles handle x e);
-    sockets = λ i r e. elim (get_set m.store.sockets place now i r e) [
+    handles = λ handle x e. handle_kept es es m.store.records _ handle (record_of (Some x)) (λ i n. names_put es m.store.records place old now handle i g k n) (h.handles handle x e);
+    records = λ i r e. elim (get_set m.store.records place now i r e) [
       | inl q ↦ subst (RecordIsFine steps es) q.1 f
-      | inr q ↦ h.sockets i r q
+      | inr q ↦ h.records i r q
     ];
-    standing = λ s e. standing_put es m.store.sockets place old now s g k (h.standing s e);
-    accepts = stands_put es m.store.sockets place now a h.accepts;
-    one = one_put m.store.sockets place now o h.one;
+    standing = λ s e. standing_put es m.store.records place old now s g k (h.standing s e);
+    accepts = stands_put es m.store.records place now a h.accepts;
+    one = one_put m.store.records place now o h.one;
   }
 
   -- one record changes
-  pub state_put : (es : List Entry) (m : Machine) (place : ℕ) (old now : Tcp2Socket) → slice_get m.store.sockets place ≡ Some old → now.side ≡ old.side → KeepsListening old.listening now.listening → RecordIsFine steps es now → StateIsFine steps es m
+  pub state_put : (es : List Entry) (m : Machine) (place : ℕ) (old now : Tcp2Socket) → tcp2_at m.store.records place ≡ Some old → now.side ≡ old.side → KeepsListening old.listening now.listening → RecordIsFine steps es now → StateIsFine steps es m
       → StateIsFine steps es (record m { store = with_socket m.store place now })
   state_put es m place old now g k l f h = state_renewed es m place old now g k f (l.stands es (h.accepts place old g)) (λ x n i s e o. h.one i place s old x e g o (l.names x n)) h
 
   -- a record more, which has no accept
   pub state_joined : (es : List Entry) (m : Machine) (now : Tcp2Socket) → RecordIsFine steps es now → ListeningStands es now.listening → accept_name now.listening ≡ None → StateIsFine steps es m
-      → StateIsFine steps es (record m { store = record m.store { sockets = m.store.sockets ++ now ∷ [] } })
+      → StateIsFine steps es (record m { store = record m.store { records = tcp2_pushed m.store.records now } })
   state_joined es m now f a n h = record {
     count = h.count;
-    handles = λ handle x e. handle_kept es es m.store.sockets _ handle (record_of (Some x)) (names_push es m.store.sockets now handle) (h.handles handle x e);
-    sockets = λ i r e. elim (get_split m.store.sockets now i r e) [
-      | inl q ↦ h.sockets i r q
+    handles = λ handle x e. handle_kept es es m.store.records _ handle (record_of (Some x)) (names_push es m.store.records now handle) (h.handles handle x e);
+    records = λ i r e. elim (get_split m.store.records now i r e) [
+      | inl q ↦ h.records i r q
       | inr q ↦ subst (RecordIsFine steps es) q f
     ];
-    standing = λ s e. standing_push es m.store.sockets now s (h.standing s e);
-    accepts = stands_push es m.store.sockets now a h.accepts;
-    one = one_push m.store.sockets now n h.one;
+    standing = λ s e. standing_push es m.store.records now s (h.standing s e);
+    accepts = stands_push es m.store.records now a h.accepts;
+    one = one_push m.store.records now n h.one;
   }
 
   pub state_push : (es : List Entry) (m : Machine) (socket : Socket) → SocketIsFine steps es socket → StateIsFine steps es m → StateIsFine steps es (record m { store = with_record m.store socket })
   state_push es m socket f h = state_joined es m (new_record socket) (record { socket = f; named = λ side p. p; streams = λ streams p. absurd (cc); listening = tt; progress = tt }) tt refl h
 
   -- a call is pending
-  pub state_stands : (es : List Entry) (m : Machine) (c : Standing) → StandingIsFine steps es m.store.sockets c → StateIsFine steps es m → StateIsFine steps es (record m { store = record m.store { standing = Some c } })
+  pub state_stands : (es : List Entry) (m : Machine) (c : Standing) → StandingIsFine steps es m.store.records c → StateIsFine steps es m → StateIsFine steps es (record m { store = record m.store { standing = Some c } })
   state_stands es m c f h = record {
     count = h.count;
     handles = h.handles;
-    sockets = h.sockets;
-    standing = λ d e. subst (StandingIsFine steps es m.store.sockets) (same c d e) f;
+    records = h.records;
+    standing = λ d e. subst (StandingIsFine steps es m.store.records) (same c d e) f;
     accepts = h.accepts;
     one = h.one;
   }
@@ -469,8 +471,8 @@ module _ (steps : List Step) where
 
   -- none is pending
   pub state_unstands : (es : List Entry) (m : Machine) → StateIsFine steps es m → StateIsFine steps es (record m { store = record m.store { standing = None } })
-  state_unstands es m h = record { count = h.count; handles = h.handles; sockets = h.sockets; standing = λ d e. absurd (cc); accepts = h.accepts; one = h.one }
+  state_unstands es m h = record { count = h.count; handles = h.handles; records = h.records; standing = λ d e. absurd (cc); accepts = h.accepts; one = h.one }
 
   -- which writes are in progress is nothing to it
   pub state_jobs : (es : List Entry) (m : Machine) (jobs : List HostJob) → StateIsFine steps es m → StateIsFine steps es (record m { store = record m.store { jobs = jobs } })
-  state_jobs es m jobs h = record { count = h.count; handles = h.handles; sockets = h.sockets; standing = h.standing; accepts = h.accepts; one = h.one }
+  state_jobs es m jobs h = record { count = h.count; handles = h.handles; records = h.records; standing = h.standing; accepts = h.accepts; one = h.one }

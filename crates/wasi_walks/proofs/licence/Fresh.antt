@@ -2,30 +2,31 @@
 -- that fits it.
 use Rattle.wasi_walks.proofs.Words.{Accepting, Accepts, BeganBy, Call, Created, Entry, Handed, HandedNone, HandleKind, Has, IpSocketAddress}
 use Rattle.wasi_walks.proofs.Words.{IsLicensed, IsMaker, IsMarkOf, List, Listening, Machine, MarksNoSocket, MayAsk, OpId, Option, Reply}
-use Rattle.wasi_walks.proofs.Words.{SocketAddressFamily, Some, Step, Tcp2Socket, Told, WasiSocketsCtx, [], ap, arith, entry, inl, inr, length}
+use Rattle.wasi_walks.proofs.Words.{SocketAddressFamily, Some, Step, Told, WasiSocketsCtx, [], ap, arith, entry, inl, inr, length}
 use Rattle.wasi_walks.proofs.Words.{marked_by, slice_get, step_at, subst, suc, sym, zero, ℕ, ◌++◌, ◌+◌, ◌<◌, ◌∙◌, ◌∷◌, ◌≡◌, ◌≤◌}
 use Rattle.wasi_walks.proofs.Lists.{Cut, cut_of, has_front, has_split}
 use Rattle.wasi_walks.proofs.licence.State.{name_in, accept_name, AcceptingIsFine, ListeningIsFine, StateIsFine}
 use Rattle.wasi_walks.proofs.licence.Frames.{Spared, Free}
 use Rattle.wasi_world.specs.declared.call.HandleKind.TheVariants as name
+use Rattle.wasi_host.specs.declared.records.Record.{Record}
 
 -- no mark is by this operation
 abbrev pub NoMadeBy : List Entry → OpId → Type 0
 NoMadeBy es op = (handle : ℕ) (kind : HandleKind) (above : Option ℕ) (side : Option OpId) (told : Told) → Has es (entry op (Call.Made handle kind above side) told) → ⊥
 
 -- Nothing was asked by the names of this line: they handed nothing over, marked nothing, and are in no mark and in no record.
-pub record IsNew (es : List Entry) (sockets : List Tcp2Socket) (line : ℕ) : Type 0 where
+pub record IsNew (es : List Entry) (records : List Record) (line : ℕ) : Type 0 where
   pub handed : (x : OpId) → x.step ≡ line → HandedNone es x
   pub marked : (x : OpId) → x.step ≡ line → MarksNoSocket es x
   pub made : (x : OpId) → x.step ≡ line → NoMadeBy es x
-  pub free : (x : OpId) → x.step ≡ line → Free sockets x
+  pub free : (x : OpId) → x.step ≡ line → Free records x
 
 -- what is asked by a name that no record has touches no accept
-pub spared_as : (sockets : List Tcp2Socket) (op x : OpId) (c : Call) → op ≡ x → marked_by c ≡ 0 → Free sockets x → Spared sockets op c
-spared_as sockets op x (Call.Made handle kind parent sock) e z f place r y g n t = absurd (omega arith)
-spared_as sockets op x (Call.Accept s) e z f place r y g n t = f place r g (subst (λ (k : OpId). accept_name r.listening ≡ Some k) (sym t ∙ e) n)
-spared_as sockets op x (Call.Hand s p) e z f place r y g n t = f place r g (subst (λ (k : OpId). accept_name r.listening ≡ Some k) (sym t ∙ e) n)
-spared_as sockets op x _ e z f place r y g n t = t
+pub spared_as : (records : List Record) (op x : OpId) (c : Call) → op ≡ x → marked_by c ≡ 0 → Free records x → Spared records op c
+spared_as records op x (Call.Made handle kind parent sock) e z f place r y g n t = absurd (omega arith)
+spared_as records op x (Call.Accept s) e z f place r y g n t = f place r g (subst (λ (k : OpId). accept_name r.listening ≡ Some k) (sym t ∙ e) n)
+spared_as records op x (Call.Hand s p) e z f place r y g n t = f place r g (subst (λ (k : OpId). accept_name r.listening ≡ Some k) (sym t ∙ e) n)
+spared_as records op x _ e z f place r y g n t = t
 
 pub made_more : (es : List Entry) (op own : OpId) (c : Call) (t : Told) → marked_by c ≡ 0 → NoMadeBy es own → NoMadeBy (es ++ entry op c t ∷ []) own
 made_more es op own c t z h handle kind above side told i = elim (has_split es (entry op c t) (entry own (Call.Made handle kind above side) told) i) [
@@ -107,10 +108,10 @@ module _ (contexts : List WasiSocketsCtx) (steps : List Step) where
     listening_below made (Accepts l) x f e = name_below l.side l.maker l.accept x f.accept e
     listening_below made _ x f e = absurd (cc)
 
-    pub next_is_new : (m : Machine) → StateIsFine steps log m → IsNew log m.store.sockets (length steps + 1)
+    pub next_is_new : (m : Machine) → StateIsFine steps log m → IsNew log m.store.records (length steps + 1)
     next_is_new m f = record {
       handed = λ x e l p t i. let k = handed_below x l p t i in omega arith;
       marked = λ x e o handle parent t i. let k = socket_below o handle parent x t i in omega arith;
       made = λ x e handle kind above side t i. let k = made_below x handle kind above side t i in omega arith;
-      free = λ x e place r g n. let k = listening_below r.side r.listening x (f.sockets place r g).listening n in omega arith;
+      free = λ x e place r g n. let k = listening_below r.side r.listening x (f.records place r g).listening n in omega arith;
     }

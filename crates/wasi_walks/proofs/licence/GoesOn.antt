@@ -4,7 +4,7 @@ use Rattle.wasi_walks.proofs.Words.{InProgress, IpSocketAddress, IsAcceptOn, IsC
 use Rattle.wasi_walks.proofs.Words.{List, Listener, Listening, MayAsk, None, Not, OpId, Operation, Option, Refused, Some, Step, Streams, Tcp2Socket}
 use Rattle.wasi_walks.proofs.Words.{TcpState, Unclosed, Waits, WasiSocketsCtx, Who, WriteState, accept_ended, allows_keep, allows_then, allows_weaker}
 use Rattle.wasi_walks.proofs.Words.{ap, arith, ask_close, bind_progress, connect_ended, false, give_up_asks, give_up_in, if◌then◌else◌, in_hand, inl}
-use Rattle.wasi_walks.proofs.Words.{inr, is_over, job_asks, left_of, marked_by, poll_asks, refl, refuse_in, side_of, slice_get, slice_set, step_at}
+use Rattle.wasi_walks.proofs.Words.{inr, is_over, job_asks, left_of, marked_by, poll_asks, refl, refuse_in, side_of, step_at}
 use Rattle.wasi_walks.proofs.Words.{subst, sym, true, turn_asks, with_inner, with_listening, with_progress, with_state, with_writer, ℕ, ⊤, ◌∙◌, ◌≡◌}
 use Rattle.wasi_tcp.specs.Listen.{IsListen}
 use Rattle.wasi_walks.proofs.licence.AcceptAsks.{MayAs, StandsAfter, polled as polled_accept}
@@ -28,6 +28,7 @@ use Rattle.wasi_walks.proofs.licence.Asked.{Spares, spares, asked_by, asked_fine
 use Rattle.wasi_tcp.specs.Listen as listen
 use Rattle.wasi_tcp.specs.Connect as connecting
 use Rattle.wasi_walks.specs.Waiting as binding
+use Rattle.wasi_host.specs.Records.{tcp2_at, tcp2_put}
 
 module _ (contexts : List WasiSocketsCtx) (steps : List Step) (line : ℕ) (origin : Step) (is_line : step_at steps line ≡ Some origin) where
   -- == what is in progress
@@ -79,9 +80,9 @@ module _ (contexts : List WasiSocketsCtx) (steps : List Step) (line : ℕ) (orig
       → Allows (MayAsk contexts steps) (λ fs ended. Licensed steps line origin fs (put h place (with_progress r (bind_progress op ended)))) es (poll_asks op)
   bound_on es h place r op g e b i =
       let its = subst (FitProgress r.inner.state) e (b.records place r g).2 in
-      let f : BindIsFine steps es op = subst (ProgressIsFine steps es) e (i.fine.sockets place r g).progress in
+      let f : BindIsFine steps es op = subst (ProgressIsFine steps es) e (i.fine.records place r g).progress in
       allows_weaker (MayAsk contexts steps) (λ fs ended. Licensed steps line origin fs h × BindIsFine steps fs (left_of op ended.1)) (λ fs ended. Licensed steps line origin fs (put h place (with_progress r (bind_progress op ended))))
-      (λ fs ended k. let x = k.0.fine.sockets place r g in let now = with_progress r (bind_progress op ended) in
+      (λ fs ended k. let x = k.0.fine.records place r g in let now = with_progress r (bind_progress op ended) in
       put_fine fs h place r now g refl (same_listening r.listening) (same_listen contexts steps line origin is_line r now refl refl refl) (record { socket = x.socket; named = x.named; streams = x.streams; listening = x.listening; progress = bound_after fs op ended k.1 }) k.0) es (poll_asks op)
       (kept h (λ fs ended. BindIsFine steps fs (left_of op ended.1)) es (poll_asks op) i (quietly (λ fs ended. BindIsFine steps fs (left_of op ended.1)) es op (bind_quiet op.left its.1.left) (fine_poll contexts steps op es f)))
 
@@ -90,16 +91,16 @@ module _ (contexts : List WasiSocketsCtx) (steps : List Step) (line : ℕ) (orig
   connected_on es h place r op g e b i =
       let its : IsConnect op = subst HoldsConnect e (b.records place r g).0 in
       allows_weaker (MayAsk contexts steps) (λ fs ended. Licensed steps line origin fs h × ConnectIsFine steps fs (left_of op ended.1)) (λ fs ended. Licensed steps line origin fs (put h place (with_inner r (with_state r.inner (connect_ended op.who ended).1))))
-      (λ fs end k. let x = k.0.fine.sockets place r g in let d = ended contexts steps fs r.inner op end e x.socket k.1 in let now = with_inner r (with_state r.inner (connect_ended op.who end).1) in
+      (λ fs end k. let x = k.0.fine.records place r g in let d = ended contexts steps fs r.inner op end e x.socket k.1 in let now = with_inner r (with_state r.inner (connect_ended op.who end).1) in
       put_fine fs h place r now g refl (same_listening r.listening) (same_listen contexts steps line origin is_line r now refl refl refl) (record_kept steps fs r now (record { keeps = d.keeps; side = refl; streams = refl; listening = refl; binds = inl refl }) d.fine x) k.0) es (poll_asks op)
-      (kept h (λ fs ended. ConnectIsFine steps fs (left_of op ended.1)) es (poll_asks op) i (quietly (λ fs ended. ConnectIsFine steps fs (left_of op ended.1)) es op (connect_quiet op.left its.left) (fine_poll_connect contexts steps op es ((i.fine.sockets place r g).socket.connect op e))))
+      (kept h (λ fs ended. ConnectIsFine steps fs (left_of op ended.1)) es (poll_asks op) i (quietly (λ fs ended. ConnectIsFine steps fs (left_of op ended.1)) es op (connect_quiet op.left its.left) (fine_poll_connect contexts steps op es ((i.fine.records place r g).socket.connect op e))))
 
   -- == a listen and an accept are taken out of their record, polled, and put back
   pub taken_out : (es : List Entry) (h : Here) (place : ℕ) (r : Tcp2Socket) → Found h place r → Licensed steps line origin es h → Licensed steps line origin es (put h place (with_listening r Not))
-  taken_out es h place r g i = let f = i.fine.sockets place r g in put_fine es h place r (with_listening r Not) g refl (listening_gone r.listening) (λ op p. absurd (cc)) (record { socket = f.socket; named = f.named; streams = f.streams; listening = tt; progress = f.progress }) i
+  taken_out es h place r g i = let f = i.fine.records place r g in put_fine es h place r (with_listening r Not) g refl (listening_gone r.listening) (λ op p. absurd (cc)) (record { socket = f.socket; named = f.named; streams = f.streams; listening = tt; progress = f.progress }) i
 
   there : (h : Here) (place : ℕ) (r now : Tcp2Socket) → Found h place r → Found (put h place now) place now
-  there h place r now g = set_there h.machine.store.sockets place r now g
+  there h place r now g = set_there h.machine.store.records place r now g
 
   -- the record that a listen leaves has one that is in progress only where it waits
   still_goes : (fs : List Entry) (r : Tcp2Socket) (op : Operation) (end : End × List Item) → op.who.context ≡ r.inner.maker → IsMaker fs r.inner.maker r.inner.family op.who.side → ListenEnds steps fs op.who end.0 end.1 → (o : Operation) → (listen_after op r end).listening ≡ Begins o → ListenGoesOn steps fs (listen_after op r end) o
@@ -124,19 +125,19 @@ module _ (contexts : List WasiSocketsCtx) (steps : List Step) (line : ℕ) (orig
     where
       -- the other listens are on other network sockets
       others : (c : Call) → Its op.who.side c → r.side ≡ Some op.who.side → Spares contexts steps line origin is_line (put h place (with_listening r Not)) c
-      others c m d k q o f x p = elim (get_set h.machine.store.sockets place (with_listening r Not) k q f) [
+      others c m d k q o f x p = elim (get_set h.machine.store.records place (with_listening r Not) k q f) [
         | inl v ↦ no_listen o (ap (λ (y : Tcp2Socket). y.listening) v.1 ∙ x)
         | inr v ↦ (
             let side : op.who.side ≡ o.who.side = m o.who.side p in
             let at : place ≡ k = n.one op.who.side place k r q g v (inl d) (inl ((n.held o k q v x).0 ∙ ap (λ (y : OpId). Some y) (sym side))) in
-            let same : with_listening r Not ≡ q = same_record (with_listening r Not) q (sym (there h place r (with_listening r Not) g) ∙ (ap (slice_get (slice_set h.machine.store.sockets place (with_listening r Not))) at ∙ f)) in
+            let same : with_listening r Not ≡ q = same_record (with_listening r Not) q (sym (there h place r (with_listening r Not) g) ∙ (ap (tcp2_at (tcp2_put h.machine.store.records place (with_listening r Not))) at ∙ f)) in
             no_listen o (ap (λ (y : Tcp2Socket). y.listening) same ∙ x))
       ]
 
       put_after : (fs : List Entry) (end : End × List Item) → Licensed steps line origin fs (put h place (with_listening r Not)) → IsMaker fs r.inner.maker r.inner.family op.who.side → ListenEnds steps fs op.who end.0 end.1 → op.who.context ≡ r.inner.maker → r.side ≡ Some op.who.side → Licensed steps line origin fs (put h place (listen_after op r end))
       put_after fs end k m q a s =
           let out = put h place (with_listening r Not) in
-          let f = k.fine.sockets place (with_listening r Not) (there h place r (with_listening r Not) g) in
+          let f = k.fine.records place (with_listening r Not) (there h place r (with_listening r Not) g) in
           let whole : RecordIsFine steps fs r = record { socket = f.socket; named = f.named; streams = f.streams; listening = subst (ListeningIsFine steps fs r.side) (sym e) tt; progress = f.progress } in
           let x = listen_ended_fine contexts steps fs (with_listening r Not) r op end refl s closed a m whole q in
           let now = listen_after op r end in
@@ -153,7 +154,7 @@ module _ (contexts : List WasiSocketsCtx) (steps : List Step) (line : ℕ) (orig
   awaited_on : (es : List Entry) (h : Here) (place : ℕ) (r : Tcp2Socket) (l : Listener) (op : Operation) → Found h place r → r.listening ≡ Accepts l → l.accept ≡ Accepting.Asking op → Fit h → Named line h → Licensed steps line origin es h
       → Allows (MayAsk contexts steps) (λ fs ended. Licensed steps line origin fs (put h place (accepting_now r l (accept_ended op.who ended)))) es (poll_asks op)
   awaited_on es h place r l op g e a b n i =
-      let x = i.fine.sockets place r g in let lf = listener_fine contexts steps line origin is_line es r l e x in
+      let x = i.fine.records place r g in let lf = listener_fine contexts steps line origin is_line es r l e x in
       let f : AcceptIsFine steps es l.side l.maker op = subst (AcceptingIsFine steps es l.side l.maker) a lf.accept in
       let st : AcceptStands es op.who.id l.side op.left = subst (AcceptingStands es l.side) a (subst (ListeningStands es) e (i.fine.accepts place r g)) in
       let its : IsAcceptOn l.side l.maker op = subst (HoldsAccept l.side l.maker) a (subst FitListening e (b.records place r g).1) in
@@ -165,7 +166,7 @@ module _ (contexts : List WasiSocketsCtx) (steps : List Step) (line : ℕ) (orig
       allows_weaker (MayAsk contexts steps) (λ fs end. M fs × Q fs end) (λ fs end. Licensed steps line origin fs (put h place (accepting_now r l (accept_ended op.who end))))
       (λ fs end k. put_after fs end k.0.0 k.0.1 k.1 f.on f.asks lf.side free) es (poll_asks op)
       (allows_keep (λ fs o c. MayAs contexts steps op.who.id fs o c × NoLocal c) (MayAsk contexts steps) M Q
-      (λ fs o c t fits k m. (asked_by contexts steps line origin is_line fs out o c t m.0.2 (spared_as out.machine.store.sockets o op.who.id c m.0.1 m.0.2 (λ p q y z. free p q y (inr z))) (λ u t. by_second o c m.0.1 (touch_as o (second_of line) c m.0.2 t) u name) (spares contexts steps line origin is_line out c m.1) k.0, maker_more fs _ l.maker l.family l.side k.1)) (λ fs o c m. m.0.0) es (poll_asks op)
+      (λ fs o c t fits k m. (asked_by contexts steps line origin is_line fs out o c t m.0.2 (spared_as out.machine.store.records o op.who.id c m.0.1 m.0.2 (λ p q y z. free p q y (inr z))) (λ u t. by_second o c m.0.1 (touch_as o (second_of line) c m.0.2 t) u name) (spares contexts steps line origin is_line out c m.1) k.0, maker_more fs _ l.maker l.family l.side k.1)) (λ fs o c m. m.0.0) es (poll_asks op)
       (taken_out es h place r g i, lf.maker)
       (also (MayAs contexts steps op.who.id) (λ fs o c. NoLocal c) Q _ es (poll_asks op)
       (polled_accept contexts steps op.who f.last es op.left (record { family = l.family; made = subst (λ (y : OpId). IsMaker es op.who.context l.family y) (sym f.on) (subst (λ (m : ℕ). IsMaker es m l.family l.side) (sym f.asks) lf.maker); named = subst (Names steps es op.who.id) (sym f.on) f.named }) st.handed st.marked (subst (λ (y : OpId). AcceptLeft es op.who.id y op.left) (sym f.on) st.so_far))
@@ -179,7 +180,7 @@ module _ (contexts : List WasiSocketsCtx) (steps : List Step) (line : ℕ) (orig
       put_after fs end k m q on asks s free =
           let out = put h place (with_listening r Not) in
           let now = accepting_now r l (accept_ended op.who end) in
-          let f = k.fine.sockets place (with_listening r Not) (there h place r (with_listening r Not) g) in
+          let f = k.fine.records place (with_listening r Not) (there h place r (with_listening r Not) g) in
           let its : AcceptingIsFine steps fs l.side l.maker (accept_ended op.who end) = subst (λ (y : OpId). AcceptingIsFine steps fs y l.maker (accept_ended op.who end)) on (subst (λ (y : ℕ). AcceptingIsFine steps fs op.who.side y (accept_ended op.who end)) asks q.fine) in
           let stands : AcceptingStands fs l.side (accept_ended op.who end) = subst (λ (y : OpId). AcceptingStands fs y (accept_ended op.who end)) on q.stands in
           subst (Licensed steps line origin fs) (put_put h place (with_listening r Not) now)
@@ -198,7 +199,7 @@ module _ (contexts : List WasiSocketsCtx) (steps : List Step) (line : ℕ) (orig
 
   pub turned_fine : (es : List Entry) (h : Here) (place : ℕ) (r : Tcp2Socket) (s : Streams) → Found h place r → r.streams ≡ Some s → Licensed steps line origin es h → Allows (MayAsk contexts steps) (λ fs done. Licensed steps line origin fs (put h place (with_writer r s done.1))) es (turn_asks s.writer)
   turned_fine es h place r s g e i =
-      let f = (i.fine.sockets place r g).streams s e in
+      let f = (i.fine.records place r g).streams s e in
       let Q : List Entry → Unit {0} × WriteState → Type 0 = λ fs done. WritesOn steps fs f.side done.1 in
       allows_weaker (MayAsk contexts steps) (λ fs done. Licensed steps line origin fs h × Q fs done) (λ fs done. Licensed steps line origin fs (put h place (with_writer r s done.1)))
       (λ fs done k. streams_fine contexts steps line origin is_line fs h place r s (record s { writer = done.1 }) g e (λ x. (x.reads, subst (λ (o : OpId). WritesOn steps fs o done.1) (one_side fs es r s f x) k.1)) k.0) es (turn_asks s.writer)

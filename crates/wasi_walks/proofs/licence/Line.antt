@@ -1,18 +1,20 @@
 -- What holds of a line: the state fits the log, and so does what the line works on.
 use Rattle.wasi_walks.proofs.Words.{Begins, Call, Entry, HandedNone, Has, IpSocketAddress, IsMaker, IsSide, Kind, List, MarksNoSocket, None, Not}
-use Rattle.wasi_walks.proofs.Words.{OpId, Operation, Option, SocketAddressFamily, Some, Step, Tcp2Socket, Told, [], ap, entry, inl, inr, length}
-use Rattle.wasi_walks.proofs.Words.{own_of, refl, side_in, slice_get, subst, sym, with_socket, ℕ, ⊤, ◌++◌, ◌∙◌, ◌∷◌, ◌≡◌, ◌⊎◌}
+use Rattle.wasi_walks.proofs.Words.{OpId, Operation, Option, SocketAddressFamily, Some, Step, Tcp2Socket, Told, ap, entry, inl, inr, length}
+use Rattle.wasi_walks.proofs.Words.{own_of, refl, side_in, subst, sym, with_socket, ℕ, ⊤, ◌∙◌, ◌≡◌, ◌⊎◌}
 use Rattle.wasi_walks.proofs.licence.ListenAsks.{ListenIsFine}
 use Rattle.wasi_walks.proofs.licence.Fresh.{NoMadeBy}
 use Rattle.wasi_walks.proofs.walks.Moves.{Used, Unused, Here, put, Found, record_of, Plain, Made, Unmade, Joined, Marked, second_of}
-use Rattle.wasi_walks.proofs.Lists.{get_set, get_seam}
+use Rattle.wasi_walks.proofs.Lists.{get_set, tcp2_seam}
 use Rattle.wasi_walks.proofs.licence.State.{NamesIf, NamesRecord, HandleIsFine, Names, RecordIsFine, StateIsFine, IsHanded}
 use Rattle.wasi_walks.proofs.licence.Frames.{KeepsListening, KeepsRecord, same_record, state_put}
 use Rattle.wasi_world.specs.declared.call.HandleKind.TheVariants as name
+use Rattle.wasi_host.specs.Records.{tcp2_at, tcp2_pushed}
+use Rattle.wasi_host.specs.declared.records.Record.{Record}
 
-pub names_record : (es : List Entry) (sockets : List Tcp2Socket) (handle place : ℕ) (k : Option Kind) → record_of k ≡ Some place → ((kind : Kind) → k ≡ Some kind → HandleIsFine es sockets handle kind) → NamesRecord es sockets handle place
-names_record es sockets handle place None e h = absurd (cc)
-names_record es sockets handle place (Some kind) e h = subst (NamesIf es sockets handle) e (h kind refl)
+pub names_record : (es : List Entry) (records : List Record) (handle place : ℕ) (k : Option Kind) → record_of k ≡ Some place → ((kind : Kind) → k ≡ Some kind → HandleIsFine es records handle kind) → NamesRecord es records handle place
+names_record es records handle place None e h = absurd (cc)
+names_record es records handle place (Some kind) e h = subst (NamesIf es records handle) e (h kind refl)
 
 pub some_same : (a b : OpId) → Some b ≡ Some a → a ≡ b
 some_same a b e = cc
@@ -26,8 +28,8 @@ keeps_plain r now p = record {
   binds = p.binds;
 }
 
-pub seam : (xs : List Tcp2Socket) (now : Tcp2Socket) (p : ℕ) (q : Tcp2Socket) → Joined (length xs) ≡ Joined p → slice_get (xs ++ now ∷ []) p ≡ Some q → now ≡ q
-seam xs now p q e d = let at : length xs ≡ p = cc in same_record now q (sym (get_seam xs now) ∙ (ap (slice_get (xs ++ now ∷ [])) at ∙ d))
+pub seam : (xs : List Record) (now : Tcp2Socket) (p : ℕ) (q : Tcp2Socket) → Joined (length xs) ≡ Joined p → tcp2_at (tcp2_pushed xs now) p ≡ Some q → now ≡ q
+seam xs now p q e d = let at : length xs ≡ p = cc in same_record now q (sym (tcp2_seam xs now) ∙ (ap (tcp2_at (tcp2_pushed xs now)) at ∙ d))
 
 abbrev SamePair : ℕ → ℕ → ℕ → ℕ → Type 0
 SamePair a b c d = let x : Option (ℕ × ℕ) = Some (a, b) in let y : Option (ℕ × ℕ) = Some (c, d) in x ≡ y
@@ -99,8 +101,8 @@ pub record Licensed (steps : List Step) (line : ℕ) (origin : Step) (es : List 
 -- == moves
 -- of a record at a place, by its network socket alone
 by_side : (P : Option OpId → Type 0) (h : Here) (place : ℕ) (r now : Tcp2Socket) → Found h place r → now.side ≡ r.side → (k : ℕ) → ((q : Tcp2Socket) → Found h k q → P q.side) → (q : Tcp2Socket) → Found (put h place now) k q → P q.side
-by_side P h place r now g s k f q e = elim (get_set h.machine.store.sockets place now k q e) [
-  | inl p ↦ subst P (sym s ∙ ap (λ (x : Tcp2Socket). x.side) p.1) (f r (ap (slice_get h.machine.store.sockets) p.0 ∙ g))
+by_side P h place r now g s k f q e = elim (get_set h.machine.store.records place now k q e) [
+  | inl p ↦ subst P (sym s ∙ ap (λ (x : Tcp2Socket). x.side) p.1) (f r (ap (tcp2_at h.machine.store.records) p.0 ∙ g))
   | inr p ↦ f q p
 ]
 
@@ -122,7 +124,7 @@ module _ {steps : List Step} {line : ℕ} {origin : Step} where
     put_with f l = record {
       fine = f;
       names = λ k n q a e. by_side (λ (o : Option OpId). (side : OpId) → o ≡ Some side → Names steps es (own_of n) side) h place r now g s k (λ x d. i.names k n x a d) q e;
-      listens = λ k q op e b. elim (get_set h.machine.store.sockets place now k q e) [ inl p ↦ subst (λ (x : Tcp2Socket). ListenGoesOn steps es x op) p.1 (l op (ap (λ (x : Tcp2Socket). x.listening) p.1 ∙ b)) | inr p ↦ i.listens k q op p b ];
+      listens = λ k q op e b. elim (get_set h.machine.store.records place now k q e) [ inl p ↦ subst (λ (x : Tcp2Socket). ListenGoesOn steps es x op) p.1 (l op (ap (λ (x : Tcp2Socket). x.listening) p.1 ∙ b)) | inr p ↦ i.listens k q op p b ];
       new = i.new;
       unmade = i.unmade;
       joined = λ p e. joined_put p (i.joined p e);
@@ -137,7 +139,7 @@ module _ {steps : List Step} {line : ℕ} {origin : Step} where
   spent es h i = record { fine = i.fine; names = i.names; listens = i.listens; new = λ e. absurd (cc); unmade = λ e c s is. i.unmade (elim e [ inl u ↦ absurd (cc) | inr u ↦ inr u ]) c s is; joined = λ p e. (let j = i.joined p e in record { new = j.new; on = j.on; peer = j.peer; context = j.context; listener = j.listener; by = j.by; side = j.side; of_listener = j.of_listener; handed = j.handed; fresh = j.fresh }); marked = i.marked }
 
   -- what it works on is other
-  pub elsewhere : (es : List Entry) (h now : Here) → now.machine.store.sockets ≡ h.machine.store.sockets → now.own ≡ h.own → now.made ≡ h.made → Licensed steps line origin es h → StateIsFine steps es now.machine → ((place n : ℕ) (r : Tcp2Socket) → now.at ≡ Some (place, n) → Found now place r → NamesMade steps n es r) → Licensed steps line origin es now
+  pub elsewhere : (es : List Entry) (h now : Here) → now.machine.store.records ≡ h.machine.store.records → now.own ≡ h.own → now.made ≡ h.made → Licensed steps line origin es h → StateIsFine steps es now.machine → ((place n : ℕ) (r : Tcp2Socket) → now.at ≡ Some (place, n) → Found now place r → NamesMade steps n es r) → Licensed steps line origin es now
   elsewhere es h now s o m i f n = record {
     fine = f;
     names = n;
@@ -148,5 +150,5 @@ module _ {steps : List Step} {line : ℕ} {origin : Step} where
     marked = λ handle p e r g. i.marked handle p (sym m ∙ e) r (there h now s p r g);
   }
     where
-      there : (h now : Here) → now.machine.store.sockets ≡ h.machine.store.sockets → (k : ℕ) (r : Tcp2Socket) → Found now k r → Found h k r
-      there h now s k r g = subst (λ (xs : List Tcp2Socket). slice_get xs k ≡ Some r) s g
+      there : (h now : Here) → now.machine.store.records ≡ h.machine.store.records → (k : ℕ) (r : Tcp2Socket) → Found now k r → Found h k r
+      there h now s k r g = subst (λ (xs : List Record). tcp2_at xs k ≡ Some r) s g

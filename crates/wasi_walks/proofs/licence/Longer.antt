@@ -45,8 +45,8 @@ module _ (steps more : List Step) where
   state_more es m h = record {
     count = h.count;
     handles = h.handles;
-    sockets = λ place r e. subst (λ (fs : List Entry). RecordIsFine (steps ++ more) fs r) (append-nil es) (record_more on es [] r (h.sockets place r e));
-    standing = λ s e. subst (λ (fs : List Entry). StandingIsFine (steps ++ more) fs m.store.sockets s) (append-nil es) (standing_more on es [] m.store.sockets s (h.standing s e));
+    records = λ place r e. subst (λ (fs : List Entry). RecordIsFine (steps ++ more) fs r) (append-nil es) (record_more on es [] r (h.records place r e));
+    standing = λ s e. subst (λ (fs : List Entry). StandingIsFine (steps ++ more) fs m.store.records s) (append-nil es) (standing_more on es [] m.store.records s (h.standing s e));
     accepts = h.accepts;
     one = h.one;
   }

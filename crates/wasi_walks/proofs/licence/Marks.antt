@@ -7,13 +7,15 @@ use Rattle.wasi_walks.proofs.Words.{entry, inl, inr, is_full, kind_at, length, m
 use Rattle.wasi_walks.proofs.Words.{refl, side_at, slice_get, step_at, subst, sym, told_done, true, with_record, ℕ, ⊤, ◌++◌, ◌∙◌, ◌∷◌, ◌≡◌, ◌⊎◌}
 use Rattle.wasi_walks.proofs.claims.Law.{Named, fresh}
 use Rattle.wasi_walks.proofs.walks.Moves.{Used, Unused, Marks, ANetwork, AStream, AnError, Here, Found, MarksError, Joined, Marked, made_so, APollable, AnAcceptedStream, second_of, Creates, Past}
-use Rattle.wasi_walks.proofs.Lists.{has_last, has_split, has_front, get_split, get_seam}
+use Rattle.wasi_walks.proofs.Lists.{has_last, has_split, has_front, get_split, tcp2_seam}
 use Rattle.wasi_walks.proofs.licence.State.{accept_name, NamesRecord, HandleIsFine, SocketIsFine}
 use Rattle.wasi_walks.proofs.licence.Frames.{Touches, Spared, handed_unless, stay, same_record, names_on, state_made, state_push}
 use Rattle.wasi_walks.proofs.licence.Line.{names_record, NotMarked, MadeSocket, Licensed, elsewhere, some_same, no_listen, spent}
 use Rattle.wasi_walks.proofs.licence.Asked.{listens_on, joined_on}
 use Rattle.wasi_walks.proofs.licence.Binds.{MayQuietly}
 use Rattle.wasi_world.specs.declared.call.HandleKind.TheVariants as name
+use Rattle.wasi_host.specs.Records.{tcp2_at}
+use Rattle.wasi_host.specs.declared.records.Record.{Record}
 
 not_used : Used ≡ Unused → ⊥
 not_used e = absurd (cc)
@@ -35,10 +37,10 @@ module _ (contexts : List WasiSocketsCtx) (steps : List Step) (line : ℕ) (orig
 
   -- a mark, and what its handle stands for
   pub made_fine : (es : List Entry) (h : Here) (kind : Kind) (parent : Option ℕ) (sock : Option OpId) → BeganBy steps (own_of line) (IsMarkOf es (own_of line) (name_of kind) parent sock)
-      → Spared h.machine.store.sockets (own_of line) (Call.Made h.machine.table.next (name_of kind) parent sock)
+      → Spared h.machine.store.records (own_of line) (Call.Made h.machine.table.next (name_of kind) parent sock)
       → ((c s : ℕ) → origin ≡ Step.TcpAccept c s → (h.own ≡ Unused) ⊎ NotMarked h.made → ⊥)
       → ((x : OpId) → ((h.own ≡ Unused) × (x ≡ second_of line)) ⊎ ((p : ℕ) × (h.made ≡ Joined p)) → name_of kind ≡ name.Tcp2 → sock ≡ Some x → ⊥)
-      → ((t : Told) → HandleIsFine (es ++ entry (own_of line) (Call.Made h.machine.table.next (name_of kind) parent sock) t ∷ []) h.machine.store.sockets h.machine.table.next kind) → Licensed steps line origin es h
+      → ((t : Told) → HandleIsFine (es ++ entry (own_of line) (Call.Made h.machine.table.next (name_of kind) parent sock) t ∷ []) h.machine.store.records h.machine.table.next kind) → Licensed steps line origin es h
       → Allows (MayAsk contexts steps) (λ fs made. Licensed steps line origin fs (record h { machine = record h.machine { table = made.1 } })) es (make_asks h.machine.table (own_of line) kind parent sock)
   unfolding bind
   made_fine es h kind parent sock o sp un ms f i =
@@ -67,7 +69,7 @@ module _ (contexts : List WasiSocketsCtx) (steps : List Step) (line : ℕ) (orig
   -- of a handle that is no socket's
   other_fine : (es : List Entry) (h : Here) (kind : Kind) (parent : Option ℕ) (sock : Option OpId) → BeganBy steps (own_of line) (IsMarkOf es (own_of line) (name_of kind) parent sock) → (name_of kind ≡ name.Tcp2 → ⊥)
       → ((c s : ℕ) → origin ≡ Step.TcpAccept c s → (h.own ≡ Unused) ⊎ NotMarked h.made → ⊥)
-      → ((t : Told) → HandleIsFine (es ++ entry (own_of line) (Call.Made h.machine.table.next (name_of kind) parent sock) t ∷ []) h.machine.store.sockets h.machine.table.next kind) → Licensed steps line origin es h
+      → ((t : Told) → HandleIsFine (es ++ entry (own_of line) (Call.Made h.machine.table.next (name_of kind) parent sock) t ∷ []) h.machine.store.records h.machine.table.next kind) → Licensed steps line origin es h
       → Allows (MayAsk contexts steps) (λ fs made. Licensed steps line origin fs (record h { machine = record h.machine { table = made.1 } })) es (make_asks h.machine.table (own_of line) kind parent sock)
   other_fine es h kind parent sock o none un f i = made_fine es h kind parent sock o (λ k r x e n t. none (socket_touch (own_of line) x h.machine.table.next (name_of kind) parent sock t)) un (λ x p a. absurd (none a)) f i
 
@@ -82,14 +84,14 @@ module _ (contexts : List WasiSocketsCtx) (steps : List Step) (line : ℕ) (orig
   no_socket k (inl e) p = absurd (cc)
   no_socket k (inr e) p = absurd (cc)
 
-  stream_handle : (fs : List Entry) (sockets : List Tcp2Socket) (handle place : ℕ) (kind : Kind) → OneOfTwo kind place → NamesRecord fs sockets handle place → HandleIsFine fs sockets handle kind
-  stream_handle fs sockets handle place kind (inl e) n = subst (HandleIsFine fs sockets handle) (sym e) n
-  stream_handle fs sockets handle place kind (inr e) n = subst (HandleIsFine fs sockets handle) (sym e) n
+  stream_handle : (fs : List Entry) (records : List Record) (handle place : ℕ) (kind : Kind) → OneOfTwo kind place → NamesRecord fs records handle place → HandleIsFine fs records handle kind
+  stream_handle fs records handle place kind (inl e) n = subst (HandleIsFine fs records handle) (sym e) n
+  stream_handle fs records handle place kind (inr e) n = subst (HandleIsFine fs records handle) (sym e) n
 
   -- the new handle names the record
-  new_names : (es : List Entry) (h : Here) (n place : ℕ) (kind : HandleKind) (parent : Option ℕ) (r : Tcp2Socket) (t : Told) → Found h place r → (let sock = side_at (slice_get h.machine.store.sockets place) in NamesRecord (es ++ entry (own_of line) (Call.Made n kind parent sock) t ∷ []) h.machine.store.sockets n place)
+  new_names : (es : List Entry) (h : Here) (n place : ℕ) (kind : HandleKind) (parent : Option ℕ) (r : Tcp2Socket) (t : Told) → Found h place r → (let sock = side_at (tcp2_at h.machine.store.records place) in NamesRecord (es ++ entry (own_of line) (Call.Made n kind parent sock) t ∷ []) h.machine.store.records n place)
   new_names es h n place kind parent r t g =
-      let sock = side_at (slice_get h.machine.store.sockets place) in
+      let sock = side_at (tcp2_at h.machine.store.records place) in
       let e = entry (own_of line) (Call.Made n kind parent sock) t in
       record { found = r; at = g; marked = record { op = own_of line; kind = kind; parent = parent; told = t; mark = subst (λ (o : Option OpId). Has (es ++ e ∷ []) (entry (own_of line) (Call.Made n kind parent o) t)) (ap side_at g) (has_last es e) } }
 
@@ -108,40 +110,40 @@ module _ (contexts : List WasiSocketsCtx) (steps : List Step) (line : ℕ) (orig
   marked_fine es h _ _ _ (ANetwork c e) i =
       other_fine es h Network None None (record { origin = origin; at = is_line; holds = subst (IsMarkOf es (own_of line) name.Network None None) (sym e) (refl, refl, refl) }) (λ p. absurd (cc)) (λ a k is. not_accept (Step.Network c) (λ a k p. absurd (cc)) e a k is h) (λ t. tt) i
   marked_fine es h kind _ _ (AStream c handle place _ is which e) i =
-      let sock = side_at (slice_get h.machine.store.sockets place) in
-      let n = names_record es h.machine.store.sockets handle place (kind_at h.machine.table handle) e (i.fine.handles handle) in
+      let sock = side_at (tcp2_at h.machine.store.records place) in
+      let n = names_record es h.machine.store.records handle place (kind_at h.machine.table handle) e (i.fine.handles handle) in
       let w : IsMarkedWith es handle sock = subst (IsMarkedWith es handle) (sym (ap side_at n.at)) n.marked in
       other_fine es h kind (Some handle) sock (record { origin = origin; at = is_line; holds = subst (IsMarkOf es (own_of line) (name_of kind) (Some handle) sock) (sym is) (stream_name kind place which, (refl, w)) })
       (no_socket (name_of kind) (stream_name kind place which)) (λ a k p. not_accept (Step.TcpFinishConnect c handle) (λ a k p. absurd (cc)) is a k p h)
-      (λ t. stream_handle _ h.machine.store.sockets h.machine.table.next place kind which (new_names es h h.machine.table.next place (name_of kind) (Some handle) n.found t n.at)) i
+      (λ t. stream_handle _ h.machine.store.records h.machine.table.next place kind which (new_names es h h.machine.table.next place (name_of kind) (Some handle) n.found t n.at)) i
   marked_fine es h kind _ _ (AnAcceptedStream c listener handle place _ r is which m o g) i =
-      let sock = side_at (slice_get h.machine.store.sockets place) in
+      let sock = side_at (tcp2_at h.machine.store.records place) in
       let k = i.marked handle place m r g in
       other_fine es h kind (Some handle) sock
       (record { origin = origin; at = is_line; holds = subst (IsMarkOf es (own_of line) (name_of kind) (Some handle) sock) (sym is) (inr (record { stream = stream_name kind place which; socket = handle; under = refl; above = k.above; told = k.told; marked = subst (λ (x : Option OpId). Has es (entry (own_of line) (Call.Made handle name.Tcp2 k.above x) k.told)) (sym (ap side_at g)) k.mark })) })
       (no_socket (name_of kind) (stream_name kind place which)) (λ a s p. used_marked h handle place o m)
-      (λ t. stream_handle _ h.machine.store.sockets h.machine.table.next place kind which (new_names es h h.machine.table.next place (name_of kind) (Some handle) r t g)) i
+      (λ t. stream_handle _ h.machine.store.records h.machine.table.next place kind which (new_names es h h.machine.table.next place (name_of kind) (Some handle) r t g)) i
   marked_fine es h _ _ _ (APollable c handle w is e) i =
       let place = place_in w in
-      let sock = side_at (slice_get h.machine.store.sockets place) in
-      let n = names_record es h.machine.store.sockets handle place (kind_at h.machine.table handle) e (i.fine.handles handle) in
+      let sock = side_at (tcp2_at h.machine.store.records place) in
+      let n = names_record es h.machine.store.records handle place (kind_at h.machine.table handle) e (i.fine.handles handle) in
       let k : IsMarkedWith es handle sock = subst (IsMarkedWith es handle) (sym (ap side_at n.at)) n.marked in
       other_fine es h (Pollable w) (Some handle) sock (record { origin = origin; at = is_line; holds = subst (IsMarkOf es (own_of line) name.Pollable (Some handle) sock) (sym is) (refl, (refl, k)) }) (λ p. absurd (cc)) (λ a s p. not_accept (Step.Subscribe c handle) (λ a s p. absurd (cc)) is a s p h)
       (λ t. new_names es h h.machine.table.next place name.Pollable (Some handle) n.found t n.at) i
   marked_fine es h _ _ _ (AnError handle place m e) i =
-      let sock = side_at (slice_get h.machine.store.sockets place) in
-      let n = names_record es h.machine.store.sockets handle place (kind_at h.machine.table handle) e (i.fine.handles handle) in
+      let sock = side_at (tcp2_at h.machine.store.records place) in
+      let n = names_record es h.machine.store.records handle place (kind_at h.machine.table handle) e (i.fine.handles handle) in
       let w : IsMarkedWith es handle sock = subst (IsMarkedWith es handle) (sym (ap side_at n.at)) n.marked in
       other_fine es h ErrorValue (Some handle) sock (record { origin = origin; at = is_line; holds = error_mark es (own_of line) handle sock origin m w }) (λ p. absurd (cc)) (λ a s p u. error_line handle origin m a s p) (λ t. tt) i
 
   -- the mark of what was accepted
   pub accepted_fine : (es : List Entry) (h : Here) (c s place : ℕ) (r : Tcp2Socket) → origin ≡ Step.TcpAccept c s → h.made ≡ Joined place → h.own ≡ Used → Found h place r → Named line h → Licensed steps line origin es h
-      → Allows (MayAsk contexts steps) (λ fs made. Licensed steps line origin fs (record h { machine = record h.machine { table = made.1 }; made = made_so place made.0 })) es (make_asks h.machine.table (own_of line) (Tcp2 place) (Some s) (side_at (slice_get h.machine.store.sockets place)))
+      → Allows (MayAsk contexts steps) (λ fs made. Licensed steps line origin fs (record h { machine = record h.machine { table = made.1 }; made = made_so place made.0 })) es (make_asks h.machine.table (own_of line) (Tcp2 place) (Some s) (side_at (tcp2_at h.machine.store.records place)))
   unfolding bind
   accepted_fine es h c s place r is e o g b i =
       let j = i.joined place e in
       let n = h.machine.table.next in
-      let sock = side_at (slice_get h.machine.store.sockets place) in
+      let sock = side_at (tcp2_at h.machine.store.records place) in
       let its : sock ≡ Some j.new = ap side_at g ∙ j.side r g in
       let same : j.listener ≡ s = same_listener j.context j.listener c s (sym j.by ∙ is) in
       let past : Used ≡ h.own = sym o in
@@ -170,15 +172,15 @@ module _ (contexts : List WasiSocketsCtx) (steps : List Step) (line : ℕ) (orig
       apart_there new p q x d m t v =
           let w : accept_name q.listening ≡ Some new = m ∙ ap (λ (y : OpId). Some y) (sym t) in
           let at : place ≡ p = b.one new place p r q g d (inl v) (inr w) in
-          let same : r ≡ q = same_record r q (sym g ∙ (ap (slice_get h.machine.store.sockets) at ∙ d)) in
+          let same : r ≡ q = same_record r q (sym g ∙ (ap (tcp2_at h.machine.store.records) at ∙ d)) in
           b.apart new place r g v (ap (λ (y : Tcp2Socket). accept_name y.listening) same ∙ w)
 
-      made_there : (told : Told) (a p : ℕ) (q : Tcp2Socket) → Marked h.machine.table.next place ≡ Marked a p → Found h p q → MadeSocket line (es ++ entry (own_of line) (Call.Made h.machine.table.next name.Tcp2 (Some s) (side_at (slice_get h.machine.store.sockets place))) told ∷ []) a q.side
+      made_there : (told : Told) (a p : ℕ) (q : Tcp2Socket) → Marked h.machine.table.next place ≡ Marked a p → Found h p q → MadeSocket line (es ++ entry (own_of line) (Call.Made h.machine.table.next name.Tcp2 (Some s) (side_at (tcp2_at h.machine.store.records place))) told ∷ []) a q.side
       made_there told a p q d m =
           let n : h.machine.table.next ≡ a = cc in let at : place ≡ p = cc in
-          let same : r ≡ q = same_record r q (sym g ∙ (ap (slice_get h.machine.store.sockets) at ∙ m)) in
-          let e = entry (own_of line) (Call.Made h.machine.table.next name.Tcp2 (Some s) (side_at (slice_get h.machine.store.sockets place))) told in
-          let sides : side_at (slice_get h.machine.store.sockets place) ≡ q.side = ap side_at g ∙ ap (λ (y : Tcp2Socket). y.side) same in
+          let same : r ≡ q = same_record r q (sym g ∙ (ap (tcp2_at h.machine.store.records) at ∙ m)) in
+          let e = entry (own_of line) (Call.Made h.machine.table.next name.Tcp2 (Some s) (side_at (tcp2_at h.machine.store.records place))) told in
+          let sides : side_at (tcp2_at h.machine.store.records place) ≡ q.side = ap side_at g ∙ ap (λ (y : Tcp2Socket). y.side) same in
           record { above = Some s; told = told; mark = subst (λ (x : ℕ). Has (es ++ e ∷ []) (entry (own_of line) (Call.Made x name.Tcp2 (Some s) q.side) told)) n (subst (λ (x : Option OpId). Has (es ++ e ∷ []) (entry (own_of line) (Call.Made h.machine.table.next name.Tcp2 (Some s) x) told)) sides (has_last es e)) }
 
 module _ (contexts : List WasiSocketsCtx) (steps : List Step) (line : ℕ) (origin : Step) (is_line : step_at steps line ≡ Some origin) where
@@ -233,19 +235,19 @@ module _ (contexts : List WasiSocketsCtx) (steps : List Step) (line : ℕ) (orig
       let j : Licensed steps line origin es next = record {
         fine = state_push steps es h.machine now made_it i.fine;
         names = λ p n r a e. absurd (no_place p n (sym nowhere ∙ a));
-        listens = λ p q op d m. elim (get_split h.machine.store.sockets (new_record now) p q d) [ inl v ↦ i.listens p q op v m | inr v ↦ absurd (no_listen op (ap (λ (y : Tcp2Socket). y.listening) v ∙ m)) ];
+        listens = λ p q op d m. elim (get_split h.machine.store.records (new_record now) p q d) [ inl v ↦ i.listens p q op v m | inr v ↦ absurd (no_listen op (ap (λ (y : Tcp2Socket). y.listening) v ∙ m)) ];
         new = λ e. absurd (cc);
         unmade = λ e d s is. absurd (creates_only ctx family c d s is);
         joined = λ p e. absurd (not_joined p (sym past ∙ e));
-        marked = λ a p e q d. elim (get_split h.machine.store.sockets (new_record now) p q d) [ inl v ↦ i.marked a p e q v | inr v ↦ absurd (not_marked a p (sym past ∙ e)) ];
+        marked = λ a p e q d. elim (get_split h.machine.store.records (new_record now) p q d) [ inl v ↦ i.marked a p e q v | inr v ↦ absurd (not_marked a p (sym past ∙ e)) ];
       } in
       subst (λ (s : Socket). Allows (MayAsk contexts steps) (λ fs done. Licensed steps line origin fs (record h { machine = done.1; own = Used })) es (create_handle h.machine own s)) (sym k.1)
       (allows_then (MayAsk contexts steps) (λ fs made. Licensed steps line origin fs (record next { machine = record next.machine { table = made.1 } })) (λ fs done. Licensed steps line origin fs (record h { machine = done.1; own = Used })) es
-      (make_asks h.machine.table own (Tcp2 (length h.machine.store.sockets)) None (Some own)) _
-      (made_fine contexts steps line origin is_line es next (Tcp2 (length h.machine.store.sockets)) None (Some own) (record { origin = origin; at = is_line; holds = created_mark es ctx.name family ctx family origin c k.0 })
-      (λ p r x e n t. elim (get_split h.machine.store.sockets (new_record now) p r e) [ inl v ↦ fresh contexts line origin h u b x (of_line x t) p r v (inr n) | inr v ↦ no_name x (ap (λ (y : Tcp2Socket). accept_name y.listening) v ∙ n) ])
+      (make_asks h.machine.table own (Tcp2 (length h.machine.store.records)) None (Some own)) _
+      (made_fine contexts steps line origin is_line es next (Tcp2 (length h.machine.store.records)) None (Some own) (record { origin = origin; at = is_line; holds = created_mark es ctx.name family ctx family origin c k.0 })
+      (λ p r x e n t. elim (get_split h.machine.store.records (new_record now) p r e) [ inl v ↦ fresh contexts line origin h u b x (of_line x t) p r v (inr n) | inr v ↦ no_name x (ap (λ (y : Tcp2Socket). accept_name y.listening) v ∙ n) ])
       (λ a s is w. creates_only ctx family c a s is) (λ x w p q. elim w [ inl d ↦ absurd (not_used d.0) | inr d ↦ not_joined d.0 (sym past ∙ d.1) ])
-      (λ t. record { found = new_record now; at = get_seam h.machine.store.sockets (new_record now); marked = record { op = own; kind = name.Tcp2; parent = None; told = t; mark = has_last es _ } }) j) (λ fs made l. l))
+      (λ t. record { found = new_record now; at = tcp2_seam h.machine.store.records (new_record now); marked = record { op = own; kind = name.Tcp2; parent = None; told = t; mark = has_last es _ } }) j) (λ fs made l. l))
     where
       no_name : (x : OpId) → None ≡ Some x → ⊥
       no_name x e = absurd (cc)

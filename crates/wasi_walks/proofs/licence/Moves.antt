@@ -3,16 +3,17 @@ use Rattle.wasi_walks.proofs.Words.{Accepting, Accepts, Bool, Connection, Done, 
 use Rattle.wasi_walks.proofs.Words.{IsMarkedWith, IsSide, Job, List, Listener, MarksNoSocket, MayGoOut, Not, OpId, Option, ReadState, Refused, Socket}
 use Rattle.wasi_walks.proofs.Words.{SocketAddressFamily, Some, Standing, Step, Streams, Tcp2Socket, TcpState, Waits, WasiSocketsCtx, WriteState}
 use Rattle.wasi_walks.proofs.Words.{accepted_socket, ap, call_place, closed_by, connect_first, connect_operation, false, gone, handles_of, inl, inr}
-use Rattle.wasi_walks.proofs.Words.{kind_at, new_job, new_streams, own_of, refl, side_in, side_of, slice_get, slice_set, standing_as, step_at, subst}
+use Rattle.wasi_walks.proofs.Words.{kind_at, new_job, new_streams, own_of, refl, side_in, side_of, standing_as, step_at, subst}
 use Rattle.wasi_walks.proofs.Words.{sym, true, wildcard, with_inner, with_listening, with_progress, with_state, written_by, ℕ, ◌∙◌, ◌≡◌}
 use Rattle.wasi_walks.proofs.licence.ListenAsks.{Whole as WholeListen}
 use Rattle.wasi_walks.proofs.claims.Law.{Base, same_begun, fresh}
-use Rattle.wasi_walks.proofs.walks.Moves.{closed_record, Used, Here, put, Found, record_of, WriterMoves, Collects, LastsAfter, Closes, Plain, Move, Reaches, Leaves, Spends, Changes, ClosesReader, Writes, IsGone, opened_by, Reconnects, Opens, BeginsConnect, BeginsBind, BeginsWrite, begun_bind, Stands, Resumes, Unstands, Lists, Takes, BeginsListen, BeginsAccept, Unlistens, Forgets, Watches, Joins, accepting_now, begun_listen, beginning_listen, new_accept, joined, second_of}
+use Rattle.wasi_walks.proofs.walks.Moves.{closed_record, Here, put, Found, record_of, WriterMoves, Collects, LastsAfter, Closes, Plain, Move, Reaches, Leaves, Spends, Changes, ClosesReader, Writes, IsGone, opened_by, Reconnects, Opens, BeginsConnect, BeginsBind, BeginsWrite, begun_bind, Stands, Resumes, Unstands, Lists, Takes, BeginsListen, BeginsAccept, Unlistens, Forgets, Watches, Joins, accepting_now, begun_listen, beginning_listen, new_accept, joined, second_of}
 use Rattle.wasi_walks.proofs.Lists.{get_split}
 use Rattle.wasi_walks.proofs.licence.State.{ConnectIsFine, ConnectLeft, Unbound, Unchecked, ReadsOn, Whole, ToWrite, Names, BindIsFine, JobIsFine, WritesOn, StreamsAreFine, AcceptingIsFine, ListeningIsFine, SocketIsFine, RecordIsFine, IsHanded, Unarrived, AcceptingStands, ListeningStands, ListenerIsFine, StandingIsFine, name_in}
 use Rattle.wasi_walks.proofs.licence.Frames.{same_listening, listening_kept, listening_gone, Only, KeepsSide, same_record, record_kept, state_taken, state_put, state_stands, state_unstands, state_jobs, state_renewed, state_joined}
 use Rattle.wasi_walks.proofs.licence.WriteJobs.{shut_after}
 use Rattle.wasi_walks.proofs.licence.Line.{put_with, names_record, keeps_plain, seam, pair_first, pair_second, no_listen, second_names, ListenGoesOn, NotMarked, NamesMade, Licensed, KeepsListen, put_fine, spent, elsewhere}
+use Rattle.wasi_host.specs.Records.{tcp2_at, tcp2_put}
 
 module _ (contexts : List WasiSocketsCtx) (steps : List Step) (line : ℕ) (origin : Step) (is_line : step_at steps line ≡ Some origin) where
   plain_socket : (es : List Entry) (r now : Tcp2Socket) → Plain r now → SocketIsFine steps es r.inner → SocketIsFine steps es now.inner
@@ -25,14 +26,14 @@ module _ (contexts : List WasiSocketsCtx) (steps : List Step) (line : ℕ) (orig
 
   plain_fine : (es : List Entry) (h : Here) (place : ℕ) (r now : Tcp2Socket) → Found h place r → Plain r now → Licensed steps line origin es h → Licensed steps line origin es (put h place now)
   plain_fine es h place r now g p i =
-      let f = i.fine.sockets place r g in
+      let f = i.fine.records place r g in
       put_fine es h place r now g p.side (listening_kept r.listening now.listening p.listening) (λ op e. (sym p.listening ∙ e, (p.maker, p.family))) (record_kept steps es r now (keeps_plain r now p) (plain_socket es r now p f.socket) f) i
 
   -- other streams, of the same network socket
   pub streams_fine : (es : List Entry) (h : Here) (place : ℕ) (r : Tcp2Socket) (s now : Streams) → Found h place r → r.streams ≡ Some s
       → ((f : StreamsAreFine steps es r.inner s) → ReadsOn f.side now.reader × WritesOn steps es f.side now.writer) → Licensed steps line origin es h → Licensed steps line origin es (put h place (record r { streams = Some now }))
   streams_fine es h place r s now g e k i =
-      let x = i.fine.sockets place r g in
+      let x = i.fine.records place r g in
       let f = x.streams s e in
       let on = k f in
       let it : StreamsAreFine steps es r.inner now = record { side = f.side; connected = f.connected; reads = on.0; writes = on.1 } in
@@ -106,7 +107,7 @@ module _ (contexts : List WasiSocketsCtx) (steps : List Step) (line : ℕ) (orig
 
   names_at : (es : List Entry) (h : Here) (handle place : ℕ) → Has (handles_of origin) handle → record_of (kind_at h.machine.table handle) ≡ Some place → Licensed steps line origin es h → (r : Tcp2Socket) → Found h place r → NamesMade steps line es r
   names_at es h handle place named e i r g side m =
-      let n = names_record es h.machine.store.sockets handle place (kind_at h.machine.table handle) e (i.fine.handles handle) in
+      let n = names_record es h.machine.store.records handle place (kind_at h.machine.table handle) e (i.fine.handles handle) in
       let same : n.found.side ≡ r.side = ap (λ (x : Tcp2Socket). x.side) (same_record n.found r (sym n.at ∙ g)) in
       let w = subst (IsMarkedWith es handle) (same ∙ m) n.marked in
       record { origin = origin; at = is_line; holds = record { handle = handle; named = named; is = record { op = w.op; kind = w.kind; parent = w.parent; told = w.told; mark = w.mark } } }
@@ -114,7 +115,7 @@ module _ (contexts : List WasiSocketsCtx) (steps : List Step) (line : ℕ) (orig
   -- the network socket of a record that a handle of the line is of
   is_side : (es : List Entry) (h : Here) (handle place : ℕ) → record_of (kind_at h.machine.table handle) ≡ Some place → Licensed steps line origin es h → (r : Tcp2Socket) → Found h place r → (side : OpId) → r.side ≡ Some side → IsSide es handle side
   is_side es h handle place e i r g side m =
-      let n = names_record es h.machine.store.sockets handle place (kind_at h.machine.table handle) e (i.fine.handles handle) in
+      let n = names_record es h.machine.store.records handle place (kind_at h.machine.table handle) e (i.fine.handles handle) in
       let same : n.found.side ≡ r.side = ap (λ (x : Tcp2Socket). x.side) (same_record n.found r (sym n.at ∙ g)) in
       let w = subst (IsMarkedWith es handle) (same ∙ m) n.marked in record { op = w.op; kind = w.kind; parent = w.parent; told = w.told; mark = w.mark }
 
@@ -122,9 +123,9 @@ module _ (contexts : List WasiSocketsCtx) (steps : List Step) (line : ℕ) (orig
   listener_fine es r l e f = subst (ListeningIsFine steps es r.side) e f.listening
 
   -- the accept of a listener is another, of a name that no other record has
-  renewed_fine : (es : List Entry) (h : Here) (place : ℕ) (r : Tcp2Socket) (l : Listener) (a : Accepting) → Found h place r → r.listening ≡ Accepts l → AcceptingIsFine steps es l.side l.maker a → AcceptingStands es l.side a → ((x : OpId) → name_in a ≡ Some x → Only h.machine.store.sockets place x) → Licensed steps line origin es h → Licensed steps line origin es (put h place (accepting_now r l a))
+  renewed_fine : (es : List Entry) (h : Here) (place : ℕ) (r : Tcp2Socket) (l : Listener) (a : Accepting) → Found h place r → r.listening ≡ Accepts l → AcceptingIsFine steps es l.side l.maker a → AcceptingStands es l.side a → ((x : OpId) → name_in a ≡ Some x → Only h.machine.store.records place x) → Licensed steps line origin es h → Licensed steps line origin es (put h place (accepting_now r l a))
   renewed_fine es h place r l a g e f s o i =
-      let x = i.fine.sockets place r g in let lf = listener_fine es r l e x in
+      let x = i.fine.records place r g in let lf = listener_fine es r l e x in
       put_with es h place r (accepting_now r l a) g refl i
       (state_renewed steps es h.machine place r (accepting_now r l a) g refl (record { socket = x.socket; named = x.named; streams = x.streams; listening = record { side = lf.side; maker = lf.maker; accept = f }; progress = x.progress }) s o i.fine)
       (λ op p. absurd (cc))
@@ -147,25 +148,25 @@ module _ (contexts : List WasiSocketsCtx) (steps : List Step) (line : ℕ) (orig
   moves_fine es _ _ (Reaches h handle place named e) b i = elsewhere es h _ refl refl refl i i.fine (λ k n r a g. by_place h k n place r a g (names_at es h handle place named e i))
     where
       by_place : (h : Here) (k n place : ℕ) (r : Tcp2Socket) → (let x : Option (ℕ × ℕ) = Some (place, line) in let y : Option (ℕ × ℕ) = Some (k, n) in x ≡ y) → Found h k r → ((q : Tcp2Socket) → Found h place q → NamesMade steps line es q) → NamesMade steps n es r
-      by_place h k n place r a g f = let p = pair_first place line k n a in let q = pair_second place line k n a in subst (λ (x : ℕ). NamesMade steps x es r) q (f r (ap (slice_get h.machine.store.sockets) p ∙ g))
+      by_place h k n place r a g f = let p = pair_first place line k n a in let q = pair_second place line k n a in subst (λ (x : ℕ). NamesMade steps x es r) q (f r (ap (tcp2_at h.machine.store.records) p ∙ g))
   moves_fine es _ _ (Leaves h) b i = record { fine = i.fine; names = λ k n r a g. absurd (cc); listens = i.listens; new = i.new; unmade = λ e c s is. i.unmade (elim e [ inl u ↦ inl u | inr u ↦ absurd u ]) c s is; joined = λ p e. absurd (cc); marked = λ handle p e. absurd (cc) }
   moves_fine es _ _ (Spends h e) b i = spent es h i
   moves_fine es _ _ (Changes h place r now g p) b i = plain_fine es h place r now g p i
   moves_fine es _ _ (ClosesReader h place r s g e) b i = streams_fine es h place r s (record s { reader = ReadState.Closed }) g e (λ f. (tt, f.writes)) i
   moves_fine es _ _ (Writes h place r s w g e m) b i = streams_fine es h place r s (record s { writer = w }) g e (λ f. (f.reads, writes_on es f.side s.writer w m f.writes)) i
   moves_fine es _ _ (IsGone h place r q g e) b i =
-      let f = i.fine.sockets place r g in
+      let f = i.fine.records place r g in
       put_fine es h place r (gone r r.inner) g refl (listening_gone r.listening) (gone_maker r r.inner) (record { socket = f.socket; named = f.named; streams = λ s p. absurd (cc); listening = tt; progress = tt }) i
   moves_fine es _ _ (Reconnects h place r c now g e s t u) b i =
-      let f = i.fine.sockets place r g in
+      let f = i.fine.records place r g in
       put_fine es h place r _ g refl (same_listening r.listening) (same_listen r (with_inner r (with_state r.inner (TcpState.Connected now))) refl refl refl) (record_kept steps es r _ (record { keeps = still_connected r c now e s; side = refl; streams = refl; listening = refl; binds = inl refl }) (connected_fine es r.inner c now e s f.socket) f) i
   moves_fine es _ _ (Opens h place r c d g e n) b i =
-      let f = i.fine.sockets place r g in let now : Connection = record c { send_taken = true } in
+      let f = i.fine.records place r g in let now : Connection = record c { send_taken = true } in
       let it : StreamsAreFine steps es (with_state r.inner (TcpState.Connected now)) (new_streams (record { side = c.side }) (record { side = c.side })) = record { side = c.side; connected = record { connection = now; state = refl; same = refl }; reads = refl; writes = refl } in
       put_fine es h place r (opened_by r c) g refl (same_listening r.listening) (same_listen r (opened_by r c) refl refl refl)
       (record { socket = connected_fine es r.inner c now e refl f.socket; named = λ side p. f.named side (ap side_in e ∙ p); streams = λ s p. let q : new_streams (record { side = c.side }) (record { side = c.side }) ≡ s = cc in subst (StreamsAreFine steps es (with_state r.inner (TcpState.Connected now))) q it; listening = f.listening; progress = tt }) i
   moves_fine es _ _ (BeginsConnect h place r side a bound at g d to known idle o) b i =
-      let f = i.fine.sockets place r g in
+      let f = i.fine.records place r g in
       let e : side_of r.inner ≡ Some side = ap side_in d in
       let op = connect_operation (record { op = own_of line; side = side; maker = r.inner.maker }) (wildcard r.inner.family) a (connect_first bound) in
       let may : ConnectIsFine steps es op = record {
@@ -184,7 +185,7 @@ module _ (contexts : List WasiSocketsCtx) (steps : List Step) (line : ℕ) (orig
       spent es _ (put_fine es h place r (with_inner r (with_state r.inner (TcpState.Connecting op))) g refl (same_listening r.listening) (same_listen r (with_inner r (with_state r.inner (TcpState.Connecting op))) refl refl refl)
       (record_kept steps es r _ (record { keeps = record { maker = refl; family = refl; side = λ s p. e ∙ p; connected = λ c p. absurd (not_default side c (sym d ∙ p)) }; side = refl; streams = refl; listening = refl; binds = inl refl }) socket f) i)
   moves_fine es _ _ (BeginsBind h place r side a at g d to idle o) b i =
-      let f = i.fine.sockets place r g in
+      let f = i.fine.records place r g in
       let e : side_of r.inner ≡ Some side = ap side_in d in
       let begun : BindIsFine steps es (begun_bind (own_of line) side r a) = record {
         addr = a;
@@ -197,9 +198,9 @@ module _ (contexts : List WasiSocketsCtx) (steps : List Step) (line : ℕ) (orig
       spent es _ (put_fine es h place r now g refl (same_listening r.listening) (same_listen r now refl refl refl) (record { socket = f.socket; named = f.named; streams = f.streams; listening = f.listening; progress = begun }) i)
   moves_fine es _ _ (BeginsWrite h place r s half permit bytes at g e w within o) b i =
       spent es _ (streams_fine es h place r s (record s { writer = WriteState.Writing (new_job (own_of line) half.side bytes) }) g e
-      (λ f. (f.reads, record { named = names_streams es r s (i.names place line r at g) (i.fine.sockets place r g) f; on = subst (WritesOn steps es f.side) w f.writes; last = refl; left = ToWrite bytes })) i)
+      (λ f. (f.reads, record { named = names_streams es r s (i.names place line r at g) (i.fine.records place r g) f; on = subst (WritesOn steps es f.side) w f.writes; last = refl; left = ToWrite bytes })) i)
   moves_fine es _ _ (BeginsListen h place r side at g d bound none to idle o) b i =
-      let f = i.fine.sockets place r g in
+      let f = i.fine.records place r g in
       let e : side_of r.inner ≡ Some side = ap side_in d in
       let now = beginning_listen (own_of line) side r in
       let goes : ListenGoesOn steps es now (begun_listen (own_of line) side r) = record {
@@ -212,28 +213,28 @@ module _ (contexts : List WasiSocketsCtx) (steps : List Step) (line : ℕ) (orig
       (record { socket = record { knows = record { maker = λ x p. absurd (cc) }; bound = λ x p q. absurd (cc); listens = λ x p. absurd (cc); connect = λ x p. absurd (cc) }; named = λ x p. absurd (cc); streams = λ t p. absurd (no_streams es r side t d f p); listening = tt; progress = f.progress }) i.fine)
       (λ op p. subst (ListenGoesOn steps es now) (same_begun _ op p) goes))
   moves_fine es _ _ (BeginsAccept h place r l at g e a o) b i =
-      let x = i.fine.sockets place r g in let lf = listener_fine es r l e x in let n = i.new o in
+      let x = i.fine.records place r g in let lf = listener_fine es r l e x in let n = i.new o in
       spent es _ (renewed_fine es h place r l (new_accept line l) g e
       (record { named = second_names es line l.side (i.names place line r at g l.side lf.side); on = refl; asks = refl; last = refl }) (record { handed = n.0; marked = n.1; so_far = Unarrived })
       (λ y p k q u v. absurd (fresh contexts line origin h o b.1 y (of_line y p) k q u (inr v))) i)
     where
       of_line : (x : OpId) → Some (second_of line) ≡ Some x → x.step ≡ line
       of_line x p = let q : second_of line ≡ x = cc in ap (λ (y : OpId). y.step) (sym q)
-  moves_fine es _ _ (Unlistens h place r op g e c o) b i =
-      let f = i.fine.sockets place r g in put_fine es h place r (with_listening r Not) g refl (listening_gone r.listening) (λ op p. absurd (cc)) (record { socket = f.socket; named = f.named; streams = f.streams; listening = tt; progress = f.progress }) i
+  moves_fine es _ _ (Unlistens h place r op q g e c o) b i =
+      let f = i.fine.records place r g in put_fine es h place r (with_listening r Not) g refl (listening_gone r.listening) (λ op p. absurd (cc)) (record { socket = f.socket; named = f.named; streams = f.streams; listening = tt; progress = f.progress }) i
   moves_fine es _ _ (Forgets h place r l c g e a) b i = renewed_fine es h place r l Accepting.Idle g e tt tt (λ x p. absurd (cc)) i
   moves_fine es _ _ (Watches h o) b i = record { fine = i.fine; names = i.names; listens = i.listens; new = i.new; unmade = λ e c s is. i.unmade (inl o) c s is; joined = λ p e. absurd (cc); marked = λ handle p e. absurd (cc) }
   moves_fine es _ _ (Joins h c handle place r l new peer is of u g e a) b i =
       let idle = accepting_now r l Accepting.Idle in
-      let sockets = slice_set h.machine.store.sockets place idle in
-      let x = i.fine.sockets place r g in let lf = listener_fine es r l e x in
+      let records = tcp2_put h.machine.store.records place idle in
+      let x = i.fine.records place r g in let lf = listener_fine es r l e x in
       let handed : IsHanded es new l.side peer = subst (AcceptingIsFine steps es l.side l.maker) a lf.accept in
       let free : MarksNoSocket es new = subst (AcceptingStands es l.side) a (subst (ListeningStands es) e (i.fine.accepts place r g)) in
       let k = renewed_fine es h place r l Accepting.Idle g e tt tt (λ y p. absurd (cc)) i in
       record {
         fine = state_joined steps es (put h place idle).machine (joined l new peer) (joined_record es l new peer lf.maker handed) tt refl k.fine;
         names = λ p n q at d. absurd (cc);
-        listens = λ p q op d m. elim (get_split sockets (joined l new peer) p q d) [ inl v ↦ k.listens p q op v m | inr v ↦ absurd (no_listen op (ap (λ (y : Tcp2Socket). y.listening) v ∙ m)) ];
+        listens = λ p q op d m. elim (get_split records (joined l new peer) p q d) [ inl v ↦ k.listens p q op v m | inr v ↦ absurd (no_listen op (ap (λ (y : Tcp2Socket). y.listening) v ∙ m)) ];
         new = i.new;
         unmade = λ t c s is. i.unmade (inr (subst NotMarked (sym u) tt)) c s is;
         joined = λ p m. record {
@@ -243,21 +244,21 @@ module _ (contexts : List WasiSocketsCtx) (steps : List Step) (line : ℕ) (orig
           context = c;
           listener = handle;
           by = is;
-          side = λ q d. ap (λ (y : Tcp2Socket). y.side) (sym (seam sockets (joined l new peer) p q m d));
+          side = λ q d. ap (λ (y : Tcp2Socket). y.side) (sym (seam records (joined l new peer) p q m d));
           of_listener = is_side es h handle place of i r g l.side lf.side;
           handed = handed;
           fresh = free;
         };
         marked = λ s p m. absurd (cc);
       }
-  moves_fine es _ _ (Stands h n call r at g k) b i = elsewhere es h _ refl refl refl i (state_stands steps es h.machine (standing_as n call) (record { found = r; at = g; named = i.names (call_place call) n r at g }) i.fine) i.names
+  moves_fine es _ _ (Stands h ids call r at g k) b i = elsewhere es h _ refl refl refl i (state_stands steps es h.machine (standing_as ids call) (record { found = r; at = g; named = i.names (call_place call) ids.line r at g }) i.fine) i.names
   moves_fine es _ _ (Resumes h s e) b i = elsewhere es h _ refl refl refl i i.fine (λ k j r a g. resumed h s k j r (i.fine.standing s e) a g)
     where
-      resumed : (h : Here) (s : Standing) (k j : ℕ) (r : Tcp2Socket) → StandingIsFine steps es h.machine.store.sockets s → (let x : Option (ℕ × ℕ) = Some (call_place s.call, s.line) in let y : Option (ℕ × ℕ) = Some (k, j) in x ≡ y) → Found h k r → NamesMade steps j es r
+      resumed : (h : Here) (s : Standing) (k j : ℕ) (r : Tcp2Socket) → StandingIsFine steps es h.machine.store.records s → (let x : Option (ℕ × ℕ) = Some (call_place s.call, s.ids.line) in let y : Option (ℕ × ℕ) = Some (k, j) in x ≡ y) → Found h k r → NamesMade steps j es r
       resumed h s k j r d a g =
-          let p = pair_first (call_place s.call) s.line k j a in let q = pair_second (call_place s.call) s.line k j a in
-          let same : d.found ≡ r = same_record d.found r (sym d.at ∙ (ap (slice_get h.machine.store.sockets) p ∙ g)) in
-          subst (λ (x : ℕ). NamesMade steps x es r) q (subst (NamesMade steps s.line es) same d.named)
+          let p = pair_first (call_place s.call) s.ids.line k j a in let q = pair_second (call_place s.call) s.ids.line k j a in
+          let same : d.found ≡ r = same_record d.found r (sym d.at ∙ (ap (tcp2_at h.machine.store.records) p ∙ g)) in
+          subst (λ (x : ℕ). NamesMade steps x es r) q (subst (NamesMade steps s.ids.line es) same d.named)
   moves_fine es _ _ (Unstands h) b i = elsewhere es h _ refl refl refl i (state_unstands steps es h.machine i.fine) i.names
   moves_fine es _ _ (Lists h jobs) b i = elsewhere es h _ refl refl refl i (state_jobs steps es h.machine jobs i.fine) i.names
   moves_fine es _ _ (Takes h handle) b i = elsewhere es h _ refl refl refl i (state_taken steps es h.machine handle i.fine) i.names

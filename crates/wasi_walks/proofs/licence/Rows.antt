@@ -3,12 +3,14 @@ use Rattle.wasi_walks.proofs.Words.{BeganBy, Call, Created, Entry, Give, Handles
 use Rattle.wasi_walks.proofs.Words.{NamesSide, None, Option, Reply, SocketAddrUse, SocketAddressFamily, Some, Standing, StandingCall, Step, Told}
 use Rattle.wasi_walks.proofs.Words.{WasiSocketsCtx, [], bind, bind_operation, entry, false, first_state, inl, inr, new_record, new_socket, no_fields}
 use Rattle.wasi_walks.proofs.Words.{number_fields, own_of, polls, refl, run, standing_as, true, wildcard, with_progress, ℕ, ◌++◌, ◌∷◌}
+use Rattle.wasi_machine.specs.Machine.{first_ids}
 use Rattle.wasi_tcp.specs.declared.bind.BindStage.TheVariants.{Check}
 use Rattle.wasi_walks.proofs.licence.Longer.{licensed}
 use Rattle.wasi_walks.proofs.licence.Runs.{whole_licensed}
 use Rattle.wasi_world.specs.declared.call.HandleKind.TheVariants as kind
 use Rattle.wasi_steps.specs.declared.reply.CodeWord.TheVariants as word
 use Rattle.wasi_host.specs.declared.kind.Kind.TheVariants as slot
+use Rattle.wasi_host.specs.declared.records.Record.TheVariants as rec
 
 -- contexts that may use all
 abbrev pub context : ℕ → WasiSocketsCtx
@@ -35,7 +37,7 @@ two_handles = record { next = 3; live = record { handle = 1; value = slot.Networ
 abbrev with_socket : ℕ → SocketAddressFamily → InProgress → Option Standing → Machine
 with_socket ctx f doing standing = record {
   table = two_handles;
-  store = record { sockets = with_progress (new_record (new_socket (own_of 2) ctx f)) doing ∷ []; jobs = []; standing = standing };
+  store = record { records = rec.Tcp2 (with_progress (new_record (new_socket (own_of 2) ctx f)) doing) ∷ []; jobs = []; standing = standing };
 }
 
 -- == a bind
@@ -110,7 +112,7 @@ abbrev stands_replies : List Reply
 stands_replies = Reply.Ok (number_fields 1) ∷ Reply.Ok (number_fields 2) ∷ Reply.Pending 3 ∷ Reply.Busy ∷ Reply.Busy ∷ []
 
 abbrev stands_end : Machine
-stands_end = with_socket 1 SocketAddressFamily.Ipv6 (InProgress.Binding (bind_operation (record { op = own_of 3; side = own_of 2; maker = 1 }) local_six Check)) (Some (standing_as 3 (StandingCall.Bind 0)))
+stands_end = with_socket 1 SocketAddressFamily.Ipv6 (InProgress.Binding (bind_operation (record { op = own_of 3; side = own_of 2; maker = 1 }) local_six Check)) (Some (standing_as (first_ids 3) (StandingCall.Bind 0)))
 
 stands_run : Left (run two_contexts [] first_state 1 stands_script) stands_log (Give (stands_replies, stands_end))
 unfolding bind polls
@@ -124,6 +126,6 @@ abbrev forbidden_script : List Step
 forbidden_script = Step.Network 0 ∷ Step.TcpCreate 0 SocketAddressFamily.Ipv4 ∷ []
 
 forbidden_run : Left (run forbidden [] first_state 1 forbidden_script) (entry (own_of 1) (Call.Made 1 kind.Network None None) Told.Done ∷ [])
-    (Give (Reply.Ok (number_fields 1) ∷ Reply.Err word.AccessDenied ∷ [], record { table = record { next = 2; live = record { handle = 1; value = slot.Network; parent = None } ∷ [] }; store = record { sockets = []; jobs = []; standing = None } }))
+    (Give (Reply.Ok (number_fields 1) ∷ Reply.Err word.AccessDenied ∷ [], record { table = record { next = 2; live = record { handle = 1; value = slot.Network; parent = None } ∷ [] }; store = record { records = []; jobs = []; standing = None } }))
 unfolding bind
 forbidden_run = ((refl, refl, tt), refl)

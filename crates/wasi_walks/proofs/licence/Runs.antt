@@ -3,7 +3,7 @@
 use Rattle.wasi_walks.proofs.Words.{Allows, Asks, Begins, Call, Entry, Give, HasRun, IsLicensed, Left, List, Machine, MayAsk, Not, Operation, Reply}
 use Rattle.wasi_walks.proofs.Words.{Some, Step, Tcp2Socket, WasiSocketsCtx, [], add-one, allows_at, allows_if, allows_keep, allows_then}
 use Rattle.wasi_walks.proofs.Words.{allows_weaker, ap, append-nil, append_assoc, arith, created_asks, entry, first_state, give_up_asks, inl, is_trap}
-use Rattle.wasi_walks.proofs.Words.{length, length-append, machine_asks, new_asks, own_of, refl, run, side_in, slice_get, step_at, subst, sym}
+use Rattle.wasi_walks.proofs.Words.{length, length-append, machine_asks, new_asks, own_of, refl, run, side_in, step_at, subst, sym}
 use Rattle.wasi_walks.proofs.Words.{with_listening, ℕ, ⊤, ◌++◌, ◌+◌, ◌∙◌, ◌∷◌, ◌≡◌}
 use Rattle.wasi_walks.proofs.licence.State.{StateIsFine}
 use Rattle.wasi_walks.proofs.licence.Fresh.{IsNew, next_is_new}
@@ -21,6 +21,7 @@ use Rattle.wasi_walks.proofs.licence.Moves.{closed_fine, gone_maker, moves_fine}
 use Rattle.wasi_walks.proofs.licence.Asked.{spares, asked_fine, on_side, names_on_side, not_held, question_local, question_may, learned_fine}
 use Rattle.wasi_walks.proofs.licence.Marks.{marked_fine, accepted_fine, CreatedIsFine, new_fine, joins}
 use Rattle.wasi_walks.proofs.licence.GoesOn.{kept, taken_out, turned_fine, given_up, polls_fine}
+use Rattle.wasi_host.specs.Records.{tcp2_at}
 
 module _ (contexts : List WasiSocketsCtx) (steps : List Step) (line : ℕ) (origin : Step) (is_line : step_at steps line ≡ Some origin) where
   licences : Above contexts line origin (λ es h. Base contexts line origin h)
@@ -30,10 +31,10 @@ module _ (contexts : List WasiSocketsCtx) (steps : List Step) (line : ℕ) (orig
     moves = moves_fine contexts steps line origin is_line;
     asks = λ es h place n r side c at g o q b i.
         let k = question_may contexts steps line origin is_line n es side c q (names_on_side contexts steps line origin is_line es h place n r side at g o i) in
-        let s = on_side contexts steps line origin is_line es r side o (i.fine.sockets place r g) in
+        let s = on_side contexts steps line origin is_line es r side o (i.fine.records place r g) in
         (k.0, λ told fits. asked_fine contexts steps line origin is_line es h (own_of n) c told k.1 (λ p z op d l e. not_held contexts steps line origin is_line h place r side g s b.1 p z op d l (question_local contexts steps line origin is_line n side op.who.side c q e)) i);
     sets = λ es h place r side backlog at g s is b i.
-        let f = i.fine.sockets place r g in
+        let f = i.fine.records place r g in
         ((inl (i.names place line r at g side (f.named side (ap side_in s))), record { origin = origin; at = is_line; holds = is }, f.socket.listens side s), λ told fits. asked_fine contexts steps line origin is_line es h (own_of line) (Call.SetBacklog side backlog) told tt (spares contexts steps line origin is_line h (Call.SetBacklog side backlog) tt) i);
     learns = λ es h place r side at g e b i. (inl (names_on_side contexts steps line origin is_line es h place line r side at g (OfSocket (ap side_in e)) i), λ told fits. learned_fine contexts steps line origin is_line es h place r side told g e fits b.1 i);
     closes = λ es h place r side q g e b i. (
@@ -49,9 +50,9 @@ module _ (contexts : List WasiSocketsCtx) (steps : List Step) (line : ℕ) (orig
     accepted = λ es h c s place r is e o g b i. accepted_fine contexts steps line origin is_line es h c s place r is e o g b.1 i;
     polls = polls_fine contexts steps line origin is_line;
     turns = λ es h place r s g e b i. turned_fine contexts steps line origin is_line es h place r s g e i;
-    gives_up = λ es h place r g b i.
+    gives_up = λ es h place r q g b i.
         allows_weaker (MayAsk contexts steps) (λ fs done. Licensed steps line origin fs h × ⊤) (λ fs done. Licensed steps line origin fs (put h place (with_listening r Not))) (λ fs done k. taken_out contexts steps line origin is_line fs h place r g k.0) es (give_up_asks r.listening)
-        (kept contexts steps line origin is_line h (λ fs done. ⊤) es (give_up_asks r.listening) i (given_up contexts steps line origin is_line es r.side r.listening (i.fine.sockets place r g).listening));
+        (kept contexts steps line origin is_line h (λ fs done. ⊤) es (give_up_asks r.listening) i (given_up contexts steps line origin is_line es r.side r.listening (i.fine.records place r g).listening));
   }
 
   pub licence : Law contexts line origin
@@ -66,7 +67,7 @@ module _ (contexts : List WasiSocketsCtx) (steps : List Step) (line : ℕ) (orig
 pub record Fine (steps : List Step) (line : ℕ) (es : List Entry) (m : Machine) : Type 0 where
   pub base : BaseBetween line m
   pub fine : StateIsFine steps es m
-  pub listens : (place : ℕ) (r : Tcp2Socket) (op : Operation) → slice_get m.store.sockets place ≡ Some r → r.listening ≡ Begins op → ListenGoesOn steps es r op
+  pub listens : (place : ℕ) (r : Tcp2Socket) (op : Operation) → tcp2_at m.store.records place ≡ Some r → r.listening ≡ Begins op → ListenGoesOn steps es r op
 
 fine_more : (contexts : List WasiSocketsCtx) (steps more : List Step) (line : ℕ) (es : List Entry) (m : Machine) → Fine steps line es m → Fine (steps ++ more) line es m
 fine_more contexts steps more line es m i = record {
@@ -78,7 +79,7 @@ fine_more contexts steps more line es m i = record {
 first_fine : Fine [] 1 [] first_state
 first_fine = record {
   base = first_base;
-  fine = record { count = refl; handles = λ handle kind e. absurd (cc); sockets = λ place r e. absurd (cc); standing = λ c e. absurd (cc); accepts = λ place r e. absurd (cc); one = λ i j r s x a b c d. absurd (cc) };
+  fine = record { count = refl; handles = λ handle kind e. absurd (cc); records = λ place r e. absurd (cc); standing = λ c e. absurd (cc); accepts = λ place r e. absurd (cc); one = λ i j r s x a b c d. absurd (cc) };
   listens = λ place r op e. absurd (cc);
 }
 
@@ -89,7 +90,7 @@ next_line : (steps : List Step) (s : Step) (line : ℕ) → line ≡ length step
 next_line steps s line e = let k = length-append steps (s ∷ []) in omega arith
 
 module _ (contexts : List WasiSocketsCtx) where
-  line_licensed : (steps : List Step) (line : ℕ) (s : Step) → step_at steps line ≡ Some s → (m : Machine) (es : List Entry) → IsNew es m.store.sockets line → Fine steps line es m
+  line_licensed : (steps : List Step) (line : ℕ) (s : Step) → step_at steps line ≡ Some s → (m : Machine) (es : List Entry) → IsNew es m.store.records line → Fine steps line es m
       → Allows (MayAsk contexts steps) (λ fs done. Fine steps (line + 1) fs done.1) es (machine_asks contexts m line s)
   line_licensed steps line s l m es n i =
       let o = may_while m s m.store.standing in
@@ -114,7 +115,7 @@ module _ (contexts : List WasiSocketsCtx) where
   lines all replies m line before (s ∷ rest) es a e c h =
       let now = before ++ s ∷ [] in
       let b : all ≡ now ++ rest = a ∙ sym (append_assoc before (s ∷ []) rest) in
-      let new : IsNew es m.store.sockets line = subst (IsNew es m.store.sockets) (sym e) (next_is_new contexts before es (licensed contexts before es c) m h.fine) in
+      let new : IsNew es m.store.records line = subst (IsNew es m.store.records) (sym e) (next_is_new contexts before es (licensed contexts before es c) m h.fine) in
       allows_then (MayAsk contexts all) (λ fs done. EachMayCome contexts now [] fs × Fine now (line + 1) fs done.1) (λ fs done. ⊤) es (machine_asks contexts m line s) _
       (allows_keep (MayAsk contexts now) (MayAsk contexts all) (EachMayCome contexts now []) (λ fs done. Fine now (line + 1) fs done.1)
       (λ fs op c t fits k q. may_come contexts now fs _ k q)

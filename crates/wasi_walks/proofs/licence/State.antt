@@ -4,22 +4,24 @@ use Rattle.wasi_walks.proofs.Words.{Entry, ErrorCode, HandedNone, Has, InProgres
 use Rattle.wasi_walks.proofs.Words.{IsMarkedWith, Item, Job, Kind, Last, List, Listener, Listening, Listens, Machine, MarksNoSocket, MayGoOut}
 use Rattle.wasi_walks.proofs.Words.{NamesSide, None, Nothing, NothingLast, OpId, Operation, Option, ReadState, ShutdownLast, ShutdownSend, Socket}
 use Rattle.wasi_walks.proofs.Words.{SocketAddressFamily, Some, Standing, Step, Streams, Tcp2Socket, TcpBind, TcpConnect, TcpState, Told, Write}
-use Rattle.wasi_walks.proofs.Words.{WriteState, Yes, [], call_place, entry, kind_at, marks_in, own_of, side_of, slice_get, true, wildcard, ℕ, ⊤, ◌++◌}
+use Rattle.wasi_walks.proofs.Words.{WriteState, Yes, [], call_place, entry, kind_at, marks_in, own_of, side_of, true, wildcard, ℕ, ⊤, ◌++◌}
 use Rattle.wasi_walks.proofs.Words.{◌+◌, ◌∷◌, ◌≡◌}
 use Rattle.wasi_walks.proofs.walks.Moves.{record_of}
+use Rattle.wasi_host.specs.Records.{tcp2_at}
+use Rattle.wasi_host.specs.declared.records.Record.{Record}
 
 -- The handle stands for the record at this place, and its mark says the network socket that the record was made with.
-pub record NamesRecord (es : List Entry) (sockets : List Tcp2Socket) (handle place : ℕ) : Type 0 where
+pub record NamesRecord (es : List Entry) (records : List Record) (handle place : ℕ) : Type 0 where
   pub found : Tcp2Socket
-  pub at : slice_get sockets place ≡ Some found
+  pub at : tcp2_at records place ≡ Some found
   pub marked : IsMarkedWith es handle found.side
 
-abbrev pub NamesIf : List Entry → List Tcp2Socket → ℕ → Option ℕ → Type 0
-NamesIf es sockets handle (Some place) = NamesRecord es sockets handle place
-NamesIf es sockets handle None = ⊤
+abbrev pub NamesIf : List Entry → List Record → ℕ → Option ℕ → Type 0
+NamesIf es records handle (Some place) = NamesRecord es records handle place
+NamesIf es records handle None = ⊤
 
-abbrev pub HandleIsFine : List Entry → List Tcp2Socket → ℕ → Kind → Type 0
-HandleIsFine es sockets handle kind = NamesIf es sockets handle (record_of (Some kind))
+abbrev pub HandleIsFine : List Entry → List Record → ℕ → Kind → Type 0
+HandleIsFine es records handle kind = NamesIf es records handle (record_of (Some kind))
 
 -- The socket knows the creator of its network socket, and the network socket's family.
 pub record KnowsMaker (es : List Entry) (socket : Socket) : Type 0 where
@@ -103,8 +105,8 @@ accept_name (Accepts l) = name_in l.accept
 accept_name _ = None
 
 -- no two records have an accept of one name
-abbrev pub OneHolds : List Tcp2Socket → Type 0
-OneHolds sockets = (i j : ℕ) (r s : Tcp2Socket) (x : OpId) → slice_get sockets i ≡ Some r → slice_get sockets j ≡ Some s → accept_name r.listening ≡ Some x → accept_name s.listening ≡ Some x → i ≡ j
+abbrev pub OneHolds : List Record → Type 0
+OneHolds records = (i j : ℕ) (r s : Tcp2Socket) (x : OpId) → tcp2_at records i ≡ Some r → tcp2_at records j ≡ Some s → accept_name r.listening ≡ Some x → accept_name s.listening ≡ Some x → i ≡ j
 
 module _ (steps : List Step) where
   -- the operation's step names a handle of this network socket
@@ -199,15 +201,15 @@ module _ (steps : List Step) where
     pub progress : ProgressIsFine es r.in_progress
 
   -- A pending call: its line names a handle of the network socket that its record was made with.
-  pub record StandingIsFine (es : List Entry) (sockets : List Tcp2Socket) (s : Standing) : Type 0 where
+  pub record StandingIsFine (es : List Entry) (records : List Record) (s : Standing) : Type 0 where
     pub found : Tcp2Socket
-    pub at : slice_get sockets (call_place s.call) ≡ Some found
-    pub named : (side : OpId) → found.side ≡ Some side → Names es (own_of s.line) side
+    pub at : tcp2_at records (call_place s.call) ≡ Some found
+    pub named : (side : OpId) → found.side ≡ Some side → Names es (own_of s.ids.line) side
 
   pub record StateIsFine (es : List Entry) (m : Machine) : Type 0 where
     pub count : m.table.next ≡ marks_in es + 1
-    pub handles : (handle : ℕ) (kind : Kind) → kind_at m.table handle ≡ Some kind → HandleIsFine es m.store.sockets handle kind
-    pub sockets : (place : ℕ) (r : Tcp2Socket) → slice_get m.store.sockets place ≡ Some r → RecordIsFine es r
-    pub standing : (c : Standing) → m.store.standing ≡ Some c → StandingIsFine es m.store.sockets c
-    pub accepts : (place : ℕ) (r : Tcp2Socket) → slice_get m.store.sockets place ≡ Some r → ListeningStands es r.listening
-    pub one : OneHolds m.store.sockets
+    pub handles : (handle : ℕ) (kind : Kind) → kind_at m.table handle ≡ Some kind → HandleIsFine es m.store.records handle kind
+    pub records : (place : ℕ) (r : Tcp2Socket) → tcp2_at m.store.records place ≡ Some r → RecordIsFine es r
+    pub standing : (c : Standing) → m.store.standing ≡ Some c → StandingIsFine es m.store.records c
+    pub accepts : (place : ℕ) (r : Tcp2Socket) → tcp2_at m.store.records place ≡ Some r → ListeningStands es r.listening
+    pub one : OneHolds m.store.records

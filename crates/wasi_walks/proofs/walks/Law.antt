@@ -3,10 +3,12 @@ use Rattle.wasi_walks.proofs.Words.{Accepting, Accepts, Allows, Ask, AskWrite, A
 use Rattle.wasi_walks.proofs.Words.{IsBacklogSet, Item, Kind, List, Listener, None, Not, OpId, Operation, Option, SocketAddressFamily, Some, Step}
 use Rattle.wasi_walks.proofs.Words.{Streams, Tcp2, Tcp2Socket, TcpState, Told, WasiSocketsCtx, [], accept_ended, after_local, allows_then}
 use Rattle.wasi_walks.proofs.Words.{allows_weaker, ap, bind, bind_progress, connect_ended, create_asks, entry, false, give_up_asks, if◌then◌else◌}
-use Rattle.wasi_walks.proofs.Words.{make_asks, own_of, poll_asks, refl, side_at, side_of, slice_get, slice_set, subst, suc, sym, told_addr, true}
-use Rattle.wasi_walks.proofs.Words.{turn_asks, with_inner, with_listening, with_progress, with_state, with_writer, zero, ℕ, ◌++◌, ◌∷◌, ◌≡◌}
-use Rattle.wasi_walks.proofs.walks.Moves.{Here, put, Found, NoBind, closed_record, Past, Joined, made_so, listen_after, accepting_now, Held, BindsOn, Connects, Listens, Awaits, IsQuestionOf, IsOn, Move, Marks, Creates, Used, Unused}
-use Rattle.wasi_walks.proofs.Lists.{set_there, set_set}
+use Rattle.wasi_walks.proofs.Words.{make_asks, own_of, poll_asks, refl, side_at, side_of, subst, sym, told_addr, true}
+use Rattle.wasi_walks.proofs.Words.{turn_asks, with_inner, with_listening, with_progress, with_state, with_writer, ℕ, ◌++◌, ◌∷◌, ◌≡◌}
+use Rattle.wasi_walks.proofs.walks.Moves.{Here, put, Found, NoStart, closed_record, Past, Joined, made_so, listen_after, accepting_now, Held, BindsOn, Connects, Listens, Awaits, IsQuestionOf, IsOn, Move, Marks, Creates, Used, Unused}
+use Rattle.wasi_walks.proofs.Lists.{set_there, set_set, set_same}
+use Rattle.wasi_host.specs.Records.{tcp2_at}
+use Rattle.wasi_host.specs.declared.records.Record.{Record}
 
 pub record Law (contexts : List WasiSocketsCtx) (line : ℕ) (origin : Step) : Type 1 where
   pub P : List Entry → OpId → Call → Type 0
@@ -19,18 +21,18 @@ pub record Law (contexts : List WasiSocketsCtx) (line : ℕ) (origin : Step) : T
       → P es (own_of line) (Call.SetBacklog side backlog) × ((told : Told) → Fits (Call.SetBacklog side backlog) told → Inv (es ++ entry (own_of line) (Call.SetBacklog side backlog) told ∷ []) h)
   pub learns : (es : List Entry) (h : Here) (place : ℕ) (r : Tcp2Socket) (side : OpId) → h.at ≡ Some (place, line) → Found h place r → r.inner.state ≡ TcpState.Default side → Inv es h
       → P es (own_of line) (Call.Local side) × ((told : Told) → Fits (Call.Local side) told → Inv (es ++ entry (own_of line) (Call.Local side) told ∷ []) (put h place (with_inner r (after_local r.inner (told_addr told)).1)))
-  pub closes : (es : List Entry) (h : Here) (place : ℕ) (r : Tcp2Socket) (side : OpId) → NoBind h → Found h place r → side_of r.inner ≡ Some side → Inv es h
+  pub closes : (es : List Entry) (h : Here) (place : ℕ) (r : Tcp2Socket) (side : OpId) → NoStart h → Found h place r → side_of r.inner ≡ Some side → Inv es h
       → P es (own_of line) (Call.Close side) × ((told : Told) → Fits (Call.Close side) told → Inv (es ++ entry (own_of line) (Call.Close side) told ∷ []) (put h place (closed_record r)))
   pub marks : (es : List Entry) (h : Here) (kind : Kind) (parent : Option ℕ) (sock : Option OpId) → Marks origin h kind parent sock → Inv es h
       → Allows P (λ fs made. Inv fs (record h { machine = record h.machine { table = made.1 } })) es (make_asks h.machine.table (own_of line) kind parent sock)
   pub creates : (es : List Entry) (h : Here) (ctx : WasiSocketsCtx) (family : SocketAddressFamily) → Creates contexts ctx family origin → h.at ≡ None → h.own ≡ Unused → h.made ≡ Past → Inv es h
       → Allows P (λ fs done. Inv fs (record h { machine = done.1; own = Used })) es (create_asks h.machine (own_of line) ctx family)
   pub accepted : (es : List Entry) (h : Here) (c listener place : ℕ) (r : Tcp2Socket) → origin ≡ Step.TcpAccept c listener → h.made ≡ Joined place → h.own ≡ Used → Found h place r → Inv es h
-      → Allows P (λ fs made. Inv fs (record h { machine = record h.machine { table = made.1 }; made = made_so place made.0 })) es (make_asks h.machine.table (own_of line) (Tcp2 place) (Some listener) (side_at (slice_get h.machine.store.sockets place)))
+      → Allows P (λ fs made. Inv fs (record h { machine = record h.machine { table = made.1 }; made = made_so place made.0 })) es (make_asks h.machine.table (own_of line) (Tcp2 place) (Some listener) (side_at (tcp2_at h.machine.store.records place)))
   -- what is in progress
   pub polls : (es : List Entry) (h : Here) (op : Operation) (after : End × List Item → Here) → Held h op after → Inv es h → Allows P (λ fs ended. Inv fs (after ended)) es (poll_asks op)
   pub turns : (es : List Entry) (h : Here) (place : ℕ) (r : Tcp2Socket) (s : Streams) → Found h place r → r.streams ≡ Some s → Inv es h → Allows P (λ fs done. Inv fs (put h place (with_writer r s done.1))) es (turn_asks s.writer)
-  pub gives_up : (es : List Entry) (h : Here) (place : ℕ) (r : Tcp2Socket) → Found h place r → Inv es h → Allows P (λ fs done. Inv fs (put h place (with_listening r Not))) es (give_up_asks r.listening)
+  pub gives_up : (es : List Entry) (h : Here) (place : ℕ) (r : Tcp2Socket) → NoStart h → Found h place r → Inv es h → Allows P (λ fs done. Inv fs (put h place (with_listening r Not))) es (give_up_asks r.listening)
 
 -- A place that has a record.
 pub record HasRecord (h : Here) (place : ℕ) : Type 0 where
@@ -39,18 +41,13 @@ pub record HasRecord (h : Here) (place : ℕ) : Type 0 where
 
 pub put_put : (h : Here) (place : ℕ) (r now : Tcp2Socket) → put (put h place r) place now ≡ put h place now
 put_put h place r now =
-    let f : List Tcp2Socket → Here = λ xs. record h { machine = record h.machine { store = record h.machine.store { sockets = xs } } } in
-    ap f (set_set h.machine.store.sockets place r now)
-
-set_same : {A : Type 0} (xs : List A) (i : ℕ) (x : A) → slice_get xs i ≡ Some x → slice_set xs i x ≡ xs
-set_same [] i x e = refl
-set_same {A} (y ∷ xs) zero x e = let p : x ≡ y = cc in ap (λ (z : A). z ∷ xs) p
-set_same {A} (y ∷ xs) (suc i) x e = ap (λ (zs : List A). y ∷ zs) (set_same xs i x e)
+    let f : List Record → Here = λ xs. record h { machine = record h.machine { store = record h.machine.store { records = xs } } } in
+    ap f (set_set h.machine.store.records place r now)
 
 pub put_same : (h : Here) (place : ℕ) (r : Tcp2Socket) → Found h place r → put h place r ≡ h
 put_same h place r e =
-    let f : List Tcp2Socket → Here = λ xs. record h { machine = record h.machine { store = record h.machine.store { sockets = xs } } } in
-    ap f (set_same h.machine.store.sockets place r e)
+    let f : List Record → Here = λ xs. record h { machine = record h.machine { store = record h.machine.store { records = xs } } } in
+    ap f (set_same h.machine.store.records place r e)
 
 -- what is known of whatever the tree gives, without the log
 abbrev pub Given : {A : Type 0} → (A → Type 0) → Asks A → Type 0
@@ -70,6 +67,12 @@ given_on R f k (Give a) = k a
 given_on R f k (Ask op c next) = λ told. given_on R f k (next told)
 given_on R f k (AskWrite op sock bytes next) = λ told. given_on R f k (next told)
 
+pub given_along : {A B : Type 0} (R : A → Type 0) (S : B → Type 0) (asks : Asks A) (f : A → Asks B) → Given R asks → ((a : A) → R a → Given S (f a)) → Given S (bind asks f)
+unfolding bind
+given_along R S (Give a) f g k = k a g
+given_along R S (Ask op c next) f g k = λ told. given_along R S (next told) f (g told) k
+given_along R S (AskWrite op sock bytes next) f g k = λ told. given_along R S (next told) f (g told) k
+
 given_too : {A : Type 0} (P : List Entry → OpId → Call → Type 0) (Q : List Entry → A → Type 0) (R : A → Type 0) (es : List Entry) (asks : Asks A) → Allows P Q es asks → Given R asks → Allows P (λ fs a. Q fs a × R a) es asks
 given_too P Q R es (Give a) h g = (h, g)
 given_too P Q R es (Ask op c next) h g = (h.0, λ told fits. given_too P Q R _ (next told) (h.1 told fits) (g told))
@@ -81,7 +84,7 @@ module _ {contexts : List WasiSocketsCtx} {line : ℕ} {origin : Step} where
     pub along : (es : List Entry) → law.Inv es h → Allows law.P (λ fs a. law.Inv fs (end a)) es asks
 
 pub found : {h : Here} {place : ℕ} → HasRecord h place → (r : Tcp2Socket) → Found (put h place r) place r
-found {h} {place} here r = set_there h.machine.store.sockets place here.was r here.found
+found {h} {place} here r = set_there h.machine.store.records place here.was r here.found
 
 pub spent : {h : Here} {place : ℕ} → HasRecord h place → HasRecord (record h { own = Used }) place
 spent here = record { was = here.was; found = here.found }
@@ -129,7 +132,7 @@ module _ {contexts : List WasiSocketsCtx} {line : ℕ} {origin : Step} {law : La
   mark {h} {kind} {parent} {sock} m = record { along = λ es i. law.marks es h kind parent sock m i }
 
   pub accept : {h : Here} (c listener place : ℕ) (r : Tcp2Socket) → origin ≡ Step.TcpAccept c listener → h.made ≡ Joined place → h.own ≡ Used → Found h place r
-      → Walks law h (λ made. record h { machine = record h.machine { table = made.1 }; made = made_so place made.0 }) (make_asks h.machine.table (own_of line) (Tcp2 place) (Some listener) (side_at (slice_get h.machine.store.sockets place)))
+      → Walks law h (λ made. record h { machine = record h.machine { table = made.1 }; made = made_so place made.0 }) (make_asks h.machine.table (own_of line) (Tcp2 place) (Some listener) (side_at (tcp2_at h.machine.store.records place)))
   accept {h} c listener place r is e o g = record { along = λ es i. law.accepted es h c listener place r is e o g i }
 
   pub create : {h : Here} (ctx : WasiSocketsCtx) (family : SocketAddressFamily) → Creates contexts ctx family origin → h.at ≡ None → h.own ≡ Unused → h.made ≡ Past → Walks law h (λ done. record h { machine = done.1; own = Used }) (create_asks h.machine (own_of line) ctx family)
@@ -169,13 +172,13 @@ module _ {contexts : List WasiSocketsCtx} {line : ℕ} {origin : Step} {law : La
     polled : (r : Tcp2Socket) {op : Operation} (now : End × List Item → Tcp2Socket) → Held (put h place r) op (λ ended. put (put h place r) place (now ended)) → Walks law (put h place r) (λ ended. put h place (now ended)) (poll_asks op)
     polled r {op} now held = ends (λ ended. put_put h place r (now ended)) (record { along = λ es i. law.polls es (put h place r) op _ held i })
 
-    pub poll_bind : (r : Tcp2Socket) (op : Operation) → NoBind h → r.in_progress ≡ InProgress.Binding op → Walks law (put h place r) (λ ended. put h place (with_progress r (bind_progress op ended))) (poll_asks op)
+    pub poll_bind : (r : Tcp2Socket) (op : Operation) → NoStart h → r.in_progress ≡ InProgress.Binding op → Walks law (put h place r) (λ ended. put h place (with_progress r (bind_progress op ended))) (poll_asks op)
     poll_bind r op q e = polled r _ (BindsOn place r op q (found here r) e)
 
     pub connect : (r : Tcp2Socket) (op : Operation) → r.inner.state ≡ TcpState.Connecting op → Walks law (put h place r) (λ ended. put h place (with_inner r (with_state r.inner (connect_ended op.who ended).1))) (poll_asks op)
     connect r op e = polled r _ (Connects place r op (found here r) e)
 
-    pub listen : (r : Tcp2Socket) (op : Operation) → NoBind h → r.listening ≡ Begins op → side_of r.inner ≡ None → Walks law (put h place r) (λ ended. put h place (listen_after op r ended)) (poll_asks op)
+    pub listen : (r : Tcp2Socket) (op : Operation) → NoStart h → r.listening ≡ Begins op → side_of r.inner ≡ None → Walks law (put h place r) (λ ended. put h place (listen_after op r ended)) (poll_asks op)
     listen r op q e c = polled r _ (Listens place r op q (found here r) e c)
 
     pub await : (r : Tcp2Socket) (l : Listener) (op : Operation) → r.listening ≡ Accepts l → l.accept ≡ Accepting.Asking op → Walks law (put h place r) (λ ended. put h place (accepting_now r l (accept_ended op.who ended))) (poll_asks op)
@@ -189,10 +192,10 @@ module _ {contexts : List WasiSocketsCtx} {line : ℕ} {origin : Step} {law : La
     }
 
     -- the record goes: its listening is released, and its network socket is closed
-    pub give_up : (r : Tcp2Socket) → Walks law (put h place r) (λ done. put h place (with_listening r Not)) (give_up_asks r.listening)
-    give_up r = ends (λ done. put_put h place r (with_listening r Not)) (record { along = λ es i. law.gives_up es (put h place r) place r (found here r) i })
+    pub give_up : (r : Tcp2Socket) → NoStart h → Walks law (put h place r) (λ done. put h place (with_listening r Not)) (give_up_asks r.listening)
+    give_up r q = ends (λ done. put_put h place r (with_listening r Not)) (record { along = λ es i. law.gives_up es (put h place r) place r q (found here r) i })
 
-    pub close : {A : Type 0} {end : A → Here} (r : Tcp2Socket) {side : OpId} {next : Told → Asks A} → NoBind h → side_of r.inner ≡ Some side → ((told : Told) → Walks law (put h place (closed_record r)) end (next told)) → Walks law (put h place r) end (Ask (own_of line) (Call.Close side) next)
+    pub close : {A : Type 0} {end : A → Here} (r : Tcp2Socket) {side : OpId} {next : Told → Asks A} → NoStart h → side_of r.inner ≡ Some side → ((told : Told) → Walks law (put h place (closed_record r)) end (next told)) → Walks law (put h place r) end (Ask (own_of line) (Call.Close side) next)
     close r {side} q e k = record {
       along = λ es i.
           let a = law.closes es (put h place r) place r side q (found here r) e i in (

@@ -1,18 +1,22 @@
 -- What a line does, as moves: the state that it works on, what it may ask of the record that it works on, and how the state may
 -- move where nothing is asked.
 use Rattle.wasi_walks.proofs.Words.{Accepting, Accepts, Begins, Bool, Call, Connection, End, Err, ErrorCode, ErrorValue, Has, InProgress, Input}
-use Rattle.wasi_walks.proofs.Words.{IpSocketAddress, IsBindTo, IsConnectTo, IsListenStep, Item, Job, Kind, List, Listener, Machine, Network, None, Not}
+use Rattle.wasi_walks.proofs.Words.{IpSocketAddress, IsBindTo, IsConnectTo, IsListenStep, Item, Job, Kind, List, Listener, Listening, Machine, Network, None, Not}
 use Rattle.wasi_walks.proofs.Words.{Ok, OpId, Operation, Option, Other, Output, Pollable, ReadState, Result, SocketAddressFamily, Some, Standing}
 use Rattle.wasi_walks.proofs.Words.{StandingCall, Step, Stop, Streams, Tcp2, Tcp2Socket, TcpReceiveStream, TcpSendStream, TcpState, WasiSocketsCtx}
-use Rattle.wasi_walks.proofs.Words.{Watched, WriteState, [], accept_ended, accept_operation, accepted_record, accepted_socket, accepted_state}
+use Rattle.wasi_walks.proofs.Words.{Watched, WriteState, accept_ended, accept_operation, accepted_record, accepted_socket, accepted_state}
 use Rattle.wasi_walks.proofs.Words.{bind_operation, bind_progress, call_place, closing_job, collected, connect_ended, connect_first}
 use Rattle.wasi_walks.proofs.Words.{connect_operation, context_at, false, gone, handles_of, is_connect, is_nothing, is_over, kind_at, length}
 use Rattle.wasi_walks.proofs.Words.{listen_ended, listen_first, listen_operation, listen_polled, nat_lt, new_job, new_streams, own_of, place_in}
-use Rattle.wasi_walks.proofs.Words.{side_at, side_of, slice_get, slice_set, standing_as, true, wildcard, with_accept, with_inner, with_listening}
-use Rattle.wasi_walks.proofs.Words.{with_progress, with_reader, with_socket, with_state, with_writer, without_handle, writer_side, ℕ, ⊤, ◌++◌, ◌∷◌}
+use Rattle.wasi_walks.proofs.Words.{side_at, side_of, standing_as, true, wildcard, with_accept, with_inner, with_listening}
+use Rattle.wasi_walks.proofs.Words.{with_progress, with_reader, with_socket, with_state, with_writer, without_handle, writer_side, ℕ, ⊤}
 use Rattle.wasi_walks.proofs.Words.{◌≡◌, ◌⊎◌}
+use Rattle.wasi_world.specs.declared.ids.Ids.{Ids}
+use Rattle.wasi_host.specs.Records.{tcp2_at, tcp2_put, tcp2_pushed}
+use Rattle.wasi_host.specs.declared.records.Record.{Record}
 use Rattle.wasi_host.specs.declared.jobs.HostJob.{HostJob}
 use Rattle.wasi_walks.specs.Licence.{IsGetOf, IsSetTo}
+use Rattle.wasi_walks.specs.Waiting.{StartsTold}
 use Rattle.wasi_tcp.specs.declared.bind.BindStage.TheVariants.{Check}
 use Rattle.wasi_tcp.specs.declared.writer.WriteError.{WriteError}
 use Rattle.wasi_tcp.specs.declared.accept.AcceptStage.TheVariants as accept
@@ -41,19 +45,19 @@ abbrev pub put : Here → ℕ → Tcp2Socket → Here
 put h place r = record h { machine = record h.machine { store = with_socket h.machine.store place r } }
 
 abbrev pub Found : Here → ℕ → Tcp2Socket → Type 0
-Found h place r = slice_get h.machine.store.sockets place ≡ Some r
+Found h place r = tcp2_at h.machine.store.records place ≡ Some r
 
--- no bind is pending
-abbrev pub NoBindIn : StandingCall → Type 0
-NoBindIn (StandingCall.Bind place) = ⊥
-NoBindIn _ = ⊤
+-- neither a bind nor a listen is pending
+abbrev pub NoStartIn : StandingCall → Type 0
+NoStartIn (StandingCall.DropOutput place) = ⊤
+NoStartIn _ = ⊥
 
-abbrev pub NoBindStands : Option Standing → Type 0
-NoBindStands None = ⊤
-NoBindStands (Some s) = NoBindIn s.call
+abbrev pub NoStartStands : Option Standing → Type 0
+NoStartStands None = ⊤
+NoStartStands (Some s) = NoStartIn s.call
 
-abbrev pub NoBind : Here → Type 0
-NoBind h = NoBindStands h.machine.store.standing
+abbrev pub NoStart : Here → Type 0
+NoStart h = NoStartStands h.machine.store.standing
 
 -- of binds, no other is in progress: none is, or it is the same
 abbrev pub IsSettled : InProgress → Type 0
@@ -68,10 +72,16 @@ abbrev pub HasBinding : InProgress → Type 0
 HasBinding (InProgress.Binding op) = ⊤
 HasBinding _ = ⊥
 
--- where a bind is to be pending, it is in progress
+-- a listen is in progress, whose address was reported
+abbrev pub HasListen : Listening → Type 0
+HasListen (Begins op) = StartsTold op.left
+HasListen _ = ⊥
+
+-- where a bind or a listen is to be pending, it is in progress
 abbrev pub GoesOn : StandingCall → Tcp2Socket → Type 0
 GoesOn (StandingCall.Bind place) r = HasBinding r.in_progress
-GoesOn _ r = ⊤
+GoesOn (StandingCall.Listen place) r = HasListen r.listening
+GoesOn (StandingCall.DropOutput place) r = ⊤
 
 -- == what may be asked of a record's network socket by the line that works on it
 -- a question, by an operation that the line of this number began, or that a half is released; an option is that which the line
@@ -147,10 +157,10 @@ Creates contexts ctx family _ = ⊥
 -- a handle that the line may mark, with its parent and its network socket
 pub data Marks (origin : Step) (h : Here) : Kind → Option ℕ → Option OpId → Type 0 where
   ANetwork : (c : ℕ) → origin ≡ Step.Network c → Marks origin h Network None None
-  AStream : (c handle place : ℕ) (kind : Kind) → origin ≡ Step.TcpFinishConnect c handle → (kind ≡ Input place) ⊎ (kind ≡ Output place) → record_of (kind_at h.machine.table handle) ≡ Some place → Marks origin h kind (Some handle) (side_at (slice_get h.machine.store.sockets place))
-  AnAcceptedStream : (c listener handle place : ℕ) (kind : Kind) (r : Tcp2Socket) → origin ≡ Step.TcpAccept c listener → (kind ≡ Input place) ⊎ (kind ≡ Output place) → h.made ≡ Marked handle place → h.own ≡ Used → Found h place r → Marks origin h kind (Some handle) (side_at (slice_get h.machine.store.sockets place))
-  APollable : (c handle : ℕ) (w : Watched) → origin ≡ Step.Subscribe c handle → record_of (kind_at h.machine.table handle) ≡ Some (place_in w) → Marks origin h (Pollable w) (Some handle) (side_at (slice_get h.machine.store.sockets (place_in w)))
-  AnError : (handle place : ℕ) → MarksError handle origin → record_of (kind_at h.machine.table handle) ≡ Some place → Marks origin h ErrorValue (Some handle) (side_at (slice_get h.machine.store.sockets place))
+  AStream : (c handle place : ℕ) (kind : Kind) → origin ≡ Step.TcpFinishConnect c handle → (kind ≡ Input place) ⊎ (kind ≡ Output place) → record_of (kind_at h.machine.table handle) ≡ Some place → Marks origin h kind (Some handle) (side_at (tcp2_at h.machine.store.records place))
+  AnAcceptedStream : (c listener handle place : ℕ) (kind : Kind) (r : Tcp2Socket) → origin ≡ Step.TcpAccept c listener → (kind ≡ Input place) ⊎ (kind ≡ Output place) → h.made ≡ Marked handle place → h.own ≡ Used → Found h place r → Marks origin h kind (Some handle) (side_at (tcp2_at h.machine.store.records place))
+  APollable : (c handle : ℕ) (w : Watched) → origin ≡ Step.Subscribe c handle → record_of (kind_at h.machine.table handle) ≡ Some (place_in w) → Marks origin h (Pollable w) (Some handle) (side_at (tcp2_at h.machine.store.records (place_in w)))
+  AnError : (handle place : ℕ) → MarksError handle origin → record_of (kind_at h.machine.table handle) ≡ Some place → Marks origin h ErrorValue (Some handle) (side_at (tcp2_at h.machine.store.records place))
 
 -- == records of a bind
 abbrev pub begun_bind : OpId → OpId → Tcp2Socket → IpSocketAddress → Operation
@@ -184,8 +194,8 @@ abbrev pub joined : Listener → OpId → IpSocketAddress → Tcp2Socket
 joined l new peer = (accepted_record (accepted_socket l.family l.maker (accepted_state new peer))).1
 
 -- it joins these records
-abbrev pub joining : Here → List Tcp2Socket → Tcp2Socket → Here
-joining h sockets now = record h { machine = record h.machine { store = record h.machine.store { sockets = sockets ++ now ∷ [] } }; at = None; made = Joined (length sockets) }
+abbrev pub joining : Here → List Record → Tcp2Socket → Here
+joining h records now = record h { machine = record h.machine { store = record h.machine.store { records = tcp2_pushed records now } }; at = None; made = Joined (length records) }
 
 -- its handle was made, or not
 abbrev pub made_so : ℕ → Result ℕ Stop → Made
@@ -210,7 +220,7 @@ pub data Move (line : ℕ) (origin : Step) : Here → Here → Type 0 where
   Changes : (h : Here) (place : ℕ) (r now : Tcp2Socket) → Found h place r → Plain r now → Move line origin h (put h place now)
   ClosesReader : (h : Here) (place : ℕ) (r : Tcp2Socket) (s : Streams) → Found h place r → r.streams ≡ Some s → Move line origin h (put h place (with_reader r s ReadState.Closed))
   Writes : (h : Here) (place : ℕ) (r : Tcp2Socket) (s : Streams) (w : WriteState) → Found h place r → r.streams ≡ Some s → WriterMoves s.writer w → Move line origin h (put h place (with_writer r s w))
-  IsGone : (h : Here) (place : ℕ) (r : Tcp2Socket) → NoBind h → Found h place r → side_of r.inner ≡ None → Move line origin h (put h place (gone r r.inner))
+  IsGone : (h : Here) (place : ℕ) (r : Tcp2Socket) → NoStart h → Found h place r → side_of r.inner ≡ None → Move line origin h (put h place (gone r r.inner))
   -- a connection, whose halves are taken where no connect is in progress
   Reconnects : (h : Here) (place : ℕ) (r : Tcp2Socket) (c now : Connection) → Found h place r → r.inner.state ≡ TcpState.Connected c → now.side ≡ c.side → (c.send_taken ≡ true → now.send_taken ≡ true) → (is_connect r.in_progress ≡ true → TakesNone c now) → Move line origin h (put h place (with_inner r (with_state r.inner (TcpState.Connected now))))
   Opens : (h : Here) (place : ℕ) (r : Tcp2Socket) (c : Connection) → IsSettled r.in_progress → Found h place r → r.inner.state ≡ TcpState.Connected c → c.send_taken ≡ false → Move line origin h (put h place (opened_by r c))
@@ -226,15 +236,15 @@ pub data Move (line : ℕ) (origin : Step) : Here → Here → Type 0 where
   BeginsAccept : (h : Here) (place : ℕ) (r : Tcp2Socket) (l : Listener) → h.at ≡ Some (place, line) → Found h place r → r.listening ≡ Accepts l → l.accept ≡ Accepting.Idle → h.own ≡ Unused
       → Move line origin h (record (put h place (accepting_now r l (new_accept line l))) { own = Used })
   -- a listen is over; a listener's fault is taken
-  Unlistens : (h : Here) (place : ℕ) (r : Tcp2Socket) (op : Operation) → Found h place r → r.listening ≡ Begins op → side_of r.inner ≡ None → is_over op ≡ true → Move line origin h (put h place (with_listening r Not))
+  Unlistens : (h : Here) (place : ℕ) (r : Tcp2Socket) (op : Operation) → NoStart h → Found h place r → r.listening ≡ Begins op → side_of r.inner ≡ None → is_over op ≡ true → Move line origin h (put h place (with_listening r Not))
   Forgets : (h : Here) (place : ℕ) (r : Tcp2Socket) (l : Listener) (c : ErrorCode) → Found h place r → r.listening ≡ Accepts l → l.accept ≡ Accepting.Failed c → Move line origin h (put h place (accepting_now r l Accepting.Idle))
   -- an accept: nothing was made yet; and what was handed over is taken from its listener, and joins the records
   Watches : (h : Here) → h.own ≡ Unused → Move line origin h (record h { made = Unmade })
   Joins : (h : Here) (c handle place : ℕ) (r : Tcp2Socket) (l : Listener) (new : OpId) (peer : IpSocketAddress) → origin ≡ Step.TcpAccept c handle → record_of (kind_at h.machine.table handle) ≡ Some place → h.made ≡ Unmade → Found h place r → r.listening ≡ Accepts l → l.accept ≡ Accepting.Arrived new peer
-      → Move line origin h (joining h (slice_set h.machine.store.sockets place (accepting_now r l Accepting.Idle)) (joined l new peer))
+      → Move line origin h (joining h (tcp2_put h.machine.store.records place (accepting_now r l Accepting.Idle)) (joined l new peer))
   -- a call is pending, by the line that asks; it is in progress; nothing is pending
-  Stands : (h : Here) (n : ℕ) (call : StandingCall) (r : Tcp2Socket) → h.at ≡ Some (call_place call, n) → Found h (call_place call) r → GoesOn call r → Move line origin h (record h { machine = record h.machine { store = record h.machine.store { standing = Some (standing_as n call) } } })
-  Resumes : (h : Here) (s : Standing) → h.machine.store.standing ≡ Some s → Move line origin h (record h { at = Some (call_place s.call, s.line) })
+  Stands : (h : Here) (ids : Ids) (call : StandingCall) (r : Tcp2Socket) → h.at ≡ Some (call_place call, ids.line) → Found h (call_place call) r → GoesOn call r → Move line origin h (record h { machine = record h.machine { store = record h.machine.store { standing = Some (standing_as ids call) } } })
+  Resumes : (h : Here) (s : Standing) → h.machine.store.standing ≡ Some s → Move line origin h (record h { at = Some (call_place s.call, s.ids.line) })
   Unstands : (h : Here) → Move line origin h (record h { machine = record h.machine { store = record h.machine.store { standing = None } } })
   -- the rest
   Lists : (h : Here) (jobs : List HostJob) → Move line origin h (record h { machine = record h.machine { store = record h.machine.store { jobs = jobs } } })
@@ -242,7 +252,7 @@ pub data Move (line : ℕ) (origin : Step) : Here → Here → Type 0 where
 
 -- an operation that the line polls: where it is kept, and what becomes of it
 pub data Held (h : Here) : Operation → (End × List Item → Here) → Type 0 where
-  BindsOn : (place : ℕ) (r : Tcp2Socket) (op : Operation) → NoBind h → Found h place r → r.in_progress ≡ InProgress.Binding op → Held h op (λ ended. put h place (with_progress r (bind_progress op ended)))
+  BindsOn : (place : ℕ) (r : Tcp2Socket) (op : Operation) → NoStart h → Found h place r → r.in_progress ≡ InProgress.Binding op → Held h op (λ ended. put h place (with_progress r (bind_progress op ended)))
   Connects : (place : ℕ) (r : Tcp2Socket) (op : Operation) → Found h place r → r.inner.state ≡ TcpState.Connecting op → Held h op (λ ended. put h place (with_inner r (with_state r.inner (connect_ended op.who ended).1)))
-  Listens : (place : ℕ) (r : Tcp2Socket) (op : Operation) → NoBind h → Found h place r → r.listening ≡ Begins op → side_of r.inner ≡ None → Held h op (λ ended. put h place (listen_after op r ended))
+  Listens : (place : ℕ) (r : Tcp2Socket) (op : Operation) → NoStart h → Found h place r → r.listening ≡ Begins op → side_of r.inner ≡ None → Held h op (λ ended. put h place (listen_after op r ended))
   Awaits : (place : ℕ) (r : Tcp2Socket) (l : Listener) (op : Operation) → Found h place r → r.listening ≡ Accepts l → l.accept ≡ Accepting.Asking op → Held h op (λ ended. put h place (accepting_now r l (accept_ended op.who ended)))

@@ -5,16 +5,19 @@ use Rattle.wasi_walks.proofs.Words.{ShutdownType, Socket, Some, StandingCall, St
 use Rattle.wasi_walks.proofs.Words.{call_answered, call_place, connected_asks, false, finish_at, finish_by, finish_connect_at, finish_connect_by}
 use Rattle.wasi_walks.proofs.Words.{finish_connect_on, finish_on, handles_of, inl, inner_answered, inr, is_connect, is_network, is_nothing, kind_at}
 use Rattle.wasi_walks.proofs.Words.{local_address_at, make_asks, output_asks, own_of, put_back, refl, remote_address_at, set_chosen, set_option_asks}
-use Rattle.wasi_walks.proofs.Words.{shut_record, shutdown_at, side_at, slice_get, socket_at, start_bind_asks, start_bind_at, start_bind_by}
+use Rattle.wasi_walks.proofs.Words.{shut_record, shutdown_at, side_at, socket_at, start_bind_asks, start_bind_at, start_bind_by}
 use Rattle.wasi_walks.proofs.Words.{start_bind_on, start_connect_asks, start_connect_at, start_connect_by, start_connect_on, streams_asks, sym}
 use Rattle.wasi_walks.proofs.Words.{tell_local_asks, tell_remote_asks, true, with_output, with_store, with_table, ℕ, ◌≡◌, ◌⊎◌}
+use Rattle.wasi_machine.specs.Machine.{first_ids}
+use Rattle.wasi_world.specs.declared.ids.Ids.{Ids}
 use Rattle.wasi_addr.specs.Clamp.{clamped_backlog}
 use Rattle.wasi_world.specs.declared.call.Opt.{Opt}
 use Rattle.wasi_common.specs.Options.{value_set}
 use Rattle.wasi_walks.specs.Licence.{IsSetTo}
+use Rattle.wasi_host.specs.Records.{tcp2_at}
 use Rattle.wasi_host.specs.Options.{looked_at, set_backlog_at}
 use Rattle.wasi_p2.specs.Options.{record_asks}
-use Rattle.wasi_walks.proofs.walks.Moves.{NoBindStands, IsSettled, Used, Unused, Here, put, Found, record_of, AStream, Reaches, Leaves, Spends, Changes, Stands, Made, Past, Marks}
+use Rattle.wasi_walks.proofs.walks.Moves.{NoStartStands, IsSettled, Used, Unused, Here, put, Found, record_of, AStream, Reaches, Leaves, Spends, Changes, Stands, Made, Past, Marks}
 use Rattle.wasi_walks.proofs.walks.Law.{Law, HasRecord, found, put_same, Walks, Given, give, and_then, and_given, by_if, move, gives, from, mark}
 use Rattle.wasi_walks.proofs.walks.Sockets.{WaitsSo, begun_bind_given, idled, connect_settles, set_walks, begin_bind_walks, begin_connect_walks, poll_connect_walks, local_walks, remote_walks, backlog_walks}
 use Rattle.wasi_walks.proofs.walks.Streams.{shut_walks}
@@ -28,7 +31,7 @@ module _ {contexts : List WasiSocketsCtx} {line : ℕ} {origin : Step} {law : La
   on_socket m handle (Some place) named k c = move (Reaches _ handle place named (k place refl)) (and_then (c place) (λ done. gives _ (Leaves _)))
 
   -- a call that leaves its record as it was
-  pub looked_walks : {T : Type 0} (m : Machine) (place : ℕ) (call : Socket → Asks (Result T ErrorCode × Socket)) (o : Option Tcp2Socket) → slice_get m.store.sockets place ≡ o
+  pub looked_walks : {T : Type 0} (m : Machine) (place : ℕ) (call : Socket → Asks (Result T ErrorCode × Socket)) (o : Option Tcp2Socket) → tcp2_at m.store.records place ≡ o
       → ((r : Tcp2Socket) → HasRecord (At line m place Unused) place → Walks law (put (At line m place Unused) place r) (λ done. put (At line m place Unused) place r) (call r.inner)) → Walks law (At line m place Unused) (Put line m place) (looked_at m.store call o)
   looked_walks m place call None g k = gives _ (Spends _ refl)
   looked_walks m place call (Some r) g k =
@@ -36,28 +39,28 @@ module _ {contexts : List WasiSocketsCtx} {line : ℕ} {origin : Step} {law : La
       from here (and_then (k r (there g)) (λ done. from (sym here) (gives _ (Spends _ refl))))
 
   -- a call that may stand was answered
-  pub answered_walks : (m : Machine) (n : ℕ) (call : StandingCall) (begun : Result (Answer (Unit {0})) ErrorCode × Tcp2Socket) → HasRecord (At n m (call_place call) Used) (call_place call) → WaitsSo call begun
-      → Walks law (put (At n m (call_place call) Used) (call_place call) begun.1) (Put n m (call_place call)) (Give (call_answered m.store n call begun))
-  answered_walks m n call (Ok Pending, r) here waits = gives _ (Stands _ n call r refl (found here r) waits)
-  answered_walks m n call _ here waits = give _
+  pub answered_walks : (m : Machine) (ids : Ids) (call : StandingCall) (begun : Result (Answer (Unit {0})) ErrorCode × Tcp2Socket) → HasRecord (At ids.line m (call_place call) Used) (call_place call) → WaitsSo call begun
+      → Walks law (put (At ids.line m (call_place call) Used) (call_place call) begun.1) (Put ids.line m (call_place call)) (Give (call_answered m.store ids call begun))
+  answered_walks m ids call (Ok Pending, r) here waits = gives _ (Stands _ ids call r refl (found here r) waits)
+  answered_walks m ids call _ here waits = give _
 
   -- == a bind
-  start_by_walks : (m : Machine) (place : ℕ) (a : IpSocketAddress) (r : Tcp2Socket) (idle : Bool) → is_nothing r.in_progress ≡ idle → Found (At line m place Unused) place r → IsBindTo a origin → NoBindStands m.store.standing → Walks law (At line m place Unused) (Put line m place) (start_bind_by m.store (own_of line) place a r idle)
+  start_by_walks : (m : Machine) (place : ℕ) (a : IpSocketAddress) (r : Tcp2Socket) (idle : Bool) → is_nothing r.in_progress ≡ idle → Found (At line m place Unused) place r → IsBindTo a origin → NoStartStands m.store.standing → Walks law (At line m place Unused) (Put line m place) (start_bind_by m.store (first_ids line) place a r idle)
   start_by_walks m place a r true e g to q =
       from (put_same (At line m place Unused) place r g)
-      (and_given (WaitsSo (StandingCall.Bind place)) (begun_bind_given place (own_of line) r a) (begin_bind_walks (there g) refl a to refl q r e) (λ begun w. answered_walks m line (StandingCall.Bind place) begun (record { was = r; found = g }) w))
+      (and_given (WaitsSo (StandingCall.Bind place)) (begun_bind_given place (own_of line) r a) (begin_bind_walks (there g) refl a to refl q r e) (λ begun w. answered_walks m (first_ids line) (StandingCall.Bind place) begun (record { was = r; found = g }) w))
   start_by_walks m place a r false e g to q = gives _ (Spends _ refl)
 
-  start_at_walks : (m : Machine) (place : ℕ) (a : IpSocketAddress) (o : Option Tcp2Socket) → slice_get m.store.sockets place ≡ o → IsBindTo a origin → NoBindStands m.store.standing → Walks law (At line m place Unused) (Put line m place) (start_bind_at m.store (own_of line) place a o)
+  start_at_walks : (m : Machine) (place : ℕ) (a : IpSocketAddress) (o : Option Tcp2Socket) → tcp2_at m.store.records place ≡ o → IsBindTo a origin → NoStartStands m.store.standing → Walks law (At line m place Unused) (Put line m place) (start_bind_at m.store (first_ids line) place a o)
   start_at_walks m place a None g to q = gives _ (Spends _ refl)
   start_at_walks m place a (Some r) g to q = start_by_walks m place a r (is_nothing r.in_progress) refl g to q
 
-  start_on_walks : (m : Machine) (s : ℕ) (a : IpSocketAddress) (o : Option ℕ) → socket_at m s ≡ o → Has (handles_of origin) s → IsBindTo a origin → NoBindStands m.store.standing → Walks law (Starts m Unused) OverWith (start_bind_on m (own_of line) a o)
+  start_on_walks : (m : Machine) (s : ℕ) (a : IpSocketAddress) (o : Option ℕ) → socket_at m s ≡ o → Has (handles_of origin) s → IsBindTo a origin → NoStartStands m.store.standing → Walks law (Starts m Unused) OverWith (start_bind_on m (first_ids line) a o)
   start_on_walks m s a None e named to q = gives _ (Spends _ refl)
   start_on_walks m s a (Some place) e named to q =
-      move (Reaches _ s place named (socket_record (kind_at m.table s) place e)) (and_then (start_at_walks m place a (slice_get m.store.sockets place) refl to q) (λ done. gives _ (Leaves _)))
+      move (Reaches _ s place named (socket_record (kind_at m.table s) place e)) (and_then (start_at_walks m place a (tcp2_at m.store.records place) refl to q) (λ done. gives _ (Leaves _)))
 
-  pub start_bind_walks : (m : Machine) (s n : ℕ) (a : IpSocketAddress) → Has (handles_of origin) s → IsBindTo a origin → NoBindStands m.store.standing → Walks law (Starts m Unused) OverWith (start_bind_asks m (own_of line) s n a)
+  pub start_bind_walks : (m : Machine) (s n : ℕ) (a : IpSocketAddress) → Has (handles_of origin) s → IsBindTo a origin → NoStartStands m.store.standing → Walks law (Starts m Unused) OverWith (start_bind_asks m (first_ids line) s n a)
   start_bind_walks m s n a named to q = by_if (is_network (kind_at m.table n)) (λ yes. start_on_walks m s a (socket_at m s) refl named to q) (λ other. gives _ (Spends _ refl))
 
   -- == a connect
@@ -69,14 +72,14 @@ module _ {contexts : List WasiSocketsCtx} {line : ℕ} {origin : Step} {law : La
   start_connect_by_walks m place a r true e g to = from (put_same (At line m place Unused) place r g) (and_then (begin_connect_walks (there g) refl r a to e refl) (put_back_walks m place))
   start_connect_by_walks m place a r false e g to = gives _ (Spends _ refl)
 
-  start_connect_at_walks : (m : Machine) (place : ℕ) (a : IpSocketAddress) (o : Option Tcp2Socket) → slice_get m.store.sockets place ≡ o → IsConnectTo a origin → Walks law (At line m place Unused) (Put line m place) (start_connect_at m.store (own_of line) place a o)
+  start_connect_at_walks : (m : Machine) (place : ℕ) (a : IpSocketAddress) (o : Option Tcp2Socket) → tcp2_at m.store.records place ≡ o → IsConnectTo a origin → Walks law (At line m place Unused) (Put line m place) (start_connect_at m.store (own_of line) place a o)
   start_connect_at_walks m place a None g to = gives _ (Spends _ refl)
   start_connect_at_walks m place a (Some r) g to = start_connect_by_walks m place a r (is_nothing r.in_progress) refl g to
 
   start_connect_on_walks : (m : Machine) (s : ℕ) (a : IpSocketAddress) (o : Option ℕ) → socket_at m s ≡ o → Has (handles_of origin) s → IsConnectTo a origin → Walks law (Starts m Unused) OverWith (start_connect_on m (own_of line) a o)
   start_connect_on_walks m s a None e named to = gives _ (Spends _ refl)
   start_connect_on_walks m s a (Some place) e named to =
-      move (Reaches _ s place named (socket_record (kind_at m.table s) place e)) (and_then (start_connect_at_walks m place a (slice_get m.store.sockets place) refl to) (λ done. gives _ (Leaves _)))
+      move (Reaches _ s place named (socket_record (kind_at m.table s) place e)) (and_then (start_connect_at_walks m place a (tcp2_at m.store.records place) refl to) (λ done. gives _ (Leaves _)))
 
   pub start_connect_walks : (m : Machine) (s n : ℕ) (a : IpSocketAddress) → Has (handles_of origin) s → IsConnectTo a origin → Walks law (Starts m Unused) OverWith (start_connect_asks m (own_of line) s n a)
   start_connect_walks m s n a named to = by_if (is_network (kind_at m.table n)) (λ yes. start_connect_on_walks m s a (socket_at m s) refl named to) (λ other. gives _ (Spends _ refl))
@@ -85,53 +88,53 @@ module _ {contexts : List WasiSocketsCtx} {line : ℕ} {origin : Step} {law : La
   finish_by_walks m place r true e g = from (put_same (At line m place Unused) place r g) (and_then (poll_connect_walks (there g) r (connect_settles r.in_progress e)) (λ done. gives _ (Spends _ refl)))
   finish_by_walks m place r false e g = gives _ (Spends _ refl)
 
-  finish_at_walks : (m : Machine) (place : ℕ) (o : Option Tcp2Socket) → slice_get m.store.sockets place ≡ o → Walks law (At line m place Unused) (Put line m place) (finish_connect_at m.store place o)
+  finish_at_walks : (m : Machine) (place : ℕ) (o : Option Tcp2Socket) → tcp2_at m.store.records place ≡ o → Walks law (At line m place Unused) (Put line m place) (finish_connect_at m.store place o)
   finish_at_walks m place None g = gives _ (Spends _ refl)
   finish_at_walks m place (Some r) g = finish_by_walks m place r (is_connect r.in_progress) refl g
 
   -- the two streams, under a socket's handle, by whatever is known of the table
-  module _ (at : Option (ℕ × ℕ)) (made : Made) (s place : ℕ) (m : Machine) (G : Handles → Type 0) (more : (t : Handles) (kind : Kind) → G t → Given (λ x. G x.1) (make_asks t (own_of line) kind (Some s) (side_at (slice_get m.store.sockets place))))
-      (marks : (t : Handles) (kind : Kind) → (kind ≡ Input place) ⊎ (kind ≡ Output place) → G t → Marks origin (record { machine = record m { table = t }; at = at; made = made; own = Used }) kind (Some s) (side_at (slice_get m.store.sockets place))) where
+  module _ (at : Option (ℕ × ℕ)) (made : Made) (s place : ℕ) (m : Machine) (G : Handles → Type 0) (more : (t : Handles) (kind : Kind) → G t → Given (λ x. G x.1) (make_asks t (own_of line) kind (Some s) (side_at (tcp2_at m.store.records place))))
+      (marks : (t : Handles) (kind : Kind) → (kind ≡ Input place) ⊎ (kind ≡ Output place) → G t → Marks origin (record { machine = record m { table = t }; at = at; made = made; own = Used }) kind (Some s) (side_at (tcp2_at m.store.records place))) where
     second : (input : ℕ) (t : Handles) (done : Result ℕ Stop × Handles) → Walks law (Between at made (record m { table = done.1 })) OverWith (Give (with_output input (with_table (record m { table = t }) done)))
     second input t (Ok n, x) = gives _ (Leaves _)
     second input t (Err why, x) = gives _ (Leaves _)
 
-    output_walks : (done : Result ℕ Stop × Handles) → G done.1 → Walks law (Between at made (record m { table = done.1 })) OverWith (output_asks (own_of line) s place (side_at (slice_get m.store.sockets place)) (with_table m done))
+    output_walks : (done : Result ℕ Stop × Handles) → G done.1 → Walks law (Between at made (record m { table = done.1 })) OverWith (output_asks (own_of line) s place (side_at (tcp2_at m.store.records place)) (with_table m done))
     output_walks (Ok input, t) g = and_then (mark (marks t (Output place) (inr refl) g)) (second input t)
     output_walks (Err why, t) g = gives _ (Leaves _)
 
-    pub streams_walks : G m.table → Walks law (Between at made m) OverWith (streams_asks m (own_of line) s place (side_at (slice_get m.store.sockets place)))
+    pub streams_walks : G m.table → Walks law (Between at made m) OverWith (streams_asks m (own_of line) s place (side_at (tcp2_at m.store.records place)))
     streams_walks g = and_given (λ done. G done.1) (more m.table (Input place) g) (mark (marks m.table (Input place) (inl refl) g)) output_walks
 
   connected_walks : (c s place : ℕ) (m : Machine) (done : Result (Unit {0}) Stop × Records) → origin ≡ Step.TcpFinishConnect c s → record_of (kind_at m.table s) ≡ Some place → Walks law (Put line m place done) OverWith (connected_asks (own_of line) s place (with_store m done))
   connected_walks c s place m (Ok d, store) is k =
       let now : Machine = record m { store = store } in
-      streams_walks (Some (place, line)) Past s place now (λ t. record_of (kind_at t s) ≡ Some place) (λ t kind g. make_given t (own_of line) kind (Some s) (side_at (slice_get store.sockets place)) s place g) (λ t kind which g. AStream c s place kind is which g) k
+      streams_walks (Some (place, line)) Past s place now (λ t. record_of (kind_at t s) ≡ Some place) (λ t kind g. make_given t (own_of line) kind (Some s) (side_at (tcp2_at store.records place)) s place g) (λ t kind which g. AStream c s place kind is which g) k
   connected_walks c s place m (Err why, store) is k = gives _ (Leaves _)
 
   pub finish_on_walks : (c s : ℕ) (m : Machine) (o : Option ℕ) → socket_at m s ≡ o → Has (handles_of origin) s → origin ≡ Step.TcpFinishConnect c s → Walks law (Starts m Unused) OverWith (finish_connect_on m (own_of line) s o)
   finish_on_walks c s m None e named is = gives _ (Spends _ refl)
   finish_on_walks c s m (Some place) e named is =
       let k = socket_record (kind_at m.table s) place e in
-      move (Reaches _ s place named k) (and_then (finish_at_walks m place (slice_get m.store.sockets place) refl) (λ done. connected_walks c s place m done is k))
+      move (Reaches _ s place named k) (and_then (finish_at_walks m place (tcp2_at m.store.records place) refl) (λ done. connected_walks c s place m done is k))
 
   -- == the addresses, and what is finished
   puts_back : {T : Type 0} (m : Machine) (place : ℕ) (r : Tcp2Socket) (call : Asks (Result T ErrorCode × Tcp2Socket)) → Found (At line m place Unused) place r → Walks law (put (At line m place Unused) place r) (λ done. put (At line m place Unused) place done.1) call
       → Walks law (At line m place Unused) (Put line m place) (bind call (λ done. Give (put_back m.store place done)))
   puts_back m place r call g w = from (put_same (At line m place Unused) place r g) (and_then w (λ done. move (Spends _ refl) (put_back_walks m place done)))
 
-  pub local_at_walks : (m : Machine) (place : ℕ) (o : Option Tcp2Socket) → slice_get m.store.sockets place ≡ o → Walks law (At line m place Unused) (Put line m place) (local_address_at m.store (own_of line) place o)
+  pub local_at_walks : (m : Machine) (place : ℕ) (o : Option Tcp2Socket) → tcp2_at m.store.records place ≡ o → Walks law (At line m place Unused) (Put line m place) (local_address_at m.store (own_of line) place o)
   local_at_walks m place None g = gives _ (Spends _ refl)
   local_at_walks m place (Some r) g = puts_back m place r (tell_local_asks (own_of line) r) g (local_walks (there g) refl r)
 
-  pub remote_at_walks : (m : Machine) (place : ℕ) (o : Option Tcp2Socket) → slice_get m.store.sockets place ≡ o → Walks law (At line m place Unused) (Put line m place) (remote_address_at m.store (own_of line) place o)
+  pub remote_at_walks : (m : Machine) (place : ℕ) (o : Option Tcp2Socket) → tcp2_at m.store.records place ≡ o → Walks law (At line m place Unused) (Put line m place) (remote_address_at m.store (own_of line) place o)
   remote_at_walks m place None g = gives _ (Spends _ refl)
   remote_at_walks m place (Some r) g = puts_back m place r (tell_remote_asks (own_of line) r) g (remote_walks (there g) refl r)
 
   pub as_left : {A : Type 0} {h : Here} {x : A} {now : Machine} → Walks law h (λ m. Over m) (Give now) → Walks law h OverWith (Give (x, now))
   as_left w = record { along = w.along }
 
-  finishes : (m : Machine) (place : ℕ) (is_it : InProgress → Bool) → ((doing : InProgress) → is_it doing ≡ true → IsSettled doing) → (o : Option Tcp2Socket) → slice_get m.store.sockets place ≡ o → Walks law (Starts m Unused) (λ now. Over now) (Give (with_store m (finish_at is_it m.store place o)).1)
+  finishes : (m : Machine) (place : ℕ) (is_it : InProgress → Bool) → ((doing : InProgress) → is_it doing ≡ true → IsSettled doing) → (o : Option Tcp2Socket) → tcp2_at m.store.records place ≡ o → Walks law (Starts m Unused) (λ now. Over now) (Give (with_store m (finish_at is_it m.store place o)).1)
   finishes m place is_it settles None g = gives _ (Spends _ refl)
   finishes m place is_it settles (Some r) g = by_test (is_it r.in_progress) refl
     where
@@ -141,14 +144,14 @@ module _ {contexts : List WasiSocketsCtx} {line : ℕ} {origin : Step} {law : La
 
   pub finish_started_walks : (m : Machine) (is_it : InProgress → Bool) → ((doing : InProgress) → is_it doing ≡ true → IsSettled doing) → (o : Option ℕ) → Walks law (Starts m Unused) (λ now. Over now) (Give (finish_on is_it m o).1)
   finish_started_walks m is_it settles None = gives _ (Spends _ refl)
-  finish_started_walks m is_it settles (Some place) = finishes m place is_it settles (slice_get m.store.sockets place) refl
+  finish_started_walks m is_it settles (Some place) = finishes m place is_it settles (tcp2_at m.store.records place) refl
 
   -- == a shutdown
   shut_record_walks : {h : Here} {place : ℕ} (here : HasRecord h place) (at : h.at ≡ Some (place, line)) (how : ShutdownType) (r : Tcp2Socket) (o : Option Streams) → r.streams ≡ o → Walks law (put h place r) (λ done. put h place done.1) (shut_record (own_of line) how r o)
   shut_record_walks here at how r None e = give _
   shut_record_walks {h} {place} here at how r (Some s) e = from (streams_are h place r s e) (and_then (shut_walks here at r s how) (λ done. give _))
 
-  pub shutdown_at_walks : (m : Machine) (place : ℕ) (how : ShutdownType) (o : Option Tcp2Socket) → slice_get m.store.sockets place ≡ o → Walks law (At line m place Unused) (Put line m place) (shutdown_at m.store (own_of line) how place o)
+  pub shutdown_at_walks : (m : Machine) (place : ℕ) (how : ShutdownType) (o : Option Tcp2Socket) → tcp2_at m.store.records place ≡ o → Walks law (At line m place Unused) (Put line m place) (shutdown_at m.store (own_of line) how place o)
   shutdown_at_walks m place how None g = gives _ (Spends _ refl)
   shutdown_at_walks m place how (Some r) g = from (put_same (At line m place Unused) place r g) (and_then (shut_record_walks (there g) refl how r r.streams refl) (λ done. gives _ (Spends _ refl)))
 
@@ -156,10 +159,10 @@ module _ {contexts : List WasiSocketsCtx} {line : ℕ} {origin : Step} {law : La
   pub set_chosen_walks : (m : Machine) (s : ℕ) (o : Option ℕ) (c : Chosen) → Has (handles_of origin) s → ((place : ℕ) → o ≡ Some place → record_of (kind_at m.table s) ≡ Some place) → ((option : Opt) (value : ℕ) → c ≡ AnOption option value → IsSetTo option (value_set option value) origin) → ((value : ℕ) → c ≡ TheBacklog value → IsBacklogSet (clamped_backlog value) origin)
       → Walks law (Starts m Unused) OverWith (set_chosen m (own_of line) o c)
   set_chosen_walks m s o (AnOption option value) named k q b =
-      on_socket m s o named k (λ place. looked_walks m place (λ x. set_option_asks (own_of line) x option value) (slice_get m.store.sockets place) refl (λ r here. set_walks here refl r option value refl (q option value refl)))
-  set_chosen_walks m s o (TheBacklog value) named k q b = on_socket m s o named k (λ place. backlog_at_walks m place (slice_get m.store.sockets place) refl)
+      on_socket m s o named k (λ place. looked_walks m place (λ x. set_option_asks (own_of line) x option value) (tcp2_at m.store.records place) refl (λ r here. set_walks here refl r option value refl (q option value refl)))
+  set_chosen_walks m s o (TheBacklog value) named k q b = on_socket m s o named k (λ place. backlog_at_walks m place (tcp2_at m.store.records place) refl)
     where
-      backlog_at_walks : (m : Machine) (place : ℕ) (o : Option Tcp2Socket) → slice_get m.store.sockets place ≡ o → Walks law (At line m place Unused) (Put line m place) (set_backlog_at m.store (own_of line) place value o)
+      backlog_at_walks : (m : Machine) (place : ℕ) (o : Option Tcp2Socket) → tcp2_at m.store.records place ≡ o → Walks law (At line m place Unused) (Put line m place) (set_backlog_at m.store (own_of line) place value o)
       backlog_at_walks m place None g = gives _ (Spends _ refl)
       backlog_at_walks m place (Some r) g =
           from (put_same (At line m place Unused) place r g) (and_then (backlog_walks (there g) refl r value (b value refl)) (λ done. move (Spends _ refl) (put_back_walks m place (inner_answered r done))))

@@ -10,18 +10,22 @@ use Rattle.wasi_walks.proofs.Words.{finish_in, first_ids, get_option_asks, get_w
 use Rattle.wasi_walks.proofs.Words.{is_connectable, is_nothing, is_of_family, is_over, is_unicast, is_wildcard, kind_at, listen_begun, listen_bound}
 use Rattle.wasi_walks.proofs.Words.{listen_once, listen_polled, listen_start, opened_receive, opened_send, own_of, poll_asks, poll_begun}
 use Rattle.wasi_walks.proofs.Words.{poll_bind_asks, poll_binding, poll_connect_asks, poll_listen_asks, poll_listening, refl, refused_after}
-use Rattle.wasi_walks.proofs.Words.{refused_before, set_backlog_asks, set_backlog_in, set_option_asks, set_where, side_in, side_of, slice_set}
+use Rattle.wasi_walks.proofs.Words.{refused_before, set_backlog_asks, set_backlog_in, set_option_asks, set_where, side_in, side_of}
 use Rattle.wasi_walks.proofs.Words.{start_connect_in, subst, sym, take_receive, taken_receive, taken_send, tell_local_asks, tell_remote_asks}
 use Rattle.wasi_walks.proofs.Words.{told_addr, told_done, true, value_set, wildcard, with_accept, with_backlog, with_inner, with_listening}
 use Rattle.wasi_walks.proofs.Words.{with_progress, with_state, zero_test, ℕ, ⊤, ◌&&◌, ◌==◌, ◌∙◌, ◌≡◌}
+use Rattle.wasi_tcp.specs.Listening.{listen_asks, listen_ended, listen_goes_on}
+use Rattle.wasi_walks.proofs.walks.Told.{IsTold, told_first}
 use Rattle.wasi_addr.specs.Clamp.{clamped_backlog}
 use Rattle.wasi_world.specs.declared.call.Opt.{Opt}
 use Rattle.wasi_walks.specs.Licence.{IsGetOf, IsSetTo}
 use Rattle.wasi_tcp.specs.Addresses.{usable_side, local_side, local_from, after_peer, peer_known, remote_in, still_connected}
-use Rattle.wasi_walks.proofs.walks.Moves.{IsConnecting, NoBind, IsSettled, GoesOn, Used, Unused, Here, put, opened_by, Reconnects, Opens, BeginsConnect, OfSocket, Plain, Move, Spends, Changes, BeginsBind, begun_bind, Unmade, record_of, new_accept, accepting_now, beginning_listen, joined, joining, BeginsListen, BeginsAccept, Unlistens, Forgets, Joins}
-use Rattle.wasi_walks.proofs.walks.Law.{Law, HasRecord, spent, put_put, Given, given_then, given_on, Walks, give, and_then, and_given, connect, by_if, move, gives, from, poll_bind, found, on, ask, learn, set, listen, await}
+use Rattle.wasi_walks.proofs.walks.Moves.{IsConnecting, NoStart, IsSettled, GoesOn, Used, Unused, Here, put, opened_by, Reconnects, Opens, BeginsConnect, OfSocket, Plain, Spends, Changes, BeginsBind, begun_bind, Unmade, record_of, new_accept, accepting_now, beginning_listen, joined, joining, BeginsListen, BeginsAccept, Unlistens, Forgets, Joins}
+use Rattle.wasi_walks.proofs.walks.Law.{Law, HasRecord, spent, put_put, Given, given_then, given_on, given_along, Walks, give, and_then, and_given, connect, by_if, move, gives, from, poll_bind, found, on, ask, learn, set, listen, await}
 use Rattle.wasi_tcp.specs.Listener.{begun as accept_begun}
 use Rattle.wasi_walks.proofs.Lists.{set_set}
+use Rattle.wasi_host.specs.Records.{tcp2_put}
+use Rattle.wasi_host.specs.declared.records.Record.{Record}
 
 -- what a call on the record's socket, its reader or its writer leaves
 abbrev pub Inner : {A : Type 0} → Here → ℕ → Tcp2Socket → A × Socket → Here
@@ -163,10 +167,45 @@ begun_bind_given place op r a = given_on (WaitsSo (StandingCall.Bind place)) (bi
     begun (Ok o, socket) = polled_given place (record r { inner = socket; in_progress = InProgress.Binding o }) (InProgress.Binding o)
     begun (Err c, socket) = tt
 
--- any other call waits for nothing of its record
-pub listen_waits_so : (place : ℕ) (done : Result (Answer (Unit {0})) ErrorCode × Tcp2Socket) → WaitsSo (StandingCall.Listen place) done
-listen_waits_so place (Ok Pending, r) = tt
-listen_waits_so place _ = tt
+-- and so is a listen, whose address was reported
+listened_so : (place : ℕ) (op : Operation) (r : Tcp2Socket) (socket : Socket) (ended : End × List Item) → IsTold ended → WaitsSo (StandingCall.Listen place) (listen_polled r (listen_ended op.who socket ended))
+listened_so place op r socket (Waits, items) k = k
+listened_so place op r socket (Done given, items) k = tt
+listened_so place op r socket (Refused c given, items) k = tt
+
+begun_listening : (place : ℕ) (r : Tcp2Socket) (op : Operation) (over : Bool) → Given (WaitsSo (StandingCall.Listen place)) (bind (if over then Give (Err InvalidState, (op, r.inner)) else listen_goes_on op r.inner) (λ done. Give (listen_polled r done)))
+unfolding bind
+begun_listening place r op true = tt
+begun_listening place r op false = from_goes (given_along IsTold (λ done. WaitsSo (StandingCall.Listen place) (listen_polled r done)) (poll_asks op) (λ ended. Give (listen_ended op.who r.inner ended)) (told_first 63 op.who op.left) (λ ended k. listened_so place op r r.inner ended k))
+  where
+    from_goes : Given (λ done. WaitsSo (StandingCall.Listen place) (listen_polled r done)) (listen_goes_on op r.inner) → Given (WaitsSo (StandingCall.Listen place)) (bind (listen_goes_on op r.inner) (λ done. Give (listen_polled r done)))
+    from_goes k = given_along (λ done. WaitsSo (StandingCall.Listen place) (listen_polled r done)) (WaitsSo (StandingCall.Listen place)) (listen_goes_on op r.inner) (λ done. Give (listen_polled r done)) k (λ done w. w)
+
+pub listen_given : (place : ℕ) (r : Tcp2Socket) → Given (WaitsSo (StandingCall.Listen place)) (poll_listen_asks r)
+listen_given place r = by_side (side_of r.inner)
+  where
+    by_listening : (l : Listening) → Given (WaitsSo (StandingCall.Listen place)) (poll_listening r l)
+    by_listening (Begins op) = begun_listening place r op (is_over op)
+    by_listening _ = tt
+
+    by_side : (o : Option OpId) → Given (WaitsSo (StandingCall.Listen place)) (closed_listening r o)
+    by_side None = by_listening r.listening
+    by_side (Some side) = tt
+
+pub begun_listen_given : (place : ℕ) (op : OpId) (r : Tcp2Socket) → Given (WaitsSo (StandingCall.Listen place)) (begin_listen_asks op r)
+begun_listen_given place op r = given_on (WaitsSo (StandingCall.Listen place)) (λ b. listen_bound op (with_inner r b.1) b.0) (λ b. by_bound (with_inner r b.1) b.0) (bound_asks op r.inner)
+  where
+    begun : (now : Tcp2Socket) (start : Result Operation ErrorCode × Socket) → Given (WaitsSo (StandingCall.Listen place)) (listen_begun now start)
+    begun now (Ok o, socket) = listen_given place (record now { inner = socket; listening = Begins o })
+    begun now (Err c, socket) = tt
+
+    by_listening : (now : Tcp2Socket) (l : Listening) → Given (WaitsSo (StandingCall.Listen place)) (listen_once op now l)
+    by_listening now Not = given_on (WaitsSo (StandingCall.Listen place)) (listen_begun now) (begun now) (listen_asks op now.inner)
+    by_listening now _ = tt
+
+    by_bound : (now : Tcp2Socket) (b : Bool) → Given (WaitsSo (StandingCall.Listen place)) (listen_bound op now b)
+    by_bound now true = by_listening now now.listening
+    by_bound now false = tt
 
 -- the tests of a bind
 module _ {contexts : List WasiSocketsCtx} {line : ℕ} {origin : Step} {law : Law contexts line origin} {h : Here} {place : ℕ} (here : HasRecord h place) (at : h.at ≡ Some (place, line)) (a : IpSocketAddress) (to : IsBindTo a origin) (free : h.own ≡ Unused) (r : Tcp2Socket) (idle : is_nothing r.in_progress ≡ true) where
@@ -187,7 +226,7 @@ module _ {contexts : List WasiSocketsCtx} {line : ℕ} {origin : Step} {law : La
   started socket false = allowed socket socket.state refl
 
 -- a poll of the bind that was begun
-module _ {contexts : List WasiSocketsCtx} {line : ℕ} {origin : Step} {law : Law contexts line origin} {h : Here} {place : ℕ} (here : HasRecord h place) (quiet : NoBind h) where
+module _ {contexts : List WasiSocketsCtx} {line : ℕ} {origin : Step} {law : Law contexts line origin} {h : Here} {place : ℕ} (here : HasRecord h place) (quiet : NoStart h) where
   poll_binding_walks : (r : Tcp2Socket) (doing : InProgress) → r.in_progress ≡ doing → Walks law (put h place r) (λ done. put h place done.1) (poll_binding r doing)
   poll_binding_walks r (InProgress.Binding op) e = and_then (poll_bind here r op quiet e) (λ ended. give _)
   poll_binding_walks r _ e = give _
@@ -252,7 +291,7 @@ module _ {contexts : List WasiSocketsCtx} {line : ℕ} {origin : Step} {law : La
   pub bound_walks : (r : Tcp2Socket) → Walks law (put h place r) (Inner h place r) (bound_asks (own_of line) r.inner)
   bound_walks r = by_if r.inner.bound (λ known. give _) (λ unknown. bound_in r r.inner.state refl)
 
-  module _ (a : IpSocketAddress) (to : IsBindTo a origin) (free : h.own ≡ Unused) (quiet : NoBind h) where
+  module _ (a : IpSocketAddress) (to : IsBindTo a origin) (free : h.own ≡ Unused) (quiet : NoStart h) where
     bind_walks : (r : Tcp2Socket) → is_nothing r.in_progress ≡ true → Walks law (put h place r) (Started h place r) (bind_asks (own_of line) r.inner a)
     bind_walks r idle = and_then (bound_walks r) (λ b. started here at a to free r idle b.1 b.0)
 
@@ -305,9 +344,9 @@ module _ {contexts : List WasiSocketsCtx} {line : ℕ} {origin : Step} {law : La
   backlog_walks r value is = by_if (value == 0) (λ none. give _) (λ some. backlog_in_walks r (clamped_backlog value) r.inner.state refl is)
 
 -- == a listen
-module _ {contexts : List WasiSocketsCtx} {line : ℕ} {origin : Step} {law : Law contexts line origin} {h : Here} {place : ℕ} (here : HasRecord h place) (quiet : NoBind h) where
+module _ {contexts : List WasiSocketsCtx} {line : ℕ} {origin : Step} {law : Law contexts line origin} {h : Here} {place : ℕ} (here : HasRecord h place) (quiet : NoStart h) where
   poll_begun_walks : (r : Tcp2Socket) (op : Operation) → r.listening ≡ Begins op → side_of r.inner ≡ None → Walks law (put h place r) (λ done. put h place done.1) (poll_begun r op)
-  poll_begun_walks r op e c = and_then {mid = λ done. put h place (listen_polled r done).1} (by_if (is_over op) (λ over. on here r _ (Unlistens _ _ _ op (found here r) e c over) (give _)) (λ more. and_then (listen here r op quiet e c) (λ ended. give _))) (λ done. give _)
+  poll_begun_walks r op e c = and_then {mid = λ done. put h place (listen_polled r done).1} (by_if (is_over op) (λ over. on here r _ (Unlistens _ _ _ op quiet (found here r) e c over) (give _)) (λ more. and_then (listen here r op quiet e c) (λ ended. give _))) (λ done. give _)
 
   by_listening : (r : Tcp2Socket) (l : Listening) → r.listening ≡ l → side_of r.inner ≡ None → Walks law (put h place r) (λ done. put h place done.1) (poll_listening r l)
   by_listening r (Begins op) e c = poll_begun_walks r op e c
@@ -333,7 +372,7 @@ abbrev pub Listened : Here → ℕ → Tcp2Socket → Result Operation ErrorCode
 Listened h place r (Ok op, socket) = record (put h place (record r { inner = socket; listening = Begins op })) { own = Used }
 Listened h place r (Err c, socket) = record (put h place (with_inner r socket)) { own = Used }
 
-module _ {contexts : List WasiSocketsCtx} {line : ℕ} {origin : Step} {law : Law contexts line origin} {h : Here} {place : ℕ} (here : HasRecord h place) (at : h.at ≡ Some (place, line)) (is : IsListenStep origin) (free : h.own ≡ Unused) (quiet : NoBind h) where
+module _ {contexts : List WasiSocketsCtx} {line : ℕ} {origin : Step} {law : Law contexts line origin} {h : Here} {place : ℕ} (here : HasRecord h place) (at : h.at ≡ Some (place, line)) (is : IsListenStep origin) (free : h.own ≡ Unused) (quiet : NoStart h) where
   starts_listen : (r : Tcp2Socket) (s : TcpState) → r.inner.state ≡ s → r.listening ≡ Not → r.inner.bound ≡ true → is_nothing r.in_progress ≡ true → Walks law (put h place r) (Listened h place r) (Give (listen_start (own_of line) r.inner true s))
   starts_listen r (TcpState.Default side) e none bound idle = move (BeginsListen (put h place r) place r side at (found here r) e bound none is idle free) (from (ap (λ (x : Here). record x { own = Used }) (sym (put_put h place r (beginning_listen (own_of line) side r)))) (give _))
   starts_listen r _ e none bound idle = gives _ (Spends _ free)
@@ -378,7 +417,7 @@ module _ {contexts : List WasiSocketsCtx} {line : ℕ} {origin : Step} {law : La
 
 -- what was taken joins the records, with its streams
 abbrev pub joined_if : Here → ℕ → Tcp2Socket → Result (Unit {0}) Stop × Tcp2Socket → Here
-joined_if h place r (Ok done, now) = joining h (slice_set h.machine.store.sockets place r) now
+joined_if h place r (Ok done, now) = joining h (tcp2_put h.machine.store.records place r) now
 joined_if h place r (Err stop, now) = put h place r
 
 abbrev pub Took : Here → ℕ → Result (Answer Socket) ErrorCode × Tcp2Socket → Here
@@ -392,6 +431,6 @@ module _ {contexts : List WasiSocketsCtx} {line : ℕ} {origin : Step} {law : La
       let old : Tcp2Socket = accepting_now r l (Accepting.Arrived new peer) in
       let idle : Tcp2Socket = accepting_now r l Accepting.Idle in
       move (Joins (put h place old) c handle place old (with_accept l (Accepting.Arrived new peer)) new peer is of unmade (found here old) refl refl)
-      (from (ap (λ (xs : List Tcp2Socket). joining h xs (joined l new peer)) (sym (set_set h.machine.store.sockets place old idle))) (give _))
+      (from (ap (λ (xs : List Record). joining h xs (joined l new peer)) (sym (set_set h.machine.store.records place old idle))) (give _))
   takes_walks r l (Accepting.Failed why) = let old : Tcp2Socket = accepting_now r l (Accepting.Failed why) in on here old _ (Forgets _ _ _ (with_accept l (Accepting.Failed why)) why (found here old) refl refl) (give _)
   takes_walks r l _ = give _

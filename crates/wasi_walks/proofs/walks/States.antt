@@ -1,14 +1,16 @@
 -- What a line works on where it begins, in its midst and at its end, and what is known of handles there.
 use Rattle.wasi_walks.proofs.Words.{Answer, Ask, AskWrite, Asks, Bool, Err, ErrorCode, Full, Give, Handles, Input, Kind, List, Machine, None, Ok}
-use Rattle.wasi_walks.proofs.Words.{OpId, Option, Output, Pending, Pollable, Ready, Records, Result, Socket, Some, Standing, StandingCall, Stop}
+use Rattle.wasi_walks.proofs.Words.{OpId, Option, Output, Pending, Pollable, Ready, Records, Result, Socket, Some, Standing, Stop}
 use Rattle.wasi_walks.proofs.Words.{Streams, Tcp2, Tcp2Socket, Trap, Watched, accept_answered, accept_at, accept_record_asks, accepted_record, ap}
 use Rattle.wasi_walks.proofs.Words.{ask_made, bind, call_of, eqb-true, false, if◌then◌else◌, input_of, is_full, kept_accepted, kind_at, make_asks}
-use Rattle.wasi_walks.proofs.Words.{name_of, output_of, place_in, place_of, refl, slice_get, slice_set, standing_as, sym, table_parent, true}
-use Rattle.wasi_walks.proofs.Words.{watch_of, watched_by, with_handle, with_sockets, ℕ, ⊤, ◌==◌, ◌∙◌, ◌≡◌}
+use Rattle.wasi_walks.proofs.Words.{name_of, output_of, place_in, place_of, refl, sym, table_parent, true}
+use Rattle.wasi_walks.proofs.Words.{watch_of, watched_by, with_handle, with_records, ℕ, ⊤, ◌==◌, ◌∙◌, ◌≡◌}
 use Rattle.wasi_world.specs.declared.ids.Ids.{Ids}
 use Rattle.wasi_walks.proofs.walks.Moves.{Own, Used, Here, put, Found, record_of, Made, Past, Unmade, Joined}
-use Rattle.wasi_walks.proofs.Lists.{value_front, get_seam}
+use Rattle.wasi_walks.proofs.Lists.{value_front, tcp2_seam}
 use Rattle.wasi_walks.proofs.walks.Law.{HasRecord, Given, given_then}
+use Rattle.wasi_host.specs.Records.{tcp2_at, tcp2_put}
+use Rattle.wasi_host.specs.declared.records.Record.{Record}
 
 -- a line begins, and is over
 abbrev pub Starts : Machine → Own → Here
@@ -43,15 +45,12 @@ pub there : {h : Here} {place : ℕ} {r : Tcp2Socket} → Found h place r → Ha
 there {r} g = record { was = r; found = g }
 
 -- the pending call under a number
-pub stands_so : (o : Option Standing) (n : ℕ) (call : StandingCall) → call_of o n ≡ Some call → o ≡ Some (standing_as n call)
-stands_so None n call e = absurd (cc)
-stands_so (Some s) n call e = by_line (s.line == n) refl e
+pub stands_so : (o : Option Standing) (n : ℕ) (s : Standing) → call_of o n ≡ Some s → (o ≡ Some s) × (s.ids.line ≡ n)
+stands_so None n s e = absurd (cc)
+stands_so (Some t) n s e = by_line (t.ids.line == n) refl e
   where
-    by_line : (same : Bool) → (s.line == n) ≡ same → (if same then Some s.call else None) ≡ Some call → Some s ≡ Some (standing_as n call)
-    by_line true l q =
-        let at : s.line ≡ n = eqb-true s.line n l in
-        let its : s.call ≡ call = cc in
-        ap (λ (x : ℕ). Some (standing_as x s.call)) at ∙ ap (λ (x : StandingCall). Some (standing_as n x)) its
+    by_line : (same : Bool) → (t.ids.line == n) ≡ same → (if same then Some t else None) ≡ Some s → (Some t ≡ Some s) × (s.ids.line ≡ n)
+    by_line true l q = let its : t ≡ s = cc in (q, sym (ap (λ (x : Standing). x.ids.line) its) ∙ eqb-true t.ids.line n l)
     by_line false l q = absurd (cc)
 
 pub streams_are : (h : Here) (place : ℕ) (r : Tcp2Socket) (s : Streams) → r.streams ≡ Some s → put h place (record r { streams = Some s }) ≡ put h place r
@@ -70,8 +69,8 @@ AcceptedSo line m place (Ok p, store) = Between None (Joined p) (record m { stor
 AcceptedSo line m place (Err why, store) = Between (Some (place, line)) Unmade (record m { store = store })
 
 -- with these records
-abbrev pub Sets : Machine → List Tcp2Socket → Here
-Sets m sockets = record { machine = record m { store = record m.store { sockets = sockets } }; at = None; made = Past; own = Used }
+abbrev pub Sets : Machine → List Record → Here
+Sets m records = record { machine = record m { store = record m.store { records = records } }; at = None; made = Past; own = Used }
 
 -- a handle that is live stays so where another is made
 pub make_given : (t : Handles) (op : OpId) (kind : Kind) (parent : Option ℕ) (sock : Option OpId) (handle place : ℕ) → record_of (kind_at t handle) ≡ Some place → Given (λ made. record_of (kind_at made.1 handle) ≡ Some place) (make_asks t op kind parent sock)
@@ -104,7 +103,7 @@ given_any R k (AskWrite op sock bytes next) = λ told. given_any R k (next told)
 -- what joined the records is there
 pub record HasAt (store : Records) (p : ℕ) : Type 0 where
   pub was : Tcp2Socket
-  pub found : slice_get store.sockets p ≡ Some was
+  pub found : tcp2_at store.records p ≡ Some was
 
 abbrev pub JoinedSo : Result ℕ Stop × Records → Type 0
 JoinedSo (Ok p, store) = HasAt store p
@@ -114,11 +113,11 @@ pub joined_given : (store : Records) (ids : Ids) (place : ℕ) (o : Option Tcp2S
 joined_given store ids place None = tt
 joined_given store ids place (Some r) = given_then JoinedSo (accept_answered store place) answered (accept_record_asks ids r)
   where
-    kept : (sockets : List Tcp2Socket) (x : Result (Unit {0}) Stop × Tcp2Socket) → JoinedSo (with_sockets store (kept_accepted sockets x))
-    kept sockets (Ok done, now) = record { was = now; found = get_seam sockets now }
-    kept sockets (Err why, now) = tt
+    kept : (records : List Record) (x : Result (Unit {0}) Stop × Tcp2Socket) → JoinedSo (with_records store (kept_accepted records x))
+    kept records (Ok done, now) = record { was = now; found = tcp2_seam records now }
+    kept records (Err why, now) = tt
 
     answered : (done : Result (Answer Socket) ErrorCode × Tcp2Socket) → JoinedSo (accept_answered store place done)
-    answered (Ok (Ready socket), r) = kept (slice_set store.sockets place r) (accepted_record socket)
+    answered (Ok (Ready socket), r) = kept (tcp2_put store.records place r) (accepted_record socket)
     answered (Ok Pending, r) = tt
     answered (Err why, r) = tt

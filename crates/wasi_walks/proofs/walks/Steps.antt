@@ -3,50 +3,53 @@ use Rattle.wasi_walks.proofs.Words.{Answer, Err, Give, InProgress, IsBacklogSet,
 use Rattle.wasi_walks.proofs.Words.{StandingCall, Step, Stop, Tcp2Socket, TcpSetting, TheBacklog, WasiSocketsCtx, asks_while, call_of, call_place}
 use Rattle.wasi_walks.proofs.Words.{check_write_asks, chosen, context_at, false, flush_asks, get_option_asks, go_on, inl, input_at, is_bind}
 use Rattle.wasi_walks.proofs.Words.{is_guest_call, is_listen, kind_at, output_at, own_of, read_state_asks, reader_asks, rebind_at, refl, relisten_at}
-use Rattle.wasi_walks.proofs.Words.{resume_call, resumed, slice_get, socket_at, standing_as, step_asks, subst, sym, true, unstood, watch_of}
+use Rattle.wasi_walks.proofs.Words.{resume_call, resumed, socket_at, step_asks, subst, sym, true, unstood, watch_of}
 use Rattle.wasi_walks.proofs.Words.{watched_by, with_store, writer_asks, ℕ, ◌≡◌}
+use Rattle.wasi_world.specs.declared.ids.Ids.{Ids}
 use Rattle.wasi_addr.specs.Clamp.{clamped_backlog}
 use Rattle.wasi_world.specs.declared.call.Opt.{Opt}
 use Rattle.wasi_common.specs.Options.{value_set}
 use Rattle.wasi_steps.specs.Settings.{AnOption}
 use Rattle.wasi_walks.specs.Licence.{IsSetTo, SetsOption, SetsBacklog}
 use Rattle.wasi_walks.proofs.walks.Writes.{may}
-use Rattle.wasi_walks.proofs.walks.Moves.{NoBindStands, IsSettled, Own, Unused, ANetwork, Spends, Used, Leaves, Resumes, Unstands}
+use Rattle.wasi_walks.proofs.walks.Moves.{NoStartStands, IsSettled, Own, Unused, ANetwork, Spends, Used, Leaves, Resumes, Unstands}
 use Rattle.wasi_walks.proofs.walks.Law.{Law, Walks, give, and_then, and_given, by_if, move, gives, mark, create, put_same, from}
-use Rattle.wasi_walks.proofs.walks.Sockets.{WaitsSo, get_walks, listen_waits_so, poll_bind_walks, poll_listen_walks, polled_given}
+use Rattle.wasi_walks.proofs.walks.Sockets.{WaitsSo, get_walks, listen_given, poll_bind_walks, poll_listen_walks, polled_given}
 use Rattle.wasi_walks.proofs.walks.Streams.{read_walks, check_walks, subscribe_walks, writer_walks, drop_walks, turn_walks, ready_walks, reader_walks, write_on_walks, stream_walks, drop_output_walks}
 use Rattle.wasi_walks.proofs.walks.States.{At, OverWith, Put, Starts, input_record, output_record, socket_record, stands_so, there}
 use Rattle.wasi_walks.proofs.walks.SocketSteps.{finish_started_walks, local_at_walks, shutdown_at_walks, start_connect_walks, start_bind_walks, looked_walks, set_chosen_walks, remote_at_walks, on_socket, finish_on_walks, as_left, answered_walks}
 use Rattle.wasi_walks.proofs.walks.ListenSteps.{accept_on_walks, start_listen_at_walks}
+use Rattle.wasi_host.specs.Records.{tcp2_at}
 
 module _ {contexts : List WasiSocketsCtx} {line : ℕ} {origin : Step} {law : Law contexts line origin} where
   -- == a pending call continues
-  module _ (n : ℕ) (m : Machine) (quiet : NoBindStands m.store.standing) where
-    rebind_walks : (place : ℕ) (o : Option Tcp2Socket) → slice_get m.store.sockets place ≡ o → Walks law (At n m place Used) (Put n m place) (rebind_at m.store n place o)
+  module _ (ids : Ids) (m : Machine) (quiet : NoStartStands m.store.standing) where
+    rebind_walks : (place : ℕ) (o : Option Tcp2Socket) → tcp2_at m.store.records place ≡ o → Walks law (At ids.line m place Used) (Put ids.line m place) (rebind_at m.store ids place o)
     rebind_walks place None g = give _
     rebind_walks place (Some r) g =
-        from (put_same (At n m place Used) place r g)
-        (and_given (WaitsSo (StandingCall.Bind place)) (polled_given place r r.in_progress) (poll_bind_walks (there g) quiet r) (λ done w. answered_walks m n (StandingCall.Bind place) done (there g) w))
+        from (put_same (At ids.line m place Used) place r g)
+        (and_given (WaitsSo (StandingCall.Bind place)) (polled_given place r r.in_progress) (poll_bind_walks (there g) quiet r) (λ done w. answered_walks m ids (StandingCall.Bind place) done (there g) w))
 
-    relisten_walks : (place : ℕ) (o : Option Tcp2Socket) → slice_get m.store.sockets place ≡ o → Walks law (At n m place Used) (Put n m place) (relisten_at m.store n place o)
+    relisten_walks : (place : ℕ) (o : Option Tcp2Socket) → tcp2_at m.store.records place ≡ o → Walks law (At ids.line m place Used) (Put ids.line m place) (relisten_at m.store ids place o)
     relisten_walks place None g = give _
     relisten_walks place (Some r) g =
-        from (put_same (At n m place Used) place r g) (and_then (poll_listen_walks (there g) quiet r) (λ done. answered_walks m n (StandingCall.Listen place) done (there g) (listen_waits_so place done)))
+        from (put_same (At ids.line m place Used) place r g)
+        (and_given (WaitsSo (StandingCall.Listen place)) (listen_given place r) (poll_listen_walks (there g) quiet r) (λ done w. answered_walks m ids (StandingCall.Listen place) done (there g) w))
 
-    go_on_walks : (call : StandingCall) → Walks law (At n m (call_place call) Used) (Put n m (call_place call)) (go_on m.store n call)
-    go_on_walks (StandingCall.Bind place) = rebind_walks place (slice_get m.store.sockets place) refl
-    go_on_walks (StandingCall.Listen place) = relisten_walks place (slice_get m.store.sockets place) refl
-    go_on_walks (StandingCall.DropOutput place) = and_then (drop_output_walks n place m (slice_get m.store.sockets place) refl) (λ done. give _)
+    go_on_walks : (call : StandingCall) → Walks law (At ids.line m (call_place call) Used) (Put ids.line m (call_place call)) (go_on m.store ids call)
+    go_on_walks (StandingCall.Bind place) = rebind_walks place (tcp2_at m.store.records place) refl
+    go_on_walks (StandingCall.Listen place) = relisten_walks place (tcp2_at m.store.records place) refl
+    go_on_walks (StandingCall.DropOutput place) = and_then (drop_output_walks ids place m (tcp2_at m.store.records place) refl) (λ done. give _)
 
   resumed_walks : (m : Machine) (n place : ℕ) (done : Result (Answer (Unit {0})) Stop × Records) → Walks law (Put n m place done) OverWith (Give (resumed (with_store m done)))
   resumed_walks m n place (Ok answer, store) = gives _ (Leaves _)
   resumed_walks m n place (Err why, store) = gives _ (Leaves _)
 
-  pub resume_walks : (m : Machine) (n : ℕ) (o : Option StandingCall) → call_of m.store.standing n ≡ o → Walks law (Starts m Unused) OverWith (resume_call m n o)
+  pub resume_walks : (m : Machine) (n : ℕ) (o : Option Standing) → call_of m.store.standing n ≡ o → Walks law (Starts m Unused) OverWith (resume_call m o)
   resume_walks m n None e = gives _ (Spends _ refl)
-  resume_walks m n (Some call) e =
+  resume_walks m n (Some s) e =
       let now : Machine = record m { store = unstood m.store } in
-      move (Resumes _ (standing_as n call) (stands_so m.store.standing n call e)) (move (Unstands _) (move (Spends _ refl) (and_then (go_on_walks n now tt call) (resumed_walks m n (call_place call)))))
+      move (Resumes _ s (stands_so m.store.standing n s e).0) (move (Unstands _) (move (Spends _ refl) (and_then (go_on_walks s.ids now tt s.call) (resumed_walks m s.ids.line (call_place s.call)))))
 
 -- what a set sets, by what its setting chooses
 option_set : (c s : ℕ) (setting : TcpSetting) (option : Opt) (value : ℕ) → chosen setting ≡ AnOption option value → IsSetTo option (value_set option value) (Step.TcpSet c s setting)
@@ -64,8 +67,8 @@ listen_settles : (doing : InProgress) → is_listen doing ≡ true → IsSettled
 listen_settles (InProgress.Binding op) e = absurd (cc)
 listen_settles _ e = tt
 
-none_stands : {o : Option Standing} → o ≡ None → NoBindStands o
-none_stands e = subst NoBindStands (sym e) tt
+none_stands : {o : Option Standing} → o ≡ None → NoStartStands o
+none_stands e = subst NoStartStands (sym e) tt
 
 -- each step is made of moves; where a guest calls, nothing is pending
 pub step_walks : {contexts : List WasiSocketsCtx} (line : ℕ) (s : Step) {law : Law contexts line s} (m : Machine) → (is_guest_call s ≡ true → m.store.standing ≡ None) → Walks law (Starts m (may m s)) OverWith (step_asks contexts m line s)
@@ -75,16 +78,16 @@ step_walks line (Step.TcpStartBind c s n a) m f = and_then (start_bind_walks m s
 step_walks line (Step.TcpFinishBind c s) m f = as_left (finish_started_walks m is_bind bind_settles (socket_at m s))
 step_walks line (Step.TcpStartConnect c s n a) m f = and_then (start_connect_walks m s n a (inl refl) refl) (λ done. give _)
 step_walks line (Step.TcpFinishConnect c s) m f = and_then (finish_on_walks c s m (socket_at m s) refl (inl refl) refl) (λ done. give _)
-step_walks line (Step.TcpStartListen c s) m f = and_then (on_socket m s (socket_at m s) (inl refl) (socket_record (kind_at m.table s)) (λ place. start_listen_at_walks m place (slice_get m.store.sockets place) refl tt (none_stands (f refl)))) (λ done. give _)
+step_walks line (Step.TcpStartListen c s) m f = and_then (on_socket m s (socket_at m s) (inl refl) (socket_record (kind_at m.table s)) (λ place. start_listen_at_walks m place (tcp2_at m.store.records place) refl tt (none_stands (f refl)))) (λ done. give _)
 step_walks line (Step.TcpFinishListen c s) m f = as_left (finish_started_walks m is_listen listen_settles (socket_at m s))
 step_walks line (Step.TcpAccept c s) m f = and_then (accept_on_walks c s m (socket_at m s) refl (inl refl) refl) (λ done. give _)
-step_walks line (Step.TcpLocalAddress c s) m f = and_then (on_socket m s (socket_at m s) (inl refl) (socket_record (kind_at m.table s)) (λ place. local_at_walks m place (slice_get m.store.sockets place) refl)) (λ done. give _)
-step_walks line (Step.TcpRemoteAddress c s) m f = and_then (on_socket m s (socket_at m s) (inl refl) (socket_record (kind_at m.table s)) (λ place. remote_at_walks m place (slice_get m.store.sockets place) refl)) (λ done. give _)
+step_walks line (Step.TcpLocalAddress c s) m f = and_then (on_socket m s (socket_at m s) (inl refl) (socket_record (kind_at m.table s)) (λ place. local_at_walks m place (tcp2_at m.store.records place) refl)) (λ done. give _)
+step_walks line (Step.TcpRemoteAddress c s) m f = and_then (on_socket m s (socket_at m s) (inl refl) (socket_record (kind_at m.table s)) (λ place. remote_at_walks m place (tcp2_at m.store.records place) refl)) (λ done. give _)
 step_walks line (Step.TcpIsListening c s) m f = gives _ (Spends _ refl)
 step_walks line (Step.TcpAddressFamily c s) m f = gives _ (Spends _ refl)
-step_walks line (Step.TcpGet c s option) m f = and_then (on_socket m s (socket_at m s) (inl refl) (socket_record (kind_at m.table s)) (λ place. looked_walks m place (λ x. get_option_asks (own_of line) x option) (slice_get m.store.sockets place) refl (λ r here. get_walks here refl r option refl refl))) (λ done. give _)
+step_walks line (Step.TcpGet c s option) m f = and_then (on_socket m s (socket_at m s) (inl refl) (socket_record (kind_at m.table s)) (λ place. looked_walks m place (λ x. get_option_asks (own_of line) x option) (tcp2_at m.store.records place) refl (λ r here. get_walks here refl r option refl refl))) (λ done. give _)
 step_walks line (Step.TcpSet c s setting) m f = and_then (set_chosen_walks m s (socket_at m s) (chosen setting) (inl refl) (socket_record (kind_at m.table s)) (option_set c s setting) (backlog_set c s setting)) (λ done. give _)
-step_walks line (Step.TcpShutdown c s how) m f = and_then (on_socket m s (socket_at m s) (inl refl) (socket_record (kind_at m.table s)) (λ place. shutdown_at_walks m place how (slice_get m.store.sockets place) refl)) (λ done. give _)
+step_walks line (Step.TcpShutdown c s how) m f = and_then (on_socket m s (socket_at m s) (inl refl) (socket_record (kind_at m.table s)) (λ place. shutdown_at_walks m place how (tcp2_at m.store.records place) refl)) (λ done. give _)
 step_walks line (Step.Read c input len) m f = and_then (stream_walks m input (reader_asks (λ r. read_state_asks (own_of line) r len)) (input_at m input) (inl refl) refl (input_record (kind_at m.table input)) (λ place r here. reader_walks here r (λ w. read_state_asks (own_of line) w len) r.streams refl (λ s w. read_walks here refl r s w len))) (λ done. give _)
 step_walks line (Step.CheckWrite c output) m f = and_then (stream_walks m output (writer_asks (check_write_asks (own_of line))) (output_at m output) (inl refl) refl (output_record (kind_at m.table output)) (λ place r here. writer_walks here r (check_write_asks (own_of line)) r.streams refl (check_walks here refl r))) (λ done. give _)
 step_walks line (Step.Write c output bytes) m f = and_then (write_on_walks m output bytes (output_at m output) (inl refl) refl (output_record (kind_at m.table output))) (λ done. give _)

@@ -8,17 +8,20 @@ use Rattle.wasi_walks.proofs.Words.{allows_weaker, ap, ask_read, begun, bind, ch
 use Rattle.wasi_walks.proofs.Words.{false, first_ids, give_streams_up, gone, handles_of, has_no_child, if◌then◌else◌, is_connect, is_nothing, kind_at}
 use Rattle.wasi_walks.proofs.Words.{length, look_asks, look_in, min, nat_lt, new_job, own_of, permitted, place_in, polled_answer, read_state_asks}
 use Rattle.wasi_walks.proofs.Words.{reader_of, reader_ready_asks, reader_shutdown_asks, ready_end, ready_on, refl, release_asks, release_at}
-use Rattle.wasi_walks.proofs.Words.{shut_streams, side_of, side_up_asks, slice_get, stream_at, subscribe_on, sym, taken_out, true, turn_machine_asks}
+use Rattle.wasi_walks.proofs.Words.{shut_streams, side_of, side_up_asks, stream_at, subscribe_on, sym, taken_out, true, turn_machine_asks}
 use Rattle.wasi_walks.proofs.Words.{wait_put, wait_writer, watch_of, watched_by, with_listening, with_permit, with_reader, with_store, with_writer}
 use Rattle.wasi_walks.proofs.Words.{without_handle, write_on_asks, write_state_asks, writer_asks, writer_give_up_asks, writer_of}
 use Rattle.wasi_walks.proofs.Words.{writer_shutdown_asks, writer_side, writing_side, ℕ, ◌==◌, ◌∷◌, ◌≡◌}
+use Rattle.wasi_world.specs.declared.ids.Ids.{Ids}
 use Rattle.wasi_addr.specs.declared.address.ShutdownType.TheVariants.{Receive, Send, Both}
 use Rattle.wasi_tcp.specs.Job.{finish_in as finish_job}
+use Rattle.wasi_host.specs.Records.{tcp2_at}
+use Rattle.wasi_host.specs.declared.records.Record.{Record}
 use Rattle.wasi_host.specs.declared.jobs.HostJob.{HostJob}
 use Rattle.wasi_host.specs.declared.jobs.HostJob.TheVariants.{Write}
 use Rattle.wasi_host.specs.Shutdowns.{with_streams}
 use Rattle.wasi_walks.proofs.walks.Writes.{may_begin, may_of, may_in, may_at, may}
-use Rattle.wasi_walks.proofs.walks.Moves.{Own, Used, Unused, ToWrite, Here, put, OfReader, OfWriter, Collects, Permits, Lasts, LastsAfter, Closes, Spends, ClosesReader, Writes, BeginsWrite, NoBind, NoBindStands, record_of, MarksError, AnError, Reaches, Leaves, IsGone, Lists, Takes, Past, Stands, APollable}
+use Rattle.wasi_walks.proofs.walks.Moves.{Own, Used, Unused, ToWrite, Here, put, OfReader, OfWriter, Collects, Permits, Lasts, LastsAfter, Closes, Spends, ClosesReader, Writes, BeginsWrite, NoStart, NoStartStands, record_of, MarksError, AnError, Reaches, Leaves, IsGone, Lists, Takes, Past, Stands, APollable}
 use Rattle.wasi_walks.proofs.walks.Law.{Law, HasRecord, spent, put_put, Walks, give, and_then, by_if, move, gives, from, found, on, ask, turn, put_same, ends, close, mark, give_up, and_so}
 use Rattle.wasi_tcp.specs.Closing.{close_in}
 use Rattle.wasi_host.specs.Readiness.{ready_listening, ready_idle, ready_socket_by, ready_reader, ready_writer, ready_record, ready_at}
@@ -164,7 +167,7 @@ module _ {contexts : List WasiSocketsCtx} {line : ℕ} {origin : Step} {law : La
   converted_walks m handle place (Err (stop.Failed c), store) marks e = and_then {mid = λ c. record { machine = c.1; at = Some (place, line); made = Past; own = Used }} (and_then (mark (AnError handle place marks e)) (λ made. give _)) (λ c. gives _ (Leaves _))
   converted_walks m handle place _ marks e = gives _ (Leaves _)
 
-  stream_at_walks : {T : Type 0} (m : Machine) (place : ℕ) (may : Option Tcp2Socket → Own) (call : Tcp2Socket → Asks (Result T StreamStop × Tcp2Socket)) (o : Option Tcp2Socket) → slice_get m.store.sockets place ≡ o → may None ≡ Unused
+  stream_at_walks : {T : Type 0} (m : Machine) (place : ℕ) (may : Option Tcp2Socket → Own) (call : Tcp2Socket → Asks (Result T StreamStop × Tcp2Socket)) (o : Option Tcp2Socket) → tcp2_at m.store.records place ≡ o → may None ≡ Unused
       → ((r : Tcp2Socket) → let h = At line m place (may (Some r)) in HasRecord h place → Walks law (put h place r) (λ done. record (put h place done.1) { own = Used }) (call r)) → Walks law (At line m place (may o)) (Put line m place) (stream_at m.store place call o)
   stream_at_walks m place may call None g none k = gives _ (Spends _ none)
   stream_at_walks m place may call (Some r) g none k = let h = At line m place (may (Some r)) in from (put_same h place r g) (and_then (k r (there g)) (λ done. give _))
@@ -177,7 +180,7 @@ module _ {contexts : List WasiSocketsCtx} {line : ℕ} {origin : Step} {law : La
   stream_walks m handle call None named marks k c = gives _ (Spends _ refl)
   stream_walks m handle call (Some place) named marks k c =
       move (Reaches _ handle place named (k place refl))
-      (and_then (stream_at_walks m place (λ o. Unused) call (slice_get m.store.sockets place) refl refl (λ r here. spends m place r call (c place r here))) (λ done. converted_walks m handle place done marks (k place refl)))
+      (and_then (stream_at_walks m place (λ o. Unused) call (tcp2_at m.store.records place) refl refl (λ r here. spends m place r call (c place r here))) (λ done. converted_walks m handle place done marks (k place refl)))
 
   -- == a write, which may become a job
   write_record_walks : {h : Here} {place : ℕ} (here : HasRecord h place) (at : h.at ≡ Some (place, line)) (bytes : List ℕ) (r : Tcp2Socket) (o : Option Streams) → r.streams ≡ o → h.own ≡ may_of o bytes
@@ -193,13 +196,13 @@ module _ {contexts : List WasiSocketsCtx} {line : ℕ} {origin : Step} {law : La
       → Walks law (Starts m (may_at m bytes o)) OverWith (write_on m (own_of line) handle (writer_asks (λ w. write_state_asks (own_of line) w bytes)) o)
   write_on_walks m handle bytes None named marks k = gives _ (Spends _ refl)
   write_on_walks m handle bytes (Some place) named marks k =
-      let o = slice_get m.store.sockets place in
+      let o = tcp2_at m.store.records place in
       move (Reaches _ handle place named (k place refl))
       (and_then (and_then (stream_at_walks m place (λ o. may_in o bytes) (writer_asks (λ w. write_state_asks (own_of line) w bytes)) o refl refl (λ r here. write_record_walks here refl bytes r r.streams refl refl))
-      (λ done. noted_walks m place done (begins_job o (slice_get done.1.sockets place)))) (λ done. converted_walks m handle place done marks (k place refl)))
+      (λ done. noted_walks m place done (begins_job o (tcp2_at done.1.records place)))) (λ done. converted_walks m handle place done marks (k place refl)))
 
   -- == a drop
-  module _ {h : Here} {place : ℕ} (here : HasRecord h place) (at : h.at ≡ Some (place, line)) (quiet : NoBind h) where
+  module _ {h : Here} {place : ℕ} (here : HasRecord h place) (at : h.at ≡ Some (place, line)) (quiet : NoStart h) where
     given_up_walks : (r : Tcp2Socket) (o : Option Streams) → r.streams ≡ o → Walks law (put h place r) (λ done. put h place r) (give_streams_up (own_of line) o)
     given_up_walks r None e = give _
     given_up_walks r (Some s) e =
@@ -211,43 +214,43 @@ module _ {contexts : List WasiSocketsCtx} {line : ℕ} {origin : Step} {law : La
     closes_walks r (Some side) e = close here r quiet e (λ told. give _)
 
     release_walks : (r : Tcp2Socket) → Walks law (put h place r) (λ done. put h place done.1) (release_asks (own_of line) r)
-    release_walks r = let now = with_listening r Not in and_then (give_up here r) (λ done. and_then (given_up_walks now r.streams refl) (λ done. and_then (closes_walks now (side_of r.inner) refl) (λ done. give _)))
+    release_walks r = let now = with_listening r Not in and_then (give_up here r quiet) (λ done. and_then (given_up_walks now r.streams refl) (λ done. and_then (closes_walks now (side_of r.inner) refl) (λ done. give _)))
 
-  release_at_walks : (m : Machine) (place : ℕ) (o : Option Tcp2Socket) → slice_get m.store.sockets place ≡ o → NoBindStands m.store.standing → Walks law (At line m place Unused) (Put line m place) (release_at m.store (own_of line) place o)
+  release_at_walks : (m : Machine) (place : ℕ) (o : Option Tcp2Socket) → tcp2_at m.store.records place ≡ o → NoStartStands m.store.standing → Walks law (At line m place Unused) (Put line m place) (release_at m.store (own_of line) place o)
   release_at_walks m place None g q = gives _ (Spends _ refl)
   release_at_walks m place (Some r) g q = from (put_same (At line m place Unused) place r g) (and_then (release_walks (there g) refl q r) (λ done. move (Spends _ refl) (gives _ (Lists _ _))))
 
   -- a drop that waits: one look by the line that dropped it
-  module _ (n place : ℕ) where
-    wait_walks : (m : Machine) (r : Tcp2Socket) (here : HasRecord (At n m place Used) place) (o : Option Streams) → r.streams ≡ o → Walks law (put (At n m place Used) place r) (λ done. put (At n m place Used) place done.1) (wait_writer (own_of n) r o)
+  module _ (ids : Ids) (place : ℕ) where
+    wait_walks : (m : Machine) (r : Tcp2Socket) (here : HasRecord (At ids.line m place Used) place) (o : Option Streams) → r.streams ≡ o → Walks law (put (At ids.line m place Used) place r) (λ done. put (At ids.line m place Used) place done.1) (wait_writer (own_of ids.line) r o)
     wait_walks m r here None e = give _
-    wait_walks m r here (Some s) e = from (streams_are (At n m place Used) place r s e) (and_then (look_walks here refl r s s.writer) (λ done. give _))
+    wait_walks m r here (Some s) e = from (streams_are (At ids.line m place Used) place r s e) (and_then (look_walks here refl r s s.writer) (λ done. give _))
 
-    stands_or : (m : Machine) (r : Tcp2Socket) (here : HasRecord (At n m place Used) place) (done : Answer (Unit {0}) × Tcp2Socket) → Walks law (put (At n m place Used) place done.1) (Put n m place) (Give (drop_waits n place (wait_put m.store place done)))
+    stands_or : (m : Machine) (r : Tcp2Socket) (here : HasRecord (At ids.line m place Used) place) (done : Answer (Unit {0}) × Tcp2Socket) → Walks law (put (At ids.line m place Used) place done.1) (Put ids.line m place) (Give (drop_waits ids place (wait_put m.store place done)))
     stands_or m r here (Ready d, now) = give _
-    stands_or m r here (Pending, now) = gives _ (Stands _ n (StandingCall.DropOutput place) now refl (found here now) tt)
+    stands_or m r here (Pending, now) = gives _ (Stands _ ids (StandingCall.DropOutput place) now refl (found here now) tt)
 
-    pub drop_output_walks : (m : Machine) (o : Option Tcp2Socket) → slice_get m.store.sockets place ≡ o → Walks law (At n m place Used) (Put n m place) (drop_output_at m.store (own_of n) place o)
+    pub drop_output_walks : (m : Machine) (o : Option Tcp2Socket) → tcp2_at m.store.records place ≡ o → Walks law (At ids.line m place Used) (Put ids.line m place) (drop_output_at m.store ids place o)
     unfolding bind
     drop_output_walks m None g = give _
     drop_output_walks m (Some r) g =
-        from (put_same (At n m place Used) place r g) (and_so (wait_put m.store place) (λ done. Give (drop_waits n place done)) (wait_walks m r (there g) r.streams refl) (stands_or m r (there g)))
+        from (put_same (At ids.line m place Used) place r g) (and_so (wait_put m.store place) (λ done. Give (drop_waits ids place done)) (wait_walks m r (there g) r.streams refl) (stands_or m r (there g)))
 
-  dropped_walks : (m : Machine) (this : ℕ) (kind : Kind) (b : Bool) → Has (handles_of origin) this → kind_at m.table this ≡ Some kind → NoBindStands m.store.standing
-      → Walks law (Starts m Unused) OverWith (drop_taken m (own_of line) (if b then (Ok kind, without_handle m.table this) else (Err (Trap HasChildren), m.table)))
+  dropped_walks : (m : Machine) (this : ℕ) (kind : Kind) (b : Bool) → Has (handles_of origin) this → kind_at m.table this ≡ Some kind → NoStartStands m.store.standing
+      → Walks law (Starts m Unused) OverWith (drop_taken m (first_ids line) (if b then (Ok kind, without_handle m.table this) else (Err (Trap HasChildren), m.table)))
   dropped_walks m this kind false named e q = gives _ (Spends _ refl)
   dropped_walks m this (Tcp2 place) true named e q =
       let now : Machine = record m { table = without_handle m.table this } in
-      move (Reaches _ this place named (ap record_of e)) (move (Takes _ this) (and_then (release_at_walks now place (slice_get m.store.sockets place) refl q) (λ done. gives _ (Leaves _))))
+      move (Reaches _ this place named (ap record_of e)) (move (Takes _ this) (and_then (release_at_walks now place (tcp2_at m.store.records place) refl q) (λ done. gives _ (Leaves _))))
   dropped_walks m this Network true named e q = move (Takes _ this) (gives _ (Spends _ refl))
   dropped_walks m this (Input place) true named e q = move (Takes _ this) (gives _ (Spends _ refl))
   dropped_walks m this (Output place) true named e q =
       let now : Machine = record m { table = without_handle m.table this } in
-      move (Reaches _ this place named (ap record_of e)) (move (Takes _ this) (move (Spends _ refl) (and_then (drop_output_walks line place now (slice_get m.store.sockets place) refl) (λ done. gives _ (Leaves _)))))
+      move (Reaches _ this place named (ap record_of e)) (move (Takes _ this) (move (Spends _ refl) (and_then (drop_output_walks (first_ids line) place now (tcp2_at m.store.records place) refl) (λ done. gives _ (Leaves _)))))
   dropped_walks m this (Pollable w) true named e q = move (Takes _ this) (gives _ (Spends _ refl))
   dropped_walks m this ErrorValue true named e q = move (Takes _ this) (gives _ (Spends _ refl))
 
-  pub drop_walks : (m : Machine) (this : ℕ) (k : Option Kind) → Has (handles_of origin) this → kind_at m.table this ≡ k → NoBindStands m.store.standing → Walks law (Starts m Unused) OverWith (drop_taken m (own_of line) (taken_out m.table this k))
+  pub drop_walks : (m : Machine) (this : ℕ) (k : Option Kind) → Has (handles_of origin) this → kind_at m.table this ≡ k → NoStartStands m.store.standing → Walks law (Starts m Unused) OverWith (drop_taken m (first_ids line) (taken_out m.table this k))
   drop_walks m this None named e q = gives _ (Spends _ refl)
   drop_walks m this (Some kind) named e q = dropped_walks m this kind (has_no_child m.table this) named e q
 
@@ -256,19 +259,19 @@ module _ {contexts : List WasiSocketsCtx} {line : ℕ} {origin : Step} {law : La
   turned_walks here r None e = give _
   turned_walks here r (Some s) e = and_then (turn here r s e) (λ done. give _)
 
-  turn_at_walks : (m : Machine) (sockets : List Tcp2Socket) (place : ℕ) (o : Option Tcp2Socket) → slice_get sockets place ≡ o → Walks law (Sets m sockets) (Sets m) (turn_at sockets place o)
-  turn_at_walks m sockets place None g = give _
-  turn_at_walks m sockets place (Some r) g = from (put_same (Sets m sockets) place r g) (and_then (turned_walks (there {h = Sets m sockets} g) r r.streams refl) (λ now. give _))
+  turn_at_walks : (m : Machine) (records : List Record) (place : ℕ) (o : Option Tcp2Socket) → tcp2_at records place ≡ o → Walks law (Sets m records) (Sets m) (turn_at records place o)
+  turn_at_walks m records place None g = give _
+  turn_at_walks m records place (Some r) g = from (put_same (Sets m records) place r g) (and_then (turned_walks (there {h = Sets m records} g) r r.streams refl) (λ now. give _))
 
-  turn_job_walks : (m : Machine) (sockets : List Tcp2Socket) (job : HostJob) → Walks law (Sets m sockets) (Sets m) (turn_job sockets job)
-  turn_job_walks m sockets (Write place) = turn_at_walks m sockets place (slice_get sockets place) refl
+  turn_job_walks : (m : Machine) (records : List Record) (job : HostJob) → Walks law (Sets m records) (Sets m) (turn_job records job)
+  turn_job_walks m records (Write place) = turn_at_walks m records place (tcp2_at records place) refl
 
-  turn_jobs_walks : (m : Machine) (jobs : List HostJob) (sockets : List Tcp2Socket) → Walks law (Sets m sockets) (Sets m) (turn_jobs jobs sockets)
-  turn_jobs_walks m [] sockets = give _
-  turn_jobs_walks m (job ∷ jobs) sockets = and_then (turn_job_walks m sockets job) (turn_jobs_walks m jobs)
+  turn_jobs_walks : (m : Machine) (jobs : List HostJob) (records : List Record) → Walks law (Sets m records) (Sets m) (turn_jobs jobs records)
+  turn_jobs_walks m [] records = give _
+  turn_jobs_walks m (job ∷ jobs) records = and_then (turn_job_walks m records job) (turn_jobs_walks m jobs)
 
   pub turn_walks : (m : Machine) → Walks law (Starts m Unused) OverWith (turn_machine_asks m)
-  turn_walks m = move (Spends _ refl) (and_then (and_then (turn_jobs_walks m m.store.jobs m.store.sockets) (λ sockets. gives _ (Lists _ _))) (λ done. give _))
+  turn_walks m = move (Spends _ refl) (and_then (and_then (turn_jobs_walks m m.store.jobs m.store.records) (λ records. gives _ (Lists _ _))) (λ done. give _))
 
   -- == pollables
   pub subscribe_walks : (c s : ℕ) (m : Machine) (o : Option Watched) → watched_by (kind_at m.table s) ≡ o → origin ≡ Step.Subscribe c s → Walks law (Starts m Unused) OverWith (subscribe_on m (own_of line) s o)
@@ -301,10 +304,10 @@ module _ {contexts : List WasiSocketsCtx} {line : ℕ} {origin : Step} {law : La
     ready_record_walks (Watched.Input n) r = ready_reader_walks r r.streams refl
     ready_record_walks (Watched.Output n) r = ready_writer_walks r r.streams refl
 
-  ready_at_walks : (m : Machine) (place : ℕ) (w : Watched) (o : Option Tcp2Socket) → slice_get m.store.sockets place ≡ o → Walks law (At line m place Unused) (Put line m place) (ready_at m.store (own_of line) (first_ids line) w place o)
+  ready_at_walks : (m : Machine) (place : ℕ) (w : Watched) (o : Option Tcp2Socket) → tcp2_at m.store.records place ≡ o → Walks law (At line m place Unused) (Put line m place) (ready_at m.store (own_of line) (first_ids line) w place o)
   ready_at_walks m place w None g = gives _ (Spends _ refl)
   ready_at_walks m place w (Some r) g = from (put_same (At line m place Unused) place r g) (and_then (ready_record_walks (there g) refl refl w r) (λ done. give _))
 
   pub ready_walks : (m : Machine) (p : ℕ) (o : Option Watched) → watch_of (kind_at m.table p) ≡ o → Has (handles_of origin) p → Walks law (Starts m Unused) OverWith (ready_on m (first_ids line) o)
   ready_walks m p None e named = gives _ (Spends _ refl)
-  ready_walks m p (Some w) e named = move (Reaches _ p (place_in w) named (watch_record (kind_at m.table p) w e)) (and_then (ready_at_walks m (place_in w) w (slice_get m.store.sockets (place_in w)) refl) (λ done. gives _ (Leaves _)))
+  ready_walks m p (Some w) e named = move (Reaches _ p (place_in w) named (watch_record (kind_at m.table p) w e)) (and_then (ready_at_walks m (place_in w) w (tcp2_at m.store.records (place_in w)) refl) (λ done. gives _ (Leaves _)))

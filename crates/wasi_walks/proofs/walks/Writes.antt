@@ -1,8 +1,9 @@
 -- What a step may begin to write.
 use Rattle.wasi_walks.proofs.Words.{List, Machine, None, OpId, Option, Some, Step, Streams, Tcp2Socket, WriteState, [], if◌then◌else◌, length, nat_lt}
-use Rattle.wasi_walks.proofs.Words.{output_at, slice_get, ℕ, ◌∷◌}
+use Rattle.wasi_walks.proofs.Words.{output_at, ℕ, ◌∷◌}
 use Rattle.wasi_world.specs.Sides.{is_same}
 use Rattle.wasi_walks.proofs.walks.Moves.{Own, Unused, ToWrite}
+use Rattle.wasi_host.specs.Records.{tcp2_at}
 
 -- what the writer lets a write begin
 abbrev pub may_begin : WriteState → List ℕ → Own
@@ -21,7 +22,7 @@ may_in (Some r) bytes = may_of r.streams bytes
 
 abbrev pub may_at : Machine → List ℕ → Option ℕ → Own
 may_at m bytes None = Unused
-may_at m bytes (Some place) = may_in (slice_get m.store.sockets place) bytes
+may_at m bytes (Some place) = may_in (tcp2_at m.store.records place) bytes
 
 -- the bytes that a step may begin to write
 abbrev pub may : Machine → Step → Own

@@ -1,6 +1,11 @@
 use Rattle.wasi_session.proofs.Words.{address_values, answer_reply, asks_answered, asks_end, asks_exit, bytes_fields, family_fields, given_answered}
 use Rattle.wasi_session.proofs.Words.{no_values, number_fields, pair_values, refl, reply_of, resumed_reply, stream_reply_of, triple_values}
 use Rattle.wasi_session.proofs.Words.{truth_fields}
+use Rattle.std.proofs.Common.{sym}
+use Rattle.wasi_world.specs.declared.ids.Ids.{Ids}
+use Rattle.wasi_world.proofs.Walks.{asks_at}
+use Rattle.wasi_host.specs.Machine.{drop_asks}
+use Rattle.wasi_host.specs.Views.{state_of}
 use Rattle.wasi_session.proofs.calls.call.Goals as goal
 
 pub returns-in-Network-clause-asked : goal.returns-in-Network-clause-asked
@@ -10,7 +15,7 @@ pub returns-in-TcpCreate-clause-asked : goal.returns-in-TcpCreate-clause-asked
 returns-in-TcpCreate-clause-asked g c = rw c.in-TcpCreate.is (asks_answered (reply_of number_fields) _ _ c.create_tcp_socket-made.ensures.asked c.reply_of-in-TcpCreate.ensures)
 
 pub returns-in-TcpStartBind-clause-asked : goal.returns-in-TcpStartBind-clause-asked
-returns-in-TcpStartBind-clause-asked g c = rw c.in-TcpStartBind.is (asks_answered (answer_reply c.args.ids.now.line) _ _ c.start_bind-answer.ensures.asked (rw c.start_bind-answer.ensures.ids at c.answer_reply.ensures))
+returns-in-TcpStartBind-clause-asked g c = rw c.in-TcpStartBind.is (asks_answered (answer_reply c.args.ids.now.line) _ _ (rw c.requires.first at c.start_bind-answer.ensures.asked) (rw c.start_bind-answer.ensures.ids at c.answer_reply.ensures))
 
 pub returns-in-TcpFinishBind-clause-asked : goal.returns-in-TcpFinishBind-clause-asked
 returns-in-TcpFinishBind-clause-asked g c = rw (c.in-TcpFinishBind.is, c.finish_bind-done.ensures.state) (given_answered (reply_of no_values) _ _ _ c.finish_bind-done.ensures.answer c.reply_of-in-TcpFinishBind.ensures)
@@ -22,7 +27,7 @@ pub returns-in-TcpFinishConnect-clause-asked : goal.returns-in-TcpFinishConnect-
 returns-in-TcpFinishConnect-clause-asked g c = rw c.in-TcpFinishConnect.is (asks_answered (reply_of pair_values) _ _ c.finish_connect-made.ensures.asked c.reply_of-in-TcpFinishConnect.ensures)
 
 pub returns-in-TcpStartListen-clause-asked : goal.returns-in-TcpStartListen-clause-asked
-returns-in-TcpStartListen-clause-asked g c = rw c.in-TcpStartListen.is (asks_answered (answer_reply c.args.ids.now.line) _ _ c.start_listen-answer.ensures.asked (rw c.start_listen-answer.ensures.ids at c.answer_reply-in-TcpStartListen.ensures))
+returns-in-TcpStartListen-clause-asked g c = rw c.in-TcpStartListen.is (asks_answered (answer_reply c.args.ids.now.line) _ _ (rw c.requires.first at c.start_listen-answer.ensures.asked) (rw c.start_listen-answer.ensures.ids at c.answer_reply-in-TcpStartListen.ensures))
 
 pub returns-in-TcpFinishListen-clause-asked : goal.returns-in-TcpFinishListen-clause-asked
 returns-in-TcpFinishListen-clause-asked g c = rw (c.in-TcpFinishListen.is, c.finish_listen-done.ensures.state) (given_answered (reply_of no_values) _ _ _ c.finish_listen-done.ensures.answer c.reply_of-in-TcpFinishListen.ensures)
@@ -70,7 +75,7 @@ pub returns-in-Ready-clause-asked : goal.returns-in-Ready-clause-asked
 returns-in-Ready-clause-asked g c = rw c.in-Ready.is (asks_answered (reply_of truth_fields) _ _ (rw (← c.socket_result-in-Ready.ensures, c.requires.first) at c.ready-ready.ensures.asked) c.reply_of-in-Ready.ensures)
 
 pub returns-in-Drop-clause-asked : goal.returns-in-Drop-clause-asked
-returns-in-Drop-clause-asked g c = rw c.in-Drop.is (asks_answered (answer_reply c.args.ids.now.line) _ _ (rw (← c.socket_result-in-Drop.ensures) at c.drop_handle-answer.ensures.asked) (rw c.drop_handle-answer.ensures.ids at c.answer_reply-in-Drop.ensures))
+returns-in-Drop-clause-asked g c = rw c.in-Drop.is (asks_answered (answer_reply c.args.ids.now.line) _ _ (asks_at (λ (i : Ids). drop_asks (state_of c.args.view.now) i c.in-Drop.handle) (sym c.requires.first) (rw (← c.socket_result-in-Drop.ensures) at c.drop_handle-answer.ensures.asked)) (rw c.drop_handle-answer.ensures.ids at c.answer_reply-in-Drop.ensures))
 
 pub returns-in_err-turn-in-Turn-clause-asked : goal.returns-in_err-turn-in-Turn-clause-asked
 returns-in_err-turn-in-Turn-clause-asked g c = rw c.in-Turn.is (asks_exit _ _ c.from_residual.ensures.1 c.in_err-turn-in-Turn.ensures.asked.err)

@@ -1,24 +1,21 @@
-use Rattle.wasi_session.proofs.Words.{sym, ◌∙◌, refl, err_from_is_err_and}
-use Rattle.wasi_session.proofs.OneLine.{none_done, one_bad, one_hungry, one_cut, one_trap, one_done}
+use Rattle.wasi_session.proofs.Words.{sym, ◌∙◌, refl}
+use Rattle.wasi_session.proofs.OneLine.{at_exit, none_done, one_bad, one_hungry, one_cut, one_trap, one_done}
 use Rattle.wasi_session.proofs.lines.do_line.Goals as goal
 
 pub returns-in_err-step-clause-ran : goal.returns-in_err-step-clause-ran
 returns-in_err-step-clause-ran g c =
-    let p = err_from_is_err_and c.from_residual.result c.from_residual.ensures.1 in
-    rw (p.1, p.2) (none_done _ _ _ _ _ _ _ refl)
+    at_exit c.from_residual.result c.from_residual.ensures.1 (none_done _ _ _ _ _ _ _ refl)
 
 pub returns-in_default-clause-ran : goal.returns-in_default-clause-ran
 returns-in_default-clause-ran g c = one_bad _ _ _ _ _ _ (sym c.in_ok-step.ensures ∙ c.in_default.is)
 
 pub returns-in_err-reply-clause-ran : goal.returns-in_err-reply-clause-ran
 returns-in_err-reply-clause-ran g c =
-    let p = err_from_is_err_and c.from_residual-in_err-reply.result c.from_residual-in_err-reply.ensures.1 in
-    rw (p.1, p.2) (one_hungry (sym c.in_ok-step.ensures ∙ c.in-Some.is) c.in_err-reply.ensures.asked.err c.step.ensures.sides)
+    at_exit c.from_residual-in_err-reply.result c.from_residual-in_err-reply.ensures.1 (one_hungry (sym c.in_ok-step.ensures ∙ c.in-Some.is) c.in_err-reply.ensures.asked.err c.step.ensures.sides)
 
 pub returns-in_err-text-clause-ran : goal.returns-in_err-text-clause-ran
 returns-in_err-text-clause-ran g c =
-    let p = err_from_is_err_and c.from_residual-in_err-text.result c.from_residual-in_err-text.ensures.1 in
-    rw (p.1, p.2) (one_hungry (sym c.in_ok-step.ensures ∙ c.in-Some.is) (record { rest = _; reached = c.in_ok-reply.ensures.asked.ok }) c.step.ensures.sides)
+    at_exit c.from_residual-in_err-text.result c.from_residual-in_err-text.ensures.1 (one_hungry (sym c.in_ok-step.ensures ∙ c.in-Some.is) (record { rest = _; reached = c.in_ok-reply.ensures.asked.ok }) c.step.ensures.sides)
 
 pub returns-in_default-write_all-clause-ran : goal.returns-in_default-write_all-clause-ran
 returns-in_default-write_all-clause-ran g c =

@@ -1,4 +1,5 @@
-use Rattle.wasi_session.proofs.Words.{◌∙◌, ap, Ok, err_from_is_err_and}
+use Rattle.wasi_session.proofs.Words.{◌∙◌, ap, Ok}
+use Rattle.wasi_session.proofs.OneLine.{at_exit}
 use Rattle.wasi_session.proofs.Stretches.{stays_open}
 use Rattle.wasi_session.proofs.ManyLines.{going_start, going_on, going_over, going_all, going_left, going_fits, found, found_none}
 use Rattle.wasi_session.proofs.lines.do_lines.Goals as goal
@@ -14,8 +15,7 @@ do_line-requires-clause-numbers g c = going_fits c.loop-end.invariant c.in-Some.
 
 pub returns-in_err-do_line-clause-ran : goal.returns-in_err-do_line-clause-ran
 returns-in_err-do_line-clause-ran g c =
-    let p = err_from_is_err_and c.from_residual.result c.from_residual.ensures.1 in
-    rw (p.1, p.2) (going_over c.loop-end.invariant (found c.loop-end.at c.in-Some.end c.args.bytes.now c.in-Some.ensures) tt (rw c.in_err-do_line.was at c.do_line.ensures.ran))
+    at_exit c.from_residual.result c.from_residual.ensures.1 (going_over c.loop-end.invariant (found c.loop-end.at c.in-Some.end c.args.bytes.now c.in-Some.ensures) tt (rw c.in_err-do_line.was at c.do_line.ensures.ran))
 
 pub returns-in_default-2-clause-ran : goal.returns-in_default-2-clause-ran
 returns-in_default-2-clause-ran g c =

@@ -1,9 +1,9 @@
-use Rattle.wasi_session.proofs.Words.{◌∙◌, ap, Ok, Result, refl, ◌+◌, drop, err_from_is_err_and, Seen, Writing, Machine, lines_of, lines_from}
+use Rattle.wasi_session.proofs.Words.{◌∙◌, ap, Ok, Result, refl, ◌+◌, drop, Seen, Writing, Machine, lines_of, lines_from}
 use Rattle.wasi_session.specs.declared.lines.LinesEnd.{LinesEnd}
 use Rattle.wasi_session.specs.declared.error.RunError.{RunError}
 use Rattle.wasi_session.specs.Ran.{LinesRan}
 use Rattle.wasi_session.proofs.Stretches.{stays_open}
-use Rattle.wasi_session.proofs.OneLine.{none_done}
+use Rattle.wasi_session.proofs.OneLine.{at_exit, none_done}
 use Rattle.wasi_session.proofs.Pieces.{piece_cut, piece_whole, piece_over, piece_then, piece_none, kept_none, kept_some, starved, first_within}
 use Rattle.wasi_session.proofs.lines.do_piece.Given.{Over}
 use Rattle.wasi_session.proofs.lines.do_piece.Goals as goal
@@ -16,8 +16,7 @@ others g c k =
 
 pub returns-in_err-extend_from_slice-clause-ran : goal.returns-in_err-extend_from_slice-clause-ran
 returns-in_err-extend_from_slice-clause-ran g c =
-    let p = err_from_is_err_and c.from_residual.result c.from_residual.ensures.1 in
-    rw (p.1, p.2) (none_done _ _ _ _ _ _ _ refl)
+    at_exit c.from_residual.result c.from_residual.ensures.1 (none_done _ _ _ _ _ _ _ refl)
 
 pub returns-in_default-clause-ran : goal.returns-in_default-clause-ran
 returns-in_default-clause-ran g c = piece_none _ _ _ _ _ c.args.line.now.items c.args.piece.now (piece_whole c.args.line.now.items c.args.piece.now c.in_default.ensures)
@@ -27,13 +26,11 @@ returns-in_default-clause-kept g c = λ e. kept_none _ c.args.line.now.items c.a
 
 pub returns-in_err-extend_from_slice-2-clause-ran : goal.returns-in_err-extend_from_slice-2-clause-ran
 returns-in_err-extend_from_slice-2-clause-ran g c =
-    let p = err_from_is_err_and c.from_residual-in_err-extend_from_slice-2.result c.from_residual-in_err-extend_from_slice-2.ensures.1 in
-    rw (p.1, p.2) (none_done _ _ _ _ _ _ _ refl)
+    at_exit c.from_residual-in_err-extend_from_slice-2.result c.from_residual-in_err-extend_from_slice-2.ensures.1 (none_done _ _ _ _ _ _ _ refl)
 
 pub returns-in_err-do_line-clause-ran : goal.returns-in_err-do_line-clause-ran
 returns-in_err-do_line-clause-ran g c =
-    let p = err_from_is_err_and c.from_residual-in_err-do_line.result c.from_residual-in_err-do_line.ensures.1 in
-    rw (p.1, p.2) (piece_over (piece_cut c.args.line.now.items c.args.piece.now c.in-Some.end c.in-Some.ensures) tt (rw (c.as_slice.ensures.value, c.in_ok-extend_from_slice-2.ensures.items, c.in_err-do_line.was) at c.do_line.ensures.ran))
+    at_exit c.from_residual-in_err-do_line.result c.from_residual-in_err-do_line.ensures.1 (piece_over (piece_cut c.args.line.now.items c.args.piece.now c.in-Some.end c.in-Some.ensures) tt (rw (c.as_slice.ensures.value, c.in_ok-extend_from_slice-2.ensures.items, c.in_err-do_line.was) at c.do_line.ensures.ran))
 
 pub returns-in_default-2-clause-ran : goal.returns-in_default-2-clause-ran
 returns-in_default-2-clause-ran g c =
@@ -47,8 +44,7 @@ do_lines-requires-clause-within g c = first_within c.args.line.now.items c.args.
 
 pub returns-in_err-do_lines-clause-ran : goal.returns-in_err-do_lines-clause-ran
 returns-in_err-do_lines-clause-ran g c =
-    let p = err_from_is_err_and c.from_residual-in_err-do_lines.result c.from_residual-in_err-do_lines.ensures.1 in
-    rw (p.1, p.2) (others g (goal.at.returns-in_err-do_lines-clause-ran g c).In-AllDone (rw c.in_err-do_lines.was at c.do_lines.ensures.ran))
+    at_exit c.from_residual-in_err-do_lines.result c.from_residual-in_err-do_lines.ensures.1 (others g (goal.at.returns-in_err-do_lines-clause-ran g c).In-AllDone (rw c.in_err-do_lines.was at c.do_lines.ensures.ran))
 
 pub returns-in_default-3-clause-ran : goal.returns-in_default-3-clause-ran
 returns-in_default-3-clause-ran g c = others g (goal.at.returns-in_default-3-clause-ran g c).In-AllDone (rw (c.in_ok-do_lines.was, c.in_default-3.is) at c.do_lines.ensures.ran)
@@ -58,8 +54,7 @@ returns-clause-ran g c = others g (goal.at.returns-clause-ran g c).In-AllDone (r
 
 pub returns-in_err-extend_from_slice-3-clause-ran : goal.returns-in_err-extend_from_slice-3-clause-ran
 returns-in_err-extend_from_slice-3-clause-ran g c =
-    let p = err_from_is_err_and c.from_residual-in_err-extend_from_slice-3.result c.from_residual-in_err-extend_from_slice-3.ensures.1 in
-    rw (p.1, p.2) (starved (others g (goal.at.returns-in_err-extend_from_slice-3-clause-ran g c).In-AllDone (rw (c.in_ok-do_lines.was, c.in-AllDone-2.is) at c.do_lines.ensures.ran)))
+    at_exit c.from_residual-in_err-extend_from_slice-3.result c.from_residual-in_err-extend_from_slice-3.ensures.1 (starved (others g (goal.at.returns-in_err-extend_from_slice-3-clause-ran g c).In-AllDone (rw (c.in_ok-do_lines.was, c.in-AllDone-2.is) at c.do_lines.ensures.ran)))
 
 pub returns-clause-kept : goal.returns-clause-kept
 returns-clause-kept g c = λ e.

@@ -1,11 +1,12 @@
-use Rattle.std.proofs.Common.{List, Err, refl, sym, ap, slice_set}
+use Rattle.std.proofs.Common.{List, Err, refl, sym, ap}
 use Rattle.wasi_addr.specs.declared.p2.ErrorCode.TheVariants.{WouldBlock}
 use Rattle.wasi_world.specs.declared.outcome.TrapKind.TheVariants.{NoSuchHandle}
 use Rattle.wasi_world.specs.Asks.{Give}
 use Rattle.wasi_world.proofs.Walks.{asks_end, asks_given}
-use Rattle.wasi_host.specs.declared.socket.Tcp2Socket.{Tcp2Socket}
+use Rattle.wasi_host.specs.Records.{tcp2_put}
+use Rattle.wasi_host.specs.declared.records.Record.{Record}
 use Rattle.wasi_host.specs.Host.{Code, Trap, code_stop, host_outcome}
-use Rattle.wasi_host.specs.Listening.{with_accepted_in, with_sockets}
+use Rattle.wasi_host.specs.Listening.{with_accepted_in, with_records}
 use Rattle.wasi_host.specs.Store.{Records}
 use Rattle.wasi_host.proofs.AcceptedRecords.{knows_accepted, found_still, none_still, names_left}
 use Rattle.wasi_host.proofs.ConnectCounts.{knows_polled}
@@ -17,68 +18,68 @@ returns-in_err-reserve-clause-asked g c = host_none c.from_residual.result c.fro
 
 pub returns-in_default-clause-asked : goal.returns-in_default-clause-asked
 returns-in_default-clause-asked g c =
-    let store : Records = record { sockets = c.self.inside.sockets.items; jobs = c.self.inside.jobs.items; standing = c.self.inside.standing } in
-    rw (← c.self.view_is, none_still c.reserve.new.self.items c.self.inside.sockets.items c.args.place c.reserve.ensures.items c.in_default.ensures.item)
-    (asks_given _ _ refl (ap (λ (l : List Tcp2Socket). Give (Err (Trap NoSuchHandle), record store { sockets = l })) (sym {A = List Tcp2Socket} c.reserve.ensures.items)))
+    let store : Records = record { records = c.self.inside.records.items; jobs = c.self.inside.jobs.items; standing = c.self.inside.standing } in
+    rw (← c.self.view_is, none_still c.reserve.new.self.items c.self.inside.records.items c.args.place c.reserve.ensures.items c.in_default.ensures.item)
+    (asks_given _ _ refl (ap (λ (l : List Record). Give (Err (Trap NoSuchHandle), record store { records = l })) (sym {A = List Record} c.reserve.ensures.items)))
 
 pub returns-in_default-clause-names : goal.returns-in_default-clause-names
-returns-in_default-clause-names g c = rw (← c.self.view_is, none_still c.reserve.new.self.items c.self.inside.sockets.items c.args.place c.reserve.ensures.items c.in_default.ensures.item) refl
+returns-in_default-clause-names g c = rw (← c.self.view_is, none_still c.reserve.new.self.items c.self.inside.records.items c.args.place c.reserve.ensures.items c.in_default.ensures.item) refl
 
 pub returns-in_err-answer-clause-asked : goal.returns-in_err-answer-clause-asked
 returns-in_err-answer-clause-asked g c =
-    let store : Records = record { sockets = c.self.inside.sockets.items; jobs = c.self.inside.jobs.items; standing = c.self.inside.standing } in
-    let found = found_still c.reserve.new.self.items c.self.inside.sockets.items c.args.place c.in-Some.record c.reserve.ensures.items c.in-Some.ensures.item in
+    let store : Records = record { records = c.self.inside.records.items; jobs = c.self.inside.jobs.items; standing = c.self.inside.standing } in
+    let found = found_still c.reserve.new.self.items c.self.inside.records.items c.args.place c.in-Some.record c.reserve.ensures.items c.in-Some.ensures.item in
     rw (← c.self.view_is, found)
     (host_refused _ _ c.from_residual-in_err-answer.result c.from_residual-in_err-answer.ensures.1 c.in_err-answer.ensures.asked
-    (λ code. ap (λ (l : List Tcp2Socket). Give (Err (code_stop code), record store { sockets = slice_set l c.args.place c.poll_accept.new.self })) (sym {A = List Tcp2Socket} c.reserve.ensures.items)))
+    (λ code. ap (λ (l : List Record). Give (Err (code_stop code), record store { records = tcp2_put l c.args.place c.poll_accept.new.self })) (sym {A = List Record} c.reserve.ensures.items)))
 
 pub returns-in_err-answer-clause-sides : goal.returns-in_err-answer-clause-sides
 returns-in_err-answer-clause-sides g c = λ k.
-    let store : Records = record { sockets = c.self.inside.sockets.items; jobs = c.self.inside.jobs.items; standing = c.self.inside.standing } in
-    let found = found_still c.reserve.new.self.items c.self.inside.sockets.items c.args.place c.in-Some.record c.reserve.ensures.items c.in-Some.ensures.item in
+    let store : Records = record { records = c.self.inside.records.items; jobs = c.self.inside.jobs.items; standing = c.self.inside.standing } in
+    let found = found_still c.reserve.new.self.items c.self.inside.records.items c.args.place c.in-Some.record c.reserve.ensures.items c.in-Some.ensures.item in
     rw c.reserve.ensures.items
     (knows_polled store c.args.place c.in-Some.record.now c.poll_accept.new.self found c.in_err-answer.ensures.sides (rw (← c.self.view_is) at k))
 
 pub returns-in_err-answer-clause-names : goal.returns-in_err-answer-clause-names
 returns-in_err-answer-clause-names g c =
-    let found = found_still c.reserve.new.self.items c.self.inside.sockets.items c.args.place c.in-Some.record c.reserve.ensures.items c.in-Some.ensures.item in
-    rw (← c.self.view_is) (names_left (host_outcome c.from_residual-in_err-answer.result) c.self.inside.sockets.items c.args.place c.args.ids.now c.poll_accept.new.ids c.in-Some.record.now found c.poll_accept.ensures.ids)
+    let found = found_still c.reserve.new.self.items c.self.inside.records.items c.args.place c.in-Some.record c.reserve.ensures.items c.in-Some.ensures.item in
+    rw (← c.self.view_is) (names_left (host_outcome c.from_residual-in_err-answer.result) c.self.inside.records.items c.args.place c.args.ids.now c.poll_accept.new.ids c.in-Some.record.now found c.poll_accept.ensures.ids)
 
 pub returns-in-Pending-clause-asked : goal.returns-in-Pending-clause-asked
 returns-in-Pending-clause-asked g c =
-    let store : Records = record { sockets = c.self.inside.sockets.items; jobs = c.self.inside.jobs.items; standing = c.self.inside.standing } in
-    let found = found_still c.reserve.new.self.items c.self.inside.sockets.items c.args.place c.in-Some.record c.reserve.ensures.items c.in-Some.ensures.item in
+    let store : Records = record { records = c.self.inside.records.items; jobs = c.self.inside.jobs.items; standing = c.self.inside.standing } in
+    let found = found_still c.reserve.new.self.items c.self.inside.records.items c.args.place c.in-Some.record c.reserve.ensures.items c.in-Some.ensures.item in
     rw (← c.self.view_is, found)
     (asks_end _ (rw c.in-Pending.is at c.in_ok-answer.ensures.asked.ok)
-    (ap (λ (l : List Tcp2Socket). Give (Err (Code WouldBlock), record store { sockets = slice_set l c.args.place c.poll_accept.new.self })) (sym {A = List Tcp2Socket} c.reserve.ensures.items)))
+    (ap (λ (l : List Record). Give (Err (Code WouldBlock), record store { records = tcp2_put l c.args.place c.poll_accept.new.self })) (sym {A = List Record} c.reserve.ensures.items)))
 
 pub returns-in-Pending-clause-sides : goal.returns-in-Pending-clause-sides
 returns-in-Pending-clause-sides g c = λ k.
-    let store : Records = record { sockets = c.self.inside.sockets.items; jobs = c.self.inside.jobs.items; standing = c.self.inside.standing } in
-    let found = found_still c.reserve.new.self.items c.self.inside.sockets.items c.args.place c.in-Some.record c.reserve.ensures.items c.in-Some.ensures.item in
+    let store : Records = record { records = c.self.inside.records.items; jobs = c.self.inside.jobs.items; standing = c.self.inside.standing } in
+    let found = found_still c.reserve.new.self.items c.self.inside.records.items c.args.place c.in-Some.record c.reserve.ensures.items c.in-Some.ensures.item in
     rw c.reserve.ensures.items
     (knows_polled store c.args.place c.in-Some.record.now c.poll_accept.new.self found (rw c.in-Pending.is at c.in_ok-answer.ensures.sides) (rw (← c.self.view_is) at k))
 
 pub returns-in-Pending-clause-names : goal.returns-in-Pending-clause-names
 returns-in-Pending-clause-names g c =
-    let found = found_still c.reserve.new.self.items c.self.inside.sockets.items c.args.place c.in-Some.record c.reserve.ensures.items c.in-Some.ensures.item in
+    let found = found_still c.reserve.new.self.items c.self.inside.records.items c.args.place c.in-Some.record c.reserve.ensures.items c.in-Some.ensures.item in
     rw (← c.self.view_is, found) c.poll_accept.ensures.ids
 
 pub returns-in-Ready-clause-asked : goal.returns-in-Ready-clause-asked
 returns-in-Ready-clause-asked g c =
-    let store : Records = record { sockets = c.self.inside.sockets.items; jobs = c.self.inside.jobs.items; standing = c.self.inside.standing } in
-    let found = found_still c.reserve.new.self.items c.self.inside.sockets.items c.args.place c.in-Some.record c.reserve.ensures.items c.in-Some.ensures.item in
-    rw (← c.self.view_is, found, c.keep_accepted.ensures.told, c.keep_accepted.ensures.sockets)
+    let store : Records = record { records = c.self.inside.records.items; jobs = c.self.inside.jobs.items; standing = c.self.inside.standing } in
+    let found = found_still c.reserve.new.self.items c.self.inside.records.items c.args.place c.in-Some.record c.reserve.ensures.items c.in-Some.ensures.item in
+    rw (← c.self.view_is, found, c.keep_accepted.ensures.told, c.keep_accepted.ensures.records)
     (asks_end _ (rw c.in-Ready.is at c.in_ok-answer.ensures.asked.ok)
-    (ap (λ (l : List Tcp2Socket). Give (with_sockets store (with_accepted_in (slice_set l c.args.place c.poll_accept.new.self) c.in-Ready.socket))) (sym {A = List Tcp2Socket} c.reserve.ensures.items)))
+    (ap (λ (l : List Record). Give (with_records store (with_accepted_in (tcp2_put l c.args.place c.poll_accept.new.self) c.in-Ready.socket))) (sym {A = List Record} c.reserve.ensures.items)))
 
 pub returns-in-Ready-clause-sides : goal.returns-in-Ready-clause-sides
 returns-in-Ready-clause-sides g c = λ k.
-    let store : Records = record { sockets = c.self.inside.sockets.items; jobs = c.self.inside.jobs.items; standing = c.self.inside.standing } in
-    let found = found_still c.reserve.new.self.items c.self.inside.sockets.items c.args.place c.in-Some.record c.reserve.ensures.items c.in-Some.ensures.item in
-    knows_accepted store c.args.place c.in-Some.record.now c.poll_accept.new.self c.in-Ready.socket c.reserve.new.self.items c.keep_accepted.new.sockets.items c.reserve.ensures.items c.keep_accepted.ensures.sockets found (rw c.in-Ready.is at c.in_ok-answer.ensures.accepted) (rw c.in-Ready.is at c.in_ok-answer.ensures.sides) (rw (← c.self.view_is) at k)
+    let store : Records = record { records = c.self.inside.records.items; jobs = c.self.inside.jobs.items; standing = c.self.inside.standing } in
+    let found = found_still c.reserve.new.self.items c.self.inside.records.items c.args.place c.in-Some.record c.reserve.ensures.items c.in-Some.ensures.item in
+    knows_accepted store c.args.place c.in-Some.record.now c.poll_accept.new.self c.in-Ready.socket c.reserve.new.self.items c.keep_accepted.new.records.items c.reserve.ensures.items c.keep_accepted.ensures.records found (rw c.in-Ready.is at c.in_ok-answer.ensures.accepted) (rw c.in-Ready.is at c.in_ok-answer.ensures.sides) (rw (← c.self.view_is) at k)
 
 pub returns-in-Ready-clause-names : goal.returns-in-Ready-clause-names
 returns-in-Ready-clause-names g c =
-    let found = found_still c.reserve.new.self.items c.self.inside.sockets.items c.args.place c.in-Some.record c.reserve.ensures.items c.in-Some.ensures.item in
-    rw (← c.self.view_is) (names_left (host_outcome c.keep_accepted.result) c.self.inside.sockets.items c.args.place c.args.ids.now c.poll_accept.new.ids c.in-Some.record.now found c.poll_accept.ensures.ids)
+    let found = found_still c.reserve.new.self.items c.self.inside.records.items c.args.place c.in-Some.record c.reserve.ensures.items c.in-Some.ensures.item in
+    rw (← c.self.view_is) (names_left (host_outcome c.keep_accepted.result) c.self.inside.records.items c.args.place c.args.ids.now c.poll_accept.new.ids c.in-Some.record.now found c.poll_accept.ensures.ids)

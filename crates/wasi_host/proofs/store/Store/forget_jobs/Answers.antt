@@ -10,4 +10,4 @@ use Rattle.wasi_host.proofs.store.Store.forget_jobs.Goals as goal
 pub returns : goal.returns
 returns c =
     let kept : c.retain.new.self.items ≡ filter (λ job. not (is_on c.args.place job)) c.self.inside.jobs.items = filter_same _ _ _ (λ x b f k. search rules) _ _ c.retain.ensures.filtered in
-    rw (← c.self.view_is) (ap (λ (jobs : List HostJob). let store : Records = record { sockets = c.self.inside.sockets.items; jobs = jobs; standing = c.self.inside.standing } in store) (kept ∙ other_jobs-filter c.args.place c.self.inside.jobs.items))
+    rw (← c.self.view_is) (ap (λ (jobs : List HostJob). let store : Records = record { records = c.self.inside.records.items; jobs = jobs; standing = c.self.inside.standing } in store) (kept ∙ other_jobs-filter c.args.place c.self.inside.jobs.items))

@@ -9,5 +9,5 @@ use Rattle.wasi_host.proofs.store.Store.settle_jobs.Goals as goal
 
 pub returns : goal.returns
 returns c =
-    let kept : c.retain.new.self.items ≡ filter (is_going c.self.inside.sockets.items) c.self.inside.jobs.items = filter_same _ _ _ (λ x b f k. search rules) _ _ c.retain.ensures.filtered in
-    rw (← c.self.view_is) (ap (λ (jobs : List HostJob). let store : Records = record { sockets = c.self.inside.sockets.items; jobs = jobs; standing = c.self.inside.standing } in store) (kept ∙ still_going-filter c.self.inside.sockets.items c.self.inside.jobs.items))
+    let kept : c.retain.new.self.items ≡ filter (is_going c.self.inside.records.items) c.self.inside.jobs.items = filter_same _ _ _ (λ x b f k. search rules) _ _ c.retain.ensures.filtered in
+    rw (← c.self.view_is) (ap (λ (jobs : List HostJob). let store : Records = record { records = c.self.inside.records.items; jobs = jobs; standing = c.self.inside.standing } in store) (kept ∙ still_going-filter c.self.inside.records.items c.self.inside.jobs.items))

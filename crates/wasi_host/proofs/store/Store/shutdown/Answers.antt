@@ -8,16 +8,16 @@ use Rattle.wasi_host.proofs.Lookups.{found_at, none_at}
 use Rattle.wasi_host.proofs.store.Store.shutdown.Goals as goal
 
 pub returns-in_default-clause-asked : goal.returns-in_default-clause-asked
-returns-in_default-clause-asked g c = rw (← c.self.view_is, none_at c.self.inside.sockets.items c.args.place c.in_default.ensures.item) (asks_given _ _ refl refl)
+returns-in_default-clause-asked g c = rw (← c.self.view_is, none_at c.self.inside.records.items c.args.place c.in_default.ensures.item) (asks_given _ _ refl refl)
 
 pub returns-clause-asked : goal.returns-clause-asked
 returns-clause-asked g c =
-    let store : Records = record { sockets = c.self.inside.sockets.items; jobs = c.self.inside.jobs.items; standing = c.self.inside.standing } in
-    rw (← c.self.view_is, found_at c.self.inside.sockets.items c.args.place c.in-Some.record c.in-Some.ensures.item)
+    let store : Records = record { records = c.self.inside.records.items; jobs = c.self.inside.jobs.items; standing = c.self.inside.standing } in
+    rw (← c.self.view_is, found_at c.self.inside.records.items c.args.place c.in-Some.record c.in-Some.ensures.item)
     (asks_gives (shut_put store c.args.place) c.shutdown.ensures.asked)
 
 pub returns-clause-sides : goal.returns-clause-sides
 returns-clause-sides g c = λ k.
     knows_asked Any _ _ _ (calm_shut_record c.args.op c.args.how c.in-Some.record.now c.in-Some.record.now.streams) c.shutdown.ensures.asked
-    (held_in-set c.self.inside.sockets.items c.args.place c.in-Some.record.now c.shutdown.new.self (found_at c.self.inside.sockets.items c.args.place c.in-Some.record c.in-Some.ensures.item) c.shutdown.ensures.side c.shutdown.ensures.listening)
+    (held_in-set c.self.inside.records.items c.args.place c.in-Some.record.now c.shutdown.new.self (found_at c.self.inside.records.items c.args.place c.in-Some.record c.in-Some.ensures.item) c.shutdown.ensures.side c.shutdown.ensures.listening)
     (rw (← c.self.view_is) at k)

@@ -12,8 +12,8 @@ use Rattle.wasi_host.proofs.store.Store.write.Goals as goal
 
 pub returns-in_default-clause-asked : goal.returns-in_default-clause-asked
 returns-in_default-clause-asked g c =
-    let store : Records = record { sockets = c.self.inside.sockets.items; jobs = c.self.inside.jobs.items; standing = c.self.inside.standing } in
-    let none = none_at c.self.inside.sockets.items c.args.place c.in_default.ensures.item in
+    let store : Records = record { records = c.self.inside.records.items; jobs = c.self.inside.jobs.items; standing = c.self.inside.standing } in
+    let none = none_at c.self.inside.records.items c.args.place c.in_default.ensures.item in
     rw (← c.self.view_is, c.reserve.ensures.items) (asks_at (write_at store c.args.place (writer_asks (λ w. write_state_asks c.args.op w c.args.bytes))) none (asks_given _ _ refl (noted_none store c.args.place (writer_asks (λ w. write_state_asks c.args.op w c.args.bytes)) none)))
 
 pub returns-in_err-reserve-clause-asked : goal.returns-in_err-reserve-clause-asked
@@ -21,13 +21,13 @@ returns-in_err-reserve-clause-asked g c = stream_none c.from_residual.result c.f
 
 pub returns-clause-asked : goal.returns-clause-asked
 returns-clause-asked g c =
-    let store : Records = record { sockets = c.self.inside.sockets.items; jobs = c.self.inside.jobs.items; standing = c.self.inside.standing } in
-    let found = found_at c.self.inside.sockets.items c.args.place c.in-Some.record c.in-Some.ensures.item in
+    let store : Records = record { records = c.self.inside.records.items; jobs = c.self.inside.jobs.items; standing = c.self.inside.standing } in
+    let found = found_at c.self.inside.records.items c.args.place c.in-Some.record c.in-Some.ensures.item in
     let is = noted_as store c.args.place c.in-Some.record.now c.write_noting-written.new.self c.write_noting-written.result.1 c.note_job.new.jobs.items found c.write_noting-written.ensures.begins (rw c.reserve.ensures.items at c.note_job.ensures) in
     rw (← c.self.view_is, found, ← is) (asks_gives (noted c.args.place (Some c.in-Some.record.now)) (asks_gives (with_record_put store c.args.place) c.write_noting-written.ensures.asked))
 
 pub returns-clause-sides : goal.returns-clause-sides
 returns-clause-sides g c = λ k.
     knows_asked Any _ _ _ (calm_writer _ c.in-Some.record.now (λ w. calm_write c.args.op w c.args.bytes)) c.write_noting-written.ensures.asked
-    (held_in-set c.self.inside.sockets.items c.args.place c.in-Some.record.now c.write_noting-written.new.self (found_at c.self.inside.sockets.items c.args.place c.in-Some.record c.in-Some.ensures.item) c.write_noting-written.ensures.side c.write_noting-written.ensures.listening)
+    (held_in-set c.self.inside.records.items c.args.place c.in-Some.record.now c.write_noting-written.new.self (found_at c.self.inside.records.items c.args.place c.in-Some.record c.in-Some.ensures.item) c.write_noting-written.ensures.side c.write_noting-written.ensures.listening)
     (rw (← c.self.view_is) at k)

@@ -1,0 +1,16 @@
+-- The types of records as the logic holds them, for the clauses on what a `&mut` lends.
+use denote.RattleType.{RattleType}
+use Rattle.std.specs.contracts.alloc.Global as global
+use Rattle.std.specs.contracts.vec.Vec as vec
+use Rattle.std.specs.contracts.impls.GlobalAllocator.TheImpl.{ghosts}
+use Rattle.wasi_host.specs.contracts.records.Record as rec
+use Rattle.wasi_host.specs.contracts.socket.Tcp2Socket as socket
+
+abbrev pub record_row : RattleType
+record_row = rec.the_row
+
+abbrev pub socket_row : RattleType
+socket_row = socket.the_row
+
+abbrev pub records_row : RattleType
+records_row = vec.the_row rec.the_row global.the_row ghosts
