@@ -1,0 +1,10 @@
+pub mod Shape
+pub mod Socket
+pub mod Create
+pub mod Bind
+pub mod Connect
+pub mod Options
+pub mod Send
+pub mod Receive
+pub mod Late
+pub mod Given

@@ -1,0 +1,33 @@
+//! What is read from addresses.
+
+ghost use Rattle.std.specs.Prelude.{◌≡◌};
+ghost use Rattle.wasi_addr.specs.Address.{same_address};
+ghost use Rattle.wasi_world.specs.Operation.{remote_told};
+
+use wasi_addr::{ErrorCode, IpSocketAddress, SocketAddressFamily, is_unspecified_addr};
+
+/// The remote address that is kept of what the network reports: none after a code, or the wildcard.
+pub(crate) fn remote_told(
+    told: Result<IpSocketAddress, ErrorCode>,
+    family: SocketAddressFamily,
+) -> Option<IpSocketAddress>
+    ensures { result ≡ remote_told family told }
+{
+    match told {
+        Ok(addr) => {
+            if is_unspecified_addr(addr, family) {
+                None
+            } else {
+                Some(addr)
+            }
+        }
+        Err(_) => None,
+    }
+}
+
+/// Whether two addresses are the same, port, flow info and scope too.
+pub(crate) fn same_address(a: IpSocketAddress, b: IpSocketAddress) -> bool
+    ensures { result ≡ same_address a b }
+{
+    a == b
+}

@@ -1,0 +1,209 @@
+//! A create that is polled. Where it is refused it closes its network socket last.
+
+ghost use Rattle.std.specs.Prelude.{◌≡◌, true, false, OnErr, IfOk};
+ghost use Rattle.wasi_world.specs.Asks.{AsksFor, Reaches, outcome};
+ghost use Rattle.wasi_world.specs.Operation.{PollsFor, Nothing};
+ghost use Rattle.wasi_common.specs.Rounds.{is_going, stays_going};
+ghost use Rattle.wasi_udp.specs.Create.{create_operation, create_at, new_asks, create_told, create_poll_asks, create_cancel_asks, IsCreate};
+
+use crate::socket::UdpSocket;
+use std::alloc::AllocError;
+use std::marker::Model;
+use wasi_addr::{ErrorCode, SocketAddressFamily};
+use wasi_common::Asker;
+use wasi_world::asks::Polled;
+use wasi_world::{Answer, OpId, Refusal, Sock, WasiSocketsCtx, World, asks};
+
+/// The ask that comes next.
+#[derive(Clone, Copy, Debug, PartialEq, Eq)]
+pub enum CreateStage {
+    /// The network socket is waited for.
+    Writable,
+    /// Refused with this code, and to be closed.
+    Close(ErrorCode),
+    /// It ended, with a socket or with a code.
+    Over,
+}
+
+/// A create that has begun (`create-udp-socket`): the network socket was made, and is waited for.
+#[derive(Drop)]
+pub struct CreateOp {
+    asker: Asker,
+    family: SocketAddressFamily,
+    stage: CreateStage,
+}
+
+impl Model for CreateOp {
+    ghost use Rattle.wasi_udp.specs.Create.{Create, create_at};
+
+    ghost Value = { Create };
+
+    ghost view = { λ o. create_at o.asker o.family o.stage };
+}
+
+impl UdpSocket {
+    /// Begins to make a socket, where the context may use UDP; else `AccessDenied` without a call. The network socket is
+    /// made now, and `CreateOp::poll` waits for it. A code that is reported is returned. After running out of memory
+    /// nothing was asked.
+    pub fn new<W: World>(
+        world: &mut W,
+        op: OpId,
+        ctx: &WasiSocketsCtx,
+        family: SocketAddressFamily,
+    ) -> Result<CreateOp, Refusal>
+        requires { (W.seen world.old).ended ≡ false }
+        ensures asked { AsksFor (new_asks op ctx.now family) (W.seen world.old) (W.seen world.new) (λ begun. begun) (outcome result) }
+        ensures side { IfOk result (λ begun. begun.operation.who.side ≡ op) }
+        ensures going { IfOk result (λ begun. is_going begun.operation ≡ true) }
+        ensures unasked { OnErr (outcome result) (W.seen world.new ≡ W.seen world.old) }
+        ensures open { (W.seen world.new).ended ≡ false }
+    {
+        if !ctx.udp {
+            return Err(Refusal::Code(ErrorCode::AccessDenied));
+        }
+        let told = asks::udp_create(world, op, ctx.name, family)?;
+        match told {
+            Ok(()) => Ok(CreateOp {
+                asker: Asker {
+                    op,
+                    side: op,
+                    maker: ctx.name,
+                },
+                family,
+                stage: CreateStage::Writable,
+            }),
+            Err(code) => Err(Refusal::Code(code)),
+        }
+    }
+}
+
+impl CreateOp {
+    /// The network socket that it made; takes no memory.
+    pub fn side(&self) -> Sock
+        ensures side { result ≡ self.now.operation.who.side }
+        ensures create { IsCreate self.now.operation }
+    {
+        self.asker.side
+    }
+
+    /// Whether an ask is left.
+    fn is_going(&self) -> bool
+        ensures going { result ≡ is_going self.now.operation }
+        ensures create { IsCreate self.now.operation }
+    {
+        match self.stage {
+            CreateStage::Writable | CreateStage::Close(_) => true,
+            CreateStage::Over => false,
+        }
+    }
+
+    /// Waits for the network socket, and gives the socket then. A code is answered, after the network socket is closed.
+    /// After running out of memory it is as after its last answered ask, and may be polled again. After an answer that is
+    /// pending, and after running out of memory, there is an ask left; else it is over. One that is over: `InvalidState`,
+    /// without an ask.
+    pub fn poll<W: World>(&mut self, world: &mut W) -> Result<Answer<UdpSocket>, Refusal>
+        requires { (W.seen world.old).ended ≡ false }
+        ensures asked { AsksFor (create_poll_asks self.old) (W.seen world.old) (W.seen world.new) (λ answer. (answer, self.new)) (outcome result) }
+        ensures err { OnErr (outcome result) (Reaches (create_poll_asks self.old) (create_poll_asks self.new) (W.seen world.old) (W.seen world.new)) }
+        ensures going { is_going self.new.operation ≡ stays_going result }
+        ensures before { IsCreate self.old.operation }
+        ensures after { IsCreate self.new.operation }
+        ensures open { (W.seen world.new).ended ≡ false }
+    {
+        if !self.is_going() {
+            return Err(Refusal::Code(ErrorCode::InvalidState));
+        }
+        let polled = self.poll_stage(world);
+        self.made(polled)
+    }
+
+    /// Asks what comes next.
+    fn poll_stage<W: World>(&mut self, world: &mut W) -> Result<Answer<()>, Refusal>
+        requires open { (W.seen world.old).ended ≡ false }
+        requires going { is_going self.old.operation ≡ true }
+        ensures polled { PollsFor (λ done. Nothing) Nothing self.old.operation self.new.operation (W.seen world.old) (W.seen world.new) result }
+        ensures family { self.new.family ≡ self.old.family }
+        ensures going { is_going self.new.operation ≡ stays_going result }
+        ensures before { IsCreate self.old.operation }
+        ensures after { IsCreate self.new.operation }
+        ensures open { (W.seen world.new).ended ≡ false }
+    {
+        let asker = self.asker;
+        match self.stage {
+            CreateStage::Writable => poll_writable(world, asker, &mut self.stage),
+            CreateStage::Close(code) => poll_close(world, asker, &mut self.stage, code),
+            CreateStage::Over => unreachable!(),
+        }
+    }
+
+    /// The socket, where it is done.
+    fn made(&self, polled: Result<Answer<()>, Refusal>) -> Result<Answer<UdpSocket>, Refusal>
+        ensures { result ≡ create_told self.now polled }
+    {
+        match polled {
+            Ok(Answer::Ready(())) => Ok(Answer::Ready(UdpSocket::made(
+                self.asker.side,
+                self.family,
+                self.asker.maker,
+            ))),
+            Ok(Answer::Pending) => Ok(Answer::Pending),
+            Err(refusal) => Err(refusal),
+        }
+    }
+
+    /// Gives the create up: its network socket is closed by the operation's own name. One that is over asks nothing: a
+    /// refusal has closed the network socket already, and else the network socket is the socket's. The only error is out of
+    /// memory; then nothing was asked, and the network socket isn't closed.
+    pub fn cancel<W: World>(self, world: &mut W) -> Result<(), AllocError>
+        requires { (W.seen world.old).ended ≡ false }
+        ensures asked { AsksFor (create_cancel_asks self) (W.seen world.old) (W.seen world.new) (λ done. done) result }
+        ensures unasked { OnErr result (W.seen world.new ≡ W.seen world.old) }
+        ensures open { (W.seen world.new).ended ≡ false }
+    {
+        if !self.is_going() {
+            return Ok(());
+        }
+        asks::close(world, self.asker.op, self.asker.side)
+    }
+}
+
+fn poll_writable<W: World>(
+    world: &mut W,
+    asker: Asker,
+    stage: &mut CreateStage,
+) -> Result<Answer<()>, Refusal>
+    requires open { (W.seen world.old).ended ≡ false }
+    requires stage { stage.old ≡ CreateStage.Writable }
+    ensures polled { PollsFor (λ done. Nothing) Nothing (create_operation asker stage.old) (create_operation asker stage.new) (W.seen world.old) (W.seen world.new) result }
+    ensures going { is_going (create_operation asker stage.new) ≡ stays_going result }
+    ensures open { (W.seen world.new).ended ≡ false }
+{
+    let told = asks::udp_writable(world, asker.op, asker.side)?;
+    match told {
+        Polled::Pending => return Ok(Answer::Pending),
+        Polled::Code(code) => {
+            *stage = CreateStage::Close(code);
+            return poll_close(world, asker, stage, code);
+        }
+        Polled::Ready(()) => {}
+    }
+    *stage = CreateStage::Over;
+    Ok(Answer::Ready(()))
+}
+
+fn poll_close<W: World>(
+    world: &mut W,
+    asker: Asker,
+    stage: &mut CreateStage,
+    code: ErrorCode,
+) -> Result<Answer<()>, Refusal>
+    requires open { (W.seen world.old).ended ≡ false }
+    requires stage { stage.old ≡ CreateStage.Close code }
+    ensures polled { PollsFor (λ done. Nothing) Nothing (create_operation asker stage.old) (create_operation asker stage.new) (W.seen world.old) (W.seen world.new) result }
+    ensures going { is_going (create_operation asker stage.new) ≡ stays_going result }
+    ensures open { (W.seen world.new).ended ≡ false }
+{
+    asks::close(world, asker.op, asker.side)?;
+    *stage = CreateStage::Over;
+    Err(Refusal::Code(code))
+}

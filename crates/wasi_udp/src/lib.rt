@@ -1,0 +1,23 @@
+//! UDP sockets, and operations on them that are polled (`sockets/udp` of the crate `wasmtime-wasi`).
+//!
+//! Each call's contract says by one tree what it asks of the world, what it answers and what the socket is then.
+#![tactic(auto)]
+
+mod address;
+mod bind;
+mod connect;
+mod create;
+pub mod laws;
+mod options;
+mod receive;
+mod send;
+mod socket;
+
+pub use bind::{UdpBindOp, UdpBindStage};
+pub use connect::{UdpConnectOp, UdpConnectStage};
+pub use create::{CreateOp, CreateStage};
+pub use receive::{RecvOp, RecvStage};
+pub use send::{Destination, SendOp, SendStage};
+pub use socket::UdpSocket;
+pub use wasi_common::{Asker, Setting, largest_value};
+pub use wasi_world::Opt;
