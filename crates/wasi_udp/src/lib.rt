@@ -13,11 +13,11 @@ mod receive;
 mod send;
 mod socket;
 
-pub use bind::{UdpBindOp, UdpBindStage};
-pub use connect::{UdpConnectOp, UdpConnectStage};
-pub use create::{CreateOp, CreateStage};
-pub use receive::{RecvOp, RecvStage};
-pub use send::{Destination, SendOp, SendStage};
+pub use bind::UdpBindOp;
+pub use connect::UdpConnectOp;
+pub use create::CreateOp;
+pub use receive::RecvOp;
+pub use send::SendOp;
 pub use socket::UdpSocket;
 pub use wasi_common::{Asker, Setting, largest_value};
 pub use wasi_world::Opt;
