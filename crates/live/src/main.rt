@@ -9,7 +9,8 @@ use command::command_in;
 use script::{run_live, status_of};
 use std::process::ExitCode;
 use wasi_console::{LineSource, end, print, words};
-use wasi_run::{RunError, Status};
+use wasi_program::Status;
+use wasi_run::RunError;
 use wasi_world::{StdSink, StdSource};
 
 const VERSION: &str = "live 0.1.0\n";

@@ -2,7 +2,7 @@
 
 ghost use Rattle.std.specs.Prelude.{◌≡◌, [], ◌∷◌, IfOk};
 ghost use Rattle.wasi_world.specs.Scenario.{free_context};
-ghost use Rattle.wasi_run.specs.Program.{status_of};
+ghost use Rattle.wasi_program.specs.Program.{status_of};
 ghost use Rattle.live.specs.Live.{RanLive};
 
 use crate::command::Command;
@@ -10,7 +10,8 @@ use std::alloc::{AllocError, Global};
 use std::net::{Net, TcpListener, TcpStream};
 use std::time::Clock;
 use wasi_net::NetWorld;
-use wasi_run::{RunEnd, RunError, Status, run_script};
+use wasi_program::Status;
+use wasi_run::{RunEnd, RunError, run_script};
 use wasi_world::{Sink, Source, WasiSocketsCtx};
 
 /// The one context, which may use all that is built. Its check goes by the ports.

@@ -5,7 +5,7 @@ use std::alloc::{AllocError, Global};
 use std::sync::Wait;
 use std::test::*;
 use std::thread::Threads;
-use wasi_run::{Done, run_main};
+use wasi_program::{Done, run_main};
 use wasi_spawn::{FakeSpawner, Spawner, ThreadSpawner};
 use wasi_world::{MemorySink, MemorySource};
 

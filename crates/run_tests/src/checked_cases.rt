@@ -3,7 +3,7 @@
 use crate::same::same;
 use std::alloc::{AllocError, Global};
 use std::fmt::Write;
-use wasi_run::Status;
+use wasi_program::Status;
 use wasi_transcript::program::{End, check};
 use wasi_world::GrowingSink;
 

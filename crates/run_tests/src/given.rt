@@ -7,7 +7,7 @@ use std::process::Abort;
 use std::sync::Wait;
 use std::test::Fail;
 use std::thread::Threads;
-use wasi_run::{Done, run_main};
+use wasi_program::{Done, run_main};
 use wasi_spawn::ThreadSpawner;
 use wasi_world::{MemorySink, MemorySource};
 

@@ -6,7 +6,7 @@ use std::process::ExitCode;
 use std::rt::Files;
 use std::{fs, io};
 use wasi_console::{LineSource, end, line_of, print, words};
-use wasi_run::Status;
+use wasi_program::Status;
 use wasi_transcript::program::{End, Words, check, show, words_in};
 use wasi_world::{FileSource, StdSink, StdSource};
 

@@ -2,7 +2,7 @@
 
 use std::env::Env;
 use std::{env, io};
-use wasi_run::Status;
+use wasi_program::Status;
 
 /// The words after the program's name, in order. A word that isn't UTF-8 is a faulty command line: `BadWords`. Takes memory for
 /// the words; where it runs out: `Memory`.

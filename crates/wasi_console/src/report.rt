@@ -3,7 +3,7 @@
 use crate::lines::Front;
 use std::process::ExitCode;
 use std::{io, str};
-use wasi_run::Status;
+use wasi_program::Status;
 use wasi_steps::STEP_FORMS;
 
 /// What a line of a scenario may be.

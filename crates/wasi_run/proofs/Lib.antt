@@ -8,4 +8,3 @@ mod Generated
 mod Newlines
 mod GeneratedSteps
 mod OwnErrors
-mod ProgramCompletes

@@ -1,9 +1,6 @@
 pub mod Script
 pub mod Causes
 pub mod Headline
-pub mod Program
-pub mod Parsed
 pub mod Generate
 pub mod Counted
 pub mod TextStreams
-pub mod Completeness

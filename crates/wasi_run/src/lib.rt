@@ -3,12 +3,10 @@
 
 pub mod counts;
 pub mod generate;
-pub mod program;
 pub mod run;
 mod text_source;
 
 pub use counts::Counts;
-pub use program::{Done, Status, run_main};
 pub use run::{RunEnd, run_script};
 pub use wasi_session::{RunError, Session, session, write_all};
 pub use wasi_steps::{

@@ -14,9 +14,9 @@ use Rattle.wasi_world.specs.declared.outcome.WasiSocketsCtx.{WasiSocketsCtx}
 use Rattle.wasi_world.specs.declared.scripted.ScriptedWorld.{ScriptedWorld}
 use Rattle.wasi_run.specs.declared.run.RunEnd.{RunEnd}
 use Rattle.wasi_session.specs.declared.error.RunError.{RunError}
-use Rattle.wasi_run.specs.declared.program.Scenario.{Scenario}
-use Rattle.wasi_run.specs.Parsed.{IsPlanned, IsParsed}
-use Rattle.wasi_run.specs.Program.{with_contexts}
+use Rattle.wasi_program.specs.declared.program.Scenario.{Scenario}
+use Rattle.wasi_program.specs.Parsed.{IsPlanned, IsParsed}
+use Rattle.wasi_program.specs.Program.{with_contexts}
 use Rattle.wasi_transcript.specs.Shown.{IsShown}
 use Rattle.wasi_transcript.specs.declared.cases.Case.{Case}
 use Rattle.wasi_transcript.specs.declared.check.Checked.{Checked}

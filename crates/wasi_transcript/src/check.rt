@@ -6,7 +6,7 @@ ghost use Rattle.wasi_transcript.specs.CaseHolds.{IsWhole, CameOf, CameAs, Check
 use crate::cases::{Case, TextLines, read_case};
 use crate::show::show_script;
 use std::alloc::{AllocError, Global};
-use wasi_run::program::{Scenario, parse_scenario};
+use wasi_program::program::{Scenario, parse_scenario};
 use wasi_run::{RunEnd, RunError};
 use wasi_world::{GrowingSink, MemorySource};
 

@@ -7,8 +7,9 @@ use crate::check::{Checked, check_text};
 use crate::report::report;
 use crate::show::show_script;
 use std::alloc::{AllocError, Global};
-use wasi_run::program::{Scenario, Unread, bad_line, parse_scenario, read_scenario};
-use wasi_run::{Status, write_all};
+use wasi_program::Status;
+use wasi_program::program::{Scenario, Unread, bad_line, parse_scenario, read_scenario};
+use wasi_run::write_all;
 use wasi_world::fields::number;
 use wasi_world::{Sink, Source};
 

@@ -8,16 +8,16 @@ use Rattle.wasi_world.specs.Io.{Reading, Writing, HasEnded, CountRose}
 use Rattle.wasi_session.specs.declared.error.RunError.{RunError}
 use Rattle.wasi_session.specs.declared.error.RunError.TheVariants as error
 use Rattle.wasi_run.specs.declared.run.RunEnd.{RunEnd}
-use Rattle.wasi_run.specs.declared.program.Command.{Command}
-use Rattle.wasi_run.specs.declared.program.Command.TheVariants.{Run, Pump, Generate}
-use Rattle.wasi_run.specs.declared.program.Status.{Status}
-use Rattle.wasi_run.specs.declared.program.Status.TheVariants as status
+use Rattle.wasi_program.specs.declared.program.Command.{Command}
+use Rattle.wasi_program.specs.declared.program.Command.TheVariants.{Run, Pump, Generate}
+use Rattle.wasi_program.specs.declared.program.Status.{Status}
+use Rattle.wasi_program.specs.declared.program.Status.TheVariants as status
 use Rattle.wasi_pump.specs.declared.error.PumpError.{PumpError}
 use Rattle.wasi_pump.specs.declared.error.PumpError.TheVariants as pump
 use Rattle.wasi_pump.specs.Pumped.{PumpEnds}
-use Rattle.wasi_run.specs.Program.{RanMain, CommandEnds, RunEnds, GeneratedEnds, IsPump, pump_status, RanText, ReadScenario, command_in, most_scenario, number_of, scenario_of, status_of}
+use Rattle.wasi_program.specs.Program.{RanMain, CommandEnds, RunEnds, GeneratedEnds, IsPump, pump_status, RanText, ReadScenario, command_in, most_scenario, number_of, scenario_of, status_of}
 use Rattle.wasi_run.specs.Script.{IsOkOrMemory}
-use Rattle.wasi_run.specs.Completeness.{EndsOkOrMemory, IsWell, IsWellRun, IsWellPumped, ProgramCompletes}
+use Rattle.wasi_program.specs.Completeness.{EndsOkOrMemory, IsWell, IsWellRun, IsWellPumped, ProgramCompletes}
 use Rattle.wasi_run.proofs.Completes.{completes, front_of}
 
 -- a scenario within its size was read whole

@@ -4,17 +4,17 @@ ghost use Rattle.std.specs.Prelude.{◌≡◌, ◌↔◌, ◌⊎◌, ◌+◌, �
 ghost use Rattle.wasi_world.specs.Io.{Gave};
 ghost use Rattle.wasi_world.specs.Scripted.{seen_by};
 ghost use Rattle.wasi_world.specs.Seen.{Rose};
-ghost use Rattle.wasi_run.specs.Program.{run_in, pump_in, limited_in, generate_in, command_in, number_of, status_of, pump_status, bad_line_of, ReadScenario, RanText, RanMain, RunEnds, GeneratedEnds, IsPump};
-ghost use Rattle.wasi_run.specs.Completeness.{ProgramCompletes};
-ghost use Rattle.wasi_run.specs.Parsed.{IsPlanned, IsParsed, TextEnds};
+ghost use Rattle.wasi_program.specs.Program.{run_in, pump_in, limited_in, generate_in, command_in, number_of, status_of, pump_status, bad_line_of, ReadScenario, RanText, RanMain, RunEnds, GeneratedEnds, IsPump};
+ghost use Rattle.wasi_program.specs.Completeness.{ProgramCompletes};
+ghost use Rattle.wasi_program.specs.Parsed.{IsPlanned, IsParsed, TextEnds};
 ghost use Rattle.wasi_run.specs.Script.{AreNumbered};
 
-use crate::counts::run_generated;
-use crate::run::{RunEnd, run_script};
 use std::alloc::{AllocError, Global};
 use std::sync::Wait;
 use std::thread::Threads;
 use wasi_pump::{PumpError, pump};
+use wasi_run::counts::run_generated;
+use wasi_run::{RunEnd, run_script};
 use wasi_session::{RunError, write_all};
 use wasi_spawn::Spawner;
 use wasi_world::fields::number;

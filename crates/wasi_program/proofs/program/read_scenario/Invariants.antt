@@ -1,5 +1,5 @@
 use Rattle.wasi_run.proofs.Words.{◌≡◌, ◌-◌, ◌≤◌, length, Gave}
-use Rattle.wasi_run.proofs.program.read_scenario.Given as goal
+use Rattle.wasi_program.proofs.program.read_scenario.Given as goal
 
 -- the source gave the text so far
 abbrev pub invariant-reading : goal.invariant-reading

@@ -13,10 +13,10 @@ use Rattle.wasi_run.specs.declared.run.RunEnd.{RunEnd}
 use Rattle.wasi_session.specs.declared.error.RunError.{RunError}
 use Rattle.wasi_session.specs.declared.error.RunError.TheVariants as error
 use Rattle.wasi_run.specs.declared.counts.Counts.{Counts}
-use Rattle.wasi_run.specs.declared.program.Command.{Command}
-use Rattle.wasi_run.specs.declared.program.Command.TheVariants.{Run, Pump, Generate}
-use Rattle.wasi_run.specs.declared.program.Status.{Status}
-use Rattle.wasi_run.specs.declared.program.Status.TheVariants as status
+use Rattle.wasi_program.specs.declared.program.Command.{Command}
+use Rattle.wasi_program.specs.declared.program.Command.TheVariants.{Run, Pump, Generate}
+use Rattle.wasi_program.specs.declared.program.Status.{Status}
+use Rattle.wasi_program.specs.declared.program.Status.TheVariants as status
 use Rattle.wasi_pump.specs.declared.error.PumpError.{PumpError}
 use Rattle.wasi_pump.specs.declared.error.PumpError.TheVariants as pump
 use Rattle.wasi_pump.specs.Pumped.{PumpEnds}
