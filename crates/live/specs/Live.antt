@@ -4,8 +4,8 @@ use Rattle.wasi_world.specs.Seen.{Seen}
 use Rattle.wasi_world.specs.Io.{Reading, Writing}
 use Rattle.wasi_world.specs.Scenario.{free_context}
 use Rattle.wasi_run.specs.declared.run.RunEnd.{RunEnd}
-use Rattle.wasi_session.specs.declared.error.RunError.{RunError}
-use Rattle.wasi_session.specs.declared.error.RunError.TheVariants.{Memory}
+use Rattle.wasi_run.specs.declared.error.RunError.{RunError}
+use Rattle.wasi_run.specs.declared.error.RunError.TheVariants.{Memory}
 use Rattle.wasi_run.specs.Script.{RanScript, Completes}
 use Rattle.wasi_net.specs.Net.{counts_of}
 

@@ -5,8 +5,8 @@ use Rattle.wasi_world.specs.declared.call.Entry.{Entry}
 use Rattle.wasi_world.specs.declared.outcome.WasiSocketsCtx.{WasiSocketsCtx}
 use Rattle.wasi_world.specs.Seen.{Plan}
 use Rattle.wasi_world.specs.Io.{Reading, Writing, HasEnded, CountRose}
-use Rattle.wasi_session.specs.declared.error.RunError.{RunError}
-use Rattle.wasi_session.specs.declared.error.RunError.TheVariants as error
+use Rattle.wasi_run.specs.declared.error.RunError.{RunError}
+use Rattle.wasi_run.specs.declared.error.RunError.TheVariants as error
 use Rattle.wasi_run.specs.declared.run.RunEnd.{RunEnd}
 use Rattle.wasi_program.specs.declared.program.Command.{Command}
 use Rattle.wasi_program.specs.declared.program.Command.TheVariants.{Run, Pump, Generate}

@@ -10,8 +10,8 @@ use Rattle.wasi_world.specs.Script.{IsScripted}
 use Rattle.wasi_world.specs.Scenario.{plan_of, free_context}
 use Rattle.wasi_world.specs.Scripted.{at_start}
 use Rattle.wasi_run.specs.declared.run.RunEnd.{RunEnd}
-use Rattle.wasi_session.specs.declared.error.RunError.{RunError}
-use Rattle.wasi_session.specs.declared.error.RunError.TheVariants as error
+use Rattle.wasi_run.specs.declared.error.RunError.{RunError}
+use Rattle.wasi_run.specs.declared.error.RunError.TheVariants as error
 use Rattle.wasi_run.specs.declared.counts.Counts.{Counts}
 use Rattle.wasi_program.specs.declared.program.Command.{Command}
 use Rattle.wasi_program.specs.declared.program.Command.TheVariants.{Run, Pump, Generate}
@@ -23,7 +23,7 @@ use Rattle.wasi_pump.specs.Pumped.{PumpEnds}
 use Rattle.wasi_host.specs.Closing.{HasClosedAll}
 use Rattle.wasi_run.specs.Headline.{RunsLicensed}
 use Rattle.wasi_run.specs.Counted.{CountsRun, summary}
-use Rattle.wasi_session.specs.Written.{TookAll, TookFront}
+use Rattle.wasi_run.specs.Written.{TookAll, TookFront}
 
 -- the words are `run LIMIT`
 abbrev pub run_in : List ℕ → List ℕ → Option Command

@@ -1,7 +1,7 @@
 -- What a script's record says of each end.
 use Rattle.wasi_run.proofs.Words.{◌≡◌, ◌∙◌, ap, sym, refl, ℕ, ◌+◌, ◌≤◌, List, [], length, take, Result, Ok, Err, append-nil, inl, inr, arith, take_all, WasiSocketsCtx, Seen, Give, Reading, Writing, Gave, Took, Machine, Step, Reply, LinesEnd, RunError, Memory, BadStep, TooLong, ReadFault, WriteFault, first_state, run, lines_of, after_lines, StartWith, AsksNothing, LinesRan, Beyond, Wrote, texts}
 use Rattle.wasi_world.specs.Asks.{Reaches}
-use Rattle.wasi_session.specs.declared.lines.LinesEnd.TheVariants as lines
+use Rattle.wasi_run.specs.declared.lines.LinesEnd.TheVariants as lines
 use Rattle.wasi_run.specs.declared.run.RunEnd.{RunEnd}
 use Rattle.wasi_run.specs.declared.run.RunEnd.TheVariants as end
 use Rattle.wasi_run.specs.Script.{Answers, RanScript}

@@ -1,6 +1,6 @@
 -- A valid script is done.
 use Rattle.wasi_run.proofs.Words.{◌≡◌, ◌∙◌, sym, refl, ℕ, ◌≤◌, List, [], ◌∷◌, ◌++◌, length, take, Option, Some, None, Result, Ok, Err, length-append, append-nil, subst, arith, option_map, IfSome, take_all, WasiSocketsCtx, Seen, Rose, Reading, Writing, HasEnded, CountRose, Machine, Step, LinesEnd, RunError, Memory, BadStep, TooLong, ReadFault, WriteFault, first_state, lines_of, lines_from, rest_of, BadAfter, AllSteps, LinesRan, lines-append}
-use Rattle.wasi_session.specs.declared.lines.LinesEnd.TheVariants as lines
+use Rattle.wasi_run.specs.declared.lines.LinesEnd.TheVariants as lines
 use Rattle.wasi_run.specs.declared.run.RunEnd.{RunEnd}
 use Rattle.wasi_run.specs.Script.{Answers, RanScript, IsValid, IsOkOrMemory, Completes}
 

@@ -1,3 +1,10 @@
+pub mod LineWords
+pub mod CallSteps
+pub mod Takes
+pub mod Stretches
+pub mod OneLine
+pub mod ManyLines
+pub mod Pieces
 pub mod Words
 pub mod Streaming
 pub mod Completes

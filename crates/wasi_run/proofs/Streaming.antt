@@ -2,11 +2,11 @@
 use Rattle.wasi_run.proofs.Words.{◌≡◌, ◌≢◌, ◌∙◌, ap, sym, refl, ℕ, zero, suc, ◌+◌, ◌-◌, ◌<◌, ◌≤◌, ◌==◌, Bool, true, false, if◌then◌else◌, min, List, [], ◌∷◌, ◌++◌, length, take, Result, Ok, Err, length-append, length-take, arith, take_all, take-append-le, nil_from_length, nat_tests, WasiSocketsCtx, Seen, Reading, Writing, Gave, GaveSome, GaveNone, Machine, LinesEnd, RunError, BadStep, TooLong, ReadFault, first_state, lines_of, rest_of, lines_from, rest_from, after_lines, KeptOf, LinesRan, lines_then, lines_none, trap_then, lines-append, rest-append, count_lines}
 use Rattle.std.proofs.Math.Seq.{take-append-add}
 use Rattle.std.proofs.lemmas.List.{take-take, take_min}
-use Rattle.wasi_session.specs.declared.lines.LinesEnd.TheVariants as lines
+use Rattle.wasi_run.specs.declared.lines.LinesEnd.TheVariants as lines
 use Rattle.wasi_run.specs.declared.run.RunEnd.{RunEnd}
 use Rattle.wasi_run.specs.declared.run.RunEnd.TheVariants as end
 use Rattle.wasi_run.specs.Script.{Answers, RanOver}
-use Rattle.wasi_session.proofs.Takes.{gave_again, gave_none, gave_end, gave_fault, fault_rose, has_room, more_fits}
+use Rattle.wasi_run.proofs.Takes.{gave_again, gave_none, gave_end, gave_fault, fault_rose, has_room, more_fits}
 
 -- All whole lines of what was read were done, and the unfinished one is kept.
 pub record Streaming (contexts : List WasiSocketsCtx) (limit : ℕ) (before now : Reading) (k_old k_now : Writing) (w_old w_now : Seen) (machine : Machine) (number taken : ℕ) (kept : List ℕ) : Type 0 where

@@ -16,9 +16,9 @@ pub use Rattle.wasi_host.specs.Closing.{AsksNothing, HasClosedAll, IsFresh}
 pub use Rattle.wasi_steps.specs.Steps.{IsStep, line_of, step_of}
 pub use Rattle.wasi_steps.specs.declared.step.Step.TheVariants.{CheckWrite, Drop, Network, TcpCreate, TcpFinishConnect, TcpShutdown, TcpStartConnect}
 pub use Rattle.wasi_steps.specs.declared.step.Step.TheVariants.{Write}
-pub use Rattle.wasi_session.proofs.Stretches.{lines_none, lines_then, stays_open, trap_then}
-pub use Rattle.wasi_session.specs.Lines.{AllSteps, BadAfter, KeptOf, StartWith, after_lines}
-pub use Rattle.wasi_session.specs.Ran.{Beyond, Counted, LinesRan, Met, Wrote, texts}
-pub use Rattle.wasi_session.specs.declared.error.RunError.{RunError}
-pub use Rattle.wasi_session.specs.declared.error.RunError.TheVariants.{BadStep, Memory, ReadFault, TooLong, WriteFault}
-pub use Rattle.wasi_session.specs.declared.lines.LinesEnd.{LinesEnd}
+pub use Rattle.wasi_run.proofs.Stretches.{lines_none, lines_then, stays_open, trap_then}
+pub use Rattle.wasi_run.specs.Lines.{AllSteps, BadAfter, KeptOf, StartWith, after_lines}
+pub use Rattle.wasi_run.specs.Ran.{Beyond, Counted, LinesRan, Met, Wrote, texts}
+pub use Rattle.wasi_run.specs.declared.error.RunError.{RunError}
+pub use Rattle.wasi_run.specs.declared.error.RunError.TheVariants.{BadStep, Memory, ReadFault, TooLong, WriteFault}
+pub use Rattle.wasi_run.specs.declared.lines.LinesEnd.{LinesEnd}

@@ -9,8 +9,8 @@ use Rattle.wasi_world.specs.Lines.{lines_of}
 use Rattle.wasi_world.specs.Queued.{no_answers}
 use Rattle.wasi_world.specs.Scenario.{free_context}
 use Rattle.wasi_world.specs.Scripted.{at_start}
-use Rattle.wasi_session.specs.declared.error.RunError.{RunError}
-use Rattle.wasi_session.specs.declared.error.RunError.TheVariants.{Memory, WriteFault}
+use Rattle.wasi_run.specs.declared.error.RunError.{RunError}
+use Rattle.wasi_run.specs.declared.error.RunError.TheVariants.{Memory, WriteFault}
 use Rattle.wasi_run.specs.Causes.{DoneLines}
 use Rattle.wasi_run.specs.declared.counts.Counts.{Counts}
 use Rattle.wasi_run.specs.Generate.{generated}

@@ -4,7 +4,7 @@ use Rattle.wasi_world.specs.declared.outcome.WasiSocketsCtx.{WasiSocketsCtx}
 use Rattle.wasi_world.specs.Seen.{Seen}
 use Rattle.wasi_world.specs.Io.{Reading, Writing}
 use Rattle.wasi_machine.specs.Machine.{HasRun}
-use Rattle.wasi_session.specs.declared.error.RunError.{RunError}
+use Rattle.wasi_run.specs.declared.error.RunError.{RunError}
 use Rattle.wasi_walks.specs.Licence.{IsLicensed}
 use Rattle.wasi_run.specs.declared.run.RunEnd.{RunEnd}
 use Rattle.wasi_run.specs.Script.{RanScript}

@@ -1,3 +1,6 @@
+pub mod Lines
+pub mod Written
+pub mod Ran
 pub mod Script
 pub mod Causes
 pub mod Headline

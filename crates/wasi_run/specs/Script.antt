@@ -4,17 +4,17 @@ use Rattle.wasi_world.specs.declared.outcome.WasiSocketsCtx.{WasiSocketsCtx}
 use Rattle.wasi_world.specs.Seen.{Seen, Rose}
 use Rattle.wasi_world.specs.Io.{Reading, Writing, Gave, HasEnded, CountRose}
 use Rattle.wasi_host.specs.declared.machine.Machine.{Machine}
-use Rattle.wasi_session.specs.declared.lines.LinesEnd.{LinesEnd}
-use Rattle.wasi_session.specs.declared.lines.LinesEnd.TheVariants as lines
+use Rattle.wasi_run.specs.declared.lines.LinesEnd.{LinesEnd}
+use Rattle.wasi_run.specs.declared.lines.LinesEnd.TheVariants as lines
 use Rattle.wasi_run.specs.declared.run.RunEnd.{RunEnd}
 use Rattle.wasi_run.specs.declared.run.RunEnd.TheVariants as end
-use Rattle.wasi_session.specs.declared.error.RunError.{RunError}
-use Rattle.wasi_session.specs.declared.error.RunError.TheVariants.{Memory, BadStep, TooLong, ReadFault}
+use Rattle.wasi_run.specs.declared.error.RunError.{RunError}
+use Rattle.wasi_run.specs.declared.error.RunError.TheVariants.{Memory, BadStep, TooLong, ReadFault}
 use Rattle.wasi_host.specs.Machine.{first_state}
 use Rattle.wasi_world.specs.Lines.{lines_of, rest_of}
-use Rattle.wasi_session.specs.Lines.{after_lines, AllSteps}
+use Rattle.wasi_run.specs.Lines.{after_lines, AllSteps}
 use Rattle.wasi_host.specs.Closing.{AsksNothing}
-use Rattle.wasi_session.specs.Ran.{LinesRan}
+use Rattle.wasi_run.specs.Ran.{LinesRan}
 
 -- each context's name is its place
 abbrev pub AreNumbered : List WasiSocketsCtx → Type 0

@@ -4,12 +4,12 @@ ghost use Rattle.std.specs.Prelude.{◌≡◌, min, IfOk, length, string_bytes, 
 ghost use Rattle.wasi_world.specs.Lines.{lines_of};
 ghost use Rattle.wasi_run.specs.Counted.{took_count, taken_bytes, CountsRun, IsOwn, summary};
 
+use crate::error::RunError;
 use crate::generate::generate;
 use crate::run::run_script;
 use crate::text_source::TextSource;
 use std::alloc::{AllocError, Global};
 use std::fmt::Write;
-use wasi_session::RunError;
 use wasi_world::{Entry, GrowingSink, Lists, ScriptedWorld, Told, WasiSocketsCtx};
 
 /// The context of a scenario that has no line about contexts.

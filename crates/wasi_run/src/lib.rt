@@ -1,14 +1,21 @@
-//! Runs a script of guest calls over one table of handles, and writes one reply per line.
+//! Does steps, and the lines of a script: each by its call of the host, and with its reply. Runs a script of guest calls over
+//! one table of handles, and writes one reply per line.
 #![tactic(auto)]
 
+mod calls;
 pub mod counts;
+mod error;
 pub mod generate;
+pub mod lines;
 pub mod run;
+pub mod session;
 mod text_source;
 
 pub use counts::Counts;
+pub use error::RunError;
+pub use lines::write_all;
 pub use run::{RunEnd, run_script};
-pub use wasi_session::{RunError, Session, session, write_all};
+pub use session::Session;
 pub use wasi_steps::{
     CodeWord, Field, Reply, ReplyFields, Step, TcpSetting, parse, reply, setting, step,
 };

@@ -7,9 +7,10 @@ ghost use Rattle.wasi_run.specs.Script.{AreNumbered, RanOver, RanScript, Complet
 ghost use Rattle.wasi_run.specs.Headline.{RunsLicensed};
 ghost use Rattle.wasi_run.specs.Causes.{BeginsRun, DoneLines, ReadsAll, StopsAtTrap, StopsAtBadStep, StopsTooLong, StopsAtReadFault, StopsAtWriteFault, StopsForMemory};
 
+use crate::error::RunError;
+use crate::lines::{LinesEnd, do_piece};
+use crate::session::Session;
 use std::alloc::Global;
-use wasi_session::lines::{LinesEnd, do_piece};
-use wasi_session::{RunError, Session};
 use wasi_world::{Sink, Source, WasiSocketsCtx, World};
 
 /// How many bytes are read at a time.

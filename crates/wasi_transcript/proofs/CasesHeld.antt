@@ -13,7 +13,7 @@ use Rattle.wasi_world.specs.Seen.{Plan, Seen}
 use Rattle.wasi_world.specs.declared.outcome.WasiSocketsCtx.{WasiSocketsCtx}
 use Rattle.wasi_world.specs.declared.scripted.ScriptedWorld.{ScriptedWorld}
 use Rattle.wasi_run.specs.declared.run.RunEnd.{RunEnd}
-use Rattle.wasi_session.specs.declared.error.RunError.{RunError}
+use Rattle.wasi_run.specs.declared.error.RunError.{RunError}
 use Rattle.wasi_program.specs.declared.program.Scenario.{Scenario}
 use Rattle.wasi_program.specs.Parsed.{IsPlanned, IsParsed}
 use Rattle.wasi_program.specs.Program.{with_contexts}

@@ -10,10 +10,10 @@ use Rattle.wasi_host.specs.Sides.{KnowsSides, ClosesAll}
 use Rattle.wasi_host.proofs.Closings.{empty_known}
 use Rattle.wasi_run.specs.declared.run.RunEnd.{RunEnd}
 use Rattle.wasi_run.specs.declared.run.RunEnd.TheVariants as end
-use Rattle.wasi_session.specs.declared.error.RunError.{RunError}
-use Rattle.wasi_session.specs.declared.error.RunError.TheVariants.{Memory, BadStep, TooLong, ReadFault, WriteFault}
-use Rattle.wasi_session.specs.Written.{TookAll, TookFront}
-use Rattle.wasi_session.proofs.Takes.{took_again, same_again, rose_again}
+use Rattle.wasi_run.specs.declared.error.RunError.{RunError}
+use Rattle.wasi_run.specs.declared.error.RunError.TheVariants.{Memory, BadStep, TooLong, ReadFault, WriteFault}
+use Rattle.wasi_run.specs.Written.{TookAll, TookFront}
+use Rattle.wasi_run.proofs.Takes.{took_again, same_again, rose_again}
 use Rattle.wasi_transcript.specs.declared.show.Stop.{Stop}
 use Rattle.wasi_transcript.specs.declared.show.Stop.TheVariants as stop
 use Rattle.wasi_transcript.specs.Shown.{Done, Stops, Wrote, IsShown, outcome_of, ending_text}

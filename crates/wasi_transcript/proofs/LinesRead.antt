@@ -6,7 +6,7 @@ use Rattle.std.specs.declared.alloc.AllocError.{AllocError}
 use Rattle.wasi_world.specs.Io.{Reading, Gave}
 use Rattle.wasi_world.specs.Lines.{lines_of, rest_of, lines_from, rest_from}
 use Rattle.wasi_world.proofs.LinesOf.{lines-append, rest-append}
-use Rattle.wasi_session.proofs.Takes.{gave_again, gave_none}
+use Rattle.wasi_run.proofs.Takes.{gave_again, gave_none}
 use Rattle.wasi_transcript.specs.declared.lines.Piece.TheVariants as piece
 use Rattle.wasi_transcript.specs.Reading.{Held, with_more, Reads, TakesLine, ReadsPiece}
 

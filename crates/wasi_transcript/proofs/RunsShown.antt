@@ -7,7 +7,7 @@ use Rattle.wasi_host.specs.declared.machine.Machine.{Machine}
 use Rattle.wasi_steps.specs.declared.reply.Reply.{Reply}
 use Rattle.wasi_steps.specs.declared.step.Step.{Step}
 use Rattle.wasi_machine.specs.Machine.{machine_asks, run}
-use Rattle.wasi_session.specs.Ran.{NoTrap, OneTrap}
+use Rattle.wasi_run.specs.Ran.{NoTrap, OneTrap}
 use Rattle.wasi_steps.specs.Reply.{is_trap}
 use Rattle.wasi_transcript.specs.Transcript.{Exchange, steps_in, replies_in, calls_in, AreDone}
 

@@ -13,16 +13,16 @@ use Rattle.wasi_host.specs.declared.machine.Machine.{Machine}
 use Rattle.wasi_host.specs.Machine.{first_state}
 use Rattle.wasi_host.specs.Sides.{KnowsSides}
 use Rattle.wasi_run.specs.declared.run.RunEnd.TheVariants as end
-use Rattle.wasi_session.specs.declared.error.RunError.{RunError}
-use Rattle.wasi_session.specs.declared.error.RunError.TheVariants.{Memory, BadStep, TooLong, ReadFault, WriteFault}
-use Rattle.wasi_session.specs.declared.session.Session.{Session}
-use Rattle.wasi_session.specs.Ran.{NoTrap}
+use Rattle.wasi_run.specs.declared.error.RunError.{RunError}
+use Rattle.wasi_run.specs.declared.error.RunError.TheVariants.{Memory, BadStep, TooLong, ReadFault, WriteFault}
+use Rattle.wasi_run.specs.declared.session.Session.{Session}
+use Rattle.wasi_run.specs.Ran.{NoTrap}
 use Rattle.wasi_steps.specs.declared.reply.Reply.{Reply}
 use Rattle.wasi_steps.specs.declared.step.Step.{Step}
 use Rattle.wasi_machine.specs.Machine.{machine_asks}
 use Rattle.wasi_steps.specs.Steps.{step_of}
-use Rattle.wasi_session.specs.Written.{TookAll, TookFront}
-use Rattle.wasi_session.proofs.Takes.{gave_again, gave_none, took_again, took_none, same_again, same_none, rose_again}
+use Rattle.wasi_run.specs.Written.{TookAll, TookFront}
+use Rattle.wasi_run.proofs.Takes.{gave_again, gave_none, took_again, took_none, same_again, same_none, rose_again}
 use Rattle.wasi_transcript.specs.declared.lines.NextLine.TheVariants as next
 use Rattle.wasi_transcript.specs.Reading.{Held, with_more, Reads}
 use Rattle.wasi_transcript.specs.Transcript.{Exchange, exchanges_text, lines_in, replies_in, calls_in, IsDone, AreDone, Logged}

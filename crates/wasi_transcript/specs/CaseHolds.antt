@@ -8,8 +8,8 @@ use Rattle.wasi_world.specs.Script.{GoesByPlan}
 use Rattle.wasi_world.specs.Scripted.{at_start}
 use Rattle.wasi_world.specs.Seen.{Plan, Seen}
 use Rattle.wasi_run.specs.declared.run.RunEnd.{RunEnd}
-use Rattle.wasi_session.specs.declared.error.RunError.{RunError}
-use Rattle.wasi_session.specs.declared.error.RunError.TheVariants.{Memory, WriteFault}
+use Rattle.wasi_run.specs.declared.error.RunError.{RunError}
+use Rattle.wasi_run.specs.declared.error.RunError.TheVariants.{Memory, WriteFault}
 use Rattle.wasi_transcript.specs.declared.cases.Case.{Case}
 use Rattle.wasi_transcript.specs.declared.check.Came.{Came}
 use Rattle.wasi_transcript.specs.declared.check.Came.TheVariants.{Shown, BadScenario}

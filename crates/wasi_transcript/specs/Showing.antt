@@ -7,8 +7,8 @@ use Rattle.wasi_host.specs.declared.machine.Machine.{Machine}
 use Rattle.wasi_host.specs.Machine.{first_state}
 use Rattle.wasi_host.specs.Sides.{KnowsSides}
 use Rattle.wasi_run.specs.declared.run.RunEnd.{RunEnd}
-use Rattle.wasi_session.specs.declared.error.RunError.{RunError}
-use Rattle.wasi_session.specs.declared.error.RunError.TheVariants.{Memory, WriteFault}
+use Rattle.wasi_run.specs.declared.error.RunError.{RunError}
+use Rattle.wasi_run.specs.declared.error.RunError.TheVariants.{Memory, WriteFault}
 use Rattle.wasi_transcript.specs.declared.show.Stop.{Stop}
 use Rattle.wasi_transcript.specs.Shown.{Done, Stops, WroteLines, outcome_of}
 

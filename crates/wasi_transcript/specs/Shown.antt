@@ -11,11 +11,11 @@ use Rattle.wasi_host.specs.Machine.{first_state}
 use Rattle.wasi_steps.specs.declared.reply.Reply.{Reply}
 use Rattle.wasi_run.specs.declared.run.RunEnd.{RunEnd}
 use Rattle.wasi_run.specs.declared.run.RunEnd.TheVariants as end
-use Rattle.wasi_session.specs.declared.error.RunError.{RunError}
-use Rattle.wasi_session.specs.declared.error.RunError.TheVariants.{Memory, BadStep, TooLong, ReadFault, WriteFault}
+use Rattle.wasi_run.specs.declared.error.RunError.{RunError}
+use Rattle.wasi_run.specs.declared.error.RunError.TheVariants.{Memory, BadStep, TooLong, ReadFault, WriteFault}
 use Rattle.wasi_steps.specs.declared.step.Step.{Step}
 use Rattle.wasi_machine.specs.Machine.{machine_asks}
-use Rattle.wasi_session.specs.Ran.{NoTrap, OneTrap}
+use Rattle.wasi_run.specs.Ran.{NoTrap, OneTrap}
 use Rattle.wasi_steps.specs.Steps.{step_of}
 use Rattle.wasi_transcript.specs.declared.show.Stop.{Stop}
 use Rattle.wasi_transcript.specs.declared.show.Stop.TheVariants as stop

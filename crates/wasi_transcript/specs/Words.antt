@@ -8,7 +8,7 @@ use Rattle.wasi_world.specs.declared.outcome.WasiSocketsCtx.{WasiSocketsCtx}
 use Rattle.wasi_program.specs.declared.program.Status.{Status}
 use Rattle.wasi_program.specs.declared.program.Status.TheVariants as status
 use Rattle.wasi_run.specs.declared.run.RunEnd.{RunEnd}
-use Rattle.wasi_session.specs.declared.error.RunError.{RunError}
+use Rattle.wasi_run.specs.declared.error.RunError.{RunError}
 use Rattle.wasi_program.specs.Program as run
 use Rattle.wasi_program.specs.Program.{ReadScenario, scenario_of, status_of, bad_line_of}
 use Rattle.wasi_transcript.specs.declared.check.Checked.TheVariants.{Holds, Fails, NotCases}

@@ -6,7 +6,7 @@ ghost use Rattle.wasi_world.specs.Asks.{Left, Give};
 ghost use Rattle.wasi_host.specs.declared.machine.Machine.{Machine};
 ghost use Rattle.wasi_steps.specs.declared.reply.Reply.{Reply};
 ghost use Rattle.wasi_machine.specs.Machine.{run};
-ghost use Rattle.wasi_session.specs.Ran.{NoTrap, OneTrap};
+ghost use Rattle.wasi_run.specs.Ran.{NoTrap, OneTrap};
 ghost use Rattle.wasi_transcript.specs.Cases.{CaseText, IsCase, case_lines, case_at};
 ghost use Rattle.wasi_transcript.specs.Transcript.{Exchange, steps_in, replies_in, calls_in, AreDone};
 

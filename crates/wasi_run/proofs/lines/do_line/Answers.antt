@@ -1,6 +1,6 @@
-use Rattle.wasi_session.proofs.Words.{sym, ◌∙◌, refl}
-use Rattle.wasi_session.proofs.OneLine.{at_exit, none_done, one_bad, one_hungry, one_cut, one_trap, one_done}
-use Rattle.wasi_session.proofs.lines.do_line.Goals as goal
+use Rattle.wasi_run.proofs.LineWords.{sym, ◌∙◌, refl}
+use Rattle.wasi_run.proofs.OneLine.{at_exit, none_done, one_bad, one_hungry, one_cut, one_trap, one_done}
+use Rattle.wasi_run.proofs.lines.do_line.Goals as goal
 
 pub returns-in_err-step-clause-ran : goal.returns-in_err-step-clause-ran
 returns-in_err-step-clause-ran g c =

@@ -1,11 +1,11 @@
 -- The lines of some bytes, one after another.
-use Rattle.wasi_session.proofs.Words.{◌≡◌, ◌∙◌, ap, sym, refl, ℕ, ◌+◌, ◌-◌, ◌≤◌, ◌==◌, List, [], ◌∷◌, ◌++◌, length, take, drop, Some, None, Ok, Result, append_assoc, append-nil, length-append, length-drop, add-zero, arith, ◌<◌, drop-drop, take_rest, position, WasiSocketsCtx, Seen, Writing, Machine, lines_of, rest_of, Cut, NoCut, cut_at, no_cut, cut_line, cut_after, cut_within}
-use Rattle.wasi_session.specs.declared.lines.LinesEnd.{LinesEnd}
-use Rattle.wasi_session.specs.declared.lines.LinesEnd.TheVariants as lines
-use Rattle.wasi_session.specs.declared.error.RunError.{RunError}
-use Rattle.wasi_session.specs.Lines.{LeftAt}
-use Rattle.wasi_session.specs.Ran.{LinesRan}
-use Rattle.wasi_session.proofs.Stretches.{lines_then, lines_none, lines_ahead, IsOver}
+use Rattle.wasi_run.proofs.LineWords.{◌≡◌, ◌∙◌, ap, sym, refl, ℕ, ◌+◌, ◌-◌, ◌≤◌, ◌==◌, List, [], ◌∷◌, ◌++◌, length, take, drop, Some, None, Ok, Result, append_assoc, append-nil, length-append, length-drop, add-zero, arith, ◌<◌, drop-drop, take_rest, position, WasiSocketsCtx, Seen, Writing, Machine, lines_of, rest_of, Cut, NoCut, cut_at, no_cut, cut_line, cut_after, cut_within}
+use Rattle.wasi_run.specs.declared.lines.LinesEnd.{LinesEnd}
+use Rattle.wasi_run.specs.declared.lines.LinesEnd.TheVariants as lines
+use Rattle.wasi_run.specs.declared.error.RunError.{RunError}
+use Rattle.wasi_run.specs.Lines.{LeftAt}
+use Rattle.wasi_run.specs.Ran.{LinesRan}
+use Rattle.wasi_run.proofs.Stretches.{lines_then, lines_none, lines_ahead, IsOver}
 
 -- Of the bytes from start on, the lines up to a place were done.
 pub record Going (contexts : List WasiSocketsCtx) (w_old w_new : Seen) (k_old k_new : Writing) (first now : Machine) (start : ℕ) (bytes : List ℕ) (number_old number at : ℕ) : Type 0 where

@@ -7,15 +7,15 @@ use Rattle.wasi_world.specs.Io.{Writing, Took, SameCounts, CountRose}
 use Rattle.wasi_host.specs.declared.machine.Machine.{Machine}
 use Rattle.wasi_steps.specs.declared.step.Step.{Step}
 use Rattle.wasi_steps.specs.declared.reply.Reply.{Reply}
-use Rattle.wasi_session.specs.declared.lines.LinesEnd.{LinesEnd}
-use Rattle.wasi_session.specs.declared.lines.LinesEnd.TheVariants as lines
-use Rattle.wasi_session.specs.declared.error.RunError.{RunError}
-use Rattle.wasi_session.specs.declared.error.RunError.TheVariants.{Memory, BadStep, WriteFault}
+use Rattle.wasi_run.specs.declared.lines.LinesEnd.{LinesEnd}
+use Rattle.wasi_run.specs.declared.lines.LinesEnd.TheVariants as lines
+use Rattle.wasi_run.specs.declared.error.RunError.{RunError}
+use Rattle.wasi_run.specs.declared.error.RunError.TheVariants.{Memory, BadStep, WriteFault}
 use Rattle.wasi_steps.specs.Reply.{is_trap}
 use Rattle.wasi_steps.specs.Replies.{text_of}
 use Rattle.wasi_machine.specs.Machine.{machine_asks, run}
 use Rattle.wasi_host.specs.Sides.{KnowsSides}
-use Rattle.wasi_session.specs.Lines.{StartWith, BadAfter}
+use Rattle.wasi_run.specs.Lines.{StartWith, BadAfter}
 
 abbrev pub texts : List Reply → List ℕ
 texts [] = []

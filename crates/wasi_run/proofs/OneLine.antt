@@ -1,15 +1,15 @@
 -- What one line makes, by how it ends.
-use Rattle.wasi_session.proofs.Words.{◌≡◌, sym, refl, subst, ℕ, Bool, true, false, if◌then◌else◌, List, [], ◌∷◌, ◌++◌, ◌+◌, length, take, Some, None, Result, Ok, Err, append-nil, add-zero, WasiSocketsCtx, Seen, Asks, Give, Reaches, Started, Writing, Took, reaches_on, reaches_in, Machine, Step, Reply, is_trap, text_of, machine_asks, run, KnowsSides, err_from_is_err_and}
+use Rattle.wasi_run.proofs.LineWords.{◌≡◌, sym, refl, subst, ℕ, Bool, true, false, if◌then◌else◌, List, [], ◌∷◌, ◌++◌, ◌+◌, length, take, Some, None, Result, Ok, Err, append-nil, add-zero, WasiSocketsCtx, Seen, Asks, Give, Reaches, Started, Writing, Took, reaches_on, reaches_in, Machine, Step, Reply, is_trap, text_of, machine_asks, run, KnowsSides, err_from_is_err_and}
 use Rattle.std.specs.Prelude.{IsErrAnd}
-use Rattle.wasi_session.specs.declared.lines.LinesEnd.{LinesEnd}
-use Rattle.wasi_session.specs.declared.lines.LinesEnd.TheVariants as lines
-use Rattle.wasi_session.specs.declared.error.RunError.{RunError}
-use Rattle.wasi_session.specs.declared.error.RunError.TheVariants.{Memory, BadStep, WriteFault}
+use Rattle.wasi_run.specs.declared.lines.LinesEnd.{LinesEnd}
+use Rattle.wasi_run.specs.declared.lines.LinesEnd.TheVariants as lines
+use Rattle.wasi_run.specs.declared.error.RunError.{RunError}
+use Rattle.wasi_run.specs.declared.error.RunError.TheVariants.{Memory, BadStep, WriteFault}
 use Rattle.wasi_steps.specs.Steps.{step_of}
-use Rattle.wasi_session.specs.Written.{TookAll, TookFront}
-use Rattle.wasi_session.specs.Ran.{Beyond, Wrote, Counted, Cause, LinesRan}
-use Rattle.wasi_session.proofs.Takes.{same_none}
-use Rattle.wasi_session.proofs.Stretches.{next_run, Stepped, stretch_one, before_any, none_began}
+use Rattle.wasi_run.specs.Written.{TookAll, TookFront}
+use Rattle.wasi_run.specs.Ran.{Beyond, Wrote, Counted, Cause, LinesRan}
+use Rattle.wasi_run.proofs.Takes.{same_none}
+use Rattle.wasi_run.proofs.Stretches.{next_run, Stepped, stretch_one, before_any, none_began}
 
 either_way : (b : Bool) (a : List Reply × Machine) → (if b then Give a else Give a) ≡ Give a
 either_way true a = refl

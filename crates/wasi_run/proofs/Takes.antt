@@ -1,5 +1,5 @@
 -- One piece after another, of a reader and of a writer.
-use Rattle.wasi_session.proofs.Words.{◌≡◌, ◌∙◌, ap, sym, ℕ, ◌+◌, ◌-◌, ◌<◌, ◌≤◌, List, [], ◌++◌, length, take, drop, Option, Some, None, append_assoc, append-nil, refl, arith, length-append, length-drop, min, inl, inr, ◌⊎◌, option_map, take_rest, length-take, Rose, Reading, Writing, Gave, Took, SameCounts, CountRose, TookSome, GaveSome, GaveNone}
+use Rattle.wasi_run.proofs.LineWords.{◌≡◌, ◌∙◌, ap, sym, ℕ, ◌+◌, ◌-◌, ◌<◌, ◌≤◌, List, [], ◌++◌, length, take, drop, Option, Some, None, append_assoc, append-nil, refl, arith, length-append, length-drop, min, inl, inr, ◌⊎◌, option_map, take_rest, length-take, Rose, Reading, Writing, Gave, Took, SameCounts, CountRose, TookSome, GaveSome, GaveNone}
 use Rattle.std.proofs.Math.Seq.{take-add}
 
 grown : (old mid new : Option (List ℕ)) (xs ys : List ℕ) → mid ≡ option_map (λ w. w ++ xs) old → new ≡ option_map (λ w. w ++ ys) mid → new ≡ option_map (λ w. w ++ (xs ++ ys)) old

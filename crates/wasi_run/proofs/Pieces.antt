@@ -1,13 +1,13 @@
 -- The lines of a piece, the first of which began before it.
-use Rattle.wasi_session.proofs.Words.{◌≡◌, ◌∙◌, ap, sym, refl, ℕ, ◌+◌, ◌-◌, ◌≤◌, ◌==◌, List, [], ◌∷◌, ◌++◌, length, take, drop, Some, None, Result, Ok, Err, append-nil, add-zero, arith, position, take_rest, WasiSocketsCtx, Seen, Writing, Machine, lines_of, rest_of, lines_from, rest_from, Cut, NoCut, cut_at, no_cut, cut_line, cut_after, cut_within}
-use Rattle.wasi_session.specs.declared.lines.LinesEnd.{LinesEnd}
-use Rattle.wasi_session.specs.declared.lines.LinesEnd.TheVariants as lines
-use Rattle.wasi_session.specs.declared.error.RunError.{RunError}
-use Rattle.wasi_session.specs.declared.error.RunError.TheVariants.{Memory}
-use Rattle.wasi_session.specs.Lines.{LeftAt, KeptOf}
-use Rattle.wasi_session.specs.Ran.{LinesRan}
-use Rattle.wasi_session.proofs.Stretches.{lines_then, lines_none, lines_ahead, IsOver}
-use Rattle.wasi_session.proofs.OneLine.{none_done}
+use Rattle.wasi_run.proofs.LineWords.{◌≡◌, ◌∙◌, ap, sym, refl, ℕ, ◌+◌, ◌-◌, ◌≤◌, ◌==◌, List, [], ◌∷◌, ◌++◌, length, take, drop, Some, None, Result, Ok, Err, append-nil, add-zero, arith, position, take_rest, WasiSocketsCtx, Seen, Writing, Machine, lines_of, rest_of, lines_from, rest_from, Cut, NoCut, cut_at, no_cut, cut_line, cut_after, cut_within}
+use Rattle.wasi_run.specs.declared.lines.LinesEnd.{LinesEnd}
+use Rattle.wasi_run.specs.declared.lines.LinesEnd.TheVariants as lines
+use Rattle.wasi_run.specs.declared.error.RunError.{RunError}
+use Rattle.wasi_run.specs.declared.error.RunError.TheVariants.{Memory}
+use Rattle.wasi_run.specs.Lines.{LeftAt, KeptOf}
+use Rattle.wasi_run.specs.Ran.{LinesRan}
+use Rattle.wasi_run.proofs.Stretches.{lines_then, lines_none, lines_ahead, IsOver}
+use Rattle.wasi_run.proofs.OneLine.{none_done}
 
 pub piece_cut : (front piece : List ℕ) (end : ℕ) → Some end ≡ position (λ b. b == 10) piece → Cut front piece end
 piece_cut front piece end h = cut_at front piece end (sym h)

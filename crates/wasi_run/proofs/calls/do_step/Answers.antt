@@ -1,6 +1,6 @@
-use Rattle.wasi_session.proofs.Words.{refl, sym, ◌∙◌, asks_given}
-use Rattle.wasi_session.proofs.CallSteps.{held_up, goes_on}
-use Rattle.wasi_session.proofs.calls.do_step.Goals as goal
+use Rattle.wasi_run.proofs.LineWords.{refl, sym, ◌∙◌, asks_given}
+use Rattle.wasi_run.proofs.CallSteps.{held_up, goes_on}
+use Rattle.wasi_run.proofs.calls.do_step.Goals as goal
 
 pub returns-then-is_held_up-clause-asked : goal.returns-then-is_held_up-clause-asked
 returns-then-is_held_up-clause-asked g c = asks_given _ _ refl (held_up c.args.contexts.now c.args.machine.now c.args.line c.args.step c.args.machine.now.store.standing (sym c.is_held_up.ensures ∙ c.if-is_held_up.true))

@@ -2,9 +2,9 @@
 
 ghost use Rattle.std.specs.Prelude.{◌≡◌, ◌∷◌, ◌+◌, ◌<◌, ◌≤◌, ◌^◌, [], Ok, OnOk, OnErr, length, take, drop, false};
 ghost use Rattle.wasi_world.specs.Lines.{lines_of, lines_from};
-ghost use Rattle.wasi_session.specs.Lines.{LeftAt, KeptOf};
-ghost use Rattle.wasi_session.specs.Written.{TookAll, TookFront};
-ghost use Rattle.wasi_session.specs.Ran.{LinesRan};
+ghost use Rattle.wasi_run.specs.Lines.{LeftAt, KeptOf};
+ghost use Rattle.wasi_run.specs.Written.{TookAll, TookFront};
+ghost use Rattle.wasi_run.specs.Ran.{LinesRan};
 
 use crate::error::RunError;
 use crate::session::Session;

@@ -1,13 +1,13 @@
-use Rattle.wasi_session.proofs.Words.{◌∙◌, ap, Ok, Result, refl, ◌+◌, drop, Seen, Writing, Machine, lines_of, lines_from}
-use Rattle.wasi_session.specs.declared.lines.LinesEnd.{LinesEnd}
-use Rattle.wasi_session.specs.declared.error.RunError.{RunError}
-use Rattle.wasi_session.specs.Ran.{LinesRan}
-use Rattle.wasi_session.proofs.Stretches.{stays_open}
-use Rattle.wasi_session.proofs.OneLine.{at_exit, none_done}
-use Rattle.wasi_session.proofs.Pieces.{piece_cut, piece_whole, piece_over, piece_then, piece_none, kept_none, kept_some, starved, first_within}
-use Rattle.wasi_session.proofs.lines.do_piece.Given.{Over}
-use Rattle.wasi_session.proofs.lines.do_piece.Goals as goal
-use Rattle.wasi_session.proofs.lines.do_piece.Goals.{In-AllDone}
+use Rattle.wasi_run.proofs.LineWords.{◌∙◌, ap, Ok, Result, refl, ◌+◌, drop, Seen, Writing, Machine, lines_of, lines_from}
+use Rattle.wasi_run.specs.declared.lines.LinesEnd.{LinesEnd}
+use Rattle.wasi_run.specs.declared.error.RunError.{RunError}
+use Rattle.wasi_run.specs.Ran.{LinesRan}
+use Rattle.wasi_run.proofs.Stretches.{stays_open}
+use Rattle.wasi_run.proofs.OneLine.{at_exit, none_done}
+use Rattle.wasi_run.proofs.Pieces.{piece_cut, piece_whole, piece_over, piece_then, piece_none, kept_none, kept_some, starved, first_within}
+use Rattle.wasi_run.proofs.lines.do_piece.Given.{Over}
+use Rattle.wasi_run.proofs.lines.do_piece.Goals as goal
+use Rattle.wasi_run.proofs.lines.do_piece.Goals.{In-AllDone}
 
 -- the lines after the first, which was done
 others : (g : Over) (c : In-AllDone g) {w_new : Seen} {k_new : Writing} {outcome : Result LinesEnd RunError} {last : Machine} → LinesRan c.args.contexts.now (g.W.World.seen c.do_line.new.world) w_new (g.K.Sink.writing c.do_line.new.writer) k_new c.do_line.new.session.machine (c.do_line.new.session.lines + 1) (lines_of (drop (c.in-Some.end + 1) c.args.piece.now)) outcome last → LinesRan c.args.contexts.now (g.W.World.seen c.args.world.now) w_new (g.K.Sink.writing c.args.writer.now) k_new c.args.session.now.machine (c.args.session.now.lines + 1) (lines_from c.args.line.now.items c.args.piece.now) outcome last

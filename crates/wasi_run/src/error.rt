@@ -25,7 +25,7 @@ pub enum RunError {
 
 impl From<AllocError> for RunError {
     ghost use Rattle.std.specs.Prelude.{◌≡◌};
-    ghost use Rattle.wasi_session.specs.declared.error.RunError.TheVariants.{Memory};
+    ghost use Rattle.wasi_run.specs.declared.error.RunError.TheVariants.{Memory};
 
     ghost from_gives = { λ _ e. e ≡ Memory };
 

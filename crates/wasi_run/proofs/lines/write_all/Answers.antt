@@ -1,6 +1,6 @@
-use Rattle.wasi_session.proofs.Takes.{write_more, write_within, same_again, took_none, same_none}
+use Rattle.wasi_run.proofs.Takes.{write_more, write_within, same_again, took_none, same_none}
 use Rattle.std.proofs.Common.{arith, ℕ, ◌<◌, ◌≢◌}
-use Rattle.wasi_session.proofs.lines.write_all.Goals as goal
+use Rattle.wasi_run.proofs.lines.write_all.Goals as goal
 
 pos : (n : ℕ) → n ≢ 0 → 0 < n
 pos n h = omega arith

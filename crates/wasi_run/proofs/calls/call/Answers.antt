@@ -1,12 +1,12 @@
-use Rattle.wasi_session.proofs.Words.{address_values, answer_reply, asks_answered, asks_end, asks_exit, bytes_fields, family_fields, given_answered}
-use Rattle.wasi_session.proofs.Words.{no_values, number_fields, pair_values, refl, reply_of, resumed_reply, stream_reply_of, triple_values}
-use Rattle.wasi_session.proofs.Words.{truth_fields}
+use Rattle.wasi_run.proofs.LineWords.{address_values, answer_reply, asks_answered, asks_end, asks_exit, bytes_fields, family_fields, given_answered}
+use Rattle.wasi_run.proofs.LineWords.{no_values, number_fields, pair_values, refl, reply_of, resumed_reply, stream_reply_of, triple_values}
+use Rattle.wasi_run.proofs.LineWords.{truth_fields}
 use Rattle.std.proofs.Common.{sym}
 use Rattle.wasi_world.specs.declared.ids.Ids.{Ids}
 use Rattle.wasi_world.proofs.Walks.{asks_at}
 use Rattle.wasi_host.specs.Machine.{drop_asks}
 use Rattle.wasi_host.specs.Views.{state_of}
-use Rattle.wasi_session.proofs.calls.call.Goals as goal
+use Rattle.wasi_run.proofs.calls.call.Goals as goal
 
 pub returns-in-Network-clause-asked : goal.returns-in-Network-clause-asked
 returns-in-Network-clause-asked g c = rw c.in-Network.is (asks_answered (reply_of number_fields) _ _ c.instance_network-made.ensures.asked c.reply_of.ensures)

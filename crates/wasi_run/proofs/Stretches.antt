@@ -1,12 +1,12 @@
 -- One run of lines after another.
-use Rattle.wasi_session.proofs.Words.{◌≡◌, ◌∙◌, ap, sym, refl, subst, ℕ, ◌+◌, ◌<◌, true, false, Bool, if◌then◌else◌, List, [], ◌∷◌, ◌++◌, length, take, Result, Ok, Err, append_assoc, append-nil, length-append, add-zero, arith, WasiSocketsCtx, Seen, Asks, Give, Reaches, Started, Writing, SameCounts, reaches_all, reaches_on, reaches_then, Machine, Step, Reply, is_trap, text_of, machine_asks, run, KnowsSides}
-use Rattle.wasi_session.specs.declared.lines.LinesEnd.{LinesEnd}
-use Rattle.wasi_session.specs.declared.lines.LinesEnd.TheVariants as lines
-use Rattle.wasi_session.specs.declared.error.RunError.{RunError}
-use Rattle.wasi_session.specs.declared.error.RunError.TheVariants.{BadStep, WriteFault}
-use Rattle.wasi_session.specs.Lines.{StartWith, BadAfter}
-use Rattle.wasi_session.specs.Ran.{texts, NoTrap, OneTrap, CutLast, Stretch, Beyond, Wrote, Counted, Cause, LinesRan}
-use Rattle.wasi_session.proofs.Takes.{took_again, took_none, same_again, same_none, rose_again}
+use Rattle.wasi_run.proofs.LineWords.{◌≡◌, ◌∙◌, ap, sym, refl, subst, ℕ, ◌+◌, ◌<◌, true, false, Bool, if◌then◌else◌, List, [], ◌∷◌, ◌++◌, length, take, Result, Ok, Err, append_assoc, append-nil, length-append, add-zero, arith, WasiSocketsCtx, Seen, Asks, Give, Reaches, Started, Writing, SameCounts, reaches_all, reaches_on, reaches_then, Machine, Step, Reply, is_trap, text_of, machine_asks, run, KnowsSides}
+use Rattle.wasi_run.specs.declared.lines.LinesEnd.{LinesEnd}
+use Rattle.wasi_run.specs.declared.lines.LinesEnd.TheVariants as lines
+use Rattle.wasi_run.specs.declared.error.RunError.{RunError}
+use Rattle.wasi_run.specs.declared.error.RunError.TheVariants.{BadStep, WriteFault}
+use Rattle.wasi_run.specs.Lines.{StartWith, BadAfter}
+use Rattle.wasi_run.specs.Ran.{texts, NoTrap, OneTrap, CutLast, Stretch, Beyond, Wrote, Counted, Cause, LinesRan}
+use Rattle.wasi_run.proofs.Takes.{took_again, took_none, same_again, same_none, rose_again}
 
 -- == stretches
 -- what follows a line in a run

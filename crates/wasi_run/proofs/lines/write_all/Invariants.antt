@@ -1,5 +1,5 @@
-use Rattle.wasi_session.proofs.Words.{length, ◌-◌, ◌≤◌, take, Took, SameCounts}
-use Rattle.wasi_session.proofs.lines.write_all.Given as goal
+use Rattle.wasi_run.proofs.LineWords.{length, ◌-◌, ◌≤◌, take, Took, SameCounts}
+use Rattle.wasi_run.proofs.lines.write_all.Given as goal
 
 -- the bytes before are written, and nothing went wrong
 abbrev pub invariant-loop-at : goal.invariant-loop-at

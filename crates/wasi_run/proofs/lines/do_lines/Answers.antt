@@ -1,8 +1,8 @@
-use Rattle.wasi_session.proofs.Words.{◌∙◌, ap, Ok}
-use Rattle.wasi_session.proofs.OneLine.{at_exit}
-use Rattle.wasi_session.proofs.Stretches.{stays_open}
-use Rattle.wasi_session.proofs.ManyLines.{going_start, going_on, going_over, going_all, going_left, going_fits, found, found_none}
-use Rattle.wasi_session.proofs.lines.do_lines.Goals as goal
+use Rattle.wasi_run.proofs.LineWords.{◌∙◌, ap, Ok}
+use Rattle.wasi_run.proofs.OneLine.{at_exit}
+use Rattle.wasi_run.proofs.Stretches.{stays_open}
+use Rattle.wasi_run.proofs.ManyLines.{going_start, going_on, going_over, going_all, going_left, going_fits, found, found_none}
+use Rattle.wasi_run.proofs.lines.do_lines.Goals as goal
 
 pub loop-end-init : goal.loop-end-init
 loop-end-init g c = going_start _ _ _ _ _ _ _ c.requires.within
