@@ -1,6 +1,6 @@
 -- Each reply that a step may give is read back from its text, so no two of them have one text.
-use Rattle.std.proofs.Common.{◌≡◌, ℕ, List, [], ◌∷◌, map, codes, decimal, Option, Some, None, IsTrue, append-nil, ap, sym, ◌∙◌, refl, arith}
-use Rattle.std.specs.List.{list_all}
+use Rattle.std.proofs.Common.{◌≡◌, ℕ, suc, ◌==◌, if◌then◌else◌, List, [], ◌∷◌, map, length, codes, decimal, Option, Some, None, IsTrue, append-nil, ap, sym, ◌∙◌, refl, arith, subst, inl, inr}
+use Rattle.std.specs.List.{list_all, AllByRecursion}
 use Rattle.std.proofs.lemmas.List.{append_cancel_right}
 use Rattle.wasi_world.specs.declared.outcome.TrapKind.{TrapKind}
 use Rattle.wasi_world.specs.declared.outcome.TrapKind.TheVariants as trap
@@ -16,8 +16,9 @@ use Rattle.wasi_steps.specs.declared.reply.Field.TheVariants as field
 use Rattle.wasi_steps.specs.declared.reply.Reply.{Reply}
 use Rattle.wasi_steps.specs.declared.reply.Reply.TheVariants as reply
 use Rattle.wasi_steps.specs.declared.step.Step.{Step}
+use Rattle.wasi_steps.specs.declared.step.Step.TheVariants as step
 use Rattle.wasi_steps.specs.Reply.{address_values}
-use Rattle.wasi_steps.specs.Replies.{code_text, trap_text, field_text, fields_of_reply, text_of, FieldKind, ANumber, SomeBytes, Truth, FieldKinds, Each, AnAddress, kinds_of, IsOfKind, EachOfKind, AreOfKinds, Gives}
+use Rattle.wasi_steps.specs.Replies.{code_text, trap_text, field_text, fields_of_reply, text_of, FieldKind, ANumber, SomeBytes, Truth, FieldKinds, Each, AnAddress, OneOf, kinds_of, IsOfKind, EachOfKind, AsOneSays, AreOfKinds, Gives}
 
 code_words : List CodeWord
 code_words =
@@ -57,14 +58,20 @@ each_of_kind : List FieldKind → Reader (List Field)
 each_of_kind [] = give []
 each_of_kind (kind ∷ kinds) = of_kind kind >>= λ f. each_of_kind kinds >>= λ fields. give (f ∷ fields)
 
--- the fields of a reply
-abbrev of_kinds : FieldKinds → Reader (List Field)
-of_kinds (Each kinds) = each_of_kind kinds
-of_kinds AnAddress = address_at >>= λ a. give (address_values a)
+-- the one of these lists that a reply of so many fields has, with its word
+of_length : ℕ → List (List FieldKind) → List FieldKind
+of_length n [] = []
+of_length n (kinds ∷ lists) = if suc (length kinds) == n then kinds else of_length n lists
 
-rows : FieldKinds → List (Row Reply)
-rows kinds =
-    row (codes "ok") (of_kinds kinds >>= λ fields. give (reply.Ok fields))
+-- the fields of a reply that has so many, with its word
+abbrev of_kinds : FieldKinds → ℕ → Reader (List Field)
+of_kinds (Each kinds) n = each_of_kind kinds
+of_kinds AnAddress n = address_at >>= λ a. give (address_values a)
+of_kinds (OneOf lists) n = each_of_kind (of_length n lists)
+
+rows : FieldKinds → ℕ → List (Row Reply)
+rows kinds n =
+    row (codes "ok") (of_kinds kinds n >>= λ fields. give (reply.Ok fields))
     ∷ row (codes "err") (code_at >>= λ code. give (reply.Err code))
     ∷ row (codes "closed") (give reply.Closed)
     ∷ row (codes "failed") (code_at >>= λ code. number_at 4294967295 >>= λ handle. give (reply.Failed code handle))
@@ -77,9 +84,13 @@ rows kinds =
     ∷ row (codes "unfilled") (give reply.Unfilled)
     ∷ []
 
--- what reads a reply whose fields are of these kinds
-reply_at : FieldKinds → Reader Reply
-reply_at kinds = word_at >>= after_word (rows kinds)
+-- what reads a reply of so many fields, which are of these kinds
+reply_at : FieldKinds → ℕ → Reader Reply
+reply_at kinds n = word_at >>= after_word (rows kinds n)
+
+-- the reply that these fields are
+abbrev reply_in : FieldKinds → Reader Reply
+reply_in kinds fields = reply_at kinds (length fields) fields
 
 all_of_kind : (kind : FieldKind) (f : Field) → IsOfKind kind f → All (of_kind kind) f (field_text f ∷ [])
 all_of_kind ANumber (field.Number n) is = all_last _ (number_exactly 18446744073709551615 (omega arith)) (omega arith) all_give
@@ -101,10 +112,35 @@ number_texts : (ns : List ℕ) → map field_text (map field.Number ns) ≡ map 
 number_texts [] = refl
 number_texts (n ∷ ns) = ap (λ texts. decimal n ∷ texts) (number_texts ns)
 
-all_of_kinds : (kinds : FieldKinds) (fields : List Field) → AreOfKinds kinds fields → All (of_kinds kinds) fields (map field_text fields)
-all_of_kinds (Each kinds) fields are = all_each kinds fields are
-all_of_kinds AnAddress fields are =
+-- where the fields of a reply may be as one of some lists says, each is found by its length
+abbrev Among : List (List FieldKind) → List (List FieldKind) → Type 0
+Among all lists = AllByRecursion (λ kinds. of_length (suc (length kinds)) all ≡ kinds) lists
+
+abbrev AreTold : FieldKinds → Type 0
+AreTold (OneOf lists) = Among lists lists
+AreTold _ = Unit {0}
+
+are_told : (s : Step) → AreTold (kinds_of s)
+unfolding of_length
+are_told (step.Poll call) = (refl, (refl, tt))
+are_told _ = tt
+
+as_many : (kinds : List FieldKind) (fields : List Field) → EachOfKind kinds fields → length kinds ≡ length (map field_text fields)
+as_many [] [] are = refl
+as_many (kind ∷ kinds) (f ∷ fields) are = ap suc (as_many kinds fields are.1)
+as_many [] (f ∷ fields) are = absurd are
+as_many (kind ∷ kinds) [] are = absurd are
+
+one_says : (all lists : List (List FieldKind)) (fields : List Field) → Among all lists → AsOneSays lists fields → EachOfKind (of_length (suc (length (map field_text fields))) all) fields
+one_says all [] fields told one = absurd one
+one_says all (kinds ∷ lists) fields told (inl are) = subst (λ n. EachOfKind (of_length (suc n) all) fields) (as_many kinds fields are) (rw told.0 are)
+one_says all (kinds ∷ lists) fields told (inr more) = one_says all lists fields told.1 more
+
+all_of_kinds : (kinds : FieldKinds) (fields : List Field) → AreTold kinds → AreOfKinds kinds fields → All (of_kinds kinds (suc (length (map field_text fields)))) fields (map field_text fields)
+all_of_kinds (Each kinds) fields told are = all_each kinds fields are
+all_of_kinds AnAddress fields told are =
     rw (are.numbers, number_texts (address_numbers are.address)) (all_last _ address_exactly are.fits all_give)
+all_of_kinds (OneOf lists) fields told are = all_each _ fields (one_says lists lists fields told are)
 
 code_all : (code : CodeWord) → All code_at code (code_text code ∷ [])
 unfolding code_at
@@ -114,18 +150,18 @@ trap_all : (kind : TrapKind) → All trap_at kind (trap_text kind ∷ [])
 unfolding trap_at
 trap_all kind = all_last _ field_exactly tt (all_some _ (trap_back kind))
 
-with_word : (kinds : FieldKinds) (word : List ℕ) {r : Reply} {taken : List (List ℕ)} → IsTrue (list_all is_visible word) → All (after_word (rows kinds) word) r taken → All (reply_at kinds) r (word ∷ taken)
+with_word : (kinds : FieldKinds) (n : ℕ) (word : List ℕ) {r : Reply} {taken : List (List ℕ)} → IsTrue (list_all is_visible word) → All (after_word (rows kinds n) word) r taken → All (reply_at kinds n) r (word ∷ taken)
 unfolding reply_at
-with_word kinds word visible more = all_then _ word_exactly (visible_utf8 word visible) more
+with_word kinds n word visible more = all_then _ word_exactly (visible_utf8 word visible) more
 
-reply_all : (s : Step) (r : Reply) → Gives s r → All (reply_at (kinds_of s)) r (fields_of_reply r)
+reply_all : (s : Step) (r : Reply) → Gives s r → All (reply_at (kinds_of s) (length (fields_of_reply r))) r (fields_of_reply r)
 unfolding rows
-reply_all s (reply.Ok fields) gives = with_word (kinds_of s) _ refl (all_end _ (all_of_kinds (kinds_of s) fields gives) all_give)
-reply_all s (reply.Err code) gives = with_word (kinds_of s) _ refl (all_end _ (code_all code) all_give)
-reply_all s (reply.Failed code handle) gives = with_word (kinds_of s) _ refl (all_both _ (code_all code) (all_last _ u32_exactly gives all_give))
-reply_all s (reply.Trap kind) gives = with_word (kinds_of s) _ refl (all_end _ (trap_all kind) all_give)
-reply_all s (reply.Pending n) gives = with_word (kinds_of s) _ refl (all_last _ u32_exactly gives all_give)
-reply_all s _ gives = with_word (kinds_of s) _ refl all_give
+reply_all s (reply.Ok fields) gives = with_word (kinds_of s) _ _ refl (all_end _ (all_of_kinds (kinds_of s) fields (are_told s) gives) all_give)
+reply_all s (reply.Err code) gives = with_word (kinds_of s) _ _ refl (all_end _ (code_all code) all_give)
+reply_all s (reply.Failed code handle) gives = with_word (kinds_of s) _ _ refl (all_both _ (code_all code) (all_last _ u32_exactly gives all_give))
+reply_all s (reply.Trap kind) gives = with_word (kinds_of s) _ _ refl (all_end _ (trap_all kind) all_give)
+reply_all s (reply.Pending n) gives = with_word (kinds_of s) _ _ refl (all_last _ u32_exactly gives all_give)
+reply_all s _ gives = with_word (kinds_of s) _ _ refl all_give
 
 -- the fields of replies are visible
 code_visible : (code : CodeWord) → IsTrue (list_all is_visible (code_text code))
@@ -149,10 +185,16 @@ each_visible (kind ∷ kinds) (f ∷ fields) are = (field_visible kind f are.0, 
 each_visible [] (f ∷ fields) are = absurd are
 each_visible (kind ∷ kinds) [] are = absurd are
 
+one_visible : (lists : List (List FieldKind)) (fields : List Field) → AsOneSays lists fields → AreVisible (map field_text fields)
+one_visible [] fields one = absurd one
+one_visible (kinds ∷ lists) fields (inl are) = each_visible kinds fields are
+one_visible (kinds ∷ lists) fields (inr more) = one_visible lists fields more
+
 fields_visible : (kinds : FieldKinds) (fields : List Field) → AreOfKinds kinds fields → AreVisible (map field_text fields)
 fields_visible (Each kinds) fields are = each_visible kinds fields are
 fields_visible AnAddress fields are =
     rw (are.numbers, number_texts (address_numbers are.address)) (address_visible are.address are.fits)
+fields_visible (OneOf lists) fields are = one_visible lists fields are
 
 reply_visible : (s : Step) (r : Reply) → Gives s r → AreVisible (fields_of_reply r)
 reply_visible s (reply.Ok fields) gives = (refl, fields_visible (kinds_of s) fields gives)
@@ -162,15 +204,15 @@ reply_visible s (reply.Trap kind) gives = (refl, (trap_visible kind, tt))
 reply_visible s (reply.Pending n) gives = (refl, (number_visible n (omega arith), tt))
 reply_visible s _ gives = (refl, tt)
 
-no_reply : (kinds : FieldKinds) → reply_at kinds [] ≡ None
+no_reply : (kinds : FieldKinds) (n : ℕ) → reply_at kinds n [] ≡ None
 unfolding reply_at read_then word_at field_at
-no_reply kinds = refl
+no_reply kinds n = refl
 
 -- a reply's fields are those of its line, and it is read back from them
-line_read : (s : Step) (r : Reply) → Gives s r → reply_at (kinds_of s) (fields_of (line_with (fields_of_reply r))) ≡ Some (r, [])
+line_read : (s : Step) (r : Reply) → Gives s r → reply_in (kinds_of s) (fields_of (line_with (fields_of_reply r))) ≡ Some (r, [])
 line_read s r gives =
     let read = rw append-nil at ((reply_all s r gives).given []) in
-    let some : fields_of_reply r ≡ [] → ⊥ = λ none. let first = rw none at read in cc (no_reply (kinds_of s)) in
+    let some : fields_of_reply r ≡ [] → ⊥ = λ none. let first = rw none at read in cc (no_reply (kinds_of s) (length (fields_of_reply r))) in
     rw (fields_of_line (fields_of_reply r) some (reply_visible s r gives)) read
 
 pub texts_differ : (s : Step) (r q : Reply) → Gives s r → Gives s q → text_of r ≡ text_of q → r ≡ q
@@ -179,5 +221,5 @@ texts_differ s r q hr hq same =
     let line = append_cancel_right (line_with (fields_of_reply r)) (line_with (fields_of_reply q)) (codes "\n") same in
     let one = line_read s r hr in
     let two = line_read s q hq in
-    let read : ◌≡◌ {A = Option (Reply × List (List ℕ))} (Some (r, [])) (Some (q, [])) = sym one ∙ (ap (λ l. reply_at (kinds_of s) (fields_of l)) line ∙ two) in
+    let read : ◌≡◌ {A = Option (Reply × List (List ℕ))} (Some (r, [])) (Some (q, [])) = sym one ∙ (ap (λ l. reply_in (kinds_of s) (fields_of l)) line ∙ two) in
     (same_found r q [] [] read).0

@@ -11,7 +11,11 @@ use Rattle.wasi_world.proofs.Exactly.{All, Only, exactly, all_give, only_give, a
 use Rattle.wasi_world.proofs.Words.{only_word}
 use Rattle.wasi_steps.specs.declared.setting.TcpSetting.{TcpSetting}
 use Rattle.wasi_steps.specs.declared.setting.TcpSetting.TheVariants as setting
-use Rattle.wasi_steps.specs.Settings.{option_word, option_words, option_at, setting_fields, FitsSetting, setting_words, setting_at}
+use Rattle.wasi_steps.specs.declared.setting.UdpOption.{UdpOption}
+use Rattle.wasi_steps.specs.declared.setting.UdpOption.TheVariants as udp
+use Rattle.wasi_steps.specs.declared.setting.UdpSetting.{UdpSetting}
+use Rattle.wasi_steps.specs.declared.setting.UdpSetting.TheVariants as udp_setting
+use Rattle.wasi_steps.specs.Settings.{option_word, option_words, option_at, setting_fields, FitsSetting, setting_words, setting_at, udp_option_word, udp_option_words, udp_option_at, udp_setting_fields, FitsUdpSetting, udp_setting_words, udp_setting_at}
 
 -- what holds of the first of a list, and what holds of those after it
 infixr 5 ◌and◌
@@ -101,3 +105,42 @@ value_visible n fits = number_visible n (omega arith) and tt
 pub setting_visible : (s : TcpSetting) → FitsSetting s → AreVisible (setting_fields s)
 setting_visible (setting.KeepAliveEnabled b) fits = refl and bit_visible b
 setting_visible _ fits = refl and value_visible _ (omega arith)
+
+-- == options and settings of a UDP socket
+pub udp_option_visible : (option : UdpOption) → AreVisible (udp_option_word option ∷ [])
+udp_option_visible udp.HopLimit = refl and tt
+udp_option_visible _ = refl and tt
+
+udp_option_all : (option : UdpOption) → All (after_word udp_option_words (udp_option_word option)) option []
+udp_option_all udp.HopLimit = all_give
+udp_option_all _ = all_give
+
+pub udp_option_exactly : ReadsExactly udp_option_at (λ option. udp_option_word option ∷ []) (λ option. Unit {0})
+unfolding udp_option_at
+udp_option_exactly = exactly
+    (only_then _ word_exactly (λ word utf8. only_word (λ word taken option. Unit {0} × (word ∷ taken ≡ udp_option_word option ∷ [])) udp_option_words word
+    (only_give udp.HopLimit (tt, refl) and only_give udp.ReceiveBufferSize (tt, refl) and only_give udp.SendBufferSize (tt, refl) and tt)))
+    (λ option u. all_last _ word_exactly (visible_utf8 (udp_option_word option) (udp_option_visible option).0) (udp_option_all option))
+
+abbrev ReadsUdpSetting : List ℕ → List (List ℕ) → UdpSetting → Type 0
+ReadsUdpSetting word taken s = FitsUdpSetting s × (word ∷ taken ≡ udp_setting_fields s)
+
+udp_settings_only : (word : List ℕ) → Only (after_word udp_setting_words word) (ReadsUdpSetting word)
+udp_settings_only word = only_word ReadsUdpSetting udp_setting_words word
+    (only_last udp_setting.HopLimit byte_exactly (λ n fits. (fits, refl))
+    and only_last udp_setting.ReceiveBufferSize u64_exactly (λ n fits. (fits, refl))
+    and only_last udp_setting.SendBufferSize u64_exactly (λ n fits. (fits, refl))
+    and tt)
+
+udp_setting_all : (s : UdpSetting) → FitsUdpSetting s → All udp_setting_at s (udp_setting_fields s)
+unfolding udp_setting_at
+udp_setting_all (udp_setting.HopLimit n) fits = all_then _ word_exactly (visible_utf8 _ refl) (all_last _ byte_exactly fits all_give)
+udp_setting_all _ fits = all_then _ word_exactly (visible_utf8 _ refl) (all_last _ u64_exactly fits all_give)
+
+pub udp_setting_exactly : ReadsExactly udp_setting_at udp_setting_fields FitsUdpSetting
+unfolding udp_setting_at
+udp_setting_exactly = exactly (only_then _ word_exactly (λ word utf8. udp_settings_only word)) udp_setting_all
+
+pub udp_setting_visible : (s : UdpSetting) → FitsUdpSetting s → AreVisible (udp_setting_fields s)
+udp_setting_visible (udp_setting.HopLimit n) fits = refl and value_visible n (omega arith)
+udp_setting_visible _ fits = refl and value_visible _ fits

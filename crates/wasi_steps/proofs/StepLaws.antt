@@ -14,8 +14,8 @@ use Rattle.wasi_addr.specs.declared.address.ShutdownType.{ShutdownType}
 use Rattle.wasi_addr.specs.declared.address.ShutdownType.TheVariants.{Receive, Send, Both}
 use Rattle.wasi_steps.specs.declared.step.Step.{Step}
 use Rattle.wasi_steps.specs.declared.step.Step.TheVariants as step
-use Rattle.wasi_steps.specs.Steps.{Kind, ACount, AFamily, ASocketAddress, AnOption, ASetting, AHalf, AllBytes, Value, value_at, value_fields, FitsValue, Values, values_fields, FitsValues, Takes, made, values_at, Written, fields_of_written, signature, context_fields, shutdown_fields, shutdown_words, shutdown_at, context_of, fields_of_step, line_of, IsStep, row_of, rows_of, rows_by, is_read, steps, bare_steps, guest_call_at, after_first, step_reader, step_of}
-use Rattle.wasi_steps.proofs.SettingLaws.{◌and◌, u64_exactly, option_exactly, option_visible, setting_exactly, setting_visible}
+use Rattle.wasi_steps.specs.Steps.{Kind, ACount, AFamily, ASocketAddress, AnOption, ASetting, AUdpOption, AUdpSetting, AHalf, AllBytes, Value, value_at, value_fields, FitsValue, Values, values_fields, FitsValues, Takes, made, values_at, Written, fields_of_written, signature, context_fields, shutdown_fields, shutdown_words, shutdown_at, context_of, fields_of_step, line_of, IsStep, row_of, rows_of, rows_by, is_read, steps, bare_steps, guest_call_at, after_first, step_reader, step_of}
+use Rattle.wasi_steps.proofs.SettingLaws.{◌and◌, u64_exactly, option_exactly, option_visible, setting_exactly, setting_visible, udp_option_exactly, udp_option_visible, udp_setting_exactly, udp_setting_visible}
 
 -- the word of what is shut down is read exactly
 shutdown_all : (how : ShutdownType) → All shutdown_at how (shutdown_fields how)
@@ -37,6 +37,8 @@ kind_exactly AFamily = family_exactly
 kind_exactly ASocketAddress = address_exactly
 kind_exactly AnOption = option_exactly
 kind_exactly ASetting = setting_exactly
+kind_exactly AUdpOption = udp_option_exactly
+kind_exactly AUdpSetting = udp_setting_exactly
 kind_exactly AHalf = shutdown_exactly
 kind_exactly AllBytes = bytes_exactly
 kind_exactly _ = u32_exactly
@@ -160,6 +162,8 @@ value_visible AFamily family fits = family_visible family
 value_visible ASocketAddress a fits = address_visible a fits
 value_visible AnOption option fits = option_visible option
 value_visible ASetting setting fits = setting_visible setting fits
+value_visible AUdpOption option fits = udp_option_visible option
+value_visible AUdpSetting setting fits = udp_setting_visible setting fits
 value_visible AHalf how fits = shutdown_visible how
 value_visible AllBytes bytes fits = bytes_visible bytes fits
 value_visible _ n fits = number_visible n (omega arith) and tt

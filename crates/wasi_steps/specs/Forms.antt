@@ -2,12 +2,13 @@
 use Rattle.std.specs.Prelude.{ℕ, Bool, true, false, ◌==◌, List, [], ◌∷◌, ◌++◌, map, codes, Option, Some, None}
 use Rattle.wasi_world.specs.Fields.{line_with}
 use Rattle.wasi_steps.specs.declared.step.Step.{Step}
-use Rattle.wasi_steps.specs.Steps.{Target, ANetwork, ASocket, AnInput, AnOutput, Watchable, APollable, Anything, Kind, HandleOf, ALine, ACount, AFamily, ASocketAddress, AnOption, ASetting, AHalf, AllBytes, signature}
+use Rattle.wasi_steps.specs.Steps.{Target, ANetwork, ASocket, ADatagramSocket, AnInput, AnOutput, Watchable, APollable, Anything, Kind, HandleOf, ALine, ACount, AFamily, ASocketAddress, AnOption, ASetting, AUdpOption, AUdpSetting, AHalf, AllBytes, signature}
 
 -- the letters for a handle, and for an argument
 abbrev pub handle_letters : Target → List ℕ
 handle_letters ANetwork = codes "N"
 handle_letters ASocket = codes "S"
+handle_letters ADatagramSocket = codes "S"
 handle_letters AnInput = codes "IN"
 handle_letters AnOutput = codes "OUT"
 handle_letters Watchable = codes "H"
@@ -22,6 +23,8 @@ letters AFamily = codes "F"
 letters ASocketAddress = codes "4 a b c d port"
 letters AnOption = codes "OPTION"
 letters ASetting = codes "OPTION V"
+letters AUdpOption = codes "OPTION"
+letters AUdpSetting = codes "OPTION V"
 letters AHalf = codes "HOW"
 letters AllBytes = codes "BYTES"
 

@@ -1,5 +1,5 @@
 -- The texts of replies, and which replies a step may give.
-use Rattle.std.specs.Prelude.{◌≡◌, ℕ, ◌<◌, ◌≤◌, ◌^◌, List, [], ◌∷◌, ◌++◌, map, codes, decimal}
+use Rattle.std.specs.Prelude.{◌≡◌, ℕ, ◌<◌, ◌≤◌, ◌^◌, List, [], ◌∷◌, ◌++◌, map, codes, decimal, ◌⊎◌}
 use Rattle.wasi_world.specs.declared.outcome.TrapKind.{TrapKind}
 use Rattle.wasi_world.specs.declared.outcome.TrapKind.TheVariants as trap
 use Rattle.wasi_world.specs.Fields.{line_with, bytes_text}
@@ -13,7 +13,7 @@ use Rattle.wasi_steps.specs.declared.reply.Reply.{Reply}
 use Rattle.wasi_steps.specs.declared.reply.Reply.TheVariants as reply
 use Rattle.wasi_steps.specs.Reply.{address_values}
 use Rattle.wasi_steps.specs.declared.step.Step.{Step}
-pub use Rattle.wasi_steps.specs.Steps.{FieldKind, ANumber, SomeBytes, Truth, FieldKinds, Each, AnAddress, kinds_of}
+pub use Rattle.wasi_steps.specs.Steps.{FieldKind, ANumber, SomeBytes, Truth, FieldKinds, Each, AnAddress, OneOf, kinds_of}
 
 -- the words of codes
 abbrev pub code_text : CodeWord → List ℕ
@@ -98,9 +98,15 @@ pub record AreAnAddress (fields : List Field) : Type 0 where
   pub fits : FitsAddress address
   pub numbers : fields ≡ address_values address
 
+-- one field of each kind in one of the lists
+abbrev pub AsOneSays : List (List FieldKind) → List Field → Type 0
+AsOneSays [] fields = ⊥
+AsOneSays (kinds ∷ lists) fields = EachOfKind kinds fields ⊎ AsOneSays lists fields
+
 abbrev pub AreOfKinds : FieldKinds → List Field → Type 0
 AreOfKinds (Each kinds) fields = EachOfKind kinds fields
 AreOfKinds AnAddress fields = AreAnAddress fields
+AreOfKinds (OneOf lists) fields = AsOneSays lists fields
 
 -- a reply that the step may give: its numbers are within their widths, and its fields are of the step's kinds
 abbrev pub Gives : Step → Reply → Type 0

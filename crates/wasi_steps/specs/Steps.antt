@@ -11,10 +11,14 @@ use Rattle.wasi_world.specs.declared.call.Opt.TheVariants.{HopLimit}
 use Rattle.wasi_world.specs.Fields.{Reader, Row, row, after_word, ◌>>=◌, give, give_some, whole, fields_of, line_with, number_in, number_at, word_at, family_at, address_at, bytes_at}
 use Rattle.wasi_world.specs.Written.{number_fields, family_fields, address_fields, bytes_fields, FitsAddress, AreBytes}
 use Rattle.wasi_steps.specs.declared.setting.TcpSetting.{TcpSetting}
+use Rattle.wasi_steps.specs.declared.setting.UdpOption.{UdpOption}
+use Rattle.wasi_steps.specs.declared.setting.UdpSetting.{UdpSetting}
 use Rattle.wasi_steps.specs.declared.step.Step.{Step}
 use Rattle.wasi_steps.specs.declared.step.Step.TheVariants as step
 use Rattle.wasi_steps.specs.declared.setting.TcpSetting.TheVariants as setting
-use Rattle.wasi_steps.specs.Settings.{option_word, option_at, setting_fields, FitsSetting, setting_at}
+use Rattle.wasi_steps.specs.declared.setting.UdpOption.TheVariants as udp
+use Rattle.wasi_steps.specs.declared.setting.UdpSetting.TheVariants as udp_setting
+use Rattle.wasi_steps.specs.Settings.{option_word, option_at, setting_fields, FitsSetting, setting_at, udp_option_word, udp_option_at, udp_setting_fields, FitsUdpSetting, udp_setting_at}
 
 -- == what is shut down
 abbrev pub shutdown_fields : ShutdownType → List (List ℕ)
@@ -31,18 +35,20 @@ shutdown_at = do
   after_word shutdown_words word
 
 -- == arguments
--- what a handle has to be of: a network, a socket, an input, an output, what can be watched, a pollable, or anything
+-- what a handle has to be of: a network, a TCP socket, a UDP socket, an input, an output, what can be watched, a pollable, or
+-- anything
 pub data Target : Type 0 where
   ANetwork : Target
   ASocket : Target
+  ADatagramSocket : Target
   AnInput : Target
   AnOutput : Target
   Watchable : Target
   APollable : Target
   Anything : Target
 
--- what an argument is: a handle, the number of a line, a count of bytes, a family, an address, an option, what is set, what is
--- shut down, bytes
+-- what an argument is: a handle, the number of a line, a count of bytes, a family, an address, an option and what is set, of a
+-- TCP socket or of a UDP socket, what is shut down, bytes
 pub data Kind : Type 0 where
   HandleOf : Target → Kind
   ALine : Kind
@@ -51,6 +57,8 @@ pub data Kind : Type 0 where
   ASocketAddress : Kind
   AnOption : Kind
   ASetting : Kind
+  AUdpOption : Kind
+  AUdpSetting : Kind
   AHalf : Kind
   AllBytes : Kind
 
@@ -62,6 +70,8 @@ Value AFamily = SocketAddressFamily
 Value ASocketAddress = IpSocketAddress
 Value AnOption = Opt
 Value ASetting = TcpSetting
+Value AUdpOption = UdpOption
+Value AUdpSetting = UdpSetting
 Value AHalf = ShutdownType
 Value AllBytes = List ℕ
 
@@ -74,6 +84,8 @@ value_at AFamily = family_at
 value_at ASocketAddress = address_at
 value_at AnOption = option_at
 value_at ASetting = setting_at
+value_at AUdpOption = udp_option_at
+value_at AUdpSetting = udp_setting_at
 value_at AHalf = shutdown_at
 value_at AllBytes = bytes_at
 
@@ -86,6 +98,8 @@ value_fields AFamily family = family_fields family
 value_fields ASocketAddress a = address_fields a
 value_fields AnOption option = option_word option ∷ []
 value_fields ASetting setting = setting_fields setting
+value_fields AUdpOption option = udp_option_word option ∷ []
+value_fields AUdpSetting setting = udp_setting_fields setting
 value_fields AHalf how = shutdown_fields how
 value_fields AllBytes bytes = bytes_fields bytes
 
@@ -96,6 +110,7 @@ FitsValue ALine n = n ≤ 4294967295
 FitsValue ACount n = n ≤ 18446744073709551615
 FitsValue ASocketAddress a = FitsAddress a
 FitsValue ASetting setting = FitsSetting setting
+FitsValue AUdpSetting setting = FitsUdpSetting setting
 FitsValue AllBytes bytes = AreBytes bytes
 FitsValue _ value = Unit {0}
 
@@ -146,10 +161,12 @@ pub data FieldKind : Type 0 where
   SomeBytes : FieldKind
   Truth : FieldKind
 
--- what the fields of a reply are: one of each of these kinds, or those of an address
+-- what the fields of a reply are: one of each of these kinds, those of an address, or one of each of the kinds in one of these
+-- lists, which differ in length
 pub data FieldKinds : Type 0 where
   Each : List FieldKind → FieldKinds
   AnAddress : FieldKinds
+  OneOf : List (List FieldKind) → FieldKinds
 
 -- == signatures
 -- How a step is written: the context that makes it, where one does, its word, and its arguments.
@@ -171,7 +188,7 @@ guest_call c word kinds makes values gives = record { written = record { context
 abbrev pub bare : List ℕ → (kinds : List Kind) → Takes kinds → Values kinds → FieldKinds → Signature
 bare word kinds makes values gives = record { written = record { context = None; word = word; kinds = kinds; values = values }; makes = makes; gives = gives }
 
--- a poll has the reply of the call that it polls, and no call that can be pending has a field in it
+-- a poll has the reply of the call that it polls: one that can be pending gives nothing, or the handle of the socket that it made
 abbrev pub signature : Step → Signature
 signature (step.Network c) = guest_call c (codes "network") [] (step.Network c) tt (Each (ANumber ∷ []))
 signature (step.TcpCreate c family) = guest_call c (codes "tcp-create") (AFamily ∷ []) (step.TcpCreate c) (family, tt) (Each (ANumber ∷ []))
@@ -189,6 +206,14 @@ signature (step.TcpAddressFamily c socket) = guest_call c (codes "tcp-address-fa
 signature (step.TcpGet c socket option) = guest_call c (codes "tcp-get") (HandleOf ASocket ∷ AnOption ∷ []) (step.TcpGet c) (socket, (option, tt)) (Each (ANumber ∷ []))
 signature (step.TcpSet c socket setting) = guest_call c (codes "tcp-set") (HandleOf ASocket ∷ ASetting ∷ []) (step.TcpSet c) (socket, (setting, tt)) (Each [])
 signature (step.TcpShutdown c socket how) = guest_call c (codes "tcp-shutdown") (HandleOf ASocket ∷ AHalf ∷ []) (step.TcpShutdown c) (socket, (how, tt)) (Each [])
+signature (step.UdpCreate c family) = guest_call c (codes "udp-create") (AFamily ∷ []) (step.UdpCreate c) (family, tt) (Each (ANumber ∷ []))
+signature (step.UdpStartBind c socket network a) = guest_call c (codes "udp-start-bind") (HandleOf ADatagramSocket ∷ HandleOf ANetwork ∷ ASocketAddress ∷ []) (step.UdpStartBind c) (socket, (network, (a, tt))) (Each [])
+signature (step.UdpFinishBind c socket) = guest_call c (codes "udp-finish-bind") (HandleOf ADatagramSocket ∷ []) (step.UdpFinishBind c) (socket, tt) (Each [])
+signature (step.UdpLocalAddress c socket) = guest_call c (codes "udp-local-address") (HandleOf ADatagramSocket ∷ []) (step.UdpLocalAddress c) (socket, tt) AnAddress
+signature (step.UdpRemoteAddress c socket) = guest_call c (codes "udp-remote-address") (HandleOf ADatagramSocket ∷ []) (step.UdpRemoteAddress c) (socket, tt) AnAddress
+signature (step.UdpAddressFamily c socket) = guest_call c (codes "udp-address-family") (HandleOf ADatagramSocket ∷ []) (step.UdpAddressFamily c) (socket, tt) (Each (ANumber ∷ []))
+signature (step.UdpGet c socket option) = guest_call c (codes "udp-get") (HandleOf ADatagramSocket ∷ AUdpOption ∷ []) (step.UdpGet c) (socket, (option, tt)) (Each (ANumber ∷ []))
+signature (step.UdpSet c socket setting) = guest_call c (codes "udp-set") (HandleOf ADatagramSocket ∷ AUdpSetting ∷ []) (step.UdpSet c) (socket, (setting, tt)) (Each [])
 signature (step.Read c input len) = guest_call c (codes "read") (HandleOf AnInput ∷ ACount ∷ []) (step.Read c) (input, (len, tt)) (Each (SomeBytes ∷ []))
 signature (step.CheckWrite c output) = guest_call c (codes "check-write") (HandleOf AnOutput ∷ []) (step.CheckWrite c) (output, tt) (Each (ANumber ∷ []))
 signature (step.Write c output bytes) = guest_call c (codes "write") (HandleOf AnOutput ∷ AllBytes ∷ []) (step.Write c) (output, (bytes, tt)) (Each [])
@@ -197,7 +222,7 @@ signature (step.Subscribe c handle) = guest_call c (codes "subscribe") (HandleOf
 signature (step.Ready c pollable) = guest_call c (codes "ready") (HandleOf APollable ∷ []) (step.Ready c) (pollable, tt) (Each (Truth ∷ []))
 signature (step.Drop c handle) = guest_call c (codes "drop") (HandleOf Anything ∷ []) (step.Drop c) (handle, tt) (Each [])
 signature step.Turn = bare (codes "turn") [] step.Turn tt (Each [])
-signature (step.Poll call) = bare (codes "poll") (ALine ∷ []) step.Poll (call, tt) (Each [])
+signature (step.Poll call) = bare (codes "poll") (ALine ∷ []) step.Poll (call, tt) (OneOf ([] ∷ (ANumber ∷ []) ∷ []))
 
 -- the context that makes the call, where one makes it
 abbrev pub context_of : Step → Option ℕ
@@ -244,24 +269,40 @@ nowhere = socket.Ipv4 (record { port = 0; address = (0, 0, 0, 0) })
 abbrev pub write_step : ℕ → Step
 write_step c = step.Write c 0 []
 
--- those that make a socket, and those of an address
-abbrev pub socket_steps : ℕ → List Step
-socket_steps c = step.Network c ∷ step.TcpCreate c Ipv4 ∷ step.TcpStartBind c 0 0 nowhere ∷ step.TcpStartConnect c 0 0 nowhere ∷ []
+-- those that name no handle: they make a network or a socket
+abbrev pub create_steps : ℕ → List Step
+create_steps c = step.Network c ∷ step.TcpCreate c Ipv4 ∷ step.UdpCreate c Ipv4 ∷ []
 
--- those of a handle and of one thing more
+-- those of a handle and of more than it: of a TCP socket, of a UDP socket, of an input
+abbrev pub tcp_value_steps : ℕ → List Step
+tcp_value_steps c =
+    step.TcpStartBind c 0 0 nowhere ∷ step.TcpStartConnect c 0 0 nowhere ∷ step.TcpGet c 0 HopLimit ∷ step.TcpSet c 0 (setting.HopLimit 1)
+    ∷ step.TcpShutdown c 0 Both ∷ []
+
+abbrev pub udp_value_steps : ℕ → List Step
+udp_value_steps c = step.UdpStartBind c 0 0 nowhere ∷ step.UdpGet c 0 udp.HopLimit ∷ step.UdpSet c 0 (udp_setting.HopLimit 1) ∷ []
+
 abbrev pub value_steps : ℕ → List Step
-value_steps c = step.TcpGet c 0 HopLimit ∷ step.TcpSet c 0 (setting.HopLimit 1) ∷ step.TcpShutdown c 0 Both ∷ step.Read c 0 0 ∷ []
+value_steps c = step.Read c 0 0 ∷ tcp_value_steps c ++ udp_value_steps c
 
--- those of a handle alone
-abbrev pub handle_steps : ℕ → List Step
-handle_steps c =
+-- those of a handle alone: of a TCP socket, of a UDP socket, of anything else
+abbrev pub tcp_handle_steps : ℕ → List Step
+tcp_handle_steps c =
     step.TcpFinishBind c 0 ∷ step.TcpFinishConnect c 0 ∷ step.TcpStartListen c 0 ∷ step.TcpFinishListen c 0 ∷ step.TcpAccept c 0
-    ∷ step.TcpLocalAddress c 0 ∷ step.TcpRemoteAddress c 0 ∷ step.TcpIsListening c 0 ∷ step.TcpAddressFamily c 0
-    ∷ step.CheckWrite c 0 ∷ step.Flush c 0 ∷ step.Subscribe c 0 ∷ step.Ready c 0 ∷ step.Drop c 0 ∷ []
+    ∷ step.TcpLocalAddress c 0 ∷ step.TcpRemoteAddress c 0 ∷ step.TcpIsListening c 0 ∷ step.TcpAddressFamily c 0 ∷ []
+
+abbrev pub udp_handle_steps : ℕ → List Step
+udp_handle_steps c = step.UdpFinishBind c 0 ∷ step.UdpLocalAddress c 0 ∷ step.UdpRemoteAddress c 0 ∷ step.UdpAddressFamily c 0 ∷ []
+
+abbrev pub other_handle_steps : ℕ → List Step
+other_handle_steps c = step.CheckWrite c 0 ∷ step.Flush c 0 ∷ step.Subscribe c 0 ∷ step.Ready c 0 ∷ step.Drop c 0 ∷ []
+
+abbrev pub handle_steps : ℕ → List Step
+handle_steps c = tcp_handle_steps c ++ udp_handle_steps c ++ other_handle_steps c
 
 -- the steps of a context whose arguments take no memory
 abbrev pub plain_steps : ℕ → List Step
-plain_steps c = socket_steps c ++ value_steps c ++ handle_steps c
+plain_steps c = create_steps c ++ value_steps c ++ handle_steps c
 
 -- the steps of a context
 abbrev pub steps : ℕ → List Step
@@ -297,6 +338,14 @@ is_read (step.TcpAddressFamily c socket) = (refl, refl)
 is_read (step.TcpGet c socket option) = (refl, refl)
 is_read (step.TcpSet c socket setting) = (refl, refl)
 is_read (step.TcpShutdown c socket how) = (refl, refl)
+is_read (step.UdpCreate c family) = (refl, refl)
+is_read (step.UdpStartBind c socket network a) = (refl, refl)
+is_read (step.UdpFinishBind c socket) = (refl, refl)
+is_read (step.UdpLocalAddress c socket) = (refl, refl)
+is_read (step.UdpRemoteAddress c socket) = (refl, refl)
+is_read (step.UdpAddressFamily c socket) = (refl, refl)
+is_read (step.UdpGet c socket option) = (refl, refl)
+is_read (step.UdpSet c socket setting) = (refl, refl)
 is_read (step.Read c input len) = (refl, refl)
 is_read (step.CheckWrite c output) = (refl, refl)
 is_read (step.Write c output bytes) = (refl, refl)

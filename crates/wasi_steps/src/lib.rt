@@ -9,5 +9,5 @@ pub mod step;
 
 pub use fields::IntoFields;
 pub use reply::{CodeWord, Field, Reply, ReplyFields};
-pub use setting::TcpSetting;
+pub use setting::{TcpSetting, UdpOption, UdpSetting};
 pub use step::{STEP_FORMS, Step};

@@ -1,13 +1,13 @@
 //! Reads a line of a script.
 
-ghost use Rattle.std.specs.Prelude.{◌≡◌, ◌↔◌, ℕ, List, Some, IfOk, drop};
+ghost use Rattle.std.specs.Prelude.{◌≡◌, ◌↔◌, ℕ, List, Some, IfOk, ◌++◌};
 ghost use Rattle.wasi_world.specs.Fields.{Reads, after_word, number_in};
 ghost use Rattle.wasi_world.specs.Written.{IsVisible};
 ghost use Rattle.wasi_steps.specs.declared.step.Step.{Step};
-ghost use Rattle.wasi_steps.specs.Settings.{ReadsNumber, option_at, wide_words, setting_words, setting_at};
-ghost use Rattle.wasi_steps.specs.Steps.{line_of, IsStep, steps, plain_steps, handle_steps, bare_steps, write_step, row_of, rows_of, shutdown_at, guest_call_at, step_reader, step_of};
+ghost use Rattle.wasi_steps.specs.Settings.{ReadsNumber, ReadsAfter, option_at, wide_words, setting_words, setting_at, udp_option_at, udp_setting_at};
+ghost use Rattle.wasi_steps.specs.Steps.{line_of, IsStep, steps, plain_steps, value_steps, tcp_value_steps, udp_value_steps, handle_steps, udp_handle_steps, other_handle_steps, bare_steps, write_step, row_of, rows_of, shutdown_at, guest_call_at, step_reader, step_of};
 
-use crate::setting::TcpSetting;
+use crate::setting::{TcpSetting, UdpOption, UdpSetting};
 use crate::step::Step;
 use std::alloc::{AllocError, Global};
 use wasi_addr::ShutdownType;
@@ -83,23 +83,40 @@ fn setting(fields: &mut Fields<'_>) -> Option<TcpSetting>
     setting_of(fields, word)
 }
 
-/// The step of this word that has no other argument than a handle.
+/// Takes the word of an option of a UDP socket.
+#[tactic(auto, unfolding(crate::specs::Settings::udp_option_at, wasi_world::specs::Fields::read_then, wasi_world::specs::Fields::give))]
+fn udp_option(fields: &mut Fields<'_>) -> Option<UdpOption>
+    ensures { Reads udp_option_at fields.old result fields.new }
+{
+    match fields.word()? {
+        "hop-limit" => Some(UdpOption::HopLimit),
+        "receive-buffer-size" => Some(UdpOption::ReceiveBufferSize),
+        "send-buffer-size" => Some(UdpOption::SendBufferSize),
+        _ => None,
+    }
+}
+
+/// Takes what is set of a UDP socket, and its value.
+#[tactic(auto, unfolding(crate::specs::Settings::udp_setting_at, wasi_world::specs::Fields::read_then, wasi_world::specs::Fields::give))]
+fn udp_setting(fields: &mut Fields<'_>) -> Option<UdpSetting>
+    ensures { Reads udp_setting_at fields.old result fields.new }
+{
+    use UdpSetting::*;
+    match fields.word()? {
+        "hop-limit" => Some(HopLimit(fields.number(255)? as u8)),
+        "receive-buffer-size" => Some(ReceiveBufferSize(fields.number(u64::MAX)?)),
+        "send-buffer-size" => Some(SendBufferSize(fields.number(u64::MAX)?)),
+        _ => None,
+    }
+}
+
+/// The step of this word that has no other argument than a handle, among the words of no socket.
 #[tactic(auto, unfolding(wasi_world::specs::Fields::read_then, wasi_world::specs::Fields::give, wasi_world::specs::Fields::give_some))]
-fn handle_step(context: u32, word: &str, handle: u32) -> Option<Step>
-    ensures { ReadsNumber 4294967295 (rows_of (handle_steps context)) word.now handle result }
+fn other_handle_step(context: u32, word: &str, handle: u32) -> Option<Step>
+    ensures { ReadsNumber 4294967295 (rows_of (other_handle_steps context)) word.now handle result }
 {
     use Step::*;
-    let socket = handle;
     match word {
-        "tcp-finish-bind" => Some(TcpFinishBind { context, socket }),
-        "tcp-finish-connect" => Some(TcpFinishConnect { context, socket }),
-        "tcp-start-listen" => Some(TcpStartListen { context, socket }),
-        "tcp-finish-listen" => Some(TcpFinishListen { context, socket }),
-        "tcp-accept" => Some(TcpAccept { context, socket }),
-        "tcp-local-address" => Some(TcpLocalAddress { context, socket }),
-        "tcp-remote-address" => Some(TcpRemoteAddress { context, socket }),
-        "tcp-is-listening" => Some(TcpIsListening { context, socket }),
-        "tcp-address-family" => Some(TcpAddressFamily { context, socket }),
         "check-write" => Some(CheckWrite {
             context,
             output: handle,
@@ -118,12 +135,74 @@ fn handle_step(context: u32, word: &str, handle: u32) -> Option<Step>
     }
 }
 
-/// Takes the arguments of a step word whose first one is a handle: that alone, or more after it.
+/// The step of this word that has no other argument than a handle, among the words of a UDP socket and of no socket.
 #[tactic(auto, unfolding(wasi_world::specs::Fields::read_then, wasi_world::specs::Fields::give, wasi_world::specs::Fields::give_some))]
-fn handle_arguments(fields: &mut Fields<'_>, context: u32, word: &str) -> Option<Step>
-    ensures { Reads (after_word (rows_of (drop 2 (plain_steps context))) word.now) fields.old result fields.new }
+fn udp_handle_step(context: u32, word: &str, handle: u32) -> Option<Step>
+    ensures { ReadsNumber 4294967295 (rows_of (udp_handle_steps context ++ other_handle_steps context)) word.now handle result }
 {
-    let handle = fields.u32()?;
+    use Step::*;
+    let socket = handle;
+    match word {
+        "udp-finish-bind" => Some(UdpFinishBind { context, socket }),
+        "udp-local-address" => Some(UdpLocalAddress { context, socket }),
+        "udp-remote-address" => Some(UdpRemoteAddress { context, socket }),
+        "udp-address-family" => Some(UdpAddressFamily { context, socket }),
+        _ => other_handle_step(context, word, handle),
+    }
+}
+
+/// The step of this word that has no other argument than a handle.
+#[tactic(auto, unfolding(wasi_world::specs::Fields::read_then, wasi_world::specs::Fields::give, wasi_world::specs::Fields::give_some))]
+fn handle_step(context: u32, word: &str, handle: u32) -> Option<Step>
+    ensures { ReadsNumber 4294967295 (rows_of (handle_steps context)) word.now handle result }
+{
+    use Step::*;
+    let socket = handle;
+    match word {
+        "tcp-finish-bind" => Some(TcpFinishBind { context, socket }),
+        "tcp-finish-connect" => Some(TcpFinishConnect { context, socket }),
+        "tcp-start-listen" => Some(TcpStartListen { context, socket }),
+        "tcp-finish-listen" => Some(TcpFinishListen { context, socket }),
+        "tcp-accept" => Some(TcpAccept { context, socket }),
+        "tcp-local-address" => Some(TcpLocalAddress { context, socket }),
+        "tcp-remote-address" => Some(TcpRemoteAddress { context, socket }),
+        "tcp-is-listening" => Some(TcpIsListening { context, socket }),
+        "tcp-address-family" => Some(TcpAddressFamily { context, socket }),
+        _ => udp_handle_step(context, word, handle),
+    }
+}
+
+/// Takes what follows the handle of a step word: more arguments where the word is a UDP socket's and has them, else nothing.
+#[tactic(auto, unfolding(wasi_world::specs::Fields::read_then, wasi_world::specs::Fields::give, wasi_world::specs::Fields::give_some))]
+fn udp_arguments(fields: &mut Fields<'_>, context: u32, word: &str, handle: u32) -> Option<Step>
+    ensures { ReadsAfter 4294967295 (rows_of (udp_value_steps context ++ handle_steps context)) word.now handle fields.old result fields.new }
+{
+    match word {
+        "udp-start-bind" => Some(Step::UdpStartBind {
+            context,
+            socket: handle,
+            network: fields.u32()?,
+            addr: fields.socket_address()?,
+        }),
+        "udp-get" => Some(Step::UdpGet {
+            context,
+            socket: handle,
+            option: udp_option(fields)?,
+        }),
+        "udp-set" => Some(Step::UdpSet {
+            context,
+            socket: handle,
+            setting: udp_setting(fields)?,
+        }),
+        _ => handle_step(context, word, handle),
+    }
+}
+
+/// Takes what follows the handle of a step word: more arguments where the word is a socket's and has them, else nothing.
+#[tactic(auto, unfolding(wasi_world::specs::Fields::read_then, wasi_world::specs::Fields::give, wasi_world::specs::Fields::give_some))]
+fn tcp_arguments(fields: &mut Fields<'_>, context: u32, word: &str, handle: u32) -> Option<Step>
+    ensures { ReadsAfter 4294967295 (rows_of (tcp_value_steps context ++ udp_value_steps context ++ handle_steps context)) word.now handle fields.old result fields.new }
+{
     match word {
         "tcp-start-bind" => Some(Step::TcpStartBind {
             context,
@@ -152,12 +231,23 @@ fn handle_arguments(fields: &mut Fields<'_>, context: u32, word: &str) -> Option
             socket: handle,
             how: shutdown_type(fields)?,
         }),
+        _ => udp_arguments(fields, context, word, handle),
+    }
+}
+
+/// Takes the arguments of a step word whose first one is a handle: that alone, or more after it.
+#[tactic(auto, unfolding(wasi_world::specs::Fields::read_then, wasi_world::specs::Fields::give, wasi_world::specs::Fields::give_some))]
+fn handle_arguments(fields: &mut Fields<'_>, context: u32, word: &str) -> Option<Step>
+    ensures { Reads (after_word (rows_of (value_steps context ++ handle_steps context)) word.now) fields.old result fields.new }
+{
+    let handle = fields.u32()?;
+    match word {
         "read" => Some(Step::Read {
             context,
             input: handle,
             len: fields.number(u64::MAX)?,
         }),
-        _ => handle_step(context, word, handle),
+        _ => tcp_arguments(fields, context, word, handle),
     }
 }
 
@@ -169,6 +259,10 @@ fn plain_arguments(fields: &mut Fields<'_>, context: u32, word: &str) -> Option<
     match word {
         "network" => Some(Step::Network { context }),
         "tcp-create" => Some(Step::TcpCreate {
+            context,
+            family: fields.family()?,
+        }),
+        "udp-create" => Some(Step::UdpCreate {
             context,
             family: fields.family()?,
         }),

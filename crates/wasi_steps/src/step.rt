@@ -6,7 +6,7 @@ ghost use Rattle.wasi_steps.specs.declared.step.Step.{Step};
 ghost use Rattle.wasi_steps.specs.Forms.{has_form};
 ghost use Rattle.wasi_steps.specs.Steps.{steps, bare_steps, context_of};
 
-use crate::setting::TcpSetting;
+use crate::setting::{TcpSetting, UdpOption, UdpSetting};
 use wasi_addr::{IpSocketAddress, ShutdownType, SocketAddressFamily};
 use wasi_world::{Handle, Octets, Opt};
 
@@ -99,6 +99,50 @@ pub enum Step {
         socket: Handle,
         how: ShutdownType,
     },
+    /// Makes a UDP socket of this family (`create-udp-socket`).
+    UdpCreate {
+        context: u32,
+        family: SocketAddressFamily,
+    },
+    /// Begins to bind the UDP socket to the address (`start-bind`).
+    UdpStartBind {
+        context: u32,
+        socket: Handle,
+        network: Handle,
+        addr: IpSocketAddress,
+    },
+    /// Ends a bind of the UDP socket that was begun (`finish-bind`).
+    UdpFinishBind {
+        context: u32,
+        socket: Handle,
+    },
+    /// The address that the UDP socket is bound to (`local-address`).
+    UdpLocalAddress {
+        context: u32,
+        socket: Handle,
+    },
+    /// The one address that the UDP socket sends to and receives from, where there is one (`remote-address`).
+    UdpRemoteAddress {
+        context: u32,
+        socket: Handle,
+    },
+    /// The UDP socket's family (`address-family`).
+    UdpAddressFamily {
+        context: u32,
+        socket: Handle,
+    },
+    /// The value of an option of the UDP socket (its getter: `unicast-hop-limit`, and so on).
+    UdpGet {
+        context: u32,
+        socket: Handle,
+        option: UdpOption,
+    },
+    /// Sets an option of the UDP socket (its setter: `set-unicast-hop-limit`, and so on).
+    UdpSet {
+        context: u32,
+        socket: Handle,
+        setting: UdpSetting,
+    },
     /// Reads at most so many bytes (`input-stream.read`).
     Read {
         context: u32,
@@ -167,6 +211,14 @@ impl Step {
             | Step::TcpGet { context, .. }
             | Step::TcpSet { context, .. }
             | Step::TcpShutdown { context, .. }
+            | Step::UdpCreate { context, .. }
+            | Step::UdpStartBind { context, .. }
+            | Step::UdpFinishBind { context, .. }
+            | Step::UdpLocalAddress { context, .. }
+            | Step::UdpRemoteAddress { context, .. }
+            | Step::UdpAddressFamily { context, .. }
+            | Step::UdpGet { context, .. }
+            | Step::UdpSet { context, .. }
             | Step::Read { context, .. }
             | Step::CheckWrite { context, .. }
             | Step::Write { context, .. }
@@ -197,6 +249,14 @@ pub const STEP_FORMS: &str = "    0 network                               makes 
     0 tcp-get S OPTION                      the value of an option: ok V
     0 tcp-set S OPTION V                    sets an option
     0 tcp-shutdown S HOW                    gives up receive, send or both halves
+    0 udp-create F                          makes a UDP socket; F is 4 or 6
+    0 udp-start-bind S N 4 a b c d port     binds UDP socket S by network N
+    0 udp-finish-bind S                     ends that bind
+    0 udp-local-address S                   the address of the UDP socket
+    0 udp-remote-address S                  the address that it sends to and receives from
+    0 udp-address-family S                  its family: ok 4 or ok 6
+    0 udp-get S OPTION                      the value of an option: ok V
+    0 udp-set S OPTION V                    sets an option
     0 read IN L                             reads at most L bytes: ok BYTES
     0 check-write OUT                       how many bytes may be written
     0 write OUT BYTES                       writes bytes, as hexadecimal digits or -
