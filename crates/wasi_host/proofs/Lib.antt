@@ -1,8 +1,14 @@
 pub mod Hosts
 pub mod Lookups
+pub mod RecordLends
+pub mod UdpLookups
 pub mod SideCounts
 pub mod Binds
 pub mod OptionSides
+pub mod UdpCalms
+pub mod UdpBinds
+pub mod UdpPolls
+pub mod UdpMakes
 pub mod ConnectCounts
 pub mod AcceptCounts
 pub mod ListenCounts
@@ -12,6 +18,7 @@ pub mod ListenStarts
 pub mod StreamCounts
 pub mod StreamCalls
 pub mod Looks
+pub mod WatchedLooks
 pub mod Releases
 pub mod JobLists
 pub mod Closings

@@ -12,11 +12,11 @@ use Rattle.wasi_tcp.specs.Options.{option_side, get_where, get_option_asks, set_
 use Rattle.wasi_tcp.specs.Shape.{Socket}
 use Rattle.wasi_host.proofs.SideCounts.{Calm, Any, calm_then}
 
-calm_if : {A : Type 0} (b : Bool) (one other : Asks A) → Calm Any one → Calm Any other → Calm Any (if b then one else other)
+pub calm_if : {A : Type 0} (b : Bool) (one other : Asks A) → Calm Any one → Calm Any other → Calm Any (if b then one else other)
 calm_if true one other h k = h
 calm_if false one other h k = k
 
-calm_get_side : (op side : OpId) (option : Opt) → Calm Any (get_of_side_asks op side option)
+pub calm_get_side : (op side : OpId) (option : Opt) → Calm Any (get_of_side_asks op side option)
 unfolding bind
 calm_get_side op side option = ((λ t. refl, refl), λ t. tt)
 
@@ -27,7 +27,7 @@ calm_get_where op s option (Err c) = tt
 pub calm_get : (op : OpId) (s : Socket) (option : Opt) → Calm Any (get_option_asks op s option)
 calm_get op s option = calm_get_where op s option (option_side s)
 
-calm_set_side : (op side : OpId) (option : Opt) (value : ℕ) → Calm Any (set_of_side_asks op side option value)
+pub calm_set_side : (op side : OpId) (option : Opt) (value : ℕ) → Calm Any (set_of_side_asks op side option value)
 calm_set_side op side option value = calm_if (refused_after (zero_test option) value) _ _ tt ((λ t. refl, refl), λ t. tt)
 
 calm_set_where : (op : OpId) (s : Socket) (option : Opt) (value : ℕ) (side : Result OpId ErrorCode) → Calm Any (set_where op s option value side)

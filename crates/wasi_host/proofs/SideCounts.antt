@@ -24,7 +24,7 @@ use Rattle.wasi_world.specs.Fits.{IsDoneOrCode}
 use Rattle.wasi_world.specs.Typed.{told_done, ask_tcp_create, ask_made}
 use Rattle.wasi_world.specs.Seen.{Seen, Passes, CountsAll}
 use Rattle.wasi_world.specs.Asks.{Asks, Give, Ask, AskWrite, bind, Left, Reaches, AsksFor, outcome}
-use Rattle.wasi_world.specs.Operation.{Given, Nothing, Item, Check, Bind, Who, Operation, NothingLast, Front, Goes, Stays, Again, Ends, verdict_front, done_front, front, after, round, polls, poll_asks, End}
+use Rattle.wasi_world.specs.Operation.{Given, Nothing, Item, Check, Bind, UdpBind, Who, Operation, NothingLast, Front, Goes, Stays, Again, Ends, verdict_front, done_front, front, after, round, polls, poll_asks, End}
 use Rattle.wasi_tcp.specs.declared.socket.TcpState.{TcpState}
 use Rattle.wasi_tcp.specs.declared.socket.TcpState.TheVariants as state
 use Rattle.wasi_tcp.specs.declared.socket.Connection.{Connection}
@@ -39,7 +39,7 @@ use Rattle.wasi_tcp.specs.Socket.{side_of, new_asks, after_create, ask_bound, bo
 use Rattle.wasi_world.proofs.Walks.{reaches_all}
 use Rattle.wasi_host.specs.Records.{tcp2_put, tcp2_at, tcp2_pushed}
 use Rattle.wasi_host.specs.declared.records.Record.{Record}
-use Rattle.wasi_host.specs.declared.records.Record.TheVariants.{Tcp2}
+use Rattle.wasi_host.specs.declared.records.Record.TheVariants.{Tcp2, Udp2}
 use Rattle.wasi_host.specs.declared.socket.Tcp2Socket.{Tcp2Socket}
 use Rattle.wasi_host.specs.declared.store.StandingCall.{StandingCall}
 use Rattle.wasi_host.specs.Standing.{stood}
@@ -111,6 +111,7 @@ knows_asked Q (Err d) a b q h e k = knows_calm Q a b q h.err.reached e k
 pub held_in-same : (rs : List Record) (i : ℕ) (r s : Tcp2Socket) → tcp2_at rs i ≡ Some r → holds s ≡ holds r → held_in (tcp2_put rs i s) ≡ held_in rs
 held_in-same [] i r s h e = refl
 held_in-same (Tcp2 x ∷ rs) zero r s h e = let k : x ≡ r = cc in ap (λ n. n + held_in rs) (e ∙ ap (λ (y : Tcp2Socket). holds y) (sym k))
+held_in-same (Udp2 u ∷ rs) zero r s h e = absurd (cc)
 held_in-same (x ∷ rs) (suc i) r s h e = ap (λ n. held_by x + n) (held_in-same rs i r s h e)
 
 pub holds-same : (r s : Tcp2Socket) → side_of s.inner ≡ side_of r.inner → s.listening ≡ r.listening → holds s ≡ holds r
@@ -140,12 +141,13 @@ pub balances_none : (r : Tcp2Socket) (s : Seen) → Balances s s 0 r r
 balances_none r s = let done : Unit {0} = tt in balances_walk {asks = Give done} {rest = Give done} tt (reaches_all (Give done) s) refl
 
 -- == a bind is calm
-abbrev IsCalmItem : Item → Type 0
+abbrev pub IsCalmItem : Item → Type 0
 IsCalmItem (Check a usage) = Unit {0}
 IsCalmItem (Bind a) = Unit {0}
+IsCalmItem (UdpBind a) = Unit {0}
 IsCalmItem _ = ⊥
 
-abbrev AllCalm : List Item → Type 0
+abbrev pub AllCalm : List Item → Type 0
 AllCalm [] = Unit {0}
 AllCalm (i ∷ items) = IsCalmItem i × AllCalm items
 
@@ -172,6 +174,7 @@ calm_front : (who : Who) (i : Item) → IsCalmItem i → Calm IsCalmFront (front
 unfolding bind
 calm_front who (Check a usage) h = ((λ t. refl, refl), λ t. calm_verdict (Check a usage) _)
 calm_front who (Bind a) h = ((λ t. refl, refl), λ t. calm_done _)
+calm_front who (UdpBind a) h = ((λ t. refl, refl), λ t. calm_done _)
 calm_front who _ h = absurd h
 
 calm_round : (again : List Item → Asks (End × List Item)) (who : Who) (g : Given) (items : List Item) → who.last ≡ NothingLast → AllCalm items → Calm Any (round again who g items)
@@ -184,7 +187,7 @@ calm_round again who g (i ∷ items) l h = calm_then IsCalmFront Any (front who 
     after_calm (Again j) k f = absurd k
     after_calm (Ends c given) k f = rw l tt
 
-calm_poll : (op : Operation) → IsCalmOperation op → Calm Any (poll_asks op)
+pub calm_poll : (op : Operation) → IsCalmOperation op → Calm Any (poll_asks op)
 unfolding polls
 calm_poll op h = calm_round (polls 63 op.who) op.who Nothing op.left h.last h.items
 

@@ -18,7 +18,7 @@ use Rattle.wasi_streams.specs.declared.fault.Fault.{Fault}
 use Rattle.wasi_streams.specs.declared.fault.Fault.TheVariants as fault
 use Rattle.wasi_host.specs.declared.machine.Machine.{Machine}
 use Rattle.wasi_host.specs.declared.kind.Kind.{Kind}
-use Rattle.wasi_host.specs.declared.kind.Kind.TheVariants.{Network, Tcp2, Input, Output, Pollable, ErrorValue}
+use Rattle.wasi_host.specs.declared.kind.Kind.TheVariants.{Network, Tcp2, Udp2, Input, Output, Pollable, ErrorValue}
 use Rattle.wasi_host.specs.Host.{CallStop, fault_outcome, call_outcome, error_outcome, failed_outcome, IsStreamStop, IfStreamMemory}
 use Rattle.wasi_host.specs.Kinds.{Handles, input_of, output_of, stream_of, make_asks}
 use Rattle.wasi_host.specs.Store.{Records}
@@ -31,6 +31,7 @@ input_stream (Some (Input p)) place q = q
 input_stream None place q = absurd (cc)
 input_stream (Some Network) place q = absurd (cc)
 input_stream (Some (Tcp2 p)) place q = absurd (cc)
+input_stream (Some (Udp2 p)) place q = absurd (cc)
 input_stream (Some (Output p)) place q = absurd (cc)
 input_stream (Some (Pollable w)) place q = absurd (cc)
 input_stream (Some ErrorValue) place q = absurd (cc)
@@ -40,6 +41,7 @@ output_stream (Some (Output p)) place q = q
 output_stream None place q = absurd (cc)
 output_stream (Some Network) place q = absurd (cc)
 output_stream (Some (Tcp2 p)) place q = absurd (cc)
+output_stream (Some (Udp2 p)) place q = absurd (cc)
 output_stream (Some (Input p)) place q = absurd (cc)
 output_stream (Some (Pollable w)) place q = absurd (cc)
 output_stream (Some ErrorValue) place q = absurd (cc)

@@ -10,7 +10,7 @@ use Rattle.wasi_streams.specs.declared.fault.Fault.{Fault}
 use Rattle.wasi_streams.specs.declared.fault.Fault.TheVariants as fault
 use Rattle.wasi_streams.specs.Table.{Shown, value_at, children_of, is_full, pushed, without}
 use Rattle.wasi_host.specs.declared.kind.Kind.{Kind}
-use Rattle.wasi_host.specs.declared.kind.Kind.TheVariants.{Network, Tcp2, Input, Output, Pollable, ErrorValue}
+use Rattle.wasi_host.specs.declared.kind.Kind.TheVariants.{Network, Tcp2, Udp2, Input, Output, Pollable, ErrorValue}
 use Rattle.wasi_host.specs.declared.kind.Watched.{Watched}
 use Rattle.wasi_host.specs.declared.kind.Watched.TheVariants as watched
 use Rattle.wasi_host.specs.Host.{Stop, Trap}
@@ -22,6 +22,7 @@ Handles = Shown Kind
 abbrev pub name_of : Kind → HandleKind
 name_of Network = name.Network
 name_of (Tcp2 n) = name.Tcp2
+name_of (Udp2 n) = name.Udp2
 name_of (Input n) = name.Input
 name_of (Output n) = name.Output
 name_of (Pollable w) = name.Pollable
@@ -32,10 +33,15 @@ abbrev pub kind_at : Handles → ℕ → Option Kind
 kind_at t h = value_at t.live h
 
 -- == what each kind names
--- the number of a socket's record
+-- the number of a TCP socket's record
 abbrev pub place_of : Option Kind → Option ℕ
 place_of (Some (Tcp2 place)) = Some place
 place_of _ = None
+
+-- the number of a UDP socket's record
+abbrev pub udp_of : Option Kind → Option ℕ
+udp_of (Some (Udp2 place)) = Some place
+udp_of _ = None
 
 abbrev pub is_network : Option Kind → Bool
 is_network (Some Network) = true
@@ -59,6 +65,7 @@ stream_of _ = None
 -- what a pollable of the handle watches
 abbrev pub watched_by : Option Kind → Option Watched
 watched_by (Some (Tcp2 place)) = Some (watched.Socket place)
+watched_by (Some (Udp2 place)) = Some (watched.Udp place)
 watched_by (Some (Input place)) = Some (watched.Input place)
 watched_by (Some (Output place)) = Some (watched.Output place)
 watched_by _ = None
@@ -78,6 +85,7 @@ abbrev pub place_in : Watched → ℕ
 place_in (watched.Socket place) = place
 place_in (watched.Input place) = place
 place_in (watched.Output place) = place
+place_in (watched.Udp place) = place
 
 -- == a handle is made
 -- a pollable is a child of what it watches, and the streams of a connection under its socket; an error's parent is named in its

@@ -18,4 +18,7 @@ pub mod Closing
 pub mod Machine
 pub mod StreamCalls
 pub mod Pending
+pub mod Udp
+pub mod UdpCalls
+pub mod UdpCreates
 pub mod Views

@@ -1,5 +1,5 @@
 -- The state behind a guest's calls: its table and its store, and what a handle names in them.
-use Rattle.std.specs.Prelude.{ℕ, Bool, length, Option, Some, None, Result, Ok, Err}
+use Rattle.std.specs.Prelude.{ℕ, Bool, true, length, Option, Some, None, Result, Ok, Err}
 use Rattle.wasi_addr.specs.declared.address.SocketAddressFamily.{SocketAddressFamily}
 use Rattle.wasi_addr.specs.declared.code.ErrorCode.{ErrorCode}
 use Rattle.wasi_world.specs.declared.ids.OpId.{OpId}
@@ -12,19 +12,22 @@ use Rattle.wasi_world.specs.Asks.{Asks, Give, bind}
 use Rattle.wasi_tcp.specs.Shape.{Socket}
 use Rattle.wasi_tcp.specs.Socket.{new_asks, side_of}
 use Rattle.wasi_streams.specs.Table.{empty}
-use Rattle.wasi_host.specs.Records.{tcp2_at}
+use Rattle.wasi_host.specs.Records.{tcp2_at, udp2_at}
 use Rattle.wasi_host.specs.declared.kind.Kind.{Kind}
-use Rattle.wasi_host.specs.declared.kind.Kind.TheVariants.{Tcp2, Output, Pollable}
+use Rattle.wasi_host.specs.declared.kind.Kind.TheVariants.{Tcp2, Udp2, Output, Pollable}
 use Rattle.wasi_host.specs.declared.kind.Watched.{Watched}
+use Rattle.wasi_host.specs.declared.kind.Watched.TheVariants as watched
 use Rattle.wasi_host.specs.declared.machine.Machine.{Machine}
 use Rattle.wasi_host.specs.declared.socket.Tcp2Socket.{Tcp2Socket}
 use Rattle.wasi_host.specs.Host.{Stop, Trap, code_stop}
-use Rattle.wasi_host.specs.Kinds.{Handles, kind_at, place_of, input_of, output_of, watched_by, watch_of, place_in, make_asks, taken_out}
+use Rattle.wasi_host.specs.Kinds.{Handles, kind_at, place_of, udp_of, input_of, output_of, watched_by, watch_of, place_in, make_asks, taken_out}
 pub use Rattle.wasi_host.specs.Names.{own_of}
 use Rattle.wasi_host.specs.Store.{Records, no_records, with_record}
 use Rattle.wasi_host.specs.Jobs.{turn_store_asks}
 use Rattle.wasi_host.specs.Readiness.{ready_at, ready_ids_at}
 use Rattle.wasi_host.specs.Dropping.{release_at, drop_output_at}
+use Rattle.wasi_host.specs.UdpCalls.{release_udp_at}
+use Rattle.wasi_host.specs.UdpCreates.{udp_side_at}
 
 -- no handle, no record, no job, no pending call
 abbrev pub first_state : Machine
@@ -39,6 +42,9 @@ with_store m done = (done.0, record m { store = done.1 })
 -- == the handles of a call, or a trap
 abbrev pub socket_at : Machine → ℕ → Option ℕ
 socket_at m h = place_of (kind_at m.table h)
+
+abbrev pub udp_socket_at : Machine → ℕ → Option ℕ
+udp_socket_at m h = udp_of (kind_at m.table h)
 
 abbrev pub input_at : Machine → ℕ → Option ℕ
 input_at m h = input_of (kind_at m.table h)
@@ -67,10 +73,15 @@ abbrev pub create_asks : Machine → OpId → WasiSocketsCtx → SocketAddressFa
 create_asks m own ctx family = bind (new_asks own ctx family) (created_asks m own)
 
 -- == pollables
+-- the network socket of what is watched, by which its pollables are marked
+abbrev pub watched_side : Records → Watched → Option OpId
+watched_side store (watched.Udp place) = udp_side_at (udp2_at store.records place)
+watched_side store w = side_at (tcp2_at store.records (place_in w))
+
 abbrev pub subscribe_on : Machine → OpId → ℕ → Option Watched → Asks (Result ℕ Stop × Machine)
 subscribe_on m own this None = no_such_handle m
 subscribe_on m own this (Some w) =
-    bind (make_asks m.table own (Pollable w) (Some this) (side_at (tcp2_at m.store.records (place_in w)))) (λ made. Give (with_table m made))
+    bind (make_asks m.table own (Pollable w) (Some this) (watched_side m.store w)) (λ made. Give (with_table m made))
 
 -- a pollable of a socket or of a stream
 abbrev pub subscribe_asks : Machine → OpId → ℕ → Asks (Result ℕ Stop × Machine)
@@ -78,9 +89,10 @@ subscribe_asks m own this = subscribe_on m own this (watched_by (kind_at m.table
 
 abbrev pub ready_on : Machine → Ids → Option Watched → Asks (Result Bool Stop × Machine)
 ready_on m ids None = no_such_handle m
+ready_on m ids (Some (watched.Udp place)) = Give (Ok true, m)
 ready_on m ids (Some w) = bind (ready_at m.store (own_of ids.line) ids w (place_in w) (tcp2_at m.store.records (place_in w))) (λ done. Give (with_store m done))
 
--- one look at what a pollable watches
+-- one look at what a pollable watches; a UDP socket is ready
 abbrev pub ready_asks : Machine → Ids → ℕ → Asks (Result Bool Stop × Machine)
 ready_asks m ids pollable = ready_on m ids (watch_of (kind_at m.table pollable))
 
@@ -102,6 +114,7 @@ at_once done = (Ready tt, done.1)
 -- a socket releases what it has, an output waits for its writer, and the rest don't wait
 abbrev pub drop_kind : Machine → Ids → Kind → Asks (Result (Answer (Unit {0})) Stop × Machine)
 drop_kind m ids (Tcp2 place) = bind (release_at m.store (own_of ids.line) place (tcp2_at m.store.records place)) (λ done. Give (answered (with_store m (at_once done))))
+drop_kind m ids (Udp2 place) = bind (release_udp_at m.store (own_of ids.line) place (udp2_at m.store.records place)) (λ done. Give (answered (with_store m (at_once done))))
 drop_kind m ids (Output place) = bind (drop_output_at m.store ids place (tcp2_at m.store.records place)) (λ done. Give (answered (with_store m done)))
 drop_kind m ids _ = Give (Ok (Ready tt), m)
 

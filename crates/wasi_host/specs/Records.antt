@@ -1,17 +1,21 @@
--- The records of a store by number, and the TCP sockets among them.
+-- The records of a store by number, and the sockets among them.
 use Rattle.std.specs.Prelude.{ℕ, List, [], ◌∷◌, ◌++◌, Option, Some, None, slice_get, slice_set}
 use Rattle.std.specs.Global.{Vec}
 use Rattle.std.specs.Vec.{with_item}
 use Rattle.wasi_host.specs.declared.records.Record.{Record}
-use Rattle.wasi_host.specs.declared.records.Record.TheVariants.{Tcp2}
+use Rattle.wasi_host.specs.declared.records.Record.TheVariants.{Tcp2, Udp2}
 use Rattle.wasi_host.specs.declared.socket.Tcp2Socket.{Tcp2Socket}
+use Rattle.wasi_host.specs.declared.udp.Udp2Socket.{Udp2Socket}
+use Rattle.wasi_host.specs.declared.udp.Udp2Socket.TheVariants.{Open}
+use Rattle.wasi_host.specs.declared.udp.OpenUdp.{OpenUdp}
 
--- the socket that a record is
+-- == TCP sockets
+-- the TCP socket that a record is
 abbrev pub tcp2_of : Option Record → Option Tcp2Socket
-tcp2_of None = None
 tcp2_of (Some (Tcp2 r)) = Some r
+tcp2_of _ = None
 
--- the socket of this number
+-- the TCP socket of this number
 abbrev pub tcp2_at : List Record → ℕ → Option Tcp2Socket
 tcp2_at records place = tcp2_of (slice_get records place)
 
@@ -26,3 +30,36 @@ tcp2_pushed records r = records ++ Tcp2 r ∷ []
 -- the same of the vector that holds them
 abbrev pub with_tcp2 : Vec Record → ℕ → Tcp2Socket → Vec Record
 with_tcp2 v place r = with_item v place (Tcp2 r)
+
+-- == UDP sockets
+-- the UDP socket that a record is
+abbrev pub udp2_of : Option Record → Option Udp2Socket
+udp2_of (Some (Udp2 u)) = Some u
+udp2_of _ = None
+
+-- the UDP socket of this number
+abbrev pub udp2_at : List Record → ℕ → Option Udp2Socket
+udp2_at records place = udp2_of (slice_get records place)
+
+abbrev pub udp2_put : List Record → ℕ → Udp2Socket → List Record
+udp2_put records place u = slice_set records place (Udp2 u)
+
+abbrev pub udp2_pushed : List Record → Udp2Socket → List Record
+udp2_pushed records u = records ++ Udp2 u ∷ []
+
+abbrev pub with_udp2 : Vec Record → ℕ → Udp2Socket → Vec Record
+with_udp2 v place u = with_item v place (Udp2 u)
+
+-- the UDP socket that is there: one that is made and not closed
+abbrev pub open_of : Option Udp2Socket → Option OpenUdp
+open_of (Some (Open o)) = Some o
+open_of _ = None
+
+abbrev pub open_at : List Record → ℕ → Option OpenUdp
+open_at records place = open_of (udp2_at records place)
+
+abbrev pub open_put : List Record → ℕ → OpenUdp → List Record
+open_put records place o = udp2_put records place (Open o)
+
+abbrev pub with_open : Vec Record → ℕ → OpenUdp → Vec Record
+with_open v place o = with_udp2 v place (Open o)

@@ -5,12 +5,20 @@ use Rattle.std.specs.contracts.vec.Vec as vec
 use Rattle.std.specs.contracts.impls.GlobalAllocator.TheImpl.{ghosts}
 use Rattle.wasi_host.specs.contracts.records.Record as rec
 use Rattle.wasi_host.specs.contracts.socket.Tcp2Socket as socket
+use Rattle.wasi_host.specs.contracts.udp.Udp2Socket as datagrams
+use Rattle.wasi_host.specs.contracts.udp.OpenUdp as opened
 
 abbrev pub record_row : RattleType
 record_row = rec.the_row
 
 abbrev pub socket_row : RattleType
 socket_row = socket.the_row
+
+abbrev pub udp_row : RattleType
+udp_row = datagrams.the_row
+
+abbrev pub open_row : RattleType
+open_row = opened.the_row
 
 abbrev pub records_row : RattleType
 records_row = vec.the_row rec.the_row global.the_row ghosts

@@ -13,9 +13,10 @@ use Rattle.wasi_world.specs.Seen.{Seen, Passes}
 use Rattle.wasi_tcp.specs.Shape.{Socket}
 use Rattle.wasi_tcp.specs.Socket.{side_of}
 use Rattle.wasi_host.specs.declared.records.Record.{Record}
-use Rattle.wasi_host.specs.declared.records.Record.TheVariants.{Tcp2}
+use Rattle.wasi_host.specs.declared.records.Record.TheVariants.{Tcp2, Udp2}
 use Rattle.wasi_host.specs.declared.socket.Tcp2Socket.{Tcp2Socket}
 use Rattle.wasi_host.specs.Listening.{side_in}
+use Rattle.wasi_host.specs.Udp.{udp_holds}
 use Rattle.wasi_host.specs.Store.{Records}
 
 abbrev pub one_if_done : Told → ℕ
@@ -52,6 +53,7 @@ holds r = one_if_some (side_of r.inner) + one_if_some (side_in r.listening)
 
 abbrev pub held_by : Record → ℕ
 held_by (Tcp2 r) = holds r
+held_by (Udp2 u) = udp_holds u
 
 -- how many network sockets the records hold
 abbrev pub held_in : List Record → ℕ
@@ -69,6 +71,13 @@ pub record Balances (before after : Seen) (given : ℕ) (old now : Tcp2Socket) :
   pub entries : List Entry
   pub passed : Passes before entries after
   pub balance : closed_in entries + (holds now + given) ≡ made_in entries + holds old
+
+-- What was asked closed as many network sockets as are held fewer than before, and made none.
+pub record HoldsFewer (before after : Seen) (old now : ℕ) : Type 0 where
+  pub entries : List Entry
+  pub passed : Passes before entries after
+  pub made : made_in entries ≡ 0
+  pub balance : closed_in entries + now ≡ old
 
 -- What was asked made no network socket and closed none.
 pub record MakesNone (before after : Seen) : Type 0 where

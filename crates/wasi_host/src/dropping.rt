@@ -76,9 +76,10 @@ impl Store {
     }
 }
 
-/// Drops a handle (`drop` of each resource). Something made under it is live: `HasChildren`. The handle goes at once. A socket
-/// releases its open halves and its network socket; an output waits until its writer is ready, and while it isn't the call is
-/// pending; nothing else waits. No call is pending yet: a drop that is continues by [`resume`](crate::resume).
+/// Drops a handle (`drop` of each resource). Something made under it is live: `HasChildren`. The handle goes at once. A TCP socket
+/// releases its open halves and its network socket, and a UDP socket its network socket; an output waits until its writer is ready,
+/// and while it isn't the call is pending; nothing else waits. No call is pending yet: a drop that is continues by
+/// [`resume`](crate::resume).
 pub fn drop_handle<W: World>(
     view: &mut WasiSocketsCtxView<'_>,
     world: &mut W,
@@ -114,6 +115,10 @@ fn release_kind<W: World>(
     match kind {
         Kind::Tcp2(place) => {
             view.store.release(world, ids.own(), place)?;
+            Ok(Answer::Ready(()))
+        }
+        Kind::Udp2(place) => {
+            view.store.release_udp(world, ids.own(), place)?;
             Ok(Answer::Ready(()))
         }
         Kind::Output(place) => {

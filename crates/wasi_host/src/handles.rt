@@ -7,7 +7,7 @@ ghost use Rattle.wasi_streams.specs.Table.{is_full, pushed};
 ghost use Rattle.wasi_host.specs.Host.{fault_outcome};
 ghost use Rattle.wasi_host.specs.Store.{Records};
 ghost use Rattle.wasi_host.specs.Sides.{KnowsSides};
-ghost use Rattle.wasi_host.specs.Kinds.{kind_at, place_of, input_of, output_of, stream_of, is_network, watched_by, watch_of, table_parent, make_asks, taken_out, with_handle, Names};
+ghost use Rattle.wasi_host.specs.Kinds.{kind_at, place_of, udp_of, input_of, output_of, stream_of, is_network, watched_by, watch_of, table_parent, make_asks, taken_out, with_handle, Names};
 
 use crate::kind::{Kind, Watched};
 use std::alloc::AllocError;
@@ -24,12 +24,22 @@ pub fn kind(table: &Table<Kind>, handle: Handle) -> Option<Kind>
     }
 }
 
-/// The number of a socket's record.
+/// The number of a TCP socket's record.
 pub fn socket(table: &Table<Kind>, handle: Handle) -> Result<usize, Fault>
     ensures { Names result (place_of (kind_at table.now handle)) }
 {
     match kind(table, handle) {
         Some(Kind::Tcp2(place)) => Ok(place),
+        _ => Err(Fault::Trap(TrapKind::NoSuchHandle)),
+    }
+}
+
+/// The number of a UDP socket's record.
+pub fn udp_socket(table: &Table<Kind>, handle: Handle) -> Result<usize, Fault>
+    ensures { Names result (udp_of (kind_at table.now handle)) }
+{
+    match kind(table, handle) {
+        Some(Kind::Udp2(place)) => Ok(place),
         _ => Err(Fault::Trap(TrapKind::NoSuchHandle)),
     }
 }
@@ -81,6 +91,7 @@ pub fn watched(table: &Table<Kind>, handle: Handle) -> Result<Watched, Fault>
 {
     match kind(table, handle) {
         Some(Kind::Tcp2(place)) => Ok(Watched::Socket(place)),
+        Some(Kind::Udp2(place)) => Ok(Watched::Udp(place)),
         Some(Kind::Input(place)) => Ok(Watched::Input(place)),
         Some(Kind::Output(place)) => Ok(Watched::Output(place)),
         _ => Err(Fault::Trap(TrapKind::NoSuchHandle)),

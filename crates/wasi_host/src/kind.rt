@@ -1,7 +1,7 @@
 //! What handles stand for.
 
 ghost use Rattle.std.specs.Prelude.{◌≡◌};
-ghost use Rattle.wasi_host.specs.Kinds.{name_of, place_in, table_parent, watched_by, watch_of, place_of, input_of, output_of, is_network};
+ghost use Rattle.wasi_host.specs.Kinds.{name_of, place_in, table_parent, watched_by, watch_of, place_of, udp_of, input_of, output_of, is_network};
 
 use wasi_world::{Handle, HandleKind};
 
@@ -14,6 +14,8 @@ pub enum Watched {
     Input(usize),
     /// Whether something may be written.
     Output(usize),
+    /// A UDP socket, which is always ready.
+    Udp(usize),
 }
 
 impl Watched {
@@ -22,7 +24,10 @@ impl Watched {
         ensures { result ≡ place_in self }
     {
         match self {
-            Watched::Socket(place) | Watched::Input(place) | Watched::Output(place) => place,
+            Watched::Socket(place)
+            | Watched::Input(place)
+            | Watched::Output(place)
+            | Watched::Udp(place) => place,
         }
     }
 }
@@ -33,6 +38,8 @@ pub enum Kind {
     Network,
     /// A TCP socket of the 0.2 interface.
     Tcp2(usize),
+    /// A UDP socket of the 0.2 interface.
+    Udp2(usize),
     /// The input of a connection, with the number of its socket's record.
     Input(usize),
     /// The output of a connection, with the number of its socket's record.
@@ -51,6 +58,7 @@ impl Kind {
         match self {
             Kind::Network => HandleKind::Network,
             Kind::Tcp2(_) => HandleKind::Tcp2,
+            Kind::Udp2(_) => HandleKind::Udp2,
             Kind::Input(_) => HandleKind::Input,
             Kind::Output(_) => HandleKind::Output,
             Kind::Pollable(_) => HandleKind::Pollable,
@@ -65,7 +73,7 @@ impl Kind {
     {
         match self {
             Kind::Input(_) | Kind::Output(_) | Kind::Pollable(_) => parent,
-            Kind::Network | Kind::Tcp2(_) | Kind::ErrorValue => None,
+            Kind::Network | Kind::Tcp2(_) | Kind::Udp2(_) | Kind::ErrorValue => None,
         }
     }
 }

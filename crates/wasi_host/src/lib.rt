@@ -21,6 +21,8 @@ mod releasing;
 pub mod socket;
 pub mod store;
 mod streams;
+pub mod udp;
+mod udp_calls;
 pub mod view;
 
 pub use binding::{AsyncOperation, InProgress};
@@ -36,4 +38,5 @@ pub use records::Record;
 pub use socket::{Streams, Tcp2Socket};
 pub use store::{Standing, StandingCall, Store};
 pub use streams::{check_write, convert_stream_error, flush, read, write};
+pub use udp::{OpenUdp, Udp2Socket, UdpInProgress};
 pub use view::{WasiSocketsCtxView, WasiSocketsView};

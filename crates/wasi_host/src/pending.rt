@@ -4,7 +4,7 @@ ghost use Rattle.std.specs.Prelude.{◌≡◌, IfNone, IsSome, false};
 ghost use Rattle.wasi_world.specs.Asks.{AsksFor};
 ghost use Rattle.wasi_host.specs.Records.{tcp2_at};
 ghost use Rattle.wasi_host.specs.Host.{host_outcome};
-ghost use Rattle.wasi_host.specs.Pending.{outcome_of, rebind_at, relisten_at, go_on, resume_asks};
+ghost use Rattle.wasi_host.specs.Pending.{outcome_of, handle_outcome, rebind_at, relisten_at, go_on, resume_asks};
 ghost use Rattle.wasi_host.specs.Sides.{KnowsSides};
 ghost use Rattle.wasi_host.specs.Standing.{call_of, unstood};
 ghost use Rattle.wasi_host.specs.Views.{SameView, state_of};
@@ -13,13 +13,15 @@ use crate::error::SocketError;
 use crate::records::tcp2_mut;
 use crate::store::{Standing, StandingCall, Store};
 use crate::view::WasiSocketsCtxView;
-use wasi_world::{Answer, Ids, TrapKind, World};
+use wasi_world::{Answer, Handle, Ids, TrapKind, World};
 
 /// What a resumed call answers.
 #[derive(Clone, Copy, Debug, PartialEq, Eq)]
 pub enum Outcome {
     /// The call gives nothing.
     Nothing,
+    /// It gives a handle.
+    One(Handle),
 }
 
 impl Outcome {
@@ -29,6 +31,16 @@ impl Outcome {
     {
         match answer {
             Answer::Ready(()) => Answer::Ready(Outcome::Nothing),
+            Answer::Pending => Answer::Pending,
+        }
+    }
+
+    /// The outcome of a call that gives a handle.
+    fn of_handle(answer: Answer<Handle>) -> Answer<Outcome>
+        ensures { result ≡ handle_outcome answer }
+    {
+        match answer {
+            Answer::Ready(handle) => Answer::Ready(Outcome::One(handle)),
             Answer::Pending => Answer::Pending,
         }
     }
@@ -86,33 +98,48 @@ impl Store {
         let answer = record.poll_listen(world)?;
         Ok(self.stand(ids, StandingCall::Listen { socket: place }, answer))
     }
+}
 
-    /// Makes a call that stood go on, by these names: a bind and a listen are polled again, and the drop of an output looks at
-    /// its writer again. Pending, it stands on.
-    fn go_on<W: World>(
-        &mut self,
-        world: &mut W,
-        ids: Ids,
-        call: StandingCall,
-    ) -> Result<Answer<()>, SocketError>
-        requires { (W.seen world.old).ended ≡ false }
-        ensures asked { AsksFor (go_on self.old ids call) (W.seen world.old) (W.seen world.new) (λ answer. (answer, self.new)) (host_outcome result) }
-        ensures sides { KnowsSides (W.seen world.old) self.old → KnowsSides (W.seen world.new) self.new }
-        ensures open { (W.seen world.new).ended ≡ false }
-    {
-        match call {
-            StandingCall::Bind { socket } => self.rebind(world, ids, socket),
-            StandingCall::Listen { socket } => self.relisten(world, ids, socket),
-            StandingCall::DropOutput { socket } => {
-                let answer = self.drop_output(world, ids, socket)?;
-                Ok(answer)
-            }
+/// Makes a call that was pending go on, by these names: a bind and a listen are polled again, the drop of an output looks at its
+/// writer again, and a create waits on for its network socket. Pending, it stays pending.
+fn go_on<W: World>(
+    view: &mut WasiSocketsCtxView<'_>,
+    world: &mut W,
+    ids: Ids,
+    call: StandingCall,
+) -> Result<Answer<Outcome>, SocketError>
+    requires { (W.seen world.old).ended ≡ false }
+    ensures asked { AsksFor (go_on (state_of view.old) ids call) (W.seen world.old) (W.seen world.new) (λ answer. (answer, state_of view.new)) (host_outcome result) }
+    ensures sides { KnowsSides (W.seen world.old) view.old.store.now → KnowsSides (W.seen world.new) view.new.store.now }
+    ensures view { SameView view.old view.new }
+    ensures open { (W.seen world.new).ended ≡ false }
+{
+    match call {
+        StandingCall::Bind { socket } => {
+            let answer = view.store.rebind(world, ids, socket)?;
+            Ok(Outcome::of_nothing(answer))
+        }
+        StandingCall::Listen { socket } => {
+            let answer = view.store.relisten(world, ids, socket)?;
+            Ok(Outcome::of_nothing(answer))
+        }
+        StandingCall::DropOutput { socket } => {
+            let answer = view.store.drop_output(world, ids, socket)?;
+            Ok(Outcome::of_nothing(answer))
+        }
+        StandingCall::UdpCreate { socket } => {
+            let answer = view.store.create_on(view.table, world, ids, socket)?;
+            Ok(Outcome::of_handle(answer))
+        }
+        StandingCall::UdpBind { socket } => {
+            let answer = view.store.rebind_udp(world, ids, socket)?;
+            Ok(Outcome::of_nothing(answer))
         }
     }
 }
 
 /// Polls the pending call under this number, by the names that were left to it; none exactly where none is. A call that is
-/// pending stays so. A code is that of a bind or of a listen.
+/// pending stays so. A code is that of a bind, of a listen or of a create.
 pub fn resume<W: World>(
     view: &mut WasiSocketsCtxView<'_>,
     world: &mut W,
@@ -127,6 +154,6 @@ pub fn resume<W: World>(
     let Some(standing) = view.store.take(line) else {
         return Ok(None);
     };
-    let answer = view.store.go_on(world, standing.ids, standing.call)?;
-    Ok(Some(Outcome::of_nothing(answer)))
+    let answer = go_on(view, world, standing.ids, standing.call)?;
+    Ok(Some(answer))
 }

@@ -5,7 +5,7 @@ ghost use Rattle.wasi_world.specs.Asks.{AsksFor};
 ghost use Rattle.wasi_host.specs.Records.{tcp2_at};
 ghost use Rattle.wasi_host.specs.Host.{fault_outcome};
 ghost use Rattle.wasi_host.specs.Kinds.{place_in};
-ghost use Rattle.wasi_host.specs.Machine.{own_of, subscribe_asks, ready_asks, ids_after_ready};
+ghost use Rattle.wasi_host.specs.Machine.{own_of, subscribe_asks, ready_asks, ids_after_ready, watched_side};
 ghost use Rattle.wasi_host.specs.Readiness.{ready_at, ready_ids_at};
 ghost use Rattle.wasi_host.specs.Sides.{KnowsSides};
 ghost use Rattle.wasi_host.specs.Views.{SameView, state_of};
@@ -16,9 +16,21 @@ use crate::records::tcp2_mut;
 use crate::store::Store;
 use crate::view::WasiSocketsCtxView;
 use wasi_streams::{Fault, TrapKind};
-use wasi_world::{Handle, Ids, World};
+use wasi_world::{Handle, Ids, Sock, World};
 
 impl Store {
+    /// The network socket of what is watched.
+    fn watched_side(&self, watched: Watched) -> Option<Sock>
+        ensures { result ≡ watched_side self.now watched }
+    {
+        match watched {
+            Watched::Udp(place) => self.udp_side(place),
+            Watched::Socket(_) | Watched::Input(_) | Watched::Output(_) => {
+                self.side(watched.place())
+            }
+        }
+    }
+
     /// One look at what is watched.
     pub(crate) fn poll_ready<W: World>(
         &mut self,
@@ -55,14 +67,14 @@ pub fn subscribe<W: World>(
     ensures open { (W.seen world.new).ended ≡ false }
 {
     let watched = handles::watched(view.table, this)?;
-    let side = view.store.side(watched.place());
+    let side = view.store.watched_side(watched);
     let kind = Kind::Pollable(watched);
     handles::make(view.table, world, ids.own(), kind, Some(this), side)
 }
 
 /// Whether what a pollable watches is ready (`pollable.ready`), by one look: the connect in progress of a socket is polled, or
 /// the accept of a listener with nothing in progress, whose result is left to [`accept`](Store::accept); and of a stream it is
-/// asked whether it is ready. An error is ready too. An accept that begins takes the next name of the line.
+/// asked whether it is ready. An error is ready too, and so is a UDP socket. An accept that begins takes the next name of the line.
 pub fn ready<W: World>(
     view: &mut WasiSocketsCtxView<'_>,
     world: &mut W,
@@ -78,5 +90,10 @@ pub fn ready<W: World>(
     ensures open { (W.seen world.new).ended ≡ false }
 {
     let watched = handles::watch(view.table, pollable)?;
-    view.store.poll_ready(world, ids, watched)
+    match watched {
+        Watched::Udp(_) => Ok(true),
+        Watched::Socket(_) | Watched::Input(_) | Watched::Output(_) => {
+            view.store.poll_ready(world, ids, watched)
+        }
+    }
 }

@@ -2,17 +2,20 @@
 
 ghost use Rattle.std.specs.Prelude.{◌≡◌, option_map, Some};
 ghost use Rattle.std.specs.Borrow.{LendsIf, sem};
-ghost use Rattle.wasi_host.specs.Records.{tcp2_of, tcp2_at, with_tcp2};
-ghost use Rattle.wasi_host.specs.Rows.{record_row, records_row, socket_row};
-ghost use Rattle.wasi_host.specs.declared.records.Record.TheVariants.{Tcp2};
+ghost use Rattle.wasi_host.specs.Records.{tcp2_of, tcp2_at, with_tcp2, udp2_of, udp2_at, with_udp2, open_at, with_open};
+ghost use Rattle.wasi_host.specs.Rows.{record_row, records_row, socket_row, udp_row, open_row};
+ghost use Rattle.wasi_host.specs.declared.records.Record.TheVariants.{Tcp2, Udp2};
 
 use crate::socket::Tcp2Socket;
+use crate::udp::{OpenUdp, Udp2Socket};
 
 /// A record of the store: what the number in a handle names. Each kind of record is a case.
 #[derive(Drop)]
 pub enum Record {
     /// A TCP socket of the 0.2 interface, with its listener and its streams.
     Tcp2(Tcp2Socket),
+    /// A UDP socket of the 0.2 interface.
+    Udp2(Udp2Socket),
 }
 
 impl Record {
@@ -22,6 +25,7 @@ impl Record {
     {
         match self {
             Record::Tcp2(socket) => Some(socket),
+            Record::Udp2(_) => None,
         }
     }
 
@@ -32,6 +36,28 @@ impl Record {
     {
         match self {
             Record::Tcp2(socket) => Some(socket),
+            Record::Udp2(_) => None,
+        }
+    }
+
+    /// The UDP socket that it is.
+    fn as_udp2(&self) -> Option<&Udp2Socket>
+        ensures { option_map (λ u. u.now) result ≡ udp2_of (Some self.now) }
+    {
+        match self {
+            Record::Udp2(socket) => Some(socket),
+            Record::Tcp2(_) => None,
+        }
+    }
+
+    /// The UDP socket that it is, to be changed.
+    fn as_udp2_mut(&mut self) -> Option<&mut Udp2Socket>
+        ensures* writes_back { sem 𝓛 (LendsIf record_row udp_row self.entry result Udp2 self.old) }
+        ensures value { option_map (λ u. u.now) result ≡ udp2_of (Some self.old) }
+    {
+        match self {
+            Record::Udp2(socket) => Some(socket),
+            Record::Tcp2(_) => None,
         }
     }
 }
@@ -49,4 +75,34 @@ pub(crate) fn tcp2_mut(records: &mut Vec<Record>, place: usize) -> Option<&mut T
     ensures item { option_map (λ r. r.now) result ≡ tcp2_at records.old.items place }
 {
     records.get_mut(place)?.as_tcp2_mut()
+}
+
+/// The UDP socket of this number.
+pub(crate) fn udp2(records: &[Record], place: usize) -> Option<&Udp2Socket>
+    ensures item { option_map (λ u. u.now) result ≡ udp2_at records.now place }
+{
+    records.get(place)?.as_udp2()
+}
+
+/// The UDP socket of this number, to be changed where it is.
+pub(crate) fn udp2_mut(records: &mut Vec<Record>, place: usize) -> Option<&mut Udp2Socket>
+    ensures* writes_back { sem 𝓛 (LendsIf records_row udp_row records.entry result (with_udp2 records.old place) records.old) }
+    ensures item { option_map (λ u. u.now) result ≡ udp2_at records.old.items place }
+{
+    records.get_mut(place)?.as_udp2_mut()
+}
+
+/// The UDP socket of this number, where it is open.
+pub(crate) fn open_udp(records: &[Record], place: usize) -> Option<&OpenUdp>
+    ensures item { option_map (λ o. o.now) result ≡ open_at records.now place }
+{
+    udp2(records, place)?.as_open()
+}
+
+/// The UDP socket of this number, where it is open, to be changed where it is.
+pub(crate) fn open_udp_mut(records: &mut Vec<Record>, place: usize) -> Option<&mut OpenUdp>
+    ensures* writes_back { sem 𝓛 (LendsIf records_row open_row records.entry result (with_open records.old place) records.old) }
+    ensures item { option_map (λ o. o.now) result ≡ open_at records.old.items place }
+{
+    udp2_mut(records, place)?.as_open_mut()
 }

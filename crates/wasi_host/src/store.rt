@@ -37,6 +37,10 @@ pub enum StandingCall {
     Listen { socket: usize },
     /// Drops the output of the socket of this number, and waits until its writer is ready.
     DropOutput { socket: usize },
+    /// Makes the UDP socket of this number, whose record has the operation, and then its handle.
+    UdpCreate { socket: usize },
+    /// Binds the UDP socket of this number, likewise.
+    UdpBind { socket: usize },
 }
 
 /// A pending call: while it does, every other guest call is busy.

@@ -1,2 +1,3 @@
 pub mod Tcp
 pub mod Options
+pub mod Udp

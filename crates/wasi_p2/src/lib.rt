@@ -11,6 +11,7 @@ ghost use Rattle.wasi_p2.specs.Tcp.{network_asks};
 
 mod options;
 pub mod tcp;
+pub mod udp;
 
 pub use wasi_host::SocketError;
 use wasi_host::{Kind, WasiSocketsCtxView, handles};

@@ -14,3 +14,10 @@ returns-in_ok-release-in-Tcp2-clause-asked g c = rw c.in-Tcp2.is (asks_end _ (rw
 
 pub returns-in_ok-answer-in-Output-clause-asked : goal.returns-in_ok-answer-in-Output-clause-asked
 returns-in_ok-answer-in-Output-clause-asked g c = rw c.in-Output.is (asks_end _ c.in_ok-answer-in-Output.ensures.asked.ok refl)
+
+pub returns-in_err-release_udp-in-Udp2-clause-asked : goal.returns-in_err-release_udp-in-Udp2-clause-asked
+returns-in_err-release_udp-in-Udp2-clause-asked g c =
+    rw c.in-Udp2.is (fault_exit _ c.from_residual-in_err-release_udp-in-Udp2.result c.from_residual-in_err-release_udp-in-Udp2.ensures.1 (rw c.own-in-Udp2.ensures at c.in_err-release_udp-in-Udp2.ensures.asked).err)
+
+pub returns-in_ok-release_udp-in-Udp2-clause-asked : goal.returns-in_ok-release_udp-in-Udp2-clause-asked
+returns-in_ok-release_udp-in-Udp2-clause-asked g c = rw c.in-Udp2.is (asks_end _ (rw c.own-in-Udp2.ensures at c.in_ok-release_udp-in-Udp2.ensures.asked).ok refl)

@@ -11,4 +11,4 @@ returns-in_err-answer-clause-asked g c =
 pub returns-clause-asked : goal.returns-clause-asked
 returns-clause-asked g c =
     rw (← c.take.ensures.taken, c.in-Some.is)
-    (asks_end _ (rw (c.take.ensures.some (rw c.in-Some.is refl)) at c.in_ok-answer.ensures.asked.ok) (rw c.of_nothing.ensures refl))
+    (asks_end _ (rw (c.take.ensures.some (rw c.in-Some.is refl)) at c.in_ok-answer.ensures.asked.ok) refl)

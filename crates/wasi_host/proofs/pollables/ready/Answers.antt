@@ -1,7 +1,11 @@
-use Rattle.wasi_world.proofs.Walks.{asks_gives}
+use Rattle.wasi_world.proofs.Walks.{asks_at, asks_gives}
 use Rattle.wasi_host.specs.Machine.{with_store}
 use Rattle.wasi_host.specs.Views.{state_of}
+use Rattle.wasi_host.proofs.WatchedLooks.{looked_at}
 use Rattle.wasi_host.proofs.pollables.ready.Goals as goal
 
-pub returns-clause-asked : goal.returns-clause-asked
-returns-clause-asked g c = rw c.in_ok-watched.ensures (asks_gives (with_store (state_of c.args.view.now)) c.poll_ready.ensures.asked)
+pub returns-in-Socket-clause-asked : goal.returns-in-Socket-clause-asked
+returns-in-Socket-clause-asked g c =
+    rw c.in_ok-watched.ensures
+    (asks_at (λ asks. asks) (looked_at (state_of c.args.view.now) c.args.ids.now c.in_ok-watched.watched c.in-Socket.is)
+    (asks_gives (with_store (state_of c.args.view.now)) c.poll_ready.ensures.asked))

@@ -4,4 +4,4 @@ use Rattle.wasi_host.specs.Views.{state_of}
 use Rattle.wasi_host.proofs.pollables.subscribe.Goals as goal
 
 pub returns-clause-asked : goal.returns-clause-asked
-returns-clause-asked g c = rw c.in_ok-watched.ensures (asks_gives (with_table (state_of c.args.view.now)) (rw (c.own.ensures, c.side-side.ensures, c.place.ensures) at c.make.ensures.asked))
+returns-clause-asked g c = rw c.in_ok-watched.ensures (asks_gives (with_table (state_of c.args.view.now)) (rw (c.own.ensures, c.watched_side-side.ensures) at c.make.ensures.asked))

@@ -1,0 +1,42 @@
+-- A bind of a UDP socket: what its poll asks, and that it makes no network socket and closes none.
+use Rattle.std.proofs.Common.{◌≡◌, refl}
+use Rattle.std.specs.Prelude.{Result, Ok, Err}
+use Rattle.std.specs.declared.alloc.AllocError.{AllocError}
+use Rattle.wasi_addr.specs.declared.address.IpSocketAddress.{IpSocketAddress}
+use Rattle.wasi_world.specs.declared.ids.OpId.{OpId}
+use Rattle.wasi_world.specs.declared.outcome.Answer.{Answer}
+use Rattle.wasi_world.specs.declared.outcome.Answer.TheVariants.{Ready, Pending}
+use Rattle.wasi_world.specs.declared.outcome.Refusal.{Refusal}
+use Rattle.wasi_world.specs.declared.outcome.Refusal.TheVariants as refusal
+use Rattle.wasi_world.specs.Seen.{Seen}
+use Rattle.wasi_world.specs.Asks.{Give, bind, AsksFor, outcome}
+use Rattle.wasi_world.specs.Operation.{Operation, Nothing, PollsFor, poll_asks}
+use Rattle.wasi_world.proofs.Polls.{polls_asks}
+use Rattle.wasi_world.proofs.Walks.{asks_at, asks_end, reaches_in}
+use Rattle.wasi_udp.specs.Bind.{bind_asks, IsBind}
+use Rattle.wasi_udp.specs.Shape.{Socket}
+use Rattle.wasi_host.specs.declared.udp.OpenUdp.{OpenUdp}
+use Rattle.wasi_host.specs.declared.udp.UdpInProgress.TheVariants.{Binding}
+use Rattle.wasi_host.specs.Sides.{MakesNone}
+use Rattle.wasi_host.specs.Udp.{udp_bind_ended, udp_bind_settled, poll_udp_binding, poll_udp_bind_asks, with_udp_progress}
+use Rattle.wasi_host.proofs.SideCounts.{none_calm}
+use Rattle.wasi_host.proofs.UdpCalms.{calm_udp_begins, calm_udp_bind}
+
+-- what it made of its record
+polled_so : (o : OpenUdp) (op now : Operation) (p : Result (Answer (Unit {0})) Refusal) {s t : Seen} → PollsFor (λ (done : Unit {0}). Nothing) Nothing op now s t p
+    → AsksFor (poll_udp_binding o (Binding op)) s t (λ answer. (answer, udp_bind_settled (with_udp_progress o (Binding now)) p)) (outcome p)
+polled_so o op now (Ok (Ready done)) h = asks_end _ h.ended refl
+polled_so o op now (Ok Pending) h = asks_end _ h.ended (rw (← h.who) refl)
+polled_so o op now (Err (refusal.Code c)) h = asks_end _ h.ended refl
+polled_so o op now (Err (refusal.Memory e)) h = record { ok = tt; err = record { rest = bind (poll_asks now) (λ ended. Give (udp_bind_ended op o ended)); reached = reaches_in _ h.ended } }
+
+pub udp_bind_polled : (o : OpenUdp) (op now : Operation) (p : Result (Answer (Unit {0})) Refusal) {s t : Seen} → o.in_progress ≡ Binding op → PollsFor (λ (done : Unit {0}). Nothing) Nothing op now s t p
+    → AsksFor (poll_udp_bind_asks o) s t (λ answer. (answer, udp_bind_settled (with_udp_progress o (Binding now)) p)) (outcome p)
+udp_bind_polled o op now p e h = asks_at (poll_udp_binding o) e (polled_so o op now p h)
+
+pub udp_bind_makes_none : (op now : Operation) (p : Result (Answer (Unit {0})) Refusal) {s t : Seen} → IsBind op → PollsFor (λ (done : Unit {0}). Nothing) Nothing op now s t p → MakesNone s t
+udp_bind_makes_none op now p its h = none_calm (calm_udp_bind op its) (outcome p) (polls_asks h)
+
+-- nor does its start
+pub udp_begins_none : {T : Type 0} (op : OpId) (socket : Socket) (a : IpSocketAddress) (r : Result T AllocError) {s t : Seen} {view : T → _} → AsksFor (bind_asks op socket a) s t view r → MakesNone s t
+udp_begins_none op socket a r h = none_calm (calm_udp_begins op socket a) r h

@@ -1,0 +1,81 @@
+-- A UDP socket is made: the network socket that its create makes, and its handle.
+use Rattle.std.proofs.Common.{◌≡◌, ℕ, Bool, true, false, if◌then◌else◌, List, [], ◌∷◌, length, Option, Some, None, Result, Ok, Err, OnErr, refl, arith}
+use Rattle.std.specs.declared.alloc.AllocError.{AllocError}
+use Rattle.wasi_addr.specs.declared.address.SocketAddressFamily.{SocketAddressFamily}
+use Rattle.wasi_addr.specs.declared.code.ErrorCode.{ErrorCode}
+use Rattle.wasi_addr.specs.declared.code.ErrorCode.TheVariants.{AccessDenied}
+use Rattle.wasi_world.specs.declared.call.Entry.{Entry}
+use Rattle.wasi_world.specs.declared.call.Told.{Told}
+use Rattle.wasi_world.specs.declared.call.Told.TheVariants as told
+use Rattle.wasi_world.specs.declared.ids.Ids.{Ids}
+use Rattle.wasi_world.specs.declared.ids.OpId.{OpId}
+use Rattle.wasi_world.specs.declared.outcome.Answer.{Answer}
+use Rattle.wasi_world.specs.declared.outcome.Refusal.{Refusal}
+use Rattle.wasi_world.specs.declared.outcome.Refusal.TheVariants as refusal
+use Rattle.wasi_world.specs.declared.outcome.WasiSocketsCtx.{WasiSocketsCtx}
+use Rattle.wasi_world.specs.Asks.{Give, bind, Left, Reaches, AsksFor, outcome}
+use Rattle.wasi_world.specs.Fits.{IsDoneOrCode}
+use Rattle.wasi_world.specs.Seen.{Seen}
+use Rattle.wasi_world.specs.Typed.{told_done, ask_udp_create}
+use Rattle.wasi_udp.specs.Create.{Create, after_create, new_asks}
+use Rattle.wasi_host.specs.declared.kind.Kind.TheVariants.{Udp2}
+use Rattle.wasi_host.specs.declared.machine.Machine.{Machine}
+use Rattle.wasi_host.specs.declared.records.Record.{Record}
+use Rattle.wasi_host.specs.declared.udp.Udp2Socket.{Udp2Socket}
+use Rattle.wasi_host.specs.declared.udp.Udp2Socket.TheVariants.{Creating}
+use Rattle.wasi_host.specs.Host.{Stop}
+use Rattle.wasi_host.specs.Kinds.{make_asks}
+use Rattle.wasi_host.specs.Records.{udp2_pushed}
+use Rattle.wasi_host.specs.Sides.{one_if_done, made_in, closed_in, KnowsSides}
+use Rattle.wasi_host.specs.Store.{Records}
+use Rattle.wasi_host.specs.Udp.{udp_side}
+use Rattle.wasi_host.specs.UdpCreates.{with_create, udp_side_at, handle_made, mark_udp, create_on}
+use Rattle.wasi_host.proofs.SideCounts.{knows_then}
+use Rattle.wasi_host.proofs.UdpLookups.{held_in-udp_more}
+
+-- == a create makes one network socket where it begins, and none where it is refused
+abbrev begun_or_not : Result Create ErrorCode → ℕ
+begun_or_not (Ok create) = 1
+begun_or_not (Err c) = 0
+
+one_made : (op : OpId) (n : ℕ) (family : SocketAddressFamily) (t : Told) → IsDoneOrCode t → one_if_done t ≡ begun_or_not (after_create op n family (told_done t))
+one_made op n family told.Done h = refl
+one_made op n family (told.Code c) h = refl
+one_made op n family _ h = absurd h
+
+record MadeSo (es : List Entry) (r : Result Create ErrorCode) : Type 0 where
+  made : made_in es ≡ begun_or_not r
+  closed : closed_in es ≡ 0
+
+begun : (op : OpId) (ctx : WasiSocketsCtx) (family : SocketAddressFamily) (b : Bool) (es : List Entry) (r : Result Create ErrorCode) → Left (if b then bind (ask_udp_create op ctx.name family) (λ t. Give (after_create op ctx.name family t)) else Give (Err AccessDenied)) es (Give r) → MadeSo es r
+unfolding bind
+begun op ctx family true [] r w = absurd (cc)
+begun op ctx family true (e ∷ []) r w =
+    let k : after_create op ctx.name family (told_done e.answer) ≡ r = cc in
+    record { made = rw (w.0.1, ← k) (let m = one_made op ctx.name family e.answer w.0.2 in omega arith); closed = rw w.0.1 refl }
+begun op ctx family true (e ∷ f ∷ es) r w = absurd w.1
+begun op ctx family false [] r w = let k : Err AccessDenied ≡ r = cc in rw (← k) (record { made = refl; closed = refl })
+begun op ctx family false (e ∷ es) r w = absurd w
+
+-- the store with the record of a create that began
+abbrev pub with_creating : Records → Create → Records
+with_creating store create = record store { records = udp2_pushed store.records (Creating create) }
+
+pub knows_begun : (op : OpId) (ctx : WasiSocketsCtx) (family : SocketAddressFamily) {s t : Seen} (create : Create) (store : Records) → Reaches (new_asks op ctx family) (Give (Ok create)) s t → KnowsSides s store → KnowsSides t (with_creating store create)
+knows_begun op ctx family create store h k =
+    let m = begun op ctx family ctx.udp h.entries (Ok create) h.left in
+    knows_then h.entries store (with_creating store create) h.passed (rw (m.made, m.closed, held_in-udp_more store.records (Creating create)) (omega arith)) k
+
+pub knows_refused : (op : OpId) (ctx : WasiSocketsCtx) (family : SocketAddressFamily) {s t : Seen} (x : Refusal) (store : Records) → AsksFor (new_asks op ctx family) s t (λ (made : Result Create ErrorCode). made) (outcome {T = Create} (Err x)) → OnErr (outcome {T = Create} (Err x)) (t ≡ s) → KnowsSides s store → KnowsSides t store
+knows_refused op ctx family (refusal.Code c) store h e k = let m = begun op ctx family ctx.udp h.ok.entries (Err c) h.ok.left in knows_then h.ok.entries store store h.ok.passed (rw (m.made, m.closed) refl) k
+knows_refused op ctx family (refusal.Memory d) store h e k = rw e k
+
+-- == its record is polled
+pub begun_on : (m : Machine) (ids : Ids) (create : Create) {place : ℕ} {records : List Record} {s t : Seen} {view : Result (Answer ℕ) Stop → Result (Answer ℕ) Stop × Machine} {o : Result (Result (Answer ℕ) Stop) AllocError} → place ≡ length m.store.records → records ≡ udp2_pushed m.store.records (Creating create)
+    → AsksFor (create_on (record { table = m.table; store = record { records = records; jobs = m.store.jobs; standing = m.store.standing } }) ids place) s t view o → AsksFor (create_on (with_create m create) ids (length m.store.records)) s t view o
+begun_on m ids create p r h = rw (p, r) at h
+
+-- == its handle
+pub marked : (m : Machine) (place : ℕ) (u : Option Udp2Socket) (side : OpId) → Some side ≡ udp_side_at u → mark_udp m place u ≡ bind (make_asks m.table side (Udp2 place) None (Some side)) (λ made. Give (handle_made m made))
+marked m place None side h = absurd (cc)
+marked m place (Some u) side h = let e : side ≡ udp_side u = cc in rw e refl

@@ -1,0 +1,34 @@
+use Rattle.std.proofs.Common.{refl}
+use Rattle.wasi_world.proofs.Walks.{asks_end}
+use Rattle.wasi_host.proofs.Hosts.{host_exit, host_passed}
+use Rattle.wasi_host.proofs.pending.go_on.Goals as goal
+
+pub returns-in_err-answer-in-Bind-clause-asked : goal.returns-in_err-answer-in-Bind-clause-asked
+returns-in_err-answer-in-Bind-clause-asked g c = rw c.in-Bind.is (host_passed _ _ c.from_residual.result c.from_residual.ensures.1 c.in_err-answer-in-Bind.ensures.asked (λ stop. refl))
+
+pub returns-in_ok-answer-in-Bind-clause-asked : goal.returns-in_ok-answer-in-Bind-clause-asked
+returns-in_ok-answer-in-Bind-clause-asked g c = rw c.in-Bind.is (asks_end _ c.in_ok-answer-in-Bind.ensures.asked.ok (rw c.of_nothing.ensures refl))
+
+pub returns-in_err-answer-in-Listen-clause-asked : goal.returns-in_err-answer-in-Listen-clause-asked
+returns-in_err-answer-in-Listen-clause-asked g c = rw c.in-Listen.is (host_passed _ _ c.from_residual-in_err-answer-in-Listen.result c.from_residual-in_err-answer-in-Listen.ensures.1 c.in_err-answer-in-Listen.ensures.asked (λ stop. refl))
+
+pub returns-in_ok-answer-in-Listen-clause-asked : goal.returns-in_ok-answer-in-Listen-clause-asked
+returns-in_ok-answer-in-Listen-clause-asked g c = rw c.in-Listen.is (asks_end _ c.in_ok-answer-in-Listen.ensures.asked.ok (rw c.of_nothing-in-Listen.ensures refl))
+
+pub returns-in_err-answer-in-DropOutput-clause-asked : goal.returns-in_err-answer-in-DropOutput-clause-asked
+returns-in_err-answer-in-DropOutput-clause-asked g c = rw c.in-DropOutput.is (host_exit _ c.from_residual-in_err-answer-in-DropOutput.result c.from_residual-in_err-answer-in-DropOutput.ensures.1 c.in_err-answer-in-DropOutput.ensures.asked.err)
+
+pub returns-in_ok-answer-in-DropOutput-clause-asked : goal.returns-in_ok-answer-in-DropOutput-clause-asked
+returns-in_ok-answer-in-DropOutput-clause-asked g c = rw c.in-DropOutput.is (asks_end _ c.in_ok-answer-in-DropOutput.ensures.asked.ok (rw c.of_nothing-in-DropOutput.ensures refl))
+
+pub returns-in_err-answer-in-UdpCreate-clause-asked : goal.returns-in_err-answer-in-UdpCreate-clause-asked
+returns-in_err-answer-in-UdpCreate-clause-asked g c = rw c.in-UdpCreate.is (host_passed _ _ c.from_residual-in_err-answer-in-UdpCreate.result c.from_residual-in_err-answer-in-UdpCreate.ensures.1 c.in_err-answer-in-UdpCreate.ensures.asked (λ stop. refl))
+
+pub returns-in_ok-answer-in-UdpCreate-clause-asked : goal.returns-in_ok-answer-in-UdpCreate-clause-asked
+returns-in_ok-answer-in-UdpCreate-clause-asked g c = rw c.in-UdpCreate.is (asks_end _ c.in_ok-answer-in-UdpCreate.ensures.asked.ok (rw c.of_handle.ensures refl))
+
+pub returns-in_err-answer-in-UdpBind-clause-asked : goal.returns-in_err-answer-in-UdpBind-clause-asked
+returns-in_err-answer-in-UdpBind-clause-asked g c = rw c.in-UdpBind.is (host_passed _ _ c.from_residual-in_err-answer-in-UdpBind.result c.from_residual-in_err-answer-in-UdpBind.ensures.1 c.in_err-answer-in-UdpBind.ensures.asked (λ stop. refl))
+
+pub returns-in_ok-answer-in-UdpBind-clause-asked : goal.returns-in_ok-answer-in-UdpBind-clause-asked
+returns-in_ok-answer-in-UdpBind-clause-asked g c = rw c.in-UdpBind.is (asks_end _ c.in_ok-answer-in-UdpBind.ensures.asked.ok (rw c.of_nothing-in-UdpBind.ensures refl))

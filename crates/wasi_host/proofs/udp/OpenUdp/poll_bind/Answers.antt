@@ -1,0 +1,10 @@
+use Rattle.wasi_host.proofs.UdpBinds.{udp_bind_polled, udp_bind_makes_none}
+use Rattle.wasi_host.proofs.udp.OpenUdp.poll_bind.Goals as goal
+
+pub returns-in-Binding-clause-asked : goal.returns-in-Binding-clause-asked
+returns-in-Binding-clause-asked g c =
+    rw (c.settle_bind.ensures.told, c.settle_bind.ensures.settled)
+    (udp_bind_polled c.args.self.now c.in-Binding.bind c.poll-polled.new.self c.poll-polled.result (rw c.replace.ensures.value at c.in-Binding.is) (rw c.into_inner-bind.ensures.bind at (c.poll-polled.ensures.polled c.into_inner-bind.ensures.going)))
+
+pub returns-in-Binding-clause-none : goal.returns-in-Binding-clause-none
+returns-in-Binding-clause-none g c = udp_bind_makes_none c.into_inner-bind.result c.poll-polled.new.self c.poll-polled.result c.poll-polled.ensures.before (c.poll-polled.ensures.polled c.into_inner-bind.ensures.going)

@@ -1,0 +1,279 @@
+//! The calls on the UDP socket of a number.
+
+ghost use Rattle.std.specs.Prelude.{◌≡◌, ◌≤◌, false, IfOk, Ok};
+ghost use Rattle.wasi_world.specs.Asks.{AsksFor};
+ghost use Rattle.wasi_world.specs.Seen.{Seen};
+ghost use Rattle.wasi_common.specs.Options.{largest_value, option_of, number_of};
+ghost use Rattle.wasi_host.specs.Host.{host_outcome};
+ghost use Rattle.wasi_host.specs.Records.{open_at, udp2_at};
+ghost use Rattle.wasi_host.specs.Sides.{KnowsSides};
+ghost use Rattle.wasi_host.specs.UdpCalls.{start_udp_bind_at, rebind_udp_at, finish_udp_bind_at, udp_local_at, udp_remote_at, udp_family_at, get_udp_option_at, set_udp_option_at, release_udp_at};
+ghost use Rattle.wasi_host.specs.UdpCreates.{create_udp_asks, create_on, mark_udp, poll_create_at, udp_side_at};
+
+use crate::error::SocketError;
+use crate::handles;
+use crate::kind::Kind;
+use crate::records::{Record, open_udp, open_udp_mut, udp2, udp2_mut};
+use crate::store::{Standing, StandingCall, Store};
+use crate::udp::{PendingCreate, Udp2Socket, UdpInProgress};
+use std::alloc::AllocError;
+use wasi_addr::{IpSocketAddress, SocketAddressFamily, p2};
+use wasi_common::Setting;
+use wasi_streams::Table;
+use wasi_udp::UdpSocket;
+use wasi_world::{Answer, Handle, Ids, OpId, Opt, Sock, TrapKind, WasiSocketsCtx, World};
+
+impl Store {
+    /// Begins to make a UDP socket, and polls that. Room for the record is taken before the network socket is made, so that a
+    /// network socket that was made is always known, also where no handle can be made for it.
+    pub fn create_udp_socket<W: World>(
+        &mut self,
+        table: &mut Table<Kind>,
+        world: &mut W,
+        ids: Ids,
+        ctx: &WasiSocketsCtx,
+        family: SocketAddressFamily,
+    ) -> Result<Answer<Handle>, SocketError>
+        requires { (W.seen world.old).ended ≡ false }
+        ensures asked { AsksFor (create_udp_asks (record { table = table.old; store = self.old }) ids ctx.now family) (W.seen world.old) (W.seen world.new) (λ answer. (answer, record { table = table.new; store = self.new })) (host_outcome result) }
+        ensures sides { KnowsSides (W.seen world.old) self.old → KnowsSides (W.seen world.new) self.new }
+        ensures open { (W.seen world.new).ended ≡ false }
+    {
+        self.records.reserve(1)?;
+        let create = UdpSocket::new(world, ids.own(), ctx, family)?;
+        let place = self.records.len();
+        let creating = Udp2Socket::Creating(PendingCreate::new(create));
+        self.records.push_reserved(Record::Udp2(creating));
+        self.create_on(table, world, ids, place)
+    }
+
+    /// Polls the create that the record of this number is in the midst of. Pending, it is a pending call; done, the socket gets
+    /// its handle.
+    pub(crate) fn create_on<W: World>(
+        &mut self,
+        table: &mut Table<Kind>,
+        world: &mut W,
+        ids: Ids,
+        place: usize,
+    ) -> Result<Answer<Handle>, SocketError>
+        requires { (W.seen world.old).ended ≡ false }
+        ensures asked { AsksFor (create_on (record { table = table.old; store = self.old }) ids place) (W.seen world.old) (W.seen world.new) (λ answer. (answer, record { table = table.new; store = self.new })) (host_outcome result) }
+        ensures sides { KnowsSides (W.seen world.old) self.old → KnowsSides (W.seen world.new) self.new }
+        ensures open { (W.seen world.new).ended ≡ false }
+    {
+        match self.poll_create(world, place)? {
+            Answer::Pending => {
+                let call = StandingCall::UdpCreate { socket: place };
+                self.standing = Some(Standing { ids, call });
+                Ok(Answer::Pending)
+            }
+            Answer::Ready(()) => self.make_udp_handle(table, world, place),
+        }
+    }
+
+    /// Makes the handle of the UDP socket of this number. Its mark has the name of the create, which is that of the network
+    /// socket too.
+    fn make_udp_handle<W: World>(
+        &self,
+        table: &mut Table<Kind>,
+        world: &mut W,
+        place: usize,
+    ) -> Result<Answer<Handle>, SocketError>
+        requires { (W.seen world.old).ended ≡ false }
+        ensures asked { AsksFor (mark_udp (record { table = table.old; store = self.now }) place (udp2_at self.now.records place)) (W.seen world.old) (W.seen world.new) (λ answer. (answer, record { table = table.new; store = self.now })) (host_outcome result) }
+        ensures sides { KnowsSides (W.seen world.old) self.now → KnowsSides (W.seen world.new) self.now }
+        ensures open { (W.seen world.new).ended ≡ false }
+    {
+        let Some(side) = self.udp_side(place) else {
+            return Err(SocketError::Trap(TrapKind::NoSuchHandle));
+        };
+        let kind = Kind::Udp2(place);
+        let handle = handles::make(table, world, side, kind, None, Some(side))?;
+        Ok(Answer::Ready(handle))
+    }
+
+    /// Waits for the network socket of the record of this number.
+    fn poll_create<W: World>(
+        &mut self,
+        world: &mut W,
+        place: usize,
+    ) -> Result<Answer<()>, SocketError>
+        requires { (W.seen world.old).ended ≡ false }
+        ensures asked { AsksFor (poll_create_at self.old place (udp2_at self.old.records place)) (W.seen world.old) (W.seen world.new) (λ answer. (answer, self.new)) (host_outcome result) }
+        ensures sides { KnowsSides (W.seen world.old) self.old → KnowsSides (W.seen world.new) self.new }
+        ensures open { (W.seen world.new).ended ≡ false }
+    {
+        let Some(record) = udp2_mut(&mut self.records, place) else {
+            return Err(SocketError::Trap(TrapKind::NoSuchHandle));
+        };
+        let answer = record.poll_create(world)?;
+        Ok(answer)
+    }
+
+    /// The network socket that the UDP socket of this number was made with.
+    pub(crate) fn udp_side(&self, place: usize) -> Option<Sock>
+        ensures { result ≡ udp_side_at (udp2_at self.now.records place) }
+    {
+        Some(udp2(self.records.as_slice(), place)?.side())
+    }
+
+    /// Begins a bind of the UDP socket of this number. An operation in progress: `ConcurrencyConflict`. A bind whose check is
+    /// pending is a pending call.
+    pub fn start_udp_bind<W: World>(
+        &mut self,
+        world: &mut W,
+        ids: Ids,
+        place: usize,
+        addr: IpSocketAddress,
+    ) -> Result<Answer<()>, SocketError>
+        requires { (W.seen world.old).ended ≡ false }
+        ensures asked { AsksFor (start_udp_bind_at self.old ids place addr (open_at self.old.records place)) (W.seen world.old) (W.seen world.new) (λ answer. (answer, self.new)) (host_outcome result) }
+        ensures sides { KnowsSides (W.seen world.old) self.old → KnowsSides (W.seen world.new) self.new }
+        ensures open { (W.seen world.new).ended ≡ false }
+    {
+        let Some(socket) = open_udp_mut(&mut self.records, place) else {
+            return Err(SocketError::Trap(TrapKind::NoSuchHandle));
+        };
+        if !socket.in_progress.is_nothing() {
+            return Err(SocketError::Code(p2::ErrorCode::ConcurrencyConflict));
+        }
+        let answer = socket.begin_bind(world, ids.own(), addr)?;
+        Ok(self.stand(ids, StandingCall::UdpBind { socket: place }, answer))
+    }
+
+    /// Polls the bind of the UDP socket of this number again. Pending, it stays pending.
+    pub(crate) fn rebind_udp<W: World>(
+        &mut self,
+        world: &mut W,
+        ids: Ids,
+        place: usize,
+    ) -> Result<Answer<()>, SocketError>
+        requires { (W.seen world.old).ended ≡ false }
+        ensures asked { AsksFor (rebind_udp_at self.old ids place (open_at self.old.records place)) (W.seen world.old) (W.seen world.new) (λ answer. (answer, self.new)) (host_outcome result) }
+        ensures sides { KnowsSides (W.seen world.old) self.old → KnowsSides (W.seen world.new) self.new }
+        ensures open { (W.seen world.new).ended ≡ false }
+    {
+        let Some(socket) = open_udp_mut(&mut self.records, place) else {
+            return Err(SocketError::Trap(TrapKind::NoSuchHandle));
+        };
+        let answer = socket.poll_bind(world)?;
+        Ok(self.stand(ids, StandingCall::UdpBind { socket: place }, answer))
+    }
+
+    /// Finishes a bind that was started. It wasn't: `NotInProgress`.
+    pub fn finish_udp_bind(&mut self, place: usize) -> Result<(), SocketError>
+        ensures sides { (s : Seen) → KnowsSides s self.old → KnowsSides s self.new }
+        ensures answer { host_outcome result ≡ Ok (finish_udp_bind_at self.old place (open_at self.old.records place)).0 }
+        ensures state { self.new ≡ (finish_udp_bind_at self.old place (open_at self.old.records place)).1 }
+    {
+        let Some(socket) = open_udp_mut(&mut self.records, place) else {
+            return Err(SocketError::Trap(TrapKind::NoSuchHandle));
+        };
+        if !socket.in_progress.is_bound() {
+            return Err(SocketError::Code(p2::ErrorCode::NotInProgress));
+        }
+        socket.in_progress = UdpInProgress::Nothing;
+        Ok(())
+    }
+
+    /// The local address of the UDP socket of this number. Not bound: `InvalidState`.
+    pub fn udp_local_address<W: World>(
+        &mut self,
+        world: &mut W,
+        op: OpId,
+        place: usize,
+    ) -> Result<IpSocketAddress, SocketError>
+        requires { (W.seen world.old).ended ≡ false }
+        ensures asked { AsksFor (udp_local_at self.old op place (open_at self.old.records place)) (W.seen world.old) (W.seen world.new) (λ told. (told, self.new)) (host_outcome result) }
+        ensures sides { KnowsSides (W.seen world.old) self.old → KnowsSides (W.seen world.new) self.new }
+        ensures open { (W.seen world.new).ended ≡ false }
+    {
+        let Some(socket) = open_udp_mut(&mut self.records, place) else {
+            return Err(SocketError::Trap(TrapKind::NoSuchHandle));
+        };
+        let addr = socket.local_address(world, op)?;
+        Ok(addr)
+    }
+
+    /// The remote address that is kept of the UDP socket of this number. None: `InvalidState`. Nothing is asked.
+    pub fn udp_remote_address(&self, place: usize) -> Result<IpSocketAddress, SocketError>
+        ensures { host_outcome result ≡ Ok (udp_remote_at (open_at self.now.records place)) }
+    {
+        let Some(socket) = open_udp(self.records.as_slice(), place) else {
+            return Err(SocketError::Trap(TrapKind::NoSuchHandle));
+        };
+        match socket.inner.remote_address() {
+            Ok(addr) => Ok(addr),
+            Err(code) => Err(SocketError::Code(p2::ErrorCode::from_code(code))),
+        }
+    }
+
+    /// The family of the UDP socket of this number.
+    pub fn udp_address_family(&self, place: usize) -> Result<SocketAddressFamily, SocketError>
+        ensures { host_outcome result ≡ Ok (udp_family_at (open_at self.now.records place)) }
+    {
+        match open_udp(self.records.as_slice(), place) {
+            Some(socket) => Ok(socket.inner.address_family()),
+            None => Err(SocketError::Trap(TrapKind::NoSuchHandle)),
+        }
+    }
+
+    /// The value of an option of the UDP socket of this number (`UdpSocket::get_option`).
+    pub fn get_udp_option<W: World>(
+        &self,
+        world: &mut W,
+        op: OpId,
+        place: usize,
+        option: Opt,
+    ) -> Result<u64, SocketError>
+        requires { (W.seen world.old).ended ≡ false }
+        ensures asked { AsksFor (get_udp_option_at self.now op option (open_at self.now.records place)) (W.seen world.old) (W.seen world.new) (λ told. (told, self.now)) (host_outcome result) }
+        ensures within { IfOk result (λ value. value ≤ largest_value option) }
+        ensures sides { KnowsSides (W.seen world.old) self.now → KnowsSides (W.seen world.new) self.now }
+        ensures open { (W.seen world.new).ended ≡ false }
+    {
+        let Some(socket) = open_udp(self.records.as_slice(), place) else {
+            return Err(SocketError::Trap(TrapKind::NoSuchHandle));
+        };
+        let value = socket.inner.get_option(world, op, option)?;
+        Ok(value)
+    }
+
+    /// Sets an option of the UDP socket of this number (`UdpSocket::set_option`). The records stay as they were.
+    pub fn set_udp_option<W: World>(
+        &mut self,
+        world: &mut W,
+        op: OpId,
+        place: usize,
+        setting: Setting,
+    ) -> Result<(), SocketError>
+        requires { (W.seen world.old).ended ≡ false }
+        ensures asked { AsksFor (set_udp_option_at self.old op (option_of setting) (number_of setting) (open_at self.old.records place)) (W.seen world.old) (W.seen world.new) (λ told. (told, self.new)) (host_outcome result) }
+        ensures sides { KnowsSides (W.seen world.old) self.old → KnowsSides (W.seen world.new) self.new }
+        ensures open { (W.seen world.new).ended ≡ false }
+    {
+        let Some(socket) = open_udp_mut(&mut self.records, place) else {
+            return Err(SocketError::Trap(TrapKind::NoSuchHandle));
+        };
+        socket.inner.set_option(world, op, setting)?;
+        Ok(())
+    }
+
+    /// Closes the network socket of the UDP socket of this number, as its drop does.
+    pub(crate) fn release_udp<W: World>(
+        &mut self,
+        world: &mut W,
+        op: OpId,
+        place: usize,
+    ) -> Result<(), AllocError>
+        requires { (W.seen world.old).ended ≡ false }
+        ensures asked { AsksFor (release_udp_at self.old op place (udp2_at self.old.records place)) (W.seen world.old) (W.seen world.new) (λ done. (done, self.new)) result }
+        ensures sides { KnowsSides (W.seen world.old) self.old → KnowsSides (W.seen world.new) self.new }
+        ensures open { (W.seen world.new).ended ≡ false }
+    {
+        let Some(record) = udp2_mut(&mut self.records, place) else {
+            return Ok(());
+        };
+        record.close(world, op)
+    }
+}

@@ -1,0 +1,258 @@
+//! The calls of UDP sockets (`wasi:sockets/udp` and `udp-create-socket`). Handles are tested first: one that isn't live or is of
+//! another kind is a trap, `NoSuchHandle`.
+
+ghost use Rattle.std.specs.Prelude.{◌≡◌, ◌≤◌, IfOk, Ok, false};
+ghost use Rattle.wasi_world.specs.Asks.{AsksFor};
+ghost use Rattle.wasi_world.specs.Seen.{Seen};
+ghost use Rattle.wasi_common.specs.Options.{largest_value, option_of, number_of};
+ghost use Rattle.wasi_host.specs.Host.{host_outcome};
+ghost use Rattle.wasi_host.specs.Machine.{own_of, udp_socket_at};
+ghost use Rattle.wasi_host.specs.Sides.{KnowsSides};
+ghost use Rattle.wasi_host.specs.UdpCreates.{create_udp_asks};
+ghost use Rattle.wasi_host.specs.Views.{SameView, state_of};
+ghost use Rattle.wasi_p2.specs.Udp.{start_udp_bind_asks, finish_udp_bind_on, udp_local_on, udp_remote_on, udp_family_on, get_udp_option_on, set_udp_option_on};
+
+use crate::SocketError;
+use wasi_addr::{IpSocketAddress, SocketAddressFamily};
+use wasi_common::Setting;
+use wasi_host::{WasiSocketsCtxView, handles};
+use wasi_world::{Answer, Handle, Ids, Opt, World};
+
+/// Makes a UDP socket of this family (`create-udp-socket`). Where the context forbids UDP: `AccessDenied`, and nothing is asked.
+/// While its network socket is waited for, the call is pending.
+pub fn create_udp_socket<W: World>(
+    view: &mut WasiSocketsCtxView<'_>,
+    world: &mut W,
+    ids: &mut Ids,
+    family: SocketAddressFamily,
+) -> Result<Answer<Handle>, SocketError>
+    requires { (W.seen world.old).ended ≡ false }
+    ensures asked { AsksFor (create_udp_asks (state_of view.old) ids.old view.old.ctx.now family) (W.seen world.old) (W.seen world.new) (λ answer. (answer, state_of view.new)) (host_outcome result) }
+    ensures sides { KnowsSides (W.seen world.old) view.old.store.now → KnowsSides (W.seen world.new) view.new.store.now }
+    ensures view { SameView view.old view.new }
+    ensures ids { ids.new ≡ ids.old }
+    ensures open { (W.seen world.new).ended ≡ false }
+{
+    view.store
+        .create_udp_socket(view.table, world, *ids, view.ctx, family)
+}
+
+/// Begins to bind a socket to an address (`start-bind`). The handle of the network is tested first. With any operation in
+/// progress: `ConcurrencyConflict`. The bind is in progress once it is done; while its check is pending, so is the call.
+pub fn start_bind<W: World>(
+    view: &mut WasiSocketsCtxView<'_>,
+    world: &mut W,
+    ids: &mut Ids,
+    this: Handle,
+    network: Handle,
+    addr: IpSocketAddress,
+) -> Result<Answer<()>, SocketError>
+    requires { (W.seen world.old).ended ≡ false }
+    ensures asked { AsksFor (start_udp_bind_asks (state_of view.old) ids.old this network addr) (W.seen world.old) (W.seen world.new) (λ answer. (answer, state_of view.new)) (host_outcome result) }
+    ensures sides { KnowsSides (W.seen world.old) view.old.store.now → KnowsSides (W.seen world.new) view.new.store.now }
+    ensures view { SameView view.old view.new }
+    ensures ids { ids.new ≡ ids.old }
+    ensures open { (W.seen world.new).ended ≡ false }
+{
+    handles::network(view.table, network)?;
+    let place = handles::udp_socket(view.table, this)?;
+    view.store.start_udp_bind(world, *ids, place, addr)
+}
+
+/// Ends a bind in progress (`finish-bind`). None is: `NotInProgress`. Asks nothing.
+pub fn finish_bind(view: &mut WasiSocketsCtxView<'_>, this: Handle) -> Result<(), SocketError>
+    ensures answer { host_outcome result ≡ Ok (finish_udp_bind_on (state_of view.old) (udp_socket_at (state_of view.old) this)).0 }
+    ensures state { state_of view.new ≡ (finish_udp_bind_on (state_of view.old) (udp_socket_at (state_of view.old) this)).1 }
+    ensures sides { (s : Seen) → KnowsSides s view.old.store.now → KnowsSides s view.new.store.now }
+    ensures view { SameView view.old view.new }
+{
+    let place = handles::udp_socket(view.table, this)?;
+    view.store.finish_udp_bind(place)
+}
+
+/// The local address of a socket (`local-address`). Not bound: `InvalidState`. A code that is reported is returned.
+pub fn local_address<W: World>(
+    view: &mut WasiSocketsCtxView<'_>,
+    world: &mut W,
+    ids: &mut Ids,
+    this: Handle,
+) -> Result<IpSocketAddress, SocketError>
+    requires { (W.seen world.old).ended ≡ false }
+    ensures asked { AsksFor (udp_local_on (state_of view.old) (own_of ids.old.line) (udp_socket_at (state_of view.old) this)) (W.seen world.old) (W.seen world.new) (λ told. (told, state_of view.new)) (host_outcome result) }
+    ensures sides { KnowsSides (W.seen world.old) view.old.store.now → KnowsSides (W.seen world.new) view.new.store.now }
+    ensures view { SameView view.old view.new }
+    ensures ids { ids.new ≡ ids.old }
+    ensures open { (W.seen world.new).ended ≡ false }
+{
+    let place = handles::udp_socket(view.table, this)?;
+    view.store.udp_local_address(world, ids.own(), place)
+}
+
+/// The remote address of a socket that has one (`remote-address`); else `InvalidState`. Asks nothing.
+pub fn remote_address(
+    view: &WasiSocketsCtxView<'_>,
+    this: Handle,
+) -> Result<IpSocketAddress, SocketError>
+    ensures { host_outcome result ≡ Ok (udp_remote_on (state_of view.now) (udp_socket_at (state_of view.now) this)) }
+{
+    let place = handles::udp_socket(view.table, this)?;
+    view.store.udp_remote_address(place)
+}
+
+/// The family of a socket (`address-family`). Asks nothing.
+pub fn address_family(
+    view: &WasiSocketsCtxView<'_>,
+    this: Handle,
+) -> Result<SocketAddressFamily, SocketError>
+    ensures { host_outcome result ≡ Ok (udp_family_on (state_of view.now) (udp_socket_at (state_of view.now) this)) }
+{
+    let place = handles::udp_socket(view.table, this)?;
+    view.store.udp_address_family(place)
+}
+
+/// The value of an option: the hop limit, or a size in bytes. The getters below are this call of their option. A code that is
+/// reported is returned. A reported size is halved, and a reported value above the option's `largest_value` is `NotSupported`.
+pub fn get_option<W: World>(
+    view: &mut WasiSocketsCtxView<'_>,
+    world: &mut W,
+    ids: &mut Ids,
+    this: Handle,
+    option: Opt,
+) -> Result<u64, SocketError>
+    requires { (W.seen world.old).ended ≡ false }
+    ensures asked { AsksFor (get_udp_option_on (state_of view.old) (own_of ids.old.line) option (udp_socket_at (state_of view.old) this)) (W.seen world.old) (W.seen world.new) (λ told. (told, state_of view.new)) (host_outcome result) }
+    ensures within { IfOk result (λ value. value ≤ largest_value option) }
+    ensures sides { KnowsSides (W.seen world.old) view.old.store.now → KnowsSides (W.seen world.new) view.new.store.now }
+    ensures view { SameView view.old view.new }
+    ensures ids { ids.new ≡ ids.old }
+    ensures open { (W.seen world.new).ended ≡ false }
+{
+    let place = handles::udp_socket(view.table, this)?;
+    view.store.get_udp_option(world, ids.own(), place, option)
+}
+
+/// Sets an option. The setters below are this call of their setting. A code that is reported is returned. 0: `InvalidArgument`.
+/// Sizes are brought into their range first.
+pub fn set_option<W: World>(
+    view: &mut WasiSocketsCtxView<'_>,
+    world: &mut W,
+    ids: &mut Ids,
+    this: Handle,
+    setting: Setting,
+) -> Result<(), SocketError>
+    requires { (W.seen world.old).ended ≡ false }
+    ensures asked { AsksFor (set_udp_option_on (state_of view.old) (own_of ids.old.line) (option_of setting) (number_of setting) (udp_socket_at (state_of view.old) this)) (W.seen world.old) (W.seen world.new) (λ done. (done, state_of view.new)) (host_outcome result) }
+    ensures sides { KnowsSides (W.seen world.old) view.old.store.now → KnowsSides (W.seen world.new) view.new.store.now }
+    ensures view { SameView view.old view.new }
+    ensures ids { ids.new ≡ ids.old }
+    ensures open { (W.seen world.new).ended ≡ false }
+{
+    let place = handles::udp_socket(view.table, this)?;
+    view.store.set_udp_option(world, ids.own(), place, setting)
+}
+
+/// How many hops a packet lives (`unicast-hop-limit`).
+pub fn unicast_hop_limit<W: World>(
+    view: &mut WasiSocketsCtxView<'_>,
+    world: &mut W,
+    ids: &mut Ids,
+    this: Handle,
+) -> Result<u8, SocketError>
+    requires { (W.seen world.old).ended ≡ false }
+    ensures asked { AsksFor (get_udp_option_on (state_of view.old) (own_of ids.old.line) Opt.HopLimit (udp_socket_at (state_of view.old) this)) (W.seen world.old) (W.seen world.new) (λ told. (told, state_of view.new)) (host_outcome result) }
+    ensures sides { KnowsSides (W.seen world.old) view.old.store.now → KnowsSides (W.seen world.new) view.new.store.now }
+    ensures view { SameView view.old view.new }
+    ensures ids { ids.new ≡ ids.old }
+    ensures open { (W.seen world.new).ended ≡ false }
+{
+    let value = get_option(view, world, ids, this, Opt::HopLimit)?;
+    Ok(value as u8)
+}
+
+/// Sets it (`set-unicast-hop-limit`). 0: `InvalidArgument`.
+pub fn set_unicast_hop_limit<W: World>(
+    view: &mut WasiSocketsCtxView<'_>,
+    world: &mut W,
+    ids: &mut Ids,
+    this: Handle,
+    value: u8,
+) -> Result<(), SocketError>
+    requires { (W.seen world.old).ended ≡ false }
+    ensures asked { AsksFor (set_udp_option_on (state_of view.old) (own_of ids.old.line) Opt.HopLimit value (udp_socket_at (state_of view.old) this)) (W.seen world.old) (W.seen world.new) (λ done. (done, state_of view.new)) (host_outcome result) }
+    ensures sides { KnowsSides (W.seen world.old) view.old.store.now → KnowsSides (W.seen world.new) view.new.store.now }
+    ensures view { SameView view.old view.new }
+    ensures ids { ids.new ≡ ids.old }
+    ensures open { (W.seen world.new).ended ≡ false }
+{
+    set_option(view, world, ids, this, Setting::HopLimit(value))
+}
+
+/// The size of the buffer for what comes in, in bytes (`receive-buffer-size`).
+pub fn receive_buffer_size<W: World>(
+    view: &mut WasiSocketsCtxView<'_>,
+    world: &mut W,
+    ids: &mut Ids,
+    this: Handle,
+) -> Result<u64, SocketError>
+    requires { (W.seen world.old).ended ≡ false }
+    ensures asked { AsksFor (get_udp_option_on (state_of view.old) (own_of ids.old.line) Opt.ReceiveBufferSize (udp_socket_at (state_of view.old) this)) (W.seen world.old) (W.seen world.new) (λ told. (told, state_of view.new)) (host_outcome result) }
+    ensures sides { KnowsSides (W.seen world.old) view.old.store.now → KnowsSides (W.seen world.new) view.new.store.now }
+    ensures view { SameView view.old view.new }
+    ensures ids { ids.new ≡ ids.old }
+    ensures open { (W.seen world.new).ended ≡ false }
+{
+    get_option(view, world, ids, this, Opt::ReceiveBufferSize)
+}
+
+/// Sets it (`set-receive-buffer-size`). 0: `InvalidArgument`.
+pub fn set_receive_buffer_size<W: World>(
+    view: &mut WasiSocketsCtxView<'_>,
+    world: &mut W,
+    ids: &mut Ids,
+    this: Handle,
+    value: u64,
+) -> Result<(), SocketError>
+    requires { (W.seen world.old).ended ≡ false }
+    ensures asked { AsksFor (set_udp_option_on (state_of view.old) (own_of ids.old.line) Opt.ReceiveBufferSize value (udp_socket_at (state_of view.old) this)) (W.seen world.old) (W.seen world.new) (λ done. (done, state_of view.new)) (host_outcome result) }
+    ensures sides { KnowsSides (W.seen world.old) view.old.store.now → KnowsSides (W.seen world.new) view.new.store.now }
+    ensures view { SameView view.old view.new }
+    ensures ids { ids.new ≡ ids.old }
+    ensures open { (W.seen world.new).ended ≡ false }
+{
+    set_option(view, world, ids, this, Setting::ReceiveBufferSize(value))
+}
+
+/// The size of the buffer for what goes out, in bytes (`send-buffer-size`).
+pub fn send_buffer_size<W: World>(
+    view: &mut WasiSocketsCtxView<'_>,
+    world: &mut W,
+    ids: &mut Ids,
+    this: Handle,
+) -> Result<u64, SocketError>
+    requires { (W.seen world.old).ended ≡ false }
+    ensures asked { AsksFor (get_udp_option_on (state_of view.old) (own_of ids.old.line) Opt.SendBufferSize (udp_socket_at (state_of view.old) this)) (W.seen world.old) (W.seen world.new) (λ told. (told, state_of view.new)) (host_outcome result) }
+    ensures sides { KnowsSides (W.seen world.old) view.old.store.now → KnowsSides (W.seen world.new) view.new.store.now }
+    ensures view { SameView view.old view.new }
+    ensures ids { ids.new ≡ ids.old }
+    ensures open { (W.seen world.new).ended ≡ false }
+{
+    get_option(view, world, ids, this, Opt::SendBufferSize)
+}
+
+/// Sets it (`set-send-buffer-size`). 0: `InvalidArgument`.
+pub fn set_send_buffer_size<W: World>(
+    view: &mut WasiSocketsCtxView<'_>,
+    world: &mut W,
+    ids: &mut Ids,
+    this: Handle,
+    value: u64,
+) -> Result<(), SocketError>
+    requires { (W.seen world.old).ended ≡ false }
+    ensures asked { AsksFor (set_udp_option_on (state_of view.old) (own_of ids.old.line) Opt.SendBufferSize value (udp_socket_at (state_of view.old) this)) (W.seen world.old) (W.seen world.new) (λ done. (done, state_of view.new)) (host_outcome result) }
+    ensures sides { KnowsSides (W.seen world.old) view.old.store.now → KnowsSides (W.seen world.new) view.new.store.now }
+    ensures view { SameView view.old view.new }
+    ensures ids { ids.new ≡ ids.old }
+    ensures open { (W.seen world.new).ended ≡ false }
+{
+    set_option(view, world, ids, this, Setting::SendBufferSize(value))
+}
