@@ -12,22 +12,24 @@ use Rattle.wasi_world.specs.declared.call.Entry.{Entry}
 use Rattle.wasi_world.specs.Asks.{Asks, Give, bind, Left}
 use Rattle.wasi_host.specs.declared.machine.Machine.{Machine}
 use Rattle.wasi_host.specs.declared.pending.Outcome.{Outcome}
-use Rattle.wasi_host.specs.declared.pending.Outcome.TheVariants.{Nothing}
+use Rattle.wasi_host.specs.declared.pending.Outcome.TheVariants.{Nothing, One}
 use Rattle.wasi_host.specs.declared.store.Standing.{Standing}
 use Rattle.wasi_host.specs.Host.{Stop, Code, Trap, CallStop, Failed, Closed, Traps}
-use Rattle.wasi_host.specs.Machine.{first_state, own_of, socket_at, create_asks, subscribe_asks, ready_asks, drop_asks, turn_machine_asks}
+use Rattle.wasi_host.specs.Machine.{first_state, own_of, socket_at, udp_socket_at, create_asks, subscribe_asks, ready_asks, drop_asks, turn_machine_asks}
 use Rattle.wasi_host.specs.StreamCalls.{read_asks, check_asks, write_asks, flushed_asks}
 use Rattle.wasi_host.specs.InProgress.{is_bind, is_listen}
 use Rattle.wasi_host.specs.Pending.{resume_asks}
+use Rattle.wasi_host.specs.UdpCreates.{create_udp_asks}
 use Rattle.wasi_p2.specs.Tcp.{network_asks, start_bind_asks, finish_on, start_connect_asks, finish_connect_asks, local_address_on, remote_address_on, is_listening_on, address_family_on, shutdown_on, start_listen_on, accept_asks}
 use Rattle.wasi_p2.specs.Options.{get_option_on, set_option_on, set_backlog_on}
+use Rattle.wasi_p2.specs.Udp.{start_udp_bind_asks, finish_udp_bind_on, udp_local_on, udp_remote_on, udp_family_on, get_udp_option_on, set_udp_option_on}
 use Rattle.wasi_steps.specs.declared.reply.Field.{Field}
 use Rattle.wasi_steps.specs.declared.reply.Reply.{Reply}
 use Rattle.wasi_steps.specs.declared.reply.Reply.TheVariants as reply
 use Rattle.wasi_steps.specs.declared.step.Step.{Step}
 use Rattle.wasi_steps.specs.declared.step.Step.TheVariants as step
 use Rattle.wasi_steps.specs.Reply.{word_of_p2, is_trap, no_fields, no_values, number_fields, pair_values, triple_values, bytes_fields, truth_fields, family_fields, address_values}
-use Rattle.wasi_steps.specs.Settings.{Chosen, AnOption, TheBacklog, chosen}
+use Rattle.wasi_steps.specs.Settings.{Chosen, AnOption, TheBacklog, chosen, udp_opt, udp_chosen}
 use Rattle.wasi_steps.specs.Steps.{context_of}
 
 -- == replies
@@ -84,14 +86,18 @@ abbrev pub taken_reply : Result (Unit {0}) CallStop → Reply
 taken_reply = stream_reply_of no_values
 
 -- a call that is pending is kept under its line's number
+abbrev pub answer_reply_of : {A : Type 0} → (A → List Field) → ℕ → Result (Answer A) Stop → Reply
+answer_reply_of fields line (Ok (Ready value)) = reply.Ok (fields value)
+answer_reply_of fields line (Ok Pending) = reply.Pending line
+answer_reply_of fields line (Err stop) = stop_reply stop
+
 abbrev pub answer_reply : ℕ → Result (Answer (Unit {0})) Stop → Reply
-answer_reply line (Ok (Ready done)) = reply.Ok no_fields
-answer_reply line (Ok Pending) = reply.Pending line
-answer_reply line (Err stop) = stop_reply stop
+answer_reply = answer_reply_of no_values
 
 -- of a call that was resumed
 abbrev pub outcome_reply : ℕ → Answer Outcome → Reply
 outcome_reply line (Ready Nothing) = reply.Ok no_fields
+outcome_reply line (Ready (One handle)) = reply.Ok (number_fields handle)
 outcome_reply line Pending = reply.Pending line
 
 abbrev pub resumed_reply : ℕ → Result (Option (Answer Outcome)) Stop → Reply
@@ -126,11 +132,11 @@ first_ids line = record { line = line; next_part = 1 }
 abbrev pub call_asks : WasiSocketsCtx → Machine → ℕ → Step → Asks (Reply × Machine)
 call_asks ctx m line (step.Network c) = bind (network_asks m (own_of line)) (λ done. Give (reply_of number_fields done.0, done.1))
 call_asks ctx m line (step.TcpCreate c family) = bind (create_asks m (own_of line) ctx family) (λ done. Give (reply_of number_fields done.0, done.1))
-call_asks ctx m line (step.TcpStartBind c s n a) = bind (start_bind_asks m (first_ids line) s n a) (λ done. Give (answer_reply line done.0, done.1))
+call_asks ctx m line (step.TcpStartBind c s n a) = bind (start_bind_asks m (first_ids line) s n a) (λ done. Give (answer_reply_of no_values line done.0, done.1))
 call_asks ctx m line (step.TcpFinishBind c s) = let done = finish_on is_bind m (socket_at m s) in Give (reply_of no_values done.0, done.1)
 call_asks ctx m line (step.TcpStartConnect c s n a) = bind (start_connect_asks m (own_of line) s n a) (λ done. Give (reply_of no_values done.0, done.1))
 call_asks ctx m line (step.TcpFinishConnect c s) = bind (finish_connect_asks m (own_of line) s) (λ done. Give (reply_of pair_values done.0, done.1))
-call_asks ctx m line (step.TcpStartListen c s) = bind (start_listen_on m (first_ids line) (socket_at m s)) (λ done. Give (answer_reply line done.0, done.1))
+call_asks ctx m line (step.TcpStartListen c s) = bind (start_listen_on m (first_ids line) (socket_at m s)) (λ done. Give (answer_reply_of no_values line done.0, done.1))
 call_asks ctx m line (step.TcpFinishListen c s) = let done = finish_on is_listen m (socket_at m s) in Give (reply_of no_values done.0, done.1)
 call_asks ctx m line (step.TcpAccept c s) = bind (accept_asks m (first_ids line) s) (λ done. Give (reply_of triple_values done.0, done.1))
 call_asks ctx m line (step.TcpLocalAddress c s) = bind (local_address_on m (own_of line) (socket_at m s)) (λ done. Give (reply_of address_values done.0, done.1))
@@ -139,13 +145,21 @@ call_asks ctx m line (step.TcpIsListening c s) = Give (reply_of truth_fields (is
 call_asks ctx m line (step.TcpAddressFamily c s) = Give (reply_of family_fields (address_family_on m (socket_at m s)), m)
 call_asks ctx m line (step.TcpGet c s option) = bind (get_option_on m (own_of line) option (socket_at m s)) (λ done. Give (reply_of number_fields done.0, done.1))
 call_asks ctx m line (step.TcpSet c s setting) = bind (set_chosen m (own_of line) (socket_at m s) (chosen setting)) (λ done. Give (reply_of no_values done.0, done.1))
+call_asks ctx m line (step.UdpCreate c family) = bind (create_udp_asks m (first_ids line) ctx family) (λ done. Give (answer_reply_of number_fields line done.0, done.1))
+call_asks ctx m line (step.UdpStartBind c s n a) = bind (start_udp_bind_asks m (first_ids line) s n a) (λ done. Give (answer_reply_of no_values line done.0, done.1))
+call_asks ctx m line (step.UdpFinishBind c s) = let done = finish_udp_bind_on m (udp_socket_at m s) in Give (reply_of no_values done.0, done.1)
+call_asks ctx m line (step.UdpLocalAddress c s) = bind (udp_local_on m (own_of line) (udp_socket_at m s)) (λ done. Give (reply_of address_values done.0, done.1))
+call_asks ctx m line (step.UdpRemoteAddress c s) = Give (reply_of address_values (udp_remote_on m (udp_socket_at m s)), m)
+call_asks ctx m line (step.UdpAddressFamily c s) = Give (reply_of family_fields (udp_family_on m (udp_socket_at m s)), m)
+call_asks ctx m line (step.UdpGet c s option) = bind (get_udp_option_on m (own_of line) (udp_opt option) (udp_socket_at m s)) (λ done. Give (reply_of number_fields done.0, done.1))
+call_asks ctx m line (step.UdpSet c s setting) = bind (set_udp_option_on m (own_of line) (udp_chosen setting).0 (udp_chosen setting).1 (udp_socket_at m s)) (λ done. Give (reply_of no_values done.0, done.1))
 call_asks ctx m line (step.Read c input len) = bind (read_asks m (own_of line) input len) (λ done. Give (stream_reply_of bytes_fields done.0, done.1))
 call_asks ctx m line (step.CheckWrite c output) = bind (check_asks m (own_of line) output) (λ done. Give (stream_reply_of number_fields done.0, done.1))
 call_asks ctx m line (step.Write c output bytes) = bind (write_asks m (own_of line) output bytes) (λ done. Give (stream_reply_of no_values done.0, done.1))
 call_asks ctx m line (step.Flush c output) = bind (flushed_asks m (own_of line) output) (λ done. Give (stream_reply_of no_values done.0, done.1))
 call_asks ctx m line (step.Subscribe c h) = bind (subscribe_asks m (own_of line) h) (λ done. Give (reply_of number_fields done.0, done.1))
 call_asks ctx m line (step.Ready c p) = bind (ready_asks m (first_ids line) p) (λ done. Give (reply_of truth_fields done.0, done.1))
-call_asks ctx m line (step.Drop c h) = bind (drop_asks m (first_ids line) h) (λ done. Give (answer_reply line done.0, done.1))
+call_asks ctx m line (step.Drop c h) = bind (drop_asks m (first_ids line) h) (λ done. Give (answer_reply_of no_values line done.0, done.1))
 call_asks ctx m line (step.TcpShutdown c s how) = bind (shutdown_on m (own_of line) how (socket_at m s)) (λ done. Give (reply_of no_values done.0, done.1))
 call_asks ctx m line step.Turn = bind (turn_machine_asks m) (λ done. Give (reply.Ok no_fields, done.1))
 call_asks ctx m line (step.Poll n) = bind (resume_asks m n) (λ done. Give (resumed_reply n done.0, done.1))

@@ -2,7 +2,7 @@
 
 ghost use Rattle.std.specs.Prelude.{◌≡◌, IfOk, IsOkAnd};
 ghost use Rattle.wasi_host.specs.Host.{host_outcome, call_outcome, IsStop, IsCallStop};
-ghost use Rattle.wasi_machine.specs.Machine.{reply_of, stream_reply_of, answer_reply, stop_reply, call_stop_reply, outcome_reply, resumed_reply};
+ghost use Rattle.wasi_machine.specs.Machine.{reply_of, stream_reply_of, answer_reply_of, stop_reply, call_stop_reply, outcome_reply, resumed_reply};
 
 use std::alloc::{AllocError, Global};
 use wasi_addr::p2;
@@ -44,15 +44,15 @@ pub fn stream_reply_of<T: IntoFields>(
 }
 
 /// The reply of a call that may be pending; it then is pending under its line's number.
-pub fn answer_reply(
+pub fn answer_reply<T: IntoFields>(
     alloc: Global,
     line: u32,
-    answer: Result<Answer<()>, SocketError>,
+    answer: Result<Answer<T>, SocketError>,
 ) -> Result<Reply, AllocError>
-    ensures { IfOk result (λ reply. IsOkAnd (host_outcome answer) (λ x. reply ≡ answer_reply line x)) }
+    ensures { IfOk result (λ reply. IsOkAnd (host_outcome answer) (λ x. reply ≡ answer_reply_of T.fields line x)) }
 {
     match answer {
-        Ok(Answer::Ready(())) => Ok(Reply::done(alloc)),
+        Ok(Answer::Ready(value)) => ok(alloc, value),
         Ok(Answer::Pending) => Ok(Reply::Pending(line)),
         Err(error) => stop_reply(error),
     }
@@ -85,12 +85,13 @@ fn call_stop_reply(error: CallError) -> Result<Reply, AllocError>
 }
 
 /// The reply of the call of this line that was resumed: pending, it stays pending.
-fn outcome_reply(alloc: Global, line: u32, answer: Answer<Outcome>) -> Reply
-    ensures { result ≡ outcome_reply line answer }
+fn outcome_reply(alloc: Global, line: u32, answer: Answer<Outcome>) -> Result<Reply, AllocError>
+    ensures { IfOk result (λ reply. reply ≡ outcome_reply line answer) }
 {
     match answer {
-        Answer::Ready(Outcome::Nothing) => Reply::done(alloc),
-        Answer::Pending => Reply::Pending(line),
+        Answer::Ready(Outcome::Nothing) => Ok(Reply::done(alloc)),
+        Answer::Ready(Outcome::One(handle)) => ok(alloc, handle),
+        Answer::Pending => Ok(Reply::Pending(line)),
     }
 }
 
@@ -103,7 +104,7 @@ pub fn resumed_reply(
     ensures { IfOk result (λ reply. IsOkAnd (host_outcome resumed) (λ x. reply ≡ resumed_reply line x)) }
 {
     match resumed {
-        Ok(Some(answer)) => Ok(outcome_reply(alloc, line, answer)),
+        Ok(Some(answer)) => outcome_reply(alloc, line, answer),
         Ok(None) => Ok(Reply::NoSuchCall),
         Err(error) => stop_reply(error),
     }

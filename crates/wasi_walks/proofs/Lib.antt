@@ -1,5 +1,6 @@
 pub mod Words
 pub mod Lists
+pub mod UdpLists
 pub mod Gives
 pub mod walks
 pub mod fits

@@ -2,5 +2,6 @@
 -- bind.
 pub mod Records
 pub mod Polls
+pub mod UdpPolls
 pub mod Law
 pub mod Lines

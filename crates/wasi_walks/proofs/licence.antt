@@ -1,6 +1,8 @@
 -- Each ask is licensed.
 pub mod State
 pub mod Frames
+pub mod UdpFrames
+pub mod States
 pub mod Binds
 pub mod Connects
 pub mod WriteJobs
@@ -9,9 +11,13 @@ pub mod AcceptAsks
 pub mod Longer
 pub mod Fresh
 pub mod Line
+pub mod UdpMoves
 pub mod Moves
 pub mod Asked
 pub mod Marks
+pub mod UdpAsks
+pub mod UdpMarks
+pub mod UdpGoesOn
 pub mod GoesOn
 pub mod Runs
 pub mod Meanings
@@ -19,3 +25,4 @@ pub mod Rows
 pub mod ListenRows
 pub mod BacklogRows
 pub mod Refused
+pub mod UdpRows

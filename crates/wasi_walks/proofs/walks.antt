@@ -4,9 +4,11 @@ pub mod Writes
 pub mod Law
 pub mod Told
 pub mod OnBase
+pub mod UdpLaw
 pub mod Sockets
 pub mod Streams
 pub mod States
+pub mod Udp
 pub mod SocketSteps
 pub mod ListenSteps
 pub mod Steps

@@ -35,13 +35,14 @@ use Rattle.wasi_tcp.specs.Connect.{IsConnect}
 use Rattle.wasi_tcp.specs.Connecting.{with_state, is_connectable}
 use Rattle.wasi_tcp.specs.Addresses.{usable_side}
 use Rattle.wasi_tcp.specs.Writer.{error_of_code, collected}
-use Rattle.wasi_host.specs.Records.{tcp2_at}
+use Rattle.wasi_host.specs.Records.{tcp2_at, udp2_at, open_at}
 use Rattle.wasi_host.specs.declared.machine.Machine.{Machine}
 use Rattle.wasi_steps.specs.declared.reply.CodeWord.{CodeWord}
 use Rattle.wasi_steps.specs.declared.reply.CodeWord.TheVariants as word
 use Rattle.wasi_steps.specs.declared.reply.Reply.{Reply}
 use Rattle.wasi_host.specs.declared.socket.Streams.{Streams}
 use Rattle.wasi_host.specs.declared.socket.Tcp2Socket.{Tcp2Socket}
+use Rattle.wasi_host.specs.declared.udp.OpenUdp.{OpenUdp}
 use Rattle.wasi_steps.specs.declared.step.Step.{Step}
 use Rattle.wasi_steps.specs.declared.step.Step.TheVariants as step
 use Rattle.wasi_host.specs.declared.kind.Kind.TheVariants as kind
@@ -51,13 +52,13 @@ use Rattle.wasi_host.specs.Kinds.{watched_by, watch_of, place_in}
 use Rattle.wasi_host.specs.declared.store.StandingCall.{StandingCall}
 use Rattle.wasi_host.specs.declared.store.StandingCall.TheVariants as standing
 use Rattle.wasi_steps.specs.Reply.{word_of_p2}
-use Rattle.wasi_steps.specs.Steps.{Kind, HandleOf, ALine, ANetwork, ASocket, AnInput, AnOutput, Watchable, APollable, Anything, Value, Values, signature}
+use Rattle.wasi_steps.specs.Steps.{Kind, HandleOf, ALine, ANetwork, ASocket, ADatagramSocket, AnInput, AnOutput, Watchable, APollable, Anything, Value, Values, signature}
 use Rattle.wasi_host.specs.Kinds.{kind_at, with_handle}
 use Rattle.wasi_host.specs.Binding.{left_of}
 use Rattle.wasi_host.specs.InProgress.{is_nothing, is_bind, is_connect}
 use Rattle.wasi_host.specs.Standing.{call_of}
 use Rattle.wasi_host.specs.Store.{with_inner, with_reader, with_writer, with_socket, idle}
-use Rattle.wasi_host.specs.Machine.{socket_at, input_at, output_at}
+use Rattle.wasi_host.specs.Machine.{socket_at, udp_socket_at, input_at, output_at}
 use Rattle.wasi_host.specs.Kinds.{is_network}
 use Rattle.wasi_machine.specs.Machine.{machine_asks}
 use Rattle.wasi_walks.specs.Licence.{Has, entry}
@@ -74,6 +75,14 @@ record_in m (Some place) = tcp2_at m.store.records place
 -- the record of a live handle of a socket
 abbrev pub record_at : Machine → ℕ → Option Tcp2Socket
 record_at m h = record_in m (socket_at m h)
+
+-- the UDP socket of a live handle of one
+abbrev pub open_in : Machine → Option ℕ → Option OpenUdp
+open_in m None = None
+open_in m (Some place) = open_at m.store.records place
+
+abbrev pub open_udp_at : Machine → ℕ → Option OpenUdp
+open_udp_at m h = open_in m (udp_socket_at m h)
 
 -- The handle names a record, at this place, of which this holds.
 pub record OfRecord (m : Machine) (handle : ℕ) (P : ℕ → Tcp2Socket → Type 0) : Type 0 where
@@ -127,18 +136,21 @@ abbrev pub MissesRecord : Watched → Option Tcp2Socket → Type 0
 MissesRecord (watched.Socket place) found = found ≡ None
 MissesRecord (watched.Input place) found = streams_in found ≡ None
 MissesRecord (watched.Output place) found = streams_in found ≡ None
+MissesRecord (watched.Udp place) found = ⊥
 
 abbrev pub MissesWatched : Machine → Option Watched → Type 0
 MissesWatched m None = ⊤
 MissesWatched m (Some w) = MissesRecord w (tcp2_at m.store.records (place_in w))
 
--- the call is a bind or a listen of no socket
+-- the call is a bind, a listen or a create of no socket
 abbrev pub IsOnNothing : Machine → StandingCall → Type 0
 IsOnNothing m (standing.Bind place) = tcp2_at m.store.records place ≡ None
 IsOnNothing m (standing.Listen place) = tcp2_at m.store.records place ≡ None
 IsOnNothing m (standing.DropOutput place) = ⊥
+IsOnNothing m (standing.UdpCreate place) = udp2_at m.store.records place ≡ None
+IsOnNothing m (standing.UdpBind place) = open_at m.store.records place ≡ None
 
--- the pending call under this number is a bind or a listen of no socket
+-- the pending call under this number is a bind, a listen or a create of no socket
 abbrev pub StandsOnNothing : Machine → ℕ → Type 0
 StandsOnNothing m n = IsSomeAnd (call_of m.store.standing n) (λ s. IsOnNothing m s.call)
 
@@ -147,6 +159,7 @@ StandsOnNothing m n = IsSomeAnd (call_of m.store.standing n) (λ s. IsOnNothing 
 abbrev pub MissesValue : Machine → (kind : Kind) → Value kind → Type 0
 MissesValue m (HandleOf ANetwork) h = is_network (kind_at m.table h) ≡ false
 MissesValue m (HandleOf ASocket) h = record_at m h ≡ None
+MissesValue m (HandleOf ADatagramSocket) h = open_udp_at m h ≡ None
 MissesValue m (HandleOf AnInput) h = input_streams m h ≡ None
 MissesValue m (HandleOf AnOutput) h = output_streams m h ≡ None
 MissesValue m (HandleOf Watchable) h = watched_by (kind_at m.table h) ≡ None
@@ -163,12 +176,15 @@ MissesFirst m (kind ∷ kinds) values = MissesValue m kind values.0
 abbrev pub MissesHandle : Machine → Step → Type 0
 MissesHandle m (step.TcpStartBind ctx socket network a) = (is_network (kind_at m.table network) ≡ false) ⊎ (record_at m socket ≡ None)
 MissesHandle m (step.TcpStartConnect ctx socket network a) = (is_network (kind_at m.table network) ≡ false) ⊎ (record_at m socket ≡ None)
+MissesHandle m (step.UdpStartBind ctx socket network a) = (is_network (kind_at m.table network) ≡ false) ⊎ (open_udp_at m socket ≡ None)
 MissesHandle m s = MissesFirst m (signature s).written.kinds (signature s).written.values
 
--- the step makes a handle, the two of a connection's streams, those of an accepted connection, or the one of a stream's error
+-- the step makes a handle, the two of a connection's streams, those of an accepted connection, or the one of a stream's error; a
+-- poll makes that of a create
 abbrev pub MakesHandle : Step → Type 0
 MakesHandle (step.Network ctx) = ⊤
 MakesHandle (step.TcpCreate ctx family) = ⊤
+MakesHandle (step.UdpCreate ctx family) = ⊤
 MakesHandle (step.TcpFinishConnect ctx socket) = ⊤
 MakesHandle (step.TcpAccept ctx socket) = ⊤
 MakesHandle (step.Read ctx input len) = ⊤
@@ -176,6 +192,7 @@ MakesHandle (step.CheckWrite ctx output) = ⊤
 MakesHandle (step.Write ctx output bytes) = ⊤
 MakesHandle (step.Flush ctx output) = ⊤
 MakesHandle (step.Subscribe ctx handle) = ⊤
+MakesHandle (step.Poll n) = ⊤
 MakesHandle _ = ⊥
 
 abbrev pub IsWrite : Step → Type 0
@@ -342,6 +359,7 @@ pub data RemoteRefusal (m : Machine) (own : OpId) (place : ℕ) (r : Tcp2Socket)
 abbrev pub IsQuiet : Step → Type 0
 IsQuiet (step.TcpIsListening ctx socket) = ⊤
 IsQuiet (step.TcpAddressFamily ctx socket) = ⊤
+IsQuiet (step.UdpAddressFamily ctx socket) = ⊤
 IsQuiet _ = ⊥
 
 -- == reads

@@ -5,13 +5,14 @@ use Rattle.wasi_addr.specs.declared.address.IpSocketAddress.{IpSocketAddress}
 use Rattle.wasi_addr.specs.declared.address.SocketAddressFamily.{SocketAddressFamily}
 use Rattle.wasi_addr.specs.declared.address.SocketAddrUse.{SocketAddrUse}
 use Rattle.wasi_addr.specs.declared.address.SocketAddrUse.TheVariants.{TcpBind, TcpListen, TcpAccept, TcpConnect}
+use Rattle.wasi_addr.specs.declared.address.SocketAddrUse.TheVariants as use_of
 use Rattle.wasi_addr.specs.Address.{is_wildcard, wildcard}
 use Rattle.wasi_addr.specs.Clamp.{clamped_backlog}
 use Rattle.wasi_world.specs.declared.ids.OpId.{OpId}
 use Rattle.wasi_world.specs.declared.call.Call.{Call}
 use Rattle.wasi_world.specs.declared.call.Call.TheVariants.{Check, Lookup, TcpCreate, UdpCreate, UdpWritable, Local, Peer, Bind, UdpBind, UdpConnect, Listen, SetBacklog, Connect, Accept, Hand, Refuse, Read, ReadReady, WriteReady, Write, Shutdown, UdpDisconnect, Send, Recv, GetOption, SetOption, Close, Made}
 use Rattle.wasi_world.specs.declared.call.HandleKind.{HandleKind}
-use Rattle.wasi_world.specs.declared.call.HandleKind.TheVariants.{Network, Tcp2, Input, Output, Pollable, ErrorValue}
+use Rattle.wasi_world.specs.declared.call.HandleKind.TheVariants.{Network, Tcp2, Udp2, Input, Output, Pollable, ErrorValue}
 use Rattle.wasi_world.specs.declared.call.Opt.{Opt}
 use Rattle.wasi_world.specs.declared.call.Told.{Told}
 use Rattle.wasi_world.specs.declared.call.Told.TheVariants.{Done, Yes, Addr, Arrived}
@@ -21,7 +22,7 @@ use Rattle.wasi_common.specs.Options.{value_set}
 use Rattle.wasi_steps.specs.declared.reply.Reply.{Reply}
 use Rattle.wasi_steps.specs.declared.step.Step.{Step}
 use Rattle.wasi_steps.specs.declared.step.Step.TheVariants as step
-use Rattle.wasi_steps.specs.Settings.{Chosen, AnOption, TheBacklog, chosen}
+use Rattle.wasi_steps.specs.Settings.{Chosen, AnOption, TheBacklog, chosen, udp_opt, udp_chosen}
 pub use Rattle.wasi_steps.specs.Steps.{handles_of}
 
 -- == entries
@@ -84,6 +85,7 @@ ReachesSide steps before op side = BeganBy steps op (NamesSide before side) ⊎ 
 -- The creator of a network socket and its family are those in its create, or where it was handed over those of the listener.
 pub data IsMaker (before : List Entry) (ctx : ℕ) (family : SocketAddressFamily) : OpId → Type 0 where
   Created : (side : OpId) (told : Told) → Has before (entry side (TcpCreate ctx family) told) → IsMaker before ctx family side
+  UdpCreated : (side : OpId) (told : Told) → Has before (entry side (UdpCreate ctx family) told) → IsMaker before ctx family side
   Handed : (side listener : OpId) (peer : IpSocketAddress) (told : Told) → Has before (entry side (Hand listener peer) told) → IsMaker before ctx family listener → IsMaker before ctx family side
 
 -- Among these entries the operation asked the network socket's creator about the address and its use, and was answered yes.
@@ -161,6 +163,23 @@ abbrev pub IsTcpCreate : List WasiSocketsCtx → ℕ → SocketAddressFamily →
 IsTcpCreate contexts name family (step.TcpCreate ctx f) = MayUseTcp contexts ctx name × (f ≡ family)
 IsTcpCreate contexts name family _ = ⊥
 
+-- The context of this number has this name, and may use UDP.
+pub record MayUseUdp (contexts : List WasiSocketsCtx) (number name : ℕ) : Type 0 where
+  pub ctx : WasiSocketsCtx
+  pub at : slice_get contexts number ≡ Some ctx
+  pub named : ctx.name ≡ name
+  pub udp : ctx.udp ≡ true
+
+-- a create of a UDP socket of this family, by the context of this name
+abbrev pub IsUdpCreate : List WasiSocketsCtx → ℕ → SocketAddressFamily → Step → Type 0
+IsUdpCreate contexts name family (step.UdpCreate ctx f) = MayUseUdp contexts ctx name × (f ≡ family)
+IsUdpCreate contexts name family _ = ⊥
+
+-- a bind of a UDP socket to this address
+abbrev pub IsUdpBindTo : IpSocketAddress → Step → Type 0
+IsUdpBindTo addr (step.UdpStartBind ctx socket network a) = a ≡ addr
+IsUdpBindTo addr _ = ⊥
+
 -- a bind to this address
 abbrev pub IsBindTo : IpSocketAddress → Step → Type 0
 IsBindTo addr (step.TcpStartBind ctx socket network a) = a ≡ addr
@@ -179,6 +198,7 @@ IsListenStep _ = ⊥
 -- a get of this option
 abbrev pub IsGetOf : Opt → Step → Type 0
 IsGetOf option (step.TcpGet ctx socket o) = o ≡ option
+IsGetOf option (step.UdpGet ctx socket o) = udp_opt o ≡ option
 IsGetOf option _ = ⊥
 
 -- what is set is this option, and its value, brought into the option's range, is this
@@ -188,6 +208,7 @@ SetsOption option value (TheBacklog n) = ⊥
 
 abbrev pub IsSetTo : Opt → ℕ → Step → Type 0
 IsSetTo option value (step.TcpSet ctx socket setting) = SetsOption option value (chosen setting)
+IsSetTo option value (step.UdpSet ctx socket setting) = SetsOption option value (AnOption (udp_chosen setting).0 (udp_chosen setting).1)
 IsSetTo option value _ = ⊥
 
 -- what is set is the backlog, which is this, brought into its range
@@ -239,6 +260,8 @@ abbrev pub IsMarkOf : List Entry → OpId → HandleKind → Option ℕ → Opti
 IsMarkOf before op kind parent sock (step.Network ctx) = (kind ≡ Network) × (parent ≡ None) × (sock ≡ None)
 IsMarkOf before op kind parent sock (step.TcpCreate ctx family) =
     (kind ≡ Tcp2) × (parent ≡ None) × (sock ≡ Some op) × ((name : ℕ) × (f : SocketAddressFamily) × Has before (entry op (TcpCreate name f) Done))
+IsMarkOf before op kind parent sock (step.UdpCreate ctx family) =
+    (kind ≡ Udp2) × (parent ≡ None) × (sock ≡ Some op) × ((name : ℕ) × (f : SocketAddressFamily) × Has before (entry op (UdpCreate name f) Done))
 IsMarkOf before op kind parent sock (step.TcpFinishConnect ctx socket) = ((kind ≡ Input) ⊎ (kind ≡ Output)) × IsOfParent before socket parent sock
 IsMarkOf before op kind parent sock (step.TcpAccept ctx socket) = IsAcceptedMark before op socket kind parent sock ⊎ IsStreamMark before op kind parent sock
 IsMarkOf before op kind parent sock (step.Read ctx input len) = (kind ≡ ErrorValue) × IsOfParent before input parent sock
@@ -255,12 +278,12 @@ abbrev pub MayAsk : List WasiSocketsCtx → List Step → List Entry → OpId �
 MayAsk contexts steps before op (Check ctx addr usage) = ⊤
 MayAsk contexts steps before op (Lookup host) = ⊥
 MayAsk contexts steps before op (TcpCreate ctx family) = BeganBy steps op (IsTcpCreate contexts ctx family)
-MayAsk contexts steps before op (UdpCreate ctx family) = ⊥
+MayAsk contexts steps before op (UdpCreate ctx family) = BeganBy steps op (IsUdpCreate contexts ctx family)
 MayAsk contexts steps before op (UdpWritable sock) = ReachesSide steps before op sock
 MayAsk contexts steps before op (Local sock) = ReachesSide steps before op sock
 MayAsk contexts steps before op (Peer sock) = ReachesSide steps before op sock
 MayAsk contexts steps before op (Bind sock addr) = ReachesSide steps before op sock × BeganBy steps op (IsBindTo addr) × HasYes before before op sock addr TcpBind
-MayAsk contexts steps before op (UdpBind sock addr) = ⊥
+MayAsk contexts steps before op (UdpBind sock addr) = ReachesSide steps before op sock × BeganBy steps op (IsUdpBindTo addr) × HasYes before before op sock addr use_of.UdpBind
 MayAsk contexts steps before op (UdpConnect sock addr) = ⊥
 MayAsk contexts steps before op (Listen sock backlog) = ReachesSide steps before op sock × BeganBy steps op IsListenStep × MayListen before op sock
 MayAsk contexts steps before op (SetBacklog sock backlog) = ReachesSide steps before op sock × BeganBy steps op (IsBacklogSet backlog) × Listens before sock

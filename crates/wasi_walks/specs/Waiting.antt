@@ -2,6 +2,7 @@
 use Rattle.std.specs.Prelude.{◌≡◌, ◌⊎◌, ⊤, ℕ, true, false, List, [], ◌∷◌, ◌++◌, Option, Some, None, IsSome, IsSomeAnd, IfSome}
 use Rattle.wasi_addr.specs.declared.address.IpSocketAddress.{IpSocketAddress}
 use Rattle.wasi_addr.specs.declared.address.SocketAddrUse.TheVariants.{TcpBind, TcpListen}
+use Rattle.wasi_addr.specs.declared.address.SocketAddrUse.TheVariants as use_of
 use Rattle.wasi_addr.specs.declared.code.ErrorCode.{ErrorCode}
 use Rattle.wasi_addr.specs.declared.code.ErrorCode.TheVariants.{AccessDenied}
 use Rattle.wasi_world.specs.declared.ids.Ids.{Ids}
@@ -10,7 +11,7 @@ use Rattle.wasi_world.specs.declared.call.Call.TheVariants as call
 use Rattle.wasi_world.specs.declared.call.Entry.{Entry}
 use Rattle.wasi_world.specs.declared.call.HandleKind.TheVariants as name
 use Rattle.wasi_world.specs.declared.call.Told.TheVariants as told
-use Rattle.wasi_world.specs.Operation.{Item, Check, CheckLocal, Bind, Listen, NothingLast, Operation}
+use Rattle.wasi_world.specs.Operation.{Item, Check, CheckLocal, Bind, Listen, UdpWritable, UdpBind, NothingLast, CloseLast, Operation}
 use Rattle.wasi_tcp.specs.declared.halves.TcpReceiveStream.{TcpReceiveStream}
 use Rattle.wasi_tcp.specs.declared.halves.TcpSendStream.{TcpSendStream}
 use Rattle.wasi_tcp.specs.declared.reader.ReadState.TheVariants as reading
@@ -22,7 +23,7 @@ use Rattle.wasi_tcp.specs.Listen.{IsListen, is_over}
 use Rattle.wasi_tcp.specs.Listener.{Listener}
 use Rattle.wasi_tcp.specs.Socket.{side_in}
 use Rattle.wasi_tcp.specs.Writer.{collected}
-use Rattle.wasi_host.specs.Records.{tcp2_at}
+use Rattle.wasi_host.specs.Records.{tcp2_at, udp2_at, open_at}
 use Rattle.wasi_host.specs.declared.binding.InProgress.{InProgress}
 use Rattle.wasi_host.specs.declared.binding.InProgress.TheVariants.{Binding}
 use Rattle.wasi_host.specs.declared.kind.Watched.{Watched}
@@ -32,10 +33,17 @@ use Rattle.wasi_host.specs.declared.listening.Listening.TheVariants as listening
 use Rattle.wasi_host.specs.declared.machine.Machine.{Machine}
 use Rattle.wasi_host.specs.declared.socket.Streams.{Streams}
 use Rattle.wasi_host.specs.declared.socket.Tcp2Socket.{Tcp2Socket}
+use Rattle.wasi_host.specs.declared.udp.OpenUdp.{OpenUdp}
+use Rattle.wasi_host.specs.declared.udp.Udp2Socket.{Udp2Socket}
+use Rattle.wasi_host.specs.declared.udp.Udp2Socket.TheVariants as udp
+use Rattle.wasi_host.specs.declared.udp.UdpInProgress.{UdpInProgress}
+use Rattle.wasi_host.specs.declared.udp.UdpInProgress.TheVariants as udp_doing
+use Rattle.wasi_udp.specs.Bind.{IsBind as IsUdpBind}
+use Rattle.wasi_udp.specs.Create.{Create}
 use Rattle.wasi_host.specs.declared.store.StandingCall.{StandingCall}
 use Rattle.wasi_host.specs.declared.store.StandingCall.TheVariants as standing
 use Rattle.wasi_host.specs.Kinds.{kind_at, watch_of, place_in}
-use Rattle.wasi_host.specs.Machine.{output_at, side_at}
+use Rattle.wasi_host.specs.Machine.{output_at, watched_side}
 use Rattle.wasi_host.specs.InProgress.{is_nothing, is_connect}
 use Rattle.wasi_host.specs.Standing.{unstood}
 use Rattle.wasi_steps.specs.declared.reply.CodeWord.{CodeWord}
@@ -60,7 +68,7 @@ OutputWaits m own named entries = OfStreams m named (λ place r s. WriterWaits o
 -- == pollables
 -- the mark of a pollable that watches this, under the handle by which it was made
 abbrev pub pollable_mark : Machine → OpId → ℕ → Watched → Entry
-pollable_mark m own handle w = entry own (call.Made m.table.next name.Pollable (Some handle) (side_at (tcp2_at m.store.records (place_in w)))) told.Done
+pollable_mark m own handle w = entry own (call.Made m.table.next name.Pollable (Some handle) (watched_side m.store w)) told.Done
 
 -- The pollable watches this in a record, and of both this holds.
 pub record OfWatched (m : Machine) (pollable : ℕ) (P : Watched → Tcp2Socket → Type 0) : Type 0 where
@@ -113,11 +121,13 @@ abbrev pub IsPoll : Step → Type 0
 IsPoll (step.Poll n) = ⊤
 IsPoll _ = ⊥
 
--- the step may be pending under this number: the start of a bind, that of a listen and the drop of an output under their line's,
+-- the step may be pending under this number: the start of a bind, that of a listen, a create and the drop of an output under their line's,
 -- and a poll under the one that it polls
 abbrev pub MayStand : Machine → ℕ → Step → ℕ → Type 0
 MayStand m line (step.TcpStartBind ctx socket network a) n = n ≡ line
 MayStand m line (step.TcpStartListen ctx socket) n = n ≡ line
+MayStand m line (step.UdpCreate ctx family) n = n ≡ line
+MayStand m line (step.UdpStartBind ctx socket network a) n = n ≡ line
 MayStand m line (step.Drop ctx handle) n = IsSome (output_at m handle) × (n ≡ line)
 MayStand m line (step.Poll call) n = n ≡ call
 MayStand m line _ n = ⊥
@@ -161,10 +171,22 @@ abbrev pub IsBinding : InProgress → Type 0
 IsBinding (Binding op) = IsRestOfBind op
 IsBinding _ = ⊥
 
+-- a create is in progress, which waits for its network socket
+abbrev pub IsCreating : Udp2Socket → Type 0
+IsCreating (udp.Creating create) = (create.operation.who.last ≡ CloseLast) × (create.operation.left ≡ UdpWritable ∷ [])
+IsCreating _ = ⊥
+
+-- a bind of a UDP socket is in progress
+abbrev pub IsUdpBinding : UdpInProgress → Type 0
+IsUdpBinding (udp_doing.Binding op) = IsUdpBind op
+IsUdpBinding _ = ⊥
+
 abbrev pub HoldsCall : Machine → StandingCall → Type 0
 HoldsCall m (standing.Bind place) = IfSome (tcp2_at m.store.records place) (λ r. IsBinding r.in_progress)
 HoldsCall m (standing.Listen place) = IfSome (tcp2_at m.store.records place) (λ r. IsListening r.inner.state r.listening)
 HoldsCall m (standing.DropOutput place) = ⊤
+HoldsCall m (standing.UdpCreate place) = IfSome (udp2_at m.store.records place) IsCreating
+HoldsCall m (standing.UdpBind place) = IfSome (open_at m.store.records place) (λ o. IsUdpBinding o.in_progress)
 
 -- where a bind is pending, its record has a bind in progress; and where a listen is pending, its is a listen
 abbrev pub PendingCallsFit : Machine → Type 0
@@ -180,10 +202,22 @@ abbrev pub ListenWaits : Listening → List Entry → Type 0
 ListenWaits (listening.Begins op) entries = EndsPending op.who.id entries
 ListenWaits _ entries = ⊥
 
+-- the create was answered pending
+abbrev pub CreateWaits : Udp2Socket → List Entry → Type 0
+CreateWaits (udp.Creating create) entries = EndsPending create.operation.who.id entries
+CreateWaits _ entries = ⊥
+
+-- the bind of a UDP socket was answered pending
+abbrev pub UdpBindWaits : UdpInProgress → List Entry → Type 0
+UdpBindWaits (udp_doing.Binding op) entries = EndsPending op.who.id entries
+UdpBindWaits _ entries = ⊥
+
 -- the call waits: the last ask of the bind or of the listen was answered pending, or the output's writer waits
 abbrev pub CallWaits : Machine → OpId → List Entry → StandingCall → Type 0
 CallWaits m own entries (standing.Bind place) = IsSomeAnd (tcp2_at m.store.records place) (λ r. BindWaits r.in_progress entries)
 CallWaits m own entries (standing.Listen place) = IsSomeAnd (tcp2_at m.store.records place) (λ r. ListenWaits r.listening entries)
+CallWaits m own entries (standing.UdpCreate place) = IsSomeAnd (udp2_at m.store.records place) (λ u. CreateWaits u entries)
+CallWaits m own entries (standing.UdpBind place) = IsSomeAnd (open_at m.store.records place) (λ o. UdpBindWaits o.in_progress entries)
 CallWaits m own entries (standing.DropOutput place) = OutputWaits m own (Some place) entries
 
 -- the pending call waits
@@ -205,8 +239,15 @@ pub data ListenEnds (op : Operation) (entries : List Entry) : ErrorCode → Type
   CheckedNo : (a : IpSocketAddress) → EndsClosing op.who (call.Check op.who.context a TcpListen) told.No entries → ListenEnds op entries AccessDenied
   ListenCode : (backlog : ℕ) (c : ErrorCode) → EndsClosing op.who (call.Listen op.who.side backlog) (told.Code c) entries → ListenEnds op entries c
 
--- Why the pending call failed with a code: its bind or its listen ended with it.
+-- A bind of a UDP socket ended with a code: its check was answered no, or it was answered with the code.
+pub data UdpBindFails (op : Operation) (entries : List Entry) : ErrorCode → Type 0 where
+  UdpToldNo : (a : IpSocketAddress) → Has op.left (Check a use_of.UdpBind) → EndsWith (entry op.who.id (call.Check op.who.context a use_of.UdpBind) told.No) entries → UdpBindFails op entries AccessDenied
+  UdpToldWhy : (a : IpSocketAddress) (c : ErrorCode) → Has op.left (UdpBind a) → EndsWith (entry op.who.id (call.UdpBind op.who.side a) (told.Code c)) entries → UdpBindFails op entries c
+
+-- Why the pending call failed with a code: its bind, its listen or its create ended with it.
 pub data CallFails (m : Machine) (entries : List Entry) : StandingCall → ErrorCode → Type 0 where
+  CreateFailed : (place : ℕ) (create : Create) (c : ErrorCode) → udp2_at m.store.records place ≡ Some (udp.Creating create) → EndsClosing create.operation.who (call.UdpWritable create.operation.who.side) (told.Code c) entries → CallFails m entries (standing.UdpCreate place) c
+  UdpBindFailed : (place : ℕ) (o : OpenUdp) (op : Operation) (c : ErrorCode) → open_at m.store.records place ≡ Some o → o.in_progress ≡ udp_doing.Binding op → UdpBindFails op entries c → CallFails m entries (standing.UdpBind place) c
   BindFailed : (place : ℕ) (r : Tcp2Socket) (op : Operation) (c : ErrorCode) → tcp2_at m.store.records place ≡ Some r → r.in_progress ≡ Binding op → BindFails op entries c → CallFails m entries (standing.Bind place) c
   ListenFailed : (place : ℕ) (r : Tcp2Socket) (op : Operation) (c : ErrorCode) → tcp2_at m.store.records place ≡ Some r → r.listening ≡ listening.Begins op → ListenEnds op entries c → CallFails m entries (standing.Listen place) c
 

@@ -16,9 +16,14 @@ use Rattle.wasi_walks.proofs.Lists.{split_place, get_set, get_split, set_there}
 use Rattle.wasi_walks.proofs.claims.Polls.{AllAskBut, Quietly, ArePlain, GivesOwn, own_poll}
 use Rattle.wasi_walks.proofs.walks.Moves.{closed_record, Own, Used, Unused, ToWrite, Here, put, Found, joined, second_of, new_accept, accepting_now, listen_after, beginning_listen, made_so, Held, BindsOn, Connects, Listens, Awaits, Move, Spends, Changes, ClosesReader, Writes, IsGone, Reconnects, Opens, BeginsConnect, BeginsBind, BeginsWrite, BeginsListen, BeginsAccept, Unlistens, Forgets, Joins}
 use Rattle.wasi_walks.proofs.walks.Law.{Law, Walks}
-use Rattle.wasi_walks.proofs.fits.Law.{Fit, told_same, whatever, fits, moves_fit, polls_fit, put_fit, created}
+use Rattle.wasi_walks.proofs.fits.Law.{Fit, learnt_side, told_same, whatever, fits, moves_fit, polls_fit, put_fit, created}
 use Rattle.wasi_tcp.specs.Accept as accept
-use Rattle.wasi_host.specs.Records.{tcp2_at, tcp2_put, tcp2_pushed}
+use Rattle.wasi_host.specs.Records.{tcp2_at, tcp2_put, tcp2_pushed, udp2_at, udp2_pushed}
+use Rattle.wasi_host.specs.declared.udp.Udp2Socket.{Udp2Socket}
+use Rattle.wasi_host.specs.Udp.{udp_bind_progress, udp_create_left, udp_side, with_udp_progress}
+use Rattle.wasi_udp.specs.Create.{Create, new_create, after_create as udp_after_create}
+use Rattle.wasi_walks.proofs.UdpLists.{tcp_of_put, tcp_of_push, udp_of_put, udp_of_push, udp_get_set, udp_split}
+use Rattle.wasi_walks.proofs.walks.Moves.{put_udp, FoundUdp, udp_begun, UdpChanges, BeginsUdpBind, UdpCreates, UdpBindsOn}
 
 -- it was made with this network socket, or its accept has this name, by which a network socket will be made
 abbrev pub Claims : OpId → Tcp2Socket → Type 0
@@ -29,12 +34,19 @@ abbrev pub next_of : ℕ → Own → ℕ
 next_of line Used = line + 1
 next_of line _ = line
 
+-- A UDP socket claims the network socket that it was made with.
+pub record UdpNamed (line : ℕ) (h : Here) : Type 0 where
+  pub one : (x : OpId) (i k : ℕ) (u v : Udp2Socket) → FoundUdp h i u → FoundUdp h k v → udp_side u ≡ x → udp_side v ≡ x → i ≡ k
+  pub apart : (x : OpId) (i k : ℕ) (r : Tcp2Socket) (u : Udp2Socket) → Found h i r → FoundUdp h k u → Claims x r → udp_side u ≡ x → ⊥
+  pub older : (i : ℕ) (u : Udp2Socket) → FoundUdp h i u → (udp_side u).step < next_of line h.own
+
 pub record Named (line : ℕ) (h : Here) : Type 0 where
   pub one : (x : OpId) (i k : ℕ) (r q : Tcp2Socket) → Found h i r → Found h k q → Claims x r → Claims x q → i ≡ k
   pub apart : (x : OpId) (i : ℕ) (r : Tcp2Socket) → Found h i r → r.side ≡ Some x → accept_name r.listening ≡ Some x → ⊥
   pub older : (x : OpId) (i : ℕ) (r : Tcp2Socket) → Found h i r → Claims x r → x.step < next_of line h.own
   pub named : (x : OpId) (i : ℕ) (r : Tcp2Socket) → Found h i r → side_of r.inner ≡ Some x → r.side ≡ Some x
   pub held : (op : Operation) (i : ℕ) (r : Tcp2Socket) → Found h i r → r.listening ≡ Begins op → (r.side ≡ Some op.who.side) × (side_of r.inner ≡ None)
+  pub udps : UdpNamed line h
 
 pub no_some : {A : Type 0} (x : A) → None ≡ Some x → ⊥
 no_some x e = absurd (cc)
@@ -45,21 +57,24 @@ same_record a b e = cc
 pub same_begun : (a b : Operation) → Begins a ≡ Begins b → a ≡ b
 same_begun a b e = cc
 
--- no record claims it
+-- no record of a TCP socket claims it, and none of a UDP socket
 abbrev pub Fresh : Here → OpId → Type 0
 Fresh h x = (i : ℕ) (r : Tcp2Socket) → Found h i r → Claims x r → ⊥
+
+abbrev pub FreshUdp : Here → OpId → Type 0
+FreshUdp h x = (i : ℕ) (u : Udp2Socket) → FoundUdp h i u → udp_side u ≡ x → ⊥
 
 -- How a record may change: what it claims it claimed, or it is fresh.
 pub record KeepsNames (h : Here) (bound : ℕ) (r now : Tcp2Socket) : Type 0 where
   pub side : now.side ≡ r.side
-  pub accepts : (x : OpId) → accept_name now.listening ≡ Some x → (accept_name r.listening ≡ Some x) ⊎ ((x.step < bound) × Fresh h x)
+  pub accepts : (x : OpId) → accept_name now.listening ≡ Some x → (accept_name r.listening ≡ Some x) ⊎ ((x.step < bound) × Fresh h x × FreshUdp h x)
   pub named : (x : OpId) → side_of now.inner ≡ Some x → now.side ≡ Some x
   pub held : (op : Operation) → now.listening ≡ Begins op → (now.side ≡ Some op.who.side) × (side_of now.inner ≡ None)
 
 module _ (line : ℕ) where
   -- a record changes
   module _ (h : Here) (place : ℕ) (r now : Tcp2Socket) (g : Found h place r) (bound : ℕ) (k : KeepsNames h bound r now) (n : Named line h) where
-    claimed : (x : OpId) → Claims x now → Claims x r ⊎ ((x.step < bound) × Fresh h x)
+    claimed : (x : OpId) → Claims x now → Claims x r ⊎ ((x.step < bound) × Fresh h x × FreshUdp h x)
     claimed x (inl e) = inl (inl (sym k.side ∙ e))
     claimed x (inr e) = elim (k.accepts x e) [ inl p ↦ inl (inr p) | inr p ↦ inr p ]
 
@@ -76,6 +91,18 @@ module _ (line : ℕ) where
     apart_now : (x : OpId) → now.side ≡ Some x → accept_name now.listening ≡ Some x → ⊥
     apart_now x s e = elim (k.accepts x e) [ inl p ↦ n.apart x place r g (sym k.side ∙ s) p | inr p ↦ p.1 place r g (inl (sym k.side ∙ s)) ]
 
+    udps_put : (own : Own) → next_of line h.own ≤ next_of line own → UdpNamed line (record (put h place now) { own = own })
+    udps_put own l =
+        let same : (i : ℕ) (u : Udp2Socket) → FoundUdp (put h place now) i u → FoundUdp h i u = udp_of_put h.machine.store.records place now in
+        record {
+          one = λ x i j u v e f c d. n.udps.one x i j u v (same i u e) (same j v f) c d;
+          apart = λ x i j q u e f c d. elim (get_set h.machine.store.records place now i q e) [
+            | inl p ↦ elim (claimed x (subst (Claims x) (sym p.1) c)) [ inl y ↦ n.udps.apart x place j r u g (same j u f) y d | inr y ↦ y.2 j u (same j u f) d ]
+            | inr p ↦ n.udps.apart x i j q u p (same j u f) c d
+          ];
+          older = λ i u e. (let o = n.udps.older i u (same i u e) in omega (arith, o, l));
+        }
+
     pub put_by : (own : Own) → next_of line h.own ≤ next_of line own → bound ≤ next_of line own → Named line (record (put h place now) { own = own })
     put_by own l b = record {
       one = one_put;
@@ -89,13 +116,14 @@ module _ (line : ℕ) where
         | inl p ↦ subst (λ (y : Tcp2Socket). (y.side ≡ Some op.who.side) × (side_of y.inner ≡ None)) p.1 (k.held op (ap (λ (y : Tcp2Socket). y.listening) p.1 ∙ s))
         | inr p ↦ n.held op i q p s
       ];
+      udps = udps_put own l;
     }
 
   pub put_named : (h : Here) (place : ℕ) (r now : Tcp2Socket) → Found h place r → KeepsNames h 0 r now → Named line h → Named line (put h place now)
   put_named h place r now g k n = put_by h place r now g 0 k n h.own (omega arith) (omega arith)
 
   -- a record more, whose network socket is fresh
-  pub push_named : (h : Here) (now : Tcp2Socket) (own : Own) → accept_name now.listening ≡ None → ((x : OpId) → now.side ≡ Some x → (x.step < next_of line own) × Fresh h x) → ((x : OpId) → side_of now.inner ≡ Some x → now.side ≡ Some x) → ((op : Operation) → now.listening ≡ Begins op → ⊥) → next_of line h.own ≤ next_of line own
+  pub push_named : (h : Here) (now : Tcp2Socket) (own : Own) → accept_name now.listening ≡ None → ((x : OpId) → now.side ≡ Some x → (x.step < next_of line own) × Fresh h x × FreshUdp h x) → ((x : OpId) → side_of now.inner ≡ Some x → now.side ≡ Some x) → ((op : Operation) → now.listening ≡ Begins op → ⊥) → next_of line h.own ≤ next_of line own
       → Named line h → Named line (record h { machine = record h.machine { store = record h.machine.store { records = tcp2_pushed h.machine.store.records now } }; own = own })
   push_named h now own none fresh named held l n = record {
     one = one;
@@ -103,8 +131,16 @@ module _ (line : ℕ) where
     older = λ x i q e c. elim (get_split h.machine.store.records now i q e) [ inl p ↦ (let o = n.older x i q p c in omega (arith, o, l)) | inr p ↦ (fresh x (its x q p c)).0 ];
     named = λ x i q e s. elim (get_split h.machine.store.records now i q e) [ inl p ↦ n.named x i q p s | inr p ↦ subst (λ (y : Tcp2Socket). y.side ≡ Some x) p (named x (ap (λ (y : Tcp2Socket). side_of y.inner) p ∙ s)) ];
     held = λ op i q e s. elim (get_split h.machine.store.records now i q e) [ inl p ↦ n.held op i q p s | inr p ↦ absurd (held op (ap (λ (y : Tcp2Socket). y.listening) p ∙ s)) ];
+    udps = record {
+      one = λ x i k u v e f c d. n.udps.one x i k u v (same i u e) (same k v f) c d;
+      apart = λ x i k q u e f c d. elim (get_split h.machine.store.records now i q e) [ inl p ↦ n.udps.apart x i k q u p (same k u f) c d | inr p ↦ (fresh x (its x q p c)).2 k u (same k u f) d ];
+      older = λ i u e. (let o = n.udps.older i u (same i u e) in omega (arith, o, l));
+    };
   }
     where
+      same : (i : ℕ) (u : Udp2Socket) → udp2_at (tcp2_pushed h.machine.store.records now) i ≡ Some u → FoundUdp h i u
+      same = udp_of_push h.machine.store.records now
+
       its : (x : OpId) (q : Tcp2Socket) → now ≡ q → Claims x q → now.side ≡ Some x
       its x q p (inl e) = ap (λ (y : Tcp2Socket). y.side) p ∙ e
       its x q p (inr e) = absurd (no_some x (sym none ∙ (ap (λ (y : Tcp2Socket). accept_name y.listening) p ∙ e)))
@@ -114,6 +150,56 @@ module _ (line : ℕ) where
         | inl p ↦ elim (split_place h.machine.store.records now k b f) [ inl q ↦ n.one x i k a b p q c d | inr q ↦ absurd ((fresh x (its x b q.1 d)).1 i a p c) ]
         | inr p ↦ elim (split_place h.machine.store.records now k b f) [ inl q ↦ absurd ((fresh x (its x a p.1 c)).1 k b q d) | inr q ↦ p.0 ∙ sym q.0 ]
       ]
+
+  -- a UDP socket changes, and keeps its network socket
+  module _ (h : Here) (place : ℕ) (u now : Udp2Socket) (g : FoundUdp h place u) (s : udp_side now ≡ udp_side u) (n : Named line h) where
+    -- what there is at a place was there, with the same network socket
+    before : (i : ℕ) (v : Udp2Socket) → FoundUdp (put_udp h place now) i v → (w : Udp2Socket) × (FoundUdp h i w × (udp_side w ≡ udp_side v))
+    before i v e = elim (udp_get_set h.machine.store.records place now i v e) [
+      | inl p ↦ (u, (ap (udp2_at h.machine.store.records) p.0 ∙ g, sym s ∙ ap udp_side p.1))
+      | inr p ↦ (v, (p, refl))
+    ]
+
+    pub put_udp_by : (own : Own) → next_of line h.own ≤ next_of line own → Named line (record (put_udp h place now) { own = own })
+    put_udp_by own l =
+        let tcp : (i : ℕ) (r : Tcp2Socket) → Found (put_udp h place now) i r → Found h i r = tcp_of_put h.machine.store.records place now in
+        record {
+          one = λ x i k r q e f c d. n.one x i k r q (tcp i r e) (tcp k q f) c d;
+          apart = λ x i r e a b. n.apart x i r (tcp i r e) a b;
+          older = λ x i r e c. (let o = n.older x i r (tcp i r e) c in omega (arith, o, l));
+          named = λ x i r e a. n.named x i r (tcp i r e) a;
+          held = λ op i r e a. n.held op i r (tcp i r e) a;
+          udps = record {
+            one = λ x i k v w e f c d. (let a = before i v e in let b = before k w f in n.udps.one x i k a.0 b.0 a.1.0 b.1.0 (a.1.1 ∙ c) (b.1.1 ∙ d));
+            apart = λ x i k r v e f c d. (let b = before k v f in n.udps.apart x i k r b.0 (tcp i r e) b.1.0 c (b.1.1 ∙ d));
+            older = λ i v e. (let a = before i v e in let o = n.udps.older i a.0 a.1.0 in let z : (udp_side a.0).step ≡ (udp_side v).step = ap (λ (x : OpId). x.step) a.1.1 in omega (arith, o, z, l));
+          };
+        }
+
+    pub put_udp_named : Named line (put_udp h place now)
+    put_udp_named = put_udp_by h.own (omega arith)
+
+  -- a UDP socket more, whose network socket is fresh
+  pub push_udp_named : (h : Here) (now : Udp2Socket) (own : Own) → (udp_side now).step < next_of line own → Fresh h (udp_side now) → FreshUdp h (udp_side now) → next_of line h.own ≤ next_of line own
+      → Named line h → Named line (record h { machine = record h.machine { store = record h.machine.store { records = udp2_pushed h.machine.store.records now } }; own = own })
+  push_udp_named h now own small fresh free l n = record {
+    one = λ x i k r q e f c d. n.one x i k r q (tcp i r e) (tcp k q f) c d;
+    apart = λ x i r e a b. n.apart x i r (tcp i r e) a b;
+    older = λ x i r e c. (let o = n.older x i r (tcp i r e) c in omega (arith, o, l));
+    named = λ x i r e a. n.named x i r (tcp i r e) a;
+    held = λ op i r e a. n.held op i r (tcp i r e) a;
+    udps = record {
+      one = λ x i k u v e f c d. elim (udp_split h.machine.store.records now i u e) [
+        | inl p ↦ elim (udp_split h.machine.store.records now k v f) [ inl q ↦ n.udps.one x i k u v p q c d | inr q ↦ absurd (free i u p (c ∙ (sym d ∙ sym (ap udp_side q.0)))) ]
+        | inr p ↦ elim (udp_split h.machine.store.records now k v f) [ inl q ↦ absurd (free k v q (d ∙ (sym c ∙ sym (ap udp_side p.0)))) | inr q ↦ p.1 ∙ sym q.1 ]
+      ];
+      apart = λ x i k r u e f c d. elim (udp_split h.machine.store.records now k u f) [ inl p ↦ n.udps.apart x i k r u (tcp i r e) p c d | inr p ↦ fresh i r (tcp i r e) (subst (λ (y : OpId). Claims y r) (sym d ∙ sym (ap udp_side p.0)) c) ];
+      older = λ i u e. elim (udp_split h.machine.store.records now i u e) [ inl p ↦ (let o = n.udps.older i u p in omega (arith, o, l)) | inr p ↦ subst (λ (y : Udp2Socket). (udp_side y).step < next_of line own) p.0 small ];
+    };
+  }
+    where
+      tcp : (i : ℕ) (r : Tcp2Socket) → tcp2_at (udp2_pushed h.machine.store.records now) i ≡ Some r → Found h i r
+      tcp = tcp_of_push h.machine.store.records now
 
 none_of : {A : Type 0} (o : Option A) → ((x : A) → o ≡ Some x → ⊥) → o ≡ None
 none_of None k = refl
@@ -162,7 +248,7 @@ module _ (contexts : List WasiSocketsCtx) (line : ℕ) (origin : Step) where
   listening_names h place r l g k none n = record { side = refl; accepts = λ x e. inl (k x e); named = λ x e. n.named x place r g e; held = λ op e. absurd (none op e) }
 
   spends_named : (h : Here) → Named line h → next_of line h.own ≤ line + 1 → Named line (record h { own = Used })
-  spends_named h n l = record { one = n.one; apart = n.apart; older = λ x i r g c. let o = n.older x i r g c in omega (arith, o, l); named = n.named; held = n.held }
+  spends_named h n l = record { one = n.one; apart = n.apart; older = λ x i r g c. let o = n.older x i r g c in omega (arith, o, l); named = n.named; held = n.held; udps = record { one = n.udps.one; apart = n.udps.apart; older = λ i u g. (let o = n.udps.older i u g in omega (arith, o, l)) } }
 
   by_line : (own : Own) → next_of line own ≤ line + 1
   by_line Used = omega arith
@@ -175,6 +261,9 @@ module _ (contexts : List WasiSocketsCtx) (line : ℕ) (origin : Step) where
   -- a name of the line is fresh
   pub fresh : (h : Here) → h.own ≡ Unused → Named line h → (x : OpId) → x.step ≡ line → Fresh h x
   fresh h u n x e i r g c = let o = n.older x i r g c in let z : next_of line h.own ≡ line = ap (next_of line) u in absurd (omega (arith, o, z, e))
+
+  pub fresh_udp : (h : Here) → h.own ≡ Unused → Named line h → (x : OpId) → x.step ≡ line → FreshUdp h x
+  fresh_udp h u n x e i v g c = let o = n.udps.older i v g in let z : next_of line h.own ≡ line = ap (next_of line) u in let y : (udp_side v).step ≡ x.step = ap (λ (a : OpId). a.step) c in absurd (omega (arith, o, z, e, y))
 
   -- the name of an accept is claimed by no record, once its record has it no more
   pub taken_fresh : (h : Here) (place : ℕ) (r now : Tcp2Socket) (new : OpId) → Found h place r → accept_name r.listening ≡ Some new → now.side ≡ r.side → accept_name now.listening ≡ None → Named line h → Fresh (put h place now) new
@@ -208,7 +297,7 @@ module _ (contexts : List WasiSocketsCtx) (line : ℕ) (origin : Step) where
       its : (side : OpId) (op : Operation) (r : Tcp2Socket) → (beginning_listen (own_of line) side r).listening ≡ Begins op → r.side ≡ Some side → r.side ≡ Some op.who.side
       its side op r e s = s ∙ ap (λ (o : Operation). Some o.who.side) (same_begun _ op e)
   moves_named _ _ (BeginsAccept h place r l at g e a own) n =
-      put_by line h place r (accepting_now r l (new_accept line l)) g (line + 1) (record { side = refl; accepts = λ x p. (let s = its x p in inr (omega (arith, s), fresh h own n x s)); named = λ x p. n.named x place r g p; held = λ op p. absurd (cc) }) n Used (by_line h.own) (omega arith)
+      put_by line h place r (accepting_now r l (new_accept line l)) g (line + 1) (record { side = refl; accepts = λ x p. (let s = its x p in inr (omega (arith, s), fresh h own n x s, fresh_udp h own n x s)); named = λ x p. n.named x place r g p; held = λ op p. absurd (cc) }) n Used (by_line h.own) (omega arith)
     where
       its : (x : OpId) → Some (second_of line) ≡ Some x → x.step ≡ line
       its x p = let q : second_of line ≡ x = cc in ap (λ (o : OpId). o.step) (sym q)
@@ -218,9 +307,11 @@ module _ (contexts : List WasiSocketsCtx) (line : ℕ) (origin : Step) where
       let mid = put h place (accepting_now r l Accepting.Idle) in
       let k = put_named line h place r (accepting_now r l Accepting.Idle) g (listening_names h place r _ g (λ x p. absurd (cc)) (λ op p. absurd (cc)) n) n in
       let name : accept_name r.listening ≡ Some new = ap accept_name e ∙ ap name_in a in
-      let j = push_named line mid (joined l new peer) h.own refl (λ x p. (let s : new ≡ x = cc in subst (λ (y : OpId). (y.step < next_of line h.own) × Fresh mid y) s (n.older new place r g (inr name), taken_fresh h place r (accepting_now r l Accepting.Idle) new g name refl refl n))) (λ x p. p) (λ op p. absurd (cc)) (omega arith) k in
-      record { one = j.one; apart = j.apart; older = j.older; named = j.named; held = j.held }
-  moves_named _ _ _ n = record { one = n.one; apart = n.apart; older = n.older; named = n.named; held = n.held }
+      let j = push_named line mid (joined l new peer) h.own refl (λ x p. (let s : new ≡ x = cc in subst (λ (y : OpId). (y.step < next_of line h.own) × Fresh mid y × FreshUdp mid y) s (n.older new place r g (inr name), taken_fresh h place r (accepting_now r l Accepting.Idle) new g name refl refl n, λ i v f q. n.udps.apart new place i r v g (udp_of_put h.machine.store.records place (accepting_now r l Accepting.Idle) i v f) (inr name) q))) (λ x p. p) (λ op p. absurd (cc)) (omega arith) k in
+      record { one = j.one; apart = j.apart; older = j.older; named = j.named; held = j.held; udps = record { one = j.udps.one; apart = j.udps.apart; older = j.udps.older } }
+  moves_named _ _ (UdpChanges h place o now g p) n = put_udp_named line h place (Udp2Socket.Open o) (Udp2Socket.Open now) g p.side n
+  moves_named _ _ (BeginsUdpBind h place o a at g to idle own) n = put_udp_by line h place (Udp2Socket.Open o) (Udp2Socket.Open _) g refl n Used (by_line h.own)
+  moves_named _ _ _ n = record { one = n.one; apart = n.apart; older = n.older; named = n.named; held = n.held; udps = record { one = n.udps.one; apart = n.udps.apart; older = n.udps.older } }
 
   -- the record that a listen leaves
   listened_names : (h : Here) (place : ℕ) (r : Tcp2Socket) (op : Operation) (end : End × List Item) → Found h place r → r.listening ≡ Begins op → Named line h → KeepsNames h 0 r (listen_after op r end)
@@ -230,6 +321,12 @@ module _ (contexts : List WasiSocketsCtx) (line : ℕ) (origin : Step) where
 
   awaited_names : (h : Here) (place : ℕ) (r : Tcp2Socket) (l : Listener) (op : Operation) (end : End × List Item) → Found h place r → r.listening ≡ Accepts l → l.accept ≡ Accepting.Asking op → GivesOwn op.who.id end.0 → Named line h → Named line (put h place (accepting_now r l (accept_ended op.who end)))
   awaited_names h place r l op end g e a k n = put_named line h place r _ g (listening_names h place r _ g (λ x p. ap accept_name e ∙ (ap name_in a ∙ ended_name op end k x p)) (λ o p. absurd (cc)) n) n
+
+  -- the record that a create leaves has its network socket
+  create_side : (create : Create) (end : End × List Item) → udp_side (udp_create_left create end) ≡ create.operation.who.side
+  create_side create (Waits, items) = refl
+  create_side create (Done given, items) = refl
+  create_side create (Refused c given, items) = refl
 
   -- == the law
   abbrev pub Base : Here → Type 0
@@ -244,6 +341,15 @@ module _ (contexts : List WasiSocketsCtx) (line : ℕ) (origin : Step) where
       let its : IsAcceptOn l.side l.maker op = subst (HoldsAccept l.side l.maker) a (subst FitListening e (n.0.records place r g).1) in
       allows_weaker Anything (λ fs ended. ArePlain ended.1 × GivesOwn op.who.id ended.0) (λ fs ended. Named line (put h place (accepting_now r l (accept_ended op.who ended)))) (λ fs ended k. awaited_names h place r l op ended g e a k.1 n.1) es (poll_asks op)
       (any_quiet (λ ended. ArePlain ended.1 × GivesOwn op.who.id ended.0) es (poll_asks op) (own_poll op es (accept_plain ⊤ op.left its.accept.left)))
+  names_polled es h _ _ (UdpCreates place create q g) n =
+      whatever (λ ended. Named line (put_udp h place (udp_create_left create ended))) (λ ended. put_udp_named line h place (Udp2Socket.Creating create) _ g (create_side create ended) n.1) es _
+  names_polled es h _ _ (UdpBindsOn place o op q g e) n =
+      whatever (λ ended. Named line (put_udp h place (Udp2Socket.Open (with_udp_progress o (udp_bind_progress op ended))))) (λ ended. put_udp_named line h place (Udp2Socket.Open o) (Udp2Socket.Open _) g refl n.1) es _
+
+  -- a UDP socket whose create begins has the line's own name
+  begun_named : (h : Here) (maker : ℕ) (family : SocketAddressFamily) (r : Result (Unit {0}) ErrorCode) → h.own ≡ Unused → Named line h → Named line (udp_begun h (udp_after_create (own_of line) maker family r))
+  begun_named h maker family (Ok done) u n = push_udp_named line h (Udp2Socket.Creating (new_create (own_of line) maker family)) Used (omega arith) (fresh h u n (own_of line) refl) (fresh_udp h u n (own_of line) refl) (by_line h.own) n
+  begun_named h maker family (Err c) u n = spends_named h n (by_line h.own)
 
   -- a socket that is created has the line's own name
   abbrev MadeNamed : Result Socket ErrorCode → Type 0
@@ -268,8 +374,8 @@ module _ (contexts : List WasiSocketsCtx) (line : ℕ) (origin : Step) where
       joins fs (Err c) k = spends_named h n (by_line h.own)
       joins fs (Ok socket) k =
           allows_then Anything (λ fs made. ⊤) (λ fs done. Named line (record h { machine = done.1; own = Used })) fs (make_asks h.machine.table (own_of line) (Tcp2 (length h.machine.store.records)) None (side_of socket)) _ (whatever (λ made. ⊤) (λ made. tt) fs _)
-          (λ gs made t. let j = push_named line h (new_record socket) Used refl (λ x p. (let s : own_of line ≡ x = same socket x k p in let z : x.step ≡ line = ap (λ (o : OpId). o.step) (sym s) in (omega (arith, z), fresh h u n x z))) (λ x p. p) (λ op p. absurd (cc)) (by_line h.own) n in
-          record { one = j.one; apart = j.apart; older = j.older; named = j.named; held = j.held })
+          (λ gs made t. let j = push_named line h (new_record socket) Used refl (λ x p. (let s : own_of line ≡ x = same socket x k p in let z : x.step ≡ line = ap (λ (o : OpId). o.step) (sym s) in (omega (arith, z), fresh h u n x z, fresh_udp h u n x z))) (λ x p. p) (λ op p. absurd (cc)) (by_line h.own) n in
+          record { one = j.one; apart = j.apart; older = j.older; named = j.named; held = j.held; udps = record { one = j.udps.one; apart = j.udps.apart; older = j.udps.older } })
 
   -- this and that the records fit, of which it takes that an accept is one
   pub names : Law contexts line origin
@@ -284,11 +390,16 @@ module _ (contexts : List WasiSocketsCtx) (line : ℕ) (origin : Step) where
         sets = λ es h place r side b at g s is i. (tt, λ told k. i);
         learns = λ es h place r side at g e i. (tt, λ told k. ((f.learns es h place r side at g e i.0).1 told k, put_inner h place r _ g refl refl (λ x p. sym (ap side_in (told_same r.inner (told_addr told))) ∙ p) i.1));
         closes = λ es h place r side q g e i. (tt, λ told k. ((f.closes es h place r side q g e i.0).1 told k, put_named line h place r (closed_record r) g (record { side = refl; accepts = λ x p. absurd (cc); named = λ x p. absurd (cc); held = λ op p. absurd (cc) }) i.1));
-        marks = λ es h kind parent sock m i. whatever (λ made. Base (record h { machine = record h.machine { table = made.1 } })) (λ made. let k = i.1 in (record { records = i.0.records; stands = i.0.stands }, record { one = k.one; apart = k.apart; older = k.older; named = k.named; held = k.held })) es _;
+        marks = λ es h kind parent sock m i. whatever (λ made. Base (record h { machine = record h.machine { table = made.1 } })) (λ made. let k = i.1 in (record { records = i.0.records; udps = i.0.udps; stands = i.0.stands }, record { one = k.one; apart = k.apart; older = k.older; named = k.named; held = k.held; udps = record { one = k.udps.one; apart = k.udps.apart; older = k.udps.older } })) es _;
         creates = λ es h ctx family c a o m i. both Anything Anything (λ fs done. Named line (record h { machine = done.1; own = Used })) (λ fs done. Fit (record h { machine = done.1; own = Used })) es _ (created_named es h ctx family o i.1) (created contexts line origin es h (own_of line) ctx family i.0);
-        accepted = λ es h c s place r is e o g i. whatever (λ made. Base (record h { machine = record h.machine { table = made.1 }; made = made_so place made.0 })) (λ made. let k = i.1 in (record { records = i.0.records; stands = i.0.stands }, record { one = k.one; apart = k.apart; older = k.older; named = k.named; held = k.held })) es _;
+        accepted = λ es h c s place r is e o g i. whatever (λ made. Base (record h { machine = record h.machine { table = made.1 }; made = made_so place made.0 })) (λ made. let k = i.1 in (record { records = i.0.records; udps = i.0.udps; stands = i.0.stands }, record { one = k.one; apart = k.apart; older = k.older; named = k.named; held = k.held; udps = record { one = k.udps.one; apart = k.udps.apart; older = k.udps.older } })) es _;
         polls = λ es h op after k i. both Anything Anything (λ fs ended. Named line (after ended)) (λ fs ended. Fit (after ended)) es _ (names_polled es h op after k i) (polls_fit contexts line origin es h op after k i.0);
         turns = λ es h place r s g e i. whatever (λ done. Base (put h place (with_writer r s done.1))) (λ done. (put_fit h place r _ g (inr (λ b. b, λ l. l)) (i.0.records place r g) i.0, put_inner h place r _ g refl refl (λ x p. p) i.1)) es (turn_asks s.writer);
+        udp_asks = λ es h place n o c at g q i. (tt, λ told k. i);
+        udp_learns = λ es h place o at g i. (tt, λ told k. ((f.udp_learns es h place o at g i.0).1 told k, put_udp_named line h place (Udp2Socket.Open o) (Udp2Socket.Open _) g (learnt_side o.inner (told_addr told)) i.1));
+        udp_closes = λ es h place o q g i. (tt, λ told k. ((f.udp_closes es h place o q g i.0).1 told k, put_udp_named line h place (Udp2Socket.Open o) (Udp2Socket.Closed o.inner.side) g refl i.1));
+        udp_creates = λ es h ctx family c may a o m i. (tt, λ told k. ((f.udp_creates es h ctx family c may a o m i.0).1 told k, begun_named h ctx.name family (told_done told) o i.1));
+        udp_marks = λ es h place u g i. whatever (λ made. Base (record h { machine = record h.machine { table = made.1 } })) (λ made. let k = i.1 in (record { records = i.0.records; udps = i.0.udps; stands = i.0.stands }, record { one = k.one; apart = k.apart; older = k.older; named = k.named; held = k.held; udps = record { one = k.udps.one; apart = k.udps.apart; older = k.udps.older } })) es _;
         gives_up = λ es h place r q g i.
             whatever (λ done. Base (put h place (with_listening r Not)))
             (λ done. let b = i.0.records place r g in (put_fit h place r _ g (inl q) (b.0, tt, b.2) i.0, put_named line h place r (with_listening r Not) g (listening_names h place r Not g (λ x p. absurd (cc)) (λ op p. absurd (cc)) i.1) i.1)) es (give_up_asks r.listening);

@@ -18,12 +18,12 @@ pub record BaseBetween (line : ℕ) (m : Machine) : Type 0 where
 pub first_base : BaseBetween 1 first_state
 first_base = record {
   fit = first_fit;
-  named = record { one = λ x i k r q e. absurd (cc); apart = λ x i r e. absurd (cc); older = λ x i r e. absurd (cc); named = λ x i r e. absurd (cc); held = λ op i r e. absurd (cc) };
+  named = record { one = λ x i k r q e. absurd (cc); apart = λ x i r e. absurd (cc); older = λ x i r e. absurd (cc); named = λ x i r e. absurd (cc); held = λ op i r e. absurd (cc); udps = record { one = λ x i k u v e. absurd (cc); apart = λ x i k r u e. absurd (cc); older = λ i u e. absurd (cc) } };
 }
 
 starts_named : (line : ℕ) (m : Machine) (own : Own) → Named line (Starts m Unused) → Named line (Starts m own)
-starts_named line m Used n = record { one = n.one; apart = n.apart; older = λ x i r g c. let k = n.older x i r g c in omega (arith, k); named = n.named; held = n.held }
-starts_named line m _ n = record { one = n.one; apart = n.apart; older = n.older; named = n.named; held = n.held }
+starts_named line m Used n = record { one = n.one; apart = n.apart; older = λ x i r g c. let k = n.older x i r g c in omega (arith, k); named = n.named; held = n.held; udps = record { one = n.udps.one; apart = n.udps.apart; older = λ i u g. (let k = n.udps.older i u g in omega (arith, k)) } }
+starts_named line m _ n = record { one = n.one; apart = n.apart; older = n.older; named = n.named; held = n.held; udps = record { one = n.udps.one; apart = n.udps.apart; older = n.udps.older } }
 
 module _ (contexts : List WasiSocketsCtx) (line : ℕ) (origin : Step) (m : Machine) where
   -- the line begins
@@ -32,4 +32,4 @@ module _ (contexts : List WasiSocketsCtx) (line : ℕ) (origin : Step) (m : Mach
 
   -- and is over
   pub base_over : Base contexts line origin (Over m) → BaseBetween (line + 1) m
-  base_over b = let n = b.1 in record { fit = b.0; named = record { one = n.one; apart = n.apart; older = λ x i r g c. (let k = n.older x i r g c in omega (arith, k)); named = n.named; held = n.held } }
+  base_over b = let n = b.1 in record { fit = b.0; named = record { one = n.one; apart = n.apart; older = λ x i r g c. (let k = n.older x i r g c in omega (arith, k)); named = n.named; held = n.held; udps = record { one = n.udps.one; apart = n.udps.apart; older = λ i u g. (let k = n.udps.older i u g in omega (arith, k)) } } }

@@ -12,20 +12,32 @@ use Rattle.wasi_walks.proofs.Words.{with_progress, with_state, with_writer, ℕ,
 use Rattle.wasi_world.specs.Operation.{Connection}
 use Rattle.wasi_tcp.specs.Listen.{IsListen}
 use Rattle.wasi_walks.proofs.walks.Moves.{NoStart, NoStartIn, NoStartStands, IsSettled, KeepsBinding, HasBinding, HasListen, GoesOn, begun_bind, closed_record, Held, BindsOn, Connects, Used, Here, put, Move, Changes, ClosesReader, Writes, IsGone, Reconnects, Opens, BeginsConnect, BeginsBind, BeginsWrite, Stands, BeginsListen, BeginsAccept, Unlistens, Forgets, Joins, Unstands, Listens, Awaits, listen_after, accepting_now, beginning_listen, new_accept, joined, made_so, Found}
-use Rattle.wasi_walks.proofs.fits.Records.{FitListening, FitProgress, FitRecord, FitCall}
+use Rattle.wasi_walks.proofs.fits.Records.{FitListening, FitProgress, FitRecord, FitCall, FitUdp, FitUdpProgress, UdpBindOn}
 use Rattle.wasi_walks.proofs.Lists.{get_set, get_split, set_get, tcp2_front}
-use Rattle.wasi_walks.proofs.fits.Polls.{Anything, bind_left, connect_left, listen_left, accept_left, AcceptLeaves}
+use Rattle.wasi_walks.proofs.fits.Polls.{Anything, bind_left, udp_bind_left, connect_left, listen_left, accept_left, AcceptLeaves}
 use Rattle.wasi_walks.proofs.walks.Law.{Law, Walks}
 use Rattle.wasi_tcp.specs.Accept as accept
 use Rattle.wasi_tcp.specs.Listen as listen
 use Rattle.wasi_tcp.specs.Connect as connect
 use Rattle.wasi_walks.specs.Waiting as binding
-use Rattle.wasi_host.specs.Records.{tcp2_at, tcp2_put, tcp2_pushed}
+use Rattle.wasi_host.specs.Records.{tcp2_at, tcp2_put, tcp2_pushed, udp2_at, udp2_put, udp2_pushed}
+use Rattle.wasi_host.specs.declared.udp.OpenUdp.{OpenUdp}
+use Rattle.wasi_host.specs.declared.udp.Udp2Socket.{Udp2Socket}
+use Rattle.wasi_host.specs.declared.udp.UdpInProgress.{UdpInProgress}
+use Rattle.wasi_host.specs.Udp.{is_udp_idle, udp_bind_progress, udp_create_left, with_udp_progress}
+use Rattle.wasi_udp.specs.Bind as udp
+use Rattle.wasi_udp.specs.Create.{Create, new_create, after_create as udp_after_create}
+use Rattle.wasi_udp.specs.Shape.{Socket as UdpSocket}
+use Rattle.wasi_udp.specs.Socket.{after_local as udp_after_local}
+use Rattle.wasi_walks.proofs.UdpLists.{udp_of_put, udp_of_push, udp_in_put, udp_in_push, tcp_of_put, tcp_of_push, tcp_in_put, tcp_in_push, udp_set_get, udp_get_set, udp_split, udp_front}
+use Rattle.wasi_walks.proofs.fits.UdpPolls.{LeavesCreate, create_left, create_fits}
+use Rattle.wasi_walks.proofs.walks.Moves.{put_udp, FoundUdp, udp_begun, begun_udp_bind, IsUdpSettled, UdpChanges, BeginsUdpBind, StandsUdpBind, StandsUdpCreate, UdpCreates, UdpBindsOn}
 use Rattle.wasi_host.specs.declared.records.Record.{Record}
 
 -- Each record fits, and so does the pending call.
 pub record Fit (h : Here) : Type 0 where
   pub records : (place : ℕ) (r : Tcp2Socket) → Found h place r → FitRecord r
+  pub udps : (place : ℕ) (u : Udp2Socket) → FoundUdp h place u → FitUdp u
   pub stands : (c : Standing) → h.machine.store.standing ≡ Some c → FitCall h.machine.store.records c.call
 
 -- neither is pending, or the record continues with its bind and with its listen
@@ -56,10 +68,13 @@ module _ (h : Here) (place : ℕ) (r now : Tcp2Socket) (g : Found h place r) (k 
       goes : tcp2_at h.machine.store.records place ≡ Some b.was → HasListen now.listening
       goes at = let same : b.was ≡ r = cc in elim k [ inl quiet ↦ absurd (none quiet) | inr f ↦ f.1 (subst (λ (x : Tcp2Socket). HasListen x.listening) same b.goes) ]
   call_put c e (StandingCall.DropOutput n) q b = tt
+  call_put c e (StandingCall.UdpCreate n) q b = record { was = b.was; at = udp_in_put h.machine.store.records place r now n (Udp2Socket.Creating b.was) g b.at }
+  call_put c e (StandingCall.UdpBind n) q b = record { was = b.was; at = udp_in_put h.machine.store.records place r now n (Udp2Socket.Open b.was) g b.at; op = b.op; goes = b.goes }
 
   pub put_fit : FitRecord now → Fit h → Fit (put h place now)
   put_fit f i = record {
     records = λ k r e. elim (get_set h.machine.store.records place now k r e) [ inl p ↦ subst FitRecord p.1 f | inr p ↦ i.records k r p ];
+    udps = λ k u e. i.udps k u (udp_of_put h.machine.store.records place now k u e);
     stands = λ c e. call_put c e c.call refl (i.stands c e);
   }
 
@@ -68,11 +83,115 @@ call_push : (records : List Record) (now : Tcp2Socket) (call : StandingCall) →
 call_push records now (StandingCall.Bind n) b = record { was = b.was; at = tcp2_front records now n b.was b.at; goes = b.goes }
 call_push records now (StandingCall.Listen n) b = record { was = b.was; at = tcp2_front records now n b.was b.at; goes = b.goes }
 call_push records now (StandingCall.DropOutput n) b = tt
+call_push records now (StandingCall.UdpCreate n) b = record { was = b.was; at = udp_in_push records now n (Udp2Socket.Creating b.was) b.at }
+call_push records now (StandingCall.UdpBind n) b = record { was = b.was; at = udp_in_push records now n (Udp2Socket.Open b.was) b.at; op = b.op; goes = b.goes }
 
 call_stands : (records : List Record) (call : StandingCall) (r : Tcp2Socket) → tcp2_at records (call_place call) ≡ Some r → GoesOn call r → FitCall records call
 call_stands records (StandingCall.Bind n) r g k = record { was = r; at = g; goes = k }
 call_stands records (StandingCall.Listen n) r g k = record { was = r; at = g; goes = k }
 call_stands records (StandingCall.DropOutput n) r g k = tt
+call_stands records (StandingCall.UdpCreate n) r g k = absurd k
+call_stands records (StandingCall.UdpBind n) r g k = absurd k
+
+-- == a UDP socket changes
+-- it stays open, with the bind that was in progress
+pub record KeepsOpen (u now : Udp2Socket) : Type 0 where
+  pub was : OpenUdp
+  pub is : OpenUdp
+  pub from : u ≡ Udp2Socket.Open was
+  pub to : now ≡ Udp2Socket.Open is
+  pub binds : (op : Operation) → was.in_progress ≡ UdpInProgress.Binding op → is.in_progress ≡ UdpInProgress.Binding op
+
+same_udp : (a b : Udp2Socket) → Some a ≡ Some b → a ≡ b
+same_udp a b e = cc
+
+pub same_open : (a b : OpenUdp) → Udp2Socket.Open a ≡ Udp2Socket.Open b → a ≡ b
+same_open a b e = cc
+
+no_open : (c : Create) (o : OpenUdp) → Udp2Socket.Creating c ≡ Udp2Socket.Open o → ⊥
+no_open c o e = absurd (cc)
+
+module _ (h : Here) (place : ℕ) (u now : Udp2Socket) (g : FoundUdp h place u) (k : NoStart h ⊎ KeepsOpen u now) where
+  none : (c : Standing) → h.machine.store.standing ≡ Some c → (call : StandingCall) → c.call ≡ call → NoStart h → NoStartIn call
+  none c e call q quiet = subst NoStartIn q (subst NoStartStands e quiet)
+
+  udp_call_put : (c : Standing) → h.machine.store.standing ≡ Some c → (call : StandingCall) → c.call ≡ call → FitCall h.machine.store.records call → FitCall (udp2_put h.machine.store.records place now) call
+  udp_call_put c e (StandingCall.Bind n) q b = record { was = b.was; at = tcp_in_put h.machine.store.records place u now n b.was g b.at; goes = b.goes }
+  udp_call_put c e (StandingCall.Listen n) q b = record { was = b.was; at = tcp_in_put h.machine.store.records place u now n b.was g b.at; goes = b.goes }
+  udp_call_put c e (StandingCall.DropOutput n) q b = tt
+  udp_call_put c e (StandingCall.UdpCreate n) q b = elim (udp_set_get h.machine.store.records place now n (Udp2Socket.Creating b.was) b.at) [
+    | inl p ↦ record { was = b.was; at = p }
+    | inr p ↦ elim k [
+      | inl quiet ↦ absurd (none c e (StandingCall.UdpCreate n) q quiet)
+      | inr o ↦ (let at : Some (Udp2Socket.Creating b.was) ≡ Some u = sym b.at ∙ (ap (udp2_at h.machine.store.records) p.0 ∙ g) in absurd (no_open b.was o.was (same_udp (Udp2Socket.Creating b.was) u at ∙ o.from)))
+    ]
+  ]
+  udp_call_put c e (StandingCall.UdpBind n) q b = elim (udp_set_get h.machine.store.records place now n (Udp2Socket.Open b.was) b.at) [
+    | inl p ↦ record { was = b.was; at = p; op = b.op; goes = b.goes }
+    | inr p ↦ elim k [
+      | inl quiet ↦ absurd (none c e (StandingCall.UdpBind n) q quiet)
+      | inr o ↦ (
+          let at : Some (Udp2Socket.Open b.was) ≡ Some u = sym b.at ∙ (ap (udp2_at h.machine.store.records) p.0 ∙ g) in
+          let same : b.was ≡ o.was = same_open b.was o.was (same_udp (Udp2Socket.Open b.was) u at ∙ o.from) in
+          record { was = o.is; at = p.1 ∙ ap (λ (x : Udp2Socket). Some x) o.to; op = b.op; goes = o.binds b.op (subst (λ (x : OpenUdp). x.in_progress ≡ UdpInProgress.Binding b.op) same b.goes) })
+    ]
+  ]
+
+  pub put_udp_fit : FitUdp now → Fit h → Fit (put_udp h place now)
+  put_udp_fit f i = record {
+    records = λ n r e. i.records n r (tcp_of_put h.machine.store.records place now n r e);
+    udps = λ n x e. elim (udp_get_set h.machine.store.records place now n x e) [ inl p ↦ subst FitUdp p.1 f | inr p ↦ i.udps n x p ];
+    stands = λ c e. udp_call_put c e c.call refl (i.stands c e);
+  }
+
+-- one joins the records
+udp_call_push : (records : List Record) (now : Udp2Socket) (call : StandingCall) → FitCall records call → FitCall (udp2_pushed records now) call
+udp_call_push records now (StandingCall.Bind n) b = record { was = b.was; at = tcp_in_push records now n b.was b.at; goes = b.goes }
+udp_call_push records now (StandingCall.Listen n) b = record { was = b.was; at = tcp_in_push records now n b.was b.at; goes = b.goes }
+udp_call_push records now (StandingCall.DropOutput n) b = tt
+udp_call_push records now (StandingCall.UdpCreate n) b = record { was = b.was; at = udp_front records now n (Udp2Socket.Creating b.was) b.at }
+udp_call_push records now (StandingCall.UdpBind n) b = record { was = b.was; at = udp_front records now n (Udp2Socket.Open b.was) b.at; op = b.op; goes = b.goes }
+
+pub begun_fits : (h : Here) (op : OpId) (maker : ℕ) (family : SocketAddressFamily) (r : Result (Unit {0}) ErrorCode) → Fit h → Fit (udp_begun h (udp_after_create op maker family r))
+begun_fits h op maker family (Ok done) i =
+    let now : Udp2Socket = Udp2Socket.Creating (new_create op maker family) in
+    let records = h.machine.store.records in
+    record {
+      records = λ n r e. i.records n r (tcp_of_push records now n r e);
+      udps = λ n u e. elim (udp_split records now n u e) [ inl p ↦ i.udps n u p | inr p ↦ subst FitUdp p.0 (refl, refl) ];
+      stands = λ c e. udp_call_push records now c.call (i.stands c e);
+    }
+begun_fits h op maker family (Err c) i = record { records = i.records; udps = i.udps; stands = i.stands }
+
+-- the bind in progress stays, or none was
+plain_binds : (old now : UdpInProgress) → (now ≡ old) ⊎ (IsUdpSettled old × IsUdpSettled now) → (op : Operation) → old ≡ UdpInProgress.Binding op → now ≡ UdpInProgress.Binding op
+plain_binds old now (inl same) op e = same ∙ e
+plain_binds old now (inr s) op e = absurd (subst IsUdpSettled e s.0)
+
+plain_progress : (side : OpId) (old now : UdpInProgress) → (now ≡ old) ⊎ (IsUdpSettled old × IsUdpSettled now) → FitUdpProgress side old → FitUdpProgress side now
+plain_progress side old now (inl same) f = subst (FitUdpProgress side) (sym same) f
+plain_progress side old UdpInProgress.Nothing (inr s) f = tt
+plain_progress side old UdpInProgress.Bound (inr s) f = tt
+plain_progress side old (UdpInProgress.Binding op) (inr s) f = absurd s.1
+
+-- what is learnt of whether a UDP socket is bound leaves its network socket
+pub learnt_side : (socket : UdpSocket) (told : Result IpSocketAddress ErrorCode) → (udp_after_local socket told).1.side ≡ socket.side
+learnt_side socket (Ok a) = by_test (is_wildcard socket.family a)
+  where
+    by_test : (b : Bool) → (let answer : Bool × UdpSocket = if b then (false, socket) else (true, record socket { bound = true }) in answer.1.side ≡ socket.side)
+    by_test true = refl
+    by_test false = refl
+learnt_side socket (Err c) = refl
+
+idle_keeps : (doing : UdpInProgress) → is_udp_idle doing ≡ true → (op : Operation) → doing ≡ UdpInProgress.Binding op → ⊥
+idle_keeps UdpInProgress.Nothing e op q = absurd (cc)
+idle_keeps UdpInProgress.Bound e op q = absurd (cc)
+idle_keeps (UdpInProgress.Binding x) e op q = absurd (cc)
+
+bound_udp : (o : OpenUdp) (op : Operation) (end : End × List Item) → UdpBindOn o.inner.side op → udp.IsLeftOfBind end.1 → FitUdp (Udp2Socket.Open (with_udp_progress o (udp_bind_progress op end)))
+bound_udp o op (Waits, items) its k = record { bind = record { last = its.bind.last; left = k }; of_side = its.of_side }
+bound_udp o op (Done given, items) its k = tt
+bound_udp o op (Refused c given, items) its k = tt
 
 -- a bind in progress is of a socket that does nothing yet, and so is none of any other
 pub not_binding : {s t : TcpState} (doing : InProgress) → s ≡ t → ((side : OpId) → t ≡ TcpState.Default side → ⊥) → FitProgress s doing → (u : TcpState) → FitProgress u doing
@@ -167,16 +286,16 @@ module _ (contexts : List WasiSocketsCtx) (line : ℕ) (origin : Step) where
   moves_fit _ _ (Reconnects h place r c now g e s t u) i = let f = i.records place r g in put_fit h place r _ g (inr (λ b. b, λ l. l)) (tt, f.1, not_binding r.in_progress e (λ side d. absurd (cc)) f.2 _) i
   moves_fit _ _ (Opens h place r c k g e n) i = put_fit h place r _ g (inr (λ b. absurd (no_binding r.in_progress k b), λ l. l)) (tt, (i.records place r g).1, tt) i
   moves_fit _ _ (BeginsConnect h place r side a bound at g d to known idle own) i =
-      let k = put_fit h place r _ g (inr (λ b. b, λ l. l)) (first_of (own_of line) side r.inner.maker (wildcard r.inner.family) a bound, (i.records place r g).1, idle_binding r.in_progress idle _) i in record { records = k.records; stands = k.stands }
+      let k = put_fit h place r _ g (inr (λ b. b, λ l. l)) (first_of (own_of line) side r.inner.maker (wildcard r.inner.family) a bound, (i.records place r g).1, idle_binding r.in_progress idle _) i in record { records = k.records; udps = k.udps; stands = k.stands }
   moves_fit _ _ (BeginsBind h place r side a at g d to idle own) i =
       let f = i.records place r g in
-      let k = put_fit h place r (with_progress r (InProgress.Binding (begun_bind (own_of line) side r a))) g (inr (λ b. tt, λ l. l)) (f.0, f.1, (d, record { last = refl; left = binding.Unchecked a })) i in record { records = k.records; stands = k.stands }
-  moves_fit _ _ (BeginsWrite h place r s half permit bytes at g e w within own) i = let k = put_fit h place r _ g (inr (λ b. b, λ l. l)) (i.records place r g) i in record { records = k.records; stands = k.stands }
+      let k = put_fit h place r (with_progress r (InProgress.Binding (begun_bind (own_of line) side r a))) g (inr (λ b. tt, λ l. l)) (f.0, f.1, (d, record { last = refl; left = binding.Unchecked a })) i in record { records = k.records; udps = k.udps; stands = k.stands }
+  moves_fit _ _ (BeginsWrite h place r s half permit bytes at g e w within own) i = let k = put_fit h place r _ g (inr (λ b. b, λ l. l)) (i.records place r g) i in record { records = k.records; udps = k.udps; stands = k.stands }
   moves_fit _ _ (BeginsListen h place r side at g d bound none to idle own) i =
-      let k = put_fit h place r (beginning_listen (own_of line) side r) g (inr (λ b. b, λ l. absurd (subst HasListen none l))) (tt, record { last = refl; left = listen.BoundBefore r.inner.backlog }, idle_binding r.in_progress idle _) i in record { records = k.records; stands = k.stands }
+      let k = put_fit h place r (beginning_listen (own_of line) side r) g (inr (λ b. b, λ l. absurd (subst HasListen none l))) (tt, record { last = refl; left = listen.BoundBefore r.inner.backlog }, idle_binding r.in_progress idle _) i in record { records = k.records; udps = k.udps; stands = k.stands }
   moves_fit _ _ (BeginsAccept h place r l at g e a own) i =
       let f = i.records place r g in
-      let k = put_fit h place r (accepting_now r l (new_accept line l)) g (inr (λ b. b, λ k. absurd (subst HasListen e k))) (f.0, record { accept = record { last = refl; left = accept.Unarrived }; of_side = refl; of_maker = refl; going = refl }, f.2) i in record { records = k.records; stands = k.stands }
+      let k = put_fit h place r (accepting_now r l (new_accept line l)) g (inr (λ b. b, λ k. absurd (subst HasListen e k))) (f.0, record { accept = record { last = refl; left = accept.Unarrived }; of_side = refl; of_maker = refl; going = refl }, f.2) i in record { records = k.records; udps = k.udps; stands = k.stands }
   moves_fit _ _ (Unlistens h place r op q g e c o) i = let f = i.records place r g in put_fit h place r _ g (inl q) (f.0, tt, f.2) i
   moves_fit _ _ (Forgets h place r l c g e a) i = let f = i.records place r g in put_fit h place r _ g (inr (λ b. b, λ k. absurd (subst HasListen e k))) (f.0, tt, f.2) i
   moves_fit _ _ (Joins h c handle place r l new peer is of u g e a) i =
@@ -185,11 +304,20 @@ module _ (contexts : List WasiSocketsCtx) (line : ℕ) (origin : Step) where
       let k = put_fit h place r idle g (inr (λ b. b, λ k. absurd (subst HasListen e k))) (f.0, tt, f.2) i in
       record {
         records = λ p q d. elim (get_split (tcp2_put h.machine.store.records place idle) (joined l new peer) p q d) [ inl x ↦ k.records p q x | inr x ↦ subst FitRecord x (joined_fits l new peer) ];
+        udps = λ p u d. k.udps p u (udp_of_push (tcp2_put h.machine.store.records place idle) (joined l new peer) p u d);
         stands = λ c e. call_push (tcp2_put h.machine.store.records place idle) (joined l new peer) c.call (k.stands c e);
       }
-  moves_fit _ _ (Stands h ids call r at g b) i = record { records = i.records; stands = λ c p. let q : standing_as ids call ≡ c = cc in subst (λ (x : Standing). FitCall h.machine.store.records x.call) q (call_stands h.machine.store.records call r g b) }
-  moves_fit _ _ (Unstands h) i = record { records = i.records; stands = λ c p. absurd (cc) }
-  moves_fit _ _ _ i = record { records = i.records; stands = i.stands }
+  moves_fit _ _ (Stands h ids call r at g b) i = record { records = i.records; udps = i.udps; stands = λ c p. let q : standing_as ids call ≡ c = cc in subst (λ (x : Standing). FitCall h.machine.store.records x.call) q (call_stands h.machine.store.records call r g b) }
+  moves_fit _ _ (Unstands h) i = record { records = i.records; udps = i.udps; stands = λ c p. absurd (cc) }
+  moves_fit _ _ (UdpChanges h place o now g p) i =
+      put_udp_fit h place (Udp2Socket.Open o) (Udp2Socket.Open now) g (inr (record { was = o; is = now; from = refl; to = refl; binds = plain_binds o.in_progress now.in_progress p.binds })) (subst (λ (x : OpId). FitUdpProgress x now.in_progress) (sym p.side) (plain_progress o.inner.side o.in_progress now.in_progress p.binds (i.udps place (Udp2Socket.Open o) g))) i
+  moves_fit _ _ (BeginsUdpBind h place o a at g to idle own) i =
+      let now = with_udp_progress o (UdpInProgress.Binding (begun_udp_bind (own_of line) o a)) in
+      let k = put_udp_fit h place (Udp2Socket.Open o) (Udp2Socket.Open now) g (inr (record { was = o; is = now; from = refl; to = refl; binds = λ op e. absurd (idle_keeps o.in_progress idle op e) })) (record { bind = record { last = refl; left = udp.Unchecked a }; of_side = refl }) i in
+      record { records = k.records; udps = k.udps; stands = k.stands }
+  moves_fit _ _ (StandsUdpBind h ids place o op at g e) i = record { records = i.records; udps = i.udps; stands = λ c p. let q : standing_as ids (StandingCall.UdpBind place) ≡ c = cc in subst (λ (x : Standing). FitCall h.machine.store.records x.call) q (record { was = o; at = g; op = op; goes = e }) }
+  moves_fit _ _ (StandsUdpCreate h ids place create g) i = record { records = i.records; udps = i.udps; stands = λ c p. let q : standing_as ids (StandingCall.UdpCreate place) ≡ c = cc in subst (λ (x : Standing). FitCall h.machine.store.records x.call) q (record { was = create; at = g }) }
+  moves_fit _ _ _ i = record { records = i.records; udps = i.udps; stands = i.stands }
 
   -- a socket that is created connects by nothing
   abbrev pub MadeFits : Result Socket ErrorCode → Type 0
@@ -209,9 +337,10 @@ module _ (contexts : List WasiSocketsCtx) (line : ℕ) (origin : Step) where
       allows_then Anything (λ fs made. ⊤) (λ fs done. Fit (record h { machine = done.1; own = Used })) es (make_asks h.machine.table op (Tcp2 (length h.machine.store.records)) None (side_of socket)) _ (whatever (λ made. ⊤) (λ made. tt) es _)
       (λ fs made t. record {
         records = λ p r e. elim (get_split h.machine.store.records (new_record socket) p r e) [ inl q ↦ i.records p r q | inr q ↦ subst FitRecord q (f, tt, tt) ];
+        udps = λ p u e. i.udps p u (udp_of_push h.machine.store.records (new_record socket) p u e);
         stands = λ c e. call_push h.machine.store.records (new_record socket) c.call (i.stands c e);
       })
-  joins es h op (Err c) f i = record { records = i.records; stands = i.stands }
+  joins es h op (Err c) f i = record { records = i.records; udps = i.udps; stands = i.stands }
 
   pub created : (es : List Entry) (h : Here) (op : OpId) (ctx : WasiSocketsCtx) (family : SocketAddressFamily) → Fit h → Allows Anything (λ fs done. Fit (record h { machine = done.1; own = Used })) es (create_asks h.machine op ctx family)
   created es h op ctx family i =
@@ -236,6 +365,12 @@ module _ (contexts : List WasiSocketsCtx) (line : ℕ) (origin : Step) where
       let its : IsAcceptOn l.side l.maker op = subst (HoldsAccept l.side l.maker) a (subst FitListening e f.1) in
       allows_weaker Anything (λ fs end. AcceptLeaves end) (λ fs end. Fit (put h place (accepting_now r l (accept_ended op.who end))))
       (λ fs end k. put_fit h place r _ g (inr (λ b. b, λ l. absurd (subst HasListen e l))) (f.0, accepted_fits l.side l.maker op end its k, f.2) i) es (poll_asks op) (accept_left op its.accept its.going es)
+  polls_fit es h _ _ (UdpCreates place create q g) i =
+      let f = i.udps place (Udp2Socket.Creating create) g in
+      allows_weaker Anything (λ fs end. LeavesCreate end) (λ fs end. Fit (put_udp h place (udp_create_left create end))) (λ fs end k. put_udp_fit h place (Udp2Socket.Creating create) _ g (inl q) (create_fits create f.0 end k) i) es (poll_asks create.operation) (create_left create.operation f.0 f.1 es)
+  polls_fit es h _ _ (UdpBindsOn place o op q g e) i =
+      let its : UdpBindOn o.inner.side op = subst (FitUdpProgress o.inner.side) e (i.udps place (Udp2Socket.Open o) g) in
+      allows_weaker Anything (λ fs end. udp.IsLeftOfBind end.1) (λ fs end. Fit (put_udp h place (Udp2Socket.Open (with_udp_progress o (udp_bind_progress op end))))) (λ fs end k. put_udp_fit h place (Udp2Socket.Open o) _ g (inl q) (bound_udp o op end its k) i) es (poll_asks op) (udp_bind_left op its.bind es)
 
   unfoldable pub fits : Law contexts line origin
   fits = record {
@@ -246,11 +381,16 @@ module _ (contexts : List WasiSocketsCtx) (line : ℕ) (origin : Step) where
     sets = λ es h place r side b at g s is i. (tt, λ told fits. i);
     learns = λ es h place r side at g e i. (tt, λ told fits. let f = i.records place r g in put_fit h place r _ g (inr (λ b. b, λ l. l)) (subst HoldsConnect (sym (told_same r.inner (told_addr told))) f.0, f.1, same_progress r.in_progress (told_same r.inner (told_addr told)) f.2) i);
     closes = λ es h place r side q g e i. (tt, λ told fits. put_fit h place r (closed_record r) g (inl q) (tt, tt, tt) i);
-    marks = λ es h kind parent sock m i. whatever (λ made. Fit (record h { machine = record h.machine { table = made.1 } })) (λ made. record { records = i.records; stands = i.stands }) es _;
+    marks = λ es h kind parent sock m i. whatever (λ made. Fit (record h { machine = record h.machine { table = made.1 } })) (λ made. record { records = i.records; udps = i.udps; stands = i.stands }) es _;
     creates = λ es h ctx family c a o m i. created es h (own_of line) ctx family i;
-    accepted = λ es h c s place r is e o g i. whatever (λ made. Fit (record h { machine = record h.machine { table = made.1 }; made = made_so place made.0 })) (λ made. record { records = i.records; stands = i.stands }) es _;
+    accepted = λ es h c s place r is e o g i. whatever (λ made. Fit (record h { machine = record h.machine { table = made.1 }; made = made_so place made.0 })) (λ made. record { records = i.records; udps = i.udps; stands = i.stands }) es _;
     polls = polls_fit;
     turns = λ es h place r s g e i. whatever (λ done. Fit (put h place (with_writer r s done.1))) (λ done. put_fit h place r _ g (inr (λ b. b, λ l. l)) (i.records place r g) i) es (turn_asks s.writer);
+    udp_asks = λ es h place n o c at g q i. (tt, λ told fits. i);
+    udp_learns = λ es h place o at g i. (tt, λ told fits. put_udp_fit h place (Udp2Socket.Open o) _ g (inr (record { was = o; is = _; from = refl; to = refl; binds = λ op e. e })) (subst (λ (x : OpId). FitUdpProgress x o.in_progress) (sym (learnt_side o.inner (told_addr told))) (i.udps place (Udp2Socket.Open o) g)) i);
+    udp_closes = λ es h place o q g i. (tt, λ told fits. put_udp_fit h place (Udp2Socket.Open o) (Udp2Socket.Closed o.inner.side) g (inl q) tt i);
+    udp_creates = λ es h ctx family c may a o m i. (tt, λ told fits. begun_fits h (own_of line) ctx.name family (told_done told) i);
+    udp_marks = λ es h place u g i. whatever (λ made. Fit (record h { machine = record h.machine { table = made.1 } })) (λ made. record { records = i.records; udps = i.udps; stands = i.stands }) es _;
     gives_up = λ es h place r q g i. whatever (λ done. Fit (put h place (with_listening r Not))) (λ done. let f = i.records place r g in put_fit h place r _ g (inl q) (f.0, tt, f.2) i) es (give_up_asks r.listening);
   }
 

@@ -5,7 +5,8 @@ use Rattle.wasi_walks.proofs.Words.{Item, LastAsk, List, Listen, Nothing, Nothin
 use Rattle.wasi_walks.proofs.Words.{Waits, Who, [], accept_front, admitted_front, allows_polls, arrival_front, bind, done_front, front, last_ask}
 use Rattle.wasi_walks.proofs.Words.{local_front, poll_asks, polled_front, refl, told_addr, told_arrival, told_done, told_polled, told_verdict, true}
 use Rattle.wasi_walks.proofs.Words.{verdict_front, ℕ, ⊤, ◌∷◌, ◌≡◌}
-use Rattle.wasi_world.specs.Operation.{Connection}
+use Rattle.wasi_world.specs.Operation.{Connection, UdpBind}
+use Rattle.wasi_udp.specs.Bind as udp
 use Rattle.wasi_tcp.specs.Listen.{IsListen}
 use Rattle.wasi_common.specs.Rounds.{some_left, is_going}
 use Rattle.wasi_walks.proofs.Gives.{Gives}
@@ -76,6 +77,11 @@ module _ (who : Who) (C : List Item → Type 0) (over : C []) where
     unfolding bind
     binds es a = (tt, λ t fits. by_done _ (told_done t))
 
+    -- it is a bind of a UDP socket
+    udp_binds : (es : List Entry) (a : IpSocketAddress) → FrontGives es (UdpBind a)
+    unfolding bind
+    udp_binds es a = (tt, λ t fits. by_done _ (told_done t))
+
     -- it is a listen
     listens : (es : List Entry) (backlog : ℕ) → FrontGives es (Listen backlog)
     unfolding bind
@@ -98,6 +104,14 @@ bind_fronts who es given _ _ (binding.Checked a) = binds who IsLeftOfBind bindin
 -- a bind that is polled leaves a bind
 pub bind_left : (op : Operation) → IsRestOfBind op → (es : List Entry) → Gives (λ fs end. IsLeftOfBind end.1) es (poll_asks op)
 bind_left op its es = kept op.who IsLeftOfBind binding.Ended (bind_fronts op.who) op.left its.left es
+
+udp_bind_fronts : (who : Who) (es : List Entry) (given : Given) (item : Item) (items : List Item) → udp.IsLeftOfBind (item ∷ items) → Gives (λ fs f. Keeps who udp.IsLeftOfBind udp.Ended items fs f) es (front who item)
+udp_bind_fronts who es given _ _ (udp.Unchecked a) = checks who udp.IsLeftOfBind udp.Ended (UdpBind a ∷ []) (udp.Checked a) es a _ (udp.Unchecked a)
+udp_bind_fronts who es given _ _ (udp.Checked a) = udp_binds who udp.IsLeftOfBind udp.Ended [] udp.Ended es a
+
+-- a bind of a UDP socket that is polled leaves one
+pub udp_bind_left : (op : Operation) → udp.IsBind op → (es : List Entry) → Gives (λ fs end. udp.IsLeftOfBind end.1) es (poll_asks op)
+udp_bind_left op its es = kept op.who udp.IsLeftOfBind udp.Ended (udp_bind_fronts op.who) op.left its.left es
 
 connect_fronts : (who : Who) (es : List Entry) (given : Given) (item : Item) (items : List Item) → IsLeftOfConnect (item ∷ items) → Gives (λ fs f. Keeps who IsLeftOfConnect connect.Ended items fs f) es (front who item)
 connect_fronts who es given _ _ (connect.Unbound wildcard a) = checks who IsLeftOfConnect connect.Ended _ (connect.Unchecked a) es wildcard _ (connect.Unbound wildcard a)

@@ -1,10 +1,17 @@
 -- What it is that a socket is bound by a bind, connects by a connect, listens by a listen and accepts by an accept.
-use Rattle.std.specs.Prelude.{◌≡◌, ℕ, List, Some, ⊤}
+use Rattle.std.specs.Prelude.{◌≡◌, ℕ, List, [], ◌∷◌, Some, ⊤}
+use Rattle.wasi_world.specs.declared.ids.OpId.{OpId}
+use Rattle.wasi_world.specs.Operation.{Operation, UdpWritable, CloseLast}
+use Rattle.wasi_udp.specs.Bind.{IsBind as IsUdpBind}
+use Rattle.wasi_udp.specs.Create.{Create}
+use Rattle.wasi_host.specs.declared.udp.OpenUdp.{OpenUdp}
+use Rattle.wasi_host.specs.declared.udp.Udp2Socket.{Udp2Socket}
+use Rattle.wasi_host.specs.declared.udp.UdpInProgress.{UdpInProgress}
 use Rattle.wasi_tcp.specs.Connecting.{HoldsConnect}
 use Rattle.wasi_tcp.specs.Listen.{IsListen}
 use Rattle.wasi_tcp.specs.Listener.{HoldsAccept}
 use Rattle.wasi_tcp.specs.declared.socket.TcpState.{TcpState}
-use Rattle.wasi_host.specs.Records.{tcp2_at}
+use Rattle.wasi_host.specs.Records.{tcp2_at, udp2_at}
 use Rattle.wasi_host.specs.declared.records.Record.{Record}
 use Rattle.wasi_host.specs.declared.binding.InProgress.{InProgress}
 use Rattle.wasi_host.specs.declared.listening.Listening.{Listening}
@@ -40,8 +47,37 @@ pub record ListenGoesOn (records : List Record) (place : ℕ) : Type 0 where
   pub at : tcp2_at records place ≡ Some was
   pub goes : HasListen was.listening
 
--- where a bind or a listen is pending, it is in progress
+-- A create is in progress in the record at this place.
+pub record UdpCreateGoesOn (records : List Record) (place : ℕ) : Type 0 where
+  pub was : Create
+  pub at : udp2_at records place ≡ Some (Udp2Socket.Creating was)
+
+-- A bind is in progress in the UDP socket at this place.
+pub record UdpBindGoesOn (records : List Record) (place : ℕ) : Type 0 where
+  pub was : OpenUdp
+  pub at : udp2_at records place ≡ Some (Udp2Socket.Open was)
+  pub op : Operation
+  pub goes : was.in_progress ≡ UdpInProgress.Binding op
+
+-- What a UDP socket is bound by is a bind, on its network socket.
+pub record UdpBindOn (side : OpId) (op : Operation) : Type 0 where
+  pub bind : IsUdpBind op
+  pub of_side : op.who.side ≡ side
+
+-- what it is made by is a create that waits for its network socket
+abbrev pub FitUdpProgress : OpId → UdpInProgress → Type 0
+FitUdpProgress side (UdpInProgress.Binding op) = UdpBindOn side op
+FitUdpProgress side _ = ⊤
+
+abbrev pub FitUdp : Udp2Socket → Type 0
+FitUdp (Udp2Socket.Creating create) = (create.operation.who.last ≡ CloseLast) × (create.operation.left ≡ UdpWritable ∷ [])
+FitUdp (Udp2Socket.Open o) = FitUdpProgress o.inner.side o.in_progress
+FitUdp _ = ⊤
+
+-- where a bind, a listen or a create is pending, it is in progress
 abbrev pub FitCall : List Record → StandingCall → Type 0
 FitCall records (StandingCall.Bind place) = BindGoesOn records place
 FitCall records (StandingCall.Listen place) = ListenGoesOn records place
 FitCall records (StandingCall.DropOutput place) = ⊤
+FitCall records (StandingCall.UdpCreate place) = UdpCreateGoesOn records place
+FitCall records (StandingCall.UdpBind place) = UdpBindGoesOn records place

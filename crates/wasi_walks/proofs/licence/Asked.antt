@@ -1,8 +1,8 @@
 -- What a line asks by its own operation is licensed, and what it is answered fits.
-use Rattle.wasi_walks.proofs.Words.{Begins, Call, Done, End, Entry, IsAddr, List, MarksNoSocket, MayAsk, OpId, Operation, Refused, Some, Step}
+use Rattle.wasi_walks.proofs.Words.{Allows, Asks, Begins, Call, Done, End, Entry, IsAddr, List, MarksNoSocket, MayAsk, OpId, Operation, Refused, Some, Step}
 use Rattle.wasi_walks.proofs.Words.{Tcp2Socket, TcpState, Told, Waits, WasiSocketsCtx, WriteState, [], after_local, ap, closing_side, entry, inl}
 use Rattle.wasi_walks.proofs.Words.{marked_by, own_of, refl, side_in, side_of, step_at, subst, sym, told_addr, with_inner, writer_side}
-use Rattle.wasi_walks.proofs.Words.{writing_side, ℕ, ◌++◌, ◌∙◌, ◌∷◌, ◌≡◌}
+use Rattle.wasi_walks.proofs.Words.{allows_keep, writing_side, ℕ, ◌++◌, ◌∙◌, ◌∷◌, ◌≡◌}
 use Rattle.wasi_walks.specs.Licence.{BeganBy, IsGetOf, IsSetTo}
 use Rattle.wasi_walks.proofs.licence.Fresh.{made_more}
 use Rattle.wasi_walks.proofs.licence.ListenAsks.{listen_unless}
@@ -10,11 +10,13 @@ use Rattle.wasi_walks.proofs.claims.Law.{Named, no_some}
 use Rattle.wasi_walks.proofs.walks.Moves.{Unused, Here, put, Found, IsQuestionOf, IsOn, OfSocket, OfReader, OfWriter, second_of}
 use Rattle.wasi_walks.proofs.Lists.{has_last, has_front}
 use Rattle.wasi_walks.proofs.licence.State.{ReadsOn, Names, WritesOn, RecordIsFine}
-use Rattle.wasi_walks.proofs.licence.Frames.{Touches, Spared, same_listening, unmarked_unless, handed_more, stay, NoMark, same_record, names_on, record_kept, state_spared, maker_more, side_more, no_touch}
-use Rattle.wasi_walks.proofs.licence.Binds.{learned_told, NoLocal}
+use Rattle.wasi_walks.proofs.licence.Frames.{Touches, Spared, same_listening, unmarked_unless, handed_more, stay, NoMark, same_record, names_on, record_kept, maker_more, side_more, no_touch}
+use Rattle.wasi_walks.proofs.licence.States.{state_spared}
+use Rattle.wasi_walks.proofs.licence.Binds.{learned_told, NoLocal, MayQuietly}
 use Rattle.wasi_walks.proofs.licence.Line.{some_same, local_side, ListenGoesOn, JoinedIsFine, Licensed, put_fine}
 use Rattle.wasi_walks.proofs.licence.Moves.{held_side, same_listen}
 use Rattle.wasi_host.specs.Records.{tcp2_at}
+use Rattle.wasi_host.specs.Udp.{udp_side}
 
 module _ (contexts : List WasiSocketsCtx) (steps : List Step) (line : ℕ) (origin : Step) (is_line : step_at steps line ≡ Some origin) where
   -- == asks
@@ -26,7 +28,7 @@ module _ (contexts : List WasiSocketsCtx) (steps : List Step) (line : ℕ) (orig
   spares h c n k q op g e p = subst NoLocal p n
 
   pub listens_on : (es : List Entry) (h : Here) (op : OpId) (c : Call) (told : Told) → Spares h c → Licensed steps line origin es h → (k : ℕ) (q : Tcp2Socket) (o : Operation) → Found h k q → q.listening ≡ Begins o → ListenGoesOn steps (es ++ entry op c told ∷ []) q o
-  listens_on es h op c told n i k q o g e = let l = i.listens k q o g e in record { fine = listen_unless steps es op c told o (n k q o g e) l.fine; asks = l.asks; made = maker_more es _ q.inner.maker q.inner.family o.who.side l.made }
+  listens_on es h op c told n i k q o g e = let l = i.listens k q o g e in record { fine = listen_unless steps es op c told o (n k q o g e) l.fine; asks = l.asks; made = maker_more es _ q.inner.maker q.inner.family o.who.side l.made; tcp = l.tcp }
 
   pub joined_on : (es : List Entry) (h : Here) (e : Entry) (p : ℕ) (j : JoinedIsFine origin es h p) → MarksNoSocket (es ++ e ∷ []) j.new → JoinedIsFine origin (es ++ e ∷ []) h p
   joined_on es h e p j f = record { new = j.new; on = j.on; peer = j.peer; context = j.context; listener = j.listener; by = j.by; side = j.side; of_listener = side_more es _ j.listener j.on j.of_listener; handed = record { told = j.handed.told; hand = has_front es _ _ j.handed.hand }; fresh = f }
@@ -36,6 +38,7 @@ module _ (contexts : List WasiSocketsCtx) (steps : List Step) (line : ℕ) (orig
   asked_by es h op c told z sp u n i = record {
     fine = state_spared steps es h.machine op c told z sp i.fine;
     names = λ k j r a g side m. names_on (stay steps) es _ (own_of j) side (i.names k j r a g side m);
+    udp_names = λ k j u a g. names_on (stay steps) es _ (own_of j) (udp_side u) (i.udp_names k j u a g);
     listens = listens_on es h op c told n i;
     new = λ o. (handed_more es op c told (second_of line) (i.new o).0 (u o), unmarked_unless es op c told (second_of line) (i.new o).1 z);
     unmade = λ e a s is. made_more es op (own_of line) c told z (i.unmade e a s is);
@@ -111,3 +114,7 @@ module _ (contexts : List WasiSocketsCtx) (steps : List Step) (line : ℕ) (orig
       let l = learned_told contexts steps fs (own_of line) side r.inner told e f (has_last es _) x.socket in
       let now : Tcp2Socket = with_inner r (after_local r.inner (told_addr told)).1 in
       put_fine fs h place r now g refl (same_listening r.listening) (same_listen contexts steps line origin is_line r now refl l.keeps.maker l.keeps.family) (record_kept steps fs r now (record { keeps = l.keeps; side = refl; streams = refl; listening = refl; binds = inl refl }) l.fine x) j
+
+  -- what asks quietly
+  pub kept : {A : Type 0} (h : Here) (Q : List Entry → A → Type 0) (es : List Entry) (asks : Asks A) → Licensed steps line origin es h → Allows (MayQuietly contexts steps) Q es asks → Allows (MayAsk contexts steps) (λ fs a. Licensed steps line origin fs h × Q fs a) es asks
+  kept h Q es asks i a = allows_keep (MayQuietly contexts steps) (MayAsk contexts steps) (λ fs. Licensed steps line origin fs h) Q (λ fs op c t fits k m. asked_fine fs h op c t m.0.1 (spares h c m.1) k) (λ fs op c m. m.0.0) es asks i a

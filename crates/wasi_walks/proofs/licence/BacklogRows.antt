@@ -93,7 +93,7 @@ another_option h =
 another_value : IsLicensed allowed script (listens Told.Done ++ entry (own_of 9) (Call.SetOption (own_of 2) opt.HopLimit 4) Told.Done ∷ []) [] → ⊥
 another_value h =
     let may = h.each (listens Told.Done) (entry (own_of 9) (Call.SetOption (own_of 2) opt.HopLimit 4) Told.Done) [] refl in
-    let is : 4 ≡ 3 = (at_line (IsSetTo opt.HopLimit 4) (Step.TcpSet 0 2 (TcpSetting.HopLimit 3)) may.1.origin may.1.at may.1.holds).1 in
+    let is : ◌≡◌ {A = ℕ} 4 3 = (at_line (IsSetTo opt.HopLimit 4) (Step.TcpSet 0 2 (TcpSetting.HopLimit 3)) may.1.origin may.1.at may.1.holds).1 in
     let same : false ≡ true = ap (λ (n : ℕ). n == 3) is in
     cc
 

@@ -42,7 +42,7 @@ module _ (contexts : List WasiSocketsCtx) (steps : List Step) where
     keeps = record { maker = refl; family = refl; side = λ s e. e; connected = λ c e. record { connection = c; state = e; same = refl } };
     state = refl;
     told = λ e. refl;
-    fine = record { knows = record { maker = f.knows.maker }; bound = λ side s e. w side s; listens = f.listens; connect = f.connect };
+    fine = record { knows = record { maker = f.knows.maker }; tcp = f.tcp; bound = λ side s e. w side s; listens = f.listens; connect = f.connect };
   }
 
   pub learned_told : (es : List Entry) (op side : OpId) (socket : Socket) (t : Told) → socket.state ≡ TcpState.Default side → IsAddr t → Has es (entry op (Call.Local side) t) → SocketIsFine steps es socket → Learned socket es (after_local socket (told_addr t))

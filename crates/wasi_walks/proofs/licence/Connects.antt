@@ -93,6 +93,7 @@ module _ (contexts : List WasiSocketsCtx) (steps : List Step) where
   plain : (es : List Entry) (socket : Socket) (s : TcpState) → ((side : OpId) → side_in s ≡ Some side → side_of socket ≡ Some side) → KnowsMaker es socket → ((side : OpId) → s ≡ TcpState.Default side → socket.state ≡ TcpState.Default side) → ((side : OpId) → s ≡ TcpState.Listening side → ⊥) → ((op : Operation) → s ≡ TcpState.Connecting op → ConnectIsFine steps es op) → SocketIsFine steps es socket → SocketIsFine steps es (with_state socket s)
   plain es socket s k m d n c f = record {
     knows = record { maker = λ side e. m.maker side (k side e) };
+    tcp = λ side e. f.tcp side (d side e);
     bound = λ side e b. f.bound side (d side e) b;
     listens = λ side e. absurd (n side e);
     connect = c;

@@ -1,21 +1,20 @@
--- The invariant under one more entry, and under changes of the state.
-use Rattle.wasi_walks.proofs.Words.{Accepting, Accepts, Arrived, BeganBy, Call, Connection, Created, Entry, Hand, Handed, HandedNone, HandleKind}
-use Rattle.wasi_walks.proofs.Words.{HasWildcardYes, InProgress, IpSocketAddress, IsBoundSide, IsMaker, IsMarkedWith, IsSide, Item, Job, Kind, List}
-use Rattle.wasi_walks.proofs.Words.{Listening, Listens, Machine, Made, MarksNoSocket, MayGoOut, NamesSide, None, Not, OpId, Operation, Option, Socket}
-use Rattle.wasi_walks.proofs.Words.{SocketAddrUse, SocketAddressFamily, Some, Standing, Step, Streams, Tcp2Socket, Told, WriteState, [], ap}
-use Rattle.wasi_walks.proofs.Words.{append_assoc, arith, call_place, entry, inl, inr, marked_by, new_record, own_of, refl, side_of}
-use Rattle.wasi_walks.proofs.Words.{step_at, subst, sym, table_parent, with_handle, with_record, with_socket, without_handle, ℕ, ⊤, ◌++◌}
+-- What is known of the accepts, the operations and the records, under one more entry, and where a record changes.
+use Rattle.wasi_walks.proofs.Words.{Accepting, Accepts, Arrived, BeganBy, Call, Connection, Created, Entry, Hand, Handed, HandedNone}
+use Rattle.wasi_walks.proofs.Words.{HasWildcardYes, InProgress, IpSocketAddress, IsBoundSide, IsMaker, IsMarkedWith, IsSide, Item, Job, List}
+use Rattle.wasi_walks.proofs.Words.{Listening, Listens, Made, MarksNoSocket, MayGoOut, NamesSide, None, Not, OpId, Operation, Option, Socket}
+use Rattle.wasi_walks.proofs.Words.{SocketAddrUse, SocketAddressFamily, Some, Step, Streams, Tcp2Socket, Told, WriteState, [], ap}
+use Rattle.wasi_walks.proofs.Words.{append_assoc, arith, entry, inl, inr, marked_by, refl, side_of}
+use Rattle.wasi_walks.proofs.Words.{step_at, subst, sym, ℕ, ⊤, ◌++◌}
 use Rattle.wasi_walks.proofs.Words.{◌∙◌, ◌∷◌, ◌≡◌, ◌⊎◌}
 use Rattle.wasi_world.specs.declared.call.Call.TheVariants.{Accept}
-use Rattle.wasi_streams.proofs.Tables.{value_without}
 use Rattle.wasi_host.specs.Records.{tcp2_at, tcp2_put, tcp2_pushed}
 use Rattle.wasi_host.specs.declared.records.Record.{Record}
-use Rattle.wasi_host.specs.declared.jobs.HostJob.{HostJob}
 use Rattle.wasi_tcp.specs.declared.socket.TcpState.TheVariants.{Connected}
-use Rattle.wasi_walks.proofs.Lists.{has_front, marks_in-push, get_split, get_set, set_get, value_split, has_split, tcp2_front}
-use Rattle.wasi_walks.proofs.licence.State.{NamesRecord, NamesIf, HandleIsFine, KnowsMaker, BindLeft, Whole, Checked, Over, ConnectLeft, Unbound, Unchecked, Allowed, ToClose, Ended, Names, WorksOn, BindIsFine, ConnectIsFine, JobIsFine, WritesOn, IsConnectedOn, StreamsAreFine, ListeningStands, accept_name, AcceptIsFine, AcceptingIsFine, ListeningIsFine, ProgressIsFine, SocketIsFine, RecordIsFine, StandingIsFine, StateIsFine, LastAccept, AcceptLeft, Unarrived, ToCheck, AcceptingStands, name_in, OneHolds}
-use Rattle.wasi_walks.proofs.walks.Moves.{KeepsBinding, record_of}
+use Rattle.wasi_walks.proofs.Lists.{has_front, get_split, get_set, set_get, has_split}
+use Rattle.wasi_walks.proofs.licence.State.{NamesRecord, KnowsMaker, BindLeft, Whole, Checked, Over, ConnectLeft, Unbound, Unchecked, Allowed, ToClose, Ended, Names, WorksOn, BindIsFine, ConnectIsFine, JobIsFine, WritesOn, IsConnectedOn, StreamsAreFine, ListeningStands, accept_name, AcceptIsFine, AcceptingIsFine, ListeningIsFine, ProgressIsFine, SocketIsFine, RecordIsFine, MakesTcp, LastAccept, AcceptLeft, Unarrived, ToCheck, AcceptingStands, name_in, OneHolds}
+use Rattle.wasi_walks.proofs.walks.Moves.{KeepsBinding}
 use Rattle.wasi_world.specs.declared.call.HandleKind.TheVariants.{Tcp2}
+use Rattle.wasi_walks.specs.Licence.{UdpCreated}
 
 -- == one more entry
 -- an accept or a hand by this name, or a mark of a socket with it
@@ -163,15 +162,11 @@ names_more es fs side s h = record { handle = h.handle; named = h.named; is = si
 
 pub maker_more : (es fs : List Entry) (ctx : ℕ) (family : SocketAddressFamily) (side : OpId) → IsMaker es ctx family side → IsMaker (es ++ fs) ctx family side
 maker_more es fs ctx family side (Created s t h) = Created s t (has_front es fs _ h)
+maker_more es fs ctx family side (UdpCreated s t h) = UdpCreated s t (has_front es fs _ h)
 maker_more es fs ctx family side (Handed s l p t h m) = Handed s l p t (has_front es fs _ h) (maker_more es fs ctx family l m)
 
 pub names_record_more : (es fs : List Entry) (records : List Record) (handle place : ℕ) → NamesRecord es records handle place → NamesRecord (es ++ fs) records handle place
 names_record_more es fs records handle place h = record { found = h.found; at = h.at; marked = marked_more es fs handle h.found.side h.marked }
-
--- what a handle stands for is kept where its record is
-handle_kept : (es fs : List Entry) (xs ys : List Record) (handle : ℕ) (o : Option ℕ) → ((place : ℕ) → NamesRecord es xs handle place → NamesRecord fs ys handle place) → NamesIf es xs handle o → NamesIf fs ys handle o
-handle_kept es fs xs ys handle (Some place) k h = k place h
-handle_kept es fs xs ys handle None k h = tt
 
 pub knows_more : (es fs : List Entry) (socket : Socket) → KnowsMaker es socket → KnowsMaker (es ++ fs) socket
 knows_more es fs socket h = record { maker = λ s e. maker_more es fs socket.maker socket.family s (h.maker s e) }
@@ -246,19 +241,11 @@ pub same_record : (a b : Tcp2Socket) → Some a ≡ Some b → a ≡ b
 same_record a b p = cc
 
 -- among those of which one was replaced by one that was made with the same network socket
-made_put : (records : List Record) (i : ℕ) (old now : Tcp2Socket) (place : ℕ) (found : Tcp2Socket) → tcp2_at records i ≡ Some old → now.side ≡ old.side → tcp2_at records place ≡ Some found → IsMadeWith (tcp2_put records i now) place found.side
+pub made_put : (records : List Record) (i : ℕ) (old now : Tcp2Socket) (place : ℕ) (found : Tcp2Socket) → tcp2_at records i ≡ Some old → now.side ≡ old.side → tcp2_at records place ≡ Some found → IsMadeWith (tcp2_put records i now) place found.side
 made_put records i old now place found g k h = elim (set_get records i now place found h) [
   | inl e ↦ record { found = found; at = e; same = refl }
   | inr e ↦ (let p : found ≡ old = same_record found old (sym h ∙ (ap (tcp2_at records) e.0 ∙ g)) in record { found = now; at = e.1; same = k ∙ ap (λ (r : Tcp2Socket). r.side) (sym p) })
 ]
-
-names_put : (es : List Entry) (records : List Record) (i : ℕ) (old now : Tcp2Socket) (handle place : ℕ) → tcp2_at records i ≡ Some old → now.side ≡ old.side → NamesRecord es records handle place → NamesRecord es (tcp2_put records i now) handle place
-names_put es records i old now handle place g k h =
-    let m = made_put records i old now place h.found g k h.at in
-    record { found = m.found; at = m.at; marked = rw m.same h.marked }
-
-names_push : (es : List Entry) (records : List Record) (r : Tcp2Socket) (handle place : ℕ) → NamesRecord es records handle place → NamesRecord es (tcp2_pushed records r) handle place
-names_push es records r handle place h = record { found = h.found; at = tcp2_front records r place h.found h.at; marked = h.marked }
 
 -- A script that has the steps of this one.
 pub record Goes (steps now : List Step) : Type 0 where
@@ -315,6 +302,7 @@ module _ {steps now : List Step} (goes : Goes steps now) where
   pub socket_more : (es fs : List Entry) (socket : Socket) → SocketIsFine steps es socket → SocketIsFine now (es ++ fs) socket
   socket_more es fs socket h = record {
     knows = knows_more es fs socket h.knows;
+    tcp = λ side s. began_more side MakesTcp (h.tcp side s);
     bound = λ side s b. bound_more es fs side (h.bound side s b);
     listens = λ side s. listens_more es fs side (h.listens side s);
     connect = λ op s. connect_more es fs op (h.connect op s);
@@ -335,9 +323,6 @@ module _ {steps now : List Step} (goes : Goes steps now) where
     listening = listening_more es fs r.side r.listening h.listening;
     progress = progress_more es fs r.in_progress h.progress;
   }
-
-  pub standing_more : (es fs : List Entry) (records : List Record) (s : Standing) → StandingIsFine steps es records s → StandingIsFine now (es ++ fs) records s
-  standing_more es fs records s h = record { found = h.found; at = h.at; named = λ side e. names_on es fs (own_of s.ids.line) side (h.named side e) }
 
 module _ (steps : List Step) where
   -- == a record that changes
@@ -367,112 +352,3 @@ module _ (steps : List Step) where
     pub side : done.1.side ≡ old.side
     pub listening : KeepsListening old.listening done.1.listening
     pub fine : RecordIsFine steps es done.1
-
-  -- == the pending call, where the records change
-  standing_put : (es : List Entry) (records : List Record) (i : ℕ) (old now : Tcp2Socket) (s : Standing) → tcp2_at records i ≡ Some old → now.side ≡ old.side → StandingIsFine steps es records s → StandingIsFine steps es (tcp2_put records i now) s
-  standing_put es records i old now s g k h =
-      let m = made_put records i old now (call_place s.call) h.found g k h.at in
-      record { found = m.found; at = m.at; named = λ side e. h.named side (sym m.same ∙ e) }
-
-  standing_push : (es : List Entry) (records : List Record) (r : Tcp2Socket) (s : Standing) → StandingIsFine steps es records s → StandingIsFine steps es (tcp2_pushed records r) s
-  standing_push es records r s h = record { found = h.found; at = tcp2_front records r (call_place s.call) h.found h.at; named = h.named }
-
-  -- == the state
-  -- an ask that is no mark, and that touches no accept, keeps the state
-  pub state_spared : (es : List Entry) (m : Machine) (op : OpId) (c : Call) (told : Told) → marked_by c ≡ 0 → Spared m.store.records op c → StateIsFine steps es m → StateIsFine steps (es ++ entry op c told ∷ []) m
-  state_spared es m op c told z q h = record {
-    count = let p = marks_in-push es (entry op c told) in let k = h.count in omega arith;
-    handles = λ handle kind e. handle_kept es _ m.store.records m.store.records handle (record_of (Some kind)) (names_record_more es _ m.store.records handle) (h.handles handle kind e);
-    records = λ place r e. record_more (stay steps) es _ r (h.records place r e);
-    standing = λ s e. standing_more (stay steps) es _ m.store.records s (h.standing s e);
-    accepts = λ place r e. stands_more es op c told r.listening (h.accepts place r e) (λ x n. q place r x e n);
-    one = h.one;
-  }
-
-  -- a mark, and the handle that it makes
-  pub state_made : (es : List Entry) (m : Machine) (op : OpId) (name : HandleKind) (parent : Option ℕ) (sock : Option OpId) (told : Told) (kind : Kind) → Spared m.store.records op (Made m.table.next name parent sock)
-      → HandleIsFine (es ++ entry op (Made m.table.next name parent sock) told ∷ []) m.store.records m.table.next kind
-      → StateIsFine steps es m → StateIsFine steps (es ++ entry op (Made m.table.next name parent sock) told ∷ []) (record m { table = with_handle m.table kind parent })
-  state_made es m op name parent sock told kind q f h = record {
-    count = let p = marks_in-push es (entry op (Made m.table.next name parent sock) told) in let k = h.count in omega arith;
-    handles = λ handle x e. elim (value_split m.table.live (record { handle = m.table.next; value = kind; parent = table_parent kind parent }) handle x e) [
-      | inl g ↦ handle_kept es _ m.store.records m.store.records handle (record_of (Some x)) (names_record_more es _ m.store.records handle) (h.handles handle x g)
-      | inr g ↦ (let fs = es ++ entry op (Made m.table.next name parent sock) told ∷ [] in subst (HandleIsFine fs m.store.records handle) g.1 (subst (λ (n : ℕ). HandleIsFine fs m.store.records n kind) g.0 f))
-    ];
-    records = λ place r e. record_more (stay steps) es _ r (h.records place r e);
-    standing = λ s e. standing_more (stay steps) es _ m.store.records s (h.standing s e);
-    accepts = λ place r e. stands_more es op _ told r.listening (h.accepts place r e) (λ x n. q place r x e n);
-    one = h.one;
-  }
-
-  -- a handle goes
-  pub state_taken : (es : List Entry) (m : Machine) (gone : ℕ) → StateIsFine steps es m → StateIsFine steps es (record m { table = without_handle m.table gone })
-  state_taken es m gone h = record {
-    count = h.count;
-    handles = λ handle kind e. h.handles handle kind (value_without m.table.live gone handle kind e);
-    records = h.records;
-    standing = h.standing;
-    accepts = h.accepts;
-    one = h.one;
-  }
-
-  -- one record changes, and its accept may be another
-  pub state_renewed : (es : List Entry) (m : Machine) (place : ℕ) (old now : Tcp2Socket) → tcp2_at m.store.records place ≡ Some old → now.side ≡ old.side → RecordIsFine steps es now
-      → ListeningStands es now.listening → ((x : OpId) → accept_name now.listening ≡ Some x → Only m.store.records place x)
-      → StateIsFine steps es m → StateIsFine steps es (record m { store = with_socket m.store place now })
-  state_renewed es m place old now g k f a o h = record {
-    count = h.count;
-    handles = λ handle x e. handle_kept es es m.store.records _ handle (record_of (Some x)) (λ i n. names_put es m.store.records place old now handle i g k n) (h.handles handle x e);
-    records = λ i r e. elim (get_set m.store.records place now i r e) [
-      | inl q ↦ subst (RecordIsFine steps es) q.1 f
-      | inr q ↦ h.records i r q
-    ];
-    standing = λ s e. standing_put es m.store.records place old now s g k (h.standing s e);
-    accepts = stands_put es m.store.records place now a h.accepts;
-    one = one_put m.store.records place now o h.one;
-  }
-
-  -- one record changes
-  pub state_put : (es : List Entry) (m : Machine) (place : ℕ) (old now : Tcp2Socket) → tcp2_at m.store.records place ≡ Some old → now.side ≡ old.side → KeepsListening old.listening now.listening → RecordIsFine steps es now → StateIsFine steps es m
-      → StateIsFine steps es (record m { store = with_socket m.store place now })
-  state_put es m place old now g k l f h = state_renewed es m place old now g k f (l.stands es (h.accepts place old g)) (λ x n i s e o. h.one i place s old x e g o (l.names x n)) h
-
-  -- a record more, which has no accept
-  pub state_joined : (es : List Entry) (m : Machine) (now : Tcp2Socket) → RecordIsFine steps es now → ListeningStands es now.listening → accept_name now.listening ≡ None → StateIsFine steps es m
-      → StateIsFine steps es (record m { store = record m.store { records = tcp2_pushed m.store.records now } })
-  state_joined es m now f a n h = record {
-    count = h.count;
-    handles = λ handle x e. handle_kept es es m.store.records _ handle (record_of (Some x)) (names_push es m.store.records now handle) (h.handles handle x e);
-    records = λ i r e. elim (get_split m.store.records now i r e) [
-      | inl q ↦ h.records i r q
-      | inr q ↦ subst (RecordIsFine steps es) q f
-    ];
-    standing = λ s e. standing_push es m.store.records now s (h.standing s e);
-    accepts = stands_push es m.store.records now a h.accepts;
-    one = one_push m.store.records now n h.one;
-  }
-
-  pub state_push : (es : List Entry) (m : Machine) (socket : Socket) → SocketIsFine steps es socket → StateIsFine steps es m → StateIsFine steps es (record m { store = with_record m.store socket })
-  state_push es m socket f h = state_joined es m (new_record socket) (record { socket = f; named = λ side p. p; streams = λ streams p. absurd (cc); listening = tt; progress = tt }) tt refl h
-
-  -- a call is pending
-  pub state_stands : (es : List Entry) (m : Machine) (c : Standing) → StandingIsFine steps es m.store.records c → StateIsFine steps es m → StateIsFine steps es (record m { store = record m.store { standing = Some c } })
-  state_stands es m c f h = record {
-    count = h.count;
-    handles = h.handles;
-    records = h.records;
-    standing = λ d e. subst (StandingIsFine steps es m.store.records) (same c d e) f;
-    accepts = h.accepts;
-    one = h.one;
-  }
-    where
-      same : (a b : Standing) → Some a ≡ Some b → a ≡ b
-      same a b p = cc
-
-  -- none is pending
-  pub state_unstands : (es : List Entry) (m : Machine) → StateIsFine steps es m → StateIsFine steps es (record m { store = record m.store { standing = None } })
-  state_unstands es m h = record { count = h.count; handles = h.handles; records = h.records; standing = λ d e. absurd (cc); accepts = h.accepts; one = h.one }
-
-  -- which writes are in progress is nothing to it
-  pub state_jobs : (es : List Entry) (m : Machine) (jobs : List HostJob) → StateIsFine steps es m → StateIsFine steps es (record m { store = record m.store { jobs = jobs } })
-  state_jobs es m jobs h = record { count = h.count; handles = h.handles; records = h.records; standing = h.standing; accepts = h.accepts; one = h.one }

@@ -7,6 +7,7 @@ use Rattle.wasi_walks.proofs.Words.{marked_by, slice_get, step_at, subst, suc, s
 use Rattle.wasi_walks.proofs.Lists.{Cut, cut_of, has_front, has_split}
 use Rattle.wasi_walks.proofs.licence.State.{name_in, accept_name, AcceptingIsFine, ListeningIsFine, StateIsFine}
 use Rattle.wasi_walks.proofs.licence.Frames.{Spared, Free}
+use Rattle.wasi_walks.specs.Licence.{UdpCreated}
 use Rattle.wasi_world.specs.declared.call.HandleKind.TheVariants as name
 use Rattle.wasi_host.specs.declared.records.Record.{Record}
 
@@ -59,9 +60,13 @@ module _ (contexts : List WasiSocketsCtx) (steps : List Step) where
     created_below : (op : OpId) (ctx : ℕ) (family : SocketAddressFamily) (t : Told) → Has log (entry op (Call.TcpCreate ctx family) t) → op.step ≤ length steps
     created_below op ctx family t i = began_below op _ (may_at _ (cut_of log _ i))
 
+    udp_created_below : (op : OpId) (ctx : ℕ) (family : SocketAddressFamily) (t : Told) → Has log (entry op (Call.UdpCreate ctx family) t) → op.step ≤ length steps
+    udp_created_below op ctx family t i = began_below op _ (may_at _ (cut_of log _ i))
+
     -- what was handed over on its own network socket was made before
     own_below : (op : OpId) (ctx : ℕ) (family : SocketAddressFamily) (c : Entry) (k : Cut log c) → ((l : OpId) (p : IpSocketAddress) (t : Told) → Has k.front (entry op (Call.Hand l p) t) → ⊥) → IsMaker k.front ctx family op → op.step ≤ length steps
     own_below op ctx family c k n (Created s t i) = created_below op ctx family t (front_in c _ k i)
+    own_below op ctx family c k n (UdpCreated s t i) = udp_created_below op ctx family t (front_in c _ k i)
     own_below op ctx family c k n (Handed s l p t i m) = absurd (n l p t i)
 
     handed_below : (op l : OpId) (p : IpSocketAddress) (t : Told) → Has log (entry op (Call.Hand l p) t) → op.step ≤ length steps
@@ -80,6 +85,7 @@ module _ (contexts : List WasiSocketsCtx) (steps : List Step) where
     marked_below : (op : OpId) (parent : Option ℕ) (x : OpId) (c : Entry) (k : Cut log c) (s : Step) → op.step ≤ length steps → IsMarkOf k.front op name.Tcp2 parent (Some x) s → x.step ≤ length steps
     marked_below op parent x c k (Step.Network ctx) b m = absurd (let e = m.0 in cc)
     marked_below op parent x c k (Step.TcpCreate ctx family) b m = let e : x ≡ op = (let q = m.2 in cc) in subst (λ (o : OpId). o.step ≤ length steps) (sym e) b
+    marked_below op parent x c k (Step.UdpCreate ctx family) b m = absurd (let e = m.0 in cc)
     marked_below op parent x c k (Step.TcpAccept ctx socket) b (inl m) =
         let e : m.accept ≡ x = (let q = m.side in cc) in
         subst (λ (o : OpId). o.step ≤ length steps) e (handed_below m.accept m.on m.peer m.told (front_in c _ k m.handed))

@@ -1,5 +1,5 @@
 -- What is in progress is licensed: a bind, a connect, a listen, an accept, a write; and what is released.
-use Rattle.wasi_walks.proofs.Words.{Accepting, Accepts, Allows, Asks, Begins, Bool, Call, Done, End, Entry, Give, HoldsAccept, HoldsConnect}
+use Rattle.wasi_walks.proofs.Words.{Accepting, Accepts, Allows, BeganBy, Begins, Bool, Call, Done, End, Entry, Give, HoldsAccept, HoldsConnect}
 use Rattle.wasi_walks.proofs.Words.{InProgress, IpSocketAddress, IsAcceptOn, IsConnect, IsLeftOfBind, IsLeftOfConnect, IsLeftOfListen, IsMaker, Item}
 use Rattle.wasi_walks.proofs.Words.{List, Listener, Listening, MayAsk, None, Not, OpId, Operation, Option, Refused, Some, Step, Streams, Tcp2Socket}
 use Rattle.wasi_walks.proofs.Words.{TcpState, Unclosed, Waits, WasiSocketsCtx, Who, WriteState, accept_ended, allows_keep, allows_then, allows_weaker}
@@ -14,17 +14,19 @@ use Rattle.wasi_walks.proofs.fits.Records.{FitListening, FitProgress}
 use Rattle.wasi_walks.proofs.licence.Fresh.{spared_as}
 use Rattle.wasi_walks.proofs.claims.Polls.{AllAskBut, IsPlainCall, poll_plainly}
 use Rattle.wasi_walks.proofs.claims.Law.{accept_plain, Named, Base, same_begun, fresh, taken_fresh, Fresh}
-use Rattle.wasi_walks.proofs.walks.Moves.{Held, BindsOn, Connects, Unused, Here, put, Found, Listens, Awaits, listen_after, accepting_now, second_of}
+use Rattle.wasi_walks.proofs.walks.Moves.{Held, BindsOn, Connects, Unused, Here, put, Found, Listens, Awaits, UdpCreates, UdpBindsOn, listen_after, accepting_now, second_of}
 use Rattle.wasi_walks.proofs.Lists.{get_set, set_there}
-use Rattle.wasi_walks.proofs.licence.State.{ConnectIsFine, accept_name, Names, BindIsFine, JobIsFine, WritesOn, StreamsAreFine, AcceptingIsFine, ListeningIsFine, ProgressIsFine, RecordIsFine, AcceptStands, AcceptingStands, ListeningStands, name_in, AcceptLeft, AcceptIsFine}
-use Rattle.wasi_walks.proofs.licence.Frames.{Touches, same_listening, listening_gone, same_record, record_kept, state_put, state_renewed, maker_more}
+use Rattle.wasi_walks.proofs.licence.State.{MakesTcp, ConnectIsFine, accept_name, Names, BindIsFine, JobIsFine, WritesOn, StreamsAreFine, AcceptingIsFine, ListeningIsFine, ProgressIsFine, RecordIsFine, AcceptStands, AcceptingStands, ListeningStands, name_in, AcceptLeft, AcceptIsFine}
+use Rattle.wasi_walks.proofs.licence.Frames.{Touches, same_listening, listening_gone, same_record, record_kept, maker_more}
+use Rattle.wasi_walks.proofs.licence.States.{state_put, state_renewed}
 use Rattle.wasi_walks.proofs.licence.Binds.{no_local, May, MayQuietly, NoLocal, fine_poll}
 use Rattle.wasi_walks.proofs.licence.Connects.{fine_poll_connect, ended}
 use Rattle.wasi_walks.proofs.licence.WriteJobs.{fine_job}
 use Rattle.wasi_walks.proofs.walks.Law.{put_put}
 use Rattle.wasi_walks.proofs.licence.Line.{put_with, some_same, no_listen, local_side, ListenGoesOn, Licensed, put_fine}
 use Rattle.wasi_walks.proofs.licence.Moves.{streams_fine, held_side, same_listen, listener_fine}
-use Rattle.wasi_walks.proofs.licence.Asked.{Spares, spares, asked_by, asked_fine}
+use Rattle.wasi_walks.proofs.licence.Asked.{Spares, spares, asked_by, asked_fine, kept}
+use Rattle.wasi_walks.proofs.licence.UdpGoesOn.{udp_created_on, udp_bound_on}
 use Rattle.wasi_tcp.specs.Listen as listen
 use Rattle.wasi_tcp.specs.Connect as connecting
 use Rattle.wasi_walks.specs.Waiting as binding
@@ -32,9 +34,6 @@ use Rattle.wasi_host.specs.Records.{tcp2_at, tcp2_put}
 
 module _ (contexts : List WasiSocketsCtx) (steps : List Step) (line : ℕ) (origin : Step) (is_line : step_at steps line ≡ Some origin) where
   -- == what is in progress
-  pub kept : {A : Type 0} (h : Here) (Q : List Entry → A → Type 0) (es : List Entry) (asks : Asks A) → Licensed steps line origin es h → Allows (MayQuietly contexts steps) Q es asks → Allows (MayAsk contexts steps) (λ fs a. Licensed steps line origin fs h × Q fs a) es asks
-  kept h Q es asks i a = allows_keep (MayQuietly contexts steps) (MayAsk contexts steps) (λ fs. Licensed steps line origin fs h) Q (λ fs op c t fits k m. asked_fine contexts steps line origin is_line fs h op c t m.0.1 (spares contexts steps line origin is_line h c m.1) k) (λ fs op c m. m.0.0) es asks i a
-
   -- a poll that asks for no local address
   quietly : (Q : List Entry → End × List Item → Type 0) (es : List Entry) (op : Operation) → AllAskBut ⊥ op.left → Allows (May contexts steps) Q es (poll_asks op) → Allows (MayQuietly contexts steps) Q es (poll_asks op)
   quietly Q es op k a = also (May contexts steps) (λ fs o c. NoLocal c) Q _ es (poll_asks op) a (poll_plainly NoLocal no_local op.who op.left es k)
@@ -84,7 +83,7 @@ module _ (contexts : List WasiSocketsCtx) (steps : List Step) (line : ℕ) (orig
       allows_weaker (MayAsk contexts steps) (λ fs ended. Licensed steps line origin fs h × BindIsFine steps fs (left_of op ended.1)) (λ fs ended. Licensed steps line origin fs (put h place (with_progress r (bind_progress op ended))))
       (λ fs ended k. let x = k.0.fine.records place r g in let now = with_progress r (bind_progress op ended) in
       put_fine fs h place r now g refl (same_listening r.listening) (same_listen contexts steps line origin is_line r now refl refl refl) (record { socket = x.socket; named = x.named; streams = x.streams; listening = x.listening; progress = bound_after fs op ended k.1 }) k.0) es (poll_asks op)
-      (kept h (λ fs ended. BindIsFine steps fs (left_of op ended.1)) es (poll_asks op) i (quietly (λ fs ended. BindIsFine steps fs (left_of op ended.1)) es op (bind_quiet op.left its.1.left) (fine_poll contexts steps op es f)))
+      (kept contexts steps line origin is_line h (λ fs ended. BindIsFine steps fs (left_of op ended.1)) es (poll_asks op) i (quietly (λ fs ended. BindIsFine steps fs (left_of op ended.1)) es op (bind_quiet op.left its.1.left) (fine_poll contexts steps op es f)))
 
   connected_on : (es : List Entry) (h : Here) (place : ℕ) (r : Tcp2Socket) (op : Operation) → Found h place r → r.inner.state ≡ TcpState.Connecting op → Fit h → Licensed steps line origin es h
       → Allows (MayAsk contexts steps) (λ fs ended. Licensed steps line origin fs (put h place (with_inner r (with_state r.inner (connect_ended op.who ended).1)))) es (poll_asks op)
@@ -93,7 +92,7 @@ module _ (contexts : List WasiSocketsCtx) (steps : List Step) (line : ℕ) (orig
       allows_weaker (MayAsk contexts steps) (λ fs ended. Licensed steps line origin fs h × ConnectIsFine steps fs (left_of op ended.1)) (λ fs ended. Licensed steps line origin fs (put h place (with_inner r (with_state r.inner (connect_ended op.who ended).1))))
       (λ fs end k. let x = k.0.fine.records place r g in let d = ended contexts steps fs r.inner op end e x.socket k.1 in let now = with_inner r (with_state r.inner (connect_ended op.who end).1) in
       put_fine fs h place r now g refl (same_listening r.listening) (same_listen contexts steps line origin is_line r now refl refl refl) (record_kept steps fs r now (record { keeps = d.keeps; side = refl; streams = refl; listening = refl; binds = inl refl }) d.fine x) k.0) es (poll_asks op)
-      (kept h (λ fs ended. ConnectIsFine steps fs (left_of op ended.1)) es (poll_asks op) i (quietly (λ fs ended. ConnectIsFine steps fs (left_of op ended.1)) es op (connect_quiet op.left its.left) (fine_poll_connect contexts steps op es ((i.fine.records place r g).socket.connect op e))))
+      (kept contexts steps line origin is_line h (λ fs ended. ConnectIsFine steps fs (left_of op ended.1)) es (poll_asks op) i (quietly (λ fs ended. ConnectIsFine steps fs (left_of op ended.1)) es op (connect_quiet op.left its.left) (fine_poll_connect contexts steps op es ((i.fine.records place r g).socket.connect op e))))
 
   -- == a listen and an accept are taken out of their record, polled, and put back
   pub taken_out : (es : List Entry) (h : Here) (place : ℕ) (r : Tcp2Socket) → Found h place r → Licensed steps line origin es h → Licensed steps line origin es (put h place (with_listening r Not))
@@ -103,9 +102,9 @@ module _ (contexts : List WasiSocketsCtx) (steps : List Step) (line : ℕ) (orig
   there h place r now g = set_there h.machine.store.records place r now g
 
   -- the record that a listen leaves has one that is in progress only where it waits
-  still_goes : (fs : List Entry) (r : Tcp2Socket) (op : Operation) (end : End × List Item) → op.who.context ≡ r.inner.maker → IsMaker fs r.inner.maker r.inner.family op.who.side → ListenEnds steps fs op.who end.0 end.1 → (o : Operation) → (listen_after op r end).listening ≡ Begins o → ListenGoesOn steps fs (listen_after op r end) o
-  still_goes fs r op (Waits, items) a m k o e = subst (ListenGoesOn steps fs (listen_after op r (Waits, items))) (same_begun (record { who = op.who; left = items }) o e) (record { fine = k; asks = a; made = m })
-  still_goes fs r op _ a m k o e = absurd (cc)
+  still_goes : (fs : List Entry) (r : Tcp2Socket) (op : Operation) (end : End × List Item) → op.who.context ≡ r.inner.maker → IsMaker fs r.inner.maker r.inner.family op.who.side → BeganBy steps op.who.side MakesTcp → ListenEnds steps fs op.who end.0 end.1 → (o : Operation) → (listen_after op r end).listening ≡ Begins o → ListenGoesOn steps fs (listen_after op r end) o
+  still_goes fs r op (Waits, items) a m t k o e = subst (ListenGoesOn steps fs (listen_after op r (Waits, items))) (same_begun (record { who = op.who; left = items }) o e) (record { fine = k; asks = a; made = m; tcp = t })
+  still_goes fs r op _ a m t k o e = absurd (cc)
 
   listened_on : (es : List Entry) (h : Here) (place : ℕ) (r : Tcp2Socket) (op : Operation) → Found h place r → r.listening ≡ Begins op → side_of r.inner ≡ None → Fit h → Named line h → Licensed steps line origin es h
       → Allows (MayAsk contexts steps) (λ fs ended. Licensed steps line origin fs (put h place (listen_after op r ended))) es (poll_asks op)
@@ -117,7 +116,7 @@ module _ (contexts : List WasiSocketsCtx) (steps : List Step) (line : ℕ) (orig
       let M : List Entry → Type 0 = λ fs. Licensed steps line origin fs out × IsMaker fs r.inner.maker r.inner.family op.who.side in
       let Q : List Entry → End × List Item → Type 0 = λ fs end. ListenEnds steps fs op.who end.0 end.1 in
       allows_weaker (MayAsk contexts steps) (λ fs end. M fs × Q fs end) (λ fs end. Licensed steps line origin fs (put h place (listen_after op r end)))
-      (λ fs end k. put_after fs end k.0.0 k.0.1 k.1 l.asks d.0) es (poll_asks op)
+      (λ fs end k. put_after fs end k.0.0 k.0.1 k.1 l.asks d.0 l.tcp) es (poll_asks op)
       (allows_keep (λ fs o c. May contexts steps fs o c × Its op.who.side c) (MayAsk contexts steps) M Q
       (λ fs o c t fits k m. (asked_fine contexts steps line origin is_line fs out o c t m.0.1 (others c m.1 d.0) k.0, maker_more fs _ r.inner.maker r.inner.family op.who.side k.1)) (λ fs o c m. m.0.0) es (poll_asks op)
       (taken_out es h place r g i, l.made)
@@ -134,15 +133,15 @@ module _ (contexts : List WasiSocketsCtx) (steps : List Step) (line : ℕ) (orig
             no_listen o (ap (λ (y : Tcp2Socket). y.listening) same ∙ x))
       ]
 
-      put_after : (fs : List Entry) (end : End × List Item) → Licensed steps line origin fs (put h place (with_listening r Not)) → IsMaker fs r.inner.maker r.inner.family op.who.side → ListenEnds steps fs op.who end.0 end.1 → op.who.context ≡ r.inner.maker → r.side ≡ Some op.who.side → Licensed steps line origin fs (put h place (listen_after op r end))
-      put_after fs end k m q a s =
+      put_after : (fs : List Entry) (end : End × List Item) → Licensed steps line origin fs (put h place (with_listening r Not)) → IsMaker fs r.inner.maker r.inner.family op.who.side → ListenEnds steps fs op.who end.0 end.1 → op.who.context ≡ r.inner.maker → r.side ≡ Some op.who.side → BeganBy steps op.who.side MakesTcp → Licensed steps line origin fs (put h place (listen_after op r end))
+      put_after fs end k m q a s t =
           let out = put h place (with_listening r Not) in
           let f = k.fine.records place (with_listening r Not) (there h place r (with_listening r Not) g) in
           let whole : RecordIsFine steps fs r = record { socket = f.socket; named = f.named; streams = f.streams; listening = subst (ListeningIsFine steps fs r.side) (sym e) tt; progress = f.progress } in
           let x = listen_ended_fine contexts steps fs (with_listening r Not) r op end refl s closed a m whole q in
           let now = listen_after op r end in
           subst (Licensed steps line origin fs) (put_put h place (with_listening r Not) now)
-          (put_with fs out place (with_listening r Not) now (there h place r (with_listening r Not) g) x.leaves.side k (state_put steps fs out.machine place (with_listening r Not) now (there h place r (with_listening r Not) g) x.leaves.side x.leaves.listening x.leaves.fine k.fine) (still_goes fs r op end a m q))
+          (put_with fs out place (with_listening r Not) now (there h place r (with_listening r Not) g) x.leaves.side k (state_put steps fs out.machine place (with_listening r Not) now (there h place r (with_listening r Not) g) x.leaves.side x.leaves.listening x.leaves.fine k.fine) (still_goes fs r op end a m t q))
 
   -- an accept asks by its own name, and marks nothing
   touch_as : (op x : OpId) (c : Call) → marked_by c ≡ 0 → Touches op c x → op ≡ x
@@ -203,7 +202,7 @@ module _ (contexts : List WasiSocketsCtx) (steps : List Step) (line : ℕ) (orig
       let Q : List Entry → Unit {0} × WriteState → Type 0 = λ fs done. WritesOn steps fs f.side done.1 in
       allows_weaker (MayAsk contexts steps) (λ fs done. Licensed steps line origin fs h × Q fs done) (λ fs done. Licensed steps line origin fs (put h place (with_writer r s done.1)))
       (λ fs done k. streams_fine contexts steps line origin is_line fs h place r s (record s { writer = done.1 }) g e (λ x. (x.reads, subst (λ (o : OpId). WritesOn steps fs o done.1) (one_side fs es r s f x) k.1)) k.0) es (turn_asks s.writer)
-      (kept h Q es (turn_asks s.writer) i (turn_on es f.side s.writer f.writes))
+      (kept contexts steps line origin is_line h Q es (turn_asks s.writer) i (turn_on es f.side s.writer f.writes))
 
   pub given_up : (es : List Entry) (made : Option OpId) (l : Listening) → ListeningIsFine steps es made l → Allows (MayQuietly contexts steps) (λ fs done. ⊤) es (give_up_asks l)
   given_up es made Not f = tt
@@ -230,3 +229,5 @@ module _ (contexts : List WasiSocketsCtx) (steps : List Step) (line : ℕ) (orig
   polls_fine es h _ _ (Connects place r op g e) b i = connected_on es h place r op g e b.0 i
   polls_fine es h _ _ (Listens place r op q g e c) b i = listened_on es h place r op g e c b.0 b.1 i
   polls_fine es h _ _ (Awaits place r l op g e a) b i = awaited_on es h place r l op g e a b.0 b.1 i
+  polls_fine es h _ _ (UdpCreates place create q g) b i = udp_created_on contexts steps line origin is_line es h place create g i
+  polls_fine es h _ _ (UdpBindsOn place o op q g e) b i = udp_bound_on contexts steps line origin is_line es h place o op g e i

@@ -1,20 +1,28 @@
 -- What holds of a line: the state fits the log, and so does what the line works on.
-use Rattle.wasi_walks.proofs.Words.{Begins, Call, Entry, HandedNone, Has, IpSocketAddress, IsMaker, IsSide, Kind, List, MarksNoSocket, None, Not}
+use Rattle.wasi_walks.proofs.Words.{BeganBy, Begins, Call, Entry, HandedNone, Has, IpSocketAddress, IsMaker, IsSide, Kind, List, MarksNoSocket, None, Not}
 use Rattle.wasi_walks.proofs.Words.{OpId, Operation, Option, SocketAddressFamily, Some, Step, Tcp2Socket, Told, ap, entry, inl, inr, length}
 use Rattle.wasi_walks.proofs.Words.{own_of, refl, side_in, subst, sym, with_socket, ℕ, ⊤, ◌∙◌, ◌≡◌, ◌⊎◌}
 use Rattle.wasi_walks.proofs.licence.ListenAsks.{ListenIsFine}
 use Rattle.wasi_walks.proofs.licence.Fresh.{NoMadeBy}
-use Rattle.wasi_walks.proofs.walks.Moves.{Used, Unused, Here, put, Found, record_of, Plain, Made, Unmade, Joined, Marked, second_of}
+use Rattle.wasi_walks.proofs.walks.Moves.{Used, Unused, Here, put, put_udp, Found, FoundUdp, record_of, udp_record_of, Plain, Made, Unmade, Joined, Marked, second_of}
 use Rattle.wasi_walks.proofs.Lists.{get_set, tcp2_seam}
-use Rattle.wasi_walks.proofs.licence.State.{NamesIf, NamesRecord, HandleIsFine, Names, RecordIsFine, StateIsFine, IsHanded}
-use Rattle.wasi_walks.proofs.licence.Frames.{KeepsListening, KeepsRecord, same_record, state_put}
+use Rattle.wasi_walks.proofs.UdpLists.{udp_get_set, udp_of_put, tcp_of_put}
+use Rattle.wasi_walks.proofs.licence.State.{MakesTcp, NamesIf, NamesRecord, NamesUdp, NamesUdpIf, HandleIsFine, Names, RecordIsFine, UdpIsFine, StateIsFine, IsHanded}
+use Rattle.wasi_walks.proofs.licence.Frames.{KeepsListening, KeepsRecord, same_record}
+use Rattle.wasi_walks.proofs.licence.States.{state_put, state_put_udp}
 use Rattle.wasi_world.specs.declared.call.HandleKind.TheVariants as name
-use Rattle.wasi_host.specs.Records.{tcp2_at, tcp2_pushed}
+use Rattle.wasi_host.specs.Records.{tcp2_at, tcp2_pushed, udp2_at}
+use Rattle.wasi_host.specs.Udp.{udp_side}
 use Rattle.wasi_host.specs.declared.records.Record.{Record}
+use Rattle.wasi_host.specs.declared.udp.Udp2Socket.{Udp2Socket}
 
 pub names_record : (es : List Entry) (records : List Record) (handle place : ℕ) (k : Option Kind) → record_of k ≡ Some place → ((kind : Kind) → k ≡ Some kind → HandleIsFine es records handle kind) → NamesRecord es records handle place
 names_record es records handle place None e h = absurd (cc)
-names_record es records handle place (Some kind) e h = subst (NamesIf es records handle) e (h kind refl)
+names_record es records handle place (Some kind) e h = subst (NamesIf es records handle) e (h kind refl).0
+
+pub names_udp : (es : List Entry) (records : List Record) (handle place : ℕ) (k : Option Kind) → udp_record_of k ≡ Some place → ((kind : Kind) → k ≡ Some kind → HandleIsFine es records handle kind) → NamesUdp es records handle place
+names_udp es records handle place None e h = absurd (cc)
+names_udp es records handle place (Some kind) e h = subst (NamesUdpIf es records handle) e (h kind refl).1
 
 pub some_same : (a b : OpId) → Some b ≡ Some a → a ≡ b
 some_same a b e = cc
@@ -52,11 +60,12 @@ local_side a b e = cc
 pub second_names : {steps : List Step} (es : List Entry) (line : ℕ) (side : OpId) → Names steps es (own_of line) side → Names steps es (second_of line) side
 second_names es line side n = record { origin = n.origin; at = n.at; holds = n.holds }
 
--- A listen in progress, of this record.
+-- A listen in progress, of this record: its network socket is one of a `tcp-create`.
 pub record ListenGoesOn (steps : List Step) (es : List Entry) (r : Tcp2Socket) (op : Operation) : Type 0 where
   pub fine : ListenIsFine steps es op
   pub asks : op.who.context ≡ r.inner.maker
   pub made : IsMaker es r.inner.maker r.inner.family op.who.side
+  pub tcp : BeganBy steps op.who.side MakesTcp
 
 -- the line has made no mark of a socket
 abbrev pub NotMarked : Made → Type 0
@@ -67,6 +76,13 @@ NotMarked _ = ⊥
 -- a line's operation names a handle of the network socket that the record was made with
 abbrev pub NamesMade : List Step → ℕ → List Entry → Tcp2Socket → Type 0
 NamesMade steps n es r = (side : OpId) → r.side ≡ Some side → Names steps es (own_of n) side
+
+-- the line's operation names a handle of the network socket of the record that it works on
+abbrev pub NamesTcpHere : List Step → List Entry → Here → Type 0
+NamesTcpHere steps es h = (place n : ℕ) (r : Tcp2Socket) → h.at ≡ Some (place, n) → Found h place r → NamesMade steps n es r
+
+abbrev pub NamesUdpHere : List Step → List Entry → Here → Type 0
+NamesUdpHere steps es h = (place n : ℕ) (u : Udp2Socket) → h.at ≡ Some (place, n) → FoundUdp h place u → Names steps es (own_of n) (udp_side u)
 
 -- A record was taken from the listener that the line names, and has no mark yet.
 pub record JoinedIsFine (origin : Step) (es : List Entry) (h : Here) (place : ℕ) : Type 0 where
@@ -90,7 +106,8 @@ pub record MadeSocket (line : ℕ) (es : List Entry) (handle : ℕ) (sock : Opti
 -- The state fits the log, and so do the record that the line works on, each listen in progress, and what an accept has made.
 pub record Licensed (steps : List Step) (line : ℕ) (origin : Step) (es : List Entry) (h : Here) : Type 0 where
   pub fine : StateIsFine steps es h.machine
-  pub names : (place n : ℕ) (r : Tcp2Socket) → h.at ≡ Some (place, n) → Found h place r → NamesMade steps n es r
+  pub names : NamesTcpHere steps es h
+  pub udp_names : NamesUdpHere steps es h
   pub listens : (place : ℕ) (r : Tcp2Socket) (op : Operation) → Found h place r → r.listening ≡ Begins op → ListenGoesOn steps es r op
   pub new : h.own ≡ Unused → HandedNone es (second_of line) × MarksNoSocket es (second_of line)
   pub unmade : (h.own ≡ Unused) ⊎ NotMarked h.made → (c s : ℕ) → origin ≡ Step.TcpAccept c s → NoMadeBy es (own_of line)
@@ -112,7 +129,7 @@ KeepsListen r now = (op : Operation) → now.listening ≡ Begins op → (r.list
 
 module _ {steps : List Step} where
   goes_kept : (es : List Entry) (r now : Tcp2Socket) (op : Operation) → now.inner.maker ≡ r.inner.maker → now.inner.family ≡ r.inner.family → ListenGoesOn steps es r op → ListenGoesOn steps es now op
-  goes_kept es r now op m f g = record { fine = g.fine; asks = g.asks ∙ sym m; made = subst (λ (n : ℕ). IsMaker es n now.inner.family op.who.side) (sym m) (subst (λ (x : SocketAddressFamily). IsMaker es r.inner.maker x op.who.side) (sym f) g.made) }
+  goes_kept es r now op m f g = record { fine = g.fine; asks = g.asks ∙ sym m; made = subst (λ (n : ℕ). IsMaker es n now.inner.family op.who.side) (sym m) (subst (λ (x : SocketAddressFamily). IsMaker es r.inner.maker x op.who.side) (sym f) g.made); tcp = g.tcp }
 
 module _ {steps : List Step} {line : ℕ} {origin : Step} where
   -- a record changes
@@ -124,6 +141,7 @@ module _ {steps : List Step} {line : ℕ} {origin : Step} where
     put_with f l = record {
       fine = f;
       names = λ k n q a e. by_side (λ (o : Option OpId). (side : OpId) → o ≡ Some side → Names steps es (own_of n) side) h place r now g s k (λ x d. i.names k n x a d) q e;
+      udp_names = λ k n u a e. i.udp_names k n u a (udp_of_put h.machine.store.records place now k u e);
       listens = λ k q op e b. elim (get_set h.machine.store.records place now k q e) [ inl p ↦ subst (λ (x : Tcp2Socket). ListenGoesOn steps es x op) p.1 (l op (ap (λ (x : Tcp2Socket). x.listening) p.1 ∙ b)) | inr p ↦ i.listens k q op p b ];
       new = i.new;
       unmade = i.unmade;
@@ -134,18 +152,37 @@ module _ {steps : List Step} {line : ℕ} {origin : Step} where
   pub put_fine : (es : List Entry) (h : Here) (place : ℕ) (r now : Tcp2Socket) → Found h place r → now.side ≡ r.side → KeepsListening r.listening now.listening → KeepsListen r now → RecordIsFine steps es now → Licensed steps line origin es h → Licensed steps line origin es (put h place now)
   put_fine es h place r now g s l k f i = put_with es h place r now g s i (state_put steps es h.machine place r now g s l f i.fine) (λ op e. let q = k op e in goes_kept es r now op q.1.0 q.1.1 (i.listens place r op g q.0))
 
+  -- a UDP socket changes
+  pub put_udp_fine : (es : List Entry) (h : Here) (place : ℕ) (u now : Udp2Socket) → FoundUdp h place u → udp_side now ≡ udp_side u → UdpIsFine steps es now → Licensed steps line origin es h → Licensed steps line origin es (put_udp h place now)
+  put_udp_fine es h place u now g s f i =
+      let old : (k : ℕ) (r : Tcp2Socket) → Found (put_udp h place now) k r → Found h k r = λ k r e. tcp_of_put h.machine.store.records place now k r e in
+      record {
+        fine = state_put_udp steps es h.machine place u now g s f i.fine;
+        names = λ k n r a e. i.names k n r a (old k r e);
+        udp_names = λ k n v a e. elim (udp_get_set h.machine.store.records place now k v e) [
+          | inl p ↦ subst (Names steps es (own_of n)) (sym s ∙ ap udp_side p.1) (i.udp_names k n u a (ap (udp2_at h.machine.store.records) p.0 ∙ g))
+          | inr p ↦ i.udp_names k n v a p
+        ];
+        listens = λ k r op e b. i.listens k r op (old k r e) b;
+        new = i.new;
+        unmade = i.unmade;
+        joined = λ p e. (let j = i.joined p e in record { new = j.new; on = j.on; peer = j.peer; context = j.context; listener = j.listener; by = j.by; side = λ r d. j.side r (old p r d); of_listener = j.of_listener; handed = j.handed; fresh = j.fresh });
+        marked = λ handle p e r d. i.marked handle p e r (old p r d);
+      }
+
   -- its own operation began something
   pub spent : (es : List Entry) (h : Here) → Licensed steps line origin es h → Licensed steps line origin es (record h { own = Used })
-  spent es h i = record { fine = i.fine; names = i.names; listens = i.listens; new = λ e. absurd (cc); unmade = λ e c s is. i.unmade (elim e [ inl u ↦ absurd (cc) | inr u ↦ inr u ]) c s is; joined = λ p e. (let j = i.joined p e in record { new = j.new; on = j.on; peer = j.peer; context = j.context; listener = j.listener; by = j.by; side = j.side; of_listener = j.of_listener; handed = j.handed; fresh = j.fresh }); marked = i.marked }
+  spent es h i = record { fine = i.fine; names = i.names; udp_names = i.udp_names; listens = i.listens; new = λ e. absurd (cc); unmade = λ e c s is. i.unmade (elim e [ inl u ↦ absurd (cc) | inr u ↦ inr u ]) c s is; joined = λ p e. (let j = i.joined p e in record { new = j.new; on = j.on; peer = j.peer; context = j.context; listener = j.listener; by = j.by; side = j.side; of_listener = j.of_listener; handed = j.handed; fresh = j.fresh }); marked = i.marked }
 
   -- what it works on is other
-  pub elsewhere : (es : List Entry) (h now : Here) → now.machine.store.records ≡ h.machine.store.records → now.own ≡ h.own → now.made ≡ h.made → Licensed steps line origin es h → StateIsFine steps es now.machine → ((place n : ℕ) (r : Tcp2Socket) → now.at ≡ Some (place, n) → Found now place r → NamesMade steps n es r) → Licensed steps line origin es now
-  elsewhere es h now s o m i f n = record {
+  pub elsewhere : (es : List Entry) (h now : Here) → now.machine.store.records ≡ h.machine.store.records → now.own ≡ h.own → now.made ≡ h.made → Licensed steps line origin es h → StateIsFine steps es now.machine → NamesTcpHere steps es now → NamesUdpHere steps es now → Licensed steps line origin es now
+  elsewhere es h now s o m i f n u = record {
     fine = f;
     names = n;
+    udp_names = u;
     listens = λ k r op g e. i.listens k r op (there h now s k r g) e;
     new = λ e. i.new (sym o ∙ e);
-    unmade = λ e c t is. i.unmade (elim e [ inl u ↦ inl (sym o ∙ u) | inr u ↦ inr (subst NotMarked m u) ]) c t is;
+    unmade = λ e c t is. i.unmade (elim e [ inl x ↦ inl (sym o ∙ x) | inr x ↦ inr (subst NotMarked m x) ]) c t is;
     joined = λ p e. (let j = i.joined p (sym m ∙ e) in record { new = j.new; on = j.on; peer = j.peer; context = j.context; listener = j.listener; by = j.by; side = λ r g. j.side r (there h now s p r g); of_listener = j.of_listener; handed = j.handed; fresh = j.fresh });
     marked = λ handle p e r g. i.marked handle p (sym m ∙ e) r (there h now s p r g);
   }

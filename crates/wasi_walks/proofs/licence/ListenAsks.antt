@@ -180,6 +180,7 @@ module _ (contexts : List WasiSocketsCtx) (steps : List Step) where
   listens_now es r op s c a m l h = record {
     socket = record {
       knows = record { maker = λ side e. let p : op.who.side ≡ side = cc in subst (IsMaker es r.inner.maker r.inner.family) p m };
+      tcp = λ side e. absurd (cc);
       bound = λ side e b. absurd (cc);
       listens = λ side e. let p : op.who.side ≡ side = cc in subst (Listens es) p l;
       connect = λ o e. absurd (cc);

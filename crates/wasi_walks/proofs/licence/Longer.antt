@@ -1,12 +1,13 @@
 -- Of a licensed log: it is one where each entry may come after those before it; its prefixes are licensed, and so it is with
 -- fewer replies, and by a longer script.
-use Rattle.wasi_walks.proofs.Words.{Call, Entry, IsLicensed, List, Machine, MayAsk, NamesSide, OpId, Operation, ReachesSide, Reply, Some, Step}
+use Rattle.wasi_walks.proofs.Words.{BeganBy, Call, Entry, IsLicensed, List, Machine, MayAsk, NamesSide, OpId, Operation, ReachesSide, Reply, Some, Step}
 use Rattle.wasi_walks.proofs.Words.{WasiSocketsCtx, [], ap, append-nil, append_assoc, arith, inl, inr, length, length-append, step_at, subst, suc}
 use Rattle.wasi_walks.proofs.Words.{zero, ℕ, ⊤, ◌++◌, ◌∙◌, ◌∷◌, ◌≡◌, ◌≤◌}
 use Rattle.wasi_walks.proofs.Lists.{get_front}
-use Rattle.wasi_walks.proofs.licence.State.{WorksOn, RecordIsFine, StandingIsFine, StateIsFine}
+use Rattle.wasi_walks.proofs.licence.State.{MakesTcp, WorksOn, RecordIsFine, UdpIsFine, StandingIsFine, StateIsFine}
 use Rattle.wasi_walks.proofs.licence.ListenAsks.{ListenIsFine}
-use Rattle.wasi_walks.proofs.licence.Frames.{Goes, began_more, works_more, record_more, standing_more}
+use Rattle.wasi_walks.proofs.licence.Frames.{Goes, began_more, works_more, record_more}
+use Rattle.wasi_walks.proofs.licence.UdpFrames.{standing_more, udp_more}
 
 module _ (steps more : List Step) where
   step_more : (n : ℕ) (s : Step) → step_at steps n ≡ Some s → step_at (steps ++ more) n ≡ Some s
@@ -25,9 +26,9 @@ module _ (steps more : List Step) where
   may_more contexts before op (Call.Check ctx addr usage) h = h
   may_more contexts before op (Call.Lookup host) h = h
   may_more contexts before op (Call.TcpCreate ctx family) h = began_more on op _ h
-  may_more contexts before op (Call.UdpCreate ctx family) h = h
+  may_more contexts before op (Call.UdpCreate ctx family) h = began_more on op _ h
   may_more contexts before op (Call.Bind sock addr) h = (reach_more before op sock h.0, began_more on op _ h.1, h.2)
-  may_more contexts before op (Call.UdpBind sock addr) h = h
+  may_more contexts before op (Call.UdpBind sock addr) h = (reach_more before op sock h.0, began_more on op _ h.1, h.2)
   may_more contexts before op (Call.UdpConnect sock addr) h = h
   may_more contexts before op (Call.Listen sock backlog) h = (reach_more before op sock h.0, began_more on op _ h.1, h.2)
   may_more contexts before op (Call.SetBacklog sock backlog) h = (reach_more before op sock h.0, began_more on op _ h.1, h.2)
@@ -46,10 +47,14 @@ module _ (steps more : List Step) where
     count = h.count;
     handles = h.handles;
     records = λ place r e. subst (λ (fs : List Entry). RecordIsFine (steps ++ more) fs r) (append-nil es) (record_more on es [] r (h.records place r e));
+    udp = λ place u e. subst (λ (fs : List Entry). UdpIsFine (steps ++ more) fs u) (append-nil es) (udp_more on es [] u (h.udp place u e));
     standing = λ s e. subst (λ (fs : List Entry). StandingIsFine (steps ++ more) fs m.store.records s) (append-nil es) (standing_more on es [] m.store.records s (h.standing s e));
     accepts = h.accepts;
     one = h.one;
   }
+
+  pub tcp_more : (side : OpId) → BeganBy steps side MakesTcp → BeganBy (steps ++ more) side MakesTcp
+  tcp_more side h = began_more on side MakesTcp h
 
   pub listen_more : (es : List Entry) (op : Operation) → ListenIsFine steps es op → ListenIsFine (steps ++ more) es op
   listen_more es op h = record {

@@ -1,20 +1,25 @@
 -- A create is licensed, and so are the marks of handles; and what they make fits.
 use Rattle.wasi_walks.proofs.Words.{Allows, BeganBy, Call, Created, Entry, Err, ErrorCode, ErrorValue, HandleKind, Has, Input, IsDoneOrCode, IsMaker}
 use Rattle.wasi_walks.proofs.Words.{IsMarkOf, IsMarkedWith, IsSide, IsTcpCreate, Kind, List, MarksNoSocket, MayAsk, MayUseTcp, Network, None, Ok}
-use Rattle.wasi_walks.proofs.Words.{OpId, Option, Output, Pollable, Result, Socket, SocketAddressFamily, Some, Step, Tcp2, Tcp2Socket, Told}
+use Rattle.wasi_walks.proofs.Words.{OpId, Option, Output, Pollable, Result, Socket, SocketAddressFamily, Some, Step, Tcp2, Tcp2Socket, TcpState, Told}
 use Rattle.wasi_walks.proofs.Words.{WasiSocketsCtx, [], after_create, allows_if, allows_then, ap, bind, context_in, create_handle, created_asks}
 use Rattle.wasi_walks.proofs.Words.{entry, inl, inr, is_full, kind_at, length, make_asks, name_of, new_asks, new_record, new_socket, own_of, place_in}
-use Rattle.wasi_walks.proofs.Words.{refl, side_at, slice_get, step_at, subst, sym, told_done, true, with_record, ℕ, ⊤, ◌++◌, ◌∙◌, ◌∷◌, ◌≡◌, ◌⊎◌}
+use Rattle.wasi_walks.proofs.Words.{refl, side_at, side_in, slice_get, step_at, subst, sym, told_done, true, with_record, ℕ, ⊤, ◌++◌, ◌∙◌, ◌∷◌, ◌≡◌, ◌⊎◌}
 use Rattle.wasi_walks.proofs.claims.Law.{Named, fresh}
-use Rattle.wasi_walks.proofs.walks.Moves.{Used, Unused, Marks, ANetwork, AStream, AnError, Here, Found, MarksError, Joined, Marked, made_so, APollable, AnAcceptedStream, second_of, Creates, Past}
+use Rattle.wasi_walks.proofs.walks.Moves.{Used, Unused, Marks, ANetwork, AStream, AnError, Here, Found, MarksError, Joined, Marked, made_so, APollable, AUdpPollable, tcp_place, FoundUdp, AnAcceptedStream, second_of, Creates, Past}
 use Rattle.wasi_walks.proofs.Lists.{has_last, has_split, has_front, get_split, tcp2_seam}
-use Rattle.wasi_walks.proofs.licence.State.{accept_name, NamesRecord, HandleIsFine, SocketIsFine}
-use Rattle.wasi_walks.proofs.licence.Frames.{Touches, Spared, handed_unless, stay, same_record, names_on, state_made, state_push}
-use Rattle.wasi_walks.proofs.licence.Line.{names_record, NotMarked, MadeSocket, Licensed, elsewhere, some_same, no_listen, spent}
+use Rattle.wasi_walks.proofs.licence.State.{MakesTcp, accept_name, NamesRecord, NamesUdp, HandleIsFine, SocketIsFine}
+use Rattle.wasi_walks.proofs.licence.Frames.{Touches, Spared, handed_unless, stay, same_record, names_on}
+use Rattle.wasi_walks.proofs.licence.States.{state_made, state_push}
+use Rattle.wasi_walks.proofs.licence.Line.{names_record, names_udp, NotMarked, MadeSocket, Licensed, elsewhere, some_same, no_listen, spent}
 use Rattle.wasi_walks.proofs.licence.Asked.{listens_on, joined_on}
 use Rattle.wasi_walks.proofs.licence.Binds.{MayQuietly}
 use Rattle.wasi_world.specs.declared.call.HandleKind.TheVariants as name
-use Rattle.wasi_host.specs.Records.{tcp2_at}
+use Rattle.wasi_host.specs.Records.{tcp2_at, udp2_at}
+use Rattle.wasi_host.specs.Udp.{udp_side}
+use Rattle.wasi_host.specs.UdpCreates.{udp_side_at}
+use Rattle.wasi_host.specs.declared.kind.Watched.{Watched}
+use Rattle.wasi_host.specs.declared.udp.Udp2Socket.{Udp2Socket}
 use Rattle.wasi_host.specs.declared.records.Record.{Record}
 
 not_used : Used ≡ Unused → ⊥
@@ -29,7 +34,7 @@ module _ (contexts : List WasiSocketsCtx) (steps : List Step) (line : ℕ) (orig
   error_mark es op handle sock _ m w = absurd m
 
   -- == marks
-  unmarked_made : (es : List Entry) (op : OpId) (n : ℕ) (k : HandleKind) (parent : Option ℕ) (sock : Option OpId) (t : Told) (x : OpId) → MarksNoSocket es x → (k ≡ name.Tcp2 → sock ≡ Some x → ⊥) → MarksNoSocket (es ++ entry op (Call.Made n k parent sock) t ∷ []) x
+  pub unmarked_made : (es : List Entry) (op : OpId) (n : ℕ) (k : HandleKind) (parent : Option ℕ) (sock : Option OpId) (t : Told) (x : OpId) → MarksNoSocket es x → (k ≡ name.Tcp2 → sock ≡ Some x → ⊥) → MarksNoSocket (es ++ entry op (Call.Made n k parent sock) t ∷ []) x
   unmarked_made es op n k parent sock t x m f o handle above u i = elim (has_split es (entry op (Call.Made n k parent sock) t) (entry o (Call.Made handle name.Tcp2 above (Some x)) u) i) [
     | inl j ↦ m o handle above u j
     | inr e ↦ (let p = ap (λ (y : Entry). y.call) e in let a : k ≡ name.Tcp2 = cc in let b : sock ≡ Some x = cc in f a b)
@@ -44,7 +49,7 @@ module _ (contexts : List WasiSocketsCtx) (steps : List Step) (line : ℕ) (orig
       → Allows (MayAsk contexts steps) (λ fs made. Licensed steps line origin fs (record h { machine = record h.machine { table = made.1 } })) es (make_asks h.machine.table (own_of line) kind parent sock)
   unfolding bind
   made_fine es h kind parent sock o sp un ms f i =
-      allows_if (MayAsk contexts steps) (λ fs made. Licensed steps line origin fs (record h { machine = record h.machine { table = made.1 } })) es (is_full h.machine.table) _ _ (λ full. elsewhere es h (record h { machine = record h.machine { table = h.machine.table } }) refl refl refl i i.fine i.names)
+      allows_if (MayAsk contexts steps) (λ fs made. Licensed steps line origin fs (record h { machine = record h.machine { table = made.1 } })) es (is_full h.machine.table) _ _ (λ full. elsewhere es h (record h { machine = record h.machine { table = h.machine.table } }) refl refl refl i i.fine i.names i.udp_names)
       (λ room. (
         (i.fine.count, o),
         λ told fits.
@@ -53,6 +58,7 @@ module _ (contexts : List WasiSocketsCtx) (steps : List Step) (line : ℕ) (orig
             record {
               fine = state_made steps es h.machine (own_of line) (name_of kind) parent sock told kind sp (f told) i.fine;
               names = λ k n r a g side d. names_on (stay steps) es _ (own_of n) side (i.names k n r a g side d);
+              udp_names = λ k n u a g. names_on (stay steps) es _ (own_of n) (udp_side u) (i.udp_names k n u a g);
               listens = listens_on contexts steps line origin is_line es h (own_of line) c told (λ k q op g d p. absurd (cc)) i;
               new = λ u. (handed_unless es (own_of line) c told (second_of line) (i.new u).0 (λ l p o d. absurd (cc)), unmarked_made es (own_of line) h.machine.table.next (name_of kind) parent sock told (second_of line) (i.new u).1 (ms (second_of line) (inl (u, refl))));
               unmade = λ d a s is. absurd (un a s is d);
@@ -85,8 +91,8 @@ module _ (contexts : List WasiSocketsCtx) (steps : List Step) (line : ℕ) (orig
   no_socket k (inr e) p = absurd (cc)
 
   stream_handle : (fs : List Entry) (records : List Record) (handle place : ℕ) (kind : Kind) → OneOfTwo kind place → NamesRecord fs records handle place → HandleIsFine fs records handle kind
-  stream_handle fs records handle place kind (inl e) n = subst (HandleIsFine fs records handle) (sym e) n
-  stream_handle fs records handle place kind (inr e) n = subst (HandleIsFine fs records handle) (sym e) n
+  stream_handle fs records handle place kind (inl e) n = subst (HandleIsFine fs records handle) (sym e) (n, tt)
+  stream_handle fs records handle place kind (inr e) n = subst (HandleIsFine fs records handle) (sym e) (n, tt)
 
   -- the new handle names the record
   new_names : (es : List Entry) (h : Here) (n place : ℕ) (kind : HandleKind) (parent : Option ℕ) (r : Tcp2Socket) (t : Told) → Found h place r → (let sock = side_at (tcp2_at h.machine.store.records place) in NamesRecord (es ++ entry (own_of line) (Call.Made n kind parent sock) t ∷ []) h.machine.store.records n place)
@@ -94,6 +100,20 @@ module _ (contexts : List WasiSocketsCtx) (steps : List Step) (line : ℕ) (orig
       let sock = side_at (tcp2_at h.machine.store.records place) in
       let e = entry (own_of line) (Call.Made n kind parent sock) t in
       record { found = r; at = g; marked = record { op = own_of line; kind = kind; parent = parent; told = t; mark = subst (λ (o : Option OpId). Has (es ++ e ∷ []) (entry (own_of line) (Call.Made n kind parent o) t)) (ap side_at g) (has_last es e) } }
+
+  -- the same of a UDP socket
+  new_udp_names : (es : List Entry) (h : Here) (n place : ℕ) (kind : HandleKind) (parent : Option ℕ) (u : Udp2Socket) (t : Told) → FoundUdp h place u
+      → (let sock = udp_side_at (udp2_at h.machine.store.records place) in NamesUdp (es ++ entry (own_of line) (Call.Made n kind parent sock) t ∷ []) h.machine.store.records n place)
+  new_udp_names es h n place kind parent u t g =
+      let sock = udp_side_at (udp2_at h.machine.store.records place) in
+      let e = entry (own_of line) (Call.Made n kind parent sock) t in
+      record { found = u; at = g; marked = record { op = own_of line; kind = kind; parent = parent; told = t; mark = subst (λ (o : Option OpId). Has (es ++ e ∷ []) (entry (own_of line) (Call.Made n kind parent o) t)) (ap udp_side_at g) (has_last es e) } }
+
+  pollable_handle : (fs : List Entry) (records : List Record) (handle : ℕ) (w : Watched) → tcp_place w ≡ Some (place_in w) → NamesRecord fs records handle (place_in w) → HandleIsFine fs records handle (Pollable w)
+  pollable_handle fs records handle (Watched.Udp place) p n = absurd (cc)
+  pollable_handle fs records handle (Watched.Socket place) p n = (n, tt)
+  pollable_handle fs records handle (Watched.Input place) p n = (n, tt)
+  pollable_handle fs records handle (Watched.Output place) p n = (n, tt)
 
   not_accept : (s : Step) → ((c k : ℕ) → s ≡ Step.TcpAccept c k → ⊥) → origin ≡ s → (c k : ℕ) → origin ≡ Step.TcpAccept c k → (h : Here) → (h.own ≡ Unused) ⊎ NotMarked h.made → ⊥
   not_accept s n e c k is h u = n c k (sym e ∙ is)
@@ -108,7 +128,7 @@ module _ (contexts : List WasiSocketsCtx) (steps : List Step) (line : ℕ) (orig
   pub marked_fine : (es : List Entry) (h : Here) (kind : Kind) (parent : Option ℕ) (sock : Option OpId) → Marks origin h kind parent sock → Licensed steps line origin es h
       → Allows (MayAsk contexts steps) (λ fs made. Licensed steps line origin fs (record h { machine = record h.machine { table = made.1 } })) es (make_asks h.machine.table (own_of line) kind parent sock)
   marked_fine es h _ _ _ (ANetwork c e) i =
-      other_fine es h Network None None (record { origin = origin; at = is_line; holds = subst (IsMarkOf es (own_of line) name.Network None None) (sym e) (refl, refl, refl) }) (λ p. absurd (cc)) (λ a k is. not_accept (Step.Network c) (λ a k p. absurd (cc)) e a k is h) (λ t. tt) i
+      other_fine es h Network None None (record { origin = origin; at = is_line; holds = subst (IsMarkOf es (own_of line) name.Network None None) (sym e) (refl, refl, refl) }) (λ p. absurd (cc)) (λ a k is. not_accept (Step.Network c) (λ a k p. absurd (cc)) e a k is h) (λ t. (tt, tt)) i
   marked_fine es h kind _ _ (AStream c handle place _ is which e) i =
       let sock = side_at (tcp2_at h.machine.store.records place) in
       let n = names_record es h.machine.store.records handle place (kind_at h.machine.table handle) e (i.fine.handles handle) in
@@ -123,18 +143,25 @@ module _ (contexts : List WasiSocketsCtx) (steps : List Step) (line : ℕ) (orig
       (record { origin = origin; at = is_line; holds = subst (IsMarkOf es (own_of line) (name_of kind) (Some handle) sock) (sym is) (inr (record { stream = stream_name kind place which; socket = handle; under = refl; above = k.above; told = k.told; marked = subst (λ (x : Option OpId). Has es (entry (own_of line) (Call.Made handle name.Tcp2 k.above x) k.told)) (sym (ap side_at g)) k.mark })) })
       (no_socket (name_of kind) (stream_name kind place which)) (λ a s p. used_marked h handle place o m)
       (λ t. stream_handle _ h.machine.store.records h.machine.table.next place kind which (new_names es h h.machine.table.next place (name_of kind) (Some handle) r t g)) i
-  marked_fine es h _ _ _ (APollable c handle w is e) i =
+  marked_fine es h _ _ _ (APollable c handle w is p e) i =
       let place = place_in w in
       let sock = side_at (tcp2_at h.machine.store.records place) in
       let n = names_record es h.machine.store.records handle place (kind_at h.machine.table handle) e (i.fine.handles handle) in
       let k : IsMarkedWith es handle sock = subst (IsMarkedWith es handle) (sym (ap side_at n.at)) n.marked in
       other_fine es h (Pollable w) (Some handle) sock (record { origin = origin; at = is_line; holds = subst (IsMarkOf es (own_of line) name.Pollable (Some handle) sock) (sym is) (refl, (refl, k)) }) (λ p. absurd (cc)) (λ a s p. not_accept (Step.Subscribe c handle) (λ a s p. absurd (cc)) is a s p h)
-      (λ t. new_names es h h.machine.table.next place name.Pollable (Some handle) n.found t n.at) i
+      (λ t. pollable_handle _ h.machine.store.records h.machine.table.next w p (new_names es h h.machine.table.next place name.Pollable (Some handle) n.found t n.at)) i
+  marked_fine es h _ _ _ (AUdpPollable c handle place is e) i =
+      let sock = udp_side_at (udp2_at h.machine.store.records place) in
+      let n = names_udp es h.machine.store.records handle place (kind_at h.machine.table handle) e (i.fine.handles handle) in
+      let k : IsMarkedWith es handle sock = subst (IsMarkedWith es handle) (sym (ap udp_side_at n.at)) n.marked in
+      other_fine es h (Pollable (Watched.Udp place)) (Some handle) sock (record { origin = origin; at = is_line; holds = subst (IsMarkOf es (own_of line) name.Pollable (Some handle) sock) (sym is) (refl, (refl, k)) }) (λ p. absurd (cc))
+      (λ a s p. not_accept (Step.Subscribe c handle) (λ a s p. absurd (cc)) is a s p h)
+      (λ t. (tt, new_udp_names es h h.machine.table.next place name.Pollable (Some handle) n.found t n.at)) i
   marked_fine es h _ _ _ (AnError handle place m e) i =
       let sock = side_at (tcp2_at h.machine.store.records place) in
       let n = names_record es h.machine.store.records handle place (kind_at h.machine.table handle) e (i.fine.handles handle) in
       let w : IsMarkedWith es handle sock = subst (IsMarkedWith es handle) (sym (ap side_at n.at)) n.marked in
-      other_fine es h ErrorValue (Some handle) sock (record { origin = origin; at = is_line; holds = error_mark es (own_of line) handle sock origin m w }) (λ p. absurd (cc)) (λ a s p u. error_line handle origin m a s p) (λ t. tt) i
+      other_fine es h ErrorValue (Some handle) sock (record { origin = origin; at = is_line; holds = error_mark es (own_of line) handle sock origin m w }) (λ p. absurd (cc)) (λ a s p u. error_line handle origin m a s p) (λ t. (tt, tt)) i
 
   -- the mark of what was accepted
   pub accepted_fine : (es : List Entry) (h : Here) (c s place : ℕ) (r : Tcp2Socket) → origin ≡ Step.TcpAccept c s → h.made ≡ Joined place → h.own ≡ Used → Found h place r → Named line h → Licensed steps line origin es h
@@ -148,15 +175,16 @@ module _ (contexts : List WasiSocketsCtx) (steps : List Step) (line : ℕ) (orig
       let same : j.listener ≡ s = same_listener j.context j.listener c s (sym j.by ∙ is) in
       let past : Used ≡ h.own = sym o in
       allows_if (MayAsk contexts steps) (λ fs made. Licensed steps line origin fs (record h { machine = record h.machine { table = made.1 }; made = made_so place made.0 })) es (is_full h.machine.table) _ _
-      (λ full. record { fine = i.fine; names = i.names; listens = i.listens; new = i.new; unmade = λ u. absurd (elim u [ inl p ↦ not_used (past ∙ p) | inr p ↦ p ]); joined = λ p d. absurd (cc); marked = λ a p d. absurd (cc) })
+      (λ full. record { fine = i.fine; names = i.names; udp_names = i.udp_names; listens = i.listens; new = i.new; unmade = λ u. absurd (elim u [ inl p ↦ not_used (past ∙ p) | inr p ↦ p ]); joined = λ p d. absurd (cc); marked = λ a p d. absurd (cc) })
       (λ room. (
         (i.fine.count, record { origin = origin; at = is_line; holds = subst (IsMarkOf es (own_of line) name.Tcp2 (Some s) sock) (sym is) (inl (record { first = i.unmade (inr (subst NotMarked (sym e) tt)) c s is; socket = refl; under = refl; accept = j.new; side = its; on = j.on; of_listener = subst (λ (x : ℕ). IsSide es x j.on) same j.of_listener; peer = j.peer; told = j.handed.told; handed = j.handed.hand; fresh = j.fresh })) }),
         λ told fits.
             let k = Call.Made n name.Tcp2 (Some s) sock in
             record {
               fine = state_made steps es h.machine (own_of line) name.Tcp2 (Some s) sock told (Tcp2 place)
-                  (λ p q x d m t. apart_there j.new p q x d m (subst (λ (y : Option OpId). Touches (own_of line) (Call.Made n name.Tcp2 (Some s) y) x) its t) (j.side r g)) (new_names es h n place name.Tcp2 (Some s) r told g) i.fine;
+                  (λ p q x d m t. apart_there j.new p q x d m (subst (λ (y : Option OpId). Touches (own_of line) (Call.Made n name.Tcp2 (Some s) y) x) its t) (j.side r g)) (new_names es h n place name.Tcp2 (Some s) r told g, tt) i.fine;
               names = λ p m q a d side x. names_on (stay steps) es _ (own_of m) side (i.names p m q a d side x);
+              udp_names = λ p m u a d. names_on (stay steps) es _ (own_of m) (udp_side u) (i.udp_names p m u a d);
               listens = listens_on contexts steps line origin is_line es h (own_of line) k told (λ p q op d m x. absurd (cc)) i;
               new = λ u. absurd (not_used (past ∙ u));
               unmade = λ u. absurd (elim u [ inl p ↦ not_used (past ∙ p) | inr p ↦ p ]);
@@ -216,6 +244,10 @@ module _ (contexts : List WasiSocketsCtx) (steps : List Step) (line : ℕ) (orig
   maker_is : (es : List Entry) (maker : ℕ) (family : SocketAddressFamily) (side : OpId) → Some (own_of line) ≡ Some side → IsMaker es maker family (own_of line) → IsMaker es maker family side
   maker_is es maker family side e i = subst (IsMaker es maker family) (sym (some_same side (own_of line) e)) i
 
+  makes_tcp : (ctx : WasiSocketsCtx) (family : SocketAddressFamily) (s : Step) → Creates contexts ctx family s → MakesTcp s
+  makes_tcp ctx family (Step.TcpCreate n f) c = tt
+  makes_tcp ctx family _ c = c
+
   creates_only : (ctx : WasiSocketsCtx) (family : SocketAddressFamily) → Creates contexts ctx family origin → (c s : ℕ) → origin ≡ Step.TcpAccept c s → ⊥
   creates_only ctx family k c s e = subst (Creates contexts ctx family) e k
 
@@ -228,6 +260,7 @@ module _ (contexts : List WasiSocketsCtx) (steps : List Step) (line : ℕ) (orig
       let next : Here = record h { machine = record h.machine { store = with_record h.machine.store now }; own = Used } in
       let made_it : SocketIsFine steps es now = record {
         knows = record { maker = λ side e. maker_is es ctx.name family side e (Created own Told.Done k.0) };
+        tcp = λ side e. subst (λ (o : OpId). BeganBy steps o MakesTcp) (sym (some_same side own (default_side own side e))) (record { origin = origin; at = is_line; holds = makes_tcp ctx family origin c });
         bound = λ side e b. absurd (cc);
         listens = λ side e. absurd (cc);
         connect = λ op e. absurd (cc);
@@ -235,6 +268,7 @@ module _ (contexts : List WasiSocketsCtx) (steps : List Step) (line : ℕ) (orig
       let j : Licensed steps line origin es next = record {
         fine = state_push steps es h.machine now made_it i.fine;
         names = λ p n r a e. absurd (no_place p n (sym nowhere ∙ a));
+        udp_names = λ p n u a e. absurd (no_place p n (sym nowhere ∙ a));
         listens = λ p q op d m. elim (get_split h.machine.store.records (new_record now) p q d) [ inl v ↦ i.listens p q op v m | inr v ↦ absurd (no_listen op (ap (λ (y : Tcp2Socket). y.listening) v ∙ m)) ];
         new = λ e. absurd (cc);
         unmade = λ e d s is. absurd (creates_only ctx family c d s is);
@@ -247,8 +281,11 @@ module _ (contexts : List WasiSocketsCtx) (steps : List Step) (line : ℕ) (orig
       (made_fine contexts steps line origin is_line es next (Tcp2 (length h.machine.store.records)) None (Some own) (record { origin = origin; at = is_line; holds = created_mark es ctx.name family ctx family origin c k.0 })
       (λ p r x e n t. elim (get_split h.machine.store.records (new_record now) p r e) [ inl v ↦ fresh contexts line origin h u b x (of_line x t) p r v (inr n) | inr v ↦ no_name x (ap (λ (y : Tcp2Socket). accept_name y.listening) v ∙ n) ])
       (λ a s is w. creates_only ctx family c a s is) (λ x w p q. elim w [ inl d ↦ absurd (not_used d.0) | inr d ↦ not_joined d.0 (sym past ∙ d.1) ])
-      (λ t. record { found = new_record now; at = tcp2_seam h.machine.store.records (new_record now); marked = record { op = own; kind = name.Tcp2; parent = None; told = t; mark = has_last es _ } }) j) (λ fs made l. l))
+      (λ t. (record { found = new_record now; at = tcp2_seam h.machine.store.records (new_record now); marked = record { op = own; kind = name.Tcp2; parent = None; told = t; mark = has_last es _ } }, tt)) j) (λ fs made l. l))
     where
+      default_side : (a b : OpId) → TcpState.Default a ≡ TcpState.Default b → Some a ≡ Some b
+      default_side a b e = ap side_in e
+
       no_name : (x : OpId) → None ≡ Some x → ⊥
       no_name x e = absurd (cc)
 

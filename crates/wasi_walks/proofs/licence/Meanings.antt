@@ -2,6 +2,8 @@
 use Rattle.wasi_walks.proofs.Words.{BeganBy, Call, Created, Entry, Hand, Handed, Has, IpSocketAddress, IsLicensed, IsMaker, IsSide, IsTcpCreate, List}
 use Rattle.wasi_walks.proofs.Words.{MayAsk, NamesSide, OpId, Reply, SocketAddressFamily, Step, TcpCreate, Told, WasiSocketsCtx, [], ap, arith, entry}
 use Rattle.wasi_walks.proofs.Words.{handles_of, inl, inr, marked_by, marks_in, refl, subst, sym, ℕ, ◌++◌, ◌∙◌, ◌∷◌, ◌≡◌, ◌⊎◌}
+use Rattle.wasi_walks.specs.Licence.{IsUdpCreate, UdpCreated}
+use Rattle.wasi_world.specs.declared.call.Call.TheVariants.{UdpCreate}
 use Rattle.wasi_walks.proofs.Lists.{entry_call, Cut, cut_of}
 
 -- where a list is cut twice, the cuts are one or each holds the other's entry in front of it
@@ -61,12 +63,48 @@ module _ (contexts : List WasiSocketsCtx) (steps : List Step) (log : List Entry)
   names_none (Step.TcpCreate ctx family) c f handle a i = i
   names_none _ c f handle a i = absurd a
 
+  -- the same of a UDP socket
+  udp_created_by : (side : OpId) (ctx : ℕ) (family : SocketAddressFamily) (t : Told) → Has log (entry side (UdpCreate ctx family) t) → BeganBy steps side (IsUdpCreate contexts ctx family)
+  udp_created_by side ctx family t i = may_at _ (cut_of log _ i)
+
+  one_udp_create : (s : Step) (c d : ℕ) (f g : SocketAddressFamily) → IsUdpCreate contexts c f s → IsUdpCreate contexts d g s → (c ≡ d) × (f ≡ g)
+  one_udp_create (Step.UdpCreate ctx family) c d f g a b =
+      let p = a.0.at in
+      let q = b.0.at in
+      let e : a.0.ctx ≡ b.0.ctx = cc in
+      let n = ap (λ (x : WasiSocketsCtx). x.name) e in
+      (sym a.0.named ∙ (n ∙ b.0.named), sym a.1 ∙ b.1)
+  one_udp_create _ c d f g a b = absurd a
+
+  udp_names_none : (s : Step) (c : ℕ) (f : SocketAddressFamily) (handle : ℕ) → IsUdpCreate contexts c f s → Has (handles_of s) handle → ⊥
+  udp_names_none (Step.UdpCreate ctx family) c f handle a i = i
+  udp_names_none _ c f handle a i = absurd a
+
+  -- a step makes a TCP socket or a UDP socket
+  one_kind : (s : Step) (c d : ℕ) (f g : SocketAddressFamily) → IsTcpCreate contexts c f s → IsUdpCreate contexts d g s → ⊥
+  one_kind (Step.TcpCreate ctx family) c d f g a b = b
+  one_kind _ c d f g a b = a
+
+  kinds_apart : (c d : ℕ) (f g : SocketAddressFamily) (side : OpId) (t u : Told) → Has log (entry side (TcpCreate c f) t) → Has log (entry side (UdpCreate d g) u) → ⊥
+  kinds_apart c d f g side t u i j =
+      let a = created_by side c f t i in
+      one_kind a.origin c d f g a.holds (same_origin side (IsTcpCreate contexts c f) (IsUdpCreate contexts d g) a (udp_created_by side d g u j))
+
   hands_own : (op l : OpId) (ctx : ℕ) (family : SocketAddressFamily) (peer : IpSocketAddress) (t u : Told) → Has log (entry op (TcpCreate ctx family) t) → Has log (entry op (Hand l peer) u) → op ≡ l
   hands_own op l ctx family peer t u i j =
       let c = cut_of log _ j in
       let o = created_by op ctx family t i in
       elim (may_at _ c).0 [
         | inl r ↦ absurd (let n = same_origin op (IsTcpCreate contexts ctx family) (NamesSide c.front l) o r in names_none o.origin ctx family n.handle o.holds n.named)
+        | inr e ↦ e
+      ]
+
+  udp_hands_own : (op l : OpId) (ctx : ℕ) (family : SocketAddressFamily) (peer : IpSocketAddress) (t u : Told) → Has log (entry op (UdpCreate ctx family) t) → Has log (entry op (Hand l peer) u) → op ≡ l
+  udp_hands_own op l ctx family peer t u i j =
+      let c = cut_of log _ j in
+      let o = udp_created_by op ctx family t i in
+      elim (may_at _ c).0 [
+        | inl r ↦ absurd (let n = same_origin op (IsUdpCreate contexts ctx family) (NamesSide c.front l) o r in udp_names_none o.origin ctx family n.handle o.holds n.named)
         | inr e ↦ e
       ]
 
@@ -86,11 +124,24 @@ module _ (contexts : List WasiSocketsCtx) (steps : List Step) (log : List Entry)
       let a = created_by side c f t i in
       let b = created_by side d g u j in
       one_create a.origin c d f g a.holds (same_origin side (IsTcpCreate contexts c f) (IsTcpCreate contexts d g) a b)
+  created_once c d f g side t i (UdpCreated s u j) = absurd (kinds_apart c d f g side t u i j)
   created_once c d f g side t i (Handed s l p u j m) =
       let e = hands_own side l c f p t u i j in
       created_once c d f g l t (subst (λ (o : OpId). Has log (entry o (TcpCreate c f) t)) e i) m
 
+  udp_created_once : (c d : ℕ) (f g : SocketAddressFamily) (s : OpId) (t : Told) → Has log (entry s (UdpCreate c f) t) → IsMaker log d g s → (c ≡ d) × (f ≡ g)
+  udp_created_once c d f g side t i (Created s u j) = absurd (kinds_apart d c g f side u t j i)
+  udp_created_once c d f g side t i (UdpCreated s u j) =
+      let a = udp_created_by side c f t i in
+      let b = udp_created_by side d g u j in
+      one_udp_create a.origin c d f g a.holds (same_origin side (IsUdpCreate contexts c f) (IsUdpCreate contexts d g) a b)
+  udp_created_once c d f g side t i (Handed s l p u j m) =
+      let e = udp_hands_own side l c f p t u i j in
+      udp_created_once c d f g l t (subst (λ (o : OpId). Has log (entry o (UdpCreate c f) t)) e i) m
+
   pub one_maker : (c d : ℕ) (f g : SocketAddressFamily) (side : OpId) → IsMaker log c f side → IsMaker log d g side → (c ≡ d) × (f ≡ g)
   one_maker c d f g side (Created s t i) m = created_once c d f g side t i m
+  one_maker c d f g side (UdpCreated s t i) m = udp_created_once c d f g side t i m
+  one_maker c d f g side (Handed s l p t i k) (UdpCreated v u j) = let e = udp_created_once d c g f side u j (Handed side l p t i k) in (sym e.0, sym e.1)
   one_maker c d f g side (Handed s l p t i k) (Created v u j) = let e = created_once d c g f side u j (Handed side l p t i k) in (sym e.0, sym e.1)
   one_maker c d f g side (Handed s l p t i k) (Handed v m q u j n) = one_maker c d f g l k (subst (IsMaker log d g) (sym (one_hand side l m p q t u i j)) n)

@@ -1,24 +1,28 @@
 -- Each move keeps that the state fits the log.
 use Rattle.wasi_walks.proofs.Words.{Accepting, Accepts, Bool, Connection, Done, End, Entry, Handed, Has, InProgress, IpSocketAddress, IsMaker}
 use Rattle.wasi_walks.proofs.Words.{IsMarkedWith, IsSide, Job, List, Listener, MarksNoSocket, MayGoOut, Not, OpId, Option, ReadState, Refused, Socket}
-use Rattle.wasi_walks.proofs.Words.{SocketAddressFamily, Some, Standing, Step, Streams, Tcp2Socket, TcpState, Waits, WasiSocketsCtx, WriteState}
+use Rattle.wasi_walks.proofs.Words.{SocketAddressFamily, Some, StandingCall, Step, Streams, Tcp2Socket, TcpState, Waits, WasiSocketsCtx, WriteState}
 use Rattle.wasi_walks.proofs.Words.{accepted_socket, ap, call_place, closed_by, connect_first, connect_operation, false, gone, handles_of, inl, inr}
 use Rattle.wasi_walks.proofs.Words.{kind_at, new_job, new_streams, own_of, refl, side_in, side_of, standing_as, step_at, subst}
 use Rattle.wasi_walks.proofs.Words.{sym, true, wildcard, with_inner, with_listening, with_progress, with_state, written_by, ℕ, ◌∙◌, ◌≡◌}
 use Rattle.wasi_walks.proofs.licence.ListenAsks.{Whole as WholeListen}
 use Rattle.wasi_walks.proofs.claims.Law.{Base, same_begun, fresh}
-use Rattle.wasi_walks.proofs.walks.Moves.{closed_record, Here, put, Found, record_of, WriterMoves, Collects, LastsAfter, Closes, Plain, Move, Reaches, Leaves, Spends, Changes, ClosesReader, Writes, IsGone, opened_by, Reconnects, Opens, BeginsConnect, BeginsBind, BeginsWrite, begun_bind, Stands, Resumes, Unstands, Lists, Takes, BeginsListen, BeginsAccept, Unlistens, Forgets, Watches, Joins, accepting_now, begun_listen, beginning_listen, new_accept, joined, second_of}
+use Rattle.wasi_walks.proofs.walks.Moves.{closed_record, Here, put, Found, record_of, WriterMoves, Collects, LastsAfter, Closes, Plain, Move, Reaches, ReachesUdp, Leaves, Spends, Changes, ClosesReader, Writes, IsGone, opened_by, Reconnects, Opens, BeginsConnect, BeginsBind, BeginsWrite, begun_bind, Stands, Resumes, Unstands, UdpChanges, BeginsUdpBind, StandsUdpBind, StandsUdpCreate, Lists, Takes, BeginsListen, BeginsAccept, Unlistens, Forgets, Watches, Joins, accepting_now, begun_listen, beginning_listen, new_accept, joined, second_of}
 use Rattle.wasi_walks.proofs.Lists.{get_split}
-use Rattle.wasi_walks.proofs.licence.State.{ConnectIsFine, ConnectLeft, Unbound, Unchecked, ReadsOn, Whole, ToWrite, Names, BindIsFine, JobIsFine, WritesOn, StreamsAreFine, AcceptingIsFine, ListeningIsFine, SocketIsFine, RecordIsFine, IsHanded, Unarrived, AcceptingStands, ListeningStands, ListenerIsFine, StandingIsFine, name_in}
-use Rattle.wasi_walks.proofs.licence.Frames.{same_listening, listening_kept, listening_gone, Only, KeepsSide, same_record, record_kept, state_taken, state_put, state_stands, state_unstands, state_jobs, state_renewed, state_joined}
+use Rattle.wasi_walks.proofs.licence.State.{ConnectIsFine, ConnectLeft, Unbound, Unchecked, ReadsOn, Whole, ToWrite, Names, BindIsFine, JobIsFine, WritesOn, StreamsAreFine, AcceptingIsFine, ListeningIsFine, SocketIsFine, RecordIsFine, IsHanded, Unarrived, AcceptingStands, ListeningStands, ListenerIsFine, OfTcp, OfUdp, name_in}
+use Rattle.wasi_walks.proofs.licence.Frames.{same_listening, listening_kept, listening_gone, Only, KeepsSide, same_record, record_kept}
+use Rattle.wasi_walks.proofs.licence.States.{state_taken, state_put, state_stands, state_unstands, state_jobs, state_renewed, state_joined}
 use Rattle.wasi_walks.proofs.licence.WriteJobs.{shut_after}
 use Rattle.wasi_walks.proofs.licence.Line.{put_with, names_record, keeps_plain, seam, pair_first, pair_second, no_listen, second_names, ListenGoesOn, NotMarked, NamesMade, Licensed, KeepsListen, put_fine, spent, elsewhere}
+use Rattle.wasi_walks.proofs.licence.UdpMoves.{tcp_alone, reaches_udp, resumes, udp_changes, begins_udp_bind}
 use Rattle.wasi_host.specs.Records.{tcp2_at, tcp2_put}
+use Rattle.wasi_host.specs.declared.udp.Udp2Socket.{Udp2Socket}
 
 module _ (contexts : List WasiSocketsCtx) (steps : List Step) (line : ℕ) (origin : Step) (is_line : step_at steps line ≡ Some origin) where
   plain_socket : (es : List Entry) (r now : Tcp2Socket) → Plain r now → SocketIsFine steps es r.inner → SocketIsFine steps es now.inner
   plain_socket es r now p f = record {
     knows = record { maker = λ side e. rw (p.maker, p.family) (f.knows.maker side (sym (ap side_in p.does) ∙ e)) };
+    tcp = λ side e. f.tcp side (sym p.does ∙ e);
     bound = λ side e b. let d = sym p.does ∙ e in f.bound side d (p.bound side d b);
     listens = λ side e. f.listens side (sym p.does ∙ e);
     connect = λ op e. f.connect op (sym p.does ∙ e);
@@ -58,7 +62,7 @@ module _ (contexts : List WasiSocketsCtx) (steps : List Step) (line : ℕ) (orig
 
   pub closed_fine : (es : List Entry) (r : Tcp2Socket) → RecordIsFine steps es (closed_record r)
   closed_fine es r = record {
-    socket = record { knows = record { maker = λ side e. absurd (cc) }; bound = λ side e b. absurd (cc); listens = λ side e. absurd (cc); connect = λ op e. absurd (cc) };
+    socket = record { knows = record { maker = λ side e. absurd (cc) }; tcp = λ side e. absurd (cc); bound = λ side e b. absurd (cc); listens = λ side e. absurd (cc); connect = λ op e. absurd (cc) };
     named = λ side e. absurd (cc);
     streams = λ s e. absurd (cc);
     listening = tt;
@@ -83,6 +87,7 @@ module _ (contexts : List WasiSocketsCtx) (steps : List Step) (line : ℕ) (orig
   connected_fine : (es : List Entry) (socket : Socket) (c now : Connection) → socket.state ≡ TcpState.Connected c → now.side ≡ c.side → SocketIsFine steps es socket → SocketIsFine steps es (with_state socket (TcpState.Connected now))
   connected_fine es socket c now e s f = record {
     knows = record { maker = λ side p. f.knows.maker side (ap side_in e ∙ (ap (λ (x : OpId). Some x) (sym s) ∙ p)) };
+    tcp = λ side p. absurd (cc);
     bound = λ side p b. absurd (cc);
     listens = λ side p. absurd (cc);
     connect = λ op p. absurd (cc);
@@ -137,7 +142,7 @@ module _ (contexts : List WasiSocketsCtx) (steps : List Step) (line : ℕ) (orig
       let made : IsMaker es l.maker l.family new = Handed new l.side peer k.told k.hand m in
       let it : StreamsAreFine steps es socket (new_streams (record { side = new }) (record { side = new })) = record { side = new; connected = record { connection = c; state = refl; same = refl }; reads = refl; writes = refl } in
       record {
-        socket = record { knows = record { maker = λ side e. (let p : new ≡ side = cc in subst (IsMaker es l.maker l.family) p made) }; bound = λ side e b. absurd (cc); listens = λ side e. absurd (cc); connect = λ op e. absurd (cc) };
+        socket = record { knows = record { maker = λ side e. (let p : new ≡ side = cc in subst (IsMaker es l.maker l.family) p made) }; tcp = λ side e. absurd (cc); bound = λ side e b. absurd (cc); listens = λ side e. absurd (cc); connect = λ op e. absurd (cc) };
         named = λ side e. e;
         streams = λ s e. (let p : new_streams (record { side = new }) (record { side = new }) ≡ s = cc in subst (StreamsAreFine steps es socket) p it);
         listening = tt;
@@ -145,11 +150,12 @@ module _ (contexts : List WasiSocketsCtx) (steps : List Step) (line : ℕ) (orig
       }
 
   pub moves_fine : (es : List Entry) (h now : Here) → Move line origin h now → Base contexts line origin h → Licensed steps line origin es h → Licensed steps line origin es now
-  moves_fine es _ _ (Reaches h handle place named e) b i = elsewhere es h _ refl refl refl i i.fine (λ k n r a g. by_place h k n place r a g (names_at es h handle place named e i))
+  moves_fine es _ _ (Reaches h handle place named e) b i = elsewhere es h _ refl refl refl i i.fine (λ k n r a g. by_place h k n place r a g (names_at es h handle place named e i)) (tcp_alone contexts steps line origin is_line es h handle place e i)
     where
       by_place : (h : Here) (k n place : ℕ) (r : Tcp2Socket) → (let x : Option (ℕ × ℕ) = Some (place, line) in let y : Option (ℕ × ℕ) = Some (k, n) in x ≡ y) → Found h k r → ((q : Tcp2Socket) → Found h place q → NamesMade steps line es q) → NamesMade steps n es r
       by_place h k n place r a g f = let p = pair_first place line k n a in let q = pair_second place line k n a in subst (λ (x : ℕ). NamesMade steps x es r) q (f r (ap (tcp2_at h.machine.store.records) p ∙ g))
-  moves_fine es _ _ (Leaves h) b i = record { fine = i.fine; names = λ k n r a g. absurd (cc); listens = i.listens; new = i.new; unmade = λ e c s is. i.unmade (elim e [ inl u ↦ inl u | inr u ↦ absurd u ]) c s is; joined = λ p e. absurd (cc); marked = λ handle p e. absurd (cc) }
+  moves_fine es _ _ (ReachesUdp h handle place named e) b i = reaches_udp contexts steps line origin is_line es h handle place named e i
+  moves_fine es _ _ (Leaves h) b i = record { fine = i.fine; names = λ k n r a g. absurd (cc); udp_names = λ k n u a g. absurd (cc); listens = i.listens; new = i.new; unmade = λ e c s is. i.unmade (elim e [ inl u ↦ inl u | inr u ↦ absurd u ]) c s is; joined = λ p e. absurd (cc); marked = λ handle p e. absurd (cc) }
   moves_fine es _ _ (Spends h e) b i = spent es h i
   moves_fine es _ _ (Changes h place r now g p) b i = plain_fine es h place r now g p i
   moves_fine es _ _ (ClosesReader h place r s g e) b i = streams_fine es h place r s (record s { reader = ReadState.Closed }) g e (λ f. (tt, f.writes)) i
@@ -178,6 +184,7 @@ module _ (contexts : List WasiSocketsCtx) (steps : List Step) (line : ℕ) (orig
       } in
       let socket : SocketIsFine steps es (with_state r.inner (TcpState.Connecting op)) = record {
         knows = record { maker = λ s p. f.socket.knows.maker s (e ∙ p) };
+        tcp = λ s p. absurd (cc);
         bound = λ s p q. absurd (cc);
         listens = λ s p. absurd (cc);
         connect = λ x p. let same : op ≡ x = cc in subst (ConnectIsFine steps es) same may;
@@ -207,10 +214,11 @@ module _ (contexts : List WasiSocketsCtx) (steps : List Step) (line : ℕ) (orig
         fine = record { to = record { origin = origin; at = is_line; holds = to }; works = record { family = r.inner.family; made = f.socket.knows.maker side e; named = i.names place line r at g side (f.named side e) }; bound = f.socket.bound side d bound; last = refl; so_far = WholeListen r.inner.backlog };
         asks = refl;
         made = f.socket.knows.maker side e;
+        tcp = f.socket.tcp side d;
       } in
       spent es _ (put_with es h place r now g refl i
       (state_put steps es h.machine place r now g refl (record { stands = λ fs k. tt; names = λ x p. absurd (cc) })
-      (record { socket = record { knows = record { maker = λ x p. absurd (cc) }; bound = λ x p q. absurd (cc); listens = λ x p. absurd (cc); connect = λ x p. absurd (cc) }; named = λ x p. absurd (cc); streams = λ t p. absurd (no_streams es r side t d f p); listening = tt; progress = f.progress }) i.fine)
+      (record { socket = record { knows = record { maker = λ x p. absurd (cc) }; tcp = λ x p. absurd (cc); bound = λ x p q. absurd (cc); listens = λ x p. absurd (cc); connect = λ x p. absurd (cc) }; named = λ x p. absurd (cc); streams = λ t p. absurd (no_streams es r side t d f p); listening = tt; progress = f.progress }) i.fine)
       (λ op p. subst (ListenGoesOn steps es now) (same_begun _ op p) goes))
   moves_fine es _ _ (BeginsAccept h place r l at g e a o) b i =
       let x = i.fine.records place r g in let lf = listener_fine es r l e x in let n = i.new o in
@@ -223,7 +231,7 @@ module _ (contexts : List WasiSocketsCtx) (steps : List Step) (line : ℕ) (orig
   moves_fine es _ _ (Unlistens h place r op q g e c o) b i =
       let f = i.fine.records place r g in put_fine es h place r (with_listening r Not) g refl (listening_gone r.listening) (λ op p. absurd (cc)) (record { socket = f.socket; named = f.named; streams = f.streams; listening = tt; progress = f.progress }) i
   moves_fine es _ _ (Forgets h place r l c g e a) b i = renewed_fine es h place r l Accepting.Idle g e tt tt (λ x p. absurd (cc)) i
-  moves_fine es _ _ (Watches h o) b i = record { fine = i.fine; names = i.names; listens = i.listens; new = i.new; unmade = λ e c s is. i.unmade (inl o) c s is; joined = λ p e. absurd (cc); marked = λ handle p e. absurd (cc) }
+  moves_fine es _ _ (Watches h o) b i = record { fine = i.fine; names = i.names; udp_names = i.udp_names; listens = i.listens; new = i.new; unmade = λ e c s is. i.unmade (inl o) c s is; joined = λ p e. absurd (cc); marked = λ handle p e. absurd (cc) }
   moves_fine es _ _ (Joins h c handle place r l new peer is of u g e a) b i =
       let idle = accepting_now r l Accepting.Idle in
       let records = tcp2_put h.machine.store.records place idle in
@@ -234,6 +242,7 @@ module _ (contexts : List WasiSocketsCtx) (steps : List Step) (line : ℕ) (orig
       record {
         fine = state_joined steps es (put h place idle).machine (joined l new peer) (joined_record es l new peer lf.maker handed) tt refl k.fine;
         names = λ p n q at d. absurd (cc);
+        udp_names = λ p n q at d. absurd (cc);
         listens = λ p q op d m. elim (get_split records (joined l new peer) p q d) [ inl v ↦ k.listens p q op v m | inr v ↦ absurd (no_listen op (ap (λ (y : Tcp2Socket). y.listening) v ∙ m)) ];
         new = i.new;
         unmade = λ t c s is. i.unmade (inr (subst NotMarked (sym u) tt)) c s is;
@@ -251,14 +260,13 @@ module _ (contexts : List WasiSocketsCtx) (steps : List Step) (line : ℕ) (orig
         };
         marked = λ s p m. absurd (cc);
       }
-  moves_fine es _ _ (Stands h ids call r at g k) b i = elsewhere es h _ refl refl refl i (state_stands steps es h.machine (standing_as ids call) (record { found = r; at = g; named = i.names (call_place call) ids.line r at g }) i.fine) i.names
-  moves_fine es _ _ (Resumes h s e) b i = elsewhere es h _ refl refl refl i i.fine (λ k j r a g. resumed h s k j r (i.fine.standing s e) a g)
-    where
-      resumed : (h : Here) (s : Standing) (k j : ℕ) (r : Tcp2Socket) → StandingIsFine steps es h.machine.store.records s → (let x : Option (ℕ × ℕ) = Some (call_place s.call, s.ids.line) in let y : Option (ℕ × ℕ) = Some (k, j) in x ≡ y) → Found h k r → NamesMade steps j es r
-      resumed h s k j r d a g =
-          let p = pair_first (call_place s.call) s.ids.line k j a in let q = pair_second (call_place s.call) s.ids.line k j a in
-          let same : d.found ≡ r = same_record d.found r (sym d.at ∙ (ap (tcp2_at h.machine.store.records) p ∙ g)) in
-          subst (λ (x : ℕ). NamesMade steps x es r) q (subst (NamesMade steps s.ids.line es) same d.named)
-  moves_fine es _ _ (Unstands h) b i = elsewhere es h _ refl refl refl i (state_unstands steps es h.machine i.fine) i.names
-  moves_fine es _ _ (Lists h jobs) b i = elsewhere es h _ refl refl refl i (state_jobs steps es h.machine jobs i.fine) i.names
-  moves_fine es _ _ (Takes h handle) b i = elsewhere es h _ refl refl refl i (state_taken steps es h.machine handle i.fine) i.names
+  moves_fine es _ _ (Stands h ids call r at g k) b i = elsewhere es h _ refl refl refl i (state_stands steps es h.machine (standing_as ids call) (λ o. OfTcp r g (i.names (call_place call) ids.line r at g)) i.fine) i.names i.udp_names
+  moves_fine es _ _ (Resumes h s e o) b i = resumes contexts steps line origin is_line es h s e o i
+  moves_fine es _ _ (Unstands h) b i = elsewhere es h _ refl refl refl i (state_unstands steps es h.machine i.fine) i.names i.udp_names
+  moves_fine es _ _ (UdpChanges h place o now g p) b i = udp_changes contexts steps line origin is_line es h place o now g p i
+  moves_fine es _ _ (BeginsUdpBind h place o a at g to idle u) b i = begins_udp_bind contexts steps line origin is_line es h place o a at g to i
+  moves_fine es _ _ (StandsUdpBind h ids place o op at g e) b i =
+      elsewhere es h _ refl refl refl i (state_stands steps es h.machine (standing_as ids (StandingCall.UdpBind place)) (λ c. OfUdp (Udp2Socket.Open o) g (i.udp_names place ids.line (Udp2Socket.Open o) at g)) i.fine) i.names i.udp_names
+  moves_fine es _ _ (StandsUdpCreate h ids place create g) b i = elsewhere es h _ refl refl refl i (state_stands steps es h.machine (standing_as ids (StandingCall.UdpCreate place)) (λ c. absurd c) i.fine) i.names i.udp_names
+  moves_fine es _ _ (Lists h jobs) b i = elsewhere es h _ refl refl refl i (state_jobs steps es h.machine jobs i.fine) i.names i.udp_names
+  moves_fine es _ _ (Takes h handle) b i = elsewhere es h _ refl refl refl i (state_taken steps es h.machine handle i.fine) i.names i.udp_names

@@ -4,6 +4,7 @@ use Rattle.wasi_walks.proofs.Words.{IsTcpCreate, List, NamesSide, None, OpId, Re
 use Rattle.wasi_walks.proofs.Words.{WasiSocketsCtx, [], ap, arith, entry, false, inl, inr, own_of, port_of, refl, subst, true, wildcard, ℕ, ⊤, ◌++◌}
 use Rattle.wasi_walks.proofs.Words.{◌∷◌, ◌≡◌}
 use Rattle.wasi_walks.proofs.licence.Rows.{begins, creates, allowed, two_contexts, forbidden, local_80, bind_script}
+use Rattle.wasi_walks.specs.Licence.{UdpCreated}
 use Rattle.wasi_addr.specs.declared.code.ErrorCode.TheVariants as code
 use Rattle.wasi_world.specs.declared.call.HandleKind.TheVariants as kind
 
@@ -38,6 +39,7 @@ ChecksByThird op _ = ⊤
 -- each create is by context 0, and nothing is handed over
 abbrev MadeByFirst : Call → Type 0
 MadeByFirst (Call.TcpCreate ctx f) = ctx ≡ 0
+MadeByFirst (Call.UdpCreate ctx f) = ctx ≡ 0
 MadeByFirst (Call.Hand l p) = ⊥
 MadeByFirst _ = ⊤
 
@@ -94,6 +96,7 @@ asks_other = begins ++ entry (own_of 3) (Call.Check 1 local_80 SocketAddrUse.Tcp
 
 maker_is_first : (ctx : ℕ) (f : SocketAddressFamily) (side : OpId) → IsMaker asks_other ctx f side → ctx ≡ 0
 maker_is_first ctx f side (Created s t h) = of_each (λ e. MadeByFirst e.call) asks_other _ (tt, (refl, (tt, (tt, (tt, tt))))) h
+maker_is_first ctx f side (UdpCreated s t h) = of_each (λ e. MadeByFirst e.call) asks_other _ (tt, (refl, (tt, (tt, (tt, tt))))) h
 maker_is_first ctx f side (Handed s l p t h m) = absurd (of_each (λ e. MadeByFirst e.call) asks_other _ (tt, (refl, (tt, (tt, (tt, tt))))) h)
 
 other_context : IsLicensed two_contexts bind_script (asks_other ++ bind_80 ∷ []) [] → ⊥
@@ -199,8 +202,8 @@ not_created h =
     of_each (λ e. NoCreate e.call) before_create _ (tt, tt) m.3.2
 
 -- == a call that no step makes
-unmade : IsLicensed allowed bind_script (begins ++ entry (own_of 3) (Call.UdpBind (own_of 2) local_80) Told.Done ∷ []) [] → ⊥
-unmade h = h.each begins (entry (own_of 3) (Call.UdpBind (own_of 2) local_80) Told.Done) [] refl
+unmade : IsLicensed allowed bind_script (begins ++ entry (own_of 3) (Call.UdpConnect (own_of 2) local_80) Told.Done ∷ []) [] → ⊥
+unmade h = h.each begins (entry (own_of 3) (Call.UdpConnect (own_of 2) local_80) Told.Done) [] refl
 
 -- == the backlog of a network socket that doesn't listen is set
 -- no listen

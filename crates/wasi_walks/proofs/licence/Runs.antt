@@ -7,7 +7,7 @@ use Rattle.wasi_walks.proofs.Words.{length, length-append, machine_asks, new_ask
 use Rattle.wasi_walks.proofs.Words.{with_listening, ℕ, ⊤, ◌++◌, ◌+◌, ◌∙◌, ◌∷◌, ◌≡◌}
 use Rattle.wasi_walks.proofs.licence.State.{StateIsFine}
 use Rattle.wasi_walks.proofs.licence.Fresh.{IsNew, next_is_new}
-use Rattle.wasi_walks.proofs.licence.Longer.{EachMayCome, licensed, with_replies, may_come, come_longer, may_more, state_more, listen_more}
+use Rattle.wasi_walks.proofs.licence.Longer.{EachMayCome, licensed, with_replies, may_come, come_longer, may_more, state_more, listen_more, tcp_more}
 use Rattle.wasi_walks.proofs.Lists.{get_seam}
 use Rattle.wasi_walks.proofs.licence.Line.{ListenGoesOn, Licensed, put_fine}
 use Rattle.wasi_walks.proofs.walks.Steps.{may_while, machine_walks}
@@ -18,9 +18,10 @@ use Rattle.wasi_walks.proofs.walks.Moves.{closed_record, Used, Here, put, OfSock
 use Rattle.wasi_walks.proofs.licence.Frames.{listening_gone}
 use Rattle.wasi_walks.proofs.walks.Law.{Law, Walks}
 use Rattle.wasi_walks.proofs.licence.Moves.{closed_fine, gone_maker, moves_fine}
-use Rattle.wasi_walks.proofs.licence.Asked.{spares, asked_fine, on_side, names_on_side, not_held, question_local, question_may, learned_fine}
+use Rattle.wasi_walks.proofs.licence.Asked.{spares, asked_fine, on_side, names_on_side, not_held, question_local, question_may, learned_fine, kept}
 use Rattle.wasi_walks.proofs.licence.Marks.{marked_fine, accepted_fine, CreatedIsFine, new_fine, joins}
-use Rattle.wasi_walks.proofs.licence.GoesOn.{kept, taken_out, turned_fine, given_up, polls_fine}
+use Rattle.wasi_walks.proofs.licence.UdpMarks.{udp_asked, udp_learned, udp_closed, udp_creates, udp_marked}
+use Rattle.wasi_walks.proofs.licence.GoesOn.{taken_out, turned_fine, given_up, polls_fine}
 use Rattle.wasi_host.specs.Records.{tcp2_at}
 
 module _ (contexts : List WasiSocketsCtx) (steps : List Step) (line : ℕ) (origin : Step) (is_line : step_at steps line ≡ Some origin) where
@@ -53,6 +54,11 @@ module _ (contexts : List WasiSocketsCtx) (steps : List Step) (line : ℕ) (orig
     gives_up = λ es h place r q g b i.
         allows_weaker (MayAsk contexts steps) (λ fs done. Licensed steps line origin fs h × ⊤) (λ fs done. Licensed steps line origin fs (put h place (with_listening r Not))) (λ fs done k. taken_out contexts steps line origin is_line fs h place r g k.0) es (give_up_asks r.listening)
         (kept contexts steps line origin is_line h (λ fs done. ⊤) es (give_up_asks r.listening) i (given_up contexts steps line origin is_line es r.side r.listening (i.fine.records place r g).listening));
+    udp_asks = λ es h place n o c at g q b i. (let a = udp_asked contexts steps line origin is_line es h place n o c at g q i in (a.0, λ told fits. a.1 told));
+    udp_learns = λ es h place o at g b i. udp_learned contexts steps line origin is_line es h place o at g i;
+    udp_closes = λ es h place o q g b i. (tt, λ told fits. udp_closed contexts steps line origin is_line es h place o told g i);
+    udp_creates = λ es h ctx family c may a o past b i. udp_creates contexts steps line origin is_line es h ctx family c may a past i;
+    udp_marks = λ es h place u g b i. udp_marked contexts steps line origin is_line es h place u g i;
   }
 
   pub licence : Law contexts line origin
@@ -73,13 +79,13 @@ fine_more : (contexts : List WasiSocketsCtx) (steps more : List Step) (line : �
 fine_more contexts steps more line es m i = record {
   base = i.base;
   fine = state_more steps more es m i.fine;
-  listens = λ place r op g e. (let l = i.listens place r op g e in record { fine = listen_more steps more es op l.fine; asks = l.asks; made = l.made });
+  listens = λ place r op g e. (let l = i.listens place r op g e in record { fine = listen_more steps more es op l.fine; asks = l.asks; made = l.made; tcp = tcp_more steps more op.who.side l.tcp });
 }
 
 first_fine : Fine [] 1 [] first_state
 first_fine = record {
   base = first_base;
-  fine = record { count = refl; handles = λ handle kind e. absurd (cc); records = λ place r e. absurd (cc); standing = λ c e. absurd (cc); accepts = λ place r e. absurd (cc); one = λ i j r s x a b c d. absurd (cc) };
+  fine = record { count = refl; handles = λ handle kind e. absurd (cc); records = λ place r e. absurd (cc); udp = λ place u e. absurd (cc); standing = λ c e. absurd (cc); accepts = λ place r e. absurd (cc); one = λ i j r s x a b c d. absurd (cc) };
   listens = λ place r op e. absurd (cc);
 }
 
@@ -101,6 +107,7 @@ module _ (contexts : List WasiSocketsCtx) where
       (record {
         fine = i.fine;
         names = λ k j r a. absurd (cc);
+        udp_names = λ k j u a. absurd (cc);
         listens = i.listens;
         new = λ u. (n.handed (record { step = line; part = 1 }) refl, n.marked (record { step = line; part = 1 }) refl);
         unmade = λ u c t is. n.made (own_of line) refl;

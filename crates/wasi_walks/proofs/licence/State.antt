@@ -6,9 +6,17 @@ use Rattle.wasi_walks.proofs.Words.{NamesSide, None, Nothing, NothingLast, OpId,
 use Rattle.wasi_walks.proofs.Words.{SocketAddressFamily, Some, Standing, Step, Streams, Tcp2Socket, TcpBind, TcpConnect, TcpState, Told, Write}
 use Rattle.wasi_walks.proofs.Words.{WriteState, Yes, [], call_place, entry, kind_at, marks_in, own_of, side_of, true, wildcard, ℕ, ⊤, ◌++◌}
 use Rattle.wasi_walks.proofs.Words.{◌+◌, ◌∷◌, ◌≡◌}
-use Rattle.wasi_walks.proofs.walks.Moves.{record_of}
-use Rattle.wasi_host.specs.Records.{tcp2_at}
+use Rattle.wasi_walks.proofs.walks.Moves.{record_of, udp_record_of, IsOfHandle}
+use Rattle.wasi_walks.specs.Licence.{IsUdpBindTo}
+use Rattle.wasi_addr.specs.declared.address.SocketAddrUse.TheVariants as use_of
+use Rattle.wasi_world.specs.Operation.{UdpBind, UdpWritable}
+use Rattle.wasi_host.specs.Records.{tcp2_at, udp2_at}
+use Rattle.wasi_host.specs.Udp.{udp_side}
 use Rattle.wasi_host.specs.declared.records.Record.{Record}
+use Rattle.wasi_host.specs.declared.udp.OpenUdp.{OpenUdp}
+use Rattle.wasi_host.specs.declared.udp.Udp2Socket.{Udp2Socket}
+use Rattle.wasi_host.specs.declared.udp.UdpInProgress.{UdpInProgress}
+use Rattle.wasi_udp.specs.Create.{Create}
 
 -- The handle stands for the record at this place, and its mark says the network socket that the record was made with.
 pub record NamesRecord (es : List Entry) (records : List Record) (handle place : ℕ) : Type 0 where
@@ -20,8 +28,18 @@ abbrev pub NamesIf : List Entry → List Record → ℕ → Option ℕ → Type 
 NamesIf es records handle (Some place) = NamesRecord es records handle place
 NamesIf es records handle None = ⊤
 
+-- The same of a UDP socket, whose mark always says its network socket.
+pub record NamesUdp (es : List Entry) (records : List Record) (handle place : ℕ) : Type 0 where
+  pub found : Udp2Socket
+  pub at : udp2_at records place ≡ Some found
+  pub marked : IsMarkedWith es handle (Some (udp_side found))
+
+abbrev pub NamesUdpIf : List Entry → List Record → ℕ → Option ℕ → Type 0
+NamesUdpIf es records handle (Some place) = NamesUdp es records handle place
+NamesUdpIf es records handle None = ⊤
+
 abbrev pub HandleIsFine : List Entry → List Record → ℕ → Kind → Type 0
-HandleIsFine es records handle kind = NamesIf es records handle (record_of (Some kind))
+HandleIsFine es records handle kind = NamesIf es records handle (record_of (Some kind)) × NamesUdpIf es records handle (udp_record_of (Some kind))
 
 -- The socket knows the creator of its network socket, and the network socket's family.
 pub record KnowsMaker (es : List Entry) (socket : Socket) : Type 0 where
@@ -51,6 +69,12 @@ pub data ConnectLeft (es : List Entry) (op side : OpId) (maker : ℕ) (addr : Ip
   Allowed : MayGoOut es op side → Has es (entry op (Call.Check maker addr TcpConnect) Yes) → ConnectLeft es op side maker addr (Connect addr ∷ [])
   ToClose : (c : ErrorCode) → ConnectLeft es op side maker addr (Last c Nothing ∷ [])
   Ended : ConnectLeft es op side maker addr []
+
+-- what is left of a bind of a UDP socket to the address, and the yes that it was answered
+pub data UdpBindLeft (es : List Entry) (op : OpId) (maker : ℕ) (addr : IpSocketAddress) : List Item → Type 0 where
+  UdpUnchecked : UdpBindLeft es op maker addr (Check addr use_of.UdpBind ∷ UdpBind addr ∷ [])
+  UdpChecked : Has es (entry op (Call.Check maker addr use_of.UdpBind) Yes) → UdpBindLeft es op maker addr (UdpBind addr ∷ [])
+  UdpOver : UdpBindLeft es op maker addr []
 
 -- what may be left of a write: nothing of it asks for an address
 pub data WriteLeft : List Item → Type 0 where
@@ -107,6 +131,15 @@ accept_name _ = None
 -- no two records have an accept of one name
 abbrev pub OneHolds : List Record → Type 0
 OneHolds records = (i j : ℕ) (r s : Tcp2Socket) (x : OpId) → tcp2_at records i ≡ Some r → tcp2_at records j ≡ Some s → accept_name r.listening ≡ Some x → accept_name s.listening ≡ Some x → i ≡ j
+
+-- == which sockets a step makes
+abbrev pub MakesTcp : Step → Type 0
+MakesTcp (Step.TcpCreate ctx family) = ⊤
+MakesTcp _ = ⊥
+
+abbrev pub MakesUdp : Step → Type 0
+MakesUdp (Step.UdpCreate ctx family) = ⊤
+MakesUdp _ = ⊥
 
 module _ (steps : List Step) where
   -- the operation's step names a handle of this network socket
@@ -180,9 +213,11 @@ module _ (steps : List Step) where
   ListeningIsFine es made (Accepts l) = ListenerIsFine es made l
   ListeningIsFine es made _ = ⊤
 
-  -- A socket knows its creator; it is bound, and it listens, only where the log says so; and its connect may be polled.
+  -- A socket knows its creator, and one that does nothing yet was made by a create of its own; it is bound, and it listens, only
+  -- where the log says so; and its connect may be polled.
   pub record SocketIsFine (es : List Entry) (socket : Socket) : Type 0 where
     pub knows : KnowsMaker es socket
+    pub tcp : (side : OpId) → socket.state ≡ TcpState.Default side → BeganBy steps side MakesTcp
     pub bound : (side : OpId) → socket.state ≡ TcpState.Default side → socket.bound ≡ true → IsBoundSide es side
     pub listens : (side : OpId) → socket.state ≡ TcpState.Listening side → Listens es side
     pub connect : (op : Operation) → socket.state ≡ TcpState.Connecting op → ConnectIsFine es op
@@ -200,16 +235,65 @@ module _ (steps : List Step) where
     pub listening : ListeningIsFine es r.side r.listening
     pub progress : ProgressIsFine es r.in_progress
 
-  -- A pending call: its line names a handle of the network socket that its record was made with.
-  pub record StandingIsFine (es : List Entry) (records : List Record) (s : Standing) : Type 0 where
-    pub found : Tcp2Socket
-    pub at : tcp2_at records (call_place s.call) ≡ Some found
-    pub named : (side : OpId) → found.side ≡ Some side → Names es (own_of s.ids.line) side
+  -- == UDP sockets
+  -- The network socket was made by a `udp-create` of its own name, for this context and of this family, and the create was
+  -- answered done.
+  pub record UdpMade (es : List Entry) (side : OpId) (maker : ℕ) (family : SocketAddressFamily) : Type 0 where
+    pub by : BeganBy steps side MakesUdp
+    pub created : Has es (entry side (Call.UdpCreate maker family) Told.Done)
+
+  -- A create that waits for its network socket: it has the network socket's name, asks whether it is there, and closes it where
+  -- that is refused.
+  pub record CreateIsFine (es : List Entry) (create : Create) : Type 0 where
+    pub made : UdpMade es create.operation.who.side create.operation.who.context create.family
+    pub own : create.operation.who.id ≡ create.operation.who.side
+    pub last : create.operation.who.last ≡ CloseLast
+    pub left : create.operation.left ≡ UdpWritable ∷ []
+
+  -- A bind of a UDP socket that may be polled: where it came from, and what it has asked so far.
+  pub record UdpBindIsFine (es : List Entry) (op : Operation) : Type 0 where
+    pub addr : IpSocketAddress
+    pub to : BeganBy steps op.who.id (IsUdpBindTo addr)
+    pub works : WorksOn es op.who.id op.who.side op.who.context
+    pub last : op.who.last ≡ NothingLast
+    pub left : UdpBindLeft es op.who.id op.who.context addr op.left
+
+  abbrev pub UdpProgressIsFine : List Entry → UdpInProgress → Type 0
+  UdpProgressIsFine es (UdpInProgress.Binding op) = UdpBindIsFine es op
+  UdpProgressIsFine es _ = ⊤
+
+  -- A UDP socket that is there knows its creator; it is known to be bound only where the log says so; and its bind may be polled.
+  pub record OpenIsFine (es : List Entry) (o : OpenUdp) : Type 0 where
+    pub made : UdpMade es o.inner.side o.inner.maker o.inner.family
+    pub bound : o.inner.bound ≡ true → IsBoundSide es o.inner.side
+    pub progress : UdpProgressIsFine es o.in_progress
+
+  -- One whose network socket is closed: that was made.
+  pub record ClosedIsFine (es : List Entry) (side : OpId) : Type 0 where
+    pub maker : ℕ
+    pub family : SocketAddressFamily
+    pub made : UdpMade es side maker family
+
+  abbrev pub UdpIsFine : List Entry → Udp2Socket → Type 0
+  UdpIsFine es (Udp2Socket.Creating create) = CreateIsFine es create
+  UdpIsFine es (Udp2Socket.Open o) = OpenIsFine es o
+  UdpIsFine es (Udp2Socket.Closed side) = ClosedIsFine es side
+
+  -- == the pending call, and the state
+  -- where a call on the record at this place is pending, its line names a handle of the network socket that the record was made with
+  pub data LineNames (es : List Entry) (records : List Record) (line place : ℕ) : Type 0 where
+    OfTcp : (found : Tcp2Socket) → tcp2_at records place ≡ Some found → ((side : OpId) → found.side ≡ Some side → Names es (own_of line) side) → LineNames es records line place
+    OfUdp : (found : Udp2Socket) → udp2_at records place ≡ Some found → Names es (own_of line) (udp_side found) → LineNames es records line place
+
+  -- a create that is pending names none
+  abbrev pub StandingIsFine : List Entry → List Record → Standing → Type 0
+  StandingIsFine es records s = IsOfHandle s.call → LineNames es records s.ids.line (call_place s.call)
 
   pub record StateIsFine (es : List Entry) (m : Machine) : Type 0 where
     pub count : m.table.next ≡ marks_in es + 1
     pub handles : (handle : ℕ) (kind : Kind) → kind_at m.table handle ≡ Some kind → HandleIsFine es m.store.records handle kind
     pub records : (place : ℕ) (r : Tcp2Socket) → tcp2_at m.store.records place ≡ Some r → RecordIsFine es r
+    pub udp : (place : ℕ) (u : Udp2Socket) → udp2_at m.store.records place ≡ Some u → UdpIsFine es u
     pub standing : (c : Standing) → m.store.standing ≡ Some c → StandingIsFine es m.store.records c
     pub accepts : (place : ℕ) (r : Tcp2Socket) → tcp2_at m.store.records place ≡ Some r → ListeningStands es r.listening
     pub one : OneHolds m.store.records

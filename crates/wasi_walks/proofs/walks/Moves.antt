@@ -12,10 +12,21 @@ use Rattle.wasi_walks.proofs.Words.{side_at, side_of, standing_as, true, wildcar
 use Rattle.wasi_walks.proofs.Words.{with_progress, with_reader, with_socket, with_state, with_writer, without_handle, writer_side, ℕ, ⊤}
 use Rattle.wasi_walks.proofs.Words.{◌≡◌, ◌⊎◌}
 use Rattle.wasi_world.specs.declared.ids.Ids.{Ids}
-use Rattle.wasi_host.specs.Records.{tcp2_at, tcp2_put, tcp2_pushed}
+use Rattle.wasi_host.specs.Records.{tcp2_at, tcp2_put, tcp2_pushed, udp2_at}
+use Rattle.wasi_host.specs.declared.kind.Kind.TheVariants.{Udp2}
+use Rattle.wasi_host.specs.declared.udp.OpenUdp.{OpenUdp}
+use Rattle.wasi_host.specs.declared.udp.Udp2Socket.{Udp2Socket}
+use Rattle.wasi_host.specs.declared.udp.UdpInProgress.{UdpInProgress}
+use Rattle.wasi_host.specs.Udp.{is_udp_idle, udp_bind_progress, udp_create_left, with_udp_progress}
+use Rattle.wasi_host.specs.UdpCalls.{with_udp}
+use Rattle.wasi_host.specs.UdpCreates.{udp_side_at, with_create}
+use Rattle.wasi_udp.specs.Bind.{bind_operation as udp_bind_operation}
+use Rattle.wasi_udp.specs.Create.{Create}
+use Rattle.wasi_udp.specs.Socket.{asker_of}
+use Rattle.wasi_udp.specs.declared.bind.UdpBindStage.{UdpBindStage}
 use Rattle.wasi_host.specs.declared.records.Record.{Record}
 use Rattle.wasi_host.specs.declared.jobs.HostJob.{HostJob}
-use Rattle.wasi_walks.specs.Licence.{IsGetOf, IsSetTo}
+use Rattle.wasi_walks.specs.Licence.{IsGetOf, IsSetTo, IsUdpBindTo}
 use Rattle.wasi_walks.specs.Waiting.{StartsTold}
 use Rattle.wasi_tcp.specs.declared.bind.BindStage.TheVariants.{Check}
 use Rattle.wasi_tcp.specs.declared.writer.WriteError.{WriteError}
@@ -47,7 +58,14 @@ put h place r = record h { machine = record h.machine { store = with_socket h.ma
 abbrev pub Found : Here → ℕ → Tcp2Socket → Type 0
 Found h place r = tcp2_at h.machine.store.records place ≡ Some r
 
--- neither a bind nor a listen is pending
+-- the same of a UDP socket
+abbrev pub put_udp : Here → ℕ → Udp2Socket → Here
+put_udp h place u = record h { machine = record h.machine { store = with_udp h.machine.store place u } }
+
+abbrev pub FoundUdp : Here → ℕ → Udp2Socket → Type 0
+FoundUdp h place u = udp2_at h.machine.store.records place ≡ Some u
+
+-- no bind, listen or create is pending
 abbrev pub NoStartIn : StandingCall → Type 0
 NoStartIn (StandingCall.DropOutput place) = ⊤
 NoStartIn _ = ⊥
@@ -82,6 +100,12 @@ abbrev pub GoesOn : StandingCall → Tcp2Socket → Type 0
 GoesOn (StandingCall.Bind place) r = HasBinding r.in_progress
 GoesOn (StandingCall.Listen place) r = HasListen r.listening
 GoesOn (StandingCall.DropOutput place) r = ⊤
+GoesOn _ r = ⊥
+
+-- the pending call was made of a handle of its record: any but a create
+abbrev pub IsOfHandle : StandingCall → Type 0
+IsOfHandle (StandingCall.UdpCreate place) = ⊥
+IsOfHandle _ = ⊤
 
 -- == what may be asked of a record's network socket by the line that works on it
 -- a question, by an operation that the line of this number began, or that a half is released; an option is that which the line
@@ -133,13 +157,24 @@ pub data WriterMoves : WriteState → WriteState → Type 0 where
   LastsAfter : (job : Job) → WriterMoves (WriteState.Writing job) (WriteState.Closing (closing_job job))
   Closes : (w : WriteState) (e : WriteError) → WriterMoves w (WriteState.Closed e)
 
--- the record that a handle is of
+-- the TCP socket that is watched
+abbrev pub tcp_place : Watched → Option ℕ
+tcp_place (Watched.Udp place) = None
+tcp_place w = Some (place_in w)
+
+-- the TCP socket that a handle is of
 abbrev pub record_of : Option Kind → Option ℕ
 record_of (Some (Tcp2 place)) = Some place
 record_of (Some (Input place)) = Some place
 record_of (Some (Output place)) = Some place
-record_of (Some (Pollable w)) = Some (place_in w)
+record_of (Some (Pollable w)) = tcp_place w
 record_of _ = None
+
+-- the record that the handle of a UDP socket is of, or of a pollable of one
+abbrev pub udp_record_of : Option Kind → Option ℕ
+udp_record_of (Some (Udp2 place)) = Some place
+udp_record_of (Some (Pollable (Watched.Udp place))) = Some place
+udp_record_of _ = None
 
 -- the line may make an error of the stream of this handle
 abbrev pub MarksError : ℕ → Step → Type 0
@@ -154,12 +189,18 @@ abbrev pub Creates : List WasiSocketsCtx → WasiSocketsCtx → SocketAddressFam
 Creates contexts ctx family (Step.TcpCreate n f) = (context_at contexts n ≡ ctx) × (f ≡ family)
 Creates contexts ctx family _ = ⊥
 
+-- the same of a UDP socket
+abbrev pub CreatesUdp : List WasiSocketsCtx → WasiSocketsCtx → SocketAddressFamily → Step → Type 0
+CreatesUdp contexts ctx family (Step.UdpCreate n f) = (context_at contexts n ≡ ctx) × (f ≡ family)
+CreatesUdp contexts ctx family _ = ⊥
+
 -- a handle that the line may mark, with its parent and its network socket
 pub data Marks (origin : Step) (h : Here) : Kind → Option ℕ → Option OpId → Type 0 where
   ANetwork : (c : ℕ) → origin ≡ Step.Network c → Marks origin h Network None None
   AStream : (c handle place : ℕ) (kind : Kind) → origin ≡ Step.TcpFinishConnect c handle → (kind ≡ Input place) ⊎ (kind ≡ Output place) → record_of (kind_at h.machine.table handle) ≡ Some place → Marks origin h kind (Some handle) (side_at (tcp2_at h.machine.store.records place))
   AnAcceptedStream : (c listener handle place : ℕ) (kind : Kind) (r : Tcp2Socket) → origin ≡ Step.TcpAccept c listener → (kind ≡ Input place) ⊎ (kind ≡ Output place) → h.made ≡ Marked handle place → h.own ≡ Used → Found h place r → Marks origin h kind (Some handle) (side_at (tcp2_at h.machine.store.records place))
-  APollable : (c handle : ℕ) (w : Watched) → origin ≡ Step.Subscribe c handle → record_of (kind_at h.machine.table handle) ≡ Some (place_in w) → Marks origin h (Pollable w) (Some handle) (side_at (tcp2_at h.machine.store.records (place_in w)))
+  APollable : (c handle : ℕ) (w : Watched) → origin ≡ Step.Subscribe c handle → tcp_place w ≡ Some (place_in w) → record_of (kind_at h.machine.table handle) ≡ Some (place_in w) → Marks origin h (Pollable w) (Some handle) (side_at (tcp2_at h.machine.store.records (place_in w)))
+  AUdpPollable : (c handle place : ℕ) → origin ≡ Step.Subscribe c handle → udp_record_of (kind_at h.machine.table handle) ≡ Some place → Marks origin h (Pollable (Watched.Udp place)) (Some handle) (udp_side_at (udp2_at h.machine.store.records place))
   AnError : (handle place : ℕ) → MarksError handle origin → record_of (kind_at h.machine.table handle) ≡ Some place → Marks origin h ErrorValue (Some handle) (side_at (tcp2_at h.machine.store.records place))
 
 -- == records of a bind
@@ -210,10 +251,35 @@ closed_record r = gone r (with_state r.inner (TcpState.Closed Other))
 abbrev pub opened_by : Tcp2Socket → Connection → Tcp2Socket
 opened_by r c = record r { inner = with_state r.inner (TcpState.Connected (record c { send_taken = true })); in_progress = InProgress.Nothing; streams = Some (new_streams (record { side = c.side }) (record { side = c.side })) }
 
+-- == records of UDP sockets
+-- of binds, no other is in progress: none is, or it is the same
+abbrev pub IsUdpSettled : UdpInProgress → Type 0
+IsUdpSettled (UdpInProgress.Binding op) = ⊥
+IsUdpSettled _ = ⊤
+
+-- The network socket, its creator, its family and its remote address are as they were, and so is a bind in progress. It is known
+-- to be bound only where it was.
+pub record UdpPlain (old now : OpenUdp) : Type 0 where
+  pub side : now.inner.side ≡ old.inner.side
+  pub maker : now.inner.maker ≡ old.inner.maker
+  pub family : now.inner.family ≡ old.inner.family
+  pub remote : now.inner.remote ≡ old.inner.remote
+  pub bound : now.inner.bound ≡ true → old.inner.bound ≡ true
+  pub binds : (now.in_progress ≡ old.in_progress) ⊎ (IsUdpSettled old.in_progress × IsUdpSettled now.in_progress)
+
+-- a create was begun, or refused
+abbrev pub udp_begun : Here → Result Create ErrorCode → Here
+udp_begun h (Ok create) = record h { machine = with_create h.machine create; own = Used }
+udp_begun h (Err c) = record h { own = Used }
+
+abbrev pub begun_udp_bind : OpId → OpenUdp → IpSocketAddress → Operation
+begun_udp_bind own o a = udp_bind_operation (asker_of own o.inner) a UdpBindStage.Check
+
 -- == moves of a line, where nothing is asked
 pub data Move (line : ℕ) (origin : Step) : Here → Here → Type 0 where
   -- the handle is one that the line names, and is of this record
   Reaches : (h : Here) (handle place : ℕ) → Has (handles_of origin) handle → record_of (kind_at h.machine.table handle) ≡ Some place → Move line origin h (record h { at = Some (place, line) })
+  ReachesUdp : (h : Here) (handle place : ℕ) → Has (handles_of origin) handle → udp_record_of (kind_at h.machine.table handle) ≡ Some place → Move line origin h (record h { at = Some (place, line) })
   Leaves : (h : Here) → Move line origin h (record h { at = None; made = Past })
   Spends : (h : Here) → h.own ≡ Unused → Move line origin h (record h { own = Used })
   -- the record
@@ -244,8 +310,14 @@ pub data Move (line : ℕ) (origin : Step) : Here → Here → Type 0 where
       → Move line origin h (joining h (tcp2_put h.machine.store.records place (accepting_now r l Accepting.Idle)) (joined l new peer))
   -- a call is pending, by the line that asks; it is in progress; nothing is pending
   Stands : (h : Here) (ids : Ids) (call : StandingCall) (r : Tcp2Socket) → h.at ≡ Some (call_place call, ids.line) → Found h (call_place call) r → GoesOn call r → Move line origin h (record h { machine = record h.machine { store = record h.machine.store { standing = Some (standing_as ids call) } } })
-  Resumes : (h : Here) (s : Standing) → h.machine.store.standing ≡ Some s → Move line origin h (record h { at = Some (call_place s.call, s.ids.line) })
+  Resumes : (h : Here) (s : Standing) → h.machine.store.standing ≡ Some s → IsOfHandle s.call → Move line origin h (record h { at = Some (call_place s.call, s.ids.line) })
   Unstands : (h : Here) → Move line origin h (record h { machine = record h.machine { store = record h.machine.store { standing = None } } })
+  -- a UDP socket
+  UdpChanges : (h : Here) (place : ℕ) (o now : OpenUdp) → FoundUdp h place (Udp2Socket.Open o) → UdpPlain o now → Move line origin h (put_udp h place (Udp2Socket.Open now))
+  BeginsUdpBind : (h : Here) (place : ℕ) (o : OpenUdp) (a : IpSocketAddress) → h.at ≡ Some (place, line) → FoundUdp h place (Udp2Socket.Open o) → IsUdpBindTo a origin → is_udp_idle o.in_progress ≡ true → h.own ≡ Unused
+      → Move line origin h (record (put_udp h place (Udp2Socket.Open (with_udp_progress o (UdpInProgress.Binding (begun_udp_bind (own_of line) o a))))) { own = Used })
+  StandsUdpBind : (h : Here) (ids : Ids) (place : ℕ) (o : OpenUdp) (op : Operation) → h.at ≡ Some (place, ids.line) → FoundUdp h place (Udp2Socket.Open o) → o.in_progress ≡ UdpInProgress.Binding op → Move line origin h (record h { machine = record h.machine { store = record h.machine.store { standing = Some (standing_as ids (StandingCall.UdpBind place)) } } })
+  StandsUdpCreate : (h : Here) (ids : Ids) (place : ℕ) (create : Create) → FoundUdp h place (Udp2Socket.Creating create) → Move line origin h (record h { machine = record h.machine { store = record h.machine.store { standing = Some (standing_as ids (StandingCall.UdpCreate place)) } } })
   -- the rest
   Lists : (h : Here) (jobs : List HostJob) → Move line origin h (record h { machine = record h.machine { store = record h.machine.store { jobs = jobs } } })
   Takes : (h : Here) (handle : ℕ) → Move line origin h (record h { machine = record h.machine { table = without_handle h.machine.table handle } })
@@ -256,3 +328,5 @@ pub data Held (h : Here) : Operation → (End × List Item → Here) → Type 0 
   Connects : (place : ℕ) (r : Tcp2Socket) (op : Operation) → Found h place r → r.inner.state ≡ TcpState.Connecting op → Held h op (λ ended. put h place (with_inner r (with_state r.inner (connect_ended op.who ended).1)))
   Listens : (place : ℕ) (r : Tcp2Socket) (op : Operation) → NoStart h → Found h place r → r.listening ≡ Begins op → side_of r.inner ≡ None → Held h op (λ ended. put h place (listen_after op r ended))
   Awaits : (place : ℕ) (r : Tcp2Socket) (l : Listener) (op : Operation) → Found h place r → r.listening ≡ Accepts l → l.accept ≡ Accepting.Asking op → Held h op (λ ended. put h place (accepting_now r l (accept_ended op.who ended)))
+  UdpCreates : (place : ℕ) (create : Create) → NoStart h → FoundUdp h place (Udp2Socket.Creating create) → Held h create.operation (λ ended. put_udp h place (udp_create_left create ended))
+  UdpBindsOn : (place : ℕ) (o : OpenUdp) (op : Operation) → NoStart h → FoundUdp h place (Udp2Socket.Open o) → o.in_progress ≡ UdpInProgress.Binding op → Held h op (λ ended. put_udp h place (Udp2Socket.Open (with_udp_progress o (udp_bind_progress op ended))))

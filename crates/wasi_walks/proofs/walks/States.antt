@@ -3,10 +3,12 @@ use Rattle.wasi_walks.proofs.Words.{Answer, Ask, AskWrite, Asks, Bool, Err, Erro
 use Rattle.wasi_walks.proofs.Words.{OpId, Option, Output, Pending, Pollable, Ready, Records, Result, Socket, Some, Standing, Stop}
 use Rattle.wasi_walks.proofs.Words.{Streams, Tcp2, Tcp2Socket, Trap, Watched, accept_answered, accept_at, accept_record_asks, accepted_record, ap}
 use Rattle.wasi_walks.proofs.Words.{ask_made, bind, call_of, eqb-true, false, if◌then◌else◌, input_of, is_full, kept_accepted, kind_at, make_asks}
-use Rattle.wasi_walks.proofs.Words.{name_of, output_of, place_in, place_of, refl, sym, table_parent, true}
+use Rattle.wasi_walks.proofs.Words.{name_of, output_of, place_of, refl, sym, table_parent, true}
 use Rattle.wasi_walks.proofs.Words.{watch_of, watched_by, with_handle, with_records, ℕ, ⊤, ◌==◌, ◌∙◌, ◌≡◌}
 use Rattle.wasi_world.specs.declared.ids.Ids.{Ids}
-use Rattle.wasi_walks.proofs.walks.Moves.{Own, Used, Here, put, Found, record_of, Made, Past, Unmade, Joined}
+use Rattle.wasi_walks.proofs.walks.Moves.{Own, Used, Here, put, Found, record_of, udp_record_of, tcp_place, Made, Past, Unmade, Joined}
+use Rattle.wasi_host.specs.declared.kind.Kind.TheVariants.{Udp2}
+use Rattle.wasi_host.specs.Kinds.{udp_of}
 use Rattle.wasi_walks.proofs.Lists.{value_front, tcp2_seam}
 use Rattle.wasi_walks.proofs.walks.Law.{HasRecord, Given, given_then}
 use Rattle.wasi_host.specs.Records.{tcp2_at, tcp2_put}
@@ -85,15 +87,25 @@ make_given t op kind parent sock handle place e = by_test (is_full t)
     by_test true = e
     by_test false = λ told. stays (kind_at t handle) refl e
 
-pub watched_record : (k : Option Kind) (w : Watched) → watched_by k ≡ Some w → record_of k ≡ Some (place_in w)
-watched_record (Some (Tcp2 n)) w e = let p : Watched.Socket n ≡ w = cc in ap (λ (x : Watched). Some (place_in x)) p
-watched_record (Some (Input n)) w e = let p : Watched.Input n ≡ w = cc in ap (λ (x : Watched). Some (place_in x)) p
-watched_record (Some (Output n)) w e = let p : Watched.Output n ≡ w = cc in ap (λ (x : Watched). Some (place_in x)) p
+pub watched_record : (k : Option Kind) (w : Watched) → watched_by k ≡ Some w → record_of k ≡ tcp_place w
+watched_record (Some (Tcp2 n)) w e = let p : Watched.Socket n ≡ w = cc in ap tcp_place p
+watched_record (Some (Udp2 n)) w e = let p : Watched.Udp n ≡ w = cc in ap tcp_place p
+watched_record (Some (Input n)) w e = let p : Watched.Input n ≡ w = cc in ap tcp_place p
+watched_record (Some (Output n)) w e = let p : Watched.Output n ≡ w = cc in ap tcp_place p
 watched_record _ w e = absurd (cc)
 
-pub watch_record : (k : Option Kind) (w : Watched) → watch_of k ≡ Some w → record_of k ≡ Some (place_in w)
-watch_record (Some (Pollable x)) w e = let p : x ≡ w = cc in ap (λ (y : Watched). Some (place_in y)) p
+pub watch_record : (k : Option Kind) (w : Watched) → watch_of k ≡ Some w → record_of k ≡ tcp_place w
+watch_record (Some (Pollable x)) w e = let p : x ≡ w = cc in ap tcp_place p
 watch_record _ w e = absurd (cc)
+
+-- the same of UDP sockets
+pub udp_record : (k : Option Kind) (place : ℕ) → udp_of k ≡ Some place → udp_record_of k ≡ Some place
+udp_record (Some (Udp2 n)) place e = e
+udp_record _ place e = absurd (cc)
+
+pub watched_udp : (k : Option Kind) (place : ℕ) → watched_by k ≡ Some (Watched.Udp place) → udp_record_of k ≡ Some place
+watched_udp (Some (Udp2 n)) place e = let p : Watched.Udp n ≡ Watched.Udp place = cc in cc
+watched_udp _ place e = absurd (cc)
 
 pub given_any : {A : Type 0} (R : A → Type 0) → ((a : A) → R a) → (asks : Asks A) → Given R asks
 given_any R k (Give a) = k a

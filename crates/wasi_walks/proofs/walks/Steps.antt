@@ -12,14 +12,20 @@ use Rattle.wasi_common.specs.Options.{value_set}
 use Rattle.wasi_steps.specs.Settings.{AnOption}
 use Rattle.wasi_walks.specs.Licence.{IsSetTo, SetsOption, SetsBacklog}
 use Rattle.wasi_walks.proofs.walks.Writes.{may}
-use Rattle.wasi_walks.proofs.walks.Moves.{NoStartStands, IsSettled, Own, Unused, ANetwork, Spends, Used, Leaves, Resumes, Unstands}
+use Rattle.wasi_walks.proofs.walks.Moves.{NoStartStands, IsOfHandle, IsSettled, Own, Unused, ANetwork, Spends, Used, Leaves, Resumes, Unstands}
 use Rattle.wasi_walks.proofs.walks.Law.{Law, Walks, give, and_then, and_given, by_if, move, gives, mark, create, put_same, from}
 use Rattle.wasi_walks.proofs.walks.Sockets.{WaitsSo, get_walks, listen_given, poll_bind_walks, poll_listen_walks, polled_given}
 use Rattle.wasi_walks.proofs.walks.Streams.{read_walks, check_walks, subscribe_walks, writer_walks, drop_walks, turn_walks, ready_walks, reader_walks, write_on_walks, stream_walks, drop_output_walks}
-use Rattle.wasi_walks.proofs.walks.States.{At, OverWith, Put, Starts, input_record, output_record, socket_record, stands_so, there}
+use Rattle.wasi_walks.proofs.walks.States.{At, Over, OverWith, udp_record, Put, Starts, input_record, output_record, socket_record, stands_so, there}
 use Rattle.wasi_walks.proofs.walks.SocketSteps.{finish_started_walks, local_at_walks, shutdown_at_walks, start_connect_walks, start_bind_walks, looked_walks, set_chosen_walks, remote_at_walks, on_socket, finish_on_walks, as_left, answered_walks}
 use Rattle.wasi_walks.proofs.walks.ListenSteps.{accept_on_walks, start_listen_at_walks}
-use Rattle.wasi_host.specs.Records.{tcp2_at}
+use Rattle.wasi_host.specs.Records.{tcp2_at, open_at}
+use Rattle.wasi_host.specs.declared.pending.Outcome.{Outcome}
+use Rattle.wasi_host.specs.Machine.{udp_socket_at}
+use Rattle.wasi_host.specs.Pending.{gone_on, created_on}
+use Rattle.wasi_host.specs.Standing.{allowed_answer, standing_as}
+use Rattle.wasi_steps.specs.Settings.{udp_opt, udp_chosen}
+use Rattle.wasi_walks.proofs.walks.Udp.{on_udp, udp_local_at_walks, udp_get_at_walks, udp_set_at_walks, start_udp_bind_walks, finish_udp_bind_walks, rebind_udp_walks, create_on_walks, create_udp_walks}
 
 module _ {contexts : List WasiSocketsCtx} {line : ℕ} {origin : Step} {law : Law contexts line origin} where
   -- == a pending call continues
@@ -36,20 +42,41 @@ module _ {contexts : List WasiSocketsCtx} {line : ℕ} {origin : Step} {law : La
         from (put_same (At ids.line m place Used) place r g)
         (and_given (WaitsSo (StandingCall.Listen place)) (listen_given place r) (poll_listen_walks (there g) quiet r) (λ done w. answered_walks m ids (StandingCall.Listen place) done (there g) w))
 
-    go_on_walks : (call : StandingCall) → Walks law (At ids.line m (call_place call) Used) (Put ids.line m (call_place call)) (go_on m.store ids call)
-    go_on_walks (StandingCall.Bind place) = rebind_walks place (tcp2_at m.store.records place) refl
-    go_on_walks (StandingCall.Listen place) = relisten_walks place (tcp2_at m.store.records place) refl
-    go_on_walks (StandingCall.DropOutput place) = and_then (drop_output_walks ids place m (tcp2_at m.store.records place) refl) (λ done. give _)
+    -- what was answered, and nothing is worked on any more
+    gone_on_walks : (place : ℕ) (done : Result (Answer (Unit {0})) Stop × Records) → Walks law (Put ids.line m place done) OverWith (Give (gone_on (with_store m done)))
+    gone_on_walks place (Ok answer, store) = gives _ (Leaves _)
+    gone_on_walks place (Err why, store) = gives _ (Leaves _)
 
-  resumed_walks : (m : Machine) (n place : ℕ) (done : Result (Answer (Unit {0})) Stop × Records) → Walks law (Put n m place done) OverWith (Give (resumed (with_store m done)))
-  resumed_walks m n place (Ok answer, store) = gives _ (Leaves _)
-  resumed_walks m n place (Err why, store) = gives _ (Leaves _)
+    created_on_walks : (done : Result (Answer ℕ) Stop × Machine) → Walks law (Over done.1) OverWith (Give (created_on done))
+    created_on_walks (Ok answer, m) = give _
+    created_on_walks (Err why, m) = give _
+
+    -- a call that was made of a handle works on the record of its place
+    go_on_walks : (call : StandingCall) → IsOfHandle call → Walks law (At ids.line m (call_place call) Used) OverWith (go_on m ids call)
+    go_on_walks (StandingCall.Bind place) k = and_then (rebind_walks place (tcp2_at m.store.records place) refl) (gone_on_walks place)
+    go_on_walks (StandingCall.Listen place) k = and_then (relisten_walks place (tcp2_at m.store.records place) refl) (gone_on_walks place)
+    go_on_walks (StandingCall.DropOutput place) k = and_then (drop_output_walks ids place m (tcp2_at m.store.records place) refl) (λ done. gone_on_walks place (allowed_answer done))
+    go_on_walks (StandingCall.UdpBind place) k = and_then (rebind_udp_walks ids m quiet place (open_at m.store.records place) refl) (gone_on_walks place)
+    go_on_walks (StandingCall.UdpCreate place) k = absurd k
+
+    create_goes_on : (place : ℕ) → Walks law (Over m) OverWith (go_on m ids (StandingCall.UdpCreate place))
+    create_goes_on place = and_then (create_on_walks ids m quiet place) created_on_walks
+
+  resumed_walks : (done : Result (Answer Outcome) Stop × Machine) → Walks law (Over done.1) OverWith (Give (resumed done))
+  resumed_walks (Ok answer, m) = give _
+  resumed_walks (Err why, m) = give _
+
+  -- the call is taken out, and continues
+  taken_walks : (m : Machine) (ids : Ids) (call : StandingCall) → m.store.standing ≡ Some (standing_as ids call) → Walks law (Starts m Unused) OverWith (go_on (record m { store = unstood m.store }) ids call)
+  taken_walks m ids (StandingCall.UdpCreate place) e = move (Unstands _) (move (Spends _ refl) (create_goes_on ids (record m { store = unstood m.store }) tt place))
+  taken_walks m ids (StandingCall.Bind place) e = move (Resumes _ (standing_as ids (StandingCall.Bind place)) e tt) (move (Unstands _) (move (Spends _ refl) (go_on_walks ids (record m { store = unstood m.store }) tt (StandingCall.Bind place) tt)))
+  taken_walks m ids (StandingCall.Listen place) e = move (Resumes _ (standing_as ids (StandingCall.Listen place)) e tt) (move (Unstands _) (move (Spends _ refl) (go_on_walks ids (record m { store = unstood m.store }) tt (StandingCall.Listen place) tt)))
+  taken_walks m ids (StandingCall.DropOutput place) e = move (Resumes _ (standing_as ids (StandingCall.DropOutput place)) e tt) (move (Unstands _) (move (Spends _ refl) (go_on_walks ids (record m { store = unstood m.store }) tt (StandingCall.DropOutput place) tt)))
+  taken_walks m ids (StandingCall.UdpBind place) e = move (Resumes _ (standing_as ids (StandingCall.UdpBind place)) e tt) (move (Unstands _) (move (Spends _ refl) (go_on_walks ids (record m { store = unstood m.store }) tt (StandingCall.UdpBind place) tt)))
 
   pub resume_walks : (m : Machine) (n : ℕ) (o : Option Standing) → call_of m.store.standing n ≡ o → Walks law (Starts m Unused) OverWith (resume_call m o)
   resume_walks m n None e = gives _ (Spends _ refl)
-  resume_walks m n (Some s) e =
-      let now : Machine = record m { store = unstood m.store } in
-      move (Resumes _ s (stands_so m.store.standing n s e).0) (move (Unstands _) (move (Spends _ refl) (and_then (go_on_walks s.ids now tt s.call) (resumed_walks m s.ids.line (call_place s.call)))))
+  resume_walks m n (Some s) e = and_then (taken_walks m s.ids s.call (stands_so m.store.standing n s e).0) resumed_walks
 
 -- what a set sets, by what its setting chooses
 option_set : (c s : ℕ) (setting : TcpSetting) (option : Opt) (value : ℕ) → chosen setting ≡ AnOption option value → IsSetTo option (value_set option value) (Step.TcpSet c s setting)
@@ -88,6 +115,14 @@ step_walks line (Step.TcpAddressFamily c s) m f = gives _ (Spends _ refl)
 step_walks line (Step.TcpGet c s option) m f = and_then (on_socket m s (socket_at m s) (inl refl) (socket_record (kind_at m.table s)) (λ place. looked_walks m place (λ x. get_option_asks (own_of line) x option) (tcp2_at m.store.records place) refl (λ r here. get_walks here refl r option refl refl))) (λ done. give _)
 step_walks line (Step.TcpSet c s setting) m f = and_then (set_chosen_walks m s (socket_at m s) (chosen setting) (inl refl) (socket_record (kind_at m.table s)) (option_set c s setting) (backlog_set c s setting)) (λ done. give _)
 step_walks line (Step.TcpShutdown c s how) m f = and_then (on_socket m s (socket_at m s) (inl refl) (socket_record (kind_at m.table s)) (λ place. shutdown_at_walks m place how (tcp2_at m.store.records place) refl)) (λ done. give _)
+step_walks {contexts} line (Step.UdpCreate c family) m f = and_then (create_udp_walks m (context_at contexts c) family (refl, refl) (none_stands (f refl))) (λ done. give _)
+step_walks line (Step.UdpStartBind c s n a) m f = and_then (start_udp_bind_walks m s n a (inl refl) refl (none_stands (f refl))) (λ done. give _)
+step_walks line (Step.UdpFinishBind c s) m f = as_left (finish_udp_bind_walks m (udp_socket_at m s))
+step_walks line (Step.UdpLocalAddress c s) m f = and_then (on_udp m s (udp_socket_at m s) (inl refl) (udp_record (kind_at m.table s)) (λ place. udp_local_at_walks m place (open_at m.store.records place) refl)) (λ done. give _)
+step_walks line (Step.UdpRemoteAddress c s) m f = gives _ (Spends _ refl)
+step_walks line (Step.UdpAddressFamily c s) m f = gives _ (Spends _ refl)
+step_walks line (Step.UdpGet c s option) m f = and_then (on_udp m s (udp_socket_at m s) (inl refl) (udp_record (kind_at m.table s)) (λ place. udp_get_at_walks m place (udp_opt option) refl (open_at m.store.records place) refl)) (λ done. give _)
+step_walks line (Step.UdpSet c s setting) m f = and_then (on_udp m s (udp_socket_at m s) (inl refl) (udp_record (kind_at m.table s)) (λ place. udp_set_at_walks m place (udp_chosen setting).0 (udp_chosen setting).1 (refl, refl) (open_at m.store.records place) refl)) (λ done. give _)
 step_walks line (Step.Read c input len) m f = and_then (stream_walks m input (reader_asks (λ r. read_state_asks (own_of line) r len)) (input_at m input) (inl refl) refl (input_record (kind_at m.table input)) (λ place r here. reader_walks here r (λ w. read_state_asks (own_of line) w len) r.streams refl (λ s w. read_walks here refl r s w len))) (λ done. give _)
 step_walks line (Step.CheckWrite c output) m f = and_then (stream_walks m output (writer_asks (check_write_asks (own_of line))) (output_at m output) (inl refl) refl (output_record (kind_at m.table output)) (λ place r here. writer_walks here r (check_write_asks (own_of line)) r.streams refl (check_walks here refl r))) (λ done. give _)
 step_walks line (Step.Write c output bytes) m f = and_then (write_on_walks m output bytes (output_at m output) (inl refl) refl (output_record (kind_at m.table output))) (λ done. give _)

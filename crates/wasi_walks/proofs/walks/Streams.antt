@@ -1,6 +1,6 @@
 -- The calls on the streams of a connection, as moves of the record that holds them; and the steps on streams and pollables, drops
 -- and turns.
-use Rattle.wasi_walks.proofs.Words.{Accepts, Answer, Asks, Bool, Done, End, Err, ErrorCode, ErrorValue, Give, Has, HasChildren, Input, Job, Kind}
+use Rattle.wasi_walks.proofs.Words.{◌∙◌, Accepts, Answer, Asks, Bool, Done, End, Err, ErrorCode, ErrorValue, Give, Has, HasChildren, Input, Job, Kind}
 use Rattle.wasi_walks.proofs.Words.{List, Listening, Machine, Network, None, Not, NotPermitted, Ok, OpId, Option, Output, Pending, Pollable}
 use Rattle.wasi_walks.proofs.Words.{ReadState, Ready, Records, Refused, Result, ShutdownType, Some, StandingCall, Step, StreamStop, Streams, Tcp2}
 use Rattle.wasi_walks.proofs.Words.{Tcp2Socket, TcpReceiveStream, TcpSendStream, Trap, Waits, WasiSocketsCtx, Watched, WriteState, [], after_read}
@@ -15,20 +15,22 @@ use Rattle.wasi_walks.proofs.Words.{writer_shutdown_asks, writer_side, writing_s
 use Rattle.wasi_world.specs.declared.ids.Ids.{Ids}
 use Rattle.wasi_addr.specs.declared.address.ShutdownType.TheVariants.{Receive, Send, Both}
 use Rattle.wasi_tcp.specs.Job.{finish_in as finish_job}
-use Rattle.wasi_host.specs.Records.{tcp2_at}
+use Rattle.wasi_host.specs.Records.{tcp2_at, udp2_at}
 use Rattle.wasi_host.specs.declared.records.Record.{Record}
 use Rattle.wasi_host.specs.declared.jobs.HostJob.{HostJob}
 use Rattle.wasi_host.specs.declared.jobs.HostJob.TheVariants.{Write}
 use Rattle.wasi_host.specs.Shutdowns.{with_streams}
 use Rattle.wasi_walks.proofs.walks.Writes.{may_begin, may_of, may_in, may_at, may}
-use Rattle.wasi_walks.proofs.walks.Moves.{Own, Used, Unused, ToWrite, Here, put, OfReader, OfWriter, Collects, Permits, Lasts, LastsAfter, Closes, Spends, ClosesReader, Writes, BeginsWrite, NoStart, NoStartStands, record_of, MarksError, AnError, Reaches, Leaves, IsGone, Lists, Takes, Past, Stands, APollable}
+use Rattle.wasi_walks.proofs.walks.Moves.{Own, Used, Unused, ToWrite, Here, put, OfReader, OfWriter, Collects, Permits, Lasts, LastsAfter, Closes, Spends, ClosesReader, Writes, BeginsWrite, NoStart, NoStartStands, record_of, MarksError, AnError, Reaches, Leaves, IsGone, Lists, Takes, Past, Stands, APollable, AUdpPollable, ReachesUdp, udp_record_of, tcp_place}
 use Rattle.wasi_walks.proofs.walks.Law.{Law, HasRecord, spent, put_put, Walks, give, and_then, by_if, move, gives, from, found, on, ask, turn, put_same, ends, close, mark, give_up, and_so}
 use Rattle.wasi_tcp.specs.Closing.{close_in}
 use Rattle.wasi_host.specs.Readiness.{ready_listening, ready_idle, ready_socket_by, ready_reader, ready_writer, ready_record, ready_at}
 use Rattle.wasi_host.specs.Jobs.{with_job, begins_job, turned, turn_at, turn_job, turn_jobs}
 use Rattle.wasi_host.specs.StreamCalls.{converted, stream_on, write_on}
 use Rattle.wasi_walks.proofs.walks.Sockets.{listener_walks, finish_walks}
-use Rattle.wasi_walks.proofs.walks.States.{watched_record, OverWith, At, Starts, watch_record, streams_are, Put, there, Sets}
+use Rattle.wasi_walks.proofs.walks.States.{watched_record, OverWith, At, Starts, watch_record, streams_are, Put, there, Sets, watched_udp}
+use Rattle.wasi_walks.proofs.walks.Udp.{release_udp_walks}
+use Rattle.wasi_host.specs.declared.kind.Kind.TheVariants.{Udp2}
 use Rattle.wasi_streams.specs.StreamStop as stop
 
 -- what a call on the record's socket, its reader or its writer leaves
@@ -242,6 +244,9 @@ module _ {contexts : List WasiSocketsCtx} {line : ℕ} {origin : Step} {law : La
   dropped_walks m this (Tcp2 place) true named e q =
       let now : Machine = record m { table = without_handle m.table this } in
       move (Reaches _ this place named (ap record_of e)) (move (Takes _ this) (and_then (release_at_walks now place (tcp2_at m.store.records place) refl q) (λ done. gives _ (Leaves _))))
+  dropped_walks m this (Udp2 place) true named e q =
+      let now : Machine = record m { table = without_handle m.table this } in
+      move (ReachesUdp _ this place named (ap udp_record_of e)) (move (Takes _ this) (and_then (release_udp_walks now place (udp2_at m.store.records place) refl q) (λ done. gives _ (Leaves _))))
   dropped_walks m this Network true named e q = move (Takes _ this) (gives _ (Spends _ refl))
   dropped_walks m this (Input place) true named e q = move (Takes _ this) (gives _ (Spends _ refl))
   dropped_walks m this (Output place) true named e q =
@@ -276,7 +281,10 @@ module _ {contexts : List WasiSocketsCtx} {line : ℕ} {origin : Step} {law : La
   -- == pollables
   pub subscribe_walks : (c s : ℕ) (m : Machine) (o : Option Watched) → watched_by (kind_at m.table s) ≡ o → origin ≡ Step.Subscribe c s → Walks law (Starts m Unused) OverWith (subscribe_on m (own_of line) s o)
   subscribe_walks c s m None e is = gives _ (Spends _ refl)
-  subscribe_walks c s m (Some w) e is = move (Spends _ refl) (and_then (mark (APollable c s w is (watched_record (kind_at m.table s) w e))) (λ made. give _))
+  subscribe_walks c s m (Some (Watched.Udp place)) e is = move (Spends _ refl) (and_then (mark (AUdpPollable c s place is (watched_udp (kind_at m.table s) place e))) (λ made. give _))
+  subscribe_walks c s m (Some (Watched.Socket place)) e is = move (Spends _ refl) (and_then (mark (APollable c s (Watched.Socket place) is refl (watched_record (kind_at m.table s) _ e))) (λ made. give _))
+  subscribe_walks c s m (Some (Watched.Input place)) e is = move (Spends _ refl) (and_then (mark (APollable c s (Watched.Input place) is refl (watched_record (kind_at m.table s) _ e))) (λ made. give _))
+  subscribe_walks c s m (Some (Watched.Output place)) e is = move (Spends _ refl) (and_then (mark (APollable c s (Watched.Output place) is refl (watched_record (kind_at m.table s) _ e))) (λ made. give _))
 
   module _ {h : Here} {place : ℕ} (here : HasRecord h place) (at : h.at ≡ Some (place, line)) (free : h.own ≡ Unused) where
     ready_listening_walks : (r : Tcp2Socket) (l : Listening) → r.listening ≡ l → Walks law (put h place r) (λ done. record (put h place done.1) { own = Used }) (ready_listening (first_ids line) r l)
@@ -303,11 +311,19 @@ module _ {contexts : List WasiSocketsCtx} {line : ℕ} {origin : Step} {law : La
     ready_record_walks (Watched.Socket n) r = ready_socket_walks r (is_connect r.in_progress)
     ready_record_walks (Watched.Input n) r = ready_reader_walks r r.streams refl
     ready_record_walks (Watched.Output n) r = ready_writer_walks r r.streams refl
+    ready_record_walks (Watched.Udp n) r = gives _ (Spends _ free)
 
   ready_at_walks : (m : Machine) (place : ℕ) (w : Watched) (o : Option Tcp2Socket) → tcp2_at m.store.records place ≡ o → Walks law (At line m place Unused) (Put line m place) (ready_at m.store (own_of line) (first_ids line) w place o)
   ready_at_walks m place w None g = gives _ (Spends _ refl)
   ready_at_walks m place w (Some r) g = from (put_same (At line m place Unused) place r g) (and_then (ready_record_walks (there g) refl refl w r) (λ done. give _))
 
+  ready_tcp_walks : (m : Machine) (p : ℕ) (w : Watched) → tcp_place w ≡ Some (place_in w) → watch_of (kind_at m.table p) ≡ Some w → Has (handles_of origin) p
+      → Walks law (Starts m Unused) OverWith (bind (ready_at m.store (own_of line) (first_ids line) w (place_in w) (tcp2_at m.store.records (place_in w))) (λ done. Give (with_store m done)))
+  ready_tcp_walks m p w t e named = move (Reaches _ p (place_in w) named (watch_record (kind_at m.table p) w e ∙ t)) (and_then (ready_at_walks m (place_in w) w (tcp2_at m.store.records (place_in w)) refl) (λ done. gives _ (Leaves _)))
+
   pub ready_walks : (m : Machine) (p : ℕ) (o : Option Watched) → watch_of (kind_at m.table p) ≡ o → Has (handles_of origin) p → Walks law (Starts m Unused) OverWith (ready_on m (first_ids line) o)
   ready_walks m p None e named = gives _ (Spends _ refl)
-  ready_walks m p (Some w) e named = move (Reaches _ p (place_in w) named (watch_record (kind_at m.table p) w e)) (and_then (ready_at_walks m (place_in w) w (tcp2_at m.store.records (place_in w)) refl) (λ done. gives _ (Leaves _)))
+  ready_walks m p (Some (Watched.Udp place)) e named = gives _ (Spends _ refl)
+  ready_walks m p (Some (Watched.Socket place)) e named = ready_tcp_walks m p (Watched.Socket place) refl e named
+  ready_walks m p (Some (Watched.Input place)) e named = ready_tcp_walks m p (Watched.Input place) refl e named
+  ready_walks m p (Some (Watched.Output place)) e named = ready_tcp_walks m p (Watched.Output place) refl e named

@@ -1,0 +1,133 @@
+-- What is known of the UDP sockets under more entries; and what handles and the pending call name, where the records change.
+use Rattle.wasi_walks.proofs.Words.{Entry, IpSocketAddress, IsMarkedWith, Item, Kind, List, None, OpId, Operation, Option, Some}
+use Rattle.wasi_walks.proofs.Words.{SocketAddressFamily, Standing, Step, Tcp2Socket, ap, call_place, inl, inr, own_of, refl, subst, sym, ℕ, ◌++◌}
+use Rattle.wasi_walks.proofs.Words.{◌∙◌, ◌≡◌}
+use Rattle.wasi_walks.proofs.Lists.{has_front, tcp2_front}
+use Rattle.wasi_walks.proofs.UdpLists.{udp_front, udp_set_get, tcp_in_put, tcp_in_push, udp_in_put, udp_in_push}
+use Rattle.wasi_walks.proofs.walks.Moves.{record_of, udp_record_of}
+use Rattle.wasi_walks.proofs.licence.State.{NamesIf, NamesUdp, NamesUdpIf, HandleIsFine, UdpBindLeft, UdpUnchecked, UdpChecked, UdpOver, Names, UdpMade, UdpBindIsFine, UdpProgressIsFine, UdpIsFine, LineNames, OfTcp, OfUdp, StandingIsFine}
+use Rattle.wasi_walks.proofs.licence.Frames.{Goes, began_more, bound_more, marked_more, names_on, works_more, IsMadeWith, made_put, names_record_more}
+use Rattle.wasi_host.specs.Records.{tcp2_at, tcp2_put, tcp2_pushed, udp2_at, udp2_put, udp2_pushed}
+use Rattle.wasi_host.specs.Udp.{udp_side}
+use Rattle.wasi_host.specs.declared.records.Record.{Record}
+use Rattle.wasi_host.specs.declared.udp.Udp2Socket.{Udp2Socket}
+use Rattle.wasi_host.specs.declared.udp.UdpInProgress.{UdpInProgress}
+
+pub same_udp : (a b : Udp2Socket) → Some a ≡ Some b → a ≡ b
+same_udp a b e = cc
+
+-- == the records by place
+-- The UDP socket of this place has this network socket.
+pub record IsUdpOf (records : List Record) (place : ℕ) (side : OpId) : Type 0 where
+  pub found : Udp2Socket
+  pub at : udp2_at records place ≡ Some found
+  pub same : udp_side found ≡ side
+
+-- Each record is still there, of the network socket that it was made with.
+pub record KeepsSides (old now : List Record) : Type 0 where
+  pub tcp : (place : ℕ) (r : Tcp2Socket) → tcp2_at old place ≡ Some r → IsMadeWith now place r.side
+  pub udp : (place : ℕ) (u : Udp2Socket) → udp2_at old place ≡ Some u → IsUdpOf now place (udp_side u)
+
+-- one is replaced by one of the same network socket
+pub sides_put : (records : List Record) (i : ℕ) (old now : Tcp2Socket) → tcp2_at records i ≡ Some old → now.side ≡ old.side → KeepsSides records (tcp2_put records i now)
+sides_put records i old now g k = record {
+  tcp = λ place r e. made_put records i old now place r g k e;
+  udp = λ place u e. record { found = u; at = udp_in_put records i old now place u g e; same = refl };
+}
+
+pub sides_put_udp : (records : List Record) (i : ℕ) (old now : Udp2Socket) → udp2_at records i ≡ Some old → udp_side now ≡ udp_side old → KeepsSides records (udp2_put records i now)
+sides_put_udp records i old now g k = record {
+  tcp = λ place r e. record { found = r; at = tcp_in_put records i old now place r g e; same = refl };
+  udp = λ place u e. elim (udp_set_get records i now place u e) [
+    | inl p ↦ record { found = u; at = p; same = refl }
+    | inr p ↦ record { found = now; at = p.1; same = k ∙ ap udp_side (same_udp old u (sym g ∙ (ap (udp2_at records) (sym p.0) ∙ e))) }
+  ];
+}
+
+-- there is one more
+pub sides_push : (records : List Record) (now : Tcp2Socket) → KeepsSides records (tcp2_pushed records now)
+sides_push records now = record {
+  tcp = λ place r e. record { found = r; at = tcp2_front records now place r e; same = refl };
+  udp = λ place u e. record { found = u; at = udp_in_push records now place u e; same = refl };
+}
+
+pub sides_push_udp : (records : List Record) (now : Udp2Socket) → KeepsSides records (udp2_pushed records now)
+sides_push_udp records now = record {
+  tcp = λ place r e. record { found = r; at = tcp_in_push records now place r e; same = refl };
+  udp = λ place u e. record { found = u; at = udp_front records now place u e; same = refl };
+}
+
+-- == what a handle stands for
+names_udp_more : (es fs : List Entry) (records : List Record) (handle place : ℕ) → NamesUdp es records handle place → NamesUdp (es ++ fs) records handle place
+names_udp_more es fs records handle place h = record { found = h.found; at = h.at; marked = marked_more es fs handle (Some (udp_side h.found)) h.marked }
+
+tcp_more : (es fs : List Entry) (records : List Record) (handle : ℕ) (o : Option ℕ) → NamesIf es records handle o → NamesIf (es ++ fs) records handle o
+tcp_more es fs records handle (Some place) h = names_record_more es fs records handle place h
+tcp_more es fs records handle None h = tt
+
+udp_if_more : (es fs : List Entry) (records : List Record) (handle : ℕ) (o : Option ℕ) → NamesUdpIf es records handle o → NamesUdpIf (es ++ fs) records handle o
+udp_if_more es fs records handle (Some place) h = names_udp_more es fs records handle place h
+udp_if_more es fs records handle None h = tt
+
+pub handle_more : (es fs : List Entry) (records : List Record) (handle : ℕ) (kind : Kind) → HandleIsFine es records handle kind → HandleIsFine (es ++ fs) records handle kind
+handle_more es fs records handle kind h = (tcp_more es fs records handle (record_of (Some kind)) h.0, udp_if_more es fs records handle (udp_record_of (Some kind)) h.1)
+
+module _ (es : List Entry) (old now : List Record) (k : KeepsSides old now) where
+  tcp_kept : (handle : ℕ) (o : Option ℕ) → NamesIf es old handle o → NamesIf es now handle o
+  tcp_kept handle (Some place) h = let m = k.tcp place h.found h.at in record { found = m.found; at = m.at; marked = subst (IsMarkedWith es handle) (sym m.same) h.marked }
+  tcp_kept handle None h = tt
+
+  udp_kept : (handle : ℕ) (o : Option ℕ) → NamesUdpIf es old handle o → NamesUdpIf es now handle o
+  udp_kept handle (Some place) h = let m = k.udp place h.found h.at in record { found = m.found; at = m.at; marked = subst (λ (s : OpId). IsMarkedWith es handle (Some s)) (sym m.same) h.marked }
+  udp_kept handle None h = tt
+
+  pub handle_kept : (handle : ℕ) (kind : Kind) → HandleIsFine es old handle kind → HandleIsFine es now handle kind
+  handle_kept handle kind h = (tcp_kept handle (record_of (Some kind)) h.0, udp_kept handle (udp_record_of (Some kind)) h.1)
+
+-- == the pending call
+module _ {steps : List Step} (es : List Entry) (old now : List Record) (k : KeepsSides old now) where
+  line_kept : (line place : ℕ) → LineNames steps es old line place → LineNames steps es now line place
+  line_kept line place (OfTcp r e n) = let m = k.tcp place r e in OfTcp m.found m.at (λ side s. n side (sym m.same ∙ s))
+  line_kept line place (OfUdp u e n) = let m = k.udp place u e in OfUdp m.found m.at (subst (Names steps es (own_of line)) (sym m.same) n)
+
+  pub standing_kept : (s : Standing) → StandingIsFine steps es old s → StandingIsFine steps es now s
+  standing_kept s h = λ o. line_kept s.ids.line (call_place s.call) (h o)
+
+module _ {steps now : List Step} (goes : Goes steps now) where
+  line_more : (es fs : List Entry) (records : List Record) (line place : ℕ) → LineNames steps es records line place → LineNames now (es ++ fs) records line place
+  line_more es fs records line place (OfTcp r e n) = OfTcp r e (λ side s. names_on goes es fs (own_of line) side (n side s))
+  line_more es fs records line place (OfUdp u e n) = OfUdp u e (names_on goes es fs (own_of line) (udp_side u) n)
+
+  pub standing_more : (es fs : List Entry) (records : List Record) (s : Standing) → StandingIsFine steps es records s → StandingIsFine now (es ++ fs) records s
+  standing_more es fs records s h = λ o. line_more es fs records s.ids.line (call_place s.call) (h o)
+
+  -- == UDP sockets
+  pub udp_made_more : (es fs : List Entry) (side : OpId) (maker : ℕ) (family : SocketAddressFamily) → UdpMade steps es side maker family → UdpMade now (es ++ fs) side maker family
+  udp_made_more es fs side maker family h = record { by = began_more goes side _ h.by; created = has_front es fs _ h.created }
+
+  udp_left_more : (es fs : List Entry) (op : OpId) (maker : ℕ) (addr : IpSocketAddress) (items : List Item) → UdpBindLeft es op maker addr items → UdpBindLeft (es ++ fs) op maker addr items
+  udp_left_more es fs op maker addr _ UdpUnchecked = UdpUnchecked
+  udp_left_more es fs op maker addr _ (UdpChecked y) = UdpChecked (has_front es fs _ y)
+  udp_left_more es fs op maker addr _ UdpOver = UdpOver
+
+  pub udp_bind_more : (es fs : List Entry) (op : Operation) → UdpBindIsFine steps es op → UdpBindIsFine now (es ++ fs) op
+  udp_bind_more es fs op h = record {
+    addr = h.addr;
+    to = began_more goes op.who.id _ h.to;
+    works = works_more goes es fs op.who.id op.who.side op.who.context h.works;
+    last = h.last;
+    left = udp_left_more es fs op.who.id op.who.context h.addr op.left h.left;
+  }
+
+  udp_progress_more : (es fs : List Entry) (doing : UdpInProgress) → UdpProgressIsFine steps es doing → UdpProgressIsFine now (es ++ fs) doing
+  udp_progress_more es fs (UdpInProgress.Binding op) h = udp_bind_more es fs op h
+  udp_progress_more es fs _ h = tt
+
+  pub udp_more : (es fs : List Entry) (u : Udp2Socket) → UdpIsFine steps es u → UdpIsFine now (es ++ fs) u
+  udp_more es fs (Udp2Socket.Creating create) h = record { made = udp_made_more es fs create.operation.who.side create.operation.who.context create.family h.made; own = h.own; last = h.last; left = h.left }
+  udp_more es fs (Udp2Socket.Open o) h = record {
+    made = udp_made_more es fs o.inner.side o.inner.maker o.inner.family h.made;
+    bound = λ b. bound_more es fs o.inner.side (h.bound b);
+    progress = udp_progress_more es fs o.in_progress h.progress;
+  }
+  udp_more es fs (Udp2Socket.Closed side) h = record { maker = h.maker; family = h.family; made = udp_made_more es fs side h.maker h.family h.made }

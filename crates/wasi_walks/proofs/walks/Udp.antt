@@ -1,0 +1,296 @@
+-- The steps of UDP sockets, as moves: one is made, the handle of one is looked up, and its record does the call.
+use Rattle.std.specs.Prelude.{◌≡◌, ⊤, ℕ, length, Bool, true, false, if◌then◌else◌, List, Option, Some, None, Result, Ok, Err}
+use Rattle.wasi_addr.specs.declared.address.IpSocketAddress.{IpSocketAddress}
+use Rattle.wasi_addr.specs.Address.{is_of_family, is_wildcard, ip_of}
+use Rattle.wasi_walks.proofs.Words.{Answer, Asks, ErrorCode, Give, Has, Item, End, Waits, Done, Refused, Machine, Operation, Pending, Ready, Records, SocketAddressFamily, StandingCall, Step, Stop, WasiSocketsCtx}
+use Rattle.wasi_walks.proofs.Words.{ap, bind, ◌∙◌, handles_of, is_network, kind_at, left_of, own_of, poll_asks, refl, sym, with_store, Handles, InvalidArgument, inr}
+use Rattle.wasi_machine.specs.Machine.{first_ids}
+use Rattle.wasi_world.specs.declared.ids.Ids.{Ids}
+use Rattle.wasi_world.specs.declared.call.Opt.{Opt}
+use Rattle.wasi_common.specs.Options.{value_set, zero_test, refused_before, refused_after}
+use Rattle.wasi_host.specs.Records.{open_at, open_of, udp2_at}
+use Rattle.wasi_host.specs.declared.udp.OpenUdp.{OpenUdp}
+use Rattle.wasi_host.specs.declared.udp.Udp2Socket.{Udp2Socket}
+use Rattle.wasi_host.specs.declared.udp.UdpInProgress.{UdpInProgress}
+use Rattle.wasi_host.specs.Machine.{udp_socket_at}
+use Rattle.wasi_host.specs.Udp.{begin_udp_bind_asks, close_udp_asks, is_udp_bound, is_udp_idle, poll_create_asks, poll_udp_bind_asks, poll_udp_binding, udp_bind_begun, udp_bind_ended, udp_create_ended, udp_local_asks, with_udp_inner, with_udp_progress}
+use Rattle.wasi_host.specs.UdpCalls.{finish_udp_bind_at, finish_udp_bind_by, get_udp_option_at, rebind_udp_at, release_udp_at, set_udp_option_at, start_udp_bind_at, start_udp_bind_by, udp_call_answered, udp_local_at, udp_put_back}
+use Rattle.wasi_host.specs.UdpCreates.{create_answered, create_begun, create_on, create_so, create_udp_asks, handle_made, mark_udp, poll_create_at, with_create}
+use Rattle.wasi_p2.specs.Options.{record_asks}
+use Rattle.wasi_p2.specs.Udp.{finish_udp_bind_on, start_udp_bind_asks}
+use Rattle.wasi_udp.specs.Bind.{bind_asks, bind_operation, bind_start}
+use Rattle.wasi_udp.specs.declared.bind.UdpBindStage.{UdpBindStage}
+use Rattle.wasi_udp.specs.Create.{Create}
+use Rattle.wasi_udp.specs.Options.{get_option_asks, set_option_asks}
+use Rattle.wasi_udp.specs.Shape.{Socket}
+use Rattle.wasi_udp.specs.Socket.{after_local, asker_of, ask_bound, bound_asks, local_where}
+use Rattle.wasi_walks.specs.Licence.{IsGetOf, IsSetTo, IsUdpBindTo}
+use Rattle.wasi_walks.proofs.walks.Moves.{Here, put_udp, FoundUdp, NoStart, NoStartStands, CreatesUdp, udp_begun, udp_record_of, IsUdpSettled, ReachesUdp, Leaves, Spends, UdpChanges, BeginsUdpBind, StandsUdpBind, StandsUdpCreate, Used, Unused}
+use Rattle.wasi_walks.proofs.UdpLists.{udp_set_there}
+use Rattle.wasi_walks.proofs.walks.Law.{Law, Walks, Given, given_then, given_on, given_along, give, and_then, and_so, and_given, by_if, move, gives, from}
+use Rattle.wasi_walks.proofs.walks.States.{At, Over, OverWith, Put, Starts, udp_record}
+use Rattle.wasi_walks.proofs.walks.UdpLaw.{HasUdp, udp_put_put, udp_put_same, udp_found, create_udp, mark_udp_walks, ask_udp, learn_udp, close_udp, poll_create_walks, poll_udp_bind_walks}
+
+-- what is open at a place is the UDP socket there
+pub open_is : (u : Option Udp2Socket) (o : OpenUdp) → open_of u ≡ Some o → u ≡ Some (Udp2Socket.Open o)
+open_is (Some (Udp2Socket.Open o)) p e = let q : o ≡ p = cc in ap (λ (x : OpenUdp). Some (Udp2Socket.Open x)) q
+open_is (Some (Udp2Socket.Creating c)) p e = absurd (cc)
+open_is (Some (Udp2Socket.Closed s)) p e = absurd (cc)
+open_is None p e = absurd (cc)
+
+-- a call that is pending has its bind in progress
+pub record HasUdpBind (doing : UdpInProgress) : Type 0 where
+  pub op : Operation
+  pub is : doing ≡ UdpInProgress.Binding op
+
+abbrev pub WaitsUdp : Result (Answer (Unit {0})) ErrorCode × OpenUdp → Type 0
+WaitsUdp (Ok Pending, o) = HasUdpBind o.in_progress
+WaitsUdp _ = ⊤
+
+poll_given : (o : OpenUdp) (doing : UdpInProgress) → Given WaitsUdp (poll_udp_binding o doing)
+poll_given o (UdpInProgress.Binding op) = given_then WaitsUdp (udp_bind_ended op o) ended (poll_asks op)
+  where
+    ended : (e : End × List Item) → WaitsUdp (udp_bind_ended op o e)
+    ended (Waits, items) = record { op = left_of op items; is = refl }
+    ended (Done given, items) = tt
+    ended (Refused c given, items) = tt
+poll_given o UdpInProgress.Nothing = tt
+poll_given o UdpInProgress.Bound = tt
+
+begun_given : (o : OpenUdp) (begun : Result Operation ErrorCode × Socket) → Given WaitsUdp (udp_bind_begun o begun)
+begun_given o (Ok op, socket) = poll_given (record { inner = socket; in_progress = UdpInProgress.Binding op }) (UdpInProgress.Binding op)
+begun_given o (Err c, socket) = tt
+
+begin_given : (own : _) (o : OpenUdp) (a : IpSocketAddress) → Given WaitsUdp (begin_udp_bind_asks own o a)
+begin_given own o a = given_on WaitsUdp (udp_bind_begun o) (begun_given o) (bind_asks own o.inner a)
+
+-- and a create that is pending has its create in progress
+pub record IsCreatingNow (u : Udp2Socket) : Type 0 where
+  pub create : Create
+  pub is : u ≡ Udp2Socket.Creating create
+
+abbrev pub WaitsCreate : Result (Answer (Unit {0})) ErrorCode × Udp2Socket → Type 0
+WaitsCreate (Ok Pending, u) = IsCreatingNow u
+WaitsCreate _ = ⊤
+
+create_given : (u : Udp2Socket) → Given WaitsCreate (poll_create_asks u)
+create_given (Udp2Socket.Creating create) = given_then WaitsCreate (udp_create_ended create) ended (poll_asks create.operation)
+  where
+    ended : (e : End × List Item) → WaitsCreate (udp_create_ended create e)
+    ended (Waits, items) = record { create = _; is = refl }
+    ended (Done given, items) = tt
+    ended (Refused c given, items) = tt
+create_given (Udp2Socket.Open o) = tt
+create_given (Udp2Socket.Closed s) = tt
+
+-- what is known to be bound was told so
+bound_keeps : (socket : Socket) (told : _) → (after_local socket told).1.side ≡ socket.side
+bound_keeps socket (Ok a) = by_test (is_wildcard socket.family a)
+  where
+    by_test : (b : Bool) → (let answer : Bool × Socket = if b then (false, socket) else (true, record socket { bound = true }) in answer.1.side ≡ socket.side)
+    by_test true = refl
+    by_test false = refl
+bound_keeps socket (Err c) = refl
+
+-- only what was started is finished, and that is no bind in progress
+bound_settles : (doing : UdpInProgress) → is_udp_bound doing ≡ true → IsUdpSettled doing
+bound_settles (UdpInProgress.Binding op) e = absurd (cc)
+bound_settles _ e = tt
+
+udp_there : {h : Here} {place : ℕ} {u : Udp2Socket} → FoundUdp h place u → HasUdp h place
+udp_there {u} g = record { was = u; at = g }
+
+opened : (line : ℕ) (m : Machine) (place : ℕ) (o : OpenUdp) → open_at m.store.records place ≡ Some o → FoundUdp (At line m place Unused) place (Udp2Socket.Open o)
+opened line m place o e = open_is (udp2_at m.store.records place) o e
+
+-- the record is being created, where the create is pending
+abbrev CreatesOn : ℕ → Result (Answer (Unit {0})) Stop × Records → Type 0
+CreatesOn place (Ok Pending, store) = (create : Create) × (udp2_at store.records place ≡ Some (Udp2Socket.Creating create))
+CreatesOn place _ = ⊤
+
+module _ (m : Machine) (place : ℕ) where
+  answered_given : (was : Udp2Socket) → udp2_at m.store.records place ≡ Some was → (done : Result (Answer (Unit {0})) ErrorCode × Udp2Socket) → WaitsCreate done → CreatesOn place (create_answered m.store place done)
+  answered_given was g (Ok Pending, u) w = (w.create, udp_set_there m.store.records place was u g ∙ ap (λ (x : Udp2Socket). Some x) w.is)
+  answered_given was g (Ok (Ready d), u) w = tt
+  answered_given was g (Err c, u) w = tt
+
+  poll_at_given : (u : Option Udp2Socket) → udp2_at m.store.records place ≡ u → Given (CreatesOn place) (poll_create_at m.store place u)
+  poll_at_given None g = tt
+  poll_at_given (Some u) g = given_along WaitsCreate (CreatesOn place) (poll_create_asks u) (λ done. Give (create_answered m.store place done)) (create_given u) (answered_given u g)
+
+module _ {contexts : List WasiSocketsCtx} {line : ℕ} {origin : Step} {law : Law contexts line origin} where
+  -- == on the record of a place
+  module _ {h : Here} {place : ℕ} (here : HasUdp h place) (at : h.at ≡ Some (place, line)) where
+    ask_bound_walks : (o : OpenUdp) (bound : Bool) → Walks law (put_udp h place (Udp2Socket.Open o)) (λ b. put_udp h place (Udp2Socket.Open (with_udp_inner o b.1))) (ask_bound (own_of line) o.inner bound)
+    unfolding bind
+    ask_bound_walks o true = give _
+    ask_bound_walks o false = learn_udp here o at (λ told. give _)
+
+    bound_walks : (o : OpenUdp) → Walks law (put_udp h place (Udp2Socket.Open o)) (λ b. put_udp h place (Udp2Socket.Open (with_udp_inner o b.1))) (bound_asks (own_of line) o.inner)
+    bound_walks o = ask_bound_walks o o.inner.bound
+
+    where_walks : (o : OpenUdp) (bound : Bool) → Walks law (put_udp h place (Udp2Socket.Open o)) (λ done. put_udp h place (Udp2Socket.Open (with_udp_inner o done.1))) (local_where (own_of line) o.inner bound)
+    unfolding bind
+    where_walks o true = ask_udp here o at refl (λ told. give _)
+    where_walks o false = give _
+
+    pub udp_local_walks : (o : OpenUdp) → Walks law (put_udp h place (Udp2Socket.Open o)) (λ done. put_udp h place (Udp2Socket.Open done.1)) (udp_local_asks (own_of line) o)
+    udp_local_walks o = and_then (and_then (bound_walks o) (λ b. where_walks (with_udp_inner o b.1) b.0)) (λ done. give _)
+
+    -- options
+    pub get_udp_walks : (o : OpenUdp) (option : Opt) → IsGetOf option origin → Walks law (put_udp h place (Udp2Socket.Open o)) (λ done. put_udp h place (Udp2Socket.Open o)) (get_option_asks (own_of line) o.inner option)
+    unfolding bind
+    get_udp_walks o option is = ask_udp here o at (refl, refl, is) (λ told. give _)
+
+    pub set_udp_walks : (o : OpenUdp) (option : Opt) (value : ℕ) → IsSetTo option (value_set option value) origin → Walks law (put_udp h place (Udp2Socket.Open o)) (λ done. put_udp h place (Udp2Socket.Open o)) (set_option_asks (own_of line) o.inner option value)
+    set_udp_walks o option value is = by_if (refused_before (zero_test option) value) (λ refused. give _) (λ allowed. by_if (refused_after (zero_test option) value) (λ refused. give _) (λ sets. ask_udp here o at (refl, refl, is) (λ told. give _)))
+
+    -- a bind begins
+    module _ (free : h.own ≡ Unused) (quiet : NoStart h) (a : IpSocketAddress) (to : IsUdpBindTo a origin) where
+      begun_walks : (o : OpenUdp) (idle : is_udp_idle o.in_progress ≡ true) (socket : Socket) (bound : Bool) → Walks law (put_udp h place (Udp2Socket.Open (with_udp_inner o socket))) (λ done. record (put_udp h place (Udp2Socket.Open done.1)) { own = Used }) (udp_bind_begun o (bind_start (own_of line) socket a bound, socket))
+      begun_walks o idle socket true = gives _ (Spends _ free)
+      begun_walks o idle socket false = by_family (is_of_family (ip_of a) socket.family)
+        where
+          by_family : (f : Bool) → Walks law (put_udp h place (Udp2Socket.Open (with_udp_inner o socket))) (λ done. record (put_udp h place (Udp2Socket.Open done.1)) { own = Used }) (udp_bind_begun o ((if f then Ok (bind_operation (asker_of (own_of line) socket) a UdpBindStage.Check) else Err InvalidArgument), socket))
+          by_family false = gives _ (Spends _ free)
+          by_family true =
+              let was : OpenUdp = with_udp_inner o socket in
+              let op : Operation = bind_operation (asker_of (own_of line) socket) a UdpBindStage.Check in
+              let now : OpenUdp = with_udp_progress was (UdpInProgress.Binding op) in
+              let busy : Here = record h { own = Used } in
+              let there : HasUdp busy place = record { was = here.was; at = here.at } in
+              move (BeginsUdpBind _ place was a at (udp_found here (Udp2Socket.Open was)) to idle free)
+              (from (ap (λ (x : Here). record x { own = Used }) (sym (udp_put_put h place (Udp2Socket.Open was) (Udp2Socket.Open now))))
+              (and_then (poll_udp_bind_walks there now op quiet refl) (λ ended. give _)))
+
+      pub begin_udp_walks : (o : OpenUdp) → is_udp_idle o.in_progress ≡ true → Walks law (put_udp h place (Udp2Socket.Open o)) (λ done. record (put_udp h place (Udp2Socket.Open done.1)) { own = Used }) (begin_udp_bind_asks (own_of line) o a)
+      begin_udp_walks o idle = and_so (λ b. (bind_start (own_of line) b.1 a b.0, b.1)) (udp_bind_begun o) (bound_walks o) (λ b. begun_walks o idle b.1 b.0)
+
+  -- == a bind that was begun is polled
+  module _ {h : Here} {place : ℕ} (here : HasUdp h place) (quiet : NoStart h) where
+    polled_by : (o : OpenUdp) (doing : UdpInProgress) → o.in_progress ≡ doing → Walks law (put_udp h place (Udp2Socket.Open o)) (λ done. put_udp h place (Udp2Socket.Open done.1)) (poll_udp_binding o doing)
+    polled_by o (UdpInProgress.Binding op) e = and_then (poll_udp_bind_walks here o op quiet e) (λ ended. give _)
+    polled_by o UdpInProgress.Nothing e = give _
+    polled_by o UdpInProgress.Bound e = give _
+
+    pub poll_bind_walks : (o : OpenUdp) → Walks law (put_udp h place (Udp2Socket.Open o)) (λ done. put_udp h place (Udp2Socket.Open done.1)) (poll_udp_bind_asks o)
+    poll_bind_walks o = polled_by o o.in_progress refl
+
+  -- == a call on the record of a handle
+  pub on_udp : {T : Type 0} (m : Machine) (handle : ℕ) {call : ℕ → Asks (Result T Stop × Records)} (o : Option ℕ) → Has (handles_of origin) handle → ((place : ℕ) → o ≡ Some place → udp_record_of (kind_at m.table handle) ≡ Some place)
+      → ((place : ℕ) → Walks law (At line m place Unused) (Put line m place) (call place)) → Walks law (Starts m Unused) OverWith (record_asks m call o)
+  on_udp m handle None named k c = gives _ (Spends _ refl)
+  on_udp m handle (Some place) named k c = move (ReachesUdp _ handle place named (k place refl)) (and_then (c place) (λ done. gives _ (Leaves _)))
+
+  module _ (m : Machine) (place : ℕ) where
+    put_back_walks : {T : Type 0} (done : Result T ErrorCode × OpenUdp) → Walks law (put_udp (At line m place Unused) place (Udp2Socket.Open done.1)) (Put line m place) (Give (udp_put_back m.store place done))
+    put_back_walks (Ok value, o) = gives _ (Spends _ refl)
+    put_back_walks (Err c, o) = gives _ (Spends _ refl)
+
+    pub udp_local_at_walks : (o : Option OpenUdp) → open_at m.store.records place ≡ o → Walks law (At line m place Unused) (Put line m place) (udp_local_at m.store (own_of line) place o)
+    udp_local_at_walks None e = gives _ (Spends _ refl)
+    udp_local_at_walks (Some o) e = from (udp_put_same (At line m place Unused) place (Udp2Socket.Open o) (opened line m place o e)) (and_then (udp_local_walks (udp_there (opened line m place o e)) refl o) put_back_walks)
+
+    pub udp_get_at_walks : (option : Opt) → IsGetOf option origin → (o : Option OpenUdp) → open_at m.store.records place ≡ o → Walks law (At line m place Unused) (Put line m place) (get_udp_option_at m.store (own_of line) option o)
+    udp_get_at_walks option is None e = gives _ (Spends _ refl)
+    udp_get_at_walks option is (Some o) e =
+        let same = udp_put_same (At line m place Unused) place (Udp2Socket.Open o) (opened line m place o e) in
+        from same (and_then (get_udp_walks (udp_there (opened line m place o e)) refl o option is) (λ done. from (sym same) (gives _ (Spends _ refl))))
+
+    pub udp_set_at_walks : (option : Opt) (value : ℕ) → IsSetTo option (value_set option value) origin → (o : Option OpenUdp) → open_at m.store.records place ≡ o → Walks law (At line m place Unused) (Put line m place) (set_udp_option_at m.store (own_of line) option value o)
+    udp_set_at_walks option value is None e = gives _ (Spends _ refl)
+    udp_set_at_walks option value is (Some o) e =
+        let same = udp_put_same (At line m place Unused) place (Udp2Socket.Open o) (opened line m place o e) in
+        from same (and_then (set_udp_walks (udp_there (opened line m place o e)) refl o option value is) (λ done. from (sym same) (gives _ (Spends _ refl))))
+
+  -- == a bind
+  -- a call that may be pending was answered
+  udp_answered_walks : (m : Machine) (ids : Ids) (place : ℕ) (done : Result (Answer (Unit {0})) ErrorCode × OpenUdp) → HasUdp (At ids.line m place Used) place → WaitsUdp done
+      → Walks law (put_udp (At ids.line m place Used) place (Udp2Socket.Open done.1)) (Put ids.line m place) (Give (udp_call_answered m.store ids (StandingCall.UdpBind place) done))
+  udp_answered_walks m ids place (Ok Pending, o) here w = gives _ (StandsUdpBind _ ids place o w.op refl (udp_found here (Udp2Socket.Open o)) w.is)
+  udp_answered_walks m ids place (Ok (Ready d), o) here w = give _
+  udp_answered_walks m ids place (Err c, o) here w = give _
+
+  start_by : (m : Machine) (place : ℕ) (a : IpSocketAddress) → IsUdpBindTo a origin → NoStartStands m.store.standing → (o : OpenUdp) → FoundUdp (At line m place Unused) place (Udp2Socket.Open o) → (idle : Bool) → is_udp_idle o.in_progress ≡ idle
+      → Walks law (At line m place Unused) (Put line m place) (start_udp_bind_by m.store (first_ids line) place a o idle)
+  start_by m place a to q o g true e =
+      from (udp_put_same (At line m place Unused) place (Udp2Socket.Open o) g)
+      (and_given WaitsUdp (begin_given (own_of line) o a) (begin_udp_walks (udp_there g) refl refl q a to o e) (λ begun w. udp_answered_walks m (first_ids line) place begun (record { was = Udp2Socket.Open o; at = g }) w))
+  start_by m place a to q o g false e = gives _ (Spends _ refl)
+
+  start_at : (m : Machine) (place : ℕ) (a : IpSocketAddress) → IsUdpBindTo a origin → NoStartStands m.store.standing → (o : Option OpenUdp) → open_at m.store.records place ≡ o → Walks law (At line m place Unused) (Put line m place) (start_udp_bind_at m.store (first_ids line) place a o)
+  start_at m place a to q None e = gives _ (Spends _ refl)
+  start_at m place a to q (Some o) e = start_by m place a to q o (opened line m place o e) (is_udp_idle o.in_progress) refl
+
+  pub start_udp_bind_walks : (m : Machine) (s n : ℕ) (a : IpSocketAddress) → Has (handles_of origin) s → IsUdpBindTo a origin → NoStartStands m.store.standing → Walks law (Starts m Unused) OverWith (start_udp_bind_asks m (first_ids line) s n a)
+  start_udp_bind_walks m s n a named to q =
+      by_if (is_network (kind_at m.table n)) (λ yes. on_udp m s (udp_socket_at m s) named (udp_record (kind_at m.table s)) (λ place. start_at m place a to q (open_at m.store.records place) refl)) (λ other. gives _ (Spends _ refl))
+
+  finish_by : (m : Machine) (place : ℕ) (o : OpenUdp) → FoundUdp (Over m) place (Udp2Socket.Open o) → (b : Bool) → is_udp_bound o.in_progress ≡ b → Walks law (Starts m Unused) (λ now. Over now) (Give (with_store m (finish_udp_bind_by m.store place o b)).1)
+  finish_by m place o g true e = move (Spends _ refl) (gives _ (UdpChanges _ place o _ g (record { side = refl; maker = refl; family = refl; remote = refl; bound = λ b. b; binds = inr (bound_settles o.in_progress e, tt) })))
+  finish_by m place o g false e = gives _ (Spends _ refl)
+
+  finish_at : (m : Machine) (place : ℕ) (o : Option OpenUdp) → open_at m.store.records place ≡ o → Walks law (Starts m Unused) (λ now. Over now) (Give (with_store m (finish_udp_bind_at m.store place o)).1)
+  finish_at m place None e = gives _ (Spends _ refl)
+  finish_at m place (Some o) e = finish_by m place o (open_is (udp2_at m.store.records place) o e) (is_udp_bound o.in_progress) refl
+
+  pub finish_udp_bind_walks : (m : Machine) (o : Option ℕ) → Walks law (Starts m Unused) (λ now. Over now) (Give (finish_udp_bind_on m o).1)
+  finish_udp_bind_walks m None = gives _ (Spends _ refl)
+  finish_udp_bind_walks m (Some place) = finish_at m place (open_at m.store.records place) refl
+
+  -- a bind that was pending is polled again
+  pub rebind_udp_walks : (ids : Ids) (m : Machine) → NoStartStands m.store.standing → (place : ℕ) (o : Option OpenUdp) → open_at m.store.records place ≡ o → Walks law (At ids.line m place Used) (Put ids.line m place) (rebind_udp_at m.store ids place o)
+  rebind_udp_walks ids m q place None e = give _
+  rebind_udp_walks ids m q place (Some o) e =
+      let g : FoundUdp (At ids.line m place Used) place (Udp2Socket.Open o) = open_is (udp2_at m.store.records place) o e in
+      from (udp_put_same (At ids.line m place Used) place (Udp2Socket.Open o) g)
+      (and_given WaitsUdp (poll_given o o.in_progress) (poll_bind_walks (udp_there g) q o) (λ done w. udp_answered_walks m ids place done (record { was = Udp2Socket.Open o; at = g }) w))
+
+  -- == the end
+  close_by : {h : Here} {place : ℕ} (here : HasUdp h place) → NoStart h → (u : Udp2Socket) → Walks law (put_udp h place u) (λ done. put_udp h place done.1) (close_udp_asks (own_of line) u)
+  unfolding bind
+  close_by here q (Udp2Socket.Open o) = close_udp here o q (λ told. give _)
+  close_by here q (Udp2Socket.Creating c) = give _
+  close_by here q (Udp2Socket.Closed s) = give _
+
+  pub release_udp_walks : (m : Machine) (place : ℕ) (u : Option Udp2Socket) → udp2_at m.store.records place ≡ u → NoStartStands m.store.standing → Walks law (At line m place Unused) (Put line m place) (release_udp_at m.store (own_of line) place u)
+  release_udp_walks m place None g q = gives _ (Spends _ refl)
+  release_udp_walks m place (Some u) g q = from (udp_put_same (At line m place Unused) place u g) (and_then (close_by (udp_there {h = At line m place Unused} g) q u) (λ done. gives _ (Spends _ refl)))
+
+  -- == a create
+  created_by : (m : Machine) (made : Result ℕ Stop × Handles) → Walks law (Over (record m { table = made.1 })) OverWith (Give (handle_made m made))
+  created_by m (Ok handle, t) = give _
+  created_by m (Err why, t) = give _
+
+  mark_walks : (m : Machine) (place : ℕ) (u : Option Udp2Socket) → udp2_at m.store.records place ≡ u → Walks law (Over m) OverWith (mark_udp m place u)
+  mark_walks m place None g = give _
+  mark_walks m place (Some u) g = and_then (mark_udp_walks place u g) (created_by m)
+
+  create_so_walks : (ids : Ids) (place : ℕ) (m : Machine) (done : Result (Answer (Unit {0})) Stop × Records) → CreatesOn place done → Walks law (Over (record m { store = done.1 })) OverWith (create_so ids place m done)
+  create_so_walks ids place m (Ok Pending, store) w = gives _ (StandsUdpCreate _ ids place w.0 w.1)
+  create_so_walks ids place m (Ok (Ready d), store) w = mark_walks (record m { store = store }) place (udp2_at store.records place) refl
+  create_so_walks ids place m (Err c, store) w = give _
+
+  module _ (m : Machine) (place : ℕ) where
+    poll_so : (u : Udp2Socket) → FoundUdp (Over m) place u → NoStartStands m.store.standing → Walks law (put_udp (Over m) place u) (λ done. put_udp (Over m) place done.1) (poll_create_asks u)
+    poll_so (Udp2Socket.Creating create) g q = and_then (poll_create_walks (udp_there {h = Over m} g) create q) (λ ended. give _)
+    poll_so (Udp2Socket.Open o) g q = give _
+    poll_so (Udp2Socket.Closed s) g q = give _
+
+    answered_so : (done : Result (Answer (Unit {0})) ErrorCode × Udp2Socket) → Walks law (put_udp (Over m) place done.1) (λ x. Over (record m { store = x.1 })) (Give (create_answered m.store place done))
+    answered_so (Ok answer, u) = give _
+    answered_so (Err c, u) = give _
+
+    poll_at_walks : (u : Option Udp2Socket) → udp2_at m.store.records place ≡ u → NoStartStands m.store.standing → Walks law (Over m) (λ x. Over (record m { store = x.1 })) (poll_create_at m.store place u)
+    poll_at_walks None g q = give _
+    poll_at_walks (Some u) g q = from (udp_put_same (Over m) place u g) (and_then (poll_so u g q) answered_so)
+
+  pub create_on_walks : (ids : Ids) (m : Machine) → NoStartStands m.store.standing → (place : ℕ) → Walks law (Over m) OverWith (create_on m ids place)
+  create_on_walks ids m q place = and_given (CreatesOn place) (poll_at_given m place (udp2_at m.store.records place) refl) (poll_at_walks m place (udp2_at m.store.records place) refl q) (create_so_walks ids place m)
+
+  create_begun_walks : (m : Machine) → NoStartStands m.store.standing → (begun : Result Create ErrorCode) → Walks law (udp_begun (Starts m Unused) begun) OverWith (create_begun m (first_ids line) begun)
+  create_begun_walks m q (Ok create) = create_on_walks (first_ids line) (with_create m create) q (length m.store.records)
+  create_begun_walks m q (Err c) = give _
+
+  pub create_udp_walks : (m : Machine) (ctx : WasiSocketsCtx) (family : SocketAddressFamily) → CreatesUdp contexts ctx family origin → NoStartStands m.store.standing → Walks law (Starts m Unused) OverWith (create_udp_asks m (first_ids line) ctx family)
+  create_udp_walks m ctx family c q = and_then (create_udp ctx family c refl refl refl) (create_begun_walks m q)

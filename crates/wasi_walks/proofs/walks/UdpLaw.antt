@@ -1,0 +1,88 @@
+-- How walks of UDP sockets are put together: what is asked of one, the polls of its create and of its bind, and its end.
+use Rattle.std.specs.Prelude.{◌≡◌, ℕ, List, [], ◌∷◌, ◌++◌, Some, None}
+use Rattle.wasi_walks.proofs.Words.{Asks, Ask, Call, End, Entry, Item, Operation, SocketAddressFamily, Step, Told, WasiSocketsCtx}
+use Rattle.wasi_walks.proofs.Words.{ap, bind, entry, make_asks, own_of, poll_asks, subst, told_addr}
+use Rattle.wasi_host.specs.declared.kind.Kind.TheVariants.{Udp2}
+use Rattle.wasi_host.specs.declared.records.Record.{Record}
+use Rattle.wasi_host.specs.declared.udp.OpenUdp.{OpenUdp}
+use Rattle.wasi_host.specs.declared.udp.Udp2Socket.{Udp2Socket}
+use Rattle.wasi_host.specs.declared.udp.UdpInProgress.{UdpInProgress}
+use Rattle.wasi_host.specs.Udp.{udp_side, udp_create_left, udp_bind_progress, with_udp_inner, with_udp_progress}
+use Rattle.wasi_udp.specs.Create.{Create, new_asks}
+use Rattle.wasi_udp.specs.Socket.{after_local}
+use Rattle.wasi_walks.proofs.UdpLists.{udp_set_set, udp_set_same, udp_set_there}
+use Rattle.wasi_walks.proofs.walks.Moves.{Here, put_udp, FoundUdp, NoStart, IsQuestionOf, CreatesUdp, udp_begun, Unused, Past, Spends, Held, UdpCreates, UdpBindsOn}
+use Rattle.wasi_walks.proofs.walks.Law.{Law, Walks, ends, by_if, gives}
+
+-- A place that has the record of a UDP socket.
+pub record HasUdp (h : Here) (place : ℕ) : Type 0 where
+  pub was : Udp2Socket
+  pub at : FoundUdp h place was
+
+pub udp_put_put : (h : Here) (place : ℕ) (u now : Udp2Socket) → put_udp (put_udp h place u) place now ≡ put_udp h place now
+udp_put_put h place u now =
+    let f : List Record → Here = λ xs. record h { machine = record h.machine { store = record h.machine.store { records = xs } } } in
+    ap f (udp_set_set h.machine.store.records place u now)
+
+pub udp_put_same : (h : Here) (place : ℕ) (u : Udp2Socket) → FoundUdp h place u → put_udp h place u ≡ h
+udp_put_same h place u e =
+    let f : List Record → Here = λ xs. record h { machine = record h.machine { store = record h.machine.store { records = xs } } } in
+    ap f (udp_set_same h.machine.store.records place u e)
+
+pub udp_found : {h : Here} {place : ℕ} → HasUdp h place → (u : Udp2Socket) → FoundUdp (put_udp h place u) place u
+udp_found {h} {place} here u = udp_set_there h.machine.store.records place here.was u here.at
+
+module _ {contexts : List WasiSocketsCtx} {line : ℕ} {origin : Step} {law : Law contexts line origin} where
+  -- its network socket is made
+  pub create_udp : {h : Here} (ctx : WasiSocketsCtx) (family : SocketAddressFamily) → CreatesUdp contexts ctx family origin → h.at ≡ None → h.own ≡ Unused → h.made ≡ Past → Walks law h (udp_begun h) (new_asks (own_of line) ctx family)
+  unfolding bind
+  create_udp {h} ctx family c t o m = by_if ctx.udp (λ may. record { along = λ es i. let a = law.udp_creates es h ctx family c may t o m i in (a.0, λ told f. a.1 told f) }) (λ other. gives _ (Spends _ o))
+
+  -- it gets its handle
+  pub mark_udp_walks : {h : Here} (place : ℕ) (u : Udp2Socket) → FoundUdp h place u → Walks law h (λ made. record h { machine = record h.machine { table = made.1 } }) (make_asks h.machine.table (udp_side u) (Udp2 place) None (Some (udp_side u)))
+  mark_udp_walks {h} place u g = record { along = λ es i. law.udp_marks es h place u g i }
+
+  module _ {h : Here} {place : ℕ} (here : HasUdp h place) where
+    -- a question
+    pub ask_udp : {A : Type 0} {n : ℕ} {end : A → Here} (o : OpenUdp) {c : Call} {next : Told → Asks A} → h.at ≡ Some (place, n) → IsQuestionOf line origin n o.inner.side c → ((told : Told) → Walks law (put_udp h place (Udp2Socket.Open o)) end (next told))
+        → Walks law (put_udp h place (Udp2Socket.Open o)) end (Ask (own_of n) c next)
+    ask_udp {n} o {c} at q k = record {
+      along = λ es i.
+          let a = law.udp_asks es (put_udp h place (Udp2Socket.Open o)) place n o c at (udp_found here (Udp2Socket.Open o)) q i in
+          (a.0, λ told fits. (k told).along (es ++ entry (own_of n) c told ∷ []) (a.1 told fits));
+    }
+
+    -- whether it is bound is asked
+    pub learn_udp : {A : Type 0} {end : A → Here} (o : OpenUdp) {next : Told → Asks A} → h.at ≡ Some (place, line) → ((told : Told) → Walks law (put_udp h place (Udp2Socket.Open (with_udp_inner o (after_local o.inner (told_addr told)).1))) end (next told))
+        → Walks law (put_udp h place (Udp2Socket.Open o)) end (Ask (own_of line) (Call.Local o.inner.side) next)
+    learn_udp o at k = record {
+      along = λ es i.
+          let a = law.udp_learns es (put_udp h place (Udp2Socket.Open o)) place o at (udp_found here (Udp2Socket.Open o)) i in (
+            a.0,
+            λ told fits.
+                let fs : List Entry = es ++ entry (own_of line) (Call.Local o.inner.side) told ∷ [] in
+                (k told).along fs (subst (law.Inv fs) (udp_put_put h place (Udp2Socket.Open o) (Udp2Socket.Open (with_udp_inner o (after_local o.inner (told_addr told)).1))) (a.1 told fits)),
+          );
+    }
+
+    -- its network socket is closed
+    pub close_udp : {A : Type 0} {end : A → Here} (o : OpenUdp) {next : Told → Asks A} → NoStart h → ((told : Told) → Walks law (put_udp h place (Udp2Socket.Closed o.inner.side)) end (next told)) → Walks law (put_udp h place (Udp2Socket.Open o)) end (Ask (own_of line) (Call.Close o.inner.side) next)
+    close_udp o q k = record {
+      along = λ es i.
+          let a = law.udp_closes es (put_udp h place (Udp2Socket.Open o)) place o q (udp_found here (Udp2Socket.Open o)) i in (
+            a.0,
+            λ told fits.
+                let fs : List Entry = es ++ entry (own_of line) (Call.Close o.inner.side) told ∷ [] in
+                (k told).along fs (subst (law.Inv fs) (udp_put_put h place (Udp2Socket.Open o) (Udp2Socket.Closed o.inner.side)) (a.1 told fits)),
+          );
+    }
+
+    -- a poll, and what becomes of the record
+    udp_polled : (u : Udp2Socket) {op : Operation} (now : End × List Item → Udp2Socket) → Held (put_udp h place u) op (λ ended. put_udp (put_udp h place u) place (now ended)) → Walks law (put_udp h place u) (λ ended. put_udp h place (now ended)) (poll_asks op)
+    udp_polled u {op} now held = ends (λ ended. udp_put_put h place u (now ended)) (record { along = λ es i. law.polls es (put_udp h place u) op _ held i })
+
+    pub poll_create_walks : (create : Create) → NoStart h → Walks law (put_udp h place (Udp2Socket.Creating create)) (λ ended. put_udp h place (udp_create_left create ended)) (poll_asks create.operation)
+    poll_create_walks create q = udp_polled (Udp2Socket.Creating create) (udp_create_left create) (UdpCreates place create q (udp_found here (Udp2Socket.Creating create)))
+
+    pub poll_udp_bind_walks : (o : OpenUdp) (op : Operation) → NoStart h → o.in_progress ≡ UdpInProgress.Binding op → Walks law (put_udp h place (Udp2Socket.Open o)) (λ ended. put_udp h place (Udp2Socket.Open (with_udp_progress o (udp_bind_progress op ended)))) (poll_asks op)
+    poll_udp_bind_walks o op q e = udp_polled (Udp2Socket.Open o) (λ ended. Udp2Socket.Open (with_udp_progress o (udp_bind_progress op ended))) (UdpBindsOn place o op q (udp_found here (Udp2Socket.Open o)) e)
