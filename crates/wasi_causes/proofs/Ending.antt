@@ -1,7 +1,13 @@
 -- What is released: by a shutdown, by a drop of a handle, and what a drop leaves.
 use Rattle.wasi_causes.proofs.Words.{◌≡◌, Bool, true, false, if◌then◌else◌, List, [], ◌∷◌, ◌++◌, Option, Some, None, refl, sym, ap, ◌∙◌, append-nil, append_assoc, ℕ, Result, inl, inr, Ok, Err, subst, ◌≢◌, IsSome, IpSocketAddress, ShutdownType, Receive, Send, Both, give_streams_up, gone, release_asks, released, release_at, Stop, Trap, is_on, other_jobs, kind_at, output_of, has_no_child, without_handle, taken_out, place_of, give_up_asks, socket_at, own_of, with_store, answered, at_once, drop_kind, drop_taken, drop_asks, shut_streams, shut_record, shutdown_at, Records, Kind, Tcp2, Output, Listening, Machine, Streams, Tcp2Socket, shutdown_on, set_there, record_at, putting, record_in, OfRecord, Has, done_reply, answer_reply, Each, no_fields, OutputWaits, WritesOn, ToldToWait, WriterWaits, Field, Reply, in_hand, refuse_in, Job, is_over, held_side, give_up_in, reader_shutdown_asks, Socket, side_of, writer_side, writer_shutdown_asks, side_up_asks, Accepting, ReadState, WriteState, Give, bind, End, Done, Who, Operation, ask_close, Entry, OpId, Answer, Ready, Pending, HasChildren, NoSuchHandle, Full, NotPermitted, WasiSocketsCtx}
 use Rattle.wasi_machine.specs.Machine.{first_ids}
-use Rattle.wasi_host.specs.Records.{tcp2_at}
+use Rattle.wasi_host.specs.Records.{tcp2_at, udp2_at}
+use Rattle.wasi_host.specs.Udp.{close_udp_asks}
+use Rattle.wasi_host.specs.UdpCalls.{release_udp_at, udp_closed, with_udp}
+use Rattle.wasi_host.specs.declared.kind.Kind.TheVariants.{Udp2}
+use Rattle.wasi_host.specs.declared.udp.Udp2Socket.{Udp2Socket}
+use Rattle.wasi_host.specs.declared.udp.Udp2Socket.TheVariants as udp
+use Rattle.wasi_causes.specs.Udp.{udp_given_up, udp_shut}
 use Rattle.wasi_host.specs.declared.jobs.HostJob.{HostJob}
 use Rattle.wasi_causes.proofs.streams.Halves.{OutputRow, outputs}
 use Rattle.wasi_causes.proofs.tables.Meets.{Rows, Meets, ends, asks, chain, onto, told_so, widen}
@@ -175,6 +181,7 @@ module _ (contexts : List WasiSocketsCtx) (m : Machine) (line c handle : ℕ) wh
 
   asks_none : (o : Option Kind) → AsksOnce line o []
   asks_none (Some (Tcp2 place)) = tt
+  asks_none (Some (Udp2 place)) = tt
   asks_none (Some (Output place)) = NoLook
   asks_none _ = refl
 
@@ -196,6 +203,22 @@ module _ (contexts : List WasiSocketsCtx) (m : Machine) (line c handle : ℕ) wh
       by_record None at = ends ((apart (λ e. cc) no_children, rw is tt), (tt, (refl, rw is (λ r there. absurd (cc)))))
       by_record (Some r) at = onto _ (widen (left r at) (releases own r))
 
+    -- == of a UDP socket
+    module _ (place : ℕ) (is : IsKind (Udp2 place)) where
+      udp_left : (u : Udp2Socket) → udp2_at m.store.records place ≡ Some u → (es : List Entry) (done : Unit {0} × Udp2Socket) → (es ≡ udp_given_up own u) × (done.1 ≡ udp_shut u) → DropRow es (answered (with_store (without m handle) (at_once (udp_closed m.store place done))))
+      udp_left u at es (done, now) k =
+          ((apart (λ e. cc) no_children, rw is tt), (tt, (refl, rw is (λ q there. let its : u ≡ q = cc in (rw (sym its) k.0, ap (λ (x : Udp2Socket). let left : Machine = record (without m handle) { store = with_udp m.store place x } in left) (k.1 ∙ ap udp_shut its))))))
+
+      udp_closes : (u : Udp2Socket) → Meets (λ es done. (es ≡ udp_given_up own u) × (done.1 ≡ udp_shut u)) [] (close_udp_asks own u)
+      unfolding bind
+      udp_closes (udp.Open o) = asks (λ t fits. ends (told_so own [] (call.Close o.inner.side) t fits, refl))
+      udp_closes (udp.Creating create) = ends (refl, refl)
+      udp_closes (udp.Closed side) = ends (refl, refl)
+
+      udp_by_record : (o : Option Udp2Socket) → udp2_at m.store.records place ≡ o → Meets (λ es done. DropRow es (answered (with_store (without m handle) (at_once done)))) [] (release_udp_at m.store own place o)
+      udp_by_record None at = ends ((apart (λ e. cc) no_children, rw is tt), (tt, (refl, rw is (λ u there. absurd (cc)))))
+      udp_by_record (Some u) at = onto _ (widen (udp_left u at) (udp_closes u))
+
     -- == of an output
     waits_once : (writer : WriteState) (es : List Entry) → WriterWaits own writer es → LooksOnce own es
     waits_once writer _ (WritesOn on) = NoLook
@@ -209,6 +232,7 @@ module _ (contexts : List WasiSocketsCtx) (m : Machine) (line c handle : ℕ) wh
 
     by_kind : (kind : Kind) → IsKind kind → Meets DropRow [] (drop_kind (without m handle) (first_ids line) kind)
     by_kind (Tcp2 place) is = onto _ (by_record place is (tcp2_at m.store.records place) refl)
+    by_kind (Udp2 place) is = onto _ (udp_by_record place is (udp2_at m.store.records place) refl)
     by_kind (Output place) is = onto _ (widen (of_output place is) (outputs m.store (first_ids line) place (tcp2_at m.store.records place) refl))
     by_kind _ is = ends ((apart (λ e. cc) no_children, asks_none (kind_at m.table handle)), (tt, (refl, rw is refl)))
 
@@ -228,18 +252,24 @@ module _ (contexts : List WasiSocketsCtx) (m : Machine) (line c handle : ℕ) wh
   abbrev DropSays : List Entry → Reply → Machine → Type 0
   DropSays = Outcome contexts m line (step.Drop c handle)
 
+  done_ok : (kind : Kind) → kind_at m.table handle ≡ Some kind → (IsSome (output_of (Some kind)) → ⊥) → children_of m.table.live handle ≡ [] → (es : List Entry) (r : Reply) (after : Machine) → DropSays es r after → r ≡ reply.Ok no_fields
+  done_ok kind is other free es (reply.Ok fields) after row = ap reply.Ok (no_fields_so fields row.1.0)
+  done_ok kind is other free es (reply.Pending n) after row = absurd (other (rw is at row.1.0.0.0))
+  done_ok kind is other free es (reply.Trap NoSuchHandle) after row = let none : kind_at m.table handle ≡ None = row.1.0 in absurd (cc)
+  done_ok kind is other free es (reply.Trap HasChildren) after row = absurd ((row.0.0.0 refl).children free)
+  done_ok kind is other free es (reply.Trap Full) after row = absurd row.1.0
+  done_ok kind is other free es (reply.Trap NotPermitted) after row = absurd row.1.0
+  done_ok kind is other free es (reply.Err w) after row = absurd row.1.0
+  done_ok kind is other free es reply.Closed after row = absurd row.1.0
+  done_ok kind is other free es (reply.Failed w h) after row = absurd row.1.0.0
+  done_ok kind is other free es reply.NoSuchCall after row = absurd row.1.0
+  done_ok kind is other free es _ after row = absurd row.1
+
   pub socket_ok : (place : ℕ) → kind_at m.table handle ≡ Some (Tcp2 place) → children_of m.table.live handle ≡ [] → (es : List Entry) (r : Reply) (after : Machine) → DropSays es r after → r ≡ reply.Ok no_fields
-  socket_ok place is free es (reply.Ok fields) after row = ap reply.Ok (no_fields_so fields row.1.0)
-  socket_ok place is free es (reply.Pending n) after row = let out : IsSome (output_of (kind_at m.table handle)) = row.1.0.0.0 in let none : IsSome {T = ℕ} None = rw is at out in absurd (cc)
-  socket_ok place is free es (reply.Trap NoSuchHandle) after row = let none : kind_at m.table handle ≡ None = row.1.0 in absurd (cc)
-  socket_ok place is free es (reply.Trap HasChildren) after row = absurd ((row.0.0.0 refl).children free)
-  socket_ok place is free es (reply.Trap Full) after row = absurd row.1.0
-  socket_ok place is free es (reply.Trap NotPermitted) after row = absurd row.1.0
-  socket_ok place is free es (reply.Err w) after row = absurd row.1.0
-  socket_ok place is free es reply.Closed after row = absurd row.1.0
-  socket_ok place is free es (reply.Failed w h) after row = absurd row.1.0.0
-  socket_ok place is free es reply.NoSuchCall after row = absurd row.1.0
-  socket_ok place is free es _ after row = absurd row.1
+  socket_ok place is = done_ok (Tcp2 place) is (λ some. let none : IsSome {T = ℕ} None = some in cc)
+
+  pub udp_ok : (place : ℕ) → kind_at m.table handle ≡ Some (Udp2 place) → children_of m.table.live handle ≡ [] → (es : List Entry) (r : Reply) (after : Machine) → DropSays es r after → r ≡ reply.Ok no_fields
+  udp_ok place is = done_ok (Udp2 place) is (λ some. let none : IsSome {T = ℕ} None = some in cc)
 
   pub record GivesUp (r : Tcp2Socket) (es : List Entry) (after : Machine) : Type 0 where
     pub asked : es ≡ socket_given_up (own_of line) r
@@ -251,11 +281,13 @@ module _ (contexts : List WasiSocketsCtx) (m : Machine) (line c handle : ℕ) wh
 
   pub asks_nothing : (kind : Kind) → GoesAtOnce kind → (es : List Entry) → AsksOnce line (Some kind) es → es ≡ []
   asks_nothing (Tcp2 place) plain es h = absurd plain
+  asks_nothing (Udp2 place) plain es h = absurd plain
   asks_nothing (Output place) plain es h = absurd plain
   asks_nothing _ plain es h = h
 
   plain_left : (kind : Kind) → GoesAtOnce kind → (es : List Entry) (after : Machine) → Gone m line handle (Some kind) es after → after ≡ without m handle
   plain_left (Tcp2 place) plain es after h = absurd plain
+  plain_left (Udp2 place) plain es after h = absurd plain
   plain_left (Output place) plain es after h = absurd plain
   plain_left _ plain es after h = h
 

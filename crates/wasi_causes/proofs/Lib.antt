@@ -5,4 +5,5 @@ pub mod sockets
 pub mod streams
 pub mod Ending
 pub mod Machine
+pub mod Resumes
 pub mod Runs

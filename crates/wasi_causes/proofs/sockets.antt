@@ -2,3 +2,6 @@
 pub mod Makes
 pub mod Questions
 pub mod Starts
+pub mod Udp
+pub mod UdpBinds
+pub mod UdpCreates

@@ -75,6 +75,7 @@ without m handle = record m { table = without_handle m.table handle }
 -- all but a socket and an output: nothing is asked where it is dropped
 abbrev pub GoesAtOnce : Kind → Type 0
 GoesAtOnce (kind.Tcp2 place) = ⊥
+GoesAtOnce (kind.Udp2 place) = ⊥
 GoesAtOnce (kind.Output place) = ⊥
 GoesAtOnce _ = ⊤
 

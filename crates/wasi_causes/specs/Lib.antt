@@ -4,3 +4,4 @@ pub mod Turns
 pub mod Reached
 pub mod Outcomes
 pub mod Polls
+pub mod Udp

@@ -13,10 +13,10 @@ use Rattle.wasi_steps.specs.declared.reply.Reply.{Reply}
 use Rattle.wasi_steps.specs.declared.reply.Reply.TheVariants as reply
 use Rattle.wasi_steps.specs.declared.step.Step.{Step}
 use Rattle.wasi_steps.specs.declared.step.Step.TheVariants as step
-use Rattle.wasi_walks.specs.Answered.{word_of_code, MakesHandle, IsWrite, CheckFails, closing_reader, closing_writer, ConnectsAt, CreateRefusal, EndsPending, FailsWith, FinishRefusal, HasNoBindInProgress, HasNoConnectInProgress, HasOperationInProgress, KnowsBound, IsGivenUp, IsUnpermitted, LocalRefusal, MissesHandle, OfRecord, OfStreams, output_streams, Permits, putting, ReadFails, ReadsEnd, ReadsNone, ReadsTold, record_at, RefusedBind, RefusedConnect, RefusedOf, RemoteRefusal, WasClosedWith, with_error, WriteFails}
+use Rattle.wasi_walks.specs.Answered.{open_udp_at, word_of_code, MakesHandle, IsWrite, CheckFails, closing_reader, closing_writer, ConnectsAt, CreateRefusal, EndsPending, FailsWith, FinishRefusal, HasNoBindInProgress, HasNoConnectInProgress, HasOperationInProgress, KnowsBound, IsGivenUp, IsUnpermitted, LocalRefusal, MissesHandle, OfRecord, OfStreams, output_streams, Permits, putting, ReadFails, ReadsEnd, ReadsNone, ReadsTold, record_at, RefusedBind, RefusedConnect, RefusedOf, RemoteRefusal, WasClosedWith, with_error, WriteFails}
 use Rattle.wasi_machine.specs.Machine.{is_guest_call, context_at}
-use Rattle.wasi_steps.specs.Replies.{FieldKind, ANumber, SomeBytes, Truth, FieldKinds, Each, AnAddress, kinds_of}
-use Rattle.wasi_steps.specs.Reply.{address_values, no_fields, number_fields, triple_fields, truth_fields}
+use Rattle.wasi_steps.specs.Replies.{FieldKind, ANumber, SomeBytes, Truth, FieldKinds, Each, AnAddress, OneOf, kinds_of}
+use Rattle.wasi_steps.specs.Reply.{address_values, family_fields, no_fields, number_fields, triple_fields, truth_fields}
 use Rattle.wasi_walks.specs.Waiting.{IsPoll, IsUnready, left_missing, MayStand, OfWatched, OutputWaits, pollable_mark, StandingFails, StandingWaits, PendingCallsFit, WatchesAccept, WatchesConnect, WatchesIdle}
 use Rattle.wasi_causes.specs.GivenUp.{IsDrop, HasLiveChildren, HasNoStreams, IsGone, LooksOnce, shut_down, shutdown_entries, socket_given_up, without}
 use Rattle.wasi_world.specs.declared.call.Call.TheVariants as call
@@ -26,7 +26,9 @@ use Rattle.wasi_world.specs.declared.outcome.WasiSocketsCtx.{WasiSocketsCtx}
 use Rattle.wasi_streams.specs.Table.{is_full}
 use Rattle.wasi_tcp.specs.declared.writer.WriteError.TheVariants as error
 use Rattle.wasi_tcp.specs.Socket.{new_socket}
-use Rattle.wasi_host.specs.Records.{tcp2_at}
+use Rattle.wasi_host.specs.Records.{tcp2_at, udp2_at}
+use Rattle.wasi_host.specs.UdpCalls.{with_udp}
+use Rattle.wasi_host.specs.declared.udp.Udp2Socket.{Udp2Socket}
 use Rattle.wasi_host.specs.declared.kind.Kind.{Kind}
 use Rattle.wasi_host.specs.declared.kind.Kind.TheVariants as kind
 use Rattle.wasi_host.specs.declared.machine.Machine.{Machine}
@@ -38,10 +40,11 @@ use Rattle.wasi_host.specs.Shutdowns.{with_streams}
 use Rattle.wasi_host.specs.Store.{with_record}
 use Rattle.wasi_walks.specs.Licence.{entry, Has, marks_in}
 use Rattle.wasi_walks.specs.Listens.{AcceptsAt, closed_by_listen, AcceptTakes, HasNoListenInProgress, RefusedAccept, RefusedListen}
-use Rattle.wasi_steps.specs.Settings.{chosen}
+use Rattle.wasi_steps.specs.Settings.{chosen, udp_opt}
 use Rattle.wasi_causes.specs.Options.{GetsOption, RefusedGet, RefusedSet, SetsChosen}
 use Rattle.wasi_causes.specs.Reached.{FinishesAt, ListensLateAt}
 use Rattle.wasi_causes.specs.Turns.{IsOfJob}
+use Rattle.wasi_causes.specs.Udp.{OfUdp, RefusedOfUdp, HasUdpInProgress, HasNoUdpBind, KeepsNoRemote, WatchesUdp, udp_create_entry, writable_entry, with_udp_record, new_udp, UdpCreateRefusal, CreatesUdp, CreateStands, KnowsUdpBound, UdpBindRefusal, BindsUdp, UdpBindStands, FinishesUdpBind, UdpLocalRefusal, TellsUdpLocal, TellsUdpRemote, UdpGetRefusal, GetsUdpOption, UdpSetRefusal, SetsUdpOption, udp_given_up, udp_shut, GivesBy, ClosesBy, IsUdpCreate}
 
 -- == the fields of a reply that is done
 abbrev pub IsLike : FieldKind → Field → Type 0
@@ -56,10 +59,15 @@ EachLike [] [] = ⊤
 EachLike (kind ∷ kinds) (f ∷ fields) = IsLike kind f × EachLike kinds fields
 EachLike _ _ = ⊥
 
--- one of each of these kinds, or the numbers of an address; nothing is said of widths
+abbrev pub LikeOneOf : List (List FieldKind) → List Field → Type 0
+LikeOneOf [] fields = ⊥
+LikeOneOf (kinds ∷ lists) fields = EachLike kinds fields ⊎ LikeOneOf lists fields
+
+-- one of each of these kinds, or the numbers of an address, or the fields of one of these lists; nothing is said of widths
 abbrev pub AreLike : FieldKinds → List Field → Type 0
 AreLike (Each kinds) fields = EachLike kinds fields
 AreLike AnAddress fields = (a : IpSocketAddress) × (fields ≡ address_values a)
+AreLike (OneOf lists) fields = LikeOneOf lists fields
 
 -- == the words of refusals
 -- The word of a code that the network may tell, or a test of the host's own answers.
@@ -82,6 +90,13 @@ MayRefuse (step.TcpRemoteAddress ctx socket) w = IsCodeWord w
 MayRefuse (step.TcpGet ctx socket option) w = IsCodeWord w
 MayRefuse (step.TcpSet ctx socket setting) w = IsCodeWord w
 MayRefuse (step.TcpShutdown ctx socket how) w = w ≡ word.InvalidState
+MayRefuse (step.UdpCreate ctx family) w = IsCodeWord w
+MayRefuse (step.UdpStartBind ctx socket network a) w = (w ≡ word.ConcurrencyConflict) ⊎ IsCodeWord w
+MayRefuse (step.UdpFinishBind ctx socket) w = w ≡ word.NotInProgress
+MayRefuse (step.UdpLocalAddress ctx socket) w = IsCodeWord w
+MayRefuse (step.UdpRemoteAddress ctx socket) w = w ≡ word.InvalidState
+MayRefuse (step.UdpGet ctx socket option) w = IsCodeWord w
+MayRefuse (step.UdpSet ctx socket setting) w = IsCodeWord w
 MayRefuse (step.Poll n) w = IsCodeWord w
 MayRefuse _ w = ⊥
 
@@ -98,6 +113,7 @@ IsStreamCall _ = ⊥
 abbrev pub MayMiss : Step → Type 0
 MayMiss (step.Network ctx) = ⊥
 MayMiss (step.TcpCreate ctx family) = ⊥
+MayMiss (step.UdpCreate ctx family) = ⊥
 MayMiss step.Turn = ⊥
 MayMiss _ = ⊤
 
@@ -112,6 +128,8 @@ MayTrap s _ = ⊥
 abbrev pub MayWait : ℕ → Step → ℕ → Type 0
 MayWait line (step.TcpStartBind ctx socket network a) n = n ≡ line
 MayWait line (step.TcpStartListen ctx socket) n = n ≡ line
+MayWait line (step.UdpCreate ctx family) n = n ≡ line
+MayWait line (step.UdpStartBind ctx socket network a) n = n ≡ line
 MayWait line (step.Drop ctx handle) n = n ≡ line
 MayWait line (step.Poll call) n = n ≡ call
 MayWait line _ n = ⊥
@@ -143,9 +161,18 @@ Quiet m es after = (es ≡ []) × (after ≡ m)
 abbrev pub Conflicts : Machine → ℕ → Reply → Type 0
 Conflicts m handle r = (r ≡ reply.Err word.ConcurrencyConflict) ↔ HasOperationInProgress (record_at m handle)
 
+-- and so is that of a UDP socket
+abbrev pub UdpConflicts : Machine → ℕ → Reply → Type 0
+UdpConflicts m handle r = (r ≡ reply.Err word.ConcurrencyConflict) ↔ HasUdpInProgress (open_udp_at m handle)
+
+-- it is ready, and nothing was asked
+abbrev pub ReadyAtOnce : Machine → List Entry → Reply → Machine → Type 0
+ReadyAtOnce m es r after = (r ≡ reply.Ok (truth_fields true)) × Quiet m es after
+
 -- what the drop of a handle of this kind asks, unless that is a socket's
 abbrev pub AsksOnce : ℕ → Option Kind → List Entry → Type 0
 AsksOnce line (Some (kind.Tcp2 place)) es = ⊤
+AsksOnce line (Some (kind.Udp2 place)) es = ⊤
 AsksOnce line (Some (kind.Output place)) es = LooksOnce (own_of line) es
 AsksOnce line _ es = es ≡ []
 
@@ -167,9 +194,15 @@ Always m line (step.TcpIsListening c s) es r after = Quiet m es after
 Always m line (step.TcpAddressFamily c s) es r after = Quiet m es after
 Always m line (step.TcpGet c s option) es r after = after ≡ m
 Always m line (step.Write c output bytes) es r after = (r ≡ reply.Trap NotPermitted) ↔ IsSomeAnd (output_streams m output) (λ s. IsUnpermitted s.writer (length bytes))
-Always m line (step.Ready c p) es r after = WatchesIdle m p → (r ≡ reply.Ok (truth_fields true)) × Quiet m es after
+Always m line (step.Ready c p) es r after = (WatchesIdle m p → ReadyAtOnce m es r after) × (WatchesUdp m p → ReadyAtOnce m es r after)
 Always m line (step.Drop c h) es r after = ((r ≡ reply.Trap HasChildren) ↔ HasLiveChildren m h) × AsksOnce line (kind_at m.table h) es
 Always m line (step.TcpShutdown c s how) es r after = (r ≡ reply.Err word.InvalidState) ↔ HasNoStreams (record_at m s)
+Always m line (step.UdpStartBind c s n a) es r after = is_network (kind_at m.table n) ≡ true → UdpConflicts m s r
+Always m line (step.UdpFinishBind c s) es r after = (es ≡ []) × ((r ≡ reply.Err word.NotInProgress) ↔ HasNoUdpBind (open_udp_at m s))
+Always m line (step.UdpRemoteAddress c s) es r after = Quiet m es after × ((r ≡ reply.Err word.InvalidState) ↔ KeepsNoRemote (open_udp_at m s))
+Always m line (step.UdpAddressFamily c s) es r after = Quiet m es after
+Always m line (step.UdpGet c s option) es r after = after ≡ m
+Always m line (step.UdpSet c s setting) es r after = after ≡ m
 Always m line step.Turn es r after = Turns m es r after
 Always m line (step.Poll n) es r after = ((r ≡ reply.NoSuchCall) ↔ (stands_as m.store.standing n ≡ false)) × (stands_as m.store.standing n ≡ true → (r ≡ reply.Pending n) ⊎ (after.store.standing ≡ None))
 Always m line _ es r after = ⊤
@@ -206,21 +239,31 @@ Looks m line pollable es _ = ⊥
 -- what is left where the handle that was dropped is of this kind
 abbrev pub Gone : Machine → ℕ → ℕ → Option Kind → List Entry → Machine → Type 0
 Gone m line handle (Some (kind.Tcp2 place)) es after = (r : Tcp2Socket) → tcp2_at m.store.records place ≡ Some r → (es ≡ socket_given_up (own_of line) r) × IsGone after place
+Gone m line handle (Some (kind.Udp2 place)) es after = (u : Udp2Socket) → udp2_at m.store.records place ≡ Some u → (es ≡ udp_given_up (own_of line) u) × (after ≡ record (without m handle) { store = with_udp m.store place (udp_shut u) })
 Gone m line handle (Some (kind.Output place)) es after = ⊤
 Gone m line handle _ es after = after ≡ without m handle
 
-abbrev pub Done : Machine → ℕ → Step → List Entry → List Field → Machine → Type 0
-Done m line (step.TcpAccept c s) es fields after = Accepts m line s es fields after
-Done m line (step.TcpGet c s option) es fields after = OfRecord m s (λ place r. GetsOption (own_of line) option r fields es)
-Done m line (step.TcpSet c s setting) es fields after = (fields ≡ no_fields) × OfRecord m s (λ place r. SetsChosen m (own_of line) (chosen setting) place r es after)
-Done m line (step.Read c input len) es fields after = Reads m line input len es fields after
-Done m line (step.CheckWrite c output) es fields after = Permitted m line output es fields
-Done m line (step.Flush c output) es fields after = Quiet m es after
-Done m line (step.Subscribe c h) es fields after = Subscribes m line h es fields after
-Done m line (step.Ready c p) es fields after = Looks m line p es fields
-Done m line (step.Drop c h) es fields after = (after.table ≡ without_handle m.table h) × Gone m line h (kind_at m.table h) es after
-Done m line (step.TcpShutdown c s how) es fields after = OfStreams m (socket_at m s) (λ place r st. (es ≡ shutdown_entries (own_of line) how st) × (after ≡ putting m place (with_streams r (shut_down how st))))
-Done m line s es fields after = ⊤
+abbrev pub Done : List WasiSocketsCtx → Machine → ℕ → Step → List Entry → List Field → Machine → Type 0
+Done contexts m line (step.TcpAccept c s) es fields after = Accepts m line s es fields after
+Done contexts m line (step.TcpGet c s option) es fields after = OfRecord m s (λ place r. GetsOption (own_of line) option r fields es)
+Done contexts m line (step.TcpSet c s setting) es fields after = (fields ≡ no_fields) × OfRecord m s (λ place r. SetsChosen m (own_of line) (chosen setting) place r es after)
+Done contexts m line (step.Read c input len) es fields after = Reads m line input len es fields after
+Done contexts m line (step.CheckWrite c output) es fields after = Permitted m line output es fields
+Done contexts m line (step.Flush c output) es fields after = Quiet m es after
+Done contexts m line (step.Subscribe c h) es fields after = Subscribes m line h es fields after
+Done contexts m line (step.Ready c p) es fields after = Looks m line p es fields
+Done contexts m line (step.Drop c h) es fields after = (after.table ≡ without_handle m.table h) × Gone m line h (kind_at m.table h) es after
+Done contexts m line (step.TcpShutdown c s how) es fields after = OfStreams m (socket_at m s) (λ place r st. (es ≡ shutdown_entries (own_of line) how st) × (after ≡ putting m place (with_streams r (shut_down how st))))
+Done contexts m line (step.UdpCreate c family) es fields after = CreatesUdp m (own_of line) (context_at contexts c) family es fields after
+Done contexts m line (step.UdpStartBind c s n a) es fields after = OfUdp m s (λ place o. BindsUdp m (own_of line) place o a es after)
+Done contexts m line (step.UdpFinishBind c s) es fields after = OfUdp m s (λ place o. FinishesUdpBind m place o after)
+Done contexts m line (step.UdpLocalAddress c s) es fields after = OfUdp m s (λ place o. TellsUdpLocal m (own_of line) place o es fields after)
+Done contexts m line (step.UdpRemoteAddress c s) es fields after = OfUdp m s (λ place o. TellsUdpRemote o fields)
+Done contexts m line (step.UdpAddressFamily c s) es fields after = OfUdp m s (λ place o. fields ≡ family_fields o.inner.family)
+Done contexts m line (step.UdpGet c s option) es fields after = OfUdp m s (λ place o. GetsUdpOption (own_of line) (udp_opt option) o fields es)
+Done contexts m line (step.UdpSet c s setting) es fields after = OfUdp m s (λ place o. SetsUdpOption (own_of line) setting o es)
+Done contexts m line (step.Poll n) es fields after = IsSomeAnd m.store.standing (λ s. GivesBy m fields after s.call)
+Done contexts m line s es fields after = ⊤
 
 -- == refused
 -- Why the finish of a connect is refused.
@@ -242,7 +285,13 @@ Refused contexts m line (step.TcpRemoteAddress c s) es w after = RefusedOf m s (
 Refused contexts m line (step.TcpGet c s option) es w after = RefusedGet m (own_of line) s option es w after
 Refused contexts m line (step.TcpSet c s setting) es w after = RefusedSet m (own_of line) s setting es w after
 Refused contexts m line (step.TcpShutdown c s how) es w after = Quiet m es after
-Refused contexts m line (step.Poll n) es w after = PendingCallsFit m → StandingFails m n es w
+Refused contexts m line (step.UdpCreate c family) es w after = UdpCreateRefusal m (own_of line) (context_at contexts c) family es w after
+Refused contexts m line (step.UdpStartBind c s n a) es w after = RefusedOfUdp m s (λ place o. UdpBindRefusal m (own_of line) place o a) es w after × ((after ≡ m) ⊎ ((w ≡ word.InvalidState) × KnowsUdpBound m s after))
+Refused contexts m line (step.UdpFinishBind c s) es w after = after ≡ m
+Refused contexts m line (step.UdpLocalAddress c s) es w after = RefusedOfUdp m s (UdpLocalRefusal m (own_of line)) es w after × ((after ≡ m) ⊎ KnowsUdpBound m s after)
+Refused contexts m line (step.UdpGet c s option) es w after = OfUdp m s (λ place o. UdpGetRefusal (own_of line) (udp_opt option) o es w)
+Refused contexts m line (step.UdpSet c s setting) es w after = OfUdp m s (λ place o. UdpSetRefusal (own_of line) setting o es w)
+Refused contexts m line (step.Poll n) es w after = (PendingCallsFit m → StandingFails m n es w × IsSomeAnd m.store.standing (λ s. ClosesBy after s.call)) × (after.table ≡ m.table)
 Refused contexts m line s es w after = ⊤
 
 -- == the ends of a stream's call
@@ -263,12 +312,14 @@ Fails m line (step.Flush c output) es w handle after = OfStreams m (output_at m 
 Fails m line s es w handle after = ⊤
 
 -- == pending
-abbrev pub Pends : Machine → ℕ → Step → List Entry → Machine → Type 0
-Pends m line (step.TcpStartBind c s n a) es after = EndsPending (own_of line) es
-Pends m line (step.TcpStartListen c s) es after = EndsPending (own_of line) es
-Pends m line (step.Drop c h) es after = (after.table ≡ without_handle m.table h) × OutputWaits m (own_of line) (output_at m h) es
-Pends m line (step.Poll n) es after = PendingCallsFit m → StandingWaits m (own_of n) es
-Pends m line s es after = ⊤
+abbrev pub Pends : List WasiSocketsCtx → Machine → ℕ → Step → List Entry → Machine → Type 0
+Pends contexts m line (step.TcpStartBind c s n a) es after = EndsPending (own_of line) es
+Pends contexts m line (step.TcpStartListen c s) es after = EndsPending (own_of line) es
+Pends contexts m line (step.Drop c h) es after = (after.table ≡ without_handle m.table h) × OutputWaits m (own_of line) (output_at m h) es
+Pends contexts m line (step.UdpCreate c family) es after = CreateStands m line (own_of line) (context_at contexts c) family es after
+Pends contexts m line (step.UdpStartBind c s n a) es after = OfUdp m s (λ place o. UdpBindStands m line (own_of line) place o a es after)
+Pends contexts m line (step.Poll n) es after = PendingCallsFit m → StandingWaits m (own_of n) es
+Pends contexts m line s es after = ⊤
 
 -- == traps
 -- the table is full, after the handles that the entries mark
@@ -279,6 +330,10 @@ FullAfter m es after = (is_full after.table ≡ true) × (after.table.next ≡ m
 abbrev pub LeftFull : List WasiSocketsCtx → Machine → ℕ → Step → List Entry → Machine → Type 0
 LeftFull contexts m line (step.TcpCreate c family) es after =
     (is_full m.table ≡ true) × (es ≡ entry (own_of line) (call.TcpCreate (context_at contexts c).name family) told.Done ∷ []) × (after ≡ record m { store = with_record m.store (new_socket (own_of line) (context_at contexts c).name family) })
+LeftFull contexts m line (step.UdpCreate c family) es after =
+    let its = context_at contexts c in
+    (is_full m.table ≡ true) × (es ≡ udp_create_entry (own_of line) its family told.Done ∷ writable_entry (own_of line) told.Done ∷ []) × (after ≡ with_udp_record m (new_udp (own_of line) its family))
+LeftFull contexts m line (step.Poll n) es after = (is_full m.table ≡ true) × IsSomeAnd m.store.standing (λ s. IsUdpCreate s.call)
 LeftFull contexts m line s es after = ⊤
 
 abbrev pub Traps : List WasiSocketsCtx → Machine → ℕ → Step → List Entry → TrapKind → Machine → Type 0
@@ -290,12 +345,12 @@ Traps contexts m line s es _ after = ⊥
 
 -- == the table: what the step of this line was answered, what it replies, and the machine afterwards
 abbrev pub Replies : List WasiSocketsCtx → Machine → ℕ → Step → List Entry → Reply → Machine → Type 0
-Replies contexts m line s es (reply.Ok fields) after = AreLike (kinds_of s) fields × Done m line s es fields after
+Replies contexts m line s es (reply.Ok fields) after = AreLike (kinds_of s) fields × Done contexts m line s es fields after
 Replies contexts m line s es (reply.Err w) after = MayRefuse s w × Refused contexts m line s es w after
 Replies contexts m line s es reply.Closed after = IsStreamCall s × Ends m line s es after
 Replies contexts m line s es (reply.Failed w handle) after = (IsStreamCall s × IsCodeWord w) × Fails m line s es w handle after
 Replies contexts m line s es (reply.Trap kind) after = Traps contexts m line s es kind after
-Replies contexts m line s es (reply.Pending n) after = (MayStand m line s n × IsSomeAnd after.store.standing (λ call. call.ids.line ≡ n)) × Pends m line s es after
+Replies contexts m line s es (reply.Pending n) after = (MayStand m line s n × IsSomeAnd after.store.standing (λ call. call.ids.line ≡ n)) × Pends contexts m line s es after
 Replies contexts m line s es reply.NoSuchCall after = IsPoll s × Quiet m es after
 Replies contexts m line s es _ after = ⊥
 

@@ -9,7 +9,7 @@ use Rattle.wasi_world.specs.declared.call.Call.TheVariants as call
 use Rattle.wasi_world.specs.declared.call.Entry.{Entry}
 use Rattle.wasi_world.specs.declared.call.Told.{Told}
 use Rattle.wasi_world.specs.declared.call.Told.TheVariants as told
-use Rattle.wasi_world.specs.Operation.{Nothing, Item, Check, CheckLocal, Bind, Connect, Listen, LastAsk, NothingLast, CloseLast, ShutdownLast, Who, End, Waits, Done, Refused}
+use Rattle.wasi_world.specs.Operation.{Nothing, Item, Check, CheckLocal, Bind, Connect, Listen, UdpWritable, UdpBind, LastAsk, NothingLast, CloseLast, ShutdownLast, Who, End, Waits, Done, Refused}
 use Rattle.wasi_walks.specs.Licence.{Has, entry}
 
 abbrev pub check_entry : Who → IpSocketAddress → SocketAddrUse → Told → Entry
@@ -24,12 +24,15 @@ pub data Passes (who : Who) : Item → List Entry → Type 0 where
   LocalToldYes : (a : IpSocketAddress) (usage : SocketAddrUse) → Passes who (CheckLocal usage) (local_entry who (told.Addr a) ∷ check_entry who a usage told.Yes ∷ [])
   BindToldDone : (a : IpSocketAddress) → Passes who (Bind a) (entry who.id (call.Bind who.side a) told.Done ∷ [])
   ConnectToldDone : (a : IpSocketAddress) → Passes who (Connect a) (entry who.id (call.Connect who.side a) told.Done ∷ [])
+  WritableToldDone : Passes who UdpWritable (entry who.id (call.UdpWritable who.side) told.Done ∷ [])
+  UdpBindToldDone : (a : IpSocketAddress) → Passes who (UdpBind a) (entry who.id (call.UdpBind who.side a) told.Done ∷ [])
   ListenToldDone : (backlog : ℕ) → Passes who (Listen backlog) (entry who.id (call.Listen who.side backlog) told.Done ∷ [])
 
 -- An item was answered pending, and is asked again in this form.
 pub data Holds (who : Who) : Item → List Entry → Item → Type 0 where
   CheckToldPending : (a : IpSocketAddress) (usage : SocketAddrUse) → Holds who (Check a usage) (check_entry who a usage told.Pending ∷ []) (Check a usage)
   LocalToldPending : (a : IpSocketAddress) (usage : SocketAddrUse) → Holds who (CheckLocal usage) (local_entry who (told.Addr a) ∷ check_entry who a usage told.Pending ∷ []) (Check a usage)
+  WritableToldPending : Holds who UdpWritable (entry who.id (call.UdpWritable who.side) told.Pending ∷ []) UdpWritable
   ConnectToldPending : (a : IpSocketAddress) → Holds who (Connect a) (entry who.id (call.Connect who.side a) told.Pending ∷ []) (Connect a)
 
 -- An item ends the operation with this code.
@@ -39,6 +42,8 @@ pub data Breaks (who : Who) : Item → List Entry → ErrorCode → Type 0 where
   LocalToldCode : (usage : SocketAddrUse) (c : ErrorCode) → Breaks who (CheckLocal usage) (local_entry who (told.Code c) ∷ []) c
   BindToldCode : (a : IpSocketAddress) (c : ErrorCode) → Breaks who (Bind a) (entry who.id (call.Bind who.side a) (told.Code c) ∷ []) c
   ConnectToldCode : (a : IpSocketAddress) (c : ErrorCode) → Breaks who (Connect a) (entry who.id (call.Connect who.side a) (told.Code c) ∷ []) c
+  WritableToldCode : (c : ErrorCode) → Breaks who UdpWritable (entry who.id (call.UdpWritable who.side) (told.Code c) ∷ []) c
+  UdpBindToldCode : (a : IpSocketAddress) (c : ErrorCode) → Breaks who (UdpBind a) (entry who.id (call.UdpBind who.side a) (told.Code c) ∷ []) c
   ListenToldCode : (backlog : ℕ) (c : ErrorCode) → Breaks who (Listen backlog) (entry who.id (call.Listen who.side backlog) (told.Code c) ∷ []) c
 
 -- == a poll

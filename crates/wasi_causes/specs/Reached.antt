@@ -3,9 +3,10 @@ use Rattle.std.specs.Prelude.{◌≡◌, ⊤, ℕ, true, false, IfSome, IsSome}
 use Rattle.wasi_world.specs.declared.ids.OpId.{OpId}
 use Rattle.wasi_tcp.specs.declared.socket.TcpState.{TcpState}
 use Rattle.wasi_tcp.specs.declared.socket.TcpState.TheVariants as state
-use Rattle.wasi_host.specs.Records.{tcp2_at}
+use Rattle.wasi_host.specs.Records.{tcp2_at, udp2_at}
 use Rattle.wasi_host.specs.declared.kind.Kind.{Kind}
-use Rattle.wasi_host.specs.declared.kind.Kind.TheVariants.{Network, Tcp2, Input, Output, Pollable, ErrorValue}
+use Rattle.wasi_host.specs.declared.kind.Kind.TheVariants.{Network, Tcp2, Udp2, Input, Output, Pollable, ErrorValue}
+use Rattle.wasi_host.specs.declared.kind.Watched.TheVariants as watched
 use Rattle.wasi_host.specs.declared.listening.Listening.TheVariants as listening
 use Rattle.wasi_host.specs.declared.machine.Machine.{Machine}
 use Rattle.wasi_host.specs.declared.socket.Tcp2Socket.{Tcp2Socket}
@@ -17,12 +18,18 @@ use Rattle.wasi_walks.specs.Answered.{record_at}
 abbrev pub HasRecord : Machine → ℕ → Type 0
 HasRecord m place = IsSome (tcp2_at m.store.records place)
 
+-- the same of a UDP socket
+abbrev pub HasUdpRecord : Machine → ℕ → Type 0
+HasUdpRecord m place = IsSome (udp2_at m.store.records place)
+
 -- a handle of a socket, a stream or a pollable is of a record that is there
 abbrev pub OfItsRecord : Machine → Kind → Type 0
 OfItsRecord m Network = ⊤
 OfItsRecord m (Tcp2 place) = HasRecord m place
+OfItsRecord m (Udp2 place) = HasUdpRecord m place
 OfItsRecord m (Input place) = HasRecord m place
 OfItsRecord m (Output place) = HasRecord m place
+OfItsRecord m (Pollable (watched.Udp place)) = HasUdpRecord m place
 OfItsRecord m (Pollable w) = HasRecord m (place_in w)
 OfItsRecord m ErrorValue = ⊤
 

@@ -22,6 +22,7 @@ ghost use Rattle.wasi_steps.specs.declared.reply.Reply.{Reply};
 ghost use Rattle.wasi_steps.specs.declared.step.Step.{Step};
 ghost use Rattle.wasi_walks.specs.Answered.{Answered, CheckFails, closing_reader, closing_writer, ConnectsAt, CreateRefusal, EndsPending, FailsWith, FinishRefusal, HasNoBindInProgress, HasNoConnectInProgress, HasOperationInProgress, IsGivenUp, IsQuiet, IsUnpermitted, IsWrite, KnowsBound, LocalRefusal, MakesHandle, MissesHandle, OfRecord, OfStreams, output_streams, Permits, putting, ReadFails, ReadsEnd, ReadsNone, ReadsTold, record_at, RefusedBind, RefusedConnect, RefusedOf, RemoteRefusal, StandsOnNothing, WasClosedWith, with_error, WriteFails};
 ghost use Rattle.wasi_causes.specs.Outcomes.{may_answer, EachMayAnswer, Outcome};
+ghost use Rattle.wasi_causes.specs.Udp.{IsUdpCreate};
 ghost use Rattle.wasi_causes.specs.Reached.{FinishesAt, ListensLate, MayFinish, OfItsRecord};
 ghost use Rattle.wasi_causes.specs.GivenUp.{GoesAtOnce, HasLiveChildren, HasNoStreams, IsDrop, IsDropped, IsGone, LooksOnce, shut_down, shutdown_entries, socket_given_up, without};
 ghost use Rattle.wasi_walks.specs.Licence.{entry, Has, marks_in};
@@ -106,9 +107,10 @@ pub fn traps_have_causes()
 
 /// A poll finds no such call exactly where no call is pending under its number. It asks nothing then, and the machine stays as
 /// it was; no other step is answered so. A poll of a pending call leaves it pending, or leaves nothing pending. It is refused
-/// with the word of the code by which the bind or the listen failed: a check was answered no, or another of its asks was
-/// answered with the code, by its own operation, and a listen closed its network socket last. That is said where what is
-/// pending as a bind is a bind, and as a listen a listen, as it does after any lines. In a run no poll traps.
+/// with the word of the code by which the bind, the listen or the create failed: a check was answered no, or another of its asks
+/// was answered with the code, by its own operation, and a listen and a create closed their network socket last. That is said
+/// where what is pending as a bind is a bind, as a listen a listen, and as a create a create, as it is after any lines. In a run
+/// a poll traps only for lack of room for the handle of a create.
 pub fn polls_find_their_call()
     ensures exactly { (contexts : List WasiSocketsCtx) (m : Machine) (line n : ℕ) (entries : List Entry) (reply : Reply) (after : Machine)
         → Answered contexts m line (Step.Poll n) entries reply after → (reply ≡ Reply.NoSuchCall) ↔ (stands_as m.store.standing n ≡ false) }
@@ -120,15 +122,16 @@ pub fn polls_find_their_call()
         → stands_as m.store.standing n ≡ true → Answered contexts m line (Step.Poll n) entries reply after → (reply ≡ Reply.Pending n) ⊎ (after.store.standing ≡ None) }
     ensures refused { (contexts : List WasiSocketsCtx) (m : Machine) (line n : ℕ) (entries : List Entry) (word : CodeWord) (after : Machine)
         → PendingCallsFit m → Answered contexts m line (Step.Poll n) entries (Reply.Err word) after → StandingFails m n entries word }
-    ensures never_traps { (contexts : List WasiSocketsCtx) (steps : List Step) (log : List Entry) (replies : List Reply) (m : Machine) (line n : ℕ) (entries : List Entry) (kind : TrapKind) (after : Machine)
-        → Left (run contexts [] first_state 1 steps) log (Give (replies, m)) → Answered contexts m line (Step.Poll n) entries (Reply.Trap kind) after → ⊥ }
+    ensures traps { (contexts : List WasiSocketsCtx) (steps : List Step) (log : List Entry) (replies : List Reply) (m : Machine) (line n : ℕ) (entries : List Entry) (kind : TrapKind) (after : Machine)
+        → Left (run contexts [] first_state 1 steps) log (Give (replies, m)) → Answered contexts m line (Step.Poll n) entries (Reply.Trap kind) after
+        → (kind ≡ TrapKind.Full) × (is_full m.table ≡ true) × IsSomeAnd m.store.standing (λ s. IsUdpCreate s.call) }
 {}
 
-/// The start of a bind, that of a listen, the drop of an output and a poll may be pending: all but a poll under their line's
-/// number, and a poll under the number that it polls. A call is pending under that number then. The last ask of a bind and of a
-/// listen was answered pending; a drop waits where its output's write is in progress, or its one ask was answered pending; and
-/// a poll waits as the call does that it polls. That is said where what is pending as a bind is a bind, and as a listen a
-/// listen, as it does after any lines.
+/// The start of a bind, that of a listen, a create of a UDP socket, the drop of an output and a poll may be pending: all but a
+/// poll under their line's number, and a poll under the number that it polls. A call is pending under that number then. The last
+/// ask of a bind and of a listen was answered pending; a drop waits where its output's write is in progress, or its one ask was
+/// answered pending; and a poll waits as the call does that it polls. That is said where what is pending as a bind is a bind, as
+/// a listen a listen, and as a create a create, as it is after any lines.
 pub fn pending_where_told()
     ensures step { (contexts : List WasiSocketsCtx) (m : Machine) (line : ℕ) (s : Step) (entries : List Entry) (number : ℕ) (after : Machine)
         → Answered contexts m line s entries (Reply.Pending number) after → MayStand m line s number }
@@ -225,8 +228,8 @@ pub fn runs_connect_by_connects()
 {}
 
 /// After the lines of any script: each live handle of a socket, a stream or a pollable is of a record that is there, so a
-/// number of which no socket is found isn't live or stands for something else; a pending call is of a socket that is there; and
-/// where a connect is in progress, the socket connects, or was closed with a code, or is connected and neither half of it was
+/// number of which no TCP socket is found isn't live or stands for something else; a pending call is of a socket that is there;
+/// and where a connect is in progress, the socket connects, or was closed with a code, or is connected and neither half of it was
 /// taken; and a socket that does nothing yet has no listener, and none begins.
 pub fn runs_keep_their_records()
     ensures handles { (contexts : List WasiSocketsCtx) (steps : List Step) (log : List Entry) (replies : List Reply) (m : Machine) (handle : ℕ) (kind : Kind)
@@ -241,9 +244,10 @@ pub fn runs_keep_their_records()
         → Left (run contexts [] first_state 1 steps) log (Give (replies, m)) → tcp2_at m.store.records place ≡ Some r → ListensLate r }
 {}
 
-/// After the lines of any script, what is pending as a bind is a bind that is in progress in its record; and what is pending as a
-/// listen is a listen that its record has begun, of which only the check of its address, which was reported, and the listen itself
-/// are left, one of them at least, and its socket has no network socket.
+/// After the lines of any script, what is pending as a bind is a bind that is in progress in its record, and so is what is pending
+/// as a bind of a UDP socket; what is pending as a listen is a listen that its record has begun, of which only the check of its
+/// address, which was reported, and the listen itself are left, one of them at least, and its socket has no network socket; and
+/// what is pending as a create is a create in its record that waits for its network socket.
 pub fn runs_keep_their_pending_calls()
     ensures { (contexts : List WasiSocketsCtx) (steps : List Step) (entries : List Entry) (replies : List Reply) (m : Machine)
         → Left (run contexts [] first_state 1 steps) entries (Give (replies, m)) → PendingCallsFit m }
@@ -269,7 +273,8 @@ pub fn remote_address_refusals()
         → Answered contexts m line (Step.TcpRemoteAddress ctx handle) entries (Reply.Err word) after → after ≡ m }
 {}
 
-/// Whether it listens and of which family it is, is never refused. It asks nothing, and the machine stays as it was.
+/// Whether it listens and of which family it is, that of a UDP socket too, is never refused. It asks nothing, and the machine
+/// stays as it was.
 pub fn listening_and_family_are_never_refused()
     ensures never { (contexts : List WasiSocketsCtx) (m : Machine) (line : ℕ) (s : Step) (entries : List Entry) (word : CodeWord) (after : Machine)
         → IsQuiet s → Answered contexts m line s entries (Reply.Err word) after → ⊥ }

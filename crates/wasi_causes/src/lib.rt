@@ -5,3 +5,4 @@
 pub mod causes;
 pub mod listens;
 pub mod options;
+pub mod udp;

@@ -44,6 +44,7 @@ socket_of (Made handle kind parent sock) = None
 -- A create of it was answered done, or it was handed over.
 pub data IsMade (before : List Entry) (side : OpId) : Type 0 where
   Created : (ctx : ℕ) (family : SocketAddressFamily) → Has before (entry side (TcpCreate ctx family) Done) → IsMade before side
+  UdpCreated : (ctx : ℕ) (family : SocketAddressFamily) → Has before (entry side (UdpCreate ctx family) Done) → IsMade before side
   HandedOver : (listener : OpId) (peer : IpSocketAddress) (told : Told) → Has before (entry side (Hand listener peer) told) → IsMade before side
 
 -- A close of it was asked.

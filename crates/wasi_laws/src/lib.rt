@@ -56,8 +56,8 @@ pub fn permit_means_all_is_taken()
         → taken_in side (log ++ entries) ≡ permitted }
 {}
 
-/// In one poll of a bind, a connect or a listen no check follows a bind, a listen or a connect; and where one of these was
-/// asked, the poll leaves no check to a later one.
+/// In one poll of a bind, a connect or a listen, or of a bind of a UDP socket, no check follows a call that goes out; and where
+/// one of these was asked, the poll leaves no check to a later one.
 pub fn operations_check_first()
     ensures poll { (op : Operation) (entries : List Entry) (rest : Asks (End × List Item))
         → IsOutward op → Left (operation_polled op) entries rest → ChecksFirst entries }
@@ -65,7 +65,8 @@ pub fn operations_check_first()
         → IsOutward op → Left (operation_polled op) entries (Give ended) → HasGone entries → NoCheckLeft ended.1 }
 {}
 
-/// At every point of a run, each operation asked its checks before its first bind, listen or connect.
+/// At every point of a run, each operation asked its checks before its first call that goes out: a bind, a listen, a connect or a
+/// datagram that is sent.
 pub fn checks_come_first()
     ensures { (contexts : List WasiSocketsCtx) (steps : List Step) (log : List Entry) (rest : Asks (List Reply × Machine))
         → Left (run contexts [] first_state 1 steps) log rest → (op : OpId) → ChecksFirst (asked_by op log) }

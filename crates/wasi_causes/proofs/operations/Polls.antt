@@ -1,15 +1,18 @@
 -- A poll of an operation whose items are asked in turn is in the one table of such polls, and how those of a bind, of a connect
 -- and of a listen end is read off it.
-use Rattle.wasi_causes.proofs.Words.{◌≡◌, ◌∙◌, inl, inr, List, [], ◌∷◌, ◌++◌, refl, sym, ap, subst, append_assoc, append-nil, ⊤, IpSocketAddress, Send, SocketAddrUse, TcpBind, ErrorCode, AccessDenied, EndsPending, ClosedBy, Has, entry, IsRestOfBind, IsLeftOfBind, Unchecked, Checked, Ended, BindFails, ListenEnds, IsConnect, IsListen, Asks, bind, IsVerdict, IsAddr, IsDoneOrCode, IsPolled, false, Given, Nothing, Item, Check, CheckLocal, Bind, Connect, Listen, LastAsk, NothingLast, CloseLast, ShutdownLast, Who, Operation, End, Waits, Done, Refused, last_ask, after, round, polls, poll_asks, verdict_front, local_front, done_front, polled_front, told_verdict, told_addr, told_done, told_polled, Entry, Told}
+use Rattle.wasi_causes.proofs.Words.{◌≡◌, ◌∙◌, inl, inr, List, [], ◌∷◌, ◌++◌, refl, sym, ap, subst, append_assoc, append-nil, ⊤, IpSocketAddress, Send, SocketAddrUse, TcpBind, ErrorCode, AccessDenied, EndsPending, EndsClosing, ClosedBy, Has, entry, IsRestOfBind, IsLeftOfBind, Unchecked, Checked, Ended, BindFails, ListenEnds, IsConnect, IsListen, Asks, bind, IsVerdict, IsAddr, IsDoneOrCode, IsPolled, false, Given, Nothing, Item, Check, CheckLocal, Bind, Connect, Listen, LastAsk, NothingLast, CloseLast, ShutdownLast, Who, Operation, End, Waits, Done, Refused, last_ask, after, round, polls, poll_asks, verdict_front, local_front, done_front, polled_front, told_verdict, told_addr, told_done, told_polled, Entry, Told}
 use Rattle.wasi_causes.proofs.tables.Meets.{Rows, Meets, ends, asks, told_so, widen, shifted}
-use Rattle.wasi_causes.specs.Polls.{check_entry, local_entry, Passes, ToldYes, LocalToldYes, BindToldDone, ConnectToldDone, ListenToldDone, Holds, CheckToldPending, LocalToldPending, ConnectToldPending, Breaks, ToldNo, LocalToldNo, LocalToldCode, BindToldCode, ConnectToldCode, ListenToldCode, last_entries, Polled, WasOver, GoesOn, Stays, Stops, Broken}
+use Rattle.wasi_causes.specs.Polls.{check_entry, local_entry, Passes, WritableToldDone, UdpBindToldDone, WritableToldPending, WritableToldCode, UdpBindToldCode, ToldYes, LocalToldYes, BindToldDone, ConnectToldDone, ListenToldDone, Holds, CheckToldPending, LocalToldPending, ConnectToldPending, Breaks, ToldNo, LocalToldNo, LocalToldCode, BindToldCode, ConnectToldCode, ListenToldCode, last_entries, Polled, WasOver, GoesOn, Stays, Stops, Broken}
 use Rattle.wasi_addr.specs.declared.address.SocketAddrUse.TheVariants.{TcpListen}
 use Rattle.wasi_tcp.specs.Listen.{none_left}
 use Rattle.wasi_walks.specs.Answered.{AllOf, IsAskOfConnect}
 use Rattle.wasi_walks.specs.Waiting.{IsAskLeft, IsAskOfListen}
 use Rattle.wasi_walks.proofs.Gives.{Gives}
 use Rattle.wasi_walks.specs.Answered as refusal
+use Rattle.wasi_world.specs.Operation.{UdpWritable, UdpBind}
 use Rattle.wasi_walks.specs.Waiting as waiting
+use Rattle.wasi_udp.specs.Bind as binds
+use Rattle.wasi_addr.specs.declared.address.SocketAddrUse.TheVariants as usages
 use Rattle.wasi_world.specs.declared.call.Call.TheVariants as call
 use Rattle.wasi_world.specs.declared.call.Told.TheVariants as told
 
@@ -24,6 +27,8 @@ IsAsk (CheckLocal usage) = ⊤
 IsAsk (Bind a) = ⊤
 IsAsk (Connect a) = ⊤
 IsAsk (Listen backlog) = ⊤
+IsAsk UdpWritable = ⊤
+IsAsk (UdpBind a) = ⊤
 IsAsk _ = ⊥
 
 module _ (who : Who) (again : List Item → Asks (End × List Item)) where
@@ -59,6 +64,13 @@ module _ (who : Who) (again : List Item → Asks (End × List Item)) where
       done_or_code es done code (told.Code c) fits = stops _ c (code c)
       done_or_code es done code _ fits = absurd fits
 
+  told_writable : (items : List Item) → Meets (Polled who items) [] (round again who Nothing items) → (t : Told) → IsPolled t
+      → Meets (Polled who (UdpWritable ∷ items)) (entry who.id (call.UdpWritable who.side) t ∷ []) (after again who items (λ g. round again who g items) (polled_front UdpWritable (told_polled t)))
+  told_writable items next told.Done fits = passes UdpWritable items next _ WritableToldDone
+  told_writable items next told.Pending fits = ends (Stays UdpWritable UdpWritable items _ WritableToldPending)
+  told_writable items next (told.Code c) fits = stops UdpWritable items _ c (WritableToldCode c)
+  told_writable items next _ fits = absurd fits
+
   told_connect : (a : IpSocketAddress) (items : List Item) → Meets (Polled who items) [] (round again who Nothing items) → (t : Told) → IsPolled t
       → Meets (Polled who (Connect a ∷ items)) (entry who.id (call.Connect who.side a) t ∷ []) (after again who items (λ g. round again who g items) (polled_front (Connect a) (told_polled t)))
   told_connect a items next told.Done fits = passes (Connect a) items next _ (ConnectToldDone a)
@@ -82,6 +94,8 @@ module _ (who : Who) (again : List Item → Asks (End × List Item)) where
   in_turn (Bind a ∷ items) all = asks (λ t fits. done_or_code (Bind a) items (in_turn items all.1) (λ t. entry who.id (call.Bind who.side a) t ∷ []) (BindToldDone a) (BindToldCode a) t fits)
   in_turn (Connect a ∷ items) all = asks (λ t fits. told_connect a items (in_turn items all.1) t fits)
   in_turn (Listen backlog ∷ items) all = asks (λ t fits. done_or_code (Listen backlog) items (in_turn items all.1) (λ t. entry who.id (call.Listen who.side backlog) t ∷ []) (ListenToldDone backlog) (ListenToldCode backlog) t fits)
+  in_turn (UdpWritable ∷ items) all = asks (λ t fits. told_writable items (in_turn items all.1) t fits)
+  in_turn (UdpBind a ∷ items) all = asks (λ t fits. done_or_code (UdpBind a) items (in_turn items all.1) (λ t. entry who.id (call.UdpBind who.side a) t ∷ []) (UdpBindToldDone a) (UdpBindToldCode a) t fits)
   in_turn (_ ∷ items) all = absurd all.0
 
 pub polled : (op : Operation) → AllOf IsAsk op.left → Meets (Polled op.who op.left) [] (poll_asks op)
@@ -99,6 +113,7 @@ module _ (who : Who) where
   holds : (item now : Item) (es : List Entry) → Holds who item es now → EndsPending who.id es
   holds _ _ _ (CheckToldPending a usage) = record { front = []; last = _; cut = refl; op = refl; told = refl }
   holds _ _ _ (LocalToldPending a usage) = record { front = local_entry who (told.Addr a) ∷ []; last = _; cut = refl; op = refl; told = refl }
+  holds _ _ _ WritableToldPending = record { front = []; last = _; cut = refl; op = refl; told = refl }
   holds _ _ _ (ConnectToldPending a) = record { front = []; last = _; cut = refl; op = refl; told = refl }
 
   later : (item : Item) (items : List Item) (es fs : List Entry) (end : End × List Item) → EndsSo items fs end → EndsSo (item ∷ items) (es ++ fs) end
@@ -114,14 +129,29 @@ module _ (who : Who) where
   ends_so _ _ _ (Stops item items es c broke) = record { item = item; its = inl refl; front = []; last = es; cut = refl; broke = broke }
 
 abbrev IsOver : End → Type 0
-IsOver (Refused c given) = ⊥
-IsOver _ = ⊤
+IsOver (Done given) = ⊤
+IsOver _ = ⊥
 
 is_over : (who : Who) (es : List Entry) (end : End × List Item) → Polled who [] es end → IsOver end.0
 is_over who _ _ WasOver = tt
 
 pub not_over : {who : Who} {es : List Entry} {c : ErrorCode} {given : Given} {items : List Item} → Polled who [] es (Refused c given, items) → ⊥
 not_over {who} {es} {c} {given} {items} row = is_over who es (Refused c given, items) row
+
+-- a bind is never pending
+abbrev IsNoBind : Item → Type 0
+IsNoBind (UdpBind a) = ⊥
+IsNoBind _ = ⊤
+
+no_bind : (who : Who) (item now : Item) (es : List Entry) → Holds who item es now → IsNoBind item
+no_bind who _ _ _ (CheckToldPending a usage) = tt
+no_bind who _ _ _ (LocalToldPending a usage) = tt
+no_bind who _ _ _ WritableToldPending = tt
+no_bind who _ _ _ (ConnectToldPending a) = tt
+
+pub bind_never_waits : (who : Who) (a : IpSocketAddress) (es : List Entry) (items : List Item) → Polled who (UdpBind a ∷ []) es (Waits, items) → ⊥
+bind_never_waits who a _ _ (GoesOn item items es fs end passed row) = is_over who fs end row
+bind_never_waits who a _ _ (Stays item now items es held) = no_bind who item now es held
 
 all_more : (P Q : Item → Type 0) → ((item : Item) → P item → Q item) → (items : List Item) → AllOf P items → AllOf Q items
 all_more P Q more [] all = tt
@@ -191,6 +221,54 @@ module _ (op : Operation) where
   pub bind_ends : IsRestOfBind op → Meets (EndsFor (BindFails op)) [] (poll_asks op)
   bind_ends its = ends_for OfBind bind_sorts (bind_items op.left its.left) (BindFails op) (λ es c k of. bind_broken es k.front k.last k.item c of k.its k.broke (at_end es c k NothingLast its.last))
 
+  -- == a create of a UDP socket
+  abbrev OfCreate : Item → Type 0
+  OfCreate UdpWritable = ⊤
+  OfCreate _ = ⊥
+
+  create_sorts : (item : Item) → OfCreate item → IsAsk item
+  create_sorts UdpWritable of = tt
+  create_sorts _ of = absurd of
+
+  create_items : (items : List Item) → items ≡ UdpWritable ∷ [] → AllOf OfCreate items
+  create_items items e = subst (AllOf OfCreate) (sym e) (tt, tt)
+
+  -- it was answered with the code, and closed its network socket
+  abbrev pub CreateFails : List Entry → ErrorCode → Type 0
+  CreateFails es c = EndsClosing op.who (call.UdpWritable op.who.side) (told.Code c) es
+
+  create_broken : (es front last : List Entry) (item : Item) (c : ErrorCode) → OfCreate item → Breaks op.who item last c → es ≡ front ++ (last ++ entry op.who.id (call.Close op.who.side) told.Done ∷ []) → CreateFails es c
+  create_broken es front _ _ _ of (WritableToldCode c) cut = record { front = front; cut = cut }
+  create_broken es front _ _ _ of _ cut = absurd of
+
+  pub create_ends : (op.who.last ≡ CloseLast) × (op.left ≡ UdpWritable ∷ []) → Meets (EndsFor CreateFails) [] (poll_asks op)
+  create_ends its = ends_for OfCreate create_sorts (create_items op.left its.1) CreateFails (λ es c k of. create_broken es k.front k.last k.item c of k.broke (at_end es c k CloseLast its.0))
+
+  -- == a bind of a UDP socket
+  abbrev OfUdpBind : Item → Type 0
+  OfUdpBind (Check a usages.UdpBind) = ⊤
+  OfUdpBind (UdpBind a) = ⊤
+  OfUdpBind _ = ⊥
+
+  udp_bind_sorts : (item : Item) → OfUdpBind item → IsAsk item
+  udp_bind_sorts (Check a usage) of = tt
+  udp_bind_sorts (UdpBind a) of = tt
+  udp_bind_sorts _ of = absurd of
+
+  udp_bind_items : (items : List Item) → binds.IsLeftOfBind items → AllOf OfUdpBind items
+  udp_bind_items _ (binds.Unchecked a) = (tt, (tt, tt))
+  udp_bind_items _ (binds.Checked a) = (tt, tt)
+  udp_bind_items _ binds.Ended = tt
+
+  udp_bind_broken : (es front last : List Entry) (item : Item) (c : ErrorCode) → OfUdpBind item → Has op.left item → Breaks op.who item last c → es ≡ front ++ (last ++ []) → waiting.UdpBindFails op es c
+  udp_bind_broken es front _ _ _ of has (ToldNo a usages.UdpBind) cut = waiting.UdpToldNo a has (record { front = front; cut = cut })
+  udp_bind_broken es front _ _ _ of has (ToldNo a _) cut = absurd of
+  udp_bind_broken es front _ _ _ of has (UdpBindToldCode a c) cut = waiting.UdpToldWhy a c has (record { front = front; cut = cut })
+  udp_bind_broken es front _ _ _ of has _ cut = absurd of
+
+  pub udp_bind_ends : binds.IsBind op → Meets (EndsFor (waiting.UdpBindFails op)) [] (poll_asks op)
+  udp_bind_ends its = ends_for OfUdpBind udp_bind_sorts (udp_bind_items op.left its.left) (waiting.UdpBindFails op) (λ es c k of. udp_bind_broken es k.front k.last k.item c of k.its k.broke (at_end es c k NothingLast its.last))
+
   -- == a connect
   connect_sorts : (item : Item) → IsAskOfConnect item → IsAsk item
   connect_sorts (Check a usage) of = tt
@@ -200,6 +278,7 @@ module _ (op : Operation) where
   connect_stays : (item now : Item) (es : List Entry) → Holds op.who item es now → IsAskOfConnect item → IsAskOfConnect now
   connect_stays _ _ _ (CheckToldPending a usage) of = of
   connect_stays _ _ _ (LocalToldPending a usage) of = absurd of
+  connect_stays _ _ _ WritableToldPending of = absurd of
   connect_stays _ _ _ (ConnectToldPending a) of = of
 
   abbrev closed : Entry
@@ -227,6 +306,7 @@ module _ (op : Operation) where
   listen_stays _ _ _ (CheckToldPending a usage) of = of
   listen_stays _ _ _ (LocalToldPending a TcpListen) of = tt
   listen_stays _ _ _ (LocalToldPending a _) of = absurd of
+  listen_stays _ _ _ WritableToldPending of = absurd of
   listen_stays _ _ _ (ConnectToldPending a) of = absurd of
 
   left_sorts : (item : Item) → IsAskLeft item → IsAsk item

@@ -1,5 +1,5 @@
 -- The table of replies on replies that no step gives.
-use Rattle.wasi_causes.proofs.Words.{◌≡◌, ℕ, [], ◌∷◌, IpSocketAddress, NoSuchHandle, HasChildren, Full, NotPermitted, Reply, Step}
+use Rattle.wasi_causes.proofs.Words.{◌≡◌, inl, inr, ℕ, [], ◌∷◌, IpSocketAddress, SocketAddressFamily, NoSuchHandle, HasChildren, Full, NotPermitted, Reply, Step}
 use Rattle.wasi_steps.specs.declared.reply.CodeWord.TheVariants as word
 use Rattle.wasi_steps.specs.declared.reply.Field.TheVariants as field
 use Rattle.wasi_steps.specs.declared.reply.Reply.TheVariants as reply
@@ -13,8 +13,8 @@ of_no_step : (line : ℕ) (s : Step) → Never line s reply.Cancelled × Never l
 of_no_step line s = (λ h. h, λ h. h)
 
 -- a poll answers for the call that it polls, and is no guest call
-of_no_poll : Never 7 (step.Poll 3) (reply.Pending 7) × Never 7 (step.Poll 3) reply.Busy × Never 7 (step.Poll 3) (reply.Ok (field.Number 1 ∷ [])) × Never 7 (step.Poll 3) reply.Closed
-of_no_poll = (λ h. absurd (let e : 7 ≡ 3 = h in cc), λ h. absurd (cc), λ h. h, λ h. h)
+of_no_poll : Never 7 (step.Poll 3) (reply.Pending 7) × Never 7 (step.Poll 3) reply.Busy × Never 7 (step.Poll 3) (reply.Ok (field.True ∷ [])) × Never 7 (step.Poll 3) reply.Closed
+of_no_poll = (λ h. absurd (let e : 7 ≡ 3 = h in cc), λ h. absurd (cc), λ h. elim h [ inl k ↦ k | inr k ↦ elim k [ inl j ↦ j.0 | inr j ↦ j ] ], λ h. h)
 
 -- a finish of a bind waits for nothing, a start of a connect isn't pending, and that of a bind is so under its own line
 of_no_start : (c s network n : ℕ) (a : IpSocketAddress) → Never 7 (step.TcpFinishBind c s) (reply.Err word.WouldBlock) × Never 7 (step.TcpStartConnect c s network a) (reply.Pending n) × Never 7 (step.TcpStartBind c s network a) (reply.Pending 6)
@@ -26,3 +26,8 @@ traps_of_others = (λ h. h, λ h. h, λ h. h, λ h. h)
 -- a look at a pollable answers with one truth value
 of_no_look : Never 7 (step.Ready 0 1) (reply.Ok (field.True ∷ field.True ∷ [])) × Never 7 (step.Ready 0 1) (reply.Ok (field.Number 1 ∷ []))
 of_no_look = (λ h. h.1, λ h. h.0)
+
+-- a finish of a bind of a UDP socket waits for nothing, its family is never refused, a create names no handle and is pending under
+-- its own line, and a look at its remote address is refused in one way
+of_no_udp : (c s n : ℕ) (f : SocketAddressFamily) → Never 7 (step.UdpFinishBind c s) (reply.Pending 7) × Never 7 (step.UdpAddressFamily c s) (reply.Err word.InvalidState) × Never 7 (step.UdpCreate c f) (reply.Trap NoSuchHandle) × Never 7 (step.UdpCreate c f) (reply.Pending 6) × Never 7 (step.UdpRemoteAddress c s) (reply.Err word.AccessDenied)
+of_no_udp c s n f = (λ h. h, λ h. h, λ h. h, λ h. absurd (let e : 6 ≡ 7 = h in cc), λ h. absurd (let e : word.AccessDenied ≡ word.InvalidState = h in cc))

@@ -1,10 +1,14 @@
 -- Each step is answered as its table says, and which replies it may give.
 use Rattle.wasi_causes.proofs.Words.{◌≡◌, ◌≢◌, ℕ, Bool, true, List, [], Option, Some, None, refl, subst, ◌⊎◌, inl, inr, ◌+◌, ◌∷◌, ◌++◌, append-nil, append_assoc, false, sym, ◌∙◌, ◌↔◌, IsSome, is_some, first_state, Machine, Standing, Answered, IsQuiet, MissesHandle, is_guest_call, step_asks, asks_while, run, is_trap, truth_fields, IsFailure, MayStand, CodeWord, Field, Reply, Step, Give, Left, Entry, TrapKind, WasiSocketsCtx}
 use Rattle.wasi_causes.proofs.Ending.{drop, shutdown}
-use Rattle.wasi_causes.proofs.Machine.{subscribe, ready, poll}
+use Rattle.wasi_causes.proofs.Machine.{subscribe, ready}
+use Rattle.wasi_causes.proofs.Resumes.{poll}
 use Rattle.wasi_causes.proofs.sockets.Makes.{network, create, finish_connect, accept}
 use Rattle.wasi_causes.proofs.sockets.Questions.{get, set, local_address, remote_address, is_listens, family}
 use Rattle.wasi_causes.proofs.sockets.Starts.{finish_bind, finish_listen, start_bind, start_connect, start_listen}
+use Rattle.wasi_causes.proofs.sockets.Udp.{udp_finish_bind, udp_local_address, udp_remote_address, udp_family, udp_get, udp_set}
+use Rattle.wasi_causes.proofs.sockets.UdpBinds.{udp_start_bind}
+use Rattle.wasi_causes.proofs.sockets.UdpCreates.{udp_create}
 use Rattle.wasi_causes.proofs.streams.Halves.{read, check_write, write, flush}
 use Rattle.wasi_causes.proofs.streams.Turns.{turn}
 use Rattle.wasi_causes.proofs.tables.Meets.{Meets, ends, widen, branch, met, chain, shifted}
@@ -34,6 +38,14 @@ module _ (contexts : List WasiSocketsCtx) (m : Machine) (line : ℕ) where
   rows (step.TcpGet c s option) = get contexts m line c s option
   rows (step.TcpSet c s setting) = set contexts m line c s setting
   rows (step.TcpShutdown c s how) = shutdown contexts m line c s how
+  rows (step.UdpCreate c family) = udp_create contexts m line c family
+  rows (step.UdpStartBind c s n a) = udp_start_bind contexts m line c s n a
+  rows (step.UdpFinishBind c s) = udp_finish_bind contexts m line c s
+  rows (step.UdpLocalAddress c s) = udp_local_address contexts m line c s
+  rows (step.UdpRemoteAddress c s) = udp_remote_address contexts m line c s
+  rows (step.UdpAddressFamily c s) = udp_family contexts m line c s
+  rows (step.UdpGet c s option) = udp_get contexts m line c s option
+  rows (step.UdpSet c s setting) = udp_set contexts m line c s setting
   rows (step.Read c input len) = read contexts m line c input len
   rows (step.CheckWrite c output) = check_write contexts m line c output
   rows (step.Write c output bytes) = write contexts m line c output bytes
@@ -99,12 +111,15 @@ module _ (contexts : List WasiSocketsCtx) (m : Machine) (line : ℕ) where
 misses : (m : Machine) (s : Step) → MissesHandle m s → MayMiss s
 misses m (step.Network ctx) h = h
 misses m (step.TcpCreate ctx _) h = h
+misses m (step.UdpCreate ctx _) h = h
 misses m step.Turn h = h
 misses m _ h = tt
 
 waits : (m : Machine) (line n : ℕ) (s : Step) → MayStand m line s n → MayWait line s n
 waits m line n (step.TcpStartBind ctx socket _ a) h = h
 waits m line n (step.TcpStartListen ctx socket) h = h
+waits m line n (step.UdpCreate ctx _) h = h
+waits m line n (step.UdpStartBind ctx socket _ a) h = h
 waits m line n (step.Drop ctx handle) h = h.1
 waits m line n (step.Poll call) h = h
 waits m line n _ h = absurd h
@@ -168,11 +183,13 @@ trap_kinds contexts m line s es _ after h = absurd h
 pub quiet_never : (contexts : List WasiSocketsCtx) (m : Machine) (line : ℕ) (s : Step) (es : List Entry) (w : CodeWord) (after : Machine) → IsQuiet s → Answered contexts m line s es (reply.Err w) after → ⊥
 quiet_never contexts m line (step.TcpIsListening c handle) es w after q h = may_be contexts m line (step.TcpIsListening c handle) es (reply.Err w) after h
 quiet_never contexts m line (step.TcpAddressFamily c handle) es w after q h = may_be contexts m line (step.TcpAddressFamily c handle) es (reply.Err w) after h
+quiet_never contexts m line (step.UdpAddressFamily c handle) es w after q h = may_be contexts m line (step.UdpAddressFamily c handle) es (reply.Err w) after h
 quiet_never contexts m line _ es w after q h = absurd q
 
 pub quiet_stays : (contexts : List WasiSocketsCtx) (m : Machine) (line : ℕ) (s : Step) (es : List Entry) (r : Reply) (after : Machine) → IsQuiet s → Answered contexts m line s es r after → Quiet m es after
 quiet_stays contexts m line (step.TcpIsListening c handle) es r after q = of_answer contexts m line (step.TcpIsListening c handle) (λ es r after. Quiet m es after) (refl, refl) (λ es r after row. row.0) es r after
 quiet_stays contexts m line (step.TcpAddressFamily c handle) es r after q = of_answer contexts m line (step.TcpAddressFamily c handle) (λ es r after. Quiet m es after) (refl, refl) (λ es r after row. row.0) es r after
+quiet_stays contexts m line (step.UdpAddressFamily c handle) es r after q = of_answer contexts m line (step.UdpAddressFamily c handle) (λ es r after. Quiet m es after) (refl, refl) (λ es r after row. row.0) es r after
 quiet_stays contexts m line _ es r after q = absurd q
 
 pub reads_stay : (m : Machine) (line input len : ℕ) (es : List Entry) (fields : List Field) (after : Machine) → Reads m line input len es fields after → after ≡ m

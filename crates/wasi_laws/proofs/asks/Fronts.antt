@@ -17,6 +17,9 @@ is_calm (call.Check ctx addr usage) = false
 is_calm (call.Bind sock addr) = false
 is_calm (call.Listen sock backlog) = false
 is_calm (call.Connect sock addr) = false
+is_calm (call.UdpBind sock addr) = false
+is_calm (call.UdpConnect sock addr) = false
+is_calm (call.Send sock addr bytes) = false
 is_calm (call.Write sock offered) = false
 is_calm (call.Close sock) = false
 is_calm _ = true
@@ -51,6 +54,9 @@ abbrev pub IsToGo : Item → Type 0
 IsToGo (Bind a) = ⊤
 IsToGo (Connect a) = ⊤
 IsToGo (Listen backlog) = ⊤
+IsToGo (UdpBind a) = ⊤
+IsToGo (UdpConnect family a) = ⊤
+IsToGo (Send kept a bytes) = ⊤
 IsToGo _ = ⊥
 
 -- of this network socket, where it is on one
@@ -195,7 +201,7 @@ module _ {P : List Entry → OpId → Call → Type 0} {who : Who} {K : List Ent
     send_leads : (es : List Entry) (kept : Bool) (a : IpSocketAddress) (bytes : List ℕ) → At es (Send kept a bytes) → Leads es (send_front who kept a bytes)
     unfolding bind
     send_leads es kept a bytes k =
-        let x = law.asks es (Send kept a bytes) items (call.Send who.side a bytes) (Calmly _ refl refl) k in
+        let x = law.asks es (Send kept a bytes) items (call.Send who.side a bytes) (Goes _ tt tt refl) k in
         allows_if P (FrontKeeps P who Before Q items) es (kept && not (is_now who.remote a)) _ _ (λ changed. over es (Send kept a bytes) _ k) (λ same. (x.0, λ t fits. polled_keeps _ (Send kept a bytes) (told_polled t) tt (x.1 t fits)))
 
     wanted_keeps : (es : List Entry) (wanted : Option IpSocketAddress) (bytes : List ℕ) (a : IpSocketAddress) (yes : Bool) → At es (CheckPeer wanted bytes a) → Holds es (if yes then item.Goes (item.Datagram bytes a) else item.Again (Receive wanted))
@@ -235,9 +241,9 @@ module _ {P : List Entry → OpId → Call → Type 0} {who : Who} {K : List Ent
   fronts es given (Write bytes) items b = write_leads items bytes 0 es b.0
   fronts es given ShutdownSend items b = let x = law.asks es ShutdownSend items (call.Shutdown who.side half.Send) (Calmly _ refl refl) b.0 in (x.0, λ t fits. (law.drops _ ShutdownSend items tt (x.1 t fits), tt))
   fronts es given UdpWritable items b = let x = law.asks es UdpWritable items (call.UdpWritable who.side) (Calmly _ refl refl) b.0 in (x.0, λ t fits. polled_keeps items _ UdpWritable (told_polled t) tt (x.1 t fits))
-  fronts es given (UdpBind a) items b = let x = law.asks es (UdpBind a) items (call.UdpBind who.side a) (Calmly _ refl refl) b.0 in (x.0, λ t fits. done_keeps items _ (UdpBind a) (told_done t) tt (x.1 t fits))
+  fronts es given (UdpBind a) items b = let x = law.asks es (UdpBind a) items (call.UdpBind who.side a) (Goes _ tt tt refl) b.0 in (x.0, λ t fits. done_keeps items _ (UdpBind a) (told_done t) tt (x.1 t fits))
   fronts es given (UdpConnect family a) items b =
-      let x = law.asks es (UdpConnect family a) items (call.UdpConnect who.side a) (Calmly _ refl refl) b.0 in (x.0, λ t fits. peer_leads items _ family (told_done t) (law.becomes _ (UdpConnect family a) (AskPeer family (told_done t)) items (IsConnected family a (told_done t)) (x.1 t fits)))
+      let x = law.asks es (UdpConnect family a) items (call.UdpConnect who.side a) (Goes _ tt tt refl) b.0 in (x.0, λ t fits. peer_leads items _ family (told_done t) (law.becomes _ (UdpConnect family a) (AskPeer family (told_done t)) items (IsConnected family a (told_done t)) (x.1 t fits)))
   fronts es given (AskPeer family outcome) items b = peer_leads items es family outcome b.0
   fronts es given (Send kept a bytes) items b = send_leads items es kept a bytes b.0
   fronts es given (Receive wanted) items b = let x = law.asks es (Receive wanted) items (call.Recv who.side) (Calmly _ refl refl) b.0 in (x.0, λ t fits. receive_leads items _ wanted (told_datagram t) (x.1 t fits))

@@ -11,8 +11,15 @@ use Rattle.wasi_laws.proofs.asks.Fronts.{is_calm, CalmOn, question_calm}
 use Rattle.wasi_laws.proofs.asks.Trees as tree
 use Rattle.wasi_laws.proofs.asks.Trees.{GoesOn, Undoes, Then, makes_by, turns_by, gives_up_by}
 use Rattle.wasi_laws.proofs.shapes.Shape.{ListenerShape, on_socket, Same}
-use Rattle.wasi_laws.proofs.shapes.Law.{Shaped, put_shape, moves_shape, polls_shape, turns_shape, created_shape}
+use Rattle.wasi_laws.proofs.shapes.Law.{Shaped, udp_shape, begun_shape, put_shape, moves_shape, polls_shape, turns_shape, created_shape}
 use Rattle.wasi_host.specs.Records.{tcp2_at}
+use Rattle.wasi_host.specs.declared.kind.Kind.TheVariants.{Udp2}
+use Rattle.wasi_host.specs.declared.udp.OpenUdp.{OpenUdp}
+use Rattle.wasi_host.specs.declared.udp.Udp2Socket.{Udp2Socket}
+use Rattle.wasi_host.specs.Udp.{udp_side}
+use Rattle.wasi_udp.specs.Create.{new_create, after_create as udp_after_create}
+use Rattle.wasi_walks.proofs.fits.Law.{learnt_side}
+use Rattle.wasi_walks.proofs.walks.Moves.{put_udp, FoundUdp, udp_begun}
 
 -- a close of this network socket leaves the record so
 pub data Closing (r : Tcp2Socket) : Tcp2Socket → OpId → Type 0 where
@@ -32,6 +39,7 @@ module _ (contexts : List WasiSocketsCtx) (line : ℕ) (origin : Step) where
   pub data IsAskedOn (h : Here) (c : Call) : Type 0 where
     OnNone : socket_of c ≡ None → IsAskedOn h c
     OnSide : (place : ℕ) (r : Tcp2Socket) (side : OpId) → Found h place r → side_of r.inner ≡ Some side → socket_of c ≡ Some side → Grounds h → IsAskedOn h c
+    OnUdp : (place : ℕ) (o : OpenUdp) → FoundUdp h place (Udp2Socket.Open o) → socket_of c ≡ Some o.inner.side → Grounds h → IsAskedOn h c
 
   -- P is what each ask must be, and Inv what holds between the asks.
   pub record Single (P : List Entry → OpId → Call → Type 0) (Inv : List Entry → Here → Type 0) : Type 0 where
@@ -44,6 +52,10 @@ module _ (contexts : List WasiSocketsCtx) (line : ℕ) (origin : Step) where
     pub asks : (es : List Entry) (h : Here) (op : OpId) (c : Call) → is_calm c ≡ true → IsAskedOn h c → Inv es h → Then P (λ fs. Inv fs h) es op c
     pub creates : (es : List Entry) (h : Here) (ctx : WasiSocketsCtx) (family : SocketAddressFamily) → h.own ≡ Unused → Grounds h → Inv es h → Inv (es ++ entry (own_of line) (call.TcpCreate ctx.name family) told.Done ∷ []) (creating h (own_of line) ctx family)
     pub closes : (es : List Entry) (h : Here) (place : ℕ) (r now : Tcp2Socket) (op side : OpId) → Found h place r → Closing r now side → Grounds h → Inv es h → Then P (λ fs. Inv fs (put h place now)) es op (call.Close side)
+    -- a UDP socket: one that is as it was; a create that is answered done; a close
+    pub udp_same : (es : List Entry) (h : Here) (place : ℕ) (o now : OpenUdp) → FoundUdp h place (Udp2Socket.Open o) → now.inner.side ≡ o.inner.side → now.in_progress ≡ o.in_progress → Inv es h → Inv es (put_udp h place (Udp2Socket.Open now))
+    pub udp_creates : (es : List Entry) (h : Here) (ctx : WasiSocketsCtx) (family : SocketAddressFamily) → h.own ≡ Unused → Grounds h → Inv es h → Inv (es ++ entry (own_of line) (call.UdpCreate ctx.name family) told.Done ∷ []) (udp_begun h (Ok (new_create (own_of line) ctx.name family)))
+    pub udp_closes : (es : List Entry) (h : Here) (place : ℕ) (o : OpenUdp) (op : OpId) → FoundUdp h place (Udp2Socket.Open o) → Grounds h → Inv es h → Then P (λ fs. Inv fs (put_udp h place (Udp2Socket.Closed o.inner.side))) es op (call.Close o.inner.side)
     -- what is in progress: an operation, and a write
     pub polls : (es : List Entry) (h : Here) (op : Operation) (after : End × List Item → Here) → Held h op after → Grounds h → Inv es h → Allows P (λ fs ended. Inv fs (after ended)) es (poll_asks op)
     pub turns : (es : List Entry) (h : Here) (place : ℕ) (r : Tcp2Socket) (s : Streams) (job : Job) (now : Job → WriteState) → Found h place r → r.streams ≡ Some s → GoesOn s.writer job now → Grounds h → Inv es h
@@ -53,6 +65,16 @@ module _ (contexts : List WasiSocketsCtx) (line : ℕ) (origin : Step) where
     -- a calm call on a record
     on_record : (es : List Entry) (h : Here) (place : ℕ) (r : Tcp2Socket) (op side : OpId) (c : Call) → Found h place r → side_of r.inner ≡ Some side → CalmOn side c → Grounds h → Inv es h → Then P (λ fs. Inv fs h) es op c
     on_record es h place r op side c g s k b i = a.asks es h op c k.calm (OnSide place r side g s k.on b) i
+
+    -- a mark, of whatever name
+    marked_by : (es : List Entry) (h : Here) (op : OpId) (kind : Kind) (parent : Option ℕ) (sock : Option OpId) → Inv es h → Allows P (λ fs made. Inv fs h) es (make_asks h.machine.table op kind parent sock)
+    marked_by es h op kind parent sock i = makes_by P (λ fs. Inv fs h) es h.machine.table op kind parent sock i (a.asks es h op _ refl (OnNone refl) i)
+
+    -- a create of a UDP socket that was answered
+    udp_created : (es : List Entry) (h : Here) (ctx : WasiSocketsCtx) (family : SocketAddressFamily) → h.own ≡ Unused → Grounds h → Inv es h → (t : Told) → IsDoneOrCode t → Inv (es ++ entry (own_of line) (call.UdpCreate ctx.name family) t ∷ []) (udp_begun h (udp_after_create (own_of line) ctx.name family (told_done t)))
+    udp_created es h ctx family u b i told.Done f = a.udp_creates es h ctx family u b i
+    udp_created es h ctx family u b i (told.Code c) f = a.moves _ h _ (Spends h u) b ((a.asks es h (own_of line) (call.UdpCreate ctx.name family) refl (OnNone refl) i).1 (told.Code c))
+    udp_created es h ctx family u b i _ f = absurd f
 
     marked : (es : List Entry) (h : Here) (kind : Kind) (parent : Option ℕ) (sock : Option OpId) → Inv es h → Allows P (λ fs made. Inv fs h) es (make_asks h.machine.table (own_of line) kind parent sock)
     marked es h kind parent sock i = makes_by P (λ fs. Inv fs h) es h.machine.table (own_of line) kind parent sock i (a.asks es h (own_of line) _ refl (OnNone refl) i)
@@ -103,6 +125,13 @@ module _ (contexts : List WasiSocketsCtx) (line : ℕ) (origin : Step) where
           let x = on_record es h place r (own_of line) side (call.Local side) g (ap side_in e) (record { calm = refl; on = refl }) (b, i.0) i.1 in
           (x.0, λ told f. (put_shape h place _ (rw (told_same r.inner (told_addr told)) (i.0 place r g)) i.0, a.same _ h place r _ g (record { side = refl; streams = refl; listening = refl; does = told_same r.inner (told_addr told); doing = refl }) (x.1 told)));
       closes = λ es h place r side q g e b i. let x = a.closes es h place r _ (own_of line) side g (ClosesSocket side e) (b, i.0) i.1 in (x.0, λ told f. (put_shape h place (closed_record r) (tt, tt) i.0, x.1 told));
+      udp_asks = λ es h place n o c at g q b i. let k = question_calm line origin n o.inner.side c q in let x = a.asks es h (own_of n) c k.calm (OnUdp place o g k.on (b, i.0)) i.1 in (x.0, λ told f. (i.0, x.1 told));
+      udp_learns = λ es h place o at g b i.
+          let x = a.asks es h (own_of line) (call.Local o.inner.side) refl (OnUdp place o g refl (b, i.0)) i.1 in
+          (x.0, λ told f. (udp_shape h place _ i.0, a.udp_same _ h place o _ g (learnt_side o.inner (told_addr told)) refl (x.1 told)));
+      udp_closes = λ es h place o q g b i. let x = a.udp_closes es h place o (own_of line) g (b, i.0) i.1 in (x.0, λ told f. (udp_shape h place _ i.0, x.1 told));
+      udp_creates = λ es h ctx family c may at u m b i. ((a.asks es h (own_of line) (call.UdpCreate ctx.name family) refl (OnNone refl) i.1).0, λ told f. (begun_shape h _ i.0, udp_created es h ctx family u (b, i.0) i.1 told f));
+      udp_marks = λ es h place u g b i. allows_weaker P (λ fs made. Inv fs h) (λ fs made. Shaped h × Inv fs (record h { machine = record h.machine { table = made.1 } })) (λ fs made k. (i.0, a.tables fs h made.1 h.made k)) es _ (marked_by es h (udp_side u) (Udp2 place) None (Some (udp_side u)) i.1);
       marks = λ es h kind parent sock m b i. allows_weaker P (λ fs made. Inv fs h) (λ fs made. Shaped h × Inv fs (record h { machine = record h.machine { table = made.1 } })) (λ fs made k. (i.0, a.tables fs h made.1 h.made k)) es _ (marked es h kind parent sock i.1);
       creates = λ es h ctx family c at u m b i.
           both P Anything _ _ es _ (allows_then P (Created h ctx family) (λ fs done. Inv fs (record h { machine = done.1; own = Used })) es (new_asks (own_of line) ctx family) (created_asks h.machine (own_of line)) (created es h ctx family u (b, i.0) i.1) (λ fs made k. joins fs h ctx family made u k (b, i.0)))

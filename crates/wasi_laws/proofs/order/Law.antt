@@ -8,13 +8,20 @@ use Rattle.wasi_tcp.specs.declared.writer.WriteState.TheVariants as writing
 use Rattle.wasi_tcp.specs.declared.accept.AcceptStage.TheVariants as accept
 use Rattle.wasi_tcp.specs.declared.socket.TcpState.TheVariants as state
 use Rattle.wasi_host.specs.Records.{tcp2_put}
+use Rattle.wasi_host.specs.declared.udp.OpenUdp.{OpenUdp}
+use Rattle.wasi_host.specs.declared.udp.Udp2Socket.{Udp2Socket}
+use Rattle.wasi_host.specs.declared.udp.UdpInProgress.{UdpInProgress}
+use Rattle.wasi_host.specs.Udp.{udp_bind_progress, udp_create_left, with_udp_progress}
+use Rattle.wasi_host.specs.UdpCreates.{with_create}
+use Rattle.wasi_udp.specs.Create.{Create, new_create}
+use Rattle.wasi_walks.proofs.walks.Moves.{put_udp, FoundUdp, udp_begun, begun_udp_bind, IsUdpSettled, UdpChanges, BeginsUdpBind, UdpCreates, UdpBindsOn}
 use Rattle.wasi_host.specs.declared.binding.InProgress.TheVariants as progress
-use Rattle.wasi_laws.proofs.Words.{Accepting, Allows, Asks, Awaits, BeginsAccept, BeginsBind, BeginsConnect, BeginsListen, BeginsWrite, BindsOn, Bool, Call, Changes, ChecksFirst, Closes, ClosesReader, Collects, Connection, Connects, Done, End, Entry, Forgets, Found, Given, Held, Here, InProgress, IpSocketAddress, IsGone, Item, Job, Joins, KeepsBinding, Lasts, LastsAfter, Left, List, Listening, Listens, Machine, Move, OpId, Opens, Operation, Option, Own, Permits, Plain, Reconnects, Refused, Reply, Some, Spends, Starts, Step, Streams, Tcp2Socket, TcpState, ToWrite, Told, Unlistens, Unused, Used, Waits, WasiSocketsCtx, Write, WriteState, WriterMoves, Writes, [], accept_ended, accept_operation, accepting_now, allows_weaker, ap, arith, arrived, asked_by, beginning_listen, begun_bind, begun_listen, bind_progress, closed_by, connect_ended, connect_first, connect_left, connect_operation, entry, false, first_state, if◌then◌else◌, inl, inr, is_same, job_after, joined, joining, listen_after, nat_lt, new_accept, new_job, new_record, new_socket, next_of, own_of, poll_asks, put, refl, run, second_of, subst, sym, then_closed, true, with_inner, with_progress, with_state, with_writer, written_by, ℕ, ◌++◌, ◌+◌, ◌∙◌, ◌∷◌, ◌≡◌, ◌≤◌}
+use Rattle.wasi_laws.proofs.Words.{Accepting, Allows, Asks, Awaits, BeginsAccept, BeginsBind, BeginsConnect, BeginsListen, BeginsWrite, BindsOn, Bool, Call, Changes, ChecksFirst, Closes, ClosesReader, Collects, Connection, Connects, Done, End, Entry, Forgets, Found, Given, Held, Here, InProgress, IpSocketAddress, IsGone, Item, Job, Joins, KeepsBinding, Lasts, LastsAfter, Left, List, Listening, Listens, Machine, Move, OpId, Opens, Operation, Option, Own, Permits, Plain, Reconnects, Refused, Reply, Some, Spends, Starts, Step, Streams, Tcp2Socket, TcpState, ToWrite, Told, Unlistens, Unused, Used, Waits, WasiSocketsCtx, Write, WriteState, WriterMoves, Writes, [], accept_ended, accept_operation, accepting_now, allows_weaker, ap, arith, arrived, asked_by, beginning_listen, begun_bind, begun_listen, bind_progress, closed_by, connect_ended, connect_first, connect_left, connect_operation, entry, false, first_state, if◌then◌else◌, inl, inr, is_same, job_after, joined, joining, listen_after, nat_lt, new_accept, new_job, new_record, new_socket, next_of, own_of, poll_asks, put, refl, run, second_of, subst, sym, then_closed, true, with_inner, with_progress, with_state, with_writer, written_by, ℕ, ◌++◌, ◌+◌, ◌∙◌, ◌∷◌, ◌≡◌, ◌≤◌, Ok, ◌⊎◌}
 use Rattle.wasi_laws.proofs.asks.Single.{each_ask, Single, Closing, ClosesSocket, ClosesListen, ClosesArrived, creating}
 use Rattle.wasi_laws.proofs.asks.Trees.{GoesOn, InWriting, InClosing}
 use Rattle.wasi_laws.proofs.shapes.Shape.{same_side, Same}
 use Rattle.wasi_laws.proofs.order.Ordered.{Asked, gone_after, gone_along, gone_push, calm_may, asked_first, asked_one}
-use Rattle.wasi_laws.proofs.order.Weights.{checks_of, if_ours, op_weight, state_ops, accept_ops, listening_ops, writer_ops, streams_ops, progress_ops, total, half, record_weight, sockets_push, beside, weight}
+use Rattle.wasi_laws.proofs.order.Weights.{checks_of, if_ours, op_weight, state_ops, accept_ops, listening_ops, writer_ops, streams_ops, progress_ops, udp_progress_ops, udp_ops, total, half, record_weight, sockets_push, udps_push, beside, beside_udp, weight}
 use Rattle.wasi_laws.proofs.order.Polls.{Within, poll_kept}
 
 -- 1 up to the line of this number: its operations may still begin
@@ -81,6 +88,22 @@ module _ (it : OpId) where
         let t : (i : Bool) → op_weight ours op.who.id op.left i + future it.step (line + 1) ≤ future it.step line = λ i. subst (λ (n : ℕ). op_weight ours op.who.id op.left i + future it.step (n + 1) ≤ future it.step n) s (takes_room op.who.id op.left i c) in
         let p = l false in let q = l true in let x = k.0 in let y = k.1 in let v = t false in let w = t true in
         (omega (arith, p, x, r, v), omega (arith, q, y, r, w))
+
+    -- a UDP socket changes, and its own operation begins
+    put_udp_kept : (es : List Entry) (h : Here) (place : ℕ) (u now : Udp2Socket) → FoundUdp h place u → ((i : Bool) → total ours (udp_ops now) i ≤ total ours (udp_ops u) i) → Kept line es h → Kept line es (put_udp h place now)
+    put_udp_kept es h place u now g l k = let b = beside_udp ours h.machine.store.records place u g in lighter es h (put_udp h place now) (λ i. let p = l i in let x = b.was i in let y = b.now now i in omega (arith, p, x, y)) (omega arith) k
+
+    put_udp_begins : (es : List Entry) (h : Here) (place : ℕ) (u now : Udp2Socket) (op : Operation) → FoundUdp h place u → next_of line h.own ≡ line → op.who.id.step ≡ line → checks_of op.left ≤ 1 → ((i : Bool) → total ours (udp_ops now) i ≤ total ours (udp_ops u) i + op_weight ours op.who.id op.left i) → Kept line es h → Kept line es (record (put_udp h place now) { own = Used })
+    put_udp_begins es h place u now op g o s c l k =
+        let b = beside_udp ours h.machine.store.records place u g in
+        begins es h (put_udp h place now) op o s c (λ i. let p = l i in let x = b.was i in let y = b.now now i in omega (arith, p, x, y)) k
+
+    -- another is in progress
+    udp_kept_ops : (old now : UdpInProgress) → (now ≡ old) ⊎ (IsUdpSettled old × IsUdpSettled now) → (i : Bool) → total ours (udp_progress_ops now) i ≤ total ours (udp_progress_ops old) i
+    udp_kept_ops old now (inl e) i = let x : total ours (udp_progress_ops now) i ≡ total ours (udp_progress_ops old) i = ap (λ (d : UdpInProgress). total ours (udp_progress_ops d) i) e in omega (arith, x)
+    udp_kept_ops old (UdpInProgress.Binding op) (inr k) i = absurd k.1
+    udp_kept_ops old UdpInProgress.Nothing (inr k) i = omega arith
+    udp_kept_ops old UdpInProgress.Bound (inr k) i = omega arith
 
     put_begins : (es : List Entry) (h : Here) (place : ℕ) (r now : Tcp2Socket) (op : Operation) → Found h place r → next_of line h.own ≡ line → op.who.id.step ≡ line → checks_of op.left ≤ 1 → ((i : Bool) → record_weight ours now i ≤ record_weight ours r i + op_weight ours op.who.id op.left i) → Kept line es h → Kept line es (record (put h place now) { own = Used })
     put_begins es h place r now op g u s c l k =
@@ -172,6 +195,10 @@ module _ (it : OpId) where
           let idle : Tcp2Socket = accepting_now r l accepting.Idle in
           let m = put_kept es h place r idle g (λ i. omega arith) k in
           lighter es (put h place idle) (joining h (tcp2_put h.machine.store.records place idle) (joined l new peer)) (λ i. let z = sockets_push ours (tcp2_put h.machine.store.records place idle) (joined l new peer) i in omega (arith, z)) (omega arith) m
+      moves es _ _ (UdpChanges h place o now g p) k = put_udp_kept es h place (Udp2Socket.Open o) (Udp2Socket.Open now) g (udp_kept_ops o.in_progress now.in_progress p.binds) k
+      moves es _ _ (BeginsUdpBind h place o a at g to idle own) k =
+          let op = begun_udp_bind (own_of line) o a in
+          put_udp_begins es h place (Udp2Socket.Open o) (Udp2Socket.Open (with_udp_progress o (UdpInProgress.Binding op))) op g (ap (next_of line) own) refl (omega arith) (λ i. omega arith) k
       -- the others leave all that is looked at
       moves es _ _ _ k = k
 
@@ -193,6 +220,24 @@ module _ (it : OpId) where
         let e = beside ours h.machine.store.records place r g in
         held es h op (λ ended. put h place (now ended)) (λ i. e.others i + (total ours a i + total ours b i + total ours c i)) (let w = e.halved in let x = half ours a in let y = half ours b in let z = half ours c in omega (arith, w, x, y, z))
         (λ i. let x = e.was i in let y = was i in omega (arith, x, y)) (λ ended i. let x = e.now (now ended) i in let y = less ended i in omega (arith, x, y)) (λ ended. refl) k
+
+    udp_polled : (es : List Entry) (h : Here) (place : ℕ) (u : Udp2Socket) (op : Operation) (now : End × List Item → Udp2Socket) → FoundUdp h place u → ((i : Bool) → total ours (udp_ops u) i ≡ op_weight ours op.who.id op.left i)
+        → ((ended : End × List Item) (i : Bool) → total ours (udp_ops (now ended)) i ≤ op_weight ours op.who.id ended.1 i) → Kept line es h
+        → Allows (Asked ours) (λ fs ended. Kept line fs (put_udp h place (now ended))) es (poll_asks op)
+    udp_polled es h place u op now g was less k =
+        let e = beside_udp ours h.machine.store.records place u g in
+        held es h op (λ ended. put_udp h place (now ended)) e.others e.halved
+        (λ i. let x = e.was i in let y = was i in omega (arith, x, y)) (λ ended i. let x = e.now (now ended) i in let y = less ended i in omega (arith, x, y)) (λ ended. refl) k
+
+    create_weighs : (create : Create) (end : End × List Item) (i : Bool) → total ours (udp_ops (udp_create_left create end)) i ≤ op_weight ours create.operation.who.id end.1 i
+    create_weighs create (Waits, items) i = omega arith
+    create_weighs create (Done given, items) i = omega arith
+    create_weighs create (Refused c given, items) i = omega arith
+
+    udp_bound_weighs : (op : Operation) (o : OpenUdp) (end : End × List Item) (i : Bool) → total ours (udp_progress_ops (udp_bind_progress op end)) i ≤ op_weight ours op.who.id end.1 i
+    udp_bound_weighs op o (Waits, items) i = omega arith
+    udp_bound_weighs op o (Done given, items) i = omega arith
+    udp_bound_weighs op o (Refused c given, items) i = omega arith
 
     ended_weighs : (op : Operation) (end : End × List Item) (i : Bool) → total ours (state_ops (connect_ended op.who end).1) i ≤ op_weight ours op.who.id end.1 i
     ended_weighs op (Waits, items) i = omega arith
@@ -227,6 +272,11 @@ module _ (it : OpId) where
     polls es h _ _ (Awaits place r l op g e a) k =
         polled es h place r op _ (state_ops r.inner.state) (streams_ops r.streams) (progress_ops r.in_progress) g
         (λ i. let z : total ours (listening_ops r.listening) i ≡ total ours (op ∷ []) i = ap (λ (t : Listening). total ours (listening_ops t) i) e ∙ ap (λ (t : Accepting). total ours (accept_ops t) i) a in omega (arith, z)) (λ ended i. let l = awaited_weighs op ended i in omega (arith, l)) k
+    polls es h _ _ (UdpCreates place create q g) k =
+        udp_polled es h place (Udp2Socket.Creating create) create.operation (udp_create_left create) g (λ i. omega arith) (create_weighs create) k
+    polls es h _ _ (UdpBindsOn place o op q g e) k =
+        udp_polled es h place (Udp2Socket.Open o) op (λ ended. Udp2Socket.Open (with_udp_progress o (udp_bind_progress op ended))) g
+        (λ i. let z : total ours (udp_progress_ops o.in_progress) i ≡ total ours (op ∷ []) i = ap (λ (t : UdpInProgress). total ours (udp_progress_ops t) i) e in omega (arith, z)) (udp_bound_weighs op o) k
 
     writes : (w : WriteState) (job : Job) (now : Job → WriteState) → GoesOn w job now → (i : Bool) → (total ours (writer_ops w) i ≡ op_weight ours job.write.who.id job.write.left i) × ((ended : End × List Item) → total ours (writer_ops (now (job_after job.write.who ended))) i ≡ op_weight ours job.write.who.id ended.1 i)
     writes _ _ _ (InWriting job e) i = (omega arith, λ ended. omega arith)
@@ -243,6 +293,13 @@ module _ (it : OpId) where
           let now = creating h (own_of line) ctx family in
           after es now (own_of line) (call.TcpCreate ctx.name family) told.Done refl (lighter es h now (λ i. let x = sockets_push ours h.machine.store.records (new_record (new_socket (own_of line) ctx.name family)) i in omega (arith, x)) (less_room h.own) k);
       closes = λ es h place r now op side g c b k. (tt, λ told. after es (put h place now) op (call.Close side) told refl (put_kept es h place r now g (closed_less_record r now side c) k));
+      udp_same = λ es h place o now g s e k. put_udp_kept es h place (Udp2Socket.Open o) (Udp2Socket.Open now) g (λ i. let z : total ours (udp_progress_ops now.in_progress) i ≡ total ours (udp_progress_ops o.in_progress) i = ap (λ (t : UdpInProgress). total ours (udp_progress_ops t) i) e in omega (arith, z)) k;
+      udp_creates = λ es h ctx family u b k.
+          let create : Create = new_create (own_of line) ctx.name family in
+          let now = udp_begun h (Ok create) in
+          after es now (own_of line) (call.UdpCreate ctx.name family) told.Done refl
+          (begins es h (record h { machine = with_create h.machine create }) create.operation (ap (next_of line) u) refl (omega arith) (λ i. let x = udps_push ours h.machine.store.records (Udp2Socket.Creating create) i in omega (arith, x)) k);
+      udp_closes = λ es h place o op g b k. (tt, λ told. after es (put_udp h place (Udp2Socket.Closed o.inner.side)) op (call.Close o.inner.side) told refl (put_udp_kept es h place (Udp2Socket.Open o) (Udp2Socket.Closed o.inner.side) g (λ i. omega arith) k));
       polls = λ es h op now x b k. polls es h op now x k;
       turns = λ es h place r s job now g e on b k.
           polled es h place r job.write (λ ended. with_writer r s (now (job_after job.write.who ended))) (state_ops r.inner.state) (listening_ops r.listening) (progress_ops r.in_progress) g (λ i. let x = streams_are r s i e in let y = (writes s.writer job now on i).0 in omega (arith, x, y))

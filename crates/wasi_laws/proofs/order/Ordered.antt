@@ -1,4 +1,4 @@
--- Logs in order: no check of ours comes after our first bind, listen or connect.
+-- Logs in order: no check of ours comes after our first bind, listen, connect or datagram.
 use Rattle.wasi_world.specs.declared.call.Call.TheVariants as call
 use Rattle.wasi_laws.proofs.Words.{◌≡◌, inl, inr, ℕ, Bool, true, false, if◌then◌else◌, List, [], ◌∷◌, ◌++◌, refl, sym, ap, subst, ◌∙◌, append_assoc, ⊤, OpId, Call, Entry, is_same, GoesOut, IsCheck, ChecksNone, ChecksFirst, HasGone, asked_by}
 use Rattle.wasi_laws.proofs.asks.Fronts.{is_calm}
@@ -13,6 +13,9 @@ module _ (ours : OpId → Bool) where
   gone_after g op (call.Bind sock addr) = out_by (ours op) g
   gone_after g op (call.Listen sock backlog) = out_by (ours op) g
   gone_after g op (call.Connect sock addr) = out_by (ours op) g
+  gone_after g op (call.UdpBind sock addr) = out_by (ours op) g
+  gone_after g op (call.UdpConnect sock addr) = out_by (ours op) g
+  gone_after g op (call.Send sock addr bytes) = out_by (ours op) g
   gone_after g op _ = g
 
   -- a check of ours comes before
@@ -38,12 +41,18 @@ module _ (ours : OpId → Bool) where
   calm_may g op (call.Bind sock addr) e = absurd (cc)
   calm_may g op (call.Listen sock backlog) e = absurd (cc)
   calm_may g op (call.Connect sock addr) e = absurd (cc)
+  calm_may g op (call.UdpBind sock addr) e = absurd (cc)
+  calm_may g op (call.UdpConnect sock addr) e = absurd (cc)
+  calm_may g op (call.Send sock addr bytes) e = absurd (cc)
   calm_may g op _ e = (tt, refl)
 
   pub out_may : (g : ℕ) (op : OpId) (c : Call) → GoesOut c → May g op c × (gone_after g op c ≡ out_by (ours op) g)
   out_may g op (call.Bind sock addr) h = (tt, refl)
   out_may g op (call.Listen sock backlog) h = (tt, refl)
   out_may g op (call.Connect sock addr) h = (tt, refl)
+  out_may g op (call.UdpBind sock addr) h = (tt, refl)
+  out_may g op (call.UdpConnect sock addr) h = (tt, refl)
+  out_may g op (call.Send sock addr bytes) h = (tt, refl)
   out_may g op _ h = absurd h
 
   -- == along a log
@@ -71,6 +80,9 @@ module _ (ours : OpId → Bool) where
   still_gone op (call.Bind sock addr) = out_out (ours op)
   still_gone op (call.Listen sock backlog) = out_out (ours op)
   still_gone op (call.Connect sock addr) = out_out (ours op)
+  still_gone op (call.UdpBind sock addr) = out_out (ours op)
+  still_gone op (call.UdpConnect sock addr) = out_out (ours op)
+  still_gone op (call.Send sock addr bytes) = out_out (ours op)
   still_gone op _ = refl
 
   now_gone : (g : ℕ) (op : OpId) (c : Call) → ours op ≡ true → GoesOut c → gone_after g op c ≡ 1

@@ -5,7 +5,10 @@ use Rattle.wasi_tcp.specs.declared.bind.BindStage.TheVariants as stage
 use Rattle.wasi_tcp.specs.Connect as connect
 use Rattle.wasi_tcp.specs.Listen as listen
 use Rattle.wasi_laws.proofs.Words.{◌≡◌, ℕ, zero, suc, ◌+◌, ◌≤◌, Bool, true, false, List, [], ◌∷◌, ◌++◌, length, refl, sym, subst, ◌∙◌, arith, ErrorCode, OpId, Call, Told, Entry, bind, Given, Item, Check, Bind, Connect, Listen, CheckArrival, CheckPeer, Write, Who, Operation, LastAsk, NothingLast, CloseLast, ShutdownLast, End, last_ask, poll_asks, Allows, entry, Asks, Give, Left, CheckLocal, allows_at, reached, bind_left, IsLeftOfConnect, IsLeftOfListen, IsOutward, Binds, ChecksFirst, HasGone, NoCheckLeft, operation_polled}
-use Rattle.wasi_laws.proofs.asks.Fronts.{IsToCheck, IsToGo, AsksBy, Checks, Goes, Calmly, Becomes, IsAdmitted, PollLaw, polls_by}
+use Rattle.wasi_world.specs.Operation.{UdpBind, UdpConnect, Send}
+use Rattle.wasi_udp.specs.Bind as udp
+use Rattle.wasi_laws.specs.Order.{UdpBinds}
+use Rattle.wasi_laws.proofs.asks.Fronts.{IsToCheck, IsToGo, AsksBy, Checks, Goes, Calmly, Becomes, IsAdmitted, PollLaw, polls_by, IsConnected}
 use Rattle.wasi_laws.proofs.order.Ordered.{out_by, gone_after, gone_along, gone_push, Asked, calm_may, out_may, asked_all, asked_first, gone_out}
 use Rattle.wasi_laws.proofs.order.Weights.{Kind, ToCheck, ToGo, kind_of, and_then, checks_of, drop_weighs, if_ours, op_weight, Plain}
 use Rattle.wasi_laws.specs.Order.{Connects, Listens}
@@ -24,10 +27,14 @@ to_go : (i : Item) → IsToGo i → kind_of i ≡ ToGo
 to_go (Bind a) k = refl
 to_go (Connect a) k = refl
 to_go (Listen backlog) k = refl
+to_go (UdpBind a) k = refl
+to_go (UdpConnect family a) k = refl
+to_go (Send kept a bytes) k = refl
 to_go _ k = absurd k
 
 becomes_less : (i j : Item) (items : List Item) → Becomes i j → checks_of (j ∷ items) ≤ checks_of (i ∷ items)
 becomes_less _ _ items (IsAdmitted peer) = drop_weighs (CheckArrival peer) items
+becomes_less _ _ items (IsConnected family a outcome) = drop_weighs (UdpConnect family a) items
 becomes_less _ _ items _ = omega arith
 
 module _ (ours : OpId → Bool) (others : Bool → ℕ) (below : others true ≤ others false + others false) (room : ℕ) where
@@ -113,6 +120,11 @@ begins op (Listens k) = by_left op.left k.left
   where
     by_left : (items : List Item) → IsLeftOfListen items → checks_of items ≤ 1
     by_left _ listen.Ended = omega arith
+    by_left _ _ = omega arith
+begins op (UdpBinds k) = by_left op.left k.left
+  where
+    by_left : (items : List Item) → udp.IsLeftOfBind items → checks_of items ≤ 1
+    by_left _ udp.Ended = omega arith
     by_left _ _ = omega arith
 
 -- nothing that checks is left

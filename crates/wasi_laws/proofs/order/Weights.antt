@@ -2,7 +2,11 @@
 use Rattle.wasi_tcp.specs.declared.socket.TcpState.TheVariants as state
 use Rattle.wasi_tcp.specs.declared.listener.Accepting.TheVariants as accepting
 use Rattle.wasi_tcp.specs.declared.writer.WriteState.TheVariants as writing
-use Rattle.wasi_host.specs.Records.{tcp2_put, tcp2_at, tcp2_pushed}
+use Rattle.wasi_world.specs.Operation.{UdpBind, UdpConnect, Send}
+use Rattle.wasi_host.specs.declared.udp.Udp2Socket.{Udp2Socket}
+use Rattle.wasi_host.specs.declared.udp.UdpInProgress.{UdpInProgress}
+use Rattle.wasi_host.specs.declared.udp.UdpInProgress.TheVariants as udp
+use Rattle.wasi_host.specs.Records.{tcp2_put, tcp2_at, tcp2_pushed, udp2_at, udp2_put, udp2_pushed}
 use Rattle.wasi_host.specs.declared.records.Record.{Record}
 use Rattle.wasi_host.specs.declared.records.Record.TheVariants as rec
 use Rattle.wasi_host.specs.declared.listening.Listening.TheVariants as listening
@@ -28,6 +32,9 @@ kind_of (CheckPeer wanted bytes a) = ToCheck
 kind_of (Bind a) = ToGo
 kind_of (Connect a) = ToGo
 kind_of (Listen backlog) = ToGo
+kind_of (UdpBind a) = ToGo
+kind_of (UdpConnect family a) = ToGo
+kind_of (Send kept a bytes) = ToGo
 kind_of _ = Plain
 
 abbrev pub and_then : Kind → ℕ → ℕ
@@ -98,6 +105,15 @@ abbrev pub progress_ops : InProgress → List Operation
 progress_ops (progress.Binding op) = op ∷ []
 progress_ops _ = []
 
+abbrev pub udp_progress_ops : UdpInProgress → List Operation
+udp_progress_ops (udp.Binding op) = op ∷ []
+udp_progress_ops _ = []
+
+abbrev pub udp_ops : Udp2Socket → List Operation
+udp_ops (Udp2Socket.Creating create) = create.operation ∷ []
+udp_ops (Udp2Socket.Open o) = udp_progress_ops o.in_progress
+udp_ops (Udp2Socket.Closed side) = []
+
 module _ (ours : OpId → Bool) where
   abbrev pub total : List Operation → Bool → ℕ
   total [] i = 0
@@ -113,6 +129,7 @@ module _ (ours : OpId → Bool) where
 
   abbrev pub weight_of : Record → Bool → ℕ
   weight_of (rec.Tcp2 r) i = record_weight r i
+  weight_of (rec.Udp2 u) i = total (udp_ops u) i
 
   abbrev pub sockets_weight : List Record → Bool → ℕ
   sockets_weight [] i = 0
@@ -121,10 +138,15 @@ module _ (ours : OpId → Bool) where
   pub half_sockets : (rs : List Record) → sockets_weight rs true ≤ sockets_weight rs false + sockets_weight rs false
   half_sockets [] = omega arith
   half_sockets (rec.Tcp2 r ∷ rs) = let a = half (state_ops r.inner.state) in let b = half (listening_ops r.listening) in let c = half (streams_ops r.streams) in let p = half (progress_ops r.in_progress) in let d = half_sockets rs in omega (arith, a, b, c, p, d)
+  half_sockets (rec.Udp2 u ∷ rs) = let a = half (udp_ops u) in let d = half_sockets rs in omega (arith, a, d)
 
   pub sockets_push : (rs : List Record) (r : Tcp2Socket) (i : Bool) → sockets_weight (tcp2_pushed rs r) i ≡ sockets_weight rs i + record_weight r i
   sockets_push [] r i = omega arith
   sockets_push (x ∷ rs) r i = let k = sockets_push rs r i in omega (arith, k)
+
+  pub udps_push : (rs : List Record) (u : Udp2Socket) (i : Bool) → sockets_weight (udp2_pushed rs u) i ≡ sockets_weight rs i + total (udp_ops u) i
+  udps_push [] u i = omega arith
+  udps_push (x ∷ rs) u i = let k = udps_push rs u i in omega (arith, k)
 
   -- The records but one, which weighs so much wherever it changes.
   pub record Beside (rs : List Record) (place : ℕ) (r : Tcp2Socket) : Type 0 where
@@ -136,8 +158,29 @@ module _ (ours : OpId → Bool) where
   pub beside : (rs : List Record) (place : ℕ) (r : Tcp2Socket) → tcp2_at rs place ≡ Some r → Beside rs place r
   beside [] place r g = absurd (cc)
   beside (rec.Tcp2 x ∷ rs) zero r g = record { others = sockets_weight rs; halved = half_sockets rs; was = λ i. (let e : x ≡ r = cc in let s : record_weight x i ≡ record_weight r i = ap (λ (y : Tcp2Socket). record_weight y i) e in omega (arith, s)); now = λ q i. omega arith }
+  beside (rec.Udp2 x ∷ rs) zero r g = absurd (cc)
   beside (x ∷ rs) (suc place) r g =
       let k = beside rs place r g in
+      record {
+        others = λ i. weight_of x i + k.others i;
+        halved = (let a = half_sockets (x ∷ []) in let h = k.halved in omega (arith, a, h));
+        was = λ i. (let e = k.was i in omega (arith, e));
+        now = λ q i. (let e = k.now q i in omega (arith, e));
+      }
+
+  -- the same of a UDP socket
+  pub record BesideUdp (rs : List Record) (place : ℕ) (u : Udp2Socket) : Type 0 where
+    pub others : Bool → ℕ
+    pub halved : others true ≤ others false + others false
+    pub was : (i : Bool) → sockets_weight rs i ≡ others i + total (udp_ops u) i
+    pub now : (q : Udp2Socket) (i : Bool) → sockets_weight (udp2_put rs place q) i ≡ others i + total (udp_ops q) i
+
+  pub beside_udp : (rs : List Record) (place : ℕ) (u : Udp2Socket) → udp2_at rs place ≡ Some u → BesideUdp rs place u
+  beside_udp [] place u g = absurd (cc)
+  beside_udp (rec.Tcp2 x ∷ rs) zero u g = absurd (cc)
+  beside_udp (rec.Udp2 x ∷ rs) zero u g = record { others = sockets_weight rs; halved = half_sockets rs; was = λ i. (let e : x ≡ u = cc in let s : total (udp_ops x) i ≡ total (udp_ops u) i = ap (λ (y : Udp2Socket). total (udp_ops y) i) e in omega (arith, s)); now = λ q i. omega arith }
+  beside_udp (x ∷ rs) (suc place) u g =
+      let k = beside_udp rs place u g in
       record {
         others = λ i. weight_of x i + k.others i;
         halved = (let a = half_sockets (x ∷ []) in let h = k.halved in omega (arith, a, h));

@@ -77,6 +77,14 @@ module _ (side : OpId) where
     lives = λ i r e l. elim (get_split records now i r e) [ inl p ↦ h.lives i r p l | inr p ↦ subst (λ (x : Tcp2Socket). Agree taken permitted x.streams) p (f (elim h.made [ inl u ↦ u | inr m ↦ absurd (fresh (ap (λ (x : Tcp2Socket). x.side) p ∙ l.0) m.place m.was m.at m.of) ])) ];
   }
 
+  -- the sockets of other records are the same ones
+  pub agrees_beside : (taken permitted : List ℕ) (records now : List Record) → ((i : ℕ) (r : Tcp2Socket) → tcp2_at now i ≡ Some r → tcp2_at records i ≡ Some r) → ((i : ℕ) (r : Tcp2Socket) → tcp2_at records i ≡ Some r → tcp2_at now i ≡ Some r) → Agreeing taken permitted records → Agreeing taken permitted now
+  agrees_beside taken permitted records now back there h = record {
+    front = h.front;
+    made = elim h.made [ inl u ↦ inl u | inr m ↦ inr (record { place = m.place; was = m.was; at = there m.place m.was m.at; of = m.of }) ];
+    lives = λ i r e l. h.lives i r (back i r e) l;
+  }
+
 module _ (taken bytes : List ℕ) where
   written_agrees : (job : Job) (e : End) → job.end ≡ e → JobAgrees taken bytes job.write.left job.end → Agrees taken bytes (written_by job e)
   written_agrees job Waits p h = h

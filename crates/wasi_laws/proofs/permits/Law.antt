@@ -9,6 +9,13 @@ use Rattle.wasi_tcp.specs.declared.socket.TcpState.TheVariants as state
 use Rattle.wasi_tcp.specs.declared.writer.WriteState.TheVariants as writing
 use Rattle.wasi_tcp.specs.Connect as connect
 use Rattle.wasi_tcp.specs.Listen as listen
+use Rattle.wasi_udp.specs.Bind as udp
+use Rattle.wasi_udp.specs.Create.{new_create}
+use Rattle.wasi_host.specs.declared.udp.Udp2Socket.{Udp2Socket}
+use Rattle.wasi_host.specs.Udp.{udp_bind_progress, udp_create_left, with_udp_progress}
+use Rattle.wasi_walks.proofs.UdpLists.{tcp_of_put, tcp_of_push, tcp_in_put, tcp_in_push}
+use Rattle.wasi_walks.proofs.fits.Records.{FitUdpProgress, UdpBindOn}
+use Rattle.wasi_walks.proofs.walks.Moves.{put_udp, FoundUdp, UdpChanges, BeginsUdpBind, UdpCreates, UdpBindsOn}
 use Rattle.wasi_walks.specs.Waiting.{IsLeftOfBind}
 use Rattle.wasi_walks.specs.Waiting as binding
 use Rattle.wasi_laws.proofs.Words.{Allows, ArePlain, Asks, Awaits, Begins, BeginsAccept, BeginsBind, BeginsConnect, BeginsListen, BeginsWrite, BindsOn, Bool, Call, Changes, ClosesReader, Connects, Done, End, Entry, Fit, FitListening, FitProgress, Forgets, Found, Held, Here, HoldsAccept, HoldsConnect, IsAcceptOn, IsConnect, IsFrontOf, IsGone, IsLeftOfConnect, IsLeftOfListen, IsListen, Item, Job, Joins, List, Listens, Move, Named, NoWrite, None, Not, OpId, Opens, Operation, Option, Own, Quiet, Reconnects, Refused, SocketAddressFamily, Some, Spends, Step, Streams, Tcp2Socket, TcpState, ToWrite, Told, Unlistens, Unused, Used, Waits, WasiSocketsCtx, WriteState, Writes, [], accept_ended, accept_name, accept_plain, accepting_now, allows_keep, allows_weaker, ap, append-nil, append_assoc, bytes_left, closed_record, connect_ended, entry, false, fresh, if◌then◌else◌, inl, inr, is_same, job_after, joined, name_in, new_accept, new_job, new_record, new_socket, none_taken, opened_by, own_of, plain_poll, poll_asks, put, refl, rules, side_in, side_of, subst, sym, taken_fresh, taken_in, true, with_inner, with_listening, with_reader, with_state, with_writer, ℕ, ⊤, ◌++◌, ◌∙◌, ◌∷◌, ◌≡◌}
@@ -17,9 +24,9 @@ use Rattle.wasi_laws.proofs.asks.Single.{Single, Grounds, Closing, ClosesSocket,
 use Rattle.wasi_laws.proofs.asks.Trees.{GoesOn, InWriting, InClosing}
 use Rattle.wasi_laws.proofs.shapes.Shape.{same_side, not_same, some_same, WriterIs, HasStreams, StreamsShape, IsBegun, Lives, Follows, follows_plain, follows_same, follows_state, follows_quiet, follows_begun, follows_gone, gone_lacks}
 use Rattle.wasi_laws.proofs.shapes.Law.{job_of}
-use Rattle.wasi_laws.proofs.permits.Agreeing.{JobAgrees, Agrees, Agree, Agreeing, agrees_put, agrees_moved, agrees_push, writer_agrees}
+use Rattle.wasi_laws.proofs.permits.Agreeing.{JobAgrees, Agrees, Agree, Agreeing, agrees_put, agrees_moved, agrees_push, writer_agrees, agrees_beside}
 use Rattle.wasi_laws.proofs.permits.Taken.{After, write_law, taken_push, Fronts, quiet_keep, Accounts}
-use Rattle.wasi_host.specs.Records.{tcp2_put}
+use Rattle.wasi_host.specs.Records.{tcp2_put, udp2_put, udp2_pushed}
 use Rattle.wasi_host.specs.declared.records.Record.{Record}
 
 -- == what is in progress besides a write writes nothing
@@ -35,11 +42,17 @@ listen_plain : (items : List Item) → IsLeftOfListen items → ArePlain items
 listen_plain _ listen.Ended = tt
 listen_plain _ _ = search rules
 
+udp_plain : (items : List Item) → udp.IsLeftOfBind items → ArePlain items
+udp_plain _ udp.Ended = tt
+udp_plain _ _ = search rules
+
 held_plain : (h : Here) (op : Operation) (after : End × List Item → Here) → Held h op after → Fit h → ArePlain op.left
 held_plain h _ _ (BindsOn place r op q g e) f = let its = subst (FitProgress r.inner.state) e (f.records place r g).2 in bind_plain op.left its.1.left
 held_plain h _ _ (Connects place r op g e) f = let its : IsConnect op = subst HoldsConnect e (f.records place r g).0 in connect_plain op.left its.left
 held_plain h _ _ (Listens place r op q g e c) f = let its : IsListen op = subst FitListening e (f.records place r g).1 in listen_plain op.left its.left
 held_plain h _ _ (Awaits place r l op g e a) f = let its : IsAcceptOn l.side l.maker op = subst (HoldsAccept l.side l.maker) a (subst FitListening e (f.records place r g).1) in accept_plain ⊤ op.left its.accept.left
+held_plain h _ _ (UdpCreates place create q g) f = subst ArePlain (sym (f.udps place (Udp2Socket.Creating create) g).1) (tt, tt)
+held_plain h _ _ (UdpBindsOn place o op q g e) f = let its : UdpBindOn o.inner.side op = subst (FitUdpProgress o.inner.side) e (f.udps place (Udp2Socket.Open o) g) in udp_plain op.left its.bind.left
 
 -- what becomes of a listen in progress
 listen_follows : (r now : Tcp2Socket) (op : Operation) → r.listening ≡ Begins op → now.side ≡ r.side → Follows r now
@@ -104,6 +117,17 @@ module _ (side : OpId) (given : List ℕ) where
   put_gone : (es : List Entry) (h : Here) (place : ℕ) (r now : Tcp2Socket) → Found h place r → now.side ≡ r.side → side_of now.inner ≡ None → (IsBegun now.listening → ⊥) → Kept es h → Kept es (put h place now)
   put_gone es h place r now g s d n k = put_kept es h place r now g (follows_gone r now s d n) (λ held v a. absurd (gone_lacks now d n side v)) k
 
+  -- a UDP socket changes, or there is one more
+  put_udp_kept : (es : List Entry) (h : Here) (place : ℕ) (u now : Udp2Socket) → FoundUdp h place u → Kept es h → Kept es (put_udp h place now)
+  put_udp_kept es h place u now g k = record {
+    held = k.held;
+    stands = agrees_beside side (taken_in side es) k.held h.machine.store.records (udp2_put h.machine.store.records place now) (tcp_of_put h.machine.store.records place now) (λ i r e. tcp_in_put h.machine.store.records place u now i r g e) k.stands;
+    owes = k.owes;
+  }
+
+  push_udp_kept : (es : List Entry) (records : List Record) (now : Udp2Socket) (own : Own) → Permitted es records own → Permitted es (udp2_pushed records now) own
+  push_udp_kept es records now own k = record { held = k.held; stands = agrees_beside side (taken_in side es) k.held records (udp2_pushed records now) (tcp_of_push records now) (tcp_in_push records now) k.stands; owes = k.owes }
+
   spends : (es : List Entry) (records : List Record) (own : Own) → own ≡ Unused → Permitted es records own → Permitted es records Used
   spends es records own u k = record { held = k.held; stands = k.stands; owes = subst (λ (o : Own). Owes o k.held) u k.owes }
 
@@ -163,6 +187,8 @@ module _ (side : OpId) (given : List ℕ) where
             stands = agrees_push side (taken_in side es) i.held (tcp2_put h.machine.store.records place idle) (joined l new peer) (λ q j x d v. taken_fresh contexts line origin h place r idle new g (ap accept_name e ∙ ap name_in a) refl refl b.0.1 j x d (inl (v ∙ sym q))) (λ t. t.0 ∙ sym t.1) i.stands;
             owes = i.owes;
           }
+      moves es _ _ (UdpChanges h place o now g p) b k = put_udp_kept es h place (Udp2Socket.Open o) (Udp2Socket.Open now) g k
+      moves es _ _ (BeginsUdpBind h place o a at g to idle own) b k = spends es _ h.own own (put_udp_kept es h place (Udp2Socket.Open o) (Udp2Socket.Open _) g k)
       -- the others leave all that is looked at
       moves es _ _ _ b k = k
 
@@ -178,6 +204,8 @@ module _ (side : OpId) (given : List ℕ) where
       ended_kept es h _ _ (Done given, items) (Listens place r op q g e c) n k = put_same es h place r _ g (listen_follows r _ op e refl) refl k
       ended_kept es h _ _ (Refused c given, items) (Listens place r op q g e _) n k = put_same es h place r _ g (listen_follows r _ op e refl) refl k
       ended_kept es h _ _ ended (Awaits place r l op g e a) n k = put_same es h place r _ g (follows_quiet r (accepting_now r l (accept_ended op.who ended)) refl refl (λ b. b)) refl k
+      ended_kept es h _ _ ended (UdpCreates place create q g) n k = put_udp_kept es h place (Udp2Socket.Creating create) (udp_create_left create ended) g k
+      ended_kept es h _ _ ended (UdpBindsOn place o op q g e) n k = put_udp_kept es h place (Udp2Socket.Open o) (Udp2Socket.Open (with_udp_progress o (udp_bind_progress op ended))) g k
 
       -- a write is in progress
       turns : (es : List Entry) (h : Here) (place : ℕ) (r : Tcp2Socket) (s : Streams) (w : WriteState) (job : Job) (now : Job → WriteState) → Found h place r → r.streams ≡ Some s → HasStreams r.inner.state s → s.writer ≡ w → GoesOn w job now → Named line h → Kept es h
@@ -228,6 +256,11 @@ module _ (side : OpId) (given : List ℕ) where
         asks = λ es h op c calm on k. (front es h k, λ told. asked es h op c told (unwritten c calm) k);
         creates = λ es h ctx family u b k. created es h ctx family u b.0.1 k;
         closes = λ es h place r now op x g c b k. (front es h k, λ told. asked es (put h place now) op (call.Close x) told tt (closed_kept es h place r now x g c k));
+        udp_same = λ es h place o now g s e k. put_udp_kept es h place (Udp2Socket.Open o) (Udp2Socket.Open now) g k;
+        udp_creates = λ es h ctx family u b k.
+            let m = asked es h (own_of line) (call.UdpCreate ctx.name family) told.Done tt k in
+            spends _ _ h.own u (push_udp_kept _ h.machine.store.records (Udp2Socket.Creating (new_create (own_of line) ctx.name family)) h.own m);
+        udp_closes = λ es h place o op g b k. (front es h k, λ told. asked es (put_udp h place (Udp2Socket.Closed o.inner.side)) op (call.Close o.inner.side) told tt (put_udp_kept es h place (Udp2Socket.Open o) (Udp2Socket.Closed o.inner.side) g k));
         polls = λ es h op after x b k. allows_weaker (Fronts side given) (λ fs ended. Kept fs h × ArePlain ended.1) (λ fs ended. Kept fs (after ended)) (λ fs ended y. ended_kept fs h op after ended x b.0.1 y.0) es (poll_asks op)
             (quiet_kept (λ ended. ArePlain ended.1) es h (poll_asks op) k (plain_poll op es (held_plain h op after x b.0.0)));
         turns = λ es h place r s job now g e on b k. turns es h place r s s.writer job now g e (subst (StreamsShape r.inner.state) e (b.1 place r g).0) refl on b.0.1 k;

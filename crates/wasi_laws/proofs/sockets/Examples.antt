@@ -3,6 +3,7 @@ use Rattle.wasi_addr.specs.declared.address.SocketAddressFamily.TheVariants as f
 use Rattle.wasi_addr.specs.declared.code.ErrorCode.TheVariants as code
 use Rattle.wasi_world.specs.declared.call.Call.TheVariants as call
 use Rattle.wasi_world.specs.declared.call.Told.TheVariants as told
+use Rattle.wasi_laws.specs.Opened.{UdpCreated}
 use Rattle.wasi_laws.proofs.Words.{⊤, ℕ, inl, inr, List, [], ◌∷◌, refl, ap, OpId, Told, Entry, Asks, Ask, Give, Allows, own_of, Has, entry, socket_of, IsMade, Created, HandedOver, IsOpen, IsAskedOpen, AsksOpenSockets}
 
 -- line 1 makes the socket
@@ -56,6 +57,7 @@ never_made h = by_making (h.each [] (closed 2) [] refl).made
   where
     by_making : IsMade [] side → ⊥
     by_making (Created ctx f m) = absurd m
+    by_making (UdpCreated ctx f m) = absurd m
     by_making (HandedOver listener peer t m) = absurd m
 
 -- a create that was refused makes none
@@ -65,5 +67,7 @@ refused_create h = by_making (h.each (refused ∷ []) (asked 2) [] refl).made
     by_making : IsMade (refused ∷ []) side → ⊥
     by_making (Created ctx f (inl m)) = absurd (let k = ap (λ (x : Entry). x.answer) m in cc)
     by_making (Created ctx f (inr m)) = absurd m
+    by_making (UdpCreated ctx f (inl m)) = absurd (let k = ap (λ (x : Entry). x.call) m in cc)
+    by_making (UdpCreated ctx f (inr m)) = absurd m
     by_making (HandedOver listener peer t (inl m)) = absurd (let k = ap (λ (x : Entry). x.call) m in cc)
     by_making (HandedOver listener peer t (inr m)) = absurd m

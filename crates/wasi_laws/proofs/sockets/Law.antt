@@ -3,14 +3,20 @@ use Rattle.wasi_world.specs.declared.call.Call.TheVariants as call
 use Rattle.wasi_world.specs.declared.call.Told.TheVariants as told
 use Rattle.wasi_tcp.specs.declared.listener.Accepting.TheVariants as accepting
 use Rattle.wasi_tcp.specs.declared.socket.TcpState.TheVariants as state
-use Rattle.wasi_laws.proofs.Words.{Accepting, Accepts, Allows, Asks, AsksOpenSockets, Awaits, Begins, BeginsAccept, BeginsBind, BeginsConnect, BeginsListen, BeginsWrite, BindsOn, Call, Changes, CloseLast, ClosesReader, Connection, Connects, Created, Done, End, Entry, Fit, FitListening, FitProgress, Forgets, Found, Given, Has, Held, Here, HoldsAccept, IpSocketAddress, IsAcceptOn, IsAskedOpen, IsGone, IsMade, IsOpen, Item, Job, Joins, Left, List, Listener, Listening, Listens, Machine, Move, Named, None, Not, NothingLast, OpId, Opens, Operation, Own, Reconnects, Refused, Reply, ShutdownLast, SocketAddressFamily, Some, Spends, Starts, Step, Streams, Tcp2Socket, ToWrite, Told, Unlistens, Unused, Used, Waits, WasiSocketsCtx, WriteState, Writes, [], accept_ended, accept_name, accepting_now, ap, append_assoc, arith, arrived, closed_record, connect_ended, cut_of, entry, first_state, has_back, has_last, inl, inr, job_after, joined, listen_after, name_in, new_accept, new_record, new_socket, next_of, no_some, own_of, poll_asks, put, refl, run, second_of, side_in, side_of, socket_of, subst, sym, true, with_inner, with_listening, with_state, with_writer, ℕ, ◌++◌, ◌+◌, ◌∙◌, ◌∷◌, ◌≡◌, ◌≤◌, ◌⊎◌}
+use Rattle.wasi_laws.proofs.Words.{Accepting, Accepts, Allows, Asks, AsksOpenSockets, Awaits, Begins, BeginsAccept, BeginsBind, BeginsConnect, BeginsListen, BeginsWrite, BindsOn, Call, Changes, CloseLast, ClosesReader, Connection, Connects, Created, Done, End, Entry, Fit, FitListening, FitProgress, Forgets, Found, Given, Has, Held, Here, HoldsAccept, IpSocketAddress, IsAcceptOn, IsAskedOpen, IsGone, IsMade, IsOpen, Item, Job, Joins, Left, List, Listener, Listening, Listens, Machine, Move, Named, None, Not, NothingLast, OpId, Opens, Operation, Own, Reconnects, Refused, Reply, ShutdownLast, SocketAddressFamily, Some, Spends, Starts, Step, Streams, Tcp2Socket, ToWrite, Told, Unlistens, Unused, Used, Waits, WasiSocketsCtx, WriteState, Writes, [], accept_ended, accept_name, accepting_now, ap, append_assoc, arith, arrived, closed_record, connect_ended, cut_of, entry, first_state, has_back, has_last, inl, inr, job_after, joined, listen_after, name_in, new_accept, new_record, new_socket, next_of, no_some, own_of, poll_asks, put, refl, run, second_of, side_in, side_of, socket_of, subst, sym, true, with_inner, with_listening, with_state, with_writer, ℕ, ◌++◌, ◌+◌, ◌∙◌, ◌∷◌, ◌≡◌, ◌≤◌, ◌⊎◌, Ok}
 use Rattle.wasi_laws.proofs.asks.Fronts.{is_calm, IsGivenMade}
-use Rattle.wasi_laws.proofs.asks.Single.{each_ask, Single, Closing, ClosesSocket, ClosesListen, ClosesArrived, IsAskedOn, OnNone, OnSide, creating}
+use Rattle.wasi_laws.proofs.asks.Single.{each_ask, OnUdp, Single, Closing, ClosesSocket, ClosesListen, ClosesArrived, IsAskedOn, OnNone, OnSide, creating}
 use Rattle.wasi_laws.proofs.asks.Trees.{GoesOn}
 use Rattle.wasi_laws.proofs.shapes.Shape.{some_same, WriterIs, HasStreams, StreamsShape, ListenerShape, IsBegun, Follows, follows_plain, follows_same, follows_state, follows_quiet, follows_begun, gone_lacks, follows_gone}
 use Rattle.wasi_laws.proofs.shapes.Law.{job_of}
-use Rattle.wasi_laws.proofs.sockets.Opened.{Grows, grows_none, grows_entry, RecordOpen, name_of, changed, HasIt, one_more, opened_more, put_open, push_open, later, Kept, closed_put}
-use Rattle.wasi_laws.proofs.sockets.Polls.{AskedOpen, calm_closes, PollLeaves, polled, calm_end}
+use Rattle.wasi_host.specs.declared.udp.Udp2Socket.{Udp2Socket}
+use Rattle.wasi_host.specs.Udp.{udp_bind_progress, udp_create_left, with_udp_progress}
+use Rattle.wasi_udp.specs.Create.{Create, new_create}
+use Rattle.wasi_walks.proofs.fits.Records.{FitUdpProgress, UdpBindOn}
+use Rattle.wasi_laws.specs.Opened.{UdpCreated}
+use Rattle.wasi_walks.proofs.walks.Moves.{put_udp, FoundUdp, udp_begun, UdpChanges, BeginsUdpBind, UdpCreates, UdpBindsOn}
+use Rattle.wasi_laws.proofs.sockets.Opened.{put_udp_open, push_udp_open, udp_closed_put, UdpOpen, Grows, grows_none, grows_entry, RecordOpen, name_of, changed, HasIt, one_more, opened_more, put_open, push_open, later, Kept, closed_put}
+use Rattle.wasi_laws.proofs.sockets.Polls.{ClosesAt, EndCloses, AskedOpen, calm_closes, PollLeaves, polled, calm_end}
 
 abbrev accept_of : Listening → Accepting
 accept_of (Accepts k) = k.accept
@@ -65,6 +71,8 @@ module _ (line : ℕ) where
         let o = arrived_open es h place r l new peer g e a i in
         push_open es (joined l new peer) (record { lives = λ x v. subst (IsOpen es) (some_same new x v.0) o; named = λ x p. absurd (no_some x p); arrived = λ k x y p q. absurd (cc) })
         (put_kept es h place r (accepting_now r l accepting.Idle) g (follows_quiet r _ refl refl (λ b. b)) (inr refl) i)
+    moves es _ _ (UdpChanges h place o now g p) n i = put_udp_open es place (Udp2Socket.Open now) (subst (IsOpen es) (sym p.side) (i.udps place (Udp2Socket.Open o) g)) i
+    moves es _ _ (BeginsUdpBind h place o a at g to idle own) n i = later es (line + 1) (by_own h.own) (put_udp_open es place (Udp2Socket.Open _) (i.udps place (Udp2Socket.Open o) g) i)
     -- the others leave all that is looked at
     moves es _ _ _ n i = i
 
@@ -117,6 +125,12 @@ module _ (line : ℕ) where
     accept_so (Done given, items) m k = given_so given m.made k
     accept_so (Refused c given, items) m k = changed fs r (accepting_now r l (accepting.Failed c)) (follows_quiet r (accepting_now r l (accepting.Failed c)) refl refl (λ b. b)) (inr refl) k
 
+  -- a create of a UDP socket: refused, it closes its network socket
+  create_so : (es fs : List Entry) (h : Here) (place : ℕ) (create : Create) (ended : End × List Item) → FoundUdp h place (Udp2Socket.Creating create) → Named line h → Kept line es h → PollLeaves create.operation.who es fs ended → Kept line fs (put_udp h place (udp_create_left create ended))
+  create_so es fs h place create (Waits, items) g n i k = let m = opened_more es fs (calm_end create.operation.who es fs (Waits, items) (λ z. z.1) k) i in put_udp_open fs place _ (m.udps place (Udp2Socket.Creating create) g) m
+  create_so es fs h place create (Done given, items) g n i k = let m = opened_more es fs (calm_end create.operation.who es fs (Done given, items) (λ z. z.1) k) i in put_udp_open fs place _ (m.udps place (Udp2Socket.Creating create) g) m
+  create_so es fs h place create (Refused c given, items) g n i k = udp_closed_put line (ClosesAt create.operation.who es (Refused c given)) es fs h place (Udp2Socket.Creating create) g (λ x d. d.0) k.grows n i
+
   polls : (es : List Entry) (h : Here) (op : Operation) (after : End × List Item → Here) → Held h op after → Fit h → ((place : ℕ) (r : Tcp2Socket) → Found h place r → ListenerShape r.inner.state r.listening) → Named line h → Kept line es h → Allows AskedOpen (λ fs ended. Kept line fs (after ended)) es (poll_asks op)
   polls es h _ _ (BindsOn place r op q g e) f s n i =
       let its = subst (FitProgress r.inner.state) e (f.records place r g).2 in
@@ -130,6 +144,13 @@ module _ (line : ℕ) where
       polled op es _ (socket_open es h place r op.who.side g at n i) (λ fs ended k.
       let m = opened_more es fs (calm_end op.who es fs ended (λ z. let p : NothingLast ≡ CloseLast = sym its.accept.last ∙ z.0 in absurd (cc)) k) i in
       put_open fs place _ (accept_so es fs r l op e a ended k (m.records place r g)) m)
+  polls es h _ _ (UdpCreates place create q g) f s n i =
+      polled create.operation es _ (i.udps place (Udp2Socket.Creating create) g) (λ fs ended k. create_so es fs h place create ended g n i k)
+  polls es h _ _ (UdpBindsOn place o op q g e) f s n i =
+      let its : UdpBindOn o.inner.side op = subst (FitUdpProgress o.inner.side) e (f.udps place (Udp2Socket.Open o) g) in
+      polled op es _ (subst (IsOpen es) (sym its.of_side) (i.udps place (Udp2Socket.Open o) g)) (λ fs ended k.
+      let m = opened_more es fs (calm_end op.who es fs ended (λ z. let p : NothingLast ≡ CloseLast = sym its.bind.last ∙ z.0 in absurd (cc)) k) i in
+      put_udp_open fs place (Udp2Socket.Open (with_udp_progress o (udp_bind_progress op ended))) (m.udps place (Udp2Socket.Open o) g) m)
 
   -- a write closes nothing
   turns : (es : List Entry) (h : Here) (place : ℕ) (r : Tcp2Socket) (s : Streams) (w : WriteState) (job : Job) (now : Job → WriteState) → Found h place r → HasStreams r.inner.state s → s.writer ≡ w → GoesOn w job now → Named line h → Kept line es h → Allows AskedOpen (λ fs ended. Kept line fs (put h place (with_writer r s (now (job_after job.write.who ended))))) es (poll_asks job.write)
@@ -161,6 +182,7 @@ module _ (line : ℕ) where
   module _ (contexts : List WasiSocketsCtx) (origin : Step) where
     asked : (es : List Entry) (h : Here) (c : Call) → IsAskedOn contexts line origin h c → Kept line es h → IsAskedOpen es (socket_of c)
     asked es h c (OnNone e) i = subst (IsAskedOpen es) (sym e) tt
+    asked es h c (OnUdp place o g e b) i = subst (IsAskedOpen es) (sym e) (i.udps place (Udp2Socket.Open o) g)
     asked es h c (OnSide place r side g s e b) i = subst (IsAskedOpen es) (sym e) (socket_open es h place r side g s b.0.1 i)
 
     -- a socket that is created is open, for what is closed is older
@@ -171,6 +193,13 @@ module _ (line : ℕ) where
         let o : IsOpen _ own = (record { made = Created ctx.name family (has_last es _); unclosed = λ c. (let x = k.older own c in let z : next_of line h.own ≡ line = ap (next_of line) u in omega (arith, x, z)) }) in
         later _ (line + 1) (by_own h.own) (push_open _ (new_record (new_socket own ctx.name family)) (record { lives = λ x v. subst (IsOpen _) (some_same own x v.0) o; named = λ x e. absurd (no_some x e); arrived = λ l new peer e a. absurd (cc) }) k)
 
+    udp_created : (es : List Entry) (h : Here) (ctx : WasiSocketsCtx) (family : SocketAddressFamily) → h.own ≡ Unused → Kept line es h → Kept line (es ++ entry (own_of line) (call.UdpCreate ctx.name family) told.Done ∷ []) (udp_begun h (Ok (new_create (own_of line) ctx.name family)))
+    udp_created es h ctx family u i =
+        let own = own_of line in
+        let k = calmly es h own (call.UdpCreate ctx.name family) told.Done refl i in
+        let o : IsOpen _ own = (record { made = UdpCreated ctx.name family (has_last es _); unclosed = λ c. (let x = k.older own c in let z : next_of line h.own ≡ line = ap (next_of line) u in omega (arith, x, z)) }) in
+        later _ (line + 1) (by_own h.own) (push_udp_open _ (Udp2Socket.Creating (new_create own ctx.name family)) o k)
+
     pub sockets : Single contexts line origin AskedOpen (Kept line)
     sockets = record {
       moves = λ es h now m b i. moves es h now m b.0.1 i;
@@ -180,13 +209,16 @@ module _ (line : ℕ) where
       asks = λ es h op c calm on i. (asked es h c on i, λ told. calmly es h op c told calm i);
       creates = λ es h ctx family u b i. created es h ctx family u i;
       closes = λ es h place r now op side g c b i. closes es h place r now op side g c b.0.1 i;
+      udp_same = λ es h place o now g s e i. put_udp_open es place (Udp2Socket.Open now) (subst (IsOpen es) (sym s) (i.udps place (Udp2Socket.Open o) g)) i;
+      udp_creates = λ es h ctx family u b i. udp_created es h ctx family u i;
+      udp_closes = λ es h place o op g b i. (i.udps place (Udp2Socket.Open o) g, λ told. udp_closed_put line (λ x. o.inner.side ≡ x) es _ h place (Udp2Socket.Open o) g (λ x d. d) (one_close es op o.inner.side told) b.0.1 i);
       polls = λ es h op after k b i. polls es h op after k b.0.0 (λ place r g. (b.1 place r g).1) b.0.1 i;
       turns = λ es h place r s job now g e on b i. turns es h place r s s.writer job now g (subst (StreamsShape r.inner.state) e (b.1 place r g).0) refl on b.0.1 i;
     }
 
 module _ (contexts : List WasiSocketsCtx) where
   pub runs_open : (steps : List Step) (log : List Entry) (rest : Asks (List Reply × Machine)) → Left (run contexts [] first_state 1 steps) log rest → AsksOpenSockets log
-  runs_open steps log rest w = record { each = each_ask contexts Kept (λ line origin. sockets line contexts origin) starts (λ line es m i. i) (record { records = λ place r e. absurd (cc); older = λ x c. absurd c.closed }) steps log rest w }
+  runs_open steps log rest w = record { each = each_ask contexts Kept (λ line origin. sockets line contexts origin) starts (λ line es m i. i) (record { records = λ place r e. absurd (cc); udps = λ place u e. absurd (cc); older = λ x c. absurd c.closed }) steps log rest w }
     where
       starts : (line : ℕ) (es : List Entry) (m : Machine) (own : Own) → Kept line es (Starts m Unused) → Kept line es (Starts m own)
       starts line es m Used i = later es (line + 1) (by_own line Unused) i

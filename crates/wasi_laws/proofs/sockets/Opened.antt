@@ -2,9 +2,14 @@
 -- closed is older.
 use Rattle.wasi_world.specs.declared.call.Call.TheVariants as call
 use Rattle.wasi_tcp.specs.declared.listener.Accepting.TheVariants as accepting
-use Rattle.wasi_laws.proofs.Words.{Accepts, Call, Claims, Created, Entry, Found, HandedOver, Here, IpSocketAddress, IsClosed, IsMade, IsOpen, List, Listener, Named, None, OpId, Some, Tcp2Socket, Told, [], accept_name, ap, arith, entry, get_set, get_split, has_front, has_split, inl, inr, name_in, next_of, no_some, put, refl, set_there, subst, sym, ℕ, ◌++◌, ◌<◌, ◌∙◌, ◌∷◌, ◌≡◌, ◌≤◌, ◌⊎◌}
+use Rattle.wasi_laws.proofs.Words.{Accepts, Call, Claims, Created, Entry, Found, HandedOver, Here, IpSocketAddress, IsClosed, IsMade, IsOpen, List, Listener, Named, None, OpId, Some, Tcp2Socket, Told, [], accept_name, ap, arith, entry, get_set, get_split, has_front, has_split, inl, inr, name_in, next_of, no_some, put, refl, set_there, subst, sym, ℕ, ◌++◌, ◌<◌, ◌∙◌, ◌∷◌, ◌≡◌, ◌≤◌, ◌⊎◌, ⊤}
 use Rattle.wasi_laws.proofs.shapes.Shape.{some_same, Lives, Follows}
-use Rattle.wasi_host.specs.Records.{tcp2_at, tcp2_put, tcp2_pushed}
+use Rattle.wasi_host.specs.Records.{tcp2_at, tcp2_put, tcp2_pushed, udp2_at, udp2_put, udp2_pushed}
+use Rattle.wasi_host.specs.declared.udp.Udp2Socket.{Udp2Socket}
+use Rattle.wasi_host.specs.Udp.{udp_side}
+use Rattle.wasi_laws.specs.Opened.{UdpCreated}
+use Rattle.wasi_walks.proofs.UdpLists.{udp_of_put, udp_of_push, tcp_of_put, tcp_of_push, udp_get_set, udp_set_there, udp_split}
+use Rattle.wasi_walks.proofs.walks.Moves.{put_udp, FoundUdp}
 use Rattle.wasi_host.specs.declared.records.Record.{Record}
 
 -- a close, of this socket
@@ -26,6 +31,7 @@ grows_none C es = record { made = λ x m. m; closed = λ x c. inl c }
 
 made_more : (es fs : List Entry) (x : OpId) → IsMade es x → IsMade (es ++ fs) x
 made_more es fs x (Created ctx family h) = Created ctx family (has_front es fs _ h)
+made_more es fs x (UdpCreated ctx family h) = UdpCreated ctx family (has_front es fs _ h)
 made_more es fs x (HandedOver listener peer told h) = HandedOver listener peer told (has_front es fs _ h)
 
 close_is : (a b : Entry) (x : OpId) → a ≡ b → Closes b.call x → Closes a.call x
@@ -78,8 +84,25 @@ record_more C es fs r g n i = record {
   arrived = λ l new peer e a. g.made new (i.arrived l new peer e a);
 }
 
+-- it wasn't closed
+abbrev pub UdpLives : Udp2Socket → Type 0
+UdpLives (Udp2Socket.Closed side) = ⊥
+UdpLives u = ⊤
+
+-- the network socket of a UDP socket is open, until it is closed
+abbrev pub UdpOpen : List Entry → Udp2Socket → Type 0
+UdpOpen es (Udp2Socket.Creating create) = IsOpen es create.operation.who.side
+UdpOpen es (Udp2Socket.Open o) = IsOpen es o.inner.side
+UdpOpen es (Udp2Socket.Closed side) = ⊤
+
+udp_more : (C : OpId → Type 0) (es fs : List Entry) (u : Udp2Socket) → Grows C es fs → (UdpLives u → C (udp_side u) → ⊥) → UdpOpen es u → UdpOpen fs u
+udp_more C es fs (Udp2Socket.Creating create) g n o = open_more C es fs _ g (n tt) o
+udp_more C es fs (Udp2Socket.Open s) g n o = open_more C es fs _ g (n tt) o
+udp_more C es fs (Udp2Socket.Closed side) g n o = tt
+
 pub record Opened (bound : ℕ) (es : List Entry) (rs : List Record) : Type 0 where
   pub records : (place : ℕ) (r : Tcp2Socket) → tcp2_at rs place ≡ Some r → RecordOpen es r
+  pub udps : (place : ℕ) (u : Udp2Socket) → udp2_at rs place ≡ Some u → UdpOpen es u
   pub older : (x : OpId) → IsClosed es x → x.step < bound
 
 pub one_more : (es : List Entry) (op : OpId) (c : Call) (t : Told) → ((x : OpId) → Closes c x → ⊥) → Grows NoneCloses es (es ++ entry op c t ∷ [])
@@ -90,19 +113,27 @@ module _ {bound : ℕ} {records : List Record} where
   pub opened_more : (es fs : List Entry) → Grows NoneCloses es fs → Opened bound es records → Opened bound fs records
   opened_more es fs g i = record {
     records = λ place r e. record_more NoneCloses es fs r g (λ x u n. n) (i.records place r e);
+    udps = λ place u e. udp_more NoneCloses es fs u g (λ l n. n) (i.udps place u e);
     older = λ x c. elim (g.closed x c) [ inl a ↦ i.older x a | inr n ↦ absurd n ];
   }
 
   -- a record changes, or there is one more
   pub put_open : (es : List Entry) (place : ℕ) (now : Tcp2Socket) → RecordOpen es now → Opened bound es records → Opened bound es (tcp2_put records place now)
-  put_open es place now k i = record { records = λ n r e. elim (get_set records place now n r e) [ inl p ↦ subst (RecordOpen es) p.1 k | inr p ↦ i.records n r p ]; older = i.older }
+  put_open es place now k i = record { records = λ n r e. elim (get_set records place now n r e) [ inl p ↦ subst (RecordOpen es) p.1 k | inr p ↦ i.records n r p ]; udps = λ n u e. i.udps n u (udp_of_put records place now n u e); older = i.older }
 
   pub push_open : (es : List Entry) (now : Tcp2Socket) → RecordOpen es now → Opened bound es records → Opened bound es (tcp2_pushed records now)
-  push_open es now k i = record { records = λ n r e. elim (get_split records now n r e) [ inl p ↦ i.records n r p | inr p ↦ subst (RecordOpen es) p k ]; older = i.older }
+  push_open es now k i = record { records = λ n r e. elim (get_split records now n r e) [ inl p ↦ i.records n r p | inr p ↦ subst (RecordOpen es) p k ]; udps = λ n u e. i.udps n u (udp_of_push records now n u e); older = i.older }
+
+  -- the same of a UDP socket
+  pub put_udp_open : (es : List Entry) (place : ℕ) (now : Udp2Socket) → UdpOpen es now → Opened bound es records → Opened bound es (udp2_put records place now)
+  put_udp_open es place now k i = record { records = λ n r e. i.records n r (tcp_of_put records place now n r e); udps = λ n u e. elim (udp_get_set records place now n u e) [ inl p ↦ subst (UdpOpen es) p.1 k | inr p ↦ i.udps n u p ]; older = i.older }
+
+  pub push_udp_open : (es : List Entry) (now : Udp2Socket) → UdpOpen es now → Opened bound es records → Opened bound es (udp2_pushed records now)
+  push_udp_open es now k i = record { records = λ n r e. i.records n r (tcp_of_push records now n r e); udps = λ n u e. elim (udp_split records now n u e) [ inl p ↦ i.udps n u p | inr p ↦ subst (UdpOpen es) p.0 k ]; older = i.older }
 
   -- more may be closed by now
   pub later : (es : List Entry) (more : ℕ) → bound ≤ more → Opened bound es records → Opened more es records
-  later es more l i = record { records = i.records; older = λ x c. let o = i.older x c in omega (arith, o, l) }
+  later es more l i = record { records = i.records; udps = i.udps; older = λ x c. let o = i.older x c in omega (arith, o, l) }
 
 abbrev pub Kept : ℕ → List Entry → Here → Type 0
 Kept line es h = Opened (next_of line h.own) es h.machine.store.records
@@ -111,6 +142,7 @@ Kept line es h = Opened (next_of line h.own) es h.machine.store.records
 pub closed_put : (line : ℕ) (C : OpId → Type 0) (es fs : List Entry) (h : Here) (place : ℕ) (r now : Tcp2Socket) (side : OpId) → Found h place r → Claims side r → ((x : OpId) → C x → side ≡ x) → (HasIt now side → ⊥) → Grows C es fs → Named line h → RecordOpen es now → Kept line es h → Kept line fs (put h place now)
 closed_put line C es fs h place r now side g claims of none grows named k i = record {
   records = λ n q e. record_more C es fs q grows (λ x u d. lacks n q e (subst (HasIt q) (sym (of x d)) u)) ((put_open es place now k i).records n q e);
+  udps = λ n u e. (let f = udp_of_put h.machine.store.records place now n u e in udp_more C es fs u grows (λ l d. named.udps.apart side place n r u g f claims (sym (of (udp_side u) d))) (i.udps n u f));
   older = λ x c. elim (grows.closed x c) [ inl a ↦ i.older x a | inr d ↦ subst (λ (y : OpId). y.step < next_of line h.own) (of x d) (named.older side place r g claims) ];
 }
   where
@@ -126,3 +158,27 @@ closed_put line C es fs h place r now side g claims of none grows named k i = re
 
     lacks : (n : ℕ) (q : Tcp2Socket) → Found (put h place now) n q → HasIt q side → ⊥
     lacks n q e u = elim (get_set h.machine.store.records place now n q e) [ inl p ↦ none (subst (λ (y : Tcp2Socket). HasIt y side) (sym p.1) u) | inr p ↦ other n q e p u ]
+
+some_udp : (a b : Udp2Socket) → Some a ≡ Some b → a ≡ b
+some_udp a b e = cc
+
+-- the network socket of a UDP socket is closed, and its record says so
+pub udp_closed_put : (line : ℕ) (C : OpId → Type 0) (es fs : List Entry) (h : Here) (place : ℕ) (u : Udp2Socket) → FoundUdp h place u → ((x : OpId) → C x → udp_side u ≡ x) → Grows C es fs → Named line h → Kept line es h → Kept line fs (put_udp h place (Udp2Socket.Closed (udp_side u)))
+udp_closed_put line C es fs h place u g of grows named i = record {
+  records = λ n r e. (let f = tcp_of_put h.machine.store.records place (Udp2Socket.Closed (udp_side u)) n r e in record_more C es fs r grows (λ x l d. named.udps.apart x n place r u f g (its r x l) (of x d)) (i.records n r f));
+  udps = λ n v e. elim (udp_get_set h.machine.store.records place (Udp2Socket.Closed (udp_side u)) n v e) [
+    | inl p ↦ subst (UdpOpen fs) p.1 tt
+    | inr p ↦ udp_more C es fs v grows (λ l d. other n v e p l (of (udp_side v) d)) (i.udps n v p)
+  ];
+  older = λ x c. elim (grows.closed x c) [ inl a ↦ i.older x a | inr d ↦ subst (λ (y : OpId). y.step < next_of line h.own) (of x d) (named.udps.older place u g) ];
+}
+  where
+    its : (r : Tcp2Socket) (x : OpId) → HasIt r x → Claims x r
+    its r x (inl v) = inl v.0
+    its r x (inr a) = inr a
+
+    other : (n : ℕ) (v : Udp2Socket) → FoundUdp (put_udp h place (Udp2Socket.Closed (udp_side u))) n v → FoundUdp h n v → UdpLives v → udp_side u ≡ udp_side v → ⊥
+    other n v e p l s =
+        let at : n ≡ place = named.udps.one (udp_side v) n place v u p g refl s in
+        let is : Some (Udp2Socket.Closed (udp_side u)) ≡ Some v = sym (ap (udp2_at (udp2_put h.machine.store.records place (Udp2Socket.Closed (udp_side u)))) at ∙ udp_set_there h.machine.store.records place u (Udp2Socket.Closed (udp_side u)) g) ∙ e in
+        subst UdpLives (sym (some_udp (Udp2Socket.Closed (udp_side u)) v is)) l

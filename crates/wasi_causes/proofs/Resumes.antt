@@ -1,0 +1,341 @@
+-- A poll of the pending call.
+use Rattle.wasi_host.specs.Records.{tcp2_at, udp2_at, open_at, open_of}
+use Rattle.wasi_host.specs.declared.binding.InProgress.TheVariants.{Binding}
+use Rattle.wasi_walks.proofs.walks.States.{stands_so as stands_under}
+use Rattle.wasi_causes.proofs.Words.{Answer, BindFailed, BindFails, BindWaits, Bool, CallFails}
+use Rattle.wasi_causes.proofs.Words.{CallWaits, Done, End, EndsPending, Entry, Err, ErrorCode, Give}
+use Rattle.wasi_causes.proofs.Words.{IfSome, InProgress, InvalidState, IsBinding}
+use Rattle.wasi_causes.proofs.Words.{IsListening, IsOnNothing, IsRestOfBind, IsSomeAnd, Item, List, ListenEnds}
+use Rattle.wasi_causes.proofs.Words.{ListenFailed, ListenWaits, Listening, Machine, NoSuchHandle, None}
+use Rattle.wasi_causes.proofs.Words.{Ok, OpId, Operation, Option, Pending, Ready, Records, Refused, Reply, Result, Some}
+use Rattle.wasi_causes.proofs.Words.{Standing, StandingCall, PendingCallsFit, Stop, Tcp2Socket}
+use Rattle.wasi_causes.proofs.Words.{Waits, WasiSocketsCtx}
+use Rattle.wasi_causes.proofs.Words.{[], allowed_answer, ap, bind, bind_ended, call_answered, call_of, call_place}
+use Rattle.wasi_causes.proofs.Words.{closed_listening, entry, eq-eqb, false, go_on}
+use Rattle.wasi_causes.proofs.Words.{if◌then◌else◌, inl, inr, listen_ended, listen_polled}
+use Rattle.wasi_causes.proofs.Words.{marks_in, no_fields, nothing_stands, own_of, poll_begun, poll_binding, poll_listening}
+use Rattle.wasi_causes.proofs.Words.{rebind_at, refl, relisten_at, resume_asks, resume_call}
+use Rattle.wasi_causes.proofs.Words.{resumed, resumed_reply, side_of, standing_as, stands_as, subst}
+use Rattle.wasi_causes.proofs.Words.{sym, true, unstood, with_socket, with_store}
+use Rattle.wasi_causes.proofs.Words.{word_of_code, ℕ, ⊤, ◌==◌, ◌∙◌, ◌∷◌, ◌≡◌, ◌≢◌}
+use Rattle.wasi_world.specs.declared.ids.Ids.{Ids}
+use Rattle.wasi_causes.proofs.operations.Polls.{EndsFor, bind_ends as bind_polls, listen_ends as listen_polls}
+use Rattle.wasi_causes.proofs.streams.Halves.{OutputRow, outputs}
+use Rattle.wasi_causes.proofs.tables.Meets.{Rows, Meets, ends, onto, widen, granted, branch}
+use Rattle.wasi_causes.proofs.tables.Routes.{full_so, apart, code_word}
+use Rattle.wasi_causes.specs.Outcomes.{Outcome, Always}
+use Rattle.wasi_causes.specs.Udp.{GivesBy, ClosesBy}
+use Rattle.wasi_host.specs.Pending.{gone_on, created_on}
+use Rattle.wasi_causes.proofs.operations.Marks.{poll_marks_none}
+use Rattle.wasi_causes.proofs.operations.Polls.{CreateFails, create_ends, udp_bind_ends}
+use Rattle.wasi_causes.proofs.sockets.UdpCreates.{marks_udp}
+use Rattle.wasi_causes.proofs.tables.Meets.{chain, both}
+use Rattle.wasi_causes.proofs.Words.{◌++◌, Full, IsSome, number_fields, with_handle}
+use Rattle.wasi_causes.specs.Udp.{IsUdpCreate}
+use Rattle.wasi_host.specs.Udp.{opened_udp, poll_create_asks, udp_create_ended, udp_bind_ended, poll_udp_binding}
+use Rattle.wasi_host.specs.UdpCalls.{with_udp, with_open_udp, udp_call_answered, rebind_udp_at}
+use Rattle.wasi_host.specs.UdpCreates.{create_answered, poll_create_at, create_so, create_on}
+use Rattle.wasi_host.specs.declared.kind.Kind.TheVariants.{Udp2}
+use Rattle.wasi_host.specs.declared.udp.OpenUdp.{OpenUdp}
+use Rattle.wasi_host.specs.declared.udp.Udp2Socket.{Udp2Socket}
+use Rattle.wasi_host.specs.declared.udp.Udp2Socket.TheVariants as udp
+use Rattle.wasi_host.specs.declared.udp.UdpInProgress.{UdpInProgress}
+use Rattle.wasi_host.specs.declared.udp.UdpInProgress.TheVariants as doing
+use Rattle.wasi_udp.specs.Bind.{IsBind as IsUdpBind}
+use Rattle.wasi_udp.specs.Create.{Create, made_by, with_left}
+use Rattle.wasi_walks.proofs.UdpLists.{udp_set_there}
+use Rattle.wasi_walks.specs.Waiting.{CreateFailed, CreateWaits, IsCreating, IsUdpBinding, UdpBindFailed, UdpBindFails, UdpBindWaits}
+use Rattle.wasi_host.specs.declared.listening.Listening.TheVariants as listening
+use Rattle.wasi_host.specs.declared.pending.Outcome.{Outcome as Given}
+use Rattle.wasi_host.specs.declared.store.StandingCall.TheVariants.{Bind, Listen, DropOutput}
+use Rattle.wasi_steps.specs.declared.reply.Reply.TheVariants as reply
+use Rattle.wasi_steps.specs.declared.step.Step.TheVariants as step
+use Rattle.wasi_tcp.specs.Listen.{is_over as listen_over}
+use Rattle.wasi_world.specs.declared.call.Call.TheVariants as call
+use Rattle.wasi_world.specs.declared.call.HandleKind.TheVariants as name
+use Rattle.wasi_world.specs.declared.call.Told.TheVariants as told
+
+-- it gives nothing where it is done
+abbrev pub IsOfNoCreate : StandingCall → Type 0
+IsOfNoCreate (StandingCall.UdpCreate place) = ⊥
+IsOfNoCreate _ = ⊤
+
+pub gives_none : (m after : Machine) (call : StandingCall) → IsOfNoCreate call → after.table ≡ m.table → GivesBy m no_fields after call
+gives_none m after (StandingCall.UdpCreate place) plain same = absurd plain
+gives_none m after (Bind place) plain same = (refl, same)
+gives_none m after (Listen place) plain same = (refl, same)
+gives_none m after (DropOutput place) plain same = (refl, same)
+gives_none m after (StandingCall.UdpBind place) plain same = (refl, same)
+
+pub closes_none : (after : Machine) (call : StandingCall) → IsOfNoCreate call → ClosesBy after call
+closes_none after (StandingCall.UdpCreate place) plain = absurd plain
+closes_none after (Bind place) plain = tt
+closes_none after (Listen place) plain = tt
+closes_none after (DropOutput place) plain = tt
+closes_none after (StandingCall.UdpBind place) plain = tt
+
+module _ (contexts : List WasiSocketsCtx) (m : Machine) (line : ℕ) (ids : Ids) where
+  -- its number
+  abbrev n : ℕ
+  n = ids.line
+
+  abbrev pub Row : Rows (Reply × Machine)
+  Row es done = Outcome contexts m line (step.Poll n) es done.0 done.1
+
+  abbrev pub ResumedRow : Rows (Result (Option (Answer Given)) Stop × Machine)
+  ResumedRow es done = Row es (resumed_reply n done.0, done.1)
+
+  abbrev pub GoneRow : Rows (Result (Answer Given) Stop × Machine)
+  GoneRow es done = ResumedRow es (resumed done)
+
+  abbrev pub CallRow : Rows (Result (Answer (Unit {0})) Stop × Records)
+  CallRow es done = GoneRow es (gone_on (with_store (nothing_stands m) done))
+
+  abbrev pub Under : StandingCall → Type 0
+  Under call = m.store.standing ≡ Some (standing_as ids call)
+
+  -- nothing is pending any more
+  abbrev pub free : Records
+  free = unstood m.store
+
+  -- == a call is pending
+  module _ (call : StandingCall) (stands : Under call) where
+    pub stands_so : stands_as m.store.standing n ≡ false → ⊥
+    stands_so none = let same : stands_as m.store.standing n ≡ true = ap (λ (o : Option Standing). stands_as o n) stands ∙ eq-eqb n n refl in cc
+
+    pub it_ends : (es : List Entry) (r : Reply) (after : Machine) → r ≢ reply.NoSuchCall → after.store.standing ≡ None → Always m line (step.Poll n) es r after
+    it_ends es r after other none = (apart other stands_so, λ same. inr none)
+
+    pub done : (es : List Entry) (after : Machine) → after.store.standing ≡ None → GivesBy m no_fields after call → Row es (reply.Ok no_fields, after)
+    done es after none gives = (it_ends es (reply.Ok no_fields) after (λ e. cc) none, (inl tt, subst (λ (o : Option Standing). IsSomeAnd o (λ s. GivesBy m no_fields after s.call)) (sym stands) gives))
+
+    pub fails : (es : List Entry) (after : Machine) (code : ErrorCode) → after.store.standing ≡ None → after.table ≡ m.table → (PendingCallsFit m → CallFails m es call code × ClosesBy after call) → Row es (reply.Err (word_of_code code), after)
+    fails es after code none same cause = (
+      it_ends es (reply.Err (word_of_code code)) after (λ e. cc) none,
+      (
+        code_word code,
+        (
+          λ fits. (record { ids = ids; call = call; code = code; stands = stands; number = refl; cause = (cause fits).0; word_is = refl }, subst (λ (o : Option Standing). IsSomeAnd o (λ s. ClosesBy after s.call)) (sym stands) (cause fits).1),
+          same,
+        ),
+      ),
+    )
+
+    pub waits : (es : List Entry) (after : Machine) → after.store.standing ≡ Some (standing_as ids call) → (PendingCallsFit m → CallWaits m (own_of n) es call) → Row es (reply.Pending n, after)
+    waits es after on cause = ((apart (λ e. cc) stands_so, λ same. inl refl), ((refl, rw on refl), λ binds. subst (λ (o : Option Standing). IsSomeAnd o (λ s. CallWaits m (own_of n) es s.call)) (sym stands) (cause binds)))
+
+    -- what is due for an answer
+    abbrev pub Due : List Entry → Result (Answer (Unit {0})) ErrorCode → Type 0
+    Due es (Ok Pending) = PendingCallsFit m → CallWaits m (own_of n) es call
+    Due es (Ok (Ready given)) = Unit {0}
+    Due es (Err code) = PendingCallsFit m → CallFails m es call code
+
+    pub answered_so : IsOfNoCreate call → (es : List Entry) (begun : Result (Answer (Unit {0})) ErrorCode × Tcp2Socket) → Due es begun.0 → CallRow es (call_answered free ids call begun)
+    answered_so plain es (Ok Pending, r) h = waits es (record m { store = record (with_socket free (call_place call) r) { standing = Some (standing_as ids call) } }) refl h
+    answered_so plain es (Ok (Ready given), r) h = let left : Machine = record m { store = with_socket free (call_place call) r } in done es left refl (gives_none m left call plain refl)
+    answered_so plain es (Err code, r) h = let left : Machine = record m { store = with_socket free (call_place call) r } in fails es left code refl refl (λ fits. (h fits, closes_none left call plain))
+
+    pub missing : IsOnNothing m call → Row [] (reply.Trap NoSuchHandle, nothing_stands m)
+    missing nothing = (it_ends [] (reply.Trap NoSuchHandle) (nothing_stands m) (λ e. cc) refl, (rw (stands, eq-eqb n n refl) nothing, refl, refl))
+
+  -- == of a drop
+  of_output : (place : ℕ) → Under (DropOutput place) → (es : List Entry) (done : Answer (Unit {0}) × Records) → OutputRow free ids place es done → CallRow es (allowed_answer done)
+  of_output place stands es (Ready given, store) k = done (DropOutput place) stands es (record m { store = store }) k.1 (refl, refl)
+  of_output place stands es (Pending, store) k = waits (DropOutput place) stands es (record m { store = store }) k.1 (λ binds. k.0 m refl)
+
+  -- == of a listen
+  module _ (place : ℕ) (stands : Under (Listen place)) where
+    module _ (r : Tcp2Socket) (at : tcp2_at m.store.records place ≡ Some r) where
+      abbrev ListenRow : Rows (Result (Answer (Unit {0})) ErrorCode × Tcp2Socket)
+      ListenRow es begun = CallRow es (call_answered free ids (Listen place) begun)
+
+      listens_on : PendingCallsFit m → IsListening r.inner.state r.listening
+      listens_on binds = let k : IfSome (tcp2_at m.store.records place) (λ q. IsListening q.inner.state q.listening) = rw stands at binds in rw at at k
+
+      -- a pending listen is in progress
+      unheld : {l : Listening} → r.listening ≡ l → (IsListening r.inner.state l → ⊥) → ListenRow [] (Err InvalidState, r)
+      unheld is none = answered_so (Listen place) stands tt [] (Err InvalidState, r) (λ binds. absurd (none (subst (IsListening r.inner.state) is (listens_on binds))))
+
+      module _ (op : Operation) (is : r.listening ≡ listening.Begins op) where
+        is_listen : PendingCallsFit m → IsListening r.inner.state (listening.Begins op)
+        is_listen binds = subst (IsListening r.inner.state) is (listens_on binds)
+
+        listen_waits : (es : List Entry) → EndsPending op.who.id es → CallWaits m (own_of n) es (Listen place)
+        listen_waits es h = let k : ListenWaits r.listening es = rw is h in rw at k
+
+        listen_ends : (es : List Entry) (end : End × List Item) → (IsListening r.inner.state (listening.Begins op) → EndsFor op (ListenEnds op) es end) → ListenRow es (listen_polled r (listen_ended op.who r.inner end))
+        listen_ends es (Waits, items) h = answered_so (Listen place) stands tt es (listen_polled r (listen_ended op.who r.inner (Waits, items))) (λ binds. listen_waits es (h (is_listen binds)))
+        listen_ends es (Done given, items) h = answered_so (Listen place) stands tt es (listen_polled r (listen_ended op.who r.inner (Done given, items))) tt
+        listen_ends es (Refused code given, items) h = answered_so (Listen place) stands tt es (listen_polled r (listen_ended op.who r.inner (Refused code given, items))) (λ binds. ListenFailed place r op code at is (h (is_listen binds)))
+
+        begun : Meets ListenRow [] (poll_begun r op)
+        begun =
+            onto _ (branch (listen_over op) (λ over. ends (answered_so (Listen place) stands tt [] (listen_polled r (Err InvalidState, (op, r.inner))) (λ binds. let going = (is_listen binds).2 in absurd (cc))))
+            (λ on. onto _ (widen listen_ends (granted (λ k. listen_polls op (k.0, k.1))))))
+
+      relists_by : (l : Listening) → r.listening ≡ l → Meets ListenRow [] (poll_listening r l)
+      relists_by (listening.Begins op) is = begun op is
+      relists_by _ is = ends (unheld is (λ k. k))
+
+      -- a listen that was begun has taken the network socket
+      by_other : (of : OpId) → side_of r.inner ≡ Some of → (l : Listening) → r.listening ≡ l → ListenRow [] (Err InvalidState, r)
+      by_other of side (listening.Begins op) is = answered_so (Listen place) stands tt [] (Err InvalidState, r) (λ binds. let none = (is_listen op is binds).3 in absurd (cc))
+      by_other of side _ is = unheld is (λ k. k)
+
+      by_side : (o : Option OpId) → side_of r.inner ≡ o → Meets ListenRow [] (closed_listening r o)
+      by_side None side = relists_by r.listening refl
+      by_side (Some of) side = ends (by_other of side r.listening refl)
+
+    relists : (o : Option Tcp2Socket) → tcp2_at m.store.records place ≡ o → Meets CallRow [] (relisten_at free ids place o)
+    relists None at = ends (missing (Listen place) stands at)
+    relists (Some r) at = onto _ (by_side r at (side_of r.inner) refl)
+
+  -- == of a bind
+  module _ (place : ℕ) (stands : Under (Bind place)) where
+    module _ (r : Tcp2Socket) (at : tcp2_at m.store.records place ≡ Some r) where
+      abbrev BindRow : Rows (Result (Answer (Unit {0})) ErrorCode × Tcp2Socket)
+      BindRow es begun = CallRow es (call_answered free ids (Bind place) begun)
+
+      goes_on : PendingCallsFit m → IsBinding r.in_progress
+      goes_on binds = let k : IfSome (tcp2_at m.store.records place) (λ q. IsBinding q.in_progress) = rw stands at binds in rw at at k
+
+      module _ (op : Operation) (is : r.in_progress ≡ Binding op) where
+        is_bind : PendingCallsFit m → IsRestOfBind op
+        is_bind binds = let k = goes_on binds in rw is at k
+
+        bind_waits : (es : List Entry) → EndsPending op.who.id es → CallWaits m (own_of n) es (Bind place)
+        bind_waits es h = let k : BindWaits r.in_progress es = rw is h in rw at k
+
+        bind_ends : (es : List Entry) (end : End × List Item) → (IsRestOfBind op → EndsFor op (BindFails op) es end) → BindRow es (bind_ended op r end)
+        bind_ends es (Waits, items) h = answered_so (Bind place) stands tt es (bind_ended op r (Waits, items)) (λ binds. bind_waits es (h (is_bind binds)))
+        bind_ends es (Done given, items) h = answered_so (Bind place) stands tt es (bind_ended op r (Done given, items)) tt
+        bind_ends es (Refused code given, items) h = answered_so (Bind place) stands tt es (bind_ended op r (Refused code given, items)) (λ binds. BindFailed place r op code at is (h (is_bind binds)))
+
+      rebinds_by : (doing : InProgress) → r.in_progress ≡ doing → Meets BindRow [] (poll_binding r doing)
+      rebinds_by (Binding op) is = onto _ (widen (bind_ends op is) (granted (bind_polls op)))
+      rebinds_by _ is = ends (answered_so (Bind place) stands tt [] (Err InvalidState, r) (λ binds. let k = goes_on binds in absurd (rw is at k)))
+
+    rebinds : (o : Option Tcp2Socket) → tcp2_at m.store.records place ≡ o → Meets CallRow [] (rebind_at free ids place o)
+    rebinds None at = ends (missing (Bind place) stands at)
+    rebinds (Some r) at = onto _ (rebinds_by r at r.in_progress refl)
+
+  -- == of a create of a UDP socket
+  module _ (place : ℕ) (stands : Under (StandingCall.UdpCreate place)) where
+    abbrev CreatedRow : Rows (Result (Answer ℕ) Stop × Machine)
+    CreatedRow es made = GoneRow es (created_on made)
+
+    abbrev MadeRow : Rows (Result (Answer (Unit {0})) Stop × Records)
+    MadeRow es made = Meets CreatedRow es (create_so ids place (nothing_stands m) made)
+
+    module _ (u : Udp2Socket) (at : udp2_at m.store.records place ≡ Some u) where
+      creates_on : PendingCallsFit m → IsCreating u
+      creates_on fits = let k : IfSome (udp2_at m.store.records place) IsCreating = rw stands at fits in rw at at k
+
+      -- a pending create is in progress
+      uncreated : (IsCreating u → ⊥) → MadeRow [] (create_answered free place (Err InvalidState, u))
+      uncreated none = ends (fails (StandingCall.UdpCreate place) stands [] (record m { store = with_udp free place u }) InvalidState refl refl (λ fits. absurd (none (creates_on fits))))
+
+    module _ (create : Create) (at : udp2_at m.store.records place ≡ Some (udp.Creating create)) where
+      -- the socket is there
+      abbrev made_so : Machine
+      made_so = record m { store = with_udp free place (opened_udp (made_by create)) }
+
+      there : udp2_at made_so.store.records place ≡ Some (opened_udp (made_by create))
+      there = udp_set_there m.store.records place (udp.Creating create) (opened_udp (made_by create)) at
+
+      abbrev mark : Entry
+      mark = entry create.operation.who.side (call.Made m.table.next name.Udp2 None (Some create.operation.who.side)) told.Done
+
+      is_create : IsSomeAnd m.store.standing (λ s. IsUdpCreate s.call)
+      is_create = subst (λ (o : Option Standing). IsSomeAnd o (λ s. IsUdpCreate s.call)) (sym stands) tt
+
+      gives_handle : let after : Machine = record made_so { table = with_handle m.table (Udp2 place) None } in IsSomeAnd m.store.standing (λ s. GivesBy m (number_fields m.table.next) after s.call)
+      gives_handle =
+          let after : Machine = record made_so { table = with_handle m.table (Udp2 place) None } in
+          subst (λ (o : Option Standing). IsSomeAnd o (λ s. GivesBy m (number_fields m.table.next) after s.call)) (sym stands) (refl, refl, subst IsSome (sym (ap open_of there)) refl)
+
+      create_ended : (es : List Entry) (end : End × List Item) → (marks_in es ≡ 0) × (PendingCallsFit m → EndsFor create.operation (CreateFails create.operation) es end) → MadeRow es (create_answered free place (udp_create_ended create end))
+      create_ended es (Waits, items) k =
+          ends (waits (StandingCall.UdpCreate place) stands es (record m { store = record (with_udp free place (udp.Creating (with_left create items))) { standing = Some (standing_as ids (StandingCall.UdpCreate place)) } }) refl
+          (λ fits. subst (λ (o : Option Udp2Socket). IsSomeAnd o (λ u. CreateWaits u es)) (sym at) (k.1 fits)))
+      create_ended es (Done given, items) k =
+          marks_udp made_so place (opened_udp (made_by create)) there
+          (λ full. (it_ends (StandingCall.UdpCreate place) stands es (reply.Trap Full) made_so (λ e. cc) refl, (tt, full_so m made_so es full refl k.0, (full, is_create))))
+          (it_ends (StandingCall.UdpCreate place) stands (es ++ mark ∷ []) (reply.Ok (number_fields m.table.next)) (record made_so { table = with_handle m.table (Udp2 place) None }) (λ e. cc) refl, (inr (inl (tt, tt)), gives_handle))
+      create_ended es (Refused code given, items) k = ends (fails (StandingCall.UdpCreate place) stands es (record m { store = with_udp free place (udp.Closed create.operation.who.side) }) code refl refl (λ fits. (CreateFailed place create code at (k.1 fits), (create.operation.who.side, udp_set_there m.store.records place (udp.Creating create) (udp.Closed create.operation.who.side) at))))
+
+    recreates_by : (u : Udp2Socket) → udp2_at m.store.records place ≡ Some u → Meets (λ es done. MadeRow es (create_answered free place done)) [] (poll_create_asks u)
+    recreates_by (udp.Creating create) at = onto _ (widen (create_ended create at) (both (record { along = poll_marks_none create.operation }) (granted (λ fits. create_ends create.operation (creates_on (udp.Creating create) at fits)))))
+    recreates_by (udp.Open o) at = ends (uncreated (udp.Open o) at (λ k. k))
+    recreates_by (udp.Closed side) at = ends (uncreated (udp.Closed side) at (λ k. k))
+
+    recreates_at : (o : Option Udp2Socket) → udp2_at m.store.records place ≡ o → Meets MadeRow [] (poll_create_at free place o)
+    recreates_at None at = ends (ends (missing (StandingCall.UdpCreate place) stands at))
+    recreates_at (Some u) at = onto _ (recreates_by u at)
+
+    recreates : Meets CreatedRow [] (create_on (nothing_stands m) ids place)
+    recreates = chain {Mid = MadeRow} (recreates_at (udp2_at m.store.records place) refl) (λ es made k. k)
+
+  -- == of a bind of a UDP socket
+  module _ (place : ℕ) (stands : Under (StandingCall.UdpBind place)) where
+    module _ (o : OpenUdp) (at : open_at m.store.records place ≡ Some o) where
+      abbrev UdpBindRow : Rows (Result (Answer (Unit {0})) ErrorCode × OpenUdp)
+      UdpBindRow es begun = CallRow es (udp_call_answered free ids (StandingCall.UdpBind place) begun)
+
+      udp_answered_so : (es : List Entry) (begun : Result (Answer (Unit {0})) ErrorCode × OpenUdp) → Due (StandingCall.UdpBind place) stands es begun.0 → UdpBindRow es begun
+      udp_answered_so es (Ok Pending, now) h = waits (StandingCall.UdpBind place) stands es (record m { store = record (with_open_udp free place now) { standing = Some (standing_as ids (StandingCall.UdpBind place)) } }) refl h
+      udp_answered_so es (Ok (Ready given), now) h = done (StandingCall.UdpBind place) stands es (record m { store = with_open_udp free place now }) refl (refl, refl)
+      udp_answered_so es (Err code, now) h = fails (StandingCall.UdpBind place) stands es (record m { store = with_open_udp free place now }) code refl refl (λ fits. (h fits, tt))
+
+      udp_goes_on : PendingCallsFit m → IsUdpBinding o.in_progress
+      udp_goes_on fits = let k : IfSome (open_at m.store.records place) (λ q. IsUdpBinding q.in_progress) = rw stands at fits in rw at at k
+
+      module _ (op : Operation) (is : o.in_progress ≡ doing.Binding op) where
+        is_udp_bind : PendingCallsFit m → IsUdpBind op
+        is_udp_bind fits = let k = udp_goes_on fits in rw is at k
+
+        udp_bind_waits : (es : List Entry) → EndsPending op.who.id es → CallWaits m (own_of n) es (StandingCall.UdpBind place)
+        udp_bind_waits es h = let k : UdpBindWaits o.in_progress es = rw is h in rw at k
+
+        udp_ended : (es : List Entry) (end : End × List Item) → (PendingCallsFit m → EndsFor op (UdpBindFails op) es end) → UdpBindRow es (udp_bind_ended op o end)
+        udp_ended es (Waits, items) h = udp_answered_so es (udp_bind_ended op o (Waits, items)) (λ fits. udp_bind_waits es (h fits))
+        udp_ended es (Done given, items) h = udp_answered_so es (udp_bind_ended op o (Done given, items)) tt
+        udp_ended es (Refused code given, items) h = udp_answered_so es (udp_bind_ended op o (Refused code given, items)) (λ fits. UdpBindFailed place o op code at is (h fits))
+
+      udp_rebinds_by : (doing : UdpInProgress) → o.in_progress ≡ doing → Meets UdpBindRow [] (poll_udp_binding o doing)
+      udp_rebinds_by (doing.Binding op) is = onto _ (widen (udp_ended op is) (granted (λ fits. udp_bind_ends op (is_udp_bind op is fits))))
+      udp_rebinds_by _ is = ends (udp_answered_so [] (Err InvalidState, o) (λ fits. let k = udp_goes_on fits in absurd (rw is at k)))
+
+    udp_rebinds : (o : Option OpenUdp) → open_at m.store.records place ≡ o → Meets CallRow [] (rebind_udp_at free ids place o)
+    udp_rebinds None at = ends (missing (StandingCall.UdpBind place) stands at)
+    udp_rebinds (Some o) at = onto _ (udp_rebinds_by o at o.in_progress refl)
+
+  -- == by what is pending
+  goes_on_as : (call : StandingCall) → Under call → Meets GoneRow [] (go_on (nothing_stands m) ids call)
+  goes_on_as (Bind place) stands = onto _ (rebinds place stands (tcp2_at m.store.records place) refl)
+  goes_on_as (Listen place) stands = onto _ (relists place stands (tcp2_at m.store.records place) refl)
+  goes_on_as (StandingCall.UdpCreate place) stands = onto _ (recreates place stands)
+  goes_on_as (StandingCall.UdpBind place) stands = onto _ (udp_rebinds place stands (open_at m.store.records place) refl)
+  goes_on_as (DropOutput place) stands = onto _ (widen (of_output place stands) (outputs free ids place (tcp2_at m.store.records place) refl))
+
+module _ (contexts : List WasiSocketsCtx) (m : Machine) (line n : ℕ) where
+  none_so : (o : Option Standing) → call_of o n ≡ None → stands_as o n ≡ false
+  none_so None e = refl
+  none_so (Some s) e = by_line (s.ids.line == n) e
+    where
+      by_line : (same : Bool) → (if same then Some s else None) ≡ None → same ≡ false
+      by_line true k = absurd (cc)
+      by_line false k = refl
+
+  abbrev PolledRow : ℕ → Rows (Result (Option (Answer Given)) Stop × Machine)
+  PolledRow k es done = Outcome contexts m line (step.Poll k) es (resumed_reply k done.0) done.1
+
+  by_call : (o : Option Standing) → call_of m.store.standing n ≡ o → Meets (PolledRow n) [] (resume_call m o)
+  by_call None e = let none = none_so m.store.standing e in ends (((λ same. none, λ k. refl), λ same. absurd (cc)), (tt, (refl, refl)))
+  by_call (Some s) e = let k = stands_under m.store.standing n s e in subst (λ (l : ℕ). Meets (PolledRow l) [] (resume_call m (Some s))) k.1 (onto _ (goes_on_as contexts m line s.ids s.call k.0))
+
+  abbrev Polled : Rows (Reply × Machine)
+  Polled es done = Outcome contexts m line (step.Poll n) es done.0 done.1
+
+  pub poll : Meets Polled [] (bind (resume_asks m n) (λ done. Give (resumed_reply n done.0, done.1)))
+  poll = onto _ (by_call (call_of m.store.standing n) refl)

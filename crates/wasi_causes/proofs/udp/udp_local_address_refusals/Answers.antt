@@ -1,0 +1,11 @@
+use Rattle.wasi_steps.specs.declared.step.Step.TheVariants as step
+use Rattle.wasi_steps.specs.declared.reply.Reply.TheVariants as reply
+use Rattle.wasi_causes.proofs.tables.Steps.{its_own}
+use Rattle.wasi_causes.proofs.udp.udp_local_address_refusals.Goals as goal
+
+pub returns : goal.returns
+returns c = record {
+  cause = λ contexts m line ctx handle entries word after w. (its_own contexts m line (step.UdpLocalAddress ctx handle) entries (reply.Err word) after w (λ e. cc)).1.1.0;
+  stays = λ contexts m line ctx handle entries word after w. (its_own contexts m line (step.UdpLocalAddress ctx handle) entries (reply.Err word) after w (λ e. cc)).1.1.1;
+  told = λ contexts m line ctx handle fields entries after w. (its_own contexts m line (step.UdpLocalAddress ctx handle) entries (reply.Ok fields) after w (λ e. cc)).1.1;
+}
