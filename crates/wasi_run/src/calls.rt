@@ -3,20 +3,21 @@
 ghost use Rattle.std.specs.Prelude.{◌≡◌, ◌&&◌, is_some, false};
 ghost use Rattle.wasi_world.specs.Asks.{AsksFor};
 ghost use Rattle.wasi_host.specs.Host.{fault_outcome, host_outcome};
-ghost use Rattle.wasi_host.specs.Machine.{own_of, socket_at};
+ghost use Rattle.wasi_host.specs.Machine.{own_of, socket_at, udp_socket_at};
 ghost use Rattle.wasi_host.specs.Sides.{KnowsSides};
 ghost use Rattle.wasi_host.specs.Views.{SameView, state_of};
 ghost use Rattle.wasi_machine.specs.Machine.{first_ids, machine_asks, set_chosen, is_guest_call, call_asks, context_at, context_for};
-ghost use Rattle.wasi_steps.specs.Settings.{chosen};
+ghost use Rattle.wasi_p2.specs.Udp.{set_udp_option_on};
+ghost use Rattle.wasi_steps.specs.Settings.{chosen, udp_chosen, udp_opt};
 ghost use Rattle.wasi_steps.specs.Steps.{context_of};
 
 use std::alloc::{AllocError, Global};
 use wasi_host::{Kind, Machine, SocketError, Store, WasiSocketsCtxView};
 use wasi_machine::replies::{answer_reply, reply_of, resumed_reply, stream_reply_of};
-use wasi_p2::tcp;
-use wasi_steps::{Reply, Step, TcpSetting};
+use wasi_p2::{tcp, udp};
+use wasi_steps::{Reply, Step, TcpSetting, UdpOption, UdpSetting};
 use wasi_streams::{Fault, Table};
-use wasi_world::{Handle, Ids, WasiSocketsCtx, World};
+use wasi_world::{Handle, Ids, Opt, WasiSocketsCtx, World};
 
 /// Whether the step is a guest call, and a call is pending.
 fn is_held_up(store: &Store, step: &Step) -> bool
@@ -165,6 +166,47 @@ fn call<W: World>(
             let done = tcp::shutdown(view, world, ids, socket, how);
             reply_of(alloc, done)
         }
+        Step::UdpCreate { family, .. } => {
+            let answer = udp::create_udp_socket(view, world, ids, family);
+            answer_reply(alloc, ids.line, answer)
+        }
+        Step::UdpStartBind {
+            socket,
+            network,
+            addr,
+            ..
+        } => {
+            let answer = udp::start_bind(view, world, ids, socket, network, addr);
+            answer_reply(alloc, ids.line, answer)
+        }
+        Step::UdpFinishBind { socket, .. } => {
+            let done = udp::finish_bind(view, socket);
+            reply_of(alloc, done)
+        }
+        Step::UdpLocalAddress { socket, .. } => {
+            let told = udp::local_address(view, world, ids, socket);
+            reply_of(alloc, told)
+        }
+        Step::UdpRemoteAddress { socket, .. } => {
+            let told = udp::remote_address(view, socket);
+            reply_of(alloc, told)
+        }
+        Step::UdpAddressFamily { socket, .. } => {
+            let told = udp::address_family(view, socket);
+            reply_of(alloc, told)
+        }
+        Step::UdpGet { socket, option, .. } => {
+            let told = udp::get_option(view, world, ids, socket, udp_opt(option));
+            reply_of(alloc, told)
+        }
+        Step::UdpSet {
+            socket,
+            setting,
+            ..
+        } => {
+            let done = set_udp(view, world, ids, socket, setting);
+            reply_of(alloc, done)
+        }
         Step::Read { input, len, .. } => {
             let read = wasi_host::read(alloc, view, world, ids, input, len);
             stream_reply_of(alloc, read)
@@ -236,6 +278,40 @@ fn set<W: World>(
         ReceiveBufferSize(value) => tcp::set_receive_buffer_size(view, world, ids, socket, value),
         SendBufferSize(value) => tcp::set_send_buffer_size(view, world, ids, socket, value),
         ListenBacklogSize(value) => tcp::set_listen_backlog_size(view, world, ids, socket, value),
+    }
+}
+
+/// The network's option that an option of a UDP socket is.
+fn udp_opt(option: UdpOption) -> Opt
+    ensures { result ≡ udp_opt option }
+{
+    match option {
+        UdpOption::HopLimit => Opt::HopLimit,
+        UdpOption::ReceiveBufferSize => Opt::ReceiveBufferSize,
+        UdpOption::SendBufferSize => Opt::SendBufferSize,
+    }
+}
+
+/// Sets an option of a UDP socket.
+fn set_udp<W: World>(
+    view: &mut WasiSocketsCtxView<'_>,
+    world: &mut W,
+    ids: &mut Ids,
+    socket: Handle,
+    setting: UdpSetting,
+) -> Result<(), SocketError>
+    requires { (W.seen world.old).ended ≡ false }
+    ensures asked { AsksFor (set_udp_option_on (state_of view.old) (own_of ids.old.line) (udp_chosen setting).0 (udp_chosen setting).1 (udp_socket_at (state_of view.old) socket)) (W.seen world.old) (W.seen world.new) (λ done. (done, state_of view.new)) (host_outcome result) }
+    ensures sides { KnowsSides (W.seen world.old) view.old.store.now → KnowsSides (W.seen world.new) view.new.store.now }
+    ensures view { SameView view.old view.new }
+    ensures ids { ids.new ≡ ids.old }
+    ensures open { (W.seen world.new).ended ≡ false }
+{
+    use UdpSetting::*;
+    match setting {
+        HopLimit(value) => udp::set_unicast_hop_limit(view, world, ids, socket, value),
+        ReceiveBufferSize(value) => udp::set_receive_buffer_size(view, world, ids, socket, value),
+        SendBufferSize(value) => udp::set_send_buffer_size(view, world, ids, socket, value),
     }
 }
 

@@ -1,4 +1,4 @@
-use Rattle.wasi_run.proofs.LineWords.{address_values, answer_reply, asks_answered, asks_end, asks_exit, bytes_fields, family_fields, given_answered}
+use Rattle.wasi_run.proofs.LineWords.{address_values, answer_reply, answer_reply_of, asks_answered, asks_end, asks_exit, bytes_fields, family_fields, given_answered}
 use Rattle.wasi_run.proofs.LineWords.{no_values, number_fields, pair_values, refl, reply_of, resumed_reply, stream_reply_of, triple_values}
 use Rattle.wasi_run.proofs.LineWords.{truth_fields}
 use Rattle.std.proofs.Common.{sym}
@@ -55,6 +55,30 @@ returns-in-TcpSet-clause-asked g c = rw c.in-TcpSet.is (asks_answered (reply_of 
 
 pub returns-in-TcpShutdown-clause-asked : goal.returns-in-TcpShutdown-clause-asked
 returns-in-TcpShutdown-clause-asked g c = rw c.in-TcpShutdown.is (asks_answered (reply_of no_values) _ _ c.shutdown-done.ensures.asked c.reply_of-in-TcpShutdown.ensures)
+
+pub returns-in-UdpCreate-clause-asked : goal.returns-in-UdpCreate-clause-asked
+returns-in-UdpCreate-clause-asked g c = rw c.in-UdpCreate.is (asks_answered (answer_reply_of number_fields c.args.ids.now.line) _ _ (rw c.requires.first at c.create_udp_socket-answer.ensures.asked) (rw c.create_udp_socket-answer.ensures.ids at c.answer_reply-in-UdpCreate.ensures))
+
+pub returns-in-UdpStartBind-clause-asked : goal.returns-in-UdpStartBind-clause-asked
+returns-in-UdpStartBind-clause-asked g c = rw c.in-UdpStartBind.is (asks_answered (answer_reply_of no_values c.args.ids.now.line) _ _ (rw c.requires.first at c.start_bind-answer-in-UdpStartBind.ensures.asked) (rw c.start_bind-answer-in-UdpStartBind.ensures.ids at c.answer_reply-in-UdpStartBind.ensures))
+
+pub returns-in-UdpFinishBind-clause-asked : goal.returns-in-UdpFinishBind-clause-asked
+returns-in-UdpFinishBind-clause-asked g c = rw (c.in-UdpFinishBind.is, c.finish_bind-done-in-UdpFinishBind.ensures.state) (given_answered (reply_of no_values) _ _ _ c.finish_bind-done-in-UdpFinishBind.ensures.answer c.reply_of-in-UdpFinishBind.ensures)
+
+pub returns-in-UdpLocalAddress-clause-asked : goal.returns-in-UdpLocalAddress-clause-asked
+returns-in-UdpLocalAddress-clause-asked g c = rw c.in-UdpLocalAddress.is (asks_answered (reply_of address_values) _ _ c.local_address-told-in-UdpLocalAddress.ensures.asked c.reply_of-in-UdpLocalAddress.ensures)
+
+pub returns-in-UdpRemoteAddress-clause-asked : goal.returns-in-UdpRemoteAddress-clause-asked
+returns-in-UdpRemoteAddress-clause-asked g c = rw c.in-UdpRemoteAddress.is (given_answered (reply_of address_values) _ _ _ c.remote_address-told-in-UdpRemoteAddress.ensures c.reply_of-in-UdpRemoteAddress.ensures)
+
+pub returns-in-UdpAddressFamily-clause-asked : goal.returns-in-UdpAddressFamily-clause-asked
+returns-in-UdpAddressFamily-clause-asked g c = rw c.in-UdpAddressFamily.is (given_answered (reply_of family_fields) _ _ _ c.address_family-told-in-UdpAddressFamily.ensures c.reply_of-in-UdpAddressFamily.ensures)
+
+pub returns-in-UdpGet-clause-asked : goal.returns-in-UdpGet-clause-asked
+returns-in-UdpGet-clause-asked g c = rw (c.in-UdpGet.is, ← c.udp_opt.ensures) (asks_answered (reply_of number_fields) _ _ c.get_option-told-in-UdpGet.ensures.asked c.reply_of-in-UdpGet.ensures)
+
+pub returns-in-UdpSet-clause-asked : goal.returns-in-UdpSet-clause-asked
+returns-in-UdpSet-clause-asked g c = rw c.in-UdpSet.is (asks_answered (reply_of no_values) _ _ c.set_udp-done.ensures.asked c.reply_of-in-UdpSet.ensures)
 
 pub returns-in-Read-clause-asked : goal.returns-in-Read-clause-asked
 returns-in-Read-clause-asked g c = rw c.in-Read.is (asks_answered (stream_reply_of bytes_fields) _ _ c.read-read.ensures.asked c.stream_reply_of.ensures)
