@@ -31,7 +31,7 @@ use Rattle.wasi_causes.proofs.operations.Polls.{CreateFails, create_ends, udp_bi
 use Rattle.wasi_causes.proofs.sockets.UdpCreates.{marks_udp}
 use Rattle.wasi_causes.proofs.tables.Meets.{chain, both}
 use Rattle.wasi_causes.proofs.Words.{◌++◌, Full, IsSome, number_fields, with_handle}
-use Rattle.wasi_causes.specs.Udp.{IsUdpCreate}
+use Rattle.wasi_causes.specs.Udp.{IsPendingCreate}
 use Rattle.wasi_host.specs.Udp.{opened_udp, poll_create_asks, udp_create_ended, udp_bind_ended, poll_udp_binding}
 use Rattle.wasi_host.specs.UdpCalls.{with_udp, with_open_udp, udp_call_answered, rebind_udp_at}
 use Rattle.wasi_host.specs.UdpCreates.{create_answered, poll_create_at, create_so, create_on}
@@ -246,8 +246,8 @@ module _ (contexts : List WasiSocketsCtx) (m : Machine) (line : ℕ) (ids : Ids)
       abbrev mark : Entry
       mark = entry create.operation.who.side (call.Made m.table.next name.Udp2 None (Some create.operation.who.side)) told.Done
 
-      is_create : IsSomeAnd m.store.standing (λ s. IsUdpCreate s.call)
-      is_create = subst (λ (o : Option Standing). IsSomeAnd o (λ s. IsUdpCreate s.call)) (sym stands) tt
+      is_create : IsSomeAnd m.store.standing (λ s. IsPendingCreate s.call)
+      is_create = subst (λ (o : Option Standing). IsSomeAnd o (λ s. IsPendingCreate s.call)) (sym stands) tt
 
       gives_handle : let after : Machine = record made_so { table = with_handle m.table (Udp2 place) None } in IsSomeAnd m.store.standing (λ s. GivesBy m (number_fields m.table.next) after s.call)
       gives_handle =

@@ -12,7 +12,7 @@ use Rattle.wasi_udp.specs.Create.{Create, after_create as udp_after_create}
 use Rattle.wasi_walks.proofs.UdpLists.{udp_set_get, udp_front, udp_in_put, udp_in_push, tcp_of_put, tcp_of_push, tcp_in_put, tcp_in_push}
 use Rattle.wasi_walks.proofs.walks.Moves.{put_udp, FoundUdp, udp_begun, udp_record_of, tcp_place, UdpChanges, BeginsUdpBind, StandsUdpBind, StandsUdpCreate, UdpCreates, UdpBindsOn, AUdpPollable}
 use Rattle.wasi_causes.proofs.Words.{Handles}
-use Rattle.wasi_causes.specs.Udp.{IsUdpCreate}
+use Rattle.wasi_causes.specs.Udp.{IsPendingCreate}
 use Rattle.wasi_walks.specs.Waiting.{IsCreating, IsUdpBinding}
 use Rattle.wasi_host.specs.declared.records.Record.{Record}
 use Rattle.wasi_host.specs.declared.binding.InProgress.TheVariants.{Binding}
@@ -484,7 +484,7 @@ module _ (contexts : List WasiSocketsCtx) (steps : List Step) (es : List Entry) 
   pub listens_refused_in_runs : (line ctx handle : ℕ) (entries : List Entry) (word : CodeWord) (after : Machine) → Answered contexts m line (step.TcpStartListen ctx handle) entries (reply.Err word) after → RefusedListen m (own_of line) handle entries word after
   listens_refused_in_runs line ctx handle entries word after a = (its_own contexts m line (step.TcpStartListen ctx handle) entries (reply.Err word) after a (λ e. cc)).1.1.0 (of_record m ListensLate runs_listen_late (socket_at m handle))
 
-  full_alone : (line n : ℕ) (entries : List Entry) (kind : TrapKind) (after : Machine) → Traps contexts m line (step.Poll n) entries kind after → (kind ≡ Full) × (is_full m.table ≡ true) × IsSomeAnd m.store.standing (λ s. IsUdpCreate s.call)
+  full_alone : (line n : ℕ) (entries : List Entry) (kind : TrapKind) (after : Machine) → Traps contexts m line (step.Poll n) entries kind after → (kind ≡ Full) × (is_full m.table ≡ true) × IsSomeAnd m.store.standing (λ s. IsPendingCreate s.call)
   full_alone line n entries NoSuchHandle after h = absurd (stands_on m fits n h.0)
   full_alone line n entries HasChildren after h = absurd h.0
   full_alone line n entries Full after h = (refl, h.2.0, h.2.1)
@@ -492,5 +492,5 @@ module _ (contexts : List WasiSocketsCtx) (steps : List Step) (es : List Entry) 
   full_alone line n entries _ after h = absurd h
 
   -- a poll traps only where there is no room for the handle of a create
-  pub polls_trap : (line n : ℕ) (entries : List Entry) (kind : TrapKind) (after : Machine) → Answered contexts m line (step.Poll n) entries (reply.Trap kind) after → (kind ≡ Full) × (is_full m.table ≡ true) × IsSomeAnd m.store.standing (λ s. IsUdpCreate s.call)
+  pub polls_trap : (line n : ℕ) (entries : List Entry) (kind : TrapKind) (after : Machine) → Answered contexts m line (step.Poll n) entries (reply.Trap kind) after → (kind ≡ Full) × (is_full m.table ≡ true) × IsSomeAnd m.store.standing (λ s. IsPendingCreate s.call)
   polls_trap line n entries kind after a = full_alone line n entries kind after (its_own contexts m line (step.Poll n) entries (reply.Trap kind) after a (λ e. cc)).1

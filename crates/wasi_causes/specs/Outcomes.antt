@@ -44,7 +44,7 @@ use Rattle.wasi_steps.specs.Settings.{chosen, udp_opt}
 use Rattle.wasi_causes.specs.Options.{GetsOption, RefusedGet, RefusedSet, SetsChosen}
 use Rattle.wasi_causes.specs.Reached.{FinishesAt, ListensLateAt}
 use Rattle.wasi_causes.specs.Turns.{IsOfJob}
-use Rattle.wasi_causes.specs.Udp.{OfUdp, RefusedOfUdp, HasUdpInProgress, HasNoUdpBind, KeepsNoRemote, WatchesUdp, udp_create_entry, writable_entry, with_udp_record, new_udp, UdpCreateRefusal, CreatesUdp, CreateStands, KnowsUdpBound, UdpBindRefusal, BindsUdp, UdpBindStands, FinishesUdpBind, UdpLocalRefusal, TellsUdpLocal, TellsUdpRemote, UdpGetRefusal, GetsUdpOption, UdpSetRefusal, SetsUdpOption, udp_given_up, udp_shut, GivesBy, ClosesBy, IsUdpCreate}
+use Rattle.wasi_causes.specs.Udp.{OfUdp, RefusedOfUdp, HasUdpInProgress, HasNoUdpBind, KeepsNoRemote, WatchesUdp, udp_create_entry, writable_entry, with_udp_record, new_udp, UdpCreateRefusal, CreatesUdp, CreateStands, KnowsUdpBound, UdpBindRefusal, BindsUdp, UdpBindStands, FinishesUdpBind, UdpLocalRefusal, TellsUdpLocal, TellsUdpRemote, UdpGetRefusal, GetsUdpOption, UdpSetRefusal, SetsUdpOption, udp_given_up, udp_shut, GivesBy, ClosesBy, IsPendingCreate}
 
 -- == the fields of a reply that is done
 abbrev pub IsLike : FieldKind → Field → Type 0
@@ -333,7 +333,7 @@ LeftFull contexts m line (step.TcpCreate c family) es after =
 LeftFull contexts m line (step.UdpCreate c family) es after =
     let its = context_at contexts c in
     (is_full m.table ≡ true) × (es ≡ udp_create_entry (own_of line) its family told.Done ∷ writable_entry (own_of line) told.Done ∷ []) × (after ≡ with_udp_record m (new_udp (own_of line) its family))
-LeftFull contexts m line (step.Poll n) es after = (is_full m.table ≡ true) × IsSomeAnd m.store.standing (λ s. IsUdpCreate s.call)
+LeftFull contexts m line (step.Poll n) es after = (is_full m.table ≡ true) × IsSomeAnd m.store.standing (λ s. IsPendingCreate s.call)
 LeftFull contexts m line s es after = ⊤
 
 abbrev pub Traps : List WasiSocketsCtx → Machine → ℕ → Step → List Entry → TrapKind → Machine → Type 0

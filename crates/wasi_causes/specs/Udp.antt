@@ -258,6 +258,6 @@ ClosesBy after (standing.UdpCreate place) = (side : OpId) × (udp2_at after.stor
 ClosesBy after _ = Unit {0}
 
 -- it is a create
-abbrev pub IsUdpCreate : StandingCall → Type 0
-IsUdpCreate (standing.UdpCreate place) = Unit {0}
-IsUdpCreate _ = ⊥
+abbrev pub IsPendingCreate : StandingCall → Type 0
+IsPendingCreate (standing.UdpCreate place) = Unit {0}
+IsPendingCreate _ = ⊥

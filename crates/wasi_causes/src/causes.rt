@@ -1,5 +1,6 @@
 //! Laws over the definitions of specs/ that say where each answer of a step comes from, and what is left after a refusal:
-//! each is a function that does nothing, whose contract is the law.
+//! each is a function that does nothing, whose contract is the law. A socket is a TCP socket here, where nothing else is said;
+//! the steps of UDP sockets are in `udp`.
 
 ghost use Rattle.std.specs.Prelude.{◌≡◌, ◌↔◌, ◌⊎◌, ℕ, ◌+◌, true, false, List, [], ◌∷◌, length, IsSome, IsSomeAnd, Some, None, slice_get};
 ghost use Rattle.wasi_addr.specs.declared.address.IpSocketAddress.{IpSocketAddress};
@@ -22,7 +23,7 @@ ghost use Rattle.wasi_steps.specs.declared.reply.Reply.{Reply};
 ghost use Rattle.wasi_steps.specs.declared.step.Step.{Step};
 ghost use Rattle.wasi_walks.specs.Answered.{Answered, CheckFails, closing_reader, closing_writer, ConnectsAt, CreateRefusal, EndsPending, FailsWith, FinishRefusal, HasNoBindInProgress, HasNoConnectInProgress, HasOperationInProgress, IsGivenUp, IsQuiet, IsUnpermitted, IsWrite, KnowsBound, LocalRefusal, MakesHandle, MissesHandle, OfRecord, OfStreams, output_streams, Permits, putting, ReadFails, ReadsEnd, ReadsNone, ReadsTold, record_at, RefusedBind, RefusedConnect, RefusedOf, RemoteRefusal, StandsOnNothing, WasClosedWith, with_error, WriteFails};
 ghost use Rattle.wasi_causes.specs.Outcomes.{may_answer, EachMayAnswer, Outcome};
-ghost use Rattle.wasi_causes.specs.Udp.{IsUdpCreate};
+ghost use Rattle.wasi_causes.specs.Udp.{IsPendingCreate};
 ghost use Rattle.wasi_causes.specs.Reached.{FinishesAt, ListensLate, MayFinish, OfItsRecord};
 ghost use Rattle.wasi_causes.specs.GivenUp.{GoesAtOnce, HasLiveChildren, HasNoStreams, IsDrop, IsDropped, IsGone, LooksOnce, shut_down, shutdown_entries, socket_given_up, without};
 ghost use Rattle.wasi_walks.specs.Licence.{entry, Has, marks_in};
@@ -124,7 +125,7 @@ pub fn polls_find_their_call()
         → PendingCallsFit m → Answered contexts m line (Step.Poll n) entries (Reply.Err word) after → StandingFails m n entries word }
     ensures traps { (contexts : List WasiSocketsCtx) (steps : List Step) (log : List Entry) (replies : List Reply) (m : Machine) (line n : ℕ) (entries : List Entry) (kind : TrapKind) (after : Machine)
         → Left (run contexts [] first_state 1 steps) log (Give (replies, m)) → Answered contexts m line (Step.Poll n) entries (Reply.Trap kind) after
-        → (kind ≡ TrapKind.Full) × (is_full m.table ≡ true) × IsSomeAnd m.store.standing (λ s. IsUdpCreate s.call) }
+        → (kind ≡ TrapKind.Full) × (is_full m.table ≡ true) × IsSomeAnd m.store.standing (λ s. IsPendingCreate s.call) }
 {}
 
 /// The start of a bind, that of a listen, a create of a UDP socket, the drop of an output and a poll may be pending: all but a
@@ -157,7 +158,7 @@ pub fn create_refusals()
         → Answered contexts m line (Step.TcpCreate ctx family) entries (Reply.Err word) after → after ≡ m }
 {}
 
-/// A create that traps with `Full` has made its network socket, which is in a record that no handle names.
+/// A create that traps with `Full` has made its network socket, which is in the last record, and the table is as it was.
 pub fn create_full()
     ensures full { (contexts : List WasiSocketsCtx) (m : Machine) (line ctx : ℕ) (family : SocketAddressFamily) (entries : List Entry) (after : Machine)
         → Answered contexts m line (Step.TcpCreate ctx family) entries (Reply.Trap TrapKind.Full) after → is_full m.table ≡ true }

@@ -29,11 +29,11 @@ ghost use Rattle.wasi_streams.specs.Table.{children_of, is_full};
 ghost use Rattle.wasi_walks.specs.Answered.{Answered, open_udp_at};
 ghost use Rattle.wasi_walks.specs.Waiting.{PendingCallsFit};
 ghost use Rattle.wasi_causes.specs.GivenUp.{without};
-ghost use Rattle.wasi_causes.specs.Udp.{OfUdp, RefusedOfUdp, HasUdpInProgress, HasNoUdpBind, KeepsNoRemote, WatchesUdp, udp_create_entry, writable_entry, with_udp_record, new_udp, UdpCreateRefusal, CreatesUdp, CreateStands, KnowsUdpBound, UdpBindRefusal, BindsUdp, UdpBindStands, FinishesUdpBind, UdpLocalRefusal, TellsUdpLocal, TellsUdpRemote, UdpGetRefusal, GetsUdpOption, UdpSetRefusal, SetsUdpOption, udp_given_up, udp_shut, GivesBy, ClosesBy, IsUdpCreate};
+ghost use Rattle.wasi_causes.specs.Udp.{OfUdp, RefusedOfUdp, HasUdpInProgress, HasNoUdpBind, KeepsNoRemote, WatchesUdp, udp_create_entry, writable_entry, with_udp_record, new_udp, UdpCreateRefusal, CreatesUdp, CreateStands, KnowsUdpBound, UdpBindRefusal, BindsUdp, UdpBindStands, FinishesUdpBind, UdpLocalRefusal, TellsUdpLocal, TellsUdpRemote, UdpGetRefusal, GetsUdpOption, UdpSetRefusal, SetsUdpOption, udp_given_up, udp_shut, GivesBy, ClosesBy, IsPendingCreate};
 
 /// A create of a UDP socket is refused with `access-denied` where the context may not use UDP, and it asks nothing then; or
-/// with the word of the code that the create was answered, and there is no network socket then; or with that of the code that
-/// the network socket returned while it was waited for, and then it was closed, and of the record only its name is left. There
+/// with the word of the code that the create was answered, and the machine is as it was then; or with that of the code that the
+/// network socket returned while it was waited for, and then it was closed, and of the record only its name is left. There
 /// is no handle then.
 pub fn udp_create_refusals()
     ensures cause { (contexts : List WasiSocketsCtx) (m : Machine) (line ctx : ℕ) (family : SocketAddressFamily) (entries : List Entry) (word : CodeWord) (after : Machine)
@@ -44,7 +44,7 @@ pub fn udp_create_refusals()
 /// A create that is done made its network socket, waited for it, and marked the next handle, by the name of the create; the
 /// socket is in the last record, and in the middle of nothing. One that is pending made its network socket and waits for it:
 /// its record has the create, and the call is pending under its line's number. One for whose handle there is no room traps with
-/// `Full`: its network socket stays open, in a record that no handle names.
+/// `Full`: its network socket stays open, in the last record, and the table is as it was.
 pub fn udp_creates_make_a_handle()
     ensures done { (contexts : List WasiSocketsCtx) (m : Machine) (line ctx : ℕ) (family : SocketAddressFamily) (fields : List Field) (entries : List Entry) (after : Machine)
         → Answered contexts m line (Step.UdpCreate ctx family) entries (Reply.Ok fields) after
@@ -207,7 +207,7 @@ pub fn udp_polls_give_a_handle()
     ensures none { (contexts : List WasiSocketsCtx) (m : Machine) (line n : ℕ) (entries : List Entry) (word : CodeWord) (after : Machine)
         → Answered contexts m line (Step.Poll n) entries (Reply.Err word) after → after.table ≡ m.table }
     ensures full { (contexts : List WasiSocketsCtx) (m : Machine) (line n : ℕ) (entries : List Entry) (after : Machine)
-        → Answered contexts m line (Step.Poll n) entries (Reply.Trap TrapKind.Full) after → (is_full m.table ≡ true) × IsSomeAnd m.store.standing (λ s. IsUdpCreate s.call) }
+        → Answered contexts m line (Step.Poll n) entries (Reply.Trap TrapKind.Full) after → (is_full m.table ≡ true) × IsSomeAnd m.store.standing (λ s. IsPendingCreate s.call) }
 {}
 
 /// A pollable of a UDP socket is ready. That asks nothing, and the machine stays as it was.

@@ -175,12 +175,22 @@ abbrev pub IsUdpCreate : List WasiSocketsCtx → ℕ → SocketAddressFamily →
 IsUdpCreate contexts name family (step.UdpCreate ctx f) = MayUseUdp contexts ctx name × (f ≡ family)
 IsUdpCreate contexts name family _ = ⊥
 
+-- a create of a TCP socket
+abbrev pub MakesTcp : Step → Type 0
+MakesTcp (step.TcpCreate ctx family) = ⊤
+MakesTcp _ = ⊥
+
+-- a create of a UDP socket
+abbrev pub MakesUdp : Step → Type 0
+MakesUdp (step.UdpCreate ctx family) = ⊤
+MakesUdp _ = ⊥
+
 -- a bind of a UDP socket to this address
 abbrev pub IsUdpBindTo : IpSocketAddress → Step → Type 0
 IsUdpBindTo addr (step.UdpStartBind ctx socket network a) = a ≡ addr
 IsUdpBindTo addr _ = ⊥
 
--- a bind to this address
+-- a bind of a TCP socket to this address
 abbrev pub IsBindTo : IpSocketAddress → Step → Type 0
 IsBindTo addr (step.TcpStartBind ctx socket network a) = a ≡ addr
 IsBindTo addr _ = ⊥
@@ -224,7 +234,7 @@ IsBacklogSet backlog _ = ⊥
 abbrev pub IsOfParent : List Entry → ℕ → Option ℕ → Option OpId → Type 0
 IsOfParent before handle parent sock = (parent ≡ Some handle) × IsMarkedWith before handle sock
 
--- the network socket is in no mark of a socket
+-- the network socket is in no mark of a TCP socket
 abbrev pub MarksNoSocket : List Entry → OpId → Type 0
 MarksNoSocket before side = (o : OpId) (handle : ℕ) (parent : Option ℕ) (told : Told) → Has before (entry o (Made handle Tcp2 parent (Some side)) told) → ⊥
 
@@ -282,13 +292,15 @@ MayAsk contexts steps before op (UdpCreate ctx family) = BeganBy steps op (IsUdp
 MayAsk contexts steps before op (UdpWritable sock) = ReachesSide steps before op sock
 MayAsk contexts steps before op (Local sock) = ReachesSide steps before op sock
 MayAsk contexts steps before op (Peer sock) = ReachesSide steps before op sock
-MayAsk contexts steps before op (Bind sock addr) = ReachesSide steps before op sock × BeganBy steps op (IsBindTo addr) × HasYes before before op sock addr TcpBind
-MayAsk contexts steps before op (UdpBind sock addr) = ReachesSide steps before op sock × BeganBy steps op (IsUdpBindTo addr) × HasYes before before op sock addr use_of.UdpBind
+MayAsk contexts steps before op (Bind sock addr) =
+    ReachesSide steps before op sock × BeganBy steps op (IsBindTo addr) × HasYes before before op sock addr TcpBind × BeganBy steps sock MakesTcp
+MayAsk contexts steps before op (UdpBind sock addr) =
+    ReachesSide steps before op sock × BeganBy steps op (IsUdpBindTo addr) × HasYes before before op sock addr use_of.UdpBind × BeganBy steps sock MakesUdp
 MayAsk contexts steps before op (UdpConnect sock addr) = ⊥
-MayAsk contexts steps before op (Listen sock backlog) = ReachesSide steps before op sock × BeganBy steps op IsListenStep × MayListen before op sock
+MayAsk contexts steps before op (Listen sock backlog) = ReachesSide steps before op sock × BeganBy steps op IsListenStep × MayListen before op sock × BeganBy steps sock MakesTcp
 MayAsk contexts steps before op (SetBacklog sock backlog) = ReachesSide steps before op sock × BeganBy steps op (IsBacklogSet backlog) × Listens before sock
 MayAsk contexts steps before op (Connect sock addr) =
-    ReachesSide steps before op sock × BeganBy steps op (IsConnectTo addr) × HasYes before before op sock addr TcpConnect × MayGoOut before op sock
+    ReachesSide steps before op sock × BeganBy steps op (IsConnectTo addr) × HasYes before before op sock addr TcpConnect × MayGoOut before op sock × BeganBy steps sock MakesTcp
 MayAsk contexts steps before op (Accept sock) = ReachesSide steps before op sock
 MayAsk contexts steps before op (Hand sock peer) = ReachesSide steps before op sock × IsAdmitted before op sock peer × HandedNone before op
 MayAsk contexts steps before op (Refuse sock peer) = ReachesSide steps before op sock

@@ -121,8 +121,8 @@ abbrev pub IsPoll : Step → Type 0
 IsPoll (step.Poll n) = ⊤
 IsPoll _ = ⊥
 
--- the step may be pending under this number: the start of a bind, that of a listen, a create and the drop of an output under their line's,
--- and a poll under the one that it polls
+-- the step may be pending under this number: the start of a bind, that of a listen, a create of a UDP socket and the drop of an
+-- output under their line's, and a poll under the one that it polls
 abbrev pub MayStand : Machine → ℕ → Step → ℕ → Type 0
 MayStand m line (step.TcpStartBind ctx socket network a) n = n ≡ line
 MayStand m line (step.TcpStartListen ctx socket) n = n ≡ line
@@ -188,7 +188,7 @@ HoldsCall m (standing.DropOutput place) = ⊤
 HoldsCall m (standing.UdpCreate place) = IfSome (udp2_at m.store.records place) IsCreating
 HoldsCall m (standing.UdpBind place) = IfSome (open_at m.store.records place) (λ o. IsUdpBinding o.in_progress)
 
--- where a bind is pending, its record has a bind in progress; and where a listen is pending, its is a listen
+-- where a bind, a listen or a create is pending, its record has one in progress
 abbrev pub PendingCallsFit : Machine → Type 0
 PendingCallsFit m = IfSome m.store.standing (λ s. HoldsCall m s.call)
 
@@ -212,7 +212,7 @@ abbrev pub UdpBindWaits : UdpInProgress → List Entry → Type 0
 UdpBindWaits (udp_doing.Binding op) entries = EndsPending op.who.id entries
 UdpBindWaits _ entries = ⊥
 
--- the call waits: the last ask of the bind or of the listen was answered pending, or the output's writer waits
+-- the call waits: the last ask of the bind, of the listen or of the create was answered pending, or the output's writer waits
 abbrev pub CallWaits : Machine → OpId → List Entry → StandingCall → Type 0
 CallWaits m own entries (standing.Bind place) = IsSomeAnd (tcp2_at m.store.records place) (λ r. BindWaits r.in_progress entries)
 CallWaits m own entries (standing.Listen place) = IsSomeAnd (tcp2_at m.store.records place) (λ r. ListenWaits r.listening entries)

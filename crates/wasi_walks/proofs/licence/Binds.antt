@@ -4,6 +4,7 @@ use Rattle.wasi_walks.proofs.Words.{IpSocketAddress, IsAddr, IsBindTo, IsBoundSi
 use Rattle.wasi_walks.proofs.Words.{Operation, Socket, Step, TcpBind, TcpState, Told, WasiSocketsCtx, Who, [], after_local, allows_polls, ap, bind}
 use Rattle.wasi_walks.proofs.Words.{done_front, entry, false, front, if◌then◌else◌, inl, is_wildcard, last_ask, left_of, poll_asks, refl, side_in}
 use Rattle.wasi_walks.proofs.Words.{subst, sym, told_addr, told_done, told_verdict, true, verdict_front, ⊤, ◌++◌, ◌∷◌, ◌≡◌}
+use Rattle.wasi_walks.specs.Licence.{MakesTcp}
 use Rattle.wasi_walks.proofs.Lists.{has_last}
 use Rattle.wasi_walks.proofs.licence.State.{BindLeft, Whole, Checked, Over, WorksOn, BindIsFine, SocketIsFine}
 use Rattle.wasi_walks.proofs.licence.Frames.{stay, works_more, NoMark, KeepsSide, keeps_side}
@@ -81,12 +82,12 @@ module _ (contexts : List WasiSocketsCtx) (steps : List Step) where
     abbrev Works : List Entry → Type 0
     Works es = WorksOn steps es who.id who.side who.context
 
-    module _ (addr : IpSocketAddress) (to : BeganBy steps who.id (IsBindTo addr)) (last : who.last ≡ NothingLast) where
+    module _ (addr : IpSocketAddress) (to : BeganBy steps who.id (IsBindTo addr)) (tcp : BeganBy steps who.side MakesTcp) (last : who.last ≡ NothingLast) where
       works_on : (es : List Entry) (c : Call) (t : Told) → Works es → Works (es ++ entry who.id c t ∷ [])
       works_on es c t w = works_more (stay steps) es _ who.id who.side who.context w
 
       stands : (es : List Entry) (items : List Item) → Works es → BindLeft es who.id who.context addr items → Stands es items
-      stands es items w l = record { addr = addr; to = to; works = w; last = last; left = l }
+      stands es items w l = record { addr = addr; to = to; tcp = tcp; works = w; last = last; left = l }
 
       ends_last : (es : List Entry) (c : ErrorCode) (given : Given) → Works es → Allows (May contexts steps) StandsAfter es (last_ask who who.last c given)
       ends_last es c given w = subst (λ (l : LastAsk). Allows (May contexts steps) StandsAfter es (last_ask who l c given)) (sym last) (stands es [] w Over)
@@ -104,7 +105,7 @@ module _ (contexts : List WasiSocketsCtx) (steps : List Step) where
       unfolding bind
       fine_front es _ _ w Whole = ((tt, tt), λ t fits. checked es t w)
       fine_front es _ _ w (Checked y) = (
-        ((inl w.named, to, record { ctx = who.context; family = w.family; maker = w.made; checked = y }), tt),
+        ((inl w.named, to, record { ctx = who.context; family = w.family; maker = w.made; checked = y }, tcp), tt),
         λ t fits. bound es t w,
       )
 
@@ -112,5 +113,5 @@ module _ (contexts : List WasiSocketsCtx) (steps : List Step) where
   pub fine_poll : (op : Operation) (es : List Entry) → BindIsFine steps es op → Allows (May contexts steps) (λ fs ended. BindIsFine steps fs (left_of op ended.1)) es (poll_asks op)
   fine_poll op es b =
       allows_polls (May contexts steps) op.who (StandsBefore op.who) (StandsAfter op.who)
-      (λ fs given item items k. fine_front op.who k.addr k.to k.last fs item items k.works k.left)
+      (λ fs given item items k. fine_front op.who k.addr k.to k.tcp k.last fs item items k.works k.left)
       (λ fs items k. k) (λ fs given k. k) 64 op.left es b

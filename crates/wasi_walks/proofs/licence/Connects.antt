@@ -6,6 +6,7 @@ use Rattle.wasi_walks.proofs.Words.{WasiSocketsCtx, Who, [], allows_polls, ap, b
 use Rattle.wasi_walks.proofs.Words.{left_of, new_connection, poll_asks, polled_front, refl, side_in, side_of, subst, sym, told_polled, told_verdict}
 use Rattle.wasi_walks.proofs.Words.{verdict_front, wildcard, with_state, ⊤, ◌++◌, ◌∙◌, ◌∷◌, ◌≡◌}
 use Rattle.wasi_walks.proofs.licence.Binds.{May}
+use Rattle.wasi_walks.specs.Licence.{MakesTcp}
 use Rattle.wasi_walks.proofs.Lists.{has_last, has_front}
 use Rattle.wasi_walks.proofs.licence.State.{ConnectLeft, Unbound, Unchecked, Allowed, ToClose, Ended, WorksOn, ConnectIsFine, IsConnectedOn, KnowsMaker, SocketIsFine}
 use Rattle.wasi_walks.proofs.licence.Frames.{stay, KeepsSide, works_more, out_more, maker_more}
@@ -26,12 +27,12 @@ module _ (contexts : List WasiSocketsCtx) (steps : List Step) where
     abbrev Works : List Entry → Type 0
     Works es = WorksOn steps es who.id who.side who.context
 
-    module _ (addr : IpSocketAddress) (to : BeganBy steps who.id (IsConnectTo addr)) (last : who.last ≡ CloseLast) where
+    module _ (addr : IpSocketAddress) (to : BeganBy steps who.id (IsConnectTo addr)) (tcp : BeganBy steps who.side MakesTcp) (last : who.last ≡ CloseLast) where
       works_on : (es : List Entry) (c : Call) (t : Told) → Works es → Works (es ++ entry who.id c t ∷ [])
       works_on es c t w = works_more (stay steps) es _ who.id who.side who.context w
 
       stands : (es : List Entry) (items : List Item) → Works es → ConnectLeft es who.id who.side who.context addr items → Stands es items
-      stands es items w l = record { addr = addr; to = to; works = w; last = last; left = l }
+      stands es items w l = record { addr = addr; to = to; tcp = tcp; works = w; last = last; left = l }
 
       -- one that ends with a code closes its network socket
       ends_last : (es : List Entry) (c : ErrorCode) (given : Given) → Works es → Allows (May contexts steps) StandsAfter es (last_ask who who.last c given)
@@ -67,7 +68,7 @@ module _ (contexts : List WasiSocketsCtx) (steps : List Step) where
       fine_front es _ _ w (Unbound family m) = ((tt, tt), λ t fits. asked_wildcard es family t w m)
       fine_front es _ _ w (Unchecked o) = ((tt, tt), λ t fits. asked_check es t w o)
       fine_front es _ _ w (Allowed o y) = (
-        ((inl w.named, to, record { ctx = who.context; family = w.family; maker = w.made; checked = y }, o), tt),
+        ((inl w.named, to, record { ctx = who.context; family = w.family; maker = w.made; checked = y }, o, tcp), tt),
         λ t fits. asked_connect es t w o y,
       )
       fine_front es _ _ w (ToClose c) = ends_last es c Nothing w
@@ -76,7 +77,7 @@ module _ (contexts : List WasiSocketsCtx) (steps : List Step) where
   pub fine_poll_connect : (op : Operation) (es : List Entry) → ConnectIsFine steps es op → Allows (May contexts steps) (λ fs ended. ConnectIsFine steps fs (left_of op ended.1)) es (poll_asks op)
   fine_poll_connect op es b =
       allows_polls (May contexts steps) op.who (StandsBefore op.who) (StandsAfter op.who)
-      (λ fs given item items k. fine_front op.who k.addr k.to k.last fs item items k.works k.left)
+      (λ fs given item items k. fine_front op.who k.addr k.to k.tcp k.last fs item items k.works k.left)
       (λ fs items k. k) (λ fs given k. k) 64 op.left es b
 
   -- == the poll of a socket's connect

@@ -11,7 +11,8 @@ use Rattle.wasi_host.specs.Records.{tcp2_at, tcp2_put, tcp2_pushed}
 use Rattle.wasi_host.specs.declared.records.Record.{Record}
 use Rattle.wasi_tcp.specs.declared.socket.TcpState.TheVariants.{Connected}
 use Rattle.wasi_walks.proofs.Lists.{has_front, get_split, get_set, set_get, has_split}
-use Rattle.wasi_walks.proofs.licence.State.{NamesRecord, KnowsMaker, BindLeft, Whole, Checked, Over, ConnectLeft, Unbound, Unchecked, Allowed, ToClose, Ended, Names, WorksOn, BindIsFine, ConnectIsFine, JobIsFine, WritesOn, IsConnectedOn, StreamsAreFine, ListeningStands, accept_name, AcceptIsFine, AcceptingIsFine, ListeningIsFine, ProgressIsFine, SocketIsFine, RecordIsFine, MakesTcp, LastAccept, AcceptLeft, Unarrived, ToCheck, AcceptingStands, name_in, OneHolds}
+use Rattle.wasi_walks.specs.Licence.{MakesTcp}
+use Rattle.wasi_walks.proofs.licence.State.{NamesRecord, KnowsMaker, BindLeft, Whole, Checked, Over, ConnectLeft, Unbound, Unchecked, Allowed, ToClose, Ended, Names, WorksOn, BindIsFine, ConnectIsFine, JobIsFine, WritesOn, IsConnectedOn, StreamsAreFine, ListeningStands, accept_name, AcceptIsFine, AcceptingIsFine, ListeningIsFine, ProgressIsFine, SocketIsFine, RecordIsFine, LastAccept, AcceptLeft, Unarrived, ToCheck, AcceptingStands, name_in, OneHolds}
 use Rattle.wasi_walks.proofs.walks.Moves.{KeepsBinding}
 use Rattle.wasi_world.specs.declared.call.HandleKind.TheVariants.{Tcp2}
 use Rattle.wasi_walks.specs.Licence.{UdpCreated}
@@ -266,12 +267,13 @@ module _ {steps now : List Step} (goes : Goes steps now) where
   works_more es fs op side maker h = record { family = h.family; made = maker_more es fs maker h.family side h.made; named = names_on es fs op side h.named }
 
   pub bind_more : (es fs : List Entry) (op : Operation) → BindIsFine steps es op → BindIsFine now (es ++ fs) op
-  bind_more es fs op h = record { addr = h.addr; to = began_more op.who.id _ h.to; works = works_more es fs op.who.id op.who.side op.who.context h.works; last = h.last; left = left_more es fs op.who.id op.who.context h.addr op.left h.left }
+  bind_more es fs op h = record { addr = h.addr; to = began_more op.who.id _ h.to; tcp = began_more op.who.side MakesTcp h.tcp; works = works_more es fs op.who.id op.who.side op.who.context h.works; last = h.last; left = left_more es fs op.who.id op.who.context h.addr op.left h.left }
 
   pub connect_more : (es fs : List Entry) (op : Operation) → ConnectIsFine steps es op → ConnectIsFine now (es ++ fs) op
   connect_more es fs op h = record {
     addr = h.addr;
     to = began_more op.who.id _ h.to;
+    tcp = began_more op.who.side MakesTcp h.tcp;
     works = works_more es fs op.who.id op.who.side op.who.context h.works;
     last = h.last;
     left = connect_left_more es fs op.who.id op.who.side op.who.context h.addr op.left h.left;

@@ -16,7 +16,8 @@ use Rattle.wasi_walks.proofs.claims.Polls.{AllAskBut, IsPlainCall, poll_plainly}
 use Rattle.wasi_walks.proofs.claims.Law.{accept_plain, Named, Base, same_begun, fresh, taken_fresh, Fresh}
 use Rattle.wasi_walks.proofs.walks.Moves.{Held, BindsOn, Connects, Unused, Here, put, Found, Listens, Awaits, UdpCreates, UdpBindsOn, listen_after, accepting_now, second_of}
 use Rattle.wasi_walks.proofs.Lists.{get_set, set_there}
-use Rattle.wasi_walks.proofs.licence.State.{MakesTcp, ConnectIsFine, accept_name, Names, BindIsFine, JobIsFine, WritesOn, StreamsAreFine, AcceptingIsFine, ListeningIsFine, ProgressIsFine, RecordIsFine, AcceptStands, AcceptingStands, ListeningStands, name_in, AcceptLeft, AcceptIsFine}
+use Rattle.wasi_walks.specs.Licence.{MakesTcp}
+use Rattle.wasi_walks.proofs.licence.State.{ConnectIsFine, accept_name, Names, BindIsFine, JobIsFine, WritesOn, StreamsAreFine, AcceptingIsFine, ListeningIsFine, ProgressIsFine, RecordIsFine, AcceptStands, AcceptingStands, ListeningStands, name_in, AcceptLeft, AcceptIsFine}
 use Rattle.wasi_walks.proofs.licence.Frames.{Touches, same_listening, listening_gone, same_record, record_kept, maker_more}
 use Rattle.wasi_walks.proofs.licence.States.{state_put, state_renewed}
 use Rattle.wasi_walks.proofs.licence.Binds.{no_local, May, MayQuietly, NoLocal, fine_poll}

@@ -7,7 +7,8 @@ use Rattle.wasi_walks.proofs.licence.Fresh.{NoMadeBy}
 use Rattle.wasi_walks.proofs.walks.Moves.{Used, Unused, Here, put, put_udp, Found, FoundUdp, record_of, udp_record_of, Plain, Made, Unmade, Joined, Marked, second_of}
 use Rattle.wasi_walks.proofs.Lists.{get_set, tcp2_seam}
 use Rattle.wasi_walks.proofs.UdpLists.{udp_get_set, udp_of_put, tcp_of_put}
-use Rattle.wasi_walks.proofs.licence.State.{MakesTcp, NamesIf, NamesRecord, NamesUdp, NamesUdpIf, HandleIsFine, Names, RecordIsFine, UdpIsFine, StateIsFine, IsHanded}
+use Rattle.wasi_walks.specs.Licence.{MakesTcp}
+use Rattle.wasi_walks.proofs.licence.State.{NamesIf, NamesRecord, NamesUdp, NamesUdpIf, HandleIsFine, Names, RecordIsFine, UdpIsFine, StateIsFine, IsHanded}
 use Rattle.wasi_walks.proofs.licence.Frames.{KeepsListening, KeepsRecord, same_record}
 use Rattle.wasi_walks.proofs.licence.States.{state_put, state_put_udp}
 use Rattle.wasi_world.specs.declared.call.HandleKind.TheVariants as name

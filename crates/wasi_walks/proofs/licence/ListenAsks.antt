@@ -8,6 +8,7 @@ use Rattle.wasi_walks.proofs.Words.{TcpListen, TcpState, Told, Waits, WasiSocket
 use Rattle.wasi_walks.proofs.Words.{done_front, entry, front, inl, inr, last_ask, left_of, listen_ended, listen_polled, local_front, new_listener}
 use Rattle.wasi_walks.proofs.Words.{poll_asks, refl, side_in, side_of, subst, sym, told_addr, told_done, told_verdict, verdict_front, with_state, ℕ}
 use Rattle.wasi_walks.proofs.Words.{⊤, ◌++◌, ◌∙◌, ◌∷◌, ◌≡◌}
+use Rattle.wasi_walks.specs.Licence.{MakesTcp}
 use Rattle.wasi_walks.proofs.Lists.{has_last, has_split, has_front}
 use Rattle.wasi_walks.proofs.licence.Binds.{NoLocal, May}
 use Rattle.wasi_walks.proofs.licence.State.{WorksOn, ListeningStands, accept_name, RecordIsFine}
@@ -45,6 +46,7 @@ module _ (steps : List Step) where
   -- A listen that may be polled: where it came from, that its network socket was bound, and what it has asked so far.
   pub record ListenIsFine (es : List Entry) (op : Operation) : Type 0 where
     pub to : BeganBy steps op.who.id IsListenStep
+    pub tcp : BeganBy steps op.who.side MakesTcp
     pub works : WorksOn steps es op.who.id op.who.side op.who.context
     pub bound : IsBoundSide es op.who.side
     pub last : op.who.last ≡ CloseLast
@@ -69,7 +71,7 @@ module _ (contexts : List WasiSocketsCtx) (steps : List Step) where
     abbrev StandsAfter : List Entry → End × List Item → Type 0
     StandsAfter es ended = ListenEnds steps es who ended.0 ended.1
 
-    module _ (to : BeganBy steps who.id IsListenStep) (last : who.last ≡ CloseLast) where
+    module _ (to : BeganBy steps who.id IsListenStep) (tcp : BeganBy steps who.side MakesTcp) (last : who.last ≡ CloseLast) where
       -- it works on its network socket, which was bound
       abbrev Works : List Entry → Type 0
       Works es = WorksOn steps es who.id who.side who.context × IsBoundSide es who.side
@@ -78,7 +80,7 @@ module _ (contexts : List WasiSocketsCtx) (steps : List Step) where
       works_on es c t w = (works_more (stay steps) es _ who.id who.side who.context w.0, bound_more es _ who.side w.1)
 
       stands : (es : List Entry) (items : List Item) → Works es → ListenLeft es who.id who.side who.context items → Stands es items
-      stands es items w l = record { to = to; works = w.0; bound = w.1; last = last; so_far = l }
+      stands es items w l = record { to = to; tcp = tcp; works = w.0; bound = w.1; last = last; so_far = l }
 
       -- one that ends with a code closes its network socket
       ends_last : (es : List Entry) (c : ErrorCode) (given : Given) → Allows (May contexts steps) StandsAfter es (last_ask who who.last c given)
@@ -114,14 +116,14 @@ module _ (contexts : List WasiSocketsCtx) (steps : List Step) where
       fine_front es _ _ w (Whole backlog) = ((inl w.0.named, tt), λ t fits. asked_local es backlog t fits w)
       fine_front es _ _ w (Untold a backlog h) = checks es a backlog w h
       fine_front es _ _ w (Allowed a backlog h y) = (
-        ((inl w.0.named, to, inl (w.1, (a, h, record { ctx = who.context; family = w.0.family; maker = w.0.made; checked = y }))), tt),
+        ((inl w.0.named, to, inl (w.1, (a, h, record { ctx = who.context; family = w.0.family; maker = w.0.made; checked = y })), tcp), tt),
         λ t fits. asked_listen es backlog t fits w,
       )
 
   pub fine_poll_listen : (op : Operation) (es : List Entry) → ListenIsFine steps es op → Allows (May contexts steps) (λ fs ended. ListenEnds steps fs op.who ended.0 ended.1) es (poll_asks op)
   fine_poll_listen op es b =
       allows_polls (May contexts steps) op.who (StandsBefore op.who) (StandsAfter op.who)
-      (λ fs given item items k. fine_front op.who k.to k.last fs item items (k.works, k.bound) k.so_far)
+      (λ fs given item items k. fine_front op.who k.to k.tcp k.last fs item items (k.works, k.bound) k.so_far)
       (λ fs items k. k) (λ fs given k. it_listens fs op.who.id op.who.side op.who.context k.so_far) 64 op.left es b
 
 -- the two of one tree
@@ -140,6 +142,7 @@ left_unless es o op side maker c t _ n (Over h) = Over (listens_more es _ side h
 pub listen_unless : (steps : List Step) (es : List Entry) (o : OpId) (c : Call) (t : Told) (op : Operation) → (c ≡ Call.Local op.who.side → ⊥) → ListenIsFine steps es op → ListenIsFine steps (es ++ entry o c t ∷ []) op
 listen_unless steps es o c t op n h = record {
   to = h.to;
+  tcp = h.tcp;
   works = works_more (stay steps) es _ op.who.id op.who.side op.who.context h.works;
   bound = bound_more es _ op.who.side h.bound;
   last = h.last;

@@ -4,7 +4,8 @@ use Rattle.wasi_walks.proofs.Words.{BeganBy, Call, Entry, IsLicensed, List, Mach
 use Rattle.wasi_walks.proofs.Words.{WasiSocketsCtx, [], ap, append-nil, append_assoc, arith, inl, inr, length, length-append, step_at, subst, suc}
 use Rattle.wasi_walks.proofs.Words.{zero, ℕ, ⊤, ◌++◌, ◌∙◌, ◌∷◌, ◌≡◌, ◌≤◌}
 use Rattle.wasi_walks.proofs.Lists.{get_front}
-use Rattle.wasi_walks.proofs.licence.State.{MakesTcp, WorksOn, RecordIsFine, UdpIsFine, StandingIsFine, StateIsFine}
+use Rattle.wasi_walks.specs.Licence.{MakesTcp}
+use Rattle.wasi_walks.proofs.licence.State.{WorksOn, RecordIsFine, UdpIsFine, StandingIsFine, StateIsFine}
 use Rattle.wasi_walks.proofs.licence.ListenAsks.{ListenIsFine}
 use Rattle.wasi_walks.proofs.licence.Frames.{Goes, began_more, works_more, record_more}
 use Rattle.wasi_walks.proofs.licence.UdpFrames.{standing_more, udp_more}
@@ -27,14 +28,14 @@ module _ (steps more : List Step) where
   may_more contexts before op (Call.Lookup host) h = h
   may_more contexts before op (Call.TcpCreate ctx family) h = began_more on op _ h
   may_more contexts before op (Call.UdpCreate ctx family) h = began_more on op _ h
-  may_more contexts before op (Call.Bind sock addr) h = (reach_more before op sock h.0, began_more on op _ h.1, h.2)
-  may_more contexts before op (Call.UdpBind sock addr) h = (reach_more before op sock h.0, began_more on op _ h.1, h.2)
+  may_more contexts before op (Call.Bind sock addr) h = (reach_more before op sock h.0, began_more on op _ h.1, h.2, began_more on sock _ h.3)
+  may_more contexts before op (Call.UdpBind sock addr) h = (reach_more before op sock h.0, began_more on op _ h.1, h.2, began_more on sock _ h.3)
   may_more contexts before op (Call.UdpConnect sock addr) h = h
-  may_more contexts before op (Call.Listen sock backlog) h = (reach_more before op sock h.0, began_more on op _ h.1, h.2)
+  may_more contexts before op (Call.Listen sock backlog) h = (reach_more before op sock h.0, began_more on op _ h.1, h.2, began_more on sock _ h.3)
   may_more contexts before op (Call.SetBacklog sock backlog) h = (reach_more before op sock h.0, began_more on op _ h.1, h.2)
   may_more contexts before op (Call.GetOption sock option) h = (reach_more before op sock h.0, began_more on op _ h.1)
   may_more contexts before op (Call.SetOption sock option value) h = (reach_more before op sock h.0, began_more on op _ h.1)
-  may_more contexts before op (Call.Connect sock addr) h = (reach_more before op sock h.0, began_more on op _ h.1, h.2, h.3)
+  may_more contexts before op (Call.Connect sock addr) h = (reach_more before op sock h.0, began_more on op _ h.1, h.2, h.3, began_more on sock _ h.4)
   may_more contexts before op (Call.Hand sock peer) h = (reach_more before op sock h.0, h.1, h.2)
   may_more contexts before op (Call.Send sock addr bytes) h = h
   may_more contexts before op (Call.Close sock) h = h
@@ -59,6 +60,7 @@ module _ (steps more : List Step) where
   pub listen_more : (es : List Entry) (op : Operation) → ListenIsFine steps es op → ListenIsFine (steps ++ more) es op
   listen_more es op h = record {
     to = began_more on op.who.id _ h.to;
+    tcp = tcp_more op.who.side h.tcp;
     works = subst (λ (fs : List Entry). WorksOn (steps ++ more) fs op.who.id op.who.side op.who.context) (append-nil es) (works_more on es [] op.who.id op.who.side op.who.context h.works);
     bound = h.bound;
     last = h.last;

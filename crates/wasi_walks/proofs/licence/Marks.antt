@@ -8,7 +8,8 @@ use Rattle.wasi_walks.proofs.Words.{refl, side_at, side_in, slice_get, step_at, 
 use Rattle.wasi_walks.proofs.claims.Law.{Named, fresh}
 use Rattle.wasi_walks.proofs.walks.Moves.{Used, Unused, Marks, ANetwork, AStream, AnError, Here, Found, MarksError, Joined, Marked, made_so, APollable, AUdpPollable, tcp_place, FoundUdp, AnAcceptedStream, second_of, Creates, Past}
 use Rattle.wasi_walks.proofs.Lists.{has_last, has_split, has_front, get_split, tcp2_seam}
-use Rattle.wasi_walks.proofs.licence.State.{MakesTcp, accept_name, NamesRecord, NamesUdp, HandleIsFine, SocketIsFine}
+use Rattle.wasi_walks.specs.Licence.{MakesTcp}
+use Rattle.wasi_walks.proofs.licence.State.{accept_name, NamesRecord, NamesUdp, HandleIsFine, SocketIsFine}
 use Rattle.wasi_walks.proofs.licence.Frames.{Touches, Spared, handed_unless, stay, same_record, names_on}
 use Rattle.wasi_walks.proofs.licence.States.{state_made, state_push}
 use Rattle.wasi_walks.proofs.licence.Line.{names_record, names_udp, NotMarked, MadeSocket, Licensed, elsewhere, some_same, no_listen, spent}

@@ -178,6 +178,7 @@ module _ (contexts : List WasiSocketsCtx) (steps : List Step) (line : ℕ) (orig
       let may : ConnectIsFine steps es op = record {
         addr = a;
         to = record { origin = origin; at = is_line; holds = to };
+        tcp = f.socket.tcp side d;
         works = record { family = r.inner.family; made = f.socket.knows.maker side e; named = i.names place line r at g side (f.named side e) };
         last = refl;
         left = first_left es side r.inner.maker r.inner.family a bound (f.socket.knows.maker side e) (λ yes. inl (f.socket.bound side d (known yes)));
@@ -197,6 +198,7 @@ module _ (contexts : List WasiSocketsCtx) (steps : List Step) (line : ℕ) (orig
       let begun : BindIsFine steps es (begun_bind (own_of line) side r a) = record {
         addr = a;
         to = record { origin = origin; at = is_line; holds = to };
+        tcp = f.socket.tcp side d;
         works = record { family = r.inner.family; made = f.socket.knows.maker side e; named = i.names place line r at g side (f.named side e) };
         last = refl;
         left = Whole;
@@ -211,7 +213,7 @@ module _ (contexts : List WasiSocketsCtx) (steps : List Step) (line : ℕ) (orig
       let e : side_of r.inner ≡ Some side = ap side_in d in
       let now = beginning_listen (own_of line) side r in
       let goes : ListenGoesOn steps es now (begun_listen (own_of line) side r) = record {
-        fine = record { to = record { origin = origin; at = is_line; holds = to }; works = record { family = r.inner.family; made = f.socket.knows.maker side e; named = i.names place line r at g side (f.named side e) }; bound = f.socket.bound side d bound; last = refl; so_far = WholeListen r.inner.backlog };
+        fine = record { to = record { origin = origin; at = is_line; holds = to }; tcp = f.socket.tcp side d; works = record { family = r.inner.family; made = f.socket.knows.maker side e; named = i.names place line r at g side (f.named side e) }; bound = f.socket.bound side d bound; last = refl; so_far = WholeListen r.inner.backlog };
         asks = refl;
         made = f.socket.knows.maker side e;
         tcp = f.socket.tcp side d;

@@ -7,7 +7,7 @@ use Rattle.wasi_walks.proofs.Words.{SocketAddressFamily, Some, Standing, Step, S
 use Rattle.wasi_walks.proofs.Words.{WriteState, Yes, [], call_place, entry, kind_at, marks_in, own_of, side_of, true, wildcard, ℕ, ⊤, ◌++◌}
 use Rattle.wasi_walks.proofs.Words.{◌+◌, ◌∷◌, ◌≡◌}
 use Rattle.wasi_walks.proofs.walks.Moves.{record_of, udp_record_of, IsOfHandle}
-use Rattle.wasi_walks.specs.Licence.{IsUdpBindTo}
+use Rattle.wasi_walks.specs.Licence.{IsUdpBindTo, MakesTcp, MakesUdp}
 use Rattle.wasi_addr.specs.declared.address.SocketAddrUse.TheVariants as use_of
 use Rattle.wasi_world.specs.Operation.{UdpBind, UdpWritable}
 use Rattle.wasi_host.specs.Records.{tcp2_at, udp2_at}
@@ -132,15 +132,6 @@ accept_name _ = None
 abbrev pub OneHolds : List Record → Type 0
 OneHolds records = (i j : ℕ) (r s : Tcp2Socket) (x : OpId) → tcp2_at records i ≡ Some r → tcp2_at records j ≡ Some s → accept_name r.listening ≡ Some x → accept_name s.listening ≡ Some x → i ≡ j
 
--- == which sockets a step makes
-abbrev pub MakesTcp : Step → Type 0
-MakesTcp (Step.TcpCreate ctx family) = ⊤
-MakesTcp _ = ⊥
-
-abbrev pub MakesUdp : Step → Type 0
-MakesUdp (Step.UdpCreate ctx family) = ⊤
-MakesUdp _ = ⊥
-
 module _ (steps : List Step) where
   -- the operation's step names a handle of this network socket
   abbrev pub Names : List Entry → OpId → OpId → Type 0
@@ -156,6 +147,7 @@ module _ (steps : List Step) where
   pub record BindIsFine (es : List Entry) (op : Operation) : Type 0 where
     pub addr : IpSocketAddress
     pub to : BeganBy steps op.who.id (IsBindTo addr)
+    pub tcp : BeganBy steps op.who.side MakesTcp
     pub works : WorksOn es op.who.id op.who.side op.who.context
     pub last : op.who.last ≡ NothingLast
     pub left : BindLeft es op.who.id op.who.context addr op.left
@@ -164,6 +156,7 @@ module _ (steps : List Step) where
   pub record ConnectIsFine (es : List Entry) (op : Operation) : Type 0 where
     pub addr : IpSocketAddress
     pub to : BeganBy steps op.who.id (IsConnectTo addr)
+    pub tcp : BeganBy steps op.who.side MakesTcp
     pub works : WorksOn es op.who.id op.who.side op.who.context
     pub last : op.who.last ≡ CloseLast
     pub left : ConnectLeft es op.who.id op.who.side op.who.context addr op.left
@@ -254,6 +247,7 @@ module _ (steps : List Step) where
   pub record UdpBindIsFine (es : List Entry) (op : Operation) : Type 0 where
     pub addr : IpSocketAddress
     pub to : BeganBy steps op.who.id (IsUdpBindTo addr)
+    pub udp : BeganBy steps op.who.side MakesUdp
     pub works : WorksOn es op.who.id op.who.side op.who.context
     pub last : op.who.last ≡ NothingLast
     pub left : UdpBindLeft es op.who.id op.who.context addr op.left

@@ -7,7 +7,7 @@ use Rattle.wasi_addr.specs.declared.address.SocketAddrUse.TheVariants as use_of
 use Rattle.wasi_world.specs.Fits.{IsPolled}
 use Rattle.wasi_world.specs.Operation.{UdpBind, UdpWritable, after, polled_front, round}
 use Rattle.wasi_world.specs.Typed.{told_polled}
-use Rattle.wasi_walks.specs.Licence.{IsUdpBindTo}
+use Rattle.wasi_walks.specs.Licence.{IsUdpBindTo, MakesUdp}
 use Rattle.wasi_walks.proofs.Lists.{has_last}
 use Rattle.wasi_walks.proofs.licence.State.{UdpBindLeft, UdpUnchecked, UdpChecked, UdpOver, WorksOn, UdpBindIsFine}
 use Rattle.wasi_walks.proofs.licence.Frames.{stay, works_more}
@@ -58,12 +58,12 @@ module _ (contexts : List WasiSocketsCtx) (steps : List Step) where
     abbrev Works : List Entry → Type 0
     Works es = WorksOn steps es who.id who.side who.context
 
-    module _ (addr : IpSocketAddress) (to : BeganBy steps who.id (IsUdpBindTo addr)) (last : who.last ≡ NothingLast) where
+    module _ (addr : IpSocketAddress) (to : BeganBy steps who.id (IsUdpBindTo addr)) (udp : BeganBy steps who.side MakesUdp) (last : who.last ≡ NothingLast) where
       works_on : (es : List Entry) (c : Call) (t : Told) → Works es → Works (es ++ entry who.id c t ∷ [])
       works_on es c t w = works_more (stay steps) es _ who.id who.side who.context w
 
       stands : (es : List Entry) (items : List Item) → Works es → UdpBindLeft es who.id who.context addr items → Stands es items
-      stands es items w l = record { addr = addr; to = to; works = w; last = last; left = l }
+      stands es items w l = record { addr = addr; to = to; udp = udp; works = w; last = last; left = l }
 
       ends_last : (es : List Entry) (c : ErrorCode) (given : Given) → Works es → Allows (MayQuietly contexts steps) StandsAfter es (last_ask who who.last c given)
       ends_last es c given w = subst (λ (l : LastAsk). Allows (MayQuietly contexts steps) StandsAfter es (last_ask who l c given)) (sym last) (stands es [] w UdpOver)
@@ -82,7 +82,7 @@ module _ (contexts : List WasiSocketsCtx) (steps : List Step) where
       unfolding bind
       fine_front es _ _ w UdpUnchecked = (((tt, tt), tt), λ t fits. checked es t w)
       fine_front es _ _ w (UdpChecked y) = (
-        (((inl w.named, to, record { ctx = who.context; family = w.family; maker = w.made; checked = y }), tt), tt),
+        (((inl w.named, to, record { ctx = who.context; family = w.family; maker = w.made; checked = y }, udp), tt), tt),
         λ t fits. bound es t w,
       )
 
@@ -90,5 +90,5 @@ module _ (contexts : List WasiSocketsCtx) (steps : List Step) where
   pub fine_poll_udp_bind : (op : Operation) (es : List Entry) → UdpBindIsFine steps es op → Allows (MayQuietly contexts steps) (λ fs ended. UdpBindIsFine steps fs (left_of op ended.1)) es (poll_asks op)
   fine_poll_udp_bind op es b =
       allows_polls (MayQuietly contexts steps) op.who (StandsBefore op.who) (StandsAfter op.who)
-      (λ fs given item items k. fine_front op.who k.addr k.to k.last fs item items k.works k.left)
+      (λ fs given item items k. fine_front op.who k.addr k.to k.udp k.last fs item items k.works k.left)
       (λ fs items k. k) (λ fs given k. k) 64 op.left es b

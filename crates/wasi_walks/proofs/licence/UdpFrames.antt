@@ -114,6 +114,7 @@ module _ {steps now : List Step} (goes : Goes steps now) where
   udp_bind_more es fs op h = record {
     addr = h.addr;
     to = began_more goes op.who.id _ h.to;
+    udp = began_more goes op.who.side _ h.udp;
     works = works_more goes es fs op.who.id op.who.side op.who.context h.works;
     last = h.last;
     left = udp_left_more es fs op.who.id op.who.context h.addr op.left h.left;

@@ -7,7 +7,8 @@ use Rattle.wasi_walks.specs.Licence.{IsUdpCreate, MayUseUdp, UdpCreated}
 use Rattle.wasi_walks.proofs.walks.Moves.{Here, put_udp, FoundUdp, CreatesUdp, udp_begun, IsQuestionOf, Past, Joined, Marked, second_of}
 use Rattle.wasi_walks.proofs.Lists.{has_front, has_last, has_split}
 use Rattle.wasi_walks.proofs.UdpLists.{tcp_of_push}
-use Rattle.wasi_walks.proofs.licence.State.{MakesTcp, MakesUdp, NamesUdp, UdpMade, UdpIsFine, OpenIsFine}
+use Rattle.wasi_walks.specs.Licence.{MakesTcp, MakesUdp}
+use Rattle.wasi_walks.proofs.licence.State.{NamesUdp, UdpMade, UdpIsFine, OpenIsFine}
 use Rattle.wasi_walks.proofs.licence.Frames.{handed_unless, stay, names_on}
 use Rattle.wasi_walks.proofs.licence.States.{state_made, state_joined_udp}
 use Rattle.wasi_walks.proofs.licence.Fresh.{NoMadeBy}

@@ -93,6 +93,7 @@ module _ (contexts : List WasiSocketsCtx) (steps : List Step) (line : ℕ) (orig
       let begun : UdpBindIsFine steps es (begun_udp_bind (own_of line) o a) = record {
         addr = a;
         to = record { origin = origin; at = is_line; holds = to };
+        udp = f.made.by;
         works = record { family = o.inner.family; made = UdpCreated o.inner.side Told.Done f.made.created; named = i.udp_names place line (Udp2Socket.Open o) at g };
         last = refl;
         left = UdpUnchecked;

@@ -3,7 +3,7 @@ use Rattle.wasi_walks.proofs.Words.{BeganBy, Call, Entry, Give, Has, IsLicensed,
 use Rattle.wasi_walks.proofs.Words.{Reply, SocketAddrUse, SocketAddressFamily, Some, Step, Told, WasiSocketsCtx, [], ap, arith, bind, entry, false}
 use Rattle.wasi_walks.proofs.Words.{first_state, inl, inr, no_fields, number_fields, own_of, polls, port_of, refl, run, true, wildcard, ⊤, ◌++◌, ◌∷◌}
 use Rattle.wasi_walks.proofs.Words.{◌≡◌}
-use Rattle.wasi_walks.specs.Licence.{IsUdpBindTo, IsUdpCreate, UdpCreated}
+use Rattle.wasi_walks.specs.Licence.{IsUdpBindTo, IsUdpCreate, MakesTcp, UdpCreated}
 use Rattle.wasi_walks.proofs.licence.Longer.{licensed}
 use Rattle.wasi_walks.proofs.licence.Rows.{allowed, context, local_80}
 use Rattle.wasi_walks.proofs.licence.Refused.{NotYes, of_each, at_line, local_81}
@@ -76,6 +76,7 @@ udp_licensed = licensed allowed udp_script udp_log (
                 inl (names_socket _ (inr (inr (inr (inl refl))))),
                 record { origin = Step.UdpStartBind 0 2 1 local_80; at = refl; holds = refl },
                 record { ctx = 0; family = SocketAddressFamily.Ipv4; maker = UdpCreated (own_of 2) Told.Done (inr (inl refl)); checked = inr (inr (inr (inr (inr (inl refl))))) },
+                record { origin = Step.UdpCreate 0 SocketAddressFamily.Ipv4; at = refl; holds = tt },
               ),
               tt,
             ),
@@ -110,6 +111,16 @@ other_use h =
     let may = h.each for_tcp bind_80 [] refl in
     let same = of_each (λ e. ChecksTcp e.call) for_tcp _ (tt, (tt, (tt, (tt, (tt, (refl, tt)))))) may.2.checked in
     absurd (cc)
+
+-- == a UDP socket is bound as a TCP socket is
+abbrev tcp_script : List Step
+tcp_script = Step.Network 0 ∷ Step.UdpCreate 0 SocketAddressFamily.Ipv4 ∷ Step.TcpStartBind 0 2 1 local_80 ∷ []
+
+abbrev tcp_bind : Entry
+tcp_bind = entry (own_of 3) (Call.Bind (own_of 2) local_80) Told.Done
+
+other_kind : IsLicensed allowed tcp_script (for_tcp ++ tcp_bind ∷ []) [] → ⊥
+other_kind h = let may = h.each for_tcp tcp_bind [] refl in at_line MakesTcp (Step.UdpCreate 0 SocketAddressFamily.Ipv4) may.3.origin may.3.at may.3.holds
 
 -- == another address than the line's is checked and bound
 abbrev asks_81 : List Entry
