@@ -1,9 +1,10 @@
 //! A guest that gives its view, the names of a line, and a network.
 
-ghost use Rattle.std.specs.Prelude.{◌≡◌, IfOk, Ok, false, true};
+ghost use Rattle.std.specs.Prelude.{◌≡◌, IfOk, List, Ok, false, true};
 ghost use Rattle.wasi_host.specs.Store.{no_records};
 ghost use Rattle.wasi_streams.specs.Table.{empty};
-ghost use Rattle.wasi_world.specs.Scenario.{plan_of};
+ghost use Rattle.wasi_world.specs.Scenario.{scenario_of};
+ghost use Rattle.wasi_world.specs.declared.outcome.WasiSocketsCtx.{WasiSocketsCtx};
 ghost use Rattle.wasi_world.specs.Scripted.{seen_by, started};
 
 use std::alloc::Global;
@@ -68,7 +69,7 @@ pub fn line(number: u32) -> Ids
 
 /// The network of this scenario.
 pub fn world(alloc: Global, scenario: &str) -> Result<ScriptedWorld, Fail>
-    ensures planned { IfOk result (λ world. started (plan_of scenario.now) ≡ Ok (seen_by world)) }
+    ensures planned { IfOk result (λ world. (contexts : List WasiSocketsCtx) × (started (scenario_of scenario.now) ≡ Ok (seen_by world, contexts))) }
     ensures open { IfOk result (λ world. (seen_by world).ended ≡ false) }
 {
     let (world, _) = ScriptedWorld::parse(alloc, scenario.as_bytes())?;

@@ -8,7 +8,7 @@ use wasi_steps::STEP_FORMS;
 
 /// What a line of a scenario may be.
 const SCENARIO_LINES: &str =
-    "a line such as `check no`, `read bytes 0102` or `write took 1`, ended by a newline, in a file of at most 1048576 bytes";
+    "a line such as `check no`, `read bytes 0102` or `context yes yes no`, ended by a newline, in a file of at most 1048576 bytes";
 
 /// What a line of a script may be.
 const SCRIPT_LINES: &str =

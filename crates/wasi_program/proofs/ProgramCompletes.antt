@@ -5,6 +5,7 @@ use Rattle.wasi_world.specs.declared.call.Entry.{Entry}
 use Rattle.wasi_world.specs.declared.outcome.WasiSocketsCtx.{WasiSocketsCtx}
 use Rattle.wasi_world.specs.Seen.{Plan}
 use Rattle.wasi_world.specs.Io.{Reading, Writing, HasEnded, CountRose}
+use Rattle.wasi_world.specs.Scenario.{scenario_of}
 use Rattle.wasi_run.specs.declared.error.RunError.{RunError}
 use Rattle.wasi_run.specs.declared.error.RunError.TheVariants as error
 use Rattle.wasi_run.specs.declared.run.RunEnd.{RunEnd}
@@ -15,7 +16,7 @@ use Rattle.wasi_program.specs.declared.program.Status.TheVariants as status
 use Rattle.wasi_pump.specs.declared.error.PumpError.{PumpError}
 use Rattle.wasi_pump.specs.declared.error.PumpError.TheVariants as pump
 use Rattle.wasi_pump.specs.Pumped.{PumpEnds}
-use Rattle.wasi_program.specs.Program.{RanMain, CommandEnds, RunEnds, GeneratedEnds, IsPump, pump_status, RanText, ReadScenario, command_in, most_scenario, number_of, scenario_of, status_of}
+use Rattle.wasi_program.specs.Program.{RanMain, CommandEnds, RunEnds, GeneratedEnds, IsPump, pump_status, RanText, ReadScenario, command_in, most_scenario, number_of, status_of}
 use Rattle.wasi_run.specs.Script.{IsOkOrMemory}
 use Rattle.wasi_program.specs.Completeness.{EndsOkOrMemory, IsWell, IsWellRun, IsWellPumped, ProgramCompletes}
 use Rattle.wasi_run.proofs.Completes.{completes, front_of}

@@ -3,9 +3,10 @@ use Rattle.std.specs.Prelude.{◌≡◌, ◌≢◌, ℕ, List, ◌≤◌, ◌⊎
 use Rattle.wasi_world.specs.declared.outcome.WasiSocketsCtx.{WasiSocketsCtx}
 use Rattle.wasi_world.specs.Seen.{Plan, Rose}
 use Rattle.wasi_world.specs.Io.{Reading, Writing, CountRose}
+use Rattle.wasi_world.specs.Scenario.{scenario_of}
 use Rattle.wasi_program.specs.declared.program.Command.{Command}
 use Rattle.wasi_program.specs.declared.program.Command.TheVariants.{Run, Pump, Generate}
-use Rattle.wasi_program.specs.Program.{most_scenario, scenario_of}
+use Rattle.wasi_program.specs.Program.{most_scenario}
 use Rattle.wasi_run.specs.Script.{IsValid}
 
 -- the numbers of Ok and of Memory

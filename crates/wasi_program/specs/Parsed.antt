@@ -3,6 +3,7 @@ use Rattle.std.specs.Prelude.{◌≡◌, ℕ, ◌<◌, ◌^◌, ◌⊎◌, List,
 use Rattle.wasi_world.specs.declared.call.Entry.{Entry}
 use Rattle.wasi_world.specs.declared.outcome.WasiSocketsCtx.{WasiSocketsCtx}
 use Rattle.wasi_world.specs.declared.scripted.ScriptedWorld.{ScriptedWorld}
+use Rattle.wasi_world.specs.Scenario.{scenario_of, AreNumbered}
 use Rattle.wasi_world.specs.Scripted.{seen_by, at_start}
 use Rattle.wasi_world.specs.Seen.{Plan}
 use Rattle.wasi_world.specs.Io.{Reading, Writing}
@@ -10,8 +11,7 @@ use Rattle.wasi_program.specs.declared.program.Status.{Status}
 use Rattle.wasi_program.specs.declared.program.Status.TheVariants as status
 use Rattle.wasi_program.specs.declared.program.Scenario.{Scenario}
 use Rattle.wasi_program.specs.declared.program.Scenario.TheVariants.{Planned, BadLine}
-use Rattle.wasi_run.specs.Script.{AreNumbered}
-use Rattle.wasi_program.specs.Program.{scenario_of, NothingRan, RanText}
+use Rattle.wasi_program.specs.Program.{NothingRan, RanText}
 
 -- A world that goes by the scenario's plan, before its first call, and the scenario's contexts.
 pub record IsPlanned (text : List ℕ) (world : ScriptedWorld) (contexts : List WasiSocketsCtx) : Type 0 where

@@ -7,7 +7,7 @@ use Rattle.wasi_world.specs.Seen.{Plan, Seen, Rose}
 use Rattle.wasi_world.specs.Io.{Reading, Writing, Gave, HasEnded}
 use Rattle.wasi_world.specs.Fields.{number_in}
 use Rattle.wasi_world.specs.Script.{IsScripted}
-use Rattle.wasi_world.specs.Scenario.{plan_of, free_context}
+use Rattle.wasi_world.specs.Scenario.{scenario_of}
 use Rattle.wasi_world.specs.Scripted.{at_start}
 use Rattle.wasi_run.specs.declared.run.RunEnd.{RunEnd}
 use Rattle.wasi_run.specs.declared.error.RunError.{RunError}
@@ -95,14 +95,6 @@ most_scenario = 1048576
 pub record ReadScenario (before after : Reading) (text : List ℕ) : Type 0 where
   pub gave : Gave before text after
   pub whole : (HasEnded after × (length text ≤ most_scenario)) ⊎ (length text ≡ most_scenario + 1)
-
--- what a scenario plans, and its contexts, or the first line that isn't in its grammar
-abbrev pub with_contexts : Result Plan ℕ → Result (Plan × List WasiSocketsCtx) ℕ
-with_contexts (Ok plan) = Ok (plan, free_context ∷ [])
-with_contexts (Err line) = Err line
-
-abbrev pub scenario_of : List ℕ → Result (Plan × List WasiSocketsCtx) ℕ
-scenario_of text = with_contexts (plan_of text)
 
 -- No run began: nothing was read from the source or written to the sink, and there is no log.
 pub record NothingRan (s_old s_new : Reading) (k_old k_new : Writing) (log : List Entry) : Type 0 where

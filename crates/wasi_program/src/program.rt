@@ -2,12 +2,12 @@
 
 ghost use Rattle.std.specs.Prelude.{◌≡◌, ◌↔◌, ◌⊎◌, ◌+◌, ◌≤◌, ◌<◌, ◌^◌, ℕ, None, Some, IfOk, IfErr, IfNone, IfSome, map, string_bytes, length, [], false, List};
 ghost use Rattle.wasi_world.specs.Io.{Gave};
+ghost use Rattle.wasi_world.specs.Scenario.{AreNumbered};
 ghost use Rattle.wasi_world.specs.Scripted.{seen_by};
 ghost use Rattle.wasi_world.specs.Seen.{Rose};
 ghost use Rattle.wasi_program.specs.Program.{run_in, pump_in, limited_in, generate_in, command_in, number_of, status_of, pump_status, bad_line_of, ReadScenario, RanText, RanMain, RunEnds, GeneratedEnds, IsPump};
 ghost use Rattle.wasi_program.specs.Completeness.{ProgramCompletes};
 ghost use Rattle.wasi_program.specs.Parsed.{IsPlanned, IsParsed, TextEnds};
-ghost use Rattle.wasi_run.specs.Script.{AreNumbered};
 
 use std::alloc::{AllocError, Global};
 use std::sync::Wait;

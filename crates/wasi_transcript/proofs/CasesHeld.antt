@@ -1,22 +1,17 @@
 -- The cases of a file, one after another: those that hold, and the first that doesn't.
-use Rattle.std.proofs.Common.{arith, ◌≡◌, ◌∙◌, ap, sym, refl, subst, ℕ, ◌+◌, min, List, [], ◌∷◌, ◌++◌, length-append, Option, Some, Result, Ok, Err}
+use Rattle.std.proofs.Common.{arith, ◌≡◌, ◌∙◌, ap, sym, refl, subst, ℕ, ◌+◌, min, List, [], ◌∷◌, ◌++◌, length-append, Option, Some, Result}
 use Rattle.std.specs.List.{AllByRecursion}
-use Rattle.std.proofs.lemmas.Bool.{false≢true}
-use Rattle.std.specs.Option.{unwrap_or}
-use Rattle.std.specs.Result.{result_ok, is_ok}
 use Rattle.wasi_world.specs.Lines.{lines_of}
 use Rattle.wasi_world.specs.Io.{Reading, Writing}
-use Rattle.wasi_world.specs.Scenario.{plan_of, free_context}
 use Rattle.wasi_world.specs.Script.{GoesByPlan}
 use Rattle.wasi_world.specs.Scripted.{seen_by}
-use Rattle.wasi_world.specs.Seen.{Plan, Seen}
+use Rattle.wasi_world.specs.Seen.{Seen}
 use Rattle.wasi_world.specs.declared.outcome.WasiSocketsCtx.{WasiSocketsCtx}
 use Rattle.wasi_world.specs.declared.scripted.ScriptedWorld.{ScriptedWorld}
 use Rattle.wasi_run.specs.declared.run.RunEnd.{RunEnd}
 use Rattle.wasi_run.specs.declared.error.RunError.{RunError}
 use Rattle.wasi_program.specs.declared.program.Scenario.{Scenario}
 use Rattle.wasi_program.specs.Parsed.{IsPlanned, IsParsed}
-use Rattle.wasi_program.specs.Program.{with_contexts}
 use Rattle.wasi_transcript.specs.Shown.{IsShown}
 use Rattle.wasi_transcript.specs.declared.cases.Case.{Case}
 use Rattle.wasi_transcript.specs.declared.check.Checked.{Checked}
@@ -45,21 +40,6 @@ as_wanted : (scenario script wanted : List ℕ) (came : Came) → CameOf scenari
 as_wanted scenario script wanted (Shown text) h k = let P : List ℕ → Type 0 = λ t. Transcribes scenario script t in subst P k h
 as_wanted scenario script wanted (BadScenario line) h k = absurd k
 
--- what a scenario plans, beside its contexts
-record PlannedBy (o : Result Plan ℕ) (plan : Plan) (contexts : List WasiSocketsCtx) : Type 0 where
-  pub plan_is : o ≡ Ok plan
-  pub contexts_are : contexts ≡ free_context ∷ []
-
-ok_is : {A E : Type 0} (x y : A) → ◌≡◌ {A = Result A E} (Ok x) (Ok y) → x ≡ y
-ok_is x y e = ap (λ r. unwrap_or (result_ok r) x) e
-
-err_is_not_ok : {A E : Type 0} (d : E) (x : A) → ◌≡◌ {A = Result A E} (Err d) (Ok x) → ⊥
-err_is_not_ok d x e = false≢true (ap is_ok e)
-
-planned_by : (o : Result Plan ℕ) (plan : Plan) (contexts : List WasiSocketsCtx) → with_contexts o ≡ Ok (plan, contexts) → PlannedBy o plan contexts
-planned_by (Ok p) plan contexts e = let q = ok_is (p, free_context ∷ []) (plan, contexts) e in record { plan_is = ap (λ x. Ok x.0) q; contexts_are = sym (ap (λ x. x.1) q) }
-planned_by (Err n) plan contexts e = absurd (err_is_not_ok n (plan, contexts) e)
-
 pub as_planned : (text : List ℕ) {o s : Scenario} → o ≡ s → IsParsed text o → IsParsed text s
 as_planned text e h = let P : Scenario → Type 0 = λ s. IsParsed text s in subst P e h
 
@@ -68,19 +48,19 @@ as_read old new e h = let P : Option Case → Type 0 = λ s. ReadsCase old new s
 
 -- the transcript that was written into memory
 pub transcribed : {scenario script text : List ℕ} {world : ScriptedWorld} {contexts : List WasiSocketsCtx} {s_old s_new : Reading} {k_old k_new : Writing} {seen : Seen} {result : Result RunEnd RunError} → IsPlanned scenario world contexts → IsWhole result → s_old ≡ unread script → k_old ≡ unwritten → k_new.written ≡ Some text → GoesByPlan seen → IsShown contexts 4294967295 s_old s_new k_old k_new (seen_by world) seen result → Transcribes scenario script text
-transcribed {scenario = scenario} {contexts = contexts} {s_new = s_new} {k_new = k_new} {seen = seen} {result = result} p whole s k t goes h =
-    let by = planned_by (plan_of scenario) p.plan contexts p.scenario in record {
-      plan = p.plan;
-      planned = by.plan_is;
-      result = result;
-      whole = whole;
-      read = s_new;
-      wrote = k_new;
-      text_is = t;
-      seen = seen;
-      scripted = goes;
-      shown = rw (by.contexts_are, s, k, p.world_is) at h;
-    }
+transcribed {scenario = scenario} {contexts = contexts} {s_new = s_new} {k_new = k_new} {seen = seen} {result = result} p whole s k t goes h = record {
+  plan = p.plan;
+  contexts = contexts;
+  planned = p.scenario;
+  result = result;
+  whole = whole;
+  read = s_new;
+  wrote = k_new;
+  text_is = t;
+  seen = seen;
+  scripted = goes;
+  shown = rw (s, k, p.world_is) at h;
+}
 
 -- So many cases were read and hold.
 pub record Checking (text left : List ℕ) (count : ℕ) : Type 0 where

@@ -1,9 +1,10 @@
 -- Which cases hold.
 use Rattle.std.specs.Prelude.{◌≡◌, ◌≢◌, ℕ, false, List, [], ◌∷◌, min, length, Some, None, Result, Ok, Err}
 use Rattle.std.specs.List.{AllByRecursion}
+use Rattle.wasi_world.specs.declared.outcome.WasiSocketsCtx.{WasiSocketsCtx}
 use Rattle.wasi_world.specs.Io.{Reading, Writing}
 use Rattle.wasi_world.specs.Lines.{lines_of, rest_of}
-use Rattle.wasi_world.specs.Scenario.{plan_of, free_context}
+use Rattle.wasi_world.specs.Scenario.{scenario_of}
 use Rattle.wasi_world.specs.Script.{GoesByPlan}
 use Rattle.wasi_world.specs.Scripted.{at_start}
 use Rattle.wasi_world.specs.Seen.{Plan, Seen}
@@ -33,10 +34,11 @@ IsWhole (Err Memory) = ⊥
 IsWhole (Err WriteFault) = ⊥
 IsWhole _ = Unit {0}
 
--- The text is the whole transcript of the script over the network that the scenario plans.
+-- The text is the whole transcript of the script over the network that the scenario plans, in its contexts.
 pub record Transcribes (scenario script text : List ℕ) : Type 0 where
   pub plan : Plan
-  pub planned : plan_of scenario ≡ Ok plan
+  pub contexts : List WasiSocketsCtx
+  pub planned : scenario_of scenario ≡ Ok (plan, contexts)
   pub result : Result RunEnd RunError
   pub whole : IsWhole result
   pub read : Reading
@@ -44,12 +46,12 @@ pub record Transcribes (scenario script text : List ℕ) : Type 0 where
   pub text_is : wrote.written ≡ Some text
   pub seen : Seen
   pub scripted : GoesByPlan seen
-  pub shown : IsShown (free_context ∷ []) 4294967295 (unread script) read unwritten wrote (at_start plan) seen result
+  pub shown : IsShown contexts 4294967295 (unread script) read unwritten wrote (at_start plan) seen result
 
 -- what came of a scenario and a script
 abbrev pub CameOf : List ℕ → List ℕ → Came → Type 0
 CameOf scenario script (Shown text) = Transcribes scenario script text.items
-CameOf scenario script (BadScenario line) = plan_of scenario ≡ Err line
+CameOf scenario script (BadScenario line) = scenario_of scenario ≡ Err line
 
 -- the transcript that came is the one that was wanted
 abbrev pub CameAs : List ℕ → Came → Type 0

@@ -2,6 +2,7 @@
 use Rattle.std.specs.Prelude.{◌≡◌, ◌≢◌, ◌⊎◌, ℕ, if◌then◌else◌, bytes_eq, codes, List, [], ◌∷◌, map, string_bytes, Option, Some, None, Result, Ok, Err}
 use Rattle.wasi_world.specs.Fields.{number_in}
 use Rattle.wasi_world.specs.Io.{Reading, Writing}
+use Rattle.wasi_world.specs.Scenario.{scenario_of}
 use Rattle.wasi_world.specs.Scripted.{at_start}
 use Rattle.wasi_world.specs.Seen.{Plan, Seen, Rose}
 use Rattle.wasi_world.specs.declared.outcome.WasiSocketsCtx.{WasiSocketsCtx}
@@ -10,7 +11,7 @@ use Rattle.wasi_program.specs.declared.program.Status.TheVariants as status
 use Rattle.wasi_run.specs.declared.run.RunEnd.{RunEnd}
 use Rattle.wasi_run.specs.declared.error.RunError.{RunError}
 use Rattle.wasi_program.specs.Program as run
-use Rattle.wasi_program.specs.Program.{ReadScenario, scenario_of, status_of, bad_line_of}
+use Rattle.wasi_program.specs.Program.{ReadScenario, status_of, bad_line_of}
 use Rattle.wasi_transcript.specs.declared.check.Checked.TheVariants.{Holds, Fails, NotCases}
 use Rattle.wasi_transcript.specs.declared.check.Failed.{Failed}
 use Rattle.wasi_transcript.specs.declared.program.End.{End}

@@ -37,8 +37,8 @@ fn copy_of(alloc: Global, bytes: &[u8]) -> Result<Vec<u8>, AllocError>
     Ok(copy)
 }
 
-/// Runs a script over the network that a scenario plans, and gives its transcript. The script may have 4,294,967,295
-/// bytes. Takes memory for the script and its transcript, besides what the run takes.
+/// Runs a script in a scenario's contexts over the network that it plans, and gives its transcript. The script may have
+/// 4,294,967,295 bytes. Takes memory for the script and its transcript, besides what the run takes.
 pub fn run_case(alloc: Global, scenario: &[u8], script: &[u8]) -> Result<Came, AllocError>
     ensures { IfOk result (λ came. CameOf scenario.now script.now came) }
 {

@@ -19,6 +19,8 @@ pub mod Words
 pub mod Polls
 pub mod Pieces
 pub mod UpTo
+pub mod ContextLines
+pub mod ContextChecks
 pub mod ScenarioLines
 pub mod LinesOf
 pub mod EntryTexts

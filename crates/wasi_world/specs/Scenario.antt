@@ -1,5 +1,6 @@
--- What a scenario plans: a line for each answer, with the word of its kind and the fields of the answer.
-use Rattle.std.specs.Prelude.{ℕ, zero, suc, ◌+◌, ◌==◌, ◌&&◌, nat_le, Bool, true, if◌then◌else◌, List, [], ◌∷◌, ◌++◌, length, take, codes, Option, Some, None, option_map, Result, Ok, Err}
+-- What a scenario plans, and its contexts: a line for each answer, with the word of its kind and the fields of the answer, and
+-- a line for each context.
+use Rattle.std.specs.Prelude.{◌≡◌, ℕ, zero, suc, ◌+◌, ◌==◌, ◌&&◌, nat_le, Bool, true, false, if◌then◌else◌, List, [], ◌∷◌, ◌++◌, length, take, codes, Option, Some, None, option_map, IfSome, slice_get, Result, Ok, Err}
 use Rattle.wasi_addr.specs.declared.address.IpAddress.{IpAddress}
 use Rattle.wasi_world.specs.declared.outcome.WasiSocketsCtx.{WasiSocketsCtx}
 use Rattle.wasi_world.specs.declared.scenario.ScenarioError.{ScenarioError}
@@ -125,43 +126,103 @@ planned_at = do
 unfoldable pub planned_in : List ℕ → Option (Kind × Planned)
 planned_in line = whole (planned_at (fields_of line))
 
--- the plan with what a line plans
-abbrev pub with_line : Plan → List ℕ → Option Plan
-with_line plan line = option_map (λ planned. with_answer plan planned.0 planned.1) (planned_in line)
+abbrev pub yes_or_no : List (Row Bool)
+yes_or_no = row (codes "yes") (give true) ∷ row (codes "no") (give false) ∷ []
 
--- the plan with these lines, the first of which has this number; or the number of the first that isn't in the grammar
-abbrev pub next_lines : ℕ → Option Plan → (Plan → Result Plan ℕ) → Result Plan ℕ
+unfoldable pub yes_or_no_at : Reader Bool
+yes_or_no_at = do
+  word ← word_at
+  after_word yes_or_no word
+
+-- a context with this number: whether TCP, UDP and name lookup are allowed
+unfoldable pub allowed_at : ℕ → Reader WasiSocketsCtx
+allowed_at number = do
+  tcp ← yes_or_no_at
+  udp ← yes_or_no_at
+  lookup ← yes_or_no_at
+  give (record { name = number; ip_name_lookup = lookup; udp = udp; tcp = tcp })
+
+-- the word of a context's line, and what follows it
+abbrev pub context_word : ℕ → List (Row WasiSocketsCtx)
+context_word number = row (codes "context") (allowed_at number) ∷ []
+
+unfoldable pub context_at : ℕ → Reader WasiSocketsCtx
+context_at number = do
+  word ← word_at
+  after_word (context_word number) word
+
+-- the context that a line gives, with this number
+unfoldable pub context_in : ℕ → List ℕ → Option WasiSocketsCtx
+context_in number line = whole (context_at number (fields_of line))
+
+-- What lines give: the plan, and the contexts.
+pub record Setup : Type 0 where
+  pub plan : Plan
+  pub contexts : List WasiSocketsCtx
+
+abbrev pub setup : Plan → List WasiSocketsCtx → Setup
+setup plan contexts = record { plan = plan; contexts = contexts }
+
+-- what no line gives
+abbrev pub no_setup : Setup
+no_setup = setup no_answers []
+
+-- what lines give with one that gives this context, or else this answer
+abbrev pub with_given : Setup → Option WasiSocketsCtx → Option (Kind × Planned) → Option Setup
+with_given old (Some context) planned = Some (setup old.plan (old.contexts ++ context ∷ []))
+with_given old None planned = option_map (λ planned. setup (with_answer old.plan planned.0 planned.1) old.contexts) planned
+
+-- what lines give with one more; a context's number is how many there were before
+abbrev pub with_line : Setup → List ℕ → Option Setup
+with_line old line = with_given old (context_in (length old.contexts) line) (planned_in line)
+
+-- what lines give with these more, the first of which has this number; or the number of the first that isn't in the grammar
+abbrev pub next_lines : ℕ → Option Setup → (Setup → Result Setup ℕ) → Result Setup ℕ
 next_lines number None more = Err number
-next_lines number (Some plan) more = more plan
+next_lines number (Some next) more = more next
 
-abbrev pub with_lines : ℕ → Plan → List (List ℕ) → Result Plan ℕ
-with_lines number plan [] = Ok plan
-with_lines number plan (line ∷ lines) = next_lines number (with_line plan line) (λ next. with_lines (number + 1) next lines)
+abbrev pub with_lines : ℕ → Setup → List (List ℕ) → Result Setup ℕ
+with_lines number old [] = Ok old
+with_lines number old (line ∷ lines) = next_lines number (with_line old line) (λ next. with_lines (number + 1) next lines)
 
 -- nothing follows the last newline of a text, and it has at most so many bytes
 abbrev pub is_whole : ℕ → List ℕ → Bool
 is_whole most text = (length (rest_of (take most text)) == 0) && nat_le (length text) most
 
--- a plan of so many lines, if they are the whole text; else the number of the line after them
-abbrev pub if_whole : Bool → ℕ → Result Plan ℕ → Result Plan ℕ
+-- what so many lines give, if they are the whole text; else the number of the line after them
+abbrev pub if_whole : Bool → ℕ → Result Setup ℕ → Result Setup ℕ
 if_whole whole lines (Err number) = Err number
-if_whole whole lines (Ok plan) = if whole then Ok plan else Err (lines + 1)
+if_whole whole lines (Ok given) = if whole then Ok given else Err (lines + 1)
 
--- the plan that a text of at most so many bytes spells, or the number of the first line that isn't in the grammar
-unfoldable pub plan_within : ℕ → List ℕ → Result Plan ℕ
-plan_within most text =
+-- what the lines of a text of at most so many bytes give, or the number of the first that isn't in the grammar
+unfoldable pub setup_within : ℕ → List ℕ → Result Setup ℕ
+setup_within most text =
     let lines = lines_of (take most text) in
-    if_whole (is_whole most text) (length lines) (with_lines 1 no_answers lines)
+    if_whole (is_whole most text) (length lines) (with_lines 1 no_setup lines)
 
--- a scenario has at most 1,048,576 bytes
-abbrev pub plan_of : List ℕ → Result Plan ℕ
-plan_of text = plan_within 1048576 text
+-- the context of a scenario with no context line: it allows all three
+abbrev pub free_context : WasiSocketsCtx
+free_context = record { name = 0; ip_name_lookup = true; udp = true; tcp = true }
+
+-- the contexts of a scenario whose lines give these
+abbrev pub or_free : List WasiSocketsCtx → List WasiSocketsCtx
+or_free [] = free_context ∷ []
+or_free (context ∷ contexts) = context ∷ contexts
+
+abbrev pub planned_with : Result Setup ℕ → Result (Plan × List WasiSocketsCtx) ℕ
+planned_with (Ok given) = Ok (given.plan, or_free given.contexts)
+planned_with (Err number) = Err number
+
+-- What a scenario plans and its contexts, or the number of its first line that isn't in the grammar. It has at most 1,048,576
+-- bytes.
+abbrev pub scenario_of : List ℕ → Result (Plan × List WasiSocketsCtx) ℕ
+scenario_of text = planned_with (setup_within 1048576 text)
+
+-- each context's name is its place
+abbrev pub AreNumbered : List WasiSocketsCtx → Type 0
+AreNumbered contexts = (i : ℕ) → IfSome (slice_get contexts i) (λ ctx. ctx.name ≡ i)
 
 -- the line that an error names
 abbrev pub bad_line : ScenarioError → Option ℕ
 bad_line (BadScenario number) = Some number
 bad_line (Memory e) = None
-
--- the context that a scenario has: it allows all three
-abbrev pub free_context : WasiSocketsCtx
-free_context = record { name = 0; ip_name_lookup = true; udp = true; tcp = true }

@@ -6,6 +6,7 @@
 
 pub mod asks;
 pub mod call;
+pub mod datagram;
 pub mod fields;
 pub mod ids;
 pub mod io;
@@ -23,6 +24,7 @@ pub mod text;
 pub mod world;
 
 pub use call::{Call, Entry, HandleKind, Opt, Told};
+pub use datagram::{IncomingDatagram, IncomingDatagrams, OutgoingDatagram, OutgoingDatagrams};
 pub use fields::Fields;
 pub use ids::{Handle, Ids, OpId, Sock};
 pub use io::{Failed, Sink, Source};

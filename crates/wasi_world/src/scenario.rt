@@ -1,9 +1,10 @@
-//! Reads a scenario: a line for each planned answer.
+//! Reads a scenario: a line for each planned answer, and a line `context T U K` for each context, where T, U and K are
+//! `yes` or `no`: whether TCP, UDP and name lookup are allowed.
 
-ghost use Rattle.std.specs.Prelude.{◌≡◌, ◌==◌, ◌≤◌, ◌<◌, ◌+◌, ◌^◌, ℕ, IfOk, OnOk, [], ◌∷◌, Some, None, true, IfErr, IfSome, Ok, Err, length, take, drop, position};
+ghost use Rattle.std.specs.Prelude.{◌≡◌, ◌==◌, ◌≤◌, ◌<◌, ◌+◌, ◌^◌, ℕ, IfOk, OnOk, [], ◌∷◌, ◌++◌, Some, None, true, IfErr, IfSome, Ok, Err, length, take, drop, position};
 ghost use Rattle.wasi_world.specs.Fields.{Reads, after_word};
 ghost use Rattle.wasi_world.specs.Kinds.{takes};
-ghost use Rattle.wasi_world.specs.Scenario.{kind_text, kind_in, kind_at, names_at, short_answers, answer_at, planned_in, with_line, plan_within, plan_of, bad_line, free_context};
+ghost use Rattle.wasi_world.specs.Scenario.{kind_text, kind_in, kind_at, names_at, short_answers, answer_at, planned_in, yes_or_no_at, allowed_at, context_in, setup, with_line, setup_within, or_free, scenario_of, bad_line, AreNumbered};
 
 use crate::fields::Fields;
 use crate::lists::Lists;
@@ -202,21 +203,95 @@ fn planned(alloc: Global, line: &[u8]) -> Result<Option<(Kind, Planned)>, AllocE
     }
 }
 
-/// Plans what a line says. The line has this number.
-fn plan_line(
+/// Takes `yes` or `no`.
+#[tactic(auto, unfolding(crate::specs::Scenario::yes_or_no_at, crate::specs::Fields::read_then, crate::specs::Fields::give))]
+fn yes_or_no(fields: &mut Fields<'_>) -> Option<bool>
+    ensures { Reads yes_or_no_at fields.old result fields.new }
+{
+    match fields.word()? {
+        "yes" => Some(true),
+        "no" => Some(false),
+        _ => None,
+    }
+}
+
+/// Takes a context with this number: whether TCP, UDP and name lookup are allowed.
+#[tactic(auto, unfolding(crate::specs::Scenario::allowed_at, crate::specs::Fields::read_then, crate::specs::Fields::give))]
+fn allowed(fields: &mut Fields<'_>, number: u32) -> Option<WasiSocketsCtx>
+    ensures read { Reads (allowed_at number) fields.old result fields.new }
+    ensures named { IfSome result (λ context. context.name ≡ number) }
+{
+    let tcp = yes_or_no(fields)?;
+    let udp = yes_or_no(fields)?;
+    let ip_name_lookup = yes_or_no(fields)?;
+    Some(WasiSocketsCtx {
+        name: number,
+        ip_name_lookup,
+        udp,
+        tcp,
+    })
+}
+
+/// The context that a line gives, with this number; none exactly where it isn't a context's line.
+#[tactic(auto, unfolding(crate::specs::Scenario::context_in, crate::specs::Scenario::context_at, crate::specs::Fields::read_then))]
+fn context(line: &[u8], number: u32) -> Option<WasiSocketsCtx>
+    ensures context { result ≡ context_in number line.now }
+    ensures named { IfSome result (λ context. context.name ≡ number) }
+{
+    let mut fields = Fields::of(line);
+    match fields.word()? {
+        "context" => {
+            let context = allowed(&mut fields, number)?;
+            if fields.is_done() {
+                Some(context)
+            } else {
+                None
+            }
+        }
+        _ => None,
+    }
+}
+
+/// What lines give: planned answers, and contexts.
+#[derive(Drop)]
+struct Setup {
+    lists: Lists,
+    contexts: Vec<WasiSocketsCtx>,
+}
+
+/// Adds the last context.
+fn add_context(
+    contexts: &mut Vec<WasiSocketsCtx>,
+    context: WasiSocketsCtx,
+) -> Result<(), AllocError>
+    ensures ok { OnOk result (contexts.new.items ≡ contexts.old.items ++ context ∷ []) }
+{
+    contexts.push(context)?;
+    Ok(())
+}
+
+/// Takes in what a line gives, a context or an answer. The line has this number.
+fn take_line(
     alloc: Global,
-    lists: &mut Lists,
+    given: &mut Setup,
     number: u32,
     line: &[u8],
 ) -> Result<(), ScenarioError>
-    ensures ok { OnOk result (with_line lists.old.all line.now ≡ Some lists.new.all) }
-    ensures fresh { lists.old.left ≡ lists.old.all → lists.new.left ≡ lists.new.all }
-    ensures bad { IfErr result (λ e. IfSome (bad_line e) (λ n. (n ≡ number) × (with_line lists.old.all line.now ≡ None))) }
+    requires few { length given.old.contexts.items < 2 ^ 32 }
+    ensures ok { OnOk result (with_line (setup given.old.lists.all given.old.contexts.items) line.now ≡ Some (setup given.new.lists.all given.new.contexts.items)) }
+    ensures fresh { given.old.lists.left ≡ given.old.lists.all → given.new.lists.left ≡ given.new.lists.all }
+    ensures numbered { OnOk result (AreNumbered given.old.contexts.items → AreNumbered given.new.contexts.items) }
+    ensures few { OnOk result (length given.new.contexts.items ≤ length given.old.contexts.items + 1) }
+    ensures bad { IfErr result (λ e. IfSome (bad_line e) (λ n. (n ≡ number) × (with_line (setup given.old.lists.all given.old.contexts.items) line.now ≡ None))) }
 {
+    if let Some(context) = context(line, given.contexts.len() as u32) {
+        add_context(&mut given.contexts, context)?;
+        return Ok(());
+    }
     let Some((kind, answer)) = planned(alloc, line)? else {
         return Err(ScenarioError::BadScenario(number));
     };
-    lists.push(kind, answer)?;
+    given.lists.push(kind, answer)?;
     Ok(())
 }
 
@@ -235,57 +310,68 @@ fn first_bytes(bytes: &[u8], limit: usize) -> &[u8]
     &bytes[..bytes.len().min(limit)]
 }
 
-/// The answers that a text of at most so many bytes plans.
-fn read_lists(alloc: Global, bytes: &[u8], most: usize) -> Result<Lists, ScenarioError>
+/// What the lines of a text of at most so many bytes give.
+fn read_lines(alloc: Global, bytes: &[u8], most: usize) -> Result<Setup, ScenarioError>
     requires { most + 1 < 2 ^ 32 }
-    ensures ok { IfOk result (λ lists. plan_within most bytes.now ≡ Ok lists.all) }
-    ensures fresh { IfOk result (λ lists. lists.left ≡ lists.all) }
-    ensures bad { IfErr result (λ e. IfSome (bad_line e) (λ n. plan_within most bytes.now ≡ Err n)) }
+    ensures ok { IfOk result (λ given. setup_within most bytes.now ≡ Ok (setup given.lists.all given.contexts.items)) }
+    ensures fresh { IfOk result (λ given. given.lists.left ≡ given.lists.all) }
+    ensures numbered { IfOk result (λ given. AreNumbered given.contexts.items) }
+    ensures few { IfOk result (λ given. length given.contexts.items < 2 ^ 32) }
+    ensures bad { IfErr result (λ e. IfSome (bad_line e) (λ n. setup_within most bytes.now ≡ Err n)) }
 {
     let text = first_bytes(bytes, most);
-    let mut lists = Lists::new(alloc)?;
+    let mut given = Setup {
+        lists: Lists::new(alloc)?,
+        contexts: Vec::new(alloc),
+    };
     let mut number = 1;
     let mut at = 0;
     while let Some(end) = newline_at(&text[at..]) {
-        plan_line(alloc, &mut lists, number, &text[at..at + end])?;
+        take_line(alloc, &mut given, number, &text[at..at + end])?;
         number += 1;
         at += end + 1;
     }
     if at < bytes.len() {
         return Err(ScenarioError::BadScenario(number));
     }
-    Ok(lists)
+    Ok(given)
 }
 
-/// The contexts of a scenario: one, numbered 0, that allows all three.
-fn contexts(alloc: Global) -> Result<Vec<WasiSocketsCtx>, AllocError>
-    ensures { IfOk result (λ contexts. contexts.items ≡ free_context ∷ []) }
+/// These contexts; where there are none, one, numbered 0, that allows all three.
+fn or_free(mut contexts: Vec<WasiSocketsCtx>) -> Result<Vec<WasiSocketsCtx>, AllocError>
+    requires few { length contexts.items < 2 ^ 32 }
+    requires numbered { AreNumbered contexts.items }
+    ensures contexts { IfOk result (λ all. all.items ≡ or_free contexts.items) }
+    ensures numbered { IfOk result (λ all. AreNumbered all.items) }
+    ensures few { IfOk result (λ all. length all.items < 2 ^ 32) }
 {
-    let mut contexts = Vec::new(alloc);
-    contexts.push(WasiSocketsCtx {
-        name: 0,
-        ip_name_lookup: true,
-        udp: true,
-        tcp: true,
-    })?;
+    if contexts.is_empty() {
+        contexts.push(WasiSocketsCtx {
+            name: 0,
+            ip_name_lookup: true,
+            udp: true,
+            tcp: true,
+        })?;
+    }
     Ok(contexts)
 }
 
 impl ScriptedWorld {
     ghost use Rattle.wasi_world.specs.Scripted.{seen_by, started};
 
-    /// The world that a scenario plans, and its contexts: one, numbered 0, that allows all three. Takes memory for the
-    /// answers.
+    /// The world that a scenario plans, and its contexts, numbered from 0 in the order of their lines; with no such line
+    /// one, numbered 0, that allows all three. Takes memory for the answers and the contexts.
     pub fn parse(
         alloc: Global,
         bytes: &[u8],
     ) -> Result<(ScriptedWorld, Vec<WasiSocketsCtx>), ScenarioError>
-        ensures world { IfOk result (λ parsed. started (plan_of bytes.now) ≡ Ok (seen_by parsed.0)) }
-        ensures contexts { IfOk result (λ parsed. parsed.1.items ≡ free_context ∷ []) }
-        ensures bad { IfErr result (λ e. IfSome (bad_line e) (λ n. plan_of bytes.now ≡ Err n)) }
+        ensures scenario { IfOk result (λ parsed. started (scenario_of bytes.now) ≡ Ok (seen_by parsed.0, parsed.1.items)) }
+        ensures numbered { IfOk result (λ parsed. AreNumbered parsed.1.items) }
+        ensures few { IfOk result (λ parsed. length parsed.1.items < 2 ^ 32) }
+        ensures bad { IfErr result (λ e. IfSome (bad_line e) (λ n. scenario_of bytes.now ≡ Err n)) }
     {
-        let lists = read_lists(alloc, bytes, MOST_BYTES)?;
-        let contexts = contexts(alloc)?;
+        let Setup { lists, contexts } = read_lines(alloc, bytes, MOST_BYTES)?;
+        let contexts = or_free(contexts)?;
         Ok((ScriptedWorld::new(alloc, lists), contexts))
     }
 }
