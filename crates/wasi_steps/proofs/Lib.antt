@@ -1,4 +1,8 @@
 pub mod StepWords
+pub mod LineEnds
+pub mod UpTo
+pub mod DatagramLaws
+pub mod Received
 pub mod SettingLaws
 pub mod StepLaws
 pub mod ReplyTexts

@@ -1,11 +1,12 @@
 -- Each reply that a step may give is read back from its text, so no two of them have one text.
-use Rattle.std.proofs.Common.{◌≡◌, ℕ, suc, ◌==◌, if◌then◌else◌, List, [], ◌∷◌, map, length, codes, decimal, Option, Some, None, IsTrue, append-nil, ap, sym, ◌∙◌, refl, arith, subst, inl, inr}
+use Rattle.std.proofs.Common.{◌≡◌, ℕ, zero, suc, ◌==◌, if◌then◌else◌, List, [], ◌∷◌, ◌++◌, map, flat_map, length, codes, decimal, Option, Some, None, IsTrue, append-nil, ap, sym, ◌∙◌, refl, arith, subst, inl, inr}
 use Rattle.std.specs.List.{list_all, AllByRecursion}
-use Rattle.std.proofs.lemmas.List.{append_cancel_right}
+use Rattle.std.proofs.lemmas.List.{append_cancel_right, map-append}
+use Rattle.wasi_world.specs.declared.datagram.IncomingDatagram.{IncomingDatagram}
 use Rattle.wasi_world.specs.declared.outcome.TrapKind.{TrapKind}
 use Rattle.wasi_world.specs.declared.outcome.TrapKind.TheVariants as trap
 use Rattle.wasi_world.specs.Fields.{Reader, ◌>>=◌, Row, row, read_then, give, give_some, after_word, named, field_at, word_at, number_at, bytes_at, address_at, line_with, fields_of}
-use Rattle.wasi_world.specs.Written.{AreVisible, is_visible, address_numbers}
+use Rattle.wasi_world.specs.Written.{AreVisible, is_visible, address_numbers, address_fields, bytes_fields}
 use Rattle.wasi_world.proofs.Exactly.{All, all_give, all_some, all_then, all_both, all_end, all_last, same_found, field_exactly, number_exactly}
 use Rattle.wasi_world.proofs.ReadBack.{named_passes, u32_exactly, word_exactly, bytes_exactly, address_exactly}
 use Rattle.wasi_world.proofs.Visible.{visible_utf8, number_visible, bytes_visible, address_visible, fields_of_line}
@@ -17,8 +18,9 @@ use Rattle.wasi_steps.specs.declared.reply.Reply.{Reply}
 use Rattle.wasi_steps.specs.declared.reply.Reply.TheVariants as reply
 use Rattle.wasi_steps.specs.declared.step.Step.{Step}
 use Rattle.wasi_steps.specs.declared.step.Step.TheVariants as step
-use Rattle.wasi_steps.specs.Reply.{address_values}
-use Rattle.wasi_steps.specs.Replies.{code_text, trap_text, field_text, fields_of_reply, text_of, FieldKind, ANumber, SomeBytes, Truth, FieldKinds, Each, AnAddress, OneOf, kinds_of, IsOfKind, EachOfKind, AsOneSays, AreOfKinds, Gives}
+use Rattle.wasi_steps.specs.Reply.{address_values, received_values, datagram_values}
+use Rattle.wasi_steps.specs.Replies.{code_text, trap_text, field_text, fields_of_reply, text_of, FieldKind, ANumber, SomeBytes, Truth, FieldKinds, Each, AnAddress, ADatagramList, OneOf, kinds_of, IsOfKind, EachOfKind, AsOneSays, AreOfKinds, FitsReceived, Gives}
+use Rattle.wasi_steps.proofs.LineEnds.{both_visible}
 
 code_words : List CodeWord
 code_words =
@@ -58,6 +60,14 @@ each_of_kind : List FieldKind → Reader (List Field)
 each_of_kind [] = give []
 each_of_kind (kind ∷ kinds) = of_kind kind >>= λ f. each_of_kind kinds >>= λ fields. give (f ∷ fields)
 
+-- a datagram that was received, and so many of them
+received_at : Reader IncomingDatagram
+received_at = address_at >>= λ a. bytes_at >>= λ bytes. give (record { bytes = bytes; remote_address = a })
+
+times_at : ℕ → Reader (List IncomingDatagram)
+times_at zero = give []
+times_at (suc n) = received_at >>= λ d. times_at n >>= λ ds. give (d ∷ ds)
+
 -- the one of these lists that a reply of so many fields has, with its word
 of_length : ℕ → List (List FieldKind) → List FieldKind
 of_length n [] = []
@@ -67,6 +77,7 @@ of_length n (kinds ∷ lists) = if suc (length kinds) == n then kinds else of_le
 abbrev of_kinds : FieldKinds → ℕ → Reader (List Field)
 of_kinds (Each kinds) n = each_of_kind kinds
 of_kinds AnAddress n = address_at >>= λ a. give (address_values a)
+of_kinds ADatagramList n = number_at 18446744073709551615 >>= λ count. times_at count >>= λ ds. give (datagram_values ds)
 of_kinds (OneOf lists) n = each_of_kind (of_length n lists)
 
 rows : FieldKinds → ℕ → List (Row Reply)
@@ -112,6 +123,22 @@ number_texts : (ns : List ℕ) → map field_text (map field.Number ns) ≡ map 
 number_texts [] = refl
 number_texts (n ∷ ns) = ap (λ texts. decimal n ∷ texts) (number_texts ns)
 
+-- the texts of a datagram are those of its address, and then its bytes
+received_texts : (d : IncomingDatagram) → map field_text (received_values d) ≡ address_fields d.remote_address ++ bytes_fields d.bytes
+received_texts d =
+    map-append field_text (address_values d.remote_address) (field.Bytes d.bytes ∷ [])
+    ∙ ap (λ texts. texts ++ bytes_fields d.bytes) (number_texts (address_numbers d.remote_address))
+
+all_received : (d : IncomingDatagram) → FitsReceived d → All received_at d (map field_text (received_values d))
+unfolding received_at
+all_received d fits = rw (received_texts d) (all_then _ address_exactly fits.0 (all_last _ bytes_exactly fits.1 all_give))
+
+all_times : (ds : List IncomingDatagram) → AllByRecursion FitsReceived ds → All (times_at (length ds)) ds (map field_text (flat_map received_values ds))
+unfolding times_at
+all_times [] fits = all_give
+all_times (d ∷ ds) fits =
+    rw (map-append field_text (received_values d) (flat_map received_values ds)) (all_both _ (all_received d fits.0) (all_end _ (all_times ds fits.1) all_give))
+
 -- where the fields of a reply may be as one of some lists says, each is found by its length
 abbrev Among : List (List FieldKind) → List (List FieldKind) → Type 0
 Among all lists = AllByRecursion (λ kinds. of_length (suc (length kinds)) all ≡ kinds) lists
@@ -122,7 +149,7 @@ AreTold _ = Unit {0}
 
 are_told : (s : Step) → AreTold (kinds_of s)
 unfolding of_length
-are_told (step.Poll call) = (refl, (refl, tt))
+are_told (step.Poll call) = (refl, (refl, (refl, tt)))
 are_told _ = tt
 
 as_many : (kinds : List FieldKind) (fields : List Field) → EachOfKind kinds fields → length kinds ≡ length (map field_text fields)
@@ -140,6 +167,8 @@ all_of_kinds : (kinds : FieldKinds) (fields : List Field) → AreTold kinds → 
 all_of_kinds (Each kinds) fields told are = all_each kinds fields are
 all_of_kinds AnAddress fields told are =
     rw (are.numbers, number_texts (address_numbers are.address)) (all_last _ address_exactly are.fits all_give)
+all_of_kinds ADatagramList fields told are =
+    rw are.values (all_then _ (number_exactly 18446744073709551615 (omega arith)) (let count = are.count in omega arith) (all_end _ (all_times are.datagrams are.fits) all_give))
 all_of_kinds (OneOf lists) fields told are = all_each _ fields (one_says lists lists fields told are)
 
 code_all : (code : CodeWord) → All code_at code (code_text code ∷ [])
@@ -190,10 +219,19 @@ one_visible [] fields one = absurd one
 one_visible (kinds ∷ lists) fields (inl are) = each_visible kinds fields are
 one_visible (kinds ∷ lists) fields (inr more) = one_visible lists fields more
 
+received_visible : (ds : List IncomingDatagram) → AllByRecursion FitsReceived ds → AreVisible (map field_text (flat_map received_values ds))
+received_visible [] fits = tt
+received_visible (d ∷ ds) fits =
+    rw (map-append field_text (received_values d) (flat_map received_values ds), received_texts d)
+    (both_visible (address_fields d.remote_address ++ bytes_fields d.bytes) (map field_text (flat_map received_values ds))
+    (both_visible (address_fields d.remote_address) (bytes_fields d.bytes) (address_visible d.remote_address fits.0.0) (bytes_visible d.bytes fits.0.1))
+    (received_visible ds fits.1))
+
 fields_visible : (kinds : FieldKinds) (fields : List Field) → AreOfKinds kinds fields → AreVisible (map field_text fields)
 fields_visible (Each kinds) fields are = each_visible kinds fields are
 fields_visible AnAddress fields are =
     rw (are.numbers, number_texts (address_numbers are.address)) (address_visible are.address are.fits)
+fields_visible ADatagramList fields are = rw are.values (number_visible (length are.datagrams) are.count, received_visible are.datagrams are.fits)
 fields_visible (OneOf lists) fields are = one_visible lists fields are
 
 reply_visible : (s : Step) (r : Reply) → Gives s r → AreVisible (fields_of_reply r)

@@ -1,20 +1,22 @@
 -- Each step is read from exactly its line.
-use Rattle.std.proofs.Common.{◌≡◌, ℕ, ◌<◌, ◌≤◌, List, [], ◌∷◌, ◌++◌, slice_index, decimal, Option, Some, None, refl, arith, inl, inr, Bool, true, false, cond, nat_lt, IsTrue, append-nil, ap, sym, subst, ◌∙◌}
+use Rattle.std.proofs.Common.{◌≡◌, ℕ, ◌<◌, ◌≤◌, List, [], ◌∷◌, ◌&&◌, slice_index, decimal, Option, Some, None, refl, arith, inl, inr, Bool, true, false, cond, nat_lt, IsTrue, append-nil, ap, sym, subst, ◌∙◌}
 use Rattle.wasi_world.specs.Fields.{read_then, give_some, after_word, whole, fields_of, field_at, number_in, word_at, BeginsPlain}
 use Rattle.std.specs.Prelude.{IfSome}
 use Rattle.std.specs.List.{AllByRecursion, list_all}
-use Rattle.std.proofs.lemmas.Bool.{ltb-true, lt-ltb}
+use Rattle.std.proofs.lemmas.Bool.{ltb-true, lt-ltb, and_parts}
 use Rattle.wasi_world.specs.Written.{ReadsExactly, AreVisible, IsVisible, is_visible}
 use Rattle.wasi_world.proofs.Numbers.{number_in_is, number_in_decimal, begins_otherwise}
 use Rattle.wasi_world.proofs.ReadBack.{u32_exactly, family_exactly, address_exactly, bytes_exactly, word_exactly}
 use Rattle.wasi_world.proofs.Visible.{visible_utf8, visible_line, number_visible, family_visible, address_visible, bytes_visible, fields_of_line, line_of_fields}
-use Rattle.wasi_world.proofs.Exactly.{All, Only, exactly, all_give, only_give, only_some, all_then, only_then, all_last}
+use Rattle.wasi_world.proofs.Exactly.{All, Only, exactly, all_give, only_give, only_some, only_then, all_last}
 use Rattle.wasi_world.proofs.Words.{only_word}
 use Rattle.wasi_addr.specs.declared.address.ShutdownType.{ShutdownType}
 use Rattle.wasi_addr.specs.declared.address.ShutdownType.TheVariants.{Receive, Send, Both}
 use Rattle.wasi_steps.specs.declared.step.Step.{Step}
 use Rattle.wasi_steps.specs.declared.step.Step.TheVariants as step
-use Rattle.wasi_steps.specs.Steps.{Kind, ACount, AFamily, ASocketAddress, AnOption, ASetting, AUdpOption, AUdpSetting, AHalf, AllBytes, Value, value_at, value_fields, FitsValue, Values, values_fields, FitsValues, Takes, made, values_at, Written, fields_of_written, signature, context_fields, shutdown_fields, shutdown_words, shutdown_at, context_of, fields_of_step, line_of, IsStep, row_of, rows_of, rows_by, is_read, steps, bare_steps, guest_call_at, after_first, step_reader, step_of}
+use Rattle.wasi_steps.specs.Steps.{Kind, ACount, AFamily, ASocketAddress, AnOption, ASetting, AUdpOption, AUdpSetting, AHalf, AllBytes, ARemote, SomeDatagrams, Value, value_at, value_fields, FitsValue, Values, values_fields, FitsValues, Takes, made, values_at, Written, fields_of_written, signature, context_fields, shutdown_fields, shutdown_words, shutdown_at, context_of, fields_of_step, line_of, IsStep, row_of, rows_of, rows_by, is_read, steps, bare_steps, guest_call_at, after_first, step_reader, step_of}
+use Rattle.wasi_steps.proofs.LineEnds.{ReadsLast, Last, last_of, lastly, last_give, last_then, last_alone, only_next, both_visible}
+use Rattle.wasi_steps.proofs.DatagramLaws.{remote_last, remote_visible, datagrams_last, datagrams_visible}
 use Rattle.wasi_steps.proofs.SettingLaws.{◌and◌, u64_exactly, option_exactly, option_visible, setting_exactly, setting_visible, udp_option_exactly, udp_option_visible, udp_setting_exactly, udp_setting_visible}
 
 -- the word of what is shut down is read exactly
@@ -31,25 +33,56 @@ shutdown_exactly = exactly
     (λ how u. shutdown_all how)
 
 -- == arguments
-kind_exactly : (kind : Kind) → ReadsExactly (value_at kind) (value_fields kind) (FitsValue kind)
-kind_exactly ACount = u64_exactly
-kind_exactly AFamily = family_exactly
-kind_exactly ASocketAddress = address_exactly
-kind_exactly AnOption = option_exactly
-kind_exactly ASetting = setting_exactly
-kind_exactly AUdpOption = udp_option_exactly
-kind_exactly AUdpSetting = udp_setting_exactly
-kind_exactly AHalf = shutdown_exactly
-kind_exactly AllBytes = bytes_exactly
-kind_exactly _ = u32_exactly
+-- whether more fields may follow an argument: none may follow an address or none, nor datagrams, which end the line
+goes_on : Kind → Bool
+goes_on ARemote = false
+goes_on SomeDatagrams = false
+goes_on _ = true
+
+kind_exactly : (kind : Kind) → goes_on kind ≡ true → ReadsExactly (value_at kind) (value_fields kind) (FitsValue kind)
+unfolding goes_on
+kind_exactly ACount more = u64_exactly
+kind_exactly AFamily more = family_exactly
+kind_exactly ASocketAddress more = address_exactly
+kind_exactly AnOption more = option_exactly
+kind_exactly ASetting more = setting_exactly
+kind_exactly AUdpOption more = udp_option_exactly
+kind_exactly AUdpSetting more = udp_setting_exactly
+kind_exactly AHalf more = shutdown_exactly
+kind_exactly AllBytes more = bytes_exactly
+kind_exactly ARemote more = absurd (cc)
+kind_exactly SomeDatagrams more = absurd (cc)
+kind_exactly _ more = u32_exactly
+
+kind_last : (kind : Kind) → ReadsLast (value_at kind) (value_fields kind) (FitsValue kind)
+unfolding goes_on
+kind_last ARemote = remote_last
+kind_last SomeDatagrams = datagrams_last
+kind_last ACount = last_of u64_exactly
+kind_last kind = last_of (kind_exactly kind refl)
+
+-- of some arguments only the last may end the line
+ends_last : List Kind → Bool
+ends_last [] = true
+ends_last (kind ∷ []) = true
+ends_last (kind ∷ next ∷ kinds) = goes_on kind && ends_last (next ∷ kinds)
+
+all_end_last : (s : Step) → ends_last (signature s).written.kinds ≡ true
+unfolding ends_last goes_on
+all_end_last step.Turn = refl
+all_end_last _ = refl
 
 values_only : (kinds : List Kind) (makes : Takes kinds) {Q : List (List ℕ) → Step → Type 0} → ((values : Values kinds) → FitsValues kinds values → Q (values_fields kinds values) (made kinds makes values)) → Only (values_at kinds makes) Q
 values_only [] s q = only_give s (q tt tt)
-values_only (kind ∷ kinds) makes q = only_then _ (kind_exactly kind) (λ value fits. values_only kinds (makes value) (λ values more. q (value, values) (fits, more)))
+values_only (kind ∷ kinds) makes q = only_next _ (kind_last kind) (λ value fits. values_only kinds (makes value) (λ values more. q (value, values) (fits, more)))
 
-values_all : (kinds : List Kind) (makes : Takes kinds) (values : Values kinds) → FitsValues kinds values → All (values_at kinds makes) (made kinds makes values) (values_fields kinds values)
-values_all [] s values fits = all_give
-values_all (kind ∷ kinds) makes values fits = all_then _ (kind_exactly kind) fits.0 (values_all kinds (makes values.0) values.1 fits.1)
+values_last : (kinds : List Kind) (makes : Takes kinds) (values : Values kinds) → ends_last kinds ≡ true → FitsValues kinds values → Last (values_at kinds makes) (made kinds makes values) (values_fields kinds values)
+unfolding ends_last
+values_last [] s values ends fits = last_give
+values_last (kind ∷ []) makes values ends fits = last_alone _ (kind_last kind) fits.0 last_give
+values_last (kind ∷ next ∷ kinds) makes values ends fits =
+    let both = and_parts (goes_on kind) _ ends in
+    last_then _ (kind_exactly kind both.0) fits.0 (values_last (next ∷ kinds) (makes values.0) values.1 both.1 fits.1)
 
 -- == rows
 -- what a step's maker makes of any values is written with its word and these values, as the step is
@@ -108,10 +141,10 @@ unfolding guest_call_at
 first_only contexts first (Some c) e = let is = number_in_is first 4294967295 c e in rw is.0 (call_by contexts c (nat_lt c contexts) refl is.1)
 first_only contexts first None e = only_word (ReadsStep contexts None) (rows_of bare_steps) first (rows_only contexts None (tt, tt) bare_steps bare_made bare_of)
 
-row_reads : (s : Step) → FitsValues (signature s).written.kinds (signature s).written.values → All (after_word (rows_by (context_of s)) (signature s).written.word) s (values_fields (signature s).written.kinds (signature s).written.values)
+row_reads : (s : Step) → FitsValues (signature s).written.kinds (signature s).written.values → Last (after_word (rows_by (context_of s)) (signature s).written.word) s (values_fields (signature s).written.kinds (signature s).written.values)
 row_reads s fits =
     let it = signature s in
-    rw (is_read s).1 (subst (λ t. All (row_of s).reads t (values_fields it.written.kinds it.written.values)) (is_read s).0 (values_all it.written.kinds it.makes it.written.values fits))
+    rw (is_read s).1 (subst (λ t. Last (row_of s).reads t (values_fields it.written.kinds it.written.values)) (is_read s).0 (values_last it.written.kinds it.makes it.written.values (all_end_last s) fits))
 
 visible_word : (s : Step) → IsTrue (list_all is_visible (signature s).written.word)
 visible_word s = grind arith
@@ -130,25 +163,25 @@ bare_word (step.Poll call) e = no_number _ _ (omega arith)
 bare_word _ e = absurd (cc)
 
 -- what follows a context and a word is read after them, and what follows the word of a step that no context makes
-call_all : {contexts c : ℕ} {s : Step} {word : List ℕ} {taken : List (List ℕ)} → c < contexts → IsTrue (list_all is_visible word) → All (after_word (rows_of (steps c)) word) s taken → All (guest_call_at contexts c) s (word ∷ taken)
+call_all : {contexts c : ℕ} {s : Step} {word : List ℕ} {taken : List (List ℕ)} → c < contexts → IsTrue (list_all is_visible word) → Last (after_word (rows_of (steps c)) word) s taken → Last (guest_call_at contexts c) s (word ∷ taken)
 unfolding guest_call_at
 call_all {contexts} {c} {word = word} below visible arguments =
-    rw (lt-ltb c contexts below) (all_then _ word_exactly (visible_utf8 word visible) arguments)
+    rw (lt-ltb c contexts below) (last_then _ word_exactly (visible_utf8 word visible) arguments)
 
-after : (contexts : ℕ) (context : Option ℕ) (word : List ℕ) (s : Step) {taken : List (List ℕ)} → IsContext contexts context → (context ≡ None → number_in word 4294967295 ≡ None) → IsTrue (list_all is_visible word) → All (after_word (rows_by context) word) s taken
-    → All (step_reader contexts) s (context_fields context (word ∷ taken))
+after : (contexts : ℕ) (context : Option ℕ) (word : List ℕ) (s : Step) {taken : List (List ℕ)} → IsContext contexts context → (context ≡ None → number_in word 4294967295 ≡ None) → IsTrue (list_all is_visible word) → Last (after_word (rows_by context) word) s taken
+    → Last (step_reader contexts) s (context_fields context (word ∷ taken))
 unfolding step_reader
 after contexts (Some c) word s is other visible arguments =
-    all_then _ word_exactly (visible_utf8 (decimal c) (number_visible c (let width = is.1 in omega arith)))
+    last_then _ word_exactly (visible_utf8 (decimal c) (number_visible c (let width = is.1 in omega arith)))
     (rw (number_in_decimal (decimal c) 4294967295 c (omega arith) refl is.1) (call_all is.0 visible arguments))
-after contexts None word s is other visible arguments = all_then _ word_exactly (visible_utf8 word visible) (rw (other refl) arguments)
+after contexts None word s is other visible arguments = last_then _ word_exactly (visible_utf8 word visible) (rw (other refl) arguments)
 
-step_all : (contexts : ℕ) (s : Step) → IsStep contexts s → All (step_reader contexts) s (fields_of_step s)
+step_all : (contexts : ℕ) (s : Step) → IsStep contexts s → Last (step_reader contexts) s (fields_of_step s)
 step_all contexts s is = after contexts (context_of s) (signature s).written.word s (is.context, is.width) (bare_word s) (visible_word s) (row_reads s is.arguments)
 
-pub step_exactly : (contexts : ℕ) → ReadsExactly (step_reader contexts) fields_of_step (IsStep contexts)
+pub step_exactly : (contexts : ℕ) → ReadsLast (step_reader contexts) fields_of_step (IsStep contexts)
 unfolding step_reader
-step_exactly contexts = exactly
+step_exactly contexts = lastly
     (only_then _ word_exactly (λ first utf8. first_only contexts first (number_in first 4294967295) refl))
     (step_all contexts)
 
@@ -166,11 +199,9 @@ value_visible AUdpOption option fits = udp_option_visible option
 value_visible AUdpSetting setting fits = udp_setting_visible setting fits
 value_visible AHalf how fits = shutdown_visible how
 value_visible AllBytes bytes fits = bytes_visible bytes fits
+value_visible ARemote remote fits = remote_visible remote fits
+value_visible SomeDatagrams datagrams fits = datagrams_visible datagrams fits
 value_visible _ n fits = number_visible n (omega arith) and tt
-
-both_visible : (fields more : List (List ℕ)) → AreVisible fields → AreVisible more → AreVisible (fields ++ more)
-both_visible [] more h k = k
-both_visible (field ∷ fields) more h k = h.0 and both_visible fields more h.1 k
 
 values_visible : (kinds : List Kind) (values : Values kinds) → FitsValues kinds values → AreVisible (values_fields kinds values)
 values_visible [] values fits = tt
@@ -202,7 +233,7 @@ step_is contexts line s h =
 pub step_of_line : (contexts : ℕ) (line : List ℕ) (s : Step) → (line ≡ line_of s) × IsStep contexts s → step_of contexts line ≡ Some s
 unfolding step_of
 step_of_line contexts line s h =
-    let read = rw append-nil at ((step_exactly contexts).all s [] h.1) in
+    let read = (step_exactly contexts).all s h.1 in
     let some : fields_of_step s ≡ [] → ⊥ = λ none. let first = rw none at read in cc (no_step contexts) in
     rw (ap fields_of h.0, fields_of_line (fields_of_step s) some (step_visible s h.1), read)
 

@@ -1,5 +1,6 @@
 pub mod Reply
 pub mod Settings
+pub mod Datagrams
 pub mod Steps
 pub mod Forms
 pub mod Replies

@@ -1,9 +1,11 @@
 -- The texts of replies, and which replies a step may give.
-use Rattle.std.specs.Prelude.{◌≡◌, ℕ, ◌<◌, ◌≤◌, ◌^◌, List, [], ◌∷◌, ◌++◌, map, codes, decimal, ◌⊎◌}
+use Rattle.std.specs.List.{AllByRecursion}
+use Rattle.std.specs.Prelude.{◌≡◌, ℕ, ◌<◌, ◌≤◌, ◌^◌, length, List, [], ◌∷◌, ◌++◌, map, codes, decimal, ◌⊎◌}
 use Rattle.wasi_world.specs.declared.outcome.TrapKind.{TrapKind}
 use Rattle.wasi_world.specs.declared.outcome.TrapKind.TheVariants as trap
 use Rattle.wasi_world.specs.Fields.{line_with, bytes_text}
 use Rattle.wasi_addr.specs.declared.address.IpSocketAddress.{IpSocketAddress}
+use Rattle.wasi_world.specs.declared.datagram.IncomingDatagram.{IncomingDatagram}
 use Rattle.wasi_world.specs.Written.{AreBytes, FitsAddress}
 use Rattle.wasi_steps.specs.declared.reply.CodeWord.{CodeWord}
 use Rattle.wasi_steps.specs.declared.reply.CodeWord.TheVariants as word
@@ -11,9 +13,9 @@ use Rattle.wasi_steps.specs.declared.reply.Field.{Field}
 use Rattle.wasi_steps.specs.declared.reply.Field.TheVariants as field
 use Rattle.wasi_steps.specs.declared.reply.Reply.{Reply}
 use Rattle.wasi_steps.specs.declared.reply.Reply.TheVariants as reply
-use Rattle.wasi_steps.specs.Reply.{address_values}
+use Rattle.wasi_steps.specs.Reply.{address_values, datagram_values}
 use Rattle.wasi_steps.specs.declared.step.Step.{Step}
-pub use Rattle.wasi_steps.specs.Steps.{FieldKind, ANumber, SomeBytes, Truth, FieldKinds, Each, AnAddress, OneOf, kinds_of}
+pub use Rattle.wasi_steps.specs.Steps.{FieldKind, ANumber, SomeBytes, Truth, FieldKinds, Each, AnAddress, ADatagramList, OneOf, kinds_of}
 
 -- the words of codes
 abbrev pub code_text : CodeWord → List ℕ
@@ -98,6 +100,16 @@ pub record AreAnAddress (fields : List Field) : Type 0 where
   pub fits : FitsAddress address
   pub numbers : fields ≡ address_values address
 
+abbrev pub FitsReceived : IncomingDatagram → Type 0
+FitsReceived d = FitsAddress d.remote_address × AreBytes d.bytes
+
+-- These are the number of some datagrams, and then who sent each and its bytes.
+pub record AreDatagrams (fields : List Field) : Type 0 where
+  pub datagrams : List IncomingDatagram
+  pub count : length datagrams < 2 ^ 64
+  pub fits : AllByRecursion FitsReceived datagrams
+  pub values : fields ≡ datagram_values datagrams
+
 -- one field of each kind in one of the lists
 abbrev pub AsOneSays : List (List FieldKind) → List Field → Type 0
 AsOneSays [] fields = ⊥
@@ -106,6 +118,7 @@ AsOneSays (kinds ∷ lists) fields = EachOfKind kinds fields ⊎ AsOneSays lists
 abbrev pub AreOfKinds : FieldKinds → List Field → Type 0
 AreOfKinds (Each kinds) fields = EachOfKind kinds fields
 AreOfKinds AnAddress fields = AreAnAddress fields
+AreOfKinds ADatagramList fields = AreDatagrams fields
 AreOfKinds (OneOf lists) fields = AsOneSays lists fields
 
 -- a reply that the step may give: its numbers are within their widths, and its fields are of the step's kinds

@@ -1,9 +1,10 @@
 -- What replies say.
-use Rattle.std.specs.Prelude.{ℕ, Bool, true, false, if◌then◌else◌, List, [], ◌∷◌, map}
+use Rattle.std.specs.Prelude.{ℕ, Bool, true, false, if◌then◌else◌, List, [], ◌∷◌, ◌++◌, length, flat_map, map}
 use Rattle.wasi_addr.specs.declared.address.IpSocketAddress.{IpSocketAddress}
 use Rattle.wasi_addr.specs.declared.address.SocketAddressFamily.{SocketAddressFamily}
 use Rattle.wasi_addr.specs.declared.p2.ErrorCode.{ErrorCode}
 use Rattle.wasi_addr.specs.declared.p2.ErrorCode.TheVariants as p2
+use Rattle.wasi_world.specs.declared.datagram.IncomingDatagram.{IncomingDatagram}
 use Rattle.wasi_world.specs.Written.{address_numbers, family_number}
 use Rattle.wasi_steps.specs.declared.reply.CodeWord.{CodeWord}
 use Rattle.wasi_steps.specs.declared.reply.CodeWord.TheVariants as word
@@ -78,3 +79,10 @@ family_fields family = number_fields (family_number family)
 -- an address as it is written: its family, its parts, its port
 abbrev pub address_values : IpSocketAddress → List Field
 address_values a = map Number (address_numbers a)
+
+-- datagrams that were received: how many, and for each who sent it and its bytes
+abbrev pub received_values : IncomingDatagram → List Field
+received_values d = address_values d.remote_address ++ Bytes d.bytes ∷ []
+
+abbrev pub datagram_values : List IncomingDatagram → List Field
+datagram_values ds = Number (length ds) ∷ flat_map received_values ds

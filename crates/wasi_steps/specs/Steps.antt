@@ -8,6 +8,7 @@ use Rattle.wasi_addr.specs.declared.address.SocketAddressFamily.{SocketAddressFa
 use Rattle.wasi_addr.specs.declared.address.SocketAddressFamily.TheVariants.{Ipv4}
 use Rattle.wasi_world.specs.declared.call.Opt.{Opt}
 use Rattle.wasi_world.specs.declared.call.Opt.TheVariants.{HopLimit}
+use Rattle.wasi_world.specs.declared.datagram.OutgoingDatagram.{OutgoingDatagram}
 use Rattle.wasi_world.specs.Fields.{Reader, Row, row, after_word, ◌>>=◌, give, give_some, whole, fields_of, line_with, number_in, number_at, word_at, family_at, address_at, bytes_at}
 use Rattle.wasi_world.specs.Written.{number_fields, family_fields, address_fields, bytes_fields, FitsAddress, AreBytes}
 use Rattle.wasi_steps.specs.declared.setting.TcpSetting.{TcpSetting}
@@ -18,6 +19,7 @@ use Rattle.wasi_steps.specs.declared.step.Step.TheVariants as step
 use Rattle.wasi_steps.specs.declared.setting.TcpSetting.TheVariants as setting
 use Rattle.wasi_steps.specs.declared.setting.UdpOption.TheVariants as udp
 use Rattle.wasi_steps.specs.declared.setting.UdpSetting.TheVariants as udp_setting
+use Rattle.wasi_steps.specs.Datagrams.{remote_fields, FitsRemote, remote_at, datagrams_fields, FitsDatagrams, datagrams_at}
 use Rattle.wasi_steps.specs.Settings.{option_word, option_at, setting_fields, FitsSetting, setting_at, udp_option_word, udp_option_at, udp_setting_fields, FitsUdpSetting, udp_setting_at}
 
 -- == what is shut down
@@ -35,20 +37,22 @@ shutdown_at = do
   after_word shutdown_words word
 
 -- == arguments
--- what a handle has to be of: a network, a TCP socket, a UDP socket, an input, an output, what can be watched, a pollable, or
--- anything
+-- what a handle has to be of: a network, a TCP socket, a UDP socket, an input, an output, a stream of datagrams that come in or
+-- go out, what can be watched, a pollable, or anything
 pub data Target : Type 0 where
   ANetwork : Target
   ASocket : Target
   ADatagramSocket : Target
   AnInput : Target
   AnOutput : Target
+  AnIncoming : Target
+  AnOutgoing : Target
   Watchable : Target
   APollable : Target
   Anything : Target
 
--- what an argument is: a handle, the number of a line, a count of bytes, a family, an address, an option and what is set, of a
--- TCP socket or of a UDP socket, what is shut down, bytes
+-- what an argument is: a handle, the number of a line, a count, a family, an address, an option and what is set, of a TCP
+-- socket or of a UDP socket, what is shut down, bytes, an address or none, datagrams to send
 pub data Kind : Type 0 where
   HandleOf : Target → Kind
   ALine : Kind
@@ -61,6 +65,8 @@ pub data Kind : Type 0 where
   AUdpSetting : Kind
   AHalf : Kind
   AllBytes : Kind
+  ARemote : Kind
+  SomeDatagrams : Kind
 
 abbrev pub Value : Kind → Type 0
 Value (HandleOf target) = ℕ
@@ -74,6 +80,8 @@ Value AUdpOption = UdpOption
 Value AUdpSetting = UdpSetting
 Value AHalf = ShutdownType
 Value AllBytes = List ℕ
+Value ARemote = Option IpSocketAddress
+Value SomeDatagrams = List OutgoingDatagram
 
 -- how it is read
 abbrev pub value_at : (kind : Kind) → Reader (Value kind)
@@ -88,6 +96,8 @@ value_at AUdpOption = udp_option_at
 value_at AUdpSetting = udp_setting_at
 value_at AHalf = shutdown_at
 value_at AllBytes = bytes_at
+value_at ARemote = remote_at
+value_at SomeDatagrams = datagrams_at
 
 -- how it is written
 abbrev pub value_fields : (kind : Kind) → Value kind → List (List ℕ)
@@ -102,6 +112,8 @@ value_fields AUdpOption option = udp_option_word option ∷ []
 value_fields AUdpSetting setting = udp_setting_fields setting
 value_fields AHalf how = shutdown_fields how
 value_fields AllBytes bytes = bytes_fields bytes
+value_fields ARemote remote = remote_fields remote
+value_fields SomeDatagrams datagrams = datagrams_fields datagrams
 
 -- its numbers are within their widths
 abbrev pub FitsValue : (kind : Kind) → Value kind → Type 0
@@ -112,6 +124,8 @@ FitsValue ASocketAddress a = FitsAddress a
 FitsValue ASetting setting = FitsSetting setting
 FitsValue AUdpSetting setting = FitsUdpSetting setting
 FitsValue AllBytes bytes = AreBytes bytes
+FitsValue ARemote remote = FitsRemote remote
+FitsValue SomeDatagrams datagrams = FitsDatagrams datagrams
 FitsValue _ value = Unit {0}
 
 -- the handles that it names
@@ -161,11 +175,12 @@ pub data FieldKind : Type 0 where
   SomeBytes : FieldKind
   Truth : FieldKind
 
--- what the fields of a reply are: one of each of these kinds, those of an address, or one of each of the kinds in one of these
--- lists, which differ in length
+-- what the fields of a reply are: one of each of these kinds, those of an address, a count and so many datagrams, or one of
+-- each of the kinds in one of these lists, which differ in length
 pub data FieldKinds : Type 0 where
   Each : List FieldKind → FieldKinds
   AnAddress : FieldKinds
+  ADatagramList : FieldKinds
   OneOf : List (List FieldKind) → FieldKinds
 
 -- == signatures
@@ -188,7 +203,8 @@ guest_call c word kinds makes values gives = record { written = record { context
 abbrev pub bare : List ℕ → (kinds : List Kind) → Takes kinds → Values kinds → FieldKinds → Signature
 bare word kinds makes values gives = record { written = record { context = None; word = word; kinds = kinds; values = values }; makes = makes; gives = gives }
 
--- a poll has the reply of the call that it polls: one that can be pending gives nothing, or the handle of the socket that it made
+-- a poll has the reply of the call that it polls: one that can be pending gives nothing, or the handle of the socket that it
+-- made, or those of the two streams
 abbrev pub signature : Step → Signature
 signature (step.Network c) = guest_call c (codes "network") [] (step.Network c) tt (Each (ANumber ∷ []))
 signature (step.TcpCreate c family) = guest_call c (codes "tcp-create") (AFamily ∷ []) (step.TcpCreate c) (family, tt) (Each (ANumber ∷ []))
@@ -214,6 +230,10 @@ signature (step.UdpRemoteAddress c socket) = guest_call c (codes "udp-remote-add
 signature (step.UdpAddressFamily c socket) = guest_call c (codes "udp-address-family") (HandleOf ADatagramSocket ∷ []) (step.UdpAddressFamily c) (socket, tt) (Each (ANumber ∷ []))
 signature (step.UdpGet c socket option) = guest_call c (codes "udp-get") (HandleOf ADatagramSocket ∷ AUdpOption ∷ []) (step.UdpGet c) (socket, (option, tt)) (Each (ANumber ∷ []))
 signature (step.UdpSet c socket setting) = guest_call c (codes "udp-set") (HandleOf ADatagramSocket ∷ AUdpSetting ∷ []) (step.UdpSet c) (socket, (setting, tt)) (Each [])
+signature (step.UdpStream c socket remote) = guest_call c (codes "udp-stream") (HandleOf ADatagramSocket ∷ ARemote ∷ []) (step.UdpStream c) (socket, (remote, tt)) (Each (ANumber ∷ ANumber ∷ []))
+signature (step.UdpReceive c incoming most) = guest_call c (codes "udp-receive") (HandleOf AnIncoming ∷ ACount ∷ []) (step.UdpReceive c) (incoming, (most, tt)) ADatagramList
+signature (step.UdpCheckSend c outgoing) = guest_call c (codes "udp-check-send") (HandleOf AnOutgoing ∷ []) (step.UdpCheckSend c) (outgoing, tt) (Each (ANumber ∷ []))
+signature (step.UdpSend c outgoing datagrams) = guest_call c (codes "udp-send") (HandleOf AnOutgoing ∷ SomeDatagrams ∷ []) (step.UdpSend c) (outgoing, (datagrams, tt)) (Each (ANumber ∷ []))
 signature (step.Read c input len) = guest_call c (codes "read") (HandleOf AnInput ∷ ACount ∷ []) (step.Read c) (input, (len, tt)) (Each (SomeBytes ∷ []))
 signature (step.CheckWrite c output) = guest_call c (codes "check-write") (HandleOf AnOutput ∷ []) (step.CheckWrite c) (output, tt) (Each (ANumber ∷ []))
 signature (step.Write c output bytes) = guest_call c (codes "write") (HandleOf AnOutput ∷ AllBytes ∷ []) (step.Write c) (output, (bytes, tt)) (Each [])
@@ -222,7 +242,7 @@ signature (step.Subscribe c handle) = guest_call c (codes "subscribe") (HandleOf
 signature (step.Ready c pollable) = guest_call c (codes "ready") (HandleOf APollable ∷ []) (step.Ready c) (pollable, tt) (Each (Truth ∷ []))
 signature (step.Drop c handle) = guest_call c (codes "drop") (HandleOf Anything ∷ []) (step.Drop c) (handle, tt) (Each [])
 signature step.Turn = bare (codes "turn") [] step.Turn tt (Each [])
-signature (step.Poll call) = bare (codes "poll") (ALine ∷ []) step.Poll (call, tt) (OneOf ([] ∷ (ANumber ∷ []) ∷ []))
+signature (step.Poll call) = bare (codes "poll") (ALine ∷ []) step.Poll (call, tt) (OneOf ([] ∷ (ANumber ∷ []) ∷ (ANumber ∷ ANumber ∷ []) ∷ []))
 
 -- the context that makes the call, where one makes it
 abbrev pub context_of : Step → Option ℕ
@@ -265,34 +285,43 @@ rows_of steps = map row_of steps
 abbrev pub nowhere : IpSocketAddress
 nowhere = socket.Ipv4 (record { port = 0; address = (0, 0, 0, 0) })
 
--- one step of each form: a write, whose bytes take memory
+-- one step of each form: a write and a send, whose bytes take memory
 abbrev pub write_step : ℕ → Step
 write_step c = step.Write c 0 []
+
+abbrev pub send_step : ℕ → Step
+send_step c = step.UdpSend c 0 []
+
+abbrev pub memory_steps : ℕ → List Step
+memory_steps c = write_step c ∷ send_step c ∷ []
 
 -- those that name no handle: they make a network or a socket
 abbrev pub create_steps : ℕ → List Step
 create_steps c = step.Network c ∷ step.TcpCreate c Ipv4 ∷ step.UdpCreate c Ipv4 ∷ []
 
--- those of a handle and of more than it: of a TCP socket, of a UDP socket, of an input
+-- those of a handle and of more than it: of a TCP socket, of a UDP socket and of its streams, of an input
 abbrev pub tcp_value_steps : ℕ → List Step
 tcp_value_steps c =
     step.TcpStartBind c 0 0 nowhere ∷ step.TcpStartConnect c 0 0 nowhere ∷ step.TcpGet c 0 HopLimit ∷ step.TcpSet c 0 (setting.HopLimit 1)
     ∷ step.TcpShutdown c 0 Both ∷ []
 
 abbrev pub udp_value_steps : ℕ → List Step
-udp_value_steps c = step.UdpStartBind c 0 0 nowhere ∷ step.UdpGet c 0 udp.HopLimit ∷ step.UdpSet c 0 (udp_setting.HopLimit 1) ∷ []
+udp_value_steps c =
+    step.UdpStartBind c 0 0 nowhere ∷ step.UdpGet c 0 udp.HopLimit ∷ step.UdpSet c 0 (udp_setting.HopLimit 1) ∷ step.UdpStream c 0 None
+    ∷ step.UdpReceive c 0 0 ∷ []
 
 abbrev pub value_steps : ℕ → List Step
 value_steps c = step.Read c 0 0 ∷ tcp_value_steps c ++ udp_value_steps c
 
--- those of a handle alone: of a TCP socket, of a UDP socket, of anything else
+-- those of a handle alone: of a TCP socket, of a UDP socket and of its streams, of anything else
 abbrev pub tcp_handle_steps : ℕ → List Step
 tcp_handle_steps c =
     step.TcpFinishBind c 0 ∷ step.TcpFinishConnect c 0 ∷ step.TcpStartListen c 0 ∷ step.TcpFinishListen c 0 ∷ step.TcpAccept c 0
     ∷ step.TcpLocalAddress c 0 ∷ step.TcpRemoteAddress c 0 ∷ step.TcpIsListening c 0 ∷ step.TcpAddressFamily c 0 ∷ []
 
 abbrev pub udp_handle_steps : ℕ → List Step
-udp_handle_steps c = step.UdpFinishBind c 0 ∷ step.UdpLocalAddress c 0 ∷ step.UdpRemoteAddress c 0 ∷ step.UdpAddressFamily c 0 ∷ []
+udp_handle_steps c =
+    step.UdpFinishBind c 0 ∷ step.UdpLocalAddress c 0 ∷ step.UdpRemoteAddress c 0 ∷ step.UdpAddressFamily c 0 ∷ step.UdpCheckSend c 0 ∷ []
 
 abbrev pub other_handle_steps : ℕ → List Step
 other_handle_steps c = step.CheckWrite c 0 ∷ step.Flush c 0 ∷ step.Subscribe c 0 ∷ step.Ready c 0 ∷ step.Drop c 0 ∷ []
@@ -306,7 +335,7 @@ plain_steps c = create_steps c ++ value_steps c ++ handle_steps c
 
 -- the steps of a context
 abbrev pub steps : ℕ → List Step
-steps c = write_step c ∷ plain_steps c
+steps c = memory_steps c ++ plain_steps c
 
 -- the steps that no context makes
 abbrev pub bare_steps : List Step
@@ -346,6 +375,10 @@ is_read (step.UdpRemoteAddress c socket) = (refl, refl)
 is_read (step.UdpAddressFamily c socket) = (refl, refl)
 is_read (step.UdpGet c socket option) = (refl, refl)
 is_read (step.UdpSet c socket setting) = (refl, refl)
+is_read (step.UdpStream c socket remote) = (refl, refl)
+is_read (step.UdpReceive c incoming most) = (refl, refl)
+is_read (step.UdpCheckSend c outgoing) = (refl, refl)
+is_read (step.UdpSend c outgoing datagrams) = (refl, refl)
 is_read (step.Read c input len) = (refl, refl)
 is_read (step.CheckWrite c output) = (refl, refl)
 is_read (step.Write c output bytes) = (refl, refl)

@@ -1,12 +1,12 @@
 //! What a call gives, as the fields of its reply.
 
-ghost use Rattle.std.specs.Prelude.{◌≡◌, IfOk};
-ghost use Rattle.wasi_steps.specs.Reply.{address_values};
+ghost use Rattle.std.specs.Prelude.{◌≡◌, IfOk, OnOk, ◌++◌};
+ghost use Rattle.wasi_steps.specs.Reply.{address_values, received_values};
 
 use crate::reply::{Field, ReplyFields};
 use std::alloc::{AllocError, Global};
 use wasi_addr::{IpSocketAddress, Ipv4SocketAddress, Ipv6SocketAddress, SocketAddressFamily};
-use wasi_world::Octets;
+use wasi_world::{IncomingDatagram, IncomingDatagrams, Octets};
 
 /// A value that the fields of an `ok` reply tell.
 pub trait IntoFields {
@@ -131,11 +131,52 @@ impl IntoFields for IpSocketAddress {
     ghost fields = { address_values };
 
     fn into_fields(self, alloc: Global) -> Result<ReplyFields, AllocError> {
-        let fields = match self {
-            IpSocketAddress::Ipv4(address) => ipv4_fields(alloc, address)?,
-            IpSocketAddress::Ipv6(address) => ipv6_fields(alloc, address)?,
-        };
+        let fields = address_fields(alloc, self)?;
         Ok(ReplyFields::from_vec(fields))
+    }
+}
+
+/// Datagrams that were received: how many, and for each who sent it and its bytes, which are moved.
+impl IntoFields for IncomingDatagrams {
+    ghost use Rattle.wasi_steps.specs.Reply.{datagram_values};
+
+    ghost fields = { datagram_values };
+
+    fn into_fields(self, alloc: Global) -> Result<ReplyFields, AllocError> {
+        let datagrams = self.into_vec();
+        let mut fields = vec![in alloc; Field::Number(datagrams.len() as u64)]?;
+        for datagram in datagrams {
+            push_datagram(alloc, &mut fields, datagram)?;
+        }
+        Ok(ReplyFields::from_vec(fields))
+    }
+}
+
+/// Appends the fields of a datagram.
+fn push_datagram(
+    alloc: Global,
+    fields: &mut Vec<Field>,
+    datagram: IncomingDatagram,
+) -> Result<(), AllocError>
+    ensures { OnOk result (fields.new.items ≡ fields.old.items ++ received_values datagram) }
+{
+    let IncomingDatagram {
+        bytes,
+        remote_address,
+    } = datagram;
+    let mut address = address_fields(alloc, remote_address)?;
+    fields.append(&mut address)?;
+    fields.push(Field::Bytes(bytes))?;
+    Ok(())
+}
+
+/// The fields of an address.
+fn address_fields(alloc: Global, address: IpSocketAddress) -> Result<Vec<Field>, AllocError>
+    ensures { IfOk result (λ fields. fields.items ≡ address_values address) }
+{
+    match address {
+        IpSocketAddress::Ipv4(address) => ipv4_fields(alloc, address),
+        IpSocketAddress::Ipv6(address) => ipv6_fields(alloc, address),
     }
 }
 

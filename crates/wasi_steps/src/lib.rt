@@ -1,6 +1,7 @@
 //! The steps of a script and their replies: how they are written and read, and, in specs/, what a machine does with them.
 #![tactic(auto)]
 
+mod datagram;
 pub mod fields;
 pub mod parse;
 pub mod reply;

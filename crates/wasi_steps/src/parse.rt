@@ -5,8 +5,9 @@ ghost use Rattle.wasi_world.specs.Fields.{Reads, after_word, number_in};
 ghost use Rattle.wasi_world.specs.Written.{IsVisible};
 ghost use Rattle.wasi_steps.specs.declared.step.Step.{Step};
 ghost use Rattle.wasi_steps.specs.Settings.{ReadsNumber, ReadsAfter, option_at, wide_words, setting_words, setting_at, udp_option_at, udp_setting_at};
-ghost use Rattle.wasi_steps.specs.Steps.{line_of, IsStep, steps, plain_steps, value_steps, tcp_value_steps, udp_value_steps, handle_steps, udp_handle_steps, other_handle_steps, bare_steps, write_step, row_of, rows_of, shutdown_at, guest_call_at, step_reader, step_of};
+ghost use Rattle.wasi_steps.specs.Steps.{line_of, IsStep, steps, plain_steps, value_steps, tcp_value_steps, udp_value_steps, handle_steps, udp_handle_steps, other_handle_steps, bare_steps, write_step, send_step, row_of, rows_of, shutdown_at, guest_call_at, step_reader, step_of};
 
+use crate::datagram::{datagrams, remote};
 use crate::setting::{TcpSetting, UdpOption, UdpSetting};
 use crate::step::Step;
 use std::alloc::{AllocError, Global};
@@ -147,6 +148,10 @@ fn udp_handle_step(context: u32, word: &str, handle: u32) -> Option<Step>
         "udp-local-address" => Some(UdpLocalAddress { context, socket }),
         "udp-remote-address" => Some(UdpRemoteAddress { context, socket }),
         "udp-address-family" => Some(UdpAddressFamily { context, socket }),
+        "udp-check-send" => Some(UdpCheckSend {
+            context,
+            outgoing: handle,
+        }),
         _ => other_handle_step(context, word, handle),
     }
 }
@@ -193,6 +198,16 @@ fn udp_arguments(fields: &mut Fields<'_>, context: u32, word: &str, handle: u32)
             context,
             socket: handle,
             setting: udp_setting(fields)?,
+        }),
+        "udp-stream" => Some(Step::UdpStream {
+            context,
+            socket: handle,
+            remote: remote(fields)?,
+        }),
+        "udp-receive" => Some(Step::UdpReceive {
+            context,
+            incoming: handle,
+            max_results: fields.number(u64::MAX)?,
         }),
         _ => handle_step(context, word, handle),
     }
@@ -292,6 +307,28 @@ fn write_arguments(
     }))
 }
 
+/// Takes the arguments of a send, whose datagrams take memory.
+#[tactic(auto, unfolding(wasi_world::specs::Fields::read_then, wasi_world::specs::Fields::give, wasi_world::specs::Fields::give_some))]
+fn send_arguments(
+    alloc: Global,
+    fields: &mut Fields<'_>,
+    context: u32,
+) -> Result<Option<Step>, AllocError>
+    ensures { IfOk result (λ step. Reads (row_of (send_step context)).reads fields.old step fields.new) }
+{
+    let Some(outgoing) = fields.u32() else {
+        return Ok(None);
+    };
+    let Some(datagrams) = datagrams(alloc, fields)? else {
+        return Ok(None);
+    };
+    Ok(Some(Step::UdpSend {
+        context,
+        outgoing,
+        datagrams,
+    }))
+}
+
 /// Takes the arguments of a step word.
 fn arguments(
     alloc: Global,
@@ -303,6 +340,7 @@ fn arguments(
 {
     match word {
         "write" => write_arguments(alloc, fields, context),
+        "udp-send" => send_arguments(alloc, fields, context),
         _ => Ok(plain_arguments(fields, context, word)),
     }
 }
@@ -362,7 +400,7 @@ fn step(alloc: Global, fields: &mut Fields<'_>, contexts: u32) -> Result<Option<
 }
 
 /// The step that a line is, without its newline, where there are so many contexts; none where it is no step of theirs. The
-/// bytes of a write take memory.
+/// bytes of a write take memory, and so do the datagrams of a send.
 #[tactic(auto, unfolding(crate::specs::Steps::step_of))]
 pub fn parse_step(alloc: Global, line: &[u8], contexts: u32) -> Result<Option<Step>, AllocError>
     ensures { IfOk result (λ step. step ≡ step_of contexts line.now) }

@@ -8,7 +8,7 @@ ghost use Rattle.wasi_steps.specs.Steps.{steps, bare_steps, context_of};
 
 use crate::setting::{TcpSetting, UdpOption, UdpSetting};
 use wasi_addr::{IpSocketAddress, ShutdownType, SocketAddressFamily};
-use wasi_world::{Handle, Octets, Opt};
+use wasi_world::{Handle, Octets, Opt, OutgoingDatagrams};
 
 /// One step of a script: a guest call with the number of the context that makes it, or a step that no context makes.
 #[derive(Drop)]
@@ -143,6 +143,30 @@ pub enum Step {
         socket: Handle,
         setting: UdpSetting,
     },
+    /// Makes the two datagram streams of the UDP socket, which is connected to the address first, or else disconnected from
+    /// where it was connected (`udp-socket.stream`).
+    UdpStream {
+        context: u32,
+        socket: Handle,
+        remote: Option<IpSocketAddress>,
+    },
+    /// Receives at most so many datagrams (`incoming-datagram-stream.receive`).
+    UdpReceive {
+        context: u32,
+        incoming: Handle,
+        max_results: u64,
+    },
+    /// How many datagrams may be sent (`outgoing-datagram-stream.check-send`).
+    UdpCheckSend {
+        context: u32,
+        outgoing: Handle,
+    },
+    /// Sends the datagrams, of which there are no more than was permitted (`outgoing-datagram-stream.send`).
+    UdpSend {
+        context: u32,
+        outgoing: Handle,
+        datagrams: OutgoingDatagrams,
+    },
     /// Reads at most so many bytes (`input-stream.read`).
     Read {
         context: u32,
@@ -219,6 +243,10 @@ impl Step {
             | Step::UdpAddressFamily { context, .. }
             | Step::UdpGet { context, .. }
             | Step::UdpSet { context, .. }
+            | Step::UdpStream { context, .. }
+            | Step::UdpReceive { context, .. }
+            | Step::UdpCheckSend { context, .. }
+            | Step::UdpSend { context, .. }
             | Step::Read { context, .. }
             | Step::CheckWrite { context, .. }
             | Step::Write { context, .. }
@@ -257,6 +285,10 @@ pub const STEP_FORMS: &str = "    0 network                               makes 
     0 udp-address-family S                  its family: ok 4 or ok 6
     0 udp-get S OPTION                      the value of an option: ok V
     0 udp-set S OPTION V                    sets an option
+    0 udp-stream S [4 a b c d port]         connects or disconnects UDP socket S, and makes its streams: ok IN OUT
+    0 udp-receive IN L                      receives at most L datagrams: ok K, then 4 a b c d port BYTES for each
+    0 udp-check-send OUT                    how many datagrams may be sent: ok M
+    0 udp-send OUT DATAGRAM..               sends datagrams, each `to 4 a b c d port BYTES` or `peer BYTES`: ok M
     0 read IN L                             reads at most L bytes: ok BYTES
     0 check-write OUT                       how many bytes may be written
     0 write OUT BYTES                       writes bytes, as hexadecimal digits or -
