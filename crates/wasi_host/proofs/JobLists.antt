@@ -38,16 +38,16 @@ still_going-filter records (job ∷ jobs) = by (is_going records job) (still_goi
     by false h = h
 
 -- a write that was noted on the record that it left
-with_job_is : (store : Records) (place : ℕ) (b : Bool) → with_job store place b ≡ record store { jobs = jobs_with store.jobs place b }
-with_job_is store place true = refl
-with_job_is store place false = refl
+pub with_job_is : (store : Records) (job : HostJob) (b : Bool) → with_job store job b ≡ record store { jobs = jobs_with store.jobs job b }
+with_job_is store job true = refl
+with_job_is store job false = refl
 
-pub noted_as : (store : Records) (place : ℕ) (old now : Tcp2Socket) (b : Bool) (jobs : List HostJob) → tcp2_at store.records place ≡ Some old → b ≡ (not (works_in old.streams) && works_in now.streams) → jobs ≡ jobs_with store.jobs place b
-    → with_job (with_socket store place now) place (begins_job (Some old) (tcp2_at (tcp2_put store.records place now) place)) ≡ record { records = tcp2_put store.records place now; jobs = jobs; standing = store.standing }
+pub noted_as : (store : Records) (place : ℕ) (old now : Tcp2Socket) (b : Bool) (jobs : List HostJob) → tcp2_at store.records place ≡ Some old → b ≡ (not (works_in old.streams) && works_in now.streams) → jobs ≡ jobs_with store.jobs (Write place) b
+    → with_job (with_socket store place now) (Write place) (begins_job (Some old) (tcp2_at (tcp2_put store.records place now) place)) ≡ record { records = tcp2_put store.records place now; jobs = jobs; standing = store.standing }
 noted_as store place old now b jobs g e h =
-    ap (λ (found : Option Tcp2Socket). with_job (with_socket store place now) place (begins_job (Some old) found)) (set_there store.records place now old g)
-    ∙ (ap (with_job (with_socket store place now) place) (sym e)
-    ∙ (with_job_is (with_socket store place now) place b ∙ ap (λ (l : List HostJob). let r : Records = record { records = tcp2_put store.records place now; jobs = l; standing = store.standing } in r) (sym h)))
+    ap (λ (found : Option Tcp2Socket). with_job (with_socket store place now) (Write place) (begins_job (Some old) found)) (set_there store.records place now old g)
+    ∙ (ap (with_job (with_socket store place now) (Write place)) (sym e)
+    ∙ (with_job_is (with_socket store place now) (Write place) b ∙ ap (λ (l : List HostJob). let r : Records = record { records = tcp2_put store.records place now; jobs = l; standing = store.standing } in r) (sym h)))
 
 -- == a turn
 -- where the next job is polled, the rest follows
@@ -69,4 +69,4 @@ turn_stops jobs i first records Q (Err e) q l before h =
 -- a write on no record asks nothing
 pub noted_none : {T : Type 0} (store : Records) (place : ℕ) (call : Tcp2Socket → Asks (Result T StreamStop × Tcp2Socket)) → tcp2_at store.records place ≡ None → write_at store place call None ≡ Give (Err (stop.Trap NoSuchHandle), store)
 unfolding bind
-noted_none store place call e = ap (λ (found : Option Tcp2Socket). Give (Err (stop.Trap NoSuchHandle), with_job store place (begins_job None found))) e
+noted_none store place call e = ap (λ (found : Option Tcp2Socket). Give (Err (stop.Trap NoSuchHandle), with_job store (Write place) (begins_job None found))) e

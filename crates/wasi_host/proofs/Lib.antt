@@ -6,10 +6,16 @@ pub mod SideCounts
 pub mod Binds
 pub mod OptionSides
 pub mod UdpCalms
+pub mod DatagramCalms
+pub mod UdpConnects
+pub mod DatagramSends
+pub mod DatagramLists
+pub mod DatagramPermits
 pub mod UdpBinds
 pub mod UdpPolls
 pub mod UdpMakes
 pub mod ConnectCounts
+pub mod DatagramStores
 pub mod AcceptCounts
 pub mod ListenCounts
 pub mod AcceptSides
@@ -22,3 +28,7 @@ pub mod WatchedLooks
 pub mod Releases
 pub mod JobLists
 pub mod Closings
+pub mod ReceiveCalms
+pub mod ReceiveJobs
+pub mod ReceiveLists
+pub mod Receives

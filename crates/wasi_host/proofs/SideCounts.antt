@@ -155,13 +155,13 @@ pub record IsCalmOperation (op : Operation) : Type 0 where
   pub items : AllCalm op.left
   pub last : op.who.last ≡ NothingLast
 
-abbrev IsCalmFront : Front → Type 0
+abbrev pub IsCalmFront : Front → Type 0
 IsCalmFront (Goes g) = Unit {0}
 IsCalmFront (Stays i) = Unit {0}
 IsCalmFront (Again i) = ⊥
 IsCalmFront (Ends c g) = Unit {0}
 
-calm_verdict : (i : Item) (v : Verdict) → IsCalmFront (verdict_front i v)
+pub calm_verdict : (i : Item) (v : Verdict) → IsCalmFront (verdict_front i v)
 calm_verdict i verdict.Yes = tt
 calm_verdict i verdict.No = tt
 calm_verdict i verdict.Pending = tt

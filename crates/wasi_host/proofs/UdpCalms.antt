@@ -22,7 +22,7 @@ unfolding bind
 calm_ask_bound op s true = tt
 calm_ask_bound op s false = ((λ t. refl, refl), λ t. tt)
 
-calm_bound : (op : OpId) (s : Socket) → Calm Any (bound_asks op s)
+pub calm_bound : (op : OpId) (s : Socket) → Calm Any (bound_asks op s)
 calm_bound op s = calm_ask_bound op s s.bound
 
 -- its local address

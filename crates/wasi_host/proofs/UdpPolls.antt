@@ -32,7 +32,7 @@ use Rattle.wasi_host.proofs.UdpLookups.{held_in-udp_swap}
 
 -- == what a poll of the create makes of the record
 -- what a tree gives is made into something else, and that again
-gives_twice : {A B C : Type 0} (f : A → B) (g : B → C) (asks : Asks A) → bind (bind asks (λ a. Give (f a))) (λ b. Give (g b)) ≡ bind asks (λ a. Give (g (f a)))
+pub gives_twice : {A B C : Type 0} (f : A → B) (g : B → C) (asks : Asks A) → bind (bind asks (λ a. Give (f a))) (λ b. Give (g b)) ≡ bind asks (λ a. Give (g (f a)))
 unfolding bind
 gives_twice f g (Give a) = refl
 gives_twice f g (Ask op call next) = λ i. Ask op call (λ told. gives_twice f g (next told) i)

@@ -6,12 +6,15 @@ use Rattle.wasi_streams.specs.StreamStop.{StreamStop}
 use Rattle.wasi_tcp.specs.declared.writer.WriteState.{WriteState}
 use Rattle.wasi_tcp.specs.declared.writer.WriteState.TheVariants as writing
 use Rattle.wasi_tcp.specs.Writer.{turn_asks}
-use Rattle.wasi_host.specs.Records.{tcp2_at, tcp2_put}
+use Rattle.wasi_host.specs.Datagrams.{sends, turn_outgoing}
+use Rattle.wasi_host.specs.Receiving.{receives, turn_incoming}
+use Rattle.wasi_host.specs.Records.{tcp2_at, tcp2_put, open_at, open_put}
 use Rattle.wasi_host.specs.declared.records.Record.{Record}
 use Rattle.wasi_host.specs.declared.jobs.HostJob.{HostJob}
-use Rattle.wasi_host.specs.declared.jobs.HostJob.TheVariants.{Write}
+use Rattle.wasi_host.specs.declared.jobs.HostJob.TheVariants.{Write, Datagram, Receive}
 use Rattle.wasi_host.specs.declared.socket.Streams.{Streams}
 use Rattle.wasi_host.specs.declared.socket.Tcp2Socket.{Tcp2Socket}
+use Rattle.wasi_host.specs.declared.udp.OpenUdp.{OpenUdp}
 use Rattle.wasi_host.specs.Store.{Records, with_writer, stream_at}
 
 -- == which records have a job
@@ -33,22 +36,22 @@ abbrev pub has_job : Option Tcp2Socket → Bool
 has_job None = false
 has_job (Some r) = works_in r.streams
 
--- == a write that begins
-abbrev pub jobs_with : List HostJob → ℕ → Bool → List HostJob
-jobs_with jobs place true = jobs ++ Write place ∷ []
-jobs_with jobs place false = jobs
+-- == a job that begins
+abbrev pub jobs_with : List HostJob → HostJob → Bool → List HostJob
+jobs_with jobs job true = jobs ++ job ∷ []
+jobs_with jobs job false = jobs
 
--- a job is the last of those that were made
-abbrev pub with_job : Records → ℕ → Bool → Records
-with_job store place true = record store { jobs = store.jobs ++ Write place ∷ [] }
-with_job store place false = store
+-- it is the last of those that were made
+abbrev pub with_job : Records → HostJob → Bool → Records
+with_job store job true = record store { jobs = store.jobs ++ job ∷ [] }
+with_job store job false = store
 
 -- a write began on the record, and is in progress
 abbrev pub begins_job : Option Tcp2Socket → Option Tcp2Socket → Bool
 begins_job before now = not (has_job before) && has_job now
 
 abbrev pub noted : {T : Type 0} → ℕ → Option Tcp2Socket → Result T StreamStop × Records → Result T StreamStop × Records
-noted place before done = (done.0, with_job done.1 place (begins_job before (tcp2_at done.1.records place)))
+noted place before done = (done.0, with_job done.1 (Write place) (begins_job before (tcp2_at done.1.records place)))
 
 -- a write on a record, by which a job may begin
 abbrev pub write_at : {T : Type 0} → Records → ℕ → (Tcp2Socket → Asks (Result T StreamStop × Tcp2Socket)) → Option Tcp2Socket → Asks (Result T StreamStop × Records)
@@ -67,16 +70,38 @@ abbrev pub turn_at : List Record → ℕ → Option Tcp2Socket → Asks (List Re
 turn_at records place None = Give records
 turn_at records place (Some r) = bind (turn_record r) (λ now. Give (tcp2_put records place now))
 
+-- the datagram in the background of the socket of this number is polled once
+abbrev pub turn_datagram_at : List Record → ℕ → Option OpenUdp → Asks (List Record)
+turn_datagram_at records place None = Give records
+turn_datagram_at records place (Some o) = bind (turn_outgoing o o.outgoing) (λ now. Give (open_put records place now))
+
+-- and the receive in progress likewise
+abbrev pub turn_receive_at : List Record → ℕ → Option OpenUdp → Asks (List Record)
+turn_receive_at records place None = Give records
+turn_receive_at records place (Some o) = bind (turn_incoming o o.incoming) (λ now. Give (open_put records place now))
+
 abbrev pub turn_job : List Record → HostJob → Asks (List Record)
 turn_job records (Write place) = turn_at records place (tcp2_at records place)
+turn_job records (Datagram place) = turn_datagram_at records place (open_at records place)
+turn_job records (Receive place) = turn_receive_at records place (open_at records place)
 
 -- these, in order
 abbrev pub turn_jobs : List HostJob → List Record → Asks (List Record)
 turn_jobs [] records = Give records
 turn_jobs (job ∷ jobs) records = bind (turn_job records job) (λ now. turn_jobs jobs now)
 
+abbrev pub sends_on : Option OpenUdp → Bool
+sends_on None = false
+sends_on (Some o) = sends o.outgoing
+
+abbrev pub receives_on : Option OpenUdp → Bool
+receives_on None = false
+receives_on (Some o) = receives o.incoming
+
 abbrev pub is_going : List Record → HostJob → Bool
 is_going records (Write place) = has_job (tcp2_at records place)
+is_going records (Datagram place) = sends_on (open_at records place)
+is_going records (Receive place) = receives_on (open_at records place)
 
 -- a job that is over is none
 abbrev pub still_going : List Record → List HostJob → List HostJob
@@ -93,7 +118,18 @@ turn_store_asks store = bind (turn_jobs store.jobs store.records) (λ records. G
 -- == a record that goes takes its jobs with it
 abbrev pub is_on : ℕ → HostJob → Bool
 is_on place (Write p) = p == place
+is_on place (Datagram p) = p == place
+is_on place (Receive p) = p == place
 
 abbrev pub other_jobs : ℕ → List HostJob → List HostJob
 other_jobs place [] = []
 other_jobs place (job ∷ jobs) = if is_on place job then other_jobs place jobs else job ∷ other_jobs place jobs
+
+-- and an incoming stream its receive
+abbrev pub is_receive_on : ℕ → HostJob → Bool
+is_receive_on place (Receive p) = p == place
+is_receive_on place _ = false
+
+abbrev pub other_than_receive : ℕ → List HostJob → List HostJob
+other_than_receive place [] = []
+other_than_receive place (job ∷ jobs) = if is_receive_on place job then other_than_receive place jobs else job ∷ other_than_receive place jobs

@@ -10,7 +10,7 @@ use Rattle.wasi_streams.specs.declared.fault.Fault.{Fault}
 use Rattle.wasi_streams.specs.declared.fault.Fault.TheVariants as fault
 use Rattle.wasi_streams.specs.Table.{Shown, value_at, children_of, is_full, pushed, without}
 use Rattle.wasi_host.specs.declared.kind.Kind.{Kind}
-use Rattle.wasi_host.specs.declared.kind.Kind.TheVariants.{Network, Tcp2, Udp2, Input, Output, Pollable, ErrorValue}
+use Rattle.wasi_host.specs.declared.kind.Kind.TheVariants.{Network, Tcp2, Udp2, Input, Output, Incoming, Outgoing, Pollable, ErrorValue}
 use Rattle.wasi_host.specs.declared.kind.Watched.{Watched}
 use Rattle.wasi_host.specs.declared.kind.Watched.TheVariants as watched
 use Rattle.wasi_host.specs.Host.{Stop, Trap}
@@ -25,6 +25,8 @@ name_of (Tcp2 n) = name.Tcp2
 name_of (Udp2 n) = name.Udp2
 name_of (Input n) = name.Input
 name_of (Output n) = name.Output
+name_of (Incoming n) = name.Incoming
+name_of (Outgoing n) = name.Outgoing
 name_of (Pollable w) = name.Pollable
 name_of ErrorValue = name.ErrorValue
 
@@ -42,6 +44,16 @@ place_of _ = None
 abbrev pub udp_of : Option Kind → Option ℕ
 udp_of (Some (Udp2 place)) = Some place
 udp_of _ = None
+
+-- the number of the record of an outgoing datagram stream's socket
+abbrev pub outgoing_of : Option Kind → Option ℕ
+outgoing_of (Some (Outgoing place)) = Some place
+outgoing_of _ = None
+
+-- and of an incoming one's
+abbrev pub incoming_of : Option Kind → Option ℕ
+incoming_of (Some (Incoming place)) = Some place
+incoming_of _ = None
 
 abbrev pub is_network : Option Kind → Bool
 is_network (Some Network) = true
@@ -68,6 +80,8 @@ watched_by (Some (Tcp2 place)) = Some (watched.Socket place)
 watched_by (Some (Udp2 place)) = Some (watched.Udp place)
 watched_by (Some (Input place)) = Some (watched.Input place)
 watched_by (Some (Output place)) = Some (watched.Output place)
+watched_by (Some (Incoming place)) = Some (watched.Incoming place)
+watched_by (Some (Outgoing place)) = Some (watched.Outgoing place)
 watched_by _ = None
 
 -- what a pollable watches
@@ -86,13 +100,16 @@ place_in (watched.Socket place) = place
 place_in (watched.Input place) = place
 place_in (watched.Output place) = place
 place_in (watched.Udp place) = place
+place_in (watched.Incoming place) = place
+place_in (watched.Outgoing place) = place
 
 -- == a handle is made
--- a pollable is a child of what it watches, and the streams of a connection under its socket; an error's parent is named in its
--- mark alone
+-- a pollable is a child of what it watches, and the streams of a socket are under it; an error's parent is named in its mark alone
 abbrev pub table_parent : Kind → Option ℕ → Option ℕ
 table_parent (Input n) parent = parent
 table_parent (Output n) parent = parent
+table_parent (Incoming n) parent = parent
+table_parent (Outgoing n) parent = parent
 table_parent (Pollable w) parent = parent
 table_parent _ parent = None
 

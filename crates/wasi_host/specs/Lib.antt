@@ -19,6 +19,9 @@ pub mod Machine
 pub mod StreamCalls
 pub mod Pending
 pub mod Udp
+pub mod Datagrams
+pub mod Receiving
 pub mod UdpCalls
 pub mod UdpCreates
+pub mod DatagramCalls
 pub mod Views

@@ -12,20 +12,21 @@ use Rattle.wasi_world.specs.Asks.{Asks, Give, bind}
 use Rattle.wasi_tcp.specs.Shape.{Socket}
 use Rattle.wasi_tcp.specs.Socket.{new_asks, side_of}
 use Rattle.wasi_streams.specs.Table.{empty}
-use Rattle.wasi_host.specs.Records.{tcp2_at, udp2_at}
+use Rattle.wasi_host.specs.Records.{tcp2_at, udp2_at, open_at}
 use Rattle.wasi_host.specs.declared.kind.Kind.{Kind}
-use Rattle.wasi_host.specs.declared.kind.Kind.TheVariants.{Tcp2, Udp2, Output, Pollable}
+use Rattle.wasi_host.specs.declared.kind.Kind.TheVariants.{Tcp2, Udp2, Output, Incoming, Outgoing, Pollable}
 use Rattle.wasi_host.specs.declared.kind.Watched.{Watched}
 use Rattle.wasi_host.specs.declared.kind.Watched.TheVariants as watched
 use Rattle.wasi_host.specs.declared.machine.Machine.{Machine}
 use Rattle.wasi_host.specs.declared.socket.Tcp2Socket.{Tcp2Socket}
 use Rattle.wasi_host.specs.Host.{Stop, Trap, code_stop}
-use Rattle.wasi_host.specs.Kinds.{Handles, kind_at, place_of, udp_of, input_of, output_of, watched_by, watch_of, place_in, make_asks, taken_out}
+use Rattle.wasi_host.specs.Kinds.{Handles, kind_at, place_of, udp_of, input_of, output_of, incoming_of, outgoing_of, watched_by, watch_of, place_in, make_asks, taken_out}
 pub use Rattle.wasi_host.specs.Names.{own_of}
 use Rattle.wasi_host.specs.Store.{Records, no_records, with_record}
 use Rattle.wasi_host.specs.Jobs.{turn_store_asks}
 use Rattle.wasi_host.specs.Readiness.{ready_at, ready_ids_at}
 use Rattle.wasi_host.specs.Dropping.{release_at, drop_output_at}
+use Rattle.wasi_host.specs.DatagramCalls.{incoming_names, outgoing_ready, ready_incoming_at, drop_incoming_at, drop_outgoing_at}
 use Rattle.wasi_host.specs.UdpCalls.{release_udp_at}
 use Rattle.wasi_host.specs.UdpCreates.{udp_side_at}
 
@@ -52,6 +53,12 @@ input_at m h = input_of (kind_at m.table h)
 abbrev pub output_at : Machine → ℕ → Option ℕ
 output_at m h = output_of (kind_at m.table h)
 
+abbrev pub outgoing_at : Machine → ℕ → Option ℕ
+outgoing_at m h = outgoing_of (kind_at m.table h)
+
+abbrev pub incoming_at : Machine → ℕ → Option ℕ
+incoming_at m h = incoming_of (kind_at m.table h)
+
 abbrev pub no_such_handle : {A : Type 0} → Machine → Asks (Result A Stop × Machine)
 no_such_handle m = Give (Err (Trap NoSuchHandle), m)
 
@@ -76,6 +83,8 @@ create_asks m own ctx family = bind (new_asks own ctx family) (created_asks m ow
 -- the network socket of what is watched, by which its pollables are marked
 abbrev pub watched_side : Records → Watched → Option OpId
 watched_side store (watched.Udp place) = udp_side_at (udp2_at store.records place)
+watched_side store (watched.Incoming place) = udp_side_at (udp2_at store.records place)
+watched_side store (watched.Outgoing place) = udp_side_at (udp2_at store.records place)
 watched_side store w = side_at (tcp2_at store.records (place_in w))
 
 abbrev pub subscribe_on : Machine → OpId → ℕ → Option Watched → Asks (Result ℕ Stop × Machine)
@@ -90,14 +99,17 @@ subscribe_asks m own this = subscribe_on m own this (watched_by (kind_at m.table
 abbrev pub ready_on : Machine → Ids → Option Watched → Asks (Result Bool Stop × Machine)
 ready_on m ids None = no_such_handle m
 ready_on m ids (Some (watched.Udp place)) = Give (Ok true, m)
+ready_on m ids (Some (watched.Incoming place)) = bind (ready_incoming_at m.store ids place (open_at m.store.records place)) (λ done. Give (with_store m done))
+ready_on m ids (Some (watched.Outgoing place)) = Give (Ok (outgoing_ready (open_at m.store.records place)), m)
 ready_on m ids (Some w) = bind (ready_at m.store (own_of ids.line) ids w (place_in w) (tcp2_at m.store.records (place_in w))) (λ done. Give (with_store m done))
 
--- one look at what a pollable watches; a UDP socket is ready
+-- one look at what a pollable watches; a UDP socket is ready, and an outgoing datagram stream where it sends nothing in the background
 abbrev pub ready_asks : Machine → Ids → ℕ → Asks (Result Bool Stop × Machine)
 ready_asks m ids pollable = ready_on m ids (watch_of (kind_at m.table pollable))
 
 abbrev pub ready_ids_on : Machine → Ids → Option Watched → Ids
 ready_ids_on m ids None = ids
+ready_ids_on m ids (Some (watched.Incoming place)) = incoming_names ids (open_at m.store.records place)
 ready_ids_on m ids (Some w) = ready_ids_at ids w (tcp2_at m.store.records (place_in w))
 
 -- the names that are left to the line then
@@ -111,11 +123,14 @@ answered done = (Ok done.0, done.1)
 abbrev pub at_once : Unit {0} × Records → Answer (Unit {0}) × Records
 at_once done = (Ready tt, done.1)
 
--- a socket releases what it has, an output waits for its writer, and the rest don't wait
+-- a socket releases what it has, an output waits for its writer and an outgoing datagram stream for its datagram, and the rest don't
+-- wait
 abbrev pub drop_kind : Machine → Ids → Kind → Asks (Result (Answer (Unit {0})) Stop × Machine)
 drop_kind m ids (Tcp2 place) = bind (release_at m.store (own_of ids.line) place (tcp2_at m.store.records place)) (λ done. Give (answered (with_store m (at_once done))))
 drop_kind m ids (Udp2 place) = bind (release_udp_at m.store (own_of ids.line) place (udp2_at m.store.records place)) (λ done. Give (answered (with_store m (at_once done))))
 drop_kind m ids (Output place) = bind (drop_output_at m.store ids place (tcp2_at m.store.records place)) (λ done. Give (answered (with_store m done)))
+drop_kind m ids (Incoming place) = Give (answered (with_store m (at_once (drop_incoming_at m.store place (open_at m.store.records place)))))
+drop_kind m ids (Outgoing place) = Give (answered (with_store m (drop_outgoing_at m.store ids place (open_at m.store.records place))))
 drop_kind m ids _ = Give (Ok (Ready tt), m)
 
 abbrev pub drop_taken : Machine → Ids → Result Kind Stop × Handles → Asks (Result (Answer (Unit {0})) Stop × Machine)

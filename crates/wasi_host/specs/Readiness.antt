@@ -94,7 +94,7 @@ abbrev pub ready_record : OpId → Ids → Watched → Tcp2Socket → Asks (Resu
 ready_record op ids (watched.Socket place) r = ready_socket ids r
 ready_record op ids (watched.Input place) r = ready_reader op r r.streams
 ready_record op ids (watched.Output place) r = ready_writer op r r.streams
-ready_record op ids (watched.Udp place) r = Give (Err (Trap NoSuchHandle), r)
+ready_record op ids _ r = Give (Err (Trap NoSuchHandle), r)
 
 abbrev pub ready_put : Records → ℕ → Result Bool Stop × Tcp2Socket → Result Bool Stop × Records
 ready_put store place done = (done.0, with_socket store place done.1)

@@ -7,7 +7,7 @@ use Rattle.wasi_world.specs.declared.outcome.Answer.TheVariants.{Ready, Pending}
 use Rattle.wasi_host.specs.declared.socket.Tcp2Socket.{Tcp2Socket}
 use Rattle.wasi_host.specs.declared.store.Standing.{Standing}
 use Rattle.wasi_host.specs.declared.store.StandingCall.{StandingCall}
-use Rattle.wasi_host.specs.declared.store.StandingCall.TheVariants.{Bind, Listen, DropOutput, UdpCreate, UdpBind}
+use Rattle.wasi_host.specs.declared.store.StandingCall.TheVariants.{Bind, Listen, DropOutput, UdpCreate, UdpBind, UdpConnect, DropOutgoing}
 use Rattle.wasi_host.specs.Host.{Stop, code_stop}
 use Rattle.wasi_host.specs.Store.{Records, with_socket}
 
@@ -33,6 +33,8 @@ call_place (Listen place) = place
 call_place (DropOutput place) = place
 call_place (UdpCreate place) = place
 call_place (UdpBind place) = place
+call_place (UdpConnect place handle) = place
+call_place (DropOutgoing place) = place
 
 -- nothing is pending
 abbrev pub unstood : Records → Records

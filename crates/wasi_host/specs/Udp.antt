@@ -1,5 +1,5 @@
 -- A UDP socket of the 0.2 interface as its record has it: how it is made, what it is in the middle of, and how it ends.
-use Rattle.std.specs.Prelude.{ℕ, Bool, true, false, List, Result, Ok, Err}
+use Rattle.std.specs.Prelude.{ℕ, Bool, true, false, List, None, Result, Ok, Err}
 use Rattle.wasi_addr.specs.declared.address.IpSocketAddress.{IpSocketAddress}
 use Rattle.wasi_addr.specs.declared.code.ErrorCode.{ErrorCode}
 use Rattle.wasi_addr.specs.declared.code.ErrorCode.TheVariants.{InvalidState}
@@ -41,9 +41,9 @@ with_udp_inner o socket = record o { inner = socket }
 abbrev pub with_udp_progress : OpenUdp → UdpInProgress → OpenUdp
 with_udp_progress o doing = record o { in_progress = doing }
 
--- it is made, and in the middle of nothing
+-- it is made, and in the middle of nothing; it has no streams yet
 abbrev pub opened_udp : Socket → Udp2Socket
-opened_udp socket = Open (record { inner = socket; in_progress = Nothing })
+opened_udp socket = Open (record { inner = socket; in_progress = Nothing; connecting = None; incoming = None; outgoing = None })
 
 -- == a create
 -- a poll of the create ended: pending, it is kept; done, the socket is there; refused, its network socket was closed
@@ -110,7 +110,7 @@ abbrev pub poll_udp_bind_asks : OpenUdp → Asks (Result (Answer (Unit {0})) Err
 poll_udp_bind_asks o = poll_udp_binding o o.in_progress
 
 abbrev pub udp_bind_begun : OpenUdp → Result Operation ErrorCode × Socket → Asks (Result (Answer (Unit {0})) ErrorCode × OpenUdp)
-udp_bind_begun o (Ok op, socket) = poll_udp_bind_asks (record { inner = socket; in_progress = Binding op })
+udp_bind_begun o (Ok op, socket) = poll_udp_bind_asks (record o { inner = socket; in_progress = Binding op })
 udp_bind_begun o (Err c, socket) = Give (Err c, with_udp_inner o socket)
 
 -- begins a bind and polls it

@@ -3,7 +3,7 @@ use Rattle.std.specs.Prelude.{ℕ, Bool, true, false, Option, Some, None, Result
 use Rattle.wasi_addr.specs.declared.address.IpSocketAddress.{IpSocketAddress}
 use Rattle.wasi_addr.specs.declared.address.SocketAddressFamily.{SocketAddressFamily}
 use Rattle.wasi_addr.specs.declared.code.ErrorCode.{ErrorCode}
-use Rattle.wasi_addr.specs.declared.p2.ErrorCode.TheVariants.{ConcurrencyConflict, NotInProgress}
+use Rattle.wasi_addr.specs.declared.p2.ErrorCode.TheVariants.{ConcurrencyConflict, InvalidState, NotInProgress}
 use Rattle.wasi_world.specs.declared.ids.OpId.{OpId}
 use Rattle.wasi_world.specs.declared.ids.Ids.{Ids}
 use Rattle.wasi_world.specs.declared.call.Opt.{Opt}
@@ -17,6 +17,7 @@ use Rattle.wasi_host.specs.declared.store.StandingCall.TheVariants.{UdpBind}
 use Rattle.wasi_host.specs.declared.udp.OpenUdp.{OpenUdp}
 use Rattle.wasi_host.specs.declared.udp.Udp2Socket.{Udp2Socket}
 use Rattle.wasi_host.specs.declared.udp.UdpInProgress.TheVariants.{Nothing}
+use Rattle.wasi_host.specs.Datagrams.{has_streams}
 use Rattle.wasi_host.specs.Host.{Stop, Code, Trap, code_stop}
 use Rattle.wasi_host.specs.Names.{own_of}
 use Rattle.wasi_host.specs.Options.{code_told}
@@ -42,11 +43,15 @@ udp_call_answered store ids call (Ok answer, o) = allowed_answer (stood (with_op
 udp_call_answered store ids call (Err c, o) = (Err (code_stop c), with_open_udp store (call_place call) o)
 
 -- == a bind
+abbrev pub start_udp_bind_unless : Records → Ids → ℕ → IpSocketAddress → OpenUdp → Bool → Asks (Result (Answer (Unit {0})) Stop × Records)
+start_udp_bind_unless store ids place a o true = Give (Err (Code InvalidState), store)
+start_udp_bind_unless store ids place a o false = bind (begin_udp_bind_asks (own_of ids.line) o a) (λ begun. Give (udp_call_answered store ids (UdpBind place) begun))
+
 abbrev pub start_udp_bind_by : Records → Ids → ℕ → IpSocketAddress → OpenUdp → Bool → Asks (Result (Answer (Unit {0})) Stop × Records)
-start_udp_bind_by store ids place a o true = bind (begin_udp_bind_asks (own_of ids.line) o a) (λ begun. Give (udp_call_answered store ids (UdpBind place) begun))
+start_udp_bind_by store ids place a o true = start_udp_bind_unless store ids place a o (has_streams o)
 start_udp_bind_by store ids place a o false = Give (Err (Code ConcurrencyConflict), store)
 
--- with an operation in progress it is refused
+-- with an operation in progress it is refused, and while a stream of it is live
 abbrev pub start_udp_bind_at : Records → Ids → ℕ → IpSocketAddress → Option OpenUdp → Asks (Result (Answer (Unit {0})) Stop × Records)
 start_udp_bind_at store ids place a None = Give (Err (Trap NoSuchHandle), store)
 start_udp_bind_at store ids place a (Some o) = start_udp_bind_by store ids place a o (is_udp_idle o.in_progress)

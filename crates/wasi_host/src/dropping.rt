@@ -78,7 +78,8 @@ impl Store {
 
 /// Drops a handle (`drop` of each resource). Something made under it is live: `HasChildren`. The handle goes at once. A TCP socket
 /// releases its open halves and its network socket, and a UDP socket its network socket; an output waits until its writer is ready,
-/// and while it isn't the call is pending; nothing else waits. No call is pending yet: a drop that is continues by
+/// and an outgoing datagram stream until its datagram in the background is sent or failed, and while it isn't the call is pending;
+/// nothing else waits. No call is pending yet: a drop that is continues by
 /// [`resume`](crate::resume).
 pub fn drop_handle<W: World>(
     view: &mut WasiSocketsCtxView<'_>,
@@ -125,6 +126,11 @@ fn release_kind<W: World>(
             let answer = view.store.drop_output(world, *ids, place)?;
             Ok(answer)
         }
+        Kind::Incoming(place) => {
+            view.store.drop_incoming(place);
+            Ok(Answer::Ready(()))
+        }
+        Kind::Outgoing(place) => Ok(view.store.drop_outgoing(*ids, place)),
         Kind::Network | Kind::Input(_) | Kind::Pollable(_) | Kind::ErrorValue => {
             Ok(Answer::Ready(()))
         }

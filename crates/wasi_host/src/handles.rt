@@ -7,7 +7,7 @@ ghost use Rattle.wasi_streams.specs.Table.{is_full, pushed};
 ghost use Rattle.wasi_host.specs.Host.{fault_outcome};
 ghost use Rattle.wasi_host.specs.Store.{Records};
 ghost use Rattle.wasi_host.specs.Sides.{KnowsSides};
-ghost use Rattle.wasi_host.specs.Kinds.{kind_at, place_of, udp_of, input_of, output_of, stream_of, is_network, watched_by, watch_of, table_parent, make_asks, taken_out, with_handle, Names};
+ghost use Rattle.wasi_host.specs.Kinds.{kind_at, place_of, udp_of, input_of, output_of, incoming_of, outgoing_of, stream_of, is_network, watched_by, watch_of, table_parent, make_asks, taken_out, with_handle, Names};
 
 use crate::kind::{Kind, Watched};
 use std::alloc::AllocError;
@@ -75,6 +75,26 @@ pub fn output(table: &Table<Kind>, handle: Handle) -> Result<usize, Fault>
     }
 }
 
+/// The number of the record of an incoming datagram stream's socket.
+pub fn incoming(table: &Table<Kind>, handle: Handle) -> Result<usize, Fault>
+    ensures { Names result (incoming_of (kind_at table.now handle)) }
+{
+    match kind(table, handle) {
+        Some(Kind::Incoming(place)) => Ok(place),
+        _ => Err(Fault::Trap(TrapKind::NoSuchHandle)),
+    }
+}
+
+/// The number of the record of an outgoing datagram stream's socket.
+pub fn outgoing(table: &Table<Kind>, handle: Handle) -> Result<usize, Fault>
+    ensures { Names result (outgoing_of (kind_at table.now handle)) }
+{
+    match kind(table, handle) {
+        Some(Kind::Outgoing(place)) => Ok(place),
+        _ => Err(Fault::Trap(TrapKind::NoSuchHandle)),
+    }
+}
+
 /// The number of the record that a stream reads from or writes to.
 pub fn stream(table: &Table<Kind>, handle: Handle) -> Result<usize, Fault>
     ensures { Names result (stream_of (kind_at table.now handle)) }
@@ -94,6 +114,8 @@ pub fn watched(table: &Table<Kind>, handle: Handle) -> Result<Watched, Fault>
         Some(Kind::Udp2(place)) => Ok(Watched::Udp(place)),
         Some(Kind::Input(place)) => Ok(Watched::Input(place)),
         Some(Kind::Output(place)) => Ok(Watched::Output(place)),
+        Some(Kind::Incoming(place)) => Ok(Watched::Incoming(place)),
+        Some(Kind::Outgoing(place)) => Ok(Watched::Outgoing(place)),
         _ => Err(Fault::Trap(TrapKind::NoSuchHandle)),
     }
 }

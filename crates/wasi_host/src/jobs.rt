@@ -2,13 +2,13 @@
 
 ghost use Rattle.std.specs.Prelude.{◌≡◌, false};
 ghost use Rattle.wasi_world.specs.Asks.{AsksFor};
-ghost use Rattle.wasi_host.specs.Records.{tcp2_at};
-ghost use Rattle.wasi_host.specs.Jobs.{turn_at, turn_job, turn_jobs, turn_store_asks, still_going, has_job, is_going, is_on, other_jobs};
+ghost use Rattle.wasi_host.specs.Records.{tcp2_at, open_at};
+ghost use Rattle.wasi_host.specs.Jobs.{turn_at, turn_datagram_at, turn_receive_at, sends_on, receives_on, is_receive_on, other_than_receive, turn_job, turn_jobs, turn_store_asks, still_going, has_job, is_going, is_on, other_jobs};
 ghost use Rattle.wasi_host.specs.Machine.{turn_machine_asks};
 ghost use Rattle.wasi_host.specs.Sides.{KnowsSides, MakesNone, held_in};
 ghost use Rattle.wasi_host.specs.Views.{SameView, state_of};
 
-use crate::records::{Record, tcp2, tcp2_mut};
+use crate::records::{Record, open_udp, open_udp_mut, tcp2, tcp2_mut};
 use crate::socket::Tcp2Socket;
 use crate::store::Store;
 use crate::view::WasiSocketsCtxView;
@@ -20,6 +20,10 @@ use wasi_world::World;
 pub enum HostJob {
     /// The write in progress of the socket of this number.
     Write { socket: usize },
+    /// The datagram in the background of the UDP socket of this number.
+    Datagram { socket: usize },
+    /// The receive in progress of the UDP socket of this number.
+    Receive { socket: usize },
 }
 
 impl HostJob {
@@ -28,7 +32,21 @@ impl HostJob {
         ensures { result ≡ is_on place self }
     {
         match self {
-            HostJob::Write { socket } => socket == place,
+            HostJob::Write { socket }
+            | HostJob::Datagram { socket }
+            | HostJob::Receive { socket } => socket == place,
+        }
+    }
+}
+
+impl HostJob {
+    /// Whether it is a receive of the record of this number.
+    fn is_receive_on(self, place: usize) -> bool
+        ensures { result ≡ is_receive_on place self }
+    {
+        match self {
+            HostJob::Receive { socket } => socket == place,
+            HostJob::Write { .. } | HostJob::Datagram { .. } => false,
         }
     }
 }
@@ -51,6 +69,42 @@ fn turn_socket<W: World>(
     record.turn(world)
 }
 
+/// Polls the datagram in the background of the UDP socket of this number once, where there is one.
+fn turn_datagram<W: World>(
+    records: &mut Vec<Record>,
+    world: &mut W,
+    place: usize,
+) -> Result<(), AllocError>
+    requires { (W.seen world.old).ended ≡ false }
+    ensures asked { AsksFor (turn_datagram_at records.old.items place (open_at records.old.items place)) (W.seen world.old) (W.seen world.new) (λ done. records.new.items) result }
+    ensures held { held_in records.new.items ≡ held_in records.old.items }
+    ensures none { MakesNone (W.seen world.old) (W.seen world.new) }
+    ensures open { (W.seen world.new).ended ≡ false }
+{
+    let Some(socket) = open_udp_mut(records, place) else {
+        return Ok(());
+    };
+    socket.turn_outgoing(world)
+}
+
+/// Polls the receive in progress of the UDP socket of this number once, where there is one.
+fn turn_receive<W: World>(
+    records: &mut Vec<Record>,
+    world: &mut W,
+    place: usize,
+) -> Result<(), AllocError>
+    requires { (W.seen world.old).ended ≡ false }
+    ensures asked { AsksFor (turn_receive_at records.old.items place (open_at records.old.items place)) (W.seen world.old) (W.seen world.new) (λ done. records.new.items) result }
+    ensures held { held_in records.new.items ≡ held_in records.old.items }
+    ensures none { MakesNone (W.seen world.old) (W.seen world.new) }
+    ensures open { (W.seen world.new).ended ≡ false }
+{
+    let Some(socket) = open_udp_mut(records, place) else {
+        return Ok(());
+    };
+    socket.turn_incoming(world)
+}
+
 /// Polls a job once.
 fn turn_job<W: World>(
     records: &mut Vec<Record>,
@@ -65,6 +119,8 @@ fn turn_job<W: World>(
 {
     match job {
         HostJob::Write { socket } => turn_socket(records, world, socket),
+        HostJob::Datagram { socket } => turn_datagram(records, world, socket),
+        HostJob::Receive { socket } => turn_receive(records, world, socket),
     }
 }
 
@@ -96,12 +152,34 @@ fn has_job(records: &[Record], place: usize) -> bool
     }
 }
 
+/// Whether the UDP socket of this number has a datagram in the background.
+fn sends_on(records: &[Record], place: usize) -> bool
+    ensures { result ≡ sends_on (open_at records.now place) }
+{
+    match open_udp(records, place) {
+        Some(socket) => socket.sends(),
+        None => false,
+    }
+}
+
+/// Whether the UDP socket of this number has a receive in progress.
+fn receives_on(records: &[Record], place: usize) -> bool
+    ensures { result ≡ receives_on (open_at records.now place) }
+{
+    match open_udp(records, place) {
+        Some(socket) => socket.receives(),
+        None => false,
+    }
+}
+
 /// Whether a job isn't over.
 fn is_going(records: &[Record], job: HostJob) -> bool
     ensures { result ≡ is_going records.now job }
 {
     match job {
         HostJob::Write { socket } => has_job(records, socket),
+        HostJob::Datagram { socket } => sends_on(records, socket),
+        HostJob::Receive { socket } => receives_on(records, socket),
     }
 }
 
@@ -124,6 +202,13 @@ impl Store {
     {
         let records = self.records.as_slice();
         self.jobs.retain(|job| is_going(records, *job));
+    }
+
+    /// No receive of this record is left.
+    pub(crate) fn forget_receives(&mut self, place: usize)
+        ensures { self.new ≡ record self.old { jobs = other_than_receive place self.old.jobs } }
+    {
+        self.jobs.retain(|job| !job.is_receive_on(place));
     }
 
     /// No job of this record is left.

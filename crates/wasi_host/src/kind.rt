@@ -16,6 +16,10 @@ pub enum Watched {
     Output(usize),
     /// A UDP socket, which is always ready.
     Udp(usize),
+    /// Whether a datagram has come.
+    Incoming(usize),
+    /// Whether a datagram may be sent.
+    Outgoing(usize),
 }
 
 impl Watched {
@@ -27,7 +31,9 @@ impl Watched {
             Watched::Socket(place)
             | Watched::Input(place)
             | Watched::Output(place)
-            | Watched::Udp(place) => place,
+            | Watched::Udp(place)
+            | Watched::Incoming(place)
+            | Watched::Outgoing(place) => place,
         }
     }
 }
@@ -44,6 +50,10 @@ pub enum Kind {
     Input(usize),
     /// The output of a connection, with the number of its socket's record.
     Output(usize),
+    /// The incoming datagram stream of a UDP socket, with the number of its record.
+    Incoming(usize),
+    /// The outgoing datagram stream of a UDP socket, with the number of its record.
+    Outgoing(usize),
     /// A pollable, with what it watches.
     Pollable(Watched),
     /// The error of a stream's operation.
@@ -61,18 +71,24 @@ impl Kind {
             Kind::Udp2(_) => HandleKind::Udp2,
             Kind::Input(_) => HandleKind::Input,
             Kind::Output(_) => HandleKind::Output,
+            Kind::Incoming(_) => HandleKind::Incoming,
+            Kind::Outgoing(_) => HandleKind::Outgoing,
             Kind::Pollable(_) => HandleKind::Pollable,
             Kind::ErrorValue => HandleKind::ErrorValue,
         }
     }
 
     /// The parent in the table of a handle whose mark names this one: a pollable is a child of what it watches, and the
-    /// streams of a connection under its socket; an error's parent is named in its mark alone.
+    /// streams of a socket are under it; an error's parent is named in its mark alone.
     pub fn table_parent(self, parent: Option<Handle>) -> Option<Handle>
         ensures { result ≡ table_parent self parent }
     {
         match self {
-            Kind::Input(_) | Kind::Output(_) | Kind::Pollable(_) => parent,
+            Kind::Input(_)
+            | Kind::Output(_)
+            | Kind::Incoming(_)
+            | Kind::Outgoing(_)
+            | Kind::Pollable(_) => parent,
             Kind::Network | Kind::Tcp2(_) | Kind::Udp2(_) | Kind::ErrorValue => None,
         }
     }

@@ -4,6 +4,8 @@
 
 pub mod binding;
 mod closing;
+mod datagram_calls;
+pub mod datagrams;
 mod dropping;
 pub mod error;
 mod halves;
@@ -16,6 +18,7 @@ mod options;
 pub mod pending;
 mod pollables;
 mod readiness;
+mod receiving;
 pub mod records;
 mod releasing;
 pub mod socket;
@@ -26,6 +29,7 @@ mod udp_calls;
 pub mod view;
 
 pub use binding::{AsyncOperation, InProgress};
+pub use datagrams::{Incoming, Outgoing, Receiving, Sending};
 pub use dropping::drop_handle;
 pub use error::{CallError, SocketError};
 pub use jobs::{HostJob, turn};

@@ -4,7 +4,7 @@ ghost use Rattle.std.specs.Prelude.{◌≡◌, IfNone, IsSome, false};
 ghost use Rattle.wasi_world.specs.Asks.{AsksFor};
 ghost use Rattle.wasi_host.specs.Records.{tcp2_at};
 ghost use Rattle.wasi_host.specs.Host.{host_outcome};
-ghost use Rattle.wasi_host.specs.Pending.{outcome_of, handle_outcome, rebind_at, relisten_at, go_on, resume_asks};
+ghost use Rattle.wasi_host.specs.Pending.{outcome_of, handle_outcome, pair_outcome, rebind_at, relisten_at, go_on, resume_asks};
 ghost use Rattle.wasi_host.specs.Sides.{KnowsSides};
 ghost use Rattle.wasi_host.specs.Standing.{call_of, unstood};
 ghost use Rattle.wasi_host.specs.Views.{SameView, state_of};
@@ -22,6 +22,8 @@ pub enum Outcome {
     Nothing,
     /// It gives a handle.
     One(Handle),
+    /// It gives two.
+    Two(Handle, Handle),
 }
 
 impl Outcome {
@@ -41,6 +43,16 @@ impl Outcome {
     {
         match answer {
             Answer::Ready(handle) => Answer::Ready(Outcome::One(handle)),
+            Answer::Pending => Answer::Pending,
+        }
+    }
+
+    /// The outcome of a call that gives two.
+    fn of_pair(answer: Answer<(Handle, Handle)>) -> Answer<Outcome>
+        ensures { result ≡ pair_outcome answer }
+    {
+        match answer {
+            Answer::Ready((first, second)) => Answer::Ready(Outcome::Two(first, second)),
             Answer::Pending => Answer::Pending,
         }
     }
@@ -100,8 +112,8 @@ impl Store {
     }
 }
 
-/// Makes a call that was pending go on, by these names: a bind and a listen are polled again, the drop of an output looks at its
-/// writer again, and a create waits on for its network socket. Pending, it stays pending.
+/// Makes a call that was pending go on, by these names: a bind, a listen and a connect are polled again, the drop of a stream looks
+/// again whether that is done, and a create waits on for its network socket. Pending, it stays pending.
 fn go_on<W: World>(
     view: &mut WasiSocketsCtxView<'_>,
     world: &mut W,
@@ -135,11 +147,21 @@ fn go_on<W: World>(
             let answer = view.store.rebind_udp(world, ids, socket)?;
             Ok(Outcome::of_nothing(answer))
         }
+        StandingCall::UdpConnect { socket, handle } => {
+            let answer = view
+                .store
+                .remake_streams(view.table, world, ids, socket, handle)?;
+            Ok(Outcome::of_pair(answer))
+        }
+        StandingCall::DropOutgoing { socket } => {
+            let answer = view.store.drop_outgoing(ids, socket);
+            Ok(Outcome::of_nothing(answer))
+        }
     }
 }
 
 /// Polls the pending call under this number, by the names that were left to it; none exactly where none is. A call that is
-/// pending stays so. A code is that of a bind, of a listen or of a create.
+/// pending stays so. A code is that of a bind, of a listen, of a create or of a connect.
 pub fn resume<W: World>(
     view: &mut WasiSocketsCtxView<'_>,
     world: &mut W,

@@ -1,8 +1,9 @@
 //! Pollables, and whether what they watch is ready.
 
-ghost use Rattle.std.specs.Prelude.{◌≡◌, ◌+◌, ◌<◌, ◌^◌, false};
+ghost use Rattle.std.specs.Prelude.{◌≡◌, ◌+◌, ◌<◌, ◌^◌, false, IfOk};
 ghost use Rattle.wasi_world.specs.Asks.{AsksFor};
 ghost use Rattle.wasi_host.specs.Records.{tcp2_at};
+ghost use Rattle.wasi_host.specs.Listening.{TakesOne};
 ghost use Rattle.wasi_host.specs.Host.{fault_outcome};
 ghost use Rattle.wasi_host.specs.Kinds.{place_in};
 ghost use Rattle.wasi_host.specs.Machine.{own_of, subscribe_asks, ready_asks, ids_after_ready, watched_side};
@@ -24,7 +25,9 @@ impl Store {
         ensures { result ≡ watched_side self.now watched }
     {
         match watched {
-            Watched::Udp(place) => self.udp_side(place),
+            Watched::Udp(place) | Watched::Incoming(place) | Watched::Outgoing(place) => {
+                self.udp_side(place)
+            }
             Watched::Socket(_) | Watched::Input(_) | Watched::Output(_) => {
                 self.side(watched.place())
             }
@@ -74,7 +77,9 @@ pub fn subscribe<W: World>(
 
 /// Whether what a pollable watches is ready (`pollable.ready`), by one look: the connect in progress of a socket is polled, or
 /// the accept of a listener with nothing in progress, whose result is left to [`accept`](Store::accept); and of a stream it is
-/// asked whether it is ready. An error is ready too, and so is a UDP socket. An accept that begins takes the next name of the line.
+/// asked whether it is ready. An error is ready too, and so is a UDP socket, and an outgoing datagram stream unless its last
+/// datagram isn't sent yet; of an incoming one a receive is begun, where none is, and left to
+/// [`receive`](Store::receive_datagrams). An accept or a receive that begins takes the next name of the line.
 pub fn ready<W: World>(
     view: &mut WasiSocketsCtxView<'_>,
     world: &mut W,
@@ -86,12 +91,15 @@ pub fn ready<W: World>(
     ensures asked { AsksFor (ready_asks (state_of view.old) ids.old pollable) (W.seen world.old) (W.seen world.new) (λ ready. (ready, state_of view.new)) (fault_outcome result) }
     ensures sides { KnowsSides (W.seen world.old) view.old.store.now → KnowsSides (W.seen world.new) view.new.store.now }
     ensures view { SameView view.old view.new }
-    ensures ids { ids.new ≡ ids_after_ready (state_of view.old) ids.old pollable }
+    ensures taken { TakesOne ids.old ids.new }
+    ensures ids { IfOk (fault_outcome result) (λ ready. ids.new ≡ ids_after_ready (state_of view.old) ids.old pollable) }
     ensures open { (W.seen world.new).ended ≡ false }
 {
     let watched = handles::watch(view.table, pollable)?;
     match watched {
         Watched::Udp(_) => Ok(true),
+        Watched::Incoming(place) => view.store.incoming_ready(world, ids, place),
+        Watched::Outgoing(place) => Ok(view.store.outgoing_ready(place)),
         Watched::Socket(_) | Watched::Input(_) | Watched::Output(_) => {
             view.store.poll_ready(world, ids, watched)
         }

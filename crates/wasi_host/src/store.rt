@@ -41,6 +41,10 @@ pub enum StandingCall {
     UdpCreate { socket: usize },
     /// Binds the UDP socket of this number, likewise.
     UdpBind { socket: usize },
+    /// Connects the UDP socket of this number, likewise, and then makes its datagram streams under this handle.
+    UdpConnect { socket: usize, handle: Handle },
+    /// Drops the outgoing datagram stream of the UDP socket of this number, and waits until its datagram is sent or failed.
+    DropOutgoing { socket: usize },
 }
 
 /// A pending call: while it does, every other guest call is busy.
@@ -274,7 +278,7 @@ impl Store {
             return Err(StreamError::Trap(TrapKind::NoSuchHandle));
         };
         let (written, begins) = record.write_noting(world, op, bytes);
-        note_job(&mut self.jobs, place, begins);
+        note_job(&mut self.jobs, HostJob::Write { socket: place }, begins);
         written
     }
 
@@ -354,11 +358,11 @@ impl Store {
 }
 
 /// Notes a job that begins, for which there is room.
-fn note_job(jobs: &mut Vec<HostJob>, place: usize, begins: bool)
+pub(crate) fn note_job(jobs: &mut Vec<HostJob>, job: HostJob, begins: bool)
     requires { vec_len jobs.old < vec_capacity jobs.old }
-    ensures { jobs.new.items ≡ jobs_with jobs.old.items place begins }
+    ensures { jobs.new.items ≡ jobs_with jobs.old.items job begins }
 {
     if begins {
-        jobs.push_reserved(HostJob::Write { socket: place });
+        jobs.push_reserved(job);
     }
 }

@@ -10,6 +10,7 @@ ghost use Rattle.wasi_host.specs.Sides.{HoldsFewer, MakesNone, one_if_some};
 ghost use Rattle.wasi_host.specs.Udp.{udp_side, udp_holds, opened_udp, poll_create_asks, udp_create_settled, udp_create_done, is_udp_idle, is_udp_bound, begin_udp_bind_asks, poll_udp_bind_asks, udp_bind_settled, with_udp_progress, udp_local_asks, close_udp_asks};
 ghost use Rattle.wasi_host.specs.declared.udp.Udp2Socket.TheVariants.{Open};
 
+use crate::datagrams::{Incoming, Outgoing, PendingUdpConnect};
 use std::alloc::AllocError;
 use std::marker::Model;
 use std::mem;
@@ -117,11 +118,17 @@ impl UdpInProgress {
     }
 }
 
-/// A UDP socket that was made and isn't dropped, and what it is in the middle of.
+/// A UDP socket that was made and isn't dropped, what it is in the middle of, and its datagram streams.
 #[derive(Drop)]
 pub struct OpenUdp {
     pub inner: UdpSocket,
     pub in_progress: UdpInProgress,
+    /// The connect by which its datagram streams are made, while that is pending.
+    pub connecting: Option<PendingUdpConnect>,
+    /// Its incoming datagram stream, while that is live.
+    pub incoming: Option<Incoming>,
+    /// Its outgoing datagram stream, likewise.
+    pub outgoing: Option<Outgoing>,
 }
 
 /// A UDP socket of the 0.2 interface.
@@ -217,6 +224,9 @@ impl Udp2Socket {
                 *self = Udp2Socket::Open(OpenUdp {
                     inner,
                     in_progress: UdpInProgress::Nothing,
+                    connecting: None,
+                    incoming: None,
+                    outgoing: None,
                 });
                 Ok(Answer::Ready(()))
             }

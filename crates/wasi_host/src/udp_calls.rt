@@ -117,8 +117,8 @@ impl Store {
         Some(udp2(self.records.as_slice(), place)?.side())
     }
 
-    /// Begins a bind of the UDP socket of this number. An operation in progress: `ConcurrencyConflict`. A bind whose check is
-    /// pending is a pending call.
+    /// Begins a bind of the UDP socket of this number. An operation in progress: `ConcurrencyConflict`. A datagram stream of it is
+    /// live: `InvalidState`. A bind whose check is pending is a pending call.
     pub fn start_udp_bind<W: World>(
         &mut self,
         world: &mut W,
@@ -136,6 +136,9 @@ impl Store {
         };
         if !socket.in_progress.is_nothing() {
             return Err(SocketError::Code(p2::ErrorCode::ConcurrencyConflict));
+        }
+        if socket.has_streams() {
+            return Err(SocketError::Code(p2::ErrorCode::InvalidState));
         }
         let answer = socket.begin_bind(world, ids.own(), addr)?;
         Ok(self.stand(ids, StandingCall::UdpBind { socket: place }, answer))

@@ -89,8 +89,8 @@ impl UdpSocket {
         }
     }
 
-    /// The remote address, where it has one.
-    pub(crate) fn remote(&self) -> Option<IpSocketAddress>
+    /// The remote address, where it has one; takes no memory.
+    pub fn remote(&self) -> Option<IpSocketAddress>
         ensures { result ≡ self.now.remote }
     {
         self.remote

@@ -32,3 +32,9 @@ returns-in_err-answer-in-UdpBind-clause-asked g c = rw c.in-UdpBind.is (host_pas
 
 pub returns-in_ok-answer-in-UdpBind-clause-asked : goal.returns-in_ok-answer-in-UdpBind-clause-asked
 returns-in_ok-answer-in-UdpBind-clause-asked g c = rw c.in-UdpBind.is (asks_end _ c.in_ok-answer-in-UdpBind.ensures.asked.ok (rw c.of_nothing-in-UdpBind.ensures refl))
+
+pub returns-in_err-answer-in-UdpConnect-clause-asked : goal.returns-in_err-answer-in-UdpConnect-clause-asked
+returns-in_err-answer-in-UdpConnect-clause-asked g c = rw c.in-UdpConnect.is (host_passed _ _ c.from_residual-in_err-answer-in-UdpConnect.result c.from_residual-in_err-answer-in-UdpConnect.ensures.1 c.in_err-answer-in-UdpConnect.ensures.asked (λ stop. refl))
+
+pub returns-in_ok-answer-in-UdpConnect-clause-asked : goal.returns-in_ok-answer-in-UdpConnect-clause-asked
+returns-in_ok-answer-in-UdpConnect-clause-asked g c = rw c.in-UdpConnect.is (asks_end _ c.in_ok-answer-in-UdpConnect.ensures.asked.ok (rw c.of_pair.ensures refl))

@@ -1,5 +1,5 @@
 use Rattle.std.proofs.Common.{List, Err, ap, sym, ◌∙◌, refl}
-use Rattle.wasi_addr.specs.declared.p2.ErrorCode.TheVariants.{ConcurrencyConflict}
+use Rattle.wasi_addr.specs.declared.p2.ErrorCode.TheVariants.{ConcurrencyConflict, InvalidState}
 use Rattle.wasi_world.specs.declared.ids.OpId.{OpId}
 use Rattle.wasi_world.specs.Asks.{Give}
 use Rattle.wasi_world.proofs.Walks.{asks_at, asks_end, asks_given}
@@ -9,7 +9,7 @@ use Rattle.wasi_host.specs.Sides.{held_in}
 use Rattle.wasi_host.specs.Standing.{allowed_answer}
 use Rattle.wasi_host.specs.Store.{Records}
 use Rattle.wasi_host.specs.Udp.{begin_udp_bind_asks}
-use Rattle.wasi_host.specs.UdpCalls.{start_udp_bind_by, with_open_udp}
+use Rattle.wasi_host.specs.UdpCalls.{start_udp_bind_by, start_udp_bind_unless, with_open_udp}
 use Rattle.wasi_host.proofs.Hosts.{host_refused}
 use Rattle.wasi_host.proofs.SideCounts.{knows_none, knows_stood, knows_same}
 use Rattle.wasi_host.proofs.UdpLookups.{open_found, not_open, open_back, held_in-open}
@@ -30,7 +30,8 @@ returns-in_err-answer-clause-asked g c =
     let store : Records = record { records = c.self.inside.records.items; jobs = c.self.inside.jobs.items; standing = c.self.inside.standing } in
     rw (← c.self.view_is, open_found c.self.inside.records.items c.args.place c.in-Some.socket c.in-Some.ensures.item)
     (asks_at (start_udp_bind_by store c.args.ids c.args.place c.args.addr c.in-Some.socket.now) (sym c.is_nothing.ensures ∙ c.if-not-is_nothing.false)
-    (host_refused _ _ c.from_residual.result c.from_residual.ensures.1 (asks_at (λ (x : OpId). begin_udp_bind_asks x c.in-Some.socket.now c.args.addr) (sym c.own.ensures) c.in_err-answer.ensures.asked) (λ code. refl)))
+    (asks_at (start_udp_bind_unless store c.args.ids c.args.place c.args.addr c.in-Some.socket.now) (sym c.has_streams.ensures ∙ c.if-has_streams.false)
+    (host_refused _ _ c.from_residual.result c.from_residual.ensures.1 (asks_at (λ (x : OpId). begin_udp_bind_asks x c.in-Some.socket.now c.args.addr) (sym c.own.ensures) c.in_err-answer.ensures.asked) (λ code. refl))))
 
 pub returns-in_err-answer-clause-sides : goal.returns-in_err-answer-clause-sides
 returns-in_err-answer-clause-sides g c = λ k.
@@ -41,7 +42,8 @@ returns-clause-asked g c =
     let store : Records = record { records = c.self.inside.records.items; jobs = c.self.inside.jobs.items; standing = c.self.inside.standing } in
     rw (← c.self.view_is, open_found c.self.inside.records.items c.args.place c.in-Some.socket c.in-Some.ensures.item)
     (asks_at (start_udp_bind_by store c.args.ids c.args.place c.args.addr c.in-Some.socket.now) (sym c.is_nothing.ensures ∙ c.if-not-is_nothing.false)
-    (asks_end _ (asks_at (λ (x : OpId). begin_udp_bind_asks x c.in-Some.socket.now c.args.addr) (sym c.own.ensures) c.in_ok-answer.ensures.asked).ok (ap (λ d. Give (allowed_answer d)) (sym c.stand.ensures))))
+    (asks_at (start_udp_bind_unless store c.args.ids c.args.place c.args.addr c.in-Some.socket.now) (sym c.has_streams.ensures ∙ c.if-has_streams.false)
+    (asks_end _ (asks_at (λ (x : OpId). begin_udp_bind_asks x c.in-Some.socket.now c.args.addr) (sym c.own.ensures) c.in_ok-answer.ensures.asked).ok (ap (λ d. Give (allowed_answer d)) (sym c.stand.ensures)))))
 
 pub returns-clause-sides : goal.returns-clause-sides
 returns-clause-sides g c = λ k.
@@ -53,3 +55,14 @@ returns-clause-sides g c = λ k.
 
 pub returns-then-not-is_nothing-clause-sides : goal.returns-then-not-is_nothing-clause-sides
 returns-then-not-is_nothing-clause-sides g c = λ k. knows_same _ _ (ap held_in (open_back c.self.inside.records.items c.args.place c.in-Some.socket c.in-Some.ensures.item)) (rw (← c.self.view_is) at k)
+
+pub returns-then-has_streams-clause-asked : goal.returns-then-has_streams-clause-asked
+returns-then-has_streams-clause-asked g c =
+    let store : Records = record { records = c.self.inside.records.items; jobs = c.self.inside.jobs.items; standing = c.self.inside.standing } in
+    rw (← c.self.view_is, open_found c.self.inside.records.items c.args.place c.in-Some.socket c.in-Some.ensures.item)
+    (asks_at (start_udp_bind_by store c.args.ids c.args.place c.args.addr c.in-Some.socket.now) (sym c.is_nothing.ensures ∙ c.if-not-is_nothing.false)
+    (asks_at (start_udp_bind_unless store c.args.ids c.args.place c.args.addr c.in-Some.socket.now) (sym c.has_streams.ensures ∙ c.if-has_streams.true)
+    (asks_given (Err (Code InvalidState)) _ refl (ap (λ (l : List Record). Give (Err (Code InvalidState), record store { records = l })) (sym (open_back c.self.inside.records.items c.args.place c.in-Some.socket c.in-Some.ensures.item))))))
+
+pub returns-then-has_streams-clause-sides : goal.returns-then-has_streams-clause-sides
+returns-then-has_streams-clause-sides g c = λ k. knows_same _ _ (ap held_in (open_back c.self.inside.records.items c.args.place c.in-Some.socket c.in-Some.ensures.item)) (rw (← c.self.view_is) at k)

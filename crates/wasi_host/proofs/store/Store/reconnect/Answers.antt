@@ -1,0 +1,29 @@
+use Rattle.std.proofs.Common.{ap, sym, refl}
+use Rattle.wasi_world.specs.Asks.{Give}
+use Rattle.wasi_world.proofs.Walks.{asks_end}
+use Rattle.wasi_host.specs.Standing.{allowed_answer}
+use Rattle.wasi_host.specs.Store.{Records}
+use Rattle.wasi_host.proofs.DatagramStores.{knows_open, knows_open-stood}
+use Rattle.wasi_host.proofs.Hosts.{host_refused}
+use Rattle.wasi_host.proofs.UdpLookups.{open_found}
+use Rattle.wasi_host.proofs.store.Store.reconnect.Goals as goal
+
+pub returns-in_err-answer-clause-asked : goal.returns-in_err-answer-clause-asked
+returns-in_err-answer-clause-asked g c =
+    rw (← c.self.view_is, open_found c.self.inside.records.items c.args.place c.in-Some.socket c.in-Some.ensures.item)
+    (host_refused _ _ c.from_residual.result c.from_residual.ensures.1 c.in_err-answer.ensures.asked (λ code. refl))
+
+pub returns-in_err-answer-clause-sides : goal.returns-in_err-answer-clause-sides
+returns-in_err-answer-clause-sides g c = λ k.
+    let store : Records = record { records = c.self.inside.records.items; jobs = c.self.inside.jobs.items; standing = c.self.inside.standing } in
+    knows_open store c.args.place c.in-Some.socket c.poll_connect.new.self c.in-Some.ensures.item c.poll_connect.ensures.none (rw (← c.self.view_is) at k)
+
+pub returns-clause-asked : goal.returns-clause-asked
+returns-clause-asked g c =
+    rw (← c.self.view_is, open_found c.self.inside.records.items c.args.place c.in-Some.socket c.in-Some.ensures.item)
+    (asks_end _ c.in_ok-answer.ensures.asked.ok (ap (λ d. Give (allowed_answer d)) (sym c.stand.ensures)))
+
+pub returns-clause-sides : goal.returns-clause-sides
+returns-clause-sides g c = λ k.
+    let store : Records = record { records = c.self.inside.records.items; jobs = c.self.inside.jobs.items; standing = c.self.inside.standing } in
+    knows_open-stood store _ c.args.place c.in-Some.socket c.poll_connect.new.self _ _ _ _ c.stand.ensures c.in-Some.ensures.item c.poll_connect.ensures.none (rw (← c.self.view_is) at k)

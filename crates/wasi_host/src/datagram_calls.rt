@@ -1,0 +1,280 @@
+//! The calls on the datagram streams of a UDP socket.
+
+ghost use Rattle.std.specs.Prelude.{◌≡◌, ◌+◌, ◌<◌, ◌^◌, false, IfOk, Ok};
+ghost use Rattle.wasi_world.specs.Asks.{AsksFor};
+ghost use Rattle.wasi_world.specs.Seen.{Seen};
+ghost use Rattle.wasi_host.specs.DatagramCalls.{start_streams_at, reconnect_udp_at, mark_streams, make_streams_asks, remake_streams_asks, check_send_at, send_datagrams_at, receive_datagrams_at, ready_incoming_at, incoming_names, drop_incoming_at, drop_outgoing_at, outgoing_ready};
+ghost use Rattle.wasi_host.specs.Listening.{TakesOne};
+ghost use Rattle.wasi_host.specs.Host.{fault_outcome, host_outcome};
+ghost use Rattle.wasi_host.specs.Machine.{own_of};
+ghost use Rattle.wasi_host.specs.Records.{open_at};
+ghost use Rattle.wasi_host.specs.Sides.{KnowsSides};
+
+use crate::error::SocketError;
+use crate::handles;
+use crate::jobs::HostJob;
+use crate::kind::Kind;
+use crate::records::{open_udp, open_udp_mut};
+use crate::store::{StandingCall, Store, note_job};
+use std::alloc::Global;
+use wasi_addr::IpSocketAddress;
+use wasi_streams::{Fault, Table};
+use wasi_world::{Answer, Handle, Ids, IncomingDatagrams, OpId, OutgoingDatagram, TrapKind, World};
+
+impl Store {
+    /// Makes the datagram streams of the UDP socket of this number, under its handle. While a stream of it is live: `StreamsAlive`.
+    /// It isn't bound: `InvalidState`. With an address it is connected to it first, and while that is pending, so is the call;
+    /// without one it is disconnected, where it was connected.
+    pub fn make_streams<W: World>(
+        &mut self,
+        table: &mut Table<Kind>,
+        world: &mut W,
+        ids: Ids,
+        handle: Handle,
+        remote: Option<IpSocketAddress>,
+        place: usize,
+    ) -> Result<Answer<(Handle, Handle)>, SocketError>
+        requires { (W.seen world.old).ended ≡ false }
+        ensures asked { AsksFor (make_streams_asks (record { table = table.old; store = self.old }) ids handle remote place) (W.seen world.old) (W.seen world.new) (λ answer. (answer, record { table = table.new; store = self.new })) (host_outcome result) }
+        ensures sides { KnowsSides (W.seen world.old) self.old → KnowsSides (W.seen world.new) self.new }
+        ensures open { (W.seen world.new).ended ≡ false }
+    {
+        match self.start_streams(world, ids, place, handle, remote)? {
+            Answer::Pending => Ok(Answer::Pending),
+            Answer::Ready(()) => self.mark_streams(table, world, ids.own(), handle),
+        }
+    }
+
+    /// Polls the connect of the UDP socket of this number again. Pending, it stays pending; done, the streams get their handles.
+    pub(crate) fn remake_streams<W: World>(
+        &mut self,
+        table: &mut Table<Kind>,
+        world: &mut W,
+        ids: Ids,
+        place: usize,
+        handle: Handle,
+    ) -> Result<Answer<(Handle, Handle)>, SocketError>
+        requires { (W.seen world.old).ended ≡ false }
+        ensures asked { AsksFor (remake_streams_asks (record { table = table.old; store = self.old }) ids place handle) (W.seen world.old) (W.seen world.new) (λ answer. (answer, record { table = table.new; store = self.new })) (host_outcome result) }
+        ensures sides { KnowsSides (W.seen world.old) self.old → KnowsSides (W.seen world.new) self.new }
+        ensures open { (W.seen world.new).ended ≡ false }
+    {
+        match self.reconnect(world, ids, place, handle)? {
+            Answer::Pending => Ok(Answer::Pending),
+            Answer::Ready(()) => self.mark_streams(table, world, ids.own(), handle),
+        }
+    }
+
+    /// Begins to make the streams of the UDP socket of this number. A connect that is pending is a pending call.
+    fn start_streams<W: World>(
+        &mut self,
+        world: &mut W,
+        ids: Ids,
+        place: usize,
+        handle: Handle,
+        remote: Option<IpSocketAddress>,
+    ) -> Result<Answer<()>, SocketError>
+        requires { (W.seen world.old).ended ≡ false }
+        ensures asked { AsksFor (start_streams_at self.old ids place handle remote (open_at self.old.records place)) (W.seen world.old) (W.seen world.new) (λ answer. (answer, self.new)) (host_outcome result) }
+        ensures sides { KnowsSides (W.seen world.old) self.old → KnowsSides (W.seen world.new) self.new }
+        ensures open { (W.seen world.new).ended ≡ false }
+    {
+        let Some(socket) = open_udp_mut(&mut self.records, place) else {
+            return Err(SocketError::Trap(TrapKind::NoSuchHandle));
+        };
+        if socket.has_streams() {
+            return Err(SocketError::Trap(TrapKind::StreamsAlive));
+        }
+        let answer = socket.begin_streams(world, ids.own(), remote)?;
+        let call = StandingCall::UdpConnect {
+            socket: place,
+            handle,
+        };
+        Ok(self.stand(ids, call, answer))
+    }
+
+    /// Polls the connect of the UDP socket of this number again. Pending, it stays pending.
+    fn reconnect<W: World>(
+        &mut self,
+        world: &mut W,
+        ids: Ids,
+        place: usize,
+        handle: Handle,
+    ) -> Result<Answer<()>, SocketError>
+        requires { (W.seen world.old).ended ≡ false }
+        ensures asked { AsksFor (reconnect_udp_at self.old ids place handle (open_at self.old.records place)) (W.seen world.old) (W.seen world.new) (λ answer. (answer, self.new)) (host_outcome result) }
+        ensures sides { KnowsSides (W.seen world.old) self.old → KnowsSides (W.seen world.new) self.new }
+        ensures open { (W.seen world.new).ended ≡ false }
+    {
+        let Some(socket) = open_udp_mut(&mut self.records, place) else {
+            return Err(SocketError::Trap(TrapKind::NoSuchHandle));
+        };
+        let answer = socket.poll_connect(world)?;
+        let call = StandingCall::UdpConnect {
+            socket: place,
+            handle,
+        };
+        Ok(self.stand(ids, call, answer))
+    }
+
+    /// Makes the handles of the streams under that of their socket, the incoming one first.
+    fn mark_streams<W: World>(
+        &self,
+        table: &mut Table<Kind>,
+        world: &mut W,
+        own: OpId,
+        handle: Handle,
+    ) -> Result<Answer<(Handle, Handle)>, SocketError>
+        requires { (W.seen world.old).ended ≡ false }
+        ensures asked { AsksFor (mark_streams (record { table = table.old; store = self.now }) own handle) (W.seen world.old) (W.seen world.new) (λ answer. (answer, record { table = table.new; store = self.now })) (host_outcome result) }
+        ensures sides { KnowsSides (W.seen world.old) self.now → KnowsSides (W.seen world.new) self.now }
+        ensures open { (W.seen world.new).ended ≡ false }
+    {
+        let place = handles::udp_socket(table, handle)?;
+        let side = self.udp_side(place);
+        let kind = Kind::Incoming(place);
+        let incoming = handles::make(table, world, own, kind, Some(handle), side)?;
+        let kind = Kind::Outgoing(place);
+        let outgoing = handles::make(table, world, own, kind, Some(handle), side)?;
+        Ok(Answer::Ready((incoming, outgoing)))
+    }
+
+    /// Permits datagrams on the outgoing stream of the UDP socket of this number, and says how many: 16, or none while the last one
+    /// isn't sent yet. Asks nothing, and takes no memory.
+    pub fn check_send(&mut self, place: usize) -> Result<u64, SocketError>
+        ensures sides { (s : Seen) → KnowsSides s self.old → KnowsSides s self.new }
+        ensures answer { host_outcome result ≡ Ok (check_send_at self.old place (open_at self.old.records place)).0 }
+        ensures state { self.new ≡ (check_send_at self.old place (open_at self.old.records place)).1 }
+    {
+        let Some(socket) = open_udp_mut(&mut self.records, place) else {
+            return Err(SocketError::Trap(TrapKind::NoSuchHandle));
+        };
+        let Some(outgoing) = &mut socket.outgoing else {
+            return Err(SocketError::Trap(TrapKind::NoSuchHandle));
+        };
+        Ok(u64::from(outgoing.check_send()))
+    }
+
+    /// Sends datagrams on the outgoing stream of the UDP socket of this number, of which there are no more than are permitted. One
+    /// that isn't sent at once becomes a job: the room for it is taken before anything is sent.
+    pub fn send_datagrams<W: World>(
+        &mut self,
+        world: &mut W,
+        ids: &mut Ids,
+        place: usize,
+        datagrams: Vec<OutgoingDatagram>,
+    ) -> Result<u64, SocketError>
+        requires open { (W.seen world.old).ended ≡ false }
+        requires names { ids.old.next_part + 255 < 2 ^ 64 }
+        ensures asked { AsksFor (send_datagrams_at self.old ids.old place datagrams.items (open_at self.old.records place)) (W.seen world.old) (W.seen world.new) (λ sent. (sent, self.new)) (host_outcome result) }
+        ensures line { ids.new.line ≡ ids.old.line }
+        ensures sides { KnowsSides (W.seen world.old) self.old → KnowsSides (W.seen world.new) self.new }
+        ensures open { (W.seen world.new).ended ≡ false }
+    {
+        self.jobs.reserve(1)?;
+        let Some(socket) = open_udp_mut(&mut self.records, place) else {
+            return Err(SocketError::Trap(TrapKind::NoSuchHandle));
+        };
+        let before = socket.sends();
+        let sent = socket.send_datagrams(world, ids, datagrams);
+        let begins = !before && socket.sends();
+        note_job(&mut self.jobs, HostJob::Datagram { socket: place }, begins);
+        sent
+    }
+
+    /// Takes at most so many datagrams from the incoming stream of the UDP socket of this number, and at most 16, until their
+    /// lengths with one more each reach 65,536. A code is answered where there is no datagram before it, else it is dropped. A
+    /// receive that is in progress then becomes a job: the room for it is taken before anything is received.
+    pub fn receive_datagrams<W: World>(
+        &mut self,
+        alloc: Global,
+        world: &mut W,
+        ids: &mut Ids,
+        place: usize,
+        most: u64,
+    ) -> Result<IncomingDatagrams, SocketError>
+        requires open { (W.seen world.old).ended ≡ false }
+        requires names { ids.old.next_part + 16 < 2 ^ 64 }
+        ensures asked { AsksFor (receive_datagrams_at self.old ids.old place most (open_at self.old.records place)) (W.seen world.old) (W.seen world.new) (λ received. (received, self.new)) (host_outcome result) }
+        ensures line { ids.new.line ≡ ids.old.line }
+        ensures sides { KnowsSides (W.seen world.old) self.old → KnowsSides (W.seen world.new) self.new }
+        ensures open { (W.seen world.new).ended ≡ false }
+    {
+        self.jobs.reserve(1)?;
+        let Some(socket) = open_udp_mut(&mut self.records, place) else {
+            return Err(SocketError::Trap(TrapKind::NoSuchHandle));
+        };
+        let before = socket.receives();
+        let received = socket.receive_datagrams(alloc, world, ids, most);
+        let begins = !before && socket.receives();
+        note_job(&mut self.jobs, HostJob::Receive { socket: place }, begins);
+        received
+    }
+
+    /// Whether the incoming stream of the UDP socket of this number has something to take, a datagram or a code: a receive is begun
+    /// where none is, and becomes a job where it is in progress then. Room for the job is taken first.
+    pub(crate) fn incoming_ready<W: World>(
+        &mut self,
+        world: &mut W,
+        ids: &mut Ids,
+        place: usize,
+    ) -> Result<bool, Fault>
+        requires open { (W.seen world.old).ended ≡ false }
+        requires names { ids.old.next_part + 1 < 2 ^ 64 }
+        ensures asked { AsksFor (ready_incoming_at self.old ids.old place (open_at self.old.records place)) (W.seen world.old) (W.seen world.new) (λ ready. (ready, self.new)) (fault_outcome result) }
+        ensures ids { TakesOne ids.old ids.new }
+        ensures names { IfOk (fault_outcome result) (λ ready. ids.new ≡ incoming_names ids.old (open_at self.old.records place)) }
+        ensures sides { KnowsSides (W.seen world.old) self.old → KnowsSides (W.seen world.new) self.new }
+        ensures open { (W.seen world.new).ended ≡ false }
+    {
+        self.jobs.reserve(1)?;
+        let Some(socket) = open_udp_mut(&mut self.records, place) else {
+            return Err(Fault::Trap(TrapKind::NoSuchHandle));
+        };
+        let before = socket.receives();
+        let looked = socket.look_incoming(world, ids);
+        let waits = socket.receives();
+        let job = HostJob::Receive { socket: place };
+        note_job(&mut self.jobs, job, !before && waits);
+        looked?;
+        Ok(!waits)
+    }
+
+    /// The UDP socket of this number has no incoming stream any more: its receive is given up. Takes no memory.
+    pub(crate) fn drop_incoming(&mut self, place: usize)
+        ensures sides { (s : Seen) → KnowsSides s self.old → KnowsSides s self.new }
+        ensures state { self.new ≡ (drop_incoming_at self.old place (open_at self.old.records place)).1 }
+    {
+        if let Some(socket) = open_udp_mut(&mut self.records, place) {
+            socket.incoming = None;
+            self.forget_receives(place);
+        }
+    }
+
+    /// The UDP socket of this number has no outgoing stream any more. While a datagram of it isn't sent yet, the drop is pending
+    /// under the line of these names.
+    pub(crate) fn drop_outgoing(&mut self, ids: Ids, place: usize) -> Answer<()>
+        ensures sides { (s : Seen) → KnowsSides s self.old → KnowsSides s self.new }
+        ensures dropped { (result, self.new) ≡ drop_outgoing_at self.old ids place (open_at self.old.records place) }
+    {
+        let Some(socket) = open_udp_mut(&mut self.records, place) else {
+            return Answer::Ready(());
+        };
+        if socket.sends() {
+            let call = StandingCall::DropOutgoing { socket: place };
+            return self.stand(ids, call, Answer::Pending);
+        }
+        socket.outgoing = None;
+        Answer::Ready(())
+    }
+
+    /// Whether the outgoing stream of the UDP socket of this number sends nothing in the background; takes no memory.
+    pub(crate) fn outgoing_ready(&self, place: usize) -> bool
+        ensures { result ≡ outgoing_ready (open_at self.now.records place) }
+    {
+        match open_udp(self.records.as_slice(), place) {
+            Some(socket) => !socket.sends(),
+            None => true,
+        }
+    }
+}
