@@ -12,23 +12,23 @@ use Rattle.wasi_world.specs.declared.call.Entry.{Entry}
 use Rattle.wasi_world.specs.Asks.{Asks, Give, bind, Left}
 use Rattle.wasi_host.specs.declared.machine.Machine.{Machine}
 use Rattle.wasi_host.specs.declared.pending.Outcome.{Outcome}
-use Rattle.wasi_host.specs.declared.pending.Outcome.TheVariants.{Nothing, One}
+use Rattle.wasi_host.specs.declared.pending.Outcome.TheVariants.{Nothing, One, Two}
 use Rattle.wasi_host.specs.declared.store.Standing.{Standing}
 use Rattle.wasi_host.specs.Host.{Stop, Code, Trap, CallStop, Failed, Closed, Traps}
-use Rattle.wasi_host.specs.Machine.{first_state, own_of, socket_at, udp_socket_at, create_asks, subscribe_asks, ready_asks, drop_asks, turn_machine_asks}
+use Rattle.wasi_host.specs.Machine.{first_state, own_of, socket_at, udp_socket_at, incoming_at, outgoing_at, create_asks, subscribe_asks, ready_asks, drop_asks, turn_machine_asks}
 use Rattle.wasi_host.specs.StreamCalls.{read_asks, check_asks, write_asks, flushed_asks}
 use Rattle.wasi_host.specs.InProgress.{is_bind, is_listen}
 use Rattle.wasi_host.specs.Pending.{resume_asks}
 use Rattle.wasi_host.specs.UdpCreates.{create_udp_asks}
 use Rattle.wasi_p2.specs.Tcp.{network_asks, start_bind_asks, finish_on, start_connect_asks, finish_connect_asks, local_address_on, remote_address_on, is_listening_on, address_family_on, shutdown_on, start_listen_on, accept_asks}
 use Rattle.wasi_p2.specs.Options.{get_option_on, set_option_on, set_backlog_on}
-use Rattle.wasi_p2.specs.Udp.{start_udp_bind_asks, finish_udp_bind_on, udp_local_on, udp_remote_on, udp_family_on, get_udp_option_on, set_udp_option_on}
+use Rattle.wasi_p2.specs.Udp.{start_udp_bind_asks, finish_udp_bind_on, udp_local_on, udp_remote_on, udp_family_on, get_udp_option_on, set_udp_option_on, udp_stream_asks, check_send_on, send_datagrams_on, receive_datagrams_on}
 use Rattle.wasi_steps.specs.declared.reply.Field.{Field}
 use Rattle.wasi_steps.specs.declared.reply.Reply.{Reply}
 use Rattle.wasi_steps.specs.declared.reply.Reply.TheVariants as reply
 use Rattle.wasi_steps.specs.declared.step.Step.{Step}
 use Rattle.wasi_steps.specs.declared.step.Step.TheVariants as step
-use Rattle.wasi_steps.specs.Reply.{word_of_p2, is_trap, no_fields, no_values, number_fields, pair_values, triple_values, bytes_fields, truth_fields, family_fields, address_values}
+use Rattle.wasi_steps.specs.Reply.{word_of_p2, is_trap, no_fields, no_values, number_fields, pair_fields, pair_values, datagram_values, triple_values, bytes_fields, truth_fields, family_fields, address_values}
 use Rattle.wasi_steps.specs.Settings.{Chosen, AnOption, TheBacklog, chosen, udp_opt, udp_chosen}
 use Rattle.wasi_steps.specs.Steps.{context_of}
 
@@ -98,6 +98,7 @@ answer_reply = answer_reply_of no_values
 abbrev pub outcome_reply : ℕ → Answer Outcome → Reply
 outcome_reply line (Ready Nothing) = reply.Ok no_fields
 outcome_reply line (Ready (One handle)) = reply.Ok (number_fields handle)
+outcome_reply line (Ready (Two first second)) = reply.Ok (pair_fields first second)
 outcome_reply line Pending = reply.Pending line
 
 abbrev pub resumed_reply : ℕ → Result (Option (Answer Outcome)) Stop → Reply
@@ -153,6 +154,10 @@ call_asks ctx m line (step.UdpRemoteAddress c s) = Give (reply_of address_values
 call_asks ctx m line (step.UdpAddressFamily c s) = Give (reply_of family_fields (udp_family_on m (udp_socket_at m s)), m)
 call_asks ctx m line (step.UdpGet c s option) = bind (get_udp_option_on m (own_of line) (udp_opt option) (udp_socket_at m s)) (λ done. Give (reply_of number_fields done.0, done.1))
 call_asks ctx m line (step.UdpSet c s setting) = bind (set_udp_option_on m (own_of line) (udp_chosen setting).0 (udp_chosen setting).1 (udp_socket_at m s)) (λ done. Give (reply_of no_values done.0, done.1))
+call_asks ctx m line (step.UdpStream c s remote) = bind (udp_stream_asks m (first_ids line) s remote) (λ done. Give (answer_reply_of pair_values line done.0, done.1))
+call_asks ctx m line (step.UdpReceive c incoming most) = bind (receive_datagrams_on m (first_ids line) most (incoming_at m incoming)) (λ done. Give (reply_of datagram_values done.0, done.1))
+call_asks ctx m line (step.UdpCheckSend c outgoing) = let done = check_send_on m (outgoing_at m outgoing) in Give (reply_of number_fields done.0, done.1)
+call_asks ctx m line (step.UdpSend c outgoing datagrams) = bind (send_datagrams_on m (first_ids line) datagrams (outgoing_at m outgoing)) (λ done. Give (reply_of number_fields done.0, done.1))
 call_asks ctx m line (step.Read c input len) = bind (read_asks m (own_of line) input len) (λ done. Give (stream_reply_of bytes_fields done.0, done.1))
 call_asks ctx m line (step.CheckWrite c output) = bind (check_asks m (own_of line) output) (λ done. Give (stream_reply_of number_fields done.0, done.1))
 call_asks ctx m line (step.Write c output bytes) = bind (write_asks m (own_of line) output bytes) (λ done. Give (stream_reply_of no_values done.0, done.1))

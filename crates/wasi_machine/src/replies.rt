@@ -91,6 +91,7 @@ fn outcome_reply(alloc: Global, line: u32, answer: Answer<Outcome>) -> Result<Re
     match answer {
         Answer::Ready(Outcome::Nothing) => Ok(Reply::done(alloc)),
         Answer::Ready(Outcome::One(handle)) => ok(alloc, handle),
+        Answer::Ready(Outcome::Two(first, second)) => ok(alloc, (first, second)),
         Answer::Pending => Ok(Reply::Pending(line)),
     }
 }

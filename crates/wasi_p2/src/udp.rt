@@ -1,22 +1,23 @@
-//! The calls of UDP sockets (`wasi:sockets/udp` and `udp-create-socket`). Handles are tested first: one that isn't live or is of
-//! another kind is a trap, `NoSuchHandle`.
+//! The calls of UDP sockets and of their datagram streams (`wasi:sockets/udp` and `udp-create-socket`). Handles are tested first:
+//! one that isn't live or is of another kind is a trap, `NoSuchHandle`.
 
-ghost use Rattle.std.specs.Prelude.{◌≡◌, ◌≤◌, IfOk, Ok, false};
+ghost use Rattle.std.specs.Prelude.{◌≡◌, ◌+◌, ◌<◌, ◌≤◌, ◌^◌, IfOk, Ok, false};
 ghost use Rattle.wasi_world.specs.Asks.{AsksFor};
 ghost use Rattle.wasi_world.specs.Seen.{Seen};
 ghost use Rattle.wasi_common.specs.Options.{largest_value, option_of, number_of};
 ghost use Rattle.wasi_host.specs.Host.{host_outcome};
-ghost use Rattle.wasi_host.specs.Machine.{own_of, udp_socket_at};
+ghost use Rattle.wasi_host.specs.Machine.{own_of, udp_socket_at, incoming_at, outgoing_at};
 ghost use Rattle.wasi_host.specs.Sides.{KnowsSides};
 ghost use Rattle.wasi_host.specs.UdpCreates.{create_udp_asks};
 ghost use Rattle.wasi_host.specs.Views.{SameView, state_of};
-ghost use Rattle.wasi_p2.specs.Udp.{start_udp_bind_asks, finish_udp_bind_on, udp_local_on, udp_remote_on, udp_family_on, get_udp_option_on, set_udp_option_on};
+ghost use Rattle.wasi_p2.specs.Udp.{start_udp_bind_asks, finish_udp_bind_on, udp_local_on, udp_remote_on, udp_family_on, get_udp_option_on, set_udp_option_on, udp_stream_asks, check_send_on, send_datagrams_on, receive_datagrams_on};
 
 use crate::SocketError;
+use std::alloc::Global;
 use wasi_addr::{IpSocketAddress, SocketAddressFamily};
 use wasi_common::Setting;
 use wasi_host::{WasiSocketsCtxView, handles};
-use wasi_world::{Answer, Handle, Ids, Opt, World};
+use wasi_world::{Answer, Handle, Ids, IncomingDatagrams, Opt, OutgoingDatagram, World};
 
 /// Makes a UDP socket of this family (`create-udp-socket`). Where the context forbids UDP: `AccessDenied`, and nothing is asked.
 /// While its network socket is waited for, the call is pending.
@@ -108,6 +109,87 @@ pub fn address_family(
 {
     let place = handles::udp_socket(view.table, this)?;
     view.store.udp_address_family(place)
+}
+
+/// Makes the datagram streams of a socket, its incoming and its outgoing one (`stream`). While one of them is live:
+/// `Trap(StreamsAlive)`. It isn't bound: `InvalidState`. With an address it is connected to it first, and datagrams come from there
+/// alone; while that is pending, so is the call. Without one it is disconnected, where it was connected.
+pub fn stream<W: World>(
+    view: &mut WasiSocketsCtxView<'_>,
+    world: &mut W,
+    ids: &mut Ids,
+    this: Handle,
+    remote: Option<IpSocketAddress>,
+) -> Result<Answer<(Handle, Handle)>, SocketError>
+    requires { (W.seen world.old).ended ≡ false }
+    ensures asked { AsksFor (udp_stream_asks (state_of view.old) ids.old this remote) (W.seen world.old) (W.seen world.new) (λ answer. (answer, state_of view.new)) (host_outcome result) }
+    ensures sides { KnowsSides (W.seen world.old) view.old.store.now → KnowsSides (W.seen world.new) view.new.store.now }
+    ensures view { SameView view.old view.new }
+    ensures ids { ids.new ≡ ids.old }
+    ensures open { (W.seen world.new).ended ≡ false }
+{
+    let place = handles::udp_socket(view.table, this)?;
+    view.store
+        .make_streams(view.table, world, *ids, this, remote, place)
+}
+
+/// How many datagrams the next `send` may have (`outgoing-datagram-stream.check-send`): 16, or none while the last one isn't sent
+/// yet. Asks nothing.
+pub fn check_send(view: &mut WasiSocketsCtxView<'_>, this: Handle) -> Result<u64, SocketError>
+    ensures answer { host_outcome result ≡ Ok (check_send_on (state_of view.old) (outgoing_at (state_of view.old) this)).0 }
+    ensures state { state_of view.new ≡ (check_send_on (state_of view.old) (outgoing_at (state_of view.old) this)).1 }
+    ensures sides { (s : Seen) → KnowsSides s view.old.store.now → KnowsSides s view.new.store.now }
+    ensures view { SameView view.old view.new }
+{
+    let place = handles::outgoing(view.table, this)?;
+    view.store.check_send(place)
+}
+
+/// Sends datagrams in turn, and says how many were sent (`outgoing-datagram-stream.send`). An empty list sends none, and the permit
+/// stays; with more than the permit: `Trap(NotPermitted)`; else the permit is used up. A datagram that isn't sent at once is sent in
+/// the background, counts as sent, and ends the list. One that is refused ends it too: its code is answered where none was sent
+/// before it. The code of one that failed in the background is answered in place of the first.
+pub fn send<W: World>(
+    view: &mut WasiSocketsCtxView<'_>,
+    world: &mut W,
+    ids: &mut Ids,
+    this: Handle,
+    items: Vec<OutgoingDatagram>,
+) -> Result<u64, SocketError>
+    requires open { (W.seen world.old).ended ≡ false }
+    requires names { ids.old.next_part + 255 < 2 ^ 64 }
+    ensures asked { AsksFor (send_datagrams_on (state_of view.old) ids.old items.items (outgoing_at (state_of view.old) this)) (W.seen world.old) (W.seen world.new) (λ sent. (sent, state_of view.new)) (host_outcome result) }
+    ensures sides { KnowsSides (W.seen world.old) view.old.store.now → KnowsSides (W.seen world.new) view.new.store.now }
+    ensures view { SameView view.old view.new }
+    ensures line { ids.new.line ≡ ids.old.line }
+    ensures open { (W.seen world.new).ended ≡ false }
+{
+    let place = handles::outgoing(view.table, this)?;
+    view.store.send_datagrams(world, ids, place, items)
+}
+
+/// Takes the datagrams that have come, at most so many (`incoming-datagram-stream.receive`), and at most 16, until their lengths with
+/// one more each reach 65,536. One that hasn't come yet ends the list, and is received in the background. A code is answered where no
+/// datagram stands before it, and else is dropped.
+pub fn receive<W: World>(
+    alloc: Global,
+    view: &mut WasiSocketsCtxView<'_>,
+    world: &mut W,
+    ids: &mut Ids,
+    this: Handle,
+    max_results: u64,
+) -> Result<IncomingDatagrams, SocketError>
+    requires open { (W.seen world.old).ended ≡ false }
+    requires names { ids.old.next_part + 16 < 2 ^ 64 }
+    ensures asked { AsksFor (receive_datagrams_on (state_of view.old) ids.old max_results (incoming_at (state_of view.old) this)) (W.seen world.old) (W.seen world.new) (λ received. (received, state_of view.new)) (host_outcome result) }
+    ensures sides { KnowsSides (W.seen world.old) view.old.store.now → KnowsSides (W.seen world.new) view.new.store.now }
+    ensures view { SameView view.old view.new }
+    ensures line { ids.new.line ≡ ids.old.line }
+    ensures open { (W.seen world.new).ended ≡ false }
+{
+    let place = handles::incoming(view.table, this)?;
+    view.store
+        .receive_datagrams(alloc, world, ids, place, max_results)
 }
 
 /// The value of an option: the hop limit, or a size in bytes. The getters below are this call of their option. A code that is
