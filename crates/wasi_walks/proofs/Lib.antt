@@ -5,4 +5,5 @@ pub mod Gives
 pub mod walks
 pub mod fits
 pub mod claims
+pub mod remotes
 pub mod licence

@@ -1,5 +1,5 @@
 -- Lists of entries, of records by place, and of live handles.
-use Rattle.std.proofs.Common.{◌≡◌, ℕ, zero, suc, ◌+◌, ◌⊎◌, inl, inr, Bool, true, false, if◌then◌else◌, ◌==◌, List, [], ◌∷◌, ◌++◌, Option, Some, None, slice_get, length, refl, ap, arith}
+use Rattle.std.proofs.Common.{◌≡◌, ℕ, zero, suc, ◌+◌, ◌⊎◌, inl, inr, Bool, true, false, if◌then◌else◌, ◌==◌, List, [], ◌∷◌, ◌++◌, Option, Some, None, slice_get, length, refl, ap, append_assoc, arith, ◌∙◌}
 use Rattle.std.proofs.lemmas.Bool.{eqb-true}
 use Rattle.wasi_world.specs.declared.call.Entry.{Entry}
 use Rattle.wasi_streams.specs.Table.{Slot, value_at}
@@ -42,6 +42,10 @@ pub cut_of : (es : List Entry) (e : Entry) → Has es e → Cut es e
 cut_of [] e h = absurd h
 cut_of (x ∷ es) e (inl h) = record { front = []; back = es; is = ap (λ (y : Entry). y ∷ es) h }
 cut_of (x ∷ es) e (inr h) = let c = cut_of es e h in record { front = x ∷ c.front; back = c.back; is = ap (λ (ys : List Entry). x ∷ ys) c.is }
+
+-- the cut of a list that grew
+pub cut_more : (es fs front back : List Entry) (e : Entry) → es ≡ front ++ e ∷ back → es ++ fs ≡ front ++ e ∷ (back ++ fs)
+cut_more es fs front back e c = ap (λ (gs : List Entry). gs ++ fs) c ∙ append_assoc front (e ∷ back) fs
 
 pub marks_in-push : (es : List Entry) (e : Entry) → marks_in (es ++ e ∷ []) ≡ marks_in es + marked_by e.call
 marks_in-push [] e = omega arith

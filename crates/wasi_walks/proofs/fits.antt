@@ -3,5 +3,8 @@
 pub mod Records
 pub mod Polls
 pub mod UdpPolls
+pub mod DatagramPolls
+pub mod TcpFits
+pub mod UdpFits
 pub mod Law
 pub mod Lines

@@ -1,6 +1,7 @@
 -- Each ask is licensed.
 pub mod State
 pub mod Frames
+pub mod DatagramFrames
 pub mod UdpFrames
 pub mod States
 pub mod Binds
@@ -8,6 +9,7 @@ pub mod Connects
 pub mod WriteJobs
 pub mod ListenAsks
 pub mod AcceptAsks
+pub mod Replies
 pub mod Longer
 pub mod Fresh
 pub mod Line
@@ -16,6 +18,7 @@ pub mod Moves
 pub mod Asked
 pub mod Marks
 pub mod UdpAsks
+pub mod DatagramAsks
 pub mod UdpMarks
 pub mod UdpGoesOn
 pub mod GoesOn
@@ -26,3 +29,4 @@ pub mod ListenRows
 pub mod BacklogRows
 pub mod Refused
 pub mod UdpRows
+pub mod DatagramRows

@@ -9,6 +9,9 @@ pub mod Sockets
 pub mod Streams
 pub mod States
 pub mod Udp
+pub mod Datagrams
+pub mod Sends
+pub mod Receives
 pub mod SocketSteps
 pub mod ListenSteps
 pub mod Steps

@@ -52,13 +52,15 @@ use Rattle.wasi_host.specs.Kinds.{watched_by, watch_of, place_in}
 use Rattle.wasi_host.specs.declared.store.StandingCall.{StandingCall}
 use Rattle.wasi_host.specs.declared.store.StandingCall.TheVariants as standing
 use Rattle.wasi_steps.specs.Reply.{word_of_p2}
-use Rattle.wasi_steps.specs.Steps.{Kind, HandleOf, ALine, ANetwork, ASocket, ADatagramSocket, AnInput, AnOutput, Watchable, APollable, Anything, Value, Values, signature}
-use Rattle.wasi_host.specs.Kinds.{kind_at, with_handle}
+use Rattle.wasi_steps.specs.Steps.{Kind, HandleOf, ALine, ANetwork, ASocket, ADatagramSocket, AnInput, AnOutput, AnIncoming, AnOutgoing, Watchable, APollable, Anything, Value, Values, signature}
+use Rattle.wasi_host.specs.Kinds.{kind_at, udp_of, with_handle}
 use Rattle.wasi_host.specs.Binding.{left_of}
 use Rattle.wasi_host.specs.InProgress.{is_nothing, is_bind, is_connect}
 use Rattle.wasi_host.specs.Standing.{call_of}
 use Rattle.wasi_host.specs.Store.{with_inner, with_reader, with_writer, with_socket, idle}
-use Rattle.wasi_host.specs.Machine.{socket_at, udp_socket_at, input_at, output_at}
+use Rattle.wasi_host.specs.declared.datagrams.Incoming.{Incoming}
+use Rattle.wasi_host.specs.declared.datagrams.Outgoing.{Outgoing}
+use Rattle.wasi_host.specs.Machine.{socket_at, udp_socket_at, input_at, output_at, incoming_at, outgoing_at}
 use Rattle.wasi_host.specs.Kinds.{is_network}
 use Rattle.wasi_machine.specs.Machine.{machine_asks}
 use Rattle.wasi_walks.specs.Licence.{Has, entry}
@@ -130,6 +132,21 @@ pub record OfStreams (m : Machine) (number : Option ℕ) (P : ℕ → Tcp2Socket
   pub has : found.streams ≡ Some streams
   pub holds : P place found streams
 
+-- the incoming datagram stream of a live handle, and the outgoing one
+abbrev pub incoming_of_open : Option OpenUdp → Option Incoming
+incoming_of_open None = None
+incoming_of_open (Some o) = o.incoming
+
+abbrev pub outgoing_of_open : Option OpenUdp → Option Outgoing
+outgoing_of_open None = None
+outgoing_of_open (Some o) = o.outgoing
+
+abbrev pub incoming_in : Machine → ℕ → Option Incoming
+incoming_in m h = incoming_of_open (open_in m (incoming_at m h))
+
+abbrev pub outgoing_in : Machine → ℕ → Option Outgoing
+outgoing_in m h = outgoing_of_open (open_in m (outgoing_at m h))
+
 -- == what a pollable watches
 -- what is watched isn't there
 abbrev pub MissesRecord : Watched → Option Tcp2Socket → Type 0
@@ -137,20 +154,25 @@ MissesRecord (watched.Socket place) found = found ≡ None
 MissesRecord (watched.Input place) found = streams_in found ≡ None
 MissesRecord (watched.Output place) found = streams_in found ≡ None
 MissesRecord (watched.Udp place) found = ⊥
+MissesRecord (watched.Incoming place) found = ⊥
+MissesRecord (watched.Outgoing place) found = ⊥
 
 abbrev pub MissesWatched : Machine → Option Watched → Type 0
 MissesWatched m None = ⊤
+MissesWatched m (Some (watched.Incoming place)) = open_at m.store.records place ≡ None
 MissesWatched m (Some w) = MissesRecord w (tcp2_at m.store.records (place_in w))
 
--- the call is a bind, a listen or a create of no socket
+-- the call is a bind, a listen, a create or a connect of no socket
 abbrev pub IsOnNothing : Machine → StandingCall → Type 0
 IsOnNothing m (standing.Bind place) = tcp2_at m.store.records place ≡ None
 IsOnNothing m (standing.Listen place) = tcp2_at m.store.records place ≡ None
 IsOnNothing m (standing.DropOutput place) = ⊥
 IsOnNothing m (standing.UdpCreate place) = udp2_at m.store.records place ≡ None
 IsOnNothing m (standing.UdpBind place) = open_at m.store.records place ≡ None
+IsOnNothing m (standing.UdpConnect place handle) = (open_at m.store.records place ≡ None) ⊎ (udp_of (kind_at m.table handle) ≡ None)
+IsOnNothing m (standing.DropOutgoing place) = ⊥
 
--- the pending call under this number is a bind, a listen or a create of no socket
+-- the pending call under this number is a bind, a listen, a create or a connect of no socket
 abbrev pub StandsOnNothing : Machine → ℕ → Type 0
 StandsOnNothing m n = IsSomeAnd (call_of m.store.standing n) (λ s. IsOnNothing m s.call)
 
@@ -160,6 +182,8 @@ abbrev pub MissesValue : Machine → (kind : Kind) → Value kind → Type 0
 MissesValue m (HandleOf ANetwork) h = is_network (kind_at m.table h) ≡ false
 MissesValue m (HandleOf ASocket) h = record_at m h ≡ None
 MissesValue m (HandleOf ADatagramSocket) h = open_udp_at m h ≡ None
+MissesValue m (HandleOf AnIncoming) h = incoming_in m h ≡ None
+MissesValue m (HandleOf AnOutgoing) h = outgoing_in m h ≡ None
 MissesValue m (HandleOf AnInput) h = input_streams m h ≡ None
 MissesValue m (HandleOf AnOutput) h = output_streams m h ≡ None
 MissesValue m (HandleOf Watchable) h = watched_by (kind_at m.table h) ≡ None
@@ -179,12 +203,13 @@ MissesHandle m (step.TcpStartConnect ctx socket network a) = (is_network (kind_a
 MissesHandle m (step.UdpStartBind ctx socket network a) = (is_network (kind_at m.table network) ≡ false) ⊎ (open_udp_at m socket ≡ None)
 MissesHandle m s = MissesFirst m (signature s).written.kinds (signature s).written.values
 
--- the step makes a handle, the two of a connection's streams, those of an accepted connection, or the one of a stream's error; a
--- poll makes that of a create
+-- the step makes a handle, the two of a connection's streams or of a UDP socket's, those of an accepted connection, or the one of a
+-- stream's error; a poll makes that of a create, or those of datagram streams
 abbrev pub MakesHandle : Step → Type 0
 MakesHandle (step.Network ctx) = ⊤
 MakesHandle (step.TcpCreate ctx family) = ⊤
 MakesHandle (step.UdpCreate ctx family) = ⊤
+MakesHandle (step.UdpStream ctx socket remote) = ⊤
 MakesHandle (step.TcpFinishConnect ctx socket) = ⊤
 MakesHandle (step.TcpAccept ctx socket) = ⊤
 MakesHandle (step.Read ctx input len) = ⊤

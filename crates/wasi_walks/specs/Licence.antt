@@ -1,25 +1,29 @@
 -- Which calls a log may hold, and with which replies: a relation of the contexts, the script's steps, the log's entries and the
 -- replies, and of nothing else. It knows no state of a socket, an operation or a table. Each entry is judged by those before it.
-use Rattle.std.specs.Prelude.{◌≡◌, ℕ, zero, suc, ◌+◌, ◌≤◌, length, ◌⊎◌, ⊤, true, false, List, [], ◌∷◌, ◌++◌, Option, Some, None, slice_get}
+use Rattle.std.specs.Prelude.{◌≡◌, ℕ, zero, suc, ◌+◌, ◌⊎◌, ⊤, true, false, List, [], ◌∷◌, ◌++◌, Option, Some, None, slice_get}
 use Rattle.wasi_addr.specs.declared.address.IpSocketAddress.{IpSocketAddress}
 use Rattle.wasi_addr.specs.declared.address.SocketAddressFamily.{SocketAddressFamily}
 use Rattle.wasi_addr.specs.declared.address.SocketAddrUse.{SocketAddrUse}
 use Rattle.wasi_addr.specs.declared.address.SocketAddrUse.TheVariants.{TcpBind, TcpListen, TcpAccept, TcpConnect}
 use Rattle.wasi_addr.specs.declared.address.SocketAddrUse.TheVariants as use_of
-use Rattle.wasi_addr.specs.Address.{is_wildcard, wildcard}
+use Rattle.wasi_addr.specs.Address.{is_wildcard, same_address, wildcard}
 use Rattle.wasi_addr.specs.Clamp.{clamped_backlog}
+use Rattle.wasi_world.specs.declared.datagram.IncomingDatagram.{IncomingDatagram}
+use Rattle.wasi_world.specs.declared.datagram.OutgoingDatagram.{OutgoingDatagram}
 use Rattle.wasi_world.specs.declared.ids.OpId.{OpId}
 use Rattle.wasi_world.specs.declared.call.Call.{Call}
 use Rattle.wasi_world.specs.declared.call.Call.TheVariants.{Check, Lookup, TcpCreate, UdpCreate, UdpWritable, Local, Peer, Bind, UdpBind, UdpConnect, Listen, SetBacklog, Connect, Accept, Hand, Refuse, Read, ReadReady, WriteReady, Write, Shutdown, UdpDisconnect, Send, Recv, GetOption, SetOption, Close, Made}
 use Rattle.wasi_world.specs.declared.call.HandleKind.{HandleKind}
-use Rattle.wasi_world.specs.declared.call.HandleKind.TheVariants.{Network, Tcp2, Udp2, Input, Output, Pollable, ErrorValue}
+use Rattle.wasi_world.specs.declared.call.HandleKind.TheVariants.{Network, Tcp2, Udp2, Input, Output, Pollable, ErrorValue, Incoming, Outgoing}
 use Rattle.wasi_world.specs.declared.call.Opt.{Opt}
 use Rattle.wasi_world.specs.declared.call.Told.{Told}
 use Rattle.wasi_world.specs.declared.call.Told.TheVariants.{Done, Yes, Addr, Arrived}
 use Rattle.wasi_world.specs.declared.call.Entry.{Entry}
 use Rattle.wasi_world.specs.declared.outcome.WasiSocketsCtx.{WasiSocketsCtx}
 use Rattle.wasi_common.specs.Options.{value_set}
+use Rattle.wasi_steps.specs.declared.reply.Field.{Field}
 use Rattle.wasi_steps.specs.declared.reply.Reply.{Reply}
+use Rattle.wasi_steps.specs.Reply.{datagram_values}
 use Rattle.wasi_steps.specs.declared.step.Step.{Step}
 use Rattle.wasi_steps.specs.declared.step.Step.TheVariants as step
 use Rattle.wasi_steps.specs.Settings.{Chosen, AnOption, TheBacklog, chosen, udp_opt, udp_chosen}
@@ -117,6 +121,37 @@ pub record IsBoundSide (before : List Entry) (side : OpId) : Type 0 where
 abbrev pub MayGoOut : List Entry → OpId → OpId → Type 0
 MayGoOut before op side = IsBoundSide before side ⊎ HasWildcardYes before op side TcpBind
 
+-- The network socket of a UDP socket was disconnected: it is bound since then.
+pub record WasDisconnected (before : List Entry) (side : OpId) : Type 0 where
+  pub op : OpId
+  pub told : Told
+  pub entry_is : Has before (entry op (UdpDisconnect side) told)
+
+-- a UDP socket that is bound sends from there; for one that isn't the wildcard has its yes
+abbrev pub MaySendOut : List Entry → OpId → OpId → Type 0
+MaySendOut before op side = (IsBoundSide before side ⊎ WasDisconnected before side) ⊎ HasWildcardYes before op side use_of.UdpBind
+
+-- The last `peer` of the network socket reported this address.
+pub record IsLastPeer (before : List Entry) (side : OpId) (addr : IpSocketAddress) : Type 0 where
+  pub front : List Entry
+  pub op : OpId
+  pub back : List Entry
+  pub cut : before ≡ front ++ entry op (Peer side) (Addr addr) ∷ back
+  pub last : (o : OpId) (told : Told) → Has back (entry o (Peer side) told) → ⊥
+
+-- The remote address of the network socket: its last `peer` reported it, and it is another than the wildcard of its family.
+pub record IsRemote (before : List Entry) (side : OpId) (addr : IpSocketAddress) : Type 0 where
+  pub ctx : ℕ
+  pub family : SocketAddressFamily
+  pub maker : IsMaker before ctx family side
+  pub told : IsLastPeer before side addr
+  pub other : is_wildcard family addr ≡ false
+
+-- where a datagram goes: to the address that is given, or to the remote address
+abbrev pub GoesTo : List Entry → OpId → Option IpSocketAddress → IpSocketAddress → Type 0
+GoesTo before side (Some given) addr = given ≡ addr
+GoesTo before side None addr = (remote : IpSocketAddress) × IsRemote before side remote × (same_address addr remote ≡ true)
+
 -- The last `local` of the network socket reported this address.
 pub record IsLastLocal (before : List Entry) (side : OpId) (addr : IpSocketAddress) : Type 0 where
   pub front : List Entry
@@ -189,6 +224,35 @@ MakesUdp _ = ⊥
 abbrev pub IsUdpBindTo : IpSocketAddress → Step → Type 0
 IsUdpBindTo addr (step.UdpStartBind ctx socket network a) = a ≡ addr
 IsUdpBindTo addr _ = ⊥
+
+-- datagram streams that are made with a connect to this address
+abbrev pub IsUdpConnectTo : IpSocketAddress → Step → Type 0
+IsUdpConnectTo addr (step.UdpStream ctx socket remote) = remote ≡ Some addr
+IsUdpConnectTo addr _ = ⊥
+
+-- the datagram streams of the UDP socket of this handle are made
+abbrev pub IsStreamOf : ℕ → Step → Type 0
+IsStreamOf handle (step.UdpStream ctx socket remote) = socket ≡ handle
+IsStreamOf handle _ = ⊥
+
+-- the datagram of this part, counted from 1, is this one
+abbrev pub IsItem : ℕ → OutgoingDatagram → List OutgoingDatagram → Type 0
+IsItem zero d ds = ⊥
+IsItem (suc n) d [] = ⊥
+IsItem (suc zero) d (x ∷ ds) = x ≡ d
+IsItem (suc (suc n)) d (x ∷ ds) = IsItem (suc n) d ds
+
+-- a send of datagrams, of which this is the one of this part
+abbrev pub IsSendOf : ℕ → OutgoingDatagram → Step → Type 0
+IsSendOf part d (step.UdpSend ctx outgoing ds) = IsItem part d ds
+IsSendOf part d _ = ⊥
+
+-- It is the datagram of the operation's part in its step, with these bytes, and goes to this address.
+pub record SendsItem (before : List Entry) (op side : OpId) (addr : IpSocketAddress) (bytes : List ℕ) (origin : Step) : Type 0 where
+  pub datagram : OutgoingDatagram
+  pub item : IsSendOf op.part datagram origin
+  pub bytes_are : datagram.bytes ≡ bytes
+  pub goes : GoesTo before side datagram.remote_address addr
 
 -- a bind of a TCP socket to this address
 abbrev pub IsBindTo : IpSocketAddress → Step → Type 0
@@ -264,8 +328,8 @@ pub record IsStreamMark (before : List Entry) (op : OpId) (kind : HandleKind) (p
   pub marked : Has before (entry op (Made socket Tcp2 above sock) told)
 
 -- what a mark says, by the step that makes the handle: a network has no network socket, a socket that was created has its own,
--- one that was accepted has what was handed over, and the two streams of a connection, an error and a pollable are of their
--- parent's; no other step makes a handle
+-- one that was accepted has what was handed over, and the two streams of a connection or of a UDP socket, an error and a pollable are
+-- of their parent's; no other step makes a handle
 abbrev pub IsMarkOf : List Entry → OpId → HandleKind → Option ℕ → Option OpId → Step → Type 0
 IsMarkOf before op kind parent sock (step.Network ctx) = (kind ≡ Network) × (parent ≡ None) × (sock ≡ None)
 IsMarkOf before op kind parent sock (step.TcpCreate ctx family) =
@@ -274,6 +338,7 @@ IsMarkOf before op kind parent sock (step.UdpCreate ctx family) =
     (kind ≡ Udp2) × (parent ≡ None) × (sock ≡ Some op) × ((name : ℕ) × (f : SocketAddressFamily) × Has before (entry op (UdpCreate name f) Done))
 IsMarkOf before op kind parent sock (step.TcpFinishConnect ctx socket) = ((kind ≡ Input) ⊎ (kind ≡ Output)) × IsOfParent before socket parent sock
 IsMarkOf before op kind parent sock (step.TcpAccept ctx socket) = IsAcceptedMark before op socket kind parent sock ⊎ IsStreamMark before op kind parent sock
+IsMarkOf before op kind parent sock (step.UdpStream ctx socket remote) = ((kind ≡ Incoming) ⊎ (kind ≡ Outgoing)) × IsOfParent before socket parent sock
 IsMarkOf before op kind parent sock (step.Read ctx input len) = (kind ≡ ErrorValue) × IsOfParent before input parent sock
 IsMarkOf before op kind parent sock (step.CheckWrite ctx output) = (kind ≡ ErrorValue) × IsOfParent before output parent sock
 IsMarkOf before op kind parent sock (step.Write ctx output bytes) = (kind ≡ ErrorValue) × IsOfParent before output parent sock
@@ -296,7 +361,8 @@ MayAsk contexts steps before op (Bind sock addr) =
     ReachesSide steps before op sock × BeganBy steps op (IsBindTo addr) × HasYes before before op sock addr TcpBind × BeganBy steps sock MakesTcp
 MayAsk contexts steps before op (UdpBind sock addr) =
     ReachesSide steps before op sock × BeganBy steps op (IsUdpBindTo addr) × HasYes before before op sock addr use_of.UdpBind × BeganBy steps sock MakesUdp
-MayAsk contexts steps before op (UdpConnect sock addr) = ⊥
+MayAsk contexts steps before op (UdpConnect sock addr) =
+    ReachesSide steps before op sock × BeganBy steps op (IsUdpConnectTo addr) × HasYes before before op sock addr use_of.UdpSend × HasYes before before op sock addr use_of.UdpReceive × MaySendOut before op sock × BeganBy steps sock MakesUdp
 MayAsk contexts steps before op (Listen sock backlog) = ReachesSide steps before op sock × BeganBy steps op IsListenStep × MayListen before op sock × BeganBy steps sock MakesTcp
 MayAsk contexts steps before op (SetBacklog sock backlog) = ReachesSide steps before op sock × BeganBy steps op (IsBacklogSet backlog) × Listens before sock
 MayAsk contexts steps before op (Connect sock addr) =
@@ -310,15 +376,42 @@ MayAsk contexts steps before op (WriteReady sock) = ReachesSide steps before op 
 MayAsk contexts steps before op (Write sock offered) = ReachesSide steps before op sock
 MayAsk contexts steps before op (Shutdown sock how) = ReachesSide steps before op sock
 MayAsk contexts steps before op (UdpDisconnect sock) = ReachesSide steps before op sock
-MayAsk contexts steps before op (Send sock addr bytes) = ⊥
+MayAsk contexts steps before op (Send sock addr bytes) =
+    ReachesSide steps before op sock × BeganBy steps op (SendsItem before op sock addr bytes) × HasYes before before op sock addr use_of.UdpSend × MaySendOut before op sock × BeganBy steps sock MakesUdp
 MayAsk contexts steps before op (Recv sock) = ReachesSide steps before op sock
 MayAsk contexts steps before op (GetOption sock option) = ReachesSide steps before op sock × BeganBy steps op (IsGetOf option)
 MayAsk contexts steps before op (SetOption sock option value) = ReachesSide steps before op sock × BeganBy steps op (IsSetTo option value)
 MayAsk contexts steps before op (Close sock) = ⊤
 MayAsk contexts steps before op (Made handle kind parent sock) = (handle ≡ marks_in before + 1) × BeganBy steps op (IsMarkOf before op kind parent sock)
 
--- Each entry may come after those before it, and each reply is to the step of its line. No step that is built hands out a datagram;
--- what a reply that does may say is a row of its own, which comes with the step.
+-- == which reply a log may go with
+-- An operation received this datagram on the network socket, and was answered yes about its sender afterwards.
+pub record IsReceived (log : List Entry) (side : OpId) (datagram : IncomingDatagram) : Type 0 where
+  pub op : OpId
+  pub front : List Entry
+  pub back : List Entry
+  pub cut : log ≡ front ++ entry op (Recv side) (Told.Datagram datagram.bytes datagram.remote_address) ∷ back
+  pub yes : HasYes log back op side datagram.remote_address use_of.UdpReceive
+
+-- What a receive on the stream of this handle hands out: datagrams that were received on its network socket.
+pub record HandsOut (log : List Entry) (handle : ℕ) (fields : List Field) : Type 0 where
+  pub side : OpId
+  pub of_handle : IsSide log handle side
+  pub datagrams : List IncomingDatagram
+  pub values : fields ≡ datagram_values datagrams
+  pub received : (d : IncomingDatagram) → Has datagrams d → IsReceived log side d
+
+abbrev pub MayReply : List Entry → Step → Reply → Type 0
+MayReply log (step.UdpReceive ctx handle most) (Reply.Ok fields) = HandsOut log handle fields
+MayReply log _ reply = ⊤
+
+-- each reply is to the step of its line, and is one that it may have
+abbrev pub EachMayReply : List Entry → List Step → List Reply → Type 0
+EachMayReply log steps [] = ⊤
+EachMayReply log [] (reply ∷ replies) = ⊥
+EachMayReply log (s ∷ steps) (reply ∷ replies) = MayReply log s reply × EachMayReply log steps replies
+
+-- Each entry may come after those before it, and each reply is to the step of its line, and hands out nothing that wasn't received.
 pub record IsLicensed (contexts : List WasiSocketsCtx) (steps : List Step) (log : List Entry) (replies : List Reply) : Type 0 where
   pub each : (before : List Entry) (e : Entry) (after : List Entry) → log ≡ before ++ e ∷ after → MayAsk contexts steps before e.op e.call
-  pub replied : length replies ≤ length steps
+  pub replied : EachMayReply log steps replies

@@ -1,6 +1,8 @@
 -- What waits: what a pollable watches and isn't ready, and a pending call.
 use Rattle.std.specs.Prelude.{◌≡◌, ◌⊎◌, ⊤, ℕ, true, false, List, [], ◌∷◌, ◌++◌, Option, Some, None, IsSome, IsSomeAnd, IfSome}
 use Rattle.wasi_addr.specs.declared.address.IpSocketAddress.{IpSocketAddress}
+use Rattle.wasi_addr.specs.declared.address.SocketAddressFamily.{SocketAddressFamily}
+use Rattle.wasi_addr.specs.declared.address.SocketAddrUse.{SocketAddrUse}
 use Rattle.wasi_addr.specs.declared.address.SocketAddrUse.TheVariants.{TcpBind, TcpListen}
 use Rattle.wasi_addr.specs.declared.address.SocketAddrUse.TheVariants as use_of
 use Rattle.wasi_addr.specs.declared.code.ErrorCode.{ErrorCode}
@@ -10,8 +12,9 @@ use Rattle.wasi_world.specs.declared.ids.OpId.{OpId}
 use Rattle.wasi_world.specs.declared.call.Call.TheVariants as call
 use Rattle.wasi_world.specs.declared.call.Entry.{Entry}
 use Rattle.wasi_world.specs.declared.call.HandleKind.TheVariants as name
+use Rattle.wasi_world.specs.declared.call.Told.{Told}
 use Rattle.wasi_world.specs.declared.call.Told.TheVariants as told
-use Rattle.wasi_world.specs.Operation.{Item, Check, CheckLocal, Bind, Listen, UdpWritable, UdpBind, NothingLast, CloseLast, Operation}
+use Rattle.wasi_world.specs.Operation.{Item, Check, CheckLocal, Bind, Listen, UdpWritable, UdpBind, UdpConnect, NothingLast, CloseLast, Operation}
 use Rattle.wasi_tcp.specs.declared.halves.TcpReceiveStream.{TcpReceiveStream}
 use Rattle.wasi_tcp.specs.declared.halves.TcpSendStream.{TcpSendStream}
 use Rattle.wasi_tcp.specs.declared.reader.ReadState.TheVariants as reading
@@ -43,7 +46,8 @@ use Rattle.wasi_udp.specs.Create.{Create}
 use Rattle.wasi_host.specs.declared.store.StandingCall.{StandingCall}
 use Rattle.wasi_host.specs.declared.store.StandingCall.TheVariants as standing
 use Rattle.wasi_host.specs.Kinds.{kind_at, watch_of, place_in}
-use Rattle.wasi_host.specs.Machine.{output_at, watched_side}
+use Rattle.wasi_host.specs.Datagrams.{sends}
+use Rattle.wasi_host.specs.Machine.{output_at, outgoing_at, watched_side}
 use Rattle.wasi_host.specs.InProgress.{is_nothing, is_connect}
 use Rattle.wasi_host.specs.Standing.{unstood}
 use Rattle.wasi_steps.specs.declared.reply.CodeWord.{CodeWord}
@@ -121,14 +125,15 @@ abbrev pub IsPoll : Step → Type 0
 IsPoll (step.Poll n) = ⊤
 IsPoll _ = ⊥
 
--- the step may be pending under this number: the start of a bind, that of a listen, a create of a UDP socket and the drop of an
--- output under their line's, and a poll under the one that it polls
+-- the step may be pending under this number: the start of a bind, that of a listen, a create of a UDP socket, that of its streams,
+-- and the drop of an output or of an outgoing datagram stream under their line's, and a poll under the one that it polls
 abbrev pub MayStand : Machine → ℕ → Step → ℕ → Type 0
 MayStand m line (step.TcpStartBind ctx socket network a) n = n ≡ line
 MayStand m line (step.TcpStartListen ctx socket) n = n ≡ line
 MayStand m line (step.UdpCreate ctx family) n = n ≡ line
 MayStand m line (step.UdpStartBind ctx socket network a) n = n ≡ line
-MayStand m line (step.Drop ctx handle) n = IsSome (output_at m handle) × (n ≡ line)
+MayStand m line (step.UdpStream ctx socket remote) n = n ≡ line
+MayStand m line (step.Drop ctx handle) n = (IsSome (output_at m handle) ⊎ IsSome (outgoing_at m handle)) × (n ≡ line)
 MayStand m line (step.Poll call) n = n ≡ call
 MayStand m line _ n = ⊥
 
@@ -181,14 +186,31 @@ abbrev pub IsUdpBinding : UdpInProgress → Type 0
 IsUdpBinding (udp_doing.Binding op) = IsUdpBind op
 IsUdpBinding _ = ⊥
 
+-- what is left of a connect between polls
+pub data IsLeftOfUdpConnect : List Item → Type 0 where
+  ConnectUnchecked : (family : SocketAddressFamily) (a : IpSocketAddress) → IsLeftOfUdpConnect (Check a use_of.UdpSend ∷ Check a use_of.UdpReceive ∷ UdpConnect family a ∷ [])
+  ConnectSendChecked : (family : SocketAddressFamily) (a : IpSocketAddress) → IsLeftOfUdpConnect (Check a use_of.UdpReceive ∷ UdpConnect family a ∷ [])
+
+-- What is left to the operation is the rest of a connect of a UDP socket, and it asks nothing last.
+pub record IsRestOfUdpConnect (op : Operation) : Type 0 where
+  pub last : op.who.last ≡ NothingLast
+  pub left : IsLeftOfUdpConnect op.left
+
+-- a connect of a UDP socket is in progress
+abbrev pub IsUdpConnecting : Option Operation → Type 0
+IsUdpConnecting (Some op) = IsRestOfUdpConnect op
+IsUdpConnecting None = ⊥
+
 abbrev pub HoldsCall : Machine → StandingCall → Type 0
 HoldsCall m (standing.Bind place) = IfSome (tcp2_at m.store.records place) (λ r. IsBinding r.in_progress)
 HoldsCall m (standing.Listen place) = IfSome (tcp2_at m.store.records place) (λ r. IsListening r.inner.state r.listening)
 HoldsCall m (standing.DropOutput place) = ⊤
 HoldsCall m (standing.UdpCreate place) = IfSome (udp2_at m.store.records place) IsCreating
 HoldsCall m (standing.UdpBind place) = IfSome (open_at m.store.records place) (λ o. IsUdpBinding o.in_progress)
+HoldsCall m (standing.UdpConnect place handle) = IfSome (open_at m.store.records place) (λ o. IsUdpConnecting o.connecting)
+HoldsCall m (standing.DropOutgoing place) = ⊤
 
--- where a bind, a listen or a create is pending, its record has one in progress
+-- where a bind, a listen, a create or a connect is pending, its record has one in progress
 abbrev pub PendingCallsFit : Machine → Type 0
 PendingCallsFit m = IfSome m.store.standing (λ s. HoldsCall m s.call)
 
@@ -212,12 +234,20 @@ abbrev pub UdpBindWaits : UdpInProgress → List Entry → Type 0
 UdpBindWaits (udp_doing.Binding op) entries = EndsPending op.who.id entries
 UdpBindWaits _ entries = ⊥
 
--- the call waits: the last ask of the bind, of the listen or of the create was answered pending, or the output's writer waits
+-- the connect of a UDP socket was answered pending
+abbrev pub UdpConnectWaits : Option Operation → List Entry → Type 0
+UdpConnectWaits (Some op) entries = EndsPending op.who.id entries
+UdpConnectWaits None entries = ⊥
+
+-- the call waits: the last ask of the bind, of the listen, of the create or of the connect was answered pending, or the output's
+-- writer waits, or a datagram of the stream isn't sent yet
 abbrev pub CallWaits : Machine → OpId → List Entry → StandingCall → Type 0
 CallWaits m own entries (standing.Bind place) = IsSomeAnd (tcp2_at m.store.records place) (λ r. BindWaits r.in_progress entries)
 CallWaits m own entries (standing.Listen place) = IsSomeAnd (tcp2_at m.store.records place) (λ r. ListenWaits r.listening entries)
 CallWaits m own entries (standing.UdpCreate place) = IsSomeAnd (udp2_at m.store.records place) (λ u. CreateWaits u entries)
 CallWaits m own entries (standing.UdpBind place) = IsSomeAnd (open_at m.store.records place) (λ o. UdpBindWaits o.in_progress entries)
+CallWaits m own entries (standing.UdpConnect place handle) = IsSomeAnd (open_at m.store.records place) (λ o. UdpConnectWaits o.connecting entries)
+CallWaits m own entries (standing.DropOutgoing place) = IsSomeAnd (open_at m.store.records place) (λ o. (sends o.outgoing ≡ true) × (entries ≡ []))
 CallWaits m own entries (standing.DropOutput place) = OutputWaits m own (Some place) entries
 
 -- the pending call waits
@@ -244,9 +274,21 @@ pub data UdpBindFails (op : Operation) (entries : List Entry) : ErrorCode → Ty
   UdpToldNo : (a : IpSocketAddress) → Has op.left (Check a use_of.UdpBind) → EndsWith (entry op.who.id (call.Check op.who.context a use_of.UdpBind) told.No) entries → UdpBindFails op entries AccessDenied
   UdpToldWhy : (a : IpSocketAddress) (c : ErrorCode) → Has op.left (UdpBind a) → EndsWith (entry op.who.id (call.UdpBind op.who.side a) (told.Code c)) entries → UdpBindFails op entries c
 
--- Why the pending call failed with a code: its bind, its listen or its create ended with it.
+-- The last two of the entries are these.
+pub record EndsWithTwo (first last : Entry) (entries : List Entry) : Type 0 where
+  pub front : List Entry
+  pub cut : entries ≡ front ++ first ∷ last ∷ []
+
+-- A connect of a UDP socket ended with a code: one of its checks was answered no, or it was answered with the code, and the remote
+-- address was asked for then.
+pub data UdpConnectFails (op : Operation) (entries : List Entry) : ErrorCode → Type 0 where
+  ConnectToldNo : (a : IpSocketAddress) (usage : SocketAddrUse) → Has op.left (Check a usage) → EndsWith (entry op.who.id (call.Check op.who.context a usage) told.No) entries → UdpConnectFails op entries AccessDenied
+  ConnectToldWhy : (family : SocketAddressFamily) (a : IpSocketAddress) (c : ErrorCode) (peer : Told) → Has op.left (UdpConnect family a) → EndsWithTwo (entry op.who.id (call.UdpConnect op.who.side a) (told.Code c)) (entry op.who.id (call.Peer op.who.side) peer) entries → UdpConnectFails op entries c
+
+-- Why the pending call failed with a code: its bind, its listen, its create or its connect ended with it.
 pub data CallFails (m : Machine) (entries : List Entry) : StandingCall → ErrorCode → Type 0 where
   CreateFailed : (place : ℕ) (create : Create) (c : ErrorCode) → udp2_at m.store.records place ≡ Some (udp.Creating create) → EndsClosing create.operation.who (call.UdpWritable create.operation.who.side) (told.Code c) entries → CallFails m entries (standing.UdpCreate place) c
+  UdpConnectFailed : (place handle : ℕ) (o : OpenUdp) (op : Operation) (c : ErrorCode) → open_at m.store.records place ≡ Some o → o.connecting ≡ Some op → UdpConnectFails op entries c → CallFails m entries (standing.UdpConnect place handle) c
   UdpBindFailed : (place : ℕ) (o : OpenUdp) (op : Operation) (c : ErrorCode) → open_at m.store.records place ≡ Some o → o.in_progress ≡ udp_doing.Binding op → UdpBindFails op entries c → CallFails m entries (standing.UdpBind place) c
   BindFailed : (place : ℕ) (r : Tcp2Socket) (op : Operation) (c : ErrorCode) → tcp2_at m.store.records place ≡ Some r → r.in_progress ≡ Binding op → BindFails op entries c → CallFails m entries (standing.Bind place) c
   ListenFailed : (place : ℕ) (r : Tcp2Socket) (op : Operation) (c : ErrorCode) → tcp2_at m.store.records place ≡ Some r → r.listening ≡ listening.Begins op → ListenEnds op entries c → CallFails m entries (standing.Listen place) c

@@ -1,29 +1,33 @@
 -- The base law: numbers and network sockets are claimed once, and are of older lines. A network socket is claimed by the record
 -- that was made with it, and the name of an accept by the record of its listener.
-use Rattle.wasi_walks.proofs.Words.{Accepting, Accepts, Allows, Ask, AskWrite, Asks, Begins, Done, End, Entry, Err, ErrorCode, Give, Given}
-use Rattle.wasi_walks.proofs.Words.{HoldsAccept, IsAcceptOn, IsLeftOfAccept, Item, List, Listener, Listening, None, Not, Ok, OpId, Operation, Option}
+use Rattle.wasi_walks.proofs.Words.{Accepting, Accepts, Allows, Asks, Begins, Done, End, Entry, Err, ErrorCode}
+use Rattle.wasi_walks.proofs.Words.{HoldsAccept, IsAcceptOn, IsLeftOfAccept, Item, List, Listener, Listening, None, Not, Ok, OpId, Operation}
 use Rattle.wasi_walks.proofs.Words.{Refused, Result, Socket, SocketAddressFamily, Some, Step, Tcp2, Tcp2Socket, TcpState, Waits, WasiSocketsCtx}
-use Rattle.wasi_walks.proofs.Words.{accept_ended, after_create, allows_if, allows_then, allows_weaker, ap, arith, arrived, bind, bind_progress}
+use Rattle.wasi_walks.proofs.Words.{accept_ended, after_create, allows_if, allows_then, allows_weaker, ap, arith, bind, bind_progress}
 use Rattle.wasi_walks.proofs.Words.{connect_ended, create_asks, created_asks, give_up_asks, gone, inl, inr, length, make_asks, new_asks, new_record}
 use Rattle.wasi_walks.proofs.Words.{own_of, poll_asks, refl, side_in, side_of, subst, sym, told_addr, told_done, turn_asks}
 use Rattle.wasi_walks.proofs.Words.{with_inner, with_listening, with_progress, with_state, with_writer, ℕ, ⊤, ◌+◌, ◌<◌, ◌∙◌, ◌≡◌, ◌≤◌, ◌⊎◌}
-use Rattle.wasi_world.specs.Operation.{Connection}
 use Rattle.wasi_walks.proofs.walks.OnBase.{both, Above, stand}
 use Rattle.wasi_walks.proofs.licence.State.{name_in, accept_name}
 use Rattle.wasi_walks.proofs.fits.Polls.{Anything}
 use Rattle.wasi_walks.proofs.fits.Records.{FitListening}
 use Rattle.wasi_walks.proofs.Lists.{split_place, get_set, get_split, set_there}
-use Rattle.wasi_walks.proofs.claims.Polls.{AllAskBut, Quietly, ArePlain, GivesOwn, own_poll}
+use Rattle.wasi_walks.proofs.claims.Polls.{AllAskBut, ArePlain, GivesOwn, any_quiet, ended_name, ended_sides, none_of, own_poll}
 use Rattle.wasi_walks.proofs.walks.Moves.{closed_record, Own, Used, Unused, ToWrite, Here, put, Found, joined, second_of, new_accept, accepting_now, listen_after, beginning_listen, made_so, Held, BindsOn, Connects, Listens, Awaits, Move, Spends, Changes, ClosesReader, Writes, IsGone, Reconnects, Opens, BeginsConnect, BeginsBind, BeginsWrite, BeginsListen, BeginsAccept, Unlistens, Forgets, Joins}
 use Rattle.wasi_walks.proofs.walks.Law.{Law, Walks}
-use Rattle.wasi_walks.proofs.fits.Law.{Fit, learnt_side, told_same, whatever, fits, moves_fit, polls_fit, put_fit, created}
+use Rattle.wasi_walks.proofs.fits.Law.{Fit, told_same, whatever, fits, moves_fit, polls_fit, put_fit, created}
+use Rattle.wasi_walks.proofs.fits.UdpPolls.{create_side}
+use Rattle.wasi_walks.proofs.fits.UdpFits.{connected_side, learnt_side}
 use Rattle.wasi_tcp.specs.Accept as accept
+use Rattle.wasi_host.specs.Datagrams.{udp_connect_left, with_sending}
+use Rattle.wasi_host.specs.Kinds.{Handles}
+use Rattle.wasi_host.specs.Receiving.{receive_left, with_receiving}
 use Rattle.wasi_host.specs.Records.{tcp2_at, tcp2_put, tcp2_pushed, udp2_at, udp2_pushed}
 use Rattle.wasi_host.specs.declared.udp.Udp2Socket.{Udp2Socket}
 use Rattle.wasi_host.specs.Udp.{udp_bind_progress, udp_create_left, udp_side, with_udp_progress}
-use Rattle.wasi_udp.specs.Create.{Create, new_create, after_create as udp_after_create}
+use Rattle.wasi_udp.specs.Create.{new_create, after_create as udp_after_create}
 use Rattle.wasi_walks.proofs.UdpLists.{tcp_of_put, tcp_of_push, udp_of_put, udp_of_push, udp_get_set, udp_split}
-use Rattle.wasi_walks.proofs.walks.Moves.{put_udp, FoundUdp, udp_begun, UdpChanges, BeginsUdpBind, UdpCreates, UdpBindsOn}
+use Rattle.wasi_walks.proofs.walks.Moves.{put_udp, FoundUdp, udp_begun, Names, UdpChanges, BeginsUdpBind, BeginsUdpConnect, BeginsSend, BeginsReceive, Counts, SpendsNames, UdpCreates, UdpBindsOn, UdpConnectsOn, SendsOn, ReceivesOn}
 
 -- it was made with this network socket, or its accept has this name, by which a network socket will be made
 abbrev pub Claims : OpId → Tcp2Socket → Type 0
@@ -201,34 +205,12 @@ module _ (line : ℕ) where
       tcp : (i : ℕ) (r : Tcp2Socket) → tcp2_at (udp2_pushed h.machine.store.records now) i ≡ Some r → Found h i r
       tcp = tcp_of_push h.machine.store.records now
 
-none_of : {A : Type 0} (o : Option A) → ((x : A) → o ≡ Some x → ⊥) → o ≡ None
-none_of None k = refl
-none_of (Some x) k = absurd (k x refl)
-
-ended_sides : (op : Operation) (end : End × List Item) (x : OpId) → side_in (connect_ended op.who end).1 ≡ Some x → Some op.who.side ≡ Some x
-ended_sides op (Refused c given, items) x e = absurd (cc)
-ended_sides op _ x e = e
-
 pub accept_plain : (L : Type 0) (items : List Item) → IsLeftOfAccept items → AllAskBut L items
 accept_plain L _ accept.Unarrived = (tt, tt)
 accept_plain L _ (accept.Arrived peer) = (tt, tt)
 accept_plain L _ (accept.Admitted peer) = (tt, tt)
 accept_plain L _ (accept.Unwanted peer) = (tt, tt)
 accept_plain L _ accept.Ended = tt
-
-given_name : (op : OpId) (given : Given) → GivesOwn op (Done given) → (x : OpId) → name_in (arrived given) ≡ Some x → Some op ≡ Some x
-given_name op (Connection new peer) k x e = ap (λ (o : OpId). Some o) (sym k) ∙ e
-given_name op _ k x e = absurd (cc)
-
-ended_name : (op : Operation) (end : End × List Item) → GivesOwn op.who.id end.0 → (x : OpId) → name_in (accept_ended op.who end) ≡ Some x → Some op.who.id ≡ Some x
-ended_name op (Waits, items) k x e = e
-ended_name op (Done given, items) k x e = given_name op.who.id given k x e
-ended_name op (Refused c given, items) k x e = absurd (cc)
-
-any_quiet : {A : Type 0} (Q : A → Type 0) (es : List Entry) (asks : Asks A) → Allows Quietly (λ fs a. Q a) es asks → Allows Anything (λ fs a. Q a) es asks
-any_quiet Q es (Give a) h = h
-any_quiet Q es (Ask op c next) h = (tt, λ told f. any_quiet Q _ (next told) (h.1 told f))
-any_quiet Q es (AskWrite op sock bytes next) h = (tt, λ told f g. any_quiet Q _ (next told) (h.1 told f g))
 
 module _ (contexts : List WasiSocketsCtx) (line : ℕ) (origin : Step) where
   -- the socket changes
@@ -247,16 +229,25 @@ module _ (contexts : List WasiSocketsCtx) (line : ℕ) (origin : Step) where
   listening_names : (h : Here) (place : ℕ) (r : Tcp2Socket) (l : Listening) → Found h place r → ((x : OpId) → accept_name l ≡ Some x → accept_name r.listening ≡ Some x) → ((op : Operation) → l ≡ Begins op → ⊥) → Named line h → KeepsNames h 0 r (record r { listening = l })
   listening_names h place r l g k none n = record { side = refl; accepts = λ x e. inl (k x e); named = λ x e. n.named x place r g e; held = λ op e. absurd (none op e) }
 
-  spends_named : (h : Here) → Named line h → next_of line h.own ≤ line + 1 → Named line (record h { own = Used })
-  spends_named h n l = record { one = n.one; apart = n.apart; older = λ x i r g c. let o = n.older x i r g c in omega (arith, o, l); named = n.named; held = n.held; udps = record { one = n.udps.one; apart = n.udps.apart; older = λ i u g. (let o = n.udps.older i u g in omega (arith, o, l)) } }
+  -- what the line has begun changes, and as many names are taken, or more
+  owns_named : (h : Here) (own : Own) → Named line h → next_of line h.own ≤ next_of line own → Named line (record h { own = own })
+  owns_named h own n l = record { one = n.one; apart = n.apart; older = λ x i r g c. let o = n.older x i r g c in omega (arith, o, l); named = n.named; held = n.held; udps = record { one = n.udps.one; apart = n.udps.apart; older = λ i u g. (let o = n.udps.older i u g in omega (arith, o, l)) } }
 
   by_line : (own : Own) → next_of line own ≤ line + 1
   by_line Used = omega arith
   by_line Unused = omega arith
+  by_line (Names part) = omega arith
   by_line (ToWrite side bytes) = omega arith
 
+  spends_named : (h : Here) → Named line h → Named line (record h { own = Used })
+  spends_named h n = owns_named h Used n (by_line h.own)
+
+  -- the names of parts are none of its own
+  own_of_parts : (own now : Own) → own ≡ now → next_of line now ≡ line → next_of line own ≤ line
+  own_of_parts own now e l = let z : next_of line own ≡ line = ap (next_of line) e ∙ l in omega (arith, z)
+
   put_spent : (h : Here) (place : ℕ) (r now : Tcp2Socket) → Found h place r → now.side ≡ r.side → now.listening ≡ r.listening → ((x : OpId) → side_of now.inner ≡ Some x → side_of r.inner ≡ Some x) → Named line h → Named line (record (put h place now) { own = Used })
-  put_spent h place r now g s l k n = spends_named (put h place now) (put_inner h place r now g s l k n) (by_line h.own)
+  put_spent h place r now g s l k n = spends_named (put h place now) (put_inner h place r now g s l k n)
 
   -- a name of the line is fresh
   pub fresh : (h : Here) → h.own ≡ Unused → Named line h → (x : OpId) → x.step ≡ line → Fresh h x
@@ -280,7 +271,9 @@ module _ (contexts : List WasiSocketsCtx) (line : ℕ) (origin : Step) where
       idle (inr t) = no_some new (sym none ∙ t)
 
   pub moves_named : (h now : Here) → Move line origin h now → Named line h → Named line now
-  moves_named _ _ (Spends h e) n = spends_named h n (by_line h.own)
+  moves_named _ _ (Spends h e) n = spends_named h n
+  moves_named _ _ (SpendsNames h part e) n = spends_named h n
+  moves_named _ _ (Counts h e) n = owns_named h (Names 1) n (own_of_parts h.own Unused e refl)
   moves_named _ _ (Changes h place r now g p) n = put_inner h place r now g p.side p.listening (λ x e. sym (ap side_in p.does) ∙ e) n
   moves_named _ _ (ClosesReader h place r s g e) n = put_inner h place r _ g refl refl (λ x e. e) n
   moves_named _ _ (Writes h place r s w g e m) n = put_inner h place r _ g refl refl (λ x e. e) n
@@ -292,7 +285,7 @@ module _ (contexts : List WasiSocketsCtx) (line : ℕ) (origin : Step) where
   moves_named _ _ (BeginsWrite h place r s half permit bytes at g e w within own) n = put_spent h place r _ g refl refl (λ x p. p) n
   moves_named _ _ (BeginsListen h place r side at g d bound none to idle own) n =
       let now = beginning_listen (own_of line) side r in
-      spends_named (put h place now) (put_named line h place r now g (record { side = refl; accepts = λ x e. absurd (cc); named = λ x e. absurd (cc); held = λ op e. (let s = n.named side place r g (ap side_in d) in let p : Begins _ ≡ Begins op = e in (its side op r e s, refl)) }) n) (by_line h.own)
+      spends_named (put h place now) (put_named line h place r now g (record { side = refl; accepts = λ x e. absurd (cc); named = λ x e. absurd (cc); held = λ op e. (let s = n.named side place r g (ap side_in d) in let p : Begins _ ≡ Begins op = e in (its side op r e s, refl)) }) n)
     where
       its : (side : OpId) (op : Operation) (r : Tcp2Socket) → (beginning_listen (own_of line) side r).listening ≡ Begins op → r.side ≡ Some side → r.side ≡ Some op.who.side
       its side op r e s = s ∙ ap (λ (o : Operation). Some o.who.side) (same_begun _ op e)
@@ -311,6 +304,9 @@ module _ (contexts : List WasiSocketsCtx) (line : ℕ) (origin : Step) where
       record { one = j.one; apart = j.apart; older = j.older; named = j.named; held = j.held; udps = record { one = j.udps.one; apart = j.udps.apart; older = j.udps.older } }
   moves_named _ _ (UdpChanges h place o now g p) n = put_udp_named line h place (Udp2Socket.Open o) (Udp2Socket.Open now) g p.side n
   moves_named _ _ (BeginsUdpBind h place o a at g to idle own) n = put_udp_by line h place (Udp2Socket.Open o) (Udp2Socket.Open _) g refl n Used (by_line h.own)
+  moves_named _ _ (BeginsUdpConnect h place o a at g to bound own) n = put_udp_by line h place (Udp2Socket.Open o) (Udp2Socket.Open _) g refl n Used (by_line h.own)
+  moves_named _ _ (BeginsSend h place part o out d bound at g e is known own) n = put_udp_by line h place (Udp2Socket.Open o) (Udp2Socket.Open _) g refl n (Names (part + 1)) (own_of_parts h.own (Names part) own refl)
+  moves_named _ _ (BeginsReceive h place part o inc bound at g e own) n = put_udp_by line h place (Udp2Socket.Open o) (Udp2Socket.Open _) g refl n (Names (part + 1)) (own_of_parts h.own (Names part) own refl)
   moves_named _ _ _ n = record { one = n.one; apart = n.apart; older = n.older; named = n.named; held = n.held; udps = record { one = n.udps.one; apart = n.udps.apart; older = n.udps.older } }
 
   -- the record that a listen leaves
@@ -321,12 +317,6 @@ module _ (contexts : List WasiSocketsCtx) (line : ℕ) (origin : Step) where
 
   awaited_names : (h : Here) (place : ℕ) (r : Tcp2Socket) (l : Listener) (op : Operation) (end : End × List Item) → Found h place r → r.listening ≡ Accepts l → l.accept ≡ Accepting.Asking op → GivesOwn op.who.id end.0 → Named line h → Named line (put h place (accepting_now r l (accept_ended op.who end)))
   awaited_names h place r l op end g e a k n = put_named line h place r _ g (listening_names h place r _ g (λ x p. ap accept_name e ∙ (ap name_in a ∙ ended_name op end k x p)) (λ o p. absurd (cc)) n) n
-
-  -- the record that a create leaves has its network socket
-  create_side : (create : Create) (end : End × List Item) → udp_side (udp_create_left create end) ≡ create.operation.who.side
-  create_side create (Waits, items) = refl
-  create_side create (Done given, items) = refl
-  create_side create (Refused c given, items) = refl
 
   -- == the law
   abbrev pub Base : Here → Type 0
@@ -345,11 +335,17 @@ module _ (contexts : List WasiSocketsCtx) (line : ℕ) (origin : Step) where
       whatever (λ ended. Named line (put_udp h place (udp_create_left create ended))) (λ ended. put_udp_named line h place (Udp2Socket.Creating create) _ g (create_side create ended) n.1) es _
   names_polled es h _ _ (UdpBindsOn place o op q g e) n =
       whatever (λ ended. Named line (put_udp h place (Udp2Socket.Open (with_udp_progress o (udp_bind_progress op ended))))) (λ ended. put_udp_named line h place (Udp2Socket.Open o) (Udp2Socket.Open _) g refl n.1) es _
+  names_polled es h _ _ (UdpConnectsOn place o op q g e) n =
+      whatever (λ ended. Named line (put_udp h place (Udp2Socket.Open (udp_connect_left op o ended)))) (λ ended. put_udp_named line h place (Udp2Socket.Open o) (Udp2Socket.Open _) g (connected_side o op ended) n.1) es _
+  names_polled es h _ _ (SendsOn place o out op left g e s settles) n =
+      whatever (λ ended. Named line (put_udp h place (Udp2Socket.Open (record o { outgoing = Some (with_sending out (left ended)) })))) (λ ended. put_udp_named line h place (Udp2Socket.Open o) (Udp2Socket.Open _) g refl n.1) es _
+  names_polled es h _ _ (ReceivesOn place o inc op g e r) n =
+      whatever (λ ended. Named line (put_udp h place (Udp2Socket.Open (record o { incoming = Some (with_receiving inc (receive_left op ended)) })))) (λ ended. put_udp_named line h place (Udp2Socket.Open o) (Udp2Socket.Open _) g refl n.1) es _
 
   -- a UDP socket whose create begins has the line's own name
   begun_named : (h : Here) (maker : ℕ) (family : SocketAddressFamily) (r : Result (Unit {0}) ErrorCode) → h.own ≡ Unused → Named line h → Named line (udp_begun h (udp_after_create (own_of line) maker family r))
   begun_named h maker family (Ok done) u n = push_udp_named line h (Udp2Socket.Creating (new_create (own_of line) maker family)) Used (omega arith) (fresh h u n (own_of line) refl) (fresh_udp h u n (own_of line) refl) (by_line h.own) n
-  begun_named h maker family (Err c) u n = spends_named h n (by_line h.own)
+  begun_named h maker family (Err c) u n = spends_named h n
 
   -- a socket that is created has the line's own name
   abbrev MadeNamed : Result Socket ErrorCode → Type 0
@@ -371,11 +367,15 @@ module _ (contexts : List WasiSocketsCtx) (line : ℕ) (origin : Step) where
       same socket x k p = let q : Some (own_of line) ≡ Some x = ap side_in (sym k) ∙ p in cc
 
       joins : (fs : List Entry) (made : Result Socket ErrorCode) → MadeNamed made → Allows Anything (λ fs done. Named line (record h { machine = done.1; own = Used })) fs (created_asks h.machine (own_of line) made)
-      joins fs (Err c) k = spends_named h n (by_line h.own)
+      joins fs (Err c) k = spends_named h n
       joins fs (Ok socket) k =
           allows_then Anything (λ fs made. ⊤) (λ fs done. Named line (record h { machine = done.1; own = Used })) fs (make_asks h.machine.table (own_of line) (Tcp2 (length h.machine.store.records)) None (side_of socket)) _ (whatever (λ made. ⊤) (λ made. tt) fs _)
           (λ gs made t. let j = push_named line h (new_record socket) Used refl (λ x p. (let s : own_of line ≡ x = same socket x k p in let z : x.step ≡ line = ap (λ (o : OpId). o.step) (sym s) in (omega (arith, z), fresh h u n x z, fresh_udp h u n x z))) (λ x p. p) (λ op p. absurd (cc)) (by_line h.own) n in
           record { one = j.one; apart = j.apart; older = j.older; named = j.named; held = j.held; udps = record { one = j.udps.one; apart = j.udps.apart; older = j.udps.older } })
+
+  -- a handle is made
+  marked : {A : Type 0} (es : List Entry) (h : Here) (asks : Asks (A × Handles)) → Base h → Allows Anything (λ fs made. Base (record h { machine = record h.machine { table = made.1 } })) es asks
+  marked es h asks i = whatever (λ made. Base (record h { machine = record h.machine { table = made.1 } })) (λ made. let k = i.1 in (record { records = i.0.records; udps = i.0.udps; stands = i.0.stands }, record { one = k.one; apart = k.apart; older = k.older; named = k.named; held = k.held; udps = record { one = k.udps.one; apart = k.udps.apart; older = k.udps.older } })) es asks
 
   -- this and that the records fit, of which it takes that an accept is one
   pub names : Law contexts line origin
@@ -390,16 +390,18 @@ module _ (contexts : List WasiSocketsCtx) (line : ℕ) (origin : Step) where
         sets = λ es h place r side b at g s is i. (tt, λ told k. i);
         learns = λ es h place r side at g e i. (tt, λ told k. ((f.learns es h place r side at g e i.0).1 told k, put_inner h place r _ g refl refl (λ x p. sym (ap side_in (told_same r.inner (told_addr told))) ∙ p) i.1));
         closes = λ es h place r side q g e i. (tt, λ told k. ((f.closes es h place r side q g e i.0).1 told k, put_named line h place r (closed_record r) g (record { side = refl; accepts = λ x p. absurd (cc); named = λ x p. absurd (cc); held = λ op p. absurd (cc) }) i.1));
-        marks = λ es h kind parent sock m i. whatever (λ made. Base (record h { machine = record h.machine { table = made.1 } })) (λ made. let k = i.1 in (record { records = i.0.records; udps = i.0.udps; stands = i.0.stands }, record { one = k.one; apart = k.apart; older = k.older; named = k.named; held = k.held; udps = record { one = k.udps.one; apart = k.udps.apart; older = k.udps.older } })) es _;
+        marks = λ es h kind parent sock m i. marked es h _ i;
         creates = λ es h ctx family c a o m i. both Anything Anything (λ fs done. Named line (record h { machine = done.1; own = Used })) (λ fs done. Fit (record h { machine = done.1; own = Used })) es _ (created_named es h ctx family o i.1) (created contexts line origin es h (own_of line) ctx family i.0);
         accepted = λ es h c s place r is e o g i. whatever (λ made. Base (record h { machine = record h.machine { table = made.1 }; made = made_so place made.0 })) (λ made. let k = i.1 in (record { records = i.0.records; udps = i.0.udps; stands = i.0.stands }, record { one = k.one; apart = k.apart; older = k.older; named = k.named; held = k.held; udps = record { one = k.udps.one; apart = k.udps.apart; older = k.udps.older } })) es _;
         polls = λ es h op after k i. both Anything Anything (λ fs ended. Named line (after ended)) (λ fs ended. Fit (after ended)) es _ (names_polled es h op after k i) (polls_fit contexts line origin es h op after k i.0);
         turns = λ es h place r s g e i. whatever (λ done. Base (put h place (with_writer r s done.1))) (λ done. (put_fit h place r _ g (inr (λ b. b, λ l. l)) (i.0.records place r g) i.0, put_inner h place r _ g refl refl (λ x p. p) i.1)) es (turn_asks s.writer);
         udp_asks = λ es h place n o c at g q i. (tt, λ told k. i);
-        udp_learns = λ es h place o at g i. (tt, λ told k. ((f.udp_learns es h place o at g i.0).1 told k, put_udp_named line h place (Udp2Socket.Open o) (Udp2Socket.Open _) g (learnt_side o.inner (told_addr told)) i.1));
+        udp_learns = λ es h place part o at g i. (tt, λ told k. ((f.udp_learns es h place part o at g i.0).1 told k, put_udp_named line h place (Udp2Socket.Open o) (Udp2Socket.Open _) g (learnt_side o.inner (told_addr told)) i.1));
+        udp_peers = λ es h place o at g i. (tt, λ told k. ((f.udp_peers es h place o at g i.0).1 told k, put_udp_named line h place (Udp2Socket.Open o) (Udp2Socket.Open _) g refl i.1));
         udp_closes = λ es h place o q g i. (tt, λ told k. ((f.udp_closes es h place o q g i.0).1 told k, put_udp_named line h place (Udp2Socket.Open o) (Udp2Socket.Closed o.inner.side) g refl i.1));
         udp_creates = λ es h ctx family c may a o m i. (tt, λ told k. ((f.udp_creates es h ctx family c may a o m i.0).1 told k, begun_named h ctx.name family (told_done told) o i.1));
-        udp_marks = λ es h place u g i. whatever (λ made. Base (record h { machine = record h.machine { table = made.1 } })) (λ made. let k = i.1 in (record { records = i.0.records; udps = i.0.udps; stands = i.0.stands }, record { one = k.one; apart = k.apart; older = k.older; named = k.named; held = k.held; udps = record { one = k.udps.one; apart = k.udps.apart; older = k.udps.older } })) es _;
+        udp_marks = λ es h place u g i. marked es h _ i;
+        stream_marks = λ es h place part handle kind m k e i. marked es h _ i;
         gives_up = λ es h place r q g i.
             whatever (λ done. Base (put h place (with_listening r Not)))
             (λ done. let b = i.0.records place r g in (put_fit h place r _ g (inl q) (b.0, tt, b.2) i.0, put_named line h place r (with_listening r Not) g (listening_names h place r Not g (λ x p. absurd (cc)) (λ op p. absurd (cc)) i.1) i.1)) es (give_up_asks r.listening);
@@ -411,6 +413,15 @@ module _ (contexts : List WasiSocketsCtx) (line : ℕ) (origin : Step) where
   on_names a = stand names a
 
   -- what such a law says of a tree
+  -- a law that rests on another one that rests on it
+  pub on_two : (r : Above contexts line origin (λ es h. Base h)) → Above contexts line origin (λ es h. Base h × r.Inv es h) → Law contexts line origin
+  unfolding on_names names stand
+  on_two r a = stand (on_names r) a
+
+  pub on_two_along : (r : Above contexts line origin (λ es h. Base h)) (a : Above contexts line origin (λ es h. Base h × r.Inv es h)) {A : Type 0} {h : Here} {end : A → Here} {asks : Asks A} → Walks (on_two r a) h end asks → (es : List Entry) → Base h → r.Inv es h → a.Inv es h → Allows a.P (λ fs x. (Base (end x) × r.Inv fs (end x)) × a.Inv fs (end x)) es asks
+  unfolding on_two on_names names stand
+  on_two_along r a w es b k i = w.along es ((b, k), i)
+
   pub on_along : (a : Above contexts line origin (λ es h. Base h)) {A : Type 0} {h : Here} {end : A → Here} {asks : Asks A} → Walks (on_names a) h end asks → (es : List Entry) → Base h → a.Inv es h → Allows a.P (λ fs x. Base (end x) × a.Inv fs (end x)) es asks
   unfolding on_names names stand
   on_along a w es b i = w.along es (b, i)

@@ -1,37 +1,44 @@
 -- The law that what a socket is bound by is a bind, what it connects by a connect, what a listener accepts by an accept, and
 -- that a bind is in progress where one stands.
-use Rattle.wasi_walks.proofs.Words.{Accepting, Allows, Ask, AskWrite, Asks, Bool, Done, End, Entry, Err, ErrorCode, Give, Given, HoldsAccept}
+use Rattle.wasi_walks.proofs.Words.{Accepting, Allows, Ask, AskWrite, Asks, Bool, End, Entry, Err, ErrorCode, Give, HoldsAccept}
 use Rattle.wasi_walks.proofs.Words.{HoldsConnect, InProgress, IpSocketAddress, IsAcceptOn, IsConnect, IsLeftOfBind, IsLeftOfConnect, IsLeftOfListen}
-use Rattle.wasi_walks.proofs.Words.{Item, List, Listener, None, Not, Ok, OpId, Operation, Refused, Result, Socket, SocketAddressFamily, Some}
-use Rattle.wasi_walks.proofs.Words.{Standing, StandingCall, Step, Tcp2, Tcp2Socket, TcpState, Waits, WasiSocketsCtx, accept_ended, after_create}
-use Rattle.wasi_walks.proofs.Words.{after_local, allows_if, allows_then, allows_weaker, ap, arrived, bind, bind_progress, call_place, connect_ended}
-use Rattle.wasi_walks.proofs.Words.{connect_first, connect_operation, create_asks, created_asks, false, give_up_asks, if◌then◌else◌, inl, inr}
+use Rattle.wasi_walks.proofs.Words.{Item, List, None, Not, Ok, OpId, Operation, Result, Socket, SocketAddressFamily, Some}
+use Rattle.wasi_walks.proofs.Words.{Standing, StandingCall, Step, Tcp2, Tcp2Socket, TcpState, WasiSocketsCtx, accept_ended, after_create}
+use Rattle.wasi_walks.proofs.Words.{after_local, allows_if, allows_then, allows_weaker, ap, bind, bind_progress, call_place, connect_ended}
+use Rattle.wasi_walks.proofs.Words.{create_asks, created_asks, false, give_up_asks, if◌then◌else◌, inl, inr}
 use Rattle.wasi_walks.proofs.Words.{is_nothing, is_wildcard, length, make_asks, new_asks, new_record, own_of, poll_asks, refl, side_of}
 use Rattle.wasi_walks.proofs.Words.{standing_as, subst, sym, told_addr, told_done, true, turn_asks, wildcard, with_inner, with_listening}
-use Rattle.wasi_walks.proofs.Words.{with_progress, with_state, with_writer, ℕ, ⊤, ◌∙◌, ◌≡◌, ◌⊎◌}
-use Rattle.wasi_world.specs.Operation.{Connection}
+use Rattle.wasi_walks.proofs.Words.{with_progress, with_state, with_writer, ℕ, ⊤, ◌+◌, ◌∙◌, ◌≡◌, ◌⊎◌}
+use Rattle.wasi_world.specs.declared.ids.Ids.{Ids}
 use Rattle.wasi_tcp.specs.Listen.{IsListen}
-use Rattle.wasi_walks.proofs.walks.Moves.{NoStart, NoStartIn, NoStartStands, IsSettled, KeepsBinding, HasBinding, HasListen, GoesOn, begun_bind, closed_record, Held, BindsOn, Connects, Used, Here, put, Move, Changes, ClosesReader, Writes, IsGone, Reconnects, Opens, BeginsConnect, BeginsBind, BeginsWrite, Stands, BeginsListen, BeginsAccept, Unlistens, Forgets, Joins, Unstands, Listens, Awaits, listen_after, accepting_now, beginning_listen, new_accept, joined, made_so, Found}
-use Rattle.wasi_walks.proofs.fits.Records.{FitListening, FitProgress, FitRecord, FitCall, FitUdp, FitUdpProgress, UdpBindOn}
+use Rattle.wasi_walks.proofs.walks.Moves.{Names, Own, NoStart, NoStartIn, NoStartStands, IsSettled, KeepsBinding, HasBinding, HasListen, GoesOn, begun_bind, closed_record, Held, BindsOn, Connects, Used, Here, put, Move, Changes, ClosesReader, Writes, IsGone, Reconnects, Opens, BeginsConnect, BeginsBind, BeginsWrite, Stands, BeginsListen, BeginsAccept, Unlistens, Forgets, Joins, Unstands, Listens, Awaits, listen_after, accepting_now, beginning_listen, new_accept, joined, made_so, Found}
+use Rattle.wasi_walks.proofs.fits.Records.{FitListening, FitProgress, FitRecord, FitCall, FitUdp, FitUdpProgress, FitConnecting, UdpBindOn, UdpConnectOn, SendOn, ReceiveOn}
 use Rattle.wasi_walks.proofs.Lists.{get_set, get_split, set_get, tcp2_front}
 use Rattle.wasi_walks.proofs.fits.Polls.{Anything, bind_left, udp_bind_left, connect_left, listen_left, accept_left, AcceptLeaves}
 use Rattle.wasi_walks.proofs.walks.Law.{Law, Walks}
 use Rattle.wasi_tcp.specs.Accept as accept
 use Rattle.wasi_tcp.specs.Listen as listen
-use Rattle.wasi_tcp.specs.Connect as connect
 use Rattle.wasi_walks.specs.Waiting as binding
+use Rattle.wasi_host.specs.Kinds.{Handles}
 use Rattle.wasi_host.specs.Records.{tcp2_at, tcp2_put, tcp2_pushed, udp2_at, udp2_put, udp2_pushed}
 use Rattle.wasi_host.specs.declared.udp.OpenUdp.{OpenUdp}
 use Rattle.wasi_host.specs.declared.udp.Udp2Socket.{Udp2Socket}
 use Rattle.wasi_host.specs.declared.udp.UdpInProgress.{UdpInProgress}
-use Rattle.wasi_host.specs.Udp.{is_udp_idle, udp_bind_progress, udp_create_left, with_udp_progress}
+use Rattle.wasi_host.specs.Datagrams.{udp_connect_left, with_sending}
+use Rattle.wasi_host.specs.Receiving.{receive_left, with_receiving}
+use Rattle.wasi_host.specs.Udp.{udp_bind_progress, udp_create_left, with_udp_inner, with_udp_progress}
 use Rattle.wasi_udp.specs.Bind as udp
-use Rattle.wasi_udp.specs.Create.{Create, new_create, after_create as udp_after_create}
+use Rattle.wasi_udp.specs.Receive.{IsLeftOfReceive, receive_start, wanting}
+use Rattle.wasi_udp.specs.Send.{IsLeftOfSend, at_remote, send_start}
+use Rattle.wasi_udp.specs.Create.{new_create, after_create as udp_after_create}
 use Rattle.wasi_udp.specs.Shape.{Socket as UdpSocket}
-use Rattle.wasi_udp.specs.Socket.{after_local as udp_after_local}
+use Rattle.wasi_udp.specs.Socket.{after_peer}
 use Rattle.wasi_walks.proofs.UdpLists.{udp_of_put, udp_of_push, udp_in_put, udp_in_push, tcp_of_put, tcp_of_push, tcp_in_put, tcp_in_push, udp_set_get, udp_get_set, udp_split, udp_front}
 use Rattle.wasi_walks.proofs.fits.UdpPolls.{LeavesCreate, create_left, create_fits}
-use Rattle.wasi_walks.proofs.walks.Moves.{put_udp, FoundUdp, udp_begun, begun_udp_bind, IsUdpSettled, UdpChanges, BeginsUdpBind, StandsUdpBind, StandsUdpCreate, UdpCreates, UdpBindsOn}
+use Rattle.wasi_walks.proofs.fits.DatagramPolls.{LeavesConnect, datagram_left, received_left, udp_connect_leaves, wanted_left}
+use Rattle.wasi_walks.proofs.fits.TcpFits.{first_of, ended_fits, listened_fits, bound_fits, accepted_fits, joined_fits}
+use Rattle.wasi_walks.proofs.fits.UdpFits.{KeepsOpen, same_udp, same_open, no_open, stays_open, idle_keeps, plain_open, plain_fits, inner_fits, learnt_side, bound_udp, connected_udp, begun_send, sends_on, sent_udp, begun_receive, receives_on, received_udp}
+use Rattle.wasi_walks.proofs.walks.Moves.{put_udp, FoundUdp, udp_begun, begun_udp_bind, begun_udp_connect, sending_now, receiving_now, part_of, UdpChanges, BeginsUdpBind, StandsUdpBind, StandsUdpCreate, BeginsUdpConnect, StandsUdpConnect, StandsDropOutgoing, BeginsSend, BeginsReceive, UdpCreates, UdpBindsOn, UdpConnectsOn, SendsOn, ReceivesOn}
 use Rattle.wasi_host.specs.declared.records.Record.{Record}
 
 -- Each record fits, and so does the pending call.
@@ -70,6 +77,8 @@ module _ (h : Here) (place : ℕ) (r now : Tcp2Socket) (g : Found h place r) (k 
   call_put c e (StandingCall.DropOutput n) q b = tt
   call_put c e (StandingCall.UdpCreate n) q b = record { was = b.was; at = udp_in_put h.machine.store.records place r now n (Udp2Socket.Creating b.was) g b.at }
   call_put c e (StandingCall.UdpBind n) q b = record { was = b.was; at = udp_in_put h.machine.store.records place r now n (Udp2Socket.Open b.was) g b.at; op = b.op; goes = b.goes }
+  call_put c e (StandingCall.UdpConnect n handle) q b = record { was = b.was; at = udp_in_put h.machine.store.records place r now n (Udp2Socket.Open b.was) g b.at; op = b.op; goes = b.goes }
+  call_put c e (StandingCall.DropOutgoing n) q b = tt
 
   pub put_fit : FitRecord now → Fit h → Fit (put h place now)
   put_fit f i = record {
@@ -85,6 +94,8 @@ call_push records now (StandingCall.Listen n) b = record { was = b.was; at = tcp
 call_push records now (StandingCall.DropOutput n) b = tt
 call_push records now (StandingCall.UdpCreate n) b = record { was = b.was; at = udp_in_push records now n (Udp2Socket.Creating b.was) b.at }
 call_push records now (StandingCall.UdpBind n) b = record { was = b.was; at = udp_in_push records now n (Udp2Socket.Open b.was) b.at; op = b.op; goes = b.goes }
+call_push records now (StandingCall.UdpConnect n handle) b = record { was = b.was; at = udp_in_push records now n (Udp2Socket.Open b.was) b.at; op = b.op; goes = b.goes }
+call_push records now (StandingCall.DropOutgoing n) b = tt
 
 call_stands : (records : List Record) (call : StandingCall) (r : Tcp2Socket) → tcp2_at records (call_place call) ≡ Some r → GoesOn call r → FitCall records call
 call_stands records (StandingCall.Bind n) r g k = record { was = r; at = g; goes = k }
@@ -92,28 +103,17 @@ call_stands records (StandingCall.Listen n) r g k = record { was = r; at = g; go
 call_stands records (StandingCall.DropOutput n) r g k = tt
 call_stands records (StandingCall.UdpCreate n) r g k = absurd k
 call_stands records (StandingCall.UdpBind n) r g k = absurd k
+call_stands records (StandingCall.UdpConnect n handle) r g k = absurd k
+call_stands records (StandingCall.DropOutgoing n) r g k = absurd k
 
 -- == a UDP socket changes
--- it stays open, with the bind that was in progress
-pub record KeepsOpen (u now : Udp2Socket) : Type 0 where
-  pub was : OpenUdp
-  pub is : OpenUdp
-  pub from : u ≡ Udp2Socket.Open was
-  pub to : now ≡ Udp2Socket.Open is
-  pub binds : (op : Operation) → was.in_progress ≡ UdpInProgress.Binding op → is.in_progress ≡ UdpInProgress.Binding op
-
-same_udp : (a b : Udp2Socket) → Some a ≡ Some b → a ≡ b
-same_udp a b e = cc
-
-pub same_open : (a b : OpenUdp) → Udp2Socket.Open a ≡ Udp2Socket.Open b → a ≡ b
-same_open a b e = cc
-
-no_open : (c : Create) (o : OpenUdp) → Udp2Socket.Creating c ≡ Udp2Socket.Open o → ⊥
-no_open c o e = absurd (cc)
-
 module _ (h : Here) (place : ℕ) (u now : Udp2Socket) (g : FoundUdp h place u) (k : NoStart h ⊎ KeepsOpen u now) where
   none : (c : Standing) → h.machine.store.standing ≡ Some c → (call : StandingCall) → c.call ≡ call → NoStart h → NoStartIn call
   none c e call q quiet = subst NoStartIn q (subst NoStartStands e quiet)
+
+  -- the one that is there is the one that changes
+  same_was : (n : ℕ) (was : OpenUdp) → udp2_at h.machine.store.records n ≡ Some (Udp2Socket.Open was) → n ≡ place → (o : KeepsOpen u now) → was ≡ o.was
+  same_was n was at p o = let there : Some (Udp2Socket.Open was) ≡ Some u = sym at ∙ (ap (udp2_at h.machine.store.records) p ∙ g) in same_open was o.was (same_udp (Udp2Socket.Open was) u there ∙ o.from)
 
   udp_call_put : (c : Standing) → h.machine.store.standing ≡ Some c → (call : StandingCall) → c.call ≡ call → FitCall h.machine.store.records call → FitCall (udp2_put h.machine.store.records place now) call
   udp_call_put c e (StandingCall.Bind n) q b = record { was = b.was; at = tcp_in_put h.machine.store.records place u now n b.was g b.at; goes = b.goes }
@@ -130,12 +130,17 @@ module _ (h : Here) (place : ℕ) (u now : Udp2Socket) (g : FoundUdp h place u) 
     | inl p ↦ record { was = b.was; at = p; op = b.op; goes = b.goes }
     | inr p ↦ elim k [
       | inl quiet ↦ absurd (none c e (StandingCall.UdpBind n) q quiet)
-      | inr o ↦ (
-          let at : Some (Udp2Socket.Open b.was) ≡ Some u = sym b.at ∙ (ap (udp2_at h.machine.store.records) p.0 ∙ g) in
-          let same : b.was ≡ o.was = same_open b.was o.was (same_udp (Udp2Socket.Open b.was) u at ∙ o.from) in
-          record { was = o.is; at = p.1 ∙ ap (λ (x : Udp2Socket). Some x) o.to; op = b.op; goes = o.binds b.op (subst (λ (x : OpenUdp). x.in_progress ≡ UdpInProgress.Binding b.op) same b.goes) })
+      | inr o ↦ record { was = o.is; at = p.1 ∙ ap (λ (x : Udp2Socket). Some x) o.to; op = b.op; goes = o.binds b.op (subst (λ (x : OpenUdp). x.in_progress ≡ UdpInProgress.Binding b.op) (same_was n b.was b.at p.0 o) b.goes) }
     ]
   ]
+  udp_call_put c e (StandingCall.UdpConnect n handle) q b = elim (udp_set_get h.machine.store.records place now n (Udp2Socket.Open b.was) b.at) [
+    | inl p ↦ record { was = b.was; at = p; op = b.op; goes = b.goes }
+    | inr p ↦ elim k [
+      | inl quiet ↦ absurd (none c e (StandingCall.UdpConnect n handle) q quiet)
+      | inr o ↦ (let next = o.connects b.op (subst (λ (x : OpenUdp). x.connecting ≡ Some b.op) (same_was n b.was b.at p.0 o) b.goes) in record { was = o.is; at = p.1 ∙ ap (λ (x : Udp2Socket). Some x) o.to; op = next.0; goes = next.1 })
+    ]
+  ]
+  udp_call_put c e (StandingCall.DropOutgoing n) q b = tt
 
   pub put_udp_fit : FitUdp now → Fit h → Fit (put_udp h place now)
   put_udp_fit f i = record {
@@ -151,6 +156,8 @@ udp_call_push records now (StandingCall.Listen n) b = record { was = b.was; at =
 udp_call_push records now (StandingCall.DropOutput n) b = tt
 udp_call_push records now (StandingCall.UdpCreate n) b = record { was = b.was; at = udp_front records now n (Udp2Socket.Creating b.was) b.at }
 udp_call_push records now (StandingCall.UdpBind n) b = record { was = b.was; at = udp_front records now n (Udp2Socket.Open b.was) b.at; op = b.op; goes = b.goes }
+udp_call_push records now (StandingCall.UdpConnect n handle) b = record { was = b.was; at = udp_front records now n (Udp2Socket.Open b.was) b.at; op = b.op; goes = b.goes }
+udp_call_push records now (StandingCall.DropOutgoing n) b = tt
 
 pub begun_fits : (h : Here) (op : OpId) (maker : ℕ) (family : SocketAddressFamily) (r : Result (Unit {0}) ErrorCode) → Fit h → Fit (udp_begun h (udp_after_create op maker family r))
 begun_fits h op maker family (Ok done) i =
@@ -162,36 +169,6 @@ begun_fits h op maker family (Ok done) i =
       stands = λ c e. udp_call_push records now c.call (i.stands c e);
     }
 begun_fits h op maker family (Err c) i = record { records = i.records; udps = i.udps; stands = i.stands }
-
--- the bind in progress stays, or none was
-plain_binds : (old now : UdpInProgress) → (now ≡ old) ⊎ (IsUdpSettled old × IsUdpSettled now) → (op : Operation) → old ≡ UdpInProgress.Binding op → now ≡ UdpInProgress.Binding op
-plain_binds old now (inl same) op e = same ∙ e
-plain_binds old now (inr s) op e = absurd (subst IsUdpSettled e s.0)
-
-plain_progress : (side : OpId) (old now : UdpInProgress) → (now ≡ old) ⊎ (IsUdpSettled old × IsUdpSettled now) → FitUdpProgress side old → FitUdpProgress side now
-plain_progress side old now (inl same) f = subst (FitUdpProgress side) (sym same) f
-plain_progress side old UdpInProgress.Nothing (inr s) f = tt
-plain_progress side old UdpInProgress.Bound (inr s) f = tt
-plain_progress side old (UdpInProgress.Binding op) (inr s) f = absurd s.1
-
--- what is learnt of whether a UDP socket is bound leaves its network socket
-pub learnt_side : (socket : UdpSocket) (told : Result IpSocketAddress ErrorCode) → (udp_after_local socket told).1.side ≡ socket.side
-learnt_side socket (Ok a) = by_test (is_wildcard socket.family a)
-  where
-    by_test : (b : Bool) → (let answer : Bool × UdpSocket = if b then (false, socket) else (true, record socket { bound = true }) in answer.1.side ≡ socket.side)
-    by_test true = refl
-    by_test false = refl
-learnt_side socket (Err c) = refl
-
-idle_keeps : (doing : UdpInProgress) → is_udp_idle doing ≡ true → (op : Operation) → doing ≡ UdpInProgress.Binding op → ⊥
-idle_keeps UdpInProgress.Nothing e op q = absurd (cc)
-idle_keeps UdpInProgress.Bound e op q = absurd (cc)
-idle_keeps (UdpInProgress.Binding x) e op q = absurd (cc)
-
-bound_udp : (o : OpenUdp) (op : Operation) (end : End × List Item) → UdpBindOn o.inner.side op → udp.IsLeftOfBind end.1 → FitUdp (Udp2Socket.Open (with_udp_progress o (udp_bind_progress op end)))
-bound_udp o op (Waits, items) its k = record { bind = record { last = its.bind.last; left = k }; of_side = its.of_side }
-bound_udp o op (Done given, items) its k = tt
-bound_udp o op (Refused c given, items) its k = tt
 
 -- a bind in progress is of a socket that does nothing yet, and so is none of any other
 pub not_binding : {s t : TcpState} (doing : InProgress) → s ≡ t → ((side : OpId) → t ≡ TcpState.Default side → ⊥) → FitProgress s doing → (u : TcpState) → FitProgress u doing
@@ -241,38 +218,17 @@ whatever Q k es (Give a) = k a
 whatever Q k es (Ask op c next) = (tt, λ told fits. whatever Q k _ (next told))
 whatever Q k es (AskWrite op sock bytes next) = (tt, λ told fits front. whatever Q k _ (next told))
 
--- the first stage of a connect, and one that was polled
-pub first_of : (own side : OpId) (maker : ℕ) (any a : IpSocketAddress) (b : Bool) → IsConnect (connect_operation (record { op = own; side = side; maker = maker }) any a (connect_first b))
-first_of own side maker any a true = record { last = refl; left = connect.Unchecked a }
-first_of own side maker any a false = record { last = refl; left = connect.Unbound any a }
+-- a call is pending
+stood_fit : (h : Here) (ids : Ids) (call : StandingCall) → FitCall h.machine.store.records call → Fit h → Fit (record h { machine = record h.machine { store = record h.machine.store { standing = Some (standing_as ids call) } } })
+stood_fit h ids call f i = record { records = i.records; udps = i.udps; stands = λ c p. let q : standing_as ids call ≡ c = cc in subst (λ (x : Standing). FitCall h.machine.store.records x.call) q f }
 
-pub ended_fits : (op : Operation) (end : End × List Item) → IsConnect op → IsLeftOfConnect end.1 → HoldsConnect (connect_ended op.who end).1
-ended_fits op (Waits, items) its k = record { last = its.last; left = k }
-ended_fits op _ its k = tt
+-- what the line has begun is another
+owned_fit : (h : Here) (own : Own) → Fit h → Fit (record h { own = own })
+owned_fit h own i = record { records = i.records; udps = i.udps; stands = i.stands }
 
-listened_fits : (op : Operation) (r : Tcp2Socket) (end : End × List Item) → IsListen op → IsLeftOfListen end.1 → FitRecord r → FitRecord (listen_after op r end)
-listened_fits op r (Waits, items) its k f = (f.0, record { last = its.last; left = k }, f.2)
-listened_fits op r (Done given, items) its k f = (tt, tt, tt)
-listened_fits op r (Refused why given, items) its k f = (f.0, tt, f.2)
-
--- what is left of a bind, of the same socket
-bound_fits : (op : Operation) (r : Tcp2Socket) (end : End × List Item) → r.in_progress ≡ InProgress.Binding op → IsLeftOfBind end.1 → FitRecord r → FitRecord (with_progress r (bind_progress op end))
-bound_fits op r (Waits, items) e k f = let its = subst (FitProgress r.inner.state) e f.2 in (f.0, f.1, (its.0, record { last = its.1.last; left = k }))
-bound_fits op r (Done given, items) e k f = (f.0, f.1, tt)
-bound_fits op r (Refused why given, items) e k f = (f.0, f.1, tt)
-
-given_fits : (side : OpId) (maker : ℕ) (given : Given) → HoldsAccept side maker (arrived given)
-given_fits side maker (Connection new peer) = tt
-given_fits side maker _ = tt
-
-accepted_fits : (side : OpId) (maker : ℕ) (op : Operation) (end : End × List Item) → IsAcceptOn side maker op → AcceptLeaves end → HoldsAccept side maker (accept_ended op.who end)
-accepted_fits side maker op (Waits, items) its k = record { accept = record { last = its.accept.last; left = k.0 }; of_side = its.of_side; of_maker = its.of_maker; going = k.1 }
-accepted_fits side maker op (Done given, items) its k = given_fits side maker given
-accepted_fits side maker op (Refused c given, items) its k = tt
-
--- the record of what was accepted
-joined_fits : (l : Listener) (new : OpId) (peer : IpSocketAddress) → FitRecord (joined l new peer)
-joined_fits l new peer = (tt, tt, tt)
+-- a UDP socket changes, and the line has begun something
+begun_udp_fit : (h : Here) (place : ℕ) (o now : OpenUdp) (own : Own) → FoundUdp h place (Udp2Socket.Open o) → KeepsOpen (Udp2Socket.Open o) (Udp2Socket.Open now) → FitUdp (Udp2Socket.Open now) → Fit h → Fit (record (put_udp h place (Udp2Socket.Open now)) { own = own })
+begun_udp_fit h place o now own g k f i = owned_fit (put_udp h place (Udp2Socket.Open now)) own (put_udp_fit h place (Udp2Socket.Open o) (Udp2Socket.Open now) g (inr k) f i)
 
 module _ (contexts : List WasiSocketsCtx) (line : ℕ) (origin : Step) where
   pub moves_fit : (h now : Here) → Move line origin h now → Fit h → Fit now
@@ -307,16 +263,30 @@ module _ (contexts : List WasiSocketsCtx) (line : ℕ) (origin : Step) where
         udps = λ p u d. k.udps p u (udp_of_push (tcp2_put h.machine.store.records place idle) (joined l new peer) p u d);
         stands = λ c e. call_push (tcp2_put h.machine.store.records place idle) (joined l new peer) c.call (k.stands c e);
       }
-  moves_fit _ _ (Stands h ids call r at g b) i = record { records = i.records; udps = i.udps; stands = λ c p. let q : standing_as ids call ≡ c = cc in subst (λ (x : Standing). FitCall h.machine.store.records x.call) q (call_stands h.machine.store.records call r g b) }
+  moves_fit _ _ (Stands h ids call r at g b) i = stood_fit h ids call (call_stands h.machine.store.records call r g b) i
   moves_fit _ _ (Unstands h) i = record { records = i.records; udps = i.udps; stands = λ c p. absurd (cc) }
-  moves_fit _ _ (UdpChanges h place o now g p) i =
-      put_udp_fit h place (Udp2Socket.Open o) (Udp2Socket.Open now) g (inr (record { was = o; is = now; from = refl; to = refl; binds = plain_binds o.in_progress now.in_progress p.binds })) (subst (λ (x : OpId). FitUdpProgress x now.in_progress) (sym p.side) (plain_progress o.inner.side o.in_progress now.in_progress p.binds (i.udps place (Udp2Socket.Open o) g))) i
+  moves_fit _ _ (UdpChanges h place o now g p) i = put_udp_fit h place (Udp2Socket.Open o) (Udp2Socket.Open now) g (inr (plain_open o now p)) (plain_fits o now p (i.udps place (Udp2Socket.Open o) g)) i
   moves_fit _ _ (BeginsUdpBind h place o a at g to idle own) i =
-      let now = with_udp_progress o (UdpInProgress.Binding (begun_udp_bind (own_of line) o a)) in
-      let k = put_udp_fit h place (Udp2Socket.Open o) (Udp2Socket.Open now) g (inr (record { was = o; is = now; from = refl; to = refl; binds = λ op e. absurd (idle_keeps o.in_progress idle op e) })) (record { bind = record { last = refl; left = udp.Unchecked a }; of_side = refl }) i in
-      record { records = k.records; udps = k.udps; stands = k.stands }
-  moves_fit _ _ (StandsUdpBind h ids place o op at g e) i = record { records = i.records; udps = i.udps; stands = λ c p. let q : standing_as ids (StandingCall.UdpBind place) ≡ c = cc in subst (λ (x : Standing). FitCall h.machine.store.records x.call) q (record { was = o; at = g; op = op; goes = e }) }
-  moves_fit _ _ (StandsUdpCreate h ids place create g) i = record { records = i.records; udps = i.udps; stands = λ c p. let q : standing_as ids (StandingCall.UdpCreate place) ≡ c = cc in subst (λ (x : Standing). FitCall h.machine.store.records x.call) q (record { was = create; at = g }) }
+      let f = i.udps place (Udp2Socket.Open o) g in
+      let now : OpenUdp = with_udp_progress o (UdpInProgress.Binding (begun_udp_bind (own_of line) o a)) in
+      begun_udp_fit h place o now Used g (record { was = o; is = now; from = refl; to = refl; binds = λ op e. absurd (idle_keeps o.in_progress idle op e); connects = λ op e. (op, e) }) (record { bind = record { last = refl; left = udp.Unchecked a }; of_side = refl }, f.1, f.2, f.3) i
+  moves_fit _ _ (StandsUdpBind h ids place o op at g e) i = stood_fit h ids (StandingCall.UdpBind place) (record { was = o; at = g; op = op; goes = e }) i
+  moves_fit _ _ (StandsUdpCreate h ids place create g) i = stood_fit h ids (StandingCall.UdpCreate place) (record { was = create; at = g }) i
+  moves_fit _ _ (BeginsUdpConnect h place o a at g to bound own) i =
+      let f = i.udps place (Udp2Socket.Open o) g in
+      let op = begun_udp_connect (own_of line) o a in
+      let now : OpenUdp = record o { connecting = Some op } in
+      begun_udp_fit h place o now Used g (record { was = o; is = now; from = refl; to = refl; binds = λ x e. e; connects = λ x e. (op, refl) }) (f.0, record { connect = record { last = refl; left = binding.ConnectUnchecked o.inner.family a }; of_side = refl }, f.2, f.3) i
+  moves_fit _ _ (StandsUdpConnect h ids place handle o op at under g e) i = stood_fit h ids (StandingCall.UdpConnect place handle) (record { was = o; at = g; op = op; goes = e }) i
+  moves_fit _ _ (StandsDropOutgoing h ids place o at g s) i = stood_fit h ids (StandingCall.DropOutgoing place) tt i
+  moves_fit _ _ (BeginsSend h place n o out d bound at g e is known own) i =
+      let f = i.udps place (Udp2Socket.Open o) g in
+      let now = sending_now o out (send_start (part_of line n) o.inner d.bytes d.remote_address bound) in
+      begun_udp_fit h place o now (Names (n + 1)) g (stays_open o now refl refl) (f.0, f.1, begun_send (part_of line n) o.inner d.bytes d.remote_address bound, f.3) i
+  moves_fit _ _ (BeginsReceive h place n o inc bound at g e own) i =
+      let f = i.udps place (Udp2Socket.Open o) g in
+      let now = receiving_now o inc (receive_start (part_of line n) o.inner bound) in
+      begun_udp_fit h place o now (Names (n + 1)) g (stays_open o now refl refl) (f.0, f.1, f.2, begun_receive (part_of line n) o.inner bound) i
   moves_fit _ _ _ i = record { records = i.records; udps = i.udps; stands = i.stands }
 
   -- a socket that is created connects by nothing
@@ -369,8 +339,33 @@ module _ (contexts : List WasiSocketsCtx) (line : ℕ) (origin : Step) where
       let f = i.udps place (Udp2Socket.Creating create) g in
       allows_weaker Anything (λ fs end. LeavesCreate end) (λ fs end. Fit (put_udp h place (udp_create_left create end))) (λ fs end k. put_udp_fit h place (Udp2Socket.Creating create) _ g (inl q) (create_fits create f.0 end k) i) es (poll_asks create.operation) (create_left create.operation f.0 f.1 es)
   polls_fit es h _ _ (UdpBindsOn place o op q g e) i =
-      let its : UdpBindOn o.inner.side op = subst (FitUdpProgress o.inner.side) e (i.udps place (Udp2Socket.Open o) g) in
-      allows_weaker Anything (λ fs end. udp.IsLeftOfBind end.1) (λ fs end. Fit (put_udp h place (Udp2Socket.Open (with_udp_progress o (udp_bind_progress op end))))) (λ fs end k. put_udp_fit h place (Udp2Socket.Open o) _ g (inl q) (bound_udp o op end its k) i) es (poll_asks op) (udp_bind_left op its.bind es)
+      let f = i.udps place (Udp2Socket.Open o) g in
+      let its : UdpBindOn o.inner.side op = subst (FitUdpProgress o.inner.side) e f.0 in
+      allows_weaker Anything (λ fs end. udp.IsLeftOfBind end.1) (λ fs end. Fit (put_udp h place (Udp2Socket.Open (with_udp_progress o (udp_bind_progress op end))))) (λ fs end k. put_udp_fit h place (Udp2Socket.Open o) _ g (inl q) (bound_udp o op end its k f) i) es (poll_asks op) (udp_bind_left op its.bind es)
+  polls_fit es h _ _ (UdpConnectsOn place o op q g e) i =
+      let f = i.udps place (Udp2Socket.Open o) g in
+      let its : UdpConnectOn o.inner.side op = subst (FitConnecting o.inner.side) e f.1 in
+      allows_weaker Anything (λ fs end. LeavesConnect end) (λ fs end. Fit (put_udp h place (Udp2Socket.Open (udp_connect_left op o end)))) (λ fs end k. put_udp_fit h place (Udp2Socket.Open o) _ g (inl q) (connected_udp o op end its k f) i) es (poll_asks op) (udp_connect_leaves op its.connect.left es)
+  polls_fit es h _ _ (SendsOn place o out op left g e s settles) i =
+      let f = i.udps place (Udp2Socket.Open o) g in
+      let its : SendOn o.inner.side op = sends_on o out op e s f in
+      let now : End × List Item → OpenUdp = λ end. record o { outgoing = Some (with_sending out (left end)) } in
+      allows_weaker Anything (λ fs end. IsLeftOfSend end.1) (λ fs end. Fit (put_udp h place (Udp2Socket.Open (now end)))) (λ fs end k. put_udp_fit h place (Udp2Socket.Open o) _ g (inr (stays_open o (now end) refl refl)) (sent_udp o out op left end settles its k f) i) es (poll_asks (at_remote o.inner.remote op))
+      (datagram_left (at_remote o.inner.remote op) its.send.left es)
+  polls_fit es h _ _ (ReceivesOn place o inc op g e r) i =
+      let f = i.udps place (Udp2Socket.Open o) g in
+      let its : ReceiveOn o.inner.side op = receives_on o inc op e r f in
+      let now : End × List Item → OpenUdp = λ end. record o { incoming = Some (with_receiving inc (receive_left op end)) } in
+      allows_weaker Anything (λ fs end. IsLeftOfReceive end.1) (λ fs end. Fit (put_udp h place (Udp2Socket.Open (now end)))) (λ fs end k. put_udp_fit h place (Udp2Socket.Open o) _ g (inr (stays_open o (now end) refl refl)) (received_udp o inc op end its k f) i) es (poll_asks (wanting inc.remote op))
+      (received_left (wanting inc.remote op) (wanted_left inc.remote op.left its.receive.left) es)
+
+  -- the socket changes, and neither its network socket nor what it is in the middle of does
+  pub udp_inner_fit : (h : Here) (place : ℕ) (o : OpenUdp) (socket : UdpSocket) → FoundUdp h place (Udp2Socket.Open o) → socket.side ≡ o.inner.side → Fit h → Fit (put_udp h place (Udp2Socket.Open (with_udp_inner o socket)))
+  udp_inner_fit h place o socket g e i = put_udp_fit h place (Udp2Socket.Open o) _ g (inr (stays_open o (with_udp_inner o socket) refl refl)) (inner_fits o socket e (i.udps place (Udp2Socket.Open o) g)) i
+
+  -- a handle is made
+  pub marked_fit : {A : Type 0} (es : List Entry) (h : Here) (asks : Asks (A × Handles)) → Fit h → Allows Anything (λ fs made. Fit (record h { machine = record h.machine { table = made.1 } })) es asks
+  marked_fit es h asks i = whatever (λ made. Fit (record h { machine = record h.machine { table = made.1 } })) (λ made. record { records = i.records; udps = i.udps; stands = i.stands }) es asks
 
   unfoldable pub fits : Law contexts line origin
   fits = record {
@@ -381,16 +376,18 @@ module _ (contexts : List WasiSocketsCtx) (line : ℕ) (origin : Step) where
     sets = λ es h place r side b at g s is i. (tt, λ told fits. i);
     learns = λ es h place r side at g e i. (tt, λ told fits. let f = i.records place r g in put_fit h place r _ g (inr (λ b. b, λ l. l)) (subst HoldsConnect (sym (told_same r.inner (told_addr told))) f.0, f.1, same_progress r.in_progress (told_same r.inner (told_addr told)) f.2) i);
     closes = λ es h place r side q g e i. (tt, λ told fits. put_fit h place r (closed_record r) g (inl q) (tt, tt, tt) i);
-    marks = λ es h kind parent sock m i. whatever (λ made. Fit (record h { machine = record h.machine { table = made.1 } })) (λ made. record { records = i.records; udps = i.udps; stands = i.stands }) es _;
+    marks = λ es h kind parent sock m i. marked_fit es h _ i;
     creates = λ es h ctx family c a o m i. created es h (own_of line) ctx family i;
     accepted = λ es h c s place r is e o g i. whatever (λ made. Fit (record h { machine = record h.machine { table = made.1 }; made = made_so place made.0 })) (λ made. record { records = i.records; udps = i.udps; stands = i.stands }) es _;
     polls = polls_fit;
     turns = λ es h place r s g e i. whatever (λ done. Fit (put h place (with_writer r s done.1))) (λ done. put_fit h place r _ g (inr (λ b. b, λ l. l)) (i.records place r g) i) es (turn_asks s.writer);
     udp_asks = λ es h place n o c at g q i. (tt, λ told fits. i);
-    udp_learns = λ es h place o at g i. (tt, λ told fits. put_udp_fit h place (Udp2Socket.Open o) _ g (inr (record { was = o; is = _; from = refl; to = refl; binds = λ op e. e })) (subst (λ (x : OpId). FitUdpProgress x o.in_progress) (sym (learnt_side o.inner (told_addr told))) (i.udps place (Udp2Socket.Open o) g)) i);
+    udp_learns = λ es h place part o at g i. (tt, λ told fits. udp_inner_fit h place o _ g (learnt_side o.inner (told_addr told)) i);
+    udp_peers = λ es h place o at g i. (tt, λ told fits. udp_inner_fit h place o (after_peer o.inner (told_addr told)) g refl i);
     udp_closes = λ es h place o q g i. (tt, λ told fits. put_udp_fit h place (Udp2Socket.Open o) (Udp2Socket.Closed o.inner.side) g (inl q) tt i);
     udp_creates = λ es h ctx family c may a o m i. (tt, λ told fits. begun_fits h (own_of line) ctx.name family (told_done told) i);
-    udp_marks = λ es h place u g i. whatever (λ made. Fit (record h { machine = record h.machine { table = made.1 } })) (λ made. record { records = i.records; udps = i.udps; stands = i.stands }) es _;
+    udp_marks = λ es h place u g i. marked_fit es h _ i;
+    stream_marks = λ es h place n handle kind m k e i. marked_fit es h _ i;
     gives_up = λ es h place r q g i. whatever (λ done. Fit (put h place (with_listening r Not))) (λ done. let f = i.records place r g in put_fit h place r _ g (inl q) (f.0, tt, f.2) i) es (give_up_asks r.listening);
   }
 

@@ -26,11 +26,11 @@ module _ (who : Who) (C : List Item → Type 0) (over : C []) where
   abbrev Known : List Entry → Given → List Item → Type 0
   Known es given items = C items
 
-  abbrev Keeps : List Item → List Entry → Front → Type 0
+  abbrev pub Keeps : List Item → List Entry → Front → Type 0
   Keeps items es f = FrontKeeps Anything who Known Leaves items es f
 
   -- nothing is left once the last ask was made
-  lasts : (last : LastAsk) (es : List Entry) (c : ErrorCode) (given : Given) → Gives Leaves es (last_ask who last c given)
+  pub lasts : (last : LastAsk) (es : List Entry) (c : ErrorCode) (given : Given) → Gives Leaves es (last_ask who last c given)
   unfolding bind
   lasts NothingLast es c given = over
   lasts _ es c given = (tt, λ t fits. over)
@@ -49,7 +49,7 @@ module _ (who : Who) (C : List Item → Type 0) (over : C []) where
     by_done es (Err c) = lasts who.last es c Nothing
 
     -- a connect continues, stays or ends
-    by_polled : (es : List Entry) (item : Item) (p : Polled (Unit {0})) → C (item ∷ items) → Keeps items es (polled_front item p)
+    pub by_polled : (es : List Entry) (item : Item) (p : Polled (Unit {0})) → C (item ∷ items) → Keeps items es (polled_front item p)
     by_polled es item (Polled.Ready done) stays = goes
     by_polled es item (Polled.Code c) stays = lasts who.last es c Nothing
     by_polled es item Polled.Pending stays = stays
@@ -58,7 +58,7 @@ module _ (who : Who) (C : List Item → Type 0) (over : C []) where
     FrontGives es item = Gives (λ fs f. Keeps items fs f) es (front who item)
 
     -- the front ask is a check
-    checks : (es : List Entry) (a : IpSocketAddress) (usage : SocketAddrUse) → C (Check a usage ∷ items) → FrontGives es (Check a usage)
+    pub checks : (es : List Entry) (a : IpSocketAddress) (usage : SocketAddrUse) → C (Check a usage ∷ items) → FrontGives es (Check a usage)
     unfolding bind
     checks es a usage stays = (tt, λ t fits. by_verdict _ (Check a usage) (told_verdict t) stays)
 
@@ -93,7 +93,7 @@ module _ (who : Who) (C : List Item → Type 0) (over : C []) where
     connects es a stays = (tt, λ t fits. by_polled _ (Connect a) (told_polled t) stays)
 
   -- where each front ask keeps it
-  kept : ((es : List Entry) (given : Given) (item : Item) (items : List Item) → C (item ∷ items) → Gives (λ fs f. Keeps items fs f) es (front who item)) → (items : List Item) → C items → (es : List Entry) → Gives Leaves es (poll_asks (record { who = who; left = items }))
+  pub kept : ((es : List Entry) (given : Given) (item : Item) (items : List Item) → C (item ∷ items) → Gives (λ fs f. Keeps items fs f) es (front who item)) → (items : List Item) → C items → (es : List Entry) → Gives Leaves es (poll_asks (record { who = who; left = items }))
   kept fronts items c es = allows_polls Anything who Known Leaves fronts (λ fs left k. k) (λ fs given k. k) 64 items es c
 
 -- == of each

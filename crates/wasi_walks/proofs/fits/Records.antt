@@ -1,5 +1,5 @@
 -- What it is that a socket is bound by a bind, connects by a connect, listens by a listen and accepts by an accept.
-use Rattle.std.specs.Prelude.{◌≡◌, ℕ, List, [], ◌∷◌, Some, ⊤}
+use Rattle.std.specs.Prelude.{◌≡◌, ℕ, List, [], ◌∷◌, Option, Some, None, ⊤}
 use Rattle.wasi_world.specs.declared.ids.OpId.{OpId}
 use Rattle.wasi_world.specs.Operation.{Operation, UdpWritable, CloseLast}
 use Rattle.wasi_udp.specs.Bind.{IsBind as IsUdpBind}
@@ -17,8 +17,10 @@ use Rattle.wasi_host.specs.declared.binding.InProgress.{InProgress}
 use Rattle.wasi_host.specs.declared.listening.Listening.{Listening}
 use Rattle.wasi_host.specs.declared.socket.Tcp2Socket.{Tcp2Socket}
 use Rattle.wasi_host.specs.declared.store.StandingCall.{StandingCall}
-use Rattle.wasi_walks.specs.Waiting.{IsRestOfBind}
-use Rattle.wasi_walks.proofs.walks.Moves.{HasBinding, HasListen}
+use Rattle.wasi_udp.specs.Receive.{IsReceive}
+use Rattle.wasi_udp.specs.Send.{IsSend}
+use Rattle.wasi_walks.specs.Waiting.{IsRestOfBind, IsRestOfUdpConnect}
+use Rattle.wasi_walks.proofs.walks.Moves.{HasBinding, HasListen, sending_in, receiving_in}
 
 -- what it listens by is a listen, and what it accepts by an accept
 abbrev pub FitListening : Listening → Type 0
@@ -59,6 +61,40 @@ pub record UdpBindGoesOn (records : List Record) (place : ℕ) : Type 0 where
   pub op : Operation
   pub goes : was.in_progress ≡ UdpInProgress.Binding op
 
+-- A connect is in progress in the UDP socket at this place.
+pub record UdpConnectGoesOn (records : List Record) (place : ℕ) : Type 0 where
+  pub was : OpenUdp
+  pub at : udp2_at records place ≡ Some (Udp2Socket.Open was)
+  pub op : Operation
+  pub goes : was.connecting ≡ Some op
+
+-- What a UDP socket connects by is a connect, on its network socket.
+pub record UdpConnectOn (side : OpId) (op : Operation) : Type 0 where
+  pub connect : IsRestOfUdpConnect op
+  pub of_side : op.who.side ≡ side
+
+abbrev pub FitConnecting : OpId → Option Operation → Type 0
+FitConnecting side (Some op) = UdpConnectOn side op
+FitConnecting side None = ⊤
+
+-- What it sends is a datagram, on its network socket.
+pub record SendOn (side : OpId) (op : Operation) : Type 0 where
+  pub send : IsSend op
+  pub of_side : op.who.side ≡ side
+
+-- And what it receives by is a receive.
+pub record ReceiveOn (side : OpId) (op : Operation) : Type 0 where
+  pub receive : IsReceive op
+  pub of_side : op.who.side ≡ side
+
+abbrev pub FitSending : OpId → Option Operation → Type 0
+FitSending side (Some op) = SendOn side op
+FitSending side None = ⊤
+
+abbrev pub FitReceiving : OpId → Option Operation → Type 0
+FitReceiving side (Some op) = ReceiveOn side op
+FitReceiving side None = ⊤
+
 -- What a UDP socket is bound by is a bind, on its network socket.
 pub record UdpBindOn (side : OpId) (op : Operation) : Type 0 where
   pub bind : IsUdpBind op
@@ -71,13 +107,15 @@ FitUdpProgress side _ = ⊤
 
 abbrev pub FitUdp : Udp2Socket → Type 0
 FitUdp (Udp2Socket.Creating create) = (create.operation.who.last ≡ CloseLast) × (create.operation.left ≡ UdpWritable ∷ [])
-FitUdp (Udp2Socket.Open o) = FitUdpProgress o.inner.side o.in_progress
+FitUdp (Udp2Socket.Open o) = FitUdpProgress o.inner.side o.in_progress × FitConnecting o.inner.side o.connecting × FitSending o.inner.side (sending_in o.outgoing) × FitReceiving o.inner.side (receiving_in o.incoming)
 FitUdp _ = ⊤
 
--- where a bind, a listen or a create is pending, it is in progress
+-- where a bind, a listen, a create or a connect is pending, it is in progress
 abbrev pub FitCall : List Record → StandingCall → Type 0
 FitCall records (StandingCall.Bind place) = BindGoesOn records place
 FitCall records (StandingCall.Listen place) = ListenGoesOn records place
 FitCall records (StandingCall.DropOutput place) = ⊤
 FitCall records (StandingCall.UdpCreate place) = UdpCreateGoesOn records place
 FitCall records (StandingCall.UdpBind place) = UdpBindGoesOn records place
+FitCall records (StandingCall.UdpConnect place handle) = UdpConnectGoesOn records place
+FitCall records (StandingCall.DropOutgoing place) = ⊤

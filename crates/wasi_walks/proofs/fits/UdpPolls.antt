@@ -1,9 +1,9 @@
 -- What is left of a create and of a bind of a UDP socket after a poll.
 use Rattle.std.specs.Prelude.{◌≡◌, ⊤, ℕ, suc, List, [], ◌∷◌}
-use Rattle.wasi_walks.proofs.Words.{Allows, End, Entry, Item, Operation, Polled, Waits, Who, bind, poll_asks, polled_front, refl, subst, sym, told_polled}
+use Rattle.wasi_walks.proofs.Words.{Allows, Done, End, Entry, Item, Operation, Polled, Refused, Waits, Who, bind, poll_asks, polled_front, refl, subst, sym, told_polled}
 use Rattle.wasi_world.specs.Operation.{UdpWritable, CloseLast, polls, round, after}
 use Rattle.wasi_udp.specs.Create.{Create}
-use Rattle.wasi_host.specs.Udp.{udp_create_left}
+use Rattle.wasi_host.specs.Udp.{udp_create_left, udp_side}
 use Rattle.wasi_walks.proofs.fits.Polls.{Anything}
 use Rattle.wasi_walks.proofs.fits.Records.{FitUdp}
 
@@ -29,4 +29,11 @@ create_left op last left es = subst (λ (items : List Item). Allows Anything (λ
 -- and so its record fits
 pub create_fits : (create : Create) → create.operation.who.last ≡ CloseLast → (end : End × List Item) → LeavesCreate end → FitUdp (udp_create_left create end)
 create_fits create last (Waits, items) k = (last, k)
-create_fits create last _ k = tt
+create_fits create last (Done given, items) k = (tt, tt, tt, tt)
+create_fits create last (Refused c given, items) k = tt
+
+-- the record that a create leaves has its network socket
+pub create_side : (create : Create) (end : End × List Item) → udp_side (udp_create_left create end) ≡ create.operation.who.side
+create_side create (Waits, items) = refl
+create_side create (Done given, items) = refl
+create_side create (Refused c given, items) = refl

@@ -44,6 +44,7 @@ module _ (contexts : List WasiSocketsCtx) (steps : List Step) (line : ℕ) (orig
     unmade = λ e a s is. made_more es op (own_of line) c told z (i.unmade e a s is);
     joined = λ p e. (let j = i.joined p e in joined_on es h (entry op c told) p j (unmarked_unless es op c told j.new j.fresh z));
     marked = λ handle p e r g. (let k = i.marked handle p e r g in record { above = k.above; told = k.told; mark = has_front es _ _ k.mark });
+    streaming = i.streaming;
   }
 
   no_mark : (c : Call) → NoMark c → marked_by c ≡ 0
@@ -91,7 +92,7 @@ module _ (contexts : List WasiSocketsCtx) (steps : List Step) (line : ℕ) (orig
   question_local n side x _ q e = absurd (cc)
 
   -- the line itself began the operation
-  own_line : (n : ℕ) (Is : Step → Type 0) → n ≡ line → Is origin → BeganBy steps (own_of n) Is
+  pub own_line : (n : ℕ) (Is : Step → Type 0) → n ≡ line → Is origin → BeganBy steps (own_of n) Is
   own_line n Is own is = record { origin = origin; at = subst (λ (k : ℕ). step_at steps k ≡ Some origin) (sym own) is_line; holds = is }
 
   pub question_may : (n : ℕ) (es : List Entry) (side : OpId) (c : Call) → IsQuestionOf line origin n side c → Names steps es (own_of n) side → MayAsk contexts steps es (own_of n) c × NoMark c

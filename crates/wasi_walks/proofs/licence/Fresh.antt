@@ -96,6 +96,7 @@ module _ (contexts : List WasiSocketsCtx) (steps : List Step) where
     marked_below op parent x c k (Step.Write ctx output bytes) b m = absurd (let e = m.0 in cc)
     marked_below op parent x c k (Step.Flush ctx output) b m = absurd (let e = m.0 in cc)
     marked_below op parent x c k (Step.Subscribe ctx handle) b m = absurd (let e = m.0 in cc)
+    marked_below op parent x c k (Step.UdpStream ctx socket remote) b m = absurd (elim m.0 [ inl e ↦ cc | inr e ↦ cc ])
     marked_below op parent x c k _ b m = absurd m
 
     socket_below : (op : OpId) (handle : ℕ) (parent : Option ℕ) (x : OpId) (t : Told) → Has log (entry op (Call.Made handle name.Tcp2 parent (Some x)) t) → x.step ≤ length steps

@@ -14,7 +14,7 @@ use Rattle.wasi_walks.proofs.fits.Records.{FitListening, FitProgress}
 use Rattle.wasi_walks.proofs.licence.Fresh.{spared_as}
 use Rattle.wasi_walks.proofs.claims.Polls.{AllAskBut, IsPlainCall, poll_plainly}
 use Rattle.wasi_walks.proofs.claims.Law.{accept_plain, Named, Base, same_begun, fresh, taken_fresh, Fresh}
-use Rattle.wasi_walks.proofs.walks.Moves.{Held, BindsOn, Connects, Unused, Here, put, Found, Listens, Awaits, UdpCreates, UdpBindsOn, listen_after, accepting_now, second_of}
+use Rattle.wasi_walks.proofs.walks.Moves.{Held, BindsOn, Connects, Unused, Here, put, Found, Listens, Awaits, UdpCreates, UdpBindsOn, UdpConnectsOn, SendsOn, ReceivesOn, listen_after, accepting_now, second_of}
 use Rattle.wasi_walks.proofs.Lists.{get_set, set_there}
 use Rattle.wasi_walks.specs.Licence.{MakesTcp}
 use Rattle.wasi_walks.proofs.licence.State.{ConnectIsFine, accept_name, Names, BindIsFine, JobIsFine, WritesOn, StreamsAreFine, AcceptingIsFine, ListeningIsFine, ProgressIsFine, RecordIsFine, AcceptStands, AcceptingStands, ListeningStands, name_in, AcceptLeft, AcceptIsFine}
@@ -27,7 +27,8 @@ use Rattle.wasi_walks.proofs.walks.Law.{put_put}
 use Rattle.wasi_walks.proofs.licence.Line.{put_with, some_same, no_listen, local_side, ListenGoesOn, Licensed, put_fine}
 use Rattle.wasi_walks.proofs.licence.Moves.{streams_fine, held_side, same_listen, listener_fine}
 use Rattle.wasi_walks.proofs.licence.Asked.{Spares, spares, asked_by, asked_fine, kept}
-use Rattle.wasi_walks.proofs.licence.UdpGoesOn.{udp_created_on, udp_bound_on}
+use Rattle.wasi_walks.proofs.licence.UdpGoesOn.{udp_created_on, udp_bound_on, udp_connected_on, udp_sent_on, udp_received_on}
+use Rattle.wasi_walks.proofs.remotes.State.{Keeps, remotes_in}
 use Rattle.wasi_tcp.specs.Listen as listen
 use Rattle.wasi_tcp.specs.Connect as connecting
 use Rattle.wasi_walks.specs.Waiting as binding
@@ -225,10 +226,13 @@ module _ (contexts : List WasiSocketsCtx) (steps : List Step) (line : ℕ) (orig
       by_accept (Accepting.Failed c) k = tt
   given_up es made (Unclosed side) f = (((tt, tt), tt), λ t fits. tt)
 
-  pub polls_fine : (es : List Entry) (h : Here) (op : Operation) (after : End × List Item → Here) → Held h op after → Base contexts line origin h → Licensed steps line origin es h → Allows (MayAsk contexts steps) (λ fs ended. Licensed steps line origin fs (after ended)) es (poll_asks op)
-  polls_fine es h _ _ (BindsOn place r op q g e) b i = bound_on es h place r op g e b.0 i
-  polls_fine es h _ _ (Connects place r op g e) b i = connected_on es h place r op g e b.0 i
-  polls_fine es h _ _ (Listens place r op q g e c) b i = listened_on es h place r op g e c b.0 b.1 i
-  polls_fine es h _ _ (Awaits place r l op g e a) b i = awaited_on es h place r l op g e a b.0 b.1 i
+  pub polls_fine : (es : List Entry) (h : Here) (op : Operation) (after : End × List Item → Here) → Held h op after → Base contexts line origin h × Keeps es h.machine.store.records → Licensed steps line origin es h → Allows (MayAsk contexts steps) (λ fs ended. Licensed steps line origin fs (after ended)) es (poll_asks op)
+  polls_fine es h _ _ (BindsOn place r op q g e) b i = bound_on es h place r op g e b.0.0 i
+  polls_fine es h _ _ (Connects place r op g e) b i = connected_on es h place r op g e b.0.0 i
+  polls_fine es h _ _ (Listens place r op q g e c) b i = listened_on es h place r op g e c b.0.0 b.0.1 i
+  polls_fine es h _ _ (Awaits place r l op g e a) b i = awaited_on es h place r l op g e a b.0.0 b.0.1 i
   polls_fine es h _ _ (UdpCreates place create q g) b i = udp_created_on contexts steps line origin is_line es h place create g i
   polls_fine es h _ _ (UdpBindsOn place o op q g e) b i = udp_bound_on contexts steps line origin is_line es h place o op g e i
+  polls_fine es h _ _ (UdpConnectsOn place o op q g e) b i = udp_connected_on contexts steps line origin is_line es h place o op g e i
+  polls_fine es h _ _ (SendsOn place o out op left g e s settles) b i = udp_sent_on contexts steps line origin is_line es h place o out op left g e s settles (remotes_in es h b.1 place o g) b.0.0 i
+  polls_fine es h _ _ (ReceivesOn place o inc op g e s) b i = udp_received_on contexts steps line origin is_line es h place o inc op g e s i

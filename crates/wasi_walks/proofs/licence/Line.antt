@@ -4,11 +4,11 @@ use Rattle.wasi_walks.proofs.Words.{OpId, Operation, Option, SocketAddressFamily
 use Rattle.wasi_walks.proofs.Words.{own_of, refl, side_in, subst, sym, with_socket, ℕ, ⊤, ◌∙◌, ◌≡◌, ◌⊎◌}
 use Rattle.wasi_walks.proofs.licence.ListenAsks.{ListenIsFine}
 use Rattle.wasi_walks.proofs.licence.Fresh.{NoMadeBy}
-use Rattle.wasi_walks.proofs.walks.Moves.{Used, Unused, Here, put, put_udp, Found, FoundUdp, record_of, udp_record_of, Plain, Made, Unmade, Joined, Marked, second_of}
+use Rattle.wasi_walks.proofs.walks.Moves.{Own, Used, Unused, ToStream, Here, put, put_udp, Found, FoundUdp, record_of, udp_record_of, Plain, Made, Unmade, Joined, Marked, second_of}
 use Rattle.wasi_walks.proofs.Lists.{get_set, tcp2_seam}
 use Rattle.wasi_walks.proofs.UdpLists.{udp_get_set, udp_of_put, tcp_of_put}
 use Rattle.wasi_walks.specs.Licence.{MakesTcp}
-use Rattle.wasi_walks.proofs.licence.State.{NamesIf, NamesRecord, NamesUdp, NamesUdpIf, HandleIsFine, Names, RecordIsFine, UdpIsFine, StateIsFine, IsHanded}
+use Rattle.wasi_walks.proofs.licence.State.{NamesIf, NamesRecord, NamesUdp, NamesUdpIf, HandleIsFine, Names, RecordIsFine, UdpIsFine, StateIsFine, IsHanded, MakesStreams}
 use Rattle.wasi_walks.proofs.licence.Frames.{KeepsListening, KeepsRecord, same_record}
 use Rattle.wasi_walks.proofs.licence.States.{state_put, state_put_udp}
 use Rattle.wasi_world.specs.declared.call.HandleKind.TheVariants as name
@@ -114,6 +114,7 @@ pub record Licensed (steps : List Step) (line : ℕ) (origin : Step) (es : List 
   pub unmade : (h.own ≡ Unused) ⊎ NotMarked h.made → (c s : ℕ) → origin ≡ Step.TcpAccept c s → NoMadeBy es (own_of line)
   pub joined : (place : ℕ) → h.made ≡ Joined place → JoinedIsFine origin es h place
   pub marked : (handle place : ℕ) → h.made ≡ Marked handle place → (r : Tcp2Socket) → Found h place r → MadeSocket line es handle r.side
+  pub streaming : (n handle : ℕ) → h.made ≡ ToStream n handle → MakesStreams steps n handle
 
 -- == a record changes
 -- == moves
@@ -148,6 +149,7 @@ module _ {steps : List Step} {line : ℕ} {origin : Step} where
       unmade = i.unmade;
       joined = λ p e. joined_put p (i.joined p e);
       marked = λ handle p e q d. by_side (λ (o : Option OpId). MadeSocket line es handle o) h place r now g s p (λ x u. i.marked handle p e x u) q d;
+      streaming = i.streaming;
     }
 
   pub put_fine : (es : List Entry) (h : Here) (place : ℕ) (r now : Tcp2Socket) → Found h place r → now.side ≡ r.side → KeepsListening r.listening now.listening → KeepsListen r now → RecordIsFine steps es now → Licensed steps line origin es h → Licensed steps line origin es (put h place now)
@@ -169,11 +171,25 @@ module _ {steps : List Step} {line : ℕ} {origin : Step} where
         unmade = i.unmade;
         joined = λ p e. (let j = i.joined p e in record { new = j.new; on = j.on; peer = j.peer; context = j.context; listener = j.listener; by = j.by; side = λ r d. j.side r (old p r d); of_listener = j.of_listener; handed = j.handed; fresh = j.fresh });
         marked = λ handle p e r d. i.marked handle p e r (old p r d);
+        streaming = i.streaming;
       }
 
-  -- its own operation began something
+  -- its own operation began something, or its names are counted
+  pub owned : (es : List Entry) (h : Here) (own : Own) → (own ≡ Unused → ⊥) → Licensed steps line origin es h → Licensed steps line origin es (record h { own = own })
+  owned es h own used i = record {
+    fine = i.fine;
+    names = i.names;
+    udp_names = i.udp_names;
+    listens = i.listens;
+    new = λ e. absurd (used e);
+    unmade = λ e c s is. i.unmade (elim e [ inl u ↦ absurd (used u) | inr u ↦ inr u ]) c s is;
+    joined = λ p e. (let j = i.joined p e in record { new = j.new; on = j.on; peer = j.peer; context = j.context; listener = j.listener; by = j.by; side = j.side; of_listener = j.of_listener; handed = j.handed; fresh = j.fresh });
+    marked = i.marked;
+    streaming = i.streaming;
+  }
+
   pub spent : (es : List Entry) (h : Here) → Licensed steps line origin es h → Licensed steps line origin es (record h { own = Used })
-  spent es h i = record { fine = i.fine; names = i.names; udp_names = i.udp_names; listens = i.listens; new = λ e. absurd (cc); unmade = λ e c s is. i.unmade (elim e [ inl u ↦ absurd (cc) | inr u ↦ inr u ]) c s is; joined = λ p e. (let j = i.joined p e in record { new = j.new; on = j.on; peer = j.peer; context = j.context; listener = j.listener; by = j.by; side = j.side; of_listener = j.of_listener; handed = j.handed; fresh = j.fresh }); marked = i.marked }
+  spent es h i = owned es h Used (λ e. absurd (cc)) i
 
   -- what it works on is other
   pub elsewhere : (es : List Entry) (h now : Here) → now.machine.store.records ≡ h.machine.store.records → now.own ≡ h.own → now.made ≡ h.made → Licensed steps line origin es h → StateIsFine steps es now.machine → NamesTcpHere steps es now → NamesUdpHere steps es now → Licensed steps line origin es now
@@ -186,6 +202,7 @@ module _ {steps : List Step} {line : ℕ} {origin : Step} where
     unmade = λ e c t is. i.unmade (elim e [ inl x ↦ inl (sym o ∙ x) | inr x ↦ inr (subst NotMarked m x) ]) c t is;
     joined = λ p e. (let j = i.joined p (sym m ∙ e) in record { new = j.new; on = j.on; peer = j.peer; context = j.context; listener = j.listener; by = j.by; side = λ r g. j.side r (there h now s p r g); of_listener = j.of_listener; handed = j.handed; fresh = j.fresh });
     marked = λ handle p e r g. i.marked handle p (sym m ∙ e) r (there h now s p r g);
+    streaming = λ n k e. i.streaming n k (sym m ∙ e);
   }
     where
       there : (h now : Here) → now.machine.store.records ≡ h.machine.store.records → (k : ℕ) (r : Tcp2Socket) → Found now k r → Found h k r

@@ -1,10 +1,11 @@
 -- Of a licensed log: it is one where each entry may come after those before it; its prefixes are licensed, and so it is with
 -- fewer replies, and by a longer script.
 use Rattle.wasi_walks.proofs.Words.{BeganBy, Call, Entry, IsLicensed, List, Machine, MayAsk, NamesSide, OpId, Operation, ReachesSide, Reply, Some, Step}
-use Rattle.wasi_walks.proofs.Words.{WasiSocketsCtx, [], ap, append-nil, append_assoc, arith, inl, inr, length, length-append, step_at, subst, suc}
-use Rattle.wasi_walks.proofs.Words.{zero, ℕ, ⊤, ◌++◌, ◌∙◌, ◌∷◌, ◌≡◌, ◌≤◌}
+use Rattle.wasi_walks.proofs.Words.{WasiSocketsCtx, [], ap, append-nil, append_assoc, inl, inr, step_at, subst, suc}
+use Rattle.wasi_walks.proofs.Words.{zero, ℕ, ⊤, ◌++◌, ◌∙◌, ◌∷◌, ◌≡◌}
 use Rattle.wasi_walks.proofs.Lists.{get_front}
-use Rattle.wasi_walks.specs.Licence.{MakesTcp}
+use Rattle.wasi_walks.specs.Licence.{EachMayReply, MakesTcp}
+use Rattle.wasi_walks.proofs.licence.Replies.{replies_fewer, replies_longer}
 use Rattle.wasi_walks.proofs.licence.State.{WorksOn, RecordIsFine, UdpIsFine, StandingIsFine, StateIsFine}
 use Rattle.wasi_walks.proofs.licence.ListenAsks.{ListenIsFine}
 use Rattle.wasi_walks.proofs.licence.Frames.{Goes, began_more, works_more, record_more}
@@ -30,14 +31,14 @@ module _ (steps more : List Step) where
   may_more contexts before op (Call.UdpCreate ctx family) h = began_more on op _ h
   may_more contexts before op (Call.Bind sock addr) h = (reach_more before op sock h.0, began_more on op _ h.1, h.2, began_more on sock _ h.3)
   may_more contexts before op (Call.UdpBind sock addr) h = (reach_more before op sock h.0, began_more on op _ h.1, h.2, began_more on sock _ h.3)
-  may_more contexts before op (Call.UdpConnect sock addr) h = h
+  may_more contexts before op (Call.UdpConnect sock addr) h = (reach_more before op sock h.0, began_more on op _ h.1, h.2, h.3, h.4, began_more on sock _ h.5)
   may_more contexts before op (Call.Listen sock backlog) h = (reach_more before op sock h.0, began_more on op _ h.1, h.2, began_more on sock _ h.3)
   may_more contexts before op (Call.SetBacklog sock backlog) h = (reach_more before op sock h.0, began_more on op _ h.1, h.2)
   may_more contexts before op (Call.GetOption sock option) h = (reach_more before op sock h.0, began_more on op _ h.1)
   may_more contexts before op (Call.SetOption sock option value) h = (reach_more before op sock h.0, began_more on op _ h.1)
   may_more contexts before op (Call.Connect sock addr) h = (reach_more before op sock h.0, began_more on op _ h.1, h.2, h.3, began_more on sock _ h.4)
   may_more contexts before op (Call.Hand sock peer) h = (reach_more before op sock h.0, h.1, h.2)
-  may_more contexts before op (Call.Send sock addr bytes) h = h
+  may_more contexts before op (Call.Send sock addr bytes) h = (reach_more before op sock h.0, began_more on op _ h.1, h.2, h.3, began_more on sock _ h.4)
   may_more contexts before op (Call.Close sock) h = h
   may_more contexts before op (Call.Made handle kind parent sock) h = (h.0, began_more on op _ h.1)
   may_more contexts before op _ h = reach_more before op _ h
@@ -77,12 +78,12 @@ module _ (contexts : List WasiSocketsCtx) (steps : List Step) where
   may_at before [] e back h = rw append-nil h.0
   may_at before (x ∷ front) e back h = rw append_assoc at (may_at (before ++ x ∷ []) front e back h.1)
 
-  -- with no reply given yet, and with replies to as many lines as there are
+  -- with no reply given yet, and with replies that may be
   pub licensed : (log : List Entry) → EachMayCome [] log → IsLicensed contexts steps log []
-  licensed log h = record { each = λ before e after cut. may_at [] before e after (subst (EachMayCome []) cut h); replied = omega arith }
+  licensed log h = record { each = λ before e after cut. may_at [] before e after (subst (EachMayCome []) cut h); replied = tt }
 
-  pub with_replies : (log : List Entry) (replies : List Reply) → length replies ≤ length steps → IsLicensed contexts steps log [] → IsLicensed contexts steps log replies
-  with_replies log replies few h = record { each = h.each; replied = few }
+  pub with_replies : (log : List Entry) (replies : List Reply) → EachMayReply log steps replies → IsLicensed contexts steps log [] → IsLicensed contexts steps log replies
+  with_replies log replies may h = record { each = h.each; replied = may }
 
   -- one more that may come
   come_more : (before es : List Entry) (e : Entry) → EachMayCome before es → MayAsk contexts steps (before ++ es) e.op e.call → EachMayCome before (es ++ e ∷ [])
@@ -102,16 +103,16 @@ module _ (contexts : List WasiSocketsCtx) (steps : List Step) where
   pub prefix_is_licensed : (front back : List Entry) (replies : List Reply) → IsLicensed contexts steps (front ++ back) replies → IsLicensed contexts steps front []
   prefix_is_licensed front back replies h = record {
     each = λ before e after cut. h.each before e (after ++ back) (ap (λ (es : List Entry). es ++ back) cut ∙ append_assoc before (e ∷ after) back);
-    replied = omega arith;
+    replied = tt;
   }
 
   -- with the first of the replies
   pub fewer_replies : (log : List Entry) (replies more : List Reply) → IsLicensed contexts steps log (replies ++ more) → IsLicensed contexts steps log replies
-  fewer_replies log replies more h = record { each = h.each; replied = let few = h.replied in omega (arith, length-append replies more, few) }
+  fewer_replies log replies more h = record { each = h.each; replied = replies_fewer log steps replies more h.replied }
 
   -- by a longer script
   pub longer_script : (more : List Step) (log : List Entry) (replies : List Reply) → IsLicensed contexts steps log replies → IsLicensed contexts (steps ++ more) log replies
   longer_script more log replies h = record {
     each = λ before e after cut. may_more steps more contexts before e.op e.call (h.each before e after cut);
-    replied = let few = h.replied in omega (arith, length-append steps more, few);
+    replied = replies_longer log steps more replies h.replied;
   }

@@ -6,7 +6,7 @@ use Rattle.wasi_walks.proofs.Words.{WasiSocketsCtx, [], after_create, allows_if,
 use Rattle.wasi_walks.proofs.Words.{entry, inl, inr, is_full, kind_at, length, make_asks, name_of, new_asks, new_record, new_socket, own_of, place_in}
 use Rattle.wasi_walks.proofs.Words.{refl, side_at, side_in, slice_get, step_at, subst, sym, told_done, true, with_record, ℕ, ⊤, ◌++◌, ◌∙◌, ◌∷◌, ◌≡◌, ◌⊎◌}
 use Rattle.wasi_walks.proofs.claims.Law.{Named, fresh}
-use Rattle.wasi_walks.proofs.walks.Moves.{Used, Unused, Marks, ANetwork, AStream, AnError, Here, Found, MarksError, Joined, Marked, made_so, APollable, AUdpPollable, tcp_place, FoundUdp, AnAcceptedStream, second_of, Creates, Past}
+use Rattle.wasi_walks.proofs.walks.Moves.{ToStream, Used, Unused, Marks, ANetwork, AStream, AnError, Here, Found, MarksError, Joined, Marked, made_so, APollable, AUdpPollable, tcp_place, udp_place, FoundUdp, AnAcceptedStream, second_of, Creates, Past}
 use Rattle.wasi_walks.proofs.Lists.{has_last, has_split, has_front, get_split, tcp2_seam}
 use Rattle.wasi_walks.specs.Licence.{MakesTcp}
 use Rattle.wasi_walks.proofs.licence.State.{accept_name, NamesRecord, NamesUdp, HandleIsFine, SocketIsFine}
@@ -65,10 +65,11 @@ module _ (contexts : List WasiSocketsCtx) (steps : List Step) (line : ℕ) (orig
               unmade = λ d a s is. absurd (un a s is d);
               joined = λ p d. (let j = i.joined p d in let k = joined_on contexts steps line origin is_line es h e p j (unmarked_made es (own_of line) h.machine.table.next (name_of kind) parent sock told j.new j.fresh (ms j.new (inr (p, d)))) in record { new = k.new; on = k.on; peer = k.peer; context = k.context; listener = k.listener; by = k.by; side = k.side; of_listener = k.of_listener; handed = k.handed; fresh = k.fresh });
               marked = λ handle p d r g. (let k = i.marked handle p d r g in record { above = k.above; told = k.told; mark = has_front es _ _ k.mark });
+              streaming = i.streaming;
             },
       ))
 
-  socket_touch : (op x : OpId) (n : ℕ) (k : HandleKind) (parent : Option ℕ) (sock : Option OpId) → Touches op (Call.Made n k parent sock) x → k ≡ name.Tcp2
+  pub socket_touch : (op x : OpId) (n : ℕ) (k : HandleKind) (parent : Option ℕ) (sock : Option OpId) → Touches op (Call.Made n k parent sock) x → k ≡ name.Tcp2
   socket_touch op x n name.Tcp2 parent (Some s) t = refl
   socket_touch op x n name.Tcp2 parent None t = absurd t
   socket_touch op x n _ parent sock t = absurd t
@@ -112,9 +113,19 @@ module _ (contexts : List WasiSocketsCtx) (steps : List Step) (line : ℕ) (orig
 
   pollable_handle : (fs : List Entry) (records : List Record) (handle : ℕ) (w : Watched) → tcp_place w ≡ Some (place_in w) → NamesRecord fs records handle (place_in w) → HandleIsFine fs records handle (Pollable w)
   pollable_handle fs records handle (Watched.Udp place) p n = absurd (cc)
+  pollable_handle fs records handle (Watched.Incoming place) p n = absurd (cc)
+  pollable_handle fs records handle (Watched.Outgoing place) p n = absurd (cc)
   pollable_handle fs records handle (Watched.Socket place) p n = (n, tt)
   pollable_handle fs records handle (Watched.Input place) p n = (n, tt)
   pollable_handle fs records handle (Watched.Output place) p n = (n, tt)
+
+  udp_pollable_handle : (fs : List Entry) (records : List Record) (handle : ℕ) (w : Watched) → udp_place w ≡ Some (place_in w) → NamesUdp fs records handle (place_in w) → HandleIsFine fs records handle (Pollable w)
+  udp_pollable_handle fs records handle (Watched.Udp place) p n = (tt, n)
+  udp_pollable_handle fs records handle (Watched.Incoming place) p n = (tt, n)
+  udp_pollable_handle fs records handle (Watched.Outgoing place) p n = (tt, n)
+  udp_pollable_handle fs records handle (Watched.Socket place) p n = absurd (cc)
+  udp_pollable_handle fs records handle (Watched.Input place) p n = absurd (cc)
+  udp_pollable_handle fs records handle (Watched.Output place) p n = absurd (cc)
 
   not_accept : (s : Step) → ((c k : ℕ) → s ≡ Step.TcpAccept c k → ⊥) → origin ≡ s → (c k : ℕ) → origin ≡ Step.TcpAccept c k → (h : Here) → (h.own ≡ Unused) ⊎ NotMarked h.made → ⊥
   not_accept s n e c k is h u = n c k (sym e ∙ is)
@@ -151,13 +162,14 @@ module _ (contexts : List WasiSocketsCtx) (steps : List Step) (line : ℕ) (orig
       let k : IsMarkedWith es handle sock = subst (IsMarkedWith es handle) (sym (ap side_at n.at)) n.marked in
       other_fine es h (Pollable w) (Some handle) sock (record { origin = origin; at = is_line; holds = subst (IsMarkOf es (own_of line) name.Pollable (Some handle) sock) (sym is) (refl, (refl, k)) }) (λ p. absurd (cc)) (λ a s p. not_accept (Step.Subscribe c handle) (λ a s p. absurd (cc)) is a s p h)
       (λ t. pollable_handle _ h.machine.store.records h.machine.table.next w p (new_names es h h.machine.table.next place name.Pollable (Some handle) n.found t n.at)) i
-  marked_fine es h _ _ _ (AUdpPollable c handle place is e) i =
+  marked_fine es h _ _ _ (AUdpPollable c handle w is p e) i =
+      let place = place_in w in
       let sock = udp_side_at (udp2_at h.machine.store.records place) in
       let n = names_udp es h.machine.store.records handle place (kind_at h.machine.table handle) e (i.fine.handles handle) in
       let k : IsMarkedWith es handle sock = subst (IsMarkedWith es handle) (sym (ap udp_side_at n.at)) n.marked in
-      other_fine es h (Pollable (Watched.Udp place)) (Some handle) sock (record { origin = origin; at = is_line; holds = subst (IsMarkOf es (own_of line) name.Pollable (Some handle) sock) (sym is) (refl, (refl, k)) }) (λ p. absurd (cc))
+      other_fine es h (Pollable w) (Some handle) sock (record { origin = origin; at = is_line; holds = subst (IsMarkOf es (own_of line) name.Pollable (Some handle) sock) (sym is) (refl, (refl, k)) }) (λ p. absurd (cc))
       (λ a s p. not_accept (Step.Subscribe c handle) (λ a s p. absurd (cc)) is a s p h)
-      (λ t. (tt, new_udp_names es h h.machine.table.next place name.Pollable (Some handle) n.found t n.at)) i
+      (λ t. udp_pollable_handle _ h.machine.store.records h.machine.table.next w p (new_udp_names es h h.machine.table.next place name.Pollable (Some handle) n.found t n.at)) i
   marked_fine es h _ _ _ (AnError handle place m e) i =
       let sock = side_at (tcp2_at h.machine.store.records place) in
       let n = names_record es h.machine.store.records handle place (kind_at h.machine.table handle) e (i.fine.handles handle) in
@@ -176,7 +188,7 @@ module _ (contexts : List WasiSocketsCtx) (steps : List Step) (line : ℕ) (orig
       let same : j.listener ≡ s = same_listener j.context j.listener c s (sym j.by ∙ is) in
       let past : Used ≡ h.own = sym o in
       allows_if (MayAsk contexts steps) (λ fs made. Licensed steps line origin fs (record h { machine = record h.machine { table = made.1 }; made = made_so place made.0 })) es (is_full h.machine.table) _ _
-      (λ full. record { fine = i.fine; names = i.names; udp_names = i.udp_names; listens = i.listens; new = i.new; unmade = λ u. absurd (elim u [ inl p ↦ not_used (past ∙ p) | inr p ↦ p ]); joined = λ p d. absurd (cc); marked = λ a p d. absurd (cc) })
+      (λ full. record { fine = i.fine; names = i.names; udp_names = i.udp_names; listens = i.listens; new = i.new; unmade = λ u. absurd (elim u [ inl p ↦ not_used (past ∙ p) | inr p ↦ p ]); joined = λ p d. absurd (cc); marked = λ a p d. absurd (cc); streaming = λ m k d. absurd (cc) })
       (λ room. (
         (i.fine.count, record { origin = origin; at = is_line; holds = subst (IsMarkOf es (own_of line) name.Tcp2 (Some s) sock) (sym is) (inl (record { first = i.unmade (inr (subst NotMarked (sym e) tt)) c s is; socket = refl; under = refl; accept = j.new; side = its; on = j.on; of_listener = subst (λ (x : ℕ). IsSide es x j.on) same j.of_listener; peer = j.peer; told = j.handed.told; handed = j.handed.hand; fresh = j.fresh })) }),
         λ told fits.
@@ -191,6 +203,7 @@ module _ (contexts : List WasiSocketsCtx) (steps : List Step) (line : ℕ) (orig
               unmade = λ u. absurd (elim u [ inl p ↦ not_used (past ∙ p) | inr p ↦ p ]);
               joined = λ p d. absurd (cc);
               marked = λ a p d q m. made_there told a p q d m;
+              streaming = λ m k d. absurd (cc);
             },
       ))
     where
@@ -275,6 +288,7 @@ module _ (contexts : List WasiSocketsCtx) (steps : List Step) (line : ℕ) (orig
         unmade = λ e d s is. absurd (creates_only ctx family c d s is);
         joined = λ p e. absurd (not_joined p (sym past ∙ e));
         marked = λ a p e q d. elim (get_split h.machine.store.records (new_record now) p q d) [ inl v ↦ i.marked a p e q v | inr v ↦ absurd (not_marked a p (sym past ∙ e)) ];
+        streaming = λ n k e. absurd (let p : Past ≡ ToStream n k = sym past ∙ e in cc);
       } in
       subst (λ (s : Socket). Allows (MayAsk contexts steps) (λ fs done. Licensed steps line origin fs (record h { machine = done.1; own = Used })) es (create_handle h.machine own s)) (sym k.1)
       (allows_then (MayAsk contexts steps) (λ fs made. Licensed steps line origin fs (record next { machine = record next.machine { table = made.1 } })) (λ fs done. Licensed steps line origin fs (record h { machine = done.1; own = Used })) es

@@ -7,14 +7,14 @@ use Rattle.wasi_walks.proofs.Words.{kind_at, new_job, new_streams, own_of, refl,
 use Rattle.wasi_walks.proofs.Words.{sym, true, wildcard, with_inner, with_listening, with_progress, with_state, written_by, ℕ, ◌∙◌, ◌≡◌}
 use Rattle.wasi_walks.proofs.licence.ListenAsks.{Whole as WholeListen}
 use Rattle.wasi_walks.proofs.claims.Law.{Base, same_begun, fresh}
-use Rattle.wasi_walks.proofs.walks.Moves.{closed_record, Here, put, Found, record_of, WriterMoves, Collects, LastsAfter, Closes, Plain, Move, Reaches, ReachesUdp, Leaves, Spends, Changes, ClosesReader, Writes, IsGone, opened_by, Reconnects, Opens, BeginsConnect, BeginsBind, BeginsWrite, begun_bind, Stands, Resumes, Unstands, UdpChanges, BeginsUdpBind, StandsUdpBind, StandsUdpCreate, Lists, Takes, BeginsListen, BeginsAccept, Unlistens, Forgets, Watches, Joins, accepting_now, begun_listen, beginning_listen, new_accept, joined, second_of}
+use Rattle.wasi_walks.proofs.walks.Moves.{Own, GoesOn, RemembersStreams, RecallsStreams, BeginsUdpConnect, StandsUdpConnect, StandsDropOutgoing, Counts, SpendsNames, BeginsSend, BeginsReceive, closed_record, Here, put, Found, record_of, WriterMoves, Collects, LastsAfter, Closes, Plain, Move, Reaches, ReachesUdp, Leaves, Spends, Changes, ClosesReader, Writes, IsGone, opened_by, Reconnects, Opens, BeginsConnect, BeginsBind, BeginsWrite, begun_bind, Stands, Resumes, Unstands, UdpChanges, BeginsUdpBind, StandsUdpBind, StandsUdpCreate, Lists, Takes, BeginsListen, BeginsAccept, Unlistens, Forgets, Watches, Joins, accepting_now, begun_listen, beginning_listen, new_accept, joined, second_of}
 use Rattle.wasi_walks.proofs.Lists.{get_split}
-use Rattle.wasi_walks.proofs.licence.State.{ConnectIsFine, ConnectLeft, Unbound, Unchecked, ReadsOn, Whole, ToWrite, Names, BindIsFine, JobIsFine, WritesOn, StreamsAreFine, AcceptingIsFine, ListeningIsFine, SocketIsFine, RecordIsFine, IsHanded, Unarrived, AcceptingStands, ListeningStands, ListenerIsFine, OfTcp, OfUdp, name_in}
+use Rattle.wasi_walks.proofs.licence.State.{ConnectIsFine, ConnectLeft, Unbound, Unchecked, ReadsOn, Whole, ToWrite, Names, BindIsFine, JobIsFine, WritesOn, StreamsAreFine, AcceptingIsFine, ListeningIsFine, SocketIsFine, RecordIsFine, IsHanded, Unarrived, AcceptingStands, ListeningStands, ListenerIsFine, OfTcp, OfUdp, StreamsStand, name_in}
 use Rattle.wasi_walks.proofs.licence.Frames.{same_listening, listening_kept, listening_gone, Only, KeepsSide, same_record, record_kept}
 use Rattle.wasi_walks.proofs.licence.States.{state_taken, state_put, state_stands, state_unstands, state_jobs, state_renewed, state_joined}
 use Rattle.wasi_walks.proofs.licence.WriteJobs.{shut_after}
-use Rattle.wasi_walks.proofs.licence.Line.{put_with, names_record, keeps_plain, seam, pair_first, pair_second, no_listen, second_names, ListenGoesOn, NotMarked, NamesMade, Licensed, KeepsListen, put_fine, spent, elsewhere}
-use Rattle.wasi_walks.proofs.licence.UdpMoves.{tcp_alone, reaches_udp, resumes, udp_changes, begins_udp_bind}
+use Rattle.wasi_walks.proofs.licence.Line.{put_with, names_record, keeps_plain, seam, pair_first, pair_second, no_listen, second_names, ListenGoesOn, NotMarked, NamesMade, Licensed, KeepsListen, put_fine, owned, spent, elsewhere}
+use Rattle.wasi_walks.proofs.licence.UdpMoves.{begins_receive, begins_send, begins_udp_connect, recalls_streams, remembers_streams, tcp_alone, reaches_udp, resumes, udp_changes, begins_udp_bind}
 use Rattle.wasi_host.specs.Records.{tcp2_at, tcp2_put}
 use Rattle.wasi_host.specs.declared.udp.Udp2Socket.{Udp2Socket}
 
@@ -149,13 +149,18 @@ module _ (contexts : List WasiSocketsCtx) (steps : List Step) (line : ℕ) (orig
         progress = tt;
       }
 
+  -- a call of a TCP socket makes no datagram streams
+  no_streams_stand : (r : Tcp2Socket) (n : ℕ) (call : StandingCall) → GoesOn call r → StreamsStand steps n call
+  no_streams_stand r n (StandingCall.UdpConnect place handle) k = absurd k
+  no_streams_stand r n _ k = tt
+
   pub moves_fine : (es : List Entry) (h now : Here) → Move line origin h now → Base contexts line origin h → Licensed steps line origin es h → Licensed steps line origin es now
   moves_fine es _ _ (Reaches h handle place named e) b i = elsewhere es h _ refl refl refl i i.fine (λ k n r a g. by_place h k n place r a g (names_at es h handle place named e i)) (tcp_alone contexts steps line origin is_line es h handle place e i)
     where
       by_place : (h : Here) (k n place : ℕ) (r : Tcp2Socket) → (let x : Option (ℕ × ℕ) = Some (place, line) in let y : Option (ℕ × ℕ) = Some (k, n) in x ≡ y) → Found h k r → ((q : Tcp2Socket) → Found h place q → NamesMade steps line es q) → NamesMade steps n es r
       by_place h k n place r a g f = let p = pair_first place line k n a in let q = pair_second place line k n a in subst (λ (x : ℕ). NamesMade steps x es r) q (f r (ap (tcp2_at h.machine.store.records) p ∙ g))
   moves_fine es _ _ (ReachesUdp h handle place named e) b i = reaches_udp contexts steps line origin is_line es h handle place named e i
-  moves_fine es _ _ (Leaves h) b i = record { fine = i.fine; names = λ k n r a g. absurd (cc); udp_names = λ k n u a g. absurd (cc); listens = i.listens; new = i.new; unmade = λ e c s is. i.unmade (elim e [ inl u ↦ inl u | inr u ↦ absurd u ]) c s is; joined = λ p e. absurd (cc); marked = λ handle p e. absurd (cc) }
+  moves_fine es _ _ (Leaves h) b i = record { fine = i.fine; names = λ k n r a g. absurd (cc); udp_names = λ k n u a g. absurd (cc); listens = i.listens; new = i.new; unmade = λ e c s is. i.unmade (elim e [ inl u ↦ inl u | inr u ↦ absurd u ]) c s is; joined = λ p e. absurd (cc); marked = λ handle p e. absurd (cc); streaming = λ n k e. absurd (cc) }
   moves_fine es _ _ (Spends h e) b i = spent es h i
   moves_fine es _ _ (Changes h place r now g p) b i = plain_fine es h place r now g p i
   moves_fine es _ _ (ClosesReader h place r s g e) b i = streams_fine es h place r s (record s { reader = ReadState.Closed }) g e (λ f. (tt, f.writes)) i
@@ -233,7 +238,7 @@ module _ (contexts : List WasiSocketsCtx) (steps : List Step) (line : ℕ) (orig
   moves_fine es _ _ (Unlistens h place r op q g e c o) b i =
       let f = i.fine.records place r g in put_fine es h place r (with_listening r Not) g refl (listening_gone r.listening) (λ op p. absurd (cc)) (record { socket = f.socket; named = f.named; streams = f.streams; listening = tt; progress = f.progress }) i
   moves_fine es _ _ (Forgets h place r l c g e a) b i = renewed_fine es h place r l Accepting.Idle g e tt tt (λ x p. absurd (cc)) i
-  moves_fine es _ _ (Watches h o) b i = record { fine = i.fine; names = i.names; udp_names = i.udp_names; listens = i.listens; new = i.new; unmade = λ e c s is. i.unmade (inl o) c s is; joined = λ p e. absurd (cc); marked = λ handle p e. absurd (cc) }
+  moves_fine es _ _ (Watches h o) b i = record { fine = i.fine; names = i.names; udp_names = i.udp_names; listens = i.listens; new = i.new; unmade = λ e c s is. i.unmade (inl o) c s is; joined = λ p e. absurd (cc); marked = λ handle p e. absurd (cc); streaming = λ n k e. absurd (cc) }
   moves_fine es _ _ (Joins h c handle place r l new peer is of u g e a) b i =
       let idle = accepting_now r l Accepting.Idle in
       let records = tcp2_put h.machine.store.records place idle in
@@ -261,14 +266,26 @@ module _ (contexts : List WasiSocketsCtx) (steps : List Step) (line : ℕ) (orig
           fresh = free;
         };
         marked = λ s p m. absurd (cc);
+        streaming = λ n k e. absurd (cc);
       }
-  moves_fine es _ _ (Stands h ids call r at g k) b i = elsewhere es h _ refl refl refl i (state_stands steps es h.machine (standing_as ids call) (λ o. OfTcp r g (i.names (call_place call) ids.line r at g)) i.fine) i.names i.udp_names
+  moves_fine es _ _ (Stands h ids call r at g k) b i = elsewhere es h _ refl refl refl i (state_stands steps es h.machine (standing_as ids call) (λ o. OfTcp r g (i.names (call_place call) ids.line r at g), no_streams_stand r ids.line call k) i.fine) i.names i.udp_names
   moves_fine es _ _ (Resumes h s e o) b i = resumes contexts steps line origin is_line es h s e o i
   moves_fine es _ _ (Unstands h) b i = elsewhere es h _ refl refl refl i (state_unstands steps es h.machine i.fine) i.names i.udp_names
   moves_fine es _ _ (UdpChanges h place o now g p) b i = udp_changes contexts steps line origin is_line es h place o now g p i
   moves_fine es _ _ (BeginsUdpBind h place o a at g to idle u) b i = begins_udp_bind contexts steps line origin is_line es h place o a at g to i
   moves_fine es _ _ (StandsUdpBind h ids place o op at g e) b i =
-      elsewhere es h _ refl refl refl i (state_stands steps es h.machine (standing_as ids (StandingCall.UdpBind place)) (λ c. OfUdp (Udp2Socket.Open o) g (i.udp_names place ids.line (Udp2Socket.Open o) at g)) i.fine) i.names i.udp_names
-  moves_fine es _ _ (StandsUdpCreate h ids place create g) b i = elsewhere es h _ refl refl refl i (state_stands steps es h.machine (standing_as ids (StandingCall.UdpCreate place)) (λ c. absurd c) i.fine) i.names i.udp_names
+      elsewhere es h _ refl refl refl i (state_stands steps es h.machine (standing_as ids (StandingCall.UdpBind place)) (λ c. OfUdp (Udp2Socket.Open o) g (i.udp_names place ids.line (Udp2Socket.Open o) at g), tt) i.fine) i.names i.udp_names
+  moves_fine es _ _ (StandsUdpCreate h ids place create g) b i = elsewhere es h _ refl refl refl i (state_stands steps es h.machine (standing_as ids (StandingCall.UdpCreate place)) (λ c. absurd c, tt) i.fine) i.names i.udp_names
+  moves_fine es _ _ (RemembersStreams h c handle remote is) b i = remembers_streams contexts steps line origin is_line es h c handle remote is i
+  moves_fine es _ _ (RecallsStreams h ids place handle e) b i = recalls_streams contexts steps line origin is_line es h ids place handle e i
+  moves_fine es _ _ (BeginsUdpConnect h place o a at g to bound u) b i = begins_udp_connect contexts steps line origin is_line es h place o a at g to bound i
+  moves_fine es _ _ (StandsUdpConnect h ids place handle o op at m g e) b i =
+      elsewhere es h _ refl refl refl i (state_stands steps es h.machine (standing_as ids (StandingCall.UdpConnect place handle)) (λ c. OfUdp (Udp2Socket.Open o) g (i.udp_names place ids.line (Udp2Socket.Open o) at g), i.streaming ids.line handle m) i.fine) i.names i.udp_names
+  moves_fine es _ _ (StandsDropOutgoing h ids place o at g e) b i =
+      elsewhere es h _ refl refl refl i (state_stands steps es h.machine (standing_as ids (StandingCall.DropOutgoing place)) (λ c. OfUdp (Udp2Socket.Open o) g (i.udp_names place ids.line (Udp2Socket.Open o) at g), tt) i.fine) i.names i.udp_names
+  moves_fine es _ _ (Counts h u) b i = owned es h (Own.Names 1) (λ e. absurd (cc)) i
+  moves_fine es _ _ (SpendsNames h n u) b i = spent es h i
+  moves_fine es _ _ (BeginsSend h place n o out d bound at g e is known u) b i = begins_send contexts steps line origin is_line es h place n o out d bound at g is known i
+  moves_fine es _ _ (BeginsReceive h place n o inc bound at g e u) b i = begins_receive contexts steps line origin is_line es h place n o inc bound at g i
   moves_fine es _ _ (Lists h jobs) b i = elsewhere es h _ refl refl refl i (state_jobs steps es h.machine jobs i.fine) i.names i.udp_names
   moves_fine es _ _ (Takes h handle) b i = elsewhere es h _ refl refl refl i (state_taken steps es h.machine handle i.fine) i.names i.udp_names

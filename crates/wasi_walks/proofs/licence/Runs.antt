@@ -7,37 +7,44 @@ use Rattle.wasi_walks.proofs.Words.{length, length-append, machine_asks, new_ask
 use Rattle.wasi_walks.proofs.Words.{with_listening, ℕ, ⊤, ◌++◌, ◌+◌, ◌∙◌, ◌∷◌, ◌≡◌}
 use Rattle.wasi_walks.proofs.licence.State.{StateIsFine}
 use Rattle.wasi_walks.proofs.licence.Fresh.{IsNew, next_is_new}
+use Rattle.wasi_walks.proofs.licence.Replies.{allows_both, replies_longer, replies_more, replies_push}
+use Rattle.wasi_walks.specs.Licence.{EachMayReply, MayReply}
+use Rattle.wasi_walks.proofs.fits.Polls.{Anything}
+use Rattle.wasi_walks.proofs.remotes.Handed.{step_replies}
+use Rattle.wasi_world.proofs.Allowed.{reached}
 use Rattle.wasi_walks.proofs.licence.Longer.{EachMayCome, licensed, with_replies, may_come, come_longer, may_more, state_more, listen_more, tcp_more}
 use Rattle.wasi_walks.proofs.Lists.{get_seam}
 use Rattle.wasi_walks.proofs.licence.Line.{ListenGoesOn, Licensed, put_fine}
 use Rattle.wasi_walks.proofs.walks.Steps.{may_while, machine_walks}
 use Rattle.wasi_walks.proofs.claims.Lines.{BaseBetween, first_base, base_starts, base_over}
 use Rattle.wasi_walks.proofs.walks.OnBase.{Above}
-use Rattle.wasi_walks.proofs.claims.Law.{Base, on_names, on_along}
+use Rattle.wasi_walks.proofs.claims.Law.{Base, on_two, on_two_along}
+use Rattle.wasi_walks.proofs.remotes.State.{Keeps, first_keeps}
+use Rattle.wasi_walks.proofs.remotes.Law.{remotes}
 use Rattle.wasi_walks.proofs.walks.Moves.{closed_record, Used, Here, put, OfSocket}
 use Rattle.wasi_walks.proofs.licence.Frames.{listening_gone}
 use Rattle.wasi_walks.proofs.walks.Law.{Law, Walks}
 use Rattle.wasi_walks.proofs.licence.Moves.{closed_fine, gone_maker, moves_fine}
 use Rattle.wasi_walks.proofs.licence.Asked.{spares, asked_fine, on_side, names_on_side, not_held, question_local, question_may, learned_fine, kept}
 use Rattle.wasi_walks.proofs.licence.Marks.{marked_fine, accepted_fine, CreatedIsFine, new_fine, joins}
-use Rattle.wasi_walks.proofs.licence.UdpMarks.{udp_asked, udp_learned, udp_closed, udp_creates, udp_marked}
+use Rattle.wasi_walks.proofs.licence.UdpMarks.{stream_marked, udp_asked, udp_learned, udp_peered, udp_closed, udp_creates, udp_marked}
 use Rattle.wasi_walks.proofs.licence.GoesOn.{taken_out, turned_fine, given_up, polls_fine}
 use Rattle.wasi_host.specs.Records.{tcp2_at}
 
 module _ (contexts : List WasiSocketsCtx) (steps : List Step) (line : ℕ) (origin : Step) (is_line : step_at steps line ≡ Some origin) where
-  licences : Above contexts line origin (λ es h. Base contexts line origin h)
+  licences : Above contexts line origin (λ es h. Base contexts line origin h × Keeps es h.machine.store.records)
   licences = record {
     P = MayAsk contexts steps;
     Inv = Licensed steps line origin;
-    moves = moves_fine contexts steps line origin is_line;
+    moves = λ es h now m b i. moves_fine contexts steps line origin is_line es h now m b.0 i;
     asks = λ es h place n r side c at g o q b i.
         let k = question_may contexts steps line origin is_line n es side c q (names_on_side contexts steps line origin is_line es h place n r side at g o i) in
         let s = on_side contexts steps line origin is_line es r side o (i.fine.records place r g) in
-        (k.0, λ told fits. asked_fine contexts steps line origin is_line es h (own_of n) c told k.1 (λ p z op d l e. not_held contexts steps line origin is_line h place r side g s b.1 p z op d l (question_local contexts steps line origin is_line n side op.who.side c q e)) i);
+        (k.0, λ told fits. asked_fine contexts steps line origin is_line es h (own_of n) c told k.1 (λ p z op d l e. not_held contexts steps line origin is_line h place r side g s b.0.1 p z op d l (question_local contexts steps line origin is_line n side op.who.side c q e)) i);
     sets = λ es h place r side backlog at g s is b i.
         let f = i.fine.records place r g in
         ((inl (i.names place line r at g side (f.named side (ap side_in s))), record { origin = origin; at = is_line; holds = is }, f.socket.listens side s), λ told fits. asked_fine contexts steps line origin is_line es h (own_of line) (Call.SetBacklog side backlog) told tt (spares contexts steps line origin is_line h (Call.SetBacklog side backlog) tt) i);
-    learns = λ es h place r side at g e b i. (inl (names_on_side contexts steps line origin is_line es h place line r side at g (OfSocket (ap side_in e)) i), λ told fits. learned_fine contexts steps line origin is_line es h place r side told g e fits b.1 i);
+    learns = λ es h place r side at g e b i. (inl (names_on_side contexts steps line origin is_line es h place line r side at g (OfSocket (ap side_in e)) i), λ told fits. learned_fine contexts steps line origin is_line es h place r side told g e fits b.0.1 i);
     closes = λ es h place r side q g e b i. (
       tt,
       λ told fits.
@@ -47,37 +54,43 @@ module _ (contexts : List WasiSocketsCtx) (steps : List Step) (line : ℕ) (orig
     marks = λ es h kind parent sock m b i. marked_fine contexts steps line origin is_line es h kind parent sock m i;
     creates = λ es h ctx family c a o past b i.
         allows_then (MayAsk contexts steps) (λ fs made. Licensed steps line origin fs h × CreatedIsFine contexts steps line origin is_line ctx.name family fs made) (λ fs done. Licensed steps line origin fs (record h { machine = done.1; own = Used })) es (new_asks (own_of line) ctx family) (created_asks h.machine (own_of line))
-        (kept contexts steps line origin is_line h (CreatedIsFine contexts steps line origin is_line ctx.name family) es (new_asks (own_of line) ctx family) i (new_fine contexts steps line origin is_line es ctx family c)) (λ fs made k. joins contexts steps line origin is_line fs h ctx family made c a o past k.1 b.1 k.0);
-    accepted = λ es h c s place r is e o g b i. accepted_fine contexts steps line origin is_line es h c s place r is e o g b.1 i;
+        (kept contexts steps line origin is_line h (CreatedIsFine contexts steps line origin is_line ctx.name family) es (new_asks (own_of line) ctx family) i (new_fine contexts steps line origin is_line es ctx family c)) (λ fs made k. joins contexts steps line origin is_line fs h ctx family made c a o past k.1 b.0.1 k.0);
+    accepted = λ es h c s place r is e o g b i. accepted_fine contexts steps line origin is_line es h c s place r is e o g b.0.1 i;
     polls = polls_fine contexts steps line origin is_line;
     turns = λ es h place r s g e b i. turned_fine contexts steps line origin is_line es h place r s g e i;
     gives_up = λ es h place r q g b i.
         allows_weaker (MayAsk contexts steps) (λ fs done. Licensed steps line origin fs h × ⊤) (λ fs done. Licensed steps line origin fs (put h place (with_listening r Not))) (λ fs done k. taken_out contexts steps line origin is_line fs h place r g k.0) es (give_up_asks r.listening)
         (kept contexts steps line origin is_line h (λ fs done. ⊤) es (give_up_asks r.listening) i (given_up contexts steps line origin is_line es r.side r.listening (i.fine.records place r g).listening));
     udp_asks = λ es h place n o c at g q b i. (let a = udp_asked contexts steps line origin is_line es h place n o c at g q i in (a.0, λ told fits. a.1 told));
-    udp_learns = λ es h place o at g b i. udp_learned contexts steps line origin is_line es h place o at g i;
+    udp_learns = λ es h place part o at g b i. udp_learned contexts steps line origin is_line es h place part o at g i;
+    udp_peers = λ es h place o at g b i. (let a = udp_peered contexts steps line origin is_line es h place o at g i in (a.0, λ told fits. a.1 told));
     udp_closes = λ es h place o q g b i. (tt, λ told fits. udp_closed contexts steps line origin is_line es h place o told g i);
     udp_creates = λ es h ctx family c may a o past b i. udp_creates contexts steps line origin is_line es h ctx family c may a past i;
     udp_marks = λ es h place u g b i. udp_marked contexts steps line origin is_line es h place u g i;
+    stream_marks = λ es h place n handle kind m which e b i. stream_marked contexts steps line origin is_line es h place n handle kind m which e i;
   }
 
   pub licence : Law contexts line origin
-  licence = on_names contexts line origin licences
+  unfolding remotes
+  licence = on_two contexts line origin (remotes contexts line origin) licences
 
   -- what it says of a tree
-  pub licence_along : {A : Type 0} {h : Here} {end : A → Here} {asks : Asks A} → Walks licence h end asks → (es : List Entry) → Base contexts line origin h → Licensed steps line origin es h → Allows (MayAsk contexts steps) (λ fs a. Base contexts line origin (end a) × Licensed steps line origin fs (end a)) es asks
-  unfolding licence licences
-  licence_along w es b i = on_along contexts line origin licences w es b i
+  pub licence_along : {A : Type 0} {h : Here} {end : A → Here} {asks : Asks A} → Walks licence h end asks → (es : List Entry) → Base contexts line origin h → Keeps es h.machine.store.records → Licensed steps line origin es h
+      → Allows (MayAsk contexts steps) (λ fs a. (Base contexts line origin (end a) × Keeps fs (end a).machine.store.records) × Licensed steps line origin fs (end a)) es asks
+  unfolding licence licences remotes
+  licence_along w es b k i = on_two_along contexts line origin (remotes contexts line origin) licences w es b k i
 
 -- Between two lines.
 pub record Fine (steps : List Step) (line : ℕ) (es : List Entry) (m : Machine) : Type 0 where
   pub base : BaseBetween line m
+  pub keeps : Keeps es m.store.records
   pub fine : StateIsFine steps es m
   pub listens : (place : ℕ) (r : Tcp2Socket) (op : Operation) → tcp2_at m.store.records place ≡ Some r → r.listening ≡ Begins op → ListenGoesOn steps es r op
 
 fine_more : (contexts : List WasiSocketsCtx) (steps more : List Step) (line : ℕ) (es : List Entry) (m : Machine) → Fine steps line es m → Fine (steps ++ more) line es m
 fine_more contexts steps more line es m i = record {
   base = i.base;
+  keeps = i.keeps;
   fine = state_more steps more es m i.fine;
   listens = λ place r op g e. (let l = i.listens place r op g e in record { fine = listen_more steps more es op l.fine; asks = l.asks; made = l.made; tcp = tcp_more steps more op.who.side l.tcp });
 }
@@ -85,6 +98,7 @@ fine_more contexts steps more line es m i = record {
 first_fine : Fine [] 1 [] first_state
 first_fine = record {
   base = first_base;
+  keeps = first_keeps [];
   fine = record { count = refl; handles = λ handle kind e. absurd (cc); records = λ place r e. absurd (cc); udp = λ place u e. absurd (cc); standing = λ c e. absurd (cc); accepts = λ place r e. absurd (cc); one = λ i j r s x a b c d. absurd (cc) };
   listens = λ place r op e. absurd (cc);
 }
@@ -101,9 +115,9 @@ module _ (contexts : List WasiSocketsCtx) where
   line_licensed steps line s l m es n i =
       let o = may_while m s m.store.standing in
       allows_weaker (MayAsk contexts steps) _ (λ fs done. Fine steps (line + 1) fs done.1)
-      (λ fs done k. record { base = base_over contexts line s done.1 k.0; fine = k.1.fine; listens = k.1.listens }) es (machine_asks contexts m line s)
+      (λ fs done k. record { base = base_over contexts line s done.1 k.0.0; keeps = k.0.1; fine = k.1.fine; listens = k.1.listens }) es (machine_asks contexts m line s)
       (licence_along contexts steps line s l (machine_walks line s m m.store.standing refl) es
-      (base_starts contexts line s m o i.base)
+      (base_starts contexts line s m o i.base) i.keeps
       (record {
         fine = i.fine;
         names = λ k j r a. absurd (cc);
@@ -113,37 +127,58 @@ module _ (contexts : List WasiSocketsCtx) where
         unmade = λ u c t is. n.made (own_of line) refl;
         joined = λ p e. absurd (cc);
         marked = λ a p e. absurd (cc);
+        streaming = λ n k e. absurd (cc);
       }))
 
+  -- and its reply hands out only what was received
+  line_replies : (steps : List Step) (line : ℕ) (s : Step) → step_at steps line ≡ Some s → (m : Machine) (es : List Entry) → IsNew es m.store.records line → Fine steps line es m
+      → Allows (MayAsk contexts steps) (λ fs done. Fine steps (line + 1) fs done.1 × MayReply fs s done.0) es (machine_asks contexts m line s)
+  line_replies steps line s l m es n i =
+      allows_both (MayAsk contexts steps) Anything (λ fs done. Fine steps (line + 1) fs done.1) (λ fs done. MayReply fs s done.0) es (machine_asks contexts m line s)
+      (line_licensed steps line s l m es n i) (step_replies contexts steps line s m es i.fine i.keeps)
+
   -- each line is judged by the steps so far, and what these license the whole script does
-  lines : (all : List Step) (replies : List Reply) (m : Machine) (line : ℕ) (before rest : List Step) (es : List Entry) → all ≡ before ++ rest → line ≡ length before + 1 → EachMayCome contexts before [] es → Fine before line es m
-      → Allows (MayAsk contexts all) (λ fs done. ⊤) es (run contexts replies m line rest)
-  lines all replies m line before [] es a e c h = tt
-  lines all replies m line before (s ∷ rest) es a e c h =
+  lines : (all : List Step) (replies : List Reply) (m : Machine) (line : ℕ) (before rest : List Step) (es : List Entry) → all ≡ before ++ rest → line ≡ length before + 1 → EachMayCome contexts before [] es → length replies ≡ length before → EachMayReply es before replies → Fine before line es m
+      → Allows (MayAsk contexts all) (λ fs done. EachMayReply fs all done.0) es (run contexts replies m line rest)
+  lines all replies m line before [] es a e c n r h = subst (λ (steps : List Step). EachMayReply es steps replies) (sym a) (replies_longer es before [] replies r)
+  lines all replies m line before (s ∷ rest) es a e c n r h =
       let now = before ++ s ∷ [] in
       let b : all ≡ now ++ rest = a ∙ sym (append_assoc before (s ∷ []) rest) in
       let new : IsNew es m.store.records line = subst (IsNew es m.store.records) (sym e) (next_is_new contexts before es (licensed contexts before es c) m h.fine) in
-      allows_then (MayAsk contexts all) (λ fs done. EachMayCome contexts now [] fs × Fine now (line + 1) fs done.1) (λ fs done. ⊤) es (machine_asks contexts m line s) _
-      (allows_keep (MayAsk contexts now) (MayAsk contexts all) (EachMayCome contexts now []) (λ fs done. Fine now (line + 1) fs done.1)
-      (λ fs op c t fits k q. may_come contexts now fs _ k q)
-      (λ fs op c q. subst (λ (steps : List Step). MayAsk contexts steps fs op c) (sym b) (may_more now rest contexts fs op c q)) es _ (come_longer contexts before (s ∷ []) [] es c)
-      (line_licensed now line s (last_line before s line e) m es new (fine_more contexts before (s ∷ []) line es m h)))
-      (λ fs done k. allows_if (MayAsk contexts all) (λ fs done. ⊤) fs (is_trap done.0) _ _ (λ trap. tt) (λ on. lines all (replies ++ done.0 ∷ []) done.1 (line + 1) now rest fs b (next_line before s line e) k.0 k.1))
+      let M : List Entry → Type 0 = λ fs. EachMayCome contexts now [] fs × EachMayReply fs before replies in
+      allows_then (MayAsk contexts all) (λ fs done. M fs × (Fine now (line + 1) fs done.1 × MayReply fs s done.0)) (λ fs done. EachMayReply fs all done.0) es (machine_asks contexts m line s) _
+      (allows_keep (MayAsk contexts now) (MayAsk contexts all) M (λ fs done. Fine now (line + 1) fs done.1 × MayReply fs s done.0)
+      (λ fs op c t fits k q. (may_come contexts now fs _ k.0 q, replies_more fs _ before replies k.1))
+      (λ fs op c q. subst (λ (steps : List Step). MayAsk contexts steps fs op c) (sym b) (may_more now rest contexts fs op c q)) es _ (come_longer contexts before (s ∷ []) [] es c, r)
+      (line_replies now line s (last_line before s line e) m es new (fine_more contexts before (s ∷ []) line es m h)))
+      (λ fs done k.
+      let said : EachMayReply fs now (replies ++ done.0 ∷ []) = replies_push fs before replies s done.0 n k.0.1 k.1.1 in
+      allows_if (MayAsk contexts all) (λ fs done. EachMayReply fs all done.0) fs (is_trap done.0) _ _
+      (λ trap. subst (λ (steps : List Step). EachMayReply fs steps (replies ++ done.0 ∷ [])) (sym b) (replies_longer fs now rest (replies ++ done.0 ∷ []) said))
+      (λ on. lines all (replies ++ done.0 ∷ []) done.1 (line + 1) now rest fs b (next_line before s line e) k.0.0 (same_length replies before done.0 s n) said k.1.0))
+    where
+      same_length : (replies : List Reply) (before : List Step) (r : Reply) (s : Step) → length replies ≡ length before → length (replies ++ r ∷ []) ≡ length (before ++ s ∷ [])
+      same_length replies before r s n = let p = length-append replies (r ∷ []) in let q = length-append before (s ∷ []) in omega arith
+
+  -- from the beginning
+  from_first : (steps : List Step) → Allows (MayAsk contexts steps) (λ fs done. EachMayReply fs steps done.0) [] (run contexts [] first_state 1 steps)
+  from_first steps = lines steps [] first_state 1 [] steps [] refl refl tt refl tt first_fine
 
   -- at every point of the run, before a reply is given
   pub begun_licensed : (steps : List Step) (log : List Entry) (rest : Asks (List Reply × Machine)) → Left (run contexts [] first_state 1 steps) log rest → IsLicensed contexts steps log []
   begun_licensed steps log rest w = record {
     each = λ before e after cut.
-        allows_at (MayAsk contexts steps) (λ fs done. ⊤) [] (run contexts [] first_state 1 steps) rest before e after (lines steps [] first_state 1 [] steps [] refl refl tt first_fine)
+        allows_at (MayAsk contexts steps) (λ fs done. EachMayReply fs steps done.0) [] (run contexts [] first_state 1 steps) rest before e after (from_first steps)
         (subst (λ (es : List Entry). Left (run contexts [] first_state 1 steps) es rest) cut w);
-    replied = omega arith;
+    replied = tt;
   }
 
   -- and with the replies that were given by then
   pub runs_licensed : (steps : List Step) (log : List Entry) (replies : List Reply) → HasRun contexts steps log replies → IsLicensed contexts steps log replies
   runs_licensed steps log replies h =
-      let k = ap length h.first ∙ length-append h.done h.more in
-      with_replies contexts steps log replies (omega (arith, h.answered, k)) (begun_licensed steps log h.rest h.begun)
+      let at_front : EachMayReply h.front h.done replies = reached (MayAsk contexts h.done) (λ fs done. EachMayReply fs h.done done.0) [] (run contexts [] first_state 1 h.done) h.front (Give (replies, h.state)) (from_first h.done) h.ran in
+      let in_log : EachMayReply log h.done replies = subst (λ (es : List Entry). EachMayReply es h.done replies) (sym h.cut) (replies_more h.front h.back h.done replies at_front) in
+      with_replies contexts steps log replies (subst (λ (steps : List Step). EachMayReply log steps replies) (sym h.first) (replies_longer log h.done h.more replies in_log)) (begun_licensed steps log h.rest h.begun)
 
   -- a run of which each line was answered
   pub whole_licensed : (steps : List Step) (log : List Entry) (replies : List Reply) (m : Machine) → length replies ≡ length steps → Left (run contexts [] first_state 1 steps) log (Give (replies, m)) → IsLicensed contexts steps log replies

@@ -6,10 +6,14 @@ use Rattle.wasi_walks.proofs.Words.{NamesSide, None, Nothing, NothingLast, OpId,
 use Rattle.wasi_walks.proofs.Words.{SocketAddressFamily, Some, Standing, Step, Streams, Tcp2Socket, TcpBind, TcpConnect, TcpState, Told, Write}
 use Rattle.wasi_walks.proofs.Words.{WriteState, Yes, [], call_place, entry, kind_at, marks_in, own_of, side_of, true, wildcard, ℕ, ⊤, ◌++◌}
 use Rattle.wasi_walks.proofs.Words.{◌+◌, ◌∷◌, ◌≡◌}
-use Rattle.wasi_walks.proofs.walks.Moves.{record_of, udp_record_of, IsOfHandle}
-use Rattle.wasi_walks.specs.Licence.{IsUdpBindTo, MakesTcp, MakesUdp}
+use Rattle.wasi_walks.proofs.walks.Moves.{record_of, udp_record_of, sending_in, receiving_in, IsOfHandle}
+use Rattle.wasi_walks.specs.Licence.{IsRemote, IsSendOf, IsStreamOf, IsUdpBindTo, IsUdpConnectTo, MakesTcp, MakesUdp, MaySendOut, WasDisconnected}
+use Rattle.std.specs.Prelude.{Bool, ◌⊎◌}
+use Rattle.wasi_world.specs.declared.datagram.OutgoingDatagram.{OutgoingDatagram}
+use Rattle.wasi_host.specs.declared.store.StandingCall.{StandingCall}
+use Rattle.wasi_udp.specs.Receive.{IsLeftOfReceive}
 use Rattle.wasi_addr.specs.declared.address.SocketAddrUse.TheVariants as use_of
-use Rattle.wasi_world.specs.Operation.{UdpBind, UdpWritable}
+use Rattle.wasi_world.specs.Operation.{UdpBind, UdpConnect, UdpWritable, Send}
 use Rattle.wasi_host.specs.Records.{tcp2_at, udp2_at}
 use Rattle.wasi_host.specs.Udp.{udp_side}
 use Rattle.wasi_host.specs.declared.records.Record.{Record}
@@ -76,6 +80,32 @@ pub data UdpBindLeft (es : List Entry) (op : OpId) (maker : ℕ) (addr : IpSocke
   UdpChecked : Has es (entry op (Call.Check maker addr use_of.UdpBind) Yes) → UdpBindLeft es op maker addr (UdpBind addr ∷ [])
   UdpOver : UdpBindLeft es op maker addr []
 
+-- what is left of a connect of a UDP socket to the address, and the yeses that it was answered
+pub data UdpConnectLeft (es : List Entry) (op : OpId) (maker : ℕ) (family : SocketAddressFamily) (addr : IpSocketAddress) : List Item → Type 0 where
+  ConnectWhole : UdpConnectLeft es op maker family addr (Check addr use_of.UdpSend ∷ Check addr use_of.UdpReceive ∷ UdpConnect family addr ∷ [])
+  ConnectSends : Has es (entry op (Call.Check maker addr use_of.UdpSend) Yes) → UdpConnectLeft es op maker family addr (Check addr use_of.UdpReceive ∷ UdpConnect family addr ∷ [])
+  ConnectChecked : Has es (entry op (Call.Check maker addr use_of.UdpSend) Yes) → Has es (entry op (Call.Check maker addr use_of.UdpReceive) Yes) → UdpConnectLeft es op maker family addr (UdpConnect family addr ∷ [])
+
+-- where a datagram goes: to its address, or to the remote address, where it has none
+abbrev pub IsFor : OutgoingDatagram → Bool → IpSocketAddress → Type 0
+IsFor d kept addr = (d.remote_address ≡ Some addr) ⊎ ((d.remote_address ≡ None) × (kept ≡ true))
+
+-- what is left of a datagram, and what it was answered so far
+pub data SendLeft (es : List Entry) (op side : OpId) (maker : ℕ) (family : SocketAddressFamily) (d : OutgoingDatagram) : List Item → Type 0 where
+  SendRefused : (c : ErrorCode) → SendLeft es op side maker family d (Last c Nothing ∷ [])
+  SendUnbound : (kept : Bool) (addr : IpSocketAddress) → IsFor d kept addr → SendLeft es op side maker family d (Check (wildcard family) use_of.UdpBind ∷ Check addr use_of.UdpSend ∷ Send kept addr d.bytes ∷ [])
+  SendUnchecked : (kept : Bool) (addr : IpSocketAddress) → IsFor d kept addr → MaySendOut es op side → SendLeft es op side maker family d (Check addr use_of.UdpSend ∷ Send kept addr d.bytes ∷ [])
+  SendChecked : (kept : Bool) (addr : IpSocketAddress) → IsFor d kept addr → MaySendOut es op side → Has es (entry op (Call.Check maker addr use_of.UdpSend) Yes) → SendLeft es op side maker family d (Send kept addr d.bytes ∷ [])
+  SendOver : SendLeft es op side maker family d []
+
+-- the remote address that is kept is the network socket's
+abbrev pub RemoteIs : List Entry → OpId → Option IpSocketAddress → Type 0
+RemoteIs es side remote = (addr : IpSocketAddress) → remote ≡ Some addr → IsRemote es side addr
+
+-- no other was told since
+abbrev pub KeepsRemote : List Entry → List Entry → OpId → Type 0
+KeepsRemote es fs side = (addr : IpSocketAddress) → IsRemote es side addr → IsRemote fs side addr
+
 -- what may be left of a write: nothing of it asks for an address
 pub data WriteLeft : List Item → Type 0 where
   ToWrite : (rest : List ℕ) → WriteLeft (Write rest ∷ [])
@@ -131,6 +161,11 @@ accept_name _ = None
 -- no two records have an accept of one name
 abbrev pub OneHolds : List Record → Type 0
 OneHolds records = (i j : ℕ) (r s : Tcp2Socket) (x : OpId) → tcp2_at records i ≡ Some r → tcp2_at records j ≡ Some s → accept_name r.listening ≡ Some x → accept_name s.listening ≡ Some x → i ≡ j
+
+-- it holds of the operation, where there is one
+abbrev pub IfOp : (Operation → Type 0) → Option Operation → Type 0
+IfOp P (Some op) = P op
+IfOp P None = ⊤
 
 module _ (steps : List Step) where
   -- the operation's step names a handle of this network socket
@@ -256,11 +291,46 @@ module _ (steps : List Step) where
   UdpProgressIsFine es (UdpInProgress.Binding op) = UdpBindIsFine es op
   UdpProgressIsFine es _ = ⊤
 
-  -- A UDP socket that is there knows its creator; it is known to be bound only where the log says so; and its bind may be polled.
+  -- A connect of a UDP socket that may be polled: where it came from, and what it has asked so far.
+  pub record UdpConnectIsFine (es : List Entry) (op : Operation) : Type 0 where
+    pub addr : IpSocketAddress
+    pub to : BeganBy steps op.who.id (IsUdpConnectTo addr)
+    pub udp : BeganBy steps op.who.side MakesUdp
+    pub family : SocketAddressFamily
+    pub made : IsMaker es op.who.context family op.who.side
+    pub named : Names es op.who.id op.who.side
+    pub out : MaySendOut es op.who.id op.who.side
+    pub last : op.who.last ≡ NothingLast
+    pub left : UdpConnectLeft es op.who.id op.who.context family addr op.left
+
+  -- A datagram that may be polled: which one of its step it is, and what it has asked so far.
+  pub record SendIsFine (es : List Entry) (op : Operation) : Type 0 where
+    pub datagram : OutgoingDatagram
+    pub item : BeganBy steps op.who.id (IsSendOf op.who.id.part datagram)
+    pub udp : BeganBy steps op.who.side MakesUdp
+    pub family : SocketAddressFamily
+    pub made : IsMaker es op.who.context family op.who.side
+    pub named : Names es op.who.id op.who.side
+    pub last : op.who.last ≡ NothingLast
+    pub left : SendLeft es op.who.id op.who.side op.who.context family datagram op.left
+
+  -- A receive that may be polled.
+  pub record ReceiveIsFine (es : List Entry) (op : Operation) : Type 0 where
+    pub family : SocketAddressFamily
+    pub made : IsMaker es op.who.context family op.who.side
+    pub named : Names es op.who.id op.who.side
+    pub last : op.who.last ≡ NothingLast
+    pub left : IsLeftOfReceive op.left
+
+  -- A UDP socket that is there knows its creator; it is known to be bound only where the log says so; and its bind may be polled, and
+  -- its connect, its datagram and its receive.
   pub record OpenIsFine (es : List Entry) (o : OpenUdp) : Type 0 where
     pub made : UdpMade es o.inner.side o.inner.maker o.inner.family
-    pub bound : o.inner.bound ≡ true → IsBoundSide es o.inner.side
+    pub bound : o.inner.bound ≡ true → IsBoundSide es o.inner.side ⊎ WasDisconnected es o.inner.side
     pub progress : UdpProgressIsFine es o.in_progress
+    pub connecting : IfOp (UdpConnectIsFine es) o.connecting
+    pub sending : IfOp (SendIsFine es) (sending_in o.outgoing)
+    pub receiving : IfOp (ReceiveIsFine es) (receiving_in o.incoming)
 
   -- One whose network socket is closed: that was made.
   pub record ClosedIsFine (es : List Entry) (side : OpId) : Type 0 where
@@ -279,9 +349,17 @@ module _ (steps : List Step) where
     OfTcp : (found : Tcp2Socket) → tcp2_at records place ≡ Some found → ((side : OpId) → found.side ≡ Some side → Names es (own_of line) side) → LineNames es records line place
     OfUdp : (found : Udp2Socket) → udp2_at records place ≡ Some found → Names es (own_of line) (udp_side found) → LineNames es records line place
 
+  -- where streams are to be made by this line under this handle, its step says so
+  abbrev pub MakesStreams : ℕ → ℕ → Type 0
+  MakesStreams line handle = BeganBy steps (own_of line) (IsStreamOf handle)
+
+  abbrev pub StreamsStand : ℕ → StandingCall → Type 0
+  StreamsStand line (StandingCall.UdpConnect place handle) = MakesStreams line handle
+  StreamsStand line _ = ⊤
+
   -- a create that is pending names none
   abbrev pub StandingIsFine : List Entry → List Record → Standing → Type 0
-  StandingIsFine es records s = IsOfHandle s.call → LineNames es records s.ids.line (call_place s.call)
+  StandingIsFine es records s = (IsOfHandle s.call → LineNames es records s.ids.line (call_place s.call)) × StreamsStand s.ids.line s.call
 
   pub record StateIsFine (es : List Entry) (m : Machine) : Type 0 where
     pub count : m.table.next ≡ marks_in es + 1

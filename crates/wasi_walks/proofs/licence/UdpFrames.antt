@@ -4,14 +4,21 @@ use Rattle.wasi_walks.proofs.Words.{SocketAddressFamily, Standing, Step, Tcp2Soc
 use Rattle.wasi_walks.proofs.Words.{◌∙◌, ◌≡◌}
 use Rattle.wasi_walks.proofs.Lists.{has_front, tcp2_front}
 use Rattle.wasi_walks.proofs.UdpLists.{udp_front, udp_set_get, tcp_in_put, tcp_in_push, udp_in_put, udp_in_push}
-use Rattle.wasi_walks.proofs.walks.Moves.{record_of, udp_record_of}
-use Rattle.wasi_walks.proofs.licence.State.{NamesIf, NamesUdp, NamesUdpIf, HandleIsFine, UdpBindLeft, UdpUnchecked, UdpChecked, UdpOver, Names, UdpMade, UdpBindIsFine, UdpProgressIsFine, UdpIsFine, LineNames, OfTcp, OfUdp, StandingIsFine}
-use Rattle.wasi_walks.proofs.licence.Frames.{Goes, began_more, bound_more, marked_more, names_on, works_more, IsMadeWith, made_put, names_record_more}
+use Rattle.wasi_walks.proofs.walks.Moves.{record_of, udp_record_of, sending_in, receiving_in}
+use Rattle.wasi_walks.proofs.licence.State.{NamesIf, NamesUdp, NamesUdpIf, HandleIsFine, UdpBindLeft, UdpUnchecked, UdpChecked, UdpOver, Names, UdpMade, UdpBindIsFine, UdpProgressIsFine, UdpIsFine, LineNames, OfTcp, OfUdp, IfOp, StreamsStand, StandingIsFine}
+use Rattle.wasi_walks.proofs.licence.DatagramFrames.{free_more, udp_connect_more, send_more, receive_more}
+use Rattle.wasi_host.specs.declared.store.StandingCall.{StandingCall}
+use Rattle.wasi_walks.proofs.licence.Frames.{Goes, began_more, marked_more, names_on, works_more, IsMadeWith, made_put, names_record_more}
 use Rattle.wasi_host.specs.Records.{tcp2_at, tcp2_put, tcp2_pushed, udp2_at, udp2_put, udp2_pushed}
 use Rattle.wasi_host.specs.Udp.{udp_side}
 use Rattle.wasi_host.specs.declared.records.Record.{Record}
 use Rattle.wasi_host.specs.declared.udp.Udp2Socket.{Udp2Socket}
 use Rattle.wasi_host.specs.declared.udp.UdpInProgress.{UdpInProgress}
+
+-- what holds of an operation, where there is one, goes over to what follows from it
+pub if_op : {P Q : Operation → Type 0} → ((op : Operation) → P op → Q op) → (o : Option Operation) → IfOp P o → IfOp Q o
+if_op f (Some op) h = f op h
+if_op f None h = tt
 
 pub same_udp : (a b : Udp2Socket) → Some a ≡ Some b → a ≡ b
 same_udp a b e = cc
@@ -91,15 +98,19 @@ module _ {steps : List Step} (es : List Entry) (old now : List Record) (k : Keep
   line_kept line place (OfUdp u e n) = let m = k.udp place u e in OfUdp m.found m.at (subst (Names steps es (own_of line)) (sym m.same) n)
 
   pub standing_kept : (s : Standing) → StandingIsFine steps es old s → StandingIsFine steps es now s
-  standing_kept s h = λ o. line_kept s.ids.line (call_place s.call) (h o)
+  standing_kept s h = (λ o. line_kept s.ids.line (call_place s.call) (h.0 o), h.1)
 
 module _ {steps now : List Step} (goes : Goes steps now) where
   line_more : (es fs : List Entry) (records : List Record) (line place : ℕ) → LineNames steps es records line place → LineNames now (es ++ fs) records line place
   line_more es fs records line place (OfTcp r e n) = OfTcp r e (λ side s. names_on goes es fs (own_of line) side (n side s))
   line_more es fs records line place (OfUdp u e n) = OfUdp u e (names_on goes es fs (own_of line) (udp_side u) n)
 
+  streams_more : (line : ℕ) (call : StandingCall) → StreamsStand steps line call → StreamsStand now line call
+  streams_more line (StandingCall.UdpConnect place handle) h = began_more goes (own_of line) _ h
+  streams_more line _ h = tt
+
   pub standing_more : (es fs : List Entry) (records : List Record) (s : Standing) → StandingIsFine steps es records s → StandingIsFine now (es ++ fs) records s
-  standing_more es fs records s h = λ o. line_more es fs records s.ids.line (call_place s.call) (h o)
+  standing_more es fs records s h = (λ o. line_more es fs records s.ids.line (call_place s.call) (h.0 o), streams_more s.ids.line s.call h.1)
 
   -- == UDP sockets
   pub udp_made_more : (es fs : List Entry) (side : OpId) (maker : ℕ) (family : SocketAddressFamily) → UdpMade steps es side maker family → UdpMade now (es ++ fs) side maker family
@@ -128,7 +139,10 @@ module _ {steps now : List Step} (goes : Goes steps now) where
   udp_more es fs (Udp2Socket.Creating create) h = record { made = udp_made_more es fs create.operation.who.side create.operation.who.context create.family h.made; own = h.own; last = h.last; left = h.left }
   udp_more es fs (Udp2Socket.Open o) h = record {
     made = udp_made_more es fs o.inner.side o.inner.maker o.inner.family h.made;
-    bound = λ b. bound_more es fs o.inner.side (h.bound b);
+    bound = λ b. free_more es fs o.inner.side (h.bound b);
     progress = udp_progress_more es fs o.in_progress h.progress;
+    connecting = if_op (λ op. udp_connect_more goes es fs op) o.connecting h.connecting;
+    sending = if_op (λ op. send_more goes es fs op) (sending_in o.outgoing) h.sending;
+    receiving = if_op (λ op. receive_more goes es fs op) (receiving_in o.incoming) h.receiving;
   }
   udp_more es fs (Udp2Socket.Closed side) h = record { maker = h.maker; family = h.family; made = udp_made_more es fs side h.maker h.family h.made }

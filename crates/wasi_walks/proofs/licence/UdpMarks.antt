@@ -3,27 +3,34 @@ use Rattle.wasi_walks.proofs.Words.{Allows, BeganBy, Bool, Call, Entry, IsAddr, 
 use Rattle.wasi_walks.proofs.Words.{SocketAddressFamily, Some, Step, Told, WasiSocketsCtx, [], allows_if, ap, bind, context_in, entry, false}
 use Rattle.wasi_walks.proofs.Words.{if◌then◌else◌, inl, inr, is_full, is_wildcard, make_asks, own_of, refl, slice_get, step_at, subst, sym, told_addr}
 use Rattle.wasi_walks.proofs.Words.{told_done, true, ℕ, ◌++◌, ◌∙◌, ◌∷◌, ◌≡◌}
-use Rattle.wasi_walks.specs.Licence.{IsUdpCreate, MayUseUdp, UdpCreated}
-use Rattle.wasi_walks.proofs.walks.Moves.{Here, put_udp, FoundUdp, CreatesUdp, udp_begun, IsQuestionOf, Past, Joined, Marked, second_of}
+use Rattle.wasi_walks.specs.Licence.{IsGetOf, IsMarkedWith, IsSetTo, IsStreamOf, IsUdpCreate, MayUseUdp, UdpCreated}
+use Rattle.wasi_walks.proofs.walks.Moves.{Here, put_udp, FoundUdp, CreatesUdp, udp_begun, udp_record_of, part_of, ToStream, IsUdpQuestionOf, Past, Joined, Marked, second_of}
 use Rattle.wasi_walks.proofs.Lists.{has_front, has_last, has_split}
 use Rattle.wasi_walks.proofs.UdpLists.{tcp_of_push}
 use Rattle.wasi_walks.specs.Licence.{MakesTcp, MakesUdp}
-use Rattle.wasi_walks.proofs.licence.State.{NamesUdp, UdpMade, UdpIsFine, OpenIsFine}
-use Rattle.wasi_walks.proofs.licence.Frames.{handed_unless, stay, names_on}
+use Rattle.wasi_walks.proofs.licence.State.{HandleIsFine, MakesStreams, Names, NamesUdp, UdpMade, UdpIsFine, OpenIsFine}
+use Rattle.wasi_walks.proofs.licence.Frames.{NoMark, handed_unless, stay, names_on}
 use Rattle.wasi_walks.proofs.licence.States.{state_made, state_joined_udp}
 use Rattle.wasi_walks.proofs.licence.Fresh.{NoMadeBy}
-use Rattle.wasi_walks.proofs.licence.Line.{Licensed, elsewhere, put_udp_fine, spent}
-use Rattle.wasi_walks.proofs.licence.Asked.{Spares, spares, asked_fine, listens_on, joined_on, question_local, question_may}
-use Rattle.wasi_walks.proofs.licence.Marks.{unmarked_made}
-use Rattle.wasi_walks.proofs.licence.UdpMoves.{open_at_place}
+use Rattle.wasi_walks.proofs.licence.Line.{Licensed, names_udp, elsewhere, put_udp_fine, spent}
+use Rattle.wasi_walks.proofs.licence.Asked.{Spares, spares, asked_fine, listens_on, joined_on, own_line}
+use Rattle.wasi_walks.proofs.licence.Marks.{socket_touch, unmarked_made}
+use Rattle.wasi_walks.proofs.licence.UdpMoves.{names_part, open_at_place}
 use Rattle.wasi_world.specs.declared.call.HandleKind.TheVariants as name
 use Rattle.wasi_host.specs.Udp.{udp_side, with_udp_inner}
-use Rattle.wasi_host.specs.declared.kind.Kind.TheVariants.{Udp2}
+use Rattle.wasi_host.specs.declared.kind.Kind.TheVariants.{Udp2, Incoming, Outgoing}
+use Rattle.wasi_host.specs.declared.kind.Kind.{Kind}
+use Rattle.wasi_host.specs.Kinds.{kind_at, name_of, udp_of}
+use Rattle.wasi_host.specs.Records.{udp2_at}
+use Rattle.wasi_host.specs.UdpCreates.{udp_side_at}
+use Rattle.wasi_host.specs.declared.records.Record.{Record}
+use Rattle.wasi_world.specs.declared.call.HandleKind.{HandleKind}
+use Rattle.std.specs.Prelude.{◌⊎◌}
 use Rattle.wasi_host.specs.declared.udp.OpenUdp.{OpenUdp}
 use Rattle.wasi_host.specs.declared.udp.Udp2Socket.{Udp2Socket}
 use Rattle.wasi_udp.specs.Create.{after_create, new_create}
 use Rattle.wasi_udp.specs.Shape.{Socket}
-use Rattle.wasi_udp.specs.Socket.{after_local}
+use Rattle.wasi_udp.specs.Socket.{after_local, after_peer}
 
 module _ (contexts : List WasiSocketsCtx) (steps : List Step) (line : ℕ) (origin : Step) (is_line : step_at steps line ≡ Some origin) where
   -- == a UDP socket's network socket is none of a TCP socket's
@@ -38,26 +45,56 @@ module _ (contexts : List WasiSocketsCtx) (steps : List Step) (line : ℕ) (orig
   udp_spares : (es : List Entry) (h : Here) (side : OpId) (c : Call) → BeganBy steps side MakesUdp → ((x : OpId) → c ≡ Call.Local x → side ≡ x) → Licensed steps line origin es h → Spares contexts steps line origin is_line h c
   udp_spares es h side c by its i k q op g e p = kinds_apart op.who.side (i.listens k q op g e).tcp (subst (λ (o : OpId). BeganBy steps o MakesUdp) (its op.who.side p) by)
 
-  pub udp_asked : (es : List Entry) (h : Here) (place n : ℕ) (o : OpenUdp) (c : Call) → h.at ≡ Some (place, n) → FoundUdp h place (Udp2Socket.Open o) → IsQuestionOf line origin n o.inner.side c → Licensed steps line origin es h
+  -- a question may be asked, and what is asked is no mark
+  udp_may : (n : ℕ) (es : List Entry) (side : OpId) (c : Call) → IsUdpQuestionOf line origin n side c → Names steps es (own_of n) side → MayAsk contexts steps es (own_of n) c × NoMark c
+  udp_may n es side (Call.Local s) q k = (inl (subst (Names steps es (own_of n)) (sym q) k), tt)
+  udp_may n es side (Call.GetOption s o) q k = ((inl (subst (Names steps es (own_of n)) (sym q.0) k), own_line contexts steps line origin is_line n (IsGetOf o) q.1 q.2), tt)
+  udp_may n es side (Call.SetOption s o v) q k = ((inl (subst (Names steps es (own_of n)) (sym q.0) k), own_line contexts steps line origin is_line n (IsSetTo o v) q.1 q.2), tt)
+  udp_may n es side (Call.UdpDisconnect s) q k = (inl (subst (Names steps es (own_of n)) (sym q) k), tt)
+  udp_may n es side _ q k = absurd q
+
+  udp_local : (n : ℕ) (side x : OpId) (c : Call) → IsUdpQuestionOf line origin n side c → c ≡ Call.Local x → side ≡ x
+  udp_local n side x (Call.Local s) q e = let p : s ≡ x = cc in sym q ∙ p
+  udp_local n side x _ q e = absurd (cc)
+
+  -- what is asked of an open socket, by an operation that names it
+  asked_open : (es : List Entry) (h : Here) (place : ℕ) (o : OpenUdp) (op : OpId) (c : Call) → FoundUdp h place (Udp2Socket.Open o) → NoMark c → ((x : OpId) → c ≡ Call.Local x → o.inner.side ≡ x) → Licensed steps line origin es h → (told : Told) → Licensed steps line origin (es ++ entry op c told ∷ []) h
+  asked_open es h place o op c g m its i told = asked_fine contexts steps line origin is_line es h op c told m (udp_spares es h o.inner.side c (open_at_place contexts steps line origin is_line es h place o g i).made.by its i) i
+
+  pub udp_asked : (es : List Entry) (h : Here) (place n : ℕ) (o : OpenUdp) (c : Call) → h.at ≡ Some (place, n) → FoundUdp h place (Udp2Socket.Open o) → IsUdpQuestionOf line origin n o.inner.side c → Licensed steps line origin es h
       → MayAsk contexts steps es (own_of n) c × ((told : Told) → Licensed steps line origin (es ++ entry (own_of n) c told ∷ []) h)
   udp_asked es h place n o c at g q i =
-      let k = question_may contexts steps line origin is_line n es o.inner.side c q (i.udp_names place n (Udp2Socket.Open o) at g) in
-      let f = open_at_place contexts steps line origin is_line es h place o g i in
-      (k.0, λ told. asked_fine contexts steps line origin is_line es h (own_of n) c told k.1 (udp_spares es h o.inner.side c f.made.by (λ x e. question_local contexts steps line origin is_line n o.inner.side x c q e) i) i)
+      let k = udp_may n es o.inner.side c q (i.udp_names place n (Udp2Socket.Open o) at g) in
+      (k.0, asked_open es h place o (own_of n) c g k.1 (λ x e. udp_local n o.inner.side x c q e) i)
+
+  -- the remote address
+  pub udp_peered : (es : List Entry) (h : Here) (place : ℕ) (o : OpenUdp) → h.at ≡ Some (place, line) → FoundUdp h place (Udp2Socket.Open o) → Licensed steps line origin es h
+      → MayAsk contexts steps es (own_of line) (Call.Peer o.inner.side) × ((told : Told) → Licensed steps line origin (es ++ entry (own_of line) (Call.Peer o.inner.side) told ∷ []) (put_udp h place (Udp2Socket.Open (with_udp_inner o (after_peer o.inner (told_addr told))))))
+  udp_peered es h place o at g i = (
+    inl (i.udp_names place line (Udp2Socket.Open o) at g),
+    λ told.
+        let fs : List Entry = es ++ entry (own_of line) (Call.Peer o.inner.side) told ∷ [] in
+        let j = asked_open es h place o (own_of line) (Call.Peer o.inner.side) g tt (λ x e. absurd (cc)) i told in
+        let f = open_at_place contexts steps line origin is_line fs h place o g j in
+        put_udp_fine fs h place (Udp2Socket.Open o) (Udp2Socket.Open (with_udp_inner o (after_peer o.inner (told_addr told)))) g refl (record { made = f.made; bound = f.bound; progress = f.progress; connecting = f.connecting; sending = f.sending; receiving = f.receiving }) j,
+  )
 
   -- == whether it is bound
-  learned_open : (fs : List Entry) (o : OpenUdp) (told : Told) → IsAddr told → (Has fs (entry (own_of line) (Call.Local o.inner.side) told)) → OpenIsFine steps fs o → OpenIsFine steps fs (with_udp_inner o (after_local o.inner (told_addr told)).1)
-  learned_open fs o (Told.Addr a) fits has f = by_test (is_wildcard o.inner.family a) refl
+  learned_open : (fs : List Entry) (part : ℕ) (o : OpenUdp) (told : Told) → IsAddr told → (Has fs (entry (part_of line part) (Call.Local o.inner.side) told)) → OpenIsFine steps fs o → OpenIsFine steps fs (with_udp_inner o (after_local o.inner (told_addr told)).1)
+  learned_open fs part o (Told.Addr a) fits has f = by_test (is_wildcard o.inner.family a) refl
     where
       by_test : (b : Bool) → is_wildcard o.inner.family a ≡ b → (let told : Bool × Socket = if b then (false, o.inner) else (true, record o.inner { bound = true }) in OpenIsFine steps fs (with_udp_inner o told.1))
       by_test true p = f
       by_test false p = record {
         made = f.made;
-        bound = λ b. record { ctx = o.inner.maker; family = o.inner.family; maker = UdpCreated o.inner.side Told.Done f.made.created; op = own_of line; addr = a; told = has; other = p };
+        bound = λ b. inl (record { ctx = o.inner.maker; family = o.inner.family; maker = UdpCreated o.inner.side Told.Done f.made.created; op = part_of line part; addr = a; told = has; other = p });
         progress = f.progress;
+        connecting = f.connecting;
+        sending = f.sending;
+        receiving = f.receiving;
       }
-  learned_open fs o (Told.Code c) fits has f = f
-  learned_open fs o _ fits has f = absurd fits
+  learned_open fs part o (Told.Code c) fits has f = f
+  learned_open fs part o _ fits has f = absurd fits
 
   learned_side : (o : OpenUdp) (told : Told) → (after_local o.inner (told_addr told)).1.side ≡ o.inner.side
   learned_side o (Told.Addr a) = by_test (is_wildcard o.inner.family a)
@@ -67,16 +104,15 @@ module _ (contexts : List WasiSocketsCtx) (steps : List Step) (line : ℕ) (orig
       by_test false = refl
   learned_side o _ = refl
 
-  pub udp_learned : (es : List Entry) (h : Here) (place : ℕ) (o : OpenUdp) → h.at ≡ Some (place, line) → FoundUdp h place (Udp2Socket.Open o) → Licensed steps line origin es h
-      → MayAsk contexts steps es (own_of line) (Call.Local o.inner.side) × ((told : Told) → IsAddr told → Licensed steps line origin (es ++ entry (own_of line) (Call.Local o.inner.side) told ∷ []) (put_udp h place (Udp2Socket.Open (with_udp_inner o (after_local o.inner (told_addr told)).1))))
-  udp_learned es h place o at g i =
-      let a = udp_asked es h place line o (Call.Local o.inner.side) at g refl i in (
-        a.0,
-        λ told fits.
-            let fs : List Entry = es ++ entry (own_of line) (Call.Local o.inner.side) told ∷ [] in
-            let j = a.1 told in
-            put_udp_fine fs h place (Udp2Socket.Open o) (Udp2Socket.Open (with_udp_inner o (after_local o.inner (told_addr told)).1)) g (learned_side o told) (learned_open fs o told fits (has_last es _) (open_at_place contexts steps line origin is_line fs h place o g j)) j,
-      )
+  pub udp_learned : (es : List Entry) (h : Here) (place part : ℕ) (o : OpenUdp) → h.at ≡ Some (place, line) → FoundUdp h place (Udp2Socket.Open o) → Licensed steps line origin es h
+      → MayAsk contexts steps es (part_of line part) (Call.Local o.inner.side) × ((told : Told) → IsAddr told → Licensed steps line origin (es ++ entry (part_of line part) (Call.Local o.inner.side) told ∷ []) (put_udp h place (Udp2Socket.Open (with_udp_inner o (after_local o.inner (told_addr told)).1))))
+  udp_learned es h place part o at g i = (
+    inl (names_part contexts steps line origin is_line es part o.inner.side (i.udp_names place line (Udp2Socket.Open o) at g)),
+    λ told fits.
+        let fs : List Entry = es ++ entry (part_of line part) (Call.Local o.inner.side) told ∷ [] in
+        let j = asked_open es h place o (part_of line part) (Call.Local o.inner.side) g tt (λ x e. cc) i told in
+        put_udp_fine fs h place (Udp2Socket.Open o) (Udp2Socket.Open (with_udp_inner o (after_local o.inner (told_addr told)).1)) g (learned_side o told) (learned_open fs part o told fits (has_last es _) (open_at_place contexts steps line origin is_line fs h place o g j)) j,
+  )
 
   -- == the end
   pub udp_closed : (es : List Entry) (h : Here) (place : ℕ) (o : OpenUdp) (told : Told) → FoundUdp h place (Udp2Socket.Open o) → Licensed steps line origin es h → Licensed steps line origin (es ++ entry (own_of line) (Call.Close o.inner.side) told ∷ []) (put_udp h place (Udp2Socket.Closed o.inner.side))
@@ -117,6 +153,7 @@ module _ (contexts : List WasiSocketsCtx) (steps : List Step) (line : ℕ) (orig
         unmade = λ e d s is. absurd (creates_only ctx family c d s is);
         joined = λ p e. absurd (not_joined p (sym past ∙ e));
         marked = λ a p e q d. absurd (not_marked a p (sym past ∙ e));
+        streaming = λ n k e. absurd (let p : Past ≡ ToStream n k = sym past ∙ e in cc);
       }
     where
       no_place : (p n : ℕ) → (let x : Option (ℕ × ℕ) = Some (p, n) in None ≡ x) → ⊥
@@ -173,31 +210,81 @@ module _ (contexts : List WasiSocketsCtx) (steps : List Step) (line : ℕ) (orig
   is_made es (Udp2Socket.Open o) f = record { maker = o.inner.maker; family = o.inner.family; made = f.made }
   is_made es (Udp2Socket.Closed side) f = record { maker = f.maker; family = f.family; made = f.made }
 
-  pub udp_marked : (es : List Entry) (h : Here) (place : ℕ) (u : Udp2Socket) → FoundUdp h place u → Licensed steps line origin es h
-      → Allows (MayAsk contexts steps) (λ fs made. Licensed steps line origin fs (record h { machine = record h.machine { table = made.1 } })) es (make_asks h.machine.table (udp_side u) (Udp2 place) None (Some (udp_side u)))
+  -- a mark by an operation that isn't the own one of an accept, of no TCP socket's handle
+  mark_fine : (es : List Entry) (h : Here) (op : OpId) (kind : Kind) (parent : Option ℕ) (sock : Option OpId) → BeganBy steps op (IsMarkOf es op (name_of kind) parent sock) → ((c s : ℕ) → origin ≡ Step.TcpAccept c s → op ≡ own_of line → ⊥) → (name_of kind ≡ name.Tcp2 → ⊥)
+      → ((t : Told) → HandleIsFine (es ++ entry op (Call.Made h.machine.table.next (name_of kind) parent sock) t ∷ []) h.machine.store.records h.machine.table.next kind) → Licensed steps line origin es h
+      → Allows (MayAsk contexts steps) (λ fs made. Licensed steps line origin fs (record h { machine = record h.machine { table = made.1 } })) es (make_asks h.machine.table op kind parent sock)
   unfolding bind
-  udp_marked es h place u g i =
-      let side = udp_side u in
-      let m = is_made es u (i.fine.udp place u g) in
-      let n = h.machine.table.next in
-      let c = Call.Made n name.Udp2 None (Some side) in
+  mark_fine es h op kind parent sock may other none new i =
+      let c = Call.Made h.machine.table.next (name_of kind) parent sock in
+      let unmarked : (t : Told) (x : OpId) → MarksNoSocket es x → MarksNoSocket (es ++ entry op c t ∷ []) x = λ t x k. unmarked_made contexts steps line origin is_line es op h.machine.table.next (name_of kind) parent sock t x k (λ a b. none a) in
       allows_if (MayAsk contexts steps) (λ fs made. Licensed steps line origin fs (record h { machine = record h.machine { table = made.1 } })) es (is_full h.machine.table) _ _ (λ full. elsewhere es h (record h { machine = record h.machine { table = h.machine.table } }) refl refl refl i i.fine i.names i.udp_names)
       (λ room. (
-        (i.fine.count, began_mark es side m.maker m.family m.made),
+        (i.fine.count, may),
         λ told fits. record {
-          fine = state_made steps es h.machine side name.Udp2 None (Some side) told (Udp2 place) (λ p q x d y t. t) (tt, new_handle told) i.fine;
+          fine = state_made steps es h.machine op (name_of kind) parent sock told kind (λ p q x d y t. none (socket_touch contexts steps line origin is_line op x h.machine.table.next (name_of kind) parent sock t)) (new told) i.fine;
           names = λ p k r a d s x. names_on (stay steps) es _ (own_of k) s (i.names p k r a d s x);
           udp_names = λ p k v a d. names_on (stay steps) es _ (own_of k) (udp_side v) (i.udp_names p k v a d);
-          listens = listens_on contexts steps line origin is_line es h side c told (λ p q op d x y. absurd (cc)) i;
-          new = λ o. (handed_unless es side c told (second_of line) (i.new o).0 (λ l p a b. absurd (cc)), unmarked es told (second_of line) (i.new o).1);
-          unmade = λ d a s is. unmade_more es side (own_of line) c told (not_accept side m.made.by a s is) (i.unmade d a s is);
-          joined = λ p d. (let j = i.joined p d in let k = joined_on contexts steps line origin is_line es h (entry side c told) p j (unmarked es told j.new j.fresh) in record { new = k.new; on = k.on; peer = k.peer; context = k.context; listener = k.listener; by = k.by; side = k.side; of_listener = k.of_listener; handed = k.handed; fresh = k.fresh });
+          listens = listens_on contexts steps line origin is_line es h op c told (λ p q o d x y. absurd (cc)) i;
+          new = λ o. (handed_unless es op c told (second_of line) (i.new o).0 (λ l p a b. absurd (cc)), unmarked told (second_of line) (i.new o).1);
+          unmade = λ d a s is. unmade_more es op (own_of line) c told (other a s is) (i.unmade d a s is);
+          joined = λ p d. (let j = i.joined p d in let k = joined_on contexts steps line origin is_line es h (entry op c told) p j (unmarked told j.new j.fresh) in record { new = k.new; on = k.on; peer = k.peer; context = k.context; listener = k.listener; by = k.by; side = k.side; of_listener = k.of_listener; handed = k.handed; fresh = k.fresh });
           marked = λ handle p d r a. (let k = i.marked handle p d r a in record { above = k.above; told = k.told; mark = has_front es _ _ k.mark });
+          streaming = i.streaming;
         },
       ))
-    where
-      new_handle : (t : Told) → NamesUdp (es ++ entry (udp_side u) (Call.Made h.machine.table.next name.Udp2 None (Some (udp_side u))) t ∷ []) h.machine.store.records h.machine.table.next place
-      new_handle t = record { found = u; at = g; marked = record { op = udp_side u; kind = name.Udp2; parent = None; told = t; mark = has_last es _ } }
 
-      unmarked : (fs : List Entry) (t : Told) (x : OpId) → MarksNoSocket fs x → MarksNoSocket (fs ++ entry (udp_side u) (Call.Made h.machine.table.next name.Udp2 None (Some (udp_side u))) t ∷ []) x
-      unmarked fs t x k = unmarked_made contexts steps line origin is_line fs (udp_side u) h.machine.table.next name.Udp2 None (Some (udp_side u)) t x k (λ a b. absurd (cc))
+  -- a new handle of a UDP socket
+  pub udp_marked : (es : List Entry) (h : Here) (place : ℕ) (u : Udp2Socket) → FoundUdp h place u → Licensed steps line origin es h
+      → Allows (MayAsk contexts steps) (λ fs made. Licensed steps line origin fs (record h { machine = record h.machine { table = made.1 } })) es (make_asks h.machine.table (udp_side u) (Udp2 place) None (Some (udp_side u)))
+  udp_marked es h place u g i =
+      let m = is_made es u (i.fine.udp place u g) in
+      mark_fine es h (udp_side u) (Udp2 place) None (Some (udp_side u)) (began_mark es (udp_side u) m.maker m.family m.made) (not_accept (udp_side u) m.made.by) (λ e. absurd (cc))
+      (λ t. (tt, record { found = u; at = g; marked = record { op = udp_side u; kind = name.Udp2; parent = None; told = t; mark = has_last es _ } })) i
+
+  -- == the handles of datagram streams
+  abbrev pub OneStream : Kind → ℕ → Type 0
+  OneStream kind place = (kind ≡ Incoming place) ⊎ (kind ≡ Outgoing place)
+
+  stream_name : (kind : Kind) (place : ℕ) → OneStream kind place → (name_of kind ≡ name.Incoming) ⊎ (name_of kind ≡ name.Outgoing)
+  stream_name kind place (inl e) = inl (ap name_of e)
+  stream_name kind place (inr e) = inr (ap name_of e)
+
+  no_tcp : (kind : Kind) (place : ℕ) → OneStream kind place → name_of kind ≡ name.Tcp2 → ⊥
+  no_tcp kind place (inl e) p = absurd (let q : name.Incoming ≡ name.Tcp2 = sym (ap name_of e) ∙ p in cc)
+  no_tcp kind place (inr e) p = absurd (let q : name.Outgoing ≡ name.Tcp2 = sym (ap name_of e) ∙ p in cc)
+
+  stream_handle : (fs : List Entry) (records : List Record) (handle place : ℕ) (kind : Kind) → OneStream kind place → NamesUdp fs records handle place → HandleIsFine fs records handle kind
+  stream_handle fs records handle place kind (inl e) n = subst (HandleIsFine fs records handle) (sym e) (tt, n)
+  stream_handle fs records handle place kind (inr e) n = subst (HandleIsFine fs records handle) (sym e) (tt, n)
+
+  stream_mark : (es : List Entry) (op : OpId) (handle : ℕ) (kind : HandleKind) (sock : Option OpId) → (kind ≡ name.Incoming) ⊎ (kind ≡ name.Outgoing) → IsMarkedWith es handle sock → (s : Step) → IsStreamOf handle s → IsMarkOf es op kind (Some handle) sock s
+  stream_mark es op handle kind sock which w (Step.UdpStream c socket remote) e = (which, (ap (λ (n : ℕ). Some n) (sym e), subst (λ (n : ℕ). IsMarkedWith es n sock) (sym e) w))
+  stream_mark es op handle kind sock which w _ e = absurd e
+
+  no_stream : (n handle : ℕ) → MakesStreams steps n handle → (c s : ℕ) → origin ≡ Step.TcpAccept c s → own_of n ≡ own_of line → ⊥
+  no_stream n handle b c s is e =
+      let p : step_at steps line ≡ Some b.origin = subst (λ (o : OpId). step_at steps o.step ≡ Some b.origin) e b.at in
+      let q : origin ≡ b.origin = cc in
+      subst (IsStreamOf handle) (sym q ∙ is) b.holds
+
+  pub stream_marked : (es : List Entry) (h : Here) (place n handle : ℕ) (kind : Kind) → h.made ≡ ToStream n handle → OneStream kind place → udp_of (kind_at h.machine.table handle) ≡ Some place → Licensed steps line origin es h
+      → Allows (MayAsk contexts steps) (λ fs made. Licensed steps line origin fs (record h { machine = record h.machine { table = made.1 } })) es (make_asks h.machine.table (own_of n) kind (Some handle) (udp_side_at (udp2_at h.machine.store.records place)))
+  stream_marked es h place n handle kind m which e i =
+      let sock = udp_side_at (udp2_at h.machine.store.records place) in
+      let b = i.streaming n handle m in
+      let k = names_udp es h.machine.store.records handle place (kind_at h.machine.table handle) (of_udp (kind_at h.machine.table handle) place e) (i.fine.handles handle) in
+      let w : IsMarkedWith es handle sock = subst (IsMarkedWith es handle) (sym (ap udp_side_at k.at)) k.marked in
+      mark_fine es h (own_of n) kind (Some handle) sock (record { origin = b.origin; at = b.at; holds = stream_mark es (own_of n) handle (name_of kind) sock (stream_name kind place which) w b.origin b.holds }) (no_stream n handle b) (no_tcp kind place which)
+      (λ t. stream_handle _ h.machine.store.records h.machine.table.next place kind which (record { found = k.found; at = k.at; marked = record { op = own_of n; kind = name_of kind; parent = Some handle; told = t; mark = marked_of t k.found k.at } })) i
+    where
+      of_udp : (k : Option Kind) (p : ℕ) → udp_of k ≡ Some p → udp_record_of k ≡ Some p
+      of_udp (Some (Udp2 q)) p d = d
+      of_udp _ p d = absurd (cc)
+
+      marked_of : (t : Told) (u : Udp2Socket) → udp2_at h.machine.store.records place ≡ Some u
+          → (let sock = udp_side_at (udp2_at h.machine.store.records place) in let e = entry (own_of n) (Call.Made h.machine.table.next (name_of kind) (Some handle) sock) t in Has (es ++ e ∷ []) (entry (own_of n) (Call.Made h.machine.table.next (name_of kind) (Some handle) (Some (udp_side u))) t))
+      marked_of t u d =
+          let sock = udp_side_at (udp2_at h.machine.store.records place) in
+          let e = entry (own_of n) (Call.Made h.machine.table.next (name_of kind) (Some handle) sock) t in
+          subst (λ (o : Option OpId). Has (es ++ e ∷ []) (entry (own_of n) (Call.Made h.machine.table.next (name_of kind) (Some handle) o) t)) (ap udp_side_at d) (has_last es e)

@@ -1,12 +1,29 @@
 -- The moves of a line that are on UDP sockets keep that the state fits the log.
 use Rattle.wasi_walks.proofs.Words.{Entry, Has, IpSocketAddress, IsMarkedWith, List, Option, Some, Standing, Step, Tcp2Socket, Told, WasiSocketsCtx, ap}
 use Rattle.wasi_walks.proofs.Words.{call_place, handles_of, inl, inr, kind_at, own_of, refl, slice_get, step_at, subst, sym, ℕ, ◌∙◌, ◌≡◌, ◌⊎◌}
-use Rattle.wasi_walks.specs.Licence.{IsUdpBindTo, UdpCreated}
-use Rattle.wasi_walks.proofs.walks.Moves.{Here, put_udp, FoundUdp, record_of, udp_record_of, UdpPlain, IsUdpSettled, begun_udp_bind, Used, IsOfHandle}
-use Rattle.wasi_walks.proofs.licence.State.{Names, UdpUnchecked, UdpBindIsFine, UdpProgressIsFine, OpenIsFine, LineNames, OfTcp, OfUdp}
+use Rattle.wasi_walks.specs.Licence.{IsBoundSide, IsSendOf, IsStreamOf, IsUdpBindTo, IsUdpConnectTo, UdpCreated, WasDisconnected}
+use Rattle.wasi_walks.proofs.walks.Moves.{Own, ToStream, part_of, KeepsOp, begun_udp_connect, sending_now, receiving_now, sending_in, receiving_in, Here, put_udp, FoundUdp, record_of, udp_record_of, UdpPlain, IsUdpSettled, begun_udp_bind, Used, IsOfHandle}
+use Rattle.wasi_walks.proofs.licence.State.{Names, UdpUnchecked, UdpBindIsFine, UdpProgressIsFine, OpenIsFine, LineNames, OfTcp, OfUdp, IfOp, MakesStreams, ConnectWhole, UdpConnectIsFine, IsFor, SendLeft, SendRefused, SendUnbound, SendUnchecked, SendIsFine, ReceiveIsFine}
 use Rattle.wasi_walks.proofs.licence.Frames.{same_record}
 use Rattle.wasi_walks.proofs.licence.UdpFrames.{same_udp}
-use Rattle.wasi_walks.proofs.licence.Line.{names_record, names_udp, pair_first, pair_second, NamesMade, NamesTcpHere, NamesUdpHere, Licensed, put_udp_fine, spent, elsewhere}
+use Rattle.wasi_walks.proofs.licence.Line.{names_record, names_udp, pair_first, pair_second, NamesMade, NamesTcpHere, NamesUdpHere, Licensed, put_udp_fine, owned, spent, elsewhere}
+use Rattle.wasi_addr.specs.declared.code.ErrorCode.TheVariants.{DatagramTooLarge, InvalidArgument, InvalidState}
+use Rattle.wasi_udp.specs.declared.send.Destination.{Destination}
+use Rattle.wasi_host.specs.declared.datagrams.Incoming.{Incoming as IncomingStream}
+use Rattle.wasi_host.specs.declared.datagrams.Outgoing.{Outgoing as OutgoingStream}
+use Rattle.std.specs.Prelude.{Bool, true, false, ◌&&◌, if◌then◌else◌, nat_lt, length, Result, Ok, Err, None, ⊤, ◌+◌}
+use Rattle.wasi_addr.specs.declared.address.SocketAddressFamily.{SocketAddressFamily}
+use Rattle.wasi_addr.specs.Address.{same_address}
+use Rattle.wasi_addr.specs.declared.code.ErrorCode.{ErrorCode}
+use Rattle.wasi_world.specs.declared.ids.Ids.{Ids}
+use Rattle.wasi_world.specs.declared.ids.OpId.{OpId}
+use Rattle.wasi_world.specs.declared.datagram.OutgoingDatagram.{OutgoingDatagram}
+use Rattle.wasi_world.specs.Operation.{Operation}
+use Rattle.wasi_udp.specs.Send.{is_sendable, where_to, send_to, send_left, send_first, send_start}
+use Rattle.wasi_udp.specs.Receive.{IsLeftOfReceive, receive_left, receive_first, receive_start}
+use Rattle.wasi_udp.specs.Shape.{Socket}
+use Rattle.wasi_host.specs.Standing.{standing_as}
+use Rattle.wasi_host.specs.declared.store.StandingCall.{StandingCall}
 use Rattle.wasi_host.specs.Records.{tcp2_at, tcp2_of, udp2_at, udp2_of}
 use Rattle.wasi_host.specs.Udp.{udp_side, with_udp_progress}
 use Rattle.wasi_host.specs.declared.records.Record.{Record}
@@ -22,6 +39,28 @@ one_kind _ r u e f = absurd (cc)
 
 pub not_both : (records : List Record) (place : ℕ) (r : Tcp2Socket) (u : Udp2Socket) → tcp2_at records place ≡ Some r → udp2_at records place ≡ Some u → ⊥
 not_both records place r u e f = one_kind (slice_get records place) r u e f
+
+-- a datagram that may go goes to where it is for
+abbrev GoesFor : OutgoingDatagram → Result Destination ErrorCode → Type 0
+GoesFor d (Err c) = ⊤
+GoesFor d (Ok to) = IsFor d to.kept to.addr
+
+by_sendable : (d : OutgoingDatagram) (b : Bool) (to : Destination) → IsFor d to.kept to.addr → GoesFor d (if b then Ok to else Err InvalidArgument)
+by_sendable d true to k = k
+by_sendable d false to k = tt
+
+for_where : (d : OutgoingDatagram) (family : SocketAddressFamily) (remote given : Option IpSocketAddress) → d.remote_address ≡ given → GoesFor d (where_to family remote given)
+for_where d family None None e = tt
+for_where d family (Some r) None e = inr (e, refl)
+for_where d family None (Some a) e = by_sendable d (is_sendable family a) (record { addr = a; kept = false }) (inl e)
+for_where d family (Some r) (Some a) e = by_sendable d (is_sendable family a && same_address a r) (record { addr = a; kept = true }) (inl e)
+
+goes_for : (d : OutgoingDatagram) (socket : Socket) → GoesFor d (send_to socket d.bytes d.remote_address)
+goes_for d socket = by_size (nat_lt 65535 (length d.bytes))
+  where
+    by_size : (b : Bool) → GoesFor d (if b then Err DatagramTooLarge else where_to socket.family socket.remote d.remote_address)
+    by_size true = tt
+    by_size false = for_where d socket.family socket.remote d.remote_address refl
 
 abbrev SameAt : ℕ → ℕ → ℕ → ℕ → Type 0
 SameAt place line k n = let x : Option (ℕ × ℕ) = Some (place, line) in let y : Option (ℕ × ℕ) = Some (k, n) in x ≡ y
@@ -54,7 +93,7 @@ module _ (contexts : List WasiSocketsCtx) (steps : List Step) (line : ℕ) (orig
 
   -- the pending call is made again
   pub resumes : (es : List Entry) (h : Here) (s : Standing) → h.machine.store.standing ≡ Some s → IsOfHandle s.call → Licensed steps line origin es h → Licensed steps line origin es (record h { at = Some (call_place s.call, s.ids.line) })
-  resumes es h s e o i = by_record (i.fine.standing s e o)
+  resumes es h s e o i = by_record ((i.fine.standing s e).0 o)
     where
       by_record : LineNames steps es h.machine.store.records s.ids.line (call_place s.call) → Licensed steps line origin es (record h { at = Some (call_place s.call, s.ids.line) })
       by_record (OfTcp found at names) = elsewhere es h _ refl refl refl i i.fine
@@ -76,11 +115,18 @@ module _ (contexts : List WasiSocketsCtx) (steps : List Step) (line : ℕ) (orig
   progress_kept es old UdpInProgress.Nothing (inr k) f = tt
   progress_kept es old UdpInProgress.Bound (inr k) f = tt
 
+  op_kept : (P : Operation → Type 0) (old now : Option Operation) → KeepsOp old now → IfOp P old → IfOp P now
+  op_kept P old now (inl e) f = subst (IfOp P) (sym e) f
+  op_kept P old now (inr e) f = subst (IfOp P) (sym e) tt
+
   plain_open : (es : List Entry) (o now : OpenUdp) → UdpPlain o now → OpenIsFine steps es o → OpenIsFine steps es now
   plain_open es o now p f = record {
     made = rw (p.side, p.maker, p.family) f.made;
     bound = λ b. rw p.side (f.bound (p.bound b));
     progress = progress_kept es o.in_progress now.in_progress p.binds f.progress;
+    connecting = subst (IfOp (UdpConnectIsFine steps es)) (sym p.connects) f.connecting;
+    sending = op_kept (SendIsFine steps es) (sending_in o.outgoing) (sending_in now.outgoing) p.sends f.sending;
+    receiving = op_kept (ReceiveIsFine steps es) (receiving_in o.incoming) (receiving_in now.incoming) p.receives f.receiving;
   }
 
   pub udp_changes : (es : List Entry) (h : Here) (place : ℕ) (o now : OpenUdp) → FoundUdp h place (Udp2Socket.Open o) → UdpPlain o now → Licensed steps line origin es h → Licensed steps line origin es (put_udp h place (Udp2Socket.Open now))
@@ -99,4 +145,92 @@ module _ (contexts : List WasiSocketsCtx) (steps : List Step) (line : ℕ) (orig
         left = UdpUnchecked;
       } in
       let now = with_udp_progress o (UdpInProgress.Binding (begun_udp_bind (own_of line) o a)) in
-      spent es _ (put_udp_fine es h place (Udp2Socket.Open o) (Udp2Socket.Open now) g refl (record { made = f.made; bound = f.bound; progress = begun }) i)
+      spent es _ (put_udp_fine es h place (Udp2Socket.Open o) (Udp2Socket.Open now) g refl (record { made = f.made; bound = f.bound; progress = begun; connecting = f.connecting; sending = f.sending; receiving = f.receiving }) i)
+
+  -- == datagram streams
+  same_streams : (a b : ℕ) → MakesStreams steps a b → (n k : ℕ) → ToStream a b ≡ ToStream n k → MakesStreams steps n k
+  same_streams a b m n k e = let p : a ≡ n = cc in let q : b ≡ k = cc in subst (λ (x : ℕ). MakesStreams steps x k) p (subst (MakesStreams steps a) q m)
+
+  -- streams are made by the line of this number, under this handle
+  streams_to : (es : List Entry) (h : Here) (n handle : ℕ) → MakesStreams steps n handle → Licensed steps line origin es h → Licensed steps line origin es (record h { made = ToStream n handle })
+  streams_to es h n handle m i = record {
+    fine = i.fine;
+    names = i.names;
+    udp_names = i.udp_names;
+    listens = i.listens;
+    new = i.new;
+    unmade = λ e c s is. i.unmade (elim e [ inl u ↦ inl u | inr u ↦ absurd u ]) c s is;
+    joined = λ p e. absurd (cc);
+    marked = λ a p e. absurd (cc);
+    streaming = same_streams n handle m;
+  }
+
+  pub remembers_streams : (es : List Entry) (h : Here) (c handle : ℕ) (remote : Option IpSocketAddress) → origin ≡ Step.UdpStream c handle remote → Licensed steps line origin es h → Licensed steps line origin es (record h { made = ToStream line handle })
+  remembers_streams es h c handle remote is i = streams_to es h line handle (record { origin = origin; at = is_line; holds = subst (IsStreamOf handle) (sym is) refl }) i
+
+  pub recalls_streams : (es : List Entry) (h : Here) (ids : Ids) (place handle : ℕ) → h.machine.store.standing ≡ Some (standing_as ids (StandingCall.UdpConnect place handle)) → Licensed steps line origin es h → Licensed steps line origin es (record h { made = ToStream ids.line handle })
+  recalls_streams es h ids place handle e i = streams_to es h ids.line handle (i.fine.standing (standing_as ids (StandingCall.UdpConnect place handle)) e).1 i
+
+  -- an operation of the line names a handle of the network socket
+  pub names_part : (es : List Entry) (n : ℕ) (side : OpId) → Names steps es (own_of line) side → Names steps es (part_of line n) side
+  names_part es n side k = record { origin = k.origin; at = k.at; holds = k.holds }
+
+  pub begins_udp_connect : (es : List Entry) (h : Here) (place : ℕ) (o : OpenUdp) (a : IpSocketAddress) → h.at ≡ Some (place, line) → FoundUdp h place (Udp2Socket.Open o) → IsUdpConnectTo a origin → o.inner.bound ≡ true → Licensed steps line origin es h
+      → Licensed steps line origin es (record (put_udp h place (Udp2Socket.Open (record o { connecting = Some (begun_udp_connect (own_of line) o a) }))) { own = Used })
+  begins_udp_connect es h place o a at g to b i =
+      let f = open_at_place es h place o g i in
+      let begun : UdpConnectIsFine steps es (begun_udp_connect (own_of line) o a) = record {
+        addr = a;
+        to = record { origin = origin; at = is_line; holds = to };
+        udp = f.made.by;
+        family = o.inner.family;
+        made = UdpCreated o.inner.side Told.Done f.made.created;
+        named = i.udp_names place line (Udp2Socket.Open o) at g;
+        out = inl (f.bound b);
+        last = refl;
+        left = ConnectWhole;
+      } in
+      let now = Udp2Socket.Open (record o { connecting = Some (begun_udp_connect (own_of line) o a) }) in
+      spent es _ (put_udp_fine es h place (Udp2Socket.Open o) now g refl (record { made = f.made; bound = f.bound; progress = f.progress; connecting = begun; sending = f.sending; receiving = f.receiving }) i)
+
+  -- where a datagram goes
+  first_left : (es : List Entry) (op side : OpId) (maker : ℕ) (family : SocketAddressFamily) (d : OutgoingDatagram) (to : Result Destination ErrorCode) (b : Bool) → GoesFor d to → (b ≡ true → IsBoundSide es side ⊎ WasDisconnected es side)
+      → SendLeft es op side maker family d (send_left family d.bytes (send_first to b))
+  first_left es op side maker family d (Err c) b k out = SendRefused c
+  first_left es op side maker family d (Ok to) true k out = SendUnchecked to.kept to.addr k (inl (out refl))
+  first_left es op side maker family d (Ok to) false k out = SendUnbound to.kept to.addr k
+
+  pub begins_send : (es : List Entry) (h : Here) (place n : ℕ) (o : OpenUdp) (out : OutgoingStream) (d : OutgoingDatagram) (bound : Bool) → h.at ≡ Some (place, line) → FoundUdp h place (Udp2Socket.Open o) → IsSendOf n d origin → (bound ≡ true → o.inner.bound ≡ true) → Licensed steps line origin es h
+      → Licensed steps line origin es (record (put_udp h place (Udp2Socket.Open (sending_now o out (send_start (part_of line n) o.inner d.bytes d.remote_address bound)))) { own = Own.Names (n + 1) })
+  begins_send es h place n o out d bound at g is known i =
+      let f = open_at_place es h place o g i in
+      let op = send_start (part_of line n) o.inner d.bytes d.remote_address bound in
+      let begun : SendIsFine steps es op = record {
+        datagram = d;
+        item = record { origin = origin; at = is_line; holds = is };
+        udp = f.made.by;
+        family = o.inner.family;
+        made = UdpCreated o.inner.side Told.Done f.made.created;
+        named = names_part es n o.inner.side (i.udp_names place line (Udp2Socket.Open o) at g);
+        last = refl;
+        left = first_left es (part_of line n) o.inner.side o.inner.maker o.inner.family d (send_to o.inner d.bytes d.remote_address) bound (goes_for d o.inner) (λ b. f.bound (known b));
+      } in
+      owned es _ (Own.Names (n + 1)) (λ e. absurd (cc)) (put_udp_fine es h place (Udp2Socket.Open o) (Udp2Socket.Open (sending_now o out op)) g refl (record { made = f.made; bound = f.bound; progress = f.progress; connecting = f.connecting; sending = begun; receiving = f.receiving }) i)
+
+  received_first : (b : Bool) → IsLeftOfReceive (receive_left None (receive_first b))
+  received_first true = IsLeftOfReceive.Unreceived None
+  received_first false = IsLeftOfReceive.ToRefuse InvalidState
+
+  pub begins_receive : (es : List Entry) (h : Here) (place n : ℕ) (o : OpenUdp) (inc : IncomingStream) (bound : Bool) → h.at ≡ Some (place, line) → FoundUdp h place (Udp2Socket.Open o) → Licensed steps line origin es h
+      → Licensed steps line origin es (record (put_udp h place (Udp2Socket.Open (receiving_now o inc (receive_start (part_of line n) o.inner bound)))) { own = Own.Names (n + 1) })
+  begins_receive es h place n o inc bound at g i =
+      let f = open_at_place es h place o g i in
+      let op = receive_start (part_of line n) o.inner bound in
+      let begun : ReceiveIsFine steps es op = record {
+        family = o.inner.family;
+        made = UdpCreated o.inner.side Told.Done f.made.created;
+        named = names_part es n o.inner.side (i.udp_names place line (Udp2Socket.Open o) at g);
+        last = refl;
+        left = received_first bound;
+      } in
+      owned es _ (Own.Names (n + 1)) (λ e. absurd (cc)) (put_udp_fine es h place (Udp2Socket.Open o) (Udp2Socket.Open (receiving_now o inc op)) g refl (record { made = f.made; bound = f.bound; progress = f.progress; connecting = f.connecting; sending = f.sending; receiving = begun }) i)

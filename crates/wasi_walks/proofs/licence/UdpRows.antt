@@ -35,7 +35,7 @@ marked = entry (own_of 2) (Call.Made 2 kind.Udp2 None (Some (own_of 2))) Told.Do
 abbrev begins : List Entry
 begins = network ++ (create ∷ entry (own_of 2) (Call.UdpWritable (own_of 2)) Told.Done ∷ marked ∷ entry (own_of 3) (Call.Local (own_of 2)) (Told.Addr (wildcard SocketAddressFamily.Ipv4)) ∷ [])
 
-abbrev udp_log : List Entry
+abbrev pub udp_log : List Entry
 udp_log = begins ++ (entry (own_of 3) (Call.Check 0 local_80 SocketAddrUse.UdpBind) Told.Yes ∷ entry (own_of 3) (Call.UdpBind (own_of 2) local_80) Told.Done ∷ [])
 
 abbrev udp_end : Machine

@@ -5,15 +5,18 @@ use Rattle.wasi_walks.proofs.Words.{Streams, Tcp2, Tcp2Socket, TcpState, Told, W
 use Rattle.wasi_walks.proofs.Words.{allows_weaker, ap, bind, bind_progress, connect_ended, create_asks, entry, false, give_up_asks, if◌then◌else◌}
 use Rattle.wasi_walks.proofs.Words.{make_asks, own_of, poll_asks, told_done, refl, side_at, side_of, subst, sym, told_addr, true}
 use Rattle.wasi_walks.proofs.Words.{turn_asks, with_inner, with_listening, with_progress, with_state, with_writer, ℕ, ◌++◌, ◌∷◌, ◌≡◌}
-use Rattle.wasi_walks.proofs.walks.Moves.{Here, put, put_udp, Found, FoundUdp, CreatesUdp, udp_begun, NoStart, closed_record, Past, Joined, made_so, listen_after, accepting_now, Held, BindsOn, Connects, Listens, Awaits, IsQuestionOf, IsOn, Move, Marks, Creates, Used, Unused}
+use Rattle.wasi_walks.proofs.walks.Moves.{Here, put, put_udp, Found, FoundUdp, CreatesUdp, udp_begun, ToStream, part_of, IsUdpQuestionOf, NoStart, closed_record, Past, Joined, made_so, listen_after, accepting_now, Held, BindsOn, Connects, Listens, Awaits, IsQuestionOf, IsOn, Move, Marks, Creates, Used, Unused}
 use Rattle.wasi_walks.proofs.Lists.{set_there, set_set, set_same}
-use Rattle.wasi_host.specs.Records.{tcp2_at}
-use Rattle.wasi_host.specs.declared.kind.Kind.TheVariants.{Udp2}
+use Rattle.std.specs.Prelude.{◌⊎◌}
+use Rattle.wasi_host.specs.Kinds.{kind_at, udp_of}
+use Rattle.wasi_host.specs.Records.{tcp2_at, udp2_at}
+use Rattle.wasi_host.specs.UdpCreates.{udp_side_at}
+use Rattle.wasi_host.specs.declared.kind.Kind.TheVariants.{Udp2, Incoming, Outgoing}
 use Rattle.wasi_host.specs.declared.udp.OpenUdp.{OpenUdp}
 use Rattle.wasi_host.specs.declared.udp.Udp2Socket.{Udp2Socket}
 use Rattle.wasi_host.specs.Udp.{udp_side, with_udp_inner}
 use Rattle.wasi_udp.specs.Create.{after_create as udp_after_create}
-use Rattle.wasi_udp.specs.Socket.{after_local as udp_after_local}
+use Rattle.wasi_udp.specs.Socket.{after_local as udp_after_local, after_peer}
 use Rattle.wasi_host.specs.declared.records.Record.{Record}
 
 pub record Law (contexts : List WasiSocketsCtx) (line : ℕ) (origin : Step) : Type 1 where
@@ -40,16 +43,20 @@ pub record Law (contexts : List WasiSocketsCtx) (line : ℕ) (origin : Step) : T
   pub turns : (es : List Entry) (h : Here) (place : ℕ) (r : Tcp2Socket) (s : Streams) → Found h place r → r.streams ≡ Some s → Inv es h → Allows P (λ fs done. Inv fs (put h place (with_writer r s done.1))) es (turn_asks s.writer)
   pub gives_up : (es : List Entry) (h : Here) (place : ℕ) (r : Tcp2Socket) → NoStart h → Found h place r → Inv es h → Allows P (λ fs done. Inv fs (put h place (with_listening r Not))) es (give_up_asks r.listening)
   -- UDP sockets
-  pub udp_asks : (es : List Entry) (h : Here) (place n : ℕ) (o : OpenUdp) (c : Call) → h.at ≡ Some (place, n) → FoundUdp h place (Udp2Socket.Open o) → IsQuestionOf line origin n o.inner.side c → Inv es h
+  pub udp_asks : (es : List Entry) (h : Here) (place n : ℕ) (o : OpenUdp) (c : Call) → h.at ≡ Some (place, n) → FoundUdp h place (Udp2Socket.Open o) → IsUdpQuestionOf line origin n o.inner.side c → Inv es h
       → P es (own_of n) c × ((told : Told) → Fits c told → Inv (es ++ entry (own_of n) c told ∷ []) h)
-  pub udp_learns : (es : List Entry) (h : Here) (place : ℕ) (o : OpenUdp) → h.at ≡ Some (place, line) → FoundUdp h place (Udp2Socket.Open o) → Inv es h
-      → P es (own_of line) (Call.Local o.inner.side) × ((told : Told) → Fits (Call.Local o.inner.side) told → Inv (es ++ entry (own_of line) (Call.Local o.inner.side) told ∷ []) (put_udp h place (Udp2Socket.Open (with_udp_inner o (udp_after_local o.inner (told_addr told)).1))))
+  pub udp_learns : (es : List Entry) (h : Here) (place part : ℕ) (o : OpenUdp) → h.at ≡ Some (place, line) → FoundUdp h place (Udp2Socket.Open o) → Inv es h
+      → P es (part_of line part) (Call.Local o.inner.side) × ((told : Told) → Fits (Call.Local o.inner.side) told → Inv (es ++ entry (part_of line part) (Call.Local o.inner.side) told ∷ []) (put_udp h place (Udp2Socket.Open (with_udp_inner o (udp_after_local o.inner (told_addr told)).1))))
+  pub udp_peers : (es : List Entry) (h : Here) (place : ℕ) (o : OpenUdp) → h.at ≡ Some (place, line) → FoundUdp h place (Udp2Socket.Open o) → Inv es h
+      → P es (own_of line) (Call.Peer o.inner.side) × ((told : Told) → Fits (Call.Peer o.inner.side) told → Inv (es ++ entry (own_of line) (Call.Peer o.inner.side) told ∷ []) (put_udp h place (Udp2Socket.Open (with_udp_inner o (after_peer o.inner (told_addr told))))))
   pub udp_closes : (es : List Entry) (h : Here) (place : ℕ) (o : OpenUdp) → NoStart h → FoundUdp h place (Udp2Socket.Open o) → Inv es h
       → P es (own_of line) (Call.Close o.inner.side) × ((told : Told) → Fits (Call.Close o.inner.side) told → Inv (es ++ entry (own_of line) (Call.Close o.inner.side) told ∷ []) (put_udp h place (Udp2Socket.Closed o.inner.side)))
   pub udp_creates : (es : List Entry) (h : Here) (ctx : WasiSocketsCtx) (family : SocketAddressFamily) → CreatesUdp contexts ctx family origin → ctx.udp ≡ true → h.at ≡ None → h.own ≡ Unused → h.made ≡ Past → Inv es h
       → P es (own_of line) (Call.UdpCreate ctx.name family) × ((told : Told) → Fits (Call.UdpCreate ctx.name family) told → Inv (es ++ entry (own_of line) (Call.UdpCreate ctx.name family) told ∷ []) (udp_begun h (udp_after_create (own_of line) ctx.name family (told_done told))))
   pub udp_marks : (es : List Entry) (h : Here) (place : ℕ) (u : Udp2Socket) → FoundUdp h place u → Inv es h
       → Allows P (λ fs made. Inv fs (record h { machine = record h.machine { table = made.1 } })) es (make_asks h.machine.table (udp_side u) (Udp2 place) None (Some (udp_side u)))
+  pub stream_marks : (es : List Entry) (h : Here) (place n handle : ℕ) (kind : Kind) → h.made ≡ ToStream n handle → (kind ≡ Incoming place) ⊎ (kind ≡ Outgoing place) → udp_of (kind_at h.machine.table handle) ≡ Some place → Inv es h
+      → Allows P (λ fs made. Inv fs (record h { machine = record h.machine { table = made.1 } })) es (make_asks h.machine.table (own_of n) kind (Some handle) (udp_side_at (udp2_at h.machine.store.records place)))
 
 -- A place that has a record.
 pub record HasRecord (h : Here) (place : ℕ) : Type 0 where

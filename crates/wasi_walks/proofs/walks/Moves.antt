@@ -13,7 +13,21 @@ use Rattle.wasi_walks.proofs.Words.{with_progress, with_reader, with_socket, wit
 use Rattle.wasi_walks.proofs.Words.{◌≡◌, ◌⊎◌}
 use Rattle.wasi_world.specs.declared.ids.Ids.{Ids}
 use Rattle.wasi_host.specs.Records.{tcp2_at, tcp2_put, tcp2_pushed, udp2_at}
-use Rattle.wasi_host.specs.declared.kind.Kind.TheVariants.{Udp2}
+use Rattle.std.specs.Prelude.{◌+◌}
+use Rattle.wasi_world.specs.declared.datagram.IncomingDatagram.{IncomingDatagram}
+use Rattle.wasi_world.specs.declared.datagram.OutgoingDatagram.{OutgoingDatagram}
+use Rattle.wasi_world.specs.Operation.{Given, Waits, Done, Refused}
+use Rattle.wasi_host.specs.Binding.{left_of}
+use Rattle.wasi_host.specs.Datagrams.{sends, udp_connect_left, with_sending}
+use Rattle.wasi_host.specs.Receiving.{receive_left, with_receiving}
+use Rattle.wasi_host.specs.declared.datagrams.Incoming.{Incoming as IncomingStream}
+use Rattle.wasi_host.specs.declared.datagrams.Outgoing.{Outgoing as OutgoingStream}
+use Rattle.wasi_host.specs.declared.datagrams.Receiving.{Receiving}
+use Rattle.wasi_host.specs.declared.datagrams.Sending.{Sending}
+use Rattle.wasi_host.specs.declared.kind.Kind.TheVariants.{Udp2, Incoming, Outgoing}
+use Rattle.wasi_udp.specs.Connect.{connect_start}
+use Rattle.wasi_udp.specs.Receive.{receive_start, wanting}
+use Rattle.wasi_udp.specs.Send.{at_remote, send_start}
 use Rattle.wasi_host.specs.declared.udp.OpenUdp.{OpenUdp}
 use Rattle.wasi_host.specs.declared.udp.Udp2Socket.{Udp2Socket}
 use Rattle.wasi_host.specs.declared.udp.UdpInProgress.{UdpInProgress}
@@ -26,20 +40,24 @@ use Rattle.wasi_udp.specs.Socket.{asker_of}
 use Rattle.wasi_udp.specs.declared.bind.UdpBindStage.{UdpBindStage}
 use Rattle.wasi_host.specs.declared.records.Record.{Record}
 use Rattle.wasi_host.specs.declared.jobs.HostJob.{HostJob}
-use Rattle.wasi_walks.specs.Licence.{IsGetOf, IsSetTo, IsUdpBindTo}
+use Rattle.wasi_walks.specs.Licence.{IsGetOf, IsSetTo, IsSendOf, IsUdpBindTo, IsUdpConnectTo}
 use Rattle.wasi_walks.specs.Waiting.{StartsTold}
 use Rattle.wasi_tcp.specs.declared.bind.BindStage.TheVariants.{Check}
 use Rattle.wasi_tcp.specs.declared.writer.WriteError.{WriteError}
 use Rattle.wasi_tcp.specs.declared.accept.AcceptStage.TheVariants as accept
 
--- what the line's own operation has begun: something, or nothing yet; these bytes it is let write to this network socket
+-- what the line's operations have begun: something, or nothing yet; its own none, and of the others those of a part below this one;
+-- these bytes it is let write to this network socket
 pub data Own : Type 0 where
   Used : Own
   Unused : Own
+  Names : ℕ → Own
   ToWrite : OpId → List ℕ → Own
 
--- what an accept has made so far: nothing, the record of what it took, or its handle too; else nothing is said of it
+-- what an accept has made so far: nothing, the record of what it took, or its handle too; the line whose call makes datagram
+-- streams, and the handle that they are made under; else nothing is said of it
 pub data Made : Type 0 where
+  ToStream : ℕ → ℕ → Made
   Past : Made
   Unmade : Made
   Joined : ℕ → Made
@@ -65,9 +83,10 @@ put_udp h place u = record h { machine = record h.machine { store = with_udp h.m
 abbrev pub FoundUdp : Here → ℕ → Udp2Socket → Type 0
 FoundUdp h place u = udp2_at h.machine.store.records place ≡ Some u
 
--- no bind, listen or create is pending
+-- no bind, listen, create or connect is pending
 abbrev pub NoStartIn : StandingCall → Type 0
 NoStartIn (StandingCall.DropOutput place) = ⊤
+NoStartIn (StandingCall.DropOutgoing place) = ⊤
 NoStartIn _ = ⊥
 
 abbrev pub NoStartStands : Option Standing → Type 0
@@ -121,6 +140,14 @@ IsQuestionOf line origin n side (Call.WriteReady s) = s ≡ side
 IsQuestionOf line origin n side (Call.Shutdown s how) = s ≡ side
 IsQuestionOf line origin n side _ = ⊥
 
+-- the same of a UDP socket, which may be disconnected too
+abbrev pub IsUdpQuestionOf : ℕ → Step → ℕ → OpId → Call → Type 0
+IsUdpQuestionOf line origin n side (Call.Local s) = s ≡ side
+IsUdpQuestionOf line origin n side (Call.GetOption s option) = (s ≡ side) × (n ≡ line) × IsGetOf option origin
+IsUdpQuestionOf line origin n side (Call.SetOption s option value) = (s ≡ side) × (n ≡ line) × IsSetTo option value origin
+IsUdpQuestionOf line origin n side (Call.UdpDisconnect s) = s ≡ side
+IsUdpQuestionOf line origin n side _ = ⊥
+
 -- the network socket is the socket's, or that of one of its halves
 pub data IsOn (r : Tcp2Socket) (side : OpId) : Type 0 where
   OfSocket : side_of r.inner ≡ Some side → IsOn r side
@@ -160,7 +187,16 @@ pub data WriterMoves : WriteState → WriteState → Type 0 where
 -- the TCP socket that is watched
 abbrev pub tcp_place : Watched → Option ℕ
 tcp_place (Watched.Udp place) = None
+tcp_place (Watched.Incoming place) = None
+tcp_place (Watched.Outgoing place) = None
 tcp_place w = Some (place_in w)
+
+-- the UDP socket that is watched
+abbrev pub udp_place : Watched → Option ℕ
+udp_place (Watched.Udp place) = Some place
+udp_place (Watched.Incoming place) = Some place
+udp_place (Watched.Outgoing place) = Some place
+udp_place w = None
 
 -- the TCP socket that a handle is of
 abbrev pub record_of : Option Kind → Option ℕ
@@ -170,10 +206,12 @@ record_of (Some (Output place)) = Some place
 record_of (Some (Pollable w)) = tcp_place w
 record_of _ = None
 
--- the record that the handle of a UDP socket is of, or of a pollable of one
+-- the UDP socket that a handle is of
 abbrev pub udp_record_of : Option Kind → Option ℕ
 udp_record_of (Some (Udp2 place)) = Some place
-udp_record_of (Some (Pollable (Watched.Udp place))) = Some place
+udp_record_of (Some (Incoming place)) = Some place
+udp_record_of (Some (Outgoing place)) = Some place
+udp_record_of (Some (Pollable w)) = udp_place w
 udp_record_of _ = None
 
 -- the line may make an error of the stream of this handle
@@ -200,7 +238,7 @@ pub data Marks (origin : Step) (h : Here) : Kind → Option ℕ → Option OpId 
   AStream : (c handle place : ℕ) (kind : Kind) → origin ≡ Step.TcpFinishConnect c handle → (kind ≡ Input place) ⊎ (kind ≡ Output place) → record_of (kind_at h.machine.table handle) ≡ Some place → Marks origin h kind (Some handle) (side_at (tcp2_at h.machine.store.records place))
   AnAcceptedStream : (c listener handle place : ℕ) (kind : Kind) (r : Tcp2Socket) → origin ≡ Step.TcpAccept c listener → (kind ≡ Input place) ⊎ (kind ≡ Output place) → h.made ≡ Marked handle place → h.own ≡ Used → Found h place r → Marks origin h kind (Some handle) (side_at (tcp2_at h.machine.store.records place))
   APollable : (c handle : ℕ) (w : Watched) → origin ≡ Step.Subscribe c handle → tcp_place w ≡ Some (place_in w) → record_of (kind_at h.machine.table handle) ≡ Some (place_in w) → Marks origin h (Pollable w) (Some handle) (side_at (tcp2_at h.machine.store.records (place_in w)))
-  AUdpPollable : (c handle place : ℕ) → origin ≡ Step.Subscribe c handle → udp_record_of (kind_at h.machine.table handle) ≡ Some place → Marks origin h (Pollable (Watched.Udp place)) (Some handle) (udp_side_at (udp2_at h.machine.store.records place))
+  AUdpPollable : (c handle : ℕ) (w : Watched) → origin ≡ Step.Subscribe c handle → udp_place w ≡ Some (place_in w) → udp_record_of (kind_at h.machine.table handle) ≡ Some (place_in w) → Marks origin h (Pollable w) (Some handle) (udp_side_at (udp2_at h.machine.store.records (place_in w)))
   AnError : (handle place : ℕ) → MarksError handle origin → record_of (kind_at h.machine.table handle) ≡ Some place → Marks origin h ErrorValue (Some handle) (side_at (tcp2_at h.machine.store.records place))
 
 -- == records of a bind
@@ -257,8 +295,43 @@ abbrev pub IsUdpSettled : UdpInProgress → Type 0
 IsUdpSettled (UdpInProgress.Binding op) = ⊥
 IsUdpSettled _ = ⊤
 
--- The network socket, its creator, its family and its remote address are as they were, and so is a bind in progress. It is known
--- to be bound only where it was.
+-- the datagram that isn't sent yet, and the receive in progress
+abbrev pub send_op : Sending → Option Operation
+send_op (Sending.InProgress op) = Some op
+send_op _ = None
+
+abbrev pub receive_op : Receiving → Option Operation
+receive_op (Receiving.InProgress op) = Some op
+receive_op _ = None
+
+abbrev pub sending_in : Option OutgoingStream → Option Operation
+sending_in None = None
+sending_in (Some out) = send_op out.sending
+
+abbrev pub receiving_in : Option IncomingStream → Option Operation
+receiving_in None = None
+receiving_in (Some inc) = receive_op inc.receiving
+
+-- it is in progress as it was, or not any more
+abbrev pub KeepsOp : Option Operation → Option Operation → Type 0
+KeepsOp old now = (now ≡ old) ⊎ (now ≡ None)
+
+-- the datagram that has come
+abbrev pub came_of : Receiving → Option IncomingDatagram
+came_of (Receiving.Came d) = Some d
+came_of _ = None
+
+-- and that of a stream
+abbrev pub came_in : Option IncomingStream → Option IncomingDatagram
+came_in None = None
+came_in (Some inc) = came_of inc.receiving
+
+-- what has come is as it was, or was taken
+abbrev pub KeepsCame : Option IncomingDatagram → Option IncomingDatagram → Type 0
+KeepsCame old now = (now ≡ old) ⊎ (now ≡ None)
+
+-- The network socket, its creator, its family and its remote address are as they were. A bind in progress is as it was, and a
+-- connect, a send, a receive and what has come are, or are over. It is known to be bound only where it was.
 pub record UdpPlain (old now : OpenUdp) : Type 0 where
   pub side : now.inner.side ≡ old.inner.side
   pub maker : now.inner.maker ≡ old.inner.maker
@@ -266,6 +339,20 @@ pub record UdpPlain (old now : OpenUdp) : Type 0 where
   pub remote : now.inner.remote ≡ old.inner.remote
   pub bound : now.inner.bound ≡ true → old.inner.bound ≡ true
   pub binds : (now.in_progress ≡ old.in_progress) ⊎ (IsUdpSettled old.in_progress × IsUdpSettled now.in_progress)
+  pub connects : now.connecting ≡ old.connecting
+  pub sends : KeepsOp (sending_in old.outgoing) (sending_in now.outgoing)
+  pub receives : KeepsOp (receiving_in old.incoming) (receiving_in now.incoming)
+  pub came : KeepsCame (came_in old.incoming) (came_in now.incoming)
+
+-- what a poll of a datagram leaves: pending, the datagram; else it is over
+pub record SettlesSend (op : Operation) (left : End × List Item → Sending) : Type 0 where
+  pub waits : (items : List Item) → left (Waits, items) ≡ Sending.InProgress (left_of op items)
+  pub done : (given : Given) (items : List Item) → send_op (left (Done given, items)) ≡ None
+  pub refused : (c : ErrorCode) (given : Given) (items : List Item) → send_op (left (Refused c given, items)) ≡ None
+
+-- the name of a part of a line
+abbrev pub part_of : ℕ → ℕ → OpId
+part_of line part = record { step = line; part = part }
 
 -- a create was begun, or refused
 abbrev pub udp_begun : Here → Result Create ErrorCode → Here
@@ -274,6 +361,17 @@ udp_begun h (Err c) = record h { own = Used }
 
 abbrev pub begun_udp_bind : OpId → OpenUdp → IpSocketAddress → Operation
 begun_udp_bind own o a = udp_bind_operation (asker_of own o.inner) a UdpBindStage.Check
+
+-- a connect of a socket that is bound
+abbrev pub begun_udp_connect : OpId → OpenUdp → IpSocketAddress → Operation
+begun_udp_connect own o a = connect_start own o.inner a true
+
+-- a datagram, and a receive, of a socket that is bound or not
+abbrev pub sending_now : OpenUdp → OutgoingStream → Operation → OpenUdp
+sending_now o out op = record o { outgoing = Some (with_sending out (Sending.InProgress op)) }
+
+abbrev pub receiving_now : OpenUdp → IncomingStream → Operation → OpenUdp
+receiving_now o inc op = record o { incoming = Some (with_receiving inc (Receiving.InProgress op)) }
 
 -- == moves of a line, where nothing is asked
 pub data Move (line : ℕ) (origin : Step) : Here → Here → Type 0 where
@@ -318,6 +416,20 @@ pub data Move (line : ℕ) (origin : Step) : Here → Here → Type 0 where
       → Move line origin h (record (put_udp h place (Udp2Socket.Open (with_udp_progress o (UdpInProgress.Binding (begun_udp_bind (own_of line) o a))))) { own = Used })
   StandsUdpBind : (h : Here) (ids : Ids) (place : ℕ) (o : OpenUdp) (op : Operation) → h.at ≡ Some (place, ids.line) → FoundUdp h place (Udp2Socket.Open o) → o.in_progress ≡ UdpInProgress.Binding op → Move line origin h (record h { machine = record h.machine { store = record h.machine.store { standing = Some (standing_as ids (StandingCall.UdpBind place)) } } })
   StandsUdpCreate : (h : Here) (ids : Ids) (place : ℕ) (create : Create) → FoundUdp h place (Udp2Socket.Creating create) → Move line origin h (record h { machine = record h.machine { store = record h.machine.store { standing = Some (standing_as ids (StandingCall.UdpCreate place)) } } })
+  -- the datagram streams of a UDP socket: what they are made under, and the connect that comes before
+  RemembersStreams : (h : Here) (c handle : ℕ) (remote : Option IpSocketAddress) → origin ≡ Step.UdpStream c handle remote → Move line origin h (record h { made = ToStream line handle })
+  RecallsStreams : (h : Here) (ids : Ids) (place handle : ℕ) → h.machine.store.standing ≡ Some (standing_as ids (StandingCall.UdpConnect place handle)) → Move line origin h (record h { made = ToStream ids.line handle })
+  BeginsUdpConnect : (h : Here) (place : ℕ) (o : OpenUdp) (a : IpSocketAddress) → h.at ≡ Some (place, line) → FoundUdp h place (Udp2Socket.Open o) → IsUdpConnectTo a origin → o.inner.bound ≡ true → h.own ≡ Unused
+      → Move line origin h (record (put_udp h place (Udp2Socket.Open (record o { connecting = Some (begun_udp_connect (own_of line) o a) }))) { own = Used })
+  StandsUdpConnect : (h : Here) (ids : Ids) (place handle : ℕ) (o : OpenUdp) (op : Operation) → h.at ≡ Some (place, ids.line) → h.made ≡ ToStream ids.line handle → FoundUdp h place (Udp2Socket.Open o) → o.connecting ≡ Some op → Move line origin h (record h { machine = record h.machine { store = record h.machine.store { standing = Some (standing_as ids (StandingCall.UdpConnect place handle)) } } })
+  StandsDropOutgoing : (h : Here) (ids : Ids) (place : ℕ) (o : OpenUdp) → h.at ≡ Some (place, ids.line) → FoundUdp h place (Udp2Socket.Open o) → sends o.outgoing ≡ true → Move line origin h (record h { machine = record h.machine { store = record h.machine.store { standing = Some (standing_as ids (StandingCall.DropOutgoing place)) } } })
+  -- datagrams: each has the next name of the line
+  Counts : (h : Here) → h.own ≡ Unused → Move line origin h (record h { own = Names 1 })
+  SpendsNames : (h : Here) (n : ℕ) → h.own ≡ Names n → Move line origin h (record h { own = Used })
+  BeginsSend : (h : Here) (place n : ℕ) (o : OpenUdp) (out : OutgoingStream) (d : OutgoingDatagram) (bound : Bool) → h.at ≡ Some (place, line) → FoundUdp h place (Udp2Socket.Open o) → o.outgoing ≡ Some out → IsSendOf n d origin → (bound ≡ true → o.inner.bound ≡ true) → h.own ≡ Names n
+      → Move line origin h (record (put_udp h place (Udp2Socket.Open (sending_now o out (send_start (part_of line n) o.inner d.bytes d.remote_address bound)))) { own = Names (n + 1) })
+  BeginsReceive : (h : Here) (place n : ℕ) (o : OpenUdp) (inc : IncomingStream) (bound : Bool) → h.at ≡ Some (place, line) → FoundUdp h place (Udp2Socket.Open o) → o.incoming ≡ Some inc → h.own ≡ Names n
+      → Move line origin h (record (put_udp h place (Udp2Socket.Open (receiving_now o inc (receive_start (part_of line n) o.inner bound)))) { own = Names (n + 1) })
   -- the rest
   Lists : (h : Here) (jobs : List HostJob) → Move line origin h (record h { machine = record h.machine { store = record h.machine.store { jobs = jobs } } })
   Takes : (h : Here) (handle : ℕ) → Move line origin h (record h { machine = record h.machine { table = without_handle h.machine.table handle } })
@@ -330,3 +442,6 @@ pub data Held (h : Here) : Operation → (End × List Item → Here) → Type 0 
   Awaits : (place : ℕ) (r : Tcp2Socket) (l : Listener) (op : Operation) → Found h place r → r.listening ≡ Accepts l → l.accept ≡ Accepting.Asking op → Held h op (λ ended. put h place (accepting_now r l (accept_ended op.who ended)))
   UdpCreates : (place : ℕ) (create : Create) → NoStart h → FoundUdp h place (Udp2Socket.Creating create) → Held h create.operation (λ ended. put_udp h place (udp_create_left create ended))
   UdpBindsOn : (place : ℕ) (o : OpenUdp) (op : Operation) → NoStart h → FoundUdp h place (Udp2Socket.Open o) → o.in_progress ≡ UdpInProgress.Binding op → Held h op (λ ended. put_udp h place (Udp2Socket.Open (with_udp_progress o (udp_bind_progress op ended))))
+  UdpConnectsOn : (place : ℕ) (o : OpenUdp) (op : Operation) → NoStart h → FoundUdp h place (Udp2Socket.Open o) → o.connecting ≡ Some op → Held h op (λ ended. put_udp h place (Udp2Socket.Open (udp_connect_left op o ended)))
+  SendsOn : (place : ℕ) (o : OpenUdp) (out : OutgoingStream) (op : Operation) (left : End × List Item → Sending) → FoundUdp h place (Udp2Socket.Open o) → o.outgoing ≡ Some out → out.sending ≡ Sending.InProgress op → SettlesSend op left → Held h (at_remote o.inner.remote op) (λ ended. put_udp h place (Udp2Socket.Open (record o { outgoing = Some (with_sending out (left ended)) })))
+  ReceivesOn : (place : ℕ) (o : OpenUdp) (inc : IncomingStream) (op : Operation) → FoundUdp h place (Udp2Socket.Open o) → o.incoming ≡ Some inc → inc.receiving ≡ Receiving.InProgress op → Held h (wanting inc.remote op) (λ ended. put_udp h place (Udp2Socket.Open (record o { incoming = Some (with_receiving inc (receive_left op ended)) })))

@@ -3,15 +3,18 @@ use Rattle.wasi_walks.proofs.Words.{Allows, Ask, AskWrite, Asks, Call, End, Entr
 use Rattle.wasi_walks.proofs.Words.{Operation, Option, SocketAddressFamily, Some, Step, Streams, Tcp2, Tcp2Socket, TcpState, Told, WasiSocketsCtx, []}
 use Rattle.wasi_walks.proofs.Words.{after_local, create_asks, entry, give_up_asks, make_asks, own_of, poll_asks, side_at, side_of}
 use Rattle.wasi_walks.proofs.Words.{told_addr, told_done, true, turn_asks, with_inner, with_listening, with_writer, ℕ, ◌++◌, ◌∷◌, ◌≡◌}
-use Rattle.wasi_walks.proofs.walks.Moves.{Here, put, put_udp, Found, FoundUdp, CreatesUdp, udp_begun, NoStart, closed_record, Past, Joined, made_so, Held, IsQuestionOf, IsOn, Move, Marks, Creates, Used, Unused}
+use Rattle.wasi_walks.proofs.walks.Moves.{Here, put, put_udp, Found, FoundUdp, CreatesUdp, udp_begun, ToStream, part_of, NoStart, closed_record, Past, Joined, made_so, Held, IsQuestionOf, IsUdpQuestionOf, IsOn, Move, Marks, Creates, Used, Unused}
 use Rattle.wasi_walks.proofs.walks.Law.{Law}
-use Rattle.wasi_host.specs.Records.{tcp2_at}
-use Rattle.wasi_host.specs.declared.kind.Kind.TheVariants.{Udp2}
+use Rattle.std.specs.Prelude.{◌⊎◌}
+use Rattle.wasi_host.specs.Kinds.{kind_at, udp_of}
+use Rattle.wasi_host.specs.Records.{tcp2_at, udp2_at}
+use Rattle.wasi_host.specs.UdpCreates.{udp_side_at}
+use Rattle.wasi_host.specs.declared.kind.Kind.TheVariants.{Udp2, Incoming, Outgoing}
 use Rattle.wasi_host.specs.declared.udp.OpenUdp.{OpenUdp}
 use Rattle.wasi_host.specs.declared.udp.Udp2Socket.{Udp2Socket}
 use Rattle.wasi_host.specs.Udp.{udp_side, with_udp_inner}
 use Rattle.wasi_udp.specs.Create.{after_create as udp_after_create}
-use Rattle.wasi_udp.specs.Socket.{after_local as udp_after_local}
+use Rattle.wasi_udp.specs.Socket.{after_local as udp_after_local, after_peer}
 
 -- what two say of a tree
 pub both : {A : Type 0} (P S : List Entry → OpId → Call → Type 0) (Q R : List Entry → A → Type 0) (es : List Entry) (asks : Asks A) → Allows P Q es asks → Allows S R es asks → Allows P (λ fs a. R fs a × Q fs a) es asks
@@ -41,16 +44,20 @@ pub record Above (contexts : List WasiSocketsCtx) (line : ℕ) (origin : Step) (
   pub turns : (es : List Entry) (h : Here) (place : ℕ) (r : Tcp2Socket) (s : Streams) → Found h place r → r.streams ≡ Some s → B es h → Inv es h → Allows P (λ fs done. Inv fs (put h place (with_writer r s done.1))) es (turn_asks s.writer)
   pub gives_up : (es : List Entry) (h : Here) (place : ℕ) (r : Tcp2Socket) → NoStart h → Found h place r → B es h → Inv es h → Allows P (λ fs done. Inv fs (put h place (with_listening r Not))) es (give_up_asks r.listening)
   -- UDP sockets
-  pub udp_asks : (es : List Entry) (h : Here) (place n : ℕ) (o : OpenUdp) (c : Call) → h.at ≡ Some (place, n) → FoundUdp h place (Udp2Socket.Open o) → IsQuestionOf line origin n o.inner.side c → B es h → Inv es h
+  pub udp_asks : (es : List Entry) (h : Here) (place n : ℕ) (o : OpenUdp) (c : Call) → h.at ≡ Some (place, n) → FoundUdp h place (Udp2Socket.Open o) → IsUdpQuestionOf line origin n o.inner.side c → B es h → Inv es h
       → P es (own_of n) c × ((told : Told) → Fits c told → Inv (es ++ entry (own_of n) c told ∷ []) h)
-  pub udp_learns : (es : List Entry) (h : Here) (place : ℕ) (o : OpenUdp) → h.at ≡ Some (place, line) → FoundUdp h place (Udp2Socket.Open o) → B es h → Inv es h
-      → P es (own_of line) (Call.Local o.inner.side) × ((told : Told) → Fits (Call.Local o.inner.side) told → Inv (es ++ entry (own_of line) (Call.Local o.inner.side) told ∷ []) (put_udp h place (Udp2Socket.Open (with_udp_inner o (udp_after_local o.inner (told_addr told)).1))))
+  pub udp_peers : (es : List Entry) (h : Here) (place : ℕ) (o : OpenUdp) → h.at ≡ Some (place, line) → FoundUdp h place (Udp2Socket.Open o) → B es h → Inv es h
+      → P es (own_of line) (Call.Peer o.inner.side) × ((told : Told) → Fits (Call.Peer o.inner.side) told → Inv (es ++ entry (own_of line) (Call.Peer o.inner.side) told ∷ []) (put_udp h place (Udp2Socket.Open (with_udp_inner o (after_peer o.inner (told_addr told))))))
+  pub udp_learns : (es : List Entry) (h : Here) (place part : ℕ) (o : OpenUdp) → h.at ≡ Some (place, line) → FoundUdp h place (Udp2Socket.Open o) → B es h → Inv es h
+      → P es (part_of line part) (Call.Local o.inner.side) × ((told : Told) → Fits (Call.Local o.inner.side) told → Inv (es ++ entry (part_of line part) (Call.Local o.inner.side) told ∷ []) (put_udp h place (Udp2Socket.Open (with_udp_inner o (udp_after_local o.inner (told_addr told)).1))))
   pub udp_closes : (es : List Entry) (h : Here) (place : ℕ) (o : OpenUdp) → NoStart h → FoundUdp h place (Udp2Socket.Open o) → B es h → Inv es h
       → P es (own_of line) (Call.Close o.inner.side) × ((told : Told) → Fits (Call.Close o.inner.side) told → Inv (es ++ entry (own_of line) (Call.Close o.inner.side) told ∷ []) (put_udp h place (Udp2Socket.Closed o.inner.side)))
   pub udp_creates : (es : List Entry) (h : Here) (ctx : WasiSocketsCtx) (family : SocketAddressFamily) → CreatesUdp contexts ctx family origin → ctx.udp ≡ true → h.at ≡ None → h.own ≡ Unused → h.made ≡ Past → B es h → Inv es h
       → P es (own_of line) (Call.UdpCreate ctx.name family) × ((told : Told) → Fits (Call.UdpCreate ctx.name family) told → Inv (es ++ entry (own_of line) (Call.UdpCreate ctx.name family) told ∷ []) (udp_begun h (udp_after_create (own_of line) ctx.name family (told_done told))))
   pub udp_marks : (es : List Entry) (h : Here) (place : ℕ) (u : Udp2Socket) → FoundUdp h place u → B es h → Inv es h
       → Allows P (λ fs made. Inv fs (record h { machine = record h.machine { table = made.1 } })) es (make_asks h.machine.table (udp_side u) (Udp2 place) None (Some (udp_side u)))
+  pub stream_marks : (es : List Entry) (h : Here) (place n handle : ℕ) (kind : Kind) → h.made ≡ ToStream n handle → (kind ≡ Incoming place) ⊎ (kind ≡ Outgoing place) → udp_of (kind_at h.machine.table handle) ≡ Some place → B es h → Inv es h
+      → Allows P (λ fs made. Inv fs (record h { machine = record h.machine { table = made.1 } })) es (make_asks h.machine.table (own_of n) kind (Some handle) (udp_side_at (udp2_at h.machine.store.records place)))
 
 -- the two as one law
 unfoldable pub stand : {contexts : List WasiSocketsCtx} {line : ℕ} {origin : Step} (base : Law contexts line origin) → Above contexts line origin base.Inv → Law contexts line origin
@@ -69,8 +76,10 @@ stand base a = record {
   turns = λ es h place r s g e i. both a.P base.P _ _ es _ (a.turns es h place r s g e i.0 i.1) (base.turns es h place r s g e i.0);
   gives_up = λ es h place r q g i. both a.P base.P _ _ es _ (a.gives_up es h place r q g i.0 i.1) (base.gives_up es h place r q g i.0);
   udp_asks = λ es h place n o c at g q i. let x = base.udp_asks es h place n o c at g q i.0 in let y = a.udp_asks es h place n o c at g q i.0 i.1 in (y.0, λ told f. (x.1 told f, y.1 told f));
-  udp_learns = λ es h place o at g i. let x = base.udp_learns es h place o at g i.0 in let y = a.udp_learns es h place o at g i.0 i.1 in (y.0, λ told f. (x.1 told f, y.1 told f));
+  udp_learns = λ es h place part o at g i. let x = base.udp_learns es h place part o at g i.0 in let y = a.udp_learns es h place part o at g i.0 i.1 in (y.0, λ told f. (x.1 told f, y.1 told f));
+  udp_peers = λ es h place o at g i. let x = base.udp_peers es h place o at g i.0 in let y = a.udp_peers es h place o at g i.0 i.1 in (y.0, λ told f. (x.1 told f, y.1 told f));
   udp_closes = λ es h place o q g i. let x = base.udp_closes es h place o q g i.0 in let y = a.udp_closes es h place o q g i.0 i.1 in (y.0, λ told f. (x.1 told f, y.1 told f));
   udp_creates = λ es h ctx family c may t o m i. let x = base.udp_creates es h ctx family c may t o m i.0 in let y = a.udp_creates es h ctx family c may t o m i.0 i.1 in (y.0, λ told f. (x.1 told f, y.1 told f));
+  stream_marks = λ es h place n handle kind m k e i. both a.P base.P _ _ es _ (a.stream_marks es h place n handle kind m k e i.0 i.1) (base.stream_marks es h place n handle kind m k e i.0);
   udp_marks = λ es h place u g i. both a.P base.P _ _ es _ (a.udp_marks es h place u g i.0 i.1) (base.udp_marks es h place u g i.0);
 }

@@ -6,9 +6,9 @@ use Rattle.wasi_walks.proofs.Words.{ask_made, bind, call_of, eqb-true, false, if
 use Rattle.wasi_walks.proofs.Words.{name_of, output_of, place_of, refl, sym, table_parent, true}
 use Rattle.wasi_walks.proofs.Words.{watch_of, watched_by, with_handle, with_records, ℕ, ⊤, ◌==◌, ◌∙◌, ◌≡◌}
 use Rattle.wasi_world.specs.declared.ids.Ids.{Ids}
-use Rattle.wasi_walks.proofs.walks.Moves.{Own, Used, Here, put, Found, record_of, udp_record_of, tcp_place, Made, Past, Unmade, Joined}
-use Rattle.wasi_host.specs.declared.kind.Kind.TheVariants.{Udp2}
-use Rattle.wasi_host.specs.Kinds.{udp_of}
+use Rattle.wasi_walks.proofs.walks.Moves.{Own, Used, Here, put, Found, record_of, udp_record_of, tcp_place, udp_place, Made, Past, Unmade, Joined}
+use Rattle.wasi_host.specs.declared.kind.Kind.TheVariants.{Udp2, Incoming, Outgoing}
+use Rattle.wasi_host.specs.Kinds.{udp_of, incoming_of, outgoing_of}
 use Rattle.wasi_walks.proofs.Lists.{value_front, tcp2_seam}
 use Rattle.wasi_walks.proofs.walks.Law.{HasRecord, Given, given_then}
 use Rattle.wasi_host.specs.Records.{tcp2_at, tcp2_put}
@@ -92,6 +92,8 @@ watched_record (Some (Tcp2 n)) w e = let p : Watched.Socket n ≡ w = cc in ap t
 watched_record (Some (Udp2 n)) w e = let p : Watched.Udp n ≡ w = cc in ap tcp_place p
 watched_record (Some (Input n)) w e = let p : Watched.Input n ≡ w = cc in ap tcp_place p
 watched_record (Some (Output n)) w e = let p : Watched.Output n ≡ w = cc in ap tcp_place p
+watched_record (Some (Incoming n)) w e = let p : Watched.Incoming n ≡ w = cc in ap tcp_place p
+watched_record (Some (Outgoing n)) w e = let p : Watched.Outgoing n ≡ w = cc in ap tcp_place p
 watched_record _ w e = absurd (cc)
 
 pub watch_record : (k : Option Kind) (w : Watched) → watch_of k ≡ Some w → record_of k ≡ tcp_place w
@@ -103,9 +105,26 @@ pub udp_record : (k : Option Kind) (place : ℕ) → udp_of k ≡ Some place →
 udp_record (Some (Udp2 n)) place e = e
 udp_record _ place e = absurd (cc)
 
-pub watched_udp : (k : Option Kind) (place : ℕ) → watched_by k ≡ Some (Watched.Udp place) → udp_record_of k ≡ Some place
-watched_udp (Some (Udp2 n)) place e = let p : Watched.Udp n ≡ Watched.Udp place = cc in cc
-watched_udp _ place e = absurd (cc)
+pub incoming_record : (k : Option Kind) (place : ℕ) → incoming_of k ≡ Some place → udp_record_of k ≡ Some place
+incoming_record (Some (Incoming n)) place e = e
+incoming_record _ place e = absurd (cc)
+
+pub outgoing_record : (k : Option Kind) (place : ℕ) → outgoing_of k ≡ Some place → udp_record_of k ≡ Some place
+outgoing_record (Some (Outgoing n)) place e = e
+outgoing_record _ place e = absurd (cc)
+
+pub watched_udp : (k : Option Kind) (w : Watched) → watched_by k ≡ Some w → udp_record_of k ≡ udp_place w
+watched_udp (Some (Tcp2 n)) w e = let p : Watched.Socket n ≡ w = cc in ap udp_place p
+watched_udp (Some (Udp2 n)) w e = let p : Watched.Udp n ≡ w = cc in ap udp_place p
+watched_udp (Some (Input n)) w e = let p : Watched.Input n ≡ w = cc in ap udp_place p
+watched_udp (Some (Output n)) w e = let p : Watched.Output n ≡ w = cc in ap udp_place p
+watched_udp (Some (Incoming n)) w e = let p : Watched.Incoming n ≡ w = cc in ap udp_place p
+watched_udp (Some (Outgoing n)) w e = let p : Watched.Outgoing n ≡ w = cc in ap udp_place p
+watched_udp _ w e = absurd (cc)
+
+pub watch_udp : (k : Option Kind) (w : Watched) → watch_of k ≡ Some w → udp_record_of k ≡ udp_place w
+watch_udp (Some (Pollable x)) w e = let p : x ≡ w = cc in ap udp_place p
+watch_udp _ w e = absurd (cc)
 
 pub given_any : {A : Type 0} (R : A → Type 0) → ((a : A) → R a) → (asks : Asks A) → Given R asks
 given_any R k (Give a) = k a

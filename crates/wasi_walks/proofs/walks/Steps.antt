@@ -11,21 +11,35 @@ use Rattle.wasi_world.specs.declared.call.Opt.{Opt}
 use Rattle.wasi_common.specs.Options.{value_set}
 use Rattle.wasi_steps.specs.Settings.{AnOption}
 use Rattle.wasi_walks.specs.Licence.{IsSetTo, SetsOption, SetsBacklog}
+use Rattle.std.specs.Prelude.{⊤}
 use Rattle.wasi_walks.proofs.walks.Writes.{may}
-use Rattle.wasi_walks.proofs.walks.Moves.{NoStartStands, IsOfHandle, IsSettled, Own, Unused, ANetwork, Spends, Used, Leaves, Resumes, Unstands}
+use Rattle.wasi_walks.proofs.walks.Moves.{NoStartStands, IsSettled, Own, Unused, ANetwork, Spends, Used, Leaves, RecallsStreams, Resumes, Unstands}
 use Rattle.wasi_walks.proofs.walks.Law.{Law, Walks, give, and_then, and_given, by_if, move, gives, mark, create, put_same, from}
 use Rattle.wasi_walks.proofs.walks.Sockets.{WaitsSo, get_walks, listen_given, poll_bind_walks, poll_listen_walks, polled_given}
-use Rattle.wasi_walks.proofs.walks.Streams.{read_walks, check_walks, subscribe_walks, writer_walks, drop_walks, turn_walks, ready_walks, reader_walks, write_on_walks, stream_walks, drop_output_walks}
+use Rattle.wasi_walks.proofs.walks.Streams.{read_walks, check_walks, subscribe_walks, writer_walks, drop_walks, turn_walks, ready_walks, reader_walks, write_on_walks, stream_walks as stream_call_walks, drop_output_walks}
 use Rattle.wasi_walks.proofs.walks.States.{At, Over, OverWith, udp_record, Put, Starts, input_record, output_record, socket_record, stands_so, there}
 use Rattle.wasi_walks.proofs.walks.SocketSteps.{finish_started_walks, local_at_walks, shutdown_at_walks, start_connect_walks, start_bind_walks, looked_walks, set_chosen_walks, remote_at_walks, on_socket, finish_on_walks, as_left, answered_walks}
 use Rattle.wasi_walks.proofs.walks.ListenSteps.{accept_on_walks, start_listen_at_walks}
 use Rattle.wasi_host.specs.Records.{tcp2_at, open_at}
 use Rattle.wasi_host.specs.declared.pending.Outcome.{Outcome}
-use Rattle.wasi_host.specs.Machine.{udp_socket_at}
-use Rattle.wasi_host.specs.Pending.{gone_on, created_on}
+use Rattle.wasi_host.specs.Machine.{udp_socket_at, outgoing_at}
+use Rattle.wasi_host.specs.Pending.{gone_on, created_on, streams_on}
 use Rattle.wasi_host.specs.Standing.{allowed_answer, standing_as}
 use Rattle.wasi_steps.specs.Settings.{udp_opt, udp_chosen}
+use Rattle.wasi_walks.proofs.walks.Datagrams.{Streaming, stream_walks, streams_again}
+use Rattle.wasi_walks.proofs.walks.Receives.{receive_walks}
+use Rattle.wasi_walks.proofs.walks.Sends.{check_send_walks, drop_outgoing_walks, send_walks}
 use Rattle.wasi_walks.proofs.walks.Udp.{on_udp, udp_local_at_walks, udp_get_at_walks, udp_set_at_walks, start_udp_bind_walks, finish_udp_bind_walks, rebind_udp_walks, create_on_walks, create_udp_walks}
+
+-- it makes no handle
+abbrev MakesNoHandle : StandingCall → Type 0
+MakesNoHandle (StandingCall.UdpCreate place) = ⊥
+MakesNoHandle (StandingCall.UdpConnect place handle) = ⊥
+MakesNoHandle _ = ⊤
+
+-- what a drop leaves is the machine's store
+dropped_so : (m : Machine) (done : Answer (Unit {0}) × Records) → (gone_on (with_store m (allowed_answer done))).1 ≡ record m { store = done.1 }
+dropped_so m (answer, store) = refl
 
 module _ {contexts : List WasiSocketsCtx} {line : ℕ} {origin : Step} {law : Law contexts line origin} where
   -- == a pending call continues
@@ -51,13 +65,22 @@ module _ {contexts : List WasiSocketsCtx} {line : ℕ} {origin : Step} {law : La
     created_on_walks (Ok answer, m) = give _
     created_on_walks (Err why, m) = give _
 
-    -- a call that was made of a handle works on the record of its place
-    go_on_walks : (call : StandingCall) → IsOfHandle call → Walks law (At ids.line m (call_place call) Used) OverWith (go_on m ids call)
+    -- a call that makes no handle works on the record of its place
+    go_on_walks : (call : StandingCall) → MakesNoHandle call → Walks law (At ids.line m (call_place call) Used) OverWith (go_on m ids call)
     go_on_walks (StandingCall.Bind place) k = and_then (rebind_walks place (tcp2_at m.store.records place) refl) (gone_on_walks place)
     go_on_walks (StandingCall.Listen place) k = and_then (relisten_walks place (tcp2_at m.store.records place) refl) (gone_on_walks place)
     go_on_walks (StandingCall.DropOutput place) k = and_then (drop_output_walks ids place m (tcp2_at m.store.records place) refl) (λ done. gone_on_walks place (allowed_answer done))
     go_on_walks (StandingCall.UdpBind place) k = and_then (rebind_udp_walks ids m quiet place (open_at m.store.records place) refl) (gone_on_walks place)
+    go_on_walks (StandingCall.DropOutgoing place) k = drop_outgoing_walks ids m place (λ done. gone_on (with_store m (allowed_answer done))) (dropped_so m)
     go_on_walks (StandingCall.UdpCreate place) k = absurd k
+    go_on_walks (StandingCall.UdpConnect place handle) k = absurd k
+
+    streamed_walks : (done : Result (Answer (ℕ × ℕ)) Stop × Machine) → Walks law (Over done.1) OverWith (Give (streams_on done))
+    streamed_walks (Ok answer, m) = give _
+    streamed_walks (Err why, m) = give _
+
+    streams_go_on : (place handle : ℕ) → Walks law (Streaming ids.line m place handle Used) OverWith (go_on m ids (StandingCall.UdpConnect place handle))
+    streams_go_on place handle = and_then (streams_again ids m place handle quiet) streamed_walks
 
     create_goes_on : (place : ℕ) → Walks law (Over m) OverWith (go_on m ids (StandingCall.UdpCreate place))
     create_goes_on place = and_then (create_on_walks ids m quiet place) created_on_walks
@@ -69,6 +92,8 @@ module _ {contexts : List WasiSocketsCtx} {line : ℕ} {origin : Step} {law : La
   -- the call is taken out, and continues
   taken_walks : (m : Machine) (ids : Ids) (call : StandingCall) → m.store.standing ≡ Some (standing_as ids call) → Walks law (Starts m Unused) OverWith (go_on (record m { store = unstood m.store }) ids call)
   taken_walks m ids (StandingCall.UdpCreate place) e = move (Unstands _) (move (Spends _ refl) (create_goes_on ids (record m { store = unstood m.store }) tt place))
+  taken_walks m ids (StandingCall.UdpConnect place handle) e = move (Resumes _ (standing_as ids (StandingCall.UdpConnect place handle)) e tt) (move (RecallsStreams _ ids place handle e) (move (Unstands _) (move (Spends _ refl) (streams_go_on ids (record m { store = unstood m.store }) tt place handle))))
+  taken_walks m ids (StandingCall.DropOutgoing place) e = move (Resumes _ (standing_as ids (StandingCall.DropOutgoing place)) e tt) (move (Unstands _) (move (Spends _ refl) (go_on_walks ids (record m { store = unstood m.store }) tt (StandingCall.DropOutgoing place) tt)))
   taken_walks m ids (StandingCall.Bind place) e = move (Resumes _ (standing_as ids (StandingCall.Bind place)) e tt) (move (Unstands _) (move (Spends _ refl) (go_on_walks ids (record m { store = unstood m.store }) tt (StandingCall.Bind place) tt)))
   taken_walks m ids (StandingCall.Listen place) e = move (Resumes _ (standing_as ids (StandingCall.Listen place)) e tt) (move (Unstands _) (move (Spends _ refl) (go_on_walks ids (record m { store = unstood m.store }) tt (StandingCall.Listen place) tt)))
   taken_walks m ids (StandingCall.DropOutput place) e = move (Resumes _ (standing_as ids (StandingCall.DropOutput place)) e tt) (move (Unstands _) (move (Spends _ refl) (go_on_walks ids (record m { store = unstood m.store }) tt (StandingCall.DropOutput place) tt)))
@@ -123,10 +148,14 @@ step_walks line (Step.UdpRemoteAddress c s) m f = gives _ (Spends _ refl)
 step_walks line (Step.UdpAddressFamily c s) m f = gives _ (Spends _ refl)
 step_walks line (Step.UdpGet c s option) m f = and_then (on_udp m s (udp_socket_at m s) (inl refl) (udp_record (kind_at m.table s)) (λ place. udp_get_at_walks m place (udp_opt option) refl (open_at m.store.records place) refl)) (λ done. give _)
 step_walks line (Step.UdpSet c s setting) m f = and_then (on_udp m s (udp_socket_at m s) (inl refl) (udp_record (kind_at m.table s)) (λ place. udp_set_at_walks m place (udp_chosen setting).0 (udp_chosen setting).1 (refl, refl) (open_at m.store.records place) refl)) (λ done. give _)
-step_walks line (Step.Read c input len) m f = and_then (stream_walks m input (reader_asks (λ r. read_state_asks (own_of line) r len)) (input_at m input) (inl refl) refl (input_record (kind_at m.table input)) (λ place r here. reader_walks here r (λ w. read_state_asks (own_of line) w len) r.streams refl (λ s w. read_walks here refl r s w len))) (λ done. give _)
-step_walks line (Step.CheckWrite c output) m f = and_then (stream_walks m output (writer_asks (check_write_asks (own_of line))) (output_at m output) (inl refl) refl (output_record (kind_at m.table output)) (λ place r here. writer_walks here r (check_write_asks (own_of line)) r.streams refl (check_walks here refl r))) (λ done. give _)
+step_walks line (Step.UdpStream c s remote) m f = and_then (stream_walks m c s remote (udp_socket_at m s) refl refl (inl refl) (none_stands (f refl))) (λ done. give _)
+step_walks line (Step.UdpReceive c incoming most) m f = and_then (receive_walks m incoming most (inl refl)) (λ done. give _)
+step_walks line (Step.UdpCheckSend c outgoing) m f = as_left (check_send_walks m (outgoing_at m outgoing))
+step_walks line (Step.UdpSend c outgoing ds) m f = and_then (send_walks m c outgoing ds refl (inl refl)) (λ done. give _)
+step_walks line (Step.Read c input len) m f = and_then (stream_call_walks m input (reader_asks (λ r. read_state_asks (own_of line) r len)) (input_at m input) (inl refl) refl (input_record (kind_at m.table input)) (λ place r here. reader_walks here r (λ w. read_state_asks (own_of line) w len) r.streams refl (λ s w. read_walks here refl r s w len))) (λ done. give _)
+step_walks line (Step.CheckWrite c output) m f = and_then (stream_call_walks m output (writer_asks (check_write_asks (own_of line))) (output_at m output) (inl refl) refl (output_record (kind_at m.table output)) (λ place r here. writer_walks here r (check_write_asks (own_of line)) r.streams refl (check_walks here refl r))) (λ done. give _)
 step_walks line (Step.Write c output bytes) m f = and_then (write_on_walks m output bytes (output_at m output) (inl refl) refl (output_record (kind_at m.table output))) (λ done. give _)
-step_walks line (Step.Flush c output) m f = and_then (stream_walks m output (writer_asks flush_asks) (output_at m output) (inl refl) refl (output_record (kind_at m.table output)) (λ place r here. writer_walks here r flush_asks r.streams refl (λ s w. give _))) (λ done. give _)
+step_walks line (Step.Flush c output) m f = and_then (stream_call_walks m output (writer_asks flush_asks) (output_at m output) (inl refl) refl (output_record (kind_at m.table output)) (λ place r here. writer_walks here r flush_asks r.streams refl (λ s w. give _))) (λ done. give _)
 step_walks line (Step.Subscribe c s) m f = and_then (subscribe_walks c s m (watched_by (kind_at m.table s)) refl refl) (λ done. give _)
 step_walks line (Step.Ready c p) m f = and_then (ready_walks m p (watch_of (kind_at m.table p)) refl (inl refl)) (λ done. give _)
 step_walks line (Step.Drop c this) m f = and_then (drop_walks m this (kind_at m.table this) (inl refl) refl (none_stands (f refl))) (λ done. give _)

@@ -15,10 +15,11 @@ use Rattle.wasi_walks.proofs.Words.{writer_shutdown_asks, writer_side, writing_s
 use Rattle.wasi_world.specs.declared.ids.Ids.{Ids}
 use Rattle.wasi_addr.specs.declared.address.ShutdownType.TheVariants.{Receive, Send, Both}
 use Rattle.wasi_tcp.specs.Job.{finish_in as finish_job}
-use Rattle.wasi_host.specs.Records.{tcp2_at, udp2_at}
+use Rattle.wasi_host.specs.Records.{tcp2_at, udp2_at, open_at}
 use Rattle.wasi_host.specs.declared.records.Record.{Record}
 use Rattle.wasi_host.specs.declared.jobs.HostJob.{HostJob}
-use Rattle.wasi_host.specs.declared.jobs.HostJob.TheVariants.{Write}
+use Rattle.wasi_host.specs.declared.jobs.HostJob.TheVariants.{Write, Datagram}
+use Rattle.wasi_host.specs.declared.jobs.HostJob.TheVariants as jobs
 use Rattle.wasi_host.specs.Shutdowns.{with_streams}
 use Rattle.wasi_walks.proofs.walks.Writes.{may_begin, may_of, may_in, may_at, may}
 use Rattle.wasi_walks.proofs.walks.Moves.{Own, Used, Unused, ToWrite, Here, put, OfReader, OfWriter, Collects, Permits, Lasts, LastsAfter, Closes, Spends, ClosesReader, Writes, BeginsWrite, NoStart, NoStartStands, record_of, MarksError, AnError, Reaches, Leaves, IsGone, Lists, Takes, Past, Stands, APollable, AUdpPollable, ReachesUdp, udp_record_of, tcp_place}
@@ -28,9 +29,12 @@ use Rattle.wasi_host.specs.Readiness.{ready_listening, ready_idle, ready_socket_
 use Rattle.wasi_host.specs.Jobs.{with_job, begins_job, turned, turn_at, turn_job, turn_jobs}
 use Rattle.wasi_host.specs.StreamCalls.{converted, stream_on, write_on}
 use Rattle.wasi_walks.proofs.walks.Sockets.{listener_walks, finish_walks}
-use Rattle.wasi_walks.proofs.walks.States.{watched_record, OverWith, At, Starts, watch_record, streams_are, Put, there, Sets, watched_udp}
+use Rattle.wasi_walks.proofs.walks.States.{watched_record, OverWith, At, Starts, watch_record, streams_are, Put, there, Sets, watched_udp, watch_udp}
 use Rattle.wasi_walks.proofs.walks.Udp.{release_udp_walks}
-use Rattle.wasi_host.specs.declared.kind.Kind.TheVariants.{Udp2}
+use Rattle.wasi_host.specs.declared.kind.Kind.TheVariants.{Udp2, Incoming, Outgoing}
+use Rattle.wasi_host.specs.Machine.{answered}
+use Rattle.wasi_walks.proofs.walks.Receives.{drop_incoming_walks, ready_incoming_walks, turn_receive_walks}
+use Rattle.wasi_walks.proofs.walks.Sends.{drop_outgoing_walks, turn_datagram_walks}
 use Rattle.wasi_streams.specs.StreamStop as stop
 
 -- what a call on the record's socket, its reader or its writer leaves
@@ -190,7 +194,7 @@ module _ {contexts : List WasiSocketsCtx} {line : ℕ} {origin : Step} {law : La
   write_record_walks here at bytes r None e free = gives _ (Spends _ free)
   write_record_walks {h} {place} here at bytes r (Some s) e free = from (streams_are h place r s e) (and_then (write_walks here at r s s.writer bytes free) (λ done. give _))
 
-  noted_walks : {T : Type 0} (m : Machine) (place : ℕ) (done : Result T StreamStop × Records) (begins : Bool) → Walks law (Put line m place done) (Put line m place) (Give (done.0, with_job done.1 place begins))
+  noted_walks : {T : Type 0} (m : Machine) (place : ℕ) (done : Result T StreamStop × Records) (begins : Bool) → Walks law (Put line m place done) (Put line m place) (Give (done.0, with_job done.1 (Write place) begins))
   noted_walks m place done true = gives _ (Lists _ _)
   noted_walks m place done false = give _
 
@@ -247,6 +251,12 @@ module _ {contexts : List WasiSocketsCtx} {line : ℕ} {origin : Step} {law : La
   dropped_walks m this (Udp2 place) true named e q =
       let now : Machine = record m { table = without_handle m.table this } in
       move (ReachesUdp _ this place named (ap udp_record_of e)) (move (Takes _ this) (and_then (release_udp_walks now place (udp2_at m.store.records place) refl q) (λ done. gives _ (Leaves _))))
+  dropped_walks m this (Incoming place) true named e q =
+      let now : Machine = record m { table = without_handle m.table this } in
+      move (ReachesUdp _ this place named (ap udp_record_of e)) (move (Takes _ this) (drop_incoming_walks now place (open_at m.store.records place) refl))
+  dropped_walks m this (Outgoing place) true named e q =
+      let now : Machine = record m { table = without_handle m.table this } in
+      move (ReachesUdp _ this place named (ap udp_record_of e)) (move (Takes _ this) (move (Spends _ refl) (drop_outgoing_walks (first_ids line) now place (λ done. answered (with_store now done)) (λ done. refl))))
   dropped_walks m this Network true named e q = move (Takes _ this) (gives _ (Spends _ refl))
   dropped_walks m this (Input place) true named e q = move (Takes _ this) (gives _ (Spends _ refl))
   dropped_walks m this (Output place) true named e q =
@@ -270,6 +280,8 @@ module _ {contexts : List WasiSocketsCtx} {line : ℕ} {origin : Step} {law : La
 
   turn_job_walks : (m : Machine) (records : List Record) (job : HostJob) → Walks law (Sets m records) (Sets m) (turn_job records job)
   turn_job_walks m records (Write place) = turn_at_walks m records place (tcp2_at records place) refl
+  turn_job_walks m records (Datagram place) = turn_datagram_walks m records place (open_at records place) refl
+  turn_job_walks m records (jobs.Receive place) = turn_receive_walks m records place (open_at records place) refl
 
   turn_jobs_walks : (m : Machine) (jobs : List HostJob) (records : List Record) → Walks law (Sets m records) (Sets m) (turn_jobs jobs records)
   turn_jobs_walks m [] records = give _
@@ -281,7 +293,9 @@ module _ {contexts : List WasiSocketsCtx} {line : ℕ} {origin : Step} {law : La
   -- == pollables
   pub subscribe_walks : (c s : ℕ) (m : Machine) (o : Option Watched) → watched_by (kind_at m.table s) ≡ o → origin ≡ Step.Subscribe c s → Walks law (Starts m Unused) OverWith (subscribe_on m (own_of line) s o)
   subscribe_walks c s m None e is = gives _ (Spends _ refl)
-  subscribe_walks c s m (Some (Watched.Udp place)) e is = move (Spends _ refl) (and_then (mark (AUdpPollable c s place is (watched_udp (kind_at m.table s) place e))) (λ made. give _))
+  subscribe_walks c s m (Some (Watched.Udp place)) e is = move (Spends _ refl) (and_then (mark (AUdpPollable c s (Watched.Udp place) is refl (watched_udp (kind_at m.table s) _ e))) (λ made. give _))
+  subscribe_walks c s m (Some (Watched.Incoming place)) e is = move (Spends _ refl) (and_then (mark (AUdpPollable c s (Watched.Incoming place) is refl (watched_udp (kind_at m.table s) _ e))) (λ made. give _))
+  subscribe_walks c s m (Some (Watched.Outgoing place)) e is = move (Spends _ refl) (and_then (mark (AUdpPollable c s (Watched.Outgoing place) is refl (watched_udp (kind_at m.table s) _ e))) (λ made. give _))
   subscribe_walks c s m (Some (Watched.Socket place)) e is = move (Spends _ refl) (and_then (mark (APollable c s (Watched.Socket place) is refl (watched_record (kind_at m.table s) _ e))) (λ made. give _))
   subscribe_walks c s m (Some (Watched.Input place)) e is = move (Spends _ refl) (and_then (mark (APollable c s (Watched.Input place) is refl (watched_record (kind_at m.table s) _ e))) (λ made. give _))
   subscribe_walks c s m (Some (Watched.Output place)) e is = move (Spends _ refl) (and_then (mark (APollable c s (Watched.Output place) is refl (watched_record (kind_at m.table s) _ e))) (λ made. give _))
@@ -311,7 +325,7 @@ module _ {contexts : List WasiSocketsCtx} {line : ℕ} {origin : Step} {law : La
     ready_record_walks (Watched.Socket n) r = ready_socket_walks r (is_connect r.in_progress)
     ready_record_walks (Watched.Input n) r = ready_reader_walks r r.streams refl
     ready_record_walks (Watched.Output n) r = ready_writer_walks r r.streams refl
-    ready_record_walks (Watched.Udp n) r = gives _ (Spends _ free)
+    ready_record_walks _ r = gives _ (Spends _ free)
 
   ready_at_walks : (m : Machine) (place : ℕ) (w : Watched) (o : Option Tcp2Socket) → tcp2_at m.store.records place ≡ o → Walks law (At line m place Unused) (Put line m place) (ready_at m.store (own_of line) (first_ids line) w place o)
   ready_at_walks m place w None g = gives _ (Spends _ refl)
@@ -324,6 +338,8 @@ module _ {contexts : List WasiSocketsCtx} {line : ℕ} {origin : Step} {law : La
   pub ready_walks : (m : Machine) (p : ℕ) (o : Option Watched) → watch_of (kind_at m.table p) ≡ o → Has (handles_of origin) p → Walks law (Starts m Unused) OverWith (ready_on m (first_ids line) o)
   ready_walks m p None e named = gives _ (Spends _ refl)
   ready_walks m p (Some (Watched.Udp place)) e named = gives _ (Spends _ refl)
+  ready_walks m p (Some (Watched.Outgoing place)) e named = gives _ (Spends _ refl)
+  ready_walks m p (Some (Watched.Incoming place)) e named = move (ReachesUdp _ p place named (watch_udp (kind_at m.table p) (Watched.Incoming place) e)) (and_then (ready_incoming_walks m place (open_at m.store.records place) refl) (λ done. gives _ (Leaves _)))
   ready_walks m p (Some (Watched.Socket place)) e named = ready_tcp_walks m p (Watched.Socket place) refl e named
   ready_walks m p (Some (Watched.Input place)) e named = ready_tcp_walks m p (Watched.Input place) refl e named
   ready_walks m p (Some (Watched.Output place)) e named = ready_tcp_walks m p (Watched.Output place) refl e named

@@ -3,7 +3,7 @@ use Rattle.std.specs.Prelude.{◌≡◌, ⊤, ℕ, length, Bool, true, false, if
 use Rattle.wasi_addr.specs.declared.address.IpSocketAddress.{IpSocketAddress}
 use Rattle.wasi_addr.specs.Address.{is_of_family, is_wildcard, ip_of}
 use Rattle.wasi_walks.proofs.Words.{Answer, Asks, ErrorCode, Give, Has, Item, End, Waits, Done, Refused, Machine, Operation, Pending, Ready, Records, SocketAddressFamily, StandingCall, Step, Stop, WasiSocketsCtx}
-use Rattle.wasi_walks.proofs.Words.{ap, bind, ◌∙◌, handles_of, is_network, kind_at, left_of, own_of, poll_asks, refl, sym, with_store, Handles, InvalidArgument, inr}
+use Rattle.wasi_walks.proofs.Words.{ap, bind, ◌∙◌, handles_of, is_network, kind_at, left_of, own_of, poll_asks, refl, sym, with_store, Handles, InvalidArgument, inl, inr}
 use Rattle.wasi_machine.specs.Machine.{first_ids}
 use Rattle.wasi_world.specs.declared.ids.Ids.{Ids}
 use Rattle.wasi_world.specs.declared.call.Opt.{Opt}
@@ -12,9 +12,10 @@ use Rattle.wasi_host.specs.Records.{open_at, open_of, udp2_at}
 use Rattle.wasi_host.specs.declared.udp.OpenUdp.{OpenUdp}
 use Rattle.wasi_host.specs.declared.udp.Udp2Socket.{Udp2Socket}
 use Rattle.wasi_host.specs.declared.udp.UdpInProgress.{UdpInProgress}
+use Rattle.wasi_host.specs.Datagrams.{has_streams}
 use Rattle.wasi_host.specs.Machine.{udp_socket_at}
 use Rattle.wasi_host.specs.Udp.{begin_udp_bind_asks, close_udp_asks, is_udp_bound, is_udp_idle, poll_create_asks, poll_udp_bind_asks, poll_udp_binding, udp_bind_begun, udp_bind_ended, udp_create_ended, udp_local_asks, with_udp_inner, with_udp_progress}
-use Rattle.wasi_host.specs.UdpCalls.{finish_udp_bind_at, finish_udp_bind_by, get_udp_option_at, rebind_udp_at, release_udp_at, set_udp_option_at, start_udp_bind_at, start_udp_bind_by, udp_call_answered, udp_local_at, udp_put_back}
+use Rattle.wasi_host.specs.UdpCalls.{finish_udp_bind_at, finish_udp_bind_by, get_udp_option_at, rebind_udp_at, release_udp_at, set_udp_option_at, start_udp_bind_at, start_udp_bind_by, start_udp_bind_unless, udp_call_answered, udp_local_at, udp_put_back}
 use Rattle.wasi_host.specs.UdpCreates.{create_answered, create_begun, create_on, create_so, create_udp_asks, handle_made, mark_udp, poll_create_at, with_create}
 use Rattle.wasi_p2.specs.Options.{record_asks}
 use Rattle.wasi_p2.specs.Udp.{finish_udp_bind_on, start_udp_bind_asks}
@@ -25,7 +26,7 @@ use Rattle.wasi_udp.specs.Options.{get_option_asks, set_option_asks}
 use Rattle.wasi_udp.specs.Shape.{Socket}
 use Rattle.wasi_udp.specs.Socket.{after_local, asker_of, ask_bound, bound_asks, local_where}
 use Rattle.wasi_walks.specs.Licence.{IsGetOf, IsSetTo, IsUdpBindTo}
-use Rattle.wasi_walks.proofs.walks.Moves.{Here, put_udp, FoundUdp, NoStart, NoStartStands, CreatesUdp, udp_begun, udp_record_of, IsUdpSettled, ReachesUdp, Leaves, Spends, UdpChanges, BeginsUdpBind, StandsUdpBind, StandsUdpCreate, Used, Unused}
+use Rattle.wasi_walks.proofs.walks.Moves.{Here, put_udp, FoundUdp, NoStart, NoStartStands, CreatesUdp, udp_begun, part_of, udp_record_of, IsUdpSettled, ReachesUdp, Leaves, Spends, UdpChanges, BeginsUdpBind, StandsUdpBind, StandsUdpCreate, Used, Unused}
 use Rattle.wasi_walks.proofs.UdpLists.{udp_set_there}
 use Rattle.wasi_walks.proofs.walks.Law.{Law, Walks, Given, given_then, given_on, given_along, give, and_then, and_so, and_given, by_if, move, gives, from}
 use Rattle.wasi_walks.proofs.walks.States.{At, Over, OverWith, Put, Starts, udp_record}
@@ -58,7 +59,7 @@ poll_given o UdpInProgress.Nothing = tt
 poll_given o UdpInProgress.Bound = tt
 
 begun_given : (o : OpenUdp) (begun : Result Operation ErrorCode × Socket) → Given WaitsUdp (udp_bind_begun o begun)
-begun_given o (Ok op, socket) = poll_given (record { inner = socket; in_progress = UdpInProgress.Binding op }) (UdpInProgress.Binding op)
+begun_given o (Ok op, socket) = poll_given (record o { inner = socket; in_progress = UdpInProgress.Binding op }) (UdpInProgress.Binding op)
 begun_given o (Err c, socket) = tt
 
 begin_given : (own : _) (o : OpenUdp) (a : IpSocketAddress) → Given WaitsUdp (begin_udp_bind_asks own o a)
@@ -97,10 +98,10 @@ bound_settles : (doing : UdpInProgress) → is_udp_bound doing ≡ true → IsUd
 bound_settles (UdpInProgress.Binding op) e = absurd (cc)
 bound_settles _ e = tt
 
-udp_there : {h : Here} {place : ℕ} {u : Udp2Socket} → FoundUdp h place u → HasUdp h place
+pub udp_there : {h : Here} {place : ℕ} {u : Udp2Socket} → FoundUdp h place u → HasUdp h place
 udp_there {u} g = record { was = u; at = g }
 
-opened : (line : ℕ) (m : Machine) (place : ℕ) (o : OpenUdp) → open_at m.store.records place ≡ Some o → FoundUdp (At line m place Unused) place (Udp2Socket.Open o)
+pub opened : (line : ℕ) (m : Machine) (place : ℕ) (o : OpenUdp) → open_at m.store.records place ≡ Some o → FoundUdp (At line m place Unused) place (Udp2Socket.Open o)
 opened line m place o e = open_is (udp2_at m.store.records place) o e
 
 -- the record is being created, where the create is pending
@@ -121,13 +122,17 @@ module _ (m : Machine) (place : ℕ) where
 module _ {contexts : List WasiSocketsCtx} {line : ℕ} {origin : Step} {law : Law contexts line origin} where
   -- == on the record of a place
   module _ {h : Here} {place : ℕ} (here : HasUdp h place) (at : h.at ≡ Some (place, line)) where
-    ask_bound_walks : (o : OpenUdp) (bound : Bool) → Walks law (put_udp h place (Udp2Socket.Open o)) (λ b. put_udp h place (Udp2Socket.Open (with_udp_inner o b.1))) (ask_bound (own_of line) o.inner bound)
+    ask_bound_walks : (part : ℕ) (o : OpenUdp) (bound : Bool) → Walks law (put_udp h place (Udp2Socket.Open o)) (λ b. put_udp h place (Udp2Socket.Open (with_udp_inner o b.1))) (ask_bound (part_of line part) o.inner bound)
     unfolding bind
-    ask_bound_walks o true = give _
-    ask_bound_walks o false = learn_udp here o at (λ told. give _)
+    ask_bound_walks part o true = give _
+    ask_bound_walks part o false = learn_udp here o at (λ told. give _)
 
-    bound_walks : (o : OpenUdp) → Walks law (put_udp h place (Udp2Socket.Open o)) (λ b. put_udp h place (Udp2Socket.Open (with_udp_inner o b.1))) (bound_asks (own_of line) o.inner)
-    bound_walks o = ask_bound_walks o o.inner.bound
+    -- whether it is bound is asked by an operation of the line
+    pub part_bound_walks : (part : ℕ) (o : OpenUdp) → Walks law (put_udp h place (Udp2Socket.Open o)) (λ b. put_udp h place (Udp2Socket.Open (with_udp_inner o b.1))) (bound_asks (part_of line part) o.inner)
+    part_bound_walks part o = ask_bound_walks part o o.inner.bound
+
+    pub bound_walks : (o : OpenUdp) → Walks law (put_udp h place (Udp2Socket.Open o)) (λ b. put_udp h place (Udp2Socket.Open (with_udp_inner o b.1))) (bound_asks (own_of line) o.inner)
+    bound_walks o = part_bound_walks 0 o
 
     where_walks : (o : OpenUdp) (bound : Bool) → Walks law (put_udp h place (Udp2Socket.Open o)) (λ done. put_udp h place (Udp2Socket.Open (with_udp_inner o done.1))) (local_where (own_of line) o.inner bound)
     unfolding bind
@@ -213,9 +218,13 @@ module _ {contexts : List WasiSocketsCtx} {line : ℕ} {origin : Step} {law : La
 
   start_by : (m : Machine) (place : ℕ) (a : IpSocketAddress) → IsUdpBindTo a origin → NoStartStands m.store.standing → (o : OpenUdp) → FoundUdp (At line m place Unused) place (Udp2Socket.Open o) → (idle : Bool) → is_udp_idle o.in_progress ≡ idle
       → Walks law (At line m place Unused) (Put line m place) (start_udp_bind_by m.store (first_ids line) place a o idle)
-  start_by m place a to q o g true e =
-      from (udp_put_same (At line m place Unused) place (Udp2Socket.Open o) g)
-      (and_given WaitsUdp (begin_given (own_of line) o a) (begin_udp_walks (udp_there g) refl refl q a to o e) (λ begun w. udp_answered_walks m (first_ids line) place begun (record { was = Udp2Socket.Open o; at = g }) w))
+  start_by m place a to q o g true e = start_unless (has_streams o)
+    where
+      start_unless : (live : Bool) → Walks law (At line m place Unused) (Put line m place) (start_udp_bind_unless m.store (first_ids line) place a o live)
+      start_unless true = gives _ (Spends _ refl)
+      start_unless false =
+          from (udp_put_same (At line m place Unused) place (Udp2Socket.Open o) g)
+          (and_given WaitsUdp (begin_given (own_of line) o a) (begin_udp_walks (udp_there g) refl refl q a to o e) (λ begun w. udp_answered_walks m (first_ids line) place begun (record { was = Udp2Socket.Open o; at = g }) w))
   start_by m place a to q o g false e = gives _ (Spends _ refl)
 
   start_at : (m : Machine) (place : ℕ) (a : IpSocketAddress) → IsUdpBindTo a origin → NoStartStands m.store.standing → (o : Option OpenUdp) → open_at m.store.records place ≡ o → Walks law (At line m place Unused) (Put line m place) (start_udp_bind_at m.store (first_ids line) place a o)
@@ -227,7 +236,7 @@ module _ {contexts : List WasiSocketsCtx} {line : ℕ} {origin : Step} {law : La
       by_if (is_network (kind_at m.table n)) (λ yes. on_udp m s (udp_socket_at m s) named (udp_record (kind_at m.table s)) (λ place. start_at m place a to q (open_at m.store.records place) refl)) (λ other. gives _ (Spends _ refl))
 
   finish_by : (m : Machine) (place : ℕ) (o : OpenUdp) → FoundUdp (Over m) place (Udp2Socket.Open o) → (b : Bool) → is_udp_bound o.in_progress ≡ b → Walks law (Starts m Unused) (λ now. Over now) (Give (with_store m (finish_udp_bind_by m.store place o b)).1)
-  finish_by m place o g true e = move (Spends _ refl) (gives _ (UdpChanges _ place o _ g (record { side = refl; maker = refl; family = refl; remote = refl; bound = λ b. b; binds = inr (bound_settles o.in_progress e, tt) })))
+  finish_by m place o g true e = move (Spends _ refl) (gives _ (UdpChanges _ place o _ g (record { side = refl; maker = refl; family = refl; remote = refl; bound = λ b. b; binds = inr (bound_settles o.in_progress e, tt); connects = refl; sends = inl refl; receives = inl refl; came = inl refl })))
   finish_by m place o g false e = gives _ (Spends _ refl)
 
   finish_at : (m : Machine) (place : ℕ) (o : Option OpenUdp) → open_at m.store.records place ≡ o → Walks law (Starts m Unused) (λ now. Over now) (Give (with_store m (finish_udp_bind_at m.store place o)).1)

@@ -2,16 +2,30 @@
 use Rattle.std.specs.Prelude.{◌≡◌, ℕ, List, [], ◌∷◌, ◌++◌, Some, None}
 use Rattle.wasi_walks.proofs.Words.{Asks, Ask, Call, End, Entry, Item, Operation, SocketAddressFamily, Step, Told, WasiSocketsCtx}
 use Rattle.wasi_walks.proofs.Words.{ap, bind, entry, make_asks, own_of, poll_asks, subst, told_addr}
+use Rattle.std.specs.Prelude.{◌⊎◌}
+use Rattle.wasi_host.specs.Datagrams.{udp_connect_left, with_sending}
+use Rattle.wasi_host.specs.Kinds.{kind_at, udp_of}
+use Rattle.wasi_host.specs.Receiving.{receive_left, with_receiving}
+use Rattle.wasi_host.specs.Records.{udp2_at}
+use Rattle.wasi_host.specs.UdpCreates.{udp_side_at}
+use Rattle.wasi_host.specs.declared.datagrams.Incoming.{Incoming}
+use Rattle.wasi_host.specs.declared.datagrams.Outgoing.{Outgoing}
+use Rattle.wasi_host.specs.declared.datagrams.Receiving.{Receiving}
+use Rattle.wasi_host.specs.declared.datagrams.Sending.{Sending}
+use Rattle.wasi_host.specs.declared.kind.Kind.{Kind}
+use Rattle.wasi_host.specs.declared.kind.Kind.TheVariants as kinds
 use Rattle.wasi_host.specs.declared.kind.Kind.TheVariants.{Udp2}
+use Rattle.wasi_udp.specs.Receive.{wanting}
+use Rattle.wasi_udp.specs.Send.{at_remote}
 use Rattle.wasi_host.specs.declared.records.Record.{Record}
 use Rattle.wasi_host.specs.declared.udp.OpenUdp.{OpenUdp}
 use Rattle.wasi_host.specs.declared.udp.Udp2Socket.{Udp2Socket}
 use Rattle.wasi_host.specs.declared.udp.UdpInProgress.{UdpInProgress}
 use Rattle.wasi_host.specs.Udp.{udp_side, udp_create_left, udp_bind_progress, with_udp_inner, with_udp_progress}
 use Rattle.wasi_udp.specs.Create.{Create, new_asks}
-use Rattle.wasi_udp.specs.Socket.{after_local}
+use Rattle.wasi_udp.specs.Socket.{after_local, after_peer}
 use Rattle.wasi_walks.proofs.UdpLists.{udp_set_set, udp_set_same, udp_set_there}
-use Rattle.wasi_walks.proofs.walks.Moves.{Here, put_udp, FoundUdp, NoStart, IsQuestionOf, CreatesUdp, udp_begun, Unused, Past, Spends, Held, UdpCreates, UdpBindsOn}
+use Rattle.wasi_walks.proofs.walks.Moves.{Here, put_udp, FoundUdp, NoStart, IsUdpQuestionOf, CreatesUdp, udp_begun, ToStream, part_of, SettlesSend, Unused, Past, Spends, Held, UdpCreates, UdpBindsOn, UdpConnectsOn, SendsOn, ReceivesOn}
 use Rattle.wasi_walks.proofs.walks.Law.{Law, Walks, ends, by_if, gives}
 
 -- A place that has the record of a UDP socket.
@@ -44,7 +58,7 @@ module _ {contexts : List WasiSocketsCtx} {line : ℕ} {origin : Step} {law : La
 
   module _ {h : Here} {place : ℕ} (here : HasUdp h place) where
     -- a question
-    pub ask_udp : {A : Type 0} {n : ℕ} {end : A → Here} (o : OpenUdp) {c : Call} {next : Told → Asks A} → h.at ≡ Some (place, n) → IsQuestionOf line origin n o.inner.side c → ((told : Told) → Walks law (put_udp h place (Udp2Socket.Open o)) end (next told))
+    pub ask_udp : {A : Type 0} {n : ℕ} {end : A → Here} (o : OpenUdp) {c : Call} {next : Told → Asks A} → h.at ≡ Some (place, n) → IsUdpQuestionOf line origin n o.inner.side c → ((told : Told) → Walks law (put_udp h place (Udp2Socket.Open o)) end (next told))
         → Walks law (put_udp h place (Udp2Socket.Open o)) end (Ask (own_of n) c next)
     ask_udp {n} o {c} at q k = record {
       along = λ es i.
@@ -52,16 +66,29 @@ module _ {contexts : List WasiSocketsCtx} {line : ℕ} {origin : Step} {law : La
           (a.0, λ told fits. (k told).along (es ++ entry (own_of n) c told ∷ []) (a.1 told fits));
     }
 
-    -- whether it is bound is asked
-    pub learn_udp : {A : Type 0} {end : A → Here} (o : OpenUdp) {next : Told → Asks A} → h.at ≡ Some (place, line) → ((told : Told) → Walks law (put_udp h place (Udp2Socket.Open (with_udp_inner o (after_local o.inner (told_addr told)).1))) end (next told))
-        → Walks law (put_udp h place (Udp2Socket.Open o)) end (Ask (own_of line) (Call.Local o.inner.side) next)
-    learn_udp o at k = record {
+    -- whether it is bound is asked, by an operation of the line
+    pub learn_udp : {A : Type 0} {part : ℕ} {end : A → Here} (o : OpenUdp) {next : Told → Asks A} → h.at ≡ Some (place, line) → ((told : Told) → Walks law (put_udp h place (Udp2Socket.Open (with_udp_inner o (after_local o.inner (told_addr told)).1))) end (next told))
+        → Walks law (put_udp h place (Udp2Socket.Open o)) end (Ask (part_of line part) (Call.Local o.inner.side) next)
+    learn_udp {part = part} o at k = record {
       along = λ es i.
-          let a = law.udp_learns es (put_udp h place (Udp2Socket.Open o)) place o at (udp_found here (Udp2Socket.Open o)) i in (
+          let a = law.udp_learns es (put_udp h place (Udp2Socket.Open o)) place part o at (udp_found here (Udp2Socket.Open o)) i in (
             a.0,
             λ told fits.
-                let fs : List Entry = es ++ entry (own_of line) (Call.Local o.inner.side) told ∷ [] in
+                let fs : List Entry = es ++ entry (part_of line part) (Call.Local o.inner.side) told ∷ [] in
                 (k told).along fs (subst (law.Inv fs) (udp_put_put h place (Udp2Socket.Open o) (Udp2Socket.Open (with_udp_inner o (after_local o.inner (told_addr told)).1))) (a.1 told fits)),
+          );
+    }
+
+    -- the remote address is asked, and kept
+    pub peer_udp : {A : Type 0} {end : A → Here} (o : OpenUdp) {next : Told → Asks A} → h.at ≡ Some (place, line) → ((told : Told) → Walks law (put_udp h place (Udp2Socket.Open (with_udp_inner o (after_peer o.inner (told_addr told))))) end (next told))
+        → Walks law (put_udp h place (Udp2Socket.Open o)) end (Ask (own_of line) (Call.Peer o.inner.side) next)
+    peer_udp o at k = record {
+      along = λ es i.
+          let a = law.udp_peers es (put_udp h place (Udp2Socket.Open o)) place o at (udp_found here (Udp2Socket.Open o)) i in (
+            a.0,
+            λ told fits.
+                let fs : List Entry = es ++ entry (own_of line) (Call.Peer o.inner.side) told ∷ [] in
+                (k told).along fs (subst (law.Inv fs) (udp_put_put h place (Udp2Socket.Open o) (Udp2Socket.Open (with_udp_inner o (after_peer o.inner (told_addr told))))) (a.1 told fits)),
           );
     }
 
@@ -86,3 +113,19 @@ module _ {contexts : List WasiSocketsCtx} {line : ℕ} {origin : Step} {law : La
 
     pub poll_udp_bind_walks : (o : OpenUdp) (op : Operation) → NoStart h → o.in_progress ≡ UdpInProgress.Binding op → Walks law (put_udp h place (Udp2Socket.Open o)) (λ ended. put_udp h place (Udp2Socket.Open (with_udp_progress o (udp_bind_progress op ended)))) (poll_asks op)
     poll_udp_bind_walks o op q e = udp_polled (Udp2Socket.Open o) (λ ended. Udp2Socket.Open (with_udp_progress o (udp_bind_progress op ended))) (UdpBindsOn place o op q (udp_found here (Udp2Socket.Open o)) e)
+
+    pub poll_udp_connect_walks : (o : OpenUdp) (op : Operation) → NoStart h → o.connecting ≡ Some op → Walks law (put_udp h place (Udp2Socket.Open o)) (λ ended. put_udp h place (Udp2Socket.Open (udp_connect_left op o ended))) (poll_asks op)
+    poll_udp_connect_walks o op q e = udp_polled (Udp2Socket.Open o) (λ ended. Udp2Socket.Open (udp_connect_left op o ended)) (UdpConnectsOn place o op q (udp_found here (Udp2Socket.Open o)) e)
+
+    pub poll_send_walks : (o : OpenUdp) (out : Outgoing) (op : Operation) (left : End × List Item → Sending) → o.outgoing ≡ Some out → out.sending ≡ Sending.InProgress op → SettlesSend op left
+        → Walks law (put_udp h place (Udp2Socket.Open o)) (λ ended. put_udp h place (Udp2Socket.Open (record o { outgoing = Some (with_sending out (left ended)) }))) (poll_asks (at_remote o.inner.remote op))
+    poll_send_walks o out op left e f s = udp_polled (Udp2Socket.Open o) (λ ended. Udp2Socket.Open (record o { outgoing = Some (with_sending out (left ended)) })) (SendsOn place o out op left (udp_found here (Udp2Socket.Open o)) e f s)
+
+    pub poll_receive_walks : (o : OpenUdp) (inc : Incoming) (op : Operation) → o.incoming ≡ Some inc → inc.receiving ≡ Receiving.InProgress op
+        → Walks law (put_udp h place (Udp2Socket.Open o)) (λ ended. put_udp h place (Udp2Socket.Open (record o { incoming = Some (with_receiving inc (receive_left op ended)) }))) (poll_asks (wanting inc.remote op))
+    poll_receive_walks o inc op e f = udp_polled (Udp2Socket.Open o) (λ ended. Udp2Socket.Open (record o { incoming = Some (with_receiving inc (receive_left op ended)) })) (ReceivesOn place o inc op (udp_found here (Udp2Socket.Open o)) e f)
+
+  -- a datagram stream of the socket of this handle is made
+  pub mark_stream : {h : Here} (place n handle : ℕ) (kind : Kind) → h.made ≡ ToStream n handle → (kind ≡ kinds.Incoming place) ⊎ (kind ≡ kinds.Outgoing place) → udp_of (kind_at h.machine.table handle) ≡ Some place
+      → Walks law h (λ made. record h { machine = record h.machine { table = made.1 } }) (make_asks h.machine.table (own_of n) kind (Some handle) (udp_side_at (udp2_at h.machine.store.records place)))
+  mark_stream {h} place n handle kind m k e = record { along = λ es i. law.stream_marks es h place n handle kind m k e i }

@@ -1,0 +1,84 @@
+-- The definitions on logs of datagrams that are not licensed.
+use Rattle.wasi_walks.proofs.Words.{Call, Entry, Has, IsLicensed, List, OpId, Reply, SocketAddrUse, SocketAddressFamily, Some, None, Step, Told}
+use Rattle.wasi_walks.proofs.Words.{[], ap, entry, inl, no_fields, number_fields, own_of, refl, subst, sym, ⊤, ◌++◌, ◌∙◌, ◌∷◌, ◌≡◌, ℕ}
+use Rattle.std.proofs.Common.{arith}
+use Rattle.wasi_world.specs.declared.call.HandleKind.TheVariants as kind
+use Rattle.wasi_world.specs.declared.datagram.IncomingDatagram.{IncomingDatagram}
+use Rattle.wasi_world.specs.declared.datagram.OutgoingDatagram.{OutgoingDatagram}
+use Rattle.wasi_steps.specs.Reply.{datagram_values, pair_fields}
+use Rattle.wasi_walks.specs.Licence.{HandsOut, SendsItem}
+use Rattle.wasi_walks.proofs.Lists.{has_back}
+use Rattle.wasi_walks.proofs.licence.Rows.{allowed, local_80}
+use Rattle.wasi_walks.proofs.licence.Refused.{NotYes, of_each, at_line, local_81}
+use Rattle.wasi_walks.proofs.licence.UdpRows.{udp_log}
+
+-- a datagram of one byte
+abbrev sent : OutgoingDatagram
+sent = record { bytes = 1 ∷ []; remote_address = Some local_81 }
+
+-- a socket is made, bound, gets its streams, sends a datagram and receives
+abbrev datagram_script : List Step
+datagram_script = Step.Network 0 ∷ Step.UdpCreate 0 SocketAddressFamily.Ipv4 ∷ Step.UdpStartBind 0 2 1 local_80 ∷ Step.UdpFinishBind 0 2 ∷ Step.UdpStream 0 2 None ∷ Step.UdpSend 0 4 (sent ∷ []) ∷ Step.UdpReceive 0 3 1 ∷ []
+
+-- the first datagram of the sixth line
+abbrev first : OpId
+first = record { step = 6; part = 1 }
+
+-- until it has its streams
+abbrev streams : List Entry
+streams = udp_log ++ (entry (own_of 5) (Call.Local (own_of 2)) (Told.Addr local_80) ∷ entry (own_of 5) (Call.Made 3 kind.Incoming (Some 2) (Some (own_of 2))) Told.Done ∷ entry (own_of 5) (Call.Made 4 kind.Outgoing (Some 2) (Some (own_of 2))) Told.Done ∷ [])
+
+-- == the check of a datagram's address was answered no
+abbrev told_no : List Entry
+told_no = streams ++ entry first (Call.Check 0 local_81 SocketAddrUse.UdpSend) Told.No ∷ []
+
+-- the use of a check, and whether it is for sending
+abbrev NoSendYes : Call → Told → Type 0
+NoSendYes (Call.Check ctx addr SocketAddrUse.UdpSend) told = NotYes told
+NoSendYes _ told = ⊤
+
+abbrev sends : List ℕ → Entry
+sends bytes = entry first (Call.Send (own_of 2) local_81 bytes) Told.Done
+
+refused_send : IsLicensed allowed datagram_script (told_no ++ sends (1 ∷ []) ∷ []) [] → ⊥
+refused_send h =
+    let may = h.each told_no (sends (1 ∷ [])) [] refl in
+    of_each (λ e. NoSendYes e.call e.answer) told_no _ (tt, (tt, (tt, (tt, (tt, (tt, (tt, (tt, (tt, (tt, (tt, tt))))))))))) may.2.checked
+
+-- == other bytes are sent than the line's
+abbrev told_yes : List Entry
+told_yes = streams ++ entry first (Call.Check 0 local_81 SocketAddrUse.UdpSend) Told.Yes ∷ []
+
+abbrev first_byte : List ℕ → ℕ
+first_byte [] = 0
+first_byte (x ∷ xs) = x
+
+other_bytes : IsLicensed allowed datagram_script (told_yes ++ sends (2 ∷ []) ∷ []) [] → ⊥
+other_bytes h =
+    let may = h.each told_yes (sends (2 ∷ [])) [] refl in
+    let its = at_line (SendsItem told_yes first (own_of 2) local_81 (2 ∷ [])) (Step.UdpSend 0 4 (sent ∷ [])) may.1.origin may.1.at may.1.holds in
+    let one : List ℕ = 1 ∷ [] in
+    let two : List ℕ = 2 ∷ [] in
+    let bytes : one ≡ two = ap (λ (d : OutgoingDatagram). d.bytes) its.item ∙ its.bytes_are in
+    let byte = ap first_byte bytes in
+    omega arith
+
+-- == a datagram is handed out that was never received
+abbrev came : IncomingDatagram
+came = record { bytes = 1 ∷ []; remote_address = local_81 }
+
+abbrev NoRecv : Call → Type 0
+NoRecv (Call.Recv side) = ⊥
+NoRecv _ = ⊤
+
+unreceived : (ds : List IncomingDatagram) → datagram_values (came ∷ []) ≡ datagram_values ds → ((d : IncomingDatagram) → Has ds d → ⊥) → ⊥
+unreceived [] e k = absurd (cc)
+unreceived (d ∷ ds) e k = k d (inl refl)
+
+abbrev replies : List Reply
+replies = Reply.Ok (number_fields 1) ∷ Reply.Ok (number_fields 2) ∷ Reply.Ok no_fields ∷ Reply.Ok no_fields ∷ Reply.Ok (pair_fields 3 4) ∷ Reply.Ok (number_fields 1) ∷ Reply.Ok (datagram_values (came ∷ [])) ∷ []
+
+handed_unreceived : IsLicensed allowed datagram_script streams replies → ⊥
+handed_unreceived h =
+    let hands : HandsOut streams 3 (datagram_values (came ∷ [])) = h.replied.1.1.1.1.1.1.0 in
+    unreceived hands.datagrams hands.values (λ d i. let r = hands.received d i in of_each (λ e. NoRecv e.call) streams _ (tt, (tt, (tt, (tt, (tt, (tt, (tt, (tt, (tt, (tt, tt)))))))))) (subst (λ (es : List Entry). Has es (entry r.op (Call.Recv hands.side) (Told.Datagram d.bytes d.remote_address))) (sym r.cut) (has_back r.front _ _ (inl refl))))

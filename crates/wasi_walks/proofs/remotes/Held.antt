@@ -1,0 +1,246 @@
+-- What is in progress keeps what is known: a poll asks for no remote address, but for a connect of a UDP socket, which is told its own.
+use Rattle.wasi_walks.proofs.Words.{Allows, Call, Done, End, Entry, HoldsAccept, HoldsConnect, IpSocketAddress, IsAcceptOn, IsLeftOfAccept}
+use Rattle.wasi_walks.proofs.Words.{IsLeftOfBind, IsLeftOfConnect, IsLeftOfListen, IsMaker, Item, List, None, OpId, Operation, Option, Refused}
+use Rattle.wasi_walks.proofs.Words.{Some, Step, Tcp2Socket, Told, Waits, WasiSocketsCtx, [], accept_ended, allows_keep, allows_weaker, ap}
+use Rattle.wasi_walks.proofs.Words.{bind_progress, connect_ended, entry, inl, inr, poll_asks, refl, subst, sym, told_addr, with_inner}
+use Rattle.wasi_walks.proofs.Words.{with_progress, with_state, ℕ, ◌++◌, ◌∙◌, ◌∷◌, ◌≡◌}
+use Rattle.wasi_tcp.specs.Accept as accept
+use Rattle.wasi_tcp.specs.Connect as connect
+use Rattle.wasi_tcp.specs.Listen as listen
+use Rattle.wasi_tcp.specs.Listen.{IsListen}
+use Rattle.wasi_udp.specs.Bind as udp_bind
+use Rattle.wasi_udp.specs.Receive.{wanting}
+use Rattle.wasi_udp.specs.Send as send
+use Rattle.wasi_udp.specs.Send.{at_remote}
+use Rattle.wasi_udp.specs.Connect.{with_given}
+use Rattle.wasi_udp.specs.Create.{Create}
+use Rattle.wasi_udp.specs.Socket.{after_peer}
+use Rattle.wasi_walks.specs.Waiting as binding
+use Rattle.wasi_host.specs.Datagrams.{udp_connect_left, with_sending, with_streams}
+use Rattle.wasi_host.specs.Receiving.{receive_left, with_receiving}
+use Rattle.wasi_host.specs.Records.{tcp2_put, udp2_at, udp2_put}
+use Rattle.wasi_host.specs.Udp.{udp_bind_progress, udp_create_left, with_udp_inner, with_udp_progress}
+use Rattle.wasi_host.specs.declared.datagrams.Incoming.{Incoming}
+use Rattle.wasi_host.specs.declared.datagrams.Receiving.{Receiving}
+use Rattle.wasi_host.specs.declared.records.Record.{Record}
+use Rattle.wasi_host.specs.declared.udp.OpenUdp.{OpenUdp}
+use Rattle.wasi_host.specs.declared.udp.Udp2Socket.{Udp2Socket}
+use Rattle.wasi_world.specs.Operation.{Datagram, Given, Remote}
+use Rattle.wasi_walks.proofs.Lists.{has_front}
+use Rattle.wasi_walks.proofs.UdpLists.{udp_set_set, udp_set_there, udp_get_set}
+use Rattle.wasi_walks.proofs.claims.Law.{Named, Base}
+use Rattle.wasi_walks.proofs.fits.Polls.{Anything}
+use Rattle.wasi_walks.proofs.fits.Records.{FitConnecting, FitListening, FitProgress, FitReceiving, FitSending, FitUdpProgress, ReceiveOn, SendOn, UdpBindOn, UdpConnectOn}
+use Rattle.wasi_walks.proofs.licence.State.{RemoteIs}
+use Rattle.wasi_walks.proofs.walks.Moves as walk
+use Rattle.wasi_walks.proofs.walks.Moves.{FoundUdp, Held, Here, accepting_now, listen_after, receive_op, receiving_in, send_op, sending_in}
+use Rattle.wasi_walks.proofs.remotes.Polls.{AreSilent, Unpeered, silent_poll}
+use Rattle.wasi_walks.proofs.remotes.ConnectPolls.{After, AsksOwn, connect_poll, none_kept, told_kept}
+use Rattle.wasi_walks.proofs.remotes.ReceivePolls.{poll_receives}
+use Rattle.wasi_walks.proofs.remotes.State.{ConnectsBy, InHand, IncomingKnows, Keeps, OpenKeeps, ReceivesFor, ReceivingKnows, TcpKeeps, UdpKeeps, asked, incoming_more, kept, maker_of, put_tcp, put_udps, Spares}
+
+-- == items that ask for no remote address
+-- a bind
+bind_silent : (items : List Item) → IsLeftOfBind items → AreSilent items
+bind_silent _ (binding.Unchecked a) = (tt, (tt, tt))
+bind_silent _ (binding.Checked a) = (tt, tt)
+bind_silent _ binding.Ended = tt
+
+-- a connect
+connect_silent : (items : List Item) → IsLeftOfConnect items → AreSilent items
+connect_silent _ (connect.Unbound w a) = (tt, (tt, (tt, tt)))
+connect_silent _ (connect.Unchecked a) = (tt, (tt, tt))
+connect_silent _ (connect.Checked a) = (tt, tt)
+connect_silent _ (connect.ToClose c) = (tt, tt)
+connect_silent _ connect.Ended = tt
+
+-- a listen
+listen_silent : (items : List Item) → IsLeftOfListen items → AreSilent items
+listen_silent _ (listen.BoundBefore b) = (tt, (tt, tt))
+listen_silent _ (listen.AddressTold a b) = (tt, (tt, tt))
+listen_silent _ (listen.Unbound w b) = (tt, (tt, (tt, (tt, tt))))
+listen_silent _ (listen.BindChecked w b) = (tt, (tt, (tt, tt)))
+listen_silent _ (listen.Checked w b) = (tt, (tt, tt))
+listen_silent _ (listen.Bound b) = (tt, tt)
+listen_silent _ (listen.ToClose c) = (tt, tt)
+listen_silent _ listen.Ended = tt
+
+-- an accept
+accept_silent : (items : List Item) → IsLeftOfAccept items → AreSilent items
+accept_silent _ accept.Unarrived = (tt, tt)
+accept_silent _ (accept.Arrived peer) = (tt, tt)
+accept_silent _ (accept.Admitted peer) = (tt, tt)
+accept_silent _ (accept.Unwanted peer) = (tt, tt)
+accept_silent _ accept.Ended = tt
+
+-- a bind of a UDP socket
+udp_bind_silent : (items : List Item) → udp_bind.IsLeftOfBind items → AreSilent items
+udp_bind_silent _ (udp_bind.Unchecked a) = (tt, (tt, tt))
+udp_bind_silent _ (udp_bind.Checked a) = (tt, tt)
+udp_bind_silent _ udp_bind.Ended = tt
+
+-- a datagram
+send_silent : (items : List Item) → send.IsLeftOfSend items → AreSilent items
+send_silent _ (send.ToRefuse c) = (tt, tt)
+send_silent _ (send.Unbound family kept a bytes) = (tt, (tt, (tt, tt)))
+send_silent _ (send.Unchecked kept a bytes) = (tt, (tt, tt))
+send_silent _ (send.Checked kept a bytes) = (tt, tt)
+send_silent _ send.Ended = tt
+
+-- == polls
+-- of an operation of a TCP socket
+polled_tcp : (es : List Entry) (h : Here) (place : ℕ) (op : Operation) (now : End × List Item → Tcp2Socket) → ((ended : End × List Item) → TcpKeeps (now ended)) → AreSilent op.left → Keeps es h.machine.store.records
+    → Allows Anything (λ fs ended. Keeps fs (tcp2_put h.machine.store.records place (now ended))) es (poll_asks op)
+polled_tcp es h place op now f s i =
+    allows_weaker Anything (λ fs ended. Keeps fs h.machine.store.records × AreSilent ended.1) (λ fs ended. Keeps fs (tcp2_put h.machine.store.records place (now ended)))
+    (λ fs ended k. put_tcp fs h.machine.store.records place (now ended) (f ended) k.0) es (poll_asks op) (kept h.machine.store.records (λ fs ended. AreSilent ended.1) es (poll_asks op) i (silent_poll op es s))
+
+-- of a UDP socket, where this is known of how it ends
+polled_so : (Q : List Entry → End × List Item → Type 0) (es : List Entry) (h : Here) (place : ℕ) (u : Udp2Socket) (op : Operation) (now : End × List Item → Udp2Socket) → FoundUdp h place u → ((fs : List Entry) (ended : End × List Item) → UdpKeeps fs u → Q fs ended → UdpKeeps fs (now ended)) → Allows Unpeered Q es (poll_asks op) → Keeps es h.machine.store.records
+    → Allows Anything (λ fs ended. Keeps fs (udp2_put h.machine.store.records place (now ended))) es (poll_asks op)
+polled_so Q es h place u op now g f a i =
+    allows_weaker Anything (λ fs ended. Keeps fs h.machine.store.records × Q fs ended) (λ fs ended. Keeps fs (udp2_put h.machine.store.records place (now ended)))
+    (λ fs ended k. put_udps fs h.machine.store.records place (now ended) (f fs ended (k.0.udps place u g) k.1) k.0) es (poll_asks op) (kept h.machine.store.records Q es (poll_asks op) i a)
+
+-- and whatever it ends with
+polled_udp : (es : List Entry) (h : Here) (place : ℕ) (u : Udp2Socket) (op : Operation) (now : End × List Item → Udp2Socket) → FoundUdp h place u → ((fs : List Entry) (ended : End × List Item) → UdpKeeps fs u → UdpKeeps fs (now ended)) → AreSilent op.left → Keeps es h.machine.store.records
+    → Allows Anything (λ fs ended. Keeps fs (udp2_put h.machine.store.records place (now ended))) es (poll_asks op)
+polled_udp es h place u op now g f s i = polled_so (λ fs ended. AreSilent ended.1) es h place u op now g (λ fs ended k q. f fs ended k) (silent_poll op es s) i
+
+-- the record that a listen leaves
+listened_keeps : (r : Tcp2Socket) (op : Operation) (ended : End × List Item) → TcpKeeps r → TcpKeeps (listen_after op r ended)
+listened_keeps r op (Waits, items) k = k
+listened_keeps r op (Done given, items) k = k
+listened_keeps r op (Refused c given, items) k = k
+
+-- the record that a create leaves
+created_keeps : (create : Create) (fs : List Entry) (ended : End × List Item) → UdpKeeps fs (Udp2Socket.Creating create) → UdpKeeps fs (udp_create_left create ended)
+created_keeps create fs (Waits, items) k = k
+created_keeps create fs (Done given, items) k = record { created = k; remote = none_kept fs _ None refl; connects = tt; receives = tt; receiver = tt }
+created_keeps create fs (Refused c given, items) k = tt
+
+-- a change that leaves the socket, its connect and its incoming stream
+same_open : (fs : List Entry) (o now : OpenUdp) → now.inner ≡ o.inner → now.connecting ≡ o.connecting → now.incoming ≡ o.incoming → UdpKeeps fs (Udp2Socket.Open o) → UdpKeeps fs (Udp2Socket.Open now)
+same_open fs o now p q r k = record {
+  created = rw p k.created;
+  remote = rw p k.remote;
+  connects = rw (p, q) k.connects;
+  receives = rw (p, r) k.receives;
+  receiver = rw (p, r) k.receiver;
+}
+
+-- a receive that was polled is still for the creator of its network socket
+receives_for : (maker : ℕ) (op : Operation) (ended : End × List Item) → ReceivesFor maker (Some op) → ReceivesFor maker (receive_op (receive_left op ended))
+receives_for maker op (Waits, items) k = k
+receives_for maker op (Done (Datagram bytes a), items) k = tt
+receives_for maker op (Done given, items) k = tt
+receives_for maker op (Refused c given, items) k = tt
+
+-- a receive is polled
+polled_receive : (es : List Entry) (h : Here) (place : ℕ) (o : OpenUdp) (inc : Incoming) (op : Operation) → FoundUdp h place (Udp2Socket.Open o) → o.incoming ≡ Some inc → inc.receiving ≡ Receiving.InProgress op → ReceiveOn o.inner.side op → Keeps es h.machine.store.records
+    → Allows Anything (λ fs ended. Keeps fs (udp2_put h.machine.store.records place (Udp2Socket.Open (record o { incoming = Some (with_receiving inc (receive_left op ended)) })))) es (poll_asks (wanting inc.remote op))
+polled_receive es h place o inc op g e f its i =
+    let k : OpenKeeps es o = i.udps place (Udp2Socket.Open o) g in
+    let for : ReceivesFor o.inner.maker (Some op) = subst (ReceivesFor o.inner.maker) (ap receiving_in e ∙ ap receive_op f) k.receiver in
+    let hand : InHand es op.who.id o.inner.side op.left = subst (ReceivingKnows es o.inner.side) f (subst (IncomingKnows es o.inner.side) e k.receives) in
+    polled_so (λ fs ended. ReceivingKnows fs op.who.side (receive_left op ended)) es h place (Udp2Socket.Open o) (wanting inc.remote op) (λ ended. Udp2Socket.Open (record o { incoming = Some (with_receiving inc (receive_left op ended)) })) g
+    (λ fs ended m q. record { created = m.created; remote = m.remote; connects = m.connects; receives = subst (λ (x : OpId). ReceivingKnows fs x (receive_left op ended)) its.of_side q; receiver = receives_for o.inner.maker op ended for })
+    (poll_receives op inc.remote o.inner.family es its.receive (rw (its.of_side, for) (maker_of es o k)) (subst (λ (x : OpId). InHand es op.who.id x op.left) (sym its.of_side) hand)) i
+
+-- == a connect of a UDP socket
+-- while it is polled, the remote address is left out
+abbrev forgotten : OpenUdp → OpenUdp
+forgotten o = record o { inner = record o.inner { remote = None } }
+
+-- the rest is known still
+forget : (es : List Entry) (o : OpenUdp) → OpenKeeps es o → OpenKeeps es (forgotten o)
+forget es o k = record { created = k.created; remote = none_kept es _ None refl; connects = k.connects; receives = k.receives; receiver = k.receiver }
+
+-- the remote address that is kept
+abbrev remote_of : Udp2Socket → Option IpSocketAddress
+remote_of (Udp2Socket.Open o) = o.inner.remote
+remote_of _ = None
+
+-- its own remote address is that of no other socket
+spares_but : (line : ℕ) (h : Here) (place : ℕ) (o : OpenUdp) (c : Call) → FoundUdp h place (Udp2Socket.Open o) → Named line h → ((x : OpId) → c ≡ Call.Peer x → o.inner.side ≡ x) → Spares (udp2_put h.machine.store.records place (Udp2Socket.Open (forgotten o))) c
+spares_but line h place o c g n own k p e q = elim (udp_get_set h.machine.store.records place (Udp2Socket.Open (forgotten o)) k (Udp2Socket.Open p) e) [
+  | inl a ↦ sym (ap remote_of a.1)
+  | inr a ↦ (
+      let at : place ≡ k = n.udps.one p.inner.side place k (Udp2Socket.Open o) (Udp2Socket.Open p) g a (own p.inner.side q) refl in
+      let there : udp2_at (udp2_put h.machine.store.records place (Udp2Socket.Open (forgotten o))) k ≡ Some (Udp2Socket.Open (forgotten o)) = subst (λ (x : ℕ). udp2_at (udp2_put h.machine.store.records place (Udp2Socket.Open (forgotten o))) x ≡ Some (Udp2Socket.Open (forgotten o))) at (udp_set_there h.machine.store.records place (Udp2Socket.Open o) (Udp2Socket.Open (forgotten o)) g) in
+      let same : Some (Udp2Socket.Open (forgotten o)) ≡ Some (Udp2Socket.Open p) = sym there ∙ e in
+      let is : Udp2Socket.Open (forgotten o) ≡ Udp2Socket.Open p = cc in
+      sym (ap remote_of is))
+]
+
+-- what a connect gives leaves all but the remote address
+given_keeps : (fs : List Entry) (o : OpenUdp) (given : Given) → OpenKeeps fs (forgotten o) → RemoteIs fs o.inner.side (with_given o.inner given).remote → OpenKeeps fs (record o { inner = with_given o.inner given; connecting = None })
+given_keeps fs o (Remote remote) k r = record { created = k.created; remote = r; connects = tt; receives = k.receives; receiver = k.receiver }
+given_keeps fs o _ k r = record { created = k.created; remote = r; connects = tt; receives = k.receives; receiver = k.receiver }
+
+-- the streams are new then
+streams_keep : (fs : List Entry) (o : OpenUdp) → OpenKeeps fs o → OpenKeeps fs (with_streams o)
+streams_keep fs o k = record { created = k.created; remote = k.remote; connects = k.connects; receives = tt; receiver = tt }
+
+-- what is known after a poll of the connect
+connected_keeps : (fs : List Entry) (o : OpenUdp) (op : Operation) (ended : End × List Item) → op.who.side ≡ o.inner.side → OpenKeeps fs (forgotten o) → After op.who o.inner.maker o.inner.family o.inner fs ended → UdpKeeps fs (Udp2Socket.Open (udp_connect_left op o ended))
+connected_keeps fs o op (Waits, items) s k a = record { created = k.created; remote = subst (λ (x : OpId). RemoteIs fs x o.inner.remote) s a.0.1; connects = a.1; receives = k.receives; receiver = k.receiver }
+connected_keeps fs o op (Done given, items) s k a = streams_keep fs _ (given_keeps fs o given k (subst (λ (x : OpId). RemoteIs fs x (with_given o.inner given).remote) s a.1))
+connected_keeps fs o op (Refused c given, items) s k a = given_keeps fs o given k (subst (λ (x : OpId). RemoteIs fs x (with_given o.inner given).remote) s a.1)
+
+-- a socket is put back
+put_back : (fs : List Entry) (records : List Record) (place : ℕ) (out now : Udp2Socket) → UdpKeeps fs now → Keeps fs (udp2_put records place out) → Keeps fs (udp2_put records place now)
+put_back fs records place out now k m = subst (Keeps fs) (udp_set_set records place out now) (put_udps fs (udp2_put records place out) place now k m)
+
+-- a connect is polled
+polled_connect : (line : ℕ) (es : List Entry) (h : Here) (place : ℕ) (o : OpenUdp) (op : Operation) → FoundUdp h place (Udp2Socket.Open o) → o.connecting ≡ Some op → UdpConnectOn o.inner.side op → Named line h → Keeps es h.machine.store.records
+    → Allows Anything (λ fs ended. Keeps fs (udp2_put h.machine.store.records place (Udp2Socket.Open (udp_connect_left op o ended)))) es (poll_asks op)
+polled_connect line es h place o op g e its n i =
+    let k : OpenKeeps es o = i.udps place (Udp2Socket.Open o) g in
+    let out : List Record = udp2_put h.machine.store.records place (Udp2Socket.Open (forgotten o)) in
+    allows_weaker Anything (λ fs ended. Keeps fs out × After op.who o.inner.maker o.inner.family o.inner fs ended) (λ fs ended. Keeps fs (udp2_put h.machine.store.records place (Udp2Socket.Open (udp_connect_left op o ended))))
+    (λ fs ended m. put_back fs h.machine.store.records place (Udp2Socket.Open (forgotten o)) (Udp2Socket.Open (udp_connect_left op o ended)) (connected_keeps fs o op ended its.of_side (m.0.udps place (Udp2Socket.Open (forgotten o)) (udp_set_there h.machine.store.records place (Udp2Socket.Open o) (Udp2Socket.Open (forgotten o)) g)) m.1) m.0) es (poll_asks op)
+    (allows_keep (AsksOwn op.who o.inner.maker o.inner.family o.inner) Anything (λ fs. Keeps fs out) (λ fs ended. After op.who o.inner.maker o.inner.family o.inner fs ended)
+    (λ fs own c t fits m a. asked fs out own c t (spares_but line h place o c g n (λ x p. sym its.of_side ∙ a x p)) m) (λ fs own c a. tt) es (poll_asks op)
+    (put_udps es h.machine.store.records place (Udp2Socket.Open (forgotten o)) (forget es o k) i)
+    (connect_poll op.who o.inner.maker o.inner.family o.inner op.left es (subst (IsMaker es o.inner.maker o.inner.family) (sym its.of_side) (maker_of es o k)) (subst (λ (x : OpId). RemoteIs es x o.inner.remote) (sym its.of_side) k.remote) (subst (ConnectsBy o.inner.family) e k.connects)))
+
+-- it asks what the remote address is, and keeps it
+pub peer_keeps : (line : ℕ) (es : List Entry) (h : Here) (place : ℕ) (o : OpenUdp) (op : OpId) (told : Told) → FoundUdp h place (Udp2Socket.Open o) → Named line h → Keeps es h.machine.store.records
+    → Keeps (es ++ entry op (Call.Peer o.inner.side) told ∷ []) (udp2_put h.machine.store.records place (Udp2Socket.Open (with_udp_inner o (after_peer o.inner (told_addr told)))))
+peer_keeps line es h place o op told g n i =
+    let k : OpenKeeps es o = i.udps place (Udp2Socket.Open o) g in
+    let fs : List Entry = es ++ entry op (Call.Peer o.inner.side) told ∷ [] in
+    put_back fs h.machine.store.records place (Udp2Socket.Open (forgotten o)) (Udp2Socket.Open (with_udp_inner o (after_peer o.inner (told_addr told))))
+    (record { created = has_front es _ _ k.created; remote = told_kept es op o.inner.maker o.inner.family o.inner.side told (maker_of es o k); connects = k.connects; receives = incoming_more es _ o.inner.side o.incoming k.receives; receiver = k.receiver })
+    (asked es _ op (Call.Peer o.inner.side) told (spares_but line h place o (Call.Peer o.inner.side) g n (λ x p. cc)) (put_udps es h.machine.store.records place (Udp2Socket.Open (forgotten o)) (forget es o k) i))
+
+-- == what is in progress
+-- each poll keeps what is known of the records
+pub polls_keep : (contexts : List WasiSocketsCtx) (line : ℕ) (origin : Step) (es : List Entry) (h : Here) (op : Operation) (after : End × List Item → Here) → Held h op after → Base contexts line origin h → Keeps es h.machine.store.records
+    → Allows Anything (λ fs ended. Keeps fs (after ended).machine.store.records) es (poll_asks op)
+polls_keep contexts line origin es h _ _ (walk.BindsOn place r op q g e) b i =
+    let its = subst (FitProgress r.inner.state) e (b.0.records place r g).2 in
+    polled_tcp es h place op (λ ended. with_progress r (bind_progress op ended)) (λ ended. i.tcps place r g) (bind_silent op.left its.1.left) i
+polls_keep contexts line origin es h _ _ (walk.Connects place r op g e) b i =
+    let its : connect.IsConnect op = subst HoldsConnect e (b.0.records place r g).0 in
+    polled_tcp es h place op (λ ended. with_inner r (with_state r.inner (connect_ended op.who ended).1)) (λ ended. i.tcps place r g) (connect_silent op.left its.left) i
+polls_keep contexts line origin es h _ _ (walk.Listens place r op q g e c) b i =
+    let its : IsListen op = subst FitListening e (b.0.records place r g).1 in
+    polled_tcp es h place op (listen_after op r) (λ ended. listened_keeps r op ended (i.tcps place r g)) (listen_silent op.left its.left) i
+polls_keep contexts line origin es h _ _ (walk.Awaits place r l op g e a) b i =
+    let its : IsAcceptOn l.side l.maker op = subst (HoldsAccept l.side l.maker) a (subst FitListening e (b.0.records place r g).1) in
+    polled_tcp es h place op (λ ended. accepting_now r l (accept_ended op.who ended)) (λ ended. i.tcps place r g) (accept_silent op.left its.accept.left) i
+polls_keep contexts line origin es h _ _ (walk.UdpCreates place create q g) b i =
+    polled_udp es h place (Udp2Socket.Creating create) create.operation (udp_create_left create) g (created_keeps create) (subst AreSilent (sym (b.0.udps place (Udp2Socket.Creating create) g).1) (tt, tt)) i
+polls_keep contexts line origin es h _ _ (walk.UdpBindsOn place o op q g e) b i =
+    let its : UdpBindOn o.inner.side op = subst (FitUdpProgress o.inner.side) e (b.0.udps place (Udp2Socket.Open o) g).0 in
+    polled_udp es h place (Udp2Socket.Open o) op (λ ended. Udp2Socket.Open (with_udp_progress o (udp_bind_progress op ended))) g (λ fs ended k. same_open fs o _ refl refl refl k) (udp_bind_silent op.left its.bind.left) i
+polls_keep contexts line origin es h _ _ (walk.UdpConnectsOn place o op q g e) b i =
+    polled_connect line es h place o op g e (subst (FitConnecting o.inner.side) e (b.0.udps place (Udp2Socket.Open o) g).1) b.1 i
+polls_keep contexts line origin es h _ _ (walk.SendsOn place o out op left g e f s) b i =
+    let its : SendOn o.inner.side op = subst (FitSending o.inner.side) (ap sending_in e ∙ ap send_op f) (b.0.udps place (Udp2Socket.Open o) g).2 in
+    polled_udp es h place (Udp2Socket.Open o) (at_remote o.inner.remote op) (λ ended. Udp2Socket.Open (record o { outgoing = Some (with_sending out (left ended)) })) g (λ fs ended k. same_open fs o _ refl refl refl k) (send_silent op.left its.send.left) i
+polls_keep contexts line origin es h _ _ (walk.ReceivesOn place o inc op g e f) b i =
+    let its : ReceiveOn o.inner.side op = subst (FitReceiving o.inner.side) (ap receiving_in e ∙ ap receive_op f) (b.0.udps place (Udp2Socket.Open o) g).3 in
+    polled_receive es h place o inc op g e f its i

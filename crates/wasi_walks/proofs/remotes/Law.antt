@@ -1,0 +1,227 @@
+-- The law that the remote address that an open UDP socket keeps is what the network reported last.
+use Rattle.wasi_walks.proofs.Words.{Accepting, Accepts, Allows, Begins, Bool, Call, Done, End, Entry, Err, ErrorCode, Give, Handles}
+use Rattle.wasi_walks.proofs.Words.{IpSocketAddress, IsDoneOrCode, Job, Kind, List, Listening, Machine, None, Not, Ok, OpId, Option}
+use Rattle.wasi_walks.proofs.Words.{ReadState, Refused, Result, Socket, SocketAddressFamily, Some, Step, Streams, Tcp2, Tcp2Socket, Told, Unclosed}
+use Rattle.wasi_walks.proofs.Words.{Waits, WasiSocketsCtx, Who, WriteState, [], allows_if, allows_then, allows_weaker, ap, ask_close, bind}
+use Rattle.wasi_walks.proofs.Words.{closing_side, create_asks, created_asks, entry, false, give_up_asks, give_up_in, gone, if◌then◌else◌, in_hand}
+use Rattle.wasi_walks.proofs.Words.{inl, is_full, is_over, is_wildcard, job_asks, job_in, length, make_asks, new_asks, new_job, new_record}
+use Rattle.wasi_walks.proofs.Words.{own_of, poll_asks, refl, refuse_in, side_in, side_of, subst, told_addr, told_done, true, turn_asks}
+use Rattle.wasi_walks.proofs.Words.{with_listening, with_reader, with_writer, writer_side, writing_side, ℕ, ⊤, ◌++◌, ◌∙◌, ◌∷◌, ◌≡◌}
+use Rattle.wasi_udp.specs.Create.{new_create, after_create as udp_after_create}
+use Rattle.wasi_udp.specs.Receive.{receive_first, receive_left}
+use Rattle.wasi_udp.specs.Shape.{Socket as UdpSocket}
+use Rattle.wasi_udp.specs.Socket.{after_local as udp_after_local}
+use Rattle.wasi_host.specs.Records.{tcp2_put}
+use Rattle.wasi_host.specs.declared.kind.Kind.TheVariants.{Udp2}
+use Rattle.wasi_host.specs.Udp.{udp_side, with_udp_inner}
+use Rattle.wasi_host.specs.declared.records.Record.{Record}
+use Rattle.wasi_host.specs.declared.udp.OpenUdp.{OpenUdp}
+use Rattle.wasi_host.specs.declared.udp.Udp2Socket.{Udp2Socket}
+use Rattle.wasi_walks.proofs.Lists.{has_last}
+use Rattle.wasi_walks.proofs.claims.Law.{Named, Base}
+use Rattle.wasi_walks.proofs.fits.Polls.{Anything}
+use Rattle.wasi_walks.proofs.fits.UdpFits.{kept_op}
+use Rattle.wasi_walks.proofs.walks.OnBase.{Above}
+use Rattle.wasi_walks.proofs.walks.Moves as walk
+use Rattle.wasi_walks.proofs.walks.Moves.{closed_record, udp_begun, opened_by, part_of, Found, Here, IsOn, IsQuestionOf, IsUdpQuestionOf, Move, OfReader, OfSocket, OfWriter, UdpPlain, joined, receiving_in}
+use Rattle.wasi_walks.proofs.remotes.Held.{peer_keeps, polls_keep}
+use Rattle.wasi_walks.proofs.remotes.Polls.{AreSilent, NoPeer, Unpeered, silent_poll}
+use Rattle.wasi_walks.proofs.remotes.ConnectPolls.{Whole}
+use Rattle.wasi_walks.proofs.remotes.State.{InHand, JobBy, Keeps, OpenKeeps, ReadsBy, ReceivesFor, TcpKeeps, WritesBy, asked, incoming_kept, kept, push_tcp, push_udps, put_tcp, put_udps, quiet, same_streams, with_none, with_these, writer_moves, Spares}
+
+-- == what is asked of a network socket of TCP is asked of none of UDP
+-- a writer is on the network socket that its record was made with
+writes_on : (made : Option OpId) (side : OpId) (w : WriteState) → WritesBy made w → writer_side w ≡ Some side → made ≡ Some side
+writes_on made side (WriteState.Ready half permit) k e = k ∙ e
+writes_on made side (WriteState.Writing job) k e = by_end job.end e
+  where
+    by_end : (x : End) → writing_side job x ≡ Some side → made ≡ Some side
+    by_end Waits p = k.0 ∙ p
+    by_end (Done given) p = k.0 ∙ p
+    by_end (Refused c given) p = absurd (cc)
+writes_on made side (WriteState.Closing job) k e = by_end job.end e
+  where
+    by_end : (x : End) → closing_side job x ≡ Some side → made ≡ Some side
+    by_end Waits p = k.0 ∙ p
+    by_end (Done given) p = absurd (cc)
+    by_end (Refused c given) p = absurd (cc)
+writes_on made side (WriteState.Closed e) k p = absurd (cc)
+
+-- what is asked of a UDP socket is no remote address
+pub udp_question_quiet : (line : ℕ) (origin : Step) (n : ℕ) (side : OpId) (c : Call) → IsUdpQuestionOf line origin n side c → NoPeer c
+udp_question_quiet line origin n side (Call.Peer s) q = q
+udp_question_quiet line origin n side _ q = tt
+
+-- what a record asks of is the network socket that it was made with
+made_with : (line : ℕ) (h : Here) (place : ℕ) (r : Tcp2Socket) (side : OpId) → Found h place r → IsOn r side → Named line h → TcpKeeps r → r.side ≡ Some side
+made_with line h place r side g (OfSocket e) n k = n.named side place r g e
+made_with line h place r side g (OfReader s half e w p) n k = subst (ReadsBy r.side) w (k s e).0 ∙ ap (λ (x : OpId). Some x) p
+made_with line h place r side g (OfWriter s e w) n k = writes_on r.side side s.writer (k s e).1 w
+
+-- a question of a TCP socket is of no UDP socket
+pub tcp_spares : (line : ℕ) (origin : Step) (n : ℕ) (es : List Entry) (h : Here) (place : ℕ) (r : Tcp2Socket) (side : OpId) (c : Call) → Found h place r → IsOn r side → IsQuestionOf line origin n side c → Named line h → Keeps es h.machine.store.records → Spares h.machine.store.records c
+tcp_spares line origin n es h place r side c g on q names i k o f e =
+    let is : o.inner.side ≡ side = subst (IsQuestionOf line origin n side) e q in
+    absurd (names.udps.apart side place k r (Udp2Socket.Open o) g f (inl (made_with line h place r side g on names (i.tcps place r g))) is)
+
+-- == marks and creates
+-- a mark asks for no remote address
+made_quiet : (es : List Entry) (t : Handles) (op : OpId) (kind : Kind) (parent : Option ℕ) (sock : Option OpId) → Allows Unpeered (λ fs made. ⊤) es (make_asks t op kind parent sock)
+unfolding bind
+made_quiet es t op kind parent sock = allows_if Unpeered (λ fs made. ⊤) es (is_full t) _ _ (λ full. tt) (λ free. (tt, λ told f. tt))
+
+-- it leaves the records
+pub marks_keep : (es : List Entry) (records : List Record) (t : Handles) (op : OpId) (kind : Kind) (parent : Option ℕ) (sock : Option OpId) → Keeps es records → Allows Anything (λ fs made. Keeps fs records) es (make_asks t op kind parent sock)
+marks_keep es records t op kind parent sock i =
+    allows_weaker Anything (λ fs made. Keeps fs records × ⊤) (λ fs made. Keeps fs records) (λ fs made k. k.0) es _ (kept records (λ fs made. ⊤) es (make_asks t op kind parent sock) i (made_quiet es t op kind parent sock))
+
+-- whatever the log says, the records of the one keep what those of the other do
+abbrev Adds : Machine → Machine → Type 0
+Adds m now = (es : List Entry) → Keeps es m.store.records → Keeps es now.store.records
+
+-- a create of a TCP socket asks for no remote address
+new_quiet : (es : List Entry) (own : OpId) (ctx : WasiSocketsCtx) (family : SocketAddressFamily) → Allows Unpeered (λ fs made. ⊤) es (new_asks own ctx family)
+unfolding bind
+new_quiet es own ctx family = allows_if Unpeered (λ fs made. ⊤) es ctx.tcp _ _ (λ may. (tt, λ told f. tt)) (λ other. tt)
+
+-- the socket that is created joins the records
+socket_adds : (es : List Entry) (m : Machine) (own : OpId) (made : Result Socket ErrorCode) → Allows Unpeered (λ fs done. Adds m done.1) es (created_asks m own made)
+socket_adds es m own (Err c) = λ gs k. k
+socket_adds es m own (Ok socket) =
+    allows_then Unpeered (λ fs made. ⊤) (λ fs done. Adds m done.1) es (make_asks m.table own (Tcp2 (length m.store.records)) None (side_of socket)) _ (made_quiet es m.table own (Tcp2 (length m.store.records)) None (side_of socket))
+    (λ fs made t. λ gs k. push_tcp gs m.store.records (new_record socket) (with_none (new_record socket) refl) k)
+
+-- a create keeps what is known
+pub creates_keep : (es : List Entry) (m : Machine) (own : OpId) (ctx : WasiSocketsCtx) (family : SocketAddressFamily) → Keeps es m.store.records → Allows Anything (λ fs done. Keeps fs done.1.store.records) es (create_asks m own ctx family)
+creates_keep es m own ctx family i =
+    allows_weaker Anything (λ fs done. Keeps fs m.store.records × Adds m done.1) (λ fs done. Keeps fs done.1.store.records) (λ fs done k. k.1 fs k.0) es _
+    (kept m.store.records (λ fs done. Adds m done.1) es (create_asks m own ctx family) i (allows_then Unpeered (λ fs made. ⊤) (λ fs done. Adds m done.1) es (new_asks own ctx family) (created_asks m own) (new_quiet es own ctx family) (λ fs made t. socket_adds fs m own made)))
+
+-- a create of a UDP socket was answered
+pub begun_keeps : (es : List Entry) (h : Here) (own : OpId) (maker : ℕ) (family : SocketAddressFamily) (told : Told) → IsDoneOrCode told → Keeps es h.machine.store.records
+    → Keeps (es ++ entry own (Call.UdpCreate maker family) told ∷ []) (udp_begun h (udp_after_create own maker family (told_done told))).machine.store.records
+begun_keeps es h own maker family Told.Done f i = push_udps _ h.machine.store.records (Udp2Socket.Creating (new_create own maker family)) (has_last es _) (asked es h.machine.store.records own (Call.UdpCreate maker family) Told.Done (quiet _ _ tt) i)
+begun_keeps es h own maker family (Told.Code c) f i = asked es h.machine.store.records own (Call.UdpCreate maker family) (Told.Code c) (quiet _ _ tt) i
+begun_keeps es h own maker family _ f i = absurd f
+
+-- what is learnt of whether it is bound leaves the rest
+pub learnt_keeps : (fs : List Entry) (o : OpenUdp) (told : Result IpSocketAddress ErrorCode) → OpenKeeps fs o → OpenKeeps fs (with_udp_inner o (udp_after_local o.inner told).1)
+learnt_keeps fs o (Ok a) k = by_test (is_wildcard o.inner.family a)
+  where
+    by_test : (b : Bool) → (let answer : Bool × UdpSocket = if b then (false, o.inner) else (true, record o.inner { bound = true }) in OpenKeeps fs (with_udp_inner o answer.1))
+    by_test true = record { created = k.created; remote = k.remote; connects = k.connects; receives = k.receives; receiver = k.receiver }
+    by_test false = record { created = k.created; remote = k.remote; connects = k.connects; receives = k.receives; receiver = k.receiver }
+learnt_keeps fs o (Err c) k = record { created = k.created; remote = k.remote; connects = k.connects; receives = k.receives; receiver = k.receiver }
+
+-- == a turn of a writer, and what is released
+-- one poll of a write
+job_keeps : (es : List Entry) (made : Option OpId) (job : Job) (end : End) → JobBy made job → Allows Unpeered (λ fs j. JobBy made j) es (job_in job end)
+job_keeps es made job Waits k = allows_then Unpeered (λ fs ended. AreSilent ended.1) (λ fs j. JobBy made j) es (poll_asks job.write) _ (silent_poll job.write es k.1) (λ fs ended s. (k.0, s))
+job_keeps es made job _ k = k
+
+-- a turn of a writer
+turn_keeps : (es : List Entry) (made : Option OpId) (w : WriteState) → WritesBy made w → Allows Unpeered (λ fs done. WritesBy made done.1) es (turn_asks w)
+turn_keeps es made (WriteState.Writing job) k = allows_then Unpeered (λ fs j. JobBy made j) (λ fs done. WritesBy made done.1) es (job_asks job) _ (job_keeps es made job job.end k) (λ fs j m. m)
+turn_keeps es made (WriteState.Closing job) k = allows_then Unpeered (λ fs j. JobBy made j) (λ fs done. WritesBy made done.1) es (job_asks job) _ (job_keeps es made job job.end k) (λ fs j m. m)
+turn_keeps es made _ k = k
+
+-- a turn keeps what is known
+pub turned_keeps : (es : List Entry) (h : Here) (place : ℕ) (r : Tcp2Socket) (s : Streams) → Found h place r → r.streams ≡ Some s → Keeps es h.machine.store.records → Allows Anything (λ fs done. Keeps fs (tcp2_put h.machine.store.records place (with_writer r s done.1))) es (turn_asks s.writer)
+turned_keeps es h place r s g e i =
+    let k = i.tcps place r g s e in
+    allows_weaker Anything (λ fs done. Keeps fs h.machine.store.records × WritesBy r.side done.1) (λ fs done. Keeps fs (tcp2_put h.machine.store.records place (with_writer r s done.1)))
+    (λ fs done m. put_tcp fs h.machine.store.records place (with_writer r s done.1) (with_these (with_writer r s done.1) (record s { writer = done.1 }) refl (k.0, m.1)) m.0) es (turn_asks s.writer)
+    (kept h.machine.store.records (λ fs done. WritesBy r.side done.1) es (turn_asks s.writer) i (turn_keeps es r.side s.writer k.1))
+
+-- what is released asks for no remote address
+pub given_up : (es : List Entry) (l : Listening) → Allows Unpeered (λ fs done. ⊤) es (give_up_asks l)
+given_up es Not = tt
+given_up es (Begins op) = cancels (is_over op)
+  where
+    cancels : (over : Bool) → Allows Unpeered (λ fs done. ⊤) es (if over then Give tt else ask_close op.who.id op.who.side)
+    cancels true = tt
+    cancels false = (tt, λ told f. tt)
+given_up es (Accepts l) = by_accept l.accept
+  where
+    refuses : (who : Who) (o : Option IpSocketAddress) → Allows Unpeered (λ fs done. ⊤) es (refuse_in who o)
+    refuses who None = tt
+    refuses who (Some peer) = (tt, λ told f. tt)
+
+    by_accept : (a : Accepting) → Allows Unpeered (λ fs done. ⊤) es (give_up_in a)
+    by_accept Accepting.Idle = tt
+    by_accept (Accepting.Asking op) = refuses op.who (in_hand op.left)
+    by_accept (Accepting.Arrived new peer) = (tt, λ told f. tt)
+    by_accept (Accepting.Failed c) = tt
+given_up es (Unclosed side) = (tt, λ told f. tt)
+
+-- == moves
+-- a UDP socket that changes plainly
+plain_keeps : (es : List Entry) (o now : OpenUdp) → UdpPlain o now → OpenKeeps es o → OpenKeeps es now
+plain_keeps es o now p k = record {
+  created = rw (p.side, p.maker, p.family) k.created;
+  remote = rw (p.side, p.remote) k.remote;
+  connects = rw (p.family, p.connects) k.connects;
+  receives = rw p.side (incoming_kept es o.inner.side o.incoming now.incoming p.receives p.came k.receives);
+  receiver = rw p.maker (kept_op (ReceivesFor o.inner.maker) tt (receiving_in o.incoming) (receiving_in now.incoming) p.receives k.receiver);
+}
+
+-- a receive that begins has nothing in hand
+begun_empty : (es : List Entry) (own side : OpId) (bound : Bool) → InHand es own side (receive_left None (receive_first bound))
+begun_empty es own side true = tt
+begun_empty es own side false = tt
+
+module _ (contexts : List WasiSocketsCtx) (line : ℕ) (origin : Step) where
+  -- each move keeps what is known of the records
+  pub moves_keep : (es : List Entry) (h now : Here) → Move line origin h now → Base contexts line origin h → Keeps es h.machine.store.records → Keeps es now.machine.store.records
+  moves_keep es _ _ (walk.Changes h place r now g p) b i = put_tcp es _ place now (same_streams r now p.side p.streams (i.tcps place r g)) i
+  moves_keep es _ _ (walk.ClosesReader h place r s g e) b i = put_tcp es _ place _ (with_these (with_reader r s ReadState.Closed) _ refl (tt, (i.tcps place r g s e).1)) i
+  moves_keep es _ _ (walk.Writes h place r s w g e m) b i = let k = i.tcps place r g s e in put_tcp es _ place _ (with_these (with_writer r s w) _ refl (k.0, writer_moves r.side s.writer w m k.1)) i
+  moves_keep es _ _ (walk.IsGone h place r q g e) b i = put_tcp es _ place _ (with_none (gone r r.inner) refl) i
+  moves_keep es _ _ (walk.Reconnects h place r c now g e s t u) b i = put_tcp es _ place _ (i.tcps place r g) i
+  moves_keep es _ _ (walk.Opens h place r c d g e k) b i = let made : r.side ≡ Some c.side = b.1.named c.side place r g (ap side_in e) in put_tcp es _ place _ (with_these (opened_by r c) _ refl (made, made)) i
+  moves_keep es _ _ (walk.BeginsConnect h place r side a bound at g d to known idle own) b i = put_tcp es _ place _ (i.tcps place r g) i
+  moves_keep es _ _ (walk.BeginsBind h place r side a at g d to idle own) b i = put_tcp es _ place _ (i.tcps place r g) i
+  moves_keep es _ _ (walk.BeginsWrite h place r s half permit bytes at g e w within own) b i =
+      let k = i.tcps place r g s e in
+      let made : r.side ≡ Some half.side = subst (WritesBy r.side) w k.1 in
+      put_tcp es _ place _ (with_these (with_writer r s (WriteState.Writing (new_job (own_of line) half.side bytes))) _ refl (k.0, (made, (tt, tt)))) i
+  moves_keep es _ _ (walk.BeginsListen h place r side at g d bound none to idle own) b i = put_tcp es _ place _ (i.tcps place r g) i
+  moves_keep es _ _ (walk.BeginsAccept h place r l at g e a own) b i = put_tcp es _ place _ (i.tcps place r g) i
+  moves_keep es _ _ (walk.Unlistens h place r op q g e c o) b i = put_tcp es _ place _ (i.tcps place r g) i
+  moves_keep es _ _ (walk.Forgets h place r l c g e a) b i = put_tcp es _ place _ (i.tcps place r g) i
+  moves_keep es _ _ (walk.Joins h c handle place r l new peer is of u g e a) b i = push_tcp es _ (joined l new peer) (with_these (joined l new peer) _ refl (refl, refl)) (put_tcp es _ place _ (i.tcps place r g) i)
+  moves_keep es _ _ (walk.UdpChanges h place o now g p) b i = put_udps es _ place (Udp2Socket.Open now) (plain_keeps es o now p (i.udps place (Udp2Socket.Open o) g)) i
+  moves_keep es _ _ (walk.BeginsUdpBind h place o a at g to idle own) b i = let k = i.udps place (Udp2Socket.Open o) g in put_udps es _ place (Udp2Socket.Open _) (record { created = k.created; remote = k.remote; connects = k.connects; receives = k.receives; receiver = k.receiver }) i
+  moves_keep es _ _ (walk.BeginsUdpConnect h place o a at g to bound own) b i = let k = i.udps place (Udp2Socket.Open o) g in put_udps es _ place (Udp2Socket.Open _) (record { created = k.created; remote = k.remote; connects = Whole a; receives = k.receives; receiver = k.receiver }) i
+  moves_keep es _ _ (walk.BeginsSend h place n o out d bound at g e is known own) b i = let k = i.udps place (Udp2Socket.Open o) g in put_udps es _ place (Udp2Socket.Open _) (record { created = k.created; remote = k.remote; connects = k.connects; receives = k.receives; receiver = k.receiver }) i
+  moves_keep es _ _ (walk.BeginsReceive h place n o inc bound at g e own) b i =
+      let k = i.udps place (Udp2Socket.Open o) g in
+      put_udps es _ place (Udp2Socket.Open _) (record { created = k.created; remote = k.remote; connects = k.connects; receives = begun_empty es (part_of line n) o.inner.side bound; receiver = refl }) i
+  moves_keep es _ _ _ b i = i
+
+  -- the law: the calls may be any
+  unfoldable pub remotes : Above contexts line origin (λ es h. Base contexts line origin h)
+  remotes = record {
+    P = Anything;
+    Inv = λ es h. Keeps es h.machine.store.records;
+    moves = moves_keep;
+    asks = λ es h place n r side c at g o q b i. (tt, λ told f. asked es _ (own_of n) c told (tcp_spares line origin n es h place r side c g o q b.1 i) i);
+    sets = λ es h place r side backlog at g s is b i. (tt, λ told f. asked es _ (own_of line) _ told (quiet _ _ tt) i);
+    learns = λ es h place r side at g e b i. (tt, λ told f. put_tcp _ _ place _ (i.tcps place r g) (asked es _ (own_of line) _ told (quiet _ _ tt) i));
+    closes = λ es h place r side q g e b i. (tt, λ told f. put_tcp _ _ place (closed_record r) (with_none (closed_record r) refl) (asked es _ (own_of line) _ told (quiet _ _ tt) i));
+    marks = λ es h kind parent sock m b i. marks_keep es _ h.machine.table (own_of line) kind parent sock i;
+    creates = λ es h ctx family c a o m b i. creates_keep es h.machine (own_of line) ctx family i;
+    accepted = λ es h c s place r is e o g b i. marks_keep es _ h.machine.table (own_of line) (Tcp2 place) (Some s) _ i;
+    polls = λ es h op after k b i. polls_keep contexts line origin es h op after k b i;
+    turns = λ es h place r s g e b i. turned_keeps es h place r s g e i;
+    gives_up = λ es h place r q g b i.
+        allows_weaker Anything (λ fs done. Keeps fs h.machine.store.records × ⊤) (λ fs done. Keeps fs (tcp2_put h.machine.store.records place (with_listening r Not)))
+        (λ fs done k. put_tcp fs _ place (with_listening r Not) (i.tcps place r g) k.0) es _ (kept h.machine.store.records (λ fs done. ⊤) es (give_up_asks r.listening) i (given_up es r.listening));
+    udp_asks = λ es h place n o c at g q b i. (tt, λ told f. asked es _ (own_of n) c told (quiet _ c (udp_question_quiet line origin n o.inner.side c q)) i);
+    udp_peers = λ es h place o at g b i. (tt, λ told f. peer_keeps line es h place o (own_of line) told g b.1 i);
+    udp_learns = λ es h place part o at g b i. (tt, λ told f. (let k = asked es h.machine.store.records (part_of line part) (Call.Local o.inner.side) told (quiet _ _ tt) i in put_udps _ _ place (Udp2Socket.Open _) (learnt_keeps _ o (told_addr told) (k.udps place (Udp2Socket.Open o) g)) k));
+    udp_closes = λ es h place o q g b i. (tt, λ told f. put_udps _ _ place (Udp2Socket.Closed o.inner.side) tt (asked es _ (own_of line) _ told (quiet _ _ tt) i));
+    udp_creates = λ es h ctx family c may a o m b i. (tt, λ told f. begun_keeps es h (own_of line) ctx.name family told f i);
+    udp_marks = λ es h place u g b i. marks_keep es _ h.machine.table (udp_side u) (Udp2 place) None (Some (udp_side u)) i;
+    stream_marks = λ es h place n handle kind m k e b i. marks_keep es _ h.machine.table (own_of n) kind (Some handle) _ i;
+  }

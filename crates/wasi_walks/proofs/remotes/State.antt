@@ -1,0 +1,327 @@
+-- What is known of the records: of a UDP socket that its create was answered, that the remote address it keeps is what was reported
+-- last, that its connect is of its family, and that it has received what its incoming stream holds; of a TCP socket that its streams
+-- are of its network socket, and write.
+use Rattle.wasi_walks.proofs.Words.{Allows, Asks, Call, Done, End, Entry, Has, IpSocketAddress, IsMaker, Item, Job, List, None, OpId, Operation}
+use Rattle.wasi_walks.proofs.Words.{Option, ReadState, Refused, SocketAddressFamily, Some, Streams, Tcp2Socket, Told, Waits, Write, WriteState, []}
+use Rattle.wasi_walks.proofs.Words.{allows_keep, ap, closed_by, collected, entry, first_state, inl, inr, refl, subst, sym, then_closed, written_by, ℕ, ⊤, ◌++◌}
+use Rattle.wasi_walks.proofs.Words.{◌∙◌, ◌∷◌, ◌≡◌}
+use Rattle.wasi_world.specs.Operation.{CheckPeer, Nothing}
+use Rattle.wasi_world.specs.declared.datagram.IncomingDatagram.{IncomingDatagram}
+use Rattle.wasi_host.specs.Records.{tcp2_at, tcp2_put, tcp2_pushed, udp2_at, udp2_put, udp2_pushed}
+use Rattle.wasi_host.specs.declared.datagrams.Incoming.{Incoming as IncomingStream}
+use Rattle.wasi_host.specs.declared.datagrams.Receiving.{Receiving}
+use Rattle.wasi_host.specs.declared.records.Record.{Record}
+use Rattle.wasi_host.specs.declared.udp.OpenUdp.{OpenUdp}
+use Rattle.wasi_host.specs.declared.udp.Udp2Socket.{Udp2Socket}
+use Rattle.wasi_walks.specs.Licence.{IsReceived, UdpCreated}
+use Rattle.wasi_walks.proofs.Lists.{cut_more, get_set, get_split, has_front}
+use Rattle.wasi_walks.proofs.UdpLists.{tcp_of_put, tcp_of_push, udp_of_put, udp_of_push, udp_get_set, udp_split}
+use Rattle.wasi_walks.proofs.walks.Moves.{Here, FoundUdp, KeepsCame, KeepsOp, WriterMoves, Collects, Permits, Lasts, LastsAfter, Closes, came_in, came_of, receive_op, receiving_in}
+use Rattle.wasi_walks.proofs.fits.Polls.{Anything}
+use Rattle.wasi_walks.proofs.fits.UdpFits.{kept_op}
+use Rattle.wasi_walks.proofs.licence.Frames.{maker_more}
+use Rattle.wasi_walks.proofs.licence.State.{RemoteIs}
+use Rattle.wasi_walks.proofs.remotes.Polls.{NoPeer, Unpeered, AreSilent}
+use Rattle.wasi_walks.proofs.remotes.ConnectPolls.{ConnectLeft, remote_more, none_kept}
+
+-- == what is to be shown
+-- the remote address that an open UDP socket keeps is what the network reported last
+abbrev pub Remotes : List Entry → Here → Type 0
+Remotes es h = (place : ℕ) (o : OpenUdp) → FoundUdp h place (Udp2Socket.Open o) → RemoteIs es o.inner.side o.inner.remote
+
+-- the create of the network socket was answered done
+abbrev pub IsCreated : List Entry → OpId → ℕ → SocketAddressFamily → Type 0
+IsCreated es side maker family = Has es (entry side (Call.UdpCreate maker family) Told.Done)
+
+-- the create of each UDP socket that is there, or is being made
+abbrev pub CreatedBy : List Entry → Udp2Socket → Type 0
+CreatedBy es (Udp2Socket.Creating create) = IsCreated es create.operation.who.side create.operation.who.context create.family
+CreatedBy es (Udp2Socket.Open o) = IsCreated es o.inner.side o.inner.maker o.inner.family
+CreatedBy es (Udp2Socket.Closed side) = ⊤
+
+-- the create of each UDP socket was answered done
+abbrev pub Creates : List Entry → Here → Type 0
+Creates es h = (place : ℕ) (u : Udp2Socket) → FoundUdp h place u → CreatedBy es u
+
+-- == receives
+-- a receive that has a datagram in hand was told it
+abbrev pub InHand : List Entry → OpId → OpId → List Item → Type 0
+InHand es op side (CheckPeer only bytes peer ∷ items) = Has es (entry op (Call.Recv side) (Told.Datagram bytes peer))
+InHand es op side _ = ⊤
+
+-- what is known of a receive: what it has in hand, or what has come
+abbrev pub ReceivingKnows : List Entry → OpId → Receiving → Type 0
+ReceivingKnows es side (Receiving.InProgress op) = InHand es op.who.id side op.left
+ReceivingKnows es side (Receiving.Came d) = IsReceived es side d
+ReceivingKnows es side _ = ⊤
+
+-- and of an incoming stream, if there is one
+abbrev pub IncomingKnows : List Entry → OpId → Option IncomingStream → Type 0
+IncomingKnows es side (Some inc) = ReceivingKnows es side inc.receiving
+IncomingKnows es side None = ⊤
+
+-- of the receive in progress alone
+abbrev HandKnows : List Entry → OpId → Option Operation → Type 0
+HandKnows es side (Some op) = InHand es op.who.id side op.left
+HandKnows es side None = ⊤
+
+-- of what has come alone
+abbrev CameKnows : List Entry → OpId → Option IncomingDatagram → Type 0
+CameKnows es side (Some d) = IsReceived es side d
+CameKnows es side None = ⊤
+
+-- a receive in progress asks for this creator of the network socket
+abbrev pub ReceivesFor : ℕ → Option Operation → Type 0
+ReceivesFor maker (Some op) = op.who.context ≡ maker
+ReceivesFor maker None = ⊤
+
+-- == UDP sockets
+-- a connect in progress is of this family
+abbrev pub ConnectsBy : SocketAddressFamily → Option Operation → Type 0
+ConnectsBy family (Some op) = ConnectLeft family Nothing op.left
+ConnectsBy family None = ⊤
+
+-- An open socket was created, keeps what was reported last, connects by a connect of its family, and receives for its creator what
+-- was received.
+pub record OpenKeeps (es : List Entry) (o : OpenUdp) : Type 0 where
+  pub created : IsCreated es o.inner.side o.inner.maker o.inner.family
+  pub remote : RemoteIs es o.inner.side o.inner.remote
+  pub connects : ConnectsBy o.inner.family o.connecting
+  pub receives : IncomingKnows es o.inner.side o.incoming
+  pub receiver : ReceivesFor o.inner.maker (receiving_in o.incoming)
+
+-- what is known of a UDP socket
+abbrev pub UdpKeeps : List Entry → Udp2Socket → Type 0
+UdpKeeps es (Udp2Socket.Open o) = OpenKeeps es o
+UdpKeeps es u = CreatedBy es u
+
+-- == TCP sockets
+-- the half that is read is of this network socket
+abbrev pub ReadsBy : Option OpId → ReadState → Type 0
+ReadsBy made (ReadState.Open half) = made ≡ Some half.side
+ReadsBy made ReadState.Closed = ⊤
+
+-- a write is on this network socket, and asks for no remote address
+abbrev pub JobBy : Option OpId → Job → Type 0
+JobBy made job = (made ≡ Some job.write.who.side) × AreSilent job.write.left
+
+-- the half that is written is of it
+abbrev pub WritesBy : Option OpId → WriteState → Type 0
+WritesBy made (WriteState.Ready half permit) = made ≡ Some half.side
+WritesBy made (WriteState.Writing job) = JobBy made job
+WritesBy made (WriteState.Closing job) = JobBy made job
+WritesBy made (WriteState.Closed e) = ⊤
+
+-- both are
+abbrev pub StreamsBy : Option OpId → Streams → Type 0
+StreamsBy made s = ReadsBy made s.reader × WritesBy made s.writer
+
+-- the streams are of the network socket that the record was made with
+abbrev pub TcpKeeps : Tcp2Socket → Type 0
+TcpKeeps r = (s : Streams) → r.streams ≡ Some s → StreamsBy r.side s
+
+-- Each record is as it should be.
+pub record Keeps (es : List Entry) (records : List Record) : Type 0 where
+  pub udps : (place : ℕ) (u : Udp2Socket) → udp2_at records place ≡ Some u → UdpKeeps es u
+  pub tcps : (place : ℕ) (r : Tcp2Socket) → tcp2_at records place ≡ Some r → TcpKeeps r
+
+-- == what it says
+-- there are no records at first
+pub first_keeps : (es : List Entry) → Keeps es first_state.store.records
+first_keeps es = record { udps = λ place u e. absurd (cc); tcps = λ place r e. absurd (cc) }
+
+-- of remote addresses
+pub remotes_in : (es : List Entry) (h : Here) → Keeps es h.machine.store.records → Remotes es h
+remotes_in es h k place o g = (k.udps place (Udp2Socket.Open o) g).remote
+
+-- of one create
+created_by : (es : List Entry) (u : Udp2Socket) → UdpKeeps es u → CreatedBy es u
+created_by es (Udp2Socket.Creating create) k = k
+created_by es (Udp2Socket.Open o) k = k.created
+created_by es (Udp2Socket.Closed side) k = tt
+
+-- of the creates
+pub creates_in : (es : List Entry) (h : Here) → Keeps es h.machine.store.records → Creates es h
+creates_in es h k place u g = created_by es u (k.udps place u g)
+
+-- who made it, and of which family
+pub maker_of : (es : List Entry) (o : OpenUdp) → OpenKeeps es o → IsMaker es o.inner.maker o.inner.family o.inner.side
+maker_of es o k = UdpCreated o.inner.side Told.Done k.created
+
+-- == a record changes, or joins them
+-- a TCP socket changes
+pub put_tcp : (es : List Entry) (records : List Record) (place : ℕ) (now : Tcp2Socket) → TcpKeeps now → Keeps es records → Keeps es (tcp2_put records place now)
+put_tcp es records place now f k = record {
+  udps = λ i u e. k.udps i u (udp_of_put records place now i u e);
+  tcps = λ i r e. elim (get_set records place now i r e) [ inl p ↦ subst TcpKeeps p.1 f | inr p ↦ k.tcps i r p ];
+}
+
+-- a TCP socket joins them
+pub push_tcp : (es : List Entry) (records : List Record) (now : Tcp2Socket) → TcpKeeps now → Keeps es records → Keeps es (tcp2_pushed records now)
+push_tcp es records now f k = record {
+  udps = λ i u e. k.udps i u (udp_of_push records now i u e);
+  tcps = λ i r e. elim (get_split records now i r e) [ inl p ↦ k.tcps i r p | inr p ↦ subst TcpKeeps p f ];
+}
+
+-- a UDP socket changes
+pub put_udps : (es : List Entry) (records : List Record) (place : ℕ) (now : Udp2Socket) → UdpKeeps es now → Keeps es records → Keeps es (udp2_put records place now)
+put_udps es records place now f k = record {
+  udps = λ i u e. elim (udp_get_set records place now i u e) [ inl p ↦ subst (UdpKeeps es) p.1 f | inr p ↦ k.udps i u p ];
+  tcps = λ i r e. k.tcps i r (tcp_of_put records place now i r e);
+}
+
+-- a UDP socket joins them
+pub push_udps : (es : List Entry) (records : List Record) (now : Udp2Socket) → UdpKeeps es now → Keeps es records → Keeps es (udp2_pushed records now)
+push_udps es records now f k = record {
+  udps = λ i u e. elim (udp_split records now i u e) [ inl p ↦ k.udps i u p | inr p ↦ subst (UdpKeeps es) p.0 f ];
+  tcps = λ i r e. k.tcps i r (tcp_of_push records now i r e);
+}
+
+-- == what an incoming stream holds, under more entries
+-- a datagram that was received
+pub received_more : (es fs : List Entry) (side : OpId) (d : IncomingDatagram) → IsReceived es side d → IsReceived (es ++ fs) side d
+received_more es fs side d r = record {
+  op = r.op;
+  front = r.front;
+  back = r.back ++ fs;
+  cut = cut_more es fs r.front r.back _ r.cut;
+  yes = record { ctx = r.yes.ctx; family = r.yes.family; maker = maker_more es fs r.yes.ctx r.yes.family side r.yes.maker; checked = has_front r.back fs _ r.yes.checked };
+}
+
+-- one that is in hand
+pub in_hand_more : (es fs : List Entry) (op side : OpId) (items : List Item) → InHand es op side items → InHand (es ++ fs) op side items
+in_hand_more es fs op side (CheckPeer only bytes peer ∷ items) k = has_front es fs _ k
+in_hand_more es fs op side _ k = tt
+
+-- either
+pub receiving_more : (es fs : List Entry) (side : OpId) (r : Receiving) → ReceivingKnows es side r → ReceivingKnows (es ++ fs) side r
+receiving_more es fs side (Receiving.InProgress op) k = in_hand_more es fs op.who.id side op.left k
+receiving_more es fs side (Receiving.Came d) k = received_more es fs side d k
+receiving_more es fs side _ k = tt
+
+-- of a stream, if there is one
+pub incoming_more : (es fs : List Entry) (side : OpId) (inc : Option IncomingStream) → IncomingKnows es side inc → IncomingKnows (es ++ fs) side inc
+incoming_more es fs side (Some inc) k = receiving_more es fs side inc.receiving k
+incoming_more es fs side None k = tt
+
+-- == one more entry
+-- the call asks no network socket for its remote address, of which one is kept
+abbrev pub Spares : List Record → Call → Type 0
+Spares records c = (place : ℕ) (o : OpenUdp) → udp2_at records place ≡ Some (Udp2Socket.Open o) → c ≡ Call.Peer o.inner.side → o.inner.remote ≡ None
+
+peer_side : (a b : OpId) → Call.Peer a ≡ Call.Peer b → a ≡ b
+peer_side a b e = cc
+
+-- where none is kept, any call leaves it so
+remote_unless : (es : List Entry) (op : OpId) (c : Call) (told : Told) (side : OpId) (remote : Option IpSocketAddress) → (c ≡ Call.Peer side → remote ≡ None) → RemoteIs es side remote → RemoteIs (es ++ entry op c told ∷ []) side remote
+remote_unless es op c told side None n k = none_kept _ side None refl
+remote_unless es op c told side (Some a) n k = remote_more es op c told side (Some a) (λ e. let p : Some a ≡ None = n e in absurd (cc)) k
+
+-- what is known of a UDP socket, under one more entry
+udp_more : (es : List Entry) (op : OpId) (c : Call) (told : Told) (u : Udp2Socket) → ((o : OpenUdp) → u ≡ Udp2Socket.Open o → c ≡ Call.Peer o.inner.side → o.inner.remote ≡ None) → UdpKeeps es u → UdpKeeps (es ++ entry op c told ∷ []) u
+udp_more es op c told (Udp2Socket.Creating create) n k = has_front es _ _ k
+udp_more es op c told (Udp2Socket.Open o) n k = record {
+  created = has_front es _ _ k.created;
+  remote = remote_unless es op c told o.inner.side o.inner.remote (n o refl) k.remote;
+  connects = k.connects;
+  receives = incoming_more es _ o.inner.side o.incoming k.receives;
+  receiver = k.receiver;
+}
+udp_more es op c told (Udp2Socket.Closed side) n k = tt
+
+-- a call that spares them keeps what is known
+pub asked : (es : List Entry) (records : List Record) (op : OpId) (c : Call) (told : Told) → Spares records c → Keeps es records → Keeps (es ++ entry op c told ∷ []) records
+asked es records op c told n k = record { udps = λ i u e. udp_more es op c told u (λ o p. n i o (e ∙ ap (λ (x : Udp2Socket). Some x) p)) (k.udps i u e); tcps = k.tcps }
+
+-- a call that asks for no remote address spares them
+pub quiet : (records : List Record) (c : Call) → NoPeer c → Spares records c
+quiet records c n place o g e = absurd (subst NoPeer e n)
+
+-- what asks for no remote address
+pub kept : {A : Type 0} (records : List Record) (Q : List Entry → A → Type 0) (es : List Entry) (asks : Asks A) → Keeps es records → Allows Unpeered Q es asks → Allows Anything (λ fs a. Keeps fs records × Q fs a) es asks
+kept records Q es asks k a = allows_keep Unpeered Anything (λ fs. Keeps fs records) Q (λ fs op c t fits m n. asked fs records op c t (quiet records c n) m) (λ fs op c n. tt) es asks k a
+
+-- == a stream of datagrams that keeps what it has, or has it no more
+-- what is known of the receive in progress
+hand_of : (es : List Entry) (side : OpId) (inc : Option IncomingStream) → IncomingKnows es side inc → HandKnows es side (receiving_in inc)
+hand_of es side None k = tt
+hand_of es side (Some inc) k = of inc.receiving k
+  where
+    of : (r : Receiving) → ReceivingKnows es side r → HandKnows es side (receive_op r)
+    of (Receiving.InProgress op) k = k
+    of _ k = tt
+
+-- and of what has come
+came_known : (es : List Entry) (side : OpId) (inc : Option IncomingStream) → IncomingKnows es side inc → CameKnows es side (came_in inc)
+came_known es side None k = tt
+came_known es side (Some inc) k = of inc.receiving k
+  where
+    of : (r : Receiving) → ReceivingKnows es side r → CameKnows es side (came_of r)
+    of (Receiving.Came d) k = k
+    of _ k = tt
+
+-- so of all of it
+knows_both : (es : List Entry) (side : OpId) (inc : Option IncomingStream) → HandKnows es side (receiving_in inc) → CameKnows es side (came_in inc) → IncomingKnows es side inc
+knows_both es side None k l = tt
+knows_both es side (Some inc) k l = of inc.receiving k l
+  where
+    of : (r : Receiving) → HandKnows es side (receive_op r) → CameKnows es side (came_of r) → ReceivingKnows es side r
+    of (Receiving.InProgress op) k l = k
+    of (Receiving.Came d) k l = l
+    of _ k l = tt
+
+-- a plain change leaves it
+pub incoming_kept : (es : List Entry) (side : OpId) (old now : Option IncomingStream) → KeepsOp (receiving_in old) (receiving_in now) → KeepsCame (came_in old) (came_in now) → IncomingKnows es side old → IncomingKnows es side now
+incoming_kept es side old now p q k = knows_both es side now
+    (kept_op (HandKnows es side) tt (receiving_in old) (receiving_in now) p (hand_of es side old k))
+    (kept_op (CameKnows es side) tt (came_in old) (came_in now) q (came_known es side old k))
+
+-- == streams
+-- the same streams
+some_streams : (a b : Streams) → Some a ≡ Some b → a ≡ b
+some_streams a b e = cc
+
+-- a record with these streams
+pub with_these : (now : Tcp2Socket) (s : Streams) → now.streams ≡ Some s → StreamsBy now.side s → TcpKeeps now
+with_these now s e k t f = subst (StreamsBy now.side) (some_streams s t (sym e ∙ f)) k
+
+-- a record with none
+pub with_none : (now : Tcp2Socket) → now.streams ≡ None → TcpKeeps now
+with_none now e s f = let p : None ≡ Some s = sym e ∙ f in absurd (cc)
+
+-- a record with the same ones
+pub same_streams : (r now : Tcp2Socket) → now.side ≡ r.side → now.streams ≡ r.streams → TcpKeeps r → TcpKeeps now
+same_streams r now p q k s e = subst (λ (x : Option OpId). StreamsBy x s) (sym p) (k s (sym q ∙ e))
+
+-- a write that ended is collected
+written : (made : Option OpId) (job : Job) (end : End) → JobBy made job → WritesBy made (written_by job end)
+written made job Waits k = k
+written made job (Done given) k = k.0
+written made job (Refused c given) k = tt
+
+-- a last write that ended is collected
+closed : (made : Option OpId) (job : Job) (end : End) → JobBy made job → WritesBy made (closed_by job end)
+closed made job Waits k = k
+closed made job (Done given) k = tt
+closed made job (Refused c given) k = tt
+
+-- either of them
+collects : (made : Option OpId) (w : WriteState) → WritesBy made w → WritesBy made (collected w)
+collects made (WriteState.Ready half permit) k = k
+collects made (WriteState.Writing job) k = written made job job.end k
+collects made (WriteState.Closing job) k = closed made job job.end k
+collects made (WriteState.Closed e) k = tt
+
+-- a write that is to be the last
+closing : (items : List Item) → AreSilent items → AreSilent (then_closed items)
+closing [] k = tt
+closing (Write rest ∷ items) k = (tt, (tt, tt))
+closing (i ∷ items) k = k
+
+-- the moves of a writer
+pub writer_moves : (made : Option OpId) (old now : WriteState) → WriterMoves old now → WritesBy made old → WritesBy made now
+writer_moves made _ _ (Collects w) k = collects made w k
+writer_moves made _ _ (Permits half old) k = k
+writer_moves made _ _ (Lasts job) k = k
+writer_moves made _ _ (LastsAfter job) k = (k.0, closing job.write.left k.1)
+writer_moves made _ _ (Closes w e) k = tt

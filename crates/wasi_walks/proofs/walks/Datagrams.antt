@@ -1,0 +1,241 @@
+-- The datagram streams of a UDP socket are made, as moves: with a connect before, or a disconnect, and then their handles.
+use Rattle.std.specs.Prelude.{◌≡◌, ⊤, ℕ, Bool, true, false, if◌then◌else◌, Option, Some, None, Result, Ok, Err}
+use Rattle.wasi_addr.specs.declared.address.IpSocketAddress.{IpSocketAddress}
+use Rattle.wasi_addr.specs.Address.{is_wildcard}
+use Rattle.wasi_walks.proofs.Words.{Answer, ErrorCode, Give, Has, Item, End, Waits, Done, Refused, Machine, Operation, Pending, Ready, Records, StandingCall, Step, Stop, WasiSocketsCtx, List}
+use Rattle.wasi_walks.proofs.Words.{ap, bind, handles_of, kind_at, left_of, own_of, poll_asks, refl, sym, subst, told_done, Handles, Kind, inl, inr, is_full, make_asks, name_of, with_handle, table_parent, ask_made, Full, Trap, InvalidArgument}
+use Rattle.wasi_machine.specs.Machine.{first_ids}
+use Rattle.wasi_world.specs.declared.ids.Ids.{Ids}
+use Rattle.wasi_world.specs.declared.ids.OpId.{OpId}
+use Rattle.wasi_host.specs.DatagramCalls.{start_streams_by, start_streams_at, reconnect_udp_at, second_made, outgoing_made, mark_streams_of, streams_so, remake_streams_asks}
+use Rattle.wasi_host.specs.Datagrams.{has_streams, with_streams, udp_connect_ended, poll_udp_connecting, udp_connect_begun, disconnected, disconnect_streams, streams_to, streams_where, begin_streams_asks}
+use Rattle.wasi_host.specs.Kinds.{udp_of}
+use Rattle.wasi_host.specs.Records.{open_at, udp2_at}
+use Rattle.wasi_host.specs.declared.kind.Kind.TheVariants as kinds
+use Rattle.wasi_host.specs.declared.udp.OpenUdp.{OpenUdp}
+use Rattle.wasi_host.specs.declared.udp.Udp2Socket.{Udp2Socket}
+use Rattle.wasi_host.specs.Machine.{udp_socket_at}
+use Rattle.wasi_host.specs.Udp.{with_udp_inner}
+use Rattle.wasi_host.specs.UdpCalls.{udp_call_answered}
+use Rattle.wasi_host.specs.UdpCreates.{udp_side_at}
+use Rattle.wasi_p2.specs.Udp.{udp_stream_on}
+use Rattle.wasi_udp.specs.Connect.{connect_asks, connect_start, is_connectable}
+use Rattle.wasi_udp.specs.Shape.{Socket}
+use Rattle.wasi_udp.specs.Socket.{after_local, ask_bound, bound_asks, disconnect_asks, disconnect_in, is_connected, then_peer}
+use Rattle.wasi_walks.proofs.Lists.{value_front}
+use Rattle.wasi_walks.specs.Licence.{IsUdpConnectTo}
+use Rattle.wasi_walks.proofs.walks.Moves.{Here, ToStream, Own, put_udp, FoundUdp, NoStart, NoStartStands, ReachesUdp, Leaves, Spends, UdpChanges, RemembersStreams, BeginsUdpConnect, StandsUdpConnect, Used, Unused}
+use Rattle.wasi_walks.proofs.walks.Law.{Law, Walks, Given, given_then, given_on, give, and_then, and_given, move, gives, from}
+use Rattle.wasi_walks.proofs.walks.States.{OverWith, Starts, udp_record}
+use Rattle.wasi_walks.proofs.walks.Udp.{bound_walks, open_is, udp_there}
+use Rattle.wasi_walks.proofs.walks.UdpLaw.{HasUdp, udp_put_put, udp_put_same, udp_found, ask_udp, peer_udp, poll_udp_connect_walks, mark_stream}
+
+-- a call that is pending has its connect in progress
+pub record HasUdpConnect (connecting : Option Operation) : Type 0 where
+  pub op : Operation
+  pub is : connecting ≡ Some op
+
+abbrev pub WaitsUdpConnect : Result (Answer (Unit {0})) ErrorCode × OpenUdp → Type 0
+WaitsUdpConnect (Ok Pending, o) = HasUdpConnect o.connecting
+WaitsUdpConnect _ = ⊤
+
+poll_given : (o : OpenUdp) (connecting : Option Operation) → Given WaitsUdpConnect (poll_udp_connecting o connecting)
+poll_given o None = tt
+poll_given o (Some op) = given_then WaitsUdpConnect (udp_connect_ended op o) ended (poll_asks op)
+  where
+    ended : (e : End × List Item) → WaitsUdpConnect (udp_connect_ended op o e)
+    ended (Waits, items) = record { op = left_of op items; is = refl }
+    ended (Done given, items) = tt
+    ended (Refused c given, items) = tt
+
+begun_given : (o : OpenUdp) (begun : Result Operation ErrorCode × Socket) → Given WaitsUdpConnect (udp_connect_begun o begun)
+begun_given o (Ok op, socket) = poll_given (record o { inner = socket; connecting = Some op }) (Some op)
+begun_given o (Err c, socket) = tt
+
+disconnected_given : (o : OpenUdp) (done : Result (Unit {0}) ErrorCode × Socket) → WaitsUdpConnect (disconnected o done)
+disconnected_given o (Ok d, socket) = tt
+disconnected_given o (Err c, socket) = tt
+
+streams_given : (own : OpId) (o : OpenUdp) (remote : Option IpSocketAddress) (connected : Bool) → is_connected o.inner.remote ≡ connected → Given WaitsUdpConnect (streams_to own o remote)
+streams_given own o (Some a) b e = given_on WaitsUdpConnect (udp_connect_begun o) (begun_given o) (connect_asks own o.inner a)
+streams_given own o None true e = rw e (given_then WaitsUdpConnect (disconnected o) (disconnected_given o) (disconnect_asks own o.inner))
+streams_given own o None false e = rw e tt
+
+where_given : (own : OpId) (remote : Option IpSocketAddress) (o : OpenUdp) (bound : Bool) → Given WaitsUdpConnect (streams_where own remote o bound)
+where_given own remote o true = streams_given own o remote (is_connected o.inner.remote) refl
+where_given own remote o false = tt
+
+begin_given : (own : OpId) (o : OpenUdp) (remote : Option IpSocketAddress) → Given WaitsUdpConnect (begin_streams_asks own o remote)
+begin_given own o remote = given_on WaitsUdpConnect (λ b. streams_where own remote (with_udp_inner o b.1) b.0) (λ b. where_given own remote (with_udp_inner o b.1) b.0) (bound_asks own o.inner)
+
+-- a yes is kept
+abbrev pub KeepsBound : Bool × Socket → Type 0
+KeepsBound b = b.0 ≡ true → b.1.bound ≡ true
+
+pub bound_given : (op : OpId) (socket : Socket) → Given KeepsBound (bound_asks op socket)
+unfolding bind
+bound_given op socket = by_bound socket.bound refl
+  where
+    by_test : (b : Bool) → KeepsBound (if b then (false, socket) else (true, record socket { bound = true }))
+    by_test true e = absurd (cc)
+    by_test false e = refl
+
+    told : (r : Result IpSocketAddress ErrorCode) → KeepsBound (after_local socket r)
+    told (Ok a) = by_test (is_wildcard socket.family a)
+    told (Err c) = λ e. absurd (cc)
+
+    by_bound : (b : Bool) → socket.bound ≡ b → Given KeepsBound (ask_bound op socket b)
+    by_bound true e = λ yes. e
+    by_bound false e = λ t. told _
+
+-- a handle that is live stays so where another is made
+pub kind_given : (t : Handles) (op : OpId) (kind : Kind) (parent : Option ℕ) (sock : Option OpId) (handle : ℕ) (its : Kind) → kind_at t handle ≡ Some its → Given (λ made. kind_at made.1 handle ≡ Some its) (make_asks t op kind parent sock)
+unfolding bind
+kind_given t op kind parent sock handle its e = by_test (is_full t)
+  where
+    by_test : (b : Bool) → Given (λ (made : Result ℕ Stop × Handles). kind_at made.1 handle ≡ Some its) (if b then Give (Err (Trap Full), t) else bind (ask_made op t.next (name_of kind) parent sock) (λ done. Give (Ok t.next, with_handle t kind parent)))
+    by_test true = e
+    by_test false = λ told. value_front t.live (record { handle = t.next; value = kind; parent = table_parent kind parent }) handle its e
+
+-- what a handle of a UDP socket stands for
+udp_kind : (k : Option Kind) (place : ℕ) → udp_of k ≡ Some place → k ≡ Some (kinds.Udp2 place)
+udp_kind (Some (kinds.Udp2 n)) place e = ap (λ (o : Option ℕ). option_kind o) e
+  where
+    option_kind : Option ℕ → Option Kind
+    option_kind (Some n) = Some (kinds.Udp2 n)
+    option_kind None = None
+udp_kind _ place e = absurd (cc)
+
+-- the socket is so, and the line has begun its operation
+abbrev Ends : Here → ℕ → Result (Answer (Unit {0})) ErrorCode × OpenUdp → Here
+Ends h place done = record (put_udp h place (Udp2Socket.Open done.1)) { own = Used }
+
+-- the streams of a socket are to be made under its handle
+abbrev pub Streaming : ℕ → Machine → ℕ → ℕ → Own → Here
+Streaming n m place handle own = record { machine = m; at = Some (place, n); made = ToStream n handle; own = own }
+
+abbrev pub Streamed : {A : Type 0} → ℕ → Machine → ℕ → ℕ → A × Records → Here
+Streamed n m place handle done = Streaming n (record m { store = done.1 }) place handle Used
+
+-- the same connect, where it is known that the socket is bound
+bound_connect : (op : OpId) (socket : Socket) (a : IpSocketAddress) → socket.bound ≡ true → connect_asks op socket a ≡ (if is_connectable socket a then Give (Ok (connect_start op socket a true), socket) else Give (Err InvalidArgument, socket))
+unfolding bind
+bound_connect op socket a e = ap (λ b. if is_connectable socket a then bind (ask_bound op socket b) (λ x. Give (Ok (connect_start op x.1 a x.0), x.1)) else Give (Err InvalidArgument, socket)) e
+
+bound_same : (socket : Socket) → socket.bound ≡ true → socket ≡ record socket { bound = true }
+bound_same socket e = ap (λ b. let s : Socket = record socket { bound = b } in s) e
+
+module _ {contexts : List WasiSocketsCtx} {line : ℕ} {origin : Step} {law : Law contexts line origin} where
+  -- == a connect that was begun is polled
+  module _ {h : Here} {place : ℕ} (here : HasUdp h place) (quiet : NoStart h) where
+    polled_by : (o : OpenUdp) (connecting : Option Operation) → o.connecting ≡ connecting → Walks law (put_udp h place (Udp2Socket.Open o)) (λ done. put_udp h place (Udp2Socket.Open done.1)) (poll_udp_connecting o connecting)
+    polled_by o None e = give _
+    polled_by o (Some op) e = and_then (poll_udp_connect_walks here o op quiet e) (λ ended. give _)
+
+  -- == on the record of a place
+  module _ {h : Here} {place : ℕ} (here : HasUdp h place) (at : h.at ≡ Some (place, line)) (free : h.own ≡ Unused) (quiet : NoStart h) where
+    opens : (o : OpenUdp) → Walks law (put_udp h place (Udp2Socket.Open o)) (Ends h place) (Give (Ok (Ready tt), with_streams o))
+    opens o =
+        move (UdpChanges _ place o (with_streams o) (udp_found here (Udp2Socket.Open o)) (record { side = refl; maker = refl; family = refl; remote = refl; bound = λ b. b; binds = inl refl; connects = refl; sends = inr refl; receives = inr refl; came = inr refl }))
+        (from (sym (udp_put_put h place (Udp2Socket.Open o) (Udp2Socket.Open (with_streams o)))) (gives _ (Spends _ free)))
+
+    -- with a connect
+    connect_walks : (o : OpenUdp) (a : IpSocketAddress) → o.inner.bound ≡ true → IsUdpConnectTo a origin → Walks law (put_udp h place (Udp2Socket.Open o)) (Ends h place) (bind (connect_asks (own_of line) o.inner a) (udp_connect_begun o))
+    unfolding bind
+    connect_walks o a bound to = rw (bound_connect (own_of line) o.inner a bound) (by_test (is_connectable o.inner a))
+      where
+        by_test : (b : Bool) → Walks law (put_udp h place (Udp2Socket.Open o)) (Ends h place) (bind (if b then Give (Ok (connect_start (own_of line) o.inner a true), o.inner) else Give (Err InvalidArgument, o.inner)) (udp_connect_begun o))
+        by_test false = gives _ (Spends _ free)
+        by_test true =
+            let op : Operation = connect_start (own_of line) o.inner a true in
+            let now : OpenUdp = record o { connecting = Some op } in
+            let busy : Here = record h { own = Used } in
+            let there : HasUdp busy place = record { was = here.was; at = here.at } in
+            move (BeginsUdpConnect _ place o a at (udp_found here (Udp2Socket.Open o)) to bound free)
+            (from (ap (λ (x : Here). record x { own = Used }) (sym (udp_put_put h place (Udp2Socket.Open o) (Udp2Socket.Open now))))
+            (and_then (poll_udp_connect_walks there now op quiet refl) (λ ended. give _)))
+
+    -- with a disconnect, where the socket is connected
+    told_walks : (o : OpenUdp) (done : Result (Unit {0}) ErrorCode × Socket) → Walks law (put_udp h place (Udp2Socket.Open (with_udp_inner o done.1))) (Ends h place) (Give (disconnected o done))
+    told_walks o (Ok d, socket) = opens (with_udp_inner o socket)
+    told_walks o (Err c, socket) = gives _ (Spends _ free)
+
+    disconnect_walks : (o : OpenUdp) (remote : Option IpSocketAddress) → o.inner.bound ≡ true → Walks law (put_udp h place (Udp2Socket.Open o)) (λ done. put_udp h place (Udp2Socket.Open (with_udp_inner o done.1))) (disconnect_in (own_of line) o.inner remote)
+    unfolding bind
+    disconnect_walks o None bound = give _
+    disconnect_walks o (Some a) bound =
+        ask_udp here o at refl (λ told. subst (λ (s : Socket). Walks law (put_udp h place (Udp2Socket.Open o)) (λ done. put_udp h place (Udp2Socket.Open (with_udp_inner o done.1))) (then_peer (own_of line) s (told_done told))) (bound_same o.inner bound)
+        (peer_udp here o at (λ t. give _)))
+
+    without_walks : (o : OpenUdp) (connected : Bool) → o.inner.bound ≡ true → Walks law (put_udp h place (Udp2Socket.Open o)) (Ends h place) (disconnect_streams (own_of line) o connected)
+    without_walks o true bound = and_then (disconnect_walks o o.inner.remote bound) (told_walks o)
+    without_walks o false bound = opens o
+
+    streams_to_walks : (c s : ℕ) (remote : Option IpSocketAddress) → origin ≡ Step.UdpStream c s remote → (o : OpenUdp) → o.inner.bound ≡ true → Walks law (put_udp h place (Udp2Socket.Open o)) (Ends h place) (streams_to (own_of line) o remote)
+    streams_to_walks c s (Some a) is o bound = connect_walks o a bound (subst (IsUdpConnectTo a) (sym is) refl)
+    streams_to_walks c s None is o bound = without_walks o (is_connected o.inner.remote) bound
+
+    where_walks : (c s : ℕ) (remote : Option IpSocketAddress) → origin ≡ Step.UdpStream c s remote → (o : OpenUdp) (bound : Bool) → (bound ≡ true → o.inner.bound ≡ true) → Walks law (put_udp h place (Udp2Socket.Open o)) (Ends h place) (streams_where (own_of line) remote o bound)
+    where_walks c s remote is o true k = streams_to_walks c s remote is o (k refl)
+    where_walks c s remote is o false k = gives _ (Spends _ free)
+
+    begin_walks : (c s : ℕ) (remote : Option IpSocketAddress) → origin ≡ Step.UdpStream c s remote → (o : OpenUdp) → Walks law (put_udp h place (Udp2Socket.Open o)) (Ends h place) (begin_streams_asks (own_of line) o remote)
+    begin_walks c s remote is o = and_given KeepsBound (bound_given (own_of line) o.inner) (bound_walks here at o) (λ b k. where_walks c s remote is (with_udp_inner o b.1) b.0 k)
+
+  -- == a call that may be pending was answered
+  answered_walks : (m : Machine) (ids : Ids) (place handle : ℕ) (done : Result (Answer (Unit {0})) ErrorCode × OpenUdp) → HasUdp (Streaming ids.line m place handle Used) place → WaitsUdpConnect done
+      → Walks law (put_udp (Streaming ids.line m place handle Used) place (Udp2Socket.Open done.1)) (Streamed ids.line m place handle) (Give (udp_call_answered m.store ids (StandingCall.UdpConnect place handle) done))
+  answered_walks m ids place handle (Ok Pending, o) here w = gives _ (StandsUdpConnect _ ids place handle o w.op refl refl (udp_found here (Udp2Socket.Open o)) w.is)
+  answered_walks m ids place handle (Ok (Ready d), o) here w = give _
+  answered_walks m ids place handle (Err c, o) here w = give _
+
+  module _ (m : Machine) (place handle : ℕ) (quiet : NoStartStands m.store.standing) where
+    start_by : (c s : ℕ) (remote : Option IpSocketAddress) → origin ≡ Step.UdpStream c s remote → (o : OpenUdp) → FoundUdp (Streaming line m place handle Unused) place (Udp2Socket.Open o) → (live : Bool) → Walks law (Streaming line m place handle Unused) (Streamed line m place handle) (start_streams_by m.store (first_ids line) place handle remote o live)
+    start_by c s remote is o g true = gives _ (Spends _ refl)
+    start_by c s remote is o g false =
+        from (udp_put_same (Streaming line m place handle Unused) place (Udp2Socket.Open o) g)
+        (and_given WaitsUdpConnect (begin_given (own_of line) o remote) (begin_walks (udp_there {h = Streaming line m place handle Unused} g) refl refl quiet c s remote is o) (λ begun w. answered_walks m (first_ids line) place handle begun (record { was = Udp2Socket.Open o; at = g }) w))
+
+    start_at : (c s : ℕ) (remote : Option IpSocketAddress) → origin ≡ Step.UdpStream c s remote → (o : Option OpenUdp) → open_at m.store.records place ≡ o → Walks law (Streaming line m place handle Unused) (Streamed line m place handle) (start_streams_at m.store (first_ids line) place handle remote o)
+    start_at c s remote is None e = gives _ (Spends _ refl)
+    start_at c s remote is (Some o) e = start_by c s remote is o (open_is (udp2_at m.store.records place) o e) (has_streams o)
+
+    -- a connect that was pending is polled again
+    again_at : (ids : Ids) (o : Option OpenUdp) → open_at m.store.records place ≡ o → Walks law (Streaming ids.line m place handle Used) (Streamed ids.line m place handle) (reconnect_udp_at m.store ids place handle o)
+    again_at ids None e = give _
+    again_at ids (Some o) e =
+        let g : FoundUdp (Streaming ids.line m place handle Used) place (Udp2Socket.Open o) = open_is (udp2_at m.store.records place) o e in
+        from (udp_put_same (Streaming ids.line m place handle Used) place (Udp2Socket.Open o) g)
+        (and_given WaitsUdpConnect (poll_given o o.connecting) (polled_by (udp_there {h = Streaming ids.line m place handle Used} g) quiet o o.connecting refl) (λ done w. answered_walks m ids place handle done (record { was = Udp2Socket.Open o; at = g }) w))
+
+  -- == their handles
+  module _ (n place handle : ℕ) where
+    second_walks : (m : Machine) (first : ℕ) (made : Result ℕ Stop × Handles) → Walks law (Streaming n (record m { table = made.1 }) place handle Used) OverWith (Give (second_made m first made))
+    second_walks m first (Ok second, t) = gives _ (Leaves _)
+    second_walks m first (Err stop, t) = gives _ (Leaves _)
+
+    outgoing_walks : (m : Machine) (of : ℕ) (made : Result ℕ Stop × Handles) → udp_of (kind_at made.1 handle) ≡ Some of → Walks law (Streaming n (record m { table = made.1 }) place handle Used) OverWith (outgoing_made m (own_of n) handle of (udp_side_at (udp2_at m.store.records of)) made)
+    outgoing_walks m of (Ok incoming, t) e = and_then (mark_stream {h = Streaming n (record m { table = t }) place handle Used} of n handle (kinds.Outgoing of) refl (inr refl) e) (second_walks m incoming)
+    outgoing_walks m of (Err stop, t) e = gives _ (Leaves _)
+
+    marked_walks : (m : Machine) (of : Option ℕ) → udp_of (kind_at m.table handle) ≡ of → Walks law (Streaming n m place handle Used) OverWith (mark_streams_of m (own_of n) handle of)
+    marked_walks m None e = gives _ (Leaves _)
+    marked_walks m (Some of) e =
+        let its : kind_at m.table handle ≡ Some (kinds.Udp2 of) = udp_kind (kind_at m.table handle) of e in
+        and_given (λ made. kind_at made.1 handle ≡ Some (kinds.Udp2 of)) (kind_given m.table (own_of n) (kinds.Incoming of) (Some handle) (udp_side_at (udp2_at m.store.records of)) handle (kinds.Udp2 of) its)
+        (mark_stream {h = Streaming n m place handle Used} of n handle (kinds.Incoming of) refl (inl refl) e) (λ made k. outgoing_walks m of made (ap udp_of k))
+
+    so_walks : (m : Machine) (done : Result (Answer (Unit {0})) Stop × Records) → Walks law (Streamed n m place handle done) OverWith (streams_so (own_of n) handle m done)
+    so_walks m (Ok Pending, store) = gives _ (Leaves _)
+    so_walks m (Ok (Ready d), store) = marked_walks (record m { store = store }) (udp_of (kind_at m.table handle)) refl
+    so_walks m (Err stop, store) = gives _ (Leaves _)
+
+  pub stream_walks : (m : Machine) (c s : ℕ) (remote : Option IpSocketAddress) (o : Option ℕ) → udp_socket_at m s ≡ o → origin ≡ Step.UdpStream c s remote → Has (handles_of origin) s → NoStartStands m.store.standing → Walks law (Starts m Unused) OverWith (udp_stream_on m (first_ids line) s remote o)
+  stream_walks m c s remote None e is named q = gives _ (Spends _ refl)
+  stream_walks m c s remote (Some place) e is named q =
+      move (ReachesUdp _ s place named (udp_record (kind_at m.table s) place e)) (move (RemembersStreams _ c s remote is)
+      (and_then (start_at m place s q c s remote is (open_at m.store.records place) refl) (so_walks line place s m)))
+
+  -- a call of streams that was pending continues
+  pub streams_again : (ids : Ids) (m : Machine) (place handle : ℕ) → NoStartStands m.store.standing → Walks law (Streaming ids.line m place handle Used) OverWith (remake_streams_asks m ids place handle)
+  streams_again ids m place handle q = and_then (again_at m place handle q ids (open_at m.store.records place) refl) (so_walks ids.line place handle m)
