@@ -1,5 +1,6 @@
 -- Each operation asks its checks first.
 pub mod Ordered
 pub mod Weights
+pub mod Rooms
 pub mod Polls
 pub mod Law

@@ -56,8 +56,8 @@ pub fn permit_means_all_is_taken()
         → taken_in side (log ++ entries) ≡ permitted }
 {}
 
-/// In one poll of a bind, a connect or a listen, or of a bind of a UDP socket, no check follows a call that goes out; and where
-/// one of these was asked, the poll leaves no check to a later one.
+/// In one poll of a bind, a connect or a listen, of a bind or a connect of a UDP socket, or of a datagram that is sent, no check
+/// follows a call that goes out; and where one of these was asked, the poll leaves no check to a later one.
 pub fn operations_check_first()
     ensures poll { (op : Operation) (entries : List Entry) (rest : Asks (End × List Item))
         → IsOutward op → Left (operation_polled op) entries rest → ChecksFirst entries }

@@ -10,6 +10,7 @@ use Rattle.wasi_world.specs.declared.asks.Polled.{Polled}
 use Rattle.wasi_world.specs.declared.asks.Polled.TheVariants as polled
 use Rattle.wasi_world.specs.Operation as item
 use Rattle.wasi_laws.proofs.Words.{Step}
+use Rattle.wasi_walks.proofs.walks.Moves.{IsUdpQuestionOf}
 use Rattle.wasi_laws.proofs.Words.{◌≡◌, Bool, true, false, Some, refl, ap, ℕ, zero, suc, if◌then◌else◌, List, [], ◌∷◌, ◌++◌, drop, length, Option, None, Result, Ok, Err, ⊤, not, ◌&&◌, OpId, Call, socket_of, NoWrite, IsQuestionOf, IpSocketAddress, SocketAddressFamily, ErrorCode, Told, Entry, Asks, bind, IsFront, Fits, told_verdict, told_done, told_polled, told_addr, told_arrival, told_taken, told_datagram, told_names, Given, Connection, Nothing, Item, Check, CheckLocal, Bind, Connect, Listen, Accept, CheckArrival, Hand, Refuse, Write, ShutdownSend, UdpWritable, UdpBind, UdpConnect, AskPeer, Send, Receive, CheckPeer, Lookup, Last, Who, Front, Ends, End, Waits, Done, verdict_front, done_front, polled_front, check_front, local_front, hand_front, refuse_front, admitted_front, arrival_front, accept_front, write_front, taken_front, less_one, ask_peer_front, peer_front, remote_told, send_front, is_now, receive_front, received_front, check_peer_front, is_wanted, lookup_front, front, last_ask, poll_asks, Allows, FrontKeeps, allows_polls, allows_if, entry, has_last, IsMade, HandedOver, GoesOut}
 
 abbrev pub is_calm : Call → Bool
@@ -39,6 +40,14 @@ question_calm line origin n side (call.ReadReady s) q = record { calm = refl; on
 question_calm line origin n side (call.WriteReady s) q = record { calm = refl; on = ap (λ (x : OpId). Some x) q }
 question_calm line origin n side (call.Shutdown s how) q = record { calm = refl; on = ap (λ (x : OpId). Some x) q }
 question_calm line origin n side _ q = absurd q
+
+-- the same of a UDP socket
+pub udp_question_calm : (line : ℕ) (origin : Step) (n : ℕ) (side : OpId) (c : Call) → IsUdpQuestionOf line origin n side c → CalmOn side c
+udp_question_calm line origin n side (call.Local s) q = record { calm = refl; on = ap (λ (x : OpId). Some x) q }
+udp_question_calm line origin n side (call.GetOption s option) q = record { calm = refl; on = ap (λ (x : OpId). Some x) q.0 }
+udp_question_calm line origin n side (call.SetOption s option value) q = record { calm = refl; on = ap (λ (x : OpId). Some x) q.0 }
+udp_question_calm line origin n side (call.UdpDisconnect s) q = record { calm = refl; on = ap (λ (x : OpId). Some x) q }
+udp_question_calm line origin n side _ q = absurd q
 
 pub unwritten : (c : Call) → is_calm c ≡ true → NoWrite c
 unwritten (call.Write sock offered) e = absurd (cc)

@@ -7,19 +7,22 @@ use Rattle.wasi_tcp.specs.declared.socket.TcpState.TheVariants as state
 use Rattle.wasi_walks.proofs.walks.Runs.{each_entry}
 use Rattle.wasi_walks.proofs.fits.Polls.{Anything}
 use Rattle.wasi_laws.proofs.Words.{Above, Accepts, Allows, Asks, Base, BaseBetween, Begins, Call, End, Entry, Err, ErrorCode, FitListening, Found, Handles, Held, Here, HoldsAccept, IpSocketAddress, IsAcceptOn, IsDoneOrCode, Item, Job, Kind, Law, Left, List, Listener, Machine, Made, Move, None, Not, Ok, OpId, Operation, Option, Over, Own, Reply, Result, Socket, SocketAddressFamily, Some, Spends, Starts, Step, Streams, Tcp2, Tcp2Socket, Told, Unused, Used, Walks, WasiSocketsCtx, WriteState, [], after_create, allows_if, allows_then, allows_weaker, ap, base_over, base_starts, bind, both, closed_record, created_asks, entry, first_base, first_state, job_after, length, machine_asks, machine_walks, made_so, make_asks, may_while, new_asks, new_socket, on_along, on_names, own_of, poll_asks, put, refl, run, side_at, side_in, side_of, socket_of, subst, sym, told_addr, told_done, told_same, true, with_listening, with_record, with_writer, ℕ, ◌++◌, ◌+◌, ◌∙◌, ◌∷◌, ◌≡◌}
-use Rattle.wasi_laws.proofs.asks.Fronts.{is_calm, CalmOn, question_calm}
+use Rattle.wasi_laws.proofs.asks.Fronts.{is_calm, CalmOn, question_calm, udp_question_calm}
 use Rattle.wasi_laws.proofs.asks.Trees as tree
 use Rattle.wasi_laws.proofs.asks.Trees.{GoesOn, Undoes, Then, makes_by, turns_by, gives_up_by}
 use Rattle.wasi_laws.proofs.shapes.Shape.{ListenerShape, on_socket, Same}
 use Rattle.wasi_laws.proofs.shapes.Law.{Shaped, udp_shape, begun_shape, put_shape, moves_shape, polls_shape, turns_shape, created_shape}
-use Rattle.wasi_host.specs.Records.{tcp2_at}
+use Rattle.wasi_host.specs.Records.{tcp2_at, udp2_at}
 use Rattle.wasi_host.specs.declared.kind.Kind.TheVariants.{Udp2}
 use Rattle.wasi_host.specs.declared.udp.OpenUdp.{OpenUdp}
 use Rattle.wasi_host.specs.declared.udp.Udp2Socket.{Udp2Socket}
-use Rattle.wasi_host.specs.Udp.{udp_side}
+use Rattle.wasi_host.specs.Udp.{udp_side, with_udp_inner}
+use Rattle.wasi_host.specs.UdpCreates.{udp_side_at}
 use Rattle.wasi_udp.specs.Create.{new_create, after_create as udp_after_create}
-use Rattle.wasi_walks.proofs.fits.Law.{learnt_side}
-use Rattle.wasi_walks.proofs.walks.Moves.{put_udp, FoundUdp, udp_begun}
+use Rattle.wasi_udp.specs.Shape.{Socket as UdpShape}
+use Rattle.wasi_udp.specs.Socket.{after_local as udp_after_local, after_peer}
+use Rattle.wasi_walks.proofs.fits.UdpFits.{learnt_side}
+use Rattle.wasi_walks.proofs.walks.Moves.{put_udp, FoundUdp, part_of, udp_begun}
 
 -- a close of this network socket leaves the record so
 pub data Closing (r : Tcp2Socket) : Tcp2Socket → OpId → Type 0 where
@@ -52,8 +55,8 @@ module _ (contexts : List WasiSocketsCtx) (line : ℕ) (origin : Step) where
     pub asks : (es : List Entry) (h : Here) (op : OpId) (c : Call) → is_calm c ≡ true → IsAskedOn h c → Inv es h → Then P (λ fs. Inv fs h) es op c
     pub creates : (es : List Entry) (h : Here) (ctx : WasiSocketsCtx) (family : SocketAddressFamily) → h.own ≡ Unused → Grounds h → Inv es h → Inv (es ++ entry (own_of line) (call.TcpCreate ctx.name family) told.Done ∷ []) (creating h (own_of line) ctx family)
     pub closes : (es : List Entry) (h : Here) (place : ℕ) (r now : Tcp2Socket) (op side : OpId) → Found h place r → Closing r now side → Grounds h → Inv es h → Then P (λ fs. Inv fs (put h place now)) es op (call.Close side)
-    -- a UDP socket: one that is as it was; a create that is answered done; a close
-    pub udp_same : (es : List Entry) (h : Here) (place : ℕ) (o now : OpenUdp) → FoundUdp h place (Udp2Socket.Open o) → now.inner.side ≡ o.inner.side → now.in_progress ≡ o.in_progress → Inv es h → Inv es (put_udp h place (Udp2Socket.Open now))
+    -- a UDP socket: one that is in the middle of what it was, with the same network socket; a create that is answered done; a close
+    pub udp_same : (es : List Entry) (h : Here) (place : ℕ) (o now : OpenUdp) → FoundUdp h place (Udp2Socket.Open o) → now.inner.side ≡ o.inner.side → now ≡ with_udp_inner o now.inner → Inv es h → Inv es (put_udp h place (Udp2Socket.Open now))
     pub udp_creates : (es : List Entry) (h : Here) (ctx : WasiSocketsCtx) (family : SocketAddressFamily) → h.own ≡ Unused → Grounds h → Inv es h → Inv (es ++ entry (own_of line) (call.UdpCreate ctx.name family) told.Done ∷ []) (udp_begun h (Ok (new_create (own_of line) ctx.name family)))
     pub udp_closes : (es : List Entry) (h : Here) (place : ℕ) (o : OpenUdp) (op : OpId) → FoundUdp h place (Udp2Socket.Open o) → Grounds h → Inv es h → Then P (λ fs. Inv fs (put_udp h place (Udp2Socket.Closed o.inner.side))) es op (call.Close o.inner.side)
     -- what is in progress: an operation, and a write
@@ -75,6 +78,11 @@ module _ (contexts : List WasiSocketsCtx) (line : ℕ) (origin : Step) where
     udp_created es h ctx family u b i told.Done f = a.udp_creates es h ctx family u b i
     udp_created es h ctx family u b i (told.Code c) f = a.moves _ h _ (Spends h u) b ((a.asks es h (own_of line) (call.UdpCreate ctx.name family) refl (OnNone refl) i).1 (told.Code c))
     udp_created es h ctx family u b i _ f = absurd f
+
+    -- whatever is learnt of a UDP socket
+    udp_told : (es : List Entry) (h : Here) (place : ℕ) (o : OpenUdp) (op : OpId) (c : Call) (socket : Told → UdpShape) → is_calm c ≡ true → socket_of c ≡ Some o.inner.side → ((told : Told) → (socket told).side ≡ o.inner.side) → FoundUdp h place (Udp2Socket.Open o) → Grounds h → Inv es h
+        → P es op c × ((told : Told) → Inv (es ++ entry op c told ∷ []) (put_udp h place (Udp2Socket.Open (with_udp_inner o (socket told)))))
+    udp_told es h place o op c socket calm on same g b i = let x = a.asks es h op c calm (OnUdp place o g on b) i in (x.0, λ told. a.udp_same _ h place o (with_udp_inner o (socket told)) g (same told) refl (x.1 told))
 
     marked : (es : List Entry) (h : Here) (kind : Kind) (parent : Option ℕ) (sock : Option OpId) → Inv es h → Allows P (λ fs made. Inv fs h) es (make_asks h.machine.table (own_of line) kind parent sock)
     marked es h kind parent sock i = makes_by P (λ fs. Inv fs h) es h.machine.table (own_of line) kind parent sock i (a.asks es h (own_of line) _ refl (OnNone refl) i)
@@ -125,13 +133,14 @@ module _ (contexts : List WasiSocketsCtx) (line : ℕ) (origin : Step) where
           let x = on_record es h place r (own_of line) side (call.Local side) g (ap side_in e) (record { calm = refl; on = refl }) (b, i.0) i.1 in
           (x.0, λ told f. (put_shape h place _ (rw (told_same r.inner (told_addr told)) (i.0 place r g)) i.0, a.same _ h place r _ g (record { side = refl; streams = refl; listening = refl; does = told_same r.inner (told_addr told); doing = refl }) (x.1 told)));
       closes = λ es h place r side q g e b i. let x = a.closes es h place r _ (own_of line) side g (ClosesSocket side e) (b, i.0) i.1 in (x.0, λ told f. (put_shape h place (closed_record r) (tt, tt) i.0, x.1 told));
-      udp_asks = λ es h place n o c at g q b i. let k = question_calm line origin n o.inner.side c q in let x = a.asks es h (own_of n) c k.calm (OnUdp place o g k.on (b, i.0)) i.1 in (x.0, λ told f. (i.0, x.1 told));
-      udp_learns = λ es h place o at g b i.
-          let x = a.asks es h (own_of line) (call.Local o.inner.side) refl (OnUdp place o g refl (b, i.0)) i.1 in
-          (x.0, λ told f. (udp_shape h place _ i.0, a.udp_same _ h place o _ g (learnt_side o.inner (told_addr told)) refl (x.1 told)));
+      udp_asks = λ es h place n o c at g q b i. let k = udp_question_calm line origin n o.inner.side c q in let x = a.asks es h (own_of n) c k.calm (OnUdp place o g k.on (b, i.0)) i.1 in (x.0, λ told f. (i.0, x.1 told));
+      udp_learns = λ es h place part o at g b i.
+          let x = udp_told es h place o (part_of line part) (call.Local o.inner.side) (λ told. (udp_after_local o.inner (told_addr told)).1) refl refl (λ told. learnt_side o.inner (told_addr told)) g (b, i.0) i.1 in (x.0, λ told f. (udp_shape h place _ i.0, x.1 told));
+      udp_peers = λ es h place o at g b i. let x = udp_told es h place o (own_of line) (call.Peer o.inner.side) (λ told. after_peer o.inner (told_addr told)) refl refl (λ told. refl) g (b, i.0) i.1 in (x.0, λ told f. (udp_shape h place _ i.0, x.1 told));
       udp_closes = λ es h place o q g b i. let x = a.udp_closes es h place o (own_of line) g (b, i.0) i.1 in (x.0, λ told f. (udp_shape h place _ i.0, x.1 told));
       udp_creates = λ es h ctx family c may at u m b i. ((a.asks es h (own_of line) (call.UdpCreate ctx.name family) refl (OnNone refl) i.1).0, λ told f. (begun_shape h _ i.0, udp_created es h ctx family u (b, i.0) i.1 told f));
       udp_marks = λ es h place u g b i. allows_weaker P (λ fs made. Inv fs h) (λ fs made. Shaped h × Inv fs (record h { machine = record h.machine { table = made.1 } })) (λ fs made k. (i.0, a.tables fs h made.1 h.made k)) es _ (marked_by es h (udp_side u) (Udp2 place) None (Some (udp_side u)) i.1);
+      stream_marks = λ es h place n handle kind m k e b i. allows_weaker P (λ fs made. Inv fs h) (λ fs made. Shaped h × Inv fs (record h { machine = record h.machine { table = made.1 } })) (λ fs made k. (i.0, a.tables fs h made.1 h.made k)) es _ (marked_by es h (own_of n) kind (Some handle) (udp_side_at (udp2_at h.machine.store.records place)) i.1);
       marks = λ es h kind parent sock m b i. allows_weaker P (λ fs made. Inv fs h) (λ fs made. Shaped h × Inv fs (record h { machine = record h.machine { table = made.1 } })) (λ fs made k. (i.0, a.tables fs h made.1 h.made k)) es _ (marked es h kind parent sock i.1);
       creates = λ es h ctx family c at u m b i.
           both P Anything _ _ es _ (allows_then P (Created h ctx family) (λ fs done. Inv fs (record h { machine = done.1; own = Used })) es (new_asks (own_of line) ctx family) (created_asks h.machine (own_of line)) (created es h ctx family u (b, i.0) i.1) (λ fs made k. joins fs h ctx family made u k (b, i.0)))

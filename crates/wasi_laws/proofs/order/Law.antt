@@ -1,5 +1,4 @@
 -- The law that an operation asks its checks before it goes out: what all that is kept weighs.
-use Rattle.std.proofs.lemmas.Bool.Decides.{nat_tests}
 use Rattle.wasi_addr.specs.Address.{wildcard}
 use Rattle.wasi_world.specs.declared.call.Call.TheVariants as call
 use Rattle.wasi_world.specs.declared.call.Told.TheVariants as told
@@ -14,56 +13,33 @@ use Rattle.wasi_host.specs.declared.udp.UdpInProgress.{UdpInProgress}
 use Rattle.wasi_host.specs.Udp.{udp_bind_progress, udp_create_left, with_udp_progress}
 use Rattle.wasi_host.specs.UdpCreates.{with_create}
 use Rattle.wasi_udp.specs.Create.{Create, new_create}
-use Rattle.wasi_walks.proofs.walks.Moves.{put_udp, FoundUdp, udp_begun, begun_udp_bind, IsUdpSettled, UdpChanges, BeginsUdpBind, UdpCreates, UdpBindsOn}
+use Rattle.wasi_walks.proofs.walks.Moves.{put_udp, FoundUdp, udp_begun, begun_udp_bind, begun_udp_connect, sending_now, receiving_now, part_of, Names, IsUdpSettled, KeepsOp, SettlesSend, UdpPlain, receive_op, receiving_in, send_op, sending_in}
+use Rattle.wasi_walks.proofs.walks.Moves.{UdpChanges, BeginsUdpBind, BeginsUdpConnect, Counts, SpendsNames, BeginsSend, BeginsReceive, UdpCreates, UdpBindsOn, UdpConnectsOn, SendsOn, ReceivesOn}
+use Rattle.wasi_world.specs.Operation.{Datagram}
+use Rattle.wasi_host.specs.Datagrams.{udp_connect_left, with_sending}
+use Rattle.wasi_host.specs.Receiving.{receive_left, with_receiving}
+use Rattle.wasi_host.specs.declared.datagrams.Incoming.{Incoming}
+use Rattle.wasi_host.specs.declared.datagrams.Outgoing.{Outgoing}
+use Rattle.wasi_host.specs.declared.datagrams.Receiving.{Receiving}
+use Rattle.wasi_host.specs.declared.datagrams.Sending.{Sending}
+use Rattle.wasi_udp.specs.Receive.{receive_start, wanted_in, wanting}
+use Rattle.wasi_udp.specs.Send.{at_remote, send_start, send_to}
 use Rattle.wasi_host.specs.declared.binding.InProgress.TheVariants as progress
-use Rattle.wasi_laws.proofs.Words.{Accepting, Allows, Asks, Awaits, BeginsAccept, BeginsBind, BeginsConnect, BeginsListen, BeginsWrite, BindsOn, Bool, Call, Changes, ChecksFirst, Closes, ClosesReader, Collects, Connection, Connects, Done, End, Entry, Forgets, Found, Given, Held, Here, InProgress, IpSocketAddress, IsGone, Item, Job, Joins, KeepsBinding, Lasts, LastsAfter, Left, List, Listening, Listens, Machine, Move, OpId, Opens, Operation, Option, Own, Permits, Plain, Reconnects, Refused, Reply, Some, Spends, Starts, Step, Streams, Tcp2Socket, TcpState, ToWrite, Told, Unlistens, Unused, Used, Waits, WasiSocketsCtx, Write, WriteState, WriterMoves, Writes, [], accept_ended, accept_operation, accepting_now, allows_weaker, ap, arith, arrived, asked_by, beginning_listen, begun_bind, begun_listen, bind_progress, closed_by, connect_ended, connect_first, connect_left, connect_operation, entry, false, first_state, if◌then◌else◌, inl, inr, is_same, job_after, joined, joining, listen_after, nat_lt, new_accept, new_job, new_record, new_socket, next_of, own_of, poll_asks, put, refl, run, second_of, subst, sym, then_closed, true, with_inner, with_progress, with_state, with_writer, written_by, ℕ, ◌++◌, ◌+◌, ◌∙◌, ◌∷◌, ◌≡◌, ◌≤◌, Ok, ◌⊎◌}
+use Rattle.wasi_laws.proofs.Words.{Accepting, Allows, Asks, Awaits, BeginsAccept, BeginsBind, BeginsConnect, BeginsListen, BeginsWrite, BindsOn, Bool, Call, Changes, ChecksFirst, Closes, ClosesReader, Collects, Connection, Connects, Done, End, Entry, Forgets, Found, Given, Held, Here, InProgress, IpSocketAddress, IsGone, Item, Job, Joins, KeepsBinding, Lasts, LastsAfter, Left, List, Listening, Listens, Machine, Move, OpId, Opens, Operation, Option, Own, Permits, Plain, Reconnects, Refused, Reply, Some, Spends, Starts, Step, Streams, Tcp2Socket, TcpState, ToWrite, Told, Unlistens, Unused, Used, Waits, WasiSocketsCtx, Write, WriteState, WriterMoves, Writes, [], accept_ended, accept_operation, accepting_now, allows_weaker, ap, arith, arrived, asked_by, beginning_listen, begun_bind, begun_listen, bind_progress, closed_by, connect_ended, connect_first, connect_left, connect_operation, entry, false, first_state, inl, inr, is_same, job_after, joined, joining, listen_after, new_accept, new_job, new_record, new_socket, own_of, poll_asks, put, refl, run, second_of, subst, sym, then_closed, true, with_inner, with_progress, with_state, with_writer, written_by, ℕ, ◌++◌, ◌+◌, ◌∙◌, ◌∷◌, ◌≡◌, ◌≤◌, Ok, ◌⊎◌}
 use Rattle.wasi_laws.proofs.asks.Single.{each_ask, Single, Closing, ClosesSocket, ClosesListen, ClosesArrived, creating}
 use Rattle.wasi_laws.proofs.asks.Trees.{GoesOn, InWriting, InClosing}
-use Rattle.wasi_laws.proofs.shapes.Shape.{same_side, Same}
+use Rattle.wasi_laws.proofs.shapes.Shape.{Same}
 use Rattle.wasi_laws.proofs.order.Ordered.{Asked, gone_after, gone_along, gone_push, calm_may, asked_first, asked_one}
-use Rattle.wasi_laws.proofs.order.Weights.{checks_of, if_ours, op_weight, state_ops, accept_ops, listening_ops, writer_ops, streams_ops, progress_ops, udp_progress_ops, udp_ops, total, half, record_weight, sockets_push, udps_push, beside, beside_udp, weight}
+use Rattle.wasi_laws.proofs.order.Rooms.{future_small, less_room, names_within, room_of, takes_line, takes_part}
+use Rattle.wasi_laws.proofs.order.Weights.{send_begins, receive_begins, wanted_checks, checks_of, if_ours, op_weight, state_ops, accept_ops, listening_ops, writer_ops, streams_ops, progress_ops, udp_progress_ops, op_in, total, half, record_weight, udp_weight, sockets_push, udps_push, beside, beside_udp, weight}
 use Rattle.wasi_laws.proofs.order.Polls.{Within, poll_kept}
-
--- 1 up to the line of this number: its operations may still begin
-abbrev future : ℕ → ℕ → ℕ
-future step line = if nat_lt step line then 0 else 1
-
-future_small : (step line : ℕ) → future step line ≤ 1
-future_small step line = grind (arith, nat_tests)
-
-future_less : (step line : ℕ) → future step (line + 1) ≤ future step line
-future_less step line = grind (arith, nat_tests)
-
-future_here : (step : ℕ) → future step step ≡ 1
-future_here step = grind (arith, nat_tests)
-
-future_past : (step : ℕ) → future step (step + 1) ≡ 0
-future_past step = grind (arith, nat_tests)
 
 module _ (it : OpId) where
   abbrev ours : OpId → Bool
   ours op = is_same op it
 
-  -- an operation of a line takes that line's room
-  takes_room : (id : OpId) (items : List Item) (i : Bool) → checks_of items ≤ 1 → op_weight ours id items i + future it.step (id.step + 1) ≤ future it.step id.step
-  takes_room id items i c = by_test (ours id) i refl
-    where
-      weighs : (mine i : Bool) → ours id ≡ mine → op_weight ours id items i ≤ if_ours mine 1
-      weighs true true e = rw e (omega (arith, c))
-      weighs true false e = rw e (omega arith)
-      weighs false true e = rw e (omega arith)
-      weighs false false e = rw e (omega arith)
-
-      by_test : (mine i : Bool) → ours id ≡ mine → op_weight ours id items i + future it.step (id.step + 1) ≤ future it.step id.step
-      by_test true i e =
-          let s : id.step ≡ it.step = ap (λ (x : OpId). x.step) (same_side id it e) in
-          let a : future it.step (id.step + 1) ≡ 0 = ap (λ (n : ℕ). future it.step (n + 1)) s ∙ future_past it.step in
-          let b : future it.step id.step ≡ 1 = ap (future it.step) s ∙ future_here it.step in
-          let w = weighs true i e in omega (arith, w, a, b)
-      by_test false i e = let w = weighs false i e in let l = future_less it.step id.step in omega (arith, w, l)
-
   abbrev room : ℕ → Own → ℕ
-  room line own = future it.step (next_of line own)
+  room line own = room_of it line own
 
   -- with room kept for what the line may begin
   abbrev Kept : ℕ → List Entry → Here → Type 0
@@ -73,42 +49,56 @@ module _ (it : OpId) where
     lighter : (es : List Entry) (h now : Here) → ((i : Bool) → weight ours now i ≤ weight ours h i) → room line now.own ≤ room line h.own → Kept line es h → Kept line es now
     lighter es h now l r k = let p = l false in let q = l true in let x = k.0 in let y = k.1 in (omega (arith, p, r, x), omega (arith, q, r, y))
 
-    less_room : (own : Own) → room line Used ≤ room line own
-    less_room Used = omega arith
-    less_room Unused = future_less it.step line
-    less_room (ToWrite at bytes) = future_less it.step line
-
     put_kept : (es : List Entry) (h : Here) (place : ℕ) (r now : Tcp2Socket) → Found h place r → ((i : Bool) → record_weight ours now i ≤ record_weight ours r i) → Kept line es h → Kept line es (put h place now)
     put_kept es h place r now g l k = let b = beside ours h.machine.store.records place r g in lighter es h (put h place now) (λ i. let p = l i in let x = b.was i in let y = b.now now i in omega (arith, p, x, y)) (omega arith) k
 
-    -- the line's own operation begins
-    begins : (es : List Entry) (h now : Here) (op : Operation) → next_of line h.own ≡ line → op.who.id.step ≡ line → checks_of op.left ≤ 1 → ((i : Bool) → weight ours now i ≤ weight ours h i + op_weight ours op.who.id op.left i) → Kept line es h → Within (λ i. 0) (room line Used) (gone_along ours 0 es) (weight ours now)
-    begins es h now op u s c l k =
-        let r : room line h.own ≡ future it.step line = ap (future it.step) u in
-        let t : (i : Bool) → op_weight ours op.who.id op.left i + future it.step (line + 1) ≤ future it.step line = λ i. subst (λ (n : ℕ). op_weight ours op.who.id op.left i + future it.step (n + 1) ≤ future it.step n) s (takes_room op.who.id op.left i c) in
-        let p = l false in let q = l true in let x = k.0 in let y = k.1 in let v = t false in let w = t true in
-        (omega (arith, p, x, r, v), omega (arith, q, y, r, w))
+    -- an operation of the line begins in its room
+    begins : (es : List Entry) (h now : Here) (op : Operation) (own : Own) → ((i : Bool) → op_weight ours op.who.id op.left i + room line own ≤ room line h.own) → ((i : Bool) → weight ours now i ≤ weight ours h i + op_weight ours op.who.id op.left i) → Kept line es h → Within (λ i. 0) (room line own) (gone_along ours 0 es) (weight ours now)
+    begins es h now op own t l k = let p = l false in let q = l true in let x = k.0 in let y = k.1 in let v = t false in let w = t true in (omega (arith, p, x, v), omega (arith, q, y, w))
 
-    -- a UDP socket changes, and its own operation begins
-    put_udp_kept : (es : List Entry) (h : Here) (place : ℕ) (u now : Udp2Socket) → FoundUdp h place u → ((i : Bool) → total ours (udp_ops now) i ≤ total ours (udp_ops u) i) → Kept line es h → Kept line es (put_udp h place now)
+    -- a UDP socket changes
+    put_udp_kept : (es : List Entry) (h : Here) (place : ℕ) (u now : Udp2Socket) → FoundUdp h place u → ((i : Bool) → udp_weight ours now i ≤ udp_weight ours u i) → Kept line es h → Kept line es (put_udp h place now)
     put_udp_kept es h place u now g l k = let b = beside_udp ours h.machine.store.records place u g in lighter es h (put_udp h place now) (λ i. let p = l i in let x = b.was i in let y = b.now now i in omega (arith, p, x, y)) (omega arith) k
 
-    put_udp_begins : (es : List Entry) (h : Here) (place : ℕ) (u now : Udp2Socket) (op : Operation) → FoundUdp h place u → next_of line h.own ≡ line → op.who.id.step ≡ line → checks_of op.left ≤ 1 → ((i : Bool) → total ours (udp_ops now) i ≤ total ours (udp_ops u) i + op_weight ours op.who.id op.left i) → Kept line es h → Kept line es (record (put_udp h place now) { own = Used })
-    put_udp_begins es h place u now op g o s c l k =
+    -- an operation of the line begins on it
+    put_udp_begins : (es : List Entry) (h : Here) (place : ℕ) (u now : Udp2Socket) (op : Operation) (own : Own) → FoundUdp h place u → ((i : Bool) → op_weight ours op.who.id op.left i + room line own ≤ room line h.own) → ((i : Bool) → udp_weight ours now i ≤ udp_weight ours u i + op_weight ours op.who.id op.left i) → Kept line es h → Kept line es (record (put_udp h place now) { own = own })
+    put_udp_begins es h place u now op own g t l k =
         let b = beside_udp ours h.machine.store.records place u g in
-        begins es h (put_udp h place now) op o s c (λ i. let p = l i in let x = b.was i in let y = b.now now i in omega (arith, p, x, y)) k
+        begins es h (put_udp h place now) op own t (λ i. let p = l i in let x = b.was i in let y = b.now now i in omega (arith, p, x, y)) k
 
-    -- another is in progress
+    -- another bind is in progress
     udp_kept_ops : (old now : UdpInProgress) → (now ≡ old) ⊎ (IsUdpSettled old × IsUdpSettled now) → (i : Bool) → total ours (udp_progress_ops now) i ≤ total ours (udp_progress_ops old) i
     udp_kept_ops old now (inl e) i = let x : total ours (udp_progress_ops now) i ≡ total ours (udp_progress_ops old) i = ap (λ (d : UdpInProgress). total ours (udp_progress_ops d) i) e in omega (arith, x)
     udp_kept_ops old (UdpInProgress.Binding op) (inr k) i = absurd k.1
     udp_kept_ops old UdpInProgress.Nothing (inr k) i = omega arith
     udp_kept_ops old UdpInProgress.Bound (inr k) i = omega arith
 
-    put_begins : (es : List Entry) (h : Here) (place : ℕ) (r now : Tcp2Socket) (op : Operation) → Found h place r → next_of line h.own ≡ line → op.who.id.step ≡ line → checks_of op.left ≤ 1 → ((i : Bool) → record_weight ours now i ≤ record_weight ours r i + op_weight ours op.who.id op.left i) → Kept line es h → Kept line es (record (put h place now) { own = Used })
+    -- another operation is over
+    kept_op : (old now : Option Operation) → KeepsOp old now → (i : Bool) → total ours (op_in now) i ≤ total ours (op_in old) i
+    kept_op old now (inl e) i = let x : total ours (op_in now) i ≡ total ours (op_in old) i = ap (λ (o : Option Operation). total ours (op_in o) i) e in omega (arith, x)
+    kept_op old now (inr e) i = let x : total ours (op_in now) i ≡ 0 = ap (λ (o : Option Operation). total ours (op_in o) i) e in omega (arith, x)
+
+    -- so nothing more is
+    udp_changed_less : (o now : OpenUdp) → UdpPlain o now → (i : Bool) → udp_weight ours (Udp2Socket.Open now) i ≤ udp_weight ours (Udp2Socket.Open o) i
+    udp_changed_less o now p i =
+        let x = udp_kept_ops o.in_progress now.in_progress p.binds i in
+        let y : total ours (op_in now.connecting) i ≡ total ours (op_in o.connecting) i = ap (λ (c : Option Operation). total ours (op_in c) i) p.connects in
+        let z = kept_op (sending_in o.outgoing) (sending_in now.outgoing) p.sends i in
+        let w = kept_op (receiving_in o.incoming) (receiving_in now.incoming) p.receives i in
+        omega (arith, x, y, z, w)
+
+    -- a datagram that begins, and a receive
+    sending_less : (o : OpenUdp) (out : Outgoing) (op : Operation) (i : Bool) → udp_weight ours (Udp2Socket.Open (sending_now o out op)) i ≤ udp_weight ours (Udp2Socket.Open o) i + op_weight ours op.who.id op.left i
+    sending_less o out op i = omega arith
+
+    receiving_less : (o : OpenUdp) (inc : Incoming) (op : Operation) (i : Bool) → udp_weight ours (Udp2Socket.Open (receiving_now o inc op)) i ≤ udp_weight ours (Udp2Socket.Open o) i + op_weight ours op.who.id op.left i
+    receiving_less o inc op i = omega arith
+
+    -- the operation of a line begins on a TCP socket
+    put_begins : (es : List Entry) (h : Here) (place : ℕ) (r now : Tcp2Socket) (op : Operation) → Found h place r → room line h.own ≡ room line Unused → op.who.id.step ≡ line → checks_of op.left ≤ 1 → ((i : Bool) → record_weight ours now i ≤ record_weight ours r i + op_weight ours op.who.id op.left i) → Kept line es h → Kept line es (record (put h place now) { own = Used })
     put_begins es h place r now op g u s c l k =
         let b = beside ours h.machine.store.records place r g in
-        begins es h (put h place now) op u s c (λ i. let p = l i in let x = b.was i in let y = b.now now i in omega (arith, p, x, y)) k
+        begins es h (put h place now) op Used (takes_line it line h.own op.who.id op.left u s c) (λ i. let p = l i in let x = b.was i in let y = b.now now i in omega (arith, p, x, y)) k
 
     same_weight : (r now : Tcp2Socket) → Same r now → (i : Bool) → record_weight ours now i ≤ record_weight ours r i
     same_weight r now s i =
@@ -171,7 +161,7 @@ module _ (it : OpId) where
     -- == moves
     module _ {origin : Step} where
       moves : (es : List Entry) (h now : Here) → Move line origin h now → Kept line es h → Kept line es now
-      moves es _ _ (Spends h e) k = lighter es h (record h { own = Used }) (λ i. omega arith) (less_room h.own) k
+      moves es _ _ (Spends h e) k = lighter es h (record h { own = Used }) (λ i. omega arith) (less_room it line h.own) k
       moves es _ _ (Changes h place r now g p) k = put_kept es h place r now g (changed_less r now p) k
       moves es _ _ (ClosesReader h place r s g e) k = put_kept es h place r _ g (λ i. let x = streams_are r s i e in omega (arith, x)) k
       moves es _ _ (Writes h place r s w g e m) k = put_kept es h place r _ g (λ i. let x = streams_are r s i e in let y = writer_less s.writer w m i in omega (arith, x, y)) k
@@ -180,25 +170,37 @@ module _ (it : OpId) where
       moves es _ _ (Opens h place r c d g e n) k = put_kept es h place r _ g (λ i. omega arith) k
       moves es _ _ (BeginsConnect h place r side a bound at g d to known idle own) k =
           let op = connect_operation (record { op = own_of line; side = side; maker = r.inner.maker }) (wildcard r.inner.family) a (connect_first bound) in
-          put_begins es h place r (with_inner r (with_state r.inner (state.Connecting op))) op g (ap (next_of line) own) refl (begun_connect (wildcard r.inner.family) a bound) (λ i. omega arith) k
+          put_begins es h place r (with_inner r (with_state r.inner (state.Connecting op))) op g (ap (room line) own) refl (begun_connect (wildcard r.inner.family) a bound) (λ i. omega arith) k
       moves es _ _ (BeginsBind h place r side a at g d to idle own) k =
-          let op = begun_bind (own_of line) side r a in put_begins es h place r (with_progress r (progress.Binding op)) op g (ap (next_of line) own) refl (omega arith) (λ i. omega arith) k
+          let op = begun_bind (own_of line) side r a in put_begins es h place r (with_progress r (progress.Binding op)) op g (ap (room line) own) refl (omega arith) (λ i. omega arith) k
       moves es _ _ (BeginsWrite h place r s ready permit bytes at g e w within own) k =
-          let job = new_job (own_of line) ready.side bytes in put_begins es h place r (with_writer r s (writing.Writing job)) job.write g (ap (next_of line) own) refl (omega arith) (λ i. omega arith) k
-      moves es _ _ (BeginsListen h place r side at g d bound none to idle own) k = put_begins es h place r (beginning_listen (own_of line) side r) (begun_listen (own_of line) side r) g (ap (next_of line) own) refl (omega arith) (λ i. omega arith) k
+          let job = new_job (own_of line) ready.side bytes in put_begins es h place r (with_writer r s (writing.Writing job)) job.write g (ap (room line) own) refl (omega arith) (λ i. omega arith) k
+      moves es _ _ (BeginsListen h place r side at g d bound none to idle own) k = put_begins es h place r (beginning_listen (own_of line) side r) (begun_listen (own_of line) side r) g (ap (room line) own) refl (omega arith) (λ i. omega arith) k
       moves es _ _ (BeginsAccept h place r l at g e a own) k =
           let op = accept_operation (record { op = second_of line; side = l.side; maker = l.maker }) accept.Accept in
-          put_begins es h place r (accepting_now r l (new_accept line l)) op g (ap (next_of line) own) refl (omega arith) (λ i. omega arith) k
+          put_begins es h place r (accepting_now r l (new_accept line l)) op g (ap (room line) own) refl (omega arith) (λ i. omega arith) k
       moves es _ _ (Unlistens h place r op q g e c o) k = put_kept es h place r _ g (λ i. omega arith) k
       moves es _ _ (Forgets h place r l c g e a) k = put_kept es h place r _ g (λ i. omega arith) k
       moves es _ _ (Joins h c handle place r l new peer is of u g e a) k =
           let idle : Tcp2Socket = accepting_now r l accepting.Idle in
           let m = put_kept es h place r idle g (λ i. omega arith) k in
           lighter es (put h place idle) (joining h (tcp2_put h.machine.store.records place idle) (joined l new peer)) (λ i. let z = sockets_push ours (tcp2_put h.machine.store.records place idle) (joined l new peer) i in omega (arith, z)) (omega arith) m
-      moves es _ _ (UdpChanges h place o now g p) k = put_udp_kept es h place (Udp2Socket.Open o) (Udp2Socket.Open now) g (udp_kept_ops o.in_progress now.in_progress p.binds) k
+      moves es _ _ (UdpChanges h place o now g p) k = put_udp_kept es h place (Udp2Socket.Open o) (Udp2Socket.Open now) g (udp_changed_less o now p) k
       moves es _ _ (BeginsUdpBind h place o a at g to idle own) k =
           let op = begun_udp_bind (own_of line) o a in
-          put_udp_begins es h place (Udp2Socket.Open o) (Udp2Socket.Open (with_udp_progress o (UdpInProgress.Binding op))) op g (ap (next_of line) own) refl (omega arith) (λ i. omega arith) k
+          put_udp_begins es h place (Udp2Socket.Open o) (Udp2Socket.Open (with_udp_progress o (UdpInProgress.Binding op))) op Used g (takes_line it line h.own (own_of line) op.left (ap (room line) own) refl (omega arith)) (λ i. omega arith) k
+      moves es _ _ (BeginsUdpConnect h place o a at g to bound own) k =
+          let op = begun_udp_connect (own_of line) o a in
+          put_udp_begins es h place (Udp2Socket.Open o) (Udp2Socket.Open (record o { connecting = Some op })) op Used g (takes_line it line h.own (own_of line) op.left (ap (room line) own) refl (omega arith)) (λ i. omega arith) k
+      moves es _ _ (Counts h e) k =
+          let r : room line h.own ≡ room line Unused = ap (room line) e in let l = names_within it line 1 in lighter es h (record h { own = Names 1 }) (λ i. omega arith) (omega (arith, r, l)) k
+      moves es _ _ (SpendsNames h n e) k = lighter es h (record h { own = Used }) (λ i. omega arith) (less_room it line h.own) k
+      moves es _ _ (BeginsSend h place n o out d bound at g e to known own) k =
+          let op = send_start (part_of line n) o.inner d.bytes d.remote_address bound in
+          put_udp_begins es h place (Udp2Socket.Open o) (Udp2Socket.Open (sending_now o out op)) op (Names (n + 1)) g (takes_part it line n h.own op.left own (send_begins o.inner.family d.bytes (send_to o.inner d.bytes d.remote_address) bound)) (sending_less o out op) k
+      moves es _ _ (BeginsReceive h place n o inc bound at g e own) k =
+          let op = receive_start (part_of line n) o.inner bound in
+          put_udp_begins es h place (Udp2Socket.Open o) (Udp2Socket.Open (receiving_now o inc op)) op (Names (n + 1)) g (takes_part it line n h.own op.left own (receive_begins bound)) (receiving_less o inc op) k
       -- the others leave all that is looked at
       moves es _ _ _ k = k
 
@@ -221,23 +223,50 @@ module _ (it : OpId) where
         held es h op (λ ended. put h place (now ended)) (λ i. e.others i + (total ours a i + total ours b i + total ours c i)) (let w = e.halved in let x = half ours a in let y = half ours b in let z = half ours c in omega (arith, w, x, y, z))
         (λ i. let x = e.was i in let y = was i in omega (arith, x, y)) (λ ended i. let x = e.now (now ended) i in let y = less ended i in omega (arith, x, y)) (λ ended. refl) k
 
-    udp_polled : (es : List Entry) (h : Here) (place : ℕ) (u : Udp2Socket) (op : Operation) (now : End × List Item → Udp2Socket) → FoundUdp h place u → ((i : Bool) → total ours (udp_ops u) i ≡ op_weight ours op.who.id op.left i)
-        → ((ended : End × List Item) (i : Bool) → total ours (udp_ops (now ended)) i ≤ op_weight ours op.who.id ended.1 i) → Kept line es h
+    -- the same of a UDP socket
+    udp_polled : (es : List Entry) (h : Here) (place : ℕ) (u : Udp2Socket) (op : Operation) (now : End × List Item → Udp2Socket) (a b c : List Operation) → FoundUdp h place u
+        → ((i : Bool) → udp_weight ours u i ≡ total ours a i + total ours b i + total ours c i + op_weight ours op.who.id op.left i)
+        → ((ended : End × List Item) (i : Bool) → udp_weight ours (now ended) i ≤ total ours a i + total ours b i + total ours c i + op_weight ours op.who.id ended.1 i) → Kept line es h
         → Allows (Asked ours) (λ fs ended. Kept line fs (put_udp h place (now ended))) es (poll_asks op)
-    udp_polled es h place u op now g was less k =
+    udp_polled es h place u op now a b c g was less k =
         let e = beside_udp ours h.machine.store.records place u g in
-        held es h op (λ ended. put_udp h place (now ended)) e.others e.halved
+        held es h op (λ ended. put_udp h place (now ended)) (λ i. e.others i + (total ours a i + total ours b i + total ours c i)) (let w = e.halved in let x = half ours a in let y = half ours b in let z = half ours c in omega (arith, w, x, y, z))
         (λ i. let x = e.was i in let y = was i in omega (arith, x, y)) (λ ended i. let x = e.now (now ended) i in let y = less ended i in omega (arith, x, y)) (λ ended. refl) k
 
-    create_weighs : (create : Create) (end : End × List Item) (i : Bool) → total ours (udp_ops (udp_create_left create end)) i ≤ op_weight ours create.operation.who.id end.1 i
+    -- == what is left of an operation weighs no more
+    create_weighs : (create : Create) (end : End × List Item) (i : Bool) → udp_weight ours (udp_create_left create end) i ≤ op_weight ours create.operation.who.id end.1 i
     create_weighs create (Waits, items) i = omega arith
     create_weighs create (Done given, items) i = omega arith
     create_weighs create (Refused c given, items) i = omega arith
 
-    udp_bound_weighs : (op : Operation) (o : OpenUdp) (end : End × List Item) (i : Bool) → total ours (udp_progress_ops (udp_bind_progress op end)) i ≤ op_weight ours op.who.id end.1 i
-    udp_bound_weighs op o (Waits, items) i = omega arith
-    udp_bound_weighs op o (Done given, items) i = omega arith
-    udp_bound_weighs op o (Refused c given, items) i = omega arith
+    udp_bound_weighs : (op : Operation) (end : End × List Item) (i : Bool) → total ours (udp_progress_ops (udp_bind_progress op end)) i ≤ op_weight ours op.who.id end.1 i
+    udp_bound_weighs op (Waits, items) i = omega arith
+    udp_bound_weighs op (Done given, items) i = omega arith
+    udp_bound_weighs op (Refused c given, items) i = omega arith
+
+    -- of a connect, with what is beside it
+    udp_connected_weighs : (o : OpenUdp) (op : Operation) (end : End × List Item) (i : Bool)
+        → udp_weight ours (Udp2Socket.Open (udp_connect_left op o end)) i ≤ total ours (udp_progress_ops o.in_progress) i + total ours (op_in (sending_in o.outgoing)) i + total ours (op_in (receiving_in o.incoming)) i + op_weight ours op.who.id end.1 i
+    udp_connected_weighs o op (Waits, items) i = omega arith
+    udp_connected_weighs o op (Done given, items) i = omega arith
+    udp_connected_weighs o op (Refused c given, items) i = omega arith
+
+    -- of a datagram, and of a receive
+    sent_weighs : (op : Operation) (left : End × List Item → Sending) → SettlesSend op left → (end : End × List Item) (i : Bool) → total ours (op_in (send_op (left end))) i ≤ op_weight ours op.who.id end.1 i
+    sent_weighs op left s (Waits, items) i = let z : total ours (op_in (send_op (left (Waits, items)))) i ≡ op_weight ours op.who.id items i + 0 = ap (λ (x : Sending). total ours (op_in (send_op x)) i) (s.waits items) in omega (arith, z)
+    sent_weighs op left s (Done given, items) i = let z : total ours (op_in (send_op (left (Done given, items)))) i ≡ 0 = ap (λ (x : Option Operation). total ours (op_in x) i) (s.done given items) in omega (arith, z)
+    sent_weighs op left s (Refused c given, items) i = let z : total ours (op_in (send_op (left (Refused c given, items)))) i ≡ 0 = ap (λ (x : Option Operation). total ours (op_in x) i) (s.refused c given items) in omega (arith, z)
+
+    received_weighs : (op : Operation) (end : End × List Item) (i : Bool) → total ours (op_in (receive_op (receive_left op end))) i ≤ op_weight ours op.who.id end.1 i
+    received_weighs op (Waits, items) i = omega arith
+    received_weighs op (Done (Datagram bytes a), items) i = omega arith
+    received_weighs op (Done _, items) i = omega arith
+    received_weighs op (Refused c given, items) i = omega arith
+
+    -- whatever it wants
+    wanting_weighs : (only : Option IpSocketAddress) (op : Operation) (i : Bool) → op_weight ours op.who.id (wanted_in only op.left) i ≡ op_weight ours op.who.id op.left i
+    wanting_weighs only op false = refl
+    wanting_weighs only op true = ap (λ (n : ℕ). if_ours (ours op.who.id) n) (wanted_checks only op.left)
 
     ended_weighs : (op : Operation) (end : End × List Item) (i : Bool) → total ours (state_ops (connect_ended op.who end).1) i ≤ op_weight ours op.who.id end.1 i
     ended_weighs op (Waits, items) i = omega arith
@@ -272,11 +301,20 @@ module _ (it : OpId) where
     polls es h _ _ (Awaits place r l op g e a) k =
         polled es h place r op _ (state_ops r.inner.state) (streams_ops r.streams) (progress_ops r.in_progress) g
         (λ i. let z : total ours (listening_ops r.listening) i ≡ total ours (op ∷ []) i = ap (λ (t : Listening). total ours (listening_ops t) i) e ∙ ap (λ (t : Accepting). total ours (accept_ops t) i) a in omega (arith, z)) (λ ended i. let l = awaited_weighs op ended i in omega (arith, l)) k
-    polls es h _ _ (UdpCreates place create q g) k =
-        udp_polled es h place (Udp2Socket.Creating create) create.operation (udp_create_left create) g (λ i. omega arith) (create_weighs create) k
+    polls es h _ _ (UdpCreates place create q g) k = udp_polled es h place (Udp2Socket.Creating create) create.operation (udp_create_left create) [] [] [] g (λ i. omega arith) (λ ended i. let l = create_weighs create ended i in omega (arith, l)) k
     polls es h _ _ (UdpBindsOn place o op q g e) k =
-        udp_polled es h place (Udp2Socket.Open o) op (λ ended. Udp2Socket.Open (with_udp_progress o (udp_bind_progress op ended))) g
-        (λ i. let z : total ours (udp_progress_ops o.in_progress) i ≡ total ours (op ∷ []) i = ap (λ (t : UdpInProgress). total ours (udp_progress_ops t) i) e in omega (arith, z)) (udp_bound_weighs op o) k
+        udp_polled es h place (Udp2Socket.Open o) op (λ ended. Udp2Socket.Open (with_udp_progress o (udp_bind_progress op ended))) (op_in o.connecting) (op_in (sending_in o.outgoing)) (op_in (receiving_in o.incoming)) g
+        (λ i. let z : total ours (udp_progress_ops o.in_progress) i ≡ total ours (op ∷ []) i = ap (λ (t : UdpInProgress). total ours (udp_progress_ops t) i) e in omega (arith, z)) (λ ended i. let l = udp_bound_weighs op ended i in omega (arith, l)) k
+    polls es h _ _ (UdpConnectsOn place o op q g e) k =
+        udp_polled es h place (Udp2Socket.Open o) op (λ ended. Udp2Socket.Open (udp_connect_left op o ended)) (udp_progress_ops o.in_progress) (op_in (sending_in o.outgoing)) (op_in (receiving_in o.incoming)) g
+        (λ i. let z : total ours (op_in o.connecting) i ≡ total ours (op ∷ []) i = ap (λ (t : Option Operation). total ours (op_in t) i) e in omega (arith, z)) (udp_connected_weighs o op) k
+    polls es h _ _ (SendsOn place o out op left g e f s) k =
+        udp_polled es h place (Udp2Socket.Open o) (at_remote o.inner.remote op) (λ ended. Udp2Socket.Open (record o { outgoing = Some (with_sending out (left ended)) })) (udp_progress_ops o.in_progress) (op_in o.connecting) (op_in (receiving_in o.incoming)) g
+        (λ i. let z : total ours (op_in (sending_in o.outgoing)) i ≡ total ours (op ∷ []) i = ap (λ (t : Option Outgoing). total ours (op_in (sending_in t)) i) e ∙ ap (λ (t : Sending). total ours (op_in (send_op t)) i) f in omega (arith, z)) (λ ended i. let l = sent_weighs op left s ended i in omega (arith, l)) k
+    polls es h _ _ (ReceivesOn place o inc op g e f) k =
+        udp_polled es h place (Udp2Socket.Open o) (wanting inc.remote op) (λ ended. Udp2Socket.Open (record o { incoming = Some (with_receiving inc (receive_left op ended)) })) (udp_progress_ops o.in_progress) (op_in o.connecting) (op_in (sending_in o.outgoing)) g
+        (λ i. let w = wanting_weighs inc.remote op i in let z : total ours (op_in (receiving_in o.incoming)) i ≡ total ours (op ∷ []) i = ap (λ (t : Option Incoming). total ours (op_in (receiving_in t)) i) e ∙ ap (λ (t : Receiving). total ours (op_in (receive_op t)) i) f in omega (arith, w, z))
+        (λ ended i. let l = received_weighs op ended i in omega (arith, l)) k
 
     writes : (w : WriteState) (job : Job) (now : Job → WriteState) → GoesOn w job now → (i : Bool) → (total ours (writer_ops w) i ≡ op_weight ours job.write.who.id job.write.left i) × ((ended : End × List Item) → total ours (writer_ops (now (job_after job.write.who ended))) i ≡ op_weight ours job.write.who.id ended.1 i)
     writes _ _ _ (InWriting job e) i = (omega arith, λ ended. omega arith)
@@ -291,14 +329,14 @@ module _ (it : OpId) where
       asks = λ es h op c calm on k. let m = calm_may ours (gone_along ours 0 es) op c calm in (m.0, λ told. after es h op c told m.1 k);
       creates = λ es h ctx family u b k.
           let now = creating h (own_of line) ctx family in
-          after es now (own_of line) (call.TcpCreate ctx.name family) told.Done refl (lighter es h now (λ i. let x = sockets_push ours h.machine.store.records (new_record (new_socket (own_of line) ctx.name family)) i in omega (arith, x)) (less_room h.own) k);
+          after es now (own_of line) (call.TcpCreate ctx.name family) told.Done refl (lighter es h now (λ i. let x = sockets_push ours h.machine.store.records (new_record (new_socket (own_of line) ctx.name family)) i in omega (arith, x)) (less_room it line h.own) k);
       closes = λ es h place r now op side g c b k. (tt, λ told. after es (put h place now) op (call.Close side) told refl (put_kept es h place r now g (closed_less_record r now side c) k));
-      udp_same = λ es h place o now g s e k. put_udp_kept es h place (Udp2Socket.Open o) (Udp2Socket.Open now) g (λ i. let z : total ours (udp_progress_ops now.in_progress) i ≡ total ours (udp_progress_ops o.in_progress) i = ap (λ (t : UdpInProgress). total ours (udp_progress_ops t) i) e in omega (arith, z)) k;
+      udp_same = λ es h place o now g s e k. put_udp_kept es h place (Udp2Socket.Open o) (Udp2Socket.Open now) g (λ i. let z : udp_weight ours (Udp2Socket.Open now) i ≡ udp_weight ours (Udp2Socket.Open o) i = ap (λ (x : OpenUdp). udp_weight ours (Udp2Socket.Open x) i) e in omega (arith, z)) k;
       udp_creates = λ es h ctx family u b k.
           let create : Create = new_create (own_of line) ctx.name family in
           let now = udp_begun h (Ok create) in
           after es now (own_of line) (call.UdpCreate ctx.name family) told.Done refl
-          (begins es h (record h { machine = with_create h.machine create }) create.operation (ap (next_of line) u) refl (omega arith) (λ i. let x = udps_push ours h.machine.store.records (Udp2Socket.Creating create) i in omega (arith, x)) k);
+          (begins es h (record h { machine = with_create h.machine create }) create.operation Used (takes_line it line h.own (own_of line) create.operation.left (ap (room line) u) refl (omega arith)) (λ i. let x = udps_push ours h.machine.store.records (Udp2Socket.Creating create) i in omega (arith, x)) k);
       udp_closes = λ es h place o op g b k. (tt, λ told. after es (put_udp h place (Udp2Socket.Closed o.inner.side)) op (call.Close o.inner.side) told refl (put_udp_kept es h place (Udp2Socket.Open o) (Udp2Socket.Closed o.inner.side) g (λ i. omega arith) k));
       polls = λ es h op now x b k. polls es h op now x k;
       turns = λ es h place r s job now g e on b k.
@@ -319,6 +357,7 @@ module _ (it : OpId) where
       subst (λ (es : List Entry). ChecksFirst es) (asked_one it log) (asked_first ours log (each_ask contexts Kept (λ line origin. order line contexts origin) starts (λ line es m k. k) (let f = future_small it.step 1 in omega (arith, f), let f = future_small it.step 1 in omega (arith, f)) steps log rest w))
     where
       starts : (line : ℕ) (es : List Entry) (m : Machine) (own : Own) → Kept line es (Starts m Unused) → Kept line es (Starts m own)
-      starts line es m Used k = lighter line es (Starts m Unused) (Starts m Used) (λ i. omega arith) (less_room line Unused) k
+      starts line es m Used k = lighter line es (Starts m Unused) (Starts m Used) (λ i. omega arith) (less_room it line Unused) k
       starts line es m Unused k = k
       starts line es m (ToWrite at bytes) k = k
+      starts line es m (Names n) k = lighter line es (Starts m Unused) (Starts m (Names n)) (λ i. omega arith) (names_within it line n) k

@@ -7,7 +7,9 @@ use Rattle.wasi_tcp.specs.Listen as listen
 use Rattle.wasi_laws.proofs.Words.{◌≡◌, ℕ, zero, suc, ◌+◌, ◌≤◌, Bool, true, false, List, [], ◌∷◌, ◌++◌, length, refl, sym, subst, ◌∙◌, arith, ErrorCode, OpId, Call, Told, Entry, bind, Given, Item, Check, Bind, Connect, Listen, CheckArrival, CheckPeer, Write, Who, Operation, LastAsk, NothingLast, CloseLast, ShutdownLast, End, last_ask, poll_asks, Allows, entry, Asks, Give, Left, CheckLocal, allows_at, reached, bind_left, IsLeftOfConnect, IsLeftOfListen, IsOutward, Binds, ChecksFirst, HasGone, NoCheckLeft, operation_polled}
 use Rattle.wasi_world.specs.Operation.{UdpBind, UdpConnect, Send}
 use Rattle.wasi_udp.specs.Bind as udp
-use Rattle.wasi_laws.specs.Order.{UdpBinds}
+use Rattle.wasi_udp.specs.Connect as udp_connect
+use Rattle.wasi_udp.specs.Send as send
+use Rattle.wasi_laws.specs.Order.{Sends, UdpBinds, UdpConnects}
 use Rattle.wasi_laws.proofs.asks.Fronts.{IsToCheck, IsToGo, AsksBy, Checks, Goes, Calmly, Becomes, IsAdmitted, PollLaw, polls_by, IsConnected}
 use Rattle.wasi_laws.proofs.order.Ordered.{out_by, gone_after, gone_along, gone_push, Asked, calm_may, out_may, asked_all, asked_first, gone_out}
 use Rattle.wasi_laws.proofs.order.Weights.{Kind, ToCheck, ToGo, kind_of, and_then, checks_of, drop_weighs, if_ours, op_weight, Plain}
@@ -120,6 +122,18 @@ begins op (Listens k) = by_left op.left k.left
   where
     by_left : (items : List Item) → IsLeftOfListen items → checks_of items ≤ 1
     by_left _ listen.Ended = omega arith
+    by_left _ _ = omega arith
+begins op (UdpConnects k) = by_left op.left k.left
+  where
+    by_left : (items : List Item) → udp_connect.IsLeftOfConnect items → checks_of items ≤ 1
+    by_left _ (udp_connect.Connected family told) = omega arith
+    by_left _ udp_connect.Ended = omega arith
+    by_left _ _ = omega arith
+begins op (Sends k) = by_left op.left k.left
+  where
+    by_left : (items : List Item) → send.IsLeftOfSend items → checks_of items ≤ 1
+    by_left _ (send.ToRefuse c) = omega arith
+    by_left _ send.Ended = omega arith
     by_left _ _ = omega arith
 begins op (UdpBinds k) = by_left op.left k.left
   where

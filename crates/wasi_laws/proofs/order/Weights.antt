@@ -12,7 +12,14 @@ use Rattle.wasi_host.specs.declared.records.Record.TheVariants as rec
 use Rattle.wasi_host.specs.declared.listening.Listening.TheVariants as listening
 use Rattle.wasi_host.specs.declared.binding.InProgress.{InProgress}
 use Rattle.wasi_host.specs.declared.binding.InProgress.TheVariants as progress
-use Rattle.wasi_laws.proofs.Words.{Accept, Accepting, Bind, Bool, Check, CheckArrival, CheckLocal, CheckPeer, Connect, Here, Item, List, Listen, Listening, None, OpId, Operation, Option, Receive, Refuse, Some, Streams, Tcp2Socket, TcpState, WriteState, [], ap, arith, false, suc, true, zero, ℕ, ◌+◌, ◌∷◌, ◌≡◌, ◌≤◌}
+use Rattle.wasi_addr.specs.declared.address.SocketAddressFamily.{SocketAddressFamily}
+use Rattle.wasi_addr.specs.declared.code.ErrorCode.{ErrorCode}
+use Rattle.wasi_udp.specs.Receive as receive
+use Rattle.wasi_udp.specs.Receive.{receive_first, wanted_in}
+use Rattle.wasi_udp.specs.Send.{send_first, send_left}
+use Rattle.wasi_udp.specs.declared.send.Destination.{Destination}
+use Rattle.wasi_walks.proofs.walks.Moves.{receiving_in, sending_in}
+use Rattle.wasi_laws.proofs.Words.{Accept, Accepting, Bind, Bool, Check, CheckArrival, CheckLocal, CheckPeer, Connect, Err, Here, IpSocketAddress, Item, List, Listen, Listening, None, Ok, OpId, Operation, Option, Receive, Refuse, Result, Some, Streams, Tcp2Socket, TcpState, WriteState, [], ap, arith, false, refl, suc, true, zero, ℕ, ◌+◌, ◌∷◌, ◌≡◌, ◌≤◌}
 
 -- == the checks that are left
 -- what an item is to the checks of an operation: one, what they come before, or nothing
@@ -64,6 +71,24 @@ checks_at_most (item ∷ items) = (kind_counts (kind_of item) (checks_of items) 
 pub drop_weighs : (item : Item) (items : List Item) → checks_of items ≤ checks_of (item ∷ items)
 drop_weighs item items = (kind_counts (kind_of item) (checks_of items) (checks_at_most items)).1
 
+-- what is left of a datagram that begins
+pub send_begins : (family : SocketAddressFamily) (bytes : List ℕ) (to : Result Destination ErrorCode) (bound : Bool) → checks_of (send_left family bytes (send_first to bound)) ≤ 1
+send_begins family bytes (Err c) bound = omega arith
+send_begins family bytes (Ok to) true = omega arith
+send_begins family bytes (Ok to) false = omega arith
+
+-- and of a receive
+pub receive_begins : (bound : Bool) → checks_of (receive.receive_left None (receive_first bound)) ≤ 1
+receive_begins true = omega arith
+receive_begins false = omega arith
+
+-- another wanted address is no other check
+pub wanted_checks : (only : Option IpSocketAddress) (items : List Item) → checks_of (wanted_in only items) ≡ checks_of items
+wanted_checks only [] = refl
+wanted_checks only (Receive wanted ∷ items) = refl
+wanted_checks only (CheckPeer wanted bytes a ∷ items) = refl
+wanted_checks only (item ∷ items) = refl
+
 -- so many, where it is ours
 abbrev pub if_ours : Bool → ℕ → ℕ
 if_ours true n = n
@@ -109,10 +134,10 @@ abbrev pub udp_progress_ops : UdpInProgress → List Operation
 udp_progress_ops (udp.Binding op) = op ∷ []
 udp_progress_ops _ = []
 
-abbrev pub udp_ops : Udp2Socket → List Operation
-udp_ops (Udp2Socket.Creating create) = create.operation ∷ []
-udp_ops (Udp2Socket.Open o) = udp_progress_ops o.in_progress
-udp_ops (Udp2Socket.Closed side) = []
+-- a connect, a datagram or a receive, where there is one
+abbrev pub op_in : Option Operation → List Operation
+op_in (Some op) = op ∷ []
+op_in None = []
 
 module _ (ours : OpId → Bool) where
   abbrev pub total : List Operation → Bool → ℕ
@@ -127,9 +152,21 @@ module _ (ours : OpId → Bool) where
   abbrev pub record_weight : Tcp2Socket → Bool → ℕ
   record_weight r i = total (state_ops r.inner.state) i + (total (listening_ops r.listening) i + (total (streams_ops r.streams) i + total (progress_ops r.in_progress) i))
 
+  -- of one that is open: what is in progress, the connect, the datagram that is sent, and the receive
+  abbrev pub udp_weight : Udp2Socket → Bool → ℕ
+  udp_weight (Udp2Socket.Creating create) i = total (create.operation ∷ []) i
+  udp_weight (Udp2Socket.Open o) i = total (udp_progress_ops o.in_progress) i + (total (op_in o.connecting) i + (total (op_in (sending_in o.outgoing)) i + total (op_in (receiving_in o.incoming)) i))
+  udp_weight (Udp2Socket.Closed side) i = 0
+
+  -- and so in a UDP socket
+  half_udp : (u : Udp2Socket) → udp_weight u true ≤ udp_weight u false + udp_weight u false
+  half_udp (Udp2Socket.Creating create) = half (create.operation ∷ [])
+  half_udp (Udp2Socket.Open o) = let a = half (udp_progress_ops o.in_progress) in let b = half (op_in o.connecting) in let c = half (op_in (sending_in o.outgoing)) in let d = half (op_in (receiving_in o.incoming)) in omega (arith, a, b, c, d)
+  half_udp (Udp2Socket.Closed side) = omega arith
+
   abbrev pub weight_of : Record → Bool → ℕ
   weight_of (rec.Tcp2 r) i = record_weight r i
-  weight_of (rec.Udp2 u) i = total (udp_ops u) i
+  weight_of (rec.Udp2 u) i = udp_weight u i
 
   abbrev pub sockets_weight : List Record → Bool → ℕ
   sockets_weight [] i = 0
@@ -138,13 +175,13 @@ module _ (ours : OpId → Bool) where
   pub half_sockets : (rs : List Record) → sockets_weight rs true ≤ sockets_weight rs false + sockets_weight rs false
   half_sockets [] = omega arith
   half_sockets (rec.Tcp2 r ∷ rs) = let a = half (state_ops r.inner.state) in let b = half (listening_ops r.listening) in let c = half (streams_ops r.streams) in let p = half (progress_ops r.in_progress) in let d = half_sockets rs in omega (arith, a, b, c, p, d)
-  half_sockets (rec.Udp2 u ∷ rs) = let a = half (udp_ops u) in let d = half_sockets rs in omega (arith, a, d)
+  half_sockets (rec.Udp2 u ∷ rs) = let a = half_udp u in let d = half_sockets rs in omega (arith, a, d)
 
   pub sockets_push : (rs : List Record) (r : Tcp2Socket) (i : Bool) → sockets_weight (tcp2_pushed rs r) i ≡ sockets_weight rs i + record_weight r i
   sockets_push [] r i = omega arith
   sockets_push (x ∷ rs) r i = let k = sockets_push rs r i in omega (arith, k)
 
-  pub udps_push : (rs : List Record) (u : Udp2Socket) (i : Bool) → sockets_weight (udp2_pushed rs u) i ≡ sockets_weight rs i + total (udp_ops u) i
+  pub udps_push : (rs : List Record) (u : Udp2Socket) (i : Bool) → sockets_weight (udp2_pushed rs u) i ≡ sockets_weight rs i + udp_weight u i
   udps_push [] u i = omega arith
   udps_push (x ∷ rs) u i = let k = udps_push rs u i in omega (arith, k)
 
@@ -172,13 +209,13 @@ module _ (ours : OpId → Bool) where
   pub record BesideUdp (rs : List Record) (place : ℕ) (u : Udp2Socket) : Type 0 where
     pub others : Bool → ℕ
     pub halved : others true ≤ others false + others false
-    pub was : (i : Bool) → sockets_weight rs i ≡ others i + total (udp_ops u) i
-    pub now : (q : Udp2Socket) (i : Bool) → sockets_weight (udp2_put rs place q) i ≡ others i + total (udp_ops q) i
+    pub was : (i : Bool) → sockets_weight rs i ≡ others i + udp_weight u i
+    pub now : (q : Udp2Socket) (i : Bool) → sockets_weight (udp2_put rs place q) i ≡ others i + udp_weight q i
 
   pub beside_udp : (rs : List Record) (place : ℕ) (u : Udp2Socket) → udp2_at rs place ≡ Some u → BesideUdp rs place u
   beside_udp [] place u g = absurd (cc)
   beside_udp (rec.Tcp2 x ∷ rs) zero u g = absurd (cc)
-  beside_udp (rec.Udp2 x ∷ rs) zero u g = record { others = sockets_weight rs; halved = half_sockets rs; was = λ i. (let e : x ≡ u = cc in let s : total (udp_ops x) i ≡ total (udp_ops u) i = ap (λ (y : Udp2Socket). total (udp_ops y) i) e in omega (arith, s)); now = λ q i. omega arith }
+  beside_udp (rec.Udp2 x ∷ rs) zero u g = record { others = sockets_weight rs; halved = half_sockets rs; was = λ i. (let e : x ≡ u = cc in let s : udp_weight x i ≡ udp_weight u i = ap (λ (y : Udp2Socket). udp_weight y i) e in omega (arith, s)); now = λ q i. omega arith }
   beside_udp (x ∷ rs) (suc place) u g =
       let k = beside_udp rs place u g in
       record {

@@ -11,14 +11,18 @@ use Rattle.wasi_tcp.specs.Connect as connect
 use Rattle.wasi_tcp.specs.Listen as listen
 use Rattle.wasi_udp.specs.Bind as udp
 use Rattle.wasi_udp.specs.Create.{new_create}
+use Rattle.wasi_udp.specs.Receive.{wanted_in}
 use Rattle.wasi_host.specs.declared.udp.Udp2Socket.{Udp2Socket}
-use Rattle.wasi_host.specs.Udp.{udp_bind_progress, udp_create_left, with_udp_progress}
+use Rattle.wasi_host.specs.Udp.{udp_create_left}
 use Rattle.wasi_walks.proofs.UdpLists.{tcp_of_put, tcp_of_push, tcp_in_put, tcp_in_push}
-use Rattle.wasi_walks.proofs.fits.Records.{FitUdpProgress, UdpBindOn}
-use Rattle.wasi_walks.proofs.walks.Moves.{put_udp, FoundUdp, UdpChanges, BeginsUdpBind, UdpCreates, UdpBindsOn}
+use Rattle.wasi_walks.proofs.claims.Polls.{send_plain, receive_plain, udp_connect_plain}
+use Rattle.wasi_walks.proofs.fits.DatagramPolls.{wanted_left}
+use Rattle.wasi_walks.proofs.fits.Records.{FitConnecting, FitUdpProgress, ReceiveOn, SendOn, UdpBindOn, UdpConnectOn}
+use Rattle.wasi_walks.proofs.fits.UdpFits.{receives_on, sends_on}
+use Rattle.wasi_walks.proofs.walks.Moves.{Names, put_udp, FoundUdp, UdpChanges, BeginsUdpBind, BeginsUdpConnect, Counts, SpendsNames, BeginsSend, BeginsReceive, UdpCreates, UdpBindsOn, UdpConnectsOn, SendsOn, ReceivesOn}
 use Rattle.wasi_walks.specs.Waiting.{IsLeftOfBind}
 use Rattle.wasi_walks.specs.Waiting as binding
-use Rattle.wasi_laws.proofs.Words.{Allows, ArePlain, Asks, Awaits, Begins, BeginsAccept, BeginsBind, BeginsConnect, BeginsListen, BeginsWrite, BindsOn, Bool, Call, Changes, ClosesReader, Connects, Done, End, Entry, Fit, FitListening, FitProgress, Forgets, Found, Held, Here, HoldsAccept, HoldsConnect, IsAcceptOn, IsConnect, IsFrontOf, IsGone, IsLeftOfConnect, IsLeftOfListen, IsListen, Item, Job, Joins, List, Listens, Move, Named, NoWrite, None, Not, OpId, Opens, Operation, Option, Own, Quiet, Reconnects, Refused, SocketAddressFamily, Some, Spends, Step, Streams, Tcp2Socket, TcpState, ToWrite, Told, Unlistens, Unused, Used, Waits, WasiSocketsCtx, WriteState, Writes, [], accept_ended, accept_name, accept_plain, accepting_now, allows_keep, allows_weaker, ap, append-nil, append_assoc, bytes_left, closed_record, connect_ended, entry, false, fresh, if◌then◌else◌, inl, inr, is_same, job_after, joined, name_in, new_accept, new_job, new_record, new_socket, none_taken, opened_by, own_of, plain_poll, poll_asks, put, refl, rules, side_in, side_of, subst, sym, taken_fresh, taken_in, true, with_inner, with_listening, with_reader, with_state, with_writer, ℕ, ⊤, ◌++◌, ◌∙◌, ◌∷◌, ◌≡◌}
+use Rattle.wasi_laws.proofs.Words.{Allows, ArePlain, Asks, Awaits, Begins, BeginsAccept, BeginsBind, BeginsConnect, BeginsListen, BeginsWrite, BindsOn, Bool, Call, Changes, ClosesReader, Connects, Done, End, Entry, Fit, FitListening, FitProgress, Forgets, Found, Held, Here, HoldsAccept, HoldsConnect, IsAcceptOn, IsConnect, IsFrontOf, IsGone, IsLeftOfConnect, IsLeftOfListen, IsListen, Item, Job, Joins, List, Listens, Move, Named, NoWrite, None, Not, OpId, Opens, Operation, Option, Own, Quiet, Reconnects, Refused, SocketAddressFamily, Some, Spends, Step, Streams, Tcp2Socket, TcpState, ToWrite, Told, Unlistens, Unused, Used, Waits, WasiSocketsCtx, WriteState, Writes, [], accept_ended, accept_name, accept_plain, accepting_now, allows_keep, allows_weaker, ap, append-nil, append_assoc, bytes_left, closed_record, connect_ended, entry, false, fresh, if◌then◌else◌, inl, inr, is_same, job_after, joined, name_in, new_accept, new_job, new_record, new_socket, none_taken, opened_by, own_of, plain_poll, poll_asks, put, refl, rules, side_in, side_of, subst, sym, taken_fresh, taken_in, true, with_inner, with_listening, with_reader, with_state, with_writer, ℕ, ⊤, ◌+◌, ◌++◌, ◌∙◌, ◌∷◌, ◌≡◌}
 use Rattle.wasi_laws.proofs.asks.Fronts.{unwritten, polls_by}
 use Rattle.wasi_laws.proofs.asks.Single.{Single, Grounds, Closing, ClosesSocket, ClosesListen, ClosesArrived, creating}
 use Rattle.wasi_laws.proofs.asks.Trees.{GoesOn, InWriting, InClosing}
@@ -52,7 +56,11 @@ held_plain h _ _ (Connects place r op g e) f = let its : IsConnect op = subst Ho
 held_plain h _ _ (Listens place r op q g e c) f = let its : IsListen op = subst FitListening e (f.records place r g).1 in listen_plain op.left its.left
 held_plain h _ _ (Awaits place r l op g e a) f = let its : IsAcceptOn l.side l.maker op = subst (HoldsAccept l.side l.maker) a (subst FitListening e (f.records place r g).1) in accept_plain ⊤ op.left its.accept.left
 held_plain h _ _ (UdpCreates place create q g) f = subst ArePlain (sym (f.udps place (Udp2Socket.Creating create) g).1) (tt, tt)
-held_plain h _ _ (UdpBindsOn place o op q g e) f = let its : UdpBindOn o.inner.side op = subst (FitUdpProgress o.inner.side) e (f.udps place (Udp2Socket.Open o) g) in udp_plain op.left its.bind.left
+held_plain h _ _ (UdpBindsOn place o op q g e) f = let its : UdpBindOn o.inner.side op = subst (FitUdpProgress o.inner.side) e (f.udps place (Udp2Socket.Open o) g).0 in udp_plain op.left its.bind.left
+held_plain h _ _ (UdpConnectsOn place o op q g e) f = let its : UdpConnectOn o.inner.side op = subst (FitConnecting o.inner.side) e (f.udps place (Udp2Socket.Open o) g).1 in udp_connect_plain ⊤ op.left its.connect.left
+held_plain h _ _ (SendsOn place o out op left g e s settles) f = let its : SendOn o.inner.side op = sends_on o out op e s (f.udps place (Udp2Socket.Open o) g) in send_plain ⊤ op.left its.send.left
+held_plain h _ _ (ReceivesOn place o inc op g e r) f =
+    let its : ReceiveOn o.inner.side op = receives_on o inc op e r (f.udps place (Udp2Socket.Open o) g) in receive_plain ⊤ (wanted_in inc.remote op.left) (wanted_left inc.remote op.left its.receive.left)
 
 -- what becomes of a listen in progress
 listen_follows : (r now : Tcp2Socket) (op : Operation) → r.listening ≡ Begins op → now.side ≡ r.side → Follows r now
@@ -93,6 +101,7 @@ module _ (side : OpId) (given : List ℕ) where
   front_by : (taken held : List ℕ) (o : Own) → Owes o held → IsFrontOf taken held → IsFrontOf taken given
   front_by taken held Used e f = subst (IsFrontOf taken) e f
   front_by taken held Unused e f = subst (IsFrontOf taken) e f
+  front_by taken held (Names part) e f = subst (IsFrontOf taken) e f
   front_by taken held (ToWrite at bytes) e f = front_on taken held _ f e
 
   front : (es : List Entry) (h : Here) → Kept es h → IsFrontOf (taken_in side es) given
@@ -128,8 +137,12 @@ module _ (side : OpId) (given : List ℕ) where
   push_udp_kept : (es : List Entry) (records : List Record) (now : Udp2Socket) (own : Own) → Permitted es records own → Permitted es (udp2_pushed records now) own
   push_udp_kept es records now own k = record { held = k.held; stands = agrees_beside side (taken_in side es) k.held records (udp2_pushed records now) (tcp_of_push records now) (tcp_in_push records now) k.stands; owes = k.owes }
 
+  -- what the line has begun changes, and it is let write as much as before
+  owns : (es : List Entry) (records : List Record) (own was now : Own) → own ≡ was → ((held : List ℕ) → Owes was held → Owes now held) → Permitted es records own → Permitted es records now
+  owns es records own was now e f k = record { held = k.held; stands = k.stands; owes = f k.held (subst (λ (o : Own). Owes o k.held) e k.owes) }
+
   spends : (es : List Entry) (records : List Record) (own : Own) → own ≡ Unused → Permitted es records own → Permitted es records Used
-  spends es records own u k = record { held = k.held; stands = k.stands; owes = subst (λ (o : Own). Owes o k.held) u k.owes }
+  spends es records own u k = owns es records own Unused Used u (λ held o. o) k
 
   module _ (line : ℕ) where
     -- a write begins: its network socket is the connection's
@@ -163,6 +176,8 @@ module _ (side : OpId) (given : List ℕ) where
     module _ (contexts : List WasiSocketsCtx) (origin : Step) where
       moves : (es : List Entry) (h now : Here) → Move line origin h now → Grounds contexts line origin h → Kept es h → Kept es now
       moves es _ _ (Spends h e) b k = spends es _ h.own e k
+      moves es _ _ (Counts h e) b k = owns es _ h.own Unused (Names 1) e (λ held o. o) k
+      moves es _ _ (SpendsNames h part e) b k = owns es _ h.own (Names part) Used e (λ held o. o) k
       moves es _ _ (Changes h place r now g p) b k = put_same es h place r now g (follows_plain r now p) p.streams k
       moves es _ _ (ClosesReader h place r s g e) b k = put_kept es h place r (with_reader r s reading.Closed) g (record { side = refl; lives = λ x v. v }) (λ held v a. subst (Agree (taken_in side es) held) e a) k
       moves es _ _ (Writes h place r s w g e m) b k = put_kept es h place r (with_writer r s w) g (record { side = refl; lives = λ x v. v }) (λ held v a. writer_agrees (taken_in side es) held s.writer w m (subst (Agree (taken_in side es) held) e a)) k
@@ -189,6 +204,9 @@ module _ (side : OpId) (given : List ℕ) where
           }
       moves es _ _ (UdpChanges h place o now g p) b k = put_udp_kept es h place (Udp2Socket.Open o) (Udp2Socket.Open now) g k
       moves es _ _ (BeginsUdpBind h place o a at g to idle own) b k = spends es _ h.own own (put_udp_kept es h place (Udp2Socket.Open o) (Udp2Socket.Open _) g k)
+      moves es _ _ (BeginsUdpConnect h place o a at g to bound own) b k = spends es _ h.own own (put_udp_kept es h place (Udp2Socket.Open o) (Udp2Socket.Open _) g k)
+      moves es _ _ (BeginsSend h place part o out d bound at g e is known own) b k = owns es _ h.own (Names part) (Names (part + 1)) own (λ held p. p) (put_udp_kept es h place (Udp2Socket.Open o) (Udp2Socket.Open _) g k)
+      moves es _ _ (BeginsReceive h place part o inc bound at g e own) b k = owns es _ h.own (Names part) (Names (part + 1)) own (λ held p. p) (put_udp_kept es h place (Udp2Socket.Open o) (Udp2Socket.Open _) g k)
       -- the others leave all that is looked at
       moves es _ _ _ b k = k
 
@@ -205,7 +223,10 @@ module _ (side : OpId) (given : List ℕ) where
       ended_kept es h _ _ (Refused c given, items) (Listens place r op q g e _) n k = put_same es h place r _ g (listen_follows r _ op e refl) refl k
       ended_kept es h _ _ ended (Awaits place r l op g e a) n k = put_same es h place r _ g (follows_quiet r (accepting_now r l (accept_ended op.who ended)) refl refl (λ b. b)) refl k
       ended_kept es h _ _ ended (UdpCreates place create q g) n k = put_udp_kept es h place (Udp2Socket.Creating create) (udp_create_left create ended) g k
-      ended_kept es h _ _ ended (UdpBindsOn place o op q g e) n k = put_udp_kept es h place (Udp2Socket.Open o) (Udp2Socket.Open (with_udp_progress o (udp_bind_progress op ended))) g k
+      ended_kept es h _ _ ended (UdpBindsOn place o op q g e) n k = put_udp_kept es h place (Udp2Socket.Open o) (Udp2Socket.Open _) g k
+      ended_kept es h _ _ ended (UdpConnectsOn place o op q g e) n k = put_udp_kept es h place (Udp2Socket.Open o) (Udp2Socket.Open _) g k
+      ended_kept es h _ _ ended (SendsOn place o out op left g e s settles) n k = put_udp_kept es h place (Udp2Socket.Open o) (Udp2Socket.Open _) g k
+      ended_kept es h _ _ ended (ReceivesOn place o inc op g e r) n k = put_udp_kept es h place (Udp2Socket.Open o) (Udp2Socket.Open _) g k
 
       -- a write is in progress
       turns : (es : List Entry) (h : Here) (place : ℕ) (r : Tcp2Socket) (s : Streams) (w : WriteState) (job : Job) (now : Job → WriteState) → Found h place r → r.streams ≡ Some s → HasStreams r.inner.state s → s.writer ≡ w → GoesOn w job now → Named line h → Kept es h

@@ -7,6 +7,7 @@ use Rattle.wasi_host.specs.StreamCalls.{convert_asks, converted, stream_on, chec
 use Rattle.wasi_steps.specs.declared.reply.Reply.TheVariants as reply
 use Rattle.wasi_steps.specs.declared.step.Step.TheVariants as step
 use Rattle.wasi_tcp.specs.declared.writer.WriteState.TheVariants as writing
+use Rattle.wasi_walks.proofs.walks.Moves.{Names}
 use Rattle.wasi_walks.proofs.walks.Writes.{may_begin, may_of, may_in, may_at, may, let_write}
 use Rattle.wasi_laws.proofs.Words.{◌≡◌, ℕ, ◌<◌, List, [], ◌++◌, Option, Some, None, Ok, Err, Result, refl, sym, ap, subst, ◌∙◌, append-nil, inl, suc, ◌+◌, nat_lt, Bool, true, false, if◌then◌else◌, ◌∷◌, length, arith, append_assoc, ⊤, IsSomeAnd, OpId, Entry, WasiSocketsCtx, Give, bind, Left, reached, StreamStop, is_full, side_of, side_in, WriteState, writer_side, check_write_asks, taken_in, ErrorValue, make_asks, Machine, Streams, Tcp2Socket, Standing, writer_of, writer_asks, stream_at, with_store, output_at, own_of, side_at, Reply, number_fields, permit_reply, machine_asks, asks_while, record_in, Answered, writer_in, writer_of_record, WritesTo, Quiet, quiet_then, quiet_if, Named, Unused, Starts, Over, Asks, is_same, Allows, allows_weaker, holds, IsFrontOf, first_state, let_begin, permitted_in, permitted_by, Did, Then, Step, Own, Used, ToWrite, may_while, machine_walks, BaseBetween, first_base, base_starts, base_over}
 use Rattle.wasi_laws.proofs.shapes.Shape.{HasStreams, StreamsShape, of_writer}
@@ -137,6 +138,7 @@ module _ (contexts : List WasiSocketsCtx) (side : OpId) where
   owes : (held : List ℕ) (o : Own) → Owes side (held ++ let_write side o) o held
   owes held Used = sym (append-nil held)
   owes held Unused = sym (append-nil held)
+  owes held (Names part) = sym (append-nil held)
   owes held (ToWrite at bytes) = refl
 
   abbrev lets : Machine → Step → List ℕ

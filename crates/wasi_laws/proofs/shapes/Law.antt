@@ -8,13 +8,11 @@ use Rattle.wasi_laws.proofs.asks.Fronts.{Becomes, ToldAddress, PollLaw, polls_by
 use Rattle.wasi_laws.proofs.asks.Trees.{GoesOn, InWriting, InClosing, turns_by}
 use Rattle.wasi_laws.proofs.shapes.Shape.{IsOfWrite, AreOfWrite, end_write, JobIs, WriterIs, writer_moves, HasStreams, StreamsShape, ListenerShape, RecordShape, Unconnected, bare, sideless, restated}
 use Rattle.wasi_host.specs.Records.{tcp2_at, tcp2_put, tcp2_pushed}
-use Rattle.wasi_host.specs.declared.udp.OpenUdp.{OpenUdp}
 use Rattle.wasi_host.specs.declared.udp.Udp2Socket.{Udp2Socket}
-use Rattle.wasi_host.specs.declared.udp.UdpInProgress.{UdpInProgress}
-use Rattle.wasi_host.specs.Udp.{udp_bind_progress, udp_create_left, with_udp_progress}
+use Rattle.wasi_host.specs.Udp.{udp_create_left}
 use Rattle.wasi_udp.specs.Create.{Create}
 use Rattle.wasi_walks.proofs.UdpLists.{tcp_of_put, tcp_of_push}
-use Rattle.wasi_walks.proofs.walks.Moves.{put_udp, udp_begun, UdpChanges, BeginsUdpBind, UdpCreates, UdpBindsOn}
+use Rattle.wasi_walks.proofs.walks.Moves.{put_udp, udp_begun, UdpChanges, BeginsUdpBind, BeginsUdpConnect, BeginsSend, BeginsReceive, UdpCreates, UdpBindsOn, UdpConnectsOn, SendsOn, ReceivesOn}
 use Rattle.wasi_host.specs.declared.records.Record.{Record}
 
 -- what is left of a write takes no other form
@@ -100,6 +98,10 @@ put_shape h place now k i = λ n r e. elim (get_set h.machine.store.records plac
 pub udp_shape : (h : Here) (place : ℕ) (now : Udp2Socket) → Shaped h → Shaped (put_udp h place now)
 udp_shape h place now i = λ n r e. i n r (tcp_of_put h.machine.store.records place now n r e)
 
+-- a UDP socket is polled: the records keep their shape, whatever is left of it
+udp_polled : (es : List Entry) (h : Here) (place : ℕ) (op : Operation) (now : End × List Item → Udp2Socket) → Shaped h → Allows Anything (λ fs ended. Shaped (put_udp h place (now ended))) es (poll_asks op)
+udp_polled es h place op now i = whatever (λ ended. Shaped (put_udp h place (now ended))) (λ ended. udp_shape h place (now ended) i) es (poll_asks op)
+
 pub begun_shape : (h : Here) (made : Result Create ErrorCode) → Shaped h → Shaped (udp_begun h made)
 begun_shape h (Ok create) i = λ n r e. i n r (tcp_of_push h.machine.store.records (Udp2Socket.Creating create) n r e)
 begun_shape h (Err c) i = i
@@ -135,6 +137,9 @@ module _ (contexts : List WasiSocketsCtx) (line : ℕ) (origin : Step) where
       push_shape (tcp2_put h.machine.store.records place idle) (joined l new peer) (record { connection = _; is = refl; taken = refl; reader = λ half d. (let q : record { side = new } ≡ half = cc in ap (λ y. y.side) (sym q)); writer = refl }, tt) (put_shape h place idle (k.0, accepts_shape r l e k) i)
   moves_shape _ _ (UdpChanges h place o now g p) i = udp_shape h place _ i
   moves_shape _ _ (BeginsUdpBind h place o a at g to idle own) i = udp_shape h place _ i
+  moves_shape _ _ (BeginsUdpConnect h place o a at g to bound own) i = udp_shape h place _ i
+  moves_shape _ _ (BeginsSend h place part o out d bound at g e is known own) i = udp_shape h place _ i
+  moves_shape _ _ (BeginsReceive h place part o inc bound at g e own) i = udp_shape h place _ i
   -- the others leave all that is looked at
   moves_shape _ _ _ i = i
 
@@ -143,8 +148,11 @@ module _ (contexts : List WasiSocketsCtx) (line : ℕ) (origin : Step) where
   polls_shape es h _ _ (Connects place r op g e) i = whatever (λ ended. Shaped (put h place (with_inner r (with_state r.inner (connect_ended op.who ended).1)))) (λ ended. put_shape h place _ (ended_shape r op ended e (i place r g)) i) es (poll_asks op)
   polls_shape es h _ _ (Listens place r op q g e c) i = whatever (λ ended. Shaped (put h place (listen_after op r ended))) (λ ended. put_shape h place _ (listened_shape r op ended c (i place r g)) i) es (poll_asks op)
   polls_shape es h _ _ (Awaits place r l op g e a) i = let k = i place r g in whatever (λ ended. Shaped (put h place (accepting_now r l _))) (λ ended. put_shape h place _ (k.0, accepts_shape r l e k) i) es (poll_asks op)
-  polls_shape es h _ _ (UdpCreates place create q g) i = whatever (λ ended. Shaped (put_udp h place (udp_create_left create ended))) (λ ended. udp_shape h place _ i) es (poll_asks create.operation)
-  polls_shape es h _ _ (UdpBindsOn place o op q g e) i = whatever (λ ended. Shaped (put_udp h place (Udp2Socket.Open (with_udp_progress o (udp_bind_progress op ended))))) (λ ended. udp_shape h place _ i) es (poll_asks op)
+  polls_shape es h _ _ (UdpCreates place create q g) i = udp_polled es h place create.operation (udp_create_left create) i
+  polls_shape es h op _ (UdpBindsOn place o _ q g e) i = udp_polled es h place op _ i
+  polls_shape es h op _ (UdpConnectsOn place o _ q g e) i = udp_polled es h place op _ i
+  polls_shape es h op _ (SendsOn place o out _ left g e s settles) i = udp_polled es h place op _ i
+  polls_shape es h op _ (ReceivesOn place o inc _ g e r) i = udp_polled es h place op _ i
 
   pub turns_shape : (es : List Entry) (h : Here) (place : ℕ) (r : Tcp2Socket) (s : Streams) → Found h place r → r.streams ≡ Some s → Shaped h → Allows Anything (λ fs done. Shaped (put h place (with_writer r s done.1))) es (turn_asks s.writer)
   turns_shape es h place r s g e i =

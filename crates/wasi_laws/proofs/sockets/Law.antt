@@ -9,14 +9,16 @@ use Rattle.wasi_laws.proofs.asks.Single.{each_ask, OnUdp, Single, Closing, Close
 use Rattle.wasi_laws.proofs.asks.Trees.{GoesOn}
 use Rattle.wasi_laws.proofs.shapes.Shape.{some_same, WriterIs, HasStreams, StreamsShape, ListenerShape, IsBegun, Follows, follows_plain, follows_same, follows_state, follows_quiet, follows_begun, gone_lacks, follows_gone}
 use Rattle.wasi_laws.proofs.shapes.Law.{job_of}
+use Rattle.wasi_host.specs.declared.udp.OpenUdp.{OpenUdp}
 use Rattle.wasi_host.specs.declared.udp.Udp2Socket.{Udp2Socket}
-use Rattle.wasi_host.specs.Udp.{udp_bind_progress, udp_create_left, with_udp_progress}
+use Rattle.wasi_host.specs.Udp.{udp_create_left}
 use Rattle.wasi_udp.specs.Create.{Create, new_create}
-use Rattle.wasi_walks.proofs.fits.Records.{FitUdpProgress, UdpBindOn}
+use Rattle.wasi_walks.proofs.fits.Records.{FitConnecting, FitUdpProgress, ReceiveOn, SendOn, UdpBindOn, UdpConnectOn}
+use Rattle.wasi_walks.proofs.fits.UdpFits.{connected_side, receives_on, sends_on}
 use Rattle.wasi_laws.specs.Opened.{UdpCreated}
-use Rattle.wasi_walks.proofs.walks.Moves.{put_udp, FoundUdp, udp_begun, UdpChanges, BeginsUdpBind, UdpCreates, UdpBindsOn}
-use Rattle.wasi_laws.proofs.sockets.Opened.{put_udp_open, push_udp_open, udp_closed_put, UdpOpen, Grows, grows_none, grows_entry, RecordOpen, name_of, changed, HasIt, one_more, opened_more, put_open, push_open, later, Kept, closed_put}
-use Rattle.wasi_laws.proofs.sockets.Polls.{ClosesAt, EndCloses, AskedOpen, calm_closes, PollLeaves, polled, calm_end}
+use Rattle.wasi_walks.proofs.walks.Moves.{Names, put_udp, FoundUdp, udp_begun, UdpChanges, BeginsUdpBind, BeginsUdpConnect, Counts, SpendsNames, BeginsSend, BeginsReceive, UdpCreates, UdpBindsOn, UdpConnectsOn, SendsOn, ReceivesOn}
+use Rattle.wasi_laws.proofs.sockets.Opened.{put_udp_open, push_udp_open, udp_closed_put, Grows, grows_none, grows_entry, RecordOpen, name_of, changed, HasIt, one_more, opened_more, put_open, push_open, later, Kept, closed_put}
+use Rattle.wasi_laws.proofs.sockets.Polls.{ClosesAt, AskedOpen, calm_closes, PollLeaves, polled, calm_end}
 
 abbrev accept_of : Listening → Accepting
 accept_of (Accepts k) = k.accept
@@ -43,11 +45,18 @@ module _ (line : ℕ) where
   by_own : (o : Own) → next_of line o ≤ line + 1
   by_own Used = omega arith
   by_own Unused = omega arith
+  by_own (Names part) = omega arith
   by_own (ToWrite at bytes) = omega arith
+
+  -- the names of parts are none of its own
+  of_parts : (own now : Own) → own ≡ now → next_of line now ≡ line → next_of line own ≤ line
+  of_parts own now e l = let z : next_of line own ≡ line = ap (next_of line) e ∙ l in omega (arith, z)
 
   module _ {origin : Step} where
     moves : (es : List Entry) (h now : Here) → Move line origin h now → Named line h → Kept line es h → Kept line es now
     moves es _ _ (Spends h e) n i = later es (line + 1) (by_own h.own) i
+    moves es _ _ (Counts h e) n i = later es line (of_parts h.own Unused e refl) i
+    moves es _ _ (SpendsNames h part e) n i = later es (line + 1) (by_own h.own) i
     moves es _ _ (Changes h place r now g p) n i = put_kept es h place r now g (follows_plain r now p) (inl p.listening) i
     moves es _ _ (ClosesReader h place r s g e) n i = put_kept es h place r _ g (record { side = refl; lives = λ x v. v }) (inl refl) i
     moves es _ _ (Writes h place r s w g e m) n i = put_kept es h place r _ g (record { side = refl; lives = λ x v. v }) (inl refl) i
@@ -73,6 +82,9 @@ module _ (line : ℕ) where
         (put_kept es h place r (accepting_now r l accepting.Idle) g (follows_quiet r _ refl refl (λ b. b)) (inr refl) i)
     moves es _ _ (UdpChanges h place o now g p) n i = put_udp_open es place (Udp2Socket.Open now) (subst (IsOpen es) (sym p.side) (i.udps place (Udp2Socket.Open o) g)) i
     moves es _ _ (BeginsUdpBind h place o a at g to idle own) n i = later es (line + 1) (by_own h.own) (put_udp_open es place (Udp2Socket.Open _) (i.udps place (Udp2Socket.Open o) g) i)
+    moves es _ _ (BeginsUdpConnect h place o a at g to bound own) n i = later es (line + 1) (by_own h.own) (put_udp_open es place (Udp2Socket.Open _) (i.udps place (Udp2Socket.Open o) g) i)
+    moves es _ _ (BeginsSend h place part o out d bound at g e is known own) n i = later es line (of_parts h.own (Names part) own refl) (put_udp_open es place (Udp2Socket.Open _) (i.udps place (Udp2Socket.Open o) g) i)
+    moves es _ _ (BeginsReceive h place part o inc bound at g e own) n i = later es line (of_parts h.own (Names part) own refl) (put_udp_open es place (Udp2Socket.Open _) (i.udps place (Udp2Socket.Open o) g) i)
     -- the others leave all that is looked at
     moves es _ _ _ n i = i
 
@@ -131,6 +143,14 @@ module _ (line : ℕ) where
   create_so es fs h place create (Done given, items) g n i k = let m = opened_more es fs (calm_end create.operation.who es fs (Done given, items) (λ z. z.1) k) i in put_udp_open fs place _ (m.udps place (Udp2Socket.Creating create) g) m
   create_so es fs h place create (Refused c given, items) g n i k = udp_closed_put line (ClosesAt create.operation.who es (Refused c given)) es fs h place (Udp2Socket.Creating create) g (λ x d. d.0) k.grows n i
 
+  -- a poll of an operation of an open UDP socket, which asks nothing last: its network socket stays, and stays open
+  udp_polled : (es : List Entry) (h : Here) (place : ℕ) (o : OpenUdp) (op : Operation) (now : End × List Item → OpenUdp) → FoundUdp h place (Udp2Socket.Open o) → op.who.side ≡ o.inner.side → op.who.last ≡ NothingLast → ((ended : End × List Item) → (now ended).inner.side ≡ o.inner.side) → Kept line es h
+      → Allows AskedOpen (λ fs ended. Kept line fs (put_udp h place (Udp2Socket.Open (now ended)))) es (poll_asks op)
+  udp_polled es h place o op now g side last same i =
+      polled op es _ (subst (IsOpen es) (sym side) (i.udps place (Udp2Socket.Open o) g)) (λ fs ended k.
+      let m = opened_more es fs (calm_end op.who es fs ended (λ z. let p : NothingLast ≡ CloseLast = sym last ∙ z.0 in absurd (cc)) k) i in
+      put_udp_open fs place (Udp2Socket.Open (now ended)) (subst (IsOpen fs) (sym (same ended)) (m.udps place (Udp2Socket.Open o) g)) m)
+
   polls : (es : List Entry) (h : Here) (op : Operation) (after : End × List Item → Here) → Held h op after → Fit h → ((place : ℕ) (r : Tcp2Socket) → Found h place r → ListenerShape r.inner.state r.listening) → Named line h → Kept line es h → Allows AskedOpen (λ fs ended. Kept line fs (after ended)) es (poll_asks op)
   polls es h _ _ (BindsOn place r op q g e) f s n i =
       let its = subst (FitProgress r.inner.state) e (f.records place r g).2 in
@@ -147,10 +167,13 @@ module _ (line : ℕ) where
   polls es h _ _ (UdpCreates place create q g) f s n i =
       polled create.operation es _ (i.udps place (Udp2Socket.Creating create) g) (λ fs ended k. create_so es fs h place create ended g n i k)
   polls es h _ _ (UdpBindsOn place o op q g e) f s n i =
-      let its : UdpBindOn o.inner.side op = subst (FitUdpProgress o.inner.side) e (f.udps place (Udp2Socket.Open o) g) in
-      polled op es _ (subst (IsOpen es) (sym its.of_side) (i.udps place (Udp2Socket.Open o) g)) (λ fs ended k.
-      let m = opened_more es fs (calm_end op.who es fs ended (λ z. let p : NothingLast ≡ CloseLast = sym its.bind.last ∙ z.0 in absurd (cc)) k) i in
-      put_udp_open fs place (Udp2Socket.Open (with_udp_progress o (udp_bind_progress op ended))) (m.udps place (Udp2Socket.Open o) g) m)
+      let its : UdpBindOn o.inner.side op = subst (FitUdpProgress o.inner.side) e (f.udps place (Udp2Socket.Open o) g).0 in udp_polled es h place o op _ g its.of_side its.bind.last (λ ended. refl) i
+  polls es h _ _ (UdpConnectsOn place o op q g e) f s n i =
+      let its : UdpConnectOn o.inner.side op = subst (FitConnecting o.inner.side) e (f.udps place (Udp2Socket.Open o) g).1 in udp_polled es h place o op _ g its.of_side its.connect.last (connected_side o op) i
+  polls es h by _ (SendsOn place o out op left g e d settles) f s n i =
+      let its : SendOn o.inner.side op = sends_on o out op e d (f.udps place (Udp2Socket.Open o) g) in udp_polled es h place o by _ g its.of_side its.send.last (λ ended. refl) i
+  polls es h by _ (ReceivesOn place o inc op g e r) f s n i =
+      let its : ReceiveOn o.inner.side op = receives_on o inc op e r (f.udps place (Udp2Socket.Open o) g) in udp_polled es h place o by _ g its.of_side its.receive.last (λ ended. refl) i
 
   -- a write closes nothing
   turns : (es : List Entry) (h : Here) (place : ℕ) (r : Tcp2Socket) (s : Streams) (w : WriteState) (job : Job) (now : Job → WriteState) → Found h place r → HasStreams r.inner.state s → s.writer ≡ w → GoesOn w job now → Named line h → Kept line es h → Allows AskedOpen (λ fs ended. Kept line fs (put h place (with_writer r s (now (job_after job.write.who ended))))) es (poll_asks job.write)
@@ -223,6 +246,7 @@ module _ (contexts : List WasiSocketsCtx) where
       starts : (line : ℕ) (es : List Entry) (m : Machine) (own : Own) → Kept line es (Starts m Unused) → Kept line es (Starts m own)
       starts line es m Used i = later es (line + 1) (by_own line Unused) i
       starts line es m Unused i = i
+      starts line es m (Names part) i = i
       starts line es m (ToWrite at bytes) i = i
 
 -- after a close of a socket nothing is asked of it
