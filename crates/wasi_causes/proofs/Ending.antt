@@ -1,10 +1,13 @@
 -- What is released: by a shutdown, by a drop of a handle, and what a drop leaves.
-use Rattle.wasi_causes.proofs.Words.{◌≡◌, Bool, true, false, if◌then◌else◌, List, [], ◌∷◌, ◌++◌, Option, Some, None, refl, sym, ap, ◌∙◌, append-nil, append_assoc, ℕ, Result, inl, inr, Ok, Err, subst, ◌≢◌, IsSome, IpSocketAddress, ShutdownType, Receive, Send, Both, give_streams_up, gone, release_asks, released, release_at, Stop, Trap, is_on, other_jobs, kind_at, output_of, has_no_child, without_handle, taken_out, place_of, give_up_asks, socket_at, own_of, with_store, answered, at_once, drop_kind, drop_taken, drop_asks, shut_streams, shut_record, shutdown_at, Records, Kind, Tcp2, Output, Listening, Machine, Streams, Tcp2Socket, shutdown_on, set_there, record_at, putting, record_in, OfRecord, Has, done_reply, answer_reply, Each, no_fields, OutputWaits, WritesOn, ToldToWait, WriterWaits, Field, Reply, in_hand, refuse_in, Job, is_over, held_side, give_up_in, reader_shutdown_asks, Socket, side_of, writer_side, writer_shutdown_asks, side_up_asks, Accepting, ReadState, WriteState, Give, bind, End, Done, Who, Operation, ask_close, Entry, OpId, Answer, Ready, Pending, HasChildren, NoSuchHandle, Full, NotPermitted, WasiSocketsCtx}
+use Rattle.wasi_causes.proofs.Words.{◌≡◌, Bool, true, false, if◌then◌else◌, List, [], ◌∷◌, ◌++◌, Option, Some, None, refl, sym, ap, ◌∙◌, ⊤, ◌⊎◌, append-nil, append_assoc, ℕ, Result, inl, inr, Ok, Err, subst, ◌≢◌, IsSome, IpSocketAddress, ShutdownType, Receive, Send, Both, give_streams_up, gone, release_asks, released, release_at, Stop, Trap, is_on, other_jobs, kind_at, output_of, has_no_child, without_handle, taken_out, place_of, give_up_asks, socket_at, own_of, with_store, answered, at_once, drop_kind, drop_taken, drop_asks, shut_streams, shut_record, shutdown_at, Records, Kind, Tcp2, Output, Listening, Machine, Streams, Tcp2Socket, shutdown_on, set_there, record_at, putting, record_in, OfRecord, Has, done_reply, answer_reply, Each, no_fields, OutputWaits, WritesOn, ToldToWait, WriterWaits, Field, Reply, in_hand, refuse_in, Job, is_over, held_side, give_up_in, reader_shutdown_asks, Socket, side_of, writer_side, writer_shutdown_asks, side_up_asks, Accepting, ReadState, WriteState, Give, bind, End, Done, Who, Operation, ask_close, Entry, OpId, Answer, Ready, Pending, HasChildren, NoSuchHandle, Full, NotPermitted, WasiSocketsCtx}
 use Rattle.wasi_machine.specs.Machine.{first_ids}
-use Rattle.wasi_host.specs.Records.{tcp2_at, udp2_at}
+use Rattle.wasi_host.specs.Records.{tcp2_at, udp2_at, open_at}
+use Rattle.wasi_host.specs.Datagrams.{sends as still_sends}
+use Rattle.wasi_host.specs.DatagramCalls.{drop_incoming_at, drop_outgoing_at, drop_outgoing_by, without_receives}
+use Rattle.wasi_host.specs.declared.udp.OpenUdp.{OpenUdp}
 use Rattle.wasi_host.specs.Udp.{close_udp_asks}
-use Rattle.wasi_host.specs.UdpCalls.{release_udp_at, udp_closed, with_udp}
-use Rattle.wasi_host.specs.declared.kind.Kind.TheVariants.{Udp2}
+use Rattle.wasi_host.specs.UdpCalls.{release_udp_at, udp_closed, with_open_udp, with_udp}
+use Rattle.wasi_host.specs.declared.kind.Kind.TheVariants.{Udp2, Incoming, Outgoing}
 use Rattle.wasi_host.specs.declared.udp.Udp2Socket.{Udp2Socket}
 use Rattle.wasi_host.specs.declared.udp.Udp2Socket.TheVariants as udp
 use Rattle.wasi_causes.specs.Udp.{udp_given_up, udp_shut}
@@ -14,7 +17,7 @@ use Rattle.wasi_causes.proofs.tables.Meets.{Rows, Meets, ends, asks, chain, onto
 use Rattle.wasi_causes.proofs.tables.Routes.{Replied, Says, put_back, Names, its, on_record, apart, none_has}
 use Rattle.wasi_causes.specs.GivenUp.{receive_given_up, send_given_up, streams_given_up, side_closed, arrival_given_up, accept_given_up, listen_given_up, listening_given_up, socket_given_up, ended_side, shut_at_once, last_write, shut_writer, shutdown_entries, shut_down, HasLiveChildren, without, LooksOnce, NoLook, OneLook, IsDropped, GoesAtOnce, IsGone}
 use Rattle.wasi_causes.specs.Outcomes.{Outcome, AsksOnce, AreLike, Gone}
-use Rattle.wasi_host.specs.Kinds.{none_in}
+use Rattle.wasi_host.specs.Kinds.{none_in, outgoing_of}
 use Rattle.wasi_host.specs.Shutdowns.{shut_receive, shut_send, with_streams, shut_put}
 use Rattle.wasi_host.specs.declared.listening.Listening.TheVariants as listening
 use Rattle.wasi_steps.specs.declared.reply.CodeWord.TheVariants as word
@@ -28,6 +31,7 @@ use Rattle.wasi_tcp.specs.declared.reader.ReadState.TheVariants as reading
 use Rattle.wasi_tcp.specs.declared.writer.WriteState.TheVariants as writing
 use Rattle.wasi_world.specs.declared.call.Call.TheVariants as call
 use Rattle.wasi_world.specs.declared.call.Told.TheVariants as told
+use Rattle.wasi_world.specs.declared.outcome.TrapKind.TheVariants.{StreamsAlive}
 
 abbrev Adds : {A : Type 0} → List Entry → List Entry → Rows A
 Adds es more fs done = fs ≡ es ++ more
@@ -170,7 +174,7 @@ module _ (contexts : List WasiSocketsCtx) (m : Machine) (line c handle : ℕ) wh
 
     pub shutdown : Meets (Says contexts m line (step.TcpShutdown c handle how)) [] (bind (shutdown_on m own how (socket_at m handle)) (λ done. Give (done_reply done.0, done.1)))
     shutdown =
-        onto _ (on_record m handle (shutdown_on m own how) (λ place o. shutdown_at m.store own how place o) refl (λ place. refl) (λ place. refl) (λ none. (apart (λ e. cc) (none_has _ (record_at m handle) none), (none, refl, refl))) (λ place r n. onto _ (by_streams place r n r.streams refl)))
+        onto _ (on_record m handle (shutdown_on m own how) (λ place o. shutdown_at m.store own how place o) refl (λ place. refl) (λ place. refl) (λ none. (apart (λ e. cc) (none_has _ (record_at m handle) none), (none, (refl, refl)))) (λ place r n. onto _ (by_streams place r n r.streams refl)))
 
   -- == a drop
   abbrev DropRow : Rows (Result (Answer (Unit {0})) Stop × Machine)
@@ -228,12 +232,43 @@ module _ (contexts : List WasiSocketsCtx) (m : Machine) (line c handle : ℕ) wh
     of_output place is es (Ready done, store) k = ((apart (λ e. cc) no_children, rw is k.0), (tt, (refl, rw is tt)))
     of_output place is es (Pending, store) k =
         let w : OutputWaits m own (Some place) es = k.0 m refl in
-        ((apart (λ e. cc) no_children, rw is (waits_once w.streams.writer es w.holds)), (((rw is refl, refl), rw k.1 refl), (refl, subst (λ (o : Option ℕ). OutputWaits m own o es) (sym (ap output_of is)) w)))
+        ((apart (λ e. cc) no_children, rw is (waits_once w.streams.writer es w.holds)), (((rw is (inl refl), refl), rw k.1 refl), (refl, inl (subst (λ (o : Option ℕ). OutputWaits m own o es) (sym (ap output_of is)) w))))
+
+    -- == of a datagram stream
+    incoming_left : (place : ℕ) → IsKind (Incoming place) → (o : Option OpenUdp) → open_at m.store.records place ≡ o → DropRow [] (answered (with_store (without m handle) (at_once (drop_incoming_at m.store place o))))
+    incoming_left place is None at = ((apart (λ e. cc) no_children, asks_none (kind_at m.table handle)), (tt, (refl, rw is (λ o there. absurd (cc)))))
+    incoming_left place is (Some o) at = (
+      (apart (λ e. cc) no_children, asks_none (kind_at m.table handle)),
+      (tt, (refl, rw is (λ q there. let its : o ≡ q = cc in record { quiet = refl; left = ap (λ (x : OpenUdp). let left : Machine = record (without m handle) { store = without_receives place (with_open_udp m.store place (record x { incoming = None })) } in left) its }))),
+    )
+
+    outgoing_left : (place : ℕ) → IsKind (Outgoing place) → (o : OpenUdp) → open_at m.store.records place ≡ Some o → (b : Bool) → still_sends o.outgoing ≡ b → DropRow [] (answered (with_store (without m handle) (drop_outgoing_by m.store (first_ids line) place o b)))
+    outgoing_left place is o at true e = ((apart (λ e. cc) no_children, asks_none (kind_at m.table handle)), (((rw is (inr refl), refl), refl), (refl, inr (rw (is, at) (e, refl)))))
+    outgoing_left place is o at false e = (
+      (apart (λ e. cc) no_children, asks_none (kind_at m.table handle)),
+      (
+        tt,
+        (
+          refl,
+          rw is (λ q there. let its : o ≡ q = cc in record {
+            sent = subst (λ (x : OpenUdp). still_sends x.outgoing ≡ false) its e;
+            quiet = refl;
+            left = ap (λ (x : OpenUdp). let left : Machine = record (without m handle) { store = with_open_udp m.store place (record x { outgoing = None }) } in left) its;
+          }),
+        ),
+      ),
+    )
+
+    outgoing_by : (place : ℕ) → IsKind (Outgoing place) → (o : Option OpenUdp) → open_at m.store.records place ≡ o → DropRow [] (answered (with_store (without m handle) (drop_outgoing_at m.store (first_ids line) place o)))
+    outgoing_by place is None at = ((apart (λ e. cc) no_children, asks_none (kind_at m.table handle)), (tt, (refl, rw is (λ o there. absurd (cc)))))
+    outgoing_by place is (Some o) at = outgoing_left place is o at (still_sends o.outgoing) refl
 
     by_kind : (kind : Kind) → IsKind kind → Meets DropRow [] (drop_kind (without m handle) (first_ids line) kind)
     by_kind (Tcp2 place) is = onto _ (by_record place is (tcp2_at m.store.records place) refl)
     by_kind (Udp2 place) is = onto _ (udp_by_record place is (udp2_at m.store.records place) refl)
     by_kind (Output place) is = onto _ (widen (of_output place is) (outputs m.store (first_ids line) place (tcp2_at m.store.records place) refl))
+    by_kind (Incoming place) is = ends (incoming_left place is (open_at m.store.records place) refl)
+    by_kind (Outgoing place) is = ends (outgoing_by place is (open_at m.store.records place) refl)
     by_kind _ is = ends ((apart (λ e. cc) no_children, asks_none (kind_at m.table handle)), (tt, (refl, rw is refl)))
 
   by_children : (kind : Kind) → IsKind kind → (b : Bool) → has_no_child m.table handle ≡ b → Meets DropRow [] (drop_taken m (first_ids line) (if b then (Ok kind, without_handle m.table handle) else (Err (Trap HasChildren), m.table)))
@@ -242,7 +277,7 @@ module _ (contexts : List WasiSocketsCtx) (m : Machine) (line c handle : ℕ) wh
       ends (((λ same. record { live = rw is refl; children = λ none. let k : has_no_child m.table handle ≡ true = ap none_in none in cc }, λ k. refl), asks_none (kind_at m.table handle)), (tt, (refl, refl)))
 
   by_live : (o : Option Kind) → kind_at m.table handle ≡ o → Meets DropRow [] (drop_taken m (first_ids line) (taken_out m.table handle o))
-  by_live None is = ends ((apart (λ e. cc) (λ h. not_live (kind_at m.table handle) is h.live), asks_none (kind_at m.table handle)), (is, refl, refl))
+  by_live None is = ends ((apart (λ e. cc) (λ h. not_live (kind_at m.table handle) is h.live), asks_none (kind_at m.table handle)), (is, (refl, refl)))
   by_live (Some kind) is = by_children kind is (has_no_child m.table handle) refl
 
   pub drop : Meets (Says contexts m line (step.Drop c handle)) [] (bind (drop_asks m (first_ids line) handle) (λ done. Give (answer_reply line done.0, done.1)))
@@ -252,24 +287,41 @@ module _ (contexts : List WasiSocketsCtx) (m : Machine) (line c handle : ℕ) wh
   abbrev DropSays : List Entry → Reply → Machine → Type 0
   DropSays = Outcome contexts m line (step.Drop c handle)
 
-  done_ok : (kind : Kind) → kind_at m.table handle ≡ Some kind → (IsSome (output_of (Some kind)) → ⊥) → children_of m.table.live handle ≡ [] → (es : List Entry) (r : Reply) (after : Machine) → DropSays es r after → r ≡ reply.Ok no_fields
+  -- it may be pending
+  abbrev MayWait : Kind → Type 0
+  MayWait kind = IsSome (output_of (Some kind)) ⊎ IsSome (outgoing_of (Some kind))
+
+  done_ok : (kind : Kind) → kind_at m.table handle ≡ Some kind → (MayWait kind → ⊥) → children_of m.table.live handle ≡ [] → (es : List Entry) (r : Reply) (after : Machine) → DropSays es r after → r ≡ reply.Ok no_fields
   done_ok kind is other free es (reply.Ok fields) after row = ap reply.Ok (no_fields_so fields row.1.0)
   done_ok kind is other free es (reply.Pending n) after row = absurd (other (rw is at row.1.0.0.0))
   done_ok kind is other free es (reply.Trap NoSuchHandle) after row = let none : kind_at m.table handle ≡ None = row.1.0 in absurd (cc)
   done_ok kind is other free es (reply.Trap HasChildren) after row = absurd ((row.0.0.0 refl).children free)
   done_ok kind is other free es (reply.Trap Full) after row = absurd row.1.0
-  done_ok kind is other free es (reply.Trap NotPermitted) after row = absurd row.1.0
+  done_ok kind is other free es (reply.Trap NotPermitted) after row = elim row.1.0 [ inl w ↦ absurd w | inr s ↦ absurd s ]
+  done_ok kind is other free es (reply.Trap StreamsAlive) after row = absurd row.1.0
   done_ok kind is other free es (reply.Err w) after row = absurd row.1.0
   done_ok kind is other free es reply.Closed after row = absurd row.1.0
   done_ok kind is other free es (reply.Failed w h) after row = absurd row.1.0.0
   done_ok kind is other free es reply.NoSuchCall after row = absurd row.1.0
   done_ok kind is other free es _ after row = absurd row.1
 
+  -- neither an output nor an outgoing datagram stream
+  abbrev IsNoOut : Kind → Type 0
+  IsNoOut (Output place) = ⊥
+  IsNoOut (Outgoing place) = ⊥
+  IsNoOut _ = ⊤
+
+  no_wait : (kind : Kind) → IsNoOut kind → MayWait kind → ⊥
+  no_wait (Output place) plain w = plain
+  no_wait (Outgoing place) plain w = plain
+  no_wait _ plain (inl w) = cc
+  no_wait _ plain (inr w) = cc
+
   pub socket_ok : (place : ℕ) → kind_at m.table handle ≡ Some (Tcp2 place) → children_of m.table.live handle ≡ [] → (es : List Entry) (r : Reply) (after : Machine) → DropSays es r after → r ≡ reply.Ok no_fields
-  socket_ok place is = done_ok (Tcp2 place) is (λ some. let none : IsSome {T = ℕ} None = some in cc)
+  socket_ok place is = done_ok (Tcp2 place) is (no_wait (Tcp2 place) tt)
 
   pub udp_ok : (place : ℕ) → kind_at m.table handle ≡ Some (Udp2 place) → children_of m.table.live handle ≡ [] → (es : List Entry) (r : Reply) (after : Machine) → DropSays es r after → r ≡ reply.Ok no_fields
-  udp_ok place is = done_ok (Udp2 place) is (λ some. let none : IsSome {T = ℕ} None = some in cc)
+  udp_ok place is = done_ok (Udp2 place) is (no_wait (Udp2 place) tt)
 
   pub record GivesUp (r : Tcp2Socket) (es : List Entry) (after : Machine) : Type 0 where
     pub asked : es ≡ socket_given_up (own_of line) r
@@ -283,21 +335,26 @@ module _ (contexts : List WasiSocketsCtx) (m : Machine) (line c handle : ℕ) wh
   asks_nothing (Tcp2 place) plain es h = absurd plain
   asks_nothing (Udp2 place) plain es h = absurd plain
   asks_nothing (Output place) plain es h = absurd plain
+  asks_nothing (Incoming place) plain es h = absurd plain
+  asks_nothing (Outgoing place) plain es h = absurd plain
   asks_nothing _ plain es h = h
 
   plain_left : (kind : Kind) → GoesAtOnce kind → (es : List Entry) (after : Machine) → Gone m line handle (Some kind) es after → after ≡ without m handle
   plain_left (Tcp2 place) plain es after h = absurd plain
   plain_left (Udp2 place) plain es after h = absurd plain
   plain_left (Output place) plain es after h = absurd plain
+  plain_left (Incoming place) plain es after h = absurd plain
+  plain_left (Outgoing place) plain es after h = absurd plain
   plain_left _ plain es after h = h
 
-  no_output : (kind : Kind) → GoesAtOnce kind → IsSome (output_of (Some kind)) → ⊥
-  no_output (Output place) plain some = plain
-  no_output _ plain some = cc
+  no_out : (kind : Kind) → GoesAtOnce kind → IsNoOut kind
+  no_out (Output place) plain = plain
+  no_out (Outgoing place) plain = plain
+  no_out _ plain = tt
 
   pub leaves : (kind : Kind) → kind_at m.table handle ≡ Some kind → GoesAtOnce kind → (es : List Entry) (r : Reply) (after : Machine) → IsDropped r → DropSays es r after → after ≡ without m handle
   leaves kind is plain es (reply.Ok fields) after d row = plain_left kind plain es after (rw is at row.1.1.1)
-  leaves kind is plain es (reply.Pending n) after d row = absurd (no_output kind plain (rw is at row.1.0.0.0))
+  leaves kind is plain es (reply.Pending n) after d row = absurd (no_wait kind (no_out kind plain) (rw is at row.1.0.0.0))
   leaves kind is plain es _ after d row = absurd d
 
   pub takes_out : (es : List Entry) (r : Reply) (after : Machine) → IsDropped r → DropSays es r after → after.table ≡ without_handle m.table handle

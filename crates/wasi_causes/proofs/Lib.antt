@@ -1,9 +1,12 @@
 pub mod Words
 pub mod tables
 pub mod operations
+pub mod udp_streams
 pub mod sockets
 pub mod streams
 pub mod Ending
 pub mod Machine
 pub mod Resumes
+pub mod Steady
+pub mod Pending
 pub mod Runs

@@ -1,5 +1,9 @@
 -- A subscription, and a look at a pollable.
-use Rattle.wasi_host.specs.Records.{tcp2_at}
+use Rattle.wasi_host.specs.Records.{tcp2_at, open_at}
+use Rattle.wasi_host.specs.DatagramCalls.{begins_receive, outgoing_ready, ready_incoming_at, with_receive}
+use Rattle.wasi_host.specs.Receiving.{look_incoming, receives}
+use Rattle.wasi_host.specs.declared.udp.OpenUdp.{OpenUdp}
+use Rattle.wasi_causes.specs.Datagrams.{IsOfDatagrams, IsReceiving, WatchesIncoming, WatchesOutgoing}
 use Rattle.wasi_causes.proofs.Words.{AcceptWaits, AcceptWaitsOn, Accepting, AcceptsIn, Answer, Bool}
 use Rattle.wasi_causes.proofs.Words.{ClosedBy, ConnectWaits, End, Entry, Err, Give}
 use Rattle.wasi_causes.proofs.Words.{HasNoListener, HoldsAccept, InputWaits, IsIdleSocket}
@@ -19,9 +23,13 @@ use Rattle.wasi_causes.proofs.Words.{with_writer, ℕ, ⊤, ◌∙◌, ◌∷◌
 use Rattle.wasi_causes.proofs.operations.Accepts.{AcceptRow, accepts}
 use Rattle.wasi_causes.proofs.operations.Polls.{EndsFor, connect_ends}
 use Rattle.wasi_causes.proofs.streams.Halves.{LookRow, looks}
-use Rattle.wasi_causes.proofs.tables.Meets.{Rows, Meets, ends, asks, onto, widen, granted}
+use Rattle.wasi_causes.proofs.tables.Meets.{Rows, Meets, ends, asks, onto, widen, granted, whatever}
 use Rattle.wasi_causes.proofs.tables.Routes.{Replied, Says, put_store_same, makes, full_so}
-use Rattle.wasi_causes.specs.Outcomes.{Outcome}
+use Rattle.wasi_causes.specs.Outcomes.{Always, Outcome, Quiet, ReadyAtOnce}
+use Rattle.wasi_causes.proofs.Words.{not, Reply, truth_fields}
+use Rattle.wasi_steps.specs.declared.reply.Reply.TheVariants as reply
+use Rattle.wasi_host.specs.declared.jobs.HostJob.TheVariants.{Receive}
+use Rattle.wasi_causes.proofs.udp_streams.Routes.{job_there}
 use Rattle.wasi_causes.specs.Udp.{WatchesUdp}
 use Rattle.wasi_host.specs.Machine.{watched_side}
 use Rattle.wasi_host.specs.Readiness.{is_over, is_done, connect_looked, accept_looked, ready_listening, ready_idle, ready_socket_by, ready_reader, ready_writer, ready_record, ready_put, ready_at}
@@ -33,13 +41,13 @@ use Rattle.wasi_tcp.specs.declared.reader.ReadState.TheVariants as reading
 use Rattle.wasi_tcp.specs.declared.socket.TcpState.TheVariants as state
 use Rattle.wasi_world.specs.declared.call.Call.TheVariants as call
 use Rattle.wasi_world.specs.declared.call.Told.TheVariants as told
-use Rattle.wasi_walks.specs.Answered.{ConnectsOn}
+use Rattle.wasi_walks.specs.Answered.{ConnectsOn, MissesWatched}
 use Rattle.wasi_world.specs.declared.outcome.Answer.TheVariants as answer
 
 -- == a subscription
 module _ (contexts : List WasiSocketsCtx) (m : Machine) (line c handle : ℕ) where
   on_subscribe : (o : Option Watched) → watched_by (kind_at m.table handle) ≡ o → Meets (Replied contexts m line (step.Subscribe c handle) handle_reply) [] (subscribe_on m (own_of line) handle o)
-  on_subscribe None is = ends (tt, (is, refl, refl))
+  on_subscribe None is = ends (tt, (is, (refl, refl)))
   on_subscribe (Some w) is =
       onto _ (makes m.table (own_of line) (Pollable w) (Some handle) (watched_side m.store w) (λ full. (tt, (tt, full_so m m [] full refl refl, tt)))
       (tt, ((tt, tt), record { number = refl; marked = rw is refl; made = rw is refl })))
@@ -50,6 +58,8 @@ module _ (contexts : List WasiSocketsCtx) (m : Machine) (line c handle : ℕ) wh
 -- it is of a TCP socket's record
 abbrev IsOfTcp : Watched → Type 0
 IsOfTcp (watched.Udp place) = ⊥
+IsOfTcp (watched.Incoming place) = ⊥
+IsOfTcp (watched.Outgoing place) = ⊥
 IsOfTcp _ = ⊤
 
 -- == a look at what is watched, in its record
@@ -152,6 +162,8 @@ module _ (line : ℕ) (r : Tcp2Socket) where
 
   looks_at : (w : Watched) → IsOfTcp w → Meets (RecordRow w) [] (ready_record its (first_ids line) w r)
   looks_at (watched.Udp place) tcp = absurd tcp
+  looks_at (watched.Incoming place) tcp = absurd tcp
+  looks_at (watched.Outgoing place) tcp = absurd tcp
   looks_at (watched.Socket place) tcp = by_progress place (is_connect r.in_progress) refl
   looks_at (watched.Input place) tcp = by_input place r.streams refl
   looks_at (watched.Output place) tcp = by_output place r.streams refl
@@ -167,12 +179,32 @@ module _ (contexts : List WasiSocketsCtx) (m : Machine) (line c pollable : ℕ) 
   module _ (w : Watched) (is : watch_of (kind_at m.table pollable) ≡ Some w) (tcp : IsOfTcp w) where
     none_there : (u : Watched) → IsOfTcp u → MissesRecord u None
     none_there (watched.Udp place) of = absurd of
+    none_there (watched.Incoming place) of = absurd of
+    none_there (watched.Outgoing place) of = absurd of
     none_there (watched.Socket place) of = refl
     none_there (watched.Input place) of = refl
     none_there (watched.Output place) of = refl
 
+    -- so nothing is said of datagram streams
+    misses_so : (u : Watched) → IsOfTcp u → MissesRecord u (tcp2_at m.store.records (place_in u)) → MissesWatched m (Some u)
+    misses_so (watched.Udp place) of none = absurd of
+    misses_so (watched.Incoming place) of none = absurd of
+    misses_so (watched.Outgoing place) of none = absurd of
+    misses_so (watched.Socket place) of none = none
+    misses_so (watched.Input place) of none = none
+    misses_so (watched.Output place) of none = none
+
     not_udp : WatchesUdp m pollable → ⊥
     not_udp (place, at) = let same : w ≡ watched.Udp place = cc in subst IsOfTcp same tcp
+
+    -- nor of datagram streams
+    no_streams : (place : ℕ) → (watch_of (kind_at m.table pollable) ≡ Some (watched.Outgoing place)) ⊎ (watch_of (kind_at m.table pollable) ≡ Some (watched.Incoming place)) → ⊥
+    no_streams place (inl at) = let same : w ≡ watched.Outgoing place = cc in subst IsOfTcp same tcp
+    no_streams place (inr at) = let same : w ≡ watched.Incoming place = cc in subst IsOfTcp same tcp
+
+    -- so of what isn't a TCP socket's nothing is said
+    said_of_none : (es : List Entry) (r : Reply) (after : Machine) → (WatchesIdle m pollable → ReadyAtOnce m es r after) → Always m line (step.Ready c pollable) es r after
+    said_of_none es r after idle = (idle, λ at. absurd (not_udp at), λ place at. absurd (no_streams place (inl at)), λ place at. absurd (no_streams place (inr at)))
 
     the_record : {P : Watched → Tcp2Socket → Type 0} (on : OfWatched m pollable P) → tcp2_at m.store.records (place_in w) ≡ Some on.found
     the_record on = let p = on.watches in let same : on.watch ≡ w = cc in rw (sym same) on.at
@@ -202,18 +234,68 @@ module _ (contexts : List WasiSocketsCtx) (m : Machine) (line c pollable : ℕ) 
       listens_so listens = rw (is, at) at listens
 
       said : (es : List Entry) (done : Result Bool Stop × Tcp2Socket) → RecordRow line r w es done → ReadyRow es (with_store m (ready_put m.store (place_in w) done))
-      said es (Ok true, now) k = ((λ idle. let h = k (idle_too idle) in (refl, (h.0, put_again now h.1)), λ at. absurd (not_udp at)), ((tt, tt), tt))
-      said es (Ok false, now) k = ((λ idle. absurd (k.0 (idle_too idle)), λ at. absurd (not_udp at)), ((tt, tt), λ connects listens. record { watch = w; found = r; watches = is; at = at; holds = k.1 (holds connects) (listens_so listens) }))
-      said es (Err (Trap NoSuchHandle), now) k = ((λ idle. absurd (never_idle w k.0 (idle_too idle)), λ at. absurd (not_udp at)), (rw (is, at) k.0, k.1, put_again now k.2))
+      said es (Ok true, now) k = (said_of_none es _ _ (λ idle. let h = k (idle_too idle) in (refl, (h.0, put_again now h.1))), ((tt, tt), tt))
+      said es (Ok false, now) k = (said_of_none es _ _ (λ idle. absurd (k.0 (idle_too idle))), ((tt, tt), λ no connects listens. record { watch = w; found = r; watches = is; at = at; holds = k.1 (holds connects) (listens_so listens) }))
+      said es (Err (Trap NoSuchHandle), now) k = (said_of_none es _ _ (λ idle. absurd (never_idle w k.0 (idle_too idle))), (rw is (misses_so w tcp (rw at k.0)), (k.1, put_again now k.2)))
       said es (Err _, now) k = absurd k
 
     by_record : (o : Option Tcp2Socket) → tcp2_at m.store.records (place_in w) ≡ o → Meets (λ es done. ReadyRow es (with_store m done)) [] (ready_at m.store own (first_ids line) w (place_in w) o)
-    by_record None at = ends ((λ idle. let there = the_record idle in absurd (cc), λ at. absurd (not_udp at)), (rw (is, at) (none_there w tcp), refl, refl))
+    by_record None at = ends (said_of_none [] _ _ (λ idle. let there = the_record idle in absurd (cc)), (rw is (misses_so w tcp (rw at (none_there w tcp))), (refl, refl)))
     by_record (Some r) at = onto _ (widen (said r at) (looks_at line r w tcp))
 
+  -- == of a datagram stream
+  module _ (w : Watched) (is : watch_of (kind_at m.table pollable) ≡ Some w) (of : IsOfDatagrams (Some w)) where
+    never_of_socket : (u : Watched) (r : Tcp2Socket) → IsOfDatagrams (Some u) → IsIdleSocket u r → ⊥
+    never_of_socket (watched.Incoming place) r o i = i
+    never_of_socket (watched.Outgoing place) r o i = i
+    never_of_socket _ r o i = o
+
+    not_idle_too : WatchesIdle m pollable → ⊥
+    not_idle_too idle = let p = idle.watches in let same : w ≡ idle.watch = cc in never_of_socket idle.watch idle.found (subst (λ (u : Watched). IsOfDatagrams (Some u)) same of) idle.holds
+
+    no_udp_too : WatchesUdp m pollable → ⊥
+    no_udp_too (place, at) = let same : w ≡ watched.Udp place = cc in subst (λ (u : Watched). IsOfDatagrams (Some u)) same of
+
+    -- of the others nothing is said
+    said_of_streams : (es : List Entry) (r : Reply) (after : Machine) → ((place : ℕ) → WatchesOutgoing m pollable place → (r ≡ reply.Ok (truth_fields (outgoing_ready (open_at m.store.records place)))) × Quiet m es after)
+        → ((place : ℕ) → WatchesIncoming m pollable place → r ≡ reply.Ok (truth_fields false) → IsReceiving (open_at after.store.records place)) → Always m line (step.Ready c pollable) es r after
+    said_of_streams es r after outgoing incoming = (λ idle. absurd (not_idle_too idle), λ at. absurd (no_udp_too at), outgoing, incoming)
+
+    looked_datagrams : (es : List Entry) (b : Bool) (after : Machine) → Always m line (step.Ready c pollable) es (reply.Ok (truth_fields b)) after → ReadyRow es (Ok b, after)
+    looked_datagrams es true after always = (always, ((tt, tt), tt))
+    looked_datagrams es false after always = (always, ((tt, tt), λ no. absurd (no (rw is of))))
+
+  -- == an outgoing datagram stream
+  module _ (place : ℕ) (is : watch_of (kind_at m.table pollable) ≡ Some (watched.Outgoing place)) where
+    its_place : (p : ℕ) → WatchesOutgoing m pollable p → place ≡ p
+    its_place p at = let same : watched.Outgoing place ≡ watched.Outgoing p = cc in cc
+
+    by_outgoing : ReadyRow [] (Ok (outgoing_ready (open_at m.store.records place)), m)
+    by_outgoing = looked_datagrams (watched.Outgoing place) is tt [] (outgoing_ready (open_at m.store.records place)) m (said_of_streams (watched.Outgoing place) is tt [] _ m (λ p at. (ap (λ (k : ℕ). reply.Ok (truth_fields (outgoing_ready (open_at m.store.records k)))) (its_place p at), (refl, refl))) (λ p at. absurd (cc)))
+
+  -- == an incoming one
+  module _ (place : ℕ) (is : watch_of (kind_at m.table pollable) ≡ Some (watched.Incoming place)) where
+    none_outgoing : (p : ℕ) → WatchesOutgoing m pollable p → ⊥
+    none_outgoing p at = cc
+
+    same_place : (p : ℕ) → WatchesIncoming m pollable p → place ≡ p
+    same_place p at = let same : watched.Incoming place ≡ watched.Incoming p = cc in cc
+
+    still_receives : (o now : OpenUdp) → open_at m.store.records place ≡ Some o → (b : Bool) → receives now.incoming ≡ b → truth_reply (Ok (not b)) ≡ reply.Ok (truth_fields false) → IsReceiving (open_at (with_receive m.store place o now).records place)
+    still_receives o now at true e same =
+        subst IsReceiving (sym (job_there m.store place o now (Receive place) (begins_receive o now) at)) e
+    still_receives o now at false e same = absurd (cc)
+
+    by_incoming : (o : Option OpenUdp) → open_at m.store.records place ≡ o → Meets (λ es done. ReadyRow es (with_store m done)) [] (ready_incoming_at m.store (first_ids line) place o)
+    by_incoming None at = ends (said_of_streams (watched.Incoming place) is tt [] _ m (λ p out. absurd (none_outgoing p out)) (λ p inc same. absurd (cc)), (rw is at, (refl, refl)))
+    by_incoming (Some o) at = onto _ (widen (λ es now k. looked_datagrams (watched.Incoming place) is tt es (not (receives now.incoming)) (record m { store = with_receive m.store place o now })
+        (said_of_streams (watched.Incoming place) is tt es _ _ (λ p out. absurd (none_outgoing p out)) (λ p inc same. subst (λ (k : ℕ). IsReceiving (open_at (with_receive m.store place o now).records k)) (same_place p inc) (still_receives o now at (receives now.incoming) refl (ap (λ (f : Bool). reply.Ok (truth_fields f)) refl ∙ same))))) (whatever (look_incoming (first_ids line) o o.incoming)))
+
   by_watch : (o : Option Watched) → watch_of (kind_at m.table pollable) ≡ o → Meets ReadyRow [] (ready_on m (first_ids line) o)
-  by_watch None is = ends ((λ idle. let some = idle.watches in absurd (cc), λ at. let some = at.1 in absurd (cc)), (rw is tt, refl, refl))
-  by_watch (Some (watched.Udp place)) is = ends ((λ idle. (refl, (refl, refl)), λ at. (refl, (refl, refl))), ((tt, tt), tt))
+  by_watch None is = ends ((λ idle. let some = idle.watches in absurd (cc), λ at. let some = at.1 in absurd (cc), λ place at. absurd (cc), λ place at. absurd (cc)), (rw is tt, (refl, refl)))
+  by_watch (Some (watched.Udp place)) is = ends ((λ idle. (refl, (refl, refl)), λ at. (refl, (refl, refl)), λ place at. absurd (cc), λ place at. absurd (cc)), ((tt, tt), tt))
+  by_watch (Some (watched.Incoming place)) is = onto _ (by_incoming place is (open_at m.store.records place) refl)
+  by_watch (Some (watched.Outgoing place)) is = ends (by_outgoing place is)
   by_watch (Some (watched.Socket place)) is = onto _ (by_record (watched.Socket place) is tt (tcp2_at m.store.records place) refl)
   by_watch (Some (watched.Input place)) is = onto _ (by_record (watched.Input place) is tt (tcp2_at m.store.records place) refl)
   by_watch (Some (watched.Output place)) is = onto _ (by_record (watched.Output place) is tt (tcp2_at m.store.records place) refl)

@@ -2,22 +2,11 @@
 use Rattle.wasi_host.specs.Records.{tcp2_at, udp2_at, open_at, open_of}
 use Rattle.wasi_host.specs.declared.binding.InProgress.TheVariants.{Binding}
 use Rattle.wasi_walks.proofs.walks.States.{stands_so as stands_under}
-use Rattle.wasi_causes.proofs.Words.{Answer, BindFailed, BindFails, BindWaits, Bool, CallFails}
-use Rattle.wasi_causes.proofs.Words.{CallWaits, Done, End, EndsPending, Entry, Err, ErrorCode, Give}
-use Rattle.wasi_causes.proofs.Words.{IfSome, InProgress, InvalidState, IsBinding}
-use Rattle.wasi_causes.proofs.Words.{IsListening, IsOnNothing, IsRestOfBind, IsSomeAnd, Item, List, ListenEnds}
-use Rattle.wasi_causes.proofs.Words.{ListenFailed, ListenWaits, Listening, Machine, NoSuchHandle, None}
-use Rattle.wasi_causes.proofs.Words.{Ok, OpId, Operation, Option, Pending, Ready, Records, Refused, Reply, Result, Some}
-use Rattle.wasi_causes.proofs.Words.{Standing, StandingCall, PendingCallsFit, Stop, Tcp2Socket}
-use Rattle.wasi_causes.proofs.Words.{Waits, WasiSocketsCtx}
-use Rattle.wasi_causes.proofs.Words.{[], allowed_answer, ap, bind, bind_ended, call_answered, call_of, call_place}
-use Rattle.wasi_causes.proofs.Words.{closed_listening, entry, eq-eqb, false, go_on}
-use Rattle.wasi_causes.proofs.Words.{if◌then◌else◌, inl, inr, listen_ended, listen_polled}
-use Rattle.wasi_causes.proofs.Words.{marks_in, no_fields, nothing_stands, own_of, poll_begun, poll_binding, poll_listening}
-use Rattle.wasi_causes.proofs.Words.{rebind_at, refl, relisten_at, resume_asks, resume_call}
-use Rattle.wasi_causes.proofs.Words.{resumed, resumed_reply, side_of, standing_as, stands_as, subst}
-use Rattle.wasi_causes.proofs.Words.{sym, true, unstood, with_socket, with_store}
-use Rattle.wasi_causes.proofs.Words.{word_of_code, ℕ, ⊤, ◌==◌, ◌∙◌, ◌∷◌, ◌≡◌, ◌≢◌}
+use Rattle.wasi_causes.proofs.Words.{Answer, BindFailed, BindFails, BindWaits, Bool, CallFails, CallWaits, Done, End, EndsPending, Entry, Err, ErrorCode, Full, Give, IfSome, InProgress, InvalidState, IsBinding, IsListening, IsOnNothing, IsRestOfBind}
+use Rattle.wasi_causes.proofs.Words.{IsSome, IsSomeAnd, Item, List, ListenEnds, ListenFailed, ListenWaits, Listening, Machine, NoSuchHandle, None, Ok, OpId, Operation, Option, Pending, PendingCallsFit, Ready, Records, Refused, Reply, Result, Some}
+use Rattle.wasi_causes.proofs.Words.{Standing, StandingCall, Stop, Tcp2Socket, Waits, WasiSocketsCtx, [], allowed_answer, ap, bind, bind_ended, call_answered, call_of, call_place, closed_listening, entry, eq-eqb, false, go_on, if◌then◌else◌, inl}
+use Rattle.wasi_causes.proofs.Words.{inr, listen_ended, listen_polled, marks_in, no_fields, nothing_stands, number_fields, own_of, poll_begun, poll_binding, poll_listening, rebind_at, refl, relisten_at, resume_asks, resume_call, resumed}
+use Rattle.wasi_causes.proofs.Words.{resumed_reply, side_of, standing_as, stands_as, subst, sym, true, unstood, with_handle, with_socket, with_store, word_of_code, ℕ, ⊤, ◌++◌, ◌+◌, ◌==◌, ◌∙◌, ◌∷◌, ◌≡◌, ◌≢◌}
 use Rattle.wasi_world.specs.declared.ids.Ids.{Ids}
 use Rattle.wasi_causes.proofs.operations.Polls.{EndsFor, bind_ends as bind_polls, listen_ends as listen_polls}
 use Rattle.wasi_causes.proofs.streams.Halves.{OutputRow, outputs}
@@ -25,12 +14,18 @@ use Rattle.wasi_causes.proofs.tables.Meets.{Rows, Meets, ends, onto, widen, gran
 use Rattle.wasi_causes.proofs.tables.Routes.{full_so, apart, code_word}
 use Rattle.wasi_causes.specs.Outcomes.{Outcome, Always}
 use Rattle.wasi_causes.specs.Udp.{GivesBy, ClosesBy}
-use Rattle.wasi_host.specs.Pending.{gone_on, created_on}
+use Rattle.wasi_host.specs.Pending.{gone_on, created_on, streams_on}
+use Rattle.wasi_causes.proofs.udp_streams.Makes.{makes_both, marks_of}
+use Rattle.wasi_causes.proofs.operations.ConnectPolls.{udp_connect_ends}
 use Rattle.wasi_causes.proofs.operations.Marks.{poll_marks_none}
+use Rattle.wasi_causes.specs.Datagrams.{LacksRoomForStreams, PendingHandleIsLive, with_both}
+use Rattle.wasi_host.specs.DatagramCalls.{drop_outgoing_at, drop_outgoing_by, mark_streams, mark_streams_of, reconnect_udp_at, remake_streams_asks, streams_so}
+use Rattle.wasi_host.specs.Datagrams.{poll_udp_connecting, sends, udp_connect_ended, udp_connect_left}
+use Rattle.wasi_host.specs.Machine.{udp_socket_at}
+use Rattle.wasi_steps.specs.Reply.{pair_fields}
 use Rattle.wasi_causes.proofs.operations.Polls.{CreateFails, create_ends, udp_bind_ends}
 use Rattle.wasi_causes.proofs.sockets.UdpCreates.{marks_udp}
 use Rattle.wasi_causes.proofs.tables.Meets.{chain, both}
-use Rattle.wasi_causes.proofs.Words.{◌++◌, Full, IsSome, number_fields, with_handle}
 use Rattle.wasi_causes.specs.Udp.{IsPendingCreate}
 use Rattle.wasi_host.specs.Udp.{opened_udp, poll_create_asks, udp_create_ended, udp_bind_ended, poll_udp_binding}
 use Rattle.wasi_host.specs.UdpCalls.{with_udp, with_open_udp, udp_call_answered, rebind_udp_at}
@@ -44,7 +39,7 @@ use Rattle.wasi_host.specs.declared.udp.UdpInProgress.TheVariants as doing
 use Rattle.wasi_udp.specs.Bind.{IsBind as IsUdpBind}
 use Rattle.wasi_udp.specs.Create.{Create, made_by, with_left}
 use Rattle.wasi_walks.proofs.UdpLists.{udp_set_there}
-use Rattle.wasi_walks.specs.Waiting.{CreateFailed, CreateWaits, IsCreating, IsUdpBinding, UdpBindFailed, UdpBindFails, UdpBindWaits}
+use Rattle.wasi_walks.specs.Waiting.{CreateFailed, CreateWaits, IsCreating, IsRestOfUdpConnect, IsUdpBinding, IsUdpConnecting, UdpConnectFailed, UdpConnectFails, UdpConnectWaits, UdpBindFailed, UdpBindFails, UdpBindWaits}
 use Rattle.wasi_host.specs.declared.listening.Listening.TheVariants as listening
 use Rattle.wasi_host.specs.declared.pending.Outcome.{Outcome as Given}
 use Rattle.wasi_host.specs.declared.store.StandingCall.TheVariants.{Bind, Listen, DropOutput}
@@ -58,10 +53,13 @@ use Rattle.wasi_world.specs.declared.call.Told.TheVariants as told
 -- it gives nothing where it is done
 abbrev pub IsOfNoCreate : StandingCall → Type 0
 IsOfNoCreate (StandingCall.UdpCreate place) = ⊥
+IsOfNoCreate (StandingCall.UdpConnect place handle) = ⊥
 IsOfNoCreate _ = ⊤
 
 pub gives_none : (m after : Machine) (call : StandingCall) → IsOfNoCreate call → after.table ≡ m.table → GivesBy m no_fields after call
 gives_none m after (StandingCall.UdpCreate place) plain same = absurd plain
+gives_none m after (StandingCall.UdpConnect place handle) plain same = absurd plain
+gives_none m after (StandingCall.DropOutgoing place) plain same = (refl, same)
 gives_none m after (Bind place) plain same = (refl, same)
 gives_none m after (Listen place) plain same = (refl, same)
 gives_none m after (DropOutput place) plain same = (refl, same)
@@ -69,6 +67,8 @@ gives_none m after (StandingCall.UdpBind place) plain same = (refl, same)
 
 pub closes_none : (after : Machine) (call : StandingCall) → IsOfNoCreate call → ClosesBy after call
 closes_none after (StandingCall.UdpCreate place) plain = absurd plain
+closes_none after (StandingCall.UdpConnect place handle) plain = tt
+closes_none after (StandingCall.DropOutgoing place) plain = tt
 closes_none after (Bind place) plain = tt
 closes_none after (Listen place) plain = tt
 closes_none after (DropOutput place) plain = tt
@@ -121,8 +121,8 @@ module _ (contexts : List WasiSocketsCtx) (m : Machine) (line : ℕ) (ids : Ids)
       ),
     )
 
-    pub waits : (es : List Entry) (after : Machine) → after.store.standing ≡ Some (standing_as ids call) → (PendingCallsFit m → CallWaits m (own_of n) es call) → Row es (reply.Pending n, after)
-    waits es after on cause = ((apart (λ e. cc) stands_so, λ same. inl refl), ((refl, rw on refl), λ binds. subst (λ (o : Option Standing). IsSomeAnd o (λ s. CallWaits m (own_of n) es s.call)) (sym stands) (cause binds)))
+    pub waits : (es : List Entry) (after : Machine) → after.table ≡ m.table → after.store.standing ≡ Some (standing_as ids call) → (PendingCallsFit m → CallWaits m (own_of n) es call) → Row es (reply.Pending n, after)
+    waits es after same on cause = ((apart (λ e. cc) stands_so, λ same. inl refl), ((refl, rw on refl), (λ binds. subst (λ (o : Option Standing). IsSomeAnd o (λ s. CallWaits m (own_of n) es s.call)) (sym stands) (cause binds), same, on ∙ sym stands)))
 
     -- what is due for an answer
     abbrev pub Due : List Entry → Result (Answer (Unit {0})) ErrorCode → Type 0
@@ -131,17 +131,17 @@ module _ (contexts : List WasiSocketsCtx) (m : Machine) (line : ℕ) (ids : Ids)
     Due es (Err code) = PendingCallsFit m → CallFails m es call code
 
     pub answered_so : IsOfNoCreate call → (es : List Entry) (begun : Result (Answer (Unit {0})) ErrorCode × Tcp2Socket) → Due es begun.0 → CallRow es (call_answered free ids call begun)
-    answered_so plain es (Ok Pending, r) h = waits es (record m { store = record (with_socket free (call_place call) r) { standing = Some (standing_as ids call) } }) refl h
+    answered_so plain es (Ok Pending, r) h = waits es (record m { store = record (with_socket free (call_place call) r) { standing = Some (standing_as ids call) } }) refl refl h
     answered_so plain es (Ok (Ready given), r) h = let left : Machine = record m { store = with_socket free (call_place call) r } in done es left refl (gives_none m left call plain refl)
     answered_so plain es (Err code, r) h = let left : Machine = record m { store = with_socket free (call_place call) r } in fails es left code refl refl (λ fits. (h fits, closes_none left call plain))
 
     pub missing : IsOnNothing m call → Row [] (reply.Trap NoSuchHandle, nothing_stands m)
-    missing nothing = (it_ends [] (reply.Trap NoSuchHandle) (nothing_stands m) (λ e. cc) refl, (rw (stands, eq-eqb n n refl) nothing, refl, refl))
+    missing nothing = (it_ends [] (reply.Trap NoSuchHandle) (nothing_stands m) (λ e. cc) refl, (rw (stands, eq-eqb n n refl) nothing, λ live. (refl, refl)))
 
   -- == of a drop
   of_output : (place : ℕ) → Under (DropOutput place) → (es : List Entry) (done : Answer (Unit {0}) × Records) → OutputRow free ids place es done → CallRow es (allowed_answer done)
   of_output place stands es (Ready given, store) k = done (DropOutput place) stands es (record m { store = store }) k.1 (refl, refl)
-  of_output place stands es (Pending, store) k = waits (DropOutput place) stands es (record m { store = store }) k.1 (λ binds. k.0 m refl)
+  of_output place stands es (Pending, store) k = waits (DropOutput place) stands es (record m { store = store }) refl k.1 (λ binds. k.0 m refl)
 
   -- == of a listen
   module _ (place : ℕ) (stands : Under (Listen place)) where
@@ -256,11 +256,11 @@ module _ (contexts : List WasiSocketsCtx) (m : Machine) (line : ℕ) (ids : Ids)
 
       create_ended : (es : List Entry) (end : End × List Item) → (marks_in es ≡ 0) × (PendingCallsFit m → EndsFor create.operation (CreateFails create.operation) es end) → MadeRow es (create_answered free place (udp_create_ended create end))
       create_ended es (Waits, items) k =
-          ends (waits (StandingCall.UdpCreate place) stands es (record m { store = record (with_udp free place (udp.Creating (with_left create items))) { standing = Some (standing_as ids (StandingCall.UdpCreate place)) } }) refl
+          ends (waits (StandingCall.UdpCreate place) stands es (record m { store = record (with_udp free place (udp.Creating (with_left create items))) { standing = Some (standing_as ids (StandingCall.UdpCreate place)) } }) refl refl
           (λ fits. subst (λ (o : Option Udp2Socket). IsSomeAnd o (λ u. CreateWaits u es)) (sym at) (k.1 fits)))
       create_ended es (Done given, items) k =
           marks_udp made_so place (opened_udp (made_by create)) there
-          (λ full. (it_ends (StandingCall.UdpCreate place) stands es (reply.Trap Full) made_so (λ e. cc) refl, (tt, full_so m made_so es full refl k.0, (full, is_create))))
+          (λ full. (it_ends (StandingCall.UdpCreate place) stands es (reply.Trap Full) made_so (λ e. cc) refl, (tt, full_so m made_so es full refl k.0, inl (full, is_create))))
           (it_ends (StandingCall.UdpCreate place) stands (es ++ mark ∷ []) (reply.Ok (number_fields m.table.next)) (record made_so { table = with_handle m.table (Udp2 place) None }) (λ e. cc) refl, (inr (inl (tt, tt)), gives_handle))
       create_ended es (Refused code given, items) k = ends (fails (StandingCall.UdpCreate place) stands es (record m { store = with_udp free place (udp.Closed create.operation.who.side) }) code refl refl (λ fits. (CreateFailed place create code at (k.1 fits), (create.operation.who.side, udp_set_there m.store.records place (udp.Creating create) (udp.Closed create.operation.who.side) at))))
 
@@ -283,7 +283,7 @@ module _ (contexts : List WasiSocketsCtx) (m : Machine) (line : ℕ) (ids : Ids)
       UdpBindRow es begun = CallRow es (udp_call_answered free ids (StandingCall.UdpBind place) begun)
 
       udp_answered_so : (es : List Entry) (begun : Result (Answer (Unit {0})) ErrorCode × OpenUdp) → Due (StandingCall.UdpBind place) stands es begun.0 → UdpBindRow es begun
-      udp_answered_so es (Ok Pending, now) h = waits (StandingCall.UdpBind place) stands es (record m { store = record (with_open_udp free place now) { standing = Some (standing_as ids (StandingCall.UdpBind place)) } }) refl h
+      udp_answered_so es (Ok Pending, now) h = waits (StandingCall.UdpBind place) stands es (record m { store = record (with_open_udp free place now) { standing = Some (standing_as ids (StandingCall.UdpBind place)) } }) refl refl h
       udp_answered_so es (Ok (Ready given), now) h = done (StandingCall.UdpBind place) stands es (record m { store = with_open_udp free place now }) refl (refl, refl)
       udp_answered_so es (Err code, now) h = fails (StandingCall.UdpBind place) stands es (record m { store = with_open_udp free place now }) code refl refl (λ fits. (h fits, tt))
 
@@ -310,12 +310,81 @@ module _ (contexts : List WasiSocketsCtx) (m : Machine) (line : ℕ) (ids : Ids)
     udp_rebinds None at = ends (missing (StandingCall.UdpBind place) stands at)
     udp_rebinds (Some o) at = onto _ (udp_rebinds_by o at o.in_progress refl)
 
+  -- == of datagram streams
+  module _ (place handle : ℕ) (stands : Under (StandingCall.UdpConnect place handle)) where
+    abbrev the_call : StandingCall
+    the_call = StandingCall.UdpConnect place handle
+
+    abbrev PairRow : Rows (Result (Answer (ℕ × ℕ)) Stop × Machine)
+    PairRow es made = GoneRow es (streams_on made)
+
+    abbrev ConnectedRow : Rows (Result (Answer (Unit {0})) Stop × Records)
+    ConnectedRow es done = Meets PairRow es (streams_so (own_of n) handle (nothing_stands m) done)
+
+    -- the handle of the socket is still live
+    lost_handle : udp_socket_at m handle ≡ None → PendingHandleIsLive m → ⊥
+    lost_handle none live = let its : udp_socket_at m handle ≡ Some place = rw stands at live in cc
+
+    -- they are there, and have their handles
+    marked : (es : List Entry) (store : Records) → store.standing ≡ None → marks_in es ≡ 0 → (its : Option ℕ) → udp_socket_at m handle ≡ its → Meets PairRow es (mark_streams (record m { store = store }) (own_of n) handle)
+    marked es store over unmarked None names =
+        subst (λ (o : Option ℕ). Meets PairRow es (mark_streams_of (record m { store = store }) (own_of n) handle o)) (sym names)
+        (ends (it_ends the_call stands es (reply.Trap NoSuchHandle) (record m { store = store }) (λ e. cc) over, (rw (stands, eq-eqb n n refl) (inr names), λ live. absurd (lost_handle names live))))
+    marked es store over unmarked (Some its) names =
+        let now : Machine = record m { store = store } in
+        makes_both now (own_of n) handle its es names unmarked
+        (λ fs table full next lacks. (it_ends the_call stands fs (reply.Trap Full) (record now { table = table }) (λ e. cc) over, (tt, (full, next), inr (subst (λ (o : Option Standing). IsSomeAnd o (λ s. LacksRoomForStreams m s.call)) (sym stands) (rw names lacks))))) (
+          it_ends the_call stands (marks_of now (own_of n) handle its es) (reply.Ok (pair_fields m.table.next (m.table.next + 1))) (record now { table = with_both m.table its handle }) (λ e. cc) over,
+          (inr (inr (inl (tt, (tt, tt)))), subst (λ (o : Option Standing). IsSomeAnd o (λ s. GivesBy m (pair_fields m.table.next (m.table.next + 1)) (record now { table = with_both m.table its handle }) s.call)) (sym stands) (refl, rw names refl)),
+        )
+
+    module _ (o : OpenUdp) (at : open_at m.store.records place ≡ Some o) where
+      connects_on : PendingCallsFit m → IsUdpConnecting o.connecting
+      connects_on fits = let k : IfSome (open_at m.store.records place) (λ q. IsUdpConnecting q.connecting) = rw stands at fits in rw at at k
+
+      module _ (op : Operation) (is : o.connecting ≡ Some op) where
+        is_connect : PendingCallsFit m → IsRestOfUdpConnect op
+        is_connect fits = let k = connects_on fits in rw is at k
+
+        connect_waits : (es : List Entry) → EndsPending op.who.id es → CallWaits m (own_of n) es the_call
+        connect_waits es h = let k : UdpConnectWaits o.connecting es = rw is h in rw at k
+
+        connect_ended : (es : List Entry) (end : End × List Item) → (marks_in es ≡ 0) × (PendingCallsFit m → EndsFor op (UdpConnectFails op) es end) → ConnectedRow es (udp_call_answered free ids the_call (udp_connect_ended op o end))
+        connect_ended es (Waits, items) k =
+            ends (waits the_call stands es (record m { store = record (with_open_udp free place (udp_connect_left op o (Waits, items))) { standing = Some (standing_as ids the_call) } }) refl refl (λ fits. connect_waits es (k.1 fits)))
+        connect_ended es (Done given, items) k = marked es (with_open_udp free place (udp_connect_left op o (Done given, items))) refl k.0 (udp_socket_at m handle) refl
+        connect_ended es (Refused code given, items) k =
+            ends (fails the_call stands es (record m { store = with_open_udp free place (udp_connect_left op o (Refused code given, items)) }) code refl refl (λ fits. (UdpConnectFailed place handle o op code at is (k.1 fits), tt)))
+
+      reconnects_by : (doing : Option Operation) → o.connecting ≡ doing → Meets (λ es done. ConnectedRow es (udp_call_answered free ids the_call done)) [] (poll_udp_connecting o doing)
+      reconnects_by (Some op) is = onto _ (widen (connect_ended op is) (both (record { along = poll_marks_none op }) (granted (λ fits. udp_connect_ends op (is_connect op is fits) []))))
+      reconnects_by None is = ends (ends (fails the_call stands [] (record m { store = with_open_udp free place o }) InvalidState refl refl (λ fits. let k = connects_on fits in absurd (rw is at k))))
+
+    reconnects : (o : Option OpenUdp) → open_at m.store.records place ≡ o → Meets ConnectedRow [] (reconnect_udp_at free ids place handle o)
+    reconnects None at = ends (ends (missing the_call stands (inl at)))
+    reconnects (Some o) at = onto _ (reconnects_by o at o.connecting refl)
+
+    remakes : Meets PairRow [] (remake_streams_asks (nothing_stands m) ids place handle)
+    remakes = chain {Mid = ConnectedRow} (reconnects (open_at m.store.records place) refl) (λ es done k. k)
+
+  -- == of the drop of an outgoing datagram stream
+  module _ (place : ℕ) (stands : Under (StandingCall.DropOutgoing place)) where
+    goes_by : (o : OpenUdp) → open_at m.store.records place ≡ Some o → (b : Bool) → sends o.outgoing ≡ b → CallRow [] (allowed_answer (drop_outgoing_by free ids place o b))
+    goes_by o at true e = waits (StandingCall.DropOutgoing place) stands [] (record m { store = record free { standing = Some (standing_as ids (StandingCall.DropOutgoing place)) } }) refl refl (λ fits. rw at (e, refl))
+    goes_by o at false e = done (StandingCall.DropOutgoing place) stands [] (record m { store = with_open_udp free place (record o { outgoing = None }) }) refl (refl, refl)
+
+    goes : (o : Option OpenUdp) → open_at m.store.records place ≡ o → CallRow [] (allowed_answer (drop_outgoing_at free ids place o))
+    goes None at = done (StandingCall.DropOutgoing place) stands [] (record m { store = free }) refl (refl, refl)
+    goes (Some o) at = goes_by o at (sends o.outgoing) refl
+
   -- == by what is pending
   goes_on_as : (call : StandingCall) → Under call → Meets GoneRow [] (go_on (nothing_stands m) ids call)
   goes_on_as (Bind place) stands = onto _ (rebinds place stands (tcp2_at m.store.records place) refl)
   goes_on_as (Listen place) stands = onto _ (relists place stands (tcp2_at m.store.records place) refl)
   goes_on_as (StandingCall.UdpCreate place) stands = onto _ (recreates place stands)
   goes_on_as (StandingCall.UdpBind place) stands = onto _ (udp_rebinds place stands (open_at m.store.records place) refl)
+  goes_on_as (StandingCall.UdpConnect place handle) stands = onto _ (remakes place handle stands)
+  goes_on_as (StandingCall.DropOutgoing place) stands = ends (goes place stands (open_at m.store.records place) refl)
   goes_on_as (DropOutput place) stands = onto _ (widen (of_output place stands) (outputs free ids place (tcp2_at m.store.records place) refl))
 
 module _ (contexts : List WasiSocketsCtx) (m : Machine) (line n : ℕ) where

@@ -1,326 +1,56 @@
 -- Of the machines that runs lead to: what a socket connects by is a connect, what a listener accepts by an accept, what is
 -- pending as a bind is a bind, as a listen a listen, and as a create a create; each live handle is of a record that is there, a
 -- connect in progress may be finished, and a socket that does nothing yet doesn't listen.
-use Rattle.wasi_host.specs.Records.{tcp2_at, tcp2_put, tcp2_pushed, udp2_at, udp2_put, open_at, open_of}
+use Rattle.wasi_host.specs.Records.{tcp2_at, open_at, open_of}
 use Rattle.wasi_host.specs.declared.kind.Kind.TheVariants.{Udp2}
 use Rattle.wasi_host.specs.declared.udp.OpenUdp.{OpenUdp}
 use Rattle.wasi_host.specs.declared.udp.Udp2Socket.{Udp2Socket}
 use Rattle.wasi_host.specs.declared.udp.UdpInProgress.{UdpInProgress}
-use Rattle.wasi_host.specs.Udp.{udp_side, udp_bind_progress, udp_create_left, with_udp_progress}
-use Rattle.wasi_host.specs.UdpCreates.{with_create}
-use Rattle.wasi_udp.specs.Create.{Create, after_create as udp_after_create}
-use Rattle.wasi_walks.proofs.UdpLists.{udp_set_get, udp_front, udp_in_put, udp_in_push, tcp_of_put, tcp_of_push, tcp_in_put, tcp_in_push}
-use Rattle.wasi_walks.proofs.walks.Moves.{put_udp, FoundUdp, udp_begun, udp_record_of, tcp_place, UdpChanges, BeginsUdpBind, StandsUdpBind, StandsUdpCreate, UdpCreates, UdpBindsOn, AUdpPollable}
-use Rattle.wasi_causes.proofs.Words.{Handles}
+use Rattle.wasi_walks.proofs.walks.Moves.{udp_record_of}
 use Rattle.wasi_causes.specs.Udp.{IsPendingCreate}
 use Rattle.wasi_walks.specs.Waiting.{IsCreating, IsUdpBinding}
-use Rattle.wasi_host.specs.declared.records.Record.{Record}
 use Rattle.wasi_host.specs.declared.binding.InProgress.TheVariants.{Binding}
-use Rattle.wasi_causes.proofs.Words.{Accepting, AcceptsAt, AcceptsIn, Allows, Answered, Bool, CodeWord, ConnectsAt, Done, End, Entry, Err}
-use Rattle.wasi_causes.proofs.Words.{ErrorCode, FinishRefusal, Full, Give, HasChildren, HoldsCall, IfSome, InProgress, Input, IsBinding, IsListening}
-use Rattle.wasi_causes.proofs.Words.{IsOnNothing, IsSome, IsSomeAnd, Item, Kind, Left, List, Listener, Listening, Machine}
-use Rattle.wasi_causes.proofs.Words.{NoSuchHandle, None, NotPermitted, Ok, OpId, Operation, Option, Output}
-use Rattle.wasi_causes.proofs.Words.{Pollable, Refused, RefusedOf, Reply, Result, Socket, Some, Standing, StandingCall}
-use Rattle.wasi_causes.proofs.Words.{PendingCallsFit, StandsOnNothing, Step, Tcp2, Tcp2Socket, TcpState, TrapKind, Waits, WasiSocketsCtx, Watched}
-use Rattle.wasi_causes.proofs.Words.{WatchesAccept, WatchesConnect, Who, [], accept_ended, allows_if, allows_then, ap, bind, bind_progress, call_of}
-use Rattle.wasi_causes.proofs.Words.{connect_ended, created_asks, false, first_state, get_set, get_split}
-use Rattle.wasi_causes.proofs.Words.{give_up_asks, if◌then◌else◌, inl, inr, is_connect, is_full, kind_at, length, machine_asks, make_asks, new_asks}
-use Rattle.wasi_causes.proofs.Words.{new_record, own_of, place_in, poll_asks, record_at, record_in, refl, run, set_get, side_at, side_of}
-use Rattle.wasi_causes.proofs.Words.{socket_at, standing_as, subst, sym, table_parent, told_addr, true, turn_asks, value_split}
-use Rattle.wasi_causes.proofs.Words.{value_without, watch_of, watched_in, with_handle, with_inner, with_listening, with_progress, with_record}
-use Rattle.wasi_causes.proofs.Words.{with_state, with_writer, without_handle, ℕ, ⊤, ◌==◌, ◌∙◌, ◌≡◌, ◌⊎◌}
-use Rattle.wasi_causes.proofs.sockets.Starts.{IsPastNot}
+use Rattle.wasi_causes.proofs.Words.{AcceptsAt, AcceptsIn, Allows, Answered, Bool, CodeWord, ConnectsAt, Entry}
+use Rattle.wasi_causes.proofs.Words.{FinishRefusal, Full, Give, HasChildren, HoldsCall, IfSome, InProgress, Input, IsBinding, IsListening}
+use Rattle.wasi_causes.proofs.Words.{IsOnNothing, IsSome, IsSomeAnd, Item, Kind, Left, List, Listening, Machine}
+use Rattle.wasi_causes.proofs.Words.{NoSuchHandle, None, NotPermitted, Option, Output}
+use Rattle.wasi_causes.proofs.Words.{Pollable, RefusedOf, Reply, Some, Standing, StandingCall}
+use Rattle.wasi_causes.proofs.Words.{PendingCallsFit, StandsOnNothing, Step, Tcp2, Tcp2Socket, TcpState, TrapKind, WasiSocketsCtx, Watched}
+use Rattle.wasi_causes.proofs.Words.{WatchesAccept, WatchesConnect, [], ap, call_of}
+use Rattle.wasi_causes.proofs.Words.{false, first_state}
+use Rattle.wasi_causes.proofs.Words.{if◌then◌else◌, inl, inr, is_connect, is_full, kind_at, machine_asks}
+use Rattle.wasi_causes.proofs.Words.{own_of, place_in, record_at, record_in, refl, run}
+use Rattle.wasi_causes.proofs.Words.{socket_at, subst, sym, true}
+use Rattle.wasi_causes.proofs.Words.{watch_of, watched_in}
+use Rattle.wasi_causes.proofs.Words.{ℕ, ◌==◌, ◌≡◌, ◌⊎◌}
 use Rattle.wasi_causes.proofs.tables.Steps.{its_own}
 use Rattle.wasi_causes.specs.Outcomes.{Traps}
 use Rattle.wasi_causes.specs.Reached.{Finishes, MayFinish, ListensLate, HasRecord, HasUdpRecord, OfItsRecord}
 use Rattle.wasi_host.specs.declared.listening.Listening.TheVariants as listening
 use Rattle.wasi_host.specs.declared.store.StandingCall.TheVariants as standing
-use Rattle.wasi_walks.proofs.Lists.{tcp2_front, tcp2_seam}
-use Rattle.wasi_walks.proofs.fits.Law.{Fit, fits_along, told_same, whatever}
+use Rattle.wasi_walks.proofs.fits.Law.{Fit, fits_along}
 use Rattle.wasi_walks.proofs.fits.Lines.{first_fit, starts_fit}
 use Rattle.wasi_walks.proofs.fits.Polls.{Anything}
 use Rattle.wasi_walks.proofs.fits.Records.{FitListening, FitProgress, FitRecord, FitCall, FitUdpProgress}
-use Rattle.wasi_walks.proofs.walks.Law.{Law}
-use Rattle.wasi_walks.proofs.walks.Moves.{HasBinding, HasListen, closed_record, Held, BindsOn, Connects, Here, put, Move, Changes, ClosesReader, Writes, IsGone, Reconnects, Opens, BeginsBind, BeginsConnect, BeginsWrite, Stands, Lists, Takes, BeginsListen, BeginsAccept, Unlistens, Forgets, Joins, Unstands, Listens, Awaits, listen_after, accepting_now, joined, IsConnecting, Marks, AStream, AnAcceptedStream, APollable, record_of}
+use Rattle.wasi_walks.proofs.walks.Moves.{HasBinding, HasListen, record_of}
 use Rattle.wasi_walks.proofs.walks.Runs.{run_ends}
 use Rattle.wasi_walks.proofs.walks.States.{Over, socket_record}
 use Rattle.wasi_walks.proofs.walks.Steps.{may_while, machine_walks}
-use Rattle.wasi_causes.proofs.operations.Polls.{Keeps, connect_leaves, listen_leaves}
-use Rattle.wasi_tcp.specs.Connect.{connect_first, connect_left, connect_operation}
-use Rattle.wasi_tcp.specs.Listen.{is_over}
-use Rattle.wasi_tcp.specs.Socket.{side_in}
-use Rattle.wasi_walks.specs.Answered.{AllOf, ConnectsOn, IsAskOfConnect}
+use Rattle.wasi_walks.specs.Answered.{AllOf, ConnectsOn}
 use Rattle.wasi_walks.specs.Listens.{RefusedListen}
 use Rattle.wasi_tcp.specs.Listen as listen
 use Rattle.wasi_walks.specs.Waiting.{IsAskLeft, IsAskOfListen, StartsTold}
-use Rattle.wasi_causes.proofs.Words.{HoldsConnect, IpSocketAddress, SocketAddressFamily, after_create, gives_more, told_done, wildcard}
+use Rattle.wasi_causes.proofs.Words.{HoldsConnect, wildcard}
 use Rattle.wasi_steps.specs.declared.reply.Reply.TheVariants as reply
 use Rattle.wasi_steps.specs.declared.step.Step.TheVariants as step
-use Rattle.wasi_tcp.specs.declared.listener.Accepting.TheVariants as accepting
 use Rattle.wasi_tcp.specs.declared.socket.TcpState.TheVariants as state
-
--- == what holds of a machine
-abbrev pub IsThere : List Record → ℕ → Type 0
-IsThere records place = (r : Tcp2Socket) × (tcp2_at records place ≡ Some r)
-
-abbrev pub IsUdpThere : List Record → ℕ → Type 0
-IsUdpThere records place = (u : Udp2Socket) × (udp2_at records place ≡ Some u)
-
--- only asks are left of a connect and of a listen
-abbrev pub AsksToConnect : TcpState → Type 0
-AsksToConnect (state.Connecting op) = AllOf IsAskOfConnect op.left
-AsksToConnect _ = ⊤
-
--- and the listen has taken the network socket
-abbrev pub AsksToListen : TcpState → Listening → Type 0
-AsksToListen s (listening.Begins op) = AllOf IsAskOfListen op.left × (is_over op ≡ false) × (side_in s ≡ None)
-AsksToListen s _ = ⊤
-
-abbrev pub Asking : Tcp2Socket → Type 0
-Asking r = AsksToConnect r.inner.state × AsksToListen r.inner.state r.listening
-
-abbrev pub Sound : Tcp2Socket → Type 0
-Sound r = Finishes r × ListensLate r × Asking r
-
-pub record Steady (m : Machine) : Type 0 where
-  pub records : (place : ℕ) (r : Tcp2Socket) → tcp2_at m.store.records place ≡ Some r → Sound r
-  pub handles : (handle place : ℕ) → record_of (kind_at m.table handle) ≡ Some place → IsThere m.store.records place
-  pub udps : (handle place : ℕ) → udp_record_of (kind_at m.table handle) ≡ Some place → IsUdpThere m.store.records place
-
--- == one record changes, one joins, a handle is made or taken out
-there_put : (records : List Record) (i : ℕ) (now : Tcp2Socket) (k : ℕ) → IsThere records k → IsThere (tcp2_put records i now) k
-there_put records i now k (r, g) = elim (set_get records i now k r g) [ inl e ↦ (r, e) | inr e ↦ (now, e.1) ]
-
-there_push : (records : List Record) (new : Tcp2Socket) (k : ℕ) → IsThere records k → IsThere (tcp2_pushed records new) k
-there_push records new k (r, g) = (r, tcp2_front records new k r g)
-
-udp_there_put : (records : List Record) (i : ℕ) (now : Udp2Socket) (k : ℕ) → IsUdpThere records k → IsUdpThere (udp2_put records i now) k
-udp_there_put records i now k (u, g) = elim (udp_set_get records i now k u g) [ inl e ↦ (u, e) | inr e ↦ (now, e.1) ]
-
-put_steady : (h : Here) (place : ℕ) (r : Tcp2Socket) → tcp2_at h.machine.store.records place ≡ Some r → (now : Tcp2Socket) → Sound now → Steady h.machine → Steady (put h place now).machine
-put_steady h place r g now f i = record {
-  records = λ k r e. elim (get_set h.machine.store.records place now k r e) [ inl p ↦ subst Sound p.1 f | inr p ↦ i.records k r p ];
-  handles = λ handle k e. there_put h.machine.store.records place now k (i.handles handle k e);
-  udps = λ handle k e. let t = i.udps handle k e in (t.0, udp_in_put h.machine.store.records place r now k t.0 g t.1);
-}
-
-put_udp_steady : (h : Here) (place : ℕ) (u : Udp2Socket) → FoundUdp h place u → (now : Udp2Socket) → Steady h.machine → Steady (put_udp h place now).machine
-put_udp_steady h place u g now i = record {
-  records = λ k r e. i.records k r (tcp_of_put h.machine.store.records place now k r e);
-  handles = λ handle k e. let t = i.handles handle k e in (t.0, tcp_in_put h.machine.store.records place u now k t.0 g t.1);
-  udps = λ handle k e. udp_there_put h.machine.store.records place now k (i.udps handle k e);
-}
-
-push_steady : (m : Machine) (new : Tcp2Socket) → Sound new → Steady m → Steady (record m { store = record m.store { records = tcp2_pushed m.store.records new } })
-push_steady m new f i = record {
-  records = λ k r e. elim (get_split m.store.records new k r e) [ inl p ↦ i.records k r p | inr p ↦ subst Sound p f ];
-  handles = λ handle k e. there_push m.store.records new k (i.handles handle k e);
-  udps = λ handle k e. let t = i.udps handle k e in (t.0, udp_in_push m.store.records new k t.0 t.1);
-}
-
-push_udp_steady : (m : Machine) (create : Create) → Steady m → Steady (with_create m create)
-push_udp_steady m create i = record {
-  records = λ k r e. i.records k r (tcp_of_push m.store.records (Udp2Socket.Creating create) k r e);
-  handles = λ handle k e. let t = i.handles handle k e in (t.0, tcp_in_push m.store.records (Udp2Socket.Creating create) k t.0 t.1);
-  udps = λ handle k e. let t = i.udps handle k e in (t.0, udp_front m.store.records (Udp2Socket.Creating create) k t.0 t.1);
-}
-
-begun_steady : (h : Here) (made : Result Create ErrorCode) → Steady h.machine → Steady (udp_begun h made).machine
-begun_steady h (Ok create) i = push_udp_steady h.machine create i
-begun_steady h (Err c) i = i
-
-stand_steady : (m : Machine) (o : Option Standing) → Steady m → Steady (record m { store = record m.store { standing = o } })
-stand_steady m o i = record { records = i.records; handles = i.handles; udps = i.udps }
-
--- the records that handles are of, by one reading of them
-module _ (of : Option Kind → Option ℕ) (none : of None ≡ None) (There : ℕ → Type 0) (t : Handles) (live : (handle place : ℕ) → of (kind_at t handle) ≡ Some place → There place) where
-  where_made : (kind : Kind) (parent : Option ℕ) → ((place : ℕ) → of (Some kind) ≡ Some place → There place) → (handle place : ℕ) → of (kind_at (with_handle t kind parent) handle) ≡ Some place → There place
-  where_made kind parent new handle place e = by_kind (kind_at (with_handle t kind parent) handle) refl e
-    where
-      by_kind : (k : Option Kind) → kind_at (with_handle t kind parent) handle ≡ k → of k ≡ Some place → There place
-      by_kind None q e = let never = none in absurd (cc)
-      by_kind (Some x) q e = elim (value_split t.live (record { handle = t.next; value = kind; parent = table_parent kind parent }) handle x q) [
-        | inl g ↦ live handle place (ap of g ∙ e)
-        | inr g ↦ new place (ap (λ (y : Kind). of (Some y)) g.1 ∙ e)
-      ]
-
-  where_taken : (gone handle place : ℕ) → of (kind_at (without_handle t gone) handle) ≡ Some place → There place
-  where_taken gone handle place e = by_kind (kind_at (without_handle t gone) handle) refl e
-    where
-      by_kind : (k : Option Kind) → kind_at (without_handle t gone) handle ≡ k → of k ≡ Some place → There place
-      by_kind None q e = let never = none in absurd (cc)
-      by_kind (Some x) q e = live handle place (ap of (value_without t.live gone handle x q) ∙ e)
-
-made_steady : (es : List Entry) (m : Machine) (op : OpId) (kind : Kind) (parent : Option ℕ) (sock : Option OpId) → ((place : ℕ) → record_of (Some kind) ≡ Some place → IsThere m.store.records place) → ((place : ℕ) → udp_record_of (Some kind) ≡ Some place → IsUdpThere m.store.records place) → Steady m
-    → Allows Anything (λ fs made. Steady (record m { table = made.1 })) es (make_asks m.table op kind parent sock)
-unfolding bind
-made_steady es m op kind parent sock t u i =
-    allows_if Anything (λ fs made. Steady (record m { table = made.1 })) es (is_full m.table) _ _ (λ full. i)
-    (λ room. (tt, λ told fits. record { records = i.records; handles = where_made record_of refl (IsThere m.store.records) m.table i.handles kind parent t; udps = where_made udp_record_of refl (IsUdpThere m.store.records) m.table i.udps kind parent u }))
-
--- == moves
-connecting_may : (s : TcpState) → IsConnecting s → MayFinish s
-connecting_may (state.Connecting op) c = tt
-connecting_may _ c = absurd c
-
-connected_may : (who : Who) (end : End × List Item) → MayFinish (connect_ended who end).1
-connected_may who (Done given, left) = (refl, refl)
-connected_may who (_, left) = tt
-
-never_default : (who : Who) (end : End × List Item) (side : OpId) → (connect_ended who end).1 ≡ state.Default side → ⊥
-never_default who (Waits, left) side e = absurd (cc)
-never_default who (_, left) side e = absurd (cc)
-
--- what a bind leaves in progress is no connect
-no_connect : (op : Operation) (end : End × List Item) → is_connect (bind_progress op end) ≡ true → ⊥
-no_connect op (Waits, left) c = absurd (cc)
-no_connect op (_, left) c = absurd (cc)
-
-never_unlistened : (r : Tcp2Socket) (l : Listening) (side : OpId) → r.listening ≡ l → IsPastNot l → Sound r → r.inner.state ≡ state.Default side → ⊥
-never_unlistened r l side e p s d = subst IsPastNot (sym e ∙ s.1 side d) p
-
-listens_on : (r : Tcp2Socket) (l : Listener) (a : Accepting) → r.listening ≡ listening.Accepts l → Sound r → Sound (accepting_now r l a)
-listens_on r l a e s = (s.0, λ side d. absurd (never_unlistened r (listening.Accepts l) side e tt s d), (s.2.0, tt))
-
-listened_sound : (op : Operation) (r : Tcp2Socket) (end : End × List Item) → r.listening ≡ listening.Begins op → Keeps IsAskOfListen end → Sound r → Sound (listen_after op r end)
-listened_sound op r (Waits, left) e k s = let was = subst (AsksToListen r.inner.state) e s.2.1 in (s.0, λ side d. absurd (never_unlistened r (listening.Begins op) side e tt s d), (s.2.0, (k.0, k.1, was.2)))
-listened_sound op r (Done given, left) e k s = (λ c. absurd (cc), λ side d. absurd (cc), (tt, tt))
-listened_sound op r (Refused c given, left) e k s = (s.0, λ side d. refl, (s.2.0, tt))
-
--- where there is a network socket, no listen is in progress
-no_listen : (old now : TcpState) (l : Listening) (side : OpId) → side_in old ≡ Some side → AsksToListen old l → AsksToListen now l
-no_listen old now (listening.Begins op) side e k = let none = k.2 in absurd (cc)
-no_listen old now _ side e k = tt
-
-asks_after : (who : Who) (end : End × List Item) → Keeps IsAskOfConnect end → AsksToConnect (connect_ended who end).1
-asks_after who (Waits, left) k = k.0
-asks_after who _ k = tt
-
-asks_first : (a wildcard : IpSocketAddress) (bound : Bool) → AllOf IsAskOfConnect (connect_left wildcard a (connect_first bound))
-asks_first a wildcard true = (tt, (tt, tt))
-asks_first a wildcard false = (tt, (tt, (tt, tt)))
-
-module _ (contexts : List WasiSocketsCtx) (line : ℕ) (origin : Step) where
-  moves_steady : (h now : Here) → Move line origin h now → Steady h.machine → Steady now.machine
-  moves_steady _ _ (Changes h place r now g p) i = put_steady h place r g now (λ c. subst MayFinish (sym p.does) (elim (p.connects c) [ inl k ↦ (i.records place r g).0 k | inr k ↦ connecting_may r.inner.state k ]), λ side d. p.listening ∙ (i.records place r g).1 side (sym p.does ∙ d), (subst AsksToConnect (sym p.does) (i.records place r g).2.0, subst (AsksToListen now.inner.state) (sym p.listening) (subst (λ (s : TcpState). AsksToListen s r.listening) (sym p.does) (i.records place r g).2.1))) i
-  moves_steady _ _ (ClosesReader h place r s g e) i = put_steady h place r g _ (i.records place r g) i
-  moves_steady _ _ (Writes h place r s w g e m) i = put_steady h place r g _ (i.records place r g) i
-  moves_steady _ _ (IsGone h place r q g e) i = put_steady h place r g _ (λ c. absurd (cc), λ side d. refl, ((i.records place r g).2.0, tt)) i
-  moves_steady _ _ (Reconnects h place r c now g e s t u) i = put_steady h place r g _ (λ k. (let f : MayFinish (state.Connected c) = subst MayFinish e ((i.records place r g).0 k) in ((u k).0 ∙ f.0, (u k).1 ∙ f.1)), λ side d. absurd (cc), (tt, no_listen r.inner.state (state.Connected now) r.listening c.side (ap side_in e) (i.records place r g).2.1)) i
-  moves_steady _ _ (Opens h place r c d g e n) i = put_steady h place r g _ (λ k. absurd (cc), λ side d. absurd (cc), (tt, no_listen r.inner.state (state.Connected (record c { send_taken = true })) r.listening c.side (ap side_in e) (i.records place r g).2.1)) i
-  moves_steady _ _ (BeginsConnect h place r side a bound at g d to known idle own) i = put_steady h place r g _ (λ k. tt, λ s e. absurd (cc), (asks_first a _ bound, no_listen r.inner.state (state.Connecting (connect_operation (record { op = own_of line; side = side; maker = r.inner.maker }) (wildcard r.inner.family) a (connect_first bound))) r.listening side (ap side_in d) (i.records place r g).2.1)) i
-  moves_steady _ _ (BeginsBind h place r side a at g d to idle own) i = put_steady h place r g _ (λ c. absurd (cc), (i.records place r g).1, (i.records place r g).2) i
-  moves_steady _ _ (BeginsWrite h place r s half permit bytes at g e w within own) i = put_steady h place r g _ (i.records place r g) i
-  moves_steady _ _ (BeginsListen h place r side at g d bound none to idle own) i = put_steady h place r g _ (λ k. tt, λ s e. absurd (cc), (tt, ((tt, (tt, tt)), refl, refl))) i
-  moves_steady _ _ (BeginsAccept h place r l at g e a own) i = put_steady h place r g _ (listens_on r l _ e (i.records place r g)) i
-  moves_steady _ _ (Unlistens h place r op q g e c o) i = put_steady h place r g _ ((i.records place r g).0, λ side d. refl, ((i.records place r g).2.0, tt)) i
-  moves_steady _ _ (Forgets h place r l c g e a) i = put_steady h place r g _ (listens_on r l accepting.Idle e (i.records place r g)) i
-  moves_steady _ _ (Joins h c handle place r l new peer is of u g e a) i =
-      let k = put_steady h place r g (accepting_now r l accepting.Idle) (listens_on r l accepting.Idle e (i.records place r g)) i in push_steady (put h place (accepting_now r l accepting.Idle)).machine (joined l new peer) (λ c. absurd (cc), λ side d. absurd (cc), (tt, tt)) k
-  moves_steady _ _ (Unstands h) i = stand_steady h.machine None i
-  moves_steady _ _ (Stands h ids call r at g b) i = stand_steady h.machine (Some (standing_as ids call)) i
-  moves_steady _ _ (StandsUdpBind h ids place o op at g e) i = stand_steady h.machine (Some (standing_as ids (standing.UdpBind place))) i
-  moves_steady _ _ (StandsUdpCreate h ids place create g) i = stand_steady h.machine (Some (standing_as ids (standing.UdpCreate place))) i
-  moves_steady _ _ (UdpChanges h place o now g p) i = put_udp_steady h place (Udp2Socket.Open o) g (Udp2Socket.Open now) i
-  moves_steady _ _ (BeginsUdpBind h place o a at g to idle own) i = put_udp_steady h place (Udp2Socket.Open o) g _ i
-  moves_steady _ _ (Lists h jobs) i = record { records = i.records; handles = i.handles; udps = i.udps }
-  moves_steady _ _ (Takes h handle) i = record {
-    records = i.records;
-    handles = where_taken record_of refl (IsThere h.machine.store.records) h.machine.table i.handles handle;
-    udps = where_taken udp_record_of refl (IsUdpThere h.machine.store.records) h.machine.table i.udps handle;
-  }
-  moves_steady _ _ _ i = i
-
-  -- == what is made
-  one_of_two : (kind : Kind) (its place : ℕ) → (kind ≡ Input its) ⊎ (kind ≡ Output its) → record_of (Some kind) ≡ Some place → its ≡ place
-  one_of_two kind its place (inl e) p = let q : record_of (Some kind) ≡ Some its = ap (λ (x : Kind). record_of (Some x)) e in cc
-  one_of_two kind its place (inr e) p = let q : record_of (Some kind) ≡ Some its = ap (λ (x : Kind). record_of (Some x)) e in cc
-
-  marks_there : (h : Here) (kind : Kind) (parent : Option ℕ) (sock : Option OpId) → Marks origin h kind parent sock → Steady h.machine → (place : ℕ) → record_of (Some kind) ≡ Some place → IsThere h.machine.store.records place
-  marks_there h kind _ _ (AStream c handle its _ is two of) i place e = i.handles handle place (of ∙ ap (λ (x : ℕ). Some x) (one_of_two kind its place two e))
-  marks_there h kind _ _ (AnAcceptedStream c listener handle its _ r is two made own g) i place e = subst (IsThere h.machine.store.records) (one_of_two kind its place two e) (r, g)
-  marks_there h _ _ _ (APollable c handle w is tcp of) i place e = i.handles handle place (of ∙ (sym tcp ∙ e))
-  marks_there h _ _ _ _ i place e = absurd (cc)
-
-  -- of a stream, or of a pollable of a TCP socket, nothing is said of UDP sockets
-  no_udp : (kind : Kind) (its place : ℕ) → (kind ≡ Input its) ⊎ (kind ≡ Output its) → udp_record_of (Some kind) ≡ Some place → ⊥
-  no_udp kind its place (inl e) p = let q : udp_record_of (Some kind) ≡ None = ap (λ (x : Kind). udp_record_of (Some x)) e in cc
-  no_udp kind its place (inr e) p = let q : udp_record_of (Some kind) ≡ None = ap (λ (x : Kind). udp_record_of (Some x)) e in cc
-
-  no_udp_watch : (w : Watched) (place : ℕ) → tcp_place w ≡ Some (place_in w) → udp_record_of (Some (Pollable w)) ≡ Some place → ⊥
-  no_udp_watch (Watched.Udp n) place tcp e = cc
-  no_udp_watch (Watched.Socket n) place tcp e = cc
-  no_udp_watch (Watched.Input n) place tcp e = cc
-  no_udp_watch (Watched.Output n) place tcp e = cc
-
-  udp_marks_there : (h : Here) (kind : Kind) (parent : Option ℕ) (sock : Option OpId) → Marks origin h kind parent sock → Steady h.machine → (place : ℕ) → udp_record_of (Some kind) ≡ Some place → IsUdpThere h.machine.store.records place
-  udp_marks_there h kind _ _ (AStream c handle its _ is two of) i place e = absurd (no_udp kind its place two e)
-  udp_marks_there h kind _ _ (AnAcceptedStream c listener handle its _ r is two made own g) i place e = absurd (no_udp kind its place two e)
-  udp_marks_there h _ _ _ (APollable c handle w is tcp of) i place e = absurd (no_udp_watch w place tcp e)
-  udp_marks_there h _ _ _ (AUdpPollable c handle its is of) i place e = i.udps handle place (of ∙ e)
-  udp_marks_there h _ _ _ _ i place e = absurd (cc)
-
-  -- a socket that is created doesn't connect
-  abbrev MadeIdle : Result Socket ErrorCode → Type 0
-  MadeIdle (Ok socket) = AsksToConnect socket.state
-  MadeIdle (Err c) = ⊤
-
-  made_idle : (es : List Entry) (op : OpId) (ctx : WasiSocketsCtx) (family : SocketAddressFamily) → Allows Anything (λ fs made. MadeIdle made) es (new_asks op ctx family)
-  unfolding bind
-  made_idle es op ctx family = allows_if Anything (λ fs made. MadeIdle made) es ctx.tcp _ _ (λ tcp. (tt, λ t f. by_told (told_done t))) (λ other. tt)
-    where
-      by_told : (r : Result (Unit {0}) ErrorCode) → MadeIdle (after_create op ctx.name family r)
-      by_told (Ok done) = tt
-      by_told (Err c) = tt
-
-  joins : (es : List Entry) (m : Machine) (op : OpId) (made : Result Socket ErrorCode) → MadeIdle made → Steady m → Allows Anything (λ fs done. Steady done.1) es (created_asks m op made)
-  joins es m op (Ok socket) f i =
-      let now : Machine = record m { store = with_record m.store socket } in
-      allows_then Anything (λ fs made. Steady (record now { table = made.1 })) (λ fs done. Steady done.1) es (make_asks m.table op (Tcp2 (length m.store.records)) None (side_of socket)) _
-      (made_steady es now op (Tcp2 (length m.store.records)) None (side_of socket) (λ place e. let p : length m.store.records ≡ place = cc in subst (IsThere now.store.records) p (new_record socket, tcp2_seam m.store.records (new_record socket))) (λ place e. absurd (cc)) (push_steady m (new_record socket) (λ c. absurd (cc), λ side d. refl, (f, tt)) i)) (λ fs made k. k)
-  joins es m op (Err c) f i = i
-
-  polls_steady : (es : List Entry) (h : Here) (op : Operation) (after : End × List Item → Here) → Held h op after → Steady h.machine → Allows Anything (λ fs ended. Steady (after ended).machine) es (poll_asks op)
-  polls_steady es h _ _ (BindsOn place r op q g e) i = whatever (λ end. Steady (put h place (with_progress r (bind_progress op end))).machine) (λ end. put_steady h place r g _ (λ c. absurd (no_connect op end c), (i.records place r g).1, (i.records place r g).2) i) es (poll_asks op)
-  polls_steady es h _ _ (Connects place r op g e) i =
-      gives_more (λ fs end. Keeps IsAskOfConnect end) (λ fs end. Steady (put h place (with_inner r (with_state r.inner (connect_ended op.who end).1))).machine)
-      (λ fs end k. put_steady h place r g _ (λ c. connected_may op.who end, λ side d. absurd (never_default op.who end side d), (asks_after op.who end k, no_listen r.inner.state (connect_ended op.who end).1 r.listening op.who.side (ap side_in e) (i.records place r g).2.1)) i) es (poll_asks op) (connect_leaves op (subst AsksToConnect e (i.records place r g).2.0) es)
-  polls_steady es h _ _ (Listens place r op q g e c) i =
-      gives_more (λ fs end. Keeps IsAskOfListen end) (λ fs end. Steady (put h place (listen_after op r end)).machine)
-      (λ fs end k. put_steady h place r g _ (listened_sound op r end e k (i.records place r g)) i) es (poll_asks op) (listen_leaves op (subst (AsksToListen r.inner.state) e (i.records place r g).2.1).0 es)
-  polls_steady es h _ _ (Awaits place r l op g e a) i = whatever (λ end. Steady (put h place (accepting_now r l (accept_ended op.who end))).machine) (λ end. put_steady h place r g _ (listens_on r l _ e (i.records place r g)) i) es (poll_asks op)
-  polls_steady es h _ _ (UdpCreates place create q g) i = whatever (λ end. Steady (put_udp h place (udp_create_left create end)).machine) (λ end. put_udp_steady h place (Udp2Socket.Creating create) g _ i) es (poll_asks create.operation)
-  polls_steady es h _ _ (UdpBindsOn place o op q g e) i = whatever (λ end. Steady (put_udp h place (Udp2Socket.Open (with_udp_progress o (udp_bind_progress op end)))).machine) (λ end. put_udp_steady h place (Udp2Socket.Open o) g _ i) es (poll_asks op)
-
-  unfoldable steady : Law contexts line origin
-  steady = record {
-    P = Anything;
-    Inv = λ es h. Steady h.machine;
-    moves = λ es h now m i. moves_steady h now m i;
-    asks = λ es h place n r side c at g o q i. (tt, λ told fits. i);
-    sets = λ es h place r side b at g s is i. (tt, λ told fits. i);
-    learns = λ es h place r side at g e i. (tt, λ told fits. put_steady h place r g _ (λ c. subst MayFinish (sym (told_same r.inner (told_addr told))) ((i.records place r g).0 c), λ s d. (i.records place r g).1 s (sym (told_same r.inner (told_addr told)) ∙ d), (subst AsksToConnect (sym (told_same r.inner (told_addr told))) (i.records place r g).2.0, subst (λ (s : TcpState). AsksToListen s r.listening) (sym (told_same r.inner (told_addr told))) (i.records place r g).2.1)) i);
-    closes = λ es h place r side q g e i. (tt, λ told fits. put_steady h place r g (closed_record r) (λ c. absurd (cc), λ s d. refl, (tt, tt)) i);
-    marks = λ es h kind parent sock m i. made_steady es h.machine (own_of line) kind parent sock (marks_there h kind parent sock m i) (udp_marks_there h kind parent sock m i) i;
-    creates = λ es h ctx family c a o m i. allows_then Anything (λ fs made. MadeIdle made) (λ fs done. Steady done.1) es (new_asks (own_of line) ctx family) (created_asks h.machine (own_of line)) (made_idle es (own_of line) ctx family) (λ fs made k. joins fs h.machine (own_of line) made k i);
-    accepted = λ es h c s place r is e o g i. made_steady es h.machine (own_of line) (Tcp2 place) (Some s) (side_at (tcp2_at h.machine.store.records place)) (λ k p. let q : place ≡ k = cc in subst (IsThere h.machine.store.records) q (r, g)) (λ k p. absurd (cc)) i;
-    polls = polls_steady;
-    turns = λ es h place r s g e i. whatever (λ done. Steady (put h place (with_writer r s done.1)).machine) (λ done. put_steady h place r g _ (i.records place r g) i) es (turn_asks s.writer);
-    gives_up = λ es h place r q g i. whatever (λ done. Steady (put h place (with_listening r listening.Not)).machine) (λ done. put_steady h place r g _ ((i.records place r g).0, λ side d. refl, ((i.records place r g).2.0, tt)) i) es (give_up_asks r.listening);
-    udp_asks = λ es h place n o c at g q i. (tt, λ told fits. i);
-    udp_learns = λ es h place o at g i. (tt, λ told fits. put_udp_steady h place (Udp2Socket.Open o) g _ i);
-    udp_closes = λ es h place o q g i. (tt, λ told fits. put_udp_steady h place (Udp2Socket.Open o) g _ i);
-    udp_creates = λ es h ctx family c may t o m i. (tt, λ told fits. begun_steady h (udp_after_create (own_of line) ctx.name family (told_done told)) i);
-    udp_marks = λ es h place u g i. made_steady es h.machine (udp_side u) (Udp2 place) None (Some (udp_side u)) (λ k p. absurd (cc)) (λ k p. let q : place ≡ k = cc in subst (IsUdpThere h.machine.store.records) q (u, g)) i;
-  }
-
-  line_steady : (m : Machine) (es : List Entry) → Steady m → Allows Anything (λ fs done. Steady done.1) es (machine_asks contexts m line origin)
-  unfolding steady
-  line_steady m es i = (machine_walks line origin {law = steady} m m.store.standing refl).along es i
-
-pub runs_are_steady : (contexts : List WasiSocketsCtx) (steps : List Step) (es : List Entry) (replies : List Reply) (m : Machine) → Left (run contexts [] first_state 1 steps) es (Give (replies, m)) → Steady m
-runs_are_steady contexts steps es replies m w =
-    (run_ends contexts Anything (λ line fs now. Steady now) (λ line s now fs i. line_steady contexts line s now fs i) (record { records = λ place r e. absurd (cc); handles = λ handle place e. absurd (cc); udps = λ handle place e. absurd (cc) }) steps es replies m w).1
+use Rattle.wasi_causes.proofs.Pending.{runs_keep_handles}
+use Rattle.wasi_causes.proofs.Steady.{AsksToConnect, AsksToListen, IsThere, IsUdpThere, Steady, runs_are_steady}
+use Rattle.wasi_causes.specs.Datagrams.{HasItsHandle, LacksRoomForStreams, PendingHandleIsLive}
+use Rattle.wasi_host.specs.declared.kind.Kind.TheVariants.{Incoming, Outgoing}
+use Rattle.wasi_world.specs.declared.outcome.TrapKind.TheVariants.{StreamsAlive}
+use Rattle.wasi_walks.proofs.fits.Records.{FitConnecting}
+use Rattle.wasi_walks.specs.Waiting.{IsUdpConnecting}
 
 -- == of a record
 accepts_so : (l : Listening) → FitListening l → AcceptsIn l
@@ -372,8 +102,12 @@ module _ (m : Machine) (f : Fit (Over m)) (i : Steady m) where
   by_call (standing.DropOutput place) h = tt
   by_call (standing.UdpCreate place) h = subst (λ (o : Option Udp2Socket). IfSome o IsCreating) (sym h.at) (f.udps place (Udp2Socket.Creating h.was) h.at)
   by_call (standing.UdpBind place) h =
-      let bind : IsUdpBinding (UdpInProgress.Binding h.op) = (subst (FitUdpProgress h.was.inner.side) h.goes (f.udps place (Udp2Socket.Open h.was) h.at)).bind in
+      let bind : IsUdpBinding (UdpInProgress.Binding h.op) = (subst (FitUdpProgress h.was.inner.side) h.goes (f.udps place (Udp2Socket.Open h.was) h.at).0).bind in
       subst (λ (o : Option OpenUdp). IfSome o (λ q. IsUdpBinding q.in_progress)) (sym (ap open_of h.at)) (subst IsUdpBinding (sym h.goes) bind)
+  by_call (standing.UdpConnect place handle) h =
+      let connect : IsUdpConnecting (Some h.op) = (subst (FitConnecting h.was.inner.side) h.goes (f.udps place (Udp2Socket.Open h.was) h.at).1).connect in
+      subst (λ (o : Option OpenUdp). IfSome o (λ q. IsUdpConnecting q.connecting)) (sym (ap open_of h.at)) (subst IsUdpConnecting (sym h.goes) connect)
+  by_call (standing.DropOutgoing place) h = tt
 
   stands_by : (o : Option Standing) → ((s : Standing) → o ≡ Some s → FitCall m.store.records s.call) → IfSome o (λ s. HoldsCall m s.call)
   stands_by None h = tt
@@ -391,6 +125,10 @@ module _ (m : Machine) (i : Steady m) where
   of_its_record handle (Input place) e = has_record place (i.handles handle place (ap record_of e))
   of_its_record handle (Output place) e = has_record place (i.handles handle place (ap record_of e))
   of_its_record handle (Udp2 place) e = has_udp place (i.udps handle place (ap udp_record_of e))
+  of_its_record handle (Incoming place) e = has_udp place (i.udps handle place (ap udp_record_of e))
+  of_its_record handle (Outgoing place) e = has_udp place (i.udps handle place (ap udp_record_of e))
+  of_its_record handle (Pollable (Watched.Incoming place)) e = has_udp place (i.udps handle place (ap udp_record_of e))
+  of_its_record handle (Pollable (Watched.Outgoing place)) e = has_udp place (i.udps handle place (ap udp_record_of e))
   of_its_record handle (Pollable (Watched.Udp place)) e = has_udp place (i.udps handle place (ap udp_record_of e))
   of_its_record handle (Pollable (Watched.Socket place)) e = has_record place (i.handles handle place (ap record_of e))
   of_its_record handle (Pollable (Watched.Input place)) e = has_record place (i.handles handle place (ap record_of e))
@@ -408,13 +146,16 @@ module _ (m : Machine) (i : Steady m) where
       by_place (Some place) q k = absurd (not_none place (i.handles handle place (socket_record (kind_at m.table handle) place q)) k)
 
 -- a pending call is in progress in its record, if it is of one
-module _ (m : Machine) (f : Fit (Over m)) where
-  on_nothing : (call : StandingCall) → FitCall m.store.records call → IsOnNothing m call → ⊥
-  on_nothing (standing.Bind place) h none = let at = h.at in cc
-  on_nothing (standing.Listen place) h none = let at = h.at in cc
-  on_nothing (standing.DropOutput place) h none = none
-  on_nothing (standing.UdpCreate place) h none = let at = h.at in cc
-  on_nothing (standing.UdpBind place) h none = let at : open_at m.store.records place ≡ Some h.was = ap open_of h.at in cc
+module _ (m : Machine) (f : Fit (Over m)) (live : PendingHandleIsLive m) where
+  on_nothing : (call : StandingCall) → FitCall m.store.records call → HasItsHandle m call → IsOnNothing m call → ⊥
+  on_nothing (standing.Bind place) h its none = let at = h.at in cc
+  on_nothing (standing.Listen place) h its none = let at = h.at in cc
+  on_nothing (standing.DropOutput place) h its none = none
+  on_nothing (standing.UdpCreate place) h its none = let at = h.at in cc
+  on_nothing (standing.UdpBind place) h its none = let at : open_at m.store.records place ≡ Some h.was = ap open_of h.at in cc
+  on_nothing (standing.UdpConnect place handle) h its (inl none) = let at : open_at m.store.records place ≡ Some h.was = ap open_of h.at in cc
+  on_nothing (standing.UdpConnect place handle) h its (inr none) = cc
+  on_nothing (standing.DropOutgoing place) h its none = none
 
   stands_on : (n : ℕ) → StandsOnNothing m n → ⊥
   stands_on n k = by_standing m.store.standing refl k
@@ -423,8 +164,11 @@ module _ (m : Machine) (f : Fit (Over m)) where
       by_standing None e none = none
       by_standing (Some s) e none = by_line (s.ids.line == n) none
         where
+          its_handle : m.store.standing ≡ Some s → HasItsHandle m s.call
+          its_handle stands = subst (λ (o : Option Standing). IfSome o (λ s. HasItsHandle m s.call)) stands live
+
           by_line : (same : Bool) → IsSomeAnd (if same then Some s else None) (λ c. IsOnNothing m c.call) → ⊥
-          by_line true on = on_nothing s.call (f.stands s e) on
+          by_line true on = on_nothing s.call (f.stands s e) (its_handle e) on
           by_line false on = on
 
 -- == of a run
@@ -437,6 +181,9 @@ line_fits contexts line s m es f = fits_along contexts line s (machine_walks lin
 module _ (contexts : List WasiSocketsCtx) (steps : List Step) (es : List Entry) (replies : List Reply) (m : Machine) (w : Left (run contexts [] first_state 1 steps) es (Give (replies, m))) where
   pub fits : Fit (Over m)
   fits = (run_ends contexts Anything Between (line_fits contexts) first_fit steps es replies m w).1
+
+  pub run_live : PendingHandleIsLive m
+  run_live = runs_keep_handles contexts steps es replies m w
 
   run_steady : Steady m
   run_steady = runs_are_steady contexts steps es replies m w
@@ -469,7 +216,7 @@ module _ (contexts : List WasiSocketsCtx) (steps : List Step) (es : List Entry) 
   runs_miss_no_record = is_no_socket m run_steady
 
   pub runs_stand_on_records : (n : ℕ) → StandsOnNothing m n → ⊥
-  runs_stand_on_records = stands_on m fits
+  runs_stand_on_records = stands_on m fits run_live
 
   pub runs_may_finish : (place : ℕ) (r : Tcp2Socket) → tcp2_at m.store.records place ≡ Some r → is_connect r.in_progress ≡ true → MayFinish r.inner.state
   runs_may_finish place r g = (run_steady.records place r g).0
@@ -484,13 +231,14 @@ module _ (contexts : List WasiSocketsCtx) (steps : List Step) (es : List Entry) 
   pub listens_refused_in_runs : (line ctx handle : ℕ) (entries : List Entry) (word : CodeWord) (after : Machine) → Answered contexts m line (step.TcpStartListen ctx handle) entries (reply.Err word) after → RefusedListen m (own_of line) handle entries word after
   listens_refused_in_runs line ctx handle entries word after a = (its_own contexts m line (step.TcpStartListen ctx handle) entries (reply.Err word) after a (λ e. cc)).1.1.0 (of_record m ListensLate runs_listen_late (socket_at m handle))
 
-  full_alone : (line n : ℕ) (entries : List Entry) (kind : TrapKind) (after : Machine) → Traps contexts m line (step.Poll n) entries kind after → (kind ≡ Full) × (is_full m.table ≡ true) × IsSomeAnd m.store.standing (λ s. IsPendingCreate s.call)
-  full_alone line n entries NoSuchHandle after h = absurd (stands_on m fits n h.0)
+  full_alone : (line n : ℕ) (entries : List Entry) (kind : TrapKind) (after : Machine) → Traps contexts m line (step.Poll n) entries kind after → (kind ≡ Full) × (((is_full m.table ≡ true) × IsSomeAnd m.store.standing (λ s. IsPendingCreate s.call)) ⊎ IsSomeAnd m.store.standing (λ s. LacksRoomForStreams m s.call))
+  full_alone line n entries NoSuchHandle after h = absurd (stands_on m fits run_live n h.0)
   full_alone line n entries HasChildren after h = absurd h.0
-  full_alone line n entries Full after h = (refl, h.2.0, h.2.1)
-  full_alone line n entries NotPermitted after h = absurd h.0
+  full_alone line n entries Full after h = (refl, h.2)
+  full_alone line n entries NotPermitted after h = elim h.0 [ inl w ↦ absurd w | inr s ↦ absurd s ]
+  full_alone line n entries StreamsAlive after h = absurd h.0
   full_alone line n entries _ after h = absurd h
 
-  -- a poll traps only where there is no room for the handle of a create
-  pub polls_trap : (line n : ℕ) (entries : List Entry) (kind : TrapKind) (after : Machine) → Answered contexts m line (step.Poll n) entries (reply.Trap kind) after → (kind ≡ Full) × (is_full m.table ≡ true) × IsSomeAnd m.store.standing (λ s. IsPendingCreate s.call)
+  -- a poll traps only where there is no room for the handle of a create or for those of datagram streams
+  pub polls_trap : (line n : ℕ) (entries : List Entry) (kind : TrapKind) (after : Machine) → Answered contexts m line (step.Poll n) entries (reply.Trap kind) after → (kind ≡ Full) × (((is_full m.table ≡ true) × IsSomeAnd m.store.standing (λ s. IsPendingCreate s.call)) ⊎ IsSomeAnd m.store.standing (λ s. LacksRoomForStreams m s.call))
   polls_trap line n entries kind after a = full_alone line n entries kind after (its_own contexts m line (step.Poll n) entries (reply.Trap kind) after a (λ e. cc)).1

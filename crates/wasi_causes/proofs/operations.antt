@@ -2,3 +2,6 @@
 pub mod Accepts
 pub mod Marks
 pub mod Polls
+pub mod Checks
+pub mod ConnectPolls
+pub mod DatagramPolls

@@ -5,3 +5,6 @@ pub mod Reached
 pub mod Outcomes
 pub mod Polls
 pub mod Udp
+pub mod Datagrams
+pub mod StreamCauses
+pub mod SendCauses

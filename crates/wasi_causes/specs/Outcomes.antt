@@ -1,10 +1,10 @@
 -- How each step is answered: which replies it may give; and by the kind of its reply, where that comes from, and what is left
 -- afterwards.
-use Rattle.std.specs.Prelude.{◌≡◌, ◌⊎◌, ⊤, ℕ, ◌+◌, true, List, [], ◌∷◌, ◌↔◌, false, length, Option, Some, None, IsSomeAnd}
+use Rattle.std.specs.Prelude.{◌≡◌, ◌⊎◌, ⊤, ℕ, ◌+◌, ◌<◌, true, List, [], ◌∷◌, ◌↔◌, false, length, Option, Some, None, IsSomeAnd}
 use Rattle.wasi_addr.specs.declared.address.IpSocketAddress.{IpSocketAddress}
 use Rattle.wasi_addr.specs.declared.code.ErrorCode.{ErrorCode}
 use Rattle.wasi_world.specs.declared.outcome.TrapKind.{TrapKind}
-use Rattle.wasi_world.specs.declared.outcome.TrapKind.TheVariants.{NoSuchHandle, HasChildren, Full, NotPermitted}
+use Rattle.wasi_world.specs.declared.outcome.TrapKind.TheVariants.{NoSuchHandle, HasChildren, Full, NotPermitted, StreamsAlive}
 use Rattle.wasi_steps.specs.declared.reply.CodeWord.{CodeWord}
 use Rattle.wasi_steps.specs.declared.reply.CodeWord.TheVariants as word
 use Rattle.wasi_steps.specs.declared.reply.Field.{Field}
@@ -13,10 +13,10 @@ use Rattle.wasi_steps.specs.declared.reply.Reply.{Reply}
 use Rattle.wasi_steps.specs.declared.reply.Reply.TheVariants as reply
 use Rattle.wasi_steps.specs.declared.step.Step.{Step}
 use Rattle.wasi_steps.specs.declared.step.Step.TheVariants as step
-use Rattle.wasi_walks.specs.Answered.{open_udp_at, word_of_code, MakesHandle, IsWrite, CheckFails, closing_reader, closing_writer, ConnectsAt, CreateRefusal, EndsPending, FailsWith, FinishRefusal, HasNoBindInProgress, HasNoConnectInProgress, HasOperationInProgress, KnowsBound, IsGivenUp, IsUnpermitted, LocalRefusal, MissesHandle, OfRecord, OfStreams, output_streams, Permits, putting, ReadFails, ReadsEnd, ReadsNone, ReadsTold, record_at, RefusedBind, RefusedConnect, RefusedOf, RemoteRefusal, WasClosedWith, with_error, WriteFails}
-use Rattle.wasi_machine.specs.Machine.{is_guest_call, context_at}
-use Rattle.wasi_steps.specs.Replies.{FieldKind, ANumber, SomeBytes, Truth, FieldKinds, Each, AnAddress, OneOf, kinds_of}
-use Rattle.wasi_steps.specs.Reply.{address_values, family_fields, no_fields, number_fields, triple_fields, truth_fields}
+use Rattle.wasi_walks.specs.Answered.{open_udp_at, outgoing_in, word_of_code, MakesHandle, IsWrite, CheckFails, closing_reader, closing_writer, ConnectsAt, CreateRefusal, EndsPending, FailsWith, FinishRefusal, HasNoBindInProgress, HasNoConnectInProgress, HasOperationInProgress, KnowsBound, IsGivenUp, IsUnpermitted, LocalRefusal, MissesHandle, OfRecord, OfStreams, output_streams, Permits, putting, ReadFails, ReadsEnd, ReadsNone, ReadsTold, record_at, RefusedBind, RefusedConnect, RefusedOf, RemoteRefusal, WasClosedWith, with_error, WriteFails}
+use Rattle.wasi_machine.specs.Machine.{first_ids, is_guest_call, context_at}
+use Rattle.wasi_steps.specs.Replies.{FieldKind, ANumber, SomeBytes, Truth, FieldKinds, Each, AnAddress, ADatagramList, OneOf, kinds_of}
+use Rattle.wasi_steps.specs.Reply.{address_values, datagram_values, family_fields, no_fields, number_fields, triple_fields, truth_fields}
 use Rattle.wasi_walks.specs.Waiting.{IsPoll, IsUnready, left_missing, MayStand, OfWatched, OutputWaits, pollable_mark, StandingFails, StandingWaits, PendingCallsFit, WatchesAccept, WatchesConnect, WatchesIdle}
 use Rattle.wasi_causes.specs.GivenUp.{IsDrop, HasLiveChildren, HasNoStreams, IsGone, LooksOnce, shut_down, shutdown_entries, socket_given_up, without}
 use Rattle.wasi_world.specs.declared.call.Call.TheVariants as call
@@ -26,7 +26,8 @@ use Rattle.wasi_world.specs.declared.outcome.WasiSocketsCtx.{WasiSocketsCtx}
 use Rattle.wasi_streams.specs.Table.{is_full}
 use Rattle.wasi_tcp.specs.declared.writer.WriteError.TheVariants as error
 use Rattle.wasi_tcp.specs.Socket.{new_socket}
-use Rattle.wasi_host.specs.Records.{tcp2_at, udp2_at}
+use Rattle.wasi_host.specs.Records.{tcp2_at, udp2_at, open_at}
+use Rattle.wasi_host.specs.declared.udp.OpenUdp.{OpenUdp}
 use Rattle.wasi_host.specs.UdpCalls.{with_udp}
 use Rattle.wasi_host.specs.declared.udp.Udp2Socket.{Udp2Socket}
 use Rattle.wasi_host.specs.declared.kind.Kind.{Kind}
@@ -34,7 +35,7 @@ use Rattle.wasi_host.specs.declared.kind.Kind.TheVariants as kind
 use Rattle.wasi_host.specs.declared.machine.Machine.{Machine}
 use Rattle.wasi_host.specs.declared.socket.Tcp2Socket.{Tcp2Socket}
 use Rattle.wasi_host.specs.Kinds.{kind_at, is_network, watched_by, with_handle, without_handle}
-use Rattle.wasi_host.specs.Machine.{input_at, output_at, own_of, socket_at}
+use Rattle.wasi_host.specs.Machine.{incoming_at, input_at, output_at, outgoing_at, own_of, socket_at, udp_socket_at}
 use Rattle.wasi_host.specs.Standing.{stands_as}
 use Rattle.wasi_host.specs.Shutdowns.{with_streams}
 use Rattle.wasi_host.specs.Store.{with_record}
@@ -44,6 +45,12 @@ use Rattle.wasi_steps.specs.Settings.{chosen, udp_opt}
 use Rattle.wasi_causes.specs.Options.{GetsOption, RefusedGet, RefusedSet, SetsChosen}
 use Rattle.wasi_causes.specs.Reached.{FinishesAt, ListensLateAt}
 use Rattle.wasi_causes.specs.Turns.{IsOfJob}
+use Rattle.wasi_host.specs.DatagramCalls.{outgoing_ready}
+use Rattle.wasi_host.specs.Names.{next_name}
+use Rattle.wasi_causes.specs.SendCauses.{ReceivesSome, SendsSome, UdpReceiveRefusal, UdpSendRefusal}
+use Rattle.wasi_causes.specs.StreamCauses.{HasNewStreams, UdpStreamRefusal, StreamsStand}
+use Rattle.wasi_causes.specs.Datagrams.{IsUdpSend, IsUdpStream, HasUdpStreams, IsSpent, OfIncoming, OfOutgoing, LacksRoomForBoth, MadeBoth, PermitsSend, PendingHandleIsLive, LacksRoomForStreams, IsReceiving, WatchesDatagrams, WatchesIncoming, WatchesOutgoing, OutgoingWaits, IncomingGone, OutgoingGone}
+use Rattle.wasi_world.specs.declared.datagram.IncomingDatagram.{IncomingDatagram}
 use Rattle.wasi_causes.specs.Udp.{OfUdp, RefusedOfUdp, HasUdpInProgress, HasNoUdpBind, KeepsNoRemote, WatchesUdp, udp_create_entry, writable_entry, with_udp_record, new_udp, UdpCreateRefusal, CreatesUdp, CreateStands, KnowsUdpBound, UdpBindRefusal, BindsUdp, UdpBindStands, FinishesUdpBind, UdpLocalRefusal, TellsUdpLocal, TellsUdpRemote, UdpGetRefusal, GetsUdpOption, UdpSetRefusal, SetsUdpOption, udp_given_up, udp_shut, GivesBy, ClosesBy, IsPendingCreate}
 
 -- == the fields of a reply that is done
@@ -63,10 +70,12 @@ abbrev pub LikeOneOf : List (List FieldKind) → List Field → Type 0
 LikeOneOf [] fields = ⊥
 LikeOneOf (kinds ∷ lists) fields = EachLike kinds fields ⊎ LikeOneOf lists fields
 
--- one of each of these kinds, or the numbers of an address, or the fields of one of these lists; nothing is said of widths
+-- one of each of these kinds, or the numbers of an address, or the fields of datagrams, or those of one of these lists; nothing is
+-- said of widths
 abbrev pub AreLike : FieldKinds → List Field → Type 0
 AreLike (Each kinds) fields = EachLike kinds fields
 AreLike AnAddress fields = (a : IpSocketAddress) × (fields ≡ address_values a)
+AreLike ADatagramList fields = (ds : List IncomingDatagram) × (fields ≡ datagram_values ds)
 AreLike (OneOf lists) fields = LikeOneOf lists fields
 
 -- == the words of refusals
@@ -97,6 +106,9 @@ MayRefuse (step.UdpLocalAddress ctx socket) w = IsCodeWord w
 MayRefuse (step.UdpRemoteAddress ctx socket) w = w ≡ word.InvalidState
 MayRefuse (step.UdpGet ctx socket option) w = IsCodeWord w
 MayRefuse (step.UdpSet ctx socket setting) w = IsCodeWord w
+MayRefuse (step.UdpStream ctx socket remote) w = IsCodeWord w
+MayRefuse (step.UdpReceive ctx incoming most) w = IsCodeWord w
+MayRefuse (step.UdpSend ctx outgoing datagrams) w = IsCodeWord w
 MayRefuse (step.Poll n) w = IsCodeWord w
 MayRefuse _ w = ⊥
 
@@ -121,7 +133,8 @@ abbrev pub MayTrap : Step → TrapKind → Type 0
 MayTrap s NoSuchHandle = MayMiss s
 MayTrap s HasChildren = IsDrop s
 MayTrap s Full = MakesHandle s
-MayTrap s NotPermitted = IsWrite s
+MayTrap s NotPermitted = IsWrite s ⊎ IsUdpSend s
+MayTrap s StreamsAlive = IsUdpStream s
 MayTrap s _ = ⊥
 
 -- under which number it may be pending
@@ -130,6 +143,7 @@ MayWait line (step.TcpStartBind ctx socket network a) n = n ≡ line
 MayWait line (step.TcpStartListen ctx socket) n = n ≡ line
 MayWait line (step.UdpCreate ctx family) n = n ≡ line
 MayWait line (step.UdpStartBind ctx socket network a) n = n ≡ line
+MayWait line (step.UdpStream ctx socket remote) n = n ≡ line
 MayWait line (step.Drop ctx handle) n = n ≡ line
 MayWait line (step.Poll call) n = n ≡ call
 MayWait line _ n = ⊥
@@ -176,11 +190,12 @@ AsksOnce line (Some (kind.Udp2 place)) es = ⊤
 AsksOnce line (Some (kind.Output place)) es = LooksOnce (own_of line) es
 AsksOnce line _ es = es ≡ []
 
--- What a turn leaves: the handles as they were; and who asks in it.
+-- What a turn leaves: the handles and the pending call as they were; and who asks in it.
 pub record Turns (m : Machine) (es : List Entry) (r : Reply) (after : Machine) : Type 0 where
   pub ok : r ≡ reply.Ok no_fields
   pub asked : (e : Entry) → Has es e → IsOfJob m e.op
   pub handles : after.table ≡ m.table
+  pub pending : after.store.standing ≡ m.store.standing
 
 -- one reply comes of this and of nothing else; or some of these things stay
 abbrev pub Always : Machine → ℕ → Step → List Entry → Reply → Machine → Type 0
@@ -194,13 +209,16 @@ Always m line (step.TcpIsListening c s) es r after = Quiet m es after
 Always m line (step.TcpAddressFamily c s) es r after = Quiet m es after
 Always m line (step.TcpGet c s option) es r after = after ≡ m
 Always m line (step.Write c output bytes) es r after = (r ≡ reply.Trap NotPermitted) ↔ IsSomeAnd (output_streams m output) (λ s. IsUnpermitted s.writer (length bytes))
-Always m line (step.Ready c p) es r after = (WatchesIdle m p → ReadyAtOnce m es r after) × (WatchesUdp m p → ReadyAtOnce m es r after)
+Always m line (step.Ready c p) es r after = (WatchesIdle m p → ReadyAtOnce m es r after) × (WatchesUdp m p → ReadyAtOnce m es r after) × ((place : ℕ) → WatchesOutgoing m p place → (r ≡ reply.Ok (truth_fields (outgoing_ready (open_at m.store.records place)))) × Quiet m es after) × ((place : ℕ) → WatchesIncoming m p place → r ≡ reply.Ok (truth_fields false) → IsReceiving (open_at after.store.records place))
 Always m line (step.Drop c h) es r after = ((r ≡ reply.Trap HasChildren) ↔ HasLiveChildren m h) × AsksOnce line (kind_at m.table h) es
 Always m line (step.TcpShutdown c s how) es r after = (r ≡ reply.Err word.InvalidState) ↔ HasNoStreams (record_at m s)
 Always m line (step.UdpStartBind c s n a) es r after = is_network (kind_at m.table n) ≡ true → UdpConflicts m s r
 Always m line (step.UdpFinishBind c s) es r after = (es ≡ []) × ((r ≡ reply.Err word.NotInProgress) ↔ HasNoUdpBind (open_udp_at m s))
 Always m line (step.UdpRemoteAddress c s) es r after = Quiet m es after × ((r ≡ reply.Err word.InvalidState) ↔ KeepsNoRemote (open_udp_at m s))
 Always m line (step.UdpAddressFamily c s) es r after = Quiet m es after
+Always m line (step.UdpStream c s remote) es r after = ((r ≡ reply.Trap StreamsAlive) ↔ HasUdpStreams (open_udp_at m s)) × (m.store.standing ≡ None → PendingHandleIsLive after)
+Always m line (step.UdpCheckSend c s) es r after = es ≡ []
+Always m line (step.UdpSend c s datagrams) es r after = (r ≡ reply.Trap NotPermitted) ↔ IsSomeAnd (outgoing_in m s) (λ out. out.permit < length datagrams)
 Always m line (step.UdpGet c s option) es r after = after ≡ m
 Always m line (step.UdpSet c s setting) es r after = after ≡ m
 Always m line step.Turn es r after = Turns m es r after
@@ -233,7 +251,7 @@ pub record Subscribes (m : Machine) (line handle : ℕ) (es : List Entry) (field
 -- it is ready or it isn't
 abbrev pub Looks : Machine → ℕ → ℕ → List Entry → List Field → Type 0
 Looks m line pollable es (field.True ∷ []) = ⊤
-Looks m line pollable es (field.False ∷ []) = WatchesConnect m pollable → WatchesAccept m pollable → OfWatched m pollable (λ w r. IsUnready (own_of line) r es w)
+Looks m line pollable es (field.False ∷ []) = (WatchesDatagrams m pollable → ⊥) → WatchesConnect m pollable → WatchesAccept m pollable → OfWatched m pollable (λ w r. IsUnready (own_of line) r es w)
 Looks m line pollable es _ = ⊥
 
 -- what is left where the handle that was dropped is of this kind
@@ -241,6 +259,8 @@ abbrev pub Gone : Machine → ℕ → ℕ → Option Kind → List Entry → Mac
 Gone m line handle (Some (kind.Tcp2 place)) es after = (r : Tcp2Socket) → tcp2_at m.store.records place ≡ Some r → (es ≡ socket_given_up (own_of line) r) × IsGone after place
 Gone m line handle (Some (kind.Udp2 place)) es after = (u : Udp2Socket) → udp2_at m.store.records place ≡ Some u → (es ≡ udp_given_up (own_of line) u) × (after ≡ record (without m handle) { store = with_udp m.store place (udp_shut u) })
 Gone m line handle (Some (kind.Output place)) es after = ⊤
+Gone m line handle (Some (kind.Incoming place)) es after = (o : OpenUdp) → open_at m.store.records place ≡ Some o → IncomingGone m handle place o es after
+Gone m line handle (Some (kind.Outgoing place)) es after = (o : OpenUdp) → open_at m.store.records place ≡ Some o → OutgoingGone m handle place o es after
 Gone m line handle _ es after = after ≡ without m handle
 
 abbrev pub Done : List WasiSocketsCtx → Machine → ℕ → Step → List Entry → List Field → Machine → Type 0
@@ -262,6 +282,10 @@ Done contexts m line (step.UdpRemoteAddress c s) es fields after = OfUdp m s (λ
 Done contexts m line (step.UdpAddressFamily c s) es fields after = OfUdp m s (λ place o. fields ≡ family_fields o.inner.family)
 Done contexts m line (step.UdpGet c s option) es fields after = OfUdp m s (λ place o. GetsUdpOption (own_of line) (udp_opt option) o fields es)
 Done contexts m line (step.UdpSet c s setting) es fields after = OfUdp m s (λ place o. SetsUdpOption (own_of line) setting o es)
+Done contexts m line (step.UdpStream c s remote) es fields after = MadeBoth m s fields after × OfUdp m s (λ place o. HasNewStreams place after)
+Done contexts m line (step.UdpReceive c s most) es fields after = ReceivesSome most fields
+Done contexts m line (step.UdpSend c s datagrams) es fields after = SendsSome datagrams fields × (0 < length datagrams → IsSpent after s)
+Done contexts m line (step.UdpCheckSend c s) es fields after = OfOutgoing m (outgoing_at m s) (λ place o out. PermitsSend m place o out fields after)
 Done contexts m line (step.Poll n) es fields after = IsSomeAnd m.store.standing (λ s. GivesBy m fields after s.call)
 Done contexts m line s es fields after = ⊤
 
@@ -291,6 +315,9 @@ Refused contexts m line (step.UdpFinishBind c s) es w after = after ≡ m
 Refused contexts m line (step.UdpLocalAddress c s) es w after = RefusedOfUdp m s (UdpLocalRefusal m (own_of line)) es w after × ((after ≡ m) ⊎ KnowsUdpBound m s after)
 Refused contexts m line (step.UdpGet c s option) es w after = OfUdp m s (λ place o. UdpGetRefusal (own_of line) (udp_opt option) o es w)
 Refused contexts m line (step.UdpSet c s setting) es w after = OfUdp m s (λ place o. UdpSetRefusal (own_of line) setting o es w)
+Refused contexts m line (step.UdpReceive c s most) es w after = OfIncoming m (incoming_at m s) (λ place o inc. UdpReceiveRefusal (next_name (first_ids line)) o inc es w)
+Refused contexts m line (step.UdpSend c s datagrams) es w after = OfOutgoing m (outgoing_at m s) (λ place o out. UdpSendRefusal (next_name (first_ids line)) datagrams o out es w) × IsSpent after s
+Refused contexts m line (step.UdpStream c s remote) es w after = RefusedOfUdp m s (λ place o. UdpStreamRefusal m (own_of line) place o remote) es w after
 Refused contexts m line (step.Poll n) es w after = (PendingCallsFit m → StandingFails m n es w × IsSomeAnd m.store.standing (λ s. ClosesBy after s.call)) × (after.table ≡ m.table)
 Refused contexts m line s es w after = ⊤
 
@@ -315,10 +342,11 @@ Fails m line s es w handle after = ⊤
 abbrev pub Pends : List WasiSocketsCtx → Machine → ℕ → Step → List Entry → Machine → Type 0
 Pends contexts m line (step.TcpStartBind c s n a) es after = EndsPending (own_of line) es
 Pends contexts m line (step.TcpStartListen c s) es after = EndsPending (own_of line) es
-Pends contexts m line (step.Drop c h) es after = (after.table ≡ without_handle m.table h) × OutputWaits m (own_of line) (output_at m h) es
+Pends contexts m line (step.Drop c h) es after = (after.table ≡ without_handle m.table h) × (OutputWaits m (own_of line) (output_at m h) es ⊎ OutgoingWaits m (outgoing_at m h) es)
 Pends contexts m line (step.UdpCreate c family) es after = CreateStands m line (own_of line) (context_at contexts c) family es after
 Pends contexts m line (step.UdpStartBind c s n a) es after = OfUdp m s (λ place o. UdpBindStands m line (own_of line) place o a es after)
-Pends contexts m line (step.Poll n) es after = PendingCallsFit m → StandingWaits m (own_of n) es
+Pends contexts m line (step.UdpStream c s remote) es after = (after.table ≡ m.table) × OfUdp m s (λ place o. StreamsStand m line s place o remote es after)
+Pends contexts m line (step.Poll n) es after = (PendingCallsFit m → StandingWaits m (own_of n) es) × (after.table ≡ m.table) × (after.store.standing ≡ m.store.standing)
 Pends contexts m line s es after = ⊤
 
 -- == traps
@@ -333,14 +361,22 @@ LeftFull contexts m line (step.TcpCreate c family) es after =
 LeftFull contexts m line (step.UdpCreate c family) es after =
     let its = context_at contexts c in
     (is_full m.table ≡ true) × (es ≡ udp_create_entry (own_of line) its family told.Done ∷ writable_entry (own_of line) told.Done ∷ []) × (after ≡ with_udp_record m (new_udp (own_of line) its family))
-LeftFull contexts m line (step.Poll n) es after = (is_full m.table ≡ true) × IsSomeAnd m.store.standing (λ s. IsPendingCreate s.call)
+LeftFull contexts m line (step.UdpStream c s remote) es after = IsSomeAnd (udp_socket_at m s) (λ place. LacksRoomForBoth m.table place s)
+LeftFull contexts m line (step.Poll n) es after = ((is_full m.table ≡ true) × IsSomeAnd m.store.standing (λ s. IsPendingCreate s.call)) ⊎ IsSomeAnd m.store.standing (λ s. LacksRoomForStreams m s.call)
 LeftFull contexts m line s es after = ⊤
 
+-- where a handle is missed nothing was asked, and the machine is as it was; a poll leaves nothing pending: that is said where the
+-- handle of pending datagram streams is live
+abbrev pub LeavesMissing : Machine → Step → List Entry → Machine → Type 0
+LeavesMissing m (step.Poll n) es after = PendingHandleIsLive m → (es ≡ []) × (after ≡ left_missing m (step.Poll n))
+LeavesMissing m s es after = (es ≡ []) × (after ≡ left_missing m s)
+
 abbrev pub Traps : List WasiSocketsCtx → Machine → ℕ → Step → List Entry → TrapKind → Machine → Type 0
-Traps contexts m line s es NoSuchHandle after = MissesHandle m s × (es ≡ []) × (after ≡ left_missing m s)
+Traps contexts m line s es NoSuchHandle after = MissesHandle m s × LeavesMissing m s es after
 Traps contexts m line s es HasChildren after = IsDrop s × Quiet m es after
 Traps contexts m line s es Full after = MakesHandle s × FullAfter m es after × LeftFull contexts m line s es after
-Traps contexts m line s es NotPermitted after = IsWrite s × Quiet m es after
+Traps contexts m line s es NotPermitted after = (IsWrite s ⊎ IsUdpSend s) × Quiet m es after
+Traps contexts m line s es StreamsAlive after = IsUdpStream s × Quiet m es after
 Traps contexts m line s es _ after = ⊥
 
 -- == the table: what the step of this line was answered, what it replies, and the machine afterwards

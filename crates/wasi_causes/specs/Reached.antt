@@ -5,7 +5,7 @@ use Rattle.wasi_tcp.specs.declared.socket.TcpState.{TcpState}
 use Rattle.wasi_tcp.specs.declared.socket.TcpState.TheVariants as state
 use Rattle.wasi_host.specs.Records.{tcp2_at, udp2_at}
 use Rattle.wasi_host.specs.declared.kind.Kind.{Kind}
-use Rattle.wasi_host.specs.declared.kind.Kind.TheVariants.{Network, Tcp2, Udp2, Input, Output, Pollable, ErrorValue}
+use Rattle.wasi_host.specs.declared.kind.Kind.TheVariants.{Network, Tcp2, Udp2, Input, Output, Incoming, Outgoing, Pollable, ErrorValue}
 use Rattle.wasi_host.specs.declared.kind.Watched.TheVariants as watched
 use Rattle.wasi_host.specs.declared.listening.Listening.TheVariants as listening
 use Rattle.wasi_host.specs.declared.machine.Machine.{Machine}
@@ -29,7 +29,11 @@ OfItsRecord m (Tcp2 place) = HasRecord m place
 OfItsRecord m (Udp2 place) = HasUdpRecord m place
 OfItsRecord m (Input place) = HasRecord m place
 OfItsRecord m (Output place) = HasRecord m place
+OfItsRecord m (Incoming place) = HasUdpRecord m place
+OfItsRecord m (Outgoing place) = HasUdpRecord m place
 OfItsRecord m (Pollable (watched.Udp place)) = HasUdpRecord m place
+OfItsRecord m (Pollable (watched.Incoming place)) = HasUdpRecord m place
+OfItsRecord m (Pollable (watched.Outgoing place)) = HasUdpRecord m place
 OfItsRecord m (Pollable w) = HasRecord m (place_in w)
 OfItsRecord m ErrorValue = ⊤
 

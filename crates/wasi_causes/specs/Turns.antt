@@ -1,10 +1,19 @@
 -- Who asks in a turn.
-use Rattle.std.specs.Prelude.{◌≡◌, ℕ, Option, Some, None}
+use Rattle.std.specs.Prelude.{◌≡◌, List, Option, Some, None}
 use Rattle.wasi_world.specs.declared.ids.OpId.{OpId}
 use Rattle.wasi_tcp.specs.declared.writer.WriteState.{WriteState}
 use Rattle.wasi_tcp.specs.declared.writer.WriteState.TheVariants as writing
-use Rattle.wasi_host.specs.Records.{tcp2_at}
-use Rattle.wasi_host.specs.declared.jobs.HostJob.TheVariants.{Write}
+use Rattle.wasi_host.specs.Records.{tcp2_at, open_at}
+use Rattle.wasi_host.specs.declared.datagrams.Incoming.{Incoming}
+use Rattle.wasi_host.specs.declared.datagrams.Outgoing.{Outgoing}
+use Rattle.wasi_host.specs.declared.datagrams.Receiving.{Receiving}
+use Rattle.wasi_host.specs.declared.datagrams.Receiving.TheVariants as receiving
+use Rattle.wasi_host.specs.declared.datagrams.Sending.{Sending}
+use Rattle.wasi_host.specs.declared.datagrams.Sending.TheVariants as sending
+use Rattle.wasi_host.specs.declared.jobs.HostJob.{HostJob}
+use Rattle.wasi_host.specs.declared.jobs.HostJob.TheVariants.{Write, Datagram, Receive}
+use Rattle.wasi_host.specs.declared.records.Record.{Record}
+use Rattle.wasi_host.specs.declared.udp.OpenUdp.{OpenUdp}
 use Rattle.wasi_host.specs.declared.machine.Machine.{Machine}
 use Rattle.wasi_host.specs.declared.socket.Streams.{Streams}
 use Rattle.wasi_host.specs.declared.socket.Tcp2Socket.{Tcp2Socket}
@@ -26,8 +35,40 @@ writer_asks_by (Some s) = writes_by s.writer
 abbrev pub job_of : Option Tcp2Socket → Option OpId
 job_of found = writer_asks_by (streams_in found)
 
--- The operation is that of the write of a record with a job.
+-- by which operation a datagram is sent in the background, and by which one is received
+abbrev pub sends_by : Sending → Option OpId
+sends_by (sending.InProgress op) = Some op.who.id
+sends_by _ = None
+
+abbrev pub receives_by : Receiving → Option OpId
+receives_by (receiving.InProgress op) = Some op.who.id
+receives_by _ = None
+
+abbrev pub outgoing_asks_by : Option Outgoing → Option OpId
+outgoing_asks_by None = None
+outgoing_asks_by (Some out) = sends_by out.sending
+
+abbrev pub incoming_asks_by : Option Incoming → Option OpId
+incoming_asks_by None = None
+incoming_asks_by (Some inc) = receives_by inc.receiving
+
+-- by which operation the outgoing stream of a UDP socket asks, and its incoming one
+abbrev pub datagram_of : Option OpenUdp → Option OpId
+datagram_of None = None
+datagram_of (Some o) = outgoing_asks_by o.outgoing
+
+abbrev pub receive_of : Option OpenUdp → Option OpId
+receive_of None = None
+receive_of (Some o) = incoming_asks_by o.incoming
+
+-- by which operation a job asks
+abbrev pub asks_by : List Record → HostJob → Option OpId
+asks_by records (Write place) = job_of (tcp2_at records place)
+asks_by records (Datagram place) = datagram_of (open_at records place)
+asks_by records (Receive place) = receive_of (open_at records place)
+
+-- The operation is that of a job: of the write of a record, or of the datagram or the receive of a UDP socket.
 pub record IsOfJob (m : Machine) (op : OpId) : Type 0 where
-  pub place : ℕ
-  pub listed : Has m.store.jobs (Write place)
-  pub is : job_of (tcp2_at m.store.records place) ≡ Some op
+  pub job : HostJob
+  pub listed : Has m.store.jobs job
+  pub is : asks_by m.store.records job ≡ Some op

@@ -28,6 +28,7 @@ use Rattle.wasi_host.specs.declared.udp.OpenUdp.{OpenUdp}
 use Rattle.wasi_host.specs.declared.udp.Udp2Socket.{Udp2Socket}
 use Rattle.wasi_host.specs.declared.udp.Udp2Socket.TheVariants as udp
 use Rattle.wasi_host.specs.declared.udp.UdpInProgress.TheVariants as doing
+use Rattle.wasi_host.specs.Datagrams.{has_streams}
 use Rattle.wasi_host.specs.Kinds.{kind_at, watch_of, with_handle}
 use Rattle.wasi_host.specs.Machine.{udp_socket_at}
 use Rattle.wasi_host.specs.Records.{udp2_at, udp2_pushed, open_at, open_put}
@@ -43,6 +44,7 @@ use Rattle.wasi_steps.specs.Reply.{address_values, no_fields, number_fields}
 use Rattle.wasi_steps.specs.Settings.{udp_chosen}
 use Rattle.wasi_walks.specs.Answered.{says_bound, word_of_code}
 use Rattle.wasi_walks.specs.Licence.{entry}
+use Rattle.wasi_causes.specs.Datagrams.{MadeBoth}
 
 -- == the sockets that handles name
 -- The handle names a UDP socket that is made and not closed, at this place, of which this holds.
@@ -145,10 +147,11 @@ udp_check_entry own socket a told = entry own (call.Check socket.maker a usages.
 abbrev pub udp_bind_entry : OpId → Socket → IpSocketAddress → Told → Entry
 udp_bind_entry own socket a told = entry own (call.UdpBind socket.side a) told
 
--- The start of a bind is refused: an operation is in progress; or none is, and the socket is bound, or the address is of another
--- family, or the check was answered no, or the bind was answered with a code.
+-- The start of a bind is refused: an operation is in progress; or none is, and a stream of it is live, or it is bound, or the
+-- address is of another family, or the check was answered no, or the bind was answered with a code.
 pub data UdpBindRefusal (m : Machine) (own : OpId) (place : ℕ) (o : OpenUdp) (a : IpSocketAddress) : List Entry → CodeWord → Machine → Type 0 where
   UdpBusy : is_udp_idle o.in_progress ≡ false → UdpBindRefusal m own place o a [] word.ConcurrencyConflict m
+  UdpStreamsLive : is_udp_idle o.in_progress ≡ true → has_streams o ≡ true → UdpBindRefusal m own place o a [] word.InvalidState m
   UdpAlreadyBound : (asked : List Entry) → is_udp_idle o.in_progress ≡ true → IsUdpBound own o.inner asked → UdpBindRefusal m own place o a asked word.InvalidState (udp_knowing_bound m place o)
   UdpOtherFamily : (local : Told) → is_udp_idle o.in_progress ≡ true → IsUdpUnbound o.inner local → is_of_family (ip_of a) o.inner.family ≡ false
       → UdpBindRefusal m own place o a (udp_local_entry own o.inner local ∷ []) word.InvalidArgument m
@@ -157,9 +160,10 @@ pub data UdpBindRefusal (m : Machine) (own : OpId) (place : ℕ) (o : OpenUdp) (
   UdpBindTold : (local : Told) (c : ErrorCode) → is_udp_idle o.in_progress ≡ true → IsUdpUnbound o.inner local → is_of_family (ip_of a) o.inner.family ≡ true
       → UdpBindRefusal m own place o a (udp_local_entry own o.inner local ∷ udp_check_entry own o.inner a told.Yes ∷ udp_bind_entry own o.inner a (told.Code c) ∷ []) (word_of_code c) m
 
--- A bind that was begun goes on: nothing was in progress, the socket isn't bound, and the address is of its family.
+-- A bind that was begun goes on: nothing was in progress and no stream live, the socket isn't bound, and the address is of its family.
 pub record StartsUdpBind (o : OpenUdp) (a : IpSocketAddress) (local : Told) : Type 0 where
   pub idle : is_udp_idle o.in_progress ≡ true
+  pub alone : has_streams o ≡ false
   pub unbound : IsUdpUnbound o.inner local
   pub family : is_of_family (ip_of a) o.inner.family ≡ true
 
@@ -246,10 +250,11 @@ udp_shut (udp.Open o) = udp.Closed o.inner.side
 udp_shut u = u
 
 -- == a poll of the pending call
--- a create that is done gives the next handle, which is of its record, and the socket is there; the others give nothing, and
--- make none
+-- a create that is done gives the next handle, which is of its record, and the socket is there; datagram streams give the next two,
+-- under the handle that they were asked of; the others give nothing, and make none
 abbrev pub GivesBy : Machine → List Field → Machine → StandingCall → Type 0
 GivesBy m fields after (standing.UdpCreate place) = (fields ≡ number_fields m.table.next) × (after.table ≡ with_handle m.table (kind.Udp2 place) None) × IsSome (open_at after.store.records place)
+GivesBy m fields after (standing.UdpConnect place handle) = MadeBoth m handle fields after
 GivesBy m fields after _ = (fields ≡ no_fields) × (after.table ≡ m.table)
 
 -- of a create that is refused only the name of its network socket is left

@@ -1,6 +1,6 @@
 //! Laws over the definitions of specs/ that say where each answer of a step comes from, and what is left after a refusal:
 //! each is a function that does nothing, whose contract is the law. A socket is a TCP socket here, where nothing else is said;
-//! the steps of UDP sockets are in `udp`.
+//! the steps of UDP sockets are in `udp`, and those of their datagram streams in `datagrams`.
 
 ghost use Rattle.std.specs.Prelude.{◌≡◌, ◌↔◌, ◌⊎◌, ℕ, ◌+◌, true, false, List, [], ◌∷◌, length, IsSome, IsSomeAnd, Some, None, slice_get};
 ghost use Rattle.wasi_addr.specs.declared.address.IpSocketAddress.{IpSocketAddress};
@@ -24,12 +24,13 @@ ghost use Rattle.wasi_steps.specs.declared.step.Step.{Step};
 ghost use Rattle.wasi_walks.specs.Answered.{Answered, CheckFails, closing_reader, closing_writer, ConnectsAt, CreateRefusal, EndsPending, FailsWith, FinishRefusal, HasNoBindInProgress, HasNoConnectInProgress, HasOperationInProgress, IsGivenUp, IsQuiet, IsUnpermitted, IsWrite, KnowsBound, LocalRefusal, MakesHandle, MissesHandle, OfRecord, OfStreams, output_streams, Permits, putting, ReadFails, ReadsEnd, ReadsNone, ReadsTold, record_at, RefusedBind, RefusedConnect, RefusedOf, RemoteRefusal, StandsOnNothing, WasClosedWith, with_error, WriteFails};
 ghost use Rattle.wasi_causes.specs.Outcomes.{may_answer, EachMayAnswer, Outcome};
 ghost use Rattle.wasi_causes.specs.Udp.{IsPendingCreate};
+ghost use Rattle.wasi_causes.specs.Datagrams.{IsUdpSend, IsUdpStream, LacksRoomForStreams, OutgoingWaits, PendingHandleIsLive, WatchesDatagrams};
 ghost use Rattle.wasi_causes.specs.Reached.{FinishesAt, ListensLate, MayFinish, OfItsRecord};
 ghost use Rattle.wasi_causes.specs.GivenUp.{GoesAtOnce, HasLiveChildren, HasNoStreams, IsDrop, IsDropped, IsGone, LooksOnce, shut_down, shutdown_entries, socket_given_up, without};
 ghost use Rattle.wasi_walks.specs.Licence.{entry, Has, marks_in};
 ghost use Rattle.wasi_machine.specs.Machine.{context_at, run};
 ghost use Rattle.wasi_steps.specs.Steps.{context_of};
-ghost use Rattle.wasi_host.specs.Machine.{first_state, input_at, output_at, own_of, socket_at};
+ghost use Rattle.wasi_host.specs.Machine.{first_state, input_at, outgoing_at, output_at, own_of, socket_at};
 ghost use Rattle.wasi_host.specs.Records.{tcp2_at};
 ghost use Rattle.wasi_host.specs.Shutdowns.{with_streams};
 ghost use Rattle.wasi_host.specs.Kinds.{is_network, kind_at, watched_by, with_handle, without_handle};
@@ -82,16 +83,18 @@ pub fn finish_bind_refusals()
 {}
 
 /// A step traps because a handle of it isn't live or is of another kind, and asks nothing then and leaves the machine as it
-/// was, but that a poll leaves nothing pending; or because a handle is dropped under which others are live, and asks nothing
+/// was, but that a poll leaves nothing pending, which is said where the handle of pending datagram streams is live, as it is after
+/// any lines; or because a handle is dropped under which others are live, and asks nothing
 /// then and leaves the machine; or because the table is full, where it is to make a handle: that was the last of the step, and
-/// the marks are those of the handles that were made before it; or because a write isn't permitted.
+/// the marks are those of the handles that were made before it; or because a write or a send of datagrams isn't permitted; or
+/// because datagram streams are asked for of a socket of which one is live, and asks nothing then and leaves the machine.
 pub fn traps_have_causes()
     ensures kinds { (contexts : List WasiSocketsCtx) (m : Machine) (line : ℕ) (s : Step) (entries : List Entry) (kind : TrapKind) (after : Machine)
-        → Answered contexts m line s entries (Reply.Trap kind) after → (kind ≡ TrapKind.NoSuchHandle) ⊎ ((kind ≡ TrapKind.HasChildren) ⊎ ((kind ≡ TrapKind.Full) ⊎ (kind ≡ TrapKind.NotPermitted))) }
+        → Answered contexts m line s entries (Reply.Trap kind) after → (kind ≡ TrapKind.NoSuchHandle) ⊎ ((kind ≡ TrapKind.HasChildren) ⊎ ((kind ≡ TrapKind.Full) ⊎ ((kind ≡ TrapKind.NotPermitted) ⊎ (kind ≡ TrapKind.StreamsAlive)))) }
     ensures no_such_handle { (contexts : List WasiSocketsCtx) (m : Machine) (line : ℕ) (s : Step) (entries : List Entry) (after : Machine)
         → Answered contexts m line s entries (Reply.Trap TrapKind.NoSuchHandle) after → MissesHandle m s }
     ensures no_such_handle_stays { (contexts : List WasiSocketsCtx) (m : Machine) (line : ℕ) (s : Step) (entries : List Entry) (after : Machine)
-        → Answered contexts m line s entries (Reply.Trap TrapKind.NoSuchHandle) after → (entries ≡ []) × (after ≡ left_missing m s) }
+        → (IsPoll s → PendingHandleIsLive m) → Answered contexts m line s entries (Reply.Trap TrapKind.NoSuchHandle) after → (entries ≡ []) × (after ≡ left_missing m s) }
     ensures has_children { (contexts : List WasiSocketsCtx) (m : Machine) (line ctx handle : ℕ) (entries : List Entry) (reply : Reply) (after : Machine)
         → m.store.standing ≡ None → Answered contexts m line (Step.Drop ctx handle) entries reply after → (reply ≡ Reply.Trap TrapKind.HasChildren) ↔ HasLiveChildren m handle }
     ensures has_children_stays { (contexts : List WasiSocketsCtx) (m : Machine) (line : ℕ) (s : Step) (entries : List Entry) (after : Machine)
@@ -103,15 +106,18 @@ pub fn traps_have_causes()
     ensures full_marks { (contexts : List WasiSocketsCtx) (m : Machine) (line : ℕ) (s : Step) (entries : List Entry) (after : Machine)
         → Answered contexts m line s entries (Reply.Trap TrapKind.Full) after → after.table.next ≡ m.table.next + marks_in entries }
     ensures not_permitted { (contexts : List WasiSocketsCtx) (m : Machine) (line : ℕ) (s : Step) (entries : List Entry) (after : Machine)
-        → Answered contexts m line s entries (Reply.Trap TrapKind.NotPermitted) after → IsWrite s }
+        → Answered contexts m line s entries (Reply.Trap TrapKind.NotPermitted) after → IsWrite s ⊎ IsUdpSend s }
+    ensures streams_alive { (contexts : List WasiSocketsCtx) (m : Machine) (line : ℕ) (s : Step) (entries : List Entry) (after : Machine)
+        → Answered contexts m line s entries (Reply.Trap TrapKind.StreamsAlive) after → IsUdpStream s × (entries ≡ []) × (after ≡ m) }
 {}
 
 /// A poll finds no such call exactly where no call is pending under its number. It asks nothing then, and the machine stays as
 /// it was; no other step is answered so. A poll of a pending call leaves it pending, or leaves nothing pending. It is refused
-/// with the word of the code by which the bind, the listen or the create failed: a check was answered no, or another of its asks
-/// was answered with the code, by its own operation, and a listen and a create closed their network socket last. That is said
-/// where what is pending as a bind is a bind, as a listen a listen, and as a create a create, as it is after any lines. In a run
-/// a poll traps only for lack of room for the handle of a create.
+/// with the word of the code by which the bind, the listen, the create or the connect of datagram streams failed: a check was
+/// answered no, or another of its asks was answered with the code, by its own operation, and a listen and a create closed their
+/// network socket last, and a connect that was answered asked for the remote address. That is said where what is pending as a bind
+/// is a bind, as a listen a listen, as a create a create, and as datagram streams a connect, as it is after any lines. In a run a
+/// poll traps only for lack of room for the handle of a create, or for the two of datagram streams.
 pub fn polls_find_their_call()
     ensures exactly { (contexts : List WasiSocketsCtx) (m : Machine) (line n : ℕ) (entries : List Entry) (reply : Reply) (after : Machine)
         → Answered contexts m line (Step.Poll n) entries reply after → (reply ≡ Reply.NoSuchCall) ↔ (stands_as m.store.standing n ≡ false) }
@@ -125,14 +131,15 @@ pub fn polls_find_their_call()
         → PendingCallsFit m → Answered contexts m line (Step.Poll n) entries (Reply.Err word) after → StandingFails m n entries word }
     ensures traps { (contexts : List WasiSocketsCtx) (steps : List Step) (log : List Entry) (replies : List Reply) (m : Machine) (line n : ℕ) (entries : List Entry) (kind : TrapKind) (after : Machine)
         → Left (run contexts [] first_state 1 steps) log (Give (replies, m)) → Answered contexts m line (Step.Poll n) entries (Reply.Trap kind) after
-        → (kind ≡ TrapKind.Full) × (is_full m.table ≡ true) × IsSomeAnd m.store.standing (λ s. IsPendingCreate s.call) }
+        → (kind ≡ TrapKind.Full) × (((is_full m.table ≡ true) × IsSomeAnd m.store.standing (λ s. IsPendingCreate s.call)) ⊎ IsSomeAnd m.store.standing (λ s. LacksRoomForStreams m s.call)) }
 {}
 
-/// The start of a bind, that of a listen, a create of a UDP socket, the drop of an output and a poll may be pending: all but a
-/// poll under their line's number, and a poll under the number that it polls. A call is pending under that number then. The last
-/// ask of a bind and of a listen was answered pending; a drop waits where its output's write is in progress, or its one ask was
-/// answered pending; and a poll waits as the call does that it polls. That is said where what is pending as a bind is a bind, as
-/// a listen a listen, and as a create a create, as it is after any lines.
+/// The start of a bind, that of a listen, a create of a UDP socket, that of its datagram streams, the drop of an output or of an
+/// outgoing datagram stream and a poll may be pending: all but a poll under their line's number, and a poll under the number that
+/// it polls. A call is pending under that number then. The last ask of a bind and of a listen was answered pending; a drop waits
+/// where its output's write is in progress, or its one ask was answered pending, or where a datagram of its stream isn't sent yet,
+/// which asks nothing; and a poll waits as the call does that it polls. That is said where what is pending as a bind is a bind, as
+/// a listen a listen, as a create a create, and as datagram streams a connect, as it is after any lines.
 pub fn pending_where_told()
     ensures step { (contexts : List WasiSocketsCtx) (m : Machine) (line : ℕ) (s : Step) (entries : List Entry) (number : ℕ) (after : Machine)
         → Answered contexts m line s entries (Reply.Pending number) after → MayStand m line s number }
@@ -143,7 +150,7 @@ pub fn pending_where_told()
     ensures listen { (contexts : List WasiSocketsCtx) (m : Machine) (line ctx handle : ℕ) (entries : List Entry) (number : ℕ) (after : Machine)
         → Answered contexts m line (Step.TcpStartListen ctx handle) entries (Reply.Pending number) after → EndsPending (own_of line) entries }
     ensures output { (contexts : List WasiSocketsCtx) (m : Machine) (line ctx handle : ℕ) (entries : List Entry) (number : ℕ) (after : Machine)
-        → Answered contexts m line (Step.Drop ctx handle) entries (Reply.Pending number) after → OutputWaits m (own_of line) (output_at m handle) entries }
+        → Answered contexts m line (Step.Drop ctx handle) entries (Reply.Pending number) after → OutputWaits m (own_of line) (output_at m handle) entries ⊎ OutgoingWaits m (outgoing_at m handle) entries }
     ensures polled { (contexts : List WasiSocketsCtx) (m : Machine) (line n : ℕ) (entries : List Entry) (number : ℕ) (after : Machine)
         → PendingCallsFit m → Answered contexts m line (Step.Poll n) entries (Reply.Pending number) after → StandingWaits m (own_of n) entries }
 {}
@@ -229,7 +236,8 @@ pub fn runs_connect_by_connects()
 {}
 
 /// After the lines of any script: each live handle of a socket, a stream or a pollable is of a record that is there, so a
-/// number of which no TCP socket is found isn't live or stands for something else; a pending call is of a socket that is there;
+/// number of which no TCP socket is found isn't live or stands for something else; a pending call is of a socket that is there, and
+/// one that makes datagram streams is of a handle that is live;
 /// and where a connect is in progress, the socket connects, or was closed with a code, or is connected and neither half of it was
 /// taken; and a socket that does nothing yet has no listener, and none begins.
 pub fn runs_keep_their_records()
@@ -248,7 +256,8 @@ pub fn runs_keep_their_records()
 /// After the lines of any script, what is pending as a bind is a bind that is in progress in its record, and so is what is pending
 /// as a bind of a UDP socket; what is pending as a listen is a listen that its record has begun, of which only the check of its
 /// address, which was reported, and the listen itself are left, one of them at least, and its socket has no network socket; and
-/// what is pending as a create is a create in its record that waits for its network socket.
+/// what is pending as a create is a create in its record that waits for its network socket; and what is pending as datagram streams
+/// is a connect in its record, of whose checks one at least isn't answered yet.
 pub fn runs_keep_their_pending_calls()
     ensures { (contexts : List WasiSocketsCtx) (steps : List Step) (entries : List Entry) (replies : List Reply) (m : Machine)
         → Left (run contexts [] first_state 1 steps) entries (Give (replies, m)) → PendingCallsFit m }
@@ -406,8 +415,8 @@ pub fn shutdown_refusals()
         → OfStreams m (socket_at m handle) (λ place r s. after ≡ putting m place (with_streams r (shut_down how s))) }
 {}
 
-/// A pollable isn't ready where the connect in progress was answered pending, or with nothing in progress the accept of a
-/// listener waits, or the input that is open was answered pending, or the output's write is in progress or its writer was
+/// A pollable of another thing than a datagram stream isn't ready where the connect in progress was answered pending, or with
+/// nothing in progress the accept of a listener waits, or the input that is open was answered pending, or the output's write is in progress or its writer was
 /// answered pending: that is said where a socket connects by a connect and accepts by an accept, as all do after any lines. A
 /// socket with no connect in progress, and with no listener unless another operation is in progress, is ready, which asks
 /// nothing and leaves the machine as it was. A look never fails.
@@ -415,7 +424,7 @@ pub fn readiness_has_causes()
     ensures values { (contexts : List WasiSocketsCtx) (m : Machine) (line ctx pollable : ℕ) (fields : List Field) (entries : List Entry) (after : Machine)
         → Answered contexts m line (Step.Ready ctx pollable) entries (Reply.Ok fields) after → (fields ≡ truth_fields true) ⊎ (fields ≡ truth_fields false) }
     ensures not_ready { (contexts : List WasiSocketsCtx) (m : Machine) (line ctx pollable : ℕ) (entries : List Entry) (after : Machine)
-        → WatchesConnect m pollable → WatchesAccept m pollable → Answered contexts m line (Step.Ready ctx pollable) entries (Reply.Ok (truth_fields false)) after
+        → (WatchesDatagrams m pollable → ⊥) → WatchesConnect m pollable → WatchesAccept m pollable → Answered contexts m line (Step.Ready ctx pollable) entries (Reply.Ok (truth_fields false)) after
         → OfWatched m pollable (λ w r. IsUnready (own_of line) r entries w) }
     ensures idle { (contexts : List WasiSocketsCtx) (m : Machine) (line ctx pollable : ℕ) (entries : List Entry) (reply : Reply) (after : Machine)
         → m.store.standing ≡ None → WatchesIdle m pollable → Answered contexts m line (Step.Ready ctx pollable) entries reply after
@@ -439,8 +448,8 @@ pub fn subscribe_makes_a_pollable()
         → Answered contexts m line (Step.Subscribe ctx handle) entries reply after → IsFailure reply → ⊥ }
 {}
 
-/// A turn is always ok, and leaves the handles as they were. Whatever it asks is asked by the operation of a background write,
-/// of a record with a job.
+/// A turn is always ok, and leaves the handles as they were. Whatever it asks is asked by the operation of a job: of a background
+/// write of a record, or of a datagram that is sent in the background or a receive in progress of a UDP socket.
 pub fn turns_are_ok()
     ensures ok { (contexts : List WasiSocketsCtx) (m : Machine) (line : ℕ) (entries : List Entry) (reply : Reply) (after : Machine)
         → Answered contexts m line Step.Turn entries reply after → reply ≡ Reply.Ok no_fields }

@@ -3,6 +3,7 @@
 #![tactic(auto)]
 
 pub mod causes;
+pub mod datagrams;
 pub mod listens;
 pub mod options;
 pub mod udp;

@@ -29,6 +29,7 @@ ghost use Rattle.wasi_streams.specs.Table.{children_of, is_full};
 ghost use Rattle.wasi_walks.specs.Answered.{Answered, open_udp_at};
 ghost use Rattle.wasi_walks.specs.Waiting.{PendingCallsFit};
 ghost use Rattle.wasi_causes.specs.GivenUp.{without};
+ghost use Rattle.wasi_causes.specs.Datagrams.{LacksRoomForStreams};
 ghost use Rattle.wasi_causes.specs.Udp.{OfUdp, RefusedOfUdp, HasUdpInProgress, HasNoUdpBind, KeepsNoRemote, WatchesUdp, udp_create_entry, writable_entry, with_udp_record, new_udp, UdpCreateRefusal, CreatesUdp, CreateStands, KnowsUdpBound, UdpBindRefusal, BindsUdp, UdpBindStands, FinishesUdpBind, UdpLocalRefusal, TellsUdpLocal, TellsUdpRemote, UdpGetRefusal, GetsUdpOption, UdpSetRefusal, SetsUdpOption, udp_given_up, udp_shut, GivesBy, ClosesBy, IsPendingCreate};
 
 /// A create of a UDP socket is refused with `access-denied` where the context may not use UDP, and it asks nothing then; or
@@ -64,7 +65,8 @@ pub fn udp_creates_make_a_handle()
 {}
 
 /// The start of a bind of a UDP socket is refused with `concurrency-conflict` exactly where an operation is in progress, and
-/// asks nothing then; and else with `invalid-state` where the socket is bound, as it is known to be or its network socket said;
+/// asks nothing then; and else with `invalid-state` where a datagram stream of the socket is live, which asks nothing either, or
+/// where the socket is bound, as it is known to be or its network socket said;
 /// with `invalid-argument` for an address of another family; with `access-denied` after a check that was answered no; and with
 /// the word of the code that the bind was answered. The machine is as it was then, but that a socket that was found bound is
 /// known to be.
@@ -196,9 +198,10 @@ pub fn udp_drops_close()
 {}
 
 /// A poll that is done gives the next handle, of the socket that was made, where what was pending is a create of a UDP socket;
-/// and else nothing. One that is refused makes no handle, and of a create it leaves in the record only the name of the network
-/// socket, which was closed: that is said where what is pending as a create is a create, as it is after any lines. Where there
-/// is no room for the handle of a create, it traps with `Full`.
+/// the next two, where it makes datagram streams; and else nothing. One that is refused makes no handle, and of a create it
+/// leaves in the record only the name of the network socket, which was closed: that is said where what is pending as a create is
+/// a create, as it is after any lines. Where there is no room for the handle of a create, or for both handles of datagram
+/// streams, it traps with `Full`.
 pub fn udp_polls_give_a_handle()
     ensures done { (contexts : List WasiSocketsCtx) (m : Machine) (line n : ℕ) (fields : List Field) (entries : List Entry) (after : Machine)
         → Answered contexts m line (Step.Poll n) entries (Reply.Ok fields) after → IsSomeAnd m.store.standing (λ s. GivesBy m fields after s.call) }
@@ -207,7 +210,7 @@ pub fn udp_polls_give_a_handle()
     ensures none { (contexts : List WasiSocketsCtx) (m : Machine) (line n : ℕ) (entries : List Entry) (word : CodeWord) (after : Machine)
         → Answered contexts m line (Step.Poll n) entries (Reply.Err word) after → after.table ≡ m.table }
     ensures full { (contexts : List WasiSocketsCtx) (m : Machine) (line n : ℕ) (entries : List Entry) (after : Machine)
-        → Answered contexts m line (Step.Poll n) entries (Reply.Trap TrapKind.Full) after → (is_full m.table ≡ true) × IsSomeAnd m.store.standing (λ s. IsPendingCreate s.call) }
+        → Answered contexts m line (Step.Poll n) entries (Reply.Trap TrapKind.Full) after → ((is_full m.table ≡ true) × IsSomeAnd m.store.standing (λ s. IsPendingCreate s.call)) ⊎ IsSomeAnd m.store.standing (λ s. LacksRoomForStreams m s.call) }
 {}
 
 /// A pollable of a UDP socket is ready. That asks nothing, and the machine stays as it was.

@@ -149,7 +149,7 @@ module _ (contexts : List WasiSocketsCtx) (m : Machine) (line c handle : ℕ) wh
       (λ place r n. widen (connected place) (by_progress place r n (is_connect r.in_progress) refl)))
     where
       missing : record_at m handle ≡ None → FinishSays [] (Err (Trap NoSuchHandle), m)
-      missing none = (apart (λ e. cc) (none_has _ (record_at m handle) none), (none, refl, refl))
+      missing none = (apart (λ e. cc) (none_has _ (record_at m handle) none), (none, (refl, refl)))
 
   -- == an accept
   abbrev AcceptSays : Rows (Result (ℕ × ℕ × ℕ) Stop × Machine)
@@ -275,5 +275,5 @@ module _ (contexts : List WasiSocketsCtx) (m : Machine) (line c handle : ℕ) wh
 
   pub accept : Meets (Says contexts m line (step.TcpAccept c handle)) [] (bind (accept_asks m (first_ids line) handle) (λ done. Give (triple_reply done.0, done.1)))
   accept =
-      onto _ (through_record m handle (accept_on m (first_ids line) handle) (λ place o. accept_at m.store (first_ids line) place o) (λ place done. accepted_asks own handle done) (λ place. refl) (λ place. refl) (λ none. ends (tt, (none, refl, refl))) (λ none place. ends (tt, (none, refl, refl)))
+      onto _ (through_record m handle (accept_on m (first_ids line) handle) (λ place o. accept_at m.store (first_ids line) place o) (λ place done. accepted_asks own handle done) (λ place. refl) (λ place. refl) (λ none. ends (tt, (none, (refl, refl)))) (λ none place. ends (tt, (none, (refl, refl))))
       (λ place r n. widen accepted (onto _ (by_listening place r n r.listening refl))))

@@ -180,12 +180,12 @@ module _ (contexts : List WasiSocketsCtx) (m : Machine) (line c handle : ℕ) wh
 
   pub local_address : Meets (Says contexts m line (step.TcpLocalAddress c handle)) [] (bind (local_address_on m own (socket_at m handle)) (λ done. Give (address_reply done.0, done.1)))
   local_address =
-      onto _ (on_record m handle (local_address_on m own) (λ place o. local_address_at m.store own place o) refl (λ place. refl) (λ place. refl) (λ none. (tt, (none, refl, refl)))
+      onto _ (on_record m handle (local_address_on m own) (λ place o. local_address_at m.store own place o) refl (λ place. refl) (λ place. refl) (λ none. (tt, (none, (refl, refl))))
       (λ place r n. onto _ (onto _ (widen (address_said (Replied contexts m line (step.TcpLocalAddress c handle) address_reply) (LocalRefused m own handle place r n) place r (λ es a after. (tt, ((a, refl), tt))) (λ es code after h. (tt, (code_word code, (here n h.0, h.1))))) (local_row m own handle place r n)))))
 
   pub remote_address : Meets (Says contexts m line (step.TcpRemoteAddress c handle)) [] (bind (remote_address_on m own (socket_at m handle)) (λ done. Give (address_reply done.0, done.1)))
   remote_address =
-      onto _ (on_record m handle (remote_address_on m own) (λ place o. remote_address_at m.store own place o) refl (λ place. refl) (λ place. refl) (λ none. (tt, (none, refl, refl)))
+      onto _ (on_record m handle (remote_address_on m own) (λ place o. remote_address_at m.store own place o) refl (λ place. refl) (λ place. refl) (λ none. (tt, (none, (refl, refl))))
       (λ place r n. onto _ (onto _ (widen (address_said (Replied contexts m line (step.TcpRemoteAddress c handle) address_reply) (RemoteRefused m own place r n.at) place r (λ es a after. (tt, ((a, refl), tt))) (λ es code after h. (tt, (code_word code, (here n h.0, h.1))))) (onto (in_socket r.inner) (by_state m own place r n.at r.inner.state refl))))))
 
   -- == what is known without asking
@@ -195,10 +195,10 @@ module _ (contexts : List WasiSocketsCtx) (m : Machine) (line c handle : ℕ) wh
 
   pub is_listens : Meets (Says contexts m line (step.TcpIsListening c handle)) [] (Give (truth_reply (is_listening_on m (socket_at m handle)), m))
   is_listens =
-      on_number m handle (λ o. Give (truth_reply (is_listening_on m o), m)) (λ place o. Give (truth_reply (is_listening_at o), m)) (λ place. refl) (λ none. ends ((refl, refl), (none, refl, refl))) (λ none place. ends ((refl, refl), (none, refl, refl))) (λ place r n. ends ((refl, refl), (truth_like (is_listening r.inner.state), tt)))
+      on_number m handle (λ o. Give (truth_reply (is_listening_on m o), m)) (λ place o. Give (truth_reply (is_listening_at o), m)) (λ place. refl) (λ none. ends ((refl, refl), (none, (refl, refl)))) (λ none place. ends ((refl, refl), (none, (refl, refl)))) (λ place r n. ends ((refl, refl), (truth_like (is_listening r.inner.state), tt)))
 
   pub family : Meets (Says contexts m line (step.TcpAddressFamily c handle)) [] (Give (family_reply (address_family_on m (socket_at m handle)), m))
-  family = on_number m handle (λ o. Give (family_reply (address_family_on m o), m)) (λ place o. Give (family_reply (address_family_at o), m)) (λ place. refl) (λ none. ends ((refl, refl), (none, refl, refl))) (λ none place. ends ((refl, refl), (none, refl, refl))) (λ place r n. ends ((refl, refl), ((tt, tt), tt)))
+  family = on_number m handle (λ o. Give (family_reply (address_family_on m o), m)) (λ place o. Give (family_reply (address_family_at o), m)) (λ place. refl) (λ none. ends ((refl, refl), (none, (refl, refl)))) (λ none place. ends ((refl, refl), (none, (refl, refl)))) (λ place r n. ends ((refl, refl), ((tt, tt), tt)))
 
   module _ (option : Opt) where
     got_so : (place : ℕ) (r : Tcp2Socket) → Names m handle place r → (es : List Entry) (done : Result ℕ ErrorCode × Socket) → GetRow own r option es done.0 → Outcome contexts m line (step.TcpGet c handle option) es (value_reply (code_told done.0)) m
@@ -206,7 +206,7 @@ module _ (contexts : List WasiSocketsCtx) (m : Machine) (line c handle : ℕ) wh
     got_so place r n es (Err code, now) h = (refl, (code_word code, here n (h, refl)))
 
     pub get : Meets (Says contexts m line (step.TcpGet c handle option)) [] (bind (get_option_on m own option (socket_at m handle)) (λ done. Give (value_reply done.0, done.1)))
-    get = onto _ (on_record m handle (get_option_on m own option) (λ place o. get_option_at m.store own option o) refl (λ place. refl) (λ place. refl) (λ none. (refl, (none, refl, refl))) (λ place r n. onto _ (widen (got_so place r n) (gets_where own r option (option_side r.inner) refl))))
+    get = onto _ (on_record m handle (get_option_on m own option) (λ place o. get_option_at m.store own option o) refl (λ place. refl) (λ place. refl) (λ none. (refl, (none, (refl, refl)))) (λ place r n. onto _ (widen (got_so place r n) (gets_where own r option (option_side r.inner) refl))))
 
   module _ (setting : TcpSetting) where
     abbrev Row : Rows (Result (Unit {0}) Stop × Machine)
@@ -222,9 +222,9 @@ module _ (contexts : List WasiSocketsCtx) (m : Machine) (line c handle : ℕ) wh
 
     by_chosen : (what : Chosen) → chosen setting ≡ what → Meets Row [] (set_chosen m own (socket_at m handle) what)
     by_chosen (AnOption option value) e =
-        on_record m handle (set_option_on m own option value) (λ place o. set_option_at m.store own option value o) refl (λ place. refl) (λ place. refl) (λ none. (tt, (none, refl, refl))) (λ place r n. onto _ (widen (set_so place r n option value e) (sets own r option value)))
+        on_record m handle (set_option_on m own option value) (λ place o. set_option_at m.store own option value o) refl (λ place. refl) (λ place. refl) (λ none. (tt, (none, (refl, refl)))) (λ place r n. onto _ (widen (set_so place r n option value e) (sets own r option value)))
     by_chosen (TheBacklog value) e =
-        on_record m handle (set_backlog_on m own value) (λ place o. set_backlog_at m.store own place value o) refl (λ place. refl) (λ place. refl) (λ none. (tt, (none, refl, refl))) (λ place r n. onto _ (widen (kept_so place r n value e) (keeps own r value)))
+        on_record m handle (set_backlog_on m own value) (λ place o. set_backlog_at m.store own place value o) refl (λ place. refl) (λ place. refl) (λ none. (tt, (none, (refl, refl)))) (λ place r n. onto _ (widen (kept_so place r n value e) (keeps own r value)))
 
     pub set : Meets (Says contexts m line (step.TcpSet c handle setting)) [] (bind (set_chosen m own (socket_at m handle) (chosen setting)) (λ done. Give (done_reply done.0, done.1)))
     set = onto _ (by_chosen (chosen setting) refl)

@@ -262,8 +262,8 @@ module _ (contexts : List WasiSocketsCtx) (m : Machine) (line c handle : ℕ) wh
     start_bind =
         onto _ (branch (is_network (kind_at m.table network))
         (λ is. on_idle m handle (start_bind_on m (first_ids line) a) (λ place o. start_bind_at m.store (first_ids line) place a o) (λ place r b. start_bind_by m.store (first_ids line) place a r b) refl (λ place. refl) (λ place. refl) (λ place r. refl) (λ place r. refl)
-        (λ none. (λ is. none_conflicts m handle _ none (λ e. cc), (inr none, refl, refl))) (λ place r n e. (λ is. in_conflict n e, (inl refl, (here n (InProgress e refl refl refl), inl refl)))) (λ place r n idle. onto _ (widen (bind_said place r n idle) (bind_begins m own handle place r n a idle))))
-        (λ no. ends (λ is. absurd (cc), (inl no, refl, refl))))
+        (λ none. (λ is. none_conflicts m handle _ none (λ e. cc), (inr none, (refl, refl)))) (λ place r n e. (λ is. in_conflict n e, (inl refl, (here n (InProgress e refl refl refl), inl refl)))) (λ place r n idle. onto _ (widen (bind_said place r n idle) (bind_begins m own handle place r n a idle))))
+        (λ no. ends (λ is. absurd (cc), (inl no, (refl, refl)))))
 
     -- == a connect
     connect_said : (place : ℕ) (r : Tcp2Socket) (n : Names m handle place r) → is_nothing r.in_progress ≡ true → (es : List Entry) (done : Result (Unit {0}) ErrorCode × Tcp2Socket) → ConnectRow m own handle place r n a es done → (Replied contexts m line (step.TcpStartConnect c handle network a) done_reply) es (with_store m (answer_put m.store place done))
@@ -274,8 +274,8 @@ module _ (contexts : List WasiSocketsCtx) (m : Machine) (line c handle : ℕ) wh
     start_connect =
         onto _ (branch (is_network (kind_at m.table network))
         (λ is. on_idle m handle (start_connect_on m own a) (λ place o. start_connect_at m.store own place a o) (λ place r b. start_connect_by m.store own place a r b) refl (λ place. refl) (λ place. refl) (λ place r. refl) (λ place r. refl)
-        (λ none. (λ is. none_conflicts m handle _ none (λ e. cc), (inr none, refl, refl))) (λ place r n e. (λ is. in_conflict n e, (inl refl, (here n (InProgress e refl refl refl), inl refl)))) (λ place r n idle. onto _ (widen (connect_said place r n idle) (connect_begins m own handle place r n a))))
-        (λ no. ends (λ is. absurd (cc), (inl no, refl, refl))))
+        (λ none. (λ is. none_conflicts m handle _ none (λ e. cc), (inr none, (refl, refl)))) (λ place r n e. (λ is. in_conflict n e, (inl refl, (here n (InProgress e refl refl refl), inl refl)))) (λ place r n idle. onto _ (widen (connect_said place r n idle) (connect_begins m own handle place r n a))))
+        (λ no. ends (λ is. absurd (cc), (inl no, (refl, refl)))))
 
   -- == a listen
   listen_said : (place : ℕ) (r : Tcp2Socket) (n : Names m handle place r) → is_nothing r.in_progress ≡ true → (es : List Entry) (done : Result (Answer (Unit {0})) ErrorCode × Tcp2Socket) → ListenRow m own handle place r n es done → (Replied contexts m line (step.TcpStartListen c handle) (answer_reply line)) es (with_store m (call_answered m.store (first_ids line) (StandingCall.Listen place) done))
@@ -286,12 +286,12 @@ module _ (contexts : List WasiSocketsCtx) (m : Machine) (line c handle : ℕ) wh
   pub start_listen : Meets (Says contexts m line (step.TcpStartListen c handle)) [] (bind (start_listen_on m (first_ids line) (socket_at m handle)) (λ done. Give (answer_reply line done.0, done.1)))
   start_listen =
       onto _ (on_idle m handle (start_listen_on m (first_ids line)) (λ place o. start_listen_at m.store (first_ids line) place o) (λ place r b. start_listen_by m.store (first_ids line) place r b) refl (λ place. refl) (λ place. refl) (λ place r. refl) (λ place r. refl)
-      (λ none. (none_conflicts m handle _ none (λ e. cc), (none, refl, refl))) (λ place r n e. (in_conflict n e, (inl refl, (λ late. here n (InProgress e refl refl refl), inl refl)))) (λ place r n idle. onto _ (widen (listen_said place r n idle) (listen_begins m own handle place r n))))
+      (λ none. (none_conflicts m handle _ none (λ e. cc), (none, (refl, refl)))) (λ place r n e. (in_conflict n e, (inl refl, (λ late. here n (InProgress e refl refl refl), inl refl)))) (λ place r n idle. onto _ (widen (listen_said place r n idle) (listen_begins m own handle place r n))))
 
   pub finish_bind : let done = finish_on is_bind m (socket_at m handle) in Meets (Says contexts m line (step.TcpFinishBind c handle)) [] (Give (done_reply done.0, done.1))
   finish_bind =
-      finishes is_bind m handle (λ none. ((refl, apart (λ e. cc) (none_has _ (record_at m handle) none)), (none, refl, refl))) (λ none. ((refl, (λ e. none, λ k. refl)), (refl, refl))) (λ some after. ((refl, apart (λ e. cc) some), (tt, tt)))
+      finishes is_bind m handle (λ none. ((refl, apart (λ e. cc) (none_has _ (record_at m handle) none)), (none, (refl, refl)))) (λ none. ((refl, (λ e. none, λ k. refl)), (refl, refl))) (λ some after. ((refl, apart (λ e. cc) some), (tt, tt)))
 
   pub finish_listen : let done = finish_on is_listen m (socket_at m handle) in Meets (Says contexts m line (step.TcpFinishListen c handle)) [] (Give (done_reply done.0, done.1))
   finish_listen =
-      finishes is_listen m handle (λ none. ((refl, apart (λ e. cc) (none_has _ (record_at m handle) none)), (none, refl, refl))) (λ none. ((refl, (λ e. none, λ k. refl)), (refl, refl))) (λ some after. ((refl, apart (λ e. cc) some), (tt, tt)))
+      finishes is_listen m handle (λ none. ((refl, apart (λ e. cc) (none_has _ (record_at m handle) none)), (none, (refl, refl)))) (λ none. ((refl, (λ e. none, λ k. refl)), (refl, refl))) (λ some after. ((refl, apart (λ e. cc) some), (tt, tt)))

@@ -2,6 +2,7 @@
 -- options, which are set too; and the finish of a bind.
 use Rattle.wasi_causes.proofs.Words.{◌≡◌, ◌⊎◌, ◌∙◌, ◌<◌, ◌==◌, inl, inr, ℕ, Bool, true, false, not, if◌then◌else◌, nat_le, List, [], ◌∷◌, ◌++◌, Option, Some, None, Result, Ok, Err, refl, sym, subst, ap, arith, eqb-true, eqb-false, leb-true, leb-false, IpSocketAddress, ErrorCode, Stop, Trap, NoSuchHandle, Machine, Records, own_of, with_store, no_such_handle, word_of_code, entry, is_wildcard, address_reply, value_reply, done_reply, family_reply, number_fields, CodeWord, Give, bind, IsAddr, IsDoneOrCode, IsValue, told_addr, told_done, told_value, Entry, Told, OpId, Asks, WasiSocketsCtx, zero_test, refused_before, refused_after}
 use Rattle.wasi_addr.specs.declared.code.ErrorCode.TheVariants.{NotSupported}
+use Rattle.wasi_causes.proofs.udp_streams.Routes.{on_open, on_open_record, open_same}
 use Rattle.wasi_causes.proofs.tables.Meets.{Rows, Meets, ends, asks, chain, onto, widen, branch}
 use Rattle.wasi_causes.proofs.tables.Routes.{Replied, Says, code_word, apart, none_has}
 use Rattle.wasi_causes.specs.Outcomes.{Outcome}
@@ -9,13 +10,10 @@ use Rattle.wasi_causes.specs.Udp.{OfUdp, putting_udp, IsUdpBound, UdpKnown, UdpT
 use Rattle.wasi_common.specs.Options.{largest_value, value_told, option_answer}
 use Rattle.wasi_host.specs.Machine.{udp_socket_at}
 use Rattle.wasi_host.specs.Options.{code_told}
-use Rattle.wasi_host.specs.Records.{udp2_at, open_of, open_at}
+use Rattle.wasi_host.specs.Records.{open_at}
 use Rattle.wasi_host.specs.Udp.{is_udp_bound, with_udp_inner, udp_inner_answered}
 use Rattle.wasi_host.specs.UdpCalls.{udp_put_back, finish_udp_bind_by, finish_udp_bind_at, udp_local_at, udp_remote_at, udp_family_at, get_udp_option_at, set_udp_option_at}
-use Rattle.wasi_host.specs.declared.records.Record.{Record}
 use Rattle.wasi_host.specs.declared.udp.OpenUdp.{OpenUdp}
-use Rattle.wasi_host.specs.declared.udp.Udp2Socket.{Udp2Socket}
-use Rattle.wasi_host.specs.declared.udp.Udp2Socket.TheVariants as udp
 use Rattle.wasi_host.specs.declared.udp.UdpInProgress.{UdpInProgress}
 use Rattle.wasi_p2.specs.Udp.{finish_udp_bind_on, udp_local_on, udp_remote_on, udp_family_on, get_udp_option_on, set_udp_option_on}
 use Rattle.wasi_steps.specs.declared.reply.CodeWord.TheVariants as word
@@ -30,19 +28,14 @@ use Rattle.wasi_steps.specs.Settings.{udp_opt, udp_chosen}
 use Rattle.wasi_udp.specs.Options.{get_option_asks, set_option_asks}
 use Rattle.wasi_udp.specs.Shape.{Socket}
 use Rattle.wasi_udp.specs.Socket.{after_local, bound_asks, local_where, local_asks, remote_of}
-use Rattle.wasi_walks.proofs.UdpLists.{udp_set_same}
 use Rattle.wasi_walks.specs.Answered.{open_in, open_udp_at}
 use Rattle.wasi_world.specs.declared.call.Call.TheVariants as call
 use Rattle.wasi_world.specs.declared.call.Opt.{Opt}
 use Rattle.wasi_world.specs.declared.call.Told.TheVariants as told
 
 -- == a socket that is put back
-pub open_is : (found : Option Udp2Socket) (o : OpenUdp) → open_of found ≡ Some o → found ≡ Some (udp.Open o)
-open_is (Some (udp.Open p)) o e = let same : p ≡ o = cc in ap (λ (q : OpenUdp). Some (udp.Open q)) same
-open_is _ o e = absurd (cc)
-
 pub put_udp_same : (m : Machine) (place : ℕ) (o : OpenUdp) → open_at m.store.records place ≡ Some o → putting_udp m place o ≡ m
-put_udp_same m place o at = ap (λ (rs : List Record). let left : Machine = record m { store = record m.store { records = rs } } in left) (udp_set_same m.store.records place (udp.Open o) (open_is (udp2_at m.store.records place) o at))
+put_udp_same m place o at = ap (λ (store : Records). let left : Machine = record m { store = store } in left) (open_same m.store place o at)
 
 pub put_udp_back : (P : Machine → Type 0) (m : Machine) (place : ℕ) (o : OpenUdp) → open_at m.store.records place ≡ Some o → P m → P (putting_udp m place o)
 put_udp_back P m place o at h = subst P (sym (put_udp_same m place o at)) h
@@ -62,23 +55,13 @@ here_udp {place} {o} n h = record { place = place; found = o; names = n.names; a
 pub on_udp : {B : Type 0} {Row : Rows B} (m : Machine) (handle : ℕ) (on : Option ℕ → Asks B) (call : ℕ → Option OpenUdp → Asks B) → ((place : ℕ) → on (Some place) ≡ call place (open_at m.store.records place))
     → (open_udp_at m handle ≡ None → Meets Row [] (on None)) → (open_udp_at m handle ≡ None → (place : ℕ) → Meets Row [] (call place None)) → ((place : ℕ) (o : OpenUdp) → NamesUdp m handle place o → Meets Row [] (call place (Some o)))
     → Meets Row [] (on (udp_socket_at m handle))
-on_udp {B} {Row} m handle on call calls none lost rows = by_number (udp_socket_at m handle) refl
-  where
-    by_place : (place : ℕ) (o : Option OpenUdp) → udp_socket_at m handle ≡ Some place → open_at m.store.records place ≡ o → Meets Row [] (call place o)
-    by_place place None names at = lost (ap (open_in m) names ∙ at) place
-    by_place place (Some o) names at = rows place o (record { names = names; at = at })
-
-    by_number : (o : Option ℕ) → udp_socket_at m handle ≡ o → Meets Row [] (on o)
-    by_number None names = none (ap (open_in m) names)
-    by_number (Some place) names = subst (Meets Row []) (sym (calls place)) (by_place place (open_at m.store.records place) names refl)
+on_udp m handle on call calls none lost rows = on_open m (udp_socket_at m handle) on call calls none lost (λ place o names at. rows place o (record { names = names; at = at }))
 
 -- a call on it, which traps where the handle or its socket isn't there
 pub on_udp_record : {A : Type 0} {Row : Rows (Result A Stop × Machine)} (m : Machine) (handle : ℕ) (on : Option ℕ → Asks (Result A Stop × Machine)) (call : ℕ → Option OpenUdp → Asks (Result A Stop × Records))
     → on None ≡ no_such_handle m → ((place : ℕ) → on (Some place) ≡ bind (call place (open_at m.store.records place)) (λ done. Give (with_store m done))) → ((place : ℕ) → call place None ≡ Give (Err (Trap NoSuchHandle), m.store))
     → (open_udp_at m handle ≡ None → Row [] (Err (Trap NoSuchHandle), m)) → ((place : ℕ) (o : OpenUdp) → NamesUdp m handle place o → Meets (λ es done. Row es (with_store m done)) [] (call place (Some o))) → Meets Row [] (on (udp_socket_at m handle))
-on_udp_record {A} {Row} m handle on call gone calls lost missing rows =
-    on_udp m handle on (λ place o. bind (call place o) (λ done. Give (with_store m done))) calls (λ none. subst (Meets Row []) (sym gone) (ends (missing none)))
-    (λ none place. onto _ (subst (Meets (λ es done. Row es (with_store m done)) []) (sym (lost place)) (ends (missing none)))) (λ place o n. onto _ (rows place o n))
+on_udp_record m handle on call gone calls lost missing rows = on_open_record m (udp_socket_at m handle) on call gone calls lost missing (λ place o names at. rows place o (record { names = names; at = at }))
 
 -- == whether it is bound
 -- It is bound, which is kept; or it is free, and stays as it was.
@@ -204,7 +187,7 @@ module _ (contexts : List WasiSocketsCtx) (m : Machine) (line c handle : ℕ) wh
       (λ place o n. by_started place o n (is_udp_bound o.in_progress) refl)
     where
       missing : open_udp_at m handle ≡ None → FinishRow [] (reply.Trap NoSuchHandle, m)
-      missing none = ((refl, apart (λ same. cc) (none_has _ (open_udp_at m handle) none)), (none, refl, refl))
+      missing none = ((refl, apart (λ same. cc) (none_has _ (open_udp_at m handle) none)), (none, (refl, refl)))
 
   -- == addresses
   local_said : (place : ℕ) (o : OpenUdp) (n : NamesUdp m handle place o) (es : List Entry) (done : Result IpSocketAddress ErrorCode × Socket) → UdpLocalRow m own handle place o n es done
@@ -214,7 +197,7 @@ module _ (contexts : List WasiSocketsCtx) (m : Machine) (line c handle : ℕ) wh
 
   pub udp_local_address : Meets (Says contexts m line (step.UdpLocalAddress c handle)) [] (bind (udp_local_on m own (udp_socket_at m handle)) (λ done. Give (address_reply done.0, done.1)))
   udp_local_address =
-      onto _ (on_udp_record m handle (udp_local_on m own) (λ place o. udp_local_at m.store own place o) refl (λ place. refl) (λ place. refl) (λ none. (tt, (none, refl, refl)))
+      onto _ (on_udp_record m handle (udp_local_on m own) (λ place o. udp_local_at m.store own place o) refl (λ place. refl) (λ place. refl) (λ none. (tt, (none, (refl, refl))))
       (λ place o n. onto _ (onto _ (widen (local_said place o n) (udp_local_row m own handle place o n)))))
 
   abbrev RemoteRow : Rows (Reply × Machine)
@@ -229,11 +212,11 @@ module _ (contexts : List WasiSocketsCtx) (m : Machine) (line c handle : ℕ) wh
       on_udp m handle (λ o. Give (address_reply (udp_remote_on m o), m)) (λ place o. Give (address_reply (udp_remote_at o), m)) (λ place. refl) (λ none. ends (missing none)) (λ none place. ends (missing none)) (λ place o n. ends (remote_said place o n o.inner.remote refl))
     where
       missing : open_udp_at m handle ≡ None → RemoteRow [] (reply.Trap NoSuchHandle, m)
-      missing none = (((refl, refl), apart (λ same. cc) (none_has _ (open_udp_at m handle) none)), (none, refl, refl))
+      missing none = (((refl, refl), apart (λ same. cc) (none_has _ (open_udp_at m handle) none)), (none, (refl, refl)))
 
   pub udp_family : Meets (Says contexts m line (step.UdpAddressFamily c handle)) [] (Give (family_reply (udp_family_on m (udp_socket_at m handle)), m))
   udp_family =
-      on_udp m handle (λ o. Give (family_reply (udp_family_on m o), m)) (λ place o. Give (family_reply (udp_family_at o), m)) (λ place. refl) (λ none. ends ((refl, refl), (none, refl, refl))) (λ none place. ends ((refl, refl), (none, refl, refl)))
+      on_udp m handle (λ o. Give (family_reply (udp_family_on m o), m)) (λ place o. Give (family_reply (udp_family_at o), m)) (λ place. refl) (λ none. ends ((refl, refl), (none, (refl, refl)))) (λ none place. ends ((refl, refl), (none, (refl, refl))))
       (λ place o n. ends ((refl, refl), ((tt, tt), here_udp n refl)))
 
   -- == options
@@ -244,7 +227,7 @@ module _ (contexts : List WasiSocketsCtx) (m : Machine) (line c handle : ℕ) wh
 
     pub udp_get : Meets (Says contexts m line (step.UdpGet c handle option)) [] (bind (get_udp_option_on m own (udp_opt option) (udp_socket_at m handle)) (λ done. Give (value_reply done.0, done.1)))
     udp_get =
-        onto _ (on_udp_record m handle (get_udp_option_on m own (udp_opt option)) (λ place o. get_udp_option_at m.store own (udp_opt option) o) refl (λ place. refl) (λ place. refl) (λ none. (refl, (none, refl, refl)))
+        onto _ (on_udp_record m handle (get_udp_option_on m own (udp_opt option)) (λ place o. get_udp_option_at m.store own (udp_opt option) o) refl (λ place. refl) (λ place. refl) (λ none. (refl, (none, (refl, refl))))
         (λ place o n. onto _ (widen (got_so place o n) (udp_gets own o (udp_opt option)))))
 
   module _ (what : UdpSetting) where
@@ -254,5 +237,5 @@ module _ (contexts : List WasiSocketsCtx) (m : Machine) (line c handle : ℕ) wh
 
     pub udp_set : Meets (Says contexts m line (step.UdpSet c handle what)) [] (bind (set_udp_option_on m own (udp_chosen what).0 (udp_chosen what).1 (udp_socket_at m handle)) (λ done. Give (done_reply done.0, done.1)))
     udp_set =
-        onto _ (on_udp_record m handle (set_udp_option_on m own (udp_chosen what).0 (udp_chosen what).1) (λ place o. set_udp_option_at m.store own (udp_chosen what).0 (udp_chosen what).1 o) refl (λ place. refl) (λ place. refl) (λ none. (refl, (none, refl, refl)))
+        onto _ (on_udp_record m handle (set_udp_option_on m own (udp_chosen what).0 (udp_chosen what).1) (λ place o. set_udp_option_at m.store own (udp_chosen what).0 (udp_chosen what).1 o) refl (λ place. refl) (λ place. refl) (λ none. (refl, (none, (refl, refl))))
         (λ place o n. onto _ (widen (set_so place o n) (udp_sets own o what))))

@@ -1,5 +1,5 @@
 -- The start of a bind of a UDP socket.
-use Rattle.wasi_causes.proofs.Words.{◌≡◌, ◌⊎◌, ◌∙◌, ◌≢◌, inl, inr, ℕ, Bool, true, false, if◌then◌else◌, List, [], ◌∷◌, Result, Ok, Err, refl, sym, subst, ap, Answer, Pending, Ready, IpSocketAddress, ErrorCode, InvalidArgument, Machine, first_ids, own_of, with_store, word_of_code, answer_reply, is_network, kind_at, CodeWord, StandingCall, Give, Given, bind, End, Waits, Done, Refused, Item, Operation, Entry, Told, OpId, Reply, Stop, WasiSocketsCtx}
+use Rattle.wasi_causes.proofs.Words.{◌≡◌, ◌⊎◌, ◌∙◌, ◌≢◌, inl, inr, ℕ, Bool, true, false, if◌then◌else◌, List, [], ◌∷◌, Result, Ok, Err, refl, sym, subst, ap, Answer, Pending, Ready, IpSocketAddress, ErrorCode, InvalidArgument, InvalidState, Machine, first_ids, own_of, with_store, word_of_code, answer_reply, is_network, kind_at, CodeWord, StandingCall, Give, Given, bind, End, Waits, Done, Refused, Item, Operation, Entry, Told, OpId, Reply, Stop, WasiSocketsCtx}
 use Rattle.wasi_addr.specs.Address.{ip_of, is_of_family}
 use Rattle.wasi_causes.proofs.operations.Polls.{polled, not_over, bind_never_waits}
 use Rattle.wasi_causes.proofs.sockets.Udp.{NamesUdp, its_udp, here_udp, put_udp_back, on_udp_record, UdpBoundRow, ItsBound, ItsFree, udp_bounds}
@@ -7,11 +7,12 @@ use Rattle.wasi_causes.proofs.tables.Meets.{Rows, Meets, ends, chain, onto, wide
 use Rattle.wasi_causes.proofs.tables.Routes.{Replied, Says, code_word, not_of_code, apart, none_has}
 use Rattle.wasi_causes.specs.Outcomes.{UdpConflicts}
 use Rattle.wasi_causes.specs.Polls.{ToldYes, ToldNo, CheckToldPending, UdpBindToldDone, UdpBindToldCode, Polled, WasOver, GoesOn, Stays, Stops}
-use Rattle.wasi_causes.specs.Udp.{putting_udp, IsUdpUnbound, udp_local_entry, udp_check_entry, udp_bind_entry, KnowsUdpBound, UdpBindRefusal, UdpBusy, UdpAlreadyBound, UdpOtherFamily, UdpDenied, UdpBindTold, StartsUdpBind, BindsUdp}
+use Rattle.wasi_causes.specs.Udp.{putting_udp, IsUdpUnbound, udp_local_entry, udp_check_entry, udp_bind_entry, KnowsUdpBound, UdpBindRefusal, UdpBusy, UdpStreamsLive, UdpAlreadyBound, UdpOtherFamily, UdpDenied, UdpBindTold, StartsUdpBind, BindsUdp}
 use Rattle.wasi_host.specs.Binding.{left_of}
 use Rattle.wasi_host.specs.Records.{open_at, open_put}
 use Rattle.wasi_host.specs.Udp.{is_udp_idle, with_udp_progress, udp_bind_ended, udp_bind_begun, begin_udp_bind_asks}
-use Rattle.wasi_host.specs.UdpCalls.{udp_call_answered, start_udp_bind_by, start_udp_bind_at}
+use Rattle.wasi_host.specs.Datagrams.{has_streams}
+use Rattle.wasi_host.specs.UdpCalls.{udp_call_answered, start_udp_bind_by, start_udp_bind_unless, start_udp_bind_at}
 use Rattle.wasi_host.specs.declared.udp.OpenUdp.{OpenUdp}
 use Rattle.wasi_host.specs.declared.udp.UdpInProgress.{UdpInProgress}
 use Rattle.wasi_host.specs.declared.udp.UdpInProgress.TheVariants as doing
@@ -31,7 +32,7 @@ idle_is : (doing : UdpInProgress) → is_udp_idle doing ≡ true → UdpInProgre
 idle_is UdpInProgress.Nothing e = refl
 idle_is _ e = absurd (cc)
 
-module _ (m : Machine) (own : OpId) (handle place : ℕ) (o : OpenUdp) (n : NamesUdp m handle place o) (a : IpSocketAddress) (idle : is_udp_idle o.in_progress ≡ true) where
+module _ (m : Machine) (own : OpId) (handle place : ℕ) (o : OpenUdp) (n : NamesUdp m handle place o) (a : IpSocketAddress) (idle : is_udp_idle o.in_progress ≡ true) (alone : has_streams o ≡ false) where
   -- why it is refused, and what is left then
   abbrev pub UdpBindRefused : List Entry → CodeWord → Machine → Type 0
   UdpBindRefused es w after = UdpBindRefusal m own place o a es w after × ((after ≡ m) ⊎ ((w ≡ word.InvalidState) × KnowsUdpBound m handle after))
@@ -65,7 +66,7 @@ module _ (m : Machine) (own : OpId) (handle place : ℕ) (o : OpenUdp) (n : Name
 
     module _ (family : is_of_family (ip_of a) o.inner.family ≡ true) where
       begins : StartsUdpBind o a local
-      begins = record { idle = idle; unbound = free; family = family }
+      begins = record { idle = idle; alone = alone; unbound = free; family = family }
 
       refused : (es : List Entry) (code : ErrorCode) (given : Given) (items : List Item) → Polled its.who its.left es (Refused code given, items) → UdpBindRefusal m own place o a (asked ∷ es) (word_of_code code) m
       refused _ _ _ _ (Stops _ _ _ _ (ToldNo _ _)) = UdpDenied local idle free family
@@ -106,25 +107,30 @@ module _ (contexts : List WasiSocketsCtx) (m : Machine) (line c handle network :
   no_conflict : {place : ℕ} {o : OpenUdp} → NamesUdp m handle place o → is_udp_idle o.in_progress ≡ true → (said : Reply) → said ≢ reply.Err word.ConcurrencyConflict → UdpConflicts m handle said
   no_conflict {place} {o} n idle said other = apart other (λ k. let busy : is_udp_idle o.in_progress ≡ false = rw (its_udp n) at k in cc)
 
-  bind_said : (place : ℕ) (o : OpenUdp) (n : NamesUdp m handle place o) (idle : is_udp_idle o.in_progress ≡ true) (es : List Entry) (begun : Result (Answer (Unit {0})) ErrorCode × OpenUdp) → UdpBindRow m own handle place o n a idle es begun
+  bind_said : (place : ℕ) (o : OpenUdp) (n : NamesUdp m handle place o) (idle : is_udp_idle o.in_progress ≡ true) (alone : has_streams o ≡ false) (es : List Entry) (begun : Result (Answer (Unit {0})) ErrorCode × OpenUdp) → UdpBindRow m own handle place o n a idle alone es begun
       → Replied contexts m line (step.UdpStartBind c handle network a) (answer_reply line) es (with_store m (udp_call_answered m.store (first_ids line) (StandingCall.UdpBind place) begun))
-  bind_said place o n idle es (Ok Pending, now) h = (
+  bind_said place o n idle alone es (Ok Pending, now) h = (
     λ is. no_conflict n idle _ (λ e. cc),
     ((refl, refl), here_udp n (record { local = h.local; begins = h.begins; asked = h.asked; table = refl; records = ap (λ (x : OpenUdp). open_put m.store.records place x) h.now_is; stands = refl })),
   )
-  bind_said place o n idle es (Ok (Ready done), now) h = (λ is. no_conflict n idle _ (λ e. cc), (tt, here_udp n h))
-  bind_said place o n idle es (Err code, now) h = (λ is. no_conflict n idle _ (not_of_code code word.ConcurrencyConflict (λ no. no)), (inr (code_word code), (here_udp n h.0, h.1)))
+  bind_said place o n idle alone es (Ok (Ready done), now) h = (λ is. no_conflict n idle _ (λ e. cc), (tt, here_udp n h))
+  bind_said place o n idle alone es (Err code, now) h = (λ is. no_conflict n idle _ (not_of_code code word.ConcurrencyConflict (λ no. no)), (inr (code_word code), (here_udp n h.0, h.1)))
 
   abbrev StartRow : Rows (Result (Answer (Unit {0})) Stop × Machine)
   StartRow = Replied contexts m line (step.UdpStartBind c handle network a) (answer_reply line)
 
+  -- while a stream of it is live none begins
+  by_streams : (place : ℕ) (o : OpenUdp) → NamesUdp m handle place o → is_udp_idle o.in_progress ≡ true → (b : Bool) → has_streams o ≡ b → Meets (λ es done. StartRow es (with_store m done)) [] (start_udp_bind_unless m.store (first_ids line) place a o b)
+  by_streams place o n idle true e = ends (λ is. no_conflict n idle _ (λ same. cc), (inr (code_word InvalidState), (here_udp n (UdpStreamsLive idle e), inl refl)))
+  by_streams place o n idle false e = onto _ (widen (bind_said place o n idle e) (udp_bind_begins m own handle place o n a idle e))
+
   by_progress : (place : ℕ) (o : OpenUdp) → NamesUdp m handle place o → (b : Bool) → is_udp_idle o.in_progress ≡ b → Meets (λ es done. StartRow es (with_store m done)) [] (start_udp_bind_by m.store (first_ids line) place a o b)
   by_progress place o n false e = ends (λ is. (λ same. rw (its_udp n) e, λ k. refl), (inl refl, (here_udp n (UdpBusy e), inl refl)))
-  by_progress place o n true e = onto _ (widen (bind_said place o n e) (udp_bind_begins m own handle place o n a e))
+  by_progress place o n true e = by_streams place o n e (has_streams o) refl
 
   pub udp_start_bind : Meets (Says contexts m line (step.UdpStartBind c handle network a)) [] (bind (start_udp_bind_asks m (first_ids line) handle network a) (λ done. Give (answer_reply line done.0, done.1)))
   udp_start_bind =
       onto _ (branch (is_network (kind_at m.table network))
       (λ is. on_udp_record m handle (λ found. record_asks m (λ place. start_udp_bind_at m.store (first_ids line) place a (open_at m.store.records place)) found) (λ place o. start_udp_bind_at m.store (first_ids line) place a o) refl (λ place. refl) (λ place. refl)
-      (λ none. (λ is. apart (λ e. cc) (none_has _ (open_udp_at m handle) none), (inr none, refl, refl))) (λ place o n. by_progress place o n (is_udp_idle o.in_progress) refl))
-      (λ no. ends (λ is. absurd (cc), (inl no, refl, refl))))
+      (λ none. (λ is. apart (λ e. cc) (none_has _ (open_udp_at m handle) none), (inr none, (refl, refl)))) (λ place o n. by_progress place o n (is_udp_idle o.in_progress) refl))
+      (λ no. ends (λ is. absurd (cc), (inl no, (refl, refl)))))

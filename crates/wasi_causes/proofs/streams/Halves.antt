@@ -1,6 +1,7 @@
 -- What the halves of a connection give: reads, and looks at what may be written, writes and flushes; and why an output waits
 -- that is dropped.
 use Rattle.wasi_host.specs.Records.{tcp2_at}
+use Rattle.wasi_host.specs.declared.jobs.HostJob.TheVariants as HostJob
 use Rattle.wasi_host.specs.declared.records.Record.{Record}
 use Rattle.wasi_host.specs.declared.store.StandingCall.TheVariants.{DropOutput}
 use Rattle.wasi_causes.proofs.Words.{Again, AlreadyClosed, Answer, Asks, Bool, CheckFails, CodeTold, Done, End, Ends, Entry, Err, ErrorCode}
@@ -10,7 +11,7 @@ use Rattle.wasi_causes.proofs.Words.{ReadsNone, ReadsTold, Ready, Receive, Recor
 use Rattle.wasi_causes.proofs.Words.{TcpReceiveStream, TcpSendStream, Told, ToldNone, ToldToWait, Waits, WasiSocketsCtx, Write, WriteFails}
 use Rattle.wasi_causes.proofs.Words.{WriteState, WriterWaits, WritesOn, [], after, after_read, ap, append_assoc, arith, ask_read, begins_job, begun}
 use Rattle.wasi_causes.proofs.Words.{bind, bytes_reply, check_asks, check_write_asks, closing_writer, collected, drop_output_at, drop_waits, entry}
-use Rattle.wasi_causes.proofs.Words.{eqb-true, false, flush_asks, flushed_asks, has_job, if◌then◌else◌, input_at, length, less_one, look_asks}
+use Rattle.wasi_causes.proofs.Words.{eqb-true, false, flush_asks, flushed_asks, has_job, inl, if◌then◌else◌, input_at, length, less_one, look_asks}
 use Rattle.wasi_causes.proofs.Words.{look_in, ltb-false, ltb-true, marks_in, marks_in-push, min, nat_lt, new_job, not, output_at, output_streams}
 use Rattle.wasi_causes.proofs.Words.{own_of, permit_reply, permitted, poll_asks, polled_answer, polls, putting, read_asks, read_entry}
 use Rattle.wasi_causes.proofs.Words.{read_state_asks, reader_of, refl, round, set_there, standing_as, subst, suc, sym, taken_front}
@@ -149,7 +150,7 @@ module _ (contexts : List WasiSocketsCtx) (m : Machine) (line c input len : ℕ)
 
   pub read : Meets (Says contexts m line (step.Read c input len)) [] (bind (read_asks m (own_of line) input len) (λ done. Give (bytes_reply done.0, done.1)))
   read =
-      onto _ (on_stream m (own_of line) input (Replied contexts m line (step.Read c input len) bytes_reply) (λ s. s.reader) with_reader (input_at m input) (λ none. (tt, (none, refl, refl))) (λ reader. read_state_asks (own_of line) reader len) (λ r o. reader_of r (λ reader. read_state_asks (own_of line) reader len) o) (λ r. refl) (λ r s. refl)
+      onto _ (on_stream m (own_of line) input (Replied contexts m line (step.Read c input len) bytes_reply) (λ s. s.reader) with_reader (input_at m input) (λ none. (tt, (none, (refl, refl)))) (λ reader. read_state_asks (own_of line) reader len) (λ r o. reader_of r (λ reader. read_state_asks (own_of line) reader len) o) (λ r. refl) (λ r s. refl)
       (λ place r s n. widen (told_as place r s n) (reads (own_of line) len s.reader)) (input_at m input) refl)
 
 module _ (own : OpId) where
@@ -310,7 +311,7 @@ module _ (contexts : List WasiSocketsCtx) (m : Machine) (line c output : ℕ) wh
 
   pub check_write : Meets (Says contexts m line (step.CheckWrite c output)) [] (bind (check_asks m own output) (λ done. Give (permit_reply done.0, done.1)))
   check_write =
-      onto _ (on_stream m own output (Replied contexts m line (step.CheckWrite c output) permit_reply) (λ s. s.writer) with_writer (output_at m output) (λ none. (tt, (none, refl, refl))) (check_write_asks own) (λ r o. writer_of r (check_write_asks own) o) (λ r. refl) (λ r s. refl)
+      onto _ (on_stream m own output (Replied contexts m line (step.CheckWrite c output) permit_reply) (λ s. s.writer) with_writer (output_at m output) (λ none. (tt, (none, (refl, refl)))) (check_write_asks own) (λ r o. writer_of r (check_write_asks own) o) (λ r. refl) (λ r s. refl)
       (λ place r s n. widen (check_so place r s n) (checks own s.writer)) (output_at m output) refl)
 
   -- == a write
@@ -335,7 +336,7 @@ module _ (contexts : List WasiSocketsCtx) (m : Machine) (line c output : ℕ) wh
           let there : tcp2_at store.records place ≡ Some closed = set_there m.store.records place r closed n.at in
           ap written p
           ∙ ap (λ (kept : Records). let after : Machine = record m { store = kept } in after)
-          (ap (λ (o : Option Tcp2Socket). with_job store place (begins_job (Some r) o)) there ∙ ap (with_job store place) (and_not (not (has_job (Some r)))))
+          (ap (λ (o : Option Tcp2Socket). with_job store (HostJob.Write place) (begins_job (Some r) o)) there ∙ ap (with_job store (HostJob.Write place)) (and_not (not (has_job (Some r)))))
 
       was_permitted : (IsUnpermitted s.writer (length bytes) → ⊥) → IsSomeAnd (output_streams m output) (λ s. IsUnpermitted s.writer (length bytes)) → ⊥
       was_permitted may u = let k : IsUnpermitted s.writer (length bytes) = rw (the_streams n) at u in may k
@@ -347,7 +348,7 @@ module _ (contexts : List WasiSocketsCtx) (m : Machine) (line c output : ℕ) wh
         λ full. (apart (λ e. cc) (was_permitted h.0), (tt, full_so m (written now) es full refl h.1, tt)),
         λ side. (apart (λ e. cc) (was_permitted h.0), ((tt, code_word code), of_streams n (failed_so code es side (h.2, ap with_error (written_closed now (error.LastOperationFailed code) h.3))))),
       )
-      write_so es (Err (stop.Trap NotPermitted), now) h = ((λ e. rw (the_streams n) h.0, λ u. refl), (tt, (h.1, written_same now h.2)))
+      write_so es (Err (stop.Trap NotPermitted), now) h = ((λ e. rw (the_streams n) h.0, λ u. refl), (inl tt, (h.1, written_same now h.2)))
       write_so es (Err (stop.Trap _), now) h = absurd h
 
     none_there : output_streams m output ≡ None → IsSomeAnd (output_streams m output) (λ s. IsUnpermitted s.writer (length bytes)) → ⊥
@@ -355,7 +356,7 @@ module _ (contexts : List WasiSocketsCtx) (m : Machine) (line c output : ℕ) wh
 
     pub write : Meets (Says contexts m line (step.Write c output bytes)) [] (bind (write_asks m own output bytes) (λ done. Give (taken_reply done.0, done.1)))
     write =
-        onto _ (on_write m own output (Replied contexts m line (step.Write c output bytes) taken_reply) (λ s. s.writer) with_writer (output_at m output) (λ none. (apart (λ e. cc) (none_there none), (none, refl, refl))) (λ w. write_state_asks own w bytes) (λ r o. writer_of r (λ w. write_state_asks own w bytes) o) (λ r. refl) (λ r s. refl)
+        onto _ (on_write m own output (Replied contexts m line (step.Write c output bytes) taken_reply) (λ s. s.writer) with_writer (output_at m output) (λ none. (apart (λ e. cc) (none_there none), (none, (refl, refl)))) (λ w. write_state_asks own w bytes) (λ r o. writer_of r (λ w. write_state_asks own w bytes) o) (λ r. refl) (λ r s. refl)
         (λ place r s n. widen (write_so place r s n) (writes own bytes s.writer)) (output_at m output) refl)
 
   -- == a flush
@@ -371,5 +372,5 @@ module _ (contexts : List WasiSocketsCtx) (m : Machine) (line c output : ℕ) wh
 
   pub flush : Meets (Says contexts m line (step.Flush c output)) [] (bind (flushed_asks m own output) (λ done. Give (taken_reply done.0, done.1)))
   flush =
-      onto _ (on_stream m own output (Replied contexts m line (step.Flush c output) taken_reply) (λ s. s.writer) with_writer (output_at m output) (λ none. (tt, (none, refl, refl))) flush_asks (λ r o. writer_of r flush_asks o) (λ r. refl) (λ r s. refl)
+      onto _ (on_stream m own output (Replied contexts m line (step.Flush c output) taken_reply) (λ s. s.writer) with_writer (output_at m output) (λ none. (tt, (none, (refl, refl)))) flush_asks (λ r o. writer_of r flush_asks o) (λ r. refl) (λ r s. refl)
       (λ place r s n. widen (flush_so place r s n) (flushes s.writer)) (output_at m output) refl)

@@ -5,6 +5,7 @@ use Rattle.wasi_world.specs.declared.call.HandleKind.TheVariants as name
 use Rattle.wasi_world.specs.declared.call.Told.TheVariants as told
 use Rattle.wasi_streams.specs.StreamStop as stop
 use Rattle.wasi_host.specs.Records.{tcp2_at}
+use Rattle.wasi_host.specs.declared.jobs.HostJob.TheVariants.{Write}
 use Rattle.wasi_host.specs.Host.{Failed, Closed, Traps}
 use Rattle.wasi_causes.proofs.tables.Meets.{Rows, Meets, ends, chain, onto, widen}
 use Rattle.wasi_causes.proofs.tables.Routes.{put_store_same, put_same, makes}
@@ -41,14 +42,14 @@ all_kept place o store = store
 
 -- a write notes the job that it begins
 abbrev pub job_noted : ℕ → Option Tcp2Socket → Records → Records
-job_noted place o store = with_job store place (begins_job o (tcp2_at store.records place))
+job_noted place o store = with_job store (Write place) (begins_job o (tcp2_at store.records place))
 
 not_and : (b : Bool) → (not b && b) ≡ false
 not_and true = refl
 not_and false = refl
 
 pub none_begun : (store : Records) (place : ℕ) (o : Option Tcp2Socket) → tcp2_at store.records place ≡ o → job_noted place o store ≡ store
-none_begun store place o at = ap (λ (now : Option Tcp2Socket). with_job store place (begins_job o now)) at ∙ ap (with_job store place) (not_and (has_job o))
+none_begun store place o at = ap (λ (now : Option Tcp2Socket). with_job store (Write place) (begins_job o now)) at ∙ ap (with_job store (Write place)) (not_and (has_job o))
 
 -- == a call
 module _ {T : Type 0} (m : Machine) (own : OpId) (handle : ℕ) (Row : Rows (Result T CallStop × Machine)) where

@@ -1,15 +1,27 @@
--- Who asks in a turn: the writes of the records with a job.
+-- Who asks in a turn: the writes, the datagrams and the receives of the jobs.
 use Rattle.wasi_causes.proofs.Words.{⊤, ◌≡◌, ℕ, zero, suc, inl, inr, List, [], ◌∷◌, ◌++◌, Option, Some, None, refl, sym, ap, subst, ◌∙◌, OpId, Call, Entry, Told, WasiSocketsCtx, Fits, Give, bind, End, Waits, poll_asks, allows_keep, Allows, allows_then, WriteState, Job, job_in, job_asks, turn_asks, Machine, Streams, Tcp2Socket, turned, turn_record, turn_at, turn_job, turn_jobs, turn_store_asks, turn_machine_asks, Has, no_fields, has_split, allows_ask}
-use Rattle.wasi_host.specs.Records.{tcp2_at, tcp2_put}
+use Rattle.wasi_causes.proofs.Words.{◌⊎◌, Done, Item, Operation, Records, Refused}
+use Rattle.wasi_world.specs.Operation.{Datagram as Received}
+use Rattle.wasi_udp.specs.Receive.{wanting}
+use Rattle.wasi_udp.specs.Send.{at_remote}
+use Rattle.wasi_host.specs.Datagrams.{turn_outgoing, turn_sending, turned_left}
+use Rattle.wasi_host.specs.Jobs.{turn_datagram_at, turn_receive_at}
+use Rattle.wasi_host.specs.Receiving.{receive_left, turn_incoming, turn_receiving}
+use Rattle.wasi_host.specs.Records.{open_at, open_put, tcp2_at, tcp2_put}
+use Rattle.wasi_host.specs.declared.datagrams.Incoming.{Incoming}
+use Rattle.wasi_host.specs.declared.datagrams.Outgoing.{Outgoing}
+use Rattle.wasi_host.specs.declared.datagrams.Receiving.{Receiving}
+use Rattle.wasi_host.specs.declared.datagrams.Sending.{Sending}
 use Rattle.wasi_host.specs.declared.records.Record.{Record}
+use Rattle.wasi_host.specs.declared.udp.OpenUdp.{OpenUdp}
 use Rattle.wasi_host.specs.declared.jobs.HostJob.{HostJob}
-use Rattle.wasi_host.specs.declared.jobs.HostJob.TheVariants.{Write}
+use Rattle.wasi_host.specs.declared.jobs.HostJob.TheVariants.{Write, Datagram, Receive}
 use Rattle.wasi_tcp.specs.declared.writer.WriteState.TheVariants as writing
 use Rattle.wasi_steps.specs.declared.reply.Reply.TheVariants as reply
 use Rattle.wasi_steps.specs.declared.step.Step.TheVariants as step
 use Rattle.wasi_causes.proofs.tables.Meets.{Meets, onto, widen}
 use Rattle.wasi_causes.proofs.tables.Routes.{Says}
-use Rattle.wasi_causes.specs.Turns.{writes_by, writer_asks_by, job_of, IsOfJob}
+use Rattle.wasi_causes.specs.Turns.{asks_by, datagram_of, incoming_asks_by, IsOfJob, job_of, outgoing_asks_by, receive_of, receives_by, sends_by, writer_asks_by, writes_by}
 use Rattle.wasi_causes.proofs.operations.Marks.{AnyEnd, poll_asks_by}
 
 -- == one write
@@ -56,7 +68,66 @@ record_by r (Some s) has es =
     (allows_ask (WriterAsks s.writer) (RecordAsks r) (SameWriter s.writer) (λ fs op call e. ap writer_asks_by has ∙ e) es (turn_asks s.writer) (writer_by s.writer es))
     (λ fs done e. e ∙ sym (ap writer_asks_by has))
 
--- == all of them
+-- == the streams of a UDP socket
+-- by the same operation as before, or by none any more
+abbrev Keeps : Option OpId → Option OpId → Type 0
+Keeps now old = (now ≡ old) ⊎ (now ≡ None)
+
+module _ (o : OpenUdp) where
+  abbrev SendAsks : List Entry → OpId → Call → Type 0
+  SendAsks es op call = datagram_of (Some o) ≡ Some op
+
+  abbrev ReceiveAsks : List Entry → OpId → Call → Type 0
+  ReceiveAsks es op call = receive_of (Some o) ≡ Some op
+
+  -- the other stream stays
+  abbrev pub KeepsBoth : List Entry → OpenUdp → Type 0
+  KeepsBoth es now = Keeps (datagram_of (Some now)) (datagram_of (Some o)) × Keeps (receive_of (Some now)) (receive_of (Some o))
+
+  sent_by : (op : Operation) (end : End × List Item) → Keeps (sends_by (turned_left op end)) (Some op.who.id)
+  sent_by op (Waits, items) = inl refl
+  sent_by op (Done given, items) = inr refl
+  sent_by op (Refused c given, items) = inr refl
+
+  module _ (out : Outgoing) (has : o.outgoing ≡ Some out) where
+    abbrev Sent : List Entry → Outgoing → Type 0
+    Sent es now = Keeps (sends_by now.sending) (sends_by out.sending)
+
+    sending_by : (s : Sending) → out.sending ≡ s → (es : List Entry) → Allows SendAsks Sent es (turn_sending o.inner out s)
+    sending_by (Sending.InProgress op) e es =
+        let its : Operation = at_remote o.inner.remote op in
+        allows_then SendAsks AnyEnd Sent es (poll_asks its) _
+        (allows_ask (λ fs p call. p ≡ op.who.id) SendAsks AnyEnd (λ fs p call q. ap outgoing_asks_by has ∙ (ap sends_by e ∙ ap Some (sym q))) es (poll_asks its) (poll_asks_by its es))
+        (λ fs end any. subst (λ (s : Sending). Keeps (sends_by (turned_left op end)) (sends_by s)) (sym e) (sent_by op end))
+    sending_by _ e es = inl refl
+
+  datagram_by : (out : Option Outgoing) → o.outgoing ≡ out → (es : List Entry) → Allows SendAsks KeepsBoth es (turn_outgoing o out)
+  datagram_by None has es = (inl refl, inl refl)
+  datagram_by (Some out) has es = allows_then SendAsks (Sent out has) KeepsBoth es (turn_sending o.inner out out.sending) _ (sending_by out has out.sending refl es) (λ fs now k. (subst (λ (x : Option Outgoing). Keeps (sends_by now.sending) (outgoing_asks_by x)) (sym has) k, inl refl))
+
+  came_by : (op : Operation) (end : End × List Item) → Keeps (receives_by (receive_left op end)) (Some op.who.id)
+  came_by op (Waits, items) = inl refl
+  came_by op (Done (Received bytes a), items) = inr refl
+  came_by op (Done _, items) = inr refl
+  came_by op (Refused c given, items) = inr refl
+
+  module _ (inc : Incoming) (has : o.incoming ≡ Some inc) where
+    abbrev Taken : List Entry → Incoming → Type 0
+    Taken es now = Keeps (receives_by now.receiving) (receives_by inc.receiving)
+
+    receiving_by : (s : Receiving) → inc.receiving ≡ s → (es : List Entry) → Allows ReceiveAsks Taken es (turn_receiving inc s)
+    receiving_by (Receiving.InProgress op) e es =
+        let its : Operation = wanting inc.remote op in
+        allows_then ReceiveAsks AnyEnd Taken es (poll_asks its) _
+        (allows_ask (λ fs p call. p ≡ op.who.id) ReceiveAsks AnyEnd (λ fs p call q. ap incoming_asks_by has ∙ (ap receives_by e ∙ ap Some (sym q))) es (poll_asks its) (poll_asks_by its es))
+        (λ fs end any. subst (λ (s : Receiving). Keeps (receives_by (receive_left op end)) (receives_by s)) (sym e) (came_by op end))
+    receiving_by _ e es = inl refl
+
+  receive_by : (inc : Option Incoming) → o.incoming ≡ inc → (es : List Entry) → Allows ReceiveAsks KeepsBoth es (turn_incoming o inc)
+  receive_by None has es = (inl refl, inl refl)
+  receive_by (Some inc) has es = allows_then ReceiveAsks (Taken inc has) KeepsBoth es (turn_receiving inc inc.receiving) _ (receiving_by inc has inc.receiving refl es) (λ fs now k. (inl refl, subst (λ (x : Option Incoming). Keeps (receives_by now.receiving) (incoming_asks_by x)) (sym has) k))
+
+-- == one record changes
 set_job : (xs : List Record) (i : ℕ) (y : Tcp2Socket) (k : ℕ) → job_of (Some y) ≡ job_of (tcp2_at xs i) → job_of (tcp2_at (tcp2_put xs i y) k) ≡ job_of (tcp2_at xs k)
 set_job [] i y k h = refl
 set_job (z ∷ xs) zero y zero h = h
@@ -64,23 +135,91 @@ set_job (z ∷ xs) zero y (suc k) h = refl
 set_job (z ∷ xs) (suc i) y zero h = refl
 set_job (z ∷ xs) (suc i) y (suc k) h = set_job xs i y k h
 
+-- a TCP socket: each UDP socket stays
+set_open : (xs : List Record) (i : ℕ) (r y : Tcp2Socket) (k : ℕ) → tcp2_at xs i ≡ Some r → open_at (tcp2_put xs i y) k ≡ open_at xs k
+set_open [] i r y k h = refl
+set_open (Record.Tcp2 x ∷ xs) zero r y zero h = refl
+set_open (Record.Udp2 x ∷ xs) zero r y zero h = absurd (cc)
+set_open (z ∷ xs) zero r y (suc k) h = refl
+set_open (z ∷ xs) (suc i) r y zero h = refl
+set_open (z ∷ xs) (suc i) r y (suc k) h = set_open xs i r y k h
+
+-- a UDP socket: each TCP socket stays, and each other UDP socket
+set_tcp : (xs : List Record) (i : ℕ) (o now : OpenUdp) (k : ℕ) → open_at xs i ≡ Some o → tcp2_at (open_put xs i now) k ≡ tcp2_at xs k
+set_tcp [] i o now k h = refl
+set_tcp (Record.Tcp2 x ∷ xs) zero o now zero h = absurd (cc)
+set_tcp (Record.Udp2 x ∷ xs) zero o now zero h = refl
+set_tcp (z ∷ xs) zero o now (suc k) h = refl
+set_tcp (z ∷ xs) (suc i) o now zero h = refl
+set_tcp (z ∷ xs) (suc i) o now (suc k) h = set_tcp xs i o now k h
+
+set_udp : (xs : List Record) (i : ℕ) (o now : OpenUdp) (k : ℕ) → open_at xs i ≡ Some o → (open_at (open_put xs i now) k ≡ open_at xs k) ⊎ ((open_at xs k ≡ Some o) × (open_at (open_put xs i now) k ≡ Some now))
+set_udp [] i o now k h = inl refl
+set_udp (z ∷ xs) zero o now zero h = inr (h, refl)
+set_udp (z ∷ xs) zero o now (suc k) h = inl refl
+set_udp (z ∷ xs) (suc i) o now zero h = inl refl
+set_udp (z ∷ xs) (suc i) o now (suc k) h = set_udp xs i o now k h
+
+tcp_keeps : (xs : List Record) (i : ℕ) (r y : Tcp2Socket) → tcp2_at xs i ≡ Some r → job_of (Some y) ≡ job_of (Some r) → (job : HostJob) → asks_by (tcp2_put xs i y) job ≡ asks_by xs job
+tcp_keeps xs i r y at same (Write k) = set_job xs i y k (same ∙ sym (ap job_of at))
+tcp_keeps xs i r y at same (Datagram k) = ap datagram_of (set_open xs i r y k at)
+tcp_keeps xs i r y at same (Receive k) = ap receive_of (set_open xs i r y k at)
+
+-- what is read of a UDP socket
+by_change : (of : Option OpenUdp → Option OpId) (xs : List Record) (i : ℕ) (o now : OpenUdp) (k : ℕ) → open_at xs i ≡ Some o → Keeps (of (Some now)) (of (Some o)) → Keeps (of (open_at (open_put xs i now) k)) (of (open_at xs k))
+by_change of xs i o now k at kept = elim (set_udp xs i o now k at) [ inl e ↦ inl (ap of e) | inr e ↦ rw (e.0, e.1) kept ]
+
+udp_keeps : (xs : List Record) (i : ℕ) (o now : OpenUdp) → open_at xs i ≡ Some o → KeepsBoth o [] now → (job : HostJob) → Keeps (asks_by (open_put xs i now) job) (asks_by xs job)
+udp_keeps xs i o now at kept (Write k) = inl (ap job_of (set_tcp xs i o now k at))
+udp_keeps xs i o now at kept (Datagram k) = by_change datagram_of xs i o now k at kept.0
+udp_keeps xs i o now at kept (Receive k) = by_change receive_of xs i o now k at kept.1
+
+-- == all of them
+kept_then : (now mid old : Option OpId) → Keeps now mid → Keeps mid old → Keeps now old
+kept_then now mid old (inl e) k = subst (λ (x : Option OpId). Keeps x old) (sym e) k
+kept_then now mid old (inr e) k = inr e
+
+-- what still asks does so by the operation by which it asked first
+still : (now old : Option OpId) (op : OpId) → Keeps now old → now ≡ Some op → old ≡ Some op
+still now old op (inl e) h = sym e ∙ h
+still now old op (inr e) h = absurd (cc)
+
 module _ (m : Machine) where
   abbrev TurnAsks : List Entry → OpId → Call → Type 0
   TurnAsks es op call = IsOfJob m op
 
-  -- each record asks by the operation by which it asked first
+  -- each job asks by the operation by which it asked first, or is over
   abbrev SameJobs : List Entry → List Record → Type 0
-  SameJobs es records = (place : ℕ) → job_of (tcp2_at records place) ≡ job_of (tcp2_at m.store.records place)
+  SameJobs es records = (job : HostJob) → Keeps (asks_by records job) (asks_by m.store.records job)
 
-  at_by : (records : List Record) (place : ℕ) (o : Option Tcp2Socket) → tcp2_at records place ≡ o → Has m.store.jobs (Write place) → (es : List Entry) → SameJobs es records → Allows TurnAsks SameJobs es (turn_at records place o)
-  at_by records place None at listed es same = same
-  at_by records place (Some r) at listed es same =
+  of_job_too : (records : List Record) (job : HostJob) (es : List Entry) → Has m.store.jobs job → SameJobs es records → (op : OpId) → asks_by records job ≡ Some op → IsOfJob m op
+  of_job_too records job es listed same op e = record { job = job; listed = listed; is = still (asks_by records job) (asks_by m.store.records job) op (same job) e }
+
+  write_by : (records : List Record) (place : ℕ) (o : Option Tcp2Socket) → tcp2_at records place ≡ o → Has m.store.jobs (Write place) → (es : List Entry) → SameJobs es records → Allows TurnAsks SameJobs es (turn_at records place o)
+  write_by records place None at listed es same = same
+  write_by records place (Some r) at listed es same =
       allows_then TurnAsks (SameRecord r) SameJobs es (turn_record r) _
-      (allows_ask (RecordAsks r) TurnAsks (SameRecord r) (λ fs op call e. record { place = place; listed = listed; is = sym (same place) ∙ (ap job_of at ∙ e) }) es (turn_record r) (record_by r r.streams refl es))
-      (λ fs now e k. set_job records place now k (e ∙ sym (ap job_of at)) ∙ same k)
+      (allows_ask (RecordAsks r) TurnAsks (SameRecord r) (λ fs op call e. of_job_too records (Write place) es listed same op (ap job_of at ∙ e)) es (turn_record r) (record_by r r.streams refl es))
+      (λ fs now e job. kept_then _ _ _ (inl (tcp_keeps records place r now at e job)) (same job))
+
+  send_by : (records : List Record) (place : ℕ) (o : Option OpenUdp) → open_at records place ≡ o → Has m.store.jobs (Datagram place) → (es : List Entry) → SameJobs es records → Allows TurnAsks SameJobs es (turn_datagram_at records place o)
+  send_by records place None at listed es same = same
+  send_by records place (Some o) at listed es same =
+      allows_then TurnAsks (KeepsBoth o) SameJobs es (turn_outgoing o o.outgoing) _
+      (allows_ask (SendAsks o) TurnAsks (KeepsBoth o) (λ fs op call e. of_job_too records (Datagram place) es listed same op (ap datagram_of at ∙ e)) es (turn_outgoing o o.outgoing) (datagram_by o o.outgoing refl es))
+      (λ fs now k job. kept_then _ _ _ (udp_keeps records place o now at k job) (same job))
+
+  take_by : (records : List Record) (place : ℕ) (o : Option OpenUdp) → open_at records place ≡ o → Has m.store.jobs (Receive place) → (es : List Entry) → SameJobs es records → Allows TurnAsks SameJobs es (turn_receive_at records place o)
+  take_by records place None at listed es same = same
+  take_by records place (Some o) at listed es same =
+      allows_then TurnAsks (KeepsBoth o) SameJobs es (turn_incoming o o.incoming) _
+      (allows_ask (ReceiveAsks o) TurnAsks (KeepsBoth o) (λ fs op call e. of_job_too records (Receive place) es listed same op (ap receive_of at ∙ e)) es (turn_incoming o o.incoming) (receive_by o o.incoming refl es))
+      (λ fs now k job. kept_then _ _ _ (udp_keeps records place o now at k job) (same job))
 
   host_job_by : (job : HostJob) → Has m.store.jobs job → (records : List Record) (es : List Entry) → SameJobs es records → Allows TurnAsks SameJobs es (turn_job records job)
-  host_job_by (Write place) listed records es same = at_by records place (tcp2_at records place) refl listed es same
+  host_job_by (Write place) listed records es same = write_by records place (tcp2_at records place) refl listed es same
+  host_job_by (Datagram place) listed records es same = send_by records place (open_at records place) refl listed es same
+  host_job_by (Receive place) listed records es same = take_by records place (open_at records place) refl listed es same
 
   jobs_by : (jobs : List HostJob) → ((j : HostJob) → Has jobs j → Has m.store.jobs j) → (records : List Record) (es : List Entry) → SameJobs es records → Allows TurnAsks SameJobs es (turn_jobs jobs records)
   jobs_by [] listed records es same = same
@@ -90,13 +229,16 @@ module _ (m : Machine) where
       (λ fs now k. jobs_by jobs (λ j h. listed j (inr h)) now fs k)
 
   abbrev SameTable : List Entry → Unit {0} × Machine → Type 0
-  SameTable es done = done.1.table ≡ m.table
+  SameTable es done = (done.1.table ≡ m.table) × (done.1.store.standing ≡ m.store.standing)
+
+  abbrev SameStanding : List Entry → Unit {0} × Records → Type 0
+  SameStanding es done = done.1.standing ≡ m.store.standing
 
   turn_by : Allows TurnAsks SameTable [] (turn_machine_asks m)
   turn_by =
-      allows_then TurnAsks (λ es done. ⊤) SameTable [] (turn_store_asks m.store) _
-      (allows_then TurnAsks SameJobs (λ es done. ⊤) [] (turn_jobs m.store.jobs m.store.records) _ (jobs_by m.store.jobs (λ p h. h) m.store.records [] (λ place. refl)) (λ es records k. tt))
-      (λ es done k. refl)
+      allows_then TurnAsks SameStanding SameTable [] (turn_store_asks m.store) _
+      (allows_then TurnAsks SameJobs SameStanding [] (turn_jobs m.store.jobs m.store.records) _ (jobs_by m.store.jobs (λ p h. h) m.store.records [] (λ job. inl refl)) (λ es records k. refl))
+      (λ es done k. (refl, k))
 
   abbrev AllByJobs : List Entry → Type 0
   AllByJobs es = (e : Entry) → Has es e → IsOfJob m e.op
@@ -106,5 +248,5 @@ module _ (m : Machine) where
 
   pub turn : (contexts : List WasiSocketsCtx) (line : ℕ) → Meets (Says contexts m line step.Turn) [] (bind (turn_machine_asks m) (λ done. Give (reply.Ok no_fields, done.1)))
   turn contexts line =
-      onto _ (widen (λ es done k. (record { ok = refl; asked = k.0; handles = k.1 }, (tt, tt)))
+      onto _ (widen (λ es done k. (record { ok = refl; asked = k.0; handles = k.1.0; pending = k.1.1 }, (tt, tt)))
       (record { along = allows_keep TurnAsks (λ es op call. ⊤) AllByJobs SameTable one_more (λ es op call its. tt) [] (turn_machine_asks m) (λ e has. absurd has) turn_by }))

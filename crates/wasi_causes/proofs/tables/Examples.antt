@@ -1,6 +1,8 @@
 -- The table of replies on replies that no step gives.
-use Rattle.wasi_causes.proofs.Words.{◌≡◌, inl, inr, ℕ, [], ◌∷◌, IpSocketAddress, SocketAddressFamily, NoSuchHandle, HasChildren, Full, NotPermitted, Reply, Step}
+use Rattle.wasi_causes.proofs.Words.{List, None, ◌≡◌, inl, inr, ℕ, [], ◌∷◌, IpSocketAddress, SocketAddressFamily, NoSuchHandle, HasChildren, Full, NotPermitted, Reply, Step}
 use Rattle.wasi_steps.specs.declared.reply.CodeWord.TheVariants as word
+use Rattle.wasi_world.specs.declared.datagram.OutgoingDatagram.{OutgoingDatagram}
+use Rattle.wasi_world.specs.declared.outcome.TrapKind.TheVariants.{StreamsAlive}
 use Rattle.wasi_steps.specs.declared.reply.Field.TheVariants as field
 use Rattle.wasi_steps.specs.declared.reply.Reply.TheVariants as reply
 use Rattle.wasi_steps.specs.declared.step.Step.TheVariants as step
@@ -14,14 +16,14 @@ of_no_step line s = (λ h. h, λ h. h)
 
 -- a poll answers for the call that it polls, and is no guest call
 of_no_poll : Never 7 (step.Poll 3) (reply.Pending 7) × Never 7 (step.Poll 3) reply.Busy × Never 7 (step.Poll 3) (reply.Ok (field.True ∷ [])) × Never 7 (step.Poll 3) reply.Closed
-of_no_poll = (λ h. absurd (let e : 7 ≡ 3 = h in cc), λ h. absurd (cc), λ h. elim h [ inl k ↦ k | inr k ↦ elim k [ inl j ↦ j.0 | inr j ↦ j ] ], λ h. h)
+of_no_poll = (λ h. absurd (let e : 7 ≡ 3 = h in cc), λ h. absurd (cc), λ h. elim h [ inl k ↦ k | inr k ↦ elim k [ inl j ↦ j.0 | inr j ↦ elim j [ inl i ↦ i.0 | inr i ↦ i ] ] ], λ h. h)
 
 -- a finish of a bind waits for nothing, a start of a connect isn't pending, and that of a bind is so under its own line
 of_no_start : (c s network n : ℕ) (a : IpSocketAddress) → Never 7 (step.TcpFinishBind c s) (reply.Err word.WouldBlock) × Never 7 (step.TcpStartConnect c s network a) (reply.Pending n) × Never 7 (step.TcpStartBind c s network a) (reply.Pending 6)
 of_no_start c s network n a = (λ h. absurd (cc), λ h. h, λ h. absurd (let e : 6 ≡ 7 = h in cc))
 
 traps_of_others : Never 1 (step.Network 0) (reply.Trap NoSuchHandle) × Never 7 (step.Read 0 1 10) (reply.Trap HasChildren) × Never 7 (step.Drop 0 1) (reply.Trap Full) × Never 7 (step.Read 0 1 10) (reply.Trap NotPermitted)
-traps_of_others = (λ h. h, λ h. h, λ h. h, λ h. h)
+traps_of_others = (λ h. h, λ h. h, λ h. h, λ h. elim h [ inl w ↦ w | inr s ↦ s ])
 
 -- a look at a pollable answers with one truth value
 of_no_look : Never 7 (step.Ready 0 1) (reply.Ok (field.True ∷ field.True ∷ [])) × Never 7 (step.Ready 0 1) (reply.Ok (field.Number 1 ∷ []))
@@ -31,3 +33,9 @@ of_no_look = (λ h. h.1, λ h. h.0)
 -- its own line, and a look at its remote address is refused in one way
 of_no_udp : (c s n : ℕ) (f : SocketAddressFamily) → Never 7 (step.UdpFinishBind c s) (reply.Pending 7) × Never 7 (step.UdpAddressFamily c s) (reply.Err word.InvalidState) × Never 7 (step.UdpCreate c f) (reply.Trap NoSuchHandle) × Never 7 (step.UdpCreate c f) (reply.Pending 6) × Never 7 (step.UdpRemoteAddress c s) (reply.Err word.AccessDenied)
 of_no_udp c s n f = (λ h. h, λ h. h, λ h. h, λ h. absurd (let e : 6 ≡ 7 = h in cc), λ h. absurd (let e : word.AccessDenied ≡ word.InvalidState = h in cc))
+
+-- a look at what may be sent is never refused and traps for no room, a send and a receive aren't pending, a receive is always
+-- permitted, streams are pending under their own line, and a live stream is no matter of a drop
+of_no_stream : (c h most n : ℕ) (ds : List OutgoingDatagram) → Never 7 (step.UdpCheckSend c h) (reply.Err word.InvalidState) × Never 7 (step.UdpCheckSend c h) (reply.Trap Full) × Never 7 (step.UdpSend c h ds) (reply.Pending n) × Never 7 (step.UdpReceive c h most) (reply.Pending n)
+    × Never 7 (step.UdpStream c h None) (reply.Pending 6) × Never 7 (step.Drop c h) (reply.Trap StreamsAlive)
+of_no_stream c h most n ds = (λ k. k, λ k. k, λ k. k, λ k. k, λ k. absurd (let e : 6 ≡ 7 = k in cc), λ k. k)

@@ -9,11 +9,16 @@ use Rattle.wasi_causes.proofs.sockets.Starts.{finish_bind, finish_listen, start_
 use Rattle.wasi_causes.proofs.sockets.Udp.{udp_finish_bind, udp_local_address, udp_remote_address, udp_family, udp_get, udp_set}
 use Rattle.wasi_causes.proofs.sockets.UdpBinds.{udp_start_bind}
 use Rattle.wasi_causes.proofs.sockets.UdpCreates.{udp_create}
+use Rattle.wasi_causes.proofs.udp_streams.Sends.{udp_check_send, udp_send}
+use Rattle.wasi_causes.proofs.udp_streams.Receives.{udp_receive}
+use Rattle.wasi_causes.proofs.udp_streams.Streams.{udp_stream}
 use Rattle.wasi_causes.proofs.streams.Halves.{read, check_write, write, flush}
 use Rattle.wasi_causes.proofs.streams.Turns.{turn}
 use Rattle.wasi_causes.proofs.tables.Meets.{Meets, ends, widen, branch, met, chain, shifted}
 use Rattle.wasi_causes.proofs.tables.Routes.{Says}
-use Rattle.wasi_causes.specs.Outcomes.{Outcome, Quiet, IsStreamCall, MayRefuse, MayMiss, MayTrap, MayWait, may_answer, EachMayAnswer, Reads, Looks, Traps}
+use Rattle.wasi_causes.specs.Outcomes.{Outcome, Quiet, IsStreamCall, MayRefuse, MayMiss, MayTrap, MayWait, may_answer, EachMayAnswer, LeavesMissing, Reads, Looks, Traps}
+use Rattle.wasi_causes.specs.Datagrams.{PendingHandleIsLive}
+use Rattle.wasi_walks.specs.Waiting.{IsPoll, left_missing}
 use Rattle.wasi_steps.specs.Steps.{context_of}
 use Rattle.wasi_steps.specs.declared.reply.Field.TheVariants as field
 use Rattle.wasi_steps.specs.declared.reply.Reply.TheVariants as reply
@@ -44,6 +49,10 @@ module _ (contexts : List WasiSocketsCtx) (m : Machine) (line : ℕ) where
   rows (step.UdpLocalAddress c s) = udp_local_address contexts m line c s
   rows (step.UdpRemoteAddress c s) = udp_remote_address contexts m line c s
   rows (step.UdpAddressFamily c s) = udp_family contexts m line c s
+  rows (step.UdpStream c s remote) = udp_stream contexts m line c s remote
+  rows (step.UdpReceive c incoming most) = udp_receive contexts m line c incoming most
+  rows (step.UdpCheckSend c outgoing) = udp_check_send contexts m line c outgoing
+  rows (step.UdpSend c outgoing ds) = udp_send contexts m line c outgoing ds
   rows (step.UdpGet c s option) = udp_get contexts m line c s option
   rows (step.UdpSet c s setting) = udp_set contexts m line c s setting
   rows (step.Read c input len) = read contexts m line c input len
@@ -120,6 +129,7 @@ waits m line n (step.TcpStartBind ctx socket _ a) h = h
 waits m line n (step.TcpStartListen ctx socket) h = h
 waits m line n (step.UdpCreate ctx _) h = h
 waits m line n (step.UdpStartBind ctx socket _ a) h = h
+waits m line n (step.UdpStream ctx socket remote) h = h
 waits m line n (step.Drop ctx handle) h = h.1
 waits m line n (step.Poll call) h = h
 waits m line n _ h = absurd h
@@ -134,6 +144,7 @@ module _ (contexts : List WasiSocketsCtx) (m : Machine) (line : ℕ) where
   traps s es trap.HasChildren after h = h.0
   traps s es trap.Full after h = h.0
   traps s es trap.NotPermitted after h = h.0
+  traps s es trap.StreamsAlive after h = h.0
   traps s es _ after h = absurd h
 
   by_row : (s : Step) (es : List Entry) (r : Reply) (after : Machine) → Outcome contexts m line s es r after → may_answer line s r
@@ -173,11 +184,17 @@ no_failure line s words stream (reply.Failed w handle) h f = stream h.0
 no_failure line s words stream _ h f = f
 
 -- == what is read off for a reader
-pub trap_kinds : (contexts : List WasiSocketsCtx) (m : Machine) (line : ℕ) (s : Step) (es : List Entry) (kind : TrapKind) (after : Machine) → Traps contexts m line s es kind after → (kind ≡ trap.NoSuchHandle) ⊎ ((kind ≡ trap.HasChildren) ⊎ ((kind ≡ trap.Full) ⊎ (kind ≡ trap.NotPermitted)))
+-- where a handle is missed; a poll's, where that of pending datagram streams is live
+pub missing_left : (m : Machine) (s : Step) (es : List Entry) (after : Machine) → (IsPoll s → PendingHandleIsLive m) → LeavesMissing m s es after → (es ≡ []) × (after ≡ left_missing m s)
+missing_left m (step.Poll n) es after live h = h (live tt)
+missing_left m _ es after live h = h
+
+pub trap_kinds : (contexts : List WasiSocketsCtx) (m : Machine) (line : ℕ) (s : Step) (es : List Entry) (kind : TrapKind) (after : Machine) → Traps contexts m line s es kind after → (kind ≡ trap.NoSuchHandle) ⊎ ((kind ≡ trap.HasChildren) ⊎ ((kind ≡ trap.Full) ⊎ ((kind ≡ trap.NotPermitted) ⊎ (kind ≡ trap.StreamsAlive))))
 trap_kinds contexts m line s es trap.NoSuchHandle after h = inl refl
 trap_kinds contexts m line s es trap.HasChildren after h = inr (inl refl)
 trap_kinds contexts m line s es trap.Full after h = inr (inr (inl refl))
-trap_kinds contexts m line s es trap.NotPermitted after h = inr (inr (inr refl))
+trap_kinds contexts m line s es trap.NotPermitted after h = inr (inr (inr (inl refl)))
+trap_kinds contexts m line s es trap.StreamsAlive after h = inr (inr (inr (inr refl)))
 trap_kinds contexts m line s es _ after h = absurd h
 
 pub quiet_never : (contexts : List WasiSocketsCtx) (m : Machine) (line : ℕ) (s : Step) (es : List Entry) (w : CodeWord) (after : Machine) → IsQuiet s → Answered contexts m line s es (reply.Err w) after → ⊥

@@ -10,5 +10,5 @@ returns c = record {
   told = λ contexts m line ctx handle network a entries number after w. (its_own contexts m line (step.TcpStartBind ctx handle network a) entries (reply.Pending number) after w (λ e. cc)).1.1;
   listen = λ contexts m line ctx handle entries number after w. (its_own contexts m line (step.TcpStartListen ctx handle) entries (reply.Pending number) after w (λ e. cc)).1.1;
   output = λ contexts m line ctx handle entries number after w. (its_own contexts m line (step.Drop ctx handle) entries (reply.Pending number) after w (λ e. cc)).1.1.1;
-  polled = λ contexts m line n entries number after binds w. (its_own contexts m line (step.Poll n) entries (reply.Pending number) after w (λ e. cc)).1.1 binds;
+  polled = λ contexts m line n entries number after binds w. (its_own contexts m line (step.Poll n) entries (reply.Pending number) after w (λ e. cc)).1.1.0 binds;
 }

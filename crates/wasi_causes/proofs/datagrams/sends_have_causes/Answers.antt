@@ -1,0 +1,12 @@
+use Rattle.wasi_causes.proofs.datagrams.sends_have_causes.Goals as goal
+use Rattle.wasi_causes.proofs.tables.Steps.{its_own}
+use Rattle.wasi_steps.specs.declared.reply.Reply.TheVariants as reply
+use Rattle.wasi_steps.specs.declared.step.Step.TheVariants as step
+
+pub returns : goal.returns
+returns c = record {
+  count = λ contexts m line ctx outgoing datagrams fields entries after w. (its_own contexts m line (step.UdpSend ctx outgoing datagrams) entries (reply.Ok fields) after w (λ e. cc)).1.1.0;
+  cause = λ contexts m line ctx outgoing datagrams entries word after w. (its_own contexts m line (step.UdpSend ctx outgoing datagrams) entries (reply.Err word) after w (λ e. cc)).1.1.0;
+  spends = λ contexts m line ctx outgoing datagrams fields entries after some w. (its_own contexts m line (step.UdpSend ctx outgoing datagrams) entries (reply.Ok fields) after w (λ e. cc)).1.1.1 some;
+  spends_refused = λ contexts m line ctx outgoing datagrams entries word after w. (its_own contexts m line (step.UdpSend ctx outgoing datagrams) entries (reply.Err word) after w (λ e. cc)).1.1.1;
+}

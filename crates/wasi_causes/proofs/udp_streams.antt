@@ -1,0 +1,6 @@
+-- The steps of the datagram streams of UDP sockets.
+pub mod Routes
+pub mod Makes
+pub mod Sends
+pub mod Receives
+pub mod Streams

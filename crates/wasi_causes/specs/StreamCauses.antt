@@ -1,0 +1,63 @@
+-- Why datagram streams aren't made, and what is left then.
+use Rattle.std.specs.Prelude.{◌≡◌, ℕ, true, false, List, [], ◌∷◌, ◌++◌, Option, Some, None, IsSomeAnd}
+use Rattle.wasi_addr.specs.declared.address.IpSocketAddress.{IpSocketAddress}
+use Rattle.wasi_addr.specs.declared.code.ErrorCode.{ErrorCode}
+use Rattle.wasi_world.specs.Operation.{Given, Operation}
+use Rattle.wasi_world.specs.Typed.{told_addr}
+use Rattle.wasi_world.specs.declared.call.Call.TheVariants as call
+use Rattle.wasi_world.specs.declared.call.Entry.{Entry}
+use Rattle.wasi_world.specs.declared.call.Told.{Told}
+use Rattle.wasi_world.specs.declared.call.Told.TheVariants as told
+use Rattle.wasi_world.specs.declared.ids.OpId.{OpId}
+use Rattle.wasi_udp.specs.Connect.{connect_start, is_connectable, with_given}
+use Rattle.wasi_udp.specs.Socket.{after_peer}
+use Rattle.wasi_host.specs.Datagrams.{with_streams}
+use Rattle.wasi_host.specs.Names.{own_of}
+use Rattle.wasi_host.specs.Records.{open_at}
+use Rattle.wasi_host.specs.Udp.{with_udp_inner}
+use Rattle.wasi_host.specs.declared.machine.Machine.{Machine}
+use Rattle.wasi_host.specs.declared.udp.OpenUdp.{OpenUdp}
+use Rattle.wasi_steps.specs.declared.reply.CodeWord.{CodeWord}
+use Rattle.wasi_steps.specs.declared.reply.CodeWord.TheVariants as word
+use Rattle.wasi_walks.specs.Answered.{EndsPending, word_of_code}
+use Rattle.wasi_walks.specs.Licence.{entry}
+use Rattle.wasi_walks.specs.Waiting.{UdpConnectFails}
+use Rattle.wasi_causes.specs.Datagrams.{StandsAsStreams}
+use Rattle.wasi_causes.specs.Udp.{IsUdpBound, IsUdpUnbound, putting_udp, udp_knowing_bound, udp_local_entry}
+
+-- the connect to this address, of a socket that is known to be bound
+abbrev pub its_connect : OpId → OpenUdp → IpSocketAddress → Operation
+its_connect own o a = connect_start own (record o.inner { bound = true }) a true
+
+-- the socket afterwards, which is known to be bound, with what the connect gave
+abbrev pub unconnected : OpenUdp → Given → OpenUdp
+unconnected o given = record o { inner = with_given (record o.inner { bound = true }) given; connecting = None }
+
+abbrev pub disconnect_entry : OpId → OpenUdp → Told → Entry
+disconnect_entry own o told = entry own (call.UdpDisconnect o.inner.side) told
+
+abbrev pub peer_entry : OpId → OpenUdp → Told → Entry
+peer_entry own o told = entry own (call.Peer o.inner.side) told
+
+-- The streams are refused: the socket isn't bound; or it is, and the address is none that it can be connected to, or its connect
+-- ended with a code; or with no address the disconnect of a socket that had one was answered with a code, and the remote address
+-- was asked for then. Of a socket that was found bound that is kept, and of one that was connected the remote address.
+pub data UdpStreamRefusal (m : Machine) (own : OpId) (place : ℕ) (o : OpenUdp) (remote : Option IpSocketAddress) : List Entry → CodeWord → Machine → Type 0 where
+  StreamsUnbound : (local : Told) → IsUdpUnbound o.inner local → UdpStreamRefusal m own place o remote (udp_local_entry own o.inner local ∷ []) word.InvalidState m
+  StreamsElsewhere : (asked : List Entry) (a : IpSocketAddress) → remote ≡ Some a → IsUdpBound own o.inner asked → is_connectable o.inner a ≡ false → UdpStreamRefusal m own place o remote asked word.InvalidArgument (udp_knowing_bound m place o)
+  StreamsUnconnected : (asked polled : List Entry) (a : IpSocketAddress) (c : ErrorCode) (given : Given) → remote ≡ Some a → IsUdpBound own o.inner asked → is_connectable o.inner a ≡ true → UdpConnectFails (its_connect own o a) polled c
+      → UdpStreamRefusal m own place o remote (asked ++ polled) (word_of_code c) (putting_udp m place (unconnected o given))
+  StreamsStillConnected : (asked : List Entry) (a : IpSocketAddress) (c : ErrorCode) (peer : Told) → remote ≡ None → o.inner.remote ≡ Some a → IsUdpBound own o.inner asked
+      → UdpStreamRefusal m own place o remote (asked ++ disconnect_entry own o (told.Code c) ∷ peer_entry own o peer ∷ []) (word_of_code c) (putting_udp m place (with_udp_inner o (after_peer (record o.inner { bound = true }) (told_addr peer))))
+
+-- the socket has both streams, on which nothing was sent and nothing received, and the incoming one keeps its remote address
+abbrev pub HasNewStreams : ℕ → Machine → Type 0
+HasNewStreams place after = IsSomeAnd (open_at after.store.records place) (λ now. now ≡ with_streams now)
+
+-- The connect is pending, under its line's number and for its socket's handle: the last of its checks was answered pending.
+pub record StreamsStand (m : Machine) (line handle place : ℕ) (o : OpenUdp) (remote : Option IpSocketAddress) (entries : List Entry) (after : Machine) : Type 0 where
+  pub addressed : IpSocketAddress
+  pub remote_is : remote ≡ Some addressed
+  pub connectable : is_connectable o.inner addressed ≡ true
+  pub told : EndsPending (own_of line) entries
+  pub stands : StandsAsStreams line handle place after
