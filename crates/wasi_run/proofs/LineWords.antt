@@ -17,7 +17,7 @@ pub use Rattle.wasi_world.specs.declared.outcome.WasiSocketsCtx.{WasiSocketsCtx}
 pub use Rattle.wasi_host.specs.Sides.{KnowsSides}
 pub use Rattle.wasi_host.specs.declared.machine.Machine.{Machine}
 pub use Rattle.wasi_steps.specs.Replies.{text_of}
-pub use Rattle.wasi_steps.specs.Reply.{address_values, bytes_fields, family_fields, is_trap, no_values, number_fields, pair_values, triple_values}
+pub use Rattle.wasi_steps.specs.Reply.{address_values, bytes_fields, datagram_values, family_fields, is_trap, no_values, number_fields, pair_values, triple_values}
 pub use Rattle.wasi_steps.specs.Reply.{truth_fields}
 pub use Rattle.wasi_steps.specs.declared.reply.Reply.{Reply}
 pub use Rattle.wasi_steps.specs.declared.step.Step.{Step}

@@ -1,5 +1,5 @@
 -- What became of a script.
-use Rattle.std.specs.Prelude.{◌≡◌, ◌≢◌, ℕ, List, [], ◌+◌, ◌≤◌, Some, IfSome, Result, Ok, Err, take, length, slice_get}
+use Rattle.std.specs.Prelude.{◌≡◌, ◌≢◌, ℕ, List, [], ◌+◌, ◌≤◌, Some, Result, Ok, Err, take, length}
 use Rattle.wasi_world.specs.declared.outcome.WasiSocketsCtx.{WasiSocketsCtx}
 use Rattle.wasi_world.specs.Seen.{Seen, Rose}
 use Rattle.wasi_world.specs.Io.{Reading, Writing, Gave, HasEnded, CountRose}
@@ -15,10 +15,6 @@ use Rattle.wasi_world.specs.Lines.{lines_of, rest_of}
 use Rattle.wasi_run.specs.Lines.{after_lines, AllSteps}
 use Rattle.wasi_host.specs.Closing.{AsksNothing}
 use Rattle.wasi_run.specs.Ran.{LinesRan}
-
--- each context's name is its place
-abbrev pub AreNumbered : List WasiSocketsCtx → Type 0
-AreNumbered contexts = (i : ℕ) → IfSome (slice_get contexts i) (λ ctx. ctx.name ≡ i)
 
 -- what it answers, and why, where the whole lines within the limit ended so
 abbrev pub Answers : ℕ → List ℕ → Reading → Reading → Result LinesEnd RunError → Result RunEnd RunError → Type 0

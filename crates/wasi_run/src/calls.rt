@@ -207,6 +207,30 @@ fn call<W: World>(
             let done = set_udp(view, world, ids, socket, setting);
             reply_of(alloc, done)
         }
+        Step::UdpStream { socket, remote, .. } => {
+            let answer = udp::stream(view, world, ids, socket, remote);
+            answer_reply(alloc, ids.line, answer)
+        }
+        Step::UdpReceive {
+            incoming,
+            max_results,
+            ..
+        } => {
+            let received = udp::receive(alloc, view, world, ids, incoming, max_results);
+            reply_of(alloc, received)
+        }
+        Step::UdpCheckSend { outgoing, .. } => {
+            let permit = udp::check_send(view, outgoing);
+            reply_of(alloc, permit)
+        }
+        Step::UdpSend {
+            outgoing,
+            datagrams,
+            ..
+        } => {
+            let sent = udp::send(view, world, ids, outgoing, datagrams.into_vec());
+            reply_of(alloc, sent)
+        }
         Step::Read { input, len, .. } => {
             let read = wasi_host::read(alloc, view, world, ids, input, len);
             stream_reply_of(alloc, read)

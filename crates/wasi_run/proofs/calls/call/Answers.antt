@@ -1,4 +1,4 @@
-use Rattle.wasi_run.proofs.LineWords.{address_values, answer_reply, answer_reply_of, asks_answered, asks_end, asks_exit, bytes_fields, family_fields, given_answered}
+use Rattle.wasi_run.proofs.LineWords.{address_values, answer_reply, answer_reply_of, asks_answered, asks_end, asks_exit, bytes_fields, datagram_values, family_fields, given_answered}
 use Rattle.wasi_run.proofs.LineWords.{no_values, number_fields, pair_values, refl, reply_of, resumed_reply, stream_reply_of, triple_values}
 use Rattle.wasi_run.proofs.LineWords.{truth_fields}
 use Rattle.std.proofs.Common.{sym}
@@ -79,6 +79,18 @@ returns-in-UdpGet-clause-asked g c = rw (c.in-UdpGet.is, ← c.udp_opt.ensures) 
 
 pub returns-in-UdpSet-clause-asked : goal.returns-in-UdpSet-clause-asked
 returns-in-UdpSet-clause-asked g c = rw c.in-UdpSet.is (asks_answered (reply_of no_values) _ _ c.set_udp-done.ensures.asked c.reply_of-in-UdpSet.ensures)
+
+pub returns-in-UdpStream-clause-asked : goal.returns-in-UdpStream-clause-asked
+returns-in-UdpStream-clause-asked g c = rw c.in-UdpStream.is (asks_answered (answer_reply_of pair_values c.args.ids.now.line) _ _ (rw c.requires.first at c.stream-answer.ensures.asked) (rw c.stream-answer.ensures.ids at c.answer_reply-in-UdpStream.ensures))
+
+pub returns-in-UdpReceive-clause-asked : goal.returns-in-UdpReceive-clause-asked
+returns-in-UdpReceive-clause-asked g c = rw c.in-UdpReceive.is (asks_answered (reply_of datagram_values) _ _ (rw c.requires.first at c.receive-received.ensures.asked) c.reply_of-in-UdpReceive.ensures)
+
+pub returns-in-UdpCheckSend-clause-asked : goal.returns-in-UdpCheckSend-clause-asked
+returns-in-UdpCheckSend-clause-asked g c = rw (c.in-UdpCheckSend.is, c.check_send-permit.ensures.state) (given_answered (reply_of number_fields) _ _ _ c.check_send-permit.ensures.answer c.reply_of-in-UdpCheckSend.ensures)
+
+pub returns-in-UdpSend-clause-asked : goal.returns-in-UdpSend-clause-asked
+returns-in-UdpSend-clause-asked g c = rw (c.in-UdpSend.is, ← c.into_vec.ensures) (asks_answered (reply_of number_fields) _ _ (rw c.requires.first at c.send-sent.ensures.asked) c.reply_of-in-UdpSend.ensures)
 
 pub returns-in-Read-clause-asked : goal.returns-in-Read-clause-asked
 returns-in-Read-clause-asked g c = rw c.in-Read.is (asks_answered (stream_reply_of bytes_fields) _ _ c.read-read.ensures.asked c.stream_reply_of.ensures)
