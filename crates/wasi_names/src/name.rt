@@ -1,0 +1,84 @@
+//! What a host name is: an address, a domain, or refused.
+
+ghost use Rattle.std.specs.Prelude.{◌≡◌, IfOk, option_map};
+ghost use Rattle.url.specs.Host.{owned_host};
+ghost use Rattle.wasi_names.specs.Names.{bare_ipv6, named_host, name_read, read_as_written};
+
+use crate::bytes::{has_barred_byte, has_colon, is_bare, is_in_brackets};
+use crate::host::{host_as_written, host_in_brackets};
+use std::alloc::{AllocError, Global};
+use url::Host;
+use wasi_addr::{IpAddress, from_ipv4_addr, from_ipv6_addr};
+
+/// What a host name is (what `resolve-addresses` of `wasi:sockets/ip-name-lookup` parses its `name` to).
+///
+/// An address answers itself. A domain is to be looked up; its text is as `url` gives it: in ASCII and in lower case, with
+/// percent escapes decoded, and what isn't ASCII in the form of IDNA. A label `xn--` of the name itself isn't checked.
+#[derive(Drop, Debug, PartialEq, Eq)]
+pub enum HostName {
+    Address(IpAddress),
+    Domain(String),
+}
+
+/// The name that a host is.
+fn name_of(host: Host<String>) -> HostName
+    ensures { named_host result ≡ owned_host host }
+{
+    match host {
+        Host::Domain(text) => HostName::Domain(text),
+        Host::Ipv4(addr) => HostName::Address(IpAddress::Ipv4(from_ipv4_addr(addr))),
+        Host::Ipv6(addr) => HostName::Address(IpAddress::Ipv6(from_ipv6_addr(addr))),
+    }
+}
+
+/// The address that a name is as IPv6 text with no brackets around it.
+fn bare_name(alloc: Global, name: &str) -> Result<Option<HostName>, AllocError>
+    ensures { IfOk result (λ host. option_map named_host host ≡ bare_ipv6 name.now) }
+{
+    if !is_bare(name) {
+        return Ok(None);
+    }
+    match host_in_brackets(alloc, name)? {
+        Some(Host::Ipv6(addr)) => Ok(Some(HostName::Address(IpAddress::Ipv6(from_ipv6_addr(
+            addr,
+        ))))),
+        _ => Ok(None),
+    }
+}
+
+/// What a name is that isn't bare IPv6 text.
+fn written_name(alloc: Global, name: &str) -> Result<Option<HostName>, AllocError>
+    ensures { IfOk result (λ host. option_map named_host host ≡ read_as_written name.now) }
+{
+    if name.is_empty() || has_barred_byte(name) {
+        return Ok(None);
+    }
+    if has_colon(name) && !is_in_brackets(name) {
+        return Ok(None);
+    }
+    match host_as_written(alloc, name)? {
+        Some(host) => Ok(Some(name_of(host))),
+        None => Ok(None),
+    }
+}
+
+/// What the host name that a guest gives is; None where it is refused, which is `invalid-argument` (the parse of
+/// `resolve-addresses` of `wasi:sockets/ip-name-lookup`).
+///
+/// The name is UTF-8 text of any length. One of hex digits, `:` and `.` alone is tried as IPv6 text first, since `::1`
+/// needs no brackets. Else a name is refused that is empty, that holds a tab, a line feed, a carriage return or one of
+/// `/\?#@`, that holds a `:` without beginning with `[` and ending with `]`, or where the library `url` refuses
+/// `http://NAME/`. So IPv4 is read in each spelling that a URL may have (`0x7f.1`), and a name with a zone is refused.
+///
+/// # Errors
+///
+/// `AllocError` where memory ran out, or where the text is too long for `url` (4 GB). Memory is taken in proportion to the
+/// name, and all is given back but a domain's text.
+pub fn read_name(alloc: Global, name: &str) -> Result<Option<HostName>, AllocError>
+    ensures { IfOk result (λ host. option_map named_host host ≡ name_read name.now) }
+{
+    match bare_name(alloc, name)? {
+        Some(address) => Ok(Some(address)),
+        None => written_name(alloc, name),
+    }
+}
