@@ -15,33 +15,29 @@ use Rattle.wasi_addr.specs.declared.address.SocketAddressFamily.TheVariants as f
 use Rattle.wasi_addr.specs.declared.address.IpSocketAddress.{IpSocketAddress}
 use Rattle.wasi_addr.specs.declared.address.IpSocketAddress.TheVariants as socket
 use Rattle.hex.specs.Hex.{encode_lower}
-use Rattle.wasi_world.specs.Fields.{is_space, fields_of, line_with, is_lower_digit}
+use Rattle.wasi_world.proofs.FieldsOf.{fields_of_joined}
+use Rattle.wasi_world.specs.Fields.{is_space, has_no_space, fields_of, line_with, is_lower_digit}
 use Rattle.wasi_world.proofs.BytesBack.{lower_encoded}
 use Rattle.wasi_world.specs.Written.{AreBytes, is_visible, AreVisible, IsVisible, address_numbers, family_fields, address_fields, code_fields, bytes_fields, FitsAddress}
 
 no_space : (b : ℕ) → is_visible b ≡ true → is_space b ≡ false
 no_space b h = grind (arith, nat_tests)
 
-split_first : (field rest : List ℕ) → list_all is_visible field ≡ true → fields_of (field ++ 32 ∷ rest) ≡ field ∷ fields_of rest
-split_first [] rest h = refl
-split_first (b ∷ field) rest h =
+visible_spaceless : (field : List ℕ) → list_all is_visible field ≡ true → has_no_space field ≡ true
+visible_spaceless [] h = refl
+visible_spaceless (b ∷ field) h =
     let both = and_parts (is_visible b) _ h in
-    rw (no_space b both.0, split_first field rest both.1)
+    rw (no_space b both.0, visible_spaceless field both.1)
 
-split_last : (field : List ℕ) → list_all is_visible field ≡ true → fields_of field ≡ field ∷ []
-split_last [] h = refl
-split_last (b ∷ field) h =
-    let both = and_parts (is_visible b) _ h in
-    rw (no_space b both.0, split_last field both.1)
-
-some_fields : (field : List ℕ) (more : List (List ℕ)) → AreVisible (field ∷ more) → fields_of (line_with (field ∷ more)) ≡ field ∷ more
-some_fields field [] h = split_last field h.0
-some_fields field (next ∷ more) h = split_first field (line_with (next ∷ more)) h.0 ∙ ap (λ fs. field ∷ fs) (some_fields next more h.1)
+-- no space is in visible fields
+pub visible_no_space : (fields : List (List ℕ)) → AreVisible fields → list_all has_no_space fields ≡ true
+visible_no_space [] h = refl
+visible_no_space (field ∷ fields) h = rw (visible_spaceless field h.0, visible_no_space fields h.1)
 
 -- a line of visible fields has these fields
 pub fields_of_line : (fields : List (List ℕ)) → (fields ≡ [] → ⊥) → AreVisible fields → fields_of (line_with fields) ≡ fields
 fields_of_line [] some h = absurd (some refl)
-fields_of_line (field ∷ more) some h = some_fields field more h
+fields_of_line (field ∷ more) some h = fields_of_joined field more (visible_no_space (field ∷ more) h)
 
 -- and a line with these fields is that line
 pub line_of_fields : (line : List ℕ) (fields : List (List ℕ)) → fields_of line ≡ fields → line ≡ line_with fields

@@ -4,7 +4,7 @@ ghost use Rattle.std.specs.Prelude.{IsUtf8, ◌≢◌, OnOk, OnErr, string_bytes
 ghost use Rattle.std.specs.List.{list_all};
 ghost use Rattle.hex.specs.Hex.{encode_lower};
 ghost use Rattle.wasi_world.specs.Written.{ReadsExactly, AreVisible, AreBytes, number_fields, family_fields, ip_fields, address_fields, code_fields, bytes_fields, FitsIp, FitsAddress};
-ghost use Rattle.wasi_world.specs.Fields.{fields_of, line_with, is_space, Reads, is_lower_digit, is_lower_hex, bytes_in, bytes_text, code_text, code_in, code_at, bytes_at, BeginsPlain, word_at, number_in, number_at, family_of, family_at, ipv4_at, ipv6_at, ip_at, address_at};
+ghost use Rattle.wasi_world.specs.Fields.{fields_of, line_with, is_space, Reads, is_lower_digit, is_lower_hex, bytes_in, bytes_text, code_text, code_in, code_at, bytes_at, BeginsPlain, rest_at, word_at, number_in, number_at, family_of, family_at, ipv4_at, ipv6_at, ip_at, address_at};
 
 use crate::octets::Octets;
 use hex::FromHexError;
@@ -77,6 +77,16 @@ impl<'a> Fields<'a> {
         ensures { IsTrue result ↔ (self.now ≡ []) }
     {
         self.rest.is_none()
+    }
+
+    /// Takes all that is left of the line, with the spaces in it; there is nothing exactly at the end.
+    #[tactic(auto, unfolding(crate::specs::Fields::rest_at))]
+    pub fn rest(&mut self) -> Option<&'a [u8]>
+        ensures { Reads rest_at self.old (option_copied result) self.new }
+    {
+        let line = self.rest?;
+        self.rest = None;
+        Some(line)
     }
 
     /// Takes the next field, if it is text; else nothing is taken.

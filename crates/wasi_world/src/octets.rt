@@ -89,6 +89,22 @@ impl NameText {
         NameText { bytes }
     }
 
+    /// A copy of the bytes; takes memory for them.
+    pub fn copy_of(alloc: Global, bytes: &[u8]) -> Result<NameText, AllocError>
+        ensures { IfOk result (λ name. name ≡ bytes.now) }
+    {
+        let mut copy = Vec::new(alloc);
+        copy.extend_from_slice(bytes)?;
+        Ok(NameText { bytes: copy })
+    }
+
+    pub fn try_clone(&self) -> Result<NameText, AllocError>
+        ensures { IfOk result (λ name. name ≡ self.now) }
+    {
+        let bytes = self.bytes.clone()?;
+        Ok(NameText { bytes })
+    }
+
     pub fn into_vec(self) -> Vec<u8>
         ensures { result.items ≡ self }
     {
