@@ -28,6 +28,9 @@ fn what_it_is(alloc: Global, name: &str) -> Result<String, AllocError> {
         Some(HostName::Address(IpAddress::Ipv6((a, b, c, d, e, f, g, h)))) => {
             format!(in alloc; "address 6 {a} {b} {c} {d} {e} {f} {g} {h}")
         }
-        Some(HostName::Domain(text)) => format!(in alloc; "domain {text}"),
+        Some(HostName::Domain(text)) => {
+            let text = String::from_utf8_lossy(alloc, text.as_slice())?;
+            format!(in alloc; "domain {text}")
+        }
     }
 }

@@ -5,4 +5,4 @@ mod bytes;
 mod host;
 pub mod name;
 
-pub use name::{HostName, read_name};
+pub use name::{HostName, host_for, read_name, read_name_bytes};

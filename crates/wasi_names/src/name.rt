@@ -2,30 +2,31 @@
 
 ghost use Rattle.std.specs.Prelude.{◌≡◌, IfOk, option_map};
 ghost use Rattle.url.specs.Host.{owned_host};
-ghost use Rattle.wasi_names.specs.Names.{bare_ipv6, named_host, name_read, read_as_written};
+ghost use Rattle.wasi_names.specs.Names.{bare_ipv6, named, host_named, name_is, host_for, read_as_written};
 
 use crate::bytes::{has_barred_byte, has_colon, is_bare, is_in_brackets};
 use crate::host::{host_as_written, host_in_brackets};
 use std::alloc::{AllocError, Global};
 use url::Host;
-use wasi_addr::{IpAddress, from_ipv4_addr, from_ipv6_addr};
+use wasi_addr::{IpAddress, from_ipv4_addr, from_ipv6_addr, lookup};
+use wasi_world::{NameText, WasiSocketsCtx};
 
 /// What a host name is (what `resolve-addresses` of `wasi:sockets/ip-name-lookup` parses its `name` to).
 ///
 /// An address answers itself. A domain is to be looked up; its text is as `url` gives it: in ASCII and in lower case, with
 /// percent escapes decoded, and what isn't ASCII in the form of IDNA. A label `xn--` of the name itself isn't checked.
-#[derive(Drop, Debug, PartialEq, Eq)]
+#[derive(Drop)]
 pub enum HostName {
     Address(IpAddress),
-    Domain(String),
+    Domain(NameText),
 }
 
 /// The name that a host is.
 fn name_of(host: Host<String>) -> HostName
-    ensures { named_host result ≡ owned_host host }
+    ensures { result ≡ named (owned_host host) }
 {
     match host {
-        Host::Domain(text) => HostName::Domain(text),
+        Host::Domain(text) => HostName::Domain(NameText::from_vec(text.into_bytes())),
         Host::Ipv4(addr) => HostName::Address(IpAddress::Ipv4(from_ipv4_addr(addr))),
         Host::Ipv6(addr) => HostName::Address(IpAddress::Ipv6(from_ipv6_addr(addr))),
     }
@@ -33,7 +34,7 @@ fn name_of(host: Host<String>) -> HostName
 
 /// The address that a name is as IPv6 text with no brackets around it.
 fn bare_name(alloc: Global, name: &str) -> Result<Option<HostName>, AllocError>
-    ensures { IfOk result (λ host. option_map named_host host ≡ bare_ipv6 name.now) }
+    ensures { IfOk result (λ host. host ≡ option_map named (bare_ipv6 name.now)) }
 {
     if !is_bare(name) {
         return Ok(None);
@@ -48,7 +49,7 @@ fn bare_name(alloc: Global, name: &str) -> Result<Option<HostName>, AllocError>
 
 /// What a name is that isn't bare IPv6 text.
 fn written_name(alloc: Global, name: &str) -> Result<Option<HostName>, AllocError>
-    ensures { IfOk result (λ host. option_map named_host host ≡ read_as_written name.now) }
+    ensures { IfOk result (λ host. host ≡ option_map named (read_as_written name.now)) }
 {
     if name.is_empty() || has_barred_byte(name) {
         return Ok(None);
@@ -75,10 +76,46 @@ fn written_name(alloc: Global, name: &str) -> Result<Option<HostName>, AllocErro
 /// `AllocError` where memory ran out, or where the text is too long for `url` (4 GB). Memory is taken in proportion to the
 /// name, and all is given back but a domain's text.
 pub fn read_name(alloc: Global, name: &str) -> Result<Option<HostName>, AllocError>
-    ensures { IfOk result (λ host. option_map named_host host ≡ name_read name.now) }
+    ensures { IfOk result (λ host. host ≡ host_named name.now) }
 {
     match bare_name(alloc, name)? {
         Some(address) => Ok(Some(address)),
         None => written_name(alloc, name),
+    }
+}
+
+/// The same of a name's bytes; a name that isn't UTF-8 is refused.
+///
+/// # Errors
+///
+/// As [`read_name`].
+pub fn read_name_bytes(alloc: Global, name: &[u8]) -> Result<Option<HostName>, AllocError>
+    ensures { IfOk result (λ host. host ≡ name_is name.now) }
+{
+    match str::from_utf8(name) {
+        Ok(name) => read_name(alloc, name),
+        Err(_) => Ok(None),
+    }
+}
+
+/// The host that a context may look up by this name. It may look nothing up: `PermanentResolverFailure`. The name is refused:
+/// `InvalidArgument`.
+///
+/// # Errors
+///
+/// `AllocError` as [`read_name`]; the codes inside.
+pub fn host_for(
+    alloc: Global,
+    ctx: &WasiSocketsCtx,
+    name: &NameText,
+) -> Result<Result<HostName, lookup::ErrorCode>, AllocError>
+    ensures { IfOk result (λ host. host ≡ host_for ctx.now name.now) }
+{
+    if !ctx.ip_name_lookup {
+        return Ok(Err(lookup::ErrorCode::PermanentResolverFailure));
+    }
+    match read_name_bytes(alloc, name.as_slice())? {
+        Some(host) => Ok(Ok(host)),
+        None => Ok(Err(lookup::ErrorCode::InvalidArgument)),
     }
 }
