@@ -4,6 +4,7 @@ pub mod UpTo
 pub mod DatagramLaws
 pub mod Received
 pub mod SettingLaws
+pub mod NameLaws
 pub mod StepLaws
 pub mod ReplyTexts
 pub mod ReplyBack

@@ -2,13 +2,15 @@
 use Rattle.std.proofs.Common.{◌≡◌, ℕ, zero, suc, ◌==◌, if◌then◌else◌, List, [], ◌∷◌, ◌++◌, map, flat_map, length, codes, decimal, Option, Some, None, IsTrue, append-nil, ap, sym, ◌∙◌, refl, arith, subst, inl, inr}
 use Rattle.std.specs.List.{list_all, AllByRecursion}
 use Rattle.std.proofs.lemmas.List.{append_cancel_right, map-append}
+use Rattle.wasi_addr.specs.declared.address.IpAddress.{IpAddress}
+use Rattle.wasi_addr.specs.declared.address.IpAddress.TheVariants as ip
 use Rattle.wasi_world.specs.declared.datagram.IncomingDatagram.{IncomingDatagram}
 use Rattle.wasi_world.specs.declared.outcome.TrapKind.{TrapKind}
 use Rattle.wasi_world.specs.declared.outcome.TrapKind.TheVariants as trap
-use Rattle.wasi_world.specs.Fields.{Reader, ◌>>=◌, Row, row, read_then, give, give_some, after_word, named, field_at, word_at, number_at, bytes_at, address_at, line_with, fields_of}
-use Rattle.wasi_world.specs.Written.{AreVisible, is_visible, address_numbers, address_fields, bytes_fields}
+use Rattle.wasi_world.specs.Fields.{Reader, ◌>>=◌, Row, row, read_then, give, give_some, after_word, named, field_at, word_at, number_at, bytes_at, ip_at, address_at, line_with, fields_of}
+use Rattle.wasi_world.specs.Written.{AreVisible, is_visible, ip_numbers, address_numbers, ip_fields, address_fields, bytes_fields, FitsIp}
 use Rattle.wasi_world.proofs.Exactly.{All, all_give, all_some, all_then, all_both, all_end, all_last, same_found, field_exactly, number_exactly}
-use Rattle.wasi_world.proofs.ReadBack.{named_passes, u32_exactly, word_exactly, bytes_exactly, address_exactly}
+use Rattle.wasi_world.proofs.ReadBack.{named_passes, u32_exactly, word_exactly, bytes_exactly, ip_exactly, address_exactly}
 use Rattle.wasi_world.proofs.Visible.{visible_utf8, number_visible, bytes_visible, address_visible, fields_of_line}
 use Rattle.wasi_steps.specs.declared.reply.CodeWord.{CodeWord}
 use Rattle.wasi_steps.specs.declared.reply.CodeWord.TheVariants as word
@@ -18,8 +20,8 @@ use Rattle.wasi_steps.specs.declared.reply.Reply.{Reply}
 use Rattle.wasi_steps.specs.declared.reply.Reply.TheVariants as reply
 use Rattle.wasi_steps.specs.declared.step.Step.{Step}
 use Rattle.wasi_steps.specs.declared.step.Step.TheVariants as step
-use Rattle.wasi_steps.specs.Reply.{address_values, received_values, datagram_values}
-use Rattle.wasi_steps.specs.Replies.{code_text, trap_text, field_text, fields_of_reply, text_of, FieldKind, ANumber, SomeBytes, Truth, FieldKinds, Each, AnAddress, ADatagramList, OneOf, kinds_of, IsOfKind, EachOfKind, AsOneSays, AreOfKinds, FitsReceived, Gives}
+use Rattle.wasi_steps.specs.Reply.{ip_values, address_values, received_values, datagram_values}
+use Rattle.wasi_steps.specs.Replies.{code_text, trap_text, field_text, fields_of_reply, text_of, FieldKind, ANumber, SomeBytes, Truth, Nothing, FieldKinds, Each, AnAddress, AnIpOrNone, ADatagramList, OneOf, kinds_of, IsOfKind, EachOfKind, AsOneSays, AreOfKinds, FitsReceived, Gives}
 use Rattle.wasi_steps.proofs.LineEnds.{both_visible}
 
 code_words : List CodeWord
@@ -55,6 +57,7 @@ abbrev of_kind : FieldKind → Reader Field
 of_kind ANumber = number_at 18446744073709551615 >>= λ n. give (field.Number n)
 of_kind SomeBytes = bytes_at >>= λ bytes. give (field.Bytes bytes)
 of_kind Truth = word_at >>= after_word (row (codes "true") (give field.True) ∷ row (codes "false") (give field.False) ∷ [])
+of_kind Nothing = word_at >>= after_word (row (codes "none") (give field.Absent) ∷ [])
 
 each_of_kind : List FieldKind → Reader (List Field)
 each_of_kind [] = give []
@@ -73,10 +76,15 @@ of_length : ℕ → List (List FieldKind) → List FieldKind
 of_length n [] = []
 of_length n (kinds ∷ lists) = if suc (length kinds) == n then kinds else of_length n lists
 
+-- `none` where that is the one field beside the word of a reply, else an address with no port
+ip_or_none : ℕ → Reader (List Field)
+ip_or_none n = if n == 2 then each_of_kind (Nothing ∷ []) else (ip_at >>= λ a. give (ip_values a))
+
 -- the fields of a reply that has so many, with its word
 abbrev of_kinds : FieldKinds → ℕ → Reader (List Field)
 of_kinds (Each kinds) n = each_of_kind kinds
 of_kinds AnAddress n = address_at >>= λ a. give (address_values a)
+of_kinds AnIpOrNone n = ip_or_none n
 of_kinds ADatagramList n = number_at 18446744073709551615 >>= λ count. times_at count >>= λ ds. give (datagram_values ds)
 of_kinds (OneOf lists) n = each_of_kind (of_length n lists)
 
@@ -108,6 +116,7 @@ all_of_kind ANumber (field.Number n) is = all_last _ (number_exactly 18446744073
 all_of_kind SomeBytes (field.Bytes bytes) is = all_last _ bytes_exactly is all_give
 all_of_kind Truth field.True is = all_last _ word_exactly (visible_utf8 (codes "true") refl) all_give
 all_of_kind Truth field.False is = all_last _ word_exactly (visible_utf8 (codes "false") refl) all_give
+all_of_kind Nothing field.Absent is = all_last _ word_exactly (visible_utf8 (codes "none") refl) all_give
 all_of_kind _ _ is = absurd is
 
 all_each : (kinds : List FieldKind) (fields : List Field) → EachOfKind kinds fields → All (each_of_kind kinds) fields (map field_text fields)
@@ -122,6 +131,17 @@ all_each (kind ∷ kinds) [] are = absurd are
 number_texts : (ns : List ℕ) → map field_text (map field.Number ns) ≡ map decimal ns
 number_texts [] = refl
 number_texts (n ∷ ns) = ap (λ texts. decimal n ∷ texts) (number_texts ns)
+
+-- an address has more fields than `none`
+all_ip : (a : IpAddress) → FitsIp a → All (ip_or_none (suc (length (ip_fields a)))) (ip_values a) (ip_fields a)
+unfolding ip_or_none
+all_ip (ip.Ipv4 a) fits = all_last _ {value = ip.Ipv4 a} ip_exactly fits all_give
+all_ip (ip.Ipv6 a) fits = all_last _ {value = ip.Ipv6 a} ip_exactly fits all_give
+
+all_ip_or_none : (fields : List Field) → AreOfKinds AnIpOrNone fields → All (ip_or_none (suc (length (map field_text fields)))) fields (map field_text fields)
+unfolding ip_or_none
+all_ip_or_none fields (inl none) = rw none (all_each (Nothing ∷ []) (field.Absent ∷ []) (tt, tt))
+all_ip_or_none fields (inr are) = rw (are.numbers, number_texts (ip_numbers are.address)) (all_ip are.address are.fits)
 
 -- the texts of a datagram are those of its address, and then its bytes
 received_texts : (d : IncomingDatagram) → map field_text (received_values d) ≡ address_fields d.remote_address ++ bytes_fields d.bytes
@@ -167,6 +187,7 @@ all_of_kinds : (kinds : FieldKinds) (fields : List Field) → AreTold kinds → 
 all_of_kinds (Each kinds) fields told are = all_each kinds fields are
 all_of_kinds AnAddress fields told are =
     rw (are.numbers, number_texts (address_numbers are.address)) (all_last _ address_exactly are.fits all_give)
+all_of_kinds AnIpOrNone fields told are = all_ip_or_none fields are
 all_of_kinds ADatagramList fields told are =
     rw are.values (all_then _ (number_exactly 18446744073709551615 (omega arith)) (let count = are.count in omega arith) (all_end _ (all_times are.datagrams are.fits) all_give))
 all_of_kinds (OneOf lists) fields told are = all_each _ fields (one_says lists lists fields told are)
@@ -206,6 +227,7 @@ field_visible ANumber (field.Number n) is = number_visible n is
 field_visible SomeBytes (field.Bytes bytes) is = (bytes_visible bytes is).0
 field_visible Truth field.True is = refl
 field_visible Truth field.False is = refl
+field_visible Nothing field.Absent is = refl
 field_visible _ _ is = absurd is
 
 each_visible : (kinds : List FieldKind) (fields : List Field) → EachOfKind kinds fields → AreVisible (map field_text fields)
@@ -227,10 +249,19 @@ received_visible (d ∷ ds) fits =
     (both_visible (address_fields d.remote_address) (bytes_fields d.bytes) (address_visible d.remote_address fits.0.0) (bytes_visible d.bytes fits.0.1))
     (received_visible ds fits.1))
 
+ip_visible : (a : IpAddress) → FitsIp a → AreVisible (ip_fields a)
+ip_visible (ip.Ipv4 a) fits = search (arith, number_visible)
+ip_visible (ip.Ipv6 a) fits = search (arith, number_visible)
+
+ip_or_none_visible : (fields : List Field) → AreOfKinds AnIpOrNone fields → AreVisible (map field_text fields)
+ip_or_none_visible fields (inl none) = rw none (refl, tt)
+ip_or_none_visible fields (inr are) = rw (are.numbers, number_texts (ip_numbers are.address)) (ip_visible are.address are.fits)
+
 fields_visible : (kinds : FieldKinds) (fields : List Field) → AreOfKinds kinds fields → AreVisible (map field_text fields)
 fields_visible (Each kinds) fields are = each_visible kinds fields are
 fields_visible AnAddress fields are =
     rw (are.numbers, number_texts (address_numbers are.address)) (address_visible are.address are.fits)
+fields_visible AnIpOrNone fields are = ip_or_none_visible fields are
 fields_visible ADatagramList fields are = rw are.values (number_visible (length are.datagrams) are.count, received_visible are.datagrams are.fits)
 fields_visible (OneOf lists) fields are = one_visible lists fields are
 

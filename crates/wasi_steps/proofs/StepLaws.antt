@@ -1,22 +1,26 @@
 -- Each step is read from exactly its line.
-use Rattle.std.proofs.Common.{◌≡◌, ℕ, ◌<◌, ◌≤◌, List, [], ◌∷◌, ◌&&◌, slice_index, decimal, Option, Some, None, refl, arith, inl, inr, Bool, true, false, cond, nat_lt, IsTrue, append-nil, ap, sym, subst, ◌∙◌}
-use Rattle.wasi_world.specs.Fields.{read_then, give_some, after_word, whole, fields_of, field_at, number_in, word_at, BeginsPlain}
+use Rattle.std.proofs.Common.{◌≡◌, ℕ, ◌<◌, ◌≤◌, List, [], ◌∷◌, ◌++◌, ◌&&◌, slice_index, decimal, Option, Some, None, refl, arith, inl, inr, Bool, true, false, ◌||◌, cond, nat_lt, IsTrue, append-nil, append_assoc, ap, sym, subst, ◌∙◌}
+use Rattle.wasi_world.specs.Fields.{read_then, give_some, after_word, whole, has_no_space, fields_of, line_with, field_at, number_in, word_at, BeginsPlain}
 use Rattle.std.specs.Prelude.{IfSome}
-use Rattle.std.specs.List.{AllByRecursion, list_all}
+use Rattle.std.specs.List.{AllByRecursion, list_all, list_any}
 use Rattle.std.proofs.lemmas.Bool.{ltb-true, lt-ltb, and_parts}
+use Rattle.std.proofs.lemmas.List.Folds.{list_all-append}
 use Rattle.wasi_world.specs.Written.{ReadsExactly, AreVisible, IsVisible, is_visible}
+use Rattle.wasi_world.proofs.FieldsOf.{no_spaces, fields_of_joined}
 use Rattle.wasi_world.proofs.Numbers.{number_in_is, number_in_decimal, begins_otherwise}
 use Rattle.wasi_world.proofs.ReadBack.{u32_exactly, family_exactly, address_exactly, bytes_exactly, word_exactly}
-use Rattle.wasi_world.proofs.Visible.{visible_utf8, visible_line, number_visible, family_visible, address_visible, bytes_visible, fields_of_line, line_of_fields}
+use Rattle.wasi_world.proofs.Visible.{visible_utf8, visible_no_space, visible_line, number_visible, family_visible, address_visible, bytes_visible, line_of_fields}
 use Rattle.wasi_world.proofs.Exactly.{All, Only, exactly, all_give, only_give, only_some, only_then, all_last}
 use Rattle.wasi_world.proofs.Words.{only_word}
 use Rattle.wasi_addr.specs.declared.address.ShutdownType.{ShutdownType}
 use Rattle.wasi_addr.specs.declared.address.ShutdownType.TheVariants.{Receive, Send, Both}
 use Rattle.wasi_steps.specs.declared.step.Step.{Step}
 use Rattle.wasi_steps.specs.declared.step.Step.TheVariants as step
-use Rattle.wasi_steps.specs.Steps.{Kind, ACount, AFamily, ASocketAddress, AnOption, ASetting, AUdpOption, AUdpSetting, AHalf, AllBytes, ARemote, SomeDatagrams, Value, value_at, value_fields, FitsValue, Values, values_fields, FitsValues, Takes, made, values_at, Written, fields_of_written, signature, context_fields, shutdown_fields, shutdown_words, shutdown_at, context_of, fields_of_step, line_of, IsStep, row_of, rows_of, rows_by, is_read, steps, bare_steps, guest_call_at, after_first, step_reader, step_of}
+use Rattle.wasi_steps.specs.Names.{IsText}
+use Rattle.wasi_steps.specs.Steps.{Kind, ACount, AFamily, ASocketAddress, AnOption, ASetting, AUdpOption, AUdpSetting, AHalf, AllBytes, ARemote, SomeDatagrams, AName, Value, value_at, value_fields, FitsValue, Values, values_fields, FitsValues, Takes, made, values_at, Written, fields_of_written, signature, context_fields, shutdown_fields, shutdown_words, shutdown_at, context_of, is_of_a_name, takes_a_name, fields_of_step, line_of, IsStep, row_of, rows_of, rows_by, is_read, steps, bare_steps, guest_call_at, after_first, step_reader, step_of}
 use Rattle.wasi_steps.proofs.LineEnds.{ReadsLast, Last, last_of, lastly, last_give, last_then, last_alone, only_next, both_visible}
 use Rattle.wasi_steps.proofs.DatagramLaws.{remote_last, remote_visible, datagrams_last, datagrams_visible}
+use Rattle.wasi_steps.proofs.NameLaws.{name_last, visible_text, name_text, text_both}
 use Rattle.wasi_steps.proofs.SettingLaws.{◌and◌, u64_exactly, option_exactly, option_visible, setting_exactly, setting_visible, udp_option_exactly, udp_option_visible, udp_setting_exactly, udp_setting_visible}
 
 -- the word of what is shut down is read exactly
@@ -33,10 +37,11 @@ shutdown_exactly = exactly
     (λ how u. shutdown_all how)
 
 -- == arguments
--- whether more fields may follow an argument: none may follow an address or none, nor datagrams, which end the line
+-- whether more fields may follow an argument: none may follow an address or none, datagrams or a name, which end the line
 goes_on : Kind → Bool
 goes_on ARemote = false
 goes_on SomeDatagrams = false
+goes_on AName = false
 goes_on _ = true
 
 kind_exactly : (kind : Kind) → goes_on kind ≡ true → ReadsExactly (value_at kind) (value_fields kind) (FitsValue kind)
@@ -52,12 +57,14 @@ kind_exactly AHalf more = shutdown_exactly
 kind_exactly AllBytes more = bytes_exactly
 kind_exactly ARemote more = absurd (cc)
 kind_exactly SomeDatagrams more = absurd (cc)
+kind_exactly AName more = absurd (cc)
 kind_exactly _ more = u32_exactly
 
 kind_last : (kind : Kind) → ReadsLast (value_at kind) (value_fields kind) (FitsValue kind)
 unfolding goes_on
 kind_last ARemote = remote_last
 kind_last SomeDatagrams = datagrams_last
+kind_last AName = name_last
 kind_last ACount = last_of u64_exactly
 kind_last kind = last_of (kind_exactly kind refl)
 
@@ -190,29 +197,85 @@ shutdown_visible : (how : ShutdownType) → AreVisible (shutdown_fields how)
 shutdown_visible Receive = refl and tt
 shutdown_visible _ = refl and tt
 
-value_visible : (kind : Kind) (value : Value kind) → FitsValue kind value → AreVisible (value_fields kind value)
-value_visible AFamily family fits = family_visible family
-value_visible ASocketAddress a fits = address_visible a fits
-value_visible AnOption option fits = option_visible option
-value_visible ASetting setting fits = setting_visible setting fits
-value_visible AUdpOption option fits = udp_option_visible option
-value_visible AUdpSetting setting fits = udp_setting_visible setting fits
-value_visible AHalf how fits = shutdown_visible how
-value_visible AllBytes bytes fits = bytes_visible bytes fits
-value_visible ARemote remote fits = remote_visible remote fits
-value_visible SomeDatagrams datagrams fits = datagrams_visible datagrams fits
-value_visible _ n fits = number_visible n (omega arith) and tt
+value_visible : (kind : Kind) (value : Value kind) → is_of_a_name kind ≡ false → FitsValue kind value → AreVisible (value_fields kind value)
+value_visible AFamily family other fits = family_visible family
+value_visible ASocketAddress a other fits = address_visible a fits
+value_visible AnOption option other fits = option_visible option
+value_visible ASetting setting other fits = setting_visible setting fits
+value_visible AUdpOption option other fits = udp_option_visible option
+value_visible AUdpSetting setting other fits = udp_setting_visible setting fits
+value_visible AHalf how other fits = shutdown_visible how
+value_visible AllBytes bytes other fits = bytes_visible bytes fits
+value_visible ARemote remote other fits = remote_visible remote fits
+value_visible SomeDatagrams datagrams other fits = datagrams_visible datagrams fits
+value_visible AName name other fits = absurd (cc)
+value_visible _ n other fits = number_visible n (omega arith) and tt
 
-values_visible : (kinds : List Kind) (values : Values kinds) → FitsValues kinds values → AreVisible (values_fields kinds values)
-values_visible [] values fits = tt
-values_visible (kind ∷ kinds) values fits = both_visible (value_fields kind values.0) (values_fields kinds values.1) (value_visible kind values.0 fits.0) (values_visible kinds values.1 fits.1)
+neither : (first more : Bool) → (first || more) ≡ false → (first ≡ false) × (more ≡ false)
+neither true more h = absurd (cc)
+neither false more h = (refl, h)
 
-context_visible : (contexts : ℕ) (context : Option ℕ) (fields : List (List ℕ)) → IsContext contexts context → AreVisible fields → AreVisible (context_fields context fields)
-context_visible contexts None fields is h = h
-context_visible contexts (Some c) fields is h = number_visible c (let width = is.1 in omega arith) and h
+values_visible : (kinds : List Kind) (values : Values kinds) → list_any is_of_a_name kinds ≡ false → FitsValues kinds values → AreVisible (values_fields kinds values)
+values_visible [] values others fits = tt
+values_visible (kind ∷ kinds) values others fits =
+    let both = neither (is_of_a_name kind) _ others in
+    both_visible (value_fields kind values.0) (values_fields kinds values.1) (value_visible kind values.0 both.0 fits.0) (values_visible kinds values.1 both.1 fits.1)
 
-step_visible : {contexts : ℕ} (s : Step) → IsStep contexts s → AreVisible (fields_of_step s)
-step_visible {contexts} s is = context_visible contexts (context_of s) _ (is.context, is.width) (visible_word s and values_visible (signature s).written.kinds (signature s).written.values is.arguments)
+context_visible : (contexts : ℕ) (context : Option ℕ) → IsContext contexts context → AreVisible (context_fields context [])
+context_visible contexts None is = tt
+context_visible contexts (Some c) is = number_visible c (let width = is.1 in omega arith) and tt
+
+-- a step's fields are its context's, its word, and those of its arguments
+in_context : (context : Option ℕ) (fields : List (List ℕ)) → context_fields context fields ≡ context_fields context [] ++ fields
+in_context None fields = refl
+in_context (Some c) fields = refl
+
+step_front : Step → List (List ℕ)
+step_front s = context_fields (context_of s) [] ++ (signature s).written.word ∷ []
+
+step_fields : (s : Step) → fields_of_step s ≡ step_front s ++ values_fields (signature s).written.kinds (signature s).written.values
+unfolding step_front
+step_fields s = in_context (context_of s) _ ∙ sym (append_assoc (context_fields (context_of s) []) ((signature s).written.word ∷ []) _)
+
+front_visible : {contexts : ℕ} (s : Step) → IsStep contexts s → AreVisible (step_front s)
+unfolding step_front
+front_visible {contexts} s is =
+    both_visible (context_fields (context_of s) []) ((signature s).written.word ∷ []) (context_visible contexts (context_of s) (is.context, is.width)) (visible_word s and tt)
+
+step_visible : {contexts : ℕ} (s : Step) → IsStep contexts s → takes_a_name s ≡ false → AreVisible (fields_of_step s)
+step_visible s is others =
+    rw (step_fields s) (both_visible (step_front s) _ (front_visible s is) (values_visible (signature s).written.kinds (signature s).written.values others is.arguments))
+
+-- == spaces
+-- no argument has a space in a field
+value_no_space : (kind : Kind) (value : Value kind) → FitsValue kind value → list_all has_no_space (value_fields kind value) ≡ true
+value_no_space AName name fits = no_spaces name
+value_no_space kind value fits = visible_no_space (value_fields kind value) (value_visible kind value refl fits)
+
+values_no_space : (kinds : List Kind) (values : Values kinds) → FitsValues kinds values → list_all has_no_space (values_fields kinds values) ≡ true
+values_no_space [] values fits = refl
+values_no_space (kind ∷ kinds) values fits =
+    list_all-append has_no_space (value_fields kind values.0) (values_fields kinds values.1)
+    ∙ rw (value_no_space kind values.0 fits.0, values_no_space kinds values.1 fits.1) refl
+
+step_no_space : {contexts : ℕ} (s : Step) → IsStep contexts s → list_all has_no_space (fields_of_step s) ≡ true
+step_no_space s is =
+    let values = values_no_space (signature s).written.kinds (signature s).written.values is.arguments in
+    rw (step_fields s) (list_all-append has_no_space (step_front s) _ ∙ rw (visible_no_space (step_front s) (front_visible s is), values) refl)
+
+-- == text
+value_text : (kind : Kind) (value : Value kind) → FitsValue kind value → IsText (line_with (value_fields kind value))
+value_text AName name fits = name_text name fits
+value_text kind value fits = visible_text _ (visible_line (value_fields kind value) (value_visible kind value refl fits))
+
+values_text : (kinds : List Kind) (values : Values kinds) → FitsValues kinds values → IsText (line_with (values_fields kinds values))
+values_text [] values fits = visible_text [] refl
+values_text (kind ∷ kinds) values fits = text_both (value_fields kind values.0) (values_fields kinds values.1) (value_text kind values.0 fits.0) (values_text kinds values.1 fits.1)
+
+step_text : {contexts : ℕ} (s : Step) → IsStep contexts s → IsText (line_of s)
+step_text s is =
+    rw (step_fields s)
+    (text_both (step_front s) _ (visible_text _ (visible_line (step_front s) (front_visible s is))) (values_text (signature s).written.kinds (signature s).written.values is.arguments))
 
 -- == lines
 no_step : (contexts : ℕ) → step_reader contexts [] ≡ None
@@ -230,15 +293,25 @@ step_is contexts line s h =
     let read = (step_exactly contexts).only s (fields_of line) [] (whole_is _ s h) in
     (line_of_fields line (fields_of_step s) (read.1 ∙ append-nil (fields_of_step s)), read.0)
 
+fields_of_spaceless : (fields : List (List ℕ)) → (fields ≡ [] → ⊥) → list_all has_no_space fields ≡ true → fields_of (line_with fields) ≡ fields
+fields_of_spaceless [] some h = absurd (some refl)
+fields_of_spaceless (field ∷ more) some h = fields_of_joined field more h
+
 pub step_of_line : (contexts : ℕ) (line : List ℕ) (s : Step) → (line ≡ line_of s) × IsStep contexts s → step_of contexts line ≡ Some s
 unfolding step_of
 step_of_line contexts line s h =
     let read = (step_exactly contexts).all s h.1 in
     let some : fields_of_step s ≡ [] → ⊥ = λ none. let first = rw none at read in cc (no_step contexts) in
-    rw (ap fields_of h.0, fields_of_line (fields_of_step s) some (step_visible s h.1), read)
+    rw (ap fields_of h.0, fields_of_spaceless (fields_of_step s) some (step_no_space s h.1), read)
 
--- a step's line is visible characters and spaces alone
-pub step_line_visible : (contexts : ℕ) (line : List ℕ) (s : Step) → step_of contexts line ≡ Some s → IsVisible line
-step_line_visible contexts line s h =
+-- a step's line is visible characters and spaces alone, where it has no name
+pub step_line_visible : (contexts : ℕ) (line : List ℕ) (s : Step) → step_of contexts line ≡ Some s → takes_a_name s ≡ false → IsVisible line
+step_line_visible contexts line s h others =
     let is = step_is contexts line s h in
-    rw is.0 (visible_line (fields_of_step s) (step_visible s is.1))
+    rw is.0 (visible_line (fields_of_step s) (step_visible s is.1 others))
+
+-- and in each step's line, which is text, no line ends
+pub step_line_text : (contexts : ℕ) (line : List ℕ) (s : Step) → step_of contexts line ≡ Some s → IsText line
+step_line_text contexts line s h =
+    let is = step_is contexts line s h in
+    rw is.0 (step_text s is.1)

@@ -2,7 +2,7 @@
 use Rattle.std.specs.Prelude.{ℕ, Bool, true, false, ◌==◌, List, [], ◌∷◌, ◌++◌, map, codes, Option, Some, None}
 use Rattle.wasi_world.specs.Fields.{line_with}
 use Rattle.wasi_steps.specs.declared.step.Step.{Step}
-use Rattle.wasi_steps.specs.Steps.{Target, ANetwork, ASocket, ADatagramSocket, AnInput, AnOutput, AnIncoming, AnOutgoing, Watchable, APollable, Anything, Kind, HandleOf, ALine, ACount, AFamily, ASocketAddress, AnOption, ASetting, AUdpOption, AUdpSetting, AHalf, AllBytes, ARemote, SomeDatagrams, signature}
+use Rattle.wasi_steps.specs.Steps.{Target, ANetwork, ASocket, ADatagramSocket, AnInput, AnOutput, AnIncoming, AnOutgoing, ALookup, AnError, Watchable, APollable, Anything, Kind, HandleOf, ALine, ACount, AFamily, ASocketAddress, AnOption, ASetting, AUdpOption, AUdpSetting, AHalf, AllBytes, ARemote, SomeDatagrams, AName, signature}
 
 -- the letters for a handle, and for an argument
 abbrev pub handle_letters : Target → List ℕ
@@ -13,6 +13,8 @@ handle_letters AnInput = codes "IN"
 handle_letters AnOutput = codes "OUT"
 handle_letters AnIncoming = codes "IN"
 handle_letters AnOutgoing = codes "OUT"
+handle_letters ALookup = codes "R"
+handle_letters AnError = codes "E"
 handle_letters Watchable = codes "H"
 handle_letters APollable = codes "P"
 handle_letters Anything = codes "H"
@@ -31,6 +33,7 @@ letters AHalf = codes "HOW"
 letters AllBytes = codes "BYTES"
 letters ARemote = codes "[4 a b c d port]"
 letters SomeDatagrams = codes "DATAGRAM.."
+letters AName = codes "NAME"
 
 -- the number of a context in front, where one makes the call
 abbrev pub some_context : Option ℕ → List (List ℕ) → List (List ℕ)

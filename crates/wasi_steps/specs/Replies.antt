@@ -4,18 +4,19 @@ use Rattle.std.specs.Prelude.{◌≡◌, ℕ, ◌<◌, ◌≤◌, ◌^◌, lengt
 use Rattle.wasi_world.specs.declared.outcome.TrapKind.{TrapKind}
 use Rattle.wasi_world.specs.declared.outcome.TrapKind.TheVariants as trap
 use Rattle.wasi_world.specs.Fields.{line_with, bytes_text}
+use Rattle.wasi_addr.specs.declared.address.IpAddress.{IpAddress}
 use Rattle.wasi_addr.specs.declared.address.IpSocketAddress.{IpSocketAddress}
 use Rattle.wasi_world.specs.declared.datagram.IncomingDatagram.{IncomingDatagram}
-use Rattle.wasi_world.specs.Written.{AreBytes, FitsAddress}
+use Rattle.wasi_world.specs.Written.{AreBytes, FitsIp, FitsAddress}
 use Rattle.wasi_steps.specs.declared.reply.CodeWord.{CodeWord}
 use Rattle.wasi_steps.specs.declared.reply.CodeWord.TheVariants as word
 use Rattle.wasi_steps.specs.declared.reply.Field.{Field}
 use Rattle.wasi_steps.specs.declared.reply.Field.TheVariants as field
 use Rattle.wasi_steps.specs.declared.reply.Reply.{Reply}
 use Rattle.wasi_steps.specs.declared.reply.Reply.TheVariants as reply
-use Rattle.wasi_steps.specs.Reply.{address_values, datagram_values}
+use Rattle.wasi_steps.specs.Reply.{ip_values, address_values, datagram_values}
 use Rattle.wasi_steps.specs.declared.step.Step.{Step}
-pub use Rattle.wasi_steps.specs.Steps.{FieldKind, ANumber, SomeBytes, Truth, FieldKinds, Each, AnAddress, ADatagramList, OneOf, kinds_of}
+pub use Rattle.wasi_steps.specs.Steps.{FieldKind, ANumber, SomeBytes, Truth, Nothing, FieldKinds, Each, AnAddress, AnIpOrNone, ADatagramList, OneOf, kinds_of}
 
 -- the words of codes
 abbrev pub code_text : CodeWord → List ℕ
@@ -86,6 +87,7 @@ IsOfKind ANumber (field.Number n) = n < 2 ^ 64
 IsOfKind SomeBytes (field.Bytes bytes) = AreBytes bytes
 IsOfKind Truth field.True = Unit {0}
 IsOfKind Truth field.False = Unit {0}
+IsOfKind Nothing field.Absent = Unit {0}
 IsOfKind _ _ = ⊥
 
 abbrev pub EachOfKind : List FieldKind → List Field → Type 0
@@ -99,6 +101,12 @@ pub record AreAnAddress (fields : List Field) : Type 0 where
   pub address : IpSocketAddress
   pub fits : FitsAddress address
   pub numbers : fields ≡ address_values address
+
+-- These are the numbers that an address with no port is written as.
+pub record AreAnIp (fields : List Field) : Type 0 where
+  pub address : IpAddress
+  pub fits : FitsIp address
+  pub numbers : fields ≡ ip_values address
 
 abbrev pub FitsReceived : IncomingDatagram → Type 0
 FitsReceived d = FitsAddress d.remote_address × AreBytes d.bytes
@@ -118,6 +126,7 @@ AsOneSays (kinds ∷ lists) fields = EachOfKind kinds fields ⊎ AsOneSays lists
 abbrev pub AreOfKinds : FieldKinds → List Field → Type 0
 AreOfKinds (Each kinds) fields = EachOfKind kinds fields
 AreOfKinds AnAddress fields = AreAnAddress fields
+AreOfKinds AnIpOrNone fields = (fields ≡ field.Absent ∷ []) ⊎ AreAnIp fields
 AreOfKinds ADatagramList fields = AreDatagrams fields
 AreOfKinds (OneOf lists) fields = AsOneSays lists fields
 

@@ -1,15 +1,17 @@
 -- What replies say.
-use Rattle.std.specs.Prelude.{ℕ, Bool, true, false, if◌then◌else◌, List, [], ◌∷◌, ◌++◌, length, flat_map, map}
+use Rattle.std.specs.Prelude.{ℕ, Bool, true, false, if◌then◌else◌, List, [], ◌∷◌, ◌++◌, length, flat_map, map, Option, Some, None}
+use Rattle.wasi_addr.specs.declared.address.IpAddress.{IpAddress}
 use Rattle.wasi_addr.specs.declared.address.IpSocketAddress.{IpSocketAddress}
 use Rattle.wasi_addr.specs.declared.address.SocketAddressFamily.{SocketAddressFamily}
 use Rattle.wasi_addr.specs.declared.p2.ErrorCode.{ErrorCode}
 use Rattle.wasi_addr.specs.declared.p2.ErrorCode.TheVariants as p2
 use Rattle.wasi_world.specs.declared.datagram.IncomingDatagram.{IncomingDatagram}
-use Rattle.wasi_world.specs.Written.{address_numbers, family_number}
+use Rattle.wasi_world.specs.Written.{ip_numbers, address_numbers, family_number}
+use Rattle.wasi_steps.specs.declared.fields.NoCode.{NoCode}
 use Rattle.wasi_steps.specs.declared.reply.CodeWord.{CodeWord}
 use Rattle.wasi_steps.specs.declared.reply.CodeWord.TheVariants as word
 use Rattle.wasi_steps.specs.declared.reply.Field.{Field}
-use Rattle.wasi_steps.specs.declared.reply.Field.TheVariants.{Number, Bytes, True, False}
+use Rattle.wasi_steps.specs.declared.reply.Field.TheVariants.{Number, Bytes, True, False, Absent}
 use Rattle.wasi_steps.specs.declared.reply.Reply.{Reply}
 use Rattle.wasi_steps.specs.declared.reply.Reply.TheVariants.{Trap}
 
@@ -79,6 +81,19 @@ family_fields family = number_fields (family_number family)
 -- an address as it is written: its family, its parts, its port
 abbrev pub address_values : IpSocketAddress → List Field
 address_values a = map Number (address_numbers a)
+
+-- an address with no port: its family and its parts
+abbrev pub ip_values : IpAddress → List Field
+ip_values a = map Number (ip_numbers a)
+
+-- of a lookup: the next address, or none
+abbrev pub found_values : Option IpAddress → List Field
+found_values None = Absent ∷ []
+found_values (Some a) = ip_values a
+
+-- of an error of a stream: no code of the network
+abbrev pub absent_values : NoCode → List Field
+absent_values code = Absent ∷ []
 
 -- datagrams that were received: how many, and for each who sent it and its bytes
 abbrev pub received_values : IncomingDatagram → List Field

@@ -1,5 +1,6 @@
 -- What each step is, said once: how it is written and read, who makes it, what it names, and what it gives.
-use Rattle.std.specs.Prelude.{◌≡◌, refl, ℕ, ◌<◌, ◌≤◌, nat_lt, if◌then◌else◌, List, [], ◌∷◌, ◌++◌, map, codes, decimal, Option, Some, None, IfSome}
+use Rattle.std.specs.Prelude.{◌≡◌, refl, ℕ, ◌<◌, ◌≤◌, nat_lt, Bool, true, false, if◌then◌else◌, List, [], ◌∷◌, ◌++◌, map, codes, decimal, Option, Some, None, IfSome}
+use Rattle.std.specs.List.{list_any}
 use Rattle.wasi_addr.specs.declared.address.IpSocketAddress.{IpSocketAddress}
 use Rattle.wasi_addr.specs.declared.address.IpSocketAddress.TheVariants as socket
 use Rattle.wasi_addr.specs.declared.address.ShutdownType.{ShutdownType}
@@ -20,6 +21,7 @@ use Rattle.wasi_steps.specs.declared.setting.TcpSetting.TheVariants as setting
 use Rattle.wasi_steps.specs.declared.setting.UdpOption.TheVariants as udp
 use Rattle.wasi_steps.specs.declared.setting.UdpSetting.TheVariants as udp_setting
 use Rattle.wasi_steps.specs.Datagrams.{remote_fields, FitsRemote, remote_at, datagrams_fields, FitsDatagrams, datagrams_at}
+use Rattle.wasi_steps.specs.Names.{IsName, name_at}
 use Rattle.wasi_steps.specs.Settings.{option_word, option_at, setting_fields, FitsSetting, setting_at, udp_option_word, udp_option_at, udp_setting_fields, FitsUdpSetting, udp_setting_at}
 
 -- == what is shut down
@@ -38,7 +40,7 @@ shutdown_at = do
 
 -- == arguments
 -- what a handle has to be of: a network, a TCP socket, a UDP socket, an input, an output, a stream of datagrams that come in or
--- go out, what can be watched, a pollable, or anything
+-- go out, a lookup, an error, what can be watched, a pollable, or anything
 pub data Target : Type 0 where
   ANetwork : Target
   ASocket : Target
@@ -47,12 +49,14 @@ pub data Target : Type 0 where
   AnOutput : Target
   AnIncoming : Target
   AnOutgoing : Target
+  ALookup : Target
+  AnError : Target
   Watchable : Target
   APollable : Target
   Anything : Target
 
 -- what an argument is: a handle, the number of a line, a count, a family, an address, an option and what is set, of a TCP
--- socket or of a UDP socket, what is shut down, bytes, an address or none, datagrams to send
+-- socket or of a UDP socket, what is shut down, bytes, an address or none, datagrams to send, a host name
 pub data Kind : Type 0 where
   HandleOf : Target → Kind
   ALine : Kind
@@ -67,6 +71,7 @@ pub data Kind : Type 0 where
   AllBytes : Kind
   ARemote : Kind
   SomeDatagrams : Kind
+  AName : Kind
 
 abbrev pub Value : Kind → Type 0
 Value (HandleOf target) = ℕ
@@ -82,6 +87,7 @@ Value AHalf = ShutdownType
 Value AllBytes = List ℕ
 Value ARemote = Option IpSocketAddress
 Value SomeDatagrams = List OutgoingDatagram
+Value AName = List ℕ
 
 -- how it is read
 abbrev pub value_at : (kind : Kind) → Reader (Value kind)
@@ -98,8 +104,9 @@ value_at AHalf = shutdown_at
 value_at AllBytes = bytes_at
 value_at ARemote = remote_at
 value_at SomeDatagrams = datagrams_at
+value_at AName = name_at
 
--- how it is written
+-- how it is written; a name's fields are between its spaces
 abbrev pub value_fields : (kind : Kind) → Value kind → List (List ℕ)
 value_fields (HandleOf target) n = number_fields n
 value_fields ALine n = number_fields n
@@ -114,8 +121,9 @@ value_fields AHalf how = shutdown_fields how
 value_fields AllBytes bytes = bytes_fields bytes
 value_fields ARemote remote = remote_fields remote
 value_fields SomeDatagrams datagrams = datagrams_fields datagrams
+value_fields AName name = fields_of name
 
--- its numbers are within their widths
+-- its numbers are within their widths, and a name is text
 abbrev pub FitsValue : (kind : Kind) → Value kind → Type 0
 FitsValue (HandleOf target) n = n ≤ 4294967295
 FitsValue ALine n = n ≤ 4294967295
@@ -126,6 +134,7 @@ FitsValue AUdpSetting setting = FitsUdpSetting setting
 FitsValue AllBytes bytes = AreBytes bytes
 FitsValue ARemote remote = FitsRemote remote
 FitsValue SomeDatagrams datagrams = FitsDatagrams datagrams
+FitsValue AName name = IsName name
 FitsValue _ value = Unit {0}
 
 -- the handles that it names
@@ -169,17 +178,19 @@ values_at [] s = give s
 values_at (kind ∷ kinds) makes = value_at kind >>= λ value. values_at kinds (makes value)
 
 -- == what a step gives
--- what a field of a reply is: a number, bytes, or one of `true` and `false`
+-- what a field of a reply is: a number, bytes, one of `true` and `false`, or `none`
 pub data FieldKind : Type 0 where
   ANumber : FieldKind
   SomeBytes : FieldKind
   Truth : FieldKind
+  Nothing : FieldKind
 
--- what the fields of a reply are: one of each of these kinds, those of an address, a count and so many datagrams, or one of
--- each of the kinds in one of these lists, which differ in length
+-- what the fields of a reply are: one of each of these kinds, those of an address, those of one with no port or `none`, a count
+-- and so many datagrams, or one of each of the kinds in one of these lists, which differ in length
 pub data FieldKinds : Type 0 where
   Each : List FieldKind → FieldKinds
   AnAddress : FieldKinds
+  AnIpOrNone : FieldKinds
   ADatagramList : FieldKinds
   OneOf : List (List FieldKind) → FieldKinds
 
@@ -234,10 +245,13 @@ signature (step.UdpStream c socket remote) = guest_call c (codes "udp-stream") (
 signature (step.UdpReceive c incoming most) = guest_call c (codes "udp-receive") (HandleOf AnIncoming ∷ ACount ∷ []) (step.UdpReceive c) (incoming, (most, tt)) ADatagramList
 signature (step.UdpCheckSend c outgoing) = guest_call c (codes "udp-check-send") (HandleOf AnOutgoing ∷ []) (step.UdpCheckSend c) (outgoing, tt) (Each (ANumber ∷ []))
 signature (step.UdpSend c outgoing datagrams) = guest_call c (codes "udp-send") (HandleOf AnOutgoing ∷ SomeDatagrams ∷ []) (step.UdpSend c) (outgoing, (datagrams, tt)) (Each (ANumber ∷ []))
+signature (step.Resolve c network name) = guest_call c (codes "resolve") (HandleOf ANetwork ∷ AName ∷ []) (step.Resolve c) (network, (name, tt)) (Each (ANumber ∷ []))
+signature (step.ResolveNext c lookup) = guest_call c (codes "resolve-next") (HandleOf ALookup ∷ []) (step.ResolveNext c) (lookup, tt) AnIpOrNone
 signature (step.Read c input len) = guest_call c (codes "read") (HandleOf AnInput ∷ ACount ∷ []) (step.Read c) (input, (len, tt)) (Each (SomeBytes ∷ []))
 signature (step.CheckWrite c output) = guest_call c (codes "check-write") (HandleOf AnOutput ∷ []) (step.CheckWrite c) (output, tt) (Each (ANumber ∷ []))
 signature (step.Write c output bytes) = guest_call c (codes "write") (HandleOf AnOutput ∷ AllBytes ∷ []) (step.Write c) (output, (bytes, tt)) (Each [])
 signature (step.Flush c output) = guest_call c (codes "flush") (HandleOf AnOutput ∷ []) (step.Flush c) (output, tt) (Each [])
+signature (step.NetworkErrorCode c error) = guest_call c (codes "network-error-code") (HandleOf AnError ∷ []) (step.NetworkErrorCode c) (error, tt) (Each (Nothing ∷ []))
 signature (step.Subscribe c handle) = guest_call c (codes "subscribe") (HandleOf Watchable ∷ []) (step.Subscribe c) (handle, tt) (Each (ANumber ∷ []))
 signature (step.Ready c pollable) = guest_call c (codes "ready") (HandleOf APollable ∷ []) (step.Ready c) (pollable, tt) (Each (Truth ∷ []))
 signature (step.Drop c handle) = guest_call c (codes "drop") (HandleOf Anything ∷ []) (step.Drop c) (handle, tt) (Each [])
@@ -251,6 +265,14 @@ context_of s = (signature s).written.context
 -- the handles that a step names
 abbrev pub handles_of : Step → List ℕ
 handles_of s = handles_among (signature s).written.kinds (signature s).written.values
+
+-- whether a name is among its arguments, in which any character may be
+abbrev pub is_of_a_name : Kind → Bool
+is_of_a_name AName = true
+is_of_a_name _ = false
+
+abbrev pub takes_a_name : Step → Bool
+takes_a_name s = list_any is_of_a_name (signature s).written.kinds
 
 -- the fields of its reply when it succeeds
 abbrev pub kinds_of : Step → FieldKinds
@@ -285,15 +307,18 @@ rows_of steps = map row_of steps
 abbrev pub nowhere : IpSocketAddress
 nowhere = socket.Ipv4 (record { port = 0; address = (0, 0, 0, 0) })
 
--- one step of each form: a write and a send, whose bytes take memory
+-- one step of each form: a write and a send, whose bytes take memory, and a resolve, whose name does
 abbrev pub write_step : ℕ → Step
 write_step c = step.Write c 0 []
 
 abbrev pub send_step : ℕ → Step
 send_step c = step.UdpSend c 0 []
 
+abbrev pub resolve_step : ℕ → Step
+resolve_step c = step.Resolve c 0 []
+
 abbrev pub memory_steps : ℕ → List Step
-memory_steps c = write_step c ∷ send_step c ∷ []
+memory_steps c = write_step c ∷ send_step c ∷ resolve_step c ∷ []
 
 -- those that name no handle: they make a network or a socket
 abbrev pub create_steps : ℕ → List Step
@@ -324,7 +349,8 @@ udp_handle_steps c =
     step.UdpFinishBind c 0 ∷ step.UdpLocalAddress c 0 ∷ step.UdpRemoteAddress c 0 ∷ step.UdpAddressFamily c 0 ∷ step.UdpCheckSend c 0 ∷ []
 
 abbrev pub other_handle_steps : ℕ → List Step
-other_handle_steps c = step.CheckWrite c 0 ∷ step.Flush c 0 ∷ step.Subscribe c 0 ∷ step.Ready c 0 ∷ step.Drop c 0 ∷ []
+other_handle_steps c =
+    step.ResolveNext c 0 ∷ step.CheckWrite c 0 ∷ step.Flush c 0 ∷ step.NetworkErrorCode c 0 ∷ step.Subscribe c 0 ∷ step.Ready c 0 ∷ step.Drop c 0 ∷ []
 
 abbrev pub handle_steps : ℕ → List Step
 handle_steps c = tcp_handle_steps c ++ udp_handle_steps c ++ other_handle_steps c
@@ -379,10 +405,13 @@ is_read (step.UdpStream c socket remote) = (refl, refl)
 is_read (step.UdpReceive c incoming most) = (refl, refl)
 is_read (step.UdpCheckSend c outgoing) = (refl, refl)
 is_read (step.UdpSend c outgoing datagrams) = (refl, refl)
+is_read (step.Resolve c network name) = (refl, refl)
+is_read (step.ResolveNext c lookup) = (refl, refl)
 is_read (step.Read c input len) = (refl, refl)
 is_read (step.CheckWrite c output) = (refl, refl)
 is_read (step.Write c output bytes) = (refl, refl)
 is_read (step.Flush c output) = (refl, refl)
+is_read (step.NetworkErrorCode c error) = (refl, refl)
 is_read (step.Subscribe c handle) = (refl, refl)
 is_read (step.Ready c pollable) = (refl, refl)
 is_read (step.Drop c handle) = (refl, refl)

@@ -1,11 +1,13 @@
 //! What a call gives, as the fields of its reply.
 
 ghost use Rattle.std.specs.Prelude.{◌≡◌, IfOk, OnOk, ◌++◌};
-ghost use Rattle.wasi_steps.specs.Reply.{address_values, received_values};
+ghost use Rattle.wasi_steps.specs.Reply.{ip_values, address_values, received_values};
 
 use crate::reply::{Field, ReplyFields};
 use std::alloc::{AllocError, Global};
-use wasi_addr::{IpSocketAddress, Ipv4SocketAddress, Ipv6SocketAddress, SocketAddressFamily};
+use wasi_addr::{
+    IpAddress, IpSocketAddress, Ipv4SocketAddress, Ipv6SocketAddress, SocketAddressFamily,
+};
 use wasi_world::{IncomingDatagram, IncomingDatagrams, Octets};
 
 /// A value that the fields of an `ok` reply tell.
@@ -136,6 +138,37 @@ impl IntoFields for IpSocketAddress {
     }
 }
 
+/// An address with no port, its family and its bytes or segments, or `none`.
+impl IntoFields for Option<IpAddress> {
+    ghost use Rattle.wasi_steps.specs.Reply.{found_values};
+
+    ghost fields = { found_values };
+
+    fn into_fields(self, alloc: Global) -> Result<ReplyFields, AllocError> {
+        let fields = match self {
+            Some(address) => ip_fields(alloc, address)?,
+            None => vec![in alloc; Field::Absent]?,
+        };
+        Ok(ReplyFields::from_vec(fields))
+    }
+}
+
+/// No code of the network: what `network-error-code` answers of each error of a stream.
+#[derive(Clone, Copy, Debug, PartialEq, Eq)]
+pub struct NoCode;
+
+/// `none`.
+impl IntoFields for NoCode {
+    ghost use Rattle.wasi_steps.specs.Reply.{absent_values};
+
+    ghost fields = { absent_values };
+
+    fn into_fields(self, alloc: Global) -> Result<ReplyFields, AllocError> {
+        let fields = vec![in alloc; Field::Absent]?;
+        Ok(ReplyFields::from_vec(fields))
+    }
+}
+
 /// Datagrams that were received: how many, and for each who sent it and its bytes, which are moved.
 impl IntoFields for IncomingDatagrams {
     ghost use Rattle.wasi_steps.specs.Reply.{datagram_values};
@@ -168,6 +201,32 @@ fn push_datagram(
     fields.append(&mut address)?;
     fields.push(Field::Bytes(bytes))?;
     Ok(())
+}
+
+/// The fields of an address with no port.
+fn ip_fields(alloc: Global, address: IpAddress) -> Result<Vec<Field>, AllocError>
+    ensures { IfOk result (λ fields. fields.items ≡ ip_values address) }
+{
+    match address {
+        IpAddress::Ipv4((a, b, c, d)) => Ok(vec![in alloc;
+            Field::Number(4),
+            Field::Number(u64::from(a)),
+            Field::Number(u64::from(b)),
+            Field::Number(u64::from(c)),
+            Field::Number(u64::from(d)),
+        ]?),
+        IpAddress::Ipv6((a, b, c, d, e, f, g, h)) => Ok(vec![in alloc;
+            Field::Number(6),
+            Field::Number(u64::from(a)),
+            Field::Number(u64::from(b)),
+            Field::Number(u64::from(c)),
+            Field::Number(u64::from(d)),
+            Field::Number(u64::from(e)),
+            Field::Number(u64::from(f)),
+            Field::Number(u64::from(g)),
+            Field::Number(u64::from(h)),
+        ]?),
+    }
 }
 
 /// The fields of an address.

@@ -3,12 +3,13 @@
 
 mod datagram;
 pub mod fields;
+mod name;
 pub mod parse;
 pub mod reply;
 pub mod setting;
 pub mod step;
 
-pub use fields::IntoFields;
+pub use fields::{IntoFields, NoCode};
 pub use reply::{CodeWord, Field, Reply, ReplyFields};
 pub use setting::{TcpSetting, UdpOption, UdpSetting};
 pub use step::{STEP_FORMS, Step};

@@ -1,13 +1,15 @@
 //! Reads a line of a script.
 
-ghost use Rattle.std.specs.Prelude.{◌≡◌, ◌↔◌, ℕ, List, Some, IfOk, ◌++◌};
+ghost use Rattle.std.specs.Prelude.{◌≡◌, ◌↔◌, ℕ, false, List, Some, IfOk, ◌++◌};
 ghost use Rattle.wasi_world.specs.Fields.{Reads, after_word, number_in};
 ghost use Rattle.wasi_world.specs.Written.{IsVisible};
 ghost use Rattle.wasi_steps.specs.declared.step.Step.{Step};
+ghost use Rattle.wasi_steps.specs.Names.{IsText};
 ghost use Rattle.wasi_steps.specs.Settings.{ReadsNumber, ReadsAfter, option_at, wide_words, setting_words, setting_at, udp_option_at, udp_setting_at};
-ghost use Rattle.wasi_steps.specs.Steps.{line_of, IsStep, steps, plain_steps, value_steps, tcp_value_steps, udp_value_steps, handle_steps, udp_handle_steps, other_handle_steps, bare_steps, write_step, send_step, row_of, rows_of, shutdown_at, guest_call_at, step_reader, step_of};
+ghost use Rattle.wasi_steps.specs.Steps.{line_of, IsStep, steps, plain_steps, value_steps, tcp_value_steps, udp_value_steps, handle_steps, udp_handle_steps, other_handle_steps, bare_steps, write_step, send_step, resolve_step, row_of, rows_of, shutdown_at, guest_call_at, step_reader, step_of, takes_a_name};
 
 use crate::datagram::{datagrams, remote};
+use crate::name::name;
 use crate::setting::{TcpSetting, UdpOption, UdpSetting};
 use crate::step::Step;
 use std::alloc::{AllocError, Global};
@@ -118,6 +120,10 @@ fn other_handle_step(context: u32, word: &str, handle: u32) -> Option<Step>
 {
     use Step::*;
     match word {
+        "resolve-next" => Some(ResolveNext {
+            context,
+            lookup: handle,
+        }),
         "check-write" => Some(CheckWrite {
             context,
             output: handle,
@@ -125,6 +131,10 @@ fn other_handle_step(context: u32, word: &str, handle: u32) -> Option<Step>
         "flush" => Some(Flush {
             context,
             output: handle,
+        }),
+        "network-error-code" => Some(NetworkErrorCode {
+            context,
+            error: handle,
         }),
         "subscribe" => Some(Subscribe { context, handle }),
         "ready" => Some(Ready {
@@ -329,6 +339,28 @@ fn send_arguments(
     }))
 }
 
+/// Takes the arguments of a resolve, whose name takes memory.
+#[tactic(auto, unfolding(wasi_world::specs::Fields::read_then, wasi_world::specs::Fields::give, wasi_world::specs::Fields::give_some))]
+fn resolve_arguments(
+    alloc: Global,
+    fields: &mut Fields<'_>,
+    context: u32,
+) -> Result<Option<Step>, AllocError>
+    ensures { IfOk result (λ step. Reads (row_of (resolve_step context)).reads fields.old step fields.new) }
+{
+    let Some(network) = fields.u32() else {
+        return Ok(None);
+    };
+    let Some(name) = name(alloc, fields)? else {
+        return Ok(None);
+    };
+    Ok(Some(Step::Resolve {
+        context,
+        network,
+        name,
+    }))
+}
+
 /// Takes the arguments of a step word.
 fn arguments(
     alloc: Global,
@@ -341,6 +373,7 @@ fn arguments(
     match word {
         "write" => write_arguments(alloc, fields, context),
         "udp-send" => send_arguments(alloc, fields, context),
+        "resolve" => resolve_arguments(alloc, fields, context),
         _ => Ok(plain_arguments(fields, context, word)),
     }
 }
@@ -400,7 +433,7 @@ fn step(alloc: Global, fields: &mut Fields<'_>, contexts: u32) -> Result<Option<
 }
 
 /// The step that a line is, without its newline, where there are so many contexts; none where it is no step of theirs. The
-/// bytes of a write take memory, and so do the datagrams of a send.
+/// bytes of a write take memory, and so do the datagrams of a send and the name of a resolve.
 #[tactic(auto, unfolding(crate::specs::Steps::step_of))]
 pub fn parse_step(alloc: Global, line: &[u8], contexts: u32) -> Result<Option<Step>, AllocError>
     ensures { IfOk result (λ step. step ≡ step_of contexts line.now) }
@@ -411,8 +444,10 @@ pub fn parse_step(alloc: Global, line: &[u8], contexts: u32) -> Result<Option<St
 }
 
 /// A line is a step exactly where it is that step's line, and its context, where it has one, is one of so many. Nothing
-/// but visible ASCII characters and spaces is in it.
+/// but visible ASCII characters and spaces is in it, unless it has a name; and then too it is UTF-8, with no newline and no
+/// carriage return.
 pub fn steps_are_their_lines()
     ensures exactly { (contexts : ℕ) (line : List ℕ) (s : Step) → (step_of contexts line ≡ Some s) ↔ ((line ≡ line_of s) × IsStep contexts s) }
-    ensures visible { (contexts : ℕ) (line : List ℕ) (s : Step) → step_of contexts line ≡ Some s → IsVisible line }
+    ensures visible { (contexts : ℕ) (line : List ℕ) (s : Step) → step_of contexts line ≡ Some s → takes_a_name s ≡ false → IsVisible line }
+    ensures text { (contexts : ℕ) (line : List ℕ) (s : Step) → step_of contexts line ≡ Some s → IsText line }
 {}

@@ -8,7 +8,7 @@ ghost use Rattle.wasi_steps.specs.Steps.{steps, bare_steps, context_of};
 
 use crate::setting::{TcpSetting, UdpOption, UdpSetting};
 use wasi_addr::{IpSocketAddress, ShutdownType, SocketAddressFamily};
-use wasi_world::{Handle, Octets, Opt, OutgoingDatagrams};
+use wasi_world::{Handle, NameText, Octets, Opt, OutgoingDatagrams};
 
 /// One step of a script: a guest call with the number of the context that makes it, or a step that no context makes.
 #[derive(Drop)]
@@ -167,6 +167,17 @@ pub enum Step {
         outgoing: Handle,
         datagrams: OutgoingDatagrams,
     },
+    /// Begins to look up the addresses of a host name (`resolve-addresses`).
+    Resolve {
+        context: u32,
+        network: Handle,
+        name: NameText,
+    },
+    /// Takes the next address that a lookup found (`resolve-next-address`).
+    ResolveNext {
+        context: u32,
+        lookup: Handle,
+    },
     /// Reads at most so many bytes (`input-stream.read`).
     Read {
         context: u32,
@@ -188,6 +199,11 @@ pub enum Step {
     Flush {
         context: u32,
         output: Handle,
+    },
+    /// Which error of the network an error of a stream is; none of them is one (`network-error-code`).
+    NetworkErrorCode {
+        context: u32,
+        error: Handle,
     },
     /// Makes a pollable of what the handle is of (`subscribe` of the socket, of the input-stream, of the
     /// output-stream).
@@ -247,10 +263,13 @@ impl Step {
             | Step::UdpReceive { context, .. }
             | Step::UdpCheckSend { context, .. }
             | Step::UdpSend { context, .. }
+            | Step::Resolve { context, .. }
+            | Step::ResolveNext { context, .. }
             | Step::Read { context, .. }
             | Step::CheckWrite { context, .. }
             | Step::Write { context, .. }
             | Step::Flush { context, .. }
+            | Step::NetworkErrorCode { context, .. }
             | Step::Subscribe { context, .. }
             | Step::Ready { context, .. }
             | Step::Drop { context, .. } => Some(*context),
@@ -289,10 +308,13 @@ pub const STEP_FORMS: &str = "    0 network                               makes 
     0 udp-receive IN L                      receives at most L datagrams: ok K, then 4 a b c d port BYTES for each
     0 udp-check-send OUT                    how many datagrams may be sent: ok M
     0 udp-send OUT DATAGRAM..               sends datagrams, each `to 4 a b c d port BYTES` or `peer BYTES`: ok M
+    0 resolve N NAME                        looks up a host name: ok R
+    0 resolve-next R                        the next address found: ok 4 a b c d, or ok none
     0 read IN L                             reads at most L bytes: ok BYTES
     0 check-write OUT                       how many bytes may be written
     0 write OUT BYTES                       writes bytes, as hexadecimal digits or -
     0 flush OUT                             tells a kept error of the output
+    0 network-error-code E                  of an error of a stream: ok none
     0 subscribe H                           makes a pollable of a socket or of a stream
     0 ready P                               whether what it watches is ready: ok true or ok false
     0 drop H                                drops a handle
