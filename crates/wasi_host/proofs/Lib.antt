@@ -1,5 +1,6 @@
 pub mod Hosts
 pub mod Lookups
+pub mod NameLookups
 pub mod RecordLends
 pub mod UdpLookups
 pub mod SideCounts

@@ -2,7 +2,7 @@
 use Rattle.std.specs.Borrow.{Bor, MutBor}
 use Rattle.std.proofs.Common.{◌≡◌, ℕ, zero, suc, ◌+◌, List, [], ◌∷◌, Option, Some, None, sym, ap, arith}
 use Rattle.wasi_host.specs.declared.records.Record.{Record}
-use Rattle.wasi_host.specs.declared.records.Record.TheVariants.{Tcp2, Udp2}
+use Rattle.wasi_host.specs.declared.records.Record.TheVariants.{Tcp2, Udp2, Lookup}
 use Rattle.wasi_host.specs.declared.udp.OpenUdp.{OpenUdp}
 use Rattle.wasi_host.specs.declared.udp.Udp2Socket.{Udp2Socket}
 use Rattle.wasi_host.specs.declared.udp.Udp2Socket.TheVariants.{Creating, Open, Closed}
@@ -40,6 +40,7 @@ open_there xs i o h = open_is (udp2_at xs i) o h
 pub udp_put_same : (xs : List Record) (i : ℕ) (u : Udp2Socket) → udp2_at xs i ≡ Some u → udp2_put xs i u ≡ xs
 udp_put_same [] i u h = absurd (cc)
 udp_put_same (Tcp2 r ∷ xs) zero u h = absurd (cc)
+udp_put_same (Lookup l ∷ xs) zero u h = absurd (cc)
 udp_put_same (Udp2 x ∷ xs) zero u h = cc
 udp_put_same (x ∷ xs) (suc i) u h = ap (λ (l : List Record). x ∷ l) (udp_put_same xs i u h)
 
@@ -50,6 +51,7 @@ open_back xs i x h = udp_put_same xs i (Open x.now) (open_there xs i x.now (sym 
 pub held_in-udp_swap : (rs : List Record) (i : ℕ) (old now : Udp2Socket) → udp2_at rs i ≡ Some old → held_in (udp2_put rs i now) + udp_holds old ≡ held_in rs + udp_holds now
 held_in-udp_swap [] i old now h = absurd (cc)
 held_in-udp_swap (Tcp2 r ∷ rs) zero old now h = absurd (cc)
+held_in-udp_swap (Lookup l ∷ rs) zero old now h = absurd (cc)
 held_in-udp_swap (Udp2 u ∷ rs) zero old now h = let k : u ≡ old = cc in let p = ap (λ (y : Udp2Socket). udp_holds y) k in omega arith
 held_in-udp_swap (x ∷ rs) (suc i) old now h = let p = held_in-udp_swap rs i old now h in omega arith
 

@@ -7,11 +7,12 @@ use Rattle.wasi_tcp.specs.declared.writer.WriteState.{WriteState}
 use Rattle.wasi_tcp.specs.declared.writer.WriteState.TheVariants as writing
 use Rattle.wasi_tcp.specs.Writer.{turn_asks}
 use Rattle.wasi_host.specs.Datagrams.{sends, turn_outgoing}
+use Rattle.wasi_host.specs.NameLookup.{looks_on, turn_lookup_at}
 use Rattle.wasi_host.specs.Receiving.{receives, turn_incoming}
-use Rattle.wasi_host.specs.Records.{tcp2_at, tcp2_put, open_at, open_put}
+use Rattle.wasi_host.specs.Records.{tcp2_at, tcp2_put, open_at, open_put, lookup_at}
 use Rattle.wasi_host.specs.declared.records.Record.{Record}
 use Rattle.wasi_host.specs.declared.jobs.HostJob.{HostJob}
-use Rattle.wasi_host.specs.declared.jobs.HostJob.TheVariants.{Write, Datagram, Receive}
+use Rattle.wasi_host.specs.declared.jobs.HostJob.TheVariants.{Write, Datagram, Receive, Lookup}
 use Rattle.wasi_host.specs.declared.socket.Streams.{Streams}
 use Rattle.wasi_host.specs.declared.socket.Tcp2Socket.{Tcp2Socket}
 use Rattle.wasi_host.specs.declared.udp.OpenUdp.{OpenUdp}
@@ -84,6 +85,7 @@ abbrev pub turn_job : List Record → HostJob → Asks (List Record)
 turn_job records (Write place) = turn_at records place (tcp2_at records place)
 turn_job records (Datagram place) = turn_datagram_at records place (open_at records place)
 turn_job records (Receive place) = turn_receive_at records place (open_at records place)
+turn_job records (Lookup place) = turn_lookup_at records place (lookup_at records place)
 
 -- these, in order
 abbrev pub turn_jobs : List HostJob → List Record → Asks (List Record)
@@ -102,6 +104,7 @@ abbrev pub is_going : List Record → HostJob → Bool
 is_going records (Write place) = has_job (tcp2_at records place)
 is_going records (Datagram place) = sends_on (open_at records place)
 is_going records (Receive place) = receives_on (open_at records place)
+is_going records (Lookup place) = looks_on (lookup_at records place)
 
 -- a job that is over is none
 abbrev pub still_going : List Record → List HostJob → List HostJob
@@ -120,6 +123,7 @@ abbrev pub is_on : ℕ → HostJob → Bool
 is_on place (Write p) = p == place
 is_on place (Datagram p) = p == place
 is_on place (Receive p) = p == place
+is_on place (Lookup p) = p == place
 
 abbrev pub other_jobs : ℕ → List HostJob → List HostJob
 other_jobs place [] = []

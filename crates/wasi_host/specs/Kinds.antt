@@ -10,7 +10,7 @@ use Rattle.wasi_streams.specs.declared.fault.Fault.{Fault}
 use Rattle.wasi_streams.specs.declared.fault.Fault.TheVariants as fault
 use Rattle.wasi_streams.specs.Table.{Shown, value_at, children_of, is_full, pushed, without}
 use Rattle.wasi_host.specs.declared.kind.Kind.{Kind}
-use Rattle.wasi_host.specs.declared.kind.Kind.TheVariants.{Network, Tcp2, Udp2, Input, Output, Incoming, Outgoing, Pollable, ErrorValue}
+use Rattle.wasi_host.specs.declared.kind.Kind.TheVariants.{Network, Tcp2, Udp2, Input, Output, Incoming, Outgoing, Pollable, Lookup, ErrorValue}
 use Rattle.wasi_host.specs.declared.kind.Watched.{Watched}
 use Rattle.wasi_host.specs.declared.kind.Watched.TheVariants as watched
 use Rattle.wasi_host.specs.Host.{Stop, Trap}
@@ -28,6 +28,7 @@ name_of (Output n) = name.Output
 name_of (Incoming n) = name.Incoming
 name_of (Outgoing n) = name.Outgoing
 name_of (Pollable w) = name.Pollable
+name_of (Lookup n) = name.Lookup
 name_of ErrorValue = name.ErrorValue
 
 -- what a live handle stands for
@@ -54,6 +55,15 @@ outgoing_of _ = None
 abbrev pub incoming_of : Option Kind → Option ℕ
 incoming_of (Some (Incoming place)) = Some place
 incoming_of _ = None
+
+-- the number of a lookup's record
+abbrev pub lookup_of : Option Kind → Option ℕ
+lookup_of (Some (Lookup place)) = Some place
+lookup_of _ = None
+
+abbrev pub is_error : Option Kind → Bool
+is_error (Some ErrorValue) = true
+is_error _ = false
 
 abbrev pub is_network : Option Kind → Bool
 is_network (Some Network) = true
@@ -82,6 +92,7 @@ watched_by (Some (Input place)) = Some (watched.Input place)
 watched_by (Some (Output place)) = Some (watched.Output place)
 watched_by (Some (Incoming place)) = Some (watched.Incoming place)
 watched_by (Some (Outgoing place)) = Some (watched.Outgoing place)
+watched_by (Some (Lookup place)) = Some (watched.Lookup place)
 watched_by _ = None
 
 -- what a pollable watches
@@ -102,9 +113,11 @@ place_in (watched.Output place) = place
 place_in (watched.Udp place) = place
 place_in (watched.Incoming place) = place
 place_in (watched.Outgoing place) = place
+place_in (watched.Lookup place) = place
 
 -- == a handle is made
--- a pollable is a child of what it watches, and the streams of a socket are under it; an error's parent is named in its mark alone
+-- a pollable is a child of what it watches, and the streams of a socket are under it; the parent of an error and of a lookup is named
+-- in its mark alone
 abbrev pub table_parent : Kind → Option ℕ → Option ℕ
 table_parent (Input n) parent = parent
 table_parent (Output n) parent = parent

@@ -20,8 +20,10 @@ pub mod StreamCalls
 pub mod Pending
 pub mod Udp
 pub mod Datagrams
+pub mod NameLookup
 pub mod Receiving
 pub mod UdpCalls
 pub mod UdpCreates
 pub mod DatagramCalls
+pub mod NameLookupCalls
 pub mod Views

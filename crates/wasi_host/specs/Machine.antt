@@ -1,5 +1,5 @@
 -- The state behind a guest's calls: its table and its store, and what a handle names in them.
-use Rattle.std.specs.Prelude.{ℕ, Bool, true, length, Option, Some, None, Result, Ok, Err}
+use Rattle.std.specs.Prelude.{ℕ, Bool, true, false, length, Option, Some, None, Result, Ok, Err}
 use Rattle.wasi_addr.specs.declared.address.SocketAddressFamily.{SocketAddressFamily}
 use Rattle.wasi_addr.specs.declared.code.ErrorCode.{ErrorCode}
 use Rattle.wasi_world.specs.declared.ids.OpId.{OpId}
@@ -12,21 +12,22 @@ use Rattle.wasi_world.specs.Asks.{Asks, Give, bind}
 use Rattle.wasi_tcp.specs.Shape.{Socket}
 use Rattle.wasi_tcp.specs.Socket.{new_asks, side_of}
 use Rattle.wasi_streams.specs.Table.{empty}
-use Rattle.wasi_host.specs.Records.{tcp2_at, udp2_at, open_at}
+use Rattle.wasi_host.specs.Records.{tcp2_at, udp2_at, open_at, lookup_at}
 use Rattle.wasi_host.specs.declared.kind.Kind.{Kind}
-use Rattle.wasi_host.specs.declared.kind.Kind.TheVariants.{Tcp2, Udp2, Output, Incoming, Outgoing, Pollable}
+use Rattle.wasi_host.specs.declared.kind.Kind.TheVariants.{Tcp2, Udp2, Output, Incoming, Outgoing, Pollable, Lookup}
 use Rattle.wasi_host.specs.declared.kind.Watched.{Watched}
 use Rattle.wasi_host.specs.declared.kind.Watched.TheVariants as watched
 use Rattle.wasi_host.specs.declared.machine.Machine.{Machine}
 use Rattle.wasi_host.specs.declared.socket.Tcp2Socket.{Tcp2Socket}
 use Rattle.wasi_host.specs.Host.{Stop, Trap, code_stop}
-use Rattle.wasi_host.specs.Kinds.{Handles, kind_at, place_of, udp_of, input_of, output_of, incoming_of, outgoing_of, watched_by, watch_of, place_in, make_asks, taken_out}
+use Rattle.wasi_host.specs.Kinds.{Handles, kind_at, place_of, udp_of, input_of, output_of, incoming_of, outgoing_of, lookup_of, watched_by, watch_of, place_in, make_asks, taken_out}
 pub use Rattle.wasi_host.specs.Names.{own_of}
 use Rattle.wasi_host.specs.Store.{Records, no_records, with_record}
 use Rattle.wasi_host.specs.Jobs.{turn_store_asks}
 use Rattle.wasi_host.specs.Readiness.{ready_at, ready_ids_at}
 use Rattle.wasi_host.specs.Dropping.{release_at, drop_output_at}
 use Rattle.wasi_host.specs.DatagramCalls.{incoming_names, outgoing_ready, ready_incoming_at, drop_incoming_at, drop_outgoing_at}
+use Rattle.wasi_host.specs.NameLookupCalls.{lookup_ready, drop_lookup_at}
 use Rattle.wasi_host.specs.UdpCalls.{release_udp_at}
 use Rattle.wasi_host.specs.UdpCreates.{udp_side_at}
 
@@ -59,6 +60,9 @@ outgoing_at m h = outgoing_of (kind_at m.table h)
 abbrev pub incoming_at : Machine → ℕ → Option ℕ
 incoming_at m h = incoming_of (kind_at m.table h)
 
+abbrev pub lookup_number : Machine → ℕ → Option ℕ
+lookup_number m h = lookup_of (kind_at m.table h)
+
 abbrev pub no_such_handle : {A : Type 0} → Machine → Asks (Result A Stop × Machine)
 no_such_handle m = Give (Err (Trap NoSuchHandle), m)
 
@@ -85,6 +89,7 @@ abbrev pub watched_side : Records → Watched → Option OpId
 watched_side store (watched.Udp place) = udp_side_at (udp2_at store.records place)
 watched_side store (watched.Incoming place) = udp_side_at (udp2_at store.records place)
 watched_side store (watched.Outgoing place) = udp_side_at (udp2_at store.records place)
+watched_side store (watched.Lookup place) = None
 watched_side store w = side_at (tcp2_at store.records (place_in w))
 
 abbrev pub subscribe_on : Machine → OpId → ℕ → Option Watched → Asks (Result ℕ Stop × Machine)
@@ -101,9 +106,11 @@ ready_on m ids None = no_such_handle m
 ready_on m ids (Some (watched.Udp place)) = Give (Ok true, m)
 ready_on m ids (Some (watched.Incoming place)) = bind (ready_incoming_at m.store ids place (open_at m.store.records place)) (λ done. Give (with_store m done))
 ready_on m ids (Some (watched.Outgoing place)) = Give (Ok (outgoing_ready (open_at m.store.records place)), m)
+ready_on m ids (Some (watched.Lookup place)) = Give (Ok (lookup_ready (lookup_at m.store.records place)), m)
 ready_on m ids (Some w) = bind (ready_at m.store (own_of ids.line) ids w (place_in w) (tcp2_at m.store.records (place_in w))) (λ done. Give (with_store m done))
 
--- one look at what a pollable watches; a UDP socket is ready, and an outgoing datagram stream where it sends nothing in the background
+-- one look at what a pollable watches; a UDP socket is ready, an outgoing datagram stream where it sends nothing in the background, and
+-- a lookup where it isn't in progress
 abbrev pub ready_asks : Machine → Ids → ℕ → Asks (Result Bool Stop × Machine)
 ready_asks m ids pollable = ready_on m ids (watch_of (kind_at m.table pollable))
 
@@ -116,6 +123,14 @@ ready_ids_on m ids (Some w) = ready_ids_at ids w (tcp2_at m.store.records (place
 abbrev pub ids_after_ready : Machine → Ids → ℕ → Ids
 ids_after_ready m ids pollable = ready_ids_on m ids (watch_of (kind_at m.table pollable))
 
+-- a receive may begin, whose name is taken also where memory runs out then
+abbrev pub is_incoming : Option Watched → Bool
+is_incoming (Some (watched.Incoming place)) = true
+is_incoming _ = false
+
+abbrev pub watches_incoming : Machine → ℕ → Bool
+watches_incoming m pollable = is_incoming (watch_of (kind_at m.table pollable))
+
 -- == a handle goes
 abbrev pub answered : {A : Type 0} → A × Machine → Result A Stop × Machine
 answered done = (Ok done.0, done.1)
@@ -124,13 +139,14 @@ abbrev pub at_once : Unit {0} × Records → Answer (Unit {0}) × Records
 at_once done = (Ready tt, done.1)
 
 -- a socket releases what it has, an output waits for its writer and an outgoing datagram stream for its datagram, and the rest don't
--- wait
+-- wait; a lookup isn't asked about any more
 abbrev pub drop_kind : Machine → Ids → Kind → Asks (Result (Answer (Unit {0})) Stop × Machine)
 drop_kind m ids (Tcp2 place) = bind (release_at m.store (own_of ids.line) place (tcp2_at m.store.records place)) (λ done. Give (answered (with_store m (at_once done))))
 drop_kind m ids (Udp2 place) = bind (release_udp_at m.store (own_of ids.line) place (udp2_at m.store.records place)) (λ done. Give (answered (with_store m (at_once done))))
 drop_kind m ids (Output place) = bind (drop_output_at m.store ids place (tcp2_at m.store.records place)) (λ done. Give (answered (with_store m done)))
 drop_kind m ids (Incoming place) = Give (answered (with_store m (at_once (drop_incoming_at m.store place (open_at m.store.records place)))))
 drop_kind m ids (Outgoing place) = Give (answered (with_store m (drop_outgoing_at m.store ids place (open_at m.store.records place))))
+drop_kind m ids (Lookup place) = Give (answered (with_store m (at_once (drop_lookup_at m.store place (lookup_at m.store.records place)))))
 drop_kind m ids _ = Give (Ok (Ready tt), m)
 
 abbrev pub drop_taken : Machine → Ids → Result Kind Stop × Handles → Asks (Result (Answer (Unit {0})) Stop × Machine)

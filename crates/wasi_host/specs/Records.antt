@@ -3,7 +3,8 @@ use Rattle.std.specs.Prelude.{ℕ, List, [], ◌∷◌, ◌++◌, Option, Some, 
 use Rattle.std.specs.Global.{Vec}
 use Rattle.std.specs.Vec.{with_item}
 use Rattle.wasi_host.specs.declared.records.Record.{Record}
-use Rattle.wasi_host.specs.declared.records.Record.TheVariants.{Tcp2, Udp2}
+use Rattle.wasi_host.specs.declared.records.Record.TheVariants.{Tcp2, Udp2, Lookup as LookupRecord}
+use Rattle.wasi_host.specs.declared.name_lookup.Lookup.{Lookup}
 use Rattle.wasi_host.specs.declared.socket.Tcp2Socket.{Tcp2Socket}
 use Rattle.wasi_host.specs.declared.udp.Udp2Socket.{Udp2Socket}
 use Rattle.wasi_host.specs.declared.udp.Udp2Socket.TheVariants.{Open}
@@ -63,3 +64,22 @@ open_put records place o = udp2_put records place (Open o)
 
 abbrev pub with_open : Vec Record → ℕ → OpenUdp → Vec Record
 with_open v place o = with_udp2 v place (Open o)
+
+-- == lookups
+-- the lookup that a record is
+abbrev pub lookup_of : Option Record → Option Lookup
+lookup_of (Some (LookupRecord l)) = Some l
+lookup_of _ = None
+
+-- the lookup of this number
+abbrev pub lookup_at : List Record → ℕ → Option Lookup
+lookup_at records place = lookup_of (slice_get records place)
+
+abbrev pub lookup_put : List Record → ℕ → Lookup → List Record
+lookup_put records place l = slice_set records place (LookupRecord l)
+
+abbrev pub lookup_pushed : List Record → Lookup → List Record
+lookup_pushed records l = records ++ LookupRecord l ∷ []
+
+abbrev pub with_lookup_at : Vec Record → ℕ → Lookup → Vec Record
+with_lookup_at v place l = with_item v place (LookupRecord l)

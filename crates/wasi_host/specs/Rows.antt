@@ -7,6 +7,7 @@ use Rattle.wasi_host.specs.contracts.records.Record as rec
 use Rattle.wasi_host.specs.contracts.socket.Tcp2Socket as socket
 use Rattle.wasi_host.specs.contracts.udp.Udp2Socket as datagrams
 use Rattle.wasi_host.specs.contracts.udp.OpenUdp as opened
+use Rattle.wasi_host.specs.contracts.name_lookup.Lookup as lookups
 
 abbrev pub record_row : RattleType
 record_row = rec.the_row
@@ -19,6 +20,9 @@ udp_row = datagrams.the_row
 
 abbrev pub open_row : RattleType
 open_row = opened.the_row
+
+abbrev pub lookup_row : RattleType
+lookup_row = lookups.the_row
 
 abbrev pub records_row : RattleType
 records_row = vec.the_row rec.the_row global.the_row ghosts

@@ -1,9 +1,9 @@
-//! The datagram streams of a UDP socket: how they are made, and how datagrams are sent.
+//! The datagram streams of a UDP socket, and how datagrams are sent.
 
-ghost use Rattle.std.specs.Prelude.{◌≡◌, ◌+◌, ◌<◌, ◌^◌, true, false, None, Some, Ok, length};
+ghost use Rattle.std.specs.Prelude.{◌≡◌, ◌+◌, ◌<◌, ◌^◌, true, false, Ok, length};
 ghost use Rattle.wasi_world.specs.Asks.{AsksFor, outcome};
 ghost use Rattle.wasi_common.specs.Rounds.{is_going, stays_going};
-ghost use Rattle.wasi_host.specs.Datagrams.{has_streams, with_streams, new_outgoing, udp_connect_settled, poll_udp_connect_asks, streams_to, begin_streams_asks, is_sending, sends, permit_of, permitted, with_sending, send_settled, send_counted, send_one_asks, refusal_told, send_next_asks, send_all, send_datagrams_asks, turn_sending, turn_outgoing, send_turned, turn_told};
+ghost use Rattle.wasi_host.specs.Datagrams.{has_streams, new_outgoing, is_sending, sends, permit_of, permitted, with_sending, send_settled, send_counted, send_one_asks, refusal_told, send_next_asks, send_all, send_datagrams_asks, turn_sending, turn_outgoing, send_turned, turn_told};
 ghost use Rattle.wasi_host.specs.Host.{host_outcome};
 ghost use Rattle.wasi_host.specs.Names.{next_name, names_after};
 ghost use Rattle.wasi_host.specs.Sides.{MakesNone};
@@ -14,42 +14,8 @@ use std::alloc::AllocError;
 use std::marker::Model;
 use std::mem;
 use wasi_addr::{ErrorCode, IpSocketAddress, p2};
-use wasi_udp::{RecvOp, SendOp, UdpConnectOp, UdpSocket};
+use wasi_udp::{RecvOp, SendOp, UdpSocket};
 use wasi_world::{Answer, Ids, IncomingDatagram, OpId, OutgoingDatagram, Refusal, TrapKind, World};
-
-/// A connect that was begun: it isn't over, so a poll of it asks.
-#[derive(Drop)]
-pub struct PendingUdpConnect {
-    connect: UdpConnectOp,
-}
-
-impl Model for PendingUdpConnect {
-    ghost use Rattle.std.specs.Prelude.{◌≡◌, true};
-    ghost use Rattle.wasi_common.specs.Rounds.{is_going};
-    ghost use Rattle.wasi_world.specs.Operation.{Operation};
-
-    ghost Value = { Operation };
-
-    ghost view = { λ p. p.connect };
-
-    ghost invariant = { λ p. is_going p.connect ≡ true };
-}
-
-impl PendingUdpConnect {
-    fn new(connect: UdpConnectOp) -> PendingUdpConnect
-        requires { is_going connect ≡ true }
-        ensures { result ≡ connect }
-    {
-        PendingUdpConnect { connect }
-    }
-
-    fn into_inner(self) -> UdpConnectOp
-        ensures connect { result ≡ self }
-        ensures going { is_going result ≡ true }
-    {
-        self.connect
-    }
-}
 
 /// A datagram whose send was begun: it isn't over, so a poll of it asks, or refuses it.
 #[derive(Drop)]
@@ -170,7 +136,7 @@ impl Sending {
 
 impl Outgoing {
     /// A stream on which nothing was sent yet, and nothing is permitted.
-    fn new() -> Outgoing
+    pub(crate) fn new() -> Outgoing
         ensures { result ≡ new_outgoing }
     {
         Outgoing {
@@ -373,120 +339,6 @@ impl OpenUdp {
         match &self.outgoing {
             Some(outgoing) => outgoing.sending.is_in_progress(),
             None => false,
-        }
-    }
-
-    /// Makes both streams; the incoming one keeps the remote address of now.
-    fn open_streams(&mut self)
-        ensures { self.new ≡ with_streams self.old }
-    {
-        self.incoming = Some(Incoming {
-            remote: self.inner.remote(),
-            receiving: Receiving::Nothing,
-        });
-        self.outgoing = Some(Outgoing::new());
-    }
-
-    /// Begins to make both streams. The socket isn't bound: `InvalidState`. With an address it is connected to it first, which is
-    /// polled; without one it is disconnected, where it was connected.
-    pub(crate) fn begin_streams<W: World>(
-        &mut self,
-        world: &mut W,
-        op: OpId,
-        remote: Option<IpSocketAddress>,
-    ) -> Result<Answer<()>, Refusal>
-        requires { (W.seen world.old).ended ≡ false }
-        ensures asked { AsksFor (begin_streams_asks op self.old remote) (W.seen world.old) (W.seen world.new) (λ answer. (answer, self.new)) (outcome result) }
-        ensures none { MakesNone (W.seen world.old) (W.seen world.new) }
-        ensures side { self.new.inner.side ≡ self.old.inner.side }
-        ensures open { (W.seen world.new).ended ≡ false }
-    {
-        if !self.inner.is_bound(world, op)? {
-            return Err(Refusal::Code(ErrorCode::InvalidState));
-        }
-        match remote {
-            Some(addr) => self.begin_connect(world, op, addr),
-            None => self.disconnect(world, op),
-        }
-    }
-
-    /// Begins a connect and polls it.
-    fn begin_connect<W: World>(
-        &mut self,
-        world: &mut W,
-        op: OpId,
-        addr: IpSocketAddress,
-    ) -> Result<Answer<()>, Refusal>
-        requires { (W.seen world.old).ended ≡ false }
-        ensures asked { AsksFor (streams_to op self.old (Some addr)) (W.seen world.old) (W.seen world.new) (λ answer. (answer, self.new)) (outcome result) }
-        ensures none { MakesNone (W.seen world.old) (W.seen world.new) }
-        ensures side { self.new.inner.side ≡ self.old.inner.side }
-        ensures open { (W.seen world.new).ended ≡ false }
-    {
-        let connect = self.inner.connect(world, op, addr)?;
-        self.connecting = Some(PendingUdpConnect::new(connect));
-        self.poll_connect(world)
-    }
-
-    /// Takes the remote address away, where there is one, and makes the streams.
-    fn disconnect<W: World>(&mut self, world: &mut W, op: OpId) -> Result<Answer<()>, Refusal>
-        requires { (W.seen world.old).ended ≡ false }
-        ensures asked { AsksFor (streams_to op self.old None) (W.seen world.old) (W.seen world.new) (λ answer. (answer, self.new)) (outcome result) }
-        ensures none { MakesNone (W.seen world.old) (W.seen world.new) }
-        ensures side { self.new.inner.side ≡ self.old.inner.side }
-        ensures open { (W.seen world.new).ended ≡ false }
-    {
-        if self.inner.is_connected() {
-            self.inner.disconnect(world, op)?;
-        }
-        self.open_streams();
-        Ok(Answer::Ready(()))
-    }
-
-    /// Polls the connect that was begun: done, the streams are made; pending or out of memory, it is kept; refused, there are no
-    /// streams. None was begun: `InvalidState`.
-    pub(crate) fn poll_connect<W: World>(&mut self, world: &mut W) -> Result<Answer<()>, Refusal>
-        requires { (W.seen world.old).ended ≡ false }
-        ensures asked { AsksFor (poll_udp_connect_asks self.old) (W.seen world.old) (W.seen world.new) (λ answer. (answer, self.new)) (outcome result) }
-        ensures none { MakesNone (W.seen world.old) (W.seen world.new) }
-        ensures side { self.new.inner.side ≡ self.old.inner.side }
-        ensures open { (W.seen world.new).ended ≡ false }
-    {
-        match self.connecting.take() {
-            Some(connect) => {
-                let mut connect = connect.into_inner();
-                let polled = connect.poll(world, &mut self.inner);
-                self.settle_connect(connect, polled)
-            }
-            None => Err(Refusal::Code(ErrorCode::InvalidState)),
-        }
-    }
-
-    /// What a poll of a connect, which was taken out for it, makes of the record.
-    fn settle_connect(
-        &mut self,
-        connect: UdpConnectOp,
-        polled: Result<Answer<()>, Refusal>,
-    ) -> Result<Answer<()>, Refusal>
-        requires none { self.old.connecting ≡ None }
-        requires going { is_going connect ≡ stays_going polled }
-        ensures told { result ≡ polled }
-        ensures settled { self.new ≡ udp_connect_settled connect self.old polled }
-    {
-        match polled {
-            Ok(Answer::Ready(())) => {
-                self.open_streams();
-                Ok(Answer::Ready(()))
-            }
-            Ok(Answer::Pending) => {
-                self.connecting = Some(PendingUdpConnect::new(connect));
-                Ok(Answer::Pending)
-            }
-            Err(Refusal::Code(code)) => Err(Refusal::Code(code)),
-            Err(Refusal::Memory(e)) => {
-                self.connecting = Some(PendingUdpConnect::new(connect));
-                Err(Refusal::Memory(e))
-            }
         }
     }
 

@@ -7,7 +7,7 @@ ghost use Rattle.wasi_streams.specs.Table.{is_full, pushed};
 ghost use Rattle.wasi_host.specs.Host.{fault_outcome};
 ghost use Rattle.wasi_host.specs.Store.{Records};
 ghost use Rattle.wasi_host.specs.Sides.{KnowsSides};
-ghost use Rattle.wasi_host.specs.Kinds.{kind_at, place_of, udp_of, input_of, output_of, incoming_of, outgoing_of, stream_of, is_network, watched_by, watch_of, table_parent, make_asks, taken_out, with_handle, Names};
+ghost use Rattle.wasi_host.specs.Kinds.{kind_at, place_of, udp_of, input_of, output_of, incoming_of, outgoing_of, stream_of, lookup_of, is_network, is_error, watched_by, watch_of, table_parent, make_asks, taken_out, with_handle, Names};
 
 use crate::kind::{Kind, Watched};
 use std::alloc::AllocError;
@@ -105,6 +105,27 @@ pub fn stream(table: &Table<Kind>, handle: Handle) -> Result<usize, Fault>
     }
 }
 
+/// The number of a lookup's record.
+pub fn lookup(table: &Table<Kind>, handle: Handle) -> Result<usize, Fault>
+    ensures { Names result (lookup_of (kind_at table.now handle)) }
+{
+    match kind(table, handle) {
+        Some(Kind::Lookup(place)) => Ok(place),
+        _ => Err(Fault::Trap(TrapKind::NoSuchHandle)),
+    }
+}
+
+/// That the handle is of an error.
+pub fn error_value(table: &Table<Kind>, handle: Handle) -> Result<(), Fault>
+    ensures ok { OnOk result (is_error (kind_at table.now handle) ≡ true) }
+    ensures err { IfErr result (λ fault. (fault ≡ Fault.Trap TrapKind.NoSuchHandle) × (is_error (kind_at table.now handle) ≡ false)) }
+{
+    match kind(table, handle) {
+        Some(Kind::ErrorValue) => Ok(()),
+        _ => Err(Fault::Trap(TrapKind::NoSuchHandle)),
+    }
+}
+
 /// What a pollable of this handle would watch.
 pub fn watched(table: &Table<Kind>, handle: Handle) -> Result<Watched, Fault>
     ensures { Names result (watched_by (kind_at table.now handle)) }
@@ -116,6 +137,7 @@ pub fn watched(table: &Table<Kind>, handle: Handle) -> Result<Watched, Fault>
         Some(Kind::Output(place)) => Ok(Watched::Output(place)),
         Some(Kind::Incoming(place)) => Ok(Watched::Incoming(place)),
         Some(Kind::Outgoing(place)) => Ok(Watched::Outgoing(place)),
+        Some(Kind::Lookup(place)) => Ok(Watched::Lookup(place)),
         _ => Err(Fault::Trap(TrapKind::NoSuchHandle)),
     }
 }

@@ -2,13 +2,14 @@
 
 ghost use Rattle.std.specs.Prelude.{◌≡◌, false};
 ghost use Rattle.wasi_world.specs.Asks.{AsksFor};
-ghost use Rattle.wasi_host.specs.Records.{tcp2_at, open_at};
+ghost use Rattle.wasi_host.specs.Records.{tcp2_at, open_at, lookup_at};
+ghost use Rattle.wasi_host.specs.NameLookup.{looks_on, turn_lookup_at};
 ghost use Rattle.wasi_host.specs.Jobs.{turn_at, turn_datagram_at, turn_receive_at, sends_on, receives_on, is_receive_on, other_than_receive, turn_job, turn_jobs, turn_store_asks, still_going, has_job, is_going, is_on, other_jobs};
 ghost use Rattle.wasi_host.specs.Machine.{turn_machine_asks};
 ghost use Rattle.wasi_host.specs.Sides.{KnowsSides, MakesNone, held_in};
 ghost use Rattle.wasi_host.specs.Views.{SameView, state_of};
 
-use crate::records::{Record, open_udp, open_udp_mut, tcp2, tcp2_mut};
+use crate::records::{Record, lookup, lookup_mut, open_udp, open_udp_mut, tcp2, tcp2_mut};
 use crate::socket::Tcp2Socket;
 use crate::store::Store;
 use crate::view::WasiSocketsCtxView;
@@ -24,6 +25,8 @@ pub enum HostJob {
     Datagram { socket: usize },
     /// The receive in progress of the UDP socket of this number.
     Receive { socket: usize },
+    /// The lookup of this number, which the network hasn't answered yet.
+    Lookup { lookup: usize },
 }
 
 impl HostJob {
@@ -35,6 +38,7 @@ impl HostJob {
             HostJob::Write { socket }
             | HostJob::Datagram { socket }
             | HostJob::Receive { socket } => socket == place,
+            HostJob::Lookup { lookup } => lookup == place,
         }
     }
 }
@@ -46,7 +50,7 @@ impl HostJob {
     {
         match self {
             HostJob::Receive { socket } => socket == place,
-            HostJob::Write { .. } | HostJob::Datagram { .. } => false,
+            HostJob::Write { .. } | HostJob::Datagram { .. } | HostJob::Lookup { .. } => false,
         }
     }
 }
@@ -105,6 +109,24 @@ fn turn_receive<W: World>(
     socket.turn_incoming(world)
 }
 
+/// Asks the network again about the lookup of this number, where it is in progress.
+fn turn_lookup<W: World>(
+    records: &mut Vec<Record>,
+    world: &mut W,
+    place: usize,
+) -> Result<(), AllocError>
+    requires { (W.seen world.old).ended ≡ false }
+    ensures asked { AsksFor (turn_lookup_at records.old.items place (lookup_at records.old.items place)) (W.seen world.old) (W.seen world.new) (λ done. records.new.items) result }
+    ensures held { held_in records.new.items ≡ held_in records.old.items }
+    ensures none { MakesNone (W.seen world.old) (W.seen world.new) }
+    ensures open { (W.seen world.new).ended ≡ false }
+{
+    match lookup_mut(records, place) {
+        Some(lookup) => lookup.turn(world),
+        None => Ok(()),
+    }
+}
+
 /// Polls a job once.
 fn turn_job<W: World>(
     records: &mut Vec<Record>,
@@ -121,6 +143,7 @@ fn turn_job<W: World>(
         HostJob::Write { socket } => turn_socket(records, world, socket),
         HostJob::Datagram { socket } => turn_datagram(records, world, socket),
         HostJob::Receive { socket } => turn_receive(records, world, socket),
+        HostJob::Lookup { lookup } => turn_lookup(records, world, lookup),
     }
 }
 
@@ -172,6 +195,16 @@ fn receives_on(records: &[Record], place: usize) -> bool
     }
 }
 
+/// Whether the lookup of this number is in progress.
+fn looks_on(records: &[Record], place: usize) -> bool
+    ensures { result ≡ looks_on (lookup_at records.now place) }
+{
+    match lookup(records, place) {
+        Some(lookup) => lookup.is_in_progress(),
+        None => false,
+    }
+}
+
 /// Whether a job isn't over.
 fn is_going(records: &[Record], job: HostJob) -> bool
     ensures { result ≡ is_going records.now job }
@@ -180,6 +213,7 @@ fn is_going(records: &[Record], job: HostJob) -> bool
         HostJob::Write { socket } => has_job(records, socket),
         HostJob::Datagram { socket } => sends_on(records, socket),
         HostJob::Receive { socket } => receives_on(records, socket),
+        HostJob::Lookup { lookup } => looks_on(records, lookup),
     }
 }
 

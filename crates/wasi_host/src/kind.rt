@@ -20,6 +20,8 @@ pub enum Watched {
     Incoming(usize),
     /// Whether a datagram may be sent.
     Outgoing(usize),
+    /// Whether a lookup has ended.
+    Lookup(usize),
 }
 
 impl Watched {
@@ -33,7 +35,8 @@ impl Watched {
             | Watched::Output(place)
             | Watched::Udp(place)
             | Watched::Incoming(place)
-            | Watched::Outgoing(place) => place,
+            | Watched::Outgoing(place)
+            | Watched::Lookup(place) => place,
         }
     }
 }
@@ -56,6 +59,8 @@ pub enum Kind {
     Outgoing(usize),
     /// A pollable, with what it watches.
     Pollable(Watched),
+    /// A lookup of a host name, with the number of its record.
+    Lookup(usize),
     /// The error of a stream's operation.
     ErrorValue,
 }
@@ -74,12 +79,13 @@ impl Kind {
             Kind::Incoming(_) => HandleKind::Incoming,
             Kind::Outgoing(_) => HandleKind::Outgoing,
             Kind::Pollable(_) => HandleKind::Pollable,
+            Kind::Lookup(_) => HandleKind::Lookup,
             Kind::ErrorValue => HandleKind::ErrorValue,
         }
     }
 
     /// The parent in the table of a handle whose mark names this one: a pollable is a child of what it watches, and the
-    /// streams of a socket are under it; an error's parent is named in its mark alone.
+    /// streams of a socket are under it; the parent of an error and of a lookup is named in its mark alone.
     pub fn table_parent(self, parent: Option<Handle>) -> Option<Handle>
         ensures { result ≡ table_parent self parent }
     {
@@ -89,7 +95,8 @@ impl Kind {
             | Kind::Incoming(_)
             | Kind::Outgoing(_)
             | Kind::Pollable(_) => parent,
-            Kind::Network | Kind::Tcp2(_) | Kind::Udp2(_) | Kind::ErrorValue => None,
+            Kind::Network | Kind::Tcp2(_) | Kind::Udp2(_) | Kind::Lookup(_) | Kind::ErrorValue =>
+                None,
         }
     }
 }

@@ -14,6 +14,7 @@ pub mod jobs;
 pub mod kind;
 pub mod listening;
 pub mod machine;
+pub mod name_lookup;
 mod options;
 pub mod pending;
 mod pollables;
@@ -26,6 +27,7 @@ pub mod store;
 mod streams;
 pub mod udp;
 mod udp_calls;
+pub mod udp_connecting;
 pub mod view;
 
 pub use binding::{AsyncOperation, InProgress};
@@ -36,6 +38,7 @@ pub use jobs::{HostJob, turn};
 pub use kind::{Kind, Watched};
 pub use listening::Listening;
 pub use machine::Machine;
+pub use name_lookup::{Addresses, Lookup, LookupOp};
 pub use pending::{Outcome, resume};
 pub use pollables::{ready, subscribe};
 pub use records::Record;
@@ -43,4 +46,6 @@ pub use socket::{Streams, Tcp2Socket};
 pub use store::{Standing, StandingCall, Store};
 pub use streams::{check_write, convert_stream_error, flush, read, write};
 pub use udp::{OpenUdp, Udp2Socket, UdpInProgress};
-pub use view::{WasiSocketsCtxView, WasiSocketsView};
+pub use view::{
+    NamedId, WasiCtxNamedView, WasiSocketsCtxView, WasiSocketsNamedView, WasiSocketsView,
+};

@@ -6,7 +6,7 @@ ghost use Rattle.wasi_host.specs.Records.{tcp2_at};
 ghost use Rattle.wasi_host.specs.Listening.{TakesOne};
 ghost use Rattle.wasi_host.specs.Host.{fault_outcome};
 ghost use Rattle.wasi_host.specs.Kinds.{place_in};
-ghost use Rattle.wasi_host.specs.Machine.{own_of, subscribe_asks, ready_asks, ids_after_ready, watched_side};
+ghost use Rattle.wasi_host.specs.Machine.{own_of, subscribe_asks, ready_asks, ids_after_ready, watches_incoming, watched_side};
 ghost use Rattle.wasi_host.specs.Readiness.{ready_at, ready_ids_at};
 ghost use Rattle.wasi_host.specs.Sides.{KnowsSides};
 ghost use Rattle.wasi_host.specs.Views.{SameView, state_of};
@@ -31,6 +31,7 @@ impl Store {
             Watched::Socket(_) | Watched::Input(_) | Watched::Output(_) => {
                 self.side(watched.place())
             }
+            Watched::Lookup(_) => None,
         }
     }
 
@@ -55,7 +56,7 @@ impl Store {
     }
 }
 
-/// Makes a pollable of a socket or of one of its streams, under it in the table (`subscribe`).
+/// Makes a pollable of a socket, of one of its streams or of a lookup, under it in the table (`subscribe`).
 pub fn subscribe<W: World>(
     view: &mut WasiSocketsCtxView<'_>,
     world: &mut W,
@@ -78,7 +79,7 @@ pub fn subscribe<W: World>(
 /// Whether what a pollable watches is ready (`pollable.ready`), by one look: the connect in progress of a socket is polled, or
 /// the accept of a listener with nothing in progress, whose result is left to [`accept`](Store::accept); and of a stream it is
 /// asked whether it is ready. An error is ready too, and so is a UDP socket, and an outgoing datagram stream unless its last
-/// datagram isn't sent yet; of an incoming one a receive is begun, where none is, and left to
+/// datagram isn't sent yet, and a lookup unless it is in progress; of an incoming one a receive is begun, where none is, and left to
 /// [`receive`](Store::receive_datagrams). An accept or a receive that begins takes the next name of the line.
 pub fn ready<W: World>(
     view: &mut WasiSocketsCtxView<'_>,
@@ -92,7 +93,8 @@ pub fn ready<W: World>(
     ensures sides { KnowsSides (W.seen world.old) view.old.store.now → KnowsSides (W.seen world.new) view.new.store.now }
     ensures view { SameView view.old view.new }
     ensures taken { TakesOne ids.old ids.new }
-    ensures ids { IfOk (fault_outcome result) (λ ready. ids.new ≡ ids_after_ready (state_of view.old) ids.old pollable) }
+    ensures ids { watches_incoming (state_of view.old) pollable ≡ false → ids.new ≡ ids_after_ready (state_of view.old) ids.old pollable }
+    ensures names { IfOk (fault_outcome result) (λ ready. ids.new ≡ ids_after_ready (state_of view.old) ids.old pollable) }
     ensures open { (W.seen world.new).ended ≡ false }
 {
     let watched = handles::watch(view.table, pollable)?;
@@ -100,6 +102,7 @@ pub fn ready<W: World>(
         Watched::Udp(_) => Ok(true),
         Watched::Incoming(place) => view.store.incoming_ready(world, ids, place),
         Watched::Outgoing(place) => Ok(view.store.outgoing_ready(place)),
+        Watched::Lookup(place) => Ok(view.store.lookup_ready(place)),
         Watched::Socket(_) | Watched::Input(_) | Watched::Output(_) => {
             view.store.poll_ready(world, ids, watched)
         }

@@ -81,7 +81,7 @@ impl Tcp2Socket {
             Watched::Socket(_) => self.socket_ready(world, ids),
             Watched::Input(_) => self.input_ready(world, ids.own()),
             Watched::Output(_) => self.output_ready(world, ids.own()),
-            Watched::Udp(_) | Watched::Incoming(_) | Watched::Outgoing(_) => {
+            Watched::Udp(_) | Watched::Incoming(_) | Watched::Outgoing(_) | Watched::Lookup(_) => {
                 Err(Fault::Trap(TrapKind::NoSuchHandle))
             }
         }

@@ -2,10 +2,11 @@
 
 ghost use Rattle.std.specs.Prelude.{◌≡◌, option_map, Some};
 ghost use Rattle.std.specs.Borrow.{LendsIf, sem};
-ghost use Rattle.wasi_host.specs.Records.{tcp2_of, tcp2_at, with_tcp2, udp2_of, udp2_at, with_udp2, open_at, with_open};
-ghost use Rattle.wasi_host.specs.Rows.{record_row, records_row, socket_row, udp_row, open_row};
-ghost use Rattle.wasi_host.specs.declared.records.Record.TheVariants.{Tcp2, Udp2};
+ghost use Rattle.wasi_host.specs.Records.{tcp2_of, tcp2_at, with_tcp2, udp2_of, udp2_at, with_udp2, open_at, with_open, lookup_of, lookup_at, with_lookup_at};
+ghost use Rattle.wasi_host.specs.Rows.{record_row, records_row, socket_row, udp_row, open_row, lookup_row};
+ghost use Rattle.wasi_host.specs.declared.records.Record.TheVariants.{Tcp2, Udp2, Lookup as LookupRecord};
 
+use crate::name_lookup::Lookup;
 use crate::socket::Tcp2Socket;
 use crate::udp::{OpenUdp, Udp2Socket};
 
@@ -16,6 +17,8 @@ pub enum Record {
     Tcp2(Tcp2Socket),
     /// A UDP socket of the 0.2 interface.
     Udp2(Udp2Socket),
+    /// A lookup of a host name.
+    Lookup(Lookup),
 }
 
 impl Record {
@@ -25,7 +28,7 @@ impl Record {
     {
         match self {
             Record::Tcp2(socket) => Some(socket),
-            Record::Udp2(_) => None,
+            Record::Udp2(_) | Record::Lookup(_) => None,
         }
     }
 
@@ -36,7 +39,7 @@ impl Record {
     {
         match self {
             Record::Tcp2(socket) => Some(socket),
-            Record::Udp2(_) => None,
+            Record::Udp2(_) | Record::Lookup(_) => None,
         }
     }
 
@@ -46,7 +49,7 @@ impl Record {
     {
         match self {
             Record::Udp2(socket) => Some(socket),
-            Record::Tcp2(_) => None,
+            Record::Tcp2(_) | Record::Lookup(_) => None,
         }
     }
 
@@ -57,7 +60,28 @@ impl Record {
     {
         match self {
             Record::Udp2(socket) => Some(socket),
-            Record::Tcp2(_) => None,
+            Record::Tcp2(_) | Record::Lookup(_) => None,
+        }
+    }
+
+    /// The lookup that it is.
+    fn as_lookup(&self) -> Option<&Lookup>
+        ensures { option_map (λ l. l.now) result ≡ lookup_of (Some self.now) }
+    {
+        match self {
+            Record::Lookup(lookup) => Some(lookup),
+            Record::Tcp2(_) | Record::Udp2(_) => None,
+        }
+    }
+
+    /// The lookup that it is, to be changed.
+    fn as_lookup_mut(&mut self) -> Option<&mut Lookup>
+        ensures* writes_back { sem 𝓛 (LendsIf record_row lookup_row self.entry result LookupRecord self.old) }
+        ensures value { option_map (λ l. l.now) result ≡ lookup_of (Some self.old) }
+    {
+        match self {
+            Record::Lookup(lookup) => Some(lookup),
+            Record::Tcp2(_) | Record::Udp2(_) => None,
         }
     }
 }
@@ -105,4 +129,19 @@ pub(crate) fn open_udp_mut(records: &mut Vec<Record>, place: usize) -> Option<&m
     ensures item { option_map (λ o. o.now) result ≡ open_at records.old.items place }
 {
     udp2_mut(records, place)?.as_open_mut()
+}
+
+/// The lookup of this number.
+pub(crate) fn lookup(records: &[Record], place: usize) -> Option<&Lookup>
+    ensures item { option_map (λ l. l.now) result ≡ lookup_at records.now place }
+{
+    records.get(place)?.as_lookup()
+}
+
+/// The lookup of this number, to be changed where it is.
+pub(crate) fn lookup_mut(records: &mut Vec<Record>, place: usize) -> Option<&mut Lookup>
+    ensures* writes_back { sem 𝓛 (LendsIf records_row lookup_row records.entry result (with_lookup_at records.old place) records.old) }
+    ensures item { option_map (λ l. l.now) result ≡ lookup_at records.old.items place }
+{
+    records.get_mut(place)?.as_lookup_mut()
 }

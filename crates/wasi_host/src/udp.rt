@@ -10,7 +10,8 @@ ghost use Rattle.wasi_host.specs.Sides.{HoldsFewer, MakesNone, one_if_some};
 ghost use Rattle.wasi_host.specs.Udp.{udp_side, udp_holds, opened_udp, poll_create_asks, udp_create_settled, udp_create_done, is_udp_idle, is_udp_bound, begin_udp_bind_asks, poll_udp_bind_asks, udp_bind_settled, with_udp_progress, udp_local_asks, close_udp_asks};
 ghost use Rattle.wasi_host.specs.declared.udp.Udp2Socket.TheVariants.{Open};
 
-use crate::datagrams::{Incoming, Outgoing, PendingUdpConnect};
+use crate::datagrams::{Incoming, Outgoing};
+use crate::udp_connecting::PendingUdpConnect;
 use std::alloc::AllocError;
 use std::marker::Model;
 use std::mem;

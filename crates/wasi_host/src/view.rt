@@ -1,6 +1,7 @@
 //! What a host call is given: a context, a table and a store.
 
-ghost use Rattle.std.specs.Prelude.{◌≡◌};
+ghost use Rattle.std.specs.Prelude.{◌≡◌, IsTrue};
+ghost use Rattle.wasi_host.specs.Views.{Knows};
 
 use crate::kind::Kind;
 use crate::store::Store;
@@ -35,4 +36,48 @@ pub trait WasiSocketsView {
         ensures ctx { result.ctx.now ≡ ctx self.old }
         ensures table { result.table.now ≡ table self.old }
         ensures store { result.store.now ≡ store self.old };
+}
+
+/// The number of a context, where there are several (the string that names one in the crate).
+#[derive(Clone, Copy, Debug, PartialEq, Eq, Hash)]
+pub struct NamedId(pub u32);
+
+/// What has several contexts, over one table and one store, gives a view of one of them (`WasiSocketsNamedView` of the crate).
+pub trait WasiSocketsNamedView {
+    ghost use Rattle.std.specs.Prelude.{ℕ, List};
+    ghost use Rattle.wasi_host.specs.Kinds.{Handles};
+    ghost use Rattle.wasi_host.specs.Store.{Records};
+
+    /// The numbers of its contexts.
+    ghost ids: { Self → List ℕ };
+
+    /// Its table.
+    ghost table: { Self → Handles };
+
+    /// Its store.
+    ghost store: { Self → Records };
+
+    /// The view of the context of this number, which is there.
+    fn sockets(&mut self, id: NamedId) -> WasiSocketsCtxView<'_>
+        requires { Knows (ids self.old) id }
+        ensures ctx { result.ctx.now.name ≡ id.0 }
+        ensures table { result.table.now ≡ table self.old }
+        ensures store { result.store.now ≡ store self.old };
+}
+
+/// What has several contexts, to be called by their numbers: a call of one is the plain call in the view that [`at`](Self::at)
+/// gives (`WasiCtxNamedView` of the crate).
+#[derive(Drop)]
+pub struct WasiCtxNamedView<'a, T>(pub &'a mut T);
+
+impl<T: WasiSocketsNamedView> WasiCtxNamedView<'_, T> {
+    /// The view of the context of this number, which is there.
+    pub fn at(&mut self, id: NamedId) -> WasiSocketsCtxView<'_>
+        requires { Knows (T.ids self.old.0.now) id }
+        ensures ctx { result.ctx.now.name ≡ id.0 }
+        ensures table { result.table.now ≡ T.table self.old.0.now }
+        ensures store { result.store.now ≡ T.store self.old.0.now }
+    {
+        self.0.sockets(id)
+    }
 }

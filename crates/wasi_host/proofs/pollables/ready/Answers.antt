@@ -13,5 +13,5 @@ returns-in-Socket-clause-asked g c =
 pub returns-in-Incoming-clause-asked : goal.returns-in-Incoming-clause-asked
 returns-in-Incoming-clause-asked g c = rw (c.in_ok-watched.ensures, c.in-Incoming.is) (asks_gives (with_store (state_of c.args.view.now)) c.incoming_ready.ensures.asked)
 
-pub returns-in-Incoming-clause-ids : goal.returns-in-Incoming-clause-ids
-returns-in-Incoming-clause-ids g c = rw (c.in_ok-watched.ensures, c.in-Incoming.is) c.incoming_ready.ensures.names
+pub returns-in-Incoming-clause-names : goal.returns-in-Incoming-clause-names
+returns-in-Incoming-clause-names g c = rw (c.in_ok-watched.ensures, c.in-Incoming.is) c.incoming_ready.ensures.names

@@ -1,0 +1,80 @@
+-- Lookups of names: what is asked of one, which are in the store, and the network sockets of the records where one is replaced.
+use Rattle.std.specs.Borrow.{Bor, MutBor}
+use Rattle.std.proofs.Common.{◌≡◌, ℕ, zero, suc, ◌+◌, ◌<◌, List, [], ◌∷◌, Some, None, sym, ap, refl, map, length, slice_set, get_or, arith}
+use Rattle.wasi_host.specs.declared.name_lookup.Lookup.{Lookup as NameLookup}
+use Rattle.std.specs.Prelude.{Result}
+use Rattle.std.specs.declared.alloc.AllocError.{AllocError}
+use Rattle.wasi_world.specs.Asks.{AsksFor}
+use Rattle.wasi_world.specs.Seen.{Seen}
+use Rattle.wasi_world.proofs.Walks.{asks_gives}
+use Rattle.wasi_host.specs.declared.jobs.HostJob.{HostJob}
+use Rattle.wasi_host.specs.declared.jobs.HostJob.TheVariants as job
+use Rattle.wasi_host.specs.declared.kind.Kind.TheVariants as kind
+use Rattle.wasi_host.specs.declared.machine.Machine.{Machine}
+use Rattle.wasi_host.specs.Host.{Stop}
+use Rattle.wasi_host.specs.Jobs.{jobs_with}
+use Rattle.wasi_host.specs.Kinds.{Handles, make_asks}
+use Rattle.wasi_host.specs.NameLookup.{is_looking}
+use Rattle.wasi_host.specs.NameLookupCalls.{lookup_handle, with_lookup}
+use Rattle.wasi_host.specs.declared.records.Record.{Record}
+use Rattle.wasi_host.specs.declared.records.Record.TheVariants.{Tcp2, Udp2, Lookup}
+use Rattle.wasi_host.specs.Records.{lookup_at, lookup_put, lookup_pushed}
+use Rattle.wasi_host.specs.Sides.{held_by, held_in}
+use Rattle.wasi_addr.specs.Address.{canonical}
+use Rattle.wasi_addr.specs.declared.address.IpAddress.{IpAddress}
+use Rattle.wasi_world.specs.declared.ids.OpId.{OpId}
+use Rattle.wasi_world.specs.Typed.{ask_lookup}
+use Rattle.wasi_host.proofs.SideCounts.{Calm, Any}
+
+-- no network socket is made or closed
+pub calm_lookup : (op : OpId) (host : List ℕ) → Calm Any (ask_lookup op host)
+calm_lookup op host = ((λ t. refl, refl), λ t. tt)
+
+-- == addresses that were found
+-- the first so many in their canonical form, and the others as they are
+abbrev pub converted : ℕ → List IpAddress → List IpAddress
+converted zero xs = xs
+converted (suc n) [] = []
+converted (suc n) (x ∷ xs) = canonical x ∷ converted n xs
+
+pub converted_all : (xs : List IpAddress) → converted (length xs) xs ≡ map canonical xs
+converted_all [] = refl
+converted_all (x ∷ xs) = ap (λ (l : List IpAddress). canonical x ∷ l) (converted_all xs)
+
+pub length_converted : (n : ℕ) (xs : List IpAddress) → length (converted n xs) ≡ length xs
+length_converted zero xs = refl
+length_converted (suc n) [] = refl
+length_converted (suc n) (x ∷ xs) = ap suc (length_converted n xs)
+
+pub converted_next : (n : ℕ) (xs : List IpAddress) (d : IpAddress) → n < length xs → slice_set (converted n xs) n (canonical (get_or (converted n xs) n d)) ≡ converted (suc n) xs
+converted_next n [] d l = absurd (omega (arith, l))
+converted_next zero (x ∷ xs) d l = refl
+converted_next (suc n) (x ∷ xs) d l = ap (λ (l : List IpAddress). canonical x ∷ l) (converted_next n xs d (omega (arith, l)))
+
+-- == what is lent, by its number
+pub lookup_found : (xs : List Record) (i : ℕ) (x : MutBor NameLookup) → Some x.now ≡ lookup_at xs i → lookup_at xs i ≡ Some x.now
+lookup_found xs i x h = sym h
+
+pub lookup_got : (xs : List Record) (i : ℕ) (x : Bor NameLookup) → Some x.now ≡ lookup_at xs i → lookup_at xs i ≡ Some x.now
+lookup_got xs i x h = sym h
+
+pub no_lookup : (xs : List Record) (i : ℕ) → None ≡ lookup_at xs i → lookup_at xs i ≡ None
+no_lookup xs i h = sym h
+
+-- == the network sockets of the records
+pub held_in-lookup : (rs : List Record) (i : ℕ) (old now : NameLookup) → lookup_at rs i ≡ Some old → held_in (lookup_put rs i now) ≡ held_in rs
+held_in-lookup [] i old now h = refl
+held_in-lookup (Tcp2 r ∷ rs) zero old now h = absurd (cc)
+held_in-lookup (Udp2 u ∷ rs) zero old now h = absurd (cc)
+held_in-lookup (Lookup l ∷ rs) zero old now h = refl
+held_in-lookup (x ∷ rs) (suc i) old now h = ap (λ n. held_by x + n) (held_in-lookup rs i old now h)
+
+pub held_in-lookup_more : (rs : List Record) (l : NameLookup) → held_in (lookup_pushed rs l) ≡ held_in rs
+held_in-lookup_more [] l = refl
+held_in-lookup_more (x ∷ rs) l = ap (λ n. held_by x + n) (held_in-lookup_more rs l)
+
+-- == the handle of a lookup that was begun
+pub lookup_made : (m : Machine) (own : OpId) (network : ℕ) (l : NameLookup) {place : ℕ} {records : List Record} {jobs : List HostJob} {table : Handles} {s t : Seen} {o : Result (Result ℕ Stop) AllocError}
+    → place ≡ length m.store.records → records ≡ lookup_pushed m.store.records l → jobs ≡ jobs_with m.store.jobs (job.Lookup place) (is_looking l) → AsksFor (make_asks m.table own (kind.Lookup place) (Some network) None) s t (λ (made : Result ℕ Stop). (made, table)) o
+    → AsksFor (lookup_handle m own network l) s t (λ (made : Result ℕ Stop). let n : Machine = record { table = table; store = record { records = records; jobs = jobs; standing = m.store.standing } } in (made, n)) o
+lookup_made m own network l p q r h = rw (q, r, p) (asks_gives (λ made. (made.0, record { table = made.1; store = with_lookup m.store l })) (rw p at h))
