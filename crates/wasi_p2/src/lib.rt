@@ -1,20 +1,25 @@
 //! The calls of the 0.2 interface, one function each, over a view of a context, a table and a store.
 #![tactic(auto)]
 
-ghost use Rattle.std.specs.Prelude.{◌≡◌, false};
+ghost use Rattle.std.specs.Prelude.{◌≡◌, IfErr, IfOk, Ok, false};
 ghost use Rattle.wasi_world.specs.Asks.{AsksFor};
 ghost use Rattle.wasi_host.specs.Host.{host_outcome};
 ghost use Rattle.wasi_host.specs.Machine.{own_of};
 ghost use Rattle.wasi_host.specs.Sides.{KnowsSides};
 ghost use Rattle.wasi_host.specs.Views.{SameView, state_of};
+ghost use Rattle.wasi_streams.specs.HostError.{of_fault};
+ghost use Rattle.wasi_p2.specs.Lookup.{error_code_on};
 ghost use Rattle.wasi_p2.specs.Tcp.{network_asks};
 
+pub mod ip_name_lookup;
 mod options;
 pub mod tcp;
 pub mod udp;
 
+use wasi_addr::p2;
 pub use wasi_host::SocketError;
 use wasi_host::{Kind, WasiSocketsCtxView, handles};
+use wasi_streams::{Fault, HostError};
 use wasi_world::{Handle, Ids, World};
 
 /// Makes a handle of the network (`instance-network`).
@@ -32,4 +37,29 @@ pub fn instance_network<W: World>(
 {
     let handle = handles::make(view.table, world, ids.own(), Kind::Network, None, None)?;
     Ok(handle)
+}
+
+/// The code of the network that an error of a stream is of (`network-error-code`). No error of a stream is of one: its code was
+/// told when the stream failed.
+pub fn network_error_code(
+    view: &WasiSocketsCtxView<'_>,
+    error: Handle,
+) -> Result<Option<p2::ErrorCode>, SocketError>
+    ensures { host_outcome result ≡ Ok (error_code_on (state_of view.now) error) }
+{
+    handles::error_value(view.table, error)?;
+    Ok(None)
+}
+
+/// The code that an error of a call tells the guest (`convert_error_code` of the crate). A trap and out of memory tell none, and
+/// are handed back.
+pub fn convert_error_code(error: SocketError) -> Result<p2::ErrorCode, Fault>
+    ensures code { IfOk result (λ code. error ≡ HostError.Code code) }
+    ensures fault { IfErr result (λ fault. error ≡ of_fault fault) }
+{
+    match error {
+        HostError::Code(code) => Ok(code),
+        HostError::Trap(kind) => Err(Fault::Trap(kind)),
+        HostError::Memory(e) => Err(Fault::Memory(e)),
+    }
 }

@@ -1,0 +1,83 @@
+//! The calls of name lookup (`wasi:sockets/ip-name-lookup`). Handles are tested first: one that isn't live or is of another kind is a
+//! trap, `NoSuchHandle`.
+
+ghost use Rattle.std.specs.Prelude.{◌≡◌, Ok, false};
+ghost use Rattle.wasi_world.specs.Asks.{AsksFor};
+ghost use Rattle.wasi_world.specs.Seen.{Seen};
+ghost use Rattle.wasi_host.specs.Host.{host_outcome};
+ghost use Rattle.wasi_host.specs.Machine.{own_of, lookup_number};
+ghost use Rattle.wasi_host.specs.Sides.{KnowsSides};
+ghost use Rattle.wasi_host.specs.Views.{SameView, state_of};
+ghost use Rattle.wasi_p2.specs.Lookup.{resolve_asks, resolved_host, next_address_on};
+
+use crate::SocketError;
+use std::alloc::Global;
+use wasi_addr::{IpAddress, lookup, p2};
+use wasi_host::{WasiSocketsCtxView, handles};
+use wasi_names::{HostName, host_for};
+use wasi_world::{Handle, Ids, NameText, World};
+
+/// Looks up the addresses of a host name (`resolve-addresses`), and makes the handle by which they are taken. The handle of the
+/// network is tested first. Where the context forbids lookup: `PermanentResolverFailure`; a name that is no host:
+/// `InvalidArgument`; and nothing is asked then, nor of a name that is an address. The network is asked about the domain as the
+/// library `url` reads it. Its code, if it answers at once: `NameUnresolvable`, and no handle is made. Takes memory for the name and
+/// for the addresses.
+pub fn resolve_addresses<W: World>(
+    alloc: Global,
+    view: &mut WasiSocketsCtxView<'_>,
+    world: &mut W,
+    ids: &mut Ids,
+    network: Handle,
+    name: NameText,
+) -> Result<Handle, SocketError>
+    requires { (W.seen world.old).ended ≡ false }
+    ensures asked { AsksFor (resolve_asks (state_of view.old) (own_of ids.old.line) view.old.ctx.now network name) (W.seen world.old) (W.seen world.new) (λ made. (made, state_of view.new)) (host_outcome result) }
+    ensures sides { KnowsSides (W.seen world.old) view.old.store.now → KnowsSides (W.seen world.new) view.new.store.now }
+    ensures view { SameView view.old view.new }
+    ensures ids { ids.new ≡ ids.old }
+    ensures open { (W.seen world.new).ended ≡ false }
+{
+    handles::network(view.table, network)?;
+    let host = host_for(alloc, view.ctx, &name)?;
+    resolve(alloc, view, world, ids, network, host)
+}
+
+/// Looks up a host, where the context and the name allow it.
+fn resolve<W: World>(
+    alloc: Global,
+    view: &mut WasiSocketsCtxView<'_>,
+    world: &mut W,
+    ids: &mut Ids,
+    network: Handle,
+    host: Result<HostName, lookup::ErrorCode>,
+) -> Result<Handle, SocketError>
+    requires { (W.seen world.old).ended ≡ false }
+    ensures asked { AsksFor (resolved_host (state_of view.old) (own_of ids.old.line) network host) (W.seen world.old) (W.seen world.new) (λ made. (made, state_of view.new)) (host_outcome result) }
+    ensures sides { KnowsSides (W.seen world.old) view.old.store.now → KnowsSides (W.seen world.new) view.new.store.now }
+    ensures view { SameView view.old view.new }
+    ensures ids { ids.new ≡ ids.old }
+    ensures open { (W.seen world.new).ended ≡ false }
+{
+    match host {
+        Ok(host) => view
+            .store
+            .resolve(alloc, view.table, world, ids.own(), network, host),
+        Err(code) => Err(SocketError::Code(p2::ErrorCode::from_lookup(code))),
+    }
+}
+
+/// The next address that a lookup found (`resolve-next-address`), in the order in which the network told them, each once, and an IPv4
+/// address always as one; none once all were handed out. The network hasn't answered yet: `WouldBlock`. It answered with a code:
+/// `NameUnresolvable`, each time. Asks nothing.
+pub fn resolve_next_address(
+    view: &mut WasiSocketsCtxView<'_>,
+    this: Handle,
+) -> Result<Option<IpAddress>, SocketError>
+    ensures answer { host_outcome result ≡ Ok (next_address_on (state_of view.old) (lookup_number (state_of view.old) this)).0 }
+    ensures state { state_of view.new ≡ (next_address_on (state_of view.old) (lookup_number (state_of view.old) this)).1 }
+    ensures sides { (s : Seen) → KnowsSides s view.old.store.now → KnowsSides s view.new.store.now }
+    ensures view { SameView view.old view.new }
+{
+    let place = handles::lookup(view.table, this)?;
+    view.store.next_address(place)
+}
