@@ -2,6 +2,7 @@
 use Rattle.std.specs.Prelude.{◌≡◌, ℕ, ◌+◌, length, Bool, false, if◌then◌else◌, List, [], ◌∷◌, ◌++◌, Option, Some, None, is_some, Result, Ok, Err, slice_get}
 use Rattle.wasi_addr.specs.declared.address.IpSocketAddress.{IpSocketAddress}
 use Rattle.wasi_addr.specs.declared.address.SocketAddressFamily.{SocketAddressFamily}
+use Rattle.wasi_addr.specs.declared.p2.ErrorCode.{ErrorCode as P2Code}
 use Rattle.wasi_addr.specs.Code.{p2_of_code}
 use Rattle.wasi_world.specs.declared.ids.Ids.{Ids}
 use Rattle.wasi_world.specs.declared.ids.OpId.{OpId}
@@ -15,20 +16,22 @@ use Rattle.wasi_host.specs.declared.pending.Outcome.{Outcome}
 use Rattle.wasi_host.specs.declared.pending.Outcome.TheVariants.{Nothing, One, Two}
 use Rattle.wasi_host.specs.declared.store.Standing.{Standing}
 use Rattle.wasi_host.specs.Host.{Stop, Code, Trap, CallStop, Failed, Closed, Traps}
-use Rattle.wasi_host.specs.Machine.{first_state, own_of, socket_at, udp_socket_at, incoming_at, outgoing_at, create_asks, subscribe_asks, ready_asks, drop_asks, turn_machine_asks}
+use Rattle.wasi_host.specs.Machine.{first_state, own_of, socket_at, udp_socket_at, incoming_at, outgoing_at, lookup_number, create_asks, subscribe_asks, ready_asks, drop_asks, turn_machine_asks}
 use Rattle.wasi_host.specs.StreamCalls.{read_asks, check_asks, write_asks, flushed_asks}
 use Rattle.wasi_host.specs.InProgress.{is_bind, is_listen}
 use Rattle.wasi_host.specs.Pending.{resume_asks}
 use Rattle.wasi_host.specs.UdpCreates.{create_udp_asks}
 use Rattle.wasi_p2.specs.Tcp.{network_asks, start_bind_asks, finish_on, start_connect_asks, finish_connect_asks, local_address_on, remote_address_on, is_listening_on, address_family_on, shutdown_on, start_listen_on, accept_asks}
 use Rattle.wasi_p2.specs.Options.{get_option_on, set_option_on, set_backlog_on}
+use Rattle.wasi_p2.specs.Lookup.{resolve_asks, next_address_on, error_code_on}
 use Rattle.wasi_p2.specs.Udp.{start_udp_bind_asks, finish_udp_bind_on, udp_local_on, udp_remote_on, udp_family_on, get_udp_option_on, set_udp_option_on, udp_stream_asks, check_send_on, send_datagrams_on, receive_datagrams_on}
+use Rattle.wasi_steps.specs.declared.fields.NoCode.{NoCode}
 use Rattle.wasi_steps.specs.declared.reply.Field.{Field}
 use Rattle.wasi_steps.specs.declared.reply.Reply.{Reply}
 use Rattle.wasi_steps.specs.declared.reply.Reply.TheVariants as reply
 use Rattle.wasi_steps.specs.declared.step.Step.{Step}
 use Rattle.wasi_steps.specs.declared.step.Step.TheVariants as step
-use Rattle.wasi_steps.specs.Reply.{word_of_p2, is_trap, no_fields, no_values, number_fields, pair_fields, pair_values, datagram_values, triple_values, bytes_fields, truth_fields, family_fields, address_values}
+use Rattle.wasi_steps.specs.Reply.{word_of_p2, is_trap, no_fields, no_values, number_fields, pair_fields, pair_values, datagram_values, triple_values, bytes_fields, truth_fields, family_fields, address_values, found_values, absent_values}
 use Rattle.wasi_steps.specs.Settings.{Chosen, AnOption, TheBacklog, chosen, udp_opt, udp_chosen}
 use Rattle.wasi_steps.specs.Steps.{context_of}
 
@@ -65,6 +68,11 @@ truth_reply = reply_of truth_fields
 
 abbrev pub family_reply : Result SocketAddressFamily Stop → Reply
 family_reply = reply_of family_fields
+
+-- of a call that never gives a code
+abbrev pub without_code : Result (Option P2Code) Stop → Result NoCode Stop
+without_code (Ok code) = Ok (record {})
+without_code (Err stop) = Err stop
 
 -- of a call of a stream
 abbrev pub call_stop_reply : CallStop → Reply
@@ -158,6 +166,9 @@ call_asks ctx m line (step.UdpStream c s remote) = bind (udp_stream_asks m (firs
 call_asks ctx m line (step.UdpReceive c incoming most) = bind (receive_datagrams_on m (first_ids line) most (incoming_at m incoming)) (λ done. Give (reply_of datagram_values done.0, done.1))
 call_asks ctx m line (step.UdpCheckSend c outgoing) = let done = check_send_on m (outgoing_at m outgoing) in Give (reply_of number_fields done.0, done.1)
 call_asks ctx m line (step.UdpSend c outgoing datagrams) = bind (send_datagrams_on m (first_ids line) datagrams (outgoing_at m outgoing)) (λ done. Give (reply_of number_fields done.0, done.1))
+call_asks ctx m line (step.Resolve c n name) = bind (resolve_asks m (own_of line) ctx n name) (λ done. Give (reply_of number_fields done.0, done.1))
+call_asks ctx m line (step.ResolveNext c lookup) = let done = next_address_on m (lookup_number m lookup) in Give (reply_of found_values done.0, done.1)
+call_asks ctx m line (step.NetworkErrorCode c e) = Give (reply_of absent_values (without_code (error_code_on m e)), m)
 call_asks ctx m line (step.Read c input len) = bind (read_asks m (own_of line) input len) (λ done. Give (stream_reply_of bytes_fields done.0, done.1))
 call_asks ctx m line (step.CheckWrite c output) = bind (check_asks m (own_of line) output) (λ done. Give (stream_reply_of number_fields done.0, done.1))
 call_asks ctx m line (step.Write c output bytes) = bind (write_asks m (own_of line) output bytes) (λ done. Give (stream_reply_of no_values done.0, done.1))

@@ -1,9 +1,11 @@
 pub mod Words
 pub mod Lists
 pub mod UdpLists
+pub mod LookupLists
 pub mod Gives
 pub mod walks
 pub mod fits
 pub mod claims
 pub mod remotes
 pub mod licence
+pub mod order

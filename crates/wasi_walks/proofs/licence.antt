@@ -1,4 +1,5 @@
 -- Each ask is licensed.
+pub mod Lookups
 pub mod State
 pub mod Frames
 pub mod DatagramFrames
@@ -13,9 +14,11 @@ pub mod Replies
 pub mod Longer
 pub mod Fresh
 pub mod Line
+pub mod LookupMoves
 pub mod UdpMoves
 pub mod Moves
 pub mod Asked
+pub mod LookupAsks
 pub mod Marks
 pub mod UdpAsks
 pub mod DatagramAsks

@@ -12,6 +12,7 @@ pub mod Udp
 pub mod Datagrams
 pub mod Sends
 pub mod Receives
+pub mod Lookups
 pub mod SocketSteps
 pub mod ListenSteps
 pub mod Steps

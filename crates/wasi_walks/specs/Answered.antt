@@ -35,7 +35,7 @@ use Rattle.wasi_tcp.specs.Connect.{IsConnect}
 use Rattle.wasi_tcp.specs.Connecting.{with_state, is_connectable}
 use Rattle.wasi_tcp.specs.Addresses.{usable_side}
 use Rattle.wasi_tcp.specs.Writer.{error_of_code, collected}
-use Rattle.wasi_host.specs.Records.{tcp2_at, udp2_at, open_at}
+use Rattle.wasi_host.specs.Records.{tcp2_at, udp2_at, open_at, lookup_at}
 use Rattle.wasi_host.specs.declared.machine.Machine.{Machine}
 use Rattle.wasi_steps.specs.declared.reply.CodeWord.{CodeWord}
 use Rattle.wasi_steps.specs.declared.reply.CodeWord.TheVariants as word
@@ -52,7 +52,7 @@ use Rattle.wasi_host.specs.Kinds.{watched_by, watch_of, place_in}
 use Rattle.wasi_host.specs.declared.store.StandingCall.{StandingCall}
 use Rattle.wasi_host.specs.declared.store.StandingCall.TheVariants as standing
 use Rattle.wasi_steps.specs.Reply.{word_of_p2}
-use Rattle.wasi_steps.specs.Steps.{Kind, HandleOf, ALine, ANetwork, ASocket, ADatagramSocket, AnInput, AnOutput, AnIncoming, AnOutgoing, Watchable, APollable, Anything, Value, Values, signature}
+use Rattle.wasi_steps.specs.Steps.{Kind, HandleOf, ALine, ANetwork, ASocket, ADatagramSocket, AnInput, AnOutput, AnIncoming, AnOutgoing, ALookup, AnError, Watchable, APollable, Anything, Value, Values, signature}
 use Rattle.wasi_host.specs.Kinds.{kind_at, udp_of, with_handle}
 use Rattle.wasi_host.specs.Binding.{left_of}
 use Rattle.wasi_host.specs.InProgress.{is_nothing, is_bind, is_connect}
@@ -60,8 +60,9 @@ use Rattle.wasi_host.specs.Standing.{call_of}
 use Rattle.wasi_host.specs.Store.{with_inner, with_reader, with_writer, with_socket, idle}
 use Rattle.wasi_host.specs.declared.datagrams.Incoming.{Incoming}
 use Rattle.wasi_host.specs.declared.datagrams.Outgoing.{Outgoing}
-use Rattle.wasi_host.specs.Machine.{socket_at, udp_socket_at, input_at, output_at, incoming_at, outgoing_at}
-use Rattle.wasi_host.specs.Kinds.{is_network}
+use Rattle.wasi_host.specs.declared.name_lookup.Lookup.{Lookup}
+use Rattle.wasi_host.specs.Machine.{socket_at, udp_socket_at, input_at, output_at, incoming_at, outgoing_at, lookup_number}
+use Rattle.wasi_host.specs.Kinds.{is_network, is_error}
 use Rattle.wasi_machine.specs.Machine.{machine_asks}
 use Rattle.wasi_walks.specs.Licence.{Has, entry}
 
@@ -147,6 +148,11 @@ incoming_in m h = incoming_of_open (open_in m (incoming_at m h))
 abbrev pub outgoing_in : Machine → ℕ → Option Outgoing
 outgoing_in m h = outgoing_of_open (open_in m (outgoing_at m h))
 
+-- the lookup of a live handle of one
+abbrev pub lookup_in : Machine → Option ℕ → Option Lookup
+lookup_in m None = None
+lookup_in m (Some place) = lookup_at m.store.records place
+
 -- == what a pollable watches
 -- what is watched isn't there
 abbrev pub MissesRecord : Watched → Option Tcp2Socket → Type 0
@@ -156,6 +162,7 @@ MissesRecord (watched.Output place) found = streams_in found ≡ None
 MissesRecord (watched.Udp place) found = ⊥
 MissesRecord (watched.Incoming place) found = ⊥
 MissesRecord (watched.Outgoing place) found = ⊥
+MissesRecord (watched.Lookup place) found = ⊥
 
 abbrev pub MissesWatched : Machine → Option Watched → Type 0
 MissesWatched m None = ⊤
@@ -186,6 +193,8 @@ MissesValue m (HandleOf AnIncoming) h = incoming_in m h ≡ None
 MissesValue m (HandleOf AnOutgoing) h = outgoing_in m h ≡ None
 MissesValue m (HandleOf AnInput) h = input_streams m h ≡ None
 MissesValue m (HandleOf AnOutput) h = output_streams m h ≡ None
+MissesValue m (HandleOf ALookup) h = lookup_in m (lookup_number m h) ≡ None
+MissesValue m (HandleOf AnError) h = is_error (kind_at m.table h) ≡ false
 MissesValue m (HandleOf Watchable) h = watched_by (kind_at m.table h) ≡ None
 MissesValue m (HandleOf APollable) h = MissesWatched m (watch_of (kind_at m.table h))
 MissesValue m (HandleOf Anything) h = kind_at m.table h ≡ None
@@ -204,7 +213,7 @@ MissesHandle m (step.UdpStartBind ctx socket network a) = (is_network (kind_at m
 MissesHandle m s = MissesFirst m (signature s).written.kinds (signature s).written.values
 
 -- the step makes a handle, the two of a connection's streams or of a UDP socket's, those of an accepted connection, or the one of a
--- stream's error; a poll makes that of a create, or those of datagram streams
+-- stream's error or of a lookup; a poll makes that of a create, or those of datagram streams
 abbrev pub MakesHandle : Step → Type 0
 MakesHandle (step.Network ctx) = ⊤
 MakesHandle (step.TcpCreate ctx family) = ⊤
@@ -212,6 +221,7 @@ MakesHandle (step.UdpCreate ctx family) = ⊤
 MakesHandle (step.UdpStream ctx socket remote) = ⊤
 MakesHandle (step.TcpFinishConnect ctx socket) = ⊤
 MakesHandle (step.TcpAccept ctx socket) = ⊤
+MakesHandle (step.Resolve ctx network name) = ⊤
 MakesHandle (step.Read ctx input len) = ⊤
 MakesHandle (step.CheckWrite ctx output) = ⊤
 MakesHandle (step.Write ctx output bytes) = ⊤

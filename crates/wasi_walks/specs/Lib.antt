@@ -2,3 +2,4 @@ pub mod Licence
 pub mod Answered
 pub mod Listens
 pub mod Waiting
+pub mod Received

@@ -14,6 +14,7 @@ use Rattle.wasi_world.specs.declared.ids.OpId.{OpId}
 use Rattle.wasi_world.specs.declared.call.Call.{Call}
 use Rattle.wasi_world.specs.declared.call.Call.TheVariants.{Check, Lookup, TcpCreate, UdpCreate, UdpWritable, Local, Peer, Bind, UdpBind, UdpConnect, Listen, SetBacklog, Connect, Accept, Hand, Refuse, Read, ReadReady, WriteReady, Write, Shutdown, UdpDisconnect, Send, Recv, GetOption, SetOption, Close, Made}
 use Rattle.wasi_world.specs.declared.call.HandleKind.{HandleKind}
+use Rattle.wasi_world.specs.declared.call.HandleKind.TheVariants as handle_kind
 use Rattle.wasi_world.specs.declared.call.HandleKind.TheVariants.{Network, Tcp2, Udp2, Input, Output, Pollable, ErrorValue, Incoming, Outgoing}
 use Rattle.wasi_world.specs.declared.call.Opt.{Opt}
 use Rattle.wasi_world.specs.declared.call.Told.{Told}
@@ -21,6 +22,8 @@ use Rattle.wasi_world.specs.declared.call.Told.TheVariants.{Done, Yes, Addr, Arr
 use Rattle.wasi_world.specs.declared.call.Entry.{Entry}
 use Rattle.wasi_world.specs.declared.outcome.WasiSocketsCtx.{WasiSocketsCtx}
 use Rattle.wasi_common.specs.Options.{value_set}
+use Rattle.wasi_names.specs.declared.name.HostName.TheVariants.{Domain}
+use Rattle.wasi_names.specs.Names.{name_is}
 use Rattle.wasi_steps.specs.declared.reply.Field.{Field}
 use Rattle.wasi_steps.specs.declared.reply.Reply.{Reply}
 use Rattle.wasi_steps.specs.Reply.{datagram_values}
@@ -210,6 +213,17 @@ abbrev pub IsUdpCreate : List WasiSocketsCtx → ℕ → SocketAddressFamily →
 IsUdpCreate contexts name family (step.UdpCreate ctx f) = MayUseUdp contexts ctx name × (f ≡ family)
 IsUdpCreate contexts name family _ = ⊥
 
+-- The context of this number may look names up.
+pub record MayLookUp (contexts : List WasiSocketsCtx) (number : ℕ) : Type 0 where
+  pub ctx : WasiSocketsCtx
+  pub at : slice_get contexts number ≡ Some ctx
+  pub lookup : ctx.ip_name_lookup ≡ true
+
+-- a lookup of a name, which is this domain, by a context that may look names up
+abbrev pub IsLookupOf : List WasiSocketsCtx → List ℕ → Step → Type 0
+IsLookupOf contexts host (step.Resolve ctx network name) = MayLookUp contexts ctx × (name_is name ≡ Some (Domain host))
+IsLookupOf contexts host _ = ⊥
+
 -- a create of a TCP socket
 abbrev pub MakesTcp : Step → Type 0
 MakesTcp (step.TcpCreate ctx family) = ⊤
@@ -328,8 +342,8 @@ pub record IsStreamMark (before : List Entry) (op : OpId) (kind : HandleKind) (p
   pub marked : Has before (entry op (Made socket Tcp2 above sock) told)
 
 -- what a mark says, by the step that makes the handle: a network has no network socket, a socket that was created has its own,
--- one that was accepted has what was handed over, and the two streams of a connection or of a UDP socket, an error and a pollable are
--- of their parent's; no other step makes a handle
+-- one that was accepted has what was handed over, a lookup has none, and the two streams of a connection or of a UDP socket, an error and
+-- a pollable are of their parent's; no other step makes a handle
 abbrev pub IsMarkOf : List Entry → OpId → HandleKind → Option ℕ → Option OpId → Step → Type 0
 IsMarkOf before op kind parent sock (step.Network ctx) = (kind ≡ Network) × (parent ≡ None) × (sock ≡ None)
 IsMarkOf before op kind parent sock (step.TcpCreate ctx family) =
@@ -343,15 +357,15 @@ IsMarkOf before op kind parent sock (step.Read ctx input len) = (kind ≡ ErrorV
 IsMarkOf before op kind parent sock (step.CheckWrite ctx output) = (kind ≡ ErrorValue) × IsOfParent before output parent sock
 IsMarkOf before op kind parent sock (step.Write ctx output bytes) = (kind ≡ ErrorValue) × IsOfParent before output parent sock
 IsMarkOf before op kind parent sock (step.Flush ctx output) = (kind ≡ ErrorValue) × IsOfParent before output parent sock
+IsMarkOf before op kind parent sock (step.Resolve ctx network name) = (kind ≡ handle_kind.Lookup) × (parent ≡ Some network) × (sock ≡ None)
 IsMarkOf before op kind parent sock (step.Subscribe ctx handle) = (kind ≡ Pollable) × IsOfParent before handle parent sock
 IsMarkOf before op kind parent sock _ = ⊥
 
 -- == the table
--- What an operation may ask after these entries. Of a call whose row needs a step that isn't there yet it says that it may not
--- be asked at all: the row comes with the step.
+-- What an operation may ask after these entries.
 abbrev pub MayAsk : List WasiSocketsCtx → List Step → List Entry → OpId → Call → Type 0
 MayAsk contexts steps before op (Check ctx addr usage) = ⊤
-MayAsk contexts steps before op (Lookup host) = ⊥
+MayAsk contexts steps before op (Lookup host) = BeganBy steps op (IsLookupOf contexts host)
 MayAsk contexts steps before op (TcpCreate ctx family) = BeganBy steps op (IsTcpCreate contexts ctx family)
 MayAsk contexts steps before op (UdpCreate ctx family) = BeganBy steps op (IsUdpCreate contexts ctx family)
 MayAsk contexts steps before op (UdpWritable sock) = ReachesSide steps before op sock

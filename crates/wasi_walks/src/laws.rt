@@ -10,6 +10,7 @@ ghost use Rattle.wasi_host.specs.declared.machine.Machine.{Machine};
 ghost use Rattle.wasi_steps.specs.declared.reply.Reply.{Reply};
 ghost use Rattle.wasi_steps.specs.declared.step.Step.{Step};
 ghost use Rattle.wasi_walks.specs.Licence.{IsLicensed, IsSide, IsMaker};
+ghost use Rattle.wasi_walks.specs.Received.{HandsOutInOrder};
 ghost use Rattle.wasi_host.specs.Machine.{first_state};
 ghost use Rattle.wasi_machine.specs.Machine.{run, HasRun};
 
@@ -52,4 +53,12 @@ pub fn sides_have_one_maker()
         (ctx other : ℕ) (family its : SocketAddressFamily)
         → IsLicensed contexts steps log replies → IsMaker log ctx family side → IsMaker log other its side
         → (ctx ≡ other) × (family ≡ its) }
+{}
+
+/// What the replies of a run to the receives on a network socket's streams hand out was received on it in this order, and none of it
+/// is handed out twice: each datagram has its own place in the log, where it was received, and its own yes about its sender, which the
+/// same operation was answered after that and before the place of the next.
+pub fn datagrams_are_handed_out_in_order()
+    ensures { (contexts : List WasiSocketsCtx) (steps : List Step) (log : List Entry) (replies : List Reply) (side : OpId)
+        → HasRun contexts steps log replies → HandsOutInOrder log side steps replies }
 {}

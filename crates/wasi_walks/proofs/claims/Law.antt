@@ -23,11 +23,13 @@ use Rattle.wasi_host.specs.Datagrams.{udp_connect_left, with_sending}
 use Rattle.wasi_host.specs.Kinds.{Handles}
 use Rattle.wasi_host.specs.Receiving.{receive_left, with_receiving}
 use Rattle.wasi_host.specs.Records.{tcp2_at, tcp2_put, tcp2_pushed, udp2_at, udp2_pushed}
+use Rattle.wasi_host.specs.declared.name_lookup.LookupOp.{LookupOp}
+use Rattle.wasi_host.specs.declared.records.Record.{Record}
 use Rattle.wasi_host.specs.declared.udp.Udp2Socket.{Udp2Socket}
 use Rattle.wasi_host.specs.Udp.{udp_bind_progress, udp_create_left, udp_side, with_udp_progress}
 use Rattle.wasi_udp.specs.Create.{new_create, after_create as udp_after_create}
 use Rattle.wasi_walks.proofs.UdpLists.{tcp_of_put, tcp_of_push, udp_of_put, udp_of_push, udp_get_set, udp_split}
-use Rattle.wasi_walks.proofs.walks.Moves.{put_udp, FoundUdp, udp_begun, Names, UdpChanges, BeginsUdpBind, BeginsUdpConnect, BeginsSend, BeginsReceive, Counts, SpendsNames, UdpCreates, UdpBindsOn, UdpConnectsOn, SendsOn, ReceivesOn}
+use Rattle.wasi_walks.proofs.walks.Moves.{with_records, SameSockets, Finds, put_udp, FoundUdp, udp_begun, Names, UdpChanges, BeginsUdpBind, BeginsUdpConnect, BeginsSend, BeginsReceive, Counts, SpendsNames, UdpCreates, UdpBindsOn, UdpConnectsOn, SendsOn, ReceivesOn}
 
 -- it was made with this network socket, or its accept has this name, by which a network socket will be made
 abbrev pub Claims : OpId → Tcp2Socket → Type 0
@@ -205,12 +207,37 @@ module _ (line : ℕ) where
       tcp : (i : ℕ) (r : Tcp2Socket) → tcp2_at (udp2_pushed h.machine.store.records now) i ≡ Some r → Found h i r
       tcp = tcp_of_push h.machine.store.records now
 
+  -- the records are others with the same sockets
+  pub records_named : {new : LookupOp → Type 0} (h : Here) (records : List Record) → SameSockets new h.machine.store.records records → Named line h → Named line (with_records h records)
+  records_named h records s n = record {
+    one = λ x i k r q e f c d. n.one x i k r q (tcp i r e) (tcp k q f) c d;
+    apart = λ x i r e a b. n.apart x i r (tcp i r e) a b;
+    older = λ x i r e c. n.older x i r (tcp i r e) c;
+    named = λ x i r e a. n.named x i r (tcp i r e) a;
+    held = λ op i r e a. n.held op i r (tcp i r e) a;
+    udps = record {
+      one = λ x i k u v e f c d. n.udps.one x i k u v (udp i u e) (udp k v f) c d;
+      apart = λ x i k r u e f c d. n.udps.apart x i k r u (tcp i r e) (udp k u f) c d;
+      older = λ i u e. n.udps.older i u (udp i u e);
+    };
+  }
+    where
+      tcp : (i : ℕ) (r : Tcp2Socket) → tcp2_at records i ≡ Some r → Found h i r
+      tcp i r e = sym (s.tcp i) ∙ e
+
+      udp : (i : ℕ) (u : Udp2Socket) → udp2_at records i ≡ Some u → FoundUdp h i u
+      udp i u e = sym (s.udp i) ∙ e
+
 pub accept_plain : (L : Type 0) (items : List Item) → IsLeftOfAccept items → AllAskBut L items
 accept_plain L _ accept.Unarrived = (tt, tt)
 accept_plain L _ (accept.Arrived peer) = (tt, tt)
 accept_plain L _ (accept.Admitted peer) = (tt, tt)
 accept_plain L _ (accept.Unwanted peer) = (tt, tt)
 accept_plain L _ accept.Ended = tt
+
+-- the names of parts are none of the line's own
+pub own_of_parts : (line : ℕ) (own now : Own) → own ≡ now → next_of line now ≡ line → next_of line own ≤ line
+own_of_parts line own now e l = let z : next_of line own ≡ line = ap (next_of line) e ∙ l in omega (arith, z)
 
 module _ (contexts : List WasiSocketsCtx) (line : ℕ) (origin : Step) where
   -- the socket changes
@@ -242,10 +269,6 @@ module _ (contexts : List WasiSocketsCtx) (line : ℕ) (origin : Step) where
   spends_named : (h : Here) → Named line h → Named line (record h { own = Used })
   spends_named h n = owns_named h Used n (by_line h.own)
 
-  -- the names of parts are none of its own
-  own_of_parts : (own now : Own) → own ≡ now → next_of line now ≡ line → next_of line own ≤ line
-  own_of_parts own now e l = let z : next_of line own ≡ line = ap (next_of line) e ∙ l in omega (arith, z)
-
   put_spent : (h : Here) (place : ℕ) (r now : Tcp2Socket) → Found h place r → now.side ≡ r.side → now.listening ≡ r.listening → ((x : OpId) → side_of now.inner ≡ Some x → side_of r.inner ≡ Some x) → Named line h → Named line (record (put h place now) { own = Used })
   put_spent h place r now g s l k n = spends_named (put h place now) (put_inner h place r now g s l k n)
 
@@ -273,7 +296,7 @@ module _ (contexts : List WasiSocketsCtx) (line : ℕ) (origin : Step) where
   pub moves_named : (h now : Here) → Move line origin h now → Named line h → Named line now
   moves_named _ _ (Spends h e) n = spends_named h n
   moves_named _ _ (SpendsNames h part e) n = spends_named h n
-  moves_named _ _ (Counts h e) n = owns_named h (Names 1) n (own_of_parts h.own Unused e refl)
+  moves_named _ _ (Counts h e) n = owns_named h (Names 1) n (own_of_parts line h.own Unused e refl)
   moves_named _ _ (Changes h place r now g p) n = put_inner h place r now g p.side p.listening (λ x e. sym (ap side_in p.does) ∙ e) n
   moves_named _ _ (ClosesReader h place r s g e) n = put_inner h place r _ g refl refl (λ x e. e) n
   moves_named _ _ (Writes h place r s w g e m) n = put_inner h place r _ g refl refl (λ x e. e) n
@@ -305,8 +328,9 @@ module _ (contexts : List WasiSocketsCtx) (line : ℕ) (origin : Step) where
   moves_named _ _ (UdpChanges h place o now g p) n = put_udp_named line h place (Udp2Socket.Open o) (Udp2Socket.Open now) g p.side n
   moves_named _ _ (BeginsUdpBind h place o a at g to idle own) n = put_udp_by line h place (Udp2Socket.Open o) (Udp2Socket.Open _) g refl n Used (by_line h.own)
   moves_named _ _ (BeginsUdpConnect h place o a at g to bound own) n = put_udp_by line h place (Udp2Socket.Open o) (Udp2Socket.Open _) g refl n Used (by_line h.own)
-  moves_named _ _ (BeginsSend h place part o out d bound at g e is known own) n = put_udp_by line h place (Udp2Socket.Open o) (Udp2Socket.Open _) g refl n (Names (part + 1)) (own_of_parts h.own (Names part) own refl)
-  moves_named _ _ (BeginsReceive h place part o inc bound at g e own) n = put_udp_by line h place (Udp2Socket.Open o) (Udp2Socket.Open _) g refl n (Names (part + 1)) (own_of_parts h.own (Names part) own refl)
+  moves_named _ _ (BeginsSend h place part o out d bound at g e is known own) n = put_udp_by line h place (Udp2Socket.Open o) (Udp2Socket.Open _) g refl n (Names (part + 1)) (own_of_parts line h.own (Names part) own refl)
+  moves_named _ _ (BeginsReceive h place part o inc bound at g e own) n = put_udp_by line h place (Udp2Socket.Open o) (Udp2Socket.Open _) g refl n (Names (part + 1)) (own_of_parts line h.own (Names part) own refl)
+  moves_named _ _ (Finds h records s) n = records_named line h records s n
   moves_named _ _ _ n = record { one = n.one; apart = n.apart; older = n.older; named = n.named; held = n.held; udps = record { one = n.udps.one; apart = n.udps.apart; older = n.udps.older } }
 
   -- the record that a listen leaves
@@ -402,6 +426,8 @@ module _ (contexts : List WasiSocketsCtx) (line : ℕ) (origin : Step) where
         udp_creates = λ es h ctx family c may a o m i. (tt, λ told k. ((f.udp_creates es h ctx family c may a o m i.0).1 told k, begun_named h ctx.name family (told_done told) o i.1));
         udp_marks = λ es h place u g i. marked es h _ i;
         stream_marks = λ es h place part handle kind m k e i. marked es h _ i;
+        lookups = λ es h host l i. (tt, λ told k records s. ((f.lookups es h host l i.0).1 told k records s, records_named line h records s i.1));
+        looks = λ es h place op g i. (tt, λ told k. i);
         gives_up = λ es h place r q g i.
             whatever (λ done. Base (put h place (with_listening r Not)))
             (λ done. let b = i.0.records place r g in (put_fit h place r _ g (inl q) (b.0, tt, b.2) i.0, put_named line h place r (with_listening r Not) g (listening_names h place r Not g (λ x p. absurd (cc)) (λ op p. absurd (cc)) i.1) i.1)) es (give_up_asks r.listening);

@@ -21,6 +21,7 @@ use Rattle.wasi_tcp.specs.Listen as listen
 use Rattle.wasi_walks.specs.Waiting as binding
 use Rattle.wasi_host.specs.Kinds.{Handles}
 use Rattle.wasi_host.specs.Records.{tcp2_at, tcp2_put, tcp2_pushed, udp2_at, udp2_put, udp2_pushed}
+use Rattle.wasi_host.specs.declared.name_lookup.LookupOp.{LookupOp}
 use Rattle.wasi_host.specs.declared.udp.OpenUdp.{OpenUdp}
 use Rattle.wasi_host.specs.declared.udp.Udp2Socket.{Udp2Socket}
 use Rattle.wasi_host.specs.declared.udp.UdpInProgress.{UdpInProgress}
@@ -38,7 +39,7 @@ use Rattle.wasi_walks.proofs.fits.UdpPolls.{LeavesCreate, create_left, create_fi
 use Rattle.wasi_walks.proofs.fits.DatagramPolls.{LeavesConnect, datagram_left, received_left, udp_connect_leaves, wanted_left}
 use Rattle.wasi_walks.proofs.fits.TcpFits.{first_of, ended_fits, listened_fits, bound_fits, accepted_fits, joined_fits}
 use Rattle.wasi_walks.proofs.fits.UdpFits.{KeepsOpen, same_udp, same_open, no_open, stays_open, idle_keeps, plain_open, plain_fits, inner_fits, learnt_side, bound_udp, connected_udp, begun_send, sends_on, sent_udp, begun_receive, receives_on, received_udp}
-use Rattle.wasi_walks.proofs.walks.Moves.{put_udp, FoundUdp, udp_begun, begun_udp_bind, begun_udp_connect, sending_now, receiving_now, part_of, UdpChanges, BeginsUdpBind, StandsUdpBind, StandsUdpCreate, BeginsUdpConnect, StandsUdpConnect, StandsDropOutgoing, BeginsSend, BeginsReceive, UdpCreates, UdpBindsOn, UdpConnectsOn, SendsOn, ReceivesOn}
+use Rattle.wasi_walks.proofs.walks.Moves.{with_records, SameSockets, Finds, put_udp, FoundUdp, udp_begun, begun_udp_bind, begun_udp_connect, sending_now, receiving_now, part_of, UdpChanges, BeginsUdpBind, StandsUdpBind, StandsUdpCreate, BeginsUdpConnect, StandsUdpConnect, StandsDropOutgoing, BeginsSend, BeginsReceive, UdpCreates, UdpBindsOn, UdpConnectsOn, SendsOn, ReceivesOn}
 use Rattle.wasi_host.specs.declared.records.Record.{Record}
 
 -- Each record fits, and so does the pending call.
@@ -87,15 +88,27 @@ module _ (h : Here) (place : ℕ) (r now : Tcp2Socket) (g : Found h place r) (k 
     stands = λ c e. call_put c e c.call refl (i.stands c e);
   }
 
+-- the sockets that were there are there
+call_kept : (records now : List Record) → ((k : ℕ) (r : Tcp2Socket) → tcp2_at records k ≡ Some r → tcp2_at now k ≡ Some r) → ((k : ℕ) (u : Udp2Socket) → udp2_at records k ≡ Some u → udp2_at now k ≡ Some u) → (call : StandingCall) → FitCall records call → FitCall now call
+call_kept records now t u (StandingCall.Bind n) b = record { was = b.was; at = t n b.was b.at; goes = b.goes }
+call_kept records now t u (StandingCall.Listen n) b = record { was = b.was; at = t n b.was b.at; goes = b.goes }
+call_kept records now t u (StandingCall.DropOutput n) b = tt
+call_kept records now t u (StandingCall.UdpCreate n) b = record { was = b.was; at = u n (Udp2Socket.Creating b.was) b.at }
+call_kept records now t u (StandingCall.UdpBind n) b = record { was = b.was; at = u n (Udp2Socket.Open b.was) b.at; op = b.op; goes = b.goes }
+call_kept records now t u (StandingCall.UdpConnect n handle) b = record { was = b.was; at = u n (Udp2Socket.Open b.was) b.at; op = b.op; goes = b.goes }
+call_kept records now t u (StandingCall.DropOutgoing n) b = tt
+
 -- one joins them
 call_push : (records : List Record) (now : Tcp2Socket) (call : StandingCall) → FitCall records call → FitCall (tcp2_pushed records now) call
-call_push records now (StandingCall.Bind n) b = record { was = b.was; at = tcp2_front records now n b.was b.at; goes = b.goes }
-call_push records now (StandingCall.Listen n) b = record { was = b.was; at = tcp2_front records now n b.was b.at; goes = b.goes }
-call_push records now (StandingCall.DropOutput n) b = tt
-call_push records now (StandingCall.UdpCreate n) b = record { was = b.was; at = udp_in_push records now n (Udp2Socket.Creating b.was) b.at }
-call_push records now (StandingCall.UdpBind n) b = record { was = b.was; at = udp_in_push records now n (Udp2Socket.Open b.was) b.at; op = b.op; goes = b.goes }
-call_push records now (StandingCall.UdpConnect n handle) b = record { was = b.was; at = udp_in_push records now n (Udp2Socket.Open b.was) b.at; op = b.op; goes = b.goes }
-call_push records now (StandingCall.DropOutgoing n) b = tt
+call_push records now = call_kept records (tcp2_pushed records now) (tcp2_front records now) (udp_in_push records now)
+
+-- the records are others with the same sockets
+pub records_fit : {new : LookupOp → Type 0} (h : Here) (records : List Record) → SameSockets new h.machine.store.records records → Fit h → Fit (with_records h records)
+records_fit h records s i = record {
+  records = λ k r e. i.records k r (sym (s.tcp k) ∙ e);
+  udps = λ k u e. i.udps k u (sym (s.udp k) ∙ e);
+  stands = λ c e. call_kept h.machine.store.records records (λ k r e. s.tcp k ∙ e) (λ k u e. s.udp k ∙ e) c.call (i.stands c e);
+}
 
 call_stands : (records : List Record) (call : StandingCall) (r : Tcp2Socket) → tcp2_at records (call_place call) ≡ Some r → GoesOn call r → FitCall records call
 call_stands records (StandingCall.Bind n) r g k = record { was = r; at = g; goes = k }
@@ -151,13 +164,7 @@ module _ (h : Here) (place : ℕ) (u now : Udp2Socket) (g : FoundUdp h place u) 
 
 -- one joins the records
 udp_call_push : (records : List Record) (now : Udp2Socket) (call : StandingCall) → FitCall records call → FitCall (udp2_pushed records now) call
-udp_call_push records now (StandingCall.Bind n) b = record { was = b.was; at = tcp_in_push records now n b.was b.at; goes = b.goes }
-udp_call_push records now (StandingCall.Listen n) b = record { was = b.was; at = tcp_in_push records now n b.was b.at; goes = b.goes }
-udp_call_push records now (StandingCall.DropOutput n) b = tt
-udp_call_push records now (StandingCall.UdpCreate n) b = record { was = b.was; at = udp_front records now n (Udp2Socket.Creating b.was) b.at }
-udp_call_push records now (StandingCall.UdpBind n) b = record { was = b.was; at = udp_front records now n (Udp2Socket.Open b.was) b.at; op = b.op; goes = b.goes }
-udp_call_push records now (StandingCall.UdpConnect n handle) b = record { was = b.was; at = udp_front records now n (Udp2Socket.Open b.was) b.at; op = b.op; goes = b.goes }
-udp_call_push records now (StandingCall.DropOutgoing n) b = tt
+udp_call_push records now = call_kept records (udp2_pushed records now) (tcp_in_push records now) (udp_front records now)
 
 pub begun_fits : (h : Here) (op : OpId) (maker : ℕ) (family : SocketAddressFamily) (r : Result (Unit {0}) ErrorCode) → Fit h → Fit (udp_begun h (udp_after_create op maker family r))
 begun_fits h op maker family (Ok done) i =
@@ -287,6 +294,7 @@ module _ (contexts : List WasiSocketsCtx) (line : ℕ) (origin : Step) where
       let f = i.udps place (Udp2Socket.Open o) g in
       let now = receiving_now o inc (receive_start (part_of line n) o.inner bound) in
       begun_udp_fit h place o now (Names (n + 1)) g (stays_open o now refl refl) (f.0, f.1, f.2, begun_receive (part_of line n) o.inner bound) i
+  moves_fit _ _ (Finds h records s) i = records_fit h records s i
   moves_fit _ _ _ i = record { records = i.records; udps = i.udps; stands = i.stands }
 
   -- a socket that is created connects by nothing
@@ -388,6 +396,8 @@ module _ (contexts : List WasiSocketsCtx) (line : ℕ) (origin : Step) where
     udp_creates = λ es h ctx family c may a o m i. (tt, λ told fits. begun_fits h (own_of line) ctx.name family (told_done told) i);
     udp_marks = λ es h place u g i. marked_fit es h _ i;
     stream_marks = λ es h place n handle kind m k e i. marked_fit es h _ i;
+    lookups = λ es h host l i. (tt, λ told fits records s. records_fit h records s i);
+    looks = λ es h place op g i. (tt, λ told fits. i);
     gives_up = λ es h place r q g i. whatever (λ done. Fit (put h place (with_listening r Not))) (λ done. let f = i.records place r g in put_fit h place r _ g (inl q) (f.0, tt, f.2) i) es (give_up_asks r.listening);
   }
 

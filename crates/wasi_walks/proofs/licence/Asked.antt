@@ -27,16 +27,16 @@ module _ (contexts : List WasiSocketsCtx) (steps : List Step) (line : ℕ) (orig
   pub spares : (h : Here) (c : Call) → NoLocal c → Spares h c
   spares h c n k q op g e p = subst NoLocal p n
 
-  pub listens_on : (es : List Entry) (h : Here) (op : OpId) (c : Call) (told : Told) → Spares h c → Licensed steps line origin es h → (k : ℕ) (q : Tcp2Socket) (o : Operation) → Found h k q → q.listening ≡ Begins o → ListenGoesOn steps (es ++ entry op c told ∷ []) q o
+  pub listens_on : (es : List Entry) (h : Here) (op : OpId) (c : Call) (told : Told) → Spares h c → Licensed contexts steps line origin es h → (k : ℕ) (q : Tcp2Socket) (o : Operation) → Found h k q → q.listening ≡ Begins o → ListenGoesOn steps (es ++ entry op c told ∷ []) q o
   listens_on es h op c told n i k q o g e = let l = i.listens k q o g e in record { fine = listen_unless steps es op c told o (n k q o g e) l.fine; asks = l.asks; made = maker_more es _ q.inner.maker q.inner.family o.who.side l.made; tcp = l.tcp }
 
   pub joined_on : (es : List Entry) (h : Here) (e : Entry) (p : ℕ) (j : JoinedIsFine origin es h p) → MarksNoSocket (es ++ e ∷ []) j.new → JoinedIsFine origin (es ++ e ∷ []) h p
   joined_on es h e p j f = record { new = j.new; on = j.on; peer = j.peer; context = j.context; listener = j.listener; by = j.by; side = j.side; of_listener = side_more es _ j.listener j.on j.of_listener; handed = record { told = j.handed.told; hand = has_front es _ _ j.handed.hand }; fresh = f }
 
   -- a call that is no mark
-  pub asked_by : (es : List Entry) (h : Here) (op : OpId) (c : Call) (told : Told) → marked_by c ≡ 0 → Spared h.machine.store.records op c → (h.own ≡ Unused → Touches op c (second_of line) → ⊥) → Spares h c → Licensed steps line origin es h → Licensed steps line origin (es ++ entry op c told ∷ []) h
+  pub asked_by : (es : List Entry) (h : Here) (op : OpId) (c : Call) (told : Told) → marked_by c ≡ 0 → Spared h.machine.store.records op c → (h.own ≡ Unused → Touches op c (second_of line) → ⊥) → Spares h c → Licensed contexts steps line origin es h → Licensed contexts steps line origin (es ++ entry op c told ∷ []) h
   asked_by es h op c told z sp u n i = record {
-    fine = state_spared steps es h.machine op c told z sp i.fine;
+    fine = state_spared contexts steps es h.machine op c told z sp i.fine;
     names = λ k j r a g side m. names_on (stay steps) es _ (own_of j) side (i.names k j r a g side m);
     udp_names = λ k j u a g. names_on (stay steps) es _ (own_of j) (udp_side u) (i.udp_names k j u a g);
     listens = listens_on es h op c told n i;
@@ -51,7 +51,7 @@ module _ (contexts : List WasiSocketsCtx) (steps : List Step) (line : ℕ) (orig
   no_mark (Call.Made handle kind parent sock) h = absurd h
   no_mark _ h = refl
 
-  pub asked_fine : (es : List Entry) (h : Here) (op : OpId) (c : Call) (told : Told) → NoMark c → Spares h c → Licensed steps line origin es h → Licensed steps line origin (es ++ entry op c told ∷ []) h
+  pub asked_fine : (es : List Entry) (h : Here) (op : OpId) (c : Call) (told : Told) → NoMark c → Spares h c → Licensed contexts steps line origin es h → Licensed contexts steps line origin (es ++ entry op c told ∷ []) h
   asked_fine es h op c told q n i = asked_by es h op c told (no_mark c q) (λ place r x e m. no_touch op c x q) (λ o. no_touch op c (second_of line) q) n i
 
   writer_is : (es : List Entry) (side at : OpId) (w : WriteState) → WritesOn steps es side w → writer_side w ≡ Some at → at ≡ side
@@ -76,7 +76,7 @@ module _ (contexts : List WasiSocketsCtx) (steps : List Step) (line : ℕ) (orig
   on_side es r side (OfWriter s e w) f = let t = f.streams s e in held_side contexts steps line origin is_line es r s t ∙ ap (λ (x : OpId). Some x) (sym (writer_is es t.side side s.writer t.writes w))
 
   -- a line names the network socket that it asks of
-  pub names_on_side : (es : List Entry) (h : Here) (place n : ℕ) (r : Tcp2Socket) (side : OpId) → h.at ≡ Some (place, n) → Found h place r → IsOn r side → Licensed steps line origin es h → Names steps es (own_of n) side
+  pub names_on_side : (es : List Entry) (h : Here) (place n : ℕ) (r : Tcp2Socket) (side : OpId) → h.at ≡ Some (place, n) → Found h place r → IsOn r side → Licensed contexts steps line origin es h → Names steps es (own_of n) side
   names_on_side es h place n r side at g o i = let f = i.fine.records place r g in i.names place n r at g side (f.named side (on_side es r side o f))
 
   -- a network socket that a record has is not that of a listen in progress
@@ -106,8 +106,8 @@ module _ (contexts : List WasiSocketsCtx) (steps : List Step) (line : ℕ) (orig
   question_may n es side (Call.Shutdown s how) q k = (inl (subst (Names steps es (own_of n)) (sym q) k), tt)
   question_may n es side _ q k = absurd q
 
-  pub learned_fine : (es : List Entry) (h : Here) (place : ℕ) (r : Tcp2Socket) (side : OpId) (told : Told) → Found h place r → r.inner.state ≡ TcpState.Default side → IsAddr told → Named line h → Licensed steps line origin es h
-      → (let fs = es ++ entry (own_of line) (Call.Local side) told ∷ [] in Licensed steps line origin fs (put h place (with_inner r (after_local r.inner (told_addr told)).1)))
+  pub learned_fine : (es : List Entry) (h : Here) (place : ℕ) (r : Tcp2Socket) (side : OpId) (told : Told) → Found h place r → r.inner.state ≡ TcpState.Default side → IsAddr told → Named line h → Licensed contexts steps line origin es h
+      → (let fs = es ++ entry (own_of line) (Call.Local side) told ∷ [] in Licensed contexts steps line origin fs (put h place (with_inner r (after_local r.inner (told_addr told)).1)))
   learned_fine es h place r side told g e f b i =
       let fs : List Entry = es ++ entry (own_of line) (Call.Local side) told ∷ [] in
       let j = asked_fine es h (own_of line) (Call.Local side) told tt (λ k q op d l p. not_held h place r side g (ap side_in e) b k q op d l (local_side side op.who.side p)) i in
@@ -117,5 +117,5 @@ module _ (contexts : List WasiSocketsCtx) (steps : List Step) (line : ℕ) (orig
       put_fine fs h place r now g refl (same_listening r.listening) (same_listen contexts steps line origin is_line r now refl l.keeps.maker l.keeps.family) (record_kept steps fs r now (record { keeps = l.keeps; side = refl; streams = refl; listening = refl; binds = inl refl }) l.fine x) j
 
   -- what asks quietly
-  pub kept : {A : Type 0} (h : Here) (Q : List Entry → A → Type 0) (es : List Entry) (asks : Asks A) → Licensed steps line origin es h → Allows (MayQuietly contexts steps) Q es asks → Allows (MayAsk contexts steps) (λ fs a. Licensed steps line origin fs h × Q fs a) es asks
-  kept h Q es asks i a = allows_keep (MayQuietly contexts steps) (MayAsk contexts steps) (λ fs. Licensed steps line origin fs h) Q (λ fs op c t fits k m. asked_fine fs h op c t m.0.1 (spares h c m.1) k) (λ fs op c m. m.0.0) es asks i a
+  pub kept : {A : Type 0} (h : Here) (Q : List Entry → A → Type 0) (es : List Entry) (asks : Asks A) → Licensed contexts steps line origin es h → Allows (MayQuietly contexts steps) Q es asks → Allows (MayAsk contexts steps) (λ fs a. Licensed contexts steps line origin fs h × Q fs a) es asks
+  kept h Q es asks i a = allows_keep (MayQuietly contexts steps) (MayAsk contexts steps) (λ fs. Licensed contexts steps line origin fs h) Q (λ fs op c t fits k m. asked_fine fs h op c t m.0.1 (spares h c m.1) k) (λ fs op c m. m.0.0) es asks i a

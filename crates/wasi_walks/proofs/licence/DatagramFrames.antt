@@ -1,16 +1,11 @@
 -- What is known of a UDP socket's connect, datagram, receive and remote address, under more entries.
-use Rattle.wasi_walks.proofs.Words.{Call, Entry, HasWildcardYes, IpSocketAddress, Item, List, OpId, Operation, SocketAddrUse, SocketAddressFamily}
+use Rattle.wasi_walks.proofs.Words.{Call, Entry, IpSocketAddress, Item, List, OpId, Operation, SocketAddressFamily}
 use Rattle.wasi_walks.proofs.Words.{Step, Told, [], ap, append_assoc, entry, inl, inr, ℕ, ◌++◌, ◌∙◌, ◌∷◌, ◌≡◌, ◌⊎◌}
 use Rattle.wasi_walks.specs.Licence.{IsBoundSide, IsRemote, MaySendOut, WasDisconnected}
 use Rattle.wasi_world.specs.declared.datagram.OutgoingDatagram.{OutgoingDatagram}
 use Rattle.wasi_walks.proofs.Lists.{has_front, has_split}
 use Rattle.wasi_walks.proofs.licence.State.{UdpConnectLeft, ConnectWhole, ConnectSends, ConnectChecked, UdpConnectIsFine, SendLeft, SendRefused, SendUnbound, SendUnchecked, SendChecked, SendOver, SendIsFine, ReceiveIsFine}
-use Rattle.wasi_walks.proofs.licence.Frames.{Goes, began_more, bound_more, maker_more, names_on}
-
--- == what is in the log stays there
--- the yes for the wildcard
-wildcard_kept : (es fs : List Entry) (op side : OpId) (usage : SocketAddrUse) → HasWildcardYes es op side usage → HasWildcardYes (es ++ fs) op side usage
-wildcard_kept es fs op side usage h = record { ctx = h.ctx; family = h.family; maker = maker_more es fs h.ctx h.family side h.maker; checked = has_front es fs _ h.checked }
+use Rattle.wasi_walks.proofs.licence.Frames.{Goes, began_more, bound_more, maker_more, names_on, wildcard_more}
 
 -- the network socket is bound, or was disconnected
 pub free_more : (es fs : List Entry) (side : OpId) → IsBoundSide es side ⊎ WasDisconnected es side → IsBoundSide (es ++ fs) side ⊎ WasDisconnected (es ++ fs) side
@@ -20,7 +15,7 @@ free_more es fs side (inr h) = inr (record { op = h.op; told = h.told; entry_is 
 -- the operation may send out
 pub send_out_more : (es fs : List Entry) (op side : OpId) → MaySendOut es op side → MaySendOut (es ++ fs) op side
 send_out_more es fs op side (inl h) = inl (free_more es fs side h)
-send_out_more es fs op side (inr h) = inr (wildcard_kept es fs op side _ h)
+send_out_more es fs op side (inr h) = inr (wildcard_more es fs op side _ h)
 
 -- the yeses of a connect
 pub udp_connect_left_more : (es fs : List Entry) (op : OpId) (maker : ℕ) (family : SocketAddressFamily) (addr : IpSocketAddress) (items : List Item) → UdpConnectLeft es op maker family addr items → UdpConnectLeft (es ++ fs) op maker family addr items

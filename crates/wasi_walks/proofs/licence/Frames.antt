@@ -177,7 +177,7 @@ left_more es fs op maker addr items Whole = Whole
 left_more es fs op maker addr items (Checked h) = Checked (has_front es fs _ h)
 left_more es fs op maker addr items Over = Over
 
-wildcard_more : (es fs : List Entry) (op side : OpId) (usage : SocketAddrUse) → HasWildcardYes es op side usage → HasWildcardYes (es ++ fs) op side usage
+pub wildcard_more : (es fs : List Entry) (op side : OpId) (usage : SocketAddrUse) → HasWildcardYes es op side usage → HasWildcardYes (es ++ fs) op side usage
 wildcard_more es fs op side usage h = record { ctx = h.ctx; family = h.family; maker = maker_more es fs h.ctx h.family side h.maker; checked = has_front es fs _ h.checked }
 
 pub bound_more : (es fs : List Entry) (side : OpId) → IsBoundSide es side → IsBoundSide (es ++ fs) side

@@ -95,6 +95,7 @@ module _ (contexts : List WasiSocketsCtx) (steps : List Step) where
     marked_below op parent x c k (Step.CheckWrite ctx output) b m = absurd (let e = m.0 in cc)
     marked_below op parent x c k (Step.Write ctx output bytes) b m = absurd (let e = m.0 in cc)
     marked_below op parent x c k (Step.Flush ctx output) b m = absurd (let e = m.0 in cc)
+    marked_below op parent x c k (Step.Resolve ctx network host) b m = absurd (let e = m.0 in cc)
     marked_below op parent x c k (Step.Subscribe ctx handle) b m = absurd (let e = m.0 in cc)
     marked_below op parent x c k (Step.UdpStream ctx socket remote) b m = absurd (elim m.0 [ inl e ↦ cc | inr e ↦ cc ])
     marked_below op parent x c k _ b m = absurd m
@@ -115,7 +116,7 @@ module _ (contexts : List WasiSocketsCtx) (steps : List Step) where
     listening_below made (Accepts l) x f e = name_below l.side l.maker l.accept x f.accept e
     listening_below made _ x f e = absurd (cc)
 
-    pub next_is_new : (m : Machine) → StateIsFine steps log m → IsNew log m.store.records (length steps + 1)
+    pub next_is_new : (m : Machine) → StateIsFine contexts steps log m → IsNew log m.store.records (length steps + 1)
     next_is_new m f = record {
       handed = λ x e l p t i. let k = handed_below x l p t i in omega arith;
       marked = λ x e o handle parent t i. let k = socket_below o handle parent x t i in omega arith;

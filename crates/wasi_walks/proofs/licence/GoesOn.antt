@@ -77,27 +77,27 @@ module _ (contexts : List WasiSocketsCtx) (steps : List Step) (line : ℕ) (orig
   bound_after fs op (Done given, items) k = tt
   bound_after fs op (Refused c given, items) k = tt
 
-  bound_on : (es : List Entry) (h : Here) (place : ℕ) (r : Tcp2Socket) (op : Operation) → Found h place r → r.in_progress ≡ InProgress.Binding op → Fit h → Licensed steps line origin es h
-      → Allows (MayAsk contexts steps) (λ fs ended. Licensed steps line origin fs (put h place (with_progress r (bind_progress op ended)))) es (poll_asks op)
+  bound_on : (es : List Entry) (h : Here) (place : ℕ) (r : Tcp2Socket) (op : Operation) → Found h place r → r.in_progress ≡ InProgress.Binding op → Fit h → Licensed contexts steps line origin es h
+      → Allows (MayAsk contexts steps) (λ fs ended. Licensed contexts steps line origin fs (put h place (with_progress r (bind_progress op ended)))) es (poll_asks op)
   bound_on es h place r op g e b i =
       let its = subst (FitProgress r.inner.state) e (b.records place r g).2 in
       let f : BindIsFine steps es op = subst (ProgressIsFine steps es) e (i.fine.records place r g).progress in
-      allows_weaker (MayAsk contexts steps) (λ fs ended. Licensed steps line origin fs h × BindIsFine steps fs (left_of op ended.1)) (λ fs ended. Licensed steps line origin fs (put h place (with_progress r (bind_progress op ended))))
+      allows_weaker (MayAsk contexts steps) (λ fs ended. Licensed contexts steps line origin fs h × BindIsFine steps fs (left_of op ended.1)) (λ fs ended. Licensed contexts steps line origin fs (put h place (with_progress r (bind_progress op ended))))
       (λ fs ended k. let x = k.0.fine.records place r g in let now = with_progress r (bind_progress op ended) in
       put_fine fs h place r now g refl (same_listening r.listening) (same_listen contexts steps line origin is_line r now refl refl refl) (record { socket = x.socket; named = x.named; streams = x.streams; listening = x.listening; progress = bound_after fs op ended k.1 }) k.0) es (poll_asks op)
       (kept contexts steps line origin is_line h (λ fs ended. BindIsFine steps fs (left_of op ended.1)) es (poll_asks op) i (quietly (λ fs ended. BindIsFine steps fs (left_of op ended.1)) es op (bind_quiet op.left its.1.left) (fine_poll contexts steps op es f)))
 
-  connected_on : (es : List Entry) (h : Here) (place : ℕ) (r : Tcp2Socket) (op : Operation) → Found h place r → r.inner.state ≡ TcpState.Connecting op → Fit h → Licensed steps line origin es h
-      → Allows (MayAsk contexts steps) (λ fs ended. Licensed steps line origin fs (put h place (with_inner r (with_state r.inner (connect_ended op.who ended).1)))) es (poll_asks op)
+  connected_on : (es : List Entry) (h : Here) (place : ℕ) (r : Tcp2Socket) (op : Operation) → Found h place r → r.inner.state ≡ TcpState.Connecting op → Fit h → Licensed contexts steps line origin es h
+      → Allows (MayAsk contexts steps) (λ fs ended. Licensed contexts steps line origin fs (put h place (with_inner r (with_state r.inner (connect_ended op.who ended).1)))) es (poll_asks op)
   connected_on es h place r op g e b i =
       let its : IsConnect op = subst HoldsConnect e (b.records place r g).0 in
-      allows_weaker (MayAsk contexts steps) (λ fs ended. Licensed steps line origin fs h × ConnectIsFine steps fs (left_of op ended.1)) (λ fs ended. Licensed steps line origin fs (put h place (with_inner r (with_state r.inner (connect_ended op.who ended).1))))
+      allows_weaker (MayAsk contexts steps) (λ fs ended. Licensed contexts steps line origin fs h × ConnectIsFine steps fs (left_of op ended.1)) (λ fs ended. Licensed contexts steps line origin fs (put h place (with_inner r (with_state r.inner (connect_ended op.who ended).1))))
       (λ fs end k. let x = k.0.fine.records place r g in let d = ended contexts steps fs r.inner op end e x.socket k.1 in let now = with_inner r (with_state r.inner (connect_ended op.who end).1) in
       put_fine fs h place r now g refl (same_listening r.listening) (same_listen contexts steps line origin is_line r now refl refl refl) (record_kept steps fs r now (record { keeps = d.keeps; side = refl; streams = refl; listening = refl; binds = inl refl }) d.fine x) k.0) es (poll_asks op)
       (kept contexts steps line origin is_line h (λ fs ended. ConnectIsFine steps fs (left_of op ended.1)) es (poll_asks op) i (quietly (λ fs ended. ConnectIsFine steps fs (left_of op ended.1)) es op (connect_quiet op.left its.left) (fine_poll_connect contexts steps op es ((i.fine.records place r g).socket.connect op e))))
 
   -- == a listen and an accept are taken out of their record, polled, and put back
-  pub taken_out : (es : List Entry) (h : Here) (place : ℕ) (r : Tcp2Socket) → Found h place r → Licensed steps line origin es h → Licensed steps line origin es (put h place (with_listening r Not))
+  pub taken_out : (es : List Entry) (h : Here) (place : ℕ) (r : Tcp2Socket) → Found h place r → Licensed contexts steps line origin es h → Licensed contexts steps line origin es (put h place (with_listening r Not))
   taken_out es h place r g i = let f = i.fine.records place r g in put_fine es h place r (with_listening r Not) g refl (listening_gone r.listening) (λ op p. absurd (cc)) (record { socket = f.socket; named = f.named; streams = f.streams; listening = tt; progress = f.progress }) i
 
   there : (h : Here) (place : ℕ) (r now : Tcp2Socket) → Found h place r → Found (put h place now) place now
@@ -108,16 +108,16 @@ module _ (contexts : List WasiSocketsCtx) (steps : List Step) (line : ℕ) (orig
   still_goes fs r op (Waits, items) a m t k o e = subst (ListenGoesOn steps fs (listen_after op r (Waits, items))) (same_begun (record { who = op.who; left = items }) o e) (record { fine = k; asks = a; made = m; tcp = t })
   still_goes fs r op _ a m t k o e = absurd (cc)
 
-  listened_on : (es : List Entry) (h : Here) (place : ℕ) (r : Tcp2Socket) (op : Operation) → Found h place r → r.listening ≡ Begins op → side_of r.inner ≡ None → Fit h → Named line h → Licensed steps line origin es h
-      → Allows (MayAsk contexts steps) (λ fs ended. Licensed steps line origin fs (put h place (listen_after op r ended))) es (poll_asks op)
+  listened_on : (es : List Entry) (h : Here) (place : ℕ) (r : Tcp2Socket) (op : Operation) → Found h place r → r.listening ≡ Begins op → side_of r.inner ≡ None → Fit h → Named line h → Licensed contexts steps line origin es h
+      → Allows (MayAsk contexts steps) (λ fs ended. Licensed contexts steps line origin fs (put h place (listen_after op r ended))) es (poll_asks op)
   listened_on es h place r op g e closed b n i =
       let l = i.listens place r op g e in
       let its : IsListen op = subst FitListening e (b.records place r g).1 in
       let d = n.held op place r g e in
       let out = put h place (with_listening r Not) in
-      let M : List Entry → Type 0 = λ fs. Licensed steps line origin fs out × IsMaker fs r.inner.maker r.inner.family op.who.side in
+      let M : List Entry → Type 0 = λ fs. Licensed contexts steps line origin fs out × IsMaker fs r.inner.maker r.inner.family op.who.side in
       let Q : List Entry → End × List Item → Type 0 = λ fs end. ListenEnds steps fs op.who end.0 end.1 in
-      allows_weaker (MayAsk contexts steps) (λ fs end. M fs × Q fs end) (λ fs end. Licensed steps line origin fs (put h place (listen_after op r end)))
+      allows_weaker (MayAsk contexts steps) (λ fs end. M fs × Q fs end) (λ fs end. Licensed contexts steps line origin fs (put h place (listen_after op r end)))
       (λ fs end k. put_after fs end k.0.0 k.0.1 k.1 l.asks d.0 l.tcp) es (poll_asks op)
       (allows_keep (λ fs o c. May contexts steps fs o c × Its op.who.side c) (MayAsk contexts steps) M Q
       (λ fs o c t fits k m. (asked_fine contexts steps line origin is_line fs out o c t m.0.1 (others c m.1 d.0) k.0, maker_more fs _ r.inner.maker r.inner.family op.who.side k.1)) (λ fs o c m. m.0.0) es (poll_asks op)
@@ -135,15 +135,15 @@ module _ (contexts : List WasiSocketsCtx) (steps : List Step) (line : ℕ) (orig
             no_listen o (ap (λ (y : Tcp2Socket). y.listening) same ∙ x))
       ]
 
-      put_after : (fs : List Entry) (end : End × List Item) → Licensed steps line origin fs (put h place (with_listening r Not)) → IsMaker fs r.inner.maker r.inner.family op.who.side → ListenEnds steps fs op.who end.0 end.1 → op.who.context ≡ r.inner.maker → r.side ≡ Some op.who.side → BeganBy steps op.who.side MakesTcp → Licensed steps line origin fs (put h place (listen_after op r end))
+      put_after : (fs : List Entry) (end : End × List Item) → Licensed contexts steps line origin fs (put h place (with_listening r Not)) → IsMaker fs r.inner.maker r.inner.family op.who.side → ListenEnds steps fs op.who end.0 end.1 → op.who.context ≡ r.inner.maker → r.side ≡ Some op.who.side → BeganBy steps op.who.side MakesTcp → Licensed contexts steps line origin fs (put h place (listen_after op r end))
       put_after fs end k m q a s t =
           let out = put h place (with_listening r Not) in
           let f = k.fine.records place (with_listening r Not) (there h place r (with_listening r Not) g) in
           let whole : RecordIsFine steps fs r = record { socket = f.socket; named = f.named; streams = f.streams; listening = subst (ListeningIsFine steps fs r.side) (sym e) tt; progress = f.progress } in
           let x = listen_ended_fine contexts steps fs (with_listening r Not) r op end refl s closed a m whole q in
           let now = listen_after op r end in
-          subst (Licensed steps line origin fs) (put_put h place (with_listening r Not) now)
-          (put_with fs out place (with_listening r Not) now (there h place r (with_listening r Not) g) x.leaves.side k (state_put steps fs out.machine place (with_listening r Not) now (there h place r (with_listening r Not) g) x.leaves.side x.leaves.listening x.leaves.fine k.fine) (still_goes fs r op end a m t q))
+          subst (Licensed contexts steps line origin fs) (put_put h place (with_listening r Not) now)
+          (put_with fs out place (with_listening r Not) now (there h place r (with_listening r Not) g) x.leaves.side k (state_put contexts steps fs out.machine place (with_listening r Not) now (there h place r (with_listening r Not) g) x.leaves.side x.leaves.listening x.leaves.fine k.fine) (still_goes fs r op end a m t q))
 
   -- an accept asks by its own name, and marks nothing
   touch_as : (op x : OpId) (c : Call) → marked_by c ≡ 0 → Touches op c x → op ≡ x
@@ -152,8 +152,8 @@ module _ (contexts : List WasiSocketsCtx) (steps : List Step) (line : ℕ) (orig
   touch_as op x (Call.Hand s p) z t = t
   touch_as op x _ z t = absurd t
 
-  awaited_on : (es : List Entry) (h : Here) (place : ℕ) (r : Tcp2Socket) (l : Listener) (op : Operation) → Found h place r → r.listening ≡ Accepts l → l.accept ≡ Accepting.Asking op → Fit h → Named line h → Licensed steps line origin es h
-      → Allows (MayAsk contexts steps) (λ fs ended. Licensed steps line origin fs (put h place (accepting_now r l (accept_ended op.who ended)))) es (poll_asks op)
+  awaited_on : (es : List Entry) (h : Here) (place : ℕ) (r : Tcp2Socket) (l : Listener) (op : Operation) → Found h place r → r.listening ≡ Accepts l → l.accept ≡ Accepting.Asking op → Fit h → Named line h → Licensed contexts steps line origin es h
+      → Allows (MayAsk contexts steps) (λ fs ended. Licensed contexts steps line origin fs (put h place (accepting_now r l (accept_ended op.who ended)))) es (poll_asks op)
   awaited_on es h place r l op g e a b n i =
       let x = i.fine.records place r g in let lf = listener_fine contexts steps line origin is_line es r l e x in
       let f : AcceptIsFine steps es l.side l.maker op = subst (AcceptingIsFine steps es l.side l.maker) a lf.accept in
@@ -162,9 +162,9 @@ module _ (contexts : List WasiSocketsCtx) (steps : List Step) (line : ℕ) (orig
       let out = put h place (with_listening r Not) in
       let name : accept_name r.listening ≡ Some op.who.id = ap accept_name e ∙ ap name_in a in
       let free = taken_fresh contexts line origin h place r (with_listening r Not) op.who.id g name refl refl n in
-      let M : List Entry → Type 0 = λ fs. Licensed steps line origin fs out × IsMaker fs l.maker l.family l.side in
+      let M : List Entry → Type 0 = λ fs. Licensed contexts steps line origin fs out × IsMaker fs l.maker l.family l.side in
       let Q : List Entry → End × List Item → Type 0 = λ fs end. StandsAfter contexts steps op.who fs end in
-      allows_weaker (MayAsk contexts steps) (λ fs end. M fs × Q fs end) (λ fs end. Licensed steps line origin fs (put h place (accepting_now r l (accept_ended op.who end))))
+      allows_weaker (MayAsk contexts steps) (λ fs end. M fs × Q fs end) (λ fs end. Licensed contexts steps line origin fs (put h place (accepting_now r l (accept_ended op.who end))))
       (λ fs end k. put_after fs end k.0.0 k.0.1 k.1 f.on f.asks lf.side free) es (poll_asks op)
       (allows_keep (λ fs o c. MayAs contexts steps op.who.id fs o c × NoLocal c) (MayAsk contexts steps) M Q
       (λ fs o c t fits k m. (asked_by contexts steps line origin is_line fs out o c t m.0.2 (spared_as out.machine.store.records o op.who.id c m.0.1 m.0.2 (λ p q y z. free p q y (inr z))) (λ u t. by_second o c m.0.1 (touch_as o (second_of line) c m.0.2 t) u name) (spares contexts steps line origin is_line out c m.1) k.0, maker_more fs _ l.maker l.family l.side k.1)) (λ fs o c m. m.0.0) es (poll_asks op)
@@ -176,17 +176,17 @@ module _ (contexts : List WasiSocketsCtx) (steps : List Step) (line : ℕ) (orig
       by_second : (o : OpId) (c : Call) → o ≡ op.who.id → o ≡ second_of line → h.own ≡ Unused → accept_name r.listening ≡ Some op.who.id → ⊥
       by_second o c p q u name = fresh contexts line origin h u n op.who.id (ap (λ (y : OpId). y.step) (sym p ∙ q)) place r g (inr name)
 
-      put_after : (fs : List Entry) (end : End × List Item) → Licensed steps line origin fs (put h place (with_listening r Not)) → IsMaker fs l.maker l.family l.side → StandsAfter contexts steps op.who fs end → op.who.side ≡ l.side → op.who.context ≡ l.maker → r.side ≡ Some l.side → Fresh (put h place (with_listening r Not)) op.who.id
-          → Licensed steps line origin fs (put h place (accepting_now r l (accept_ended op.who end)))
+      put_after : (fs : List Entry) (end : End × List Item) → Licensed contexts steps line origin fs (put h place (with_listening r Not)) → IsMaker fs l.maker l.family l.side → StandsAfter contexts steps op.who fs end → op.who.side ≡ l.side → op.who.context ≡ l.maker → r.side ≡ Some l.side → Fresh (put h place (with_listening r Not)) op.who.id
+          → Licensed contexts steps line origin fs (put h place (accepting_now r l (accept_ended op.who end)))
       put_after fs end k m q on asks s free =
           let out = put h place (with_listening r Not) in
           let now = accepting_now r l (accept_ended op.who end) in
           let f = k.fine.records place (with_listening r Not) (there h place r (with_listening r Not) g) in
           let its : AcceptingIsFine steps fs l.side l.maker (accept_ended op.who end) = subst (λ (y : OpId). AcceptingIsFine steps fs y l.maker (accept_ended op.who end)) on (subst (λ (y : ℕ). AcceptingIsFine steps fs op.who.side y (accept_ended op.who end)) asks q.fine) in
           let stands : AcceptingStands fs l.side (accept_ended op.who end) = subst (λ (y : OpId). AcceptingStands fs y (accept_ended op.who end)) on q.stands in
-          subst (Licensed steps line origin fs) (put_put h place (with_listening r Not) now)
+          subst (Licensed contexts steps line origin fs) (put_put h place (with_listening r Not) now)
           (put_with fs out place (with_listening r Not) now (there h place r (with_listening r Not) g) refl k
-          (state_renewed steps fs out.machine place (with_listening r Not) now (there h place r (with_listening r Not) g) refl (record { socket = f.socket; named = f.named; streams = f.streams; listening = record { side = s; maker = m; accept = its }; progress = f.progress }) stands
+          (state_renewed contexts steps fs out.machine place (with_listening r Not) now (there h place r (with_listening r Not) g) refl (record { socket = f.socket; named = f.named; streams = f.streams; listening = record { side = s; maker = m; accept = its }; progress = f.progress }) stands
           (λ y z p v w u. absurd (free p v w (inr (u ∙ ap (λ (o : OpId). Some o) (q.name y z))))) k.fine) (λ o p. absurd (cc)))
 
   turn_on : (es : List Entry) (side : OpId) (w : WriteState) → WritesOn steps es side w → Allows (MayQuietly contexts steps) (λ fs done. WritesOn steps fs side done.1) es (turn_asks w)
@@ -198,11 +198,11 @@ module _ (contexts : List WasiSocketsCtx) (steps : List Step) (line : ℕ) (orig
   one_side : (fs es : List Entry) (r : Tcp2Socket) (s : Streams) (f : StreamsAreFine steps es r.inner s) (x : StreamsAreFine steps fs r.inner s) → f.side ≡ x.side
   one_side fs es r s f x = some_same f.side x.side (sym (held_side contexts steps line origin is_line fs r s x) ∙ held_side contexts steps line origin is_line es r s f)
 
-  pub turned_fine : (es : List Entry) (h : Here) (place : ℕ) (r : Tcp2Socket) (s : Streams) → Found h place r → r.streams ≡ Some s → Licensed steps line origin es h → Allows (MayAsk contexts steps) (λ fs done. Licensed steps line origin fs (put h place (with_writer r s done.1))) es (turn_asks s.writer)
+  pub turned_fine : (es : List Entry) (h : Here) (place : ℕ) (r : Tcp2Socket) (s : Streams) → Found h place r → r.streams ≡ Some s → Licensed contexts steps line origin es h → Allows (MayAsk contexts steps) (λ fs done. Licensed contexts steps line origin fs (put h place (with_writer r s done.1))) es (turn_asks s.writer)
   turned_fine es h place r s g e i =
       let f = (i.fine.records place r g).streams s e in
       let Q : List Entry → Unit {0} × WriteState → Type 0 = λ fs done. WritesOn steps fs f.side done.1 in
-      allows_weaker (MayAsk contexts steps) (λ fs done. Licensed steps line origin fs h × Q fs done) (λ fs done. Licensed steps line origin fs (put h place (with_writer r s done.1)))
+      allows_weaker (MayAsk contexts steps) (λ fs done. Licensed contexts steps line origin fs h × Q fs done) (λ fs done. Licensed contexts steps line origin fs (put h place (with_writer r s done.1)))
       (λ fs done k. streams_fine contexts steps line origin is_line fs h place r s (record s { writer = done.1 }) g e (λ x. (x.reads, subst (λ (o : OpId). WritesOn steps fs o done.1) (one_side fs es r s f x) k.1)) k.0) es (turn_asks s.writer)
       (kept contexts steps line origin is_line h Q es (turn_asks s.writer) i (turn_on es f.side s.writer f.writes))
 
@@ -226,7 +226,7 @@ module _ (contexts : List WasiSocketsCtx) (steps : List Step) (line : ℕ) (orig
       by_accept (Accepting.Failed c) k = tt
   given_up es made (Unclosed side) f = (((tt, tt), tt), λ t fits. tt)
 
-  pub polls_fine : (es : List Entry) (h : Here) (op : Operation) (after : End × List Item → Here) → Held h op after → Base contexts line origin h × Keeps es h.machine.store.records → Licensed steps line origin es h → Allows (MayAsk contexts steps) (λ fs ended. Licensed steps line origin fs (after ended)) es (poll_asks op)
+  pub polls_fine : (es : List Entry) (h : Here) (op : Operation) (after : End × List Item → Here) → Held h op after → Base contexts line origin h × Keeps es h.machine.store.records → Licensed contexts steps line origin es h → Allows (MayAsk contexts steps) (λ fs ended. Licensed contexts steps line origin fs (after ended)) es (poll_asks op)
   polls_fine es h _ _ (BindsOn place r op q g e) b i = bound_on es h place r op g e b.0.0 i
   polls_fine es h _ _ (Connects place r op g e) b i = connected_on es h place r op g e b.0.0 i
   polls_fine es h _ _ (Listens place r op q g e c) b i = listened_on es h place r op g e c b.0.0 b.0.1 i

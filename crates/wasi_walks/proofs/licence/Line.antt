@@ -1,6 +1,6 @@
 -- What holds of a line: the state fits the log, and so does what the line works on.
 use Rattle.wasi_walks.proofs.Words.{BeganBy, Begins, Call, Entry, HandedNone, Has, IpSocketAddress, IsMaker, IsSide, Kind, List, MarksNoSocket, None, Not}
-use Rattle.wasi_walks.proofs.Words.{OpId, Operation, Option, SocketAddressFamily, Some, Step, Tcp2Socket, Told, ap, entry, inl, inr, length}
+use Rattle.wasi_walks.proofs.Words.{OpId, Operation, Option, SocketAddressFamily, Some, Step, Tcp2Socket, Told, WasiSocketsCtx, ap, entry, inl, inr, length}
 use Rattle.wasi_walks.proofs.Words.{own_of, refl, side_in, subst, sym, with_socket, ℕ, ⊤, ◌∙◌, ◌≡◌, ◌⊎◌}
 use Rattle.wasi_walks.proofs.licence.ListenAsks.{ListenIsFine}
 use Rattle.wasi_walks.proofs.licence.Fresh.{NoMadeBy}
@@ -105,8 +105,8 @@ pub record MadeSocket (line : ℕ) (es : List Entry) (handle : ℕ) (sock : Opti
   pub mark : Has es (entry (own_of line) (Call.Made handle name.Tcp2 above sock) told)
 
 -- The state fits the log, and so do the record that the line works on, each listen in progress, and what an accept has made.
-pub record Licensed (steps : List Step) (line : ℕ) (origin : Step) (es : List Entry) (h : Here) : Type 0 where
-  pub fine : StateIsFine steps es h.machine
+pub record Licensed (contexts : List WasiSocketsCtx) (steps : List Step) (line : ℕ) (origin : Step) (es : List Entry) (h : Here) : Type 0 where
+  pub fine : StateIsFine contexts steps es h.machine
   pub names : NamesTcpHere steps es h
   pub udp_names : NamesUdpHere steps es h
   pub listens : (place : ℕ) (r : Tcp2Socket) (op : Operation) → Found h place r → r.listening ≡ Begins op → ListenGoesOn steps es r op
@@ -133,13 +133,13 @@ module _ {steps : List Step} where
   goes_kept : (es : List Entry) (r now : Tcp2Socket) (op : Operation) → now.inner.maker ≡ r.inner.maker → now.inner.family ≡ r.inner.family → ListenGoesOn steps es r op → ListenGoesOn steps es now op
   goes_kept es r now op m f g = record { fine = g.fine; asks = g.asks ∙ sym m; made = subst (λ (n : ℕ). IsMaker es n now.inner.family op.who.side) (sym m) (subst (λ (x : SocketAddressFamily). IsMaker es r.inner.maker x op.who.side) (sym f) g.made); tcp = g.tcp }
 
-module _ {steps : List Step} {line : ℕ} {origin : Step} where
+module _ {contexts : List WasiSocketsCtx} {steps : List Step} {line : ℕ} {origin : Step} where
   -- a record changes
-  module _ (es : List Entry) (h : Here) (place : ℕ) (r now : Tcp2Socket) (g : Found h place r) (s : now.side ≡ r.side) (i : Licensed steps line origin es h) where
+  module _ (es : List Entry) (h : Here) (place : ℕ) (r now : Tcp2Socket) (g : Found h place r) (s : now.side ≡ r.side) (i : Licensed contexts steps line origin es h) where
     joined_put : (p : ℕ) → JoinedIsFine origin es h p → JoinedIsFine origin es (put h place now) p
     joined_put p j = record { new = j.new; on = j.on; peer = j.peer; context = j.context; listener = j.listener; by = j.by; side = by_side (λ (o : Option OpId). o ≡ Some j.new) h place r now g s p j.side; of_listener = j.of_listener; handed = j.handed; fresh = j.fresh }
 
-    pub put_with : StateIsFine steps es (record h.machine { store = with_socket h.machine.store place now }) → ((op : Operation) → now.listening ≡ Begins op → ListenGoesOn steps es now op) → Licensed steps line origin es (put h place now)
+    pub put_with : StateIsFine contexts steps es (record h.machine { store = with_socket h.machine.store place now }) → ((op : Operation) → now.listening ≡ Begins op → ListenGoesOn steps es now op) → Licensed contexts steps line origin es (put h place now)
     put_with f l = record {
       fine = f;
       names = λ k n q a e. by_side (λ (o : Option OpId). (side : OpId) → o ≡ Some side → Names steps es (own_of n) side) h place r now g s k (λ x d. i.names k n x a d) q e;
@@ -152,15 +152,15 @@ module _ {steps : List Step} {line : ℕ} {origin : Step} where
       streaming = i.streaming;
     }
 
-  pub put_fine : (es : List Entry) (h : Here) (place : ℕ) (r now : Tcp2Socket) → Found h place r → now.side ≡ r.side → KeepsListening r.listening now.listening → KeepsListen r now → RecordIsFine steps es now → Licensed steps line origin es h → Licensed steps line origin es (put h place now)
-  put_fine es h place r now g s l k f i = put_with es h place r now g s i (state_put steps es h.machine place r now g s l f i.fine) (λ op e. let q = k op e in goes_kept es r now op q.1.0 q.1.1 (i.listens place r op g q.0))
+  pub put_fine : (es : List Entry) (h : Here) (place : ℕ) (r now : Tcp2Socket) → Found h place r → now.side ≡ r.side → KeepsListening r.listening now.listening → KeepsListen r now → RecordIsFine steps es now → Licensed contexts steps line origin es h → Licensed contexts steps line origin es (put h place now)
+  put_fine es h place r now g s l k f i = put_with es h place r now g s i (state_put contexts steps es h.machine place r now g s l f i.fine) (λ op e. let q = k op e in goes_kept es r now op q.1.0 q.1.1 (i.listens place r op g q.0))
 
   -- a UDP socket changes
-  pub put_udp_fine : (es : List Entry) (h : Here) (place : ℕ) (u now : Udp2Socket) → FoundUdp h place u → udp_side now ≡ udp_side u → UdpIsFine steps es now → Licensed steps line origin es h → Licensed steps line origin es (put_udp h place now)
+  pub put_udp_fine : (es : List Entry) (h : Here) (place : ℕ) (u now : Udp2Socket) → FoundUdp h place u → udp_side now ≡ udp_side u → UdpIsFine steps es now → Licensed contexts steps line origin es h → Licensed contexts steps line origin es (put_udp h place now)
   put_udp_fine es h place u now g s f i =
       let old : (k : ℕ) (r : Tcp2Socket) → Found (put_udp h place now) k r → Found h k r = λ k r e. tcp_of_put h.machine.store.records place now k r e in
       record {
-        fine = state_put_udp steps es h.machine place u now g s f i.fine;
+        fine = state_put_udp contexts steps es h.machine place u now g s f i.fine;
         names = λ k n r a e. i.names k n r a (old k r e);
         udp_names = λ k n v a e. elim (udp_get_set h.machine.store.records place now k v e) [
           | inl p ↦ subst (Names steps es (own_of n)) (sym s ∙ ap udp_side p.1) (i.udp_names k n u a (ap (udp2_at h.machine.store.records) p.0 ∙ g))
@@ -175,7 +175,7 @@ module _ {steps : List Step} {line : ℕ} {origin : Step} where
       }
 
   -- its own operation began something, or its names are counted
-  pub owned : (es : List Entry) (h : Here) (own : Own) → (own ≡ Unused → ⊥) → Licensed steps line origin es h → Licensed steps line origin es (record h { own = own })
+  pub owned : (es : List Entry) (h : Here) (own : Own) → (own ≡ Unused → ⊥) → Licensed contexts steps line origin es h → Licensed contexts steps line origin es (record h { own = own })
   owned es h own used i = record {
     fine = i.fine;
     names = i.names;
@@ -188,11 +188,11 @@ module _ {steps : List Step} {line : ℕ} {origin : Step} where
     streaming = i.streaming;
   }
 
-  pub spent : (es : List Entry) (h : Here) → Licensed steps line origin es h → Licensed steps line origin es (record h { own = Used })
+  pub spent : (es : List Entry) (h : Here) → Licensed contexts steps line origin es h → Licensed contexts steps line origin es (record h { own = Used })
   spent es h i = owned es h Used (λ e. absurd (cc)) i
 
   -- what it works on is other
-  pub elsewhere : (es : List Entry) (h now : Here) → now.machine.store.records ≡ h.machine.store.records → now.own ≡ h.own → now.made ≡ h.made → Licensed steps line origin es h → StateIsFine steps es now.machine → NamesTcpHere steps es now → NamesUdpHere steps es now → Licensed steps line origin es now
+  pub elsewhere : (es : List Entry) (h now : Here) → now.machine.store.records ≡ h.machine.store.records → now.own ≡ h.own → now.made ≡ h.made → Licensed contexts steps line origin es h → StateIsFine contexts steps es now.machine → NamesTcpHere steps es now → NamesUdpHere steps es now → Licensed contexts steps line origin es now
   elsewhere es h now s o m i f n u = record {
     fine = f;
     names = n;

@@ -26,7 +26,7 @@ module _ (steps more : List Step) where
 
   pub may_more : (contexts : List WasiSocketsCtx) (before : List Entry) (op : OpId) (c : Call) → MayAsk contexts steps before op c → MayAsk contexts (steps ++ more) before op c
   may_more contexts before op (Call.Check ctx addr usage) h = h
-  may_more contexts before op (Call.Lookup host) h = h
+  may_more contexts before op (Call.Lookup host) h = began_more on op _ h
   may_more contexts before op (Call.TcpCreate ctx family) h = began_more on op _ h
   may_more contexts before op (Call.UdpCreate ctx family) h = began_more on op _ h
   may_more contexts before op (Call.Bind sock addr) h = (reach_more before op sock h.0, began_more on op _ h.1, h.2, began_more on sock _ h.3)
@@ -44,12 +44,13 @@ module _ (steps more : List Step) where
   may_more contexts before op _ h = reach_more before op _ h
 
   -- == the state
-  pub state_more : (es : List Entry) (m : Machine) → StateIsFine steps es m → StateIsFine (steps ++ more) es m
-  state_more es m h = record {
+  pub state_more : (contexts : List WasiSocketsCtx) (es : List Entry) (m : Machine) → StateIsFine contexts steps es m → StateIsFine contexts (steps ++ more) es m
+  state_more contexts es m h = record {
     count = h.count;
     handles = h.handles;
     records = λ place r e. subst (λ (fs : List Entry). RecordIsFine (steps ++ more) fs r) (append-nil es) (record_more on es [] r (h.records place r e));
     udp = λ place u e. subst (λ (fs : List Entry). UdpIsFine (steps ++ more) fs u) (append-nil es) (udp_more on es [] u (h.udp place u e));
+    lookups = λ place op e. began_more on op.id _ (h.lookups place op e);
     standing = λ s e. subst (λ (fs : List Entry). StandingIsFine (steps ++ more) fs m.store.records s) (append-nil es) (standing_more on es [] m.store.records s (h.standing s e));
     accepts = h.accepts;
     one = h.one;

@@ -6,7 +6,7 @@ use Rattle.wasi_walks.proofs.Words.{WasiSocketsCtx, [], after_create, allows_if,
 use Rattle.wasi_walks.proofs.Words.{entry, inl, inr, is_full, kind_at, length, make_asks, name_of, new_asks, new_record, new_socket, own_of, place_in}
 use Rattle.wasi_walks.proofs.Words.{refl, side_at, side_in, slice_get, step_at, subst, sym, told_done, true, with_record, ℕ, ⊤, ◌++◌, ◌∙◌, ◌∷◌, ◌≡◌, ◌⊎◌}
 use Rattle.wasi_walks.proofs.claims.Law.{Named, fresh}
-use Rattle.wasi_walks.proofs.walks.Moves.{ToStream, Used, Unused, Marks, ANetwork, AStream, AnError, Here, Found, MarksError, Joined, Marked, made_so, APollable, AUdpPollable, tcp_place, udp_place, FoundUdp, AnAcceptedStream, second_of, Creates, Past}
+use Rattle.wasi_walks.proofs.walks.Moves.{ToStream, Used, Unused, Marks, ANetwork, AStream, ALookup, ALookupPollable, AnError, Here, Found, MarksError, Joined, Marked, made_so, APollable, AUdpPollable, tcp_place, udp_place, FoundUdp, AnAcceptedStream, second_of, Creates, Past}
 use Rattle.wasi_walks.proofs.Lists.{has_last, has_split, has_front, get_split, tcp2_seam}
 use Rattle.wasi_walks.specs.Licence.{MakesTcp}
 use Rattle.wasi_walks.proofs.licence.State.{accept_name, NamesRecord, NamesUdp, HandleIsFine, SocketIsFine}
@@ -46,18 +46,18 @@ module _ (contexts : List WasiSocketsCtx) (steps : List Step) (line : ℕ) (orig
       → Spared h.machine.store.records (own_of line) (Call.Made h.machine.table.next (name_of kind) parent sock)
       → ((c s : ℕ) → origin ≡ Step.TcpAccept c s → (h.own ≡ Unused) ⊎ NotMarked h.made → ⊥)
       → ((x : OpId) → ((h.own ≡ Unused) × (x ≡ second_of line)) ⊎ ((p : ℕ) × (h.made ≡ Joined p)) → name_of kind ≡ name.Tcp2 → sock ≡ Some x → ⊥)
-      → ((t : Told) → HandleIsFine (es ++ entry (own_of line) (Call.Made h.machine.table.next (name_of kind) parent sock) t ∷ []) h.machine.store.records h.machine.table.next kind) → Licensed steps line origin es h
-      → Allows (MayAsk contexts steps) (λ fs made. Licensed steps line origin fs (record h { machine = record h.machine { table = made.1 } })) es (make_asks h.machine.table (own_of line) kind parent sock)
+      → ((t : Told) → HandleIsFine (es ++ entry (own_of line) (Call.Made h.machine.table.next (name_of kind) parent sock) t ∷ []) h.machine.store.records h.machine.table.next kind) → Licensed contexts steps line origin es h
+      → Allows (MayAsk contexts steps) (λ fs made. Licensed contexts steps line origin fs (record h { machine = record h.machine { table = made.1 } })) es (make_asks h.machine.table (own_of line) kind parent sock)
   unfolding bind
   made_fine es h kind parent sock o sp un ms f i =
-      allows_if (MayAsk contexts steps) (λ fs made. Licensed steps line origin fs (record h { machine = record h.machine { table = made.1 } })) es (is_full h.machine.table) _ _ (λ full. elsewhere es h (record h { machine = record h.machine { table = h.machine.table } }) refl refl refl i i.fine i.names i.udp_names)
+      allows_if (MayAsk contexts steps) (λ fs made. Licensed contexts steps line origin fs (record h { machine = record h.machine { table = made.1 } })) es (is_full h.machine.table) _ _ (λ full. elsewhere es h (record h { machine = record h.machine { table = h.machine.table } }) refl refl refl i i.fine i.names i.udp_names)
       (λ room. (
         (i.fine.count, o),
         λ told fits.
             let c = Call.Made h.machine.table.next (name_of kind) parent sock in
             let e = entry (own_of line) c told in
             record {
-              fine = state_made steps es h.machine (own_of line) (name_of kind) parent sock told kind sp (f told) i.fine;
+              fine = state_made contexts steps es h.machine (own_of line) (name_of kind) parent sock told kind sp (f told) i.fine;
               names = λ k n r a g side d. names_on (stay steps) es _ (own_of n) side (i.names k n r a g side d);
               udp_names = λ k n u a g. names_on (stay steps) es _ (own_of n) (udp_side u) (i.udp_names k n u a g);
               listens = listens_on contexts steps line origin is_line es h (own_of line) c told (λ k q op g d p. absurd (cc)) i;
@@ -77,8 +77,8 @@ module _ (contexts : List WasiSocketsCtx) (steps : List Step) (line : ℕ) (orig
   -- of a handle that is no socket's
   other_fine : (es : List Entry) (h : Here) (kind : Kind) (parent : Option ℕ) (sock : Option OpId) → BeganBy steps (own_of line) (IsMarkOf es (own_of line) (name_of kind) parent sock) → (name_of kind ≡ name.Tcp2 → ⊥)
       → ((c s : ℕ) → origin ≡ Step.TcpAccept c s → (h.own ≡ Unused) ⊎ NotMarked h.made → ⊥)
-      → ((t : Told) → HandleIsFine (es ++ entry (own_of line) (Call.Made h.machine.table.next (name_of kind) parent sock) t ∷ []) h.machine.store.records h.machine.table.next kind) → Licensed steps line origin es h
-      → Allows (MayAsk contexts steps) (λ fs made. Licensed steps line origin fs (record h { machine = record h.machine { table = made.1 } })) es (make_asks h.machine.table (own_of line) kind parent sock)
+      → ((t : Told) → HandleIsFine (es ++ entry (own_of line) (Call.Made h.machine.table.next (name_of kind) parent sock) t ∷ []) h.machine.store.records h.machine.table.next kind) → Licensed contexts steps line origin es h
+      → Allows (MayAsk contexts steps) (λ fs made. Licensed contexts steps line origin fs (record h { machine = record h.machine { table = made.1 } })) es (make_asks h.machine.table (own_of line) kind parent sock)
   other_fine es h kind parent sock o none un f i = made_fine es h kind parent sock o (λ k r x e n t. none (socket_touch (own_of line) x h.machine.table.next (name_of kind) parent sock t)) un (λ x p a. absurd (none a)) f i
 
   abbrev pub OneOfTwo : Kind → ℕ → Type 0
@@ -93,8 +93,8 @@ module _ (contexts : List WasiSocketsCtx) (steps : List Step) (line : ℕ) (orig
   no_socket k (inr e) p = absurd (cc)
 
   stream_handle : (fs : List Entry) (records : List Record) (handle place : ℕ) (kind : Kind) → OneOfTwo kind place → NamesRecord fs records handle place → HandleIsFine fs records handle kind
-  stream_handle fs records handle place kind (inl e) n = subst (HandleIsFine fs records handle) (sym e) (n, tt)
-  stream_handle fs records handle place kind (inr e) n = subst (HandleIsFine fs records handle) (sym e) (n, tt)
+  stream_handle fs records handle place kind (inl e) n = subst (HandleIsFine fs records handle) (sym e) (n, tt, tt)
+  stream_handle fs records handle place kind (inr e) n = subst (HandleIsFine fs records handle) (sym e) (n, tt, tt)
 
   -- the new handle names the record
   new_names : (es : List Entry) (h : Here) (n place : ℕ) (kind : HandleKind) (parent : Option ℕ) (r : Tcp2Socket) (t : Told) → Found h place r → (let sock = side_at (tcp2_at h.machine.store.records place) in NamesRecord (es ++ entry (own_of line) (Call.Made n kind parent sock) t ∷ []) h.machine.store.records n place)
@@ -115,17 +115,23 @@ module _ (contexts : List WasiSocketsCtx) (steps : List Step) (line : ℕ) (orig
   pollable_handle fs records handle (Watched.Udp place) p n = absurd (cc)
   pollable_handle fs records handle (Watched.Incoming place) p n = absurd (cc)
   pollable_handle fs records handle (Watched.Outgoing place) p n = absurd (cc)
-  pollable_handle fs records handle (Watched.Socket place) p n = (n, tt)
-  pollable_handle fs records handle (Watched.Input place) p n = (n, tt)
-  pollable_handle fs records handle (Watched.Output place) p n = (n, tt)
+  pollable_handle fs records handle (Watched.Lookup place) p n = absurd (cc)
+  pollable_handle fs records handle (Watched.Socket place) p n = (n, tt, tt)
+  pollable_handle fs records handle (Watched.Input place) p n = (n, tt, tt)
+  pollable_handle fs records handle (Watched.Output place) p n = (n, tt, tt)
 
   udp_pollable_handle : (fs : List Entry) (records : List Record) (handle : ℕ) (w : Watched) → udp_place w ≡ Some (place_in w) → NamesUdp fs records handle (place_in w) → HandleIsFine fs records handle (Pollable w)
-  udp_pollable_handle fs records handle (Watched.Udp place) p n = (tt, n)
-  udp_pollable_handle fs records handle (Watched.Incoming place) p n = (tt, n)
-  udp_pollable_handle fs records handle (Watched.Outgoing place) p n = (tt, n)
+  udp_pollable_handle fs records handle (Watched.Udp place) p n = (tt, n, tt)
+  udp_pollable_handle fs records handle (Watched.Incoming place) p n = (tt, n, tt)
+  udp_pollable_handle fs records handle (Watched.Outgoing place) p n = (tt, n, tt)
   udp_pollable_handle fs records handle (Watched.Socket place) p n = absurd (cc)
   udp_pollable_handle fs records handle (Watched.Input place) p n = absurd (cc)
   udp_pollable_handle fs records handle (Watched.Output place) p n = absurd (cc)
+  udp_pollable_handle fs records handle (Watched.Lookup place) p n = absurd (cc)
+
+  -- the new handle is of no network socket
+  marks_none : (es : List Entry) (n : ℕ) (kind : HandleKind) (parent : Option ℕ) (t : Told) → IsMarkedWith (es ++ entry (own_of line) (Call.Made n kind parent None) t ∷ []) n None
+  marks_none es n kind parent t = record { op = own_of line; kind = kind; parent = parent; told = t; mark = has_last es _ }
 
   not_accept : (s : Step) → ((c k : ℕ) → s ≡ Step.TcpAccept c k → ⊥) → origin ≡ s → (c k : ℕ) → origin ≡ Step.TcpAccept c k → (h : Here) → (h.own ≡ Unused) ⊎ NotMarked h.made → ⊥
   not_accept s n e c k is h u = n c k (sym e ∙ is)
@@ -137,10 +143,10 @@ module _ (contexts : List WasiSocketsCtx) (steps : List Step) (line : ℕ) (orig
   used_marked h handle place o m (inl u) = absurd (let p : Used ≡ Unused = sym o ∙ u in cc)
   used_marked h handle place o m (inr n) = subst NotMarked m n
 
-  pub marked_fine : (es : List Entry) (h : Here) (kind : Kind) (parent : Option ℕ) (sock : Option OpId) → Marks origin h kind parent sock → Licensed steps line origin es h
-      → Allows (MayAsk contexts steps) (λ fs made. Licensed steps line origin fs (record h { machine = record h.machine { table = made.1 } })) es (make_asks h.machine.table (own_of line) kind parent sock)
+  pub marked_fine : (es : List Entry) (h : Here) (kind : Kind) (parent : Option ℕ) (sock : Option OpId) → Marks origin h kind parent sock → Licensed contexts steps line origin es h
+      → Allows (MayAsk contexts steps) (λ fs made. Licensed contexts steps line origin fs (record h { machine = record h.machine { table = made.1 } })) es (make_asks h.machine.table (own_of line) kind parent sock)
   marked_fine es h _ _ _ (ANetwork c e) i =
-      other_fine es h Network None None (record { origin = origin; at = is_line; holds = subst (IsMarkOf es (own_of line) name.Network None None) (sym e) (refl, refl, refl) }) (λ p. absurd (cc)) (λ a k is. not_accept (Step.Network c) (λ a k p. absurd (cc)) e a k is h) (λ t. (tt, tt)) i
+      other_fine es h Network None None (record { origin = origin; at = is_line; holds = subst (IsMarkOf es (own_of line) name.Network None None) (sym e) (refl, refl, refl) }) (λ p. absurd (cc)) (λ a k is. not_accept (Step.Network c) (λ a k p. absurd (cc)) e a k is h) (λ t. (tt, tt, tt)) i
   marked_fine es h kind _ _ (AStream c handle place _ is which e) i =
       let sock = side_at (tcp2_at h.machine.store.records place) in
       let n = names_record es h.machine.store.records handle place (kind_at h.machine.table handle) e (i.fine.handles handle) in
@@ -170,15 +176,22 @@ module _ (contexts : List WasiSocketsCtx) (steps : List Step) (line : ℕ) (orig
       other_fine es h (Pollable w) (Some handle) sock (record { origin = origin; at = is_line; holds = subst (IsMarkOf es (own_of line) name.Pollable (Some handle) sock) (sym is) (refl, (refl, k)) }) (λ p. absurd (cc))
       (λ a s p. not_accept (Step.Subscribe c handle) (λ a s p. absurd (cc)) is a s p h)
       (λ t. udp_pollable_handle _ h.machine.store.records h.machine.table.next w p (new_udp_names es h h.machine.table.next place name.Pollable (Some handle) n.found t n.at)) i
+  marked_fine es h _ _ _ (ALookup c network place host e there) i =
+      other_fine es h (Kind.Lookup place) (Some network) None (record { origin = origin; at = is_line; holds = subst (IsMarkOf es (own_of line) name.Lookup (Some network) None) (sym e) (refl, refl, refl) }) (λ p. absurd (cc)) (λ a k p. not_accept (Step.Resolve c network host) (λ a k p. absurd (cc)) e a k p h)
+      (λ t. (tt, tt, marks_none es h.machine.table.next name.Lookup (Some network) t)) i
+  marked_fine es h _ _ _ (ALookupPollable c handle place is e) i =
+      let k : IsMarkedWith es handle None = (i.fine.handles handle (Kind.Lookup place) e).2 in
+      other_fine es h (Pollable (Watched.Lookup place)) (Some handle) None (record { origin = origin; at = is_line; holds = subst (IsMarkOf es (own_of line) name.Pollable (Some handle) None) (sym is) (refl, (refl, k)) }) (λ p. absurd (cc)) (λ a s p. not_accept (Step.Subscribe c handle) (λ a s p. absurd (cc)) is a s p h)
+      (λ t. (tt, tt, marks_none es h.machine.table.next name.Pollable (Some handle) t)) i
   marked_fine es h _ _ _ (AnError handle place m e) i =
       let sock = side_at (tcp2_at h.machine.store.records place) in
       let n = names_record es h.machine.store.records handle place (kind_at h.machine.table handle) e (i.fine.handles handle) in
       let w : IsMarkedWith es handle sock = subst (IsMarkedWith es handle) (sym (ap side_at n.at)) n.marked in
-      other_fine es h ErrorValue (Some handle) sock (record { origin = origin; at = is_line; holds = error_mark es (own_of line) handle sock origin m w }) (λ p. absurd (cc)) (λ a s p u. error_line handle origin m a s p) (λ t. (tt, tt)) i
+      other_fine es h ErrorValue (Some handle) sock (record { origin = origin; at = is_line; holds = error_mark es (own_of line) handle sock origin m w }) (λ p. absurd (cc)) (λ a s p u. error_line handle origin m a s p) (λ t. (tt, tt, tt)) i
 
   -- the mark of what was accepted
-  pub accepted_fine : (es : List Entry) (h : Here) (c s place : ℕ) (r : Tcp2Socket) → origin ≡ Step.TcpAccept c s → h.made ≡ Joined place → h.own ≡ Used → Found h place r → Named line h → Licensed steps line origin es h
-      → Allows (MayAsk contexts steps) (λ fs made. Licensed steps line origin fs (record h { machine = record h.machine { table = made.1 }; made = made_so place made.0 })) es (make_asks h.machine.table (own_of line) (Tcp2 place) (Some s) (side_at (tcp2_at h.machine.store.records place)))
+  pub accepted_fine : (es : List Entry) (h : Here) (c s place : ℕ) (r : Tcp2Socket) → origin ≡ Step.TcpAccept c s → h.made ≡ Joined place → h.own ≡ Used → Found h place r → Named line h → Licensed contexts steps line origin es h
+      → Allows (MayAsk contexts steps) (λ fs made. Licensed contexts steps line origin fs (record h { machine = record h.machine { table = made.1 }; made = made_so place made.0 })) es (make_asks h.machine.table (own_of line) (Tcp2 place) (Some s) (side_at (tcp2_at h.machine.store.records place)))
   unfolding bind
   accepted_fine es h c s place r is e o g b i =
       let j = i.joined place e in
@@ -187,15 +200,15 @@ module _ (contexts : List WasiSocketsCtx) (steps : List Step) (line : ℕ) (orig
       let its : sock ≡ Some j.new = ap side_at g ∙ j.side r g in
       let same : j.listener ≡ s = same_listener j.context j.listener c s (sym j.by ∙ is) in
       let past : Used ≡ h.own = sym o in
-      allows_if (MayAsk contexts steps) (λ fs made. Licensed steps line origin fs (record h { machine = record h.machine { table = made.1 }; made = made_so place made.0 })) es (is_full h.machine.table) _ _
+      allows_if (MayAsk contexts steps) (λ fs made. Licensed contexts steps line origin fs (record h { machine = record h.machine { table = made.1 }; made = made_so place made.0 })) es (is_full h.machine.table) _ _
       (λ full. record { fine = i.fine; names = i.names; udp_names = i.udp_names; listens = i.listens; new = i.new; unmade = λ u. absurd (elim u [ inl p ↦ not_used (past ∙ p) | inr p ↦ p ]); joined = λ p d. absurd (cc); marked = λ a p d. absurd (cc); streaming = λ m k d. absurd (cc) })
       (λ room. (
         (i.fine.count, record { origin = origin; at = is_line; holds = subst (IsMarkOf es (own_of line) name.Tcp2 (Some s) sock) (sym is) (inl (record { first = i.unmade (inr (subst NotMarked (sym e) tt)) c s is; socket = refl; under = refl; accept = j.new; side = its; on = j.on; of_listener = subst (λ (x : ℕ). IsSide es x j.on) same j.of_listener; peer = j.peer; told = j.handed.told; handed = j.handed.hand; fresh = j.fresh })) }),
         λ told fits.
             let k = Call.Made n name.Tcp2 (Some s) sock in
             record {
-              fine = state_made steps es h.machine (own_of line) name.Tcp2 (Some s) sock told (Tcp2 place)
-                  (λ p q x d m t. apart_there j.new p q x d m (subst (λ (y : Option OpId). Touches (own_of line) (Call.Made n name.Tcp2 (Some s) y) x) its t) (j.side r g)) (new_names es h n place name.Tcp2 (Some s) r told g, tt) i.fine;
+              fine = state_made contexts steps es h.machine (own_of line) name.Tcp2 (Some s) sock told (Tcp2 place)
+                  (λ p q x d m t. apart_there j.new p q x d m (subst (λ (y : Option OpId). Touches (own_of line) (Call.Made n name.Tcp2 (Some s) y) x) its t) (j.side r g)) (new_names es h n place name.Tcp2 (Some s) r told g, tt, tt) i.fine;
               names = λ p m q a d side x. names_on (stay steps) es _ (own_of m) side (i.names p m q a d side x);
               udp_names = λ p m u a d. names_on (stay steps) es _ (own_of m) (udp_side u) (i.udp_names p m u a d);
               listens = listens_on contexts steps line origin is_line es h (own_of line) k told (λ p q op d m x. absurd (cc)) i;
@@ -265,8 +278,8 @@ module _ (contexts : List WasiSocketsCtx) (steps : List Step) (line : ℕ) (orig
   creates_only : (ctx : WasiSocketsCtx) (family : SocketAddressFamily) → Creates contexts ctx family origin → (c s : ℕ) → origin ≡ Step.TcpAccept c s → ⊥
   creates_only ctx family k c s e = subst (Creates contexts ctx family) e k
 
-  pub joins : (es : List Entry) (h : Here) (ctx : WasiSocketsCtx) (family : SocketAddressFamily) (made : Result Socket ErrorCode) → Creates contexts ctx family origin → h.at ≡ None → h.own ≡ Unused → h.made ≡ Past → CreatedIsFine ctx.name family es made → Named line h → Licensed steps line origin es h
-      → Allows (MayAsk contexts steps) (λ fs done. Licensed steps line origin fs (record h { machine = done.1; own = Used })) es (created_asks h.machine (own_of line) made)
+  pub joins : (es : List Entry) (h : Here) (ctx : WasiSocketsCtx) (family : SocketAddressFamily) (made : Result Socket ErrorCode) → Creates contexts ctx family origin → h.at ≡ None → h.own ≡ Unused → h.made ≡ Past → CreatedIsFine ctx.name family es made → Named line h → Licensed contexts steps line origin es h
+      → Allows (MayAsk contexts steps) (λ fs done. Licensed contexts steps line origin fs (record h { machine = done.1; own = Used })) es (created_asks h.machine (own_of line) made)
   joins es h ctx family (Err x) c nowhere u past k b i = spent es h i
   joins es h ctx family (Ok socket) c nowhere u past k b i =
       let own = own_of line in
@@ -279,8 +292,8 @@ module _ (contexts : List WasiSocketsCtx) (steps : List Step) (line : ℕ) (orig
         listens = λ side e. absurd (cc);
         connect = λ op e. absurd (cc);
       } in
-      let j : Licensed steps line origin es next = record {
-        fine = state_push steps es h.machine now made_it i.fine;
+      let j : Licensed contexts steps line origin es next = record {
+        fine = state_push contexts steps es h.machine now made_it i.fine;
         names = λ p n r a e. absurd (no_place p n (sym nowhere ∙ a));
         udp_names = λ p n u a e. absurd (no_place p n (sym nowhere ∙ a));
         listens = λ p q op d m. elim (get_split h.machine.store.records (new_record now) p q d) [ inl v ↦ i.listens p q op v m | inr v ↦ absurd (no_listen op (ap (λ (y : Tcp2Socket). y.listening) v ∙ m)) ];
@@ -290,13 +303,13 @@ module _ (contexts : List WasiSocketsCtx) (steps : List Step) (line : ℕ) (orig
         marked = λ a p e q d. elim (get_split h.machine.store.records (new_record now) p q d) [ inl v ↦ i.marked a p e q v | inr v ↦ absurd (not_marked a p (sym past ∙ e)) ];
         streaming = λ n k e. absurd (let p : Past ≡ ToStream n k = sym past ∙ e in cc);
       } in
-      subst (λ (s : Socket). Allows (MayAsk contexts steps) (λ fs done. Licensed steps line origin fs (record h { machine = done.1; own = Used })) es (create_handle h.machine own s)) (sym k.1)
-      (allows_then (MayAsk contexts steps) (λ fs made. Licensed steps line origin fs (record next { machine = record next.machine { table = made.1 } })) (λ fs done. Licensed steps line origin fs (record h { machine = done.1; own = Used })) es
+      subst (λ (s : Socket). Allows (MayAsk contexts steps) (λ fs done. Licensed contexts steps line origin fs (record h { machine = done.1; own = Used })) es (create_handle h.machine own s)) (sym k.1)
+      (allows_then (MayAsk contexts steps) (λ fs made. Licensed contexts steps line origin fs (record next { machine = record next.machine { table = made.1 } })) (λ fs done. Licensed contexts steps line origin fs (record h { machine = done.1; own = Used })) es
       (make_asks h.machine.table own (Tcp2 (length h.machine.store.records)) None (Some own)) _
       (made_fine contexts steps line origin is_line es next (Tcp2 (length h.machine.store.records)) None (Some own) (record { origin = origin; at = is_line; holds = created_mark es ctx.name family ctx family origin c k.0 })
       (λ p r x e n t. elim (get_split h.machine.store.records (new_record now) p r e) [ inl v ↦ fresh contexts line origin h u b x (of_line x t) p r v (inr n) | inr v ↦ no_name x (ap (λ (y : Tcp2Socket). accept_name y.listening) v ∙ n) ])
       (λ a s is w. creates_only ctx family c a s is) (λ x w p q. elim w [ inl d ↦ absurd (not_used d.0) | inr d ↦ not_joined d.0 (sym past ∙ d.1) ])
-      (λ t. (record { found = new_record now; at = tcp2_seam h.machine.store.records (new_record now); marked = record { op = own; kind = name.Tcp2; parent = None; told = t; mark = has_last es _ } }, tt)) j) (λ fs made l. l))
+      (λ t. (record { found = new_record now; at = tcp2_seam h.machine.store.records (new_record now); marked = record { op = own; kind = name.Tcp2; parent = None; told = t; mark = has_last es _ } }, tt, tt)) j) (λ fs made l. l))
     where
       default_side : (a b : OpId) → TcpState.Default a ≡ TcpState.Default b → Some a ≡ Some b
       default_side a b e = ap side_in e

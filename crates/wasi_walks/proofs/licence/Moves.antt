@@ -7,13 +7,14 @@ use Rattle.wasi_walks.proofs.Words.{kind_at, new_job, new_streams, own_of, refl,
 use Rattle.wasi_walks.proofs.Words.{sym, true, wildcard, with_inner, with_listening, with_progress, with_state, written_by, ℕ, ◌∙◌, ◌≡◌}
 use Rattle.wasi_walks.proofs.licence.ListenAsks.{Whole as WholeListen}
 use Rattle.wasi_walks.proofs.claims.Law.{Base, same_begun, fresh}
-use Rattle.wasi_walks.proofs.walks.Moves.{Own, GoesOn, RemembersStreams, RecallsStreams, BeginsUdpConnect, StandsUdpConnect, StandsDropOutgoing, Counts, SpendsNames, BeginsSend, BeginsReceive, closed_record, Here, put, Found, record_of, WriterMoves, Collects, LastsAfter, Closes, Plain, Move, Reaches, ReachesUdp, Leaves, Spends, Changes, ClosesReader, Writes, IsGone, opened_by, Reconnects, Opens, BeginsConnect, BeginsBind, BeginsWrite, begun_bind, Stands, Resumes, Unstands, UdpChanges, BeginsUdpBind, StandsUdpBind, StandsUdpCreate, Lists, Takes, BeginsListen, BeginsAccept, Unlistens, Forgets, Watches, Joins, accepting_now, begun_listen, beginning_listen, new_accept, joined, second_of}
+use Rattle.wasi_walks.proofs.walks.Moves.{Own, GoesOn, RemembersStreams, RecallsStreams, BeginsUdpConnect, StandsUdpConnect, StandsDropOutgoing, Counts, SpendsNames, BeginsSend, BeginsReceive, closed_record, Here, put, Found, record_of, WriterMoves, Collects, LastsAfter, Closes, Plain, Move, Reaches, ReachesUdp, Leaves, Spends, Changes, ClosesReader, Writes, IsGone, opened_by, Reconnects, Opens, BeginsConnect, BeginsBind, BeginsWrite, begun_bind, Stands, Resumes, Unstands, UdpChanges, BeginsUdpBind, StandsUdpBind, StandsUdpCreate, Finds, Lists, Takes, BeginsListen, BeginsAccept, Unlistens, Forgets, Watches, Joins, accepting_now, begun_listen, beginning_listen, new_accept, joined, second_of}
 use Rattle.wasi_walks.proofs.Lists.{get_split}
 use Rattle.wasi_walks.proofs.licence.State.{ConnectIsFine, ConnectLeft, Unbound, Unchecked, ReadsOn, Whole, ToWrite, Names, BindIsFine, JobIsFine, WritesOn, StreamsAreFine, AcceptingIsFine, ListeningIsFine, SocketIsFine, RecordIsFine, IsHanded, Unarrived, AcceptingStands, ListeningStands, ListenerIsFine, OfTcp, OfUdp, StreamsStand, name_in}
 use Rattle.wasi_walks.proofs.licence.Frames.{same_listening, listening_kept, listening_gone, Only, KeepsSide, same_record, record_kept}
 use Rattle.wasi_walks.proofs.licence.States.{state_taken, state_put, state_stands, state_unstands, state_jobs, state_renewed, state_joined}
 use Rattle.wasi_walks.proofs.licence.WriteJobs.{shut_after}
 use Rattle.wasi_walks.proofs.licence.Line.{put_with, names_record, keeps_plain, seam, pair_first, pair_second, no_listen, second_names, ListenGoesOn, NotMarked, NamesMade, Licensed, KeepsListen, put_fine, owned, spent, elsewhere}
+use Rattle.wasi_walks.proofs.licence.LookupMoves.{records_fine}
 use Rattle.wasi_walks.proofs.licence.UdpMoves.{begins_receive, begins_send, begins_udp_connect, recalls_streams, remembers_streams, tcp_alone, reaches_udp, resumes, udp_changes, begins_udp_bind}
 use Rattle.wasi_host.specs.Records.{tcp2_at, tcp2_put}
 use Rattle.wasi_host.specs.declared.udp.Udp2Socket.{Udp2Socket}
@@ -28,14 +29,14 @@ module _ (contexts : List WasiSocketsCtx) (steps : List Step) (line : ℕ) (orig
     connect = λ op e. f.connect op (sym p.does ∙ e);
   }
 
-  plain_fine : (es : List Entry) (h : Here) (place : ℕ) (r now : Tcp2Socket) → Found h place r → Plain r now → Licensed steps line origin es h → Licensed steps line origin es (put h place now)
+  plain_fine : (es : List Entry) (h : Here) (place : ℕ) (r now : Tcp2Socket) → Found h place r → Plain r now → Licensed contexts steps line origin es h → Licensed contexts steps line origin es (put h place now)
   plain_fine es h place r now g p i =
       let f = i.fine.records place r g in
       put_fine es h place r now g p.side (listening_kept r.listening now.listening p.listening) (λ op e. (sym p.listening ∙ e, (p.maker, p.family))) (record_kept steps es r now (keeps_plain r now p) (plain_socket es r now p f.socket) f) i
 
   -- other streams, of the same network socket
   pub streams_fine : (es : List Entry) (h : Here) (place : ℕ) (r : Tcp2Socket) (s now : Streams) → Found h place r → r.streams ≡ Some s
-      → ((f : StreamsAreFine steps es r.inner s) → ReadsOn f.side now.reader × WritesOn steps es f.side now.writer) → Licensed steps line origin es h → Licensed steps line origin es (put h place (record r { streams = Some now }))
+      → ((f : StreamsAreFine steps es r.inner s) → ReadsOn f.side now.reader × WritesOn steps es f.side now.writer) → Licensed contexts steps line origin es h → Licensed contexts steps line origin es (put h place (record r { streams = Some now }))
   streams_fine es h place r s now g e k i =
       let x = i.fine.records place r g in
       let f = x.streams s e in
@@ -110,7 +111,7 @@ module _ (contexts : List WasiSocketsCtx) (steps : List Step) (line : ℕ) (orig
   no_streams : (es : List Entry) (r : Tcp2Socket) (side : OpId) (s : Streams) → r.inner.state ≡ TcpState.Default side → RecordIsFine steps es r → r.streams ≡ Some s → ⊥
   no_streams es r side s d f e = not_default side (f.streams s e).connected.connection (sym d ∙ (f.streams s e).connected.state)
 
-  names_at : (es : List Entry) (h : Here) (handle place : ℕ) → Has (handles_of origin) handle → record_of (kind_at h.machine.table handle) ≡ Some place → Licensed steps line origin es h → (r : Tcp2Socket) → Found h place r → NamesMade steps line es r
+  names_at : (es : List Entry) (h : Here) (handle place : ℕ) → Has (handles_of origin) handle → record_of (kind_at h.machine.table handle) ≡ Some place → Licensed contexts steps line origin es h → (r : Tcp2Socket) → Found h place r → NamesMade steps line es r
   names_at es h handle place named e i r g side m =
       let n = names_record es h.machine.store.records handle place (kind_at h.machine.table handle) e (i.fine.handles handle) in
       let same : n.found.side ≡ r.side = ap (λ (x : Tcp2Socket). x.side) (same_record n.found r (sym n.at ∙ g)) in
@@ -118,7 +119,7 @@ module _ (contexts : List WasiSocketsCtx) (steps : List Step) (line : ℕ) (orig
       record { origin = origin; at = is_line; holds = record { handle = handle; named = named; is = record { op = w.op; kind = w.kind; parent = w.parent; told = w.told; mark = w.mark } } }
 
   -- the network socket of a record that a handle of the line is of
-  is_side : (es : List Entry) (h : Here) (handle place : ℕ) → record_of (kind_at h.machine.table handle) ≡ Some place → Licensed steps line origin es h → (r : Tcp2Socket) → Found h place r → (side : OpId) → r.side ≡ Some side → IsSide es handle side
+  is_side : (es : List Entry) (h : Here) (handle place : ℕ) → record_of (kind_at h.machine.table handle) ≡ Some place → Licensed contexts steps line origin es h → (r : Tcp2Socket) → Found h place r → (side : OpId) → r.side ≡ Some side → IsSide es handle side
   is_side es h handle place e i r g side m =
       let n = names_record es h.machine.store.records handle place (kind_at h.machine.table handle) e (i.fine.handles handle) in
       let same : n.found.side ≡ r.side = ap (λ (x : Tcp2Socket). x.side) (same_record n.found r (sym n.at ∙ g)) in
@@ -128,11 +129,11 @@ module _ (contexts : List WasiSocketsCtx) (steps : List Step) (line : ℕ) (orig
   listener_fine es r l e f = subst (ListeningIsFine steps es r.side) e f.listening
 
   -- the accept of a listener is another, of a name that no other record has
-  renewed_fine : (es : List Entry) (h : Here) (place : ℕ) (r : Tcp2Socket) (l : Listener) (a : Accepting) → Found h place r → r.listening ≡ Accepts l → AcceptingIsFine steps es l.side l.maker a → AcceptingStands es l.side a → ((x : OpId) → name_in a ≡ Some x → Only h.machine.store.records place x) → Licensed steps line origin es h → Licensed steps line origin es (put h place (accepting_now r l a))
+  renewed_fine : (es : List Entry) (h : Here) (place : ℕ) (r : Tcp2Socket) (l : Listener) (a : Accepting) → Found h place r → r.listening ≡ Accepts l → AcceptingIsFine steps es l.side l.maker a → AcceptingStands es l.side a → ((x : OpId) → name_in a ≡ Some x → Only h.machine.store.records place x) → Licensed contexts steps line origin es h → Licensed contexts steps line origin es (put h place (accepting_now r l a))
   renewed_fine es h place r l a g e f s o i =
       let x = i.fine.records place r g in let lf = listener_fine es r l e x in
       put_with es h place r (accepting_now r l a) g refl i
-      (state_renewed steps es h.machine place r (accepting_now r l a) g refl (record { socket = x.socket; named = x.named; streams = x.streams; listening = record { side = lf.side; maker = lf.maker; accept = f }; progress = x.progress }) s o i.fine)
+      (state_renewed contexts steps es h.machine place r (accepting_now r l a) g refl (record { socket = x.socket; named = x.named; streams = x.streams; listening = record { side = lf.side; maker = lf.maker; accept = f }; progress = x.progress }) s o i.fine)
       (λ op p. absurd (cc))
 
   joined_record : (es : List Entry) (l : Listener) (new : OpId) (peer : IpSocketAddress) → IsMaker es l.maker l.family l.side → IsHanded es new l.side peer → RecordIsFine steps es (joined l new peer)
@@ -154,7 +155,7 @@ module _ (contexts : List WasiSocketsCtx) (steps : List Step) (line : ℕ) (orig
   no_streams_stand r n (StandingCall.UdpConnect place handle) k = absurd k
   no_streams_stand r n _ k = tt
 
-  pub moves_fine : (es : List Entry) (h now : Here) → Move line origin h now → Base contexts line origin h → Licensed steps line origin es h → Licensed steps line origin es now
+  pub moves_fine : (es : List Entry) (h now : Here) → Move line origin h now → Base contexts line origin h → Licensed contexts steps line origin es h → Licensed contexts steps line origin es now
   moves_fine es _ _ (Reaches h handle place named e) b i = elsewhere es h _ refl refl refl i i.fine (λ k n r a g. by_place h k n place r a g (names_at es h handle place named e i)) (tcp_alone contexts steps line origin is_line es h handle place e i)
     where
       by_place : (h : Here) (k n place : ℕ) (r : Tcp2Socket) → (let x : Option (ℕ × ℕ) = Some (place, line) in let y : Option (ℕ × ℕ) = Some (k, n) in x ≡ y) → Found h k r → ((q : Tcp2Socket) → Found h place q → NamesMade steps line es q) → NamesMade steps n es r
@@ -224,7 +225,7 @@ module _ (contexts : List WasiSocketsCtx) (steps : List Step) (line : ℕ) (orig
         tcp = f.socket.tcp side d;
       } in
       spent es _ (put_with es h place r now g refl i
-      (state_put steps es h.machine place r now g refl (record { stands = λ fs k. tt; names = λ x p. absurd (cc) })
+      (state_put contexts steps es h.machine place r now g refl (record { stands = λ fs k. tt; names = λ x p. absurd (cc) })
       (record { socket = record { knows = record { maker = λ x p. absurd (cc) }; tcp = λ x p. absurd (cc); bound = λ x p q. absurd (cc); listens = λ x p. absurd (cc); connect = λ x p. absurd (cc) }; named = λ x p. absurd (cc); streams = λ t p. absurd (no_streams es r side t d f p); listening = tt; progress = f.progress }) i.fine)
       (λ op p. subst (ListenGoesOn steps es now) (same_begun _ op p) goes))
   moves_fine es _ _ (BeginsAccept h place r l at g e a o) b i =
@@ -247,7 +248,7 @@ module _ (contexts : List WasiSocketsCtx) (steps : List Step) (line : ℕ) (orig
       let free : MarksNoSocket es new = subst (AcceptingStands es l.side) a (subst (ListeningStands es) e (i.fine.accepts place r g)) in
       let k = renewed_fine es h place r l Accepting.Idle g e tt tt (λ y p. absurd (cc)) i in
       record {
-        fine = state_joined steps es (put h place idle).machine (joined l new peer) (joined_record es l new peer lf.maker handed) tt refl k.fine;
+        fine = state_joined contexts steps es (put h place idle).machine (joined l new peer) (joined_record es l new peer lf.maker handed) tt refl k.fine;
         names = λ p n q at d. absurd (cc);
         udp_names = λ p n q at d. absurd (cc);
         listens = λ p q op d m. elim (get_split records (joined l new peer) p q d) [ inl v ↦ k.listens p q op v m | inr v ↦ absurd (no_listen op (ap (λ (y : Tcp2Socket). y.listening) v ∙ m)) ];
@@ -268,24 +269,25 @@ module _ (contexts : List WasiSocketsCtx) (steps : List Step) (line : ℕ) (orig
         marked = λ s p m. absurd (cc);
         streaming = λ n k e. absurd (cc);
       }
-  moves_fine es _ _ (Stands h ids call r at g k) b i = elsewhere es h _ refl refl refl i (state_stands steps es h.machine (standing_as ids call) (λ o. OfTcp r g (i.names (call_place call) ids.line r at g), no_streams_stand r ids.line call k) i.fine) i.names i.udp_names
+  moves_fine es _ _ (Stands h ids call r at g k) b i = elsewhere es h _ refl refl refl i (state_stands contexts steps es h.machine (standing_as ids call) (λ o. OfTcp r g (i.names (call_place call) ids.line r at g), no_streams_stand r ids.line call k) i.fine) i.names i.udp_names
   moves_fine es _ _ (Resumes h s e o) b i = resumes contexts steps line origin is_line es h s e o i
-  moves_fine es _ _ (Unstands h) b i = elsewhere es h _ refl refl refl i (state_unstands steps es h.machine i.fine) i.names i.udp_names
+  moves_fine es _ _ (Unstands h) b i = elsewhere es h _ refl refl refl i (state_unstands contexts steps es h.machine i.fine) i.names i.udp_names
   moves_fine es _ _ (UdpChanges h place o now g p) b i = udp_changes contexts steps line origin is_line es h place o now g p i
   moves_fine es _ _ (BeginsUdpBind h place o a at g to idle u) b i = begins_udp_bind contexts steps line origin is_line es h place o a at g to i
   moves_fine es _ _ (StandsUdpBind h ids place o op at g e) b i =
-      elsewhere es h _ refl refl refl i (state_stands steps es h.machine (standing_as ids (StandingCall.UdpBind place)) (λ c. OfUdp (Udp2Socket.Open o) g (i.udp_names place ids.line (Udp2Socket.Open o) at g), tt) i.fine) i.names i.udp_names
-  moves_fine es _ _ (StandsUdpCreate h ids place create g) b i = elsewhere es h _ refl refl refl i (state_stands steps es h.machine (standing_as ids (StandingCall.UdpCreate place)) (λ c. absurd c, tt) i.fine) i.names i.udp_names
+      elsewhere es h _ refl refl refl i (state_stands contexts steps es h.machine (standing_as ids (StandingCall.UdpBind place)) (λ c. OfUdp (Udp2Socket.Open o) g (i.udp_names place ids.line (Udp2Socket.Open o) at g), tt) i.fine) i.names i.udp_names
+  moves_fine es _ _ (StandsUdpCreate h ids place create g) b i = elsewhere es h _ refl refl refl i (state_stands contexts steps es h.machine (standing_as ids (StandingCall.UdpCreate place)) (λ c. absurd c, tt) i.fine) i.names i.udp_names
   moves_fine es _ _ (RemembersStreams h c handle remote is) b i = remembers_streams contexts steps line origin is_line es h c handle remote is i
   moves_fine es _ _ (RecallsStreams h ids place handle e) b i = recalls_streams contexts steps line origin is_line es h ids place handle e i
   moves_fine es _ _ (BeginsUdpConnect h place o a at g to bound u) b i = begins_udp_connect contexts steps line origin is_line es h place o a at g to bound i
   moves_fine es _ _ (StandsUdpConnect h ids place handle o op at m g e) b i =
-      elsewhere es h _ refl refl refl i (state_stands steps es h.machine (standing_as ids (StandingCall.UdpConnect place handle)) (λ c. OfUdp (Udp2Socket.Open o) g (i.udp_names place ids.line (Udp2Socket.Open o) at g), i.streaming ids.line handle m) i.fine) i.names i.udp_names
+      elsewhere es h _ refl refl refl i (state_stands contexts steps es h.machine (standing_as ids (StandingCall.UdpConnect place handle)) (λ c. OfUdp (Udp2Socket.Open o) g (i.udp_names place ids.line (Udp2Socket.Open o) at g), i.streaming ids.line handle m) i.fine) i.names i.udp_names
   moves_fine es _ _ (StandsDropOutgoing h ids place o at g e) b i =
-      elsewhere es h _ refl refl refl i (state_stands steps es h.machine (standing_as ids (StandingCall.DropOutgoing place)) (λ c. OfUdp (Udp2Socket.Open o) g (i.udp_names place ids.line (Udp2Socket.Open o) at g), tt) i.fine) i.names i.udp_names
+      elsewhere es h _ refl refl refl i (state_stands contexts steps es h.machine (standing_as ids (StandingCall.DropOutgoing place)) (λ c. OfUdp (Udp2Socket.Open o) g (i.udp_names place ids.line (Udp2Socket.Open o) at g), tt) i.fine) i.names i.udp_names
   moves_fine es _ _ (Counts h u) b i = owned es h (Own.Names 1) (λ e. absurd (cc)) i
   moves_fine es _ _ (SpendsNames h n u) b i = spent es h i
   moves_fine es _ _ (BeginsSend h place n o out d bound at g e is known u) b i = begins_send contexts steps line origin is_line es h place n o out d bound at g is known i
   moves_fine es _ _ (BeginsReceive h place n o inc bound at g e u) b i = begins_receive contexts steps line origin is_line es h place n o inc bound at g i
-  moves_fine es _ _ (Lists h jobs) b i = elsewhere es h _ refl refl refl i (state_jobs steps es h.machine jobs i.fine) i.names i.udp_names
-  moves_fine es _ _ (Takes h handle) b i = elsewhere es h _ refl refl refl i (state_taken steps es h.machine handle i.fine) i.names i.udp_names
+  moves_fine es _ _ (Finds h records s) b i = records_fine (λ op. ⊥) (λ op e. absurd e) es h records s i
+  moves_fine es _ _ (Lists h jobs) b i = elsewhere es h _ refl refl refl i (state_jobs contexts steps es h.machine jobs i.fine) i.names i.udp_names
+  moves_fine es _ _ (Takes h handle) b i = elsewhere es h _ refl refl refl i (state_taken contexts steps es h.machine handle i.fine) i.names i.udp_names

@@ -28,6 +28,7 @@ use Rattle.wasi_walks.proofs.licence.Moves.{closed_fine, gone_maker, moves_fine}
 use Rattle.wasi_walks.proofs.licence.Asked.{spares, asked_fine, on_side, names_on_side, not_held, question_local, question_may, learned_fine, kept}
 use Rattle.wasi_walks.proofs.licence.Marks.{marked_fine, accepted_fine, CreatedIsFine, new_fine, joins}
 use Rattle.wasi_walks.proofs.licence.UdpMarks.{stream_marked, udp_asked, udp_learned, udp_peered, udp_closed, udp_creates, udp_marked}
+use Rattle.wasi_walks.proofs.licence.LookupAsks.{looked_up, looked_on}
 use Rattle.wasi_walks.proofs.licence.GoesOn.{taken_out, turned_fine, given_up, polls_fine}
 use Rattle.wasi_host.specs.Records.{tcp2_at}
 
@@ -35,7 +36,7 @@ module _ (contexts : List WasiSocketsCtx) (steps : List Step) (line : ℕ) (orig
   licences : Above contexts line origin (λ es h. Base contexts line origin h × Keeps es h.machine.store.records)
   licences = record {
     P = MayAsk contexts steps;
-    Inv = Licensed steps line origin;
+    Inv = Licensed contexts steps line origin;
     moves = λ es h now m b i. moves_fine contexts steps line origin is_line es h now m b.0 i;
     asks = λ es h place n r side c at g o q b i.
         let k = question_may contexts steps line origin is_line n es side c q (names_on_side contexts steps line origin is_line es h place n r side at g o i) in
@@ -53,13 +54,13 @@ module _ (contexts : List WasiSocketsCtx) (steps : List Step) (line : ℕ) (orig
     );
     marks = λ es h kind parent sock m b i. marked_fine contexts steps line origin is_line es h kind parent sock m i;
     creates = λ es h ctx family c a o past b i.
-        allows_then (MayAsk contexts steps) (λ fs made. Licensed steps line origin fs h × CreatedIsFine contexts steps line origin is_line ctx.name family fs made) (λ fs done. Licensed steps line origin fs (record h { machine = done.1; own = Used })) es (new_asks (own_of line) ctx family) (created_asks h.machine (own_of line))
+        allows_then (MayAsk contexts steps) (λ fs made. Licensed contexts steps line origin fs h × CreatedIsFine contexts steps line origin is_line ctx.name family fs made) (λ fs done. Licensed contexts steps line origin fs (record h { machine = done.1; own = Used })) es (new_asks (own_of line) ctx family) (created_asks h.machine (own_of line))
         (kept contexts steps line origin is_line h (CreatedIsFine contexts steps line origin is_line ctx.name family) es (new_asks (own_of line) ctx family) i (new_fine contexts steps line origin is_line es ctx family c)) (λ fs made k. joins contexts steps line origin is_line fs h ctx family made c a o past k.1 b.0.1 k.0);
     accepted = λ es h c s place r is e o g b i. accepted_fine contexts steps line origin is_line es h c s place r is e o g b.0.1 i;
     polls = polls_fine contexts steps line origin is_line;
     turns = λ es h place r s g e b i. turned_fine contexts steps line origin is_line es h place r s g e i;
     gives_up = λ es h place r q g b i.
-        allows_weaker (MayAsk contexts steps) (λ fs done. Licensed steps line origin fs h × ⊤) (λ fs done. Licensed steps line origin fs (put h place (with_listening r Not))) (λ fs done k. taken_out contexts steps line origin is_line fs h place r g k.0) es (give_up_asks r.listening)
+        allows_weaker (MayAsk contexts steps) (λ fs done. Licensed contexts steps line origin fs h × ⊤) (λ fs done. Licensed contexts steps line origin fs (put h place (with_listening r Not))) (λ fs done k. taken_out contexts steps line origin is_line fs h place r g k.0) es (give_up_asks r.listening)
         (kept contexts steps line origin is_line h (λ fs done. ⊤) es (give_up_asks r.listening) i (given_up contexts steps line origin is_line es r.side r.listening (i.fine.records place r g).listening));
     udp_asks = λ es h place n o c at g q b i. (let a = udp_asked contexts steps line origin is_line es h place n o c at g q i in (a.0, λ told fits. a.1 told));
     udp_learns = λ es h place part o at g b i. udp_learned contexts steps line origin is_line es h place part o at g i;
@@ -68,6 +69,8 @@ module _ (contexts : List WasiSocketsCtx) (steps : List Step) (line : ℕ) (orig
     udp_creates = λ es h ctx family c may a o past b i. udp_creates contexts steps line origin is_line es h ctx family c may a past i;
     udp_marks = λ es h place u g b i. udp_marked contexts steps line origin is_line es h place u g i;
     stream_marks = λ es h place n handle kind m which e b i. stream_marked contexts steps line origin is_line es h place n handle kind m which e i;
+    lookups = λ es h host l b i. (let a = looked_up contexts steps line origin is_line es h host l i in (a.0, λ told fits. a.1 told));
+    looks = λ es h place op g b i. (let a = looked_on contexts steps line origin is_line es h place op g i in (a.0, λ told fits. a.1 told));
   }
 
   pub licence : Law contexts line origin
@@ -75,46 +78,46 @@ module _ (contexts : List WasiSocketsCtx) (steps : List Step) (line : ℕ) (orig
   licence = on_two contexts line origin (remotes contexts line origin) licences
 
   -- what it says of a tree
-  pub licence_along : {A : Type 0} {h : Here} {end : A → Here} {asks : Asks A} → Walks licence h end asks → (es : List Entry) → Base contexts line origin h → Keeps es h.machine.store.records → Licensed steps line origin es h
-      → Allows (MayAsk contexts steps) (λ fs a. (Base contexts line origin (end a) × Keeps fs (end a).machine.store.records) × Licensed steps line origin fs (end a)) es asks
+  pub licence_along : {A : Type 0} {h : Here} {end : A → Here} {asks : Asks A} → Walks licence h end asks → (es : List Entry) → Base contexts line origin h → Keeps es h.machine.store.records → Licensed contexts steps line origin es h
+      → Allows (MayAsk contexts steps) (λ fs a. (Base contexts line origin (end a) × Keeps fs (end a).machine.store.records) × Licensed contexts steps line origin fs (end a)) es asks
   unfolding licence licences remotes
   licence_along w es b k i = on_two_along contexts line origin (remotes contexts line origin) licences w es b k i
 
 -- Between two lines.
-pub record Fine (steps : List Step) (line : ℕ) (es : List Entry) (m : Machine) : Type 0 where
+pub record Fine (contexts : List WasiSocketsCtx) (steps : List Step) (line : ℕ) (es : List Entry) (m : Machine) : Type 0 where
   pub base : BaseBetween line m
   pub keeps : Keeps es m.store.records
-  pub fine : StateIsFine steps es m
+  pub fine : StateIsFine contexts steps es m
   pub listens : (place : ℕ) (r : Tcp2Socket) (op : Operation) → tcp2_at m.store.records place ≡ Some r → r.listening ≡ Begins op → ListenGoesOn steps es r op
 
-fine_more : (contexts : List WasiSocketsCtx) (steps more : List Step) (line : ℕ) (es : List Entry) (m : Machine) → Fine steps line es m → Fine (steps ++ more) line es m
+pub fine_more : (contexts : List WasiSocketsCtx) (steps more : List Step) (line : ℕ) (es : List Entry) (m : Machine) → Fine contexts steps line es m → Fine contexts (steps ++ more) line es m
 fine_more contexts steps more line es m i = record {
   base = i.base;
   keeps = i.keeps;
-  fine = state_more steps more es m i.fine;
+  fine = state_more steps more contexts es m i.fine;
   listens = λ place r op g e. (let l = i.listens place r op g e in record { fine = listen_more steps more es op l.fine; asks = l.asks; made = l.made; tcp = tcp_more steps more op.who.side l.tcp });
 }
 
-first_fine : Fine [] 1 [] first_state
-first_fine = record {
+pub first_fine : (contexts : List WasiSocketsCtx) → Fine contexts [] 1 [] first_state
+first_fine contexts = record {
   base = first_base;
   keeps = first_keeps [];
-  fine = record { count = refl; handles = λ handle kind e. absurd (cc); records = λ place r e. absurd (cc); udp = λ place u e. absurd (cc); standing = λ c e. absurd (cc); accepts = λ place r e. absurd (cc); one = λ i j r s x a b c d. absurd (cc) };
+  fine = record { count = refl; handles = λ handle kind e. absurd (cc); records = λ place r e. absurd (cc); udp = λ place u e. absurd (cc); lookups = λ place op e. absurd (cc); standing = λ c e. absurd (cc); accepts = λ place r e. absurd (cc); one = λ i j r s x a b c d. absurd (cc) };
   listens = λ place r op e. absurd (cc);
 }
 
-last_line : (steps : List Step) (s : Step) (line : ℕ) → line ≡ length steps + 1 → step_at (steps ++ s ∷ []) line ≡ Some s
+pub last_line : (steps : List Step) (s : Step) (line : ℕ) → line ≡ length steps + 1 → step_at (steps ++ s ∷ []) line ≡ Some s
 last_line steps s line e = subst (λ (n : ℕ). step_at (steps ++ s ∷ []) n ≡ Some s) (sym (e ∙ add-one (length steps))) (get_seam steps s)
 
-next_line : (steps : List Step) (s : Step) (line : ℕ) → line ≡ length steps + 1 → line + 1 ≡ length (steps ++ s ∷ []) + 1
+pub next_line : (steps : List Step) (s : Step) (line : ℕ) → line ≡ length steps + 1 → line + 1 ≡ length (steps ++ s ∷ []) + 1
 next_line steps s line e = let k = length-append steps (s ∷ []) in omega arith
 
 module _ (contexts : List WasiSocketsCtx) where
-  line_licensed : (steps : List Step) (line : ℕ) (s : Step) → step_at steps line ≡ Some s → (m : Machine) (es : List Entry) → IsNew es m.store.records line → Fine steps line es m
-      → Allows (MayAsk contexts steps) (λ fs done. Fine steps (line + 1) fs done.1) es (machine_asks contexts m line s)
+  pub line_licensed : (steps : List Step) (line : ℕ) (s : Step) → step_at steps line ≡ Some s → (m : Machine) (es : List Entry) → IsNew es m.store.records line → Fine contexts steps line es m
+      → Allows (MayAsk contexts steps) (λ fs done. Fine contexts steps (line + 1) fs done.1) es (machine_asks contexts m line s)
   line_licensed steps line s l m es n i =
       let o = may_while m s m.store.standing in
-      allows_weaker (MayAsk contexts steps) _ (λ fs done. Fine steps (line + 1) fs done.1)
+      allows_weaker (MayAsk contexts steps) _ (λ fs done. Fine contexts steps (line + 1) fs done.1)
       (λ fs done k. record { base = base_over contexts line s done.1 k.0.0; keeps = k.0.1; fine = k.1.fine; listens = k.1.listens }) es (machine_asks contexts m line s)
       (licence_along contexts steps line s l (machine_walks line s m m.store.standing refl) es
       (base_starts contexts line s m o i.base) i.keeps
@@ -131,14 +134,14 @@ module _ (contexts : List WasiSocketsCtx) where
       }))
 
   -- and its reply hands out only what was received
-  line_replies : (steps : List Step) (line : ℕ) (s : Step) → step_at steps line ≡ Some s → (m : Machine) (es : List Entry) → IsNew es m.store.records line → Fine steps line es m
-      → Allows (MayAsk contexts steps) (λ fs done. Fine steps (line + 1) fs done.1 × MayReply fs s done.0) es (machine_asks contexts m line s)
+  line_replies : (steps : List Step) (line : ℕ) (s : Step) → step_at steps line ≡ Some s → (m : Machine) (es : List Entry) → IsNew es m.store.records line → Fine contexts steps line es m
+      → Allows (MayAsk contexts steps) (λ fs done. Fine contexts steps (line + 1) fs done.1 × MayReply fs s done.0) es (machine_asks contexts m line s)
   line_replies steps line s l m es n i =
-      allows_both (MayAsk contexts steps) Anything (λ fs done. Fine steps (line + 1) fs done.1) (λ fs done. MayReply fs s done.0) es (machine_asks contexts m line s)
+      allows_both (MayAsk contexts steps) Anything (λ fs done. Fine contexts steps (line + 1) fs done.1) (λ fs done. MayReply fs s done.0) es (machine_asks contexts m line s)
       (line_licensed steps line s l m es n i) (step_replies contexts steps line s m es i.fine i.keeps)
 
   -- each line is judged by the steps so far, and what these license the whole script does
-  lines : (all : List Step) (replies : List Reply) (m : Machine) (line : ℕ) (before rest : List Step) (es : List Entry) → all ≡ before ++ rest → line ≡ length before + 1 → EachMayCome contexts before [] es → length replies ≡ length before → EachMayReply es before replies → Fine before line es m
+  lines : (all : List Step) (replies : List Reply) (m : Machine) (line : ℕ) (before rest : List Step) (es : List Entry) → all ≡ before ++ rest → line ≡ length before + 1 → EachMayCome contexts before [] es → length replies ≡ length before → EachMayReply es before replies → Fine contexts before line es m
       → Allows (MayAsk contexts all) (λ fs done. EachMayReply fs all done.0) es (run contexts replies m line rest)
   lines all replies m line before [] es a e c n r h = subst (λ (steps : List Step). EachMayReply es steps replies) (sym a) (replies_longer es before [] replies r)
   lines all replies m line before (s ∷ rest) es a e c n r h =
@@ -146,8 +149,8 @@ module _ (contexts : List WasiSocketsCtx) where
       let b : all ≡ now ++ rest = a ∙ sym (append_assoc before (s ∷ []) rest) in
       let new : IsNew es m.store.records line = subst (IsNew es m.store.records) (sym e) (next_is_new contexts before es (licensed contexts before es c) m h.fine) in
       let M : List Entry → Type 0 = λ fs. EachMayCome contexts now [] fs × EachMayReply fs before replies in
-      allows_then (MayAsk contexts all) (λ fs done. M fs × (Fine now (line + 1) fs done.1 × MayReply fs s done.0)) (λ fs done. EachMayReply fs all done.0) es (machine_asks contexts m line s) _
-      (allows_keep (MayAsk contexts now) (MayAsk contexts all) M (λ fs done. Fine now (line + 1) fs done.1 × MayReply fs s done.0)
+      allows_then (MayAsk contexts all) (λ fs done. M fs × (Fine contexts now (line + 1) fs done.1 × MayReply fs s done.0)) (λ fs done. EachMayReply fs all done.0) es (machine_asks contexts m line s) _
+      (allows_keep (MayAsk contexts now) (MayAsk contexts all) M (λ fs done. Fine contexts now (line + 1) fs done.1 × MayReply fs s done.0)
       (λ fs op c t fits k q. (may_come contexts now fs _ k.0 q, replies_more fs _ before replies k.1))
       (λ fs op c q. subst (λ (steps : List Step). MayAsk contexts steps fs op c) (sym b) (may_more now rest contexts fs op c q)) es _ (come_longer contexts before (s ∷ []) [] es c, r)
       (line_replies now line s (last_line before s line e) m es new (fine_more contexts before (s ∷ []) line es m h)))
@@ -162,7 +165,7 @@ module _ (contexts : List WasiSocketsCtx) where
 
   -- from the beginning
   from_first : (steps : List Step) → Allows (MayAsk contexts steps) (λ fs done. EachMayReply fs steps done.0) [] (run contexts [] first_state 1 steps)
-  from_first steps = lines steps [] first_state 1 [] steps [] refl refl tt refl tt first_fine
+  from_first steps = lines steps [] first_state 1 [] steps [] refl refl tt refl tt (first_fine contexts)
 
   -- at every point of the run, before a reply is given
   pub begun_licensed : (steps : List Step) (log : List Entry) (rest : Asks (List Reply × Machine)) → Left (run contexts [] first_state 1 steps) log rest → IsLicensed contexts steps log []

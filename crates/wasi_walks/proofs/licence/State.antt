@@ -3,10 +3,11 @@ use Rattle.wasi_walks.proofs.Words.{Accept, Accepting, Accepts, Arrived, BeganBy
 use Rattle.wasi_walks.proofs.Words.{Entry, ErrorCode, HandedNone, Has, InProgress, IpSocketAddress, IsBindTo, IsBoundSide, IsConnectTo, IsMaker}
 use Rattle.wasi_walks.proofs.Words.{IsMarkedWith, Item, Job, Kind, Last, List, Listener, Listening, Listens, Machine, MarksNoSocket, MayGoOut}
 use Rattle.wasi_walks.proofs.Words.{NamesSide, None, Nothing, NothingLast, OpId, Operation, Option, ReadState, ShutdownLast, ShutdownSend, Socket}
-use Rattle.wasi_walks.proofs.Words.{SocketAddressFamily, Some, Standing, Step, Streams, Tcp2Socket, TcpBind, TcpConnect, TcpState, Told, Write}
+use Rattle.wasi_walks.proofs.Words.{SocketAddressFamily, Some, Standing, Step, Streams, Tcp2Socket, TcpBind, TcpConnect, TcpState, Told, WasiSocketsCtx, Write}
 use Rattle.wasi_walks.proofs.Words.{WriteState, Yes, [], call_place, entry, kind_at, marks_in, own_of, side_of, true, wildcard, ℕ, ⊤, ◌++◌}
 use Rattle.wasi_walks.proofs.Words.{◌+◌, ◌∷◌, ◌≡◌}
 use Rattle.wasi_walks.proofs.walks.Moves.{record_of, udp_record_of, sending_in, receiving_in, IsOfHandle}
+use Rattle.wasi_walks.proofs.licence.Lookups.{LookupsAreFine, NamesNone}
 use Rattle.wasi_walks.specs.Licence.{IsRemote, IsSendOf, IsStreamOf, IsUdpBindTo, IsUdpConnectTo, MakesTcp, MakesUdp, MaySendOut, WasDisconnected}
 use Rattle.std.specs.Prelude.{Bool, ◌⊎◌}
 use Rattle.wasi_world.specs.declared.datagram.OutgoingDatagram.{OutgoingDatagram}
@@ -43,7 +44,7 @@ NamesUdpIf es records handle (Some place) = NamesUdp es records handle place
 NamesUdpIf es records handle None = ⊤
 
 abbrev pub HandleIsFine : List Entry → List Record → ℕ → Kind → Type 0
-HandleIsFine es records handle kind = NamesIf es records handle (record_of (Some kind)) × NamesUdpIf es records handle (udp_record_of (Some kind))
+HandleIsFine es records handle kind = NamesIf es records handle (record_of (Some kind)) × NamesUdpIf es records handle (udp_record_of (Some kind)) × NamesNone es handle kind
 
 -- The socket knows the creator of its network socket, and the network socket's family.
 pub record KnowsMaker (es : List Entry) (socket : Socket) : Type 0 where
@@ -361,11 +362,12 @@ module _ (steps : List Step) where
   abbrev pub StandingIsFine : List Entry → List Record → Standing → Type 0
   StandingIsFine es records s = (IsOfHandle s.call → LineNames es records s.ids.line (call_place s.call)) × StreamsStand s.ids.line s.call
 
-  pub record StateIsFine (es : List Entry) (m : Machine) : Type 0 where
-    pub count : m.table.next ≡ marks_in es + 1
-    pub handles : (handle : ℕ) (kind : Kind) → kind_at m.table handle ≡ Some kind → HandleIsFine es m.store.records handle kind
-    pub records : (place : ℕ) (r : Tcp2Socket) → tcp2_at m.store.records place ≡ Some r → RecordIsFine es r
-    pub udp : (place : ℕ) (u : Udp2Socket) → udp2_at m.store.records place ≡ Some u → UdpIsFine es u
-    pub standing : (c : Standing) → m.store.standing ≡ Some c → StandingIsFine es m.store.records c
-    pub accepts : (place : ℕ) (r : Tcp2Socket) → tcp2_at m.store.records place ≡ Some r → ListeningStands es r.listening
-    pub one : OneHolds m.store.records
+pub record StateIsFine (contexts : List WasiSocketsCtx) (steps : List Step) (es : List Entry) (m : Machine) : Type 0 where
+  pub count : m.table.next ≡ marks_in es + 1
+  pub handles : (handle : ℕ) (kind : Kind) → kind_at m.table handle ≡ Some kind → HandleIsFine es m.store.records handle kind
+  pub records : (place : ℕ) (r : Tcp2Socket) → tcp2_at m.store.records place ≡ Some r → RecordIsFine steps es r
+  pub udp : (place : ℕ) (u : Udp2Socket) → udp2_at m.store.records place ≡ Some u → UdpIsFine steps es u
+  pub lookups : LookupsAreFine contexts steps m.store.records
+  pub standing : (c : Standing) → m.store.standing ≡ Some c → StandingIsFine steps es m.store.records c
+  pub accepts : (place : ℕ) (r : Tcp2Socket) → tcp2_at m.store.records place ≡ Some r → ListeningStands es r.listening
+  pub one : OneHolds m.store.records

@@ -1,28 +1,31 @@
 -- That the state fits the log, under one more entry, and where the state changes.
 use Rattle.wasi_walks.proofs.Words.{Call, Entry, HandleKind, Kind, List, Machine, Made, None, OpId, Option, Socket, Some, Standing, Step, Tcp2Socket}
-use Rattle.wasi_walks.proofs.Words.{Told, [], arith, entry, inl, inr, marked_by, new_record, refl, subst, table_parent, with_handle}
+use Rattle.wasi_walks.proofs.Words.{Told, WasiSocketsCtx, [], arith, entry, inl, inr, marked_by, new_record, refl, subst, table_parent, with_handle}
 use Rattle.wasi_walks.proofs.Words.{with_record, with_socket, without_handle, ℕ, ◌++◌, ◌∷◌, ◌≡◌}
 use Rattle.wasi_streams.proofs.Tables.{value_without}
 use Rattle.wasi_host.specs.Records.{tcp2_at, tcp2_pushed, udp2_at, udp2_pushed}
 use Rattle.wasi_host.specs.Udp.{udp_side}
 use Rattle.wasi_host.specs.UdpCalls.{with_udp}
 use Rattle.wasi_host.specs.declared.jobs.HostJob.{HostJob}
+use Rattle.wasi_host.specs.declared.records.Record.TheVariants.{Tcp2, Udp2}
 use Rattle.wasi_host.specs.declared.udp.Udp2Socket.{Udp2Socket}
 use Rattle.wasi_walks.proofs.Lists.{marks_in-push, get_split, get_set, value_split}
 use Rattle.wasi_walks.proofs.UdpLists.{udp_get_set, udp_split, udp_of_put, udp_of_push, tcp_of_put, tcp_of_push}
+use Rattle.wasi_walks.proofs.licence.Lookups.{lookups_put, lookups_push}
 use Rattle.wasi_walks.proofs.licence.State.{HandleIsFine, ListeningStands, accept_name, SocketIsFine, RecordIsFine, UdpIsFine, StandingIsFine, StateIsFine}
 use Rattle.wasi_walks.proofs.licence.Frames.{Spared, stands_more, KeepsListening, Only, stands_put, one_put, stands_push, one_push, stay, record_more}
 use Rattle.wasi_walks.proofs.licence.UdpFrames.{sides_put, sides_push, sides_put_udp, sides_push_udp, handle_more, handle_kept, standing_more, standing_kept, udp_more}
 
-module _ (steps : List Step) where
+module _ (contexts : List WasiSocketsCtx) (steps : List Step) where
   -- == the state
   -- an ask that is no mark, and that touches no accept, keeps the state
-  pub state_spared : (es : List Entry) (m : Machine) (op : OpId) (c : Call) (told : Told) → marked_by c ≡ 0 → Spared m.store.records op c → StateIsFine steps es m → StateIsFine steps (es ++ entry op c told ∷ []) m
+  pub state_spared : (es : List Entry) (m : Machine) (op : OpId) (c : Call) (told : Told) → marked_by c ≡ 0 → Spared m.store.records op c → StateIsFine contexts steps es m → StateIsFine contexts steps (es ++ entry op c told ∷ []) m
   state_spared es m op c told z q h = record {
     count = let p = marks_in-push es (entry op c told) in let k = h.count in omega arith;
     handles = λ handle kind e. handle_more es _ m.store.records handle kind (h.handles handle kind e);
     records = λ place r e. record_more (stay steps) es _ r (h.records place r e);
     udp = λ place u e. udp_more (stay steps) es _ u (h.udp place u e);
+    lookups = h.lookups;
     standing = λ s e. standing_more (stay steps) es _ m.store.records s (h.standing s e);
     accepts = λ place r e. stands_more es op c told r.listening (h.accepts place r e) (λ x n. q place r x e n);
     one = h.one;
@@ -31,7 +34,7 @@ module _ (steps : List Step) where
   -- a mark, and the handle that it makes
   pub state_made : (es : List Entry) (m : Machine) (op : OpId) (name : HandleKind) (parent : Option ℕ) (sock : Option OpId) (told : Told) (kind : Kind) → Spared m.store.records op (Made m.table.next name parent sock)
       → HandleIsFine (es ++ entry op (Made m.table.next name parent sock) told ∷ []) m.store.records m.table.next kind
-      → StateIsFine steps es m → StateIsFine steps (es ++ entry op (Made m.table.next name parent sock) told ∷ []) (record m { table = with_handle m.table kind parent })
+      → StateIsFine contexts steps es m → StateIsFine contexts steps (es ++ entry op (Made m.table.next name parent sock) told ∷ []) (record m { table = with_handle m.table kind parent })
   state_made es m op name parent sock told kind q f h = record {
     count = let p = marks_in-push es (entry op (Made m.table.next name parent sock) told) in let k = h.count in omega arith;
     handles = λ handle x e. elim (value_split m.table.live (record { handle = m.table.next; value = kind; parent = table_parent kind parent }) handle x e) [
@@ -40,18 +43,20 @@ module _ (steps : List Step) where
     ];
     records = λ place r e. record_more (stay steps) es _ r (h.records place r e);
     udp = λ place u e. udp_more (stay steps) es _ u (h.udp place u e);
+    lookups = h.lookups;
     standing = λ s e. standing_more (stay steps) es _ m.store.records s (h.standing s e);
     accepts = λ place r e. stands_more es op _ told r.listening (h.accepts place r e) (λ x n. q place r x e n);
     one = h.one;
   }
 
   -- a handle goes
-  pub state_taken : (es : List Entry) (m : Machine) (gone : ℕ) → StateIsFine steps es m → StateIsFine steps es (record m { table = without_handle m.table gone })
+  pub state_taken : (es : List Entry) (m : Machine) (gone : ℕ) → StateIsFine contexts steps es m → StateIsFine contexts steps es (record m { table = without_handle m.table gone })
   state_taken es m gone h = record {
     count = h.count;
     handles = λ handle kind e. h.handles handle kind (value_without m.table.live gone handle kind e);
     records = h.records;
     udp = h.udp;
+    lookups = h.lookups;
     standing = h.standing;
     accepts = h.accepts;
     one = h.one;
@@ -60,7 +65,7 @@ module _ (steps : List Step) where
   -- one record changes, and its accept may be another
   pub state_renewed : (es : List Entry) (m : Machine) (place : ℕ) (old now : Tcp2Socket) → tcp2_at m.store.records place ≡ Some old → now.side ≡ old.side → RecordIsFine steps es now
       → ListeningStands es now.listening → ((x : OpId) → accept_name now.listening ≡ Some x → Only m.store.records place x)
-      → StateIsFine steps es m → StateIsFine steps es (record m { store = with_socket m.store place now })
+      → StateIsFine contexts steps es m → StateIsFine contexts steps es (record m { store = with_socket m.store place now })
   state_renewed es m place old now g k f a o h = record {
     count = h.count;
     handles = λ handle x e. handle_kept es m.store.records _ (sides_put m.store.records place old now g k) handle x (h.handles handle x e);
@@ -69,19 +74,20 @@ module _ (steps : List Step) where
       | inr q ↦ h.records i r q
     ];
     udp = λ i u e. h.udp i u (udp_of_put m.store.records place now i u e);
+    lookups = lookups_put contexts steps m.store.records place (Tcp2 now) refl h.lookups;
     standing = λ s e. standing_kept es m.store.records _ (sides_put m.store.records place old now g k) s (h.standing s e);
     accepts = stands_put es m.store.records place now a h.accepts;
     one = one_put m.store.records place now o h.one;
   }
 
   -- one record changes
-  pub state_put : (es : List Entry) (m : Machine) (place : ℕ) (old now : Tcp2Socket) → tcp2_at m.store.records place ≡ Some old → now.side ≡ old.side → KeepsListening old.listening now.listening → RecordIsFine steps es now → StateIsFine steps es m
-      → StateIsFine steps es (record m { store = with_socket m.store place now })
+  pub state_put : (es : List Entry) (m : Machine) (place : ℕ) (old now : Tcp2Socket) → tcp2_at m.store.records place ≡ Some old → now.side ≡ old.side → KeepsListening old.listening now.listening → RecordIsFine steps es now → StateIsFine contexts steps es m
+      → StateIsFine contexts steps es (record m { store = with_socket m.store place now })
   state_put es m place old now g k l f h = state_renewed es m place old now g k f (l.stands es (h.accepts place old g)) (λ x n i s e o. h.one i place s old x e g o (l.names x n)) h
 
   -- a record more, which has no accept
-  pub state_joined : (es : List Entry) (m : Machine) (now : Tcp2Socket) → RecordIsFine steps es now → ListeningStands es now.listening → accept_name now.listening ≡ None → StateIsFine steps es m
-      → StateIsFine steps es (record m { store = record m.store { records = tcp2_pushed m.store.records now } })
+  pub state_joined : (es : List Entry) (m : Machine) (now : Tcp2Socket) → RecordIsFine steps es now → ListeningStands es now.listening → accept_name now.listening ≡ None → StateIsFine contexts steps es m
+      → StateIsFine contexts steps es (record m { store = record m.store { records = tcp2_pushed m.store.records now } })
   state_joined es m now f a n h = record {
     count = h.count;
     handles = λ handle x e. handle_kept es m.store.records _ (sides_push m.store.records now) handle x (h.handles handle x e);
@@ -90,16 +96,17 @@ module _ (steps : List Step) where
       | inr q ↦ subst (RecordIsFine steps es) q f
     ];
     udp = λ i u e. h.udp i u (udp_of_push m.store.records now i u e);
+    lookups = lookups_push contexts steps m.store.records (Tcp2 now) refl h.lookups;
     standing = λ s e. standing_kept es m.store.records _ (sides_push m.store.records now) s (h.standing s e);
     accepts = stands_push es m.store.records now a h.accepts;
     one = one_push m.store.records now n h.one;
   }
 
-  pub state_push : (es : List Entry) (m : Machine) (socket : Socket) → SocketIsFine steps es socket → StateIsFine steps es m → StateIsFine steps es (record m { store = with_record m.store socket })
+  pub state_push : (es : List Entry) (m : Machine) (socket : Socket) → SocketIsFine steps es socket → StateIsFine contexts steps es m → StateIsFine contexts steps es (record m { store = with_record m.store socket })
   state_push es m socket f h = state_joined es m (new_record socket) (record { socket = f; named = λ side p. p; streams = λ streams p. absurd (cc); listening = tt; progress = tt }) tt refl h
 
   -- a UDP socket changes
-  pub state_put_udp : (es : List Entry) (m : Machine) (place : ℕ) (old now : Udp2Socket) → udp2_at m.store.records place ≡ Some old → udp_side now ≡ udp_side old → UdpIsFine steps es now → StateIsFine steps es m → StateIsFine steps es (record m { store = with_udp m.store place now })
+  pub state_put_udp : (es : List Entry) (m : Machine) (place : ℕ) (old now : Udp2Socket) → udp2_at m.store.records place ≡ Some old → udp_side now ≡ udp_side old → UdpIsFine steps es now → StateIsFine contexts steps es m → StateIsFine contexts steps es (record m { store = with_udp m.store place now })
   state_put_udp es m place old now g k f h = record {
     count = h.count;
     handles = λ handle x e. handle_kept es m.store.records _ (sides_put_udp m.store.records place old now g k) handle x (h.handles handle x e);
@@ -108,13 +115,14 @@ module _ (steps : List Step) where
       | inl q ↦ subst (UdpIsFine steps es) q.1 f
       | inr q ↦ h.udp i u q
     ];
+    lookups = lookups_put contexts steps m.store.records place (Udp2 now) refl h.lookups;
     standing = λ s e. standing_kept es m.store.records _ (sides_put_udp m.store.records place old now g k) s (h.standing s e);
     accepts = λ i r e. h.accepts i r (tcp_of_put m.store.records place now i r e);
     one = λ i j r s x a b. h.one i j r s x (tcp_of_put m.store.records place now i r a) (tcp_of_put m.store.records place now j s b);
   }
 
   -- there is one more
-  pub state_joined_udp : (es : List Entry) (m : Machine) (now : Udp2Socket) → UdpIsFine steps es now → StateIsFine steps es m → StateIsFine steps es (record m { store = record m.store { records = udp2_pushed m.store.records now } })
+  pub state_joined_udp : (es : List Entry) (m : Machine) (now : Udp2Socket) → UdpIsFine steps es now → StateIsFine contexts steps es m → StateIsFine contexts steps es (record m { store = record m.store { records = udp2_pushed m.store.records now } })
   state_joined_udp es m now f h = record {
     count = h.count;
     handles = λ handle x e. handle_kept es m.store.records _ (sides_push_udp m.store.records now) handle x (h.handles handle x e);
@@ -123,18 +131,20 @@ module _ (steps : List Step) where
       | inl q ↦ h.udp i u q
       | inr q ↦ subst (UdpIsFine steps es) q.0 f
     ];
+    lookups = lookups_push contexts steps m.store.records (Udp2 now) refl h.lookups;
     standing = λ s e. standing_kept es m.store.records _ (sides_push_udp m.store.records now) s (h.standing s e);
     accepts = λ i r e. h.accepts i r (tcp_of_push m.store.records now i r e);
     one = λ i j r s x a b. h.one i j r s x (tcp_of_push m.store.records now i r a) (tcp_of_push m.store.records now j s b);
   }
 
   -- a call is pending
-  pub state_stands : (es : List Entry) (m : Machine) (c : Standing) → StandingIsFine steps es m.store.records c → StateIsFine steps es m → StateIsFine steps es (record m { store = record m.store { standing = Some c } })
+  pub state_stands : (es : List Entry) (m : Machine) (c : Standing) → StandingIsFine steps es m.store.records c → StateIsFine contexts steps es m → StateIsFine contexts steps es (record m { store = record m.store { standing = Some c } })
   state_stands es m c f h = record {
     count = h.count;
     handles = h.handles;
     records = h.records;
     udp = h.udp;
+    lookups = h.lookups;
     standing = λ d e. subst (StandingIsFine steps es m.store.records) (same c d e) f;
     accepts = h.accepts;
     one = h.one;
@@ -144,9 +154,9 @@ module _ (steps : List Step) where
       same a b p = cc
 
   -- none is pending
-  pub state_unstands : (es : List Entry) (m : Machine) → StateIsFine steps es m → StateIsFine steps es (record m { store = record m.store { standing = None } })
-  state_unstands es m h = record { count = h.count; handles = h.handles; records = h.records; udp = h.udp; standing = λ d e. absurd (cc); accepts = h.accepts; one = h.one }
+  pub state_unstands : (es : List Entry) (m : Machine) → StateIsFine contexts steps es m → StateIsFine contexts steps es (record m { store = record m.store { standing = None } })
+  state_unstands es m h = record { count = h.count; handles = h.handles; records = h.records; udp = h.udp; lookups = h.lookups; standing = λ d e. absurd (cc); accepts = h.accepts; one = h.one }
 
   -- which writes are in progress is nothing to it
-  pub state_jobs : (es : List Entry) (m : Machine) (jobs : List HostJob) → StateIsFine steps es m → StateIsFine steps es (record m { store = record m.store { jobs = jobs } })
-  state_jobs es m jobs h = record { count = h.count; handles = h.handles; records = h.records; udp = h.udp; standing = h.standing; accepts = h.accepts; one = h.one }
+  pub state_jobs : (es : List Entry) (m : Machine) (jobs : List HostJob) → StateIsFine contexts steps es m → StateIsFine contexts steps es (record m { store = record m.store { jobs = jobs } })
+  state_jobs es m jobs h = record { count = h.count; handles = h.handles; records = h.records; udp = h.udp; lookups = h.lookups; standing = h.standing; accepts = h.accepts; one = h.one }

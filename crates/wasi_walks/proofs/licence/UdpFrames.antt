@@ -1,10 +1,11 @@
 -- What is known of the UDP sockets under more entries; and what handles and the pending call name, where the records change.
-use Rattle.wasi_walks.proofs.Words.{Entry, IpSocketAddress, IsMarkedWith, Item, Kind, List, None, OpId, Operation, Option, Some}
-use Rattle.wasi_walks.proofs.Words.{SocketAddressFamily, Standing, Step, Tcp2Socket, ap, call_place, inl, inr, own_of, refl, subst, sym, ℕ, ◌++◌}
+use Rattle.wasi_walks.proofs.Words.{Entry, IpSocketAddress, IsMarkedWith, Item, Kind, List, None, OpId, Operation, Option, Pollable, Some}
+use Rattle.wasi_walks.proofs.Words.{SocketAddressFamily, Standing, Step, Tcp2Socket, Watched, ap, call_place, inl, inr, own_of, refl, subst, sym, ℕ, ◌++◌}
 use Rattle.wasi_walks.proofs.Words.{◌∙◌, ◌≡◌}
 use Rattle.wasi_walks.proofs.Lists.{has_front, tcp2_front}
 use Rattle.wasi_walks.proofs.UdpLists.{udp_front, udp_set_get, tcp_in_put, tcp_in_push, udp_in_put, udp_in_push}
 use Rattle.wasi_walks.proofs.walks.Moves.{record_of, udp_record_of, sending_in, receiving_in}
+use Rattle.wasi_walks.proofs.licence.Lookups.{NamesNone}
 use Rattle.wasi_walks.proofs.licence.State.{NamesIf, NamesUdp, NamesUdpIf, HandleIsFine, UdpBindLeft, UdpUnchecked, UdpChecked, UdpOver, Names, UdpMade, UdpBindIsFine, UdpProgressIsFine, UdpIsFine, LineNames, OfTcp, OfUdp, IfOp, StreamsStand, StandingIsFine}
 use Rattle.wasi_walks.proofs.licence.DatagramFrames.{free_more, udp_connect_more, send_more, receive_more}
 use Rattle.wasi_host.specs.declared.store.StandingCall.{StandingCall}
@@ -76,8 +77,13 @@ udp_if_more : (es fs : List Entry) (records : List Record) (handle : ℕ) (o : O
 udp_if_more es fs records handle (Some place) h = names_udp_more es fs records handle place h
 udp_if_more es fs records handle None h = tt
 
+none_more : (es fs : List Entry) (handle : ℕ) (kind : Kind) → NamesNone es handle kind → NamesNone (es ++ fs) handle kind
+none_more es fs handle (Kind.Lookup place) h = marked_more es fs handle None h
+none_more es fs handle (Pollable (Watched.Lookup place)) h = marked_more es fs handle None h
+none_more es fs handle _ h = tt
+
 pub handle_more : (es fs : List Entry) (records : List Record) (handle : ℕ) (kind : Kind) → HandleIsFine es records handle kind → HandleIsFine (es ++ fs) records handle kind
-handle_more es fs records handle kind h = (tcp_more es fs records handle (record_of (Some kind)) h.0, udp_if_more es fs records handle (udp_record_of (Some kind)) h.1)
+handle_more es fs records handle kind h = (tcp_more es fs records handle (record_of (Some kind)) h.0, udp_if_more es fs records handle (udp_record_of (Some kind)) h.1, none_more es fs handle kind h.2)
 
 module _ (es : List Entry) (old now : List Record) (k : KeepsSides old now) where
   tcp_kept : (handle : ℕ) (o : Option ℕ) → NamesIf es old handle o → NamesIf es now handle o
@@ -89,7 +95,7 @@ module _ (es : List Entry) (old now : List Record) (k : KeepsSides old now) wher
   udp_kept handle None h = tt
 
   pub handle_kept : (handle : ℕ) (kind : Kind) → HandleIsFine es old handle kind → HandleIsFine es now handle kind
-  handle_kept handle kind h = (tcp_kept handle (record_of (Some kind)) h.0, udp_kept handle (udp_record_of (Some kind)) h.1)
+  handle_kept handle kind h = (tcp_kept handle (record_of (Some kind)) h.0, udp_kept handle (udp_record_of (Some kind)) h.1, h.2)
 
 -- == the pending call
 module _ {steps : List Step} (es : List Entry) (old now : List Record) (k : KeepsSides old now) where

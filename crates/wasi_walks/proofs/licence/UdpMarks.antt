@@ -42,7 +42,7 @@ module _ (contexts : List WasiSocketsCtx) (steps : List Step) (line : ℕ) (orig
   kinds_apart side a b = let p = a.at in let q = b.at in let e : b.origin ≡ a.origin = cc in one_kind a.origin a.holds (subst MakesUdp e b.holds)
 
   -- no listen in progress is on it
-  udp_spares : (es : List Entry) (h : Here) (side : OpId) (c : Call) → BeganBy steps side MakesUdp → ((x : OpId) → c ≡ Call.Local x → side ≡ x) → Licensed steps line origin es h → Spares contexts steps line origin is_line h c
+  udp_spares : (es : List Entry) (h : Here) (side : OpId) (c : Call) → BeganBy steps side MakesUdp → ((x : OpId) → c ≡ Call.Local x → side ≡ x) → Licensed contexts steps line origin es h → Spares contexts steps line origin is_line h c
   udp_spares es h side c by its i k q op g e p = kinds_apart op.who.side (i.listens k q op g e).tcp (subst (λ (o : OpId). BeganBy steps o MakesUdp) (its op.who.side p) by)
 
   -- a question may be asked, and what is asked is no mark
@@ -58,18 +58,18 @@ module _ (contexts : List WasiSocketsCtx) (steps : List Step) (line : ℕ) (orig
   udp_local n side x _ q e = absurd (cc)
 
   -- what is asked of an open socket, by an operation that names it
-  asked_open : (es : List Entry) (h : Here) (place : ℕ) (o : OpenUdp) (op : OpId) (c : Call) → FoundUdp h place (Udp2Socket.Open o) → NoMark c → ((x : OpId) → c ≡ Call.Local x → o.inner.side ≡ x) → Licensed steps line origin es h → (told : Told) → Licensed steps line origin (es ++ entry op c told ∷ []) h
+  asked_open : (es : List Entry) (h : Here) (place : ℕ) (o : OpenUdp) (op : OpId) (c : Call) → FoundUdp h place (Udp2Socket.Open o) → NoMark c → ((x : OpId) → c ≡ Call.Local x → o.inner.side ≡ x) → Licensed contexts steps line origin es h → (told : Told) → Licensed contexts steps line origin (es ++ entry op c told ∷ []) h
   asked_open es h place o op c g m its i told = asked_fine contexts steps line origin is_line es h op c told m (udp_spares es h o.inner.side c (open_at_place contexts steps line origin is_line es h place o g i).made.by its i) i
 
-  pub udp_asked : (es : List Entry) (h : Here) (place n : ℕ) (o : OpenUdp) (c : Call) → h.at ≡ Some (place, n) → FoundUdp h place (Udp2Socket.Open o) → IsUdpQuestionOf line origin n o.inner.side c → Licensed steps line origin es h
-      → MayAsk contexts steps es (own_of n) c × ((told : Told) → Licensed steps line origin (es ++ entry (own_of n) c told ∷ []) h)
+  pub udp_asked : (es : List Entry) (h : Here) (place n : ℕ) (o : OpenUdp) (c : Call) → h.at ≡ Some (place, n) → FoundUdp h place (Udp2Socket.Open o) → IsUdpQuestionOf line origin n o.inner.side c → Licensed contexts steps line origin es h
+      → MayAsk contexts steps es (own_of n) c × ((told : Told) → Licensed contexts steps line origin (es ++ entry (own_of n) c told ∷ []) h)
   udp_asked es h place n o c at g q i =
       let k = udp_may n es o.inner.side c q (i.udp_names place n (Udp2Socket.Open o) at g) in
       (k.0, asked_open es h place o (own_of n) c g k.1 (λ x e. udp_local n o.inner.side x c q e) i)
 
   -- the remote address
-  pub udp_peered : (es : List Entry) (h : Here) (place : ℕ) (o : OpenUdp) → h.at ≡ Some (place, line) → FoundUdp h place (Udp2Socket.Open o) → Licensed steps line origin es h
-      → MayAsk contexts steps es (own_of line) (Call.Peer o.inner.side) × ((told : Told) → Licensed steps line origin (es ++ entry (own_of line) (Call.Peer o.inner.side) told ∷ []) (put_udp h place (Udp2Socket.Open (with_udp_inner o (after_peer o.inner (told_addr told))))))
+  pub udp_peered : (es : List Entry) (h : Here) (place : ℕ) (o : OpenUdp) → h.at ≡ Some (place, line) → FoundUdp h place (Udp2Socket.Open o) → Licensed contexts steps line origin es h
+      → MayAsk contexts steps es (own_of line) (Call.Peer o.inner.side) × ((told : Told) → Licensed contexts steps line origin (es ++ entry (own_of line) (Call.Peer o.inner.side) told ∷ []) (put_udp h place (Udp2Socket.Open (with_udp_inner o (after_peer o.inner (told_addr told))))))
   udp_peered es h place o at g i = (
     inl (i.udp_names place line (Udp2Socket.Open o) at g),
     λ told.
@@ -104,8 +104,8 @@ module _ (contexts : List WasiSocketsCtx) (steps : List Step) (line : ℕ) (orig
       by_test false = refl
   learned_side o _ = refl
 
-  pub udp_learned : (es : List Entry) (h : Here) (place part : ℕ) (o : OpenUdp) → h.at ≡ Some (place, line) → FoundUdp h place (Udp2Socket.Open o) → Licensed steps line origin es h
-      → MayAsk contexts steps es (part_of line part) (Call.Local o.inner.side) × ((told : Told) → IsAddr told → Licensed steps line origin (es ++ entry (part_of line part) (Call.Local o.inner.side) told ∷ []) (put_udp h place (Udp2Socket.Open (with_udp_inner o (after_local o.inner (told_addr told)).1))))
+  pub udp_learned : (es : List Entry) (h : Here) (place part : ℕ) (o : OpenUdp) → h.at ≡ Some (place, line) → FoundUdp h place (Udp2Socket.Open o) → Licensed contexts steps line origin es h
+      → MayAsk contexts steps es (part_of line part) (Call.Local o.inner.side) × ((told : Told) → IsAddr told → Licensed contexts steps line origin (es ++ entry (part_of line part) (Call.Local o.inner.side) told ∷ []) (put_udp h place (Udp2Socket.Open (with_udp_inner o (after_local o.inner (told_addr told)).1))))
   udp_learned es h place part o at g i = (
     inl (names_part contexts steps line origin is_line es part o.inner.side (i.udp_names place line (Udp2Socket.Open o) at g)),
     λ told fits.
@@ -115,7 +115,7 @@ module _ (contexts : List WasiSocketsCtx) (steps : List Step) (line : ℕ) (orig
   )
 
   -- == the end
-  pub udp_closed : (es : List Entry) (h : Here) (place : ℕ) (o : OpenUdp) (told : Told) → FoundUdp h place (Udp2Socket.Open o) → Licensed steps line origin es h → Licensed steps line origin (es ++ entry (own_of line) (Call.Close o.inner.side) told ∷ []) (put_udp h place (Udp2Socket.Closed o.inner.side))
+  pub udp_closed : (es : List Entry) (h : Here) (place : ℕ) (o : OpenUdp) (told : Told) → FoundUdp h place (Udp2Socket.Open o) → Licensed contexts steps line origin es h → Licensed contexts steps line origin (es ++ entry (own_of line) (Call.Close o.inner.side) told ∷ []) (put_udp h place (Udp2Socket.Closed o.inner.side))
   udp_closed es h place o told g i =
       let fs : List Entry = es ++ entry (own_of line) (Call.Close o.inner.side) told ∷ [] in
       let j = asked_fine contexts steps line origin is_line es h (own_of line) (Call.Close o.inner.side) told tt (spares contexts steps line origin is_line h (Call.Close o.inner.side) tt) i in
@@ -140,12 +140,12 @@ module _ (contexts : List WasiSocketsCtx) (steps : List Step) (line : ℕ) (orig
   creates_only ctx family k c s e = subst (CreatesUdp contexts ctx family) e k
 
   -- a network socket that was made has its record
-  created_so : (fs : List Entry) (h : Here) (ctx : WasiSocketsCtx) (family : SocketAddressFamily) → CreatesUdp contexts ctx family origin → h.at ≡ None → h.made ≡ Past → Has fs (entry (own_of line) (Call.UdpCreate ctx.name family) Told.Done) → Licensed steps line origin fs h
-      → Licensed steps line origin fs (udp_begun h (Ok (new_create (own_of line) ctx.name family)))
+  created_so : (fs : List Entry) (h : Here) (ctx : WasiSocketsCtx) (family : SocketAddressFamily) → CreatesUdp contexts ctx family origin → h.at ≡ None → h.made ≡ Past → Has fs (entry (own_of line) (Call.UdpCreate ctx.name family) Told.Done) → Licensed contexts steps line origin fs h
+      → Licensed contexts steps line origin fs (udp_begun h (Ok (new_create (own_of line) ctx.name family)))
   created_so fs h ctx family c nowhere past has j =
       let now = Udp2Socket.Creating (new_create (own_of line) ctx.name family) in
       record {
-        fine = state_joined_udp steps fs h.machine now (record { made = record { by = record { origin = origin; at = is_line; holds = makes_udp ctx family origin c }; created = has }; own = refl; last = refl; left = refl }) j.fine;
+        fine = state_joined_udp contexts steps fs h.machine now (record { made = record { by = record { origin = origin; at = is_line; holds = makes_udp ctx family origin c }; created = has }; own = refl; last = refl; left = refl }) j.fine;
         names = λ p n r a e. absurd (no_place p n (sym nowhere ∙ a));
         udp_names = λ p n u a e. absurd (no_place p n (sym nowhere ∙ a));
         listens = λ p q op d m. j.listens p q op (tcp_of_push h.machine.store.records now p q d) m;
@@ -165,15 +165,15 @@ module _ (contexts : List WasiSocketsCtx) (steps : List Step) (line : ℕ) (orig
       not_joined : (p : ℕ) → Past ≡ Joined p → ⊥
       not_joined p e = absurd (cc)
 
-  pub udp_creates : (es : List Entry) (h : Here) (ctx : WasiSocketsCtx) (family : SocketAddressFamily) → CreatesUdp contexts ctx family origin → ctx.udp ≡ true → h.at ≡ None → h.made ≡ Past → Licensed steps line origin es h
+  pub udp_creates : (es : List Entry) (h : Here) (ctx : WasiSocketsCtx) (family : SocketAddressFamily) → CreatesUdp contexts ctx family origin → ctx.udp ≡ true → h.at ≡ None → h.made ≡ Past → Licensed contexts steps line origin es h
       → MayAsk contexts steps es (own_of line) (Call.UdpCreate ctx.name family)
-      × ((told : Told) → IsDoneOrCode told → Licensed steps line origin (es ++ entry (own_of line) (Call.UdpCreate ctx.name family) told ∷ []) (udp_begun h (after_create (own_of line) ctx.name family (told_done told))))
+      × ((told : Told) → IsDoneOrCode told → Licensed contexts steps line origin (es ++ entry (own_of line) (Call.UdpCreate ctx.name family) told ∷ []) (udp_begun h (after_create (own_of line) ctx.name family (told_done told))))
   udp_creates es h ctx family c may nowhere past i = (record { origin = origin; at = is_line; holds = may_create ctx family origin c may }, by_told)
     where
-      asked : (told : Told) → Licensed steps line origin (es ++ entry (own_of line) (Call.UdpCreate ctx.name family) told ∷ []) h
+      asked : (told : Told) → Licensed contexts steps line origin (es ++ entry (own_of line) (Call.UdpCreate ctx.name family) told ∷ []) h
       asked told = asked_fine contexts steps line origin is_line es h (own_of line) (Call.UdpCreate ctx.name family) told tt (spares contexts steps line origin is_line h (Call.UdpCreate ctx.name family) tt) i
 
-      by_told : (told : Told) → IsDoneOrCode told → Licensed steps line origin (es ++ entry (own_of line) (Call.UdpCreate ctx.name family) told ∷ []) (udp_begun h (after_create (own_of line) ctx.name family (told_done told)))
+      by_told : (told : Told) → IsDoneOrCode told → Licensed contexts steps line origin (es ++ entry (own_of line) (Call.UdpCreate ctx.name family) told ∷ []) (udp_begun h (after_create (own_of line) ctx.name family (told_done told)))
       by_told Told.Done fits = created_so _ h ctx family c nowhere past (has_last es _) (asked Told.Done)
       by_told (Told.Code x) fits = spent _ h (asked (Told.Code x))
       by_told _ fits = absurd fits
@@ -212,17 +212,17 @@ module _ (contexts : List WasiSocketsCtx) (steps : List Step) (line : ℕ) (orig
 
   -- a mark by an operation that isn't the own one of an accept, of no TCP socket's handle
   mark_fine : (es : List Entry) (h : Here) (op : OpId) (kind : Kind) (parent : Option ℕ) (sock : Option OpId) → BeganBy steps op (IsMarkOf es op (name_of kind) parent sock) → ((c s : ℕ) → origin ≡ Step.TcpAccept c s → op ≡ own_of line → ⊥) → (name_of kind ≡ name.Tcp2 → ⊥)
-      → ((t : Told) → HandleIsFine (es ++ entry op (Call.Made h.machine.table.next (name_of kind) parent sock) t ∷ []) h.machine.store.records h.machine.table.next kind) → Licensed steps line origin es h
-      → Allows (MayAsk contexts steps) (λ fs made. Licensed steps line origin fs (record h { machine = record h.machine { table = made.1 } })) es (make_asks h.machine.table op kind parent sock)
+      → ((t : Told) → HandleIsFine (es ++ entry op (Call.Made h.machine.table.next (name_of kind) parent sock) t ∷ []) h.machine.store.records h.machine.table.next kind) → Licensed contexts steps line origin es h
+      → Allows (MayAsk contexts steps) (λ fs made. Licensed contexts steps line origin fs (record h { machine = record h.machine { table = made.1 } })) es (make_asks h.machine.table op kind parent sock)
   unfolding bind
   mark_fine es h op kind parent sock may other none new i =
       let c = Call.Made h.machine.table.next (name_of kind) parent sock in
       let unmarked : (t : Told) (x : OpId) → MarksNoSocket es x → MarksNoSocket (es ++ entry op c t ∷ []) x = λ t x k. unmarked_made contexts steps line origin is_line es op h.machine.table.next (name_of kind) parent sock t x k (λ a b. none a) in
-      allows_if (MayAsk contexts steps) (λ fs made. Licensed steps line origin fs (record h { machine = record h.machine { table = made.1 } })) es (is_full h.machine.table) _ _ (λ full. elsewhere es h (record h { machine = record h.machine { table = h.machine.table } }) refl refl refl i i.fine i.names i.udp_names)
+      allows_if (MayAsk contexts steps) (λ fs made. Licensed contexts steps line origin fs (record h { machine = record h.machine { table = made.1 } })) es (is_full h.machine.table) _ _ (λ full. elsewhere es h (record h { machine = record h.machine { table = h.machine.table } }) refl refl refl i i.fine i.names i.udp_names)
       (λ room. (
         (i.fine.count, may),
         λ told fits. record {
-          fine = state_made steps es h.machine op (name_of kind) parent sock told kind (λ p q x d y t. none (socket_touch contexts steps line origin is_line op x h.machine.table.next (name_of kind) parent sock t)) (new told) i.fine;
+          fine = state_made contexts steps es h.machine op (name_of kind) parent sock told kind (λ p q x d y t. none (socket_touch contexts steps line origin is_line op x h.machine.table.next (name_of kind) parent sock t)) (new told) i.fine;
           names = λ p k r a d s x. names_on (stay steps) es _ (own_of k) s (i.names p k r a d s x);
           udp_names = λ p k v a d. names_on (stay steps) es _ (own_of k) (udp_side v) (i.udp_names p k v a d);
           listens = listens_on contexts steps line origin is_line es h op c told (λ p q o d x y. absurd (cc)) i;
@@ -235,12 +235,12 @@ module _ (contexts : List WasiSocketsCtx) (steps : List Step) (line : ℕ) (orig
       ))
 
   -- a new handle of a UDP socket
-  pub udp_marked : (es : List Entry) (h : Here) (place : ℕ) (u : Udp2Socket) → FoundUdp h place u → Licensed steps line origin es h
-      → Allows (MayAsk contexts steps) (λ fs made. Licensed steps line origin fs (record h { machine = record h.machine { table = made.1 } })) es (make_asks h.machine.table (udp_side u) (Udp2 place) None (Some (udp_side u)))
+  pub udp_marked : (es : List Entry) (h : Here) (place : ℕ) (u : Udp2Socket) → FoundUdp h place u → Licensed contexts steps line origin es h
+      → Allows (MayAsk contexts steps) (λ fs made. Licensed contexts steps line origin fs (record h { machine = record h.machine { table = made.1 } })) es (make_asks h.machine.table (udp_side u) (Udp2 place) None (Some (udp_side u)))
   udp_marked es h place u g i =
       let m = is_made es u (i.fine.udp place u g) in
       mark_fine es h (udp_side u) (Udp2 place) None (Some (udp_side u)) (began_mark es (udp_side u) m.maker m.family m.made) (not_accept (udp_side u) m.made.by) (λ e. absurd (cc))
-      (λ t. (tt, record { found = u; at = g; marked = record { op = udp_side u; kind = name.Udp2; parent = None; told = t; mark = has_last es _ } })) i
+      (λ t. (tt, record { found = u; at = g; marked = record { op = udp_side u; kind = name.Udp2; parent = None; told = t; mark = has_last es _ } }, tt)) i
 
   -- == the handles of datagram streams
   abbrev pub OneStream : Kind → ℕ → Type 0
@@ -255,8 +255,8 @@ module _ (contexts : List WasiSocketsCtx) (steps : List Step) (line : ℕ) (orig
   no_tcp kind place (inr e) p = absurd (let q : name.Outgoing ≡ name.Tcp2 = sym (ap name_of e) ∙ p in cc)
 
   stream_handle : (fs : List Entry) (records : List Record) (handle place : ℕ) (kind : Kind) → OneStream kind place → NamesUdp fs records handle place → HandleIsFine fs records handle kind
-  stream_handle fs records handle place kind (inl e) n = subst (HandleIsFine fs records handle) (sym e) (tt, n)
-  stream_handle fs records handle place kind (inr e) n = subst (HandleIsFine fs records handle) (sym e) (tt, n)
+  stream_handle fs records handle place kind (inl e) n = subst (HandleIsFine fs records handle) (sym e) (tt, n, tt)
+  stream_handle fs records handle place kind (inr e) n = subst (HandleIsFine fs records handle) (sym e) (tt, n, tt)
 
   stream_mark : (es : List Entry) (op : OpId) (handle : ℕ) (kind : HandleKind) (sock : Option OpId) → (kind ≡ name.Incoming) ⊎ (kind ≡ name.Outgoing) → IsMarkedWith es handle sock → (s : Step) → IsStreamOf handle s → IsMarkOf es op kind (Some handle) sock s
   stream_mark es op handle kind sock which w (Step.UdpStream c socket remote) e = (which, (ap (λ (n : ℕ). Some n) (sym e), subst (λ (n : ℕ). IsMarkedWith es n sock) (sym e) w))
@@ -268,8 +268,8 @@ module _ (contexts : List WasiSocketsCtx) (steps : List Step) (line : ℕ) (orig
       let q : origin ≡ b.origin = cc in
       subst (IsStreamOf handle) (sym q ∙ is) b.holds
 
-  pub stream_marked : (es : List Entry) (h : Here) (place n handle : ℕ) (kind : Kind) → h.made ≡ ToStream n handle → OneStream kind place → udp_of (kind_at h.machine.table handle) ≡ Some place → Licensed steps line origin es h
-      → Allows (MayAsk contexts steps) (λ fs made. Licensed steps line origin fs (record h { machine = record h.machine { table = made.1 } })) es (make_asks h.machine.table (own_of n) kind (Some handle) (udp_side_at (udp2_at h.machine.store.records place)))
+  pub stream_marked : (es : List Entry) (h : Here) (place n handle : ℕ) (kind : Kind) → h.made ≡ ToStream n handle → OneStream kind place → udp_of (kind_at h.machine.table handle) ≡ Some place → Licensed contexts steps line origin es h
+      → Allows (MayAsk contexts steps) (λ fs made. Licensed contexts steps line origin fs (record h { machine = record h.machine { table = made.1 } })) es (make_asks h.machine.table (own_of n) kind (Some handle) (udp_side_at (udp2_at h.machine.store.records place)))
   stream_marked es h place n handle kind m which e i =
       let sock = udp_side_at (udp2_at h.machine.store.records place) in
       let b = i.streaming n handle m in

@@ -2,9 +2,10 @@
 use Rattle.wasi_walks.proofs.Words.{Entry, Has, IpSocketAddress, IsMarkedWith, List, Option, Some, Standing, Step, Tcp2Socket, Told, WasiSocketsCtx, ap}
 use Rattle.wasi_walks.proofs.Words.{call_place, handles_of, inl, inr, kind_at, own_of, refl, slice_get, step_at, subst, sym, ℕ, ◌∙◌, ◌≡◌, ◌⊎◌}
 use Rattle.wasi_walks.specs.Licence.{IsBoundSide, IsSendOf, IsStreamOf, IsUdpBindTo, IsUdpConnectTo, UdpCreated, WasDisconnected}
-use Rattle.wasi_walks.proofs.walks.Moves.{Own, ToStream, part_of, KeepsOp, begun_udp_connect, sending_now, receiving_now, sending_in, receiving_in, Here, put_udp, FoundUdp, record_of, udp_record_of, UdpPlain, IsUdpSettled, begun_udp_bind, Used, IsOfHandle}
+use Rattle.wasi_walks.proofs.walks.Moves.{Own, ToStream, part_of, begun_udp_connect, sending_now, receiving_now, sending_in, receiving_in, Here, put_udp, FoundUdp, record_of, udp_record_of, UdpPlain, IsUdpSettled, begun_udp_bind, Used, IsOfHandle}
 use Rattle.wasi_walks.proofs.licence.State.{Names, UdpUnchecked, UdpBindIsFine, UdpProgressIsFine, OpenIsFine, LineNames, OfTcp, OfUdp, IfOp, MakesStreams, ConnectWhole, UdpConnectIsFine, IsFor, SendLeft, SendRefused, SendUnbound, SendUnchecked, SendIsFine, ReceiveIsFine}
 use Rattle.wasi_walks.proofs.licence.Frames.{same_record}
+use Rattle.wasi_walks.proofs.fits.UdpFits.{kept_op}
 use Rattle.wasi_walks.proofs.licence.UdpFrames.{same_udp}
 use Rattle.wasi_walks.proofs.licence.Line.{names_record, names_udp, pair_first, pair_second, NamesMade, NamesTcpHere, NamesUdpHere, Licensed, put_udp_fine, owned, spent, elsewhere}
 use Rattle.wasi_addr.specs.declared.code.ErrorCode.TheVariants.{DatagramTooLarge, InvalidArgument, InvalidState}
@@ -18,7 +19,6 @@ use Rattle.wasi_addr.specs.declared.code.ErrorCode.{ErrorCode}
 use Rattle.wasi_world.specs.declared.ids.Ids.{Ids}
 use Rattle.wasi_world.specs.declared.ids.OpId.{OpId}
 use Rattle.wasi_world.specs.declared.datagram.OutgoingDatagram.{OutgoingDatagram}
-use Rattle.wasi_world.specs.Operation.{Operation}
 use Rattle.wasi_udp.specs.Send.{is_sendable, where_to, send_to, send_left, send_first, send_start}
 use Rattle.wasi_udp.specs.Receive.{IsLeftOfReceive, receive_left, receive_first, receive_start}
 use Rattle.wasi_udp.specs.Shape.{Socket}
@@ -67,7 +67,7 @@ SameAt place line k n = let x : Option (ℕ × ℕ) = Some (place, line) in let 
 
 module _ (contexts : List WasiSocketsCtx) (steps : List Step) (line : ℕ) (origin : Step) (is_line : step_at steps line ≡ Some origin) where
   -- == the record that the line works on
-  names_at : (es : List Entry) (h : Here) (handle place : ℕ) → Has (handles_of origin) handle → udp_record_of (kind_at h.machine.table handle) ≡ Some place → Licensed steps line origin es h → (u : Udp2Socket) → FoundUdp h place u → Names steps es (own_of line) (udp_side u)
+  names_at : (es : List Entry) (h : Here) (handle place : ℕ) → Has (handles_of origin) handle → udp_record_of (kind_at h.machine.table handle) ≡ Some place → Licensed contexts steps line origin es h → (u : Udp2Socket) → FoundUdp h place u → Names steps es (own_of line) (udp_side u)
   names_at es h handle place named e i u g =
       let n = names_udp es h.machine.store.records handle place (kind_at h.machine.table handle) e (i.fine.handles handle) in
       let same : n.found ≡ u = same_udp n.found u (sym n.at ∙ g) in
@@ -75,12 +75,12 @@ module _ (contexts : List WasiSocketsCtx) (steps : List Step) (line : ℕ) (orig
       record { origin = origin; at = is_line; holds = record { handle = handle; named = named; is = record { op = w.op; kind = w.kind; parent = w.parent; told = w.told; mark = w.mark } } }
 
   -- a handle of a TCP socket is of no UDP socket, and the other way round
-  pub tcp_alone : (es : List Entry) (h : Here) (handle place : ℕ) → record_of (kind_at h.machine.table handle) ≡ Some place → Licensed steps line origin es h → NamesUdpHere steps es (record h { at = Some (place, line) })
+  pub tcp_alone : (es : List Entry) (h : Here) (handle place : ℕ) → record_of (kind_at h.machine.table handle) ≡ Some place → Licensed contexts steps line origin es h → NamesUdpHere steps es (record h { at = Some (place, line) })
   tcp_alone es h handle place e i k n u a g =
       let x = names_record es h.machine.store.records handle place (kind_at h.machine.table handle) e (i.fine.handles handle) in
       absurd (not_both h.machine.store.records place x.found u x.at (ap (udp2_at h.machine.store.records) (pair_first place line k n a) ∙ g))
 
-  pub reaches_udp : (es : List Entry) (h : Here) (handle place : ℕ) → Has (handles_of origin) handle → udp_record_of (kind_at h.machine.table handle) ≡ Some place → Licensed steps line origin es h → Licensed steps line origin es (record h { at = Some (place, line) })
+  pub reaches_udp : (es : List Entry) (h : Here) (handle place : ℕ) → Has (handles_of origin) handle → udp_record_of (kind_at h.machine.table handle) ≡ Some place → Licensed contexts steps line origin es h → Licensed contexts steps line origin es (record h { at = Some (place, line) })
   reaches_udp es h handle place named e i = elsewhere es h (record h { at = Some (place, line) }) refl refl refl i i.fine tcp udp
     where
       udp : NamesUdpHere steps es (record h { at = Some (place, line) })
@@ -92,10 +92,10 @@ module _ (contexts : List WasiSocketsCtx) (steps : List Step) (line : ℕ) (orig
           absurd (not_both h.machine.store.records place r x.found (ap (tcp2_at h.machine.store.records) (pair_first place line k n a) ∙ g) x.at)
 
   -- the pending call is made again
-  pub resumes : (es : List Entry) (h : Here) (s : Standing) → h.machine.store.standing ≡ Some s → IsOfHandle s.call → Licensed steps line origin es h → Licensed steps line origin es (record h { at = Some (call_place s.call, s.ids.line) })
+  pub resumes : (es : List Entry) (h : Here) (s : Standing) → h.machine.store.standing ≡ Some s → IsOfHandle s.call → Licensed contexts steps line origin es h → Licensed contexts steps line origin es (record h { at = Some (call_place s.call, s.ids.line) })
   resumes es h s e o i = by_record ((i.fine.standing s e).0 o)
     where
-      by_record : LineNames steps es h.machine.store.records s.ids.line (call_place s.call) → Licensed steps line origin es (record h { at = Some (call_place s.call, s.ids.line) })
+      by_record : LineNames steps es h.machine.store.records s.ids.line (call_place s.call) → Licensed contexts steps line origin es (record h { at = Some (call_place s.call, s.ids.line) })
       by_record (OfTcp found at names) = elsewhere es h _ refl refl refl i i.fine
           (λ k n r a g. (let same : found ≡ r = same_record found r (sym at ∙ (ap (tcp2_at h.machine.store.records) (pair_first (call_place s.call) s.ids.line k n a) ∙ g)) in
           subst (λ (x : ℕ). NamesMade steps x es r) (pair_second (call_place s.call) s.ids.line k n a) (subst (NamesMade steps s.ids.line es) same names)))
@@ -106,7 +106,7 @@ module _ (contexts : List WasiSocketsCtx) (steps : List Step) (line : ℕ) (orig
           subst (λ (x : ℕ). Names steps es (own_of x) (udp_side u)) (pair_second (call_place s.call) s.ids.line k n a) (subst (λ (x : Udp2Socket). Names steps es (own_of s.ids.line) (udp_side x)) same names)))
 
   -- == the UDP socket
-  pub open_at_place : (es : List Entry) (h : Here) (place : ℕ) (o : OpenUdp) → FoundUdp h place (Udp2Socket.Open o) → Licensed steps line origin es h → OpenIsFine steps es o
+  pub open_at_place : (es : List Entry) (h : Here) (place : ℕ) (o : OpenUdp) → FoundUdp h place (Udp2Socket.Open o) → Licensed contexts steps line origin es h → OpenIsFine steps es o
   open_at_place es h place o g i = i.fine.udp place (Udp2Socket.Open o) g
 
   progress_kept : (es : List Entry) (old now : UdpInProgress) → (now ≡ old) ⊎ (IsUdpSettled old × IsUdpSettled now) → UdpProgressIsFine steps es old → UdpProgressIsFine steps es now
@@ -115,25 +115,21 @@ module _ (contexts : List WasiSocketsCtx) (steps : List Step) (line : ℕ) (orig
   progress_kept es old UdpInProgress.Nothing (inr k) f = tt
   progress_kept es old UdpInProgress.Bound (inr k) f = tt
 
-  op_kept : (P : Operation → Type 0) (old now : Option Operation) → KeepsOp old now → IfOp P old → IfOp P now
-  op_kept P old now (inl e) f = subst (IfOp P) (sym e) f
-  op_kept P old now (inr e) f = subst (IfOp P) (sym e) tt
-
   plain_open : (es : List Entry) (o now : OpenUdp) → UdpPlain o now → OpenIsFine steps es o → OpenIsFine steps es now
   plain_open es o now p f = record {
     made = rw (p.side, p.maker, p.family) f.made;
     bound = λ b. rw p.side (f.bound (p.bound b));
     progress = progress_kept es o.in_progress now.in_progress p.binds f.progress;
     connecting = subst (IfOp (UdpConnectIsFine steps es)) (sym p.connects) f.connecting;
-    sending = op_kept (SendIsFine steps es) (sending_in o.outgoing) (sending_in now.outgoing) p.sends f.sending;
-    receiving = op_kept (ReceiveIsFine steps es) (receiving_in o.incoming) (receiving_in now.incoming) p.receives f.receiving;
+    sending = kept_op (IfOp (SendIsFine steps es)) tt (sending_in o.outgoing) (sending_in now.outgoing) p.sends f.sending;
+    receiving = kept_op (IfOp (ReceiveIsFine steps es)) tt (receiving_in o.incoming) (receiving_in now.incoming) p.receives f.receiving;
   }
 
-  pub udp_changes : (es : List Entry) (h : Here) (place : ℕ) (o now : OpenUdp) → FoundUdp h place (Udp2Socket.Open o) → UdpPlain o now → Licensed steps line origin es h → Licensed steps line origin es (put_udp h place (Udp2Socket.Open now))
+  pub udp_changes : (es : List Entry) (h : Here) (place : ℕ) (o now : OpenUdp) → FoundUdp h place (Udp2Socket.Open o) → UdpPlain o now → Licensed contexts steps line origin es h → Licensed contexts steps line origin es (put_udp h place (Udp2Socket.Open now))
   udp_changes es h place o now g p i = put_udp_fine es h place (Udp2Socket.Open o) (Udp2Socket.Open now) g p.side (plain_open es o now p (open_at_place es h place o g i)) i
 
-  pub begins_udp_bind : (es : List Entry) (h : Here) (place : ℕ) (o : OpenUdp) (a : IpSocketAddress) → h.at ≡ Some (place, line) → FoundUdp h place (Udp2Socket.Open o) → IsUdpBindTo a origin → Licensed steps line origin es h
-      → Licensed steps line origin es (record (put_udp h place (Udp2Socket.Open (with_udp_progress o (UdpInProgress.Binding (begun_udp_bind (own_of line) o a))))) { own = Used })
+  pub begins_udp_bind : (es : List Entry) (h : Here) (place : ℕ) (o : OpenUdp) (a : IpSocketAddress) → h.at ≡ Some (place, line) → FoundUdp h place (Udp2Socket.Open o) → IsUdpBindTo a origin → Licensed contexts steps line origin es h
+      → Licensed contexts steps line origin es (record (put_udp h place (Udp2Socket.Open (with_udp_progress o (UdpInProgress.Binding (begun_udp_bind (own_of line) o a))))) { own = Used })
   begins_udp_bind es h place o a at g to i =
       let f = open_at_place es h place o g i in
       let begun : UdpBindIsFine steps es (begun_udp_bind (own_of line) o a) = record {
@@ -152,7 +148,7 @@ module _ (contexts : List WasiSocketsCtx) (steps : List Step) (line : ℕ) (orig
   same_streams a b m n k e = let p : a ≡ n = cc in let q : b ≡ k = cc in subst (λ (x : ℕ). MakesStreams steps x k) p (subst (MakesStreams steps a) q m)
 
   -- streams are made by the line of this number, under this handle
-  streams_to : (es : List Entry) (h : Here) (n handle : ℕ) → MakesStreams steps n handle → Licensed steps line origin es h → Licensed steps line origin es (record h { made = ToStream n handle })
+  streams_to : (es : List Entry) (h : Here) (n handle : ℕ) → MakesStreams steps n handle → Licensed contexts steps line origin es h → Licensed contexts steps line origin es (record h { made = ToStream n handle })
   streams_to es h n handle m i = record {
     fine = i.fine;
     names = i.names;
@@ -165,18 +161,18 @@ module _ (contexts : List WasiSocketsCtx) (steps : List Step) (line : ℕ) (orig
     streaming = same_streams n handle m;
   }
 
-  pub remembers_streams : (es : List Entry) (h : Here) (c handle : ℕ) (remote : Option IpSocketAddress) → origin ≡ Step.UdpStream c handle remote → Licensed steps line origin es h → Licensed steps line origin es (record h { made = ToStream line handle })
+  pub remembers_streams : (es : List Entry) (h : Here) (c handle : ℕ) (remote : Option IpSocketAddress) → origin ≡ Step.UdpStream c handle remote → Licensed contexts steps line origin es h → Licensed contexts steps line origin es (record h { made = ToStream line handle })
   remembers_streams es h c handle remote is i = streams_to es h line handle (record { origin = origin; at = is_line; holds = subst (IsStreamOf handle) (sym is) refl }) i
 
-  pub recalls_streams : (es : List Entry) (h : Here) (ids : Ids) (place handle : ℕ) → h.machine.store.standing ≡ Some (standing_as ids (StandingCall.UdpConnect place handle)) → Licensed steps line origin es h → Licensed steps line origin es (record h { made = ToStream ids.line handle })
+  pub recalls_streams : (es : List Entry) (h : Here) (ids : Ids) (place handle : ℕ) → h.machine.store.standing ≡ Some (standing_as ids (StandingCall.UdpConnect place handle)) → Licensed contexts steps line origin es h → Licensed contexts steps line origin es (record h { made = ToStream ids.line handle })
   recalls_streams es h ids place handle e i = streams_to es h ids.line handle (i.fine.standing (standing_as ids (StandingCall.UdpConnect place handle)) e).1 i
 
   -- an operation of the line names a handle of the network socket
   pub names_part : (es : List Entry) (n : ℕ) (side : OpId) → Names steps es (own_of line) side → Names steps es (part_of line n) side
   names_part es n side k = record { origin = k.origin; at = k.at; holds = k.holds }
 
-  pub begins_udp_connect : (es : List Entry) (h : Here) (place : ℕ) (o : OpenUdp) (a : IpSocketAddress) → h.at ≡ Some (place, line) → FoundUdp h place (Udp2Socket.Open o) → IsUdpConnectTo a origin → o.inner.bound ≡ true → Licensed steps line origin es h
-      → Licensed steps line origin es (record (put_udp h place (Udp2Socket.Open (record o { connecting = Some (begun_udp_connect (own_of line) o a) }))) { own = Used })
+  pub begins_udp_connect : (es : List Entry) (h : Here) (place : ℕ) (o : OpenUdp) (a : IpSocketAddress) → h.at ≡ Some (place, line) → FoundUdp h place (Udp2Socket.Open o) → IsUdpConnectTo a origin → o.inner.bound ≡ true → Licensed contexts steps line origin es h
+      → Licensed contexts steps line origin es (record (put_udp h place (Udp2Socket.Open (record o { connecting = Some (begun_udp_connect (own_of line) o a) }))) { own = Used })
   begins_udp_connect es h place o a at g to b i =
       let f = open_at_place es h place o g i in
       let begun : UdpConnectIsFine steps es (begun_udp_connect (own_of line) o a) = record {
@@ -200,8 +196,8 @@ module _ (contexts : List WasiSocketsCtx) (steps : List Step) (line : ℕ) (orig
   first_left es op side maker family d (Ok to) true k out = SendUnchecked to.kept to.addr k (inl (out refl))
   first_left es op side maker family d (Ok to) false k out = SendUnbound to.kept to.addr k
 
-  pub begins_send : (es : List Entry) (h : Here) (place n : ℕ) (o : OpenUdp) (out : OutgoingStream) (d : OutgoingDatagram) (bound : Bool) → h.at ≡ Some (place, line) → FoundUdp h place (Udp2Socket.Open o) → IsSendOf n d origin → (bound ≡ true → o.inner.bound ≡ true) → Licensed steps line origin es h
-      → Licensed steps line origin es (record (put_udp h place (Udp2Socket.Open (sending_now o out (send_start (part_of line n) o.inner d.bytes d.remote_address bound)))) { own = Own.Names (n + 1) })
+  pub begins_send : (es : List Entry) (h : Here) (place n : ℕ) (o : OpenUdp) (out : OutgoingStream) (d : OutgoingDatagram) (bound : Bool) → h.at ≡ Some (place, line) → FoundUdp h place (Udp2Socket.Open o) → IsSendOf n d origin → (bound ≡ true → o.inner.bound ≡ true) → Licensed contexts steps line origin es h
+      → Licensed contexts steps line origin es (record (put_udp h place (Udp2Socket.Open (sending_now o out (send_start (part_of line n) o.inner d.bytes d.remote_address bound)))) { own = Own.Names (n + 1) })
   begins_send es h place n o out d bound at g is known i =
       let f = open_at_place es h place o g i in
       let op = send_start (part_of line n) o.inner d.bytes d.remote_address bound in
@@ -221,8 +217,8 @@ module _ (contexts : List WasiSocketsCtx) (steps : List Step) (line : ℕ) (orig
   received_first true = IsLeftOfReceive.Unreceived None
   received_first false = IsLeftOfReceive.ToRefuse InvalidState
 
-  pub begins_receive : (es : List Entry) (h : Here) (place n : ℕ) (o : OpenUdp) (inc : IncomingStream) (bound : Bool) → h.at ≡ Some (place, line) → FoundUdp h place (Udp2Socket.Open o) → Licensed steps line origin es h
-      → Licensed steps line origin es (record (put_udp h place (Udp2Socket.Open (receiving_now o inc (receive_start (part_of line n) o.inner bound)))) { own = Own.Names (n + 1) })
+  pub begins_receive : (es : List Entry) (h : Here) (place n : ℕ) (o : OpenUdp) (inc : IncomingStream) (bound : Bool) → h.at ≡ Some (place, line) → FoundUdp h place (Udp2Socket.Open o) → Licensed contexts steps line origin es h
+      → Licensed contexts steps line origin es (record (put_udp h place (Udp2Socket.Open (receiving_now o inc (receive_start (part_of line n) o.inner bound)))) { own = Own.Names (n + 1) })
   begins_receive es h place n o inc bound at g i =
       let f = open_at_place es h place o g i in
       let op = receive_start (part_of line n) o.inner bound in

@@ -224,7 +224,7 @@ module _ (ctx handle most : ℕ) where
         (handle_says (incoming_at m handle) n) (λ fs done k. k)
 
 -- the reply to a step may be given
-pub step_replies : (contexts : List WasiSocketsCtx) (steps : List Step) (line : ℕ) (s : Step) (m : Machine) (es : List Entry) → StateIsFine steps es m → Keeps es m.store.records → Allows Anything (λ fs done. MayReply fs s done.0) es (machine_asks contexts m line s)
+pub step_replies : (contexts : List WasiSocketsCtx) (steps : List Step) (line : ℕ) (s : Step) (m : Machine) (es : List Entry) → StateIsFine contexts steps es m → Keeps es m.store.records → Allows Anything (λ fs done. MayReply fs s done.0) es (machine_asks contexts m line s)
 step_replies contexts steps line (Step.UdpReceive ctx handle most) m es f k =
     receive_says ctx handle most line m es k contexts m.store.standing (λ place e. names_udp es m.store.records handle place (kind_at m.table handle) (incoming_record (kind_at m.table handle) place e) (f.handles handle))
 step_replies contexts steps line s m es f k = gives_any (λ fs done. MayReply fs s done.0) (λ fs done. tt) es (machine_asks contexts m line s)

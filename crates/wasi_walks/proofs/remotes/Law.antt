@@ -27,7 +27,7 @@ use Rattle.wasi_walks.proofs.walks.Moves.{closed_record, udp_begun, opened_by, p
 use Rattle.wasi_walks.proofs.remotes.Held.{peer_keeps, polls_keep}
 use Rattle.wasi_walks.proofs.remotes.Polls.{AreSilent, NoPeer, Unpeered, silent_poll}
 use Rattle.wasi_walks.proofs.remotes.ConnectPolls.{Whole}
-use Rattle.wasi_walks.proofs.remotes.State.{InHand, JobBy, Keeps, OpenKeeps, ReadsBy, ReceivesFor, TcpKeeps, WritesBy, asked, incoming_kept, kept, push_tcp, push_udps, put_tcp, put_udps, quiet, same_streams, with_none, with_these, writer_moves, Spares}
+use Rattle.wasi_walks.proofs.remotes.State.{InHand, JobBy, Keeps, OpenKeeps, ReadsBy, ReceivesFor, TcpKeeps, WritesBy, asked, incoming_kept, kept, push_tcp, push_udps, put_tcp, put_udps, quiet, records_keep, same_streams, with_none, with_these, writer_moves, Spares}
 
 -- == what is asked of a network socket of TCP is asked of none of UDP
 -- a writer is on the network socket that its record was made with
@@ -197,6 +197,7 @@ module _ (contexts : List WasiSocketsCtx) (line : ℕ) (origin : Step) where
   moves_keep es _ _ (walk.BeginsReceive h place n o inc bound at g e own) b i =
       let k = i.udps place (Udp2Socket.Open o) g in
       put_udps es _ place (Udp2Socket.Open _) (record { created = k.created; remote = k.remote; connects = k.connects; receives = begun_empty es (part_of line n) o.inner.side bound; receiver = refl }) i
+  moves_keep es _ _ (walk.Finds h records s) b i = records_keep es h.machine.store.records records s i
   moves_keep es _ _ _ b i = i
 
   -- the law: the calls may be any
@@ -224,4 +225,6 @@ module _ (contexts : List WasiSocketsCtx) (line : ℕ) (origin : Step) where
     udp_creates = λ es h ctx family c may a o m b i. (tt, λ told f. begun_keeps es h (own_of line) ctx.name family told f i);
     udp_marks = λ es h place u g b i. marks_keep es _ h.machine.table (udp_side u) (Udp2 place) None (Some (udp_side u)) i;
     stream_marks = λ es h place n handle kind m k e b i. marks_keep es _ h.machine.table (own_of n) kind (Some handle) _ i;
+    lookups = λ es h host l b i. (tt, λ told f records s. records_keep _ _ records s (asked es _ (own_of line) _ told (quiet _ _ tt) i));
+    looks = λ es h place op g b i. (tt, λ told f. asked es _ op.id _ told (quiet _ _ tt) i);
   }

@@ -10,13 +10,14 @@ use Rattle.wasi_world.specs.declared.datagram.IncomingDatagram.{IncomingDatagram
 use Rattle.wasi_host.specs.Records.{tcp2_at, tcp2_put, tcp2_pushed, udp2_at, udp2_put, udp2_pushed}
 use Rattle.wasi_host.specs.declared.datagrams.Incoming.{Incoming as IncomingStream}
 use Rattle.wasi_host.specs.declared.datagrams.Receiving.{Receiving}
+use Rattle.wasi_host.specs.declared.name_lookup.LookupOp.{LookupOp}
 use Rattle.wasi_host.specs.declared.records.Record.{Record}
 use Rattle.wasi_host.specs.declared.udp.OpenUdp.{OpenUdp}
 use Rattle.wasi_host.specs.declared.udp.Udp2Socket.{Udp2Socket}
 use Rattle.wasi_walks.specs.Licence.{IsReceived, UdpCreated}
 use Rattle.wasi_walks.proofs.Lists.{cut_more, get_set, get_split, has_front}
 use Rattle.wasi_walks.proofs.UdpLists.{tcp_of_put, tcp_of_push, udp_of_put, udp_of_push, udp_get_set, udp_split}
-use Rattle.wasi_walks.proofs.walks.Moves.{Here, FoundUdp, KeepsCame, KeepsOp, WriterMoves, Collects, Permits, Lasts, LastsAfter, Closes, came_in, came_of, receive_op, receiving_in}
+use Rattle.wasi_walks.proofs.walks.Moves.{Here, FoundUdp, SameSockets, KeepsCame, KeepsOp, WriterMoves, Collects, Permits, Lasts, LastsAfter, Closes, came_in, came_of, receive_op, receiving_in}
 use Rattle.wasi_walks.proofs.fits.Polls.{Anything}
 use Rattle.wasi_walks.proofs.fits.UdpFits.{kept_op}
 use Rattle.wasi_walks.proofs.licence.Frames.{maker_more}
@@ -176,6 +177,10 @@ push_udps es records now f k = record {
   udps = λ i u e. elim (udp_split records now i u e) [ inl p ↦ k.udps i u p | inr p ↦ subst (UdpKeeps es) p.0 f ];
   tcps = λ i r e. k.tcps i r (tcp_of_push records now i r e);
 }
+
+-- the sockets among them stay the same
+pub records_keep : {new : LookupOp → Type 0} (es : List Entry) (old now : List Record) → SameSockets new old now → Keeps es old → Keeps es now
+records_keep es old now s k = record { udps = λ i u e. k.udps i u (sym (s.udp i) ∙ e); tcps = λ i r e. k.tcps i r (sym (s.tcp i) ∙ e) }
 
 -- == what an incoming stream holds, under more entries
 -- a datagram that was received

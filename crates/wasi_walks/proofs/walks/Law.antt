@@ -5,11 +5,13 @@ use Rattle.wasi_walks.proofs.Words.{Streams, Tcp2, Tcp2Socket, TcpState, Told, W
 use Rattle.wasi_walks.proofs.Words.{allows_weaker, ap, bind, bind_progress, connect_ended, create_asks, entry, false, give_up_asks, if◌then◌else◌}
 use Rattle.wasi_walks.proofs.Words.{make_asks, own_of, poll_asks, told_done, refl, side_at, side_of, subst, sym, told_addr, true}
 use Rattle.wasi_walks.proofs.Words.{turn_asks, with_inner, with_listening, with_progress, with_state, with_writer, ℕ, ◌++◌, ◌∷◌, ◌≡◌}
-use Rattle.wasi_walks.proofs.walks.Moves.{Here, put, put_udp, Found, FoundUdp, CreatesUdp, udp_begun, ToStream, part_of, IsUdpQuestionOf, NoStart, closed_record, Past, Joined, made_so, listen_after, accepting_now, Held, BindsOn, Connects, Listens, Awaits, IsQuestionOf, IsOn, Move, Marks, Creates, Used, Unused}
+use Rattle.wasi_walks.proofs.walks.Moves.{Here, LooksUp, SameSockets, with_records, put, put_udp, Found, FoundUdp, CreatesUdp, udp_begun, ToStream, part_of, IsUdpQuestionOf, NoStart, closed_record, Past, Joined, made_so, listen_after, accepting_now, Held, BindsOn, Connects, Listens, Awaits, IsQuestionOf, IsOn, Move, Marks, Creates, Used, Unused}
 use Rattle.wasi_walks.proofs.Lists.{set_there, set_set, set_same}
 use Rattle.std.specs.Prelude.{◌⊎◌}
 use Rattle.wasi_host.specs.Kinds.{kind_at, udp_of}
-use Rattle.wasi_host.specs.Records.{tcp2_at, udp2_at}
+use Rattle.wasi_host.specs.Records.{tcp2_at, udp2_at, lookup_at}
+use Rattle.wasi_host.specs.declared.name_lookup.Lookup.TheVariants as lookup
+use Rattle.wasi_host.specs.declared.name_lookup.LookupOp.{LookupOp}
 use Rattle.wasi_host.specs.UdpCreates.{udp_side_at}
 use Rattle.wasi_host.specs.declared.kind.Kind.TheVariants.{Udp2, Incoming, Outgoing}
 use Rattle.wasi_host.specs.declared.udp.OpenUdp.{OpenUdp}
@@ -57,6 +59,11 @@ pub record Law (contexts : List WasiSocketsCtx) (line : ℕ) (origin : Step) : T
       → Allows P (λ fs made. Inv fs (record h { machine = record h.machine { table = made.1 } })) es (make_asks h.machine.table (udp_side u) (Udp2 place) None (Some (udp_side u)))
   pub stream_marks : (es : List Entry) (h : Here) (place n handle : ℕ) (kind : Kind) → h.made ≡ ToStream n handle → (kind ≡ Incoming place) ⊎ (kind ≡ Outgoing place) → udp_of (kind_at h.machine.table handle) ≡ Some place → Inv es h
       → Allows P (λ fs made. Inv fs (record h { machine = record h.machine { table = made.1 } })) es (make_asks h.machine.table (own_of n) kind (Some handle) (udp_side_at (udp2_at h.machine.store.records place)))
+  -- lookups
+  pub lookups : (es : List Entry) (h : Here) (host : List ℕ) → LooksUp contexts host origin → Inv es h
+      → P es (own_of line) (Call.Lookup host) × ((told : Told) → Fits (Call.Lookup host) told → (records : List Record) → SameSockets (λ op. op ≡ record { id = own_of line; host = host }) h.machine.store.records records → Inv (es ++ entry (own_of line) (Call.Lookup host) told ∷ []) (with_records h records))
+  pub looks : (es : List Entry) (h : Here) (place : ℕ) (op : LookupOp) → lookup_at h.machine.store.records place ≡ Some (lookup.InProgress op) → Inv es h
+      → P es op.id (Call.Lookup op.host) × ((told : Told) → Fits (Call.Lookup op.host) told → Inv (es ++ entry op.id (Call.Lookup op.host) told ∷ []) h)
 
 -- A place that has a record.
 pub record HasRecord (h : Here) (place : ℕ) : Type 0 where

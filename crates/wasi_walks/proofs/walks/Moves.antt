@@ -12,8 +12,12 @@ use Rattle.wasi_walks.proofs.Words.{side_at, side_of, standing_as, true, wildcar
 use Rattle.wasi_walks.proofs.Words.{with_progress, with_reader, with_socket, with_state, with_writer, without_handle, writer_side, ℕ, ⊤}
 use Rattle.wasi_walks.proofs.Words.{◌≡◌, ◌⊎◌}
 use Rattle.wasi_world.specs.declared.ids.Ids.{Ids}
-use Rattle.wasi_host.specs.Records.{tcp2_at, tcp2_put, tcp2_pushed, udp2_at}
-use Rattle.std.specs.Prelude.{◌+◌}
+use Rattle.wasi_host.specs.Records.{tcp2_at, tcp2_put, tcp2_pushed, udp2_at, lookup_at}
+use Rattle.wasi_host.specs.declared.name_lookup.Lookup.TheVariants as lookup
+use Rattle.wasi_host.specs.declared.name_lookup.LookupOp.{LookupOp}
+use Rattle.std.specs.Prelude.{◌+◌, is_some}
+use Rattle.wasi_names.specs.declared.name.HostName.TheVariants.{Domain}
+use Rattle.wasi_names.specs.Names.{name_is}
 use Rattle.wasi_world.specs.declared.datagram.IncomingDatagram.{IncomingDatagram}
 use Rattle.wasi_world.specs.declared.datagram.OutgoingDatagram.{OutgoingDatagram}
 use Rattle.wasi_world.specs.Operation.{Given, Waits, Done, Refused}
@@ -24,7 +28,7 @@ use Rattle.wasi_host.specs.declared.datagrams.Incoming.{Incoming as IncomingStre
 use Rattle.wasi_host.specs.declared.datagrams.Outgoing.{Outgoing as OutgoingStream}
 use Rattle.wasi_host.specs.declared.datagrams.Receiving.{Receiving}
 use Rattle.wasi_host.specs.declared.datagrams.Sending.{Sending}
-use Rattle.wasi_host.specs.declared.kind.Kind.TheVariants.{Udp2, Incoming, Outgoing}
+use Rattle.wasi_host.specs.declared.kind.Kind.TheVariants.{Udp2, Incoming, Outgoing, Lookup}
 use Rattle.wasi_udp.specs.Connect.{connect_start}
 use Rattle.wasi_udp.specs.Receive.{receive_start, wanting}
 use Rattle.wasi_udp.specs.Send.{at_remote, send_start}
@@ -82,6 +86,17 @@ put_udp h place u = record h { machine = record h.machine { store = with_udp h.m
 
 abbrev pub FoundUdp : Here → ℕ → Udp2Socket → Type 0
 FoundUdp h place u = udp2_at h.machine.store.records place ≡ Some u
+
+-- other records
+abbrev pub with_records : Here → List Record → Here
+with_records h records = record h { machine = record h.machine { store = record h.machine.store { records = records } } }
+
+-- The sockets are as they were, and a lookup stays one. It is in progress only where it was, or is one of these.
+pub record SameSockets (new : LookupOp → Type 0) (old now : List Record) : Type 0 where
+  pub tcp : (k : ℕ) → tcp2_at now k ≡ tcp2_at old k
+  pub udp : (k : ℕ) → udp2_at now k ≡ udp2_at old k
+  pub stays : (k : ℕ) → is_some (lookup_at old k) ≡ true → is_some (lookup_at now k) ≡ true
+  pub looks : (k : ℕ) (op : LookupOp) → lookup_at now k ≡ Some (lookup.InProgress op) → (lookup_at old k ≡ Some (lookup.InProgress op)) ⊎ new op
 
 -- no bind, listen, create or connect is pending
 abbrev pub NoStartIn : StandingCall → Type 0
@@ -189,6 +204,7 @@ abbrev pub tcp_place : Watched → Option ℕ
 tcp_place (Watched.Udp place) = None
 tcp_place (Watched.Incoming place) = None
 tcp_place (Watched.Outgoing place) = None
+tcp_place (Watched.Lookup place) = None
 tcp_place w = Some (place_in w)
 
 -- the UDP socket that is watched
@@ -232,6 +248,11 @@ abbrev pub CreatesUdp : List WasiSocketsCtx → WasiSocketsCtx → SocketAddress
 CreatesUdp contexts ctx family (Step.UdpCreate n f) = (context_at contexts n ≡ ctx) × (f ≡ family)
 CreatesUdp contexts ctx family _ = ⊥
 
+-- a lookup of this host, by a context that may look names up
+abbrev pub LooksUp : List WasiSocketsCtx → List ℕ → Step → Type 0
+LooksUp contexts host (Step.Resolve n network name) = ((context_at contexts n).ip_name_lookup ≡ true) × (name_is name ≡ Some (Domain host))
+LooksUp contexts host _ = ⊥
+
 -- a handle that the line may mark, with its parent and its network socket
 pub data Marks (origin : Step) (h : Here) : Kind → Option ℕ → Option OpId → Type 0 where
   ANetwork : (c : ℕ) → origin ≡ Step.Network c → Marks origin h Network None None
@@ -239,6 +260,8 @@ pub data Marks (origin : Step) (h : Here) : Kind → Option ℕ → Option OpId 
   AnAcceptedStream : (c listener handle place : ℕ) (kind : Kind) (r : Tcp2Socket) → origin ≡ Step.TcpAccept c listener → (kind ≡ Input place) ⊎ (kind ≡ Output place) → h.made ≡ Marked handle place → h.own ≡ Used → Found h place r → Marks origin h kind (Some handle) (side_at (tcp2_at h.machine.store.records place))
   APollable : (c handle : ℕ) (w : Watched) → origin ≡ Step.Subscribe c handle → tcp_place w ≡ Some (place_in w) → record_of (kind_at h.machine.table handle) ≡ Some (place_in w) → Marks origin h (Pollable w) (Some handle) (side_at (tcp2_at h.machine.store.records (place_in w)))
   AUdpPollable : (c handle : ℕ) (w : Watched) → origin ≡ Step.Subscribe c handle → udp_place w ≡ Some (place_in w) → udp_record_of (kind_at h.machine.table handle) ≡ Some (place_in w) → Marks origin h (Pollable w) (Some handle) (udp_side_at (udp2_at h.machine.store.records (place_in w)))
+  ALookup : (c network place : ℕ) (name : List ℕ) → origin ≡ Step.Resolve c network name → is_some (lookup_at h.machine.store.records place) ≡ true → Marks origin h (Lookup place) (Some network) None
+  ALookupPollable : (c handle place : ℕ) → origin ≡ Step.Subscribe c handle → kind_at h.machine.table handle ≡ Some (Lookup place) → Marks origin h (Pollable (Watched.Lookup place)) (Some handle) None
   AnError : (handle place : ℕ) → MarksError handle origin → record_of (kind_at h.machine.table handle) ≡ Some place → Marks origin h ErrorValue (Some handle) (side_at (tcp2_at h.machine.store.records place))
 
 -- == records of a bind
@@ -430,6 +453,8 @@ pub data Move (line : ℕ) (origin : Step) : Here → Here → Type 0 where
       → Move line origin h (record (put_udp h place (Udp2Socket.Open (sending_now o out (send_start (part_of line n) o.inner d.bytes d.remote_address bound)))) { own = Names (n + 1) })
   BeginsReceive : (h : Here) (place n : ℕ) (o : OpenUdp) (inc : IncomingStream) (bound : Bool) → h.at ≡ Some (place, line) → FoundUdp h place (Udp2Socket.Open o) → o.incoming ≡ Some inc → h.own ≡ Names n
       → Move line origin h (record (put_udp h place (Udp2Socket.Open (receiving_now o inc (receive_start (part_of line n) o.inner bound)))) { own = Names (n + 1) })
+  -- lookups: what was found, and what is handed out
+  Finds : (h : Here) (records : List Record) → SameSockets (λ op. ⊥) h.machine.store.records records → Move line origin h (with_records h records)
   -- the rest
   Lists : (h : Here) (jobs : List HostJob) → Move line origin h (record h { machine = record h.machine { store = record h.machine.store { jobs = jobs } } })
   Takes : (h : Here) (handle : ℕ) → Move line origin h (record h { machine = record h.machine { table = without_handle h.machine.table handle } })

@@ -7,7 +7,7 @@ use Rattle.wasi_walks.proofs.Words.{name_of, output_of, place_of, refl, sym, tab
 use Rattle.wasi_walks.proofs.Words.{watch_of, watched_by, with_handle, with_records, ℕ, ⊤, ◌==◌, ◌∙◌, ◌≡◌}
 use Rattle.wasi_world.specs.declared.ids.Ids.{Ids}
 use Rattle.wasi_walks.proofs.walks.Moves.{Own, Used, Here, put, Found, record_of, udp_record_of, tcp_place, udp_place, Made, Past, Unmade, Joined}
-use Rattle.wasi_host.specs.declared.kind.Kind.TheVariants.{Udp2, Incoming, Outgoing}
+use Rattle.wasi_host.specs.declared.kind.Kind.TheVariants.{Udp2, Incoming, Outgoing, Lookup}
 use Rattle.wasi_host.specs.Kinds.{udp_of, incoming_of, outgoing_of}
 use Rattle.wasi_walks.proofs.Lists.{value_front, tcp2_seam}
 use Rattle.wasi_walks.proofs.walks.Law.{HasRecord, Given, given_then}
@@ -94,6 +94,7 @@ watched_record (Some (Input n)) w e = let p : Watched.Input n ≡ w = cc in ap t
 watched_record (Some (Output n)) w e = let p : Watched.Output n ≡ w = cc in ap tcp_place p
 watched_record (Some (Incoming n)) w e = let p : Watched.Incoming n ≡ w = cc in ap tcp_place p
 watched_record (Some (Outgoing n)) w e = let p : Watched.Outgoing n ≡ w = cc in ap tcp_place p
+watched_record (Some (Lookup n)) w e = let p : Watched.Lookup n ≡ w = cc in ap tcp_place p
 watched_record _ w e = absurd (cc)
 
 pub watch_record : (k : Option Kind) (w : Watched) → watch_of k ≡ Some w → record_of k ≡ tcp_place w
@@ -120,7 +121,13 @@ watched_udp (Some (Input n)) w e = let p : Watched.Input n ≡ w = cc in ap udp_
 watched_udp (Some (Output n)) w e = let p : Watched.Output n ≡ w = cc in ap udp_place p
 watched_udp (Some (Incoming n)) w e = let p : Watched.Incoming n ≡ w = cc in ap udp_place p
 watched_udp (Some (Outgoing n)) w e = let p : Watched.Outgoing n ≡ w = cc in ap udp_place p
+watched_udp (Some (Lookup n)) w e = let p : Watched.Lookup n ≡ w = cc in ap udp_place p
 watched_udp _ w e = absurd (cc)
+
+-- a lookup
+pub watched_lookup : (k : Option Kind) (place : ℕ) → watched_by k ≡ Some (Watched.Lookup place) → k ≡ Some (Lookup place)
+watched_lookup (Some (Lookup n)) place e = cc
+watched_lookup _ place e = absurd (cc)
 
 pub watch_udp : (k : Option Kind) (w : Watched) → watch_of k ≡ Some w → udp_record_of k ≡ udp_place w
 watch_udp (Some (Pollable x)) w e = let p : x ≡ w = cc in ap udp_place p

@@ -22,12 +22,13 @@ use Rattle.wasi_walks.proofs.walks.SocketSteps.{finish_started_walks, local_at_w
 use Rattle.wasi_walks.proofs.walks.ListenSteps.{accept_on_walks, start_listen_at_walks}
 use Rattle.wasi_host.specs.Records.{tcp2_at, open_at}
 use Rattle.wasi_host.specs.declared.pending.Outcome.{Outcome}
-use Rattle.wasi_host.specs.Machine.{udp_socket_at, outgoing_at}
+use Rattle.wasi_host.specs.Machine.{udp_socket_at, outgoing_at, lookup_number}
 use Rattle.wasi_host.specs.Pending.{gone_on, created_on, streams_on}
 use Rattle.wasi_host.specs.Standing.{allowed_answer, standing_as}
 use Rattle.wasi_steps.specs.Settings.{udp_opt, udp_chosen}
 use Rattle.wasi_walks.proofs.walks.Datagrams.{Streaming, stream_walks, streams_again}
 use Rattle.wasi_walks.proofs.walks.Receives.{receive_walks}
+use Rattle.wasi_walks.proofs.walks.Lookups.{next_address_walks, resolve_walks}
 use Rattle.wasi_walks.proofs.walks.Sends.{check_send_walks, drop_outgoing_walks, send_walks}
 use Rattle.wasi_walks.proofs.walks.Udp.{on_udp, udp_local_at_walks, udp_get_at_walks, udp_set_at_walks, start_udp_bind_walks, finish_udp_bind_walks, rebind_udp_walks, create_on_walks, create_udp_walks}
 
@@ -152,6 +153,9 @@ step_walks line (Step.UdpStream c s remote) m f = and_then (stream_walks m c s r
 step_walks line (Step.UdpReceive c incoming most) m f = and_then (receive_walks m incoming most (inl refl)) (λ done. give _)
 step_walks line (Step.UdpCheckSend c outgoing) m f = as_left (check_send_walks m (outgoing_at m outgoing))
 step_walks line (Step.UdpSend c outgoing ds) m f = and_then (send_walks m c outgoing ds refl (inl refl)) (λ done. give _)
+step_walks line (Step.Resolve c network name) m f = and_then (resolve_walks m c network name refl) (λ done. give _)
+step_walks line (Step.ResolveNext c lookup) m f = as_left (next_address_walks m (lookup_number m lookup))
+step_walks line (Step.NetworkErrorCode c e) m f = gives _ (Spends _ refl)
 step_walks line (Step.Read c input len) m f = and_then (stream_call_walks m input (reader_asks (λ r. read_state_asks (own_of line) r len)) (input_at m input) (inl refl) refl (input_record (kind_at m.table input)) (λ place r here. reader_walks here r (λ w. read_state_asks (own_of line) w len) r.streams refl (λ s w. read_walks here refl r s w len))) (λ done. give _)
 step_walks line (Step.CheckWrite c output) m f = and_then (stream_call_walks m output (writer_asks (check_write_asks (own_of line))) (output_at m output) (inl refl) refl (output_record (kind_at m.table output)) (λ place r here. writer_walks here r (check_write_asks (own_of line)) r.streams refl (check_walks here refl r))) (λ done. give _)
 step_walks line (Step.Write c output bytes) m f = and_then (write_on_walks m output bytes (output_at m output) (inl refl) refl (output_record (kind_at m.table output))) (λ done. give _)

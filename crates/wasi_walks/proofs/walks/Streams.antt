@@ -15,23 +15,24 @@ use Rattle.wasi_walks.proofs.Words.{writer_shutdown_asks, writer_side, writing_s
 use Rattle.wasi_world.specs.declared.ids.Ids.{Ids}
 use Rattle.wasi_addr.specs.declared.address.ShutdownType.TheVariants.{Receive, Send, Both}
 use Rattle.wasi_tcp.specs.Job.{finish_in as finish_job}
-use Rattle.wasi_host.specs.Records.{tcp2_at, udp2_at, open_at}
+use Rattle.wasi_host.specs.Records.{tcp2_at, udp2_at, open_at, lookup_at}
 use Rattle.wasi_host.specs.declared.records.Record.{Record}
 use Rattle.wasi_host.specs.declared.jobs.HostJob.{HostJob}
 use Rattle.wasi_host.specs.declared.jobs.HostJob.TheVariants.{Write, Datagram}
 use Rattle.wasi_host.specs.declared.jobs.HostJob.TheVariants as jobs
 use Rattle.wasi_host.specs.Shutdowns.{with_streams}
 use Rattle.wasi_walks.proofs.walks.Writes.{may_begin, may_of, may_in, may_at, may}
-use Rattle.wasi_walks.proofs.walks.Moves.{Own, Used, Unused, ToWrite, Here, put, OfReader, OfWriter, Collects, Permits, Lasts, LastsAfter, Closes, Spends, ClosesReader, Writes, BeginsWrite, NoStart, NoStartStands, record_of, MarksError, AnError, Reaches, Leaves, IsGone, Lists, Takes, Past, Stands, APollable, AUdpPollable, ReachesUdp, udp_record_of, tcp_place}
+use Rattle.wasi_walks.proofs.walks.Moves.{Own, Used, Unused, ToWrite, Here, put, OfReader, OfWriter, Collects, Permits, Lasts, LastsAfter, Closes, Spends, ClosesReader, Writes, BeginsWrite, NoStart, NoStartStands, record_of, MarksError, AnError, Reaches, Leaves, IsGone, Lists, Takes, Past, Stands, APollable, AUdpPollable, ALookupPollable, ReachesUdp, udp_record_of, tcp_place}
 use Rattle.wasi_walks.proofs.walks.Law.{Law, HasRecord, spent, put_put, Walks, give, and_then, by_if, move, gives, from, found, on, ask, turn, put_same, ends, close, mark, give_up, and_so}
 use Rattle.wasi_tcp.specs.Closing.{close_in}
 use Rattle.wasi_host.specs.Readiness.{ready_listening, ready_idle, ready_socket_by, ready_reader, ready_writer, ready_record, ready_at}
 use Rattle.wasi_host.specs.Jobs.{with_job, begins_job, turned, turn_at, turn_job, turn_jobs}
 use Rattle.wasi_host.specs.StreamCalls.{converted, stream_on, write_on}
 use Rattle.wasi_walks.proofs.walks.Sockets.{listener_walks, finish_walks}
-use Rattle.wasi_walks.proofs.walks.States.{watched_record, OverWith, At, Starts, watch_record, streams_are, Put, there, Sets, watched_udp, watch_udp}
+use Rattle.wasi_walks.proofs.walks.States.{watched_record, OverWith, At, Starts, watch_record, streams_are, Put, there, Sets, watched_udp, watch_udp, watched_lookup}
 use Rattle.wasi_walks.proofs.walks.Udp.{release_udp_walks}
-use Rattle.wasi_host.specs.declared.kind.Kind.TheVariants.{Udp2, Incoming, Outgoing}
+use Rattle.wasi_walks.proofs.walks.Lookups.{drop_lookup_walks, turn_lookup_walks}
+use Rattle.wasi_host.specs.declared.kind.Kind.TheVariants.{Udp2, Incoming, Outgoing, Lookup}
 use Rattle.wasi_host.specs.Machine.{answered}
 use Rattle.wasi_walks.proofs.walks.Receives.{drop_incoming_walks, ready_incoming_walks, turn_receive_walks}
 use Rattle.wasi_walks.proofs.walks.Sends.{drop_outgoing_walks, turn_datagram_walks}
@@ -257,6 +258,9 @@ module _ {contexts : List WasiSocketsCtx} {line : ℕ} {origin : Step} {law : La
   dropped_walks m this (Outgoing place) true named e q =
       let now : Machine = record m { table = without_handle m.table this } in
       move (ReachesUdp _ this place named (ap udp_record_of e)) (move (Takes _ this) (move (Spends _ refl) (drop_outgoing_walks (first_ids line) now place (λ done. answered (with_store now done)) (λ done. refl))))
+  dropped_walks m this (Lookup place) true named e q =
+      let now : Machine = record m { table = without_handle m.table this } in
+      move (Takes _ this) (drop_lookup_walks now place (lookup_at m.store.records place) refl)
   dropped_walks m this Network true named e q = move (Takes _ this) (gives _ (Spends _ refl))
   dropped_walks m this (Input place) true named e q = move (Takes _ this) (gives _ (Spends _ refl))
   dropped_walks m this (Output place) true named e q =
@@ -282,6 +286,7 @@ module _ {contexts : List WasiSocketsCtx} {line : ℕ} {origin : Step} {law : La
   turn_job_walks m records (Write place) = turn_at_walks m records place (tcp2_at records place) refl
   turn_job_walks m records (Datagram place) = turn_datagram_walks m records place (open_at records place) refl
   turn_job_walks m records (jobs.Receive place) = turn_receive_walks m records place (open_at records place) refl
+  turn_job_walks m records (jobs.Lookup place) = turn_lookup_walks m records place (lookup_at records place) refl
 
   turn_jobs_walks : (m : Machine) (jobs : List HostJob) (records : List Record) → Walks law (Sets m records) (Sets m) (turn_jobs jobs records)
   turn_jobs_walks m [] records = give _
@@ -296,6 +301,7 @@ module _ {contexts : List WasiSocketsCtx} {line : ℕ} {origin : Step} {law : La
   subscribe_walks c s m (Some (Watched.Udp place)) e is = move (Spends _ refl) (and_then (mark (AUdpPollable c s (Watched.Udp place) is refl (watched_udp (kind_at m.table s) _ e))) (λ made. give _))
   subscribe_walks c s m (Some (Watched.Incoming place)) e is = move (Spends _ refl) (and_then (mark (AUdpPollable c s (Watched.Incoming place) is refl (watched_udp (kind_at m.table s) _ e))) (λ made. give _))
   subscribe_walks c s m (Some (Watched.Outgoing place)) e is = move (Spends _ refl) (and_then (mark (AUdpPollable c s (Watched.Outgoing place) is refl (watched_udp (kind_at m.table s) _ e))) (λ made. give _))
+  subscribe_walks c s m (Some (Watched.Lookup place)) e is = move (Spends _ refl) (and_then (mark (ALookupPollable c s place is (watched_lookup (kind_at m.table s) place e))) (λ made. give _))
   subscribe_walks c s m (Some (Watched.Socket place)) e is = move (Spends _ refl) (and_then (mark (APollable c s (Watched.Socket place) is refl (watched_record (kind_at m.table s) _ e))) (λ made. give _))
   subscribe_walks c s m (Some (Watched.Input place)) e is = move (Spends _ refl) (and_then (mark (APollable c s (Watched.Input place) is refl (watched_record (kind_at m.table s) _ e))) (λ made. give _))
   subscribe_walks c s m (Some (Watched.Output place)) e is = move (Spends _ refl) (and_then (mark (APollable c s (Watched.Output place) is refl (watched_record (kind_at m.table s) _ e))) (λ made. give _))
@@ -339,6 +345,7 @@ module _ {contexts : List WasiSocketsCtx} {line : ℕ} {origin : Step} {law : La
   ready_walks m p None e named = gives _ (Spends _ refl)
   ready_walks m p (Some (Watched.Udp place)) e named = gives _ (Spends _ refl)
   ready_walks m p (Some (Watched.Outgoing place)) e named = gives _ (Spends _ refl)
+  ready_walks m p (Some (Watched.Lookup place)) e named = gives _ (Spends _ refl)
   ready_walks m p (Some (Watched.Incoming place)) e named = move (ReachesUdp _ p place named (watch_udp (kind_at m.table p) (Watched.Incoming place) e)) (and_then (ready_incoming_walks m place (open_at m.store.records place) refl) (λ done. gives _ (Leaves _)))
   ready_walks m p (Some (Watched.Socket place)) e named = ready_tcp_walks m p (Watched.Socket place) refl e named
   ready_walks m p (Some (Watched.Input place)) e named = ready_tcp_walks m p (Watched.Input place) refl e named

@@ -1,0 +1,10 @@
+-- The law of the order in which datagrams are handed out.
+pub mod Late
+pub mod Polls
+pub mod Silent
+pub mod State
+pub mod Examples
+pub mod Law
+pub mod Handed
+pub mod Lines
+pub mod Runs

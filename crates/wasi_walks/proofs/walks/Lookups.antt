@@ -1,0 +1,145 @@
+-- Lookups of host names, as moves: one begins, a turn asks about it, its addresses are handed out, and it is dropped.
+use Rattle.std.specs.Prelude.{◌≡◌, ℕ, Bool, true, false, if◌then◌else◌, List, [], ◌∷◌, ◌++◌, Option, Some, None, Result, Ok, Err}
+use Rattle.wasi_addr.specs.declared.address.IpAddress.{IpAddress}
+use Rattle.wasi_addr.specs.declared.lookup.ErrorCode.{ErrorCode}
+use Rattle.wasi_addr.specs.declared.lookup.ErrorCode.TheVariants.{PermanentResolverFailure}
+use Rattle.wasi_names.specs.declared.name.HostName.{HostName}
+use Rattle.wasi_names.specs.declared.name.HostName.TheVariants.{Address, Domain}
+use Rattle.wasi_names.specs.Names.{found_host, host_for, name_is}
+use Rattle.wasi_walks.proofs.Words.{Asks, Ask, Call, Give, Machine, Step, Told, WasiSocketsCtx}
+use Rattle.wasi_walks.proofs.Words.{ap, bind, context_at, entry, inl, inr, is_network, kind_at, own_of, refl, subst, sym, with_store, ◌∙◌}
+use Rattle.wasi_world.specs.declared.asks.Polled.{Polled}
+use Rattle.wasi_world.specs.Typed.{told_names}
+use Rattle.wasi_host.specs.Machine.{answered, at_once}
+use Rattle.wasi_host.specs.NameLookup.{lookup_told, next_of, turn_lookup_at}
+use Rattle.wasi_host.specs.NameLookupCalls.{drop_lookup_at, lookup_handle, next_at, resolve_host, resolved}
+use Rattle.wasi_host.specs.Records.{lookup_at, lookup_put, lookup_pushed}
+use Rattle.wasi_host.specs.declared.name_lookup.Lookup.{Lookup}
+use Rattle.wasi_host.specs.declared.name_lookup.Lookup.TheVariants.{InProgress, Found, Failed}
+use Rattle.wasi_host.specs.declared.name_lookup.LookupOp.{LookupOp}
+use Rattle.wasi_host.specs.declared.records.Record.{Record}
+use Rattle.wasi_p2.specs.Lookup.{next_address_on, resolve_asks, resolved_host}
+use Rattle.wasi_walks.proofs.LookupLists.{lookup_front, lookup_get_set, lookup_last, lookup_split, lookup_stays, tcp_lookup_push, tcp_lookup_put, udp_lookup_push, udp_lookup_put}
+use Rattle.wasi_walks.proofs.walks.Moves.{ALookup, Finds, Here, Lists, LooksUp, SameSockets, Spends, Unused, with_records}
+use Rattle.wasi_walks.proofs.walks.Law.{Law, Walks, and_then, by_if, give, gives, mark, move}
+use Rattle.wasi_walks.proofs.walks.States.{Over, OverWith, Sets, Starts}
+
+-- == the sockets are the same
+same_sockets : {new : LookupOp → Type 0} (xs : List Record) → SameSockets new xs xs
+same_sockets xs = record { tcp = λ k. refl; udp = λ k. refl; stays = λ k e. e; looks = λ k op e. inl e }
+
+-- a lookup joins the records
+same_by_push : {new : LookupOp → Type 0} (xs : List Record) (l : Lookup) → ((op : LookupOp) → l ≡ InProgress op → new op) → SameSockets new xs (lookup_pushed xs l)
+same_by_push xs l n = record {
+  tcp = tcp_lookup_push xs l;
+  udp = udp_lookup_push xs l;
+  stays = lookup_front xs l;
+  looks = λ k op e. elim (lookup_split xs l k (InProgress op) e) [ inl p ↦ inl p | inr p ↦ inr (n op p.1) ];
+}
+
+-- a lookup changes, and is in progress only as it was
+same_by_put : {new : LookupOp → Type 0} (xs : List Record) (i : ℕ) (old l : Lookup) → lookup_at xs i ≡ Some old → ((op : LookupOp) → l ≡ InProgress op → old ≡ InProgress op) → SameSockets new xs (lookup_put xs i l)
+same_by_put xs i old l at n = record {
+  tcp = λ k. tcp_lookup_put xs i old l k at;
+  udp = λ k. udp_lookup_put xs i old l k at;
+  stays = lookup_stays xs i l;
+  looks = λ k op e. elim (lookup_get_set xs i l k (InProgress op) e) [ inl p ↦ inl (ap (lookup_at xs) p.0 ∙ (at ∙ ap (λ (x : Lookup). Some x) (n op p.1))) | inr p ↦ inl p ];
+}
+
+-- what was told leaves the same one in progress, or none
+same_asked : (op : LookupOp) (told : Polled (List IpAddress)) (now : LookupOp) → lookup_told op told ≡ InProgress now → op ≡ now
+same_asked op Polled.Pending now e = cc
+same_asked op (Polled.Ready names) now e = absurd (cc)
+same_asked op (Polled.Code c) now e = absurd (cc)
+
+-- and so does what is handed out
+next_asked : (l : Lookup) (op : LookupOp) → (next_of l).1 ≡ InProgress op → l ≡ InProgress op
+next_asked (InProgress now) op e = e
+next_asked (Found []) op e = absurd (cc)
+next_asked (Found (a ∷ left)) op e = absurd (cc)
+next_asked Failed op e = absurd (cc)
+
+-- what may be looked up
+allowed_host : (ctx : WasiSocketsCtx) (name host : List ℕ) → host_for ctx name ≡ Ok (Domain host) → (ctx.ip_name_lookup ≡ true) × (name_is name ≡ Some (Domain host))
+allowed_host ctx name host e = by_test ctx.ip_name_lookup refl (name_is name) refl e
+  where
+    by_test : (b : Bool) → ctx.ip_name_lookup ≡ b → (o : Option HostName) → name_is name ≡ o → (let r : Result HostName ErrorCode = if b then found_host o else Err PermanentResolverFailure in r ≡ Ok (Domain host)) → (ctx.ip_name_lookup ≡ true) × (name_is name ≡ Some (Domain host))
+    by_test true t (Some h) n e = let same : h ≡ Domain host = cc in (t, n ∙ ap (λ (x : HostName). Some x) same)
+    by_test true t None n e = absurd (cc)
+    by_test false t o n e = absurd (cc)
+
+-- the records with a lookup that was begun; one that failed at once has none
+abbrev begun_in : List Record → Lookup → List Record
+begun_in xs Failed = xs
+begun_in xs l = lookup_pushed xs l
+
+begun_same : {new : LookupOp → Type 0} (xs : List Record) (l : Lookup) → ((op : LookupOp) → l ≡ InProgress op → new op) → SameSockets new xs (begun_in xs l)
+begun_same xs Failed n = same_sockets xs
+begun_same xs l n = same_by_push xs l n
+
+module _ {contexts : List WasiSocketsCtx} {line : ℕ} {origin : Step} {law : Law contexts line origin} where
+  -- == a lookup begins
+  -- the network is asked for a host, and a record may be made of what it answers
+  looks_up : {A : Type 0} {h : Here} {end : A → Here} {host : List ℕ} {next : Told → Asks A} (records : Told → List Record) → LooksUp contexts host origin → ((told : Told) → SameSockets (λ op. op ≡ record { id = own_of line; host = host }) h.machine.store.records (records told))
+      → ((told : Told) → Walks law (with_records h (records told)) end (next told)) → Walks law h end (Ask (own_of line) (Call.Lookup host) next)
+  looks_up {h} {host} records l s k = record {
+    along = λ es i.
+        let a = law.lookups es h host l i in
+        (a.0, λ told fits. (k told).along (es ++ entry (own_of line) (Call.Lookup host) told ∷ []) (a.1 told fits (records told) (s told)));
+  }
+
+  module _ (m : Machine) (c network : ℕ) (name : List ℕ) (is : origin ≡ Step.Resolve c network name) where
+    -- its record was made, and it gets its handle
+    handle_walks : (l : Lookup) → Walks law (with_records (Over m) (lookup_pushed m.store.records l)) OverWith (lookup_handle m (own_of line) network l)
+    handle_walks l = and_then (mark (ALookup c network _ name is (lookup_last m.store.records l))) (λ made. gives _ (Lists _ _))
+
+    resolved_walks : (l : Lookup) → Walks law (with_records (Over m) (begun_in m.store.records l)) OverWith (resolved m (own_of line) network l)
+    resolved_walks Failed = give _
+    resolved_walks l = handle_walks l
+
+    host_walks : (host : HostName) → host_for (context_at contexts c) name ≡ Ok host → Walks law (Over m) OverWith (resolve_host m (own_of line) network host)
+    unfolding bind
+    host_walks (Address a) e = move (Finds _ _ (same_by_push m.store.records (Found (a ∷ [])) (λ op e. absurd (cc)))) (handle_walks (Found (a ∷ [])))
+    host_walks (Domain host) e =
+        let asked : LookupOp = record { id = own_of line; host = host } in
+        looks_up (λ told. begun_in m.store.records (lookup_told asked (told_names told))) (subst (LooksUp contexts host) (sym is) (allowed_host (context_at contexts c) name host e))
+        (λ told. begun_same m.store.records (lookup_told asked (told_names told)) (λ op e. sym (same_asked asked (told_names told) op e))) (λ told. resolved_walks (lookup_told asked (told_names told)))
+
+    by_host : (r : Result HostName ErrorCode) → host_for (context_at contexts c) name ≡ r → Walks law (Over m) OverWith (resolved_host m (own_of line) network r)
+    by_host (Ok host) e = host_walks host e
+    by_host (Err why) e = give _
+
+    pub resolve_walks : Walks law (Starts m Unused) OverWith (resolve_asks m (own_of line) (context_at contexts c) network name)
+    resolve_walks = move (Spends _ refl) (by_if (is_network (kind_at m.table network)) (λ yes. by_host (host_for (context_at contexts c) name) refl) (λ other. give _))
+
+  -- == addresses are handed out
+  next_walks : (m : Machine) (place : ℕ) (o : Option Lookup) → lookup_at m.store.records place ≡ o → Walks law (Starts m Unused) (λ now. Over now) (Give (with_store m (next_at m.store place o)).1)
+  next_walks m place None e = gives _ (Spends _ refl)
+  next_walks m place (Some l) e = move (Spends _ refl) (gives _ (Finds _ _ (same_by_put m.store.records place l (next_of l).1 e (next_asked l))))
+
+  pub next_address_walks : (m : Machine) (o : Option ℕ) → Walks law (Starts m Unused) (λ now. Over now) (Give (next_address_on m o).1)
+  next_address_walks m None = gives _ (Spends _ refl)
+  next_address_walks m (Some place) = next_walks m place (lookup_at m.store.records place) refl
+
+  -- == a turn
+  looked_walks : (m : Machine) (records : List Record) (place : ℕ) (l : Lookup) → lookup_at records place ≡ Some l → Walks law (Sets m records) (Sets m) (turn_lookup_at records place (Some l))
+  unfolding bind
+  looked_walks m records place (InProgress op) e = record {
+    along = λ es i.
+        let a = law.looks es (Sets m records) place op e i in (
+          a.0,
+          λ told fits.
+              let now : Lookup = lookup_told op (told_names told) in
+              law.moves (es ++ entry op.id (Call.Lookup op.host) told ∷ []) (Sets m records) _ (Finds _ _ (same_by_put records place (InProgress op) now e (λ x p. ap (λ (y : LookupOp). InProgress y) (same_asked op (told_names told) x p)))) (a.1 told fits),
+        );
+  }
+  looked_walks m records place l e = gives _ (Finds _ _ (same_by_put records place l l e (λ op p. p)))
+
+  pub turn_lookup_walks : (m : Machine) (records : List Record) (place : ℕ) (o : Option Lookup) → lookup_at records place ≡ o → Walks law (Sets m records) (Sets m) (turn_lookup_at records place o)
+  turn_lookup_walks m records place None e = give _
+  turn_lookup_walks m records place (Some l) e = looked_walks m records place l e
+
+  -- == a drop
+  pub drop_lookup_walks : (m : Machine) (place : ℕ) (o : Option Lookup) → lookup_at m.store.records place ≡ o → Walks law (Starts m Unused) OverWith (Give (answered (with_store m (at_once (drop_lookup_at m.store place o)))))
+  drop_lookup_walks m place None e = gives _ (Spends _ refl)
+  drop_lookup_walks m place (Some l) e = move (Spends _ refl) (move (Finds _ _ (same_by_put m.store.records place l Failed e (λ op p. absurd (cc)))) (gives _ (Lists _ _)))
