@@ -10,10 +10,11 @@ use Rattle.wasi_laws.proofs.Words.{Above, Accepts, Allows, Asks, Base, BaseBetwe
 use Rattle.wasi_laws.proofs.asks.Fronts.{is_calm, CalmOn, question_calm, udp_question_calm}
 use Rattle.wasi_laws.proofs.asks.Trees as tree
 use Rattle.wasi_laws.proofs.asks.Trees.{GoesOn, Undoes, Then, makes_by, turns_by, gives_up_by}
-use Rattle.wasi_laws.proofs.shapes.Shape.{ListenerShape, on_socket, Same}
-use Rattle.wasi_laws.proofs.shapes.Law.{Shaped, udp_shape, begun_shape, put_shape, moves_shape, polls_shape, turns_shape, created_shape}
+use Rattle.wasi_laws.proofs.shapes.Shape.{ListenerShape, on_socket, Same, SocketsStay, sockets_stay}
+use Rattle.wasi_laws.proofs.shapes.Law.{Shaped, udp_shape, begun_shape, put_shape, lookup_shape, moves_shape, polls_shape, turns_shape, created_shape}
 use Rattle.wasi_host.specs.Records.{tcp2_at, udp2_at}
 use Rattle.wasi_host.specs.declared.kind.Kind.TheVariants.{Udp2}
+use Rattle.wasi_host.specs.declared.records.Record.{Record}
 use Rattle.wasi_host.specs.declared.udp.OpenUdp.{OpenUdp}
 use Rattle.wasi_host.specs.declared.udp.Udp2Socket.{Udp2Socket}
 use Rattle.wasi_host.specs.Udp.{udp_side, with_udp_inner}
@@ -22,7 +23,7 @@ use Rattle.wasi_udp.specs.Create.{new_create, after_create as udp_after_create}
 use Rattle.wasi_udp.specs.Shape.{Socket as UdpShape}
 use Rattle.wasi_udp.specs.Socket.{after_local as udp_after_local, after_peer}
 use Rattle.wasi_walks.proofs.fits.UdpFits.{learnt_side}
-use Rattle.wasi_walks.proofs.walks.Moves.{put_udp, FoundUdp, part_of, udp_begun}
+use Rattle.wasi_walks.proofs.walks.Moves.{put_udp, FoundUdp, part_of, udp_begun, with_records}
 
 -- a close of this network socket leaves the record so
 pub data Closing (r : Tcp2Socket) : Tcp2Socket → OpId → Type 0 where
@@ -59,6 +60,8 @@ module _ (contexts : List WasiSocketsCtx) (line : ℕ) (origin : Step) where
     pub udp_same : (es : List Entry) (h : Here) (place : ℕ) (o now : OpenUdp) → FoundUdp h place (Udp2Socket.Open o) → now.inner.side ≡ o.inner.side → now ≡ with_udp_inner o now.inner → Inv es h → Inv es (put_udp h place (Udp2Socket.Open now))
     pub udp_creates : (es : List Entry) (h : Here) (ctx : WasiSocketsCtx) (family : SocketAddressFamily) → h.own ≡ Unused → Grounds h → Inv es h → Inv (es ++ entry (own_of line) (call.UdpCreate ctx.name family) told.Done ∷ []) (udp_begun h (Ok (new_create (own_of line) ctx.name family)))
     pub udp_closes : (es : List Entry) (h : Here) (place : ℕ) (o : OpenUdp) (op : OpId) → FoundUdp h place (Udp2Socket.Open o) → Grounds h → Inv es h → Then P (λ fs. Inv fs (put_udp h place (Udp2Socket.Closed o.inner.side))) es op (call.Close o.inner.side)
+    -- a lookup changes: other records, with the same sockets among them
+    pub lookups : (es : List Entry) (h : Here) (records : List Record) → SocketsStay h.machine.store.records records → Inv es h → Inv es (with_records h records)
     -- what is in progress: an operation, and a write
     pub polls : (es : List Entry) (h : Here) (op : Operation) (after : End × List Item → Here) → Held h op after → Grounds h → Inv es h → Allows P (λ fs ended. Inv fs (after ended)) es (poll_asks op)
     pub turns : (es : List Entry) (h : Here) (place : ℕ) (r : Tcp2Socket) (s : Streams) (job : Job) (now : Job → WriteState) → Found h place r → r.streams ≡ Some s → GoesOn s.writer job now → Grounds h → Inv es h
@@ -141,6 +144,8 @@ module _ (contexts : List WasiSocketsCtx) (line : ℕ) (origin : Step) where
       udp_creates = λ es h ctx family c may at u m b i. ((a.asks es h (own_of line) (call.UdpCreate ctx.name family) refl (OnNone refl) i.1).0, λ told f. (begun_shape h _ i.0, udp_created es h ctx family u (b, i.0) i.1 told f));
       udp_marks = λ es h place u g b i. allows_weaker P (λ fs made. Inv fs h) (λ fs made. Shaped h × Inv fs (record h { machine = record h.machine { table = made.1 } })) (λ fs made k. (i.0, a.tables fs h made.1 h.made k)) es _ (marked_by es h (udp_side u) (Udp2 place) None (Some (udp_side u)) i.1);
       stream_marks = λ es h place n handle kind m k e b i. allows_weaker P (λ fs made. Inv fs h) (λ fs made. Shaped h × Inv fs (record h { machine = record h.machine { table = made.1 } })) (λ fs made k. (i.0, a.tables fs h made.1 h.made k)) es _ (marked_by es h (own_of n) kind (Some handle) (udp_side_at (udp2_at h.machine.store.records place)) i.1);
+      lookups = λ es h host l b i. let x = a.asks es h (own_of line) (call.Lookup host) refl (OnNone refl) i.1 in (x.0, λ told f records s. (lookup_shape h records (sockets_stay s) i.0, a.lookups _ h records (sockets_stay s) (x.1 told)));
+      looks = λ es h place op g b i. let x = a.asks es h op.id (call.Lookup op.host) refl (OnNone refl) i.1 in (x.0, λ told f. (i.0, x.1 told));
       marks = λ es h kind parent sock m b i. allows_weaker P (λ fs made. Inv fs h) (λ fs made. Shaped h × Inv fs (record h { machine = record h.machine { table = made.1 } })) (λ fs made k. (i.0, a.tables fs h made.1 h.made k)) es _ (marked es h kind parent sock i.1);
       creates = λ es h ctx family c at u m b i.
           both P Anything _ _ es _ (allows_then P (Created h ctx family) (λ fs done. Inv fs (record h { machine = done.1; own = Used })) es (new_asks (own_of line) ctx family) (created_asks h.machine (own_of line)) (created es h ctx family u (b, i.0) i.1) (λ fs made k. joins fs h ctx family made u k (b, i.0)))

@@ -7,13 +7,14 @@ use Rattle.wasi_tcp.specs.declared.writer.WriteState.TheVariants as writing
 use Rattle.wasi_tcp.specs.declared.accept.AcceptStage.TheVariants as accept
 use Rattle.wasi_tcp.specs.declared.socket.TcpState.TheVariants as state
 use Rattle.wasi_host.specs.Records.{tcp2_put}
+use Rattle.wasi_host.specs.declared.records.Record.{Record}
 use Rattle.wasi_host.specs.declared.udp.OpenUdp.{OpenUdp}
 use Rattle.wasi_host.specs.declared.udp.Udp2Socket.{Udp2Socket}
 use Rattle.wasi_host.specs.declared.udp.UdpInProgress.{UdpInProgress}
 use Rattle.wasi_host.specs.Udp.{udp_bind_progress, udp_create_left, with_udp_progress}
 use Rattle.wasi_host.specs.UdpCreates.{with_create}
 use Rattle.wasi_udp.specs.Create.{Create, new_create}
-use Rattle.wasi_walks.proofs.walks.Moves.{put_udp, FoundUdp, udp_begun, begun_udp_bind, begun_udp_connect, sending_now, receiving_now, part_of, Names, IsUdpSettled, KeepsOp, SettlesSend, UdpPlain, receive_op, receiving_in, send_op, sending_in}
+use Rattle.wasi_walks.proofs.walks.Moves.{put_udp, with_records, Finds, FoundUdp, udp_begun, begun_udp_bind, begun_udp_connect, sending_now, receiving_now, part_of, Names, IsUdpSettled, KeepsOp, SettlesSend, UdpPlain, receive_op, receiving_in, send_op, sending_in}
 use Rattle.wasi_walks.proofs.walks.Moves.{UdpChanges, BeginsUdpBind, BeginsUdpConnect, Counts, SpendsNames, BeginsSend, BeginsReceive, UdpCreates, UdpBindsOn, UdpConnectsOn, SendsOn, ReceivesOn}
 use Rattle.wasi_world.specs.Operation.{Datagram}
 use Rattle.wasi_host.specs.Datagrams.{udp_connect_left, with_sending}
@@ -28,10 +29,10 @@ use Rattle.wasi_host.specs.declared.binding.InProgress.TheVariants as progress
 use Rattle.wasi_laws.proofs.Words.{Accepting, Allows, Asks, Awaits, BeginsAccept, BeginsBind, BeginsConnect, BeginsListen, BeginsWrite, BindsOn, Bool, Call, Changes, ChecksFirst, Closes, ClosesReader, Collects, Connection, Connects, Done, End, Entry, Forgets, Found, Given, Held, Here, InProgress, IpSocketAddress, IsGone, Item, Job, Joins, KeepsBinding, Lasts, LastsAfter, Left, List, Listening, Listens, Machine, Move, OpId, Opens, Operation, Option, Own, Permits, Plain, Reconnects, Refused, Reply, Some, Spends, Starts, Step, Streams, Tcp2Socket, TcpState, ToWrite, Told, Unlistens, Unused, Used, Waits, WasiSocketsCtx, Write, WriteState, WriterMoves, Writes, [], accept_ended, accept_operation, accepting_now, allows_weaker, ap, arith, arrived, asked_by, beginning_listen, begun_bind, begun_listen, bind_progress, closed_by, connect_ended, connect_first, connect_left, connect_operation, entry, false, first_state, inl, inr, is_same, job_after, joined, joining, listen_after, new_accept, new_job, new_record, new_socket, own_of, poll_asks, put, refl, run, second_of, subst, sym, then_closed, true, with_inner, with_progress, with_state, with_writer, written_by, ℕ, ◌++◌, ◌+◌, ◌∙◌, ◌∷◌, ◌≡◌, ◌≤◌, Ok, ◌⊎◌}
 use Rattle.wasi_laws.proofs.asks.Single.{each_ask, Single, Closing, ClosesSocket, ClosesListen, ClosesArrived, creating}
 use Rattle.wasi_laws.proofs.asks.Trees.{GoesOn, InWriting, InClosing}
-use Rattle.wasi_laws.proofs.shapes.Shape.{Same}
+use Rattle.wasi_laws.proofs.shapes.Shape.{Same, SocketsStay, sockets_stay}
 use Rattle.wasi_laws.proofs.order.Ordered.{Asked, gone_after, gone_along, gone_push, calm_may, asked_first, asked_one}
 use Rattle.wasi_laws.proofs.order.Rooms.{future_small, less_room, names_within, room_of, takes_line, takes_part}
-use Rattle.wasi_laws.proofs.order.Weights.{send_begins, receive_begins, wanted_checks, checks_of, if_ours, op_weight, state_ops, accept_ops, listening_ops, writer_ops, streams_ops, progress_ops, udp_progress_ops, op_in, total, half, record_weight, udp_weight, sockets_push, udps_push, beside, beside_udp, weight}
+use Rattle.wasi_laws.proofs.order.Weights.{send_begins, receive_begins, wanted_checks, checks_of, if_ours, op_weight, state_ops, accept_ops, listening_ops, writer_ops, streams_ops, progress_ops, udp_progress_ops, op_in, total, half, record_weight, udp_weight, sockets_same, sockets_push, udps_push, beside, beside_udp, weight}
 use Rattle.wasi_laws.proofs.order.Polls.{Within, poll_kept}
 
 module _ (it : OpId) where
@@ -51,6 +52,10 @@ module _ (it : OpId) where
 
     put_kept : (es : List Entry) (h : Here) (place : ℕ) (r now : Tcp2Socket) → Found h place r → ((i : Bool) → record_weight ours now i ≤ record_weight ours r i) → Kept line es h → Kept line es (put h place now)
     put_kept es h place r now g l k = let b = beside ours h.machine.store.records place r g in lighter es h (put h place now) (λ i. let p = l i in let x = b.was i in let y = b.now now i in omega (arith, p, x, y)) (omega arith) k
+
+    -- a lookup weighs nothing
+    looked : (es : List Entry) (h : Here) (records : List Record) → SocketsStay h.machine.store.records records → Kept line es h → Kept line es (with_records h records)
+    looked es h records s k = lighter es h (with_records h records) (λ i. let x = sockets_same ours h.machine.store.records records s.tcp s.udp i in omega (arith, x)) (omega arith) k
 
     -- an operation of the line begins in its room
     begins : (es : List Entry) (h now : Here) (op : Operation) (own : Own) → ((i : Bool) → op_weight ours op.who.id op.left i + room line own ≤ room line h.own) → ((i : Bool) → weight ours now i ≤ weight ours h i + op_weight ours op.who.id op.left i) → Kept line es h → Within (λ i. 0) (room line own) (gone_along ours 0 es) (weight ours now)
@@ -201,6 +206,7 @@ module _ (it : OpId) where
       moves es _ _ (BeginsReceive h place n o inc bound at g e own) k =
           let op = receive_start (part_of line n) o.inner bound in
           put_udp_begins es h place (Udp2Socket.Open o) (Udp2Socket.Open (receiving_now o inc op)) op (Names (n + 1)) g (takes_part it line n h.own op.left own (receive_begins bound)) (receiving_less o inc op) k
+      moves es _ _ (Finds h records s) k = looked es h records (sockets_stay s) k
       -- the others leave all that is looked at
       moves es _ _ _ k = k
 
@@ -338,6 +344,7 @@ module _ (it : OpId) where
           after es now (own_of line) (call.UdpCreate ctx.name family) told.Done refl
           (begins es h (record h { machine = with_create h.machine create }) create.operation Used (takes_line it line h.own (own_of line) create.operation.left (ap (room line) u) refl (omega arith)) (λ i. let x = udps_push ours h.machine.store.records (Udp2Socket.Creating create) i in omega (arith, x)) k);
       udp_closes = λ es h place o op g b k. (tt, λ told. after es (put_udp h place (Udp2Socket.Closed o.inner.side)) op (call.Close o.inner.side) told refl (put_udp_kept es h place (Udp2Socket.Open o) (Udp2Socket.Closed o.inner.side) g (λ i. omega arith) k));
+      lookups = looked;
       polls = λ es h op now x b k. polls es h op now x k;
       turns = λ es h place r s job now g e on b k.
           polled es h place r job.write (λ ended. with_writer r s (now (job_after job.write.who ended))) (state_ops r.inner.state) (listening_ops r.listening) (progress_ops r.in_progress) g (λ i. let x = streams_are r s i e in let y = (writes s.writer job now on i).0 in omega (arith, x, y))

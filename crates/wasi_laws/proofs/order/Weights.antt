@@ -6,7 +6,7 @@ use Rattle.wasi_world.specs.Operation.{UdpBind, UdpConnect, Send}
 use Rattle.wasi_host.specs.declared.udp.Udp2Socket.{Udp2Socket}
 use Rattle.wasi_host.specs.declared.udp.UdpInProgress.{UdpInProgress}
 use Rattle.wasi_host.specs.declared.udp.UdpInProgress.TheVariants as udp
-use Rattle.wasi_host.specs.Records.{tcp2_put, tcp2_at, tcp2_pushed, udp2_at, udp2_put, udp2_pushed}
+use Rattle.wasi_host.specs.Records.{tcp2_put, tcp2_at, tcp2_of, tcp2_pushed, udp2_at, udp2_of, udp2_put, udp2_pushed}
 use Rattle.wasi_host.specs.declared.records.Record.{Record}
 use Rattle.wasi_host.specs.declared.records.Record.TheVariants as rec
 use Rattle.wasi_host.specs.declared.listening.Listening.TheVariants as listening
@@ -19,7 +19,7 @@ use Rattle.wasi_udp.specs.Receive.{receive_first, wanted_in}
 use Rattle.wasi_udp.specs.Send.{send_first, send_left}
 use Rattle.wasi_udp.specs.declared.send.Destination.{Destination}
 use Rattle.wasi_walks.proofs.walks.Moves.{receiving_in, sending_in}
-use Rattle.wasi_laws.proofs.Words.{Accept, Accepting, Bind, Bool, Check, CheckArrival, CheckLocal, CheckPeer, Connect, Err, Here, IpSocketAddress, Item, List, Listen, Listening, None, Ok, OpId, Operation, Option, Receive, Refuse, Result, Some, Streams, Tcp2Socket, TcpState, WriteState, [], ap, arith, false, refl, suc, true, zero, ℕ, ◌+◌, ◌∷◌, ◌≡◌, ◌≤◌}
+use Rattle.wasi_laws.proofs.Words.{Accept, Accepting, Bind, Bool, Check, CheckArrival, CheckLocal, CheckPeer, Connect, Err, Here, IpSocketAddress, Item, List, Listen, Listening, None, Ok, OpId, Operation, Option, Receive, Refuse, Result, Some, Streams, Tcp2Socket, TcpState, WriteState, [], ap, arith, false, refl, suc, sym, true, zero, ℕ, ◌+◌, ◌∙◌, ◌∷◌, ◌≡◌, ◌≤◌}
 
 -- == the checks that are left
 -- what an item is to the checks of an operation: one, what they come before, or nothing
@@ -164,18 +164,37 @@ module _ (ours : OpId → Bool) where
   half_udp (Udp2Socket.Open o) = let a = half (udp_progress_ops o.in_progress) in let b = half (op_in o.connecting) in let c = half (op_in (sending_in o.outgoing)) in let d = half (op_in (receiving_in o.incoming)) in omega (arith, a, b, c, d)
   half_udp (Udp2Socket.Closed side) = omega arith
 
+  -- by the socket that a record is; a lookup weighs nothing
+  abbrev weight_in : Option Tcp2Socket → Option Udp2Socket → Bool → ℕ
+  weight_in (Some r) u i = record_weight r i
+  weight_in None (Some u) i = udp_weight u i
+  weight_in None None i = 0
+
   abbrev pub weight_of : Record → Bool → ℕ
-  weight_of (rec.Tcp2 r) i = record_weight r i
-  weight_of (rec.Udp2 u) i = udp_weight u i
+  weight_of x i = weight_in (tcp2_of (Some x)) (udp2_of (Some x)) i
 
   abbrev pub sockets_weight : List Record → Bool → ℕ
   sockets_weight [] i = 0
   sockets_weight (x ∷ rs) i = weight_of x i + sockets_weight rs i
 
+  -- the sockets alone weigh something
+  same_weight_in : (a b : Option Tcp2Socket) (c d : Option Udp2Socket) → a ≡ b → c ≡ d → (i : Bool) → weight_in a c i ≡ weight_in b d i
+  same_weight_in a b c d e f i = ap (λ (o : Option Tcp2Socket). weight_in o c i) e ∙ ap (λ (o : Option Udp2Socket). weight_in b o i) f
+
+  none_weigh : (rs : List Record) → ((k : ℕ) → tcp2_at rs k ≡ None) → ((k : ℕ) → udp2_at rs k ≡ None) → (i : Bool) → sockets_weight rs i ≡ 0
+  none_weigh [] t u i = refl
+  none_weigh (x ∷ rs) t u i = let a = same_weight_in (tcp2_of (Some x)) None (udp2_of (Some x)) None (t 0) (u 0) i in let k = none_weigh rs (λ n. t (suc n)) (λ n. u (suc n)) i in omega (arith, a, k)
+
+  pub sockets_same : (old now : List Record) → ((k : ℕ) → tcp2_at now k ≡ tcp2_at old k) → ((k : ℕ) → udp2_at now k ≡ udp2_at old k) → (i : Bool) → sockets_weight now i ≡ sockets_weight old i
+  sockets_same [] now t u i = none_weigh now t u i
+  sockets_same old [] t u i = sym (none_weigh old (λ k. sym (t k)) (λ k. sym (u k)) i)
+  sockets_same (x ∷ old) (y ∷ now) t u i = let a = same_weight_in (tcp2_of (Some y)) (tcp2_of (Some x)) (udp2_of (Some y)) (udp2_of (Some x)) (t 0) (u 0) i in let k = sockets_same old now (λ n. t (suc n)) (λ n. u (suc n)) i in omega (arith, a, k)
+
   pub half_sockets : (rs : List Record) → sockets_weight rs true ≤ sockets_weight rs false + sockets_weight rs false
   half_sockets [] = omega arith
   half_sockets (rec.Tcp2 r ∷ rs) = let a = half (state_ops r.inner.state) in let b = half (listening_ops r.listening) in let c = half (streams_ops r.streams) in let p = half (progress_ops r.in_progress) in let d = half_sockets rs in omega (arith, a, b, c, p, d)
   half_sockets (rec.Udp2 u ∷ rs) = let a = half_udp u in let d = half_sockets rs in omega (arith, a, d)
+  half_sockets (rec.Lookup l ∷ rs) = let d = half_sockets rs in omega (arith, d)
 
   pub sockets_push : (rs : List Record) (r : Tcp2Socket) (i : Bool) → sockets_weight (tcp2_pushed rs r) i ≡ sockets_weight rs i + record_weight r i
   sockets_push [] r i = omega arith
@@ -195,7 +214,7 @@ module _ (ours : OpId → Bool) where
   pub beside : (rs : List Record) (place : ℕ) (r : Tcp2Socket) → tcp2_at rs place ≡ Some r → Beside rs place r
   beside [] place r g = absurd (cc)
   beside (rec.Tcp2 x ∷ rs) zero r g = record { others = sockets_weight rs; halved = half_sockets rs; was = λ i. (let e : x ≡ r = cc in let s : record_weight x i ≡ record_weight r i = ap (λ (y : Tcp2Socket). record_weight y i) e in omega (arith, s)); now = λ q i. omega arith }
-  beside (rec.Udp2 x ∷ rs) zero r g = absurd (cc)
+  beside (_ ∷ rs) zero r g = absurd (cc)
   beside (x ∷ rs) (suc place) r g =
       let k = beside rs place r g in
       record {
@@ -216,6 +235,7 @@ module _ (ours : OpId → Bool) where
   beside_udp [] place u g = absurd (cc)
   beside_udp (rec.Tcp2 x ∷ rs) zero u g = absurd (cc)
   beside_udp (rec.Udp2 x ∷ rs) zero u g = record { others = sockets_weight rs; halved = half_sockets rs; was = λ i. (let e : x ≡ u = cc in let s : udp_weight x i ≡ udp_weight u i = ap (λ (y : Udp2Socket). udp_weight y i) e in omega (arith, s)); now = λ q i. omega arith }
+  beside_udp (rec.Lookup l ∷ rs) zero u g = absurd (cc)
   beside_udp (x ∷ rs) (suc place) u g =
       let k = beside_udp rs place u g in
       record {

@@ -19,14 +19,14 @@ use Rattle.wasi_walks.proofs.claims.Polls.{send_plain, receive_plain, udp_connec
 use Rattle.wasi_walks.proofs.fits.DatagramPolls.{wanted_left}
 use Rattle.wasi_walks.proofs.fits.Records.{FitConnecting, FitUdpProgress, ReceiveOn, SendOn, UdpBindOn, UdpConnectOn}
 use Rattle.wasi_walks.proofs.fits.UdpFits.{receives_on, sends_on}
-use Rattle.wasi_walks.proofs.walks.Moves.{Names, put_udp, FoundUdp, UdpChanges, BeginsUdpBind, BeginsUdpConnect, Counts, SpendsNames, BeginsSend, BeginsReceive, UdpCreates, UdpBindsOn, UdpConnectsOn, SendsOn, ReceivesOn}
+use Rattle.wasi_walks.proofs.walks.Moves.{Names, put_udp, with_records, Finds, FoundUdp, UdpChanges, BeginsUdpBind, BeginsUdpConnect, Counts, SpendsNames, BeginsSend, BeginsReceive, UdpCreates, UdpBindsOn, UdpConnectsOn, SendsOn, ReceivesOn}
 use Rattle.wasi_walks.specs.Waiting.{IsLeftOfBind}
 use Rattle.wasi_walks.specs.Waiting as binding
 use Rattle.wasi_laws.proofs.Words.{Allows, ArePlain, Asks, Awaits, Begins, BeginsAccept, BeginsBind, BeginsConnect, BeginsListen, BeginsWrite, BindsOn, Bool, Call, Changes, ClosesReader, Connects, Done, End, Entry, Fit, FitListening, FitProgress, Forgets, Found, Held, Here, HoldsAccept, HoldsConnect, IsAcceptOn, IsConnect, IsFrontOf, IsGone, IsLeftOfConnect, IsLeftOfListen, IsListen, Item, Job, Joins, List, Listens, Move, Named, NoWrite, None, Not, OpId, Opens, Operation, Option, Own, Quiet, Reconnects, Refused, SocketAddressFamily, Some, Spends, Step, Streams, Tcp2Socket, TcpState, ToWrite, Told, Unlistens, Unused, Used, Waits, WasiSocketsCtx, WriteState, Writes, [], accept_ended, accept_name, accept_plain, accepting_now, allows_keep, allows_weaker, ap, append-nil, append_assoc, bytes_left, closed_record, connect_ended, entry, false, fresh, if◌then◌else◌, inl, inr, is_same, job_after, joined, name_in, new_accept, new_job, new_record, new_socket, none_taken, opened_by, own_of, plain_poll, poll_asks, put, refl, rules, side_in, side_of, subst, sym, taken_fresh, taken_in, true, with_inner, with_listening, with_reader, with_state, with_writer, ℕ, ⊤, ◌+◌, ◌++◌, ◌∙◌, ◌∷◌, ◌≡◌}
 use Rattle.wasi_laws.proofs.asks.Fronts.{unwritten, polls_by}
 use Rattle.wasi_laws.proofs.asks.Single.{Single, Grounds, Closing, ClosesSocket, ClosesListen, ClosesArrived, creating}
 use Rattle.wasi_laws.proofs.asks.Trees.{GoesOn, InWriting, InClosing}
-use Rattle.wasi_laws.proofs.shapes.Shape.{same_side, not_same, some_same, WriterIs, HasStreams, StreamsShape, IsBegun, Lives, Follows, follows_plain, follows_same, follows_state, follows_quiet, follows_begun, follows_gone, gone_lacks}
+use Rattle.wasi_laws.proofs.shapes.Shape.{same_side, not_same, some_same, WriterIs, HasStreams, StreamsShape, IsBegun, Lives, Follows, follows_plain, follows_same, follows_state, follows_quiet, follows_begun, follows_gone, gone_lacks, SocketsStay, sockets_stay}
 use Rattle.wasi_laws.proofs.shapes.Law.{job_of}
 use Rattle.wasi_laws.proofs.permits.Agreeing.{JobAgrees, Agrees, Agree, Agreeing, agrees_put, agrees_moved, agrees_push, writer_agrees, agrees_beside}
 use Rattle.wasi_laws.proofs.permits.Taken.{After, write_law, taken_push, Fronts, quiet_keep, Accounts}
@@ -137,6 +137,10 @@ module _ (side : OpId) (given : List ℕ) where
   push_udp_kept : (es : List Entry) (records : List Record) (now : Udp2Socket) (own : Own) → Permitted es records own → Permitted es (udp2_pushed records now) own
   push_udp_kept es records now own k = record { held = k.held; stands = agrees_beside side (taken_in side es) k.held records (udp2_pushed records now) (tcp_of_push records now) (tcp_in_push records now) k.stands; owes = k.owes }
 
+  -- a lookup was let write nothing
+  looked : (es : List Entry) (h : Here) (records : List Record) → SocketsStay h.machine.store.records records → Kept es h → Kept es (with_records h records)
+  looked es h records s k = record { held = k.held; stands = agrees_beside side (taken_in side es) k.held h.machine.store.records records (λ i r e. sym (s.tcp i) ∙ e) (λ i r e. s.tcp i ∙ e) k.stands; owes = k.owes }
+
   -- what the line has begun changes, and it is let write as much as before
   owns : (es : List Entry) (records : List Record) (own was now : Own) → own ≡ was → ((held : List ℕ) → Owes was held → Owes now held) → Permitted es records own → Permitted es records now
   owns es records own was now e f k = record { held = k.held; stands = k.stands; owes = f k.held (subst (λ (o : Own). Owes o k.held) e k.owes) }
@@ -207,6 +211,7 @@ module _ (side : OpId) (given : List ℕ) where
       moves es _ _ (BeginsUdpConnect h place o a at g to bound own) b k = spends es _ h.own own (put_udp_kept es h place (Udp2Socket.Open o) (Udp2Socket.Open _) g k)
       moves es _ _ (BeginsSend h place part o out d bound at g e is known own) b k = owns es _ h.own (Names part) (Names (part + 1)) own (λ held p. p) (put_udp_kept es h place (Udp2Socket.Open o) (Udp2Socket.Open _) g k)
       moves es _ _ (BeginsReceive h place part o inc bound at g e own) b k = owns es _ h.own (Names part) (Names (part + 1)) own (λ held p. p) (put_udp_kept es h place (Udp2Socket.Open o) (Udp2Socket.Open _) g k)
+      moves es _ _ (Finds h records s) b k = looked es h records (sockets_stay s) k
       -- the others leave all that is looked at
       moves es _ _ _ b k = k
 
@@ -282,6 +287,7 @@ module _ (side : OpId) (given : List ℕ) where
             let m = asked es h (own_of line) (call.UdpCreate ctx.name family) told.Done tt k in
             spends _ _ h.own u (push_udp_kept _ h.machine.store.records (Udp2Socket.Creating (new_create (own_of line) ctx.name family)) h.own m);
         udp_closes = λ es h place o op g b k. (front es h k, λ told. asked es (put_udp h place (Udp2Socket.Closed o.inner.side)) op (call.Close o.inner.side) told tt (put_udp_kept es h place (Udp2Socket.Open o) (Udp2Socket.Closed o.inner.side) g k));
+        lookups = looked;
         polls = λ es h op after x b k. allows_weaker (Fronts side given) (λ fs ended. Kept fs h × ArePlain ended.1) (λ fs ended. Kept fs (after ended)) (λ fs ended y. ended_kept fs h op after ended x b.0.1 y.0) es (poll_asks op)
             (quiet_kept (λ ended. ArePlain ended.1) es h (poll_asks op) k (plain_poll op es (held_plain h op after x b.0.0)));
         turns = λ es h place r s job now g e on b k. turns es h place r s s.writer job now g e (subst (StreamsShape r.inner.state) e (b.1 place r g).0) refl on b.0.1 k;

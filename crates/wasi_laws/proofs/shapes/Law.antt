@@ -6,13 +6,13 @@ use Rattle.wasi_walks.proofs.fits.Polls.{Anything}
 use Rattle.wasi_laws.proofs.Words.{Accepts, Allows, Awaits, BeginsAccept, BeginsBind, BeginsConnect, BeginsListen, BeginsWrite, BindsOn, Changes, CloseLast, ClosesReader, Connects, Done, End, Entry, Err, ErrorCode, Forgets, Found, Given, Held, Here, IsGone, Item, Job, Joins, LastAsk, List, Listener, Listening, Listens, Move, None, NothingLast, Ok, OpId, Opens, Operation, Option, Reconnects, Result, ShutdownLast, Socket, SocketAddressFamily, Some, Step, Streams, Tcp2, Tcp2Socket, TcpState, Unclosed, Unlistens, Used, WasiSocketsCtx, Who, WriteState, Writes, accepting_now, allows_then, allows_weaker, ap, bind, bind_progress, connect_ended, create_asks, created_asks, get_set, get_split, inl, inr, job_after, joined, last_ask, length, listen_after, make_asks, new_asks, new_record, opened_by, own_of, poll_asks, put, refl, side_of, subst, sym, true, turn_asks, whatever, with_inner, with_progress, with_reader, with_state, with_writer, ℕ, ⊤, ◌∙◌, ◌≡◌}
 use Rattle.wasi_laws.proofs.asks.Fronts.{Becomes, ToldAddress, PollLaw, polls_by}
 use Rattle.wasi_laws.proofs.asks.Trees.{GoesOn, InWriting, InClosing, turns_by}
-use Rattle.wasi_laws.proofs.shapes.Shape.{IsOfWrite, AreOfWrite, end_write, JobIs, WriterIs, writer_moves, HasStreams, StreamsShape, ListenerShape, RecordShape, Unconnected, bare, sideless, restated}
+use Rattle.wasi_laws.proofs.shapes.Shape.{IsOfWrite, AreOfWrite, end_write, JobIs, WriterIs, writer_moves, HasStreams, StreamsShape, ListenerShape, RecordShape, Unconnected, bare, sideless, restated, SocketsStay, sockets_stay}
 use Rattle.wasi_host.specs.Records.{tcp2_at, tcp2_put, tcp2_pushed}
 use Rattle.wasi_host.specs.declared.udp.Udp2Socket.{Udp2Socket}
 use Rattle.wasi_host.specs.Udp.{udp_create_left}
 use Rattle.wasi_udp.specs.Create.{Create}
 use Rattle.wasi_walks.proofs.UdpLists.{tcp_of_put, tcp_of_push}
-use Rattle.wasi_walks.proofs.walks.Moves.{put_udp, udp_begun, UdpChanges, BeginsUdpBind, BeginsUdpConnect, BeginsSend, BeginsReceive, UdpCreates, UdpBindsOn, UdpConnectsOn, SendsOn, ReceivesOn}
+use Rattle.wasi_walks.proofs.walks.Moves.{put_udp, udp_begun, with_records, Finds, UdpChanges, BeginsUdpBind, BeginsUdpConnect, BeginsSend, BeginsReceive, UdpCreates, UdpBindsOn, UdpConnectsOn, SendsOn, ReceivesOn}
 use Rattle.wasi_host.specs.declared.records.Record.{Record}
 
 -- what is left of a write takes no other form
@@ -106,6 +106,10 @@ pub begun_shape : (h : Here) (made : Result Create ErrorCode) → Shaped h → S
 begun_shape h (Ok create) i = λ n r e. i n r (tcp_of_push h.machine.store.records (Udp2Socket.Creating create) n r e)
 begun_shape h (Err c) i = i
 
+-- a lookup has no shape
+pub lookup_shape : (h : Here) (records : List Record) → SocketsStay h.machine.store.records records → Shaped h → Shaped (with_records h records)
+lookup_shape h records s i = λ place r e. i place r (sym (s.tcp place) ∙ e)
+
 push_shape : (records : List Record) (now : Tcp2Socket) → RecordShape now → ((place : ℕ) (r : Tcp2Socket) → tcp2_at records place ≡ Some r → RecordShape r) → (place : ℕ) (r : Tcp2Socket) → tcp2_at (tcp2_pushed records now) place ≡ Some r → RecordShape r
 push_shape records now k i place r e = elim (get_split records now place r e) [ inl p ↦ i place r p | inr p ↦ subst RecordShape p k ]
 
@@ -140,6 +144,7 @@ module _ (contexts : List WasiSocketsCtx) (line : ℕ) (origin : Step) where
   moves_shape _ _ (BeginsUdpConnect h place o a at g to bound own) i = udp_shape h place _ i
   moves_shape _ _ (BeginsSend h place part o out d bound at g e is known own) i = udp_shape h place _ i
   moves_shape _ _ (BeginsReceive h place part o inc bound at g e own) i = udp_shape h place _ i
+  moves_shape _ _ (Finds h records s) i = lookup_shape h records (sockets_stay s) i
   -- the others leave all that is looked at
   moves_shape _ _ _ i = i
 

@@ -1,11 +1,15 @@
 -- What holds of a record: its streams are those of its connection, its writer writes on by itself to that network socket alone,
 -- and it listens by its socket's network socket.
 use Rattle.std.proofs.lemmas.Bool.{eqb-true}
+use Rattle.wasi_host.specs.Records.{tcp2_at, udp2_at}
+use Rattle.wasi_host.specs.declared.name_lookup.LookupOp.{LookupOp}
+use Rattle.wasi_host.specs.declared.records.Record.{Record}
 use Rattle.wasi_tcp.specs.declared.halves.TcpReceiveStream.{TcpReceiveStream}
 use Rattle.wasi_tcp.specs.declared.reader.ReadState.TheVariants as reading
 use Rattle.wasi_tcp.specs.declared.socket.Connection.{Connection}
 use Rattle.wasi_tcp.specs.declared.socket.TcpState.TheVariants as state
 use Rattle.wasi_tcp.specs.declared.writer.WriteState.TheVariants as writing
+use Rattle.wasi_walks.proofs.walks.Moves.{SameSockets}
 use Rattle.wasi_laws.proofs.Words.{Accepts, Begins, Bool, Closes, Collects, Done, End, Found, Here, IsOn, Item, Job, Last, Lasts, LastsAfter, List, Listening, Named, None, OfReader, OfSocket, OfWriter, OpId, Option, Permits, Plain, Refused, ShutdownLast, ShutdownSend, Some, Streams, Tcp2Socket, TcpState, Unclosed, Waits, Write, WriteState, WriterMoves, [], ap, arith, beginning_listen, closed_by, closing_side, false, inl, inr, is_same, no_some, own_of, refl, side_in, side_of, subst, sym, then_closed, true, writer_side, writing_side, written_by, ℕ, ⊤, ◌&&◌, ◌==◌, ◌∙◌, ◌∷◌, ◌≡◌, ◌⊎◌}
 
 pub some_same : {A : Type 0} (a b : A) → Some a ≡ Some b → a ≡ b
@@ -200,3 +204,12 @@ follows_gone r now s d n = record { side = s; lives = λ x v. absurd (gone_lacks
 -- the listen that begins has the network socket that its socket had
 pub follows_begun : (line : ℕ) (h : Here) (place : ℕ) (r : Tcp2Socket) (side : OpId) → Found h place r → r.inner.state ≡ state.Default side → Named line h → Follows r (beginning_listen (own_of line) side r)
 follows_begun line h place r side g d n = record { side = refl; lives = λ x v. (v.0, inl (ap side_in d ∙ (sym (n.named side place r g (ap side_in d)) ∙ v.0))) }
+
+-- == where a lookup changes
+-- The sockets among the records are as they were.
+pub record SocketsStay (old now : List Record) : Type 0 where
+  pub tcp : (k : ℕ) → tcp2_at now k ≡ tcp2_at old k
+  pub udp : (k : ℕ) → udp2_at now k ≡ udp2_at old k
+
+pub sockets_stay : {new : LookupOp → Type 0} {old now : List Record} → SameSockets new old now → SocketsStay old now
+sockets_stay s = record { tcp = s.tcp; udp = s.udp }

@@ -3,11 +3,12 @@ use Rattle.wasi_world.specs.declared.call.Call.TheVariants as call
 use Rattle.wasi_world.specs.declared.call.Told.TheVariants as told
 use Rattle.wasi_tcp.specs.declared.listener.Accepting.TheVariants as accepting
 use Rattle.wasi_tcp.specs.declared.socket.TcpState.TheVariants as state
+use Rattle.wasi_walks.proofs.claims.Law.{own_of_parts}
 use Rattle.wasi_laws.proofs.Words.{Accepting, Accepts, Allows, Asks, AsksOpenSockets, Awaits, Begins, BeginsAccept, BeginsBind, BeginsConnect, BeginsListen, BeginsWrite, BindsOn, Call, Changes, CloseLast, ClosesReader, Connection, Connects, Created, Done, End, Entry, Fit, FitListening, FitProgress, Forgets, Found, Given, Has, Held, Here, HoldsAccept, IpSocketAddress, IsAcceptOn, IsAskedOpen, IsGone, IsMade, IsOpen, Item, Job, Joins, Left, List, Listener, Listening, Listens, Machine, Move, Named, None, Not, NothingLast, OpId, Opens, Operation, Own, Reconnects, Refused, Reply, ShutdownLast, SocketAddressFamily, Some, Spends, Starts, Step, Streams, Tcp2Socket, ToWrite, Told, Unlistens, Unused, Used, Waits, WasiSocketsCtx, WriteState, Writes, [], accept_ended, accept_name, accepting_now, ap, append_assoc, arith, arrived, closed_record, connect_ended, cut_of, entry, first_state, has_back, has_last, inl, inr, job_after, joined, listen_after, name_in, new_accept, new_record, new_socket, next_of, no_some, own_of, poll_asks, put, refl, run, second_of, side_in, side_of, socket_of, subst, sym, true, with_inner, with_listening, with_state, with_writer, ℕ, ◌++◌, ◌+◌, ◌∙◌, ◌∷◌, ◌≡◌, ◌≤◌, ◌⊎◌, Ok}
 use Rattle.wasi_laws.proofs.asks.Fronts.{is_calm, IsGivenMade}
 use Rattle.wasi_laws.proofs.asks.Single.{each_ask, OnUdp, Single, Closing, ClosesSocket, ClosesListen, ClosesArrived, IsAskedOn, OnNone, OnSide, creating}
 use Rattle.wasi_laws.proofs.asks.Trees.{GoesOn}
-use Rattle.wasi_laws.proofs.shapes.Shape.{some_same, WriterIs, HasStreams, StreamsShape, ListenerShape, IsBegun, Follows, follows_plain, follows_same, follows_state, follows_quiet, follows_begun, gone_lacks, follows_gone}
+use Rattle.wasi_laws.proofs.shapes.Shape.{some_same, WriterIs, HasStreams, StreamsShape, ListenerShape, IsBegun, Follows, follows_plain, follows_same, follows_state, follows_quiet, follows_begun, gone_lacks, follows_gone, sockets_stay}
 use Rattle.wasi_laws.proofs.shapes.Law.{job_of}
 use Rattle.wasi_host.specs.declared.udp.OpenUdp.{OpenUdp}
 use Rattle.wasi_host.specs.declared.udp.Udp2Socket.{Udp2Socket}
@@ -16,8 +17,8 @@ use Rattle.wasi_udp.specs.Create.{Create, new_create}
 use Rattle.wasi_walks.proofs.fits.Records.{FitConnecting, FitUdpProgress, ReceiveOn, SendOn, UdpBindOn, UdpConnectOn}
 use Rattle.wasi_walks.proofs.fits.UdpFits.{connected_side, receives_on, sends_on}
 use Rattle.wasi_laws.specs.Opened.{UdpCreated}
-use Rattle.wasi_walks.proofs.walks.Moves.{Names, put_udp, FoundUdp, udp_begun, UdpChanges, BeginsUdpBind, BeginsUdpConnect, Counts, SpendsNames, BeginsSend, BeginsReceive, UdpCreates, UdpBindsOn, UdpConnectsOn, SendsOn, ReceivesOn}
-use Rattle.wasi_laws.proofs.sockets.Opened.{put_udp_open, push_udp_open, udp_closed_put, Grows, grows_none, grows_entry, RecordOpen, name_of, changed, HasIt, one_more, opened_more, put_open, push_open, later, Kept, closed_put}
+use Rattle.wasi_walks.proofs.walks.Moves.{Names, put_udp, FoundUdp, Finds, udp_begun, UdpChanges, BeginsUdpBind, BeginsUdpConnect, Counts, SpendsNames, BeginsSend, BeginsReceive, UdpCreates, UdpBindsOn, UdpConnectsOn, SendsOn, ReceivesOn}
+use Rattle.wasi_laws.proofs.sockets.Opened.{put_udp_open, push_udp_open, looked_open, udp_closed_put, Grows, grows_none, grows_entry, RecordOpen, name_of, changed, HasIt, one_more, opened_more, put_open, push_open, later, Kept, closed_put}
 use Rattle.wasi_laws.proofs.sockets.Polls.{ClosesAt, AskedOpen, calm_closes, PollLeaves, polled, calm_end}
 
 abbrev accept_of : Listening → Accepting
@@ -48,14 +49,10 @@ module _ (line : ℕ) where
   by_own (Names part) = omega arith
   by_own (ToWrite at bytes) = omega arith
 
-  -- the names of parts are none of its own
-  of_parts : (own now : Own) → own ≡ now → next_of line now ≡ line → next_of line own ≤ line
-  of_parts own now e l = let z : next_of line own ≡ line = ap (next_of line) e ∙ l in omega (arith, z)
-
   module _ {origin : Step} where
     moves : (es : List Entry) (h now : Here) → Move line origin h now → Named line h → Kept line es h → Kept line es now
     moves es _ _ (Spends h e) n i = later es (line + 1) (by_own h.own) i
-    moves es _ _ (Counts h e) n i = later es line (of_parts h.own Unused e refl) i
+    moves es _ _ (Counts h e) n i = later es line (own_of_parts line h.own Unused e refl) i
     moves es _ _ (SpendsNames h part e) n i = later es (line + 1) (by_own h.own) i
     moves es _ _ (Changes h place r now g p) n i = put_kept es h place r now g (follows_plain r now p) (inl p.listening) i
     moves es _ _ (ClosesReader h place r s g e) n i = put_kept es h place r _ g (record { side = refl; lives = λ x v. v }) (inl refl) i
@@ -83,8 +80,9 @@ module _ (line : ℕ) where
     moves es _ _ (UdpChanges h place o now g p) n i = put_udp_open es place (Udp2Socket.Open now) (subst (IsOpen es) (sym p.side) (i.udps place (Udp2Socket.Open o) g)) i
     moves es _ _ (BeginsUdpBind h place o a at g to idle own) n i = later es (line + 1) (by_own h.own) (put_udp_open es place (Udp2Socket.Open _) (i.udps place (Udp2Socket.Open o) g) i)
     moves es _ _ (BeginsUdpConnect h place o a at g to bound own) n i = later es (line + 1) (by_own h.own) (put_udp_open es place (Udp2Socket.Open _) (i.udps place (Udp2Socket.Open o) g) i)
-    moves es _ _ (BeginsSend h place part o out d bound at g e is known own) n i = later es line (of_parts h.own (Names part) own refl) (put_udp_open es place (Udp2Socket.Open _) (i.udps place (Udp2Socket.Open o) g) i)
-    moves es _ _ (BeginsReceive h place part o inc bound at g e own) n i = later es line (of_parts h.own (Names part) own refl) (put_udp_open es place (Udp2Socket.Open _) (i.udps place (Udp2Socket.Open o) g) i)
+    moves es _ _ (BeginsSend h place part o out d bound at g e is known own) n i = later es line (own_of_parts line h.own (Names part) own refl) (put_udp_open es place (Udp2Socket.Open _) (i.udps place (Udp2Socket.Open o) g) i)
+    moves es _ _ (BeginsReceive h place part o inc bound at g e own) n i = later es line (own_of_parts line h.own (Names part) own refl) (put_udp_open es place (Udp2Socket.Open _) (i.udps place (Udp2Socket.Open o) g) i)
+    moves es _ _ (Finds h records s) n i = looked_open es records (sockets_stay s) i
     -- the others leave all that is looked at
     moves es _ _ _ n i = i
 
@@ -235,6 +233,7 @@ module _ (line : ℕ) where
       udp_same = λ es h place o now g s e i. put_udp_open es place (Udp2Socket.Open now) (subst (IsOpen es) (sym s) (i.udps place (Udp2Socket.Open o) g)) i;
       udp_creates = λ es h ctx family u b i. udp_created es h ctx family u i;
       udp_closes = λ es h place o op g b i. (i.udps place (Udp2Socket.Open o) g, λ told. udp_closed_put line (λ x. o.inner.side ≡ x) es _ h place (Udp2Socket.Open o) g (λ x d. d) (one_close es op o.inner.side told) b.0.1 i);
+      lookups = λ es h records s i. looked_open es records s i;
       polls = λ es h op after k b i. polls es h op after k b.0.0 (λ place r g. (b.1 place r g).1) b.0.1 i;
       turns = λ es h place r s job now g e on b i. turns es h place r s s.writer job now g (subst (StreamsShape r.inner.state) e (b.1 place r g).0) refl on b.0.1 i;
     }

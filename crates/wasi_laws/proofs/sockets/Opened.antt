@@ -3,7 +3,7 @@
 use Rattle.wasi_world.specs.declared.call.Call.TheVariants as call
 use Rattle.wasi_tcp.specs.declared.listener.Accepting.TheVariants as accepting
 use Rattle.wasi_laws.proofs.Words.{Accepts, Call, Claims, Created, Entry, Found, HandedOver, Here, IpSocketAddress, IsClosed, IsMade, IsOpen, List, Listener, Named, None, OpId, Some, Tcp2Socket, Told, [], accept_name, ap, arith, entry, get_set, get_split, has_front, has_split, inl, inr, name_in, next_of, no_some, put, refl, set_there, subst, sym, ℕ, ◌++◌, ◌<◌, ◌∙◌, ◌∷◌, ◌≡◌, ◌≤◌, ◌⊎◌, ⊤}
-use Rattle.wasi_laws.proofs.shapes.Shape.{some_same, Lives, Follows}
+use Rattle.wasi_laws.proofs.shapes.Shape.{some_same, Lives, Follows, SocketsStay}
 use Rattle.wasi_host.specs.Records.{tcp2_at, tcp2_put, tcp2_pushed, udp2_at, udp2_put, udp2_pushed}
 use Rattle.wasi_host.specs.declared.udp.Udp2Socket.{Udp2Socket}
 use Rattle.wasi_host.specs.Udp.{udp_side}
@@ -130,6 +130,10 @@ module _ {bound : ℕ} {records : List Record} where
 
   pub push_udp_open : (es : List Entry) (now : Udp2Socket) → UdpOpen es now → Opened bound es records → Opened bound es (udp2_pushed records now)
   push_udp_open es now k i = record { records = λ n r e. i.records n r (tcp_of_push records now n r e); udps = λ n u e. elim (udp_split records now n u e) [ inl p ↦ i.udps n u p | inr p ↦ subst (UdpOpen es) p.0 k ]; older = i.older }
+
+  -- a lookup has no network socket
+  pub looked_open : (es : List Entry) (now : List Record) → SocketsStay records now → Opened bound es records → Opened bound es now
+  looked_open es now s i = record { records = λ n r e. i.records n r (sym (s.tcp n) ∙ e); udps = λ n u e. i.udps n u (sym (s.udp n) ∙ e); older = i.older }
 
   -- more may be closed by now
   pub later : (es : List Entry) (more : ℕ) → bound ≤ more → Opened bound es records → Opened more es records
