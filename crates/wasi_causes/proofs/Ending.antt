@@ -1,7 +1,10 @@
 -- What is released: by a shutdown, by a drop of a handle, and what a drop leaves.
 use Rattle.wasi_causes.proofs.Words.{◌≡◌, Bool, true, false, if◌then◌else◌, List, [], ◌∷◌, ◌++◌, Option, Some, None, refl, sym, ap, ◌∙◌, ⊤, ◌⊎◌, append-nil, append_assoc, ℕ, Result, inl, inr, Ok, Err, subst, ◌≢◌, IsSome, IpSocketAddress, ShutdownType, Receive, Send, Both, give_streams_up, gone, release_asks, released, release_at, Stop, Trap, is_on, other_jobs, kind_at, output_of, has_no_child, without_handle, taken_out, place_of, give_up_asks, socket_at, own_of, with_store, answered, at_once, drop_kind, drop_taken, drop_asks, shut_streams, shut_record, shutdown_at, Records, Kind, Tcp2, Output, Listening, Machine, Streams, Tcp2Socket, shutdown_on, set_there, record_at, putting, record_in, OfRecord, Has, done_reply, answer_reply, Each, no_fields, OutputWaits, WritesOn, ToldToWait, WriterWaits, Field, Reply, in_hand, refuse_in, Job, is_over, held_side, give_up_in, reader_shutdown_asks, Socket, side_of, writer_side, writer_shutdown_asks, side_up_asks, Accepting, ReadState, WriteState, Give, bind, End, Done, Who, Operation, ask_close, Entry, OpId, Answer, Ready, Pending, HasChildren, NoSuchHandle, Full, NotPermitted, WasiSocketsCtx}
 use Rattle.wasi_machine.specs.Machine.{first_ids}
-use Rattle.wasi_host.specs.Records.{tcp2_at, udp2_at, open_at}
+use Rattle.wasi_host.specs.Records.{tcp2_at, udp2_at, open_at, lookup_at}
+use Rattle.wasi_host.specs.NameLookupCalls.{drop_lookup_at}
+use Rattle.wasi_host.specs.declared.name_lookup.Lookup.{Lookup}
+use Rattle.wasi_host.specs.declared.kind.Kind.TheVariants as kinds
 use Rattle.wasi_host.specs.Datagrams.{sends as still_sends}
 use Rattle.wasi_host.specs.DatagramCalls.{drop_incoming_at, drop_outgoing_at, drop_outgoing_by, without_receives}
 use Rattle.wasi_host.specs.declared.udp.OpenUdp.{OpenUdp}
@@ -263,12 +266,18 @@ module _ (contexts : List WasiSocketsCtx) (m : Machine) (line c handle : ℕ) wh
     outgoing_by place is None at = ((apart (λ e. cc) no_children, asks_none (kind_at m.table handle)), (tt, (refl, rw is (λ o there. absurd (cc)))))
     outgoing_by place is (Some o) at = outgoing_left place is o at (still_sends o.outgoing) refl
 
+    -- == of a lookup
+    lookup_left : (place : ℕ) → IsKind (kinds.Lookup place) → (o : Option Lookup) → lookup_at m.store.records place ≡ o → DropRow [] (answered (with_store (without m handle) (at_once (drop_lookup_at m.store place o))))
+    lookup_left place is None at = ((apart (λ e. cc) no_children, asks_none (kind_at m.table handle)), (tt, (refl, rw is (λ l there. absurd (cc)))))
+    lookup_left place is (Some l) at = ((apart (λ e. cc) no_children, asks_none (kind_at m.table handle)), (tt, (refl, rw is (λ q there. record { quiet = refl; left = refl; job = no_job place m.store.jobs }))))
+
     by_kind : (kind : Kind) → IsKind kind → Meets DropRow [] (drop_kind (without m handle) (first_ids line) kind)
     by_kind (Tcp2 place) is = onto _ (by_record place is (tcp2_at m.store.records place) refl)
     by_kind (Udp2 place) is = onto _ (udp_by_record place is (udp2_at m.store.records place) refl)
     by_kind (Output place) is = onto _ (widen (of_output place is) (outputs m.store (first_ids line) place (tcp2_at m.store.records place) refl))
     by_kind (Incoming place) is = ends (incoming_left place is (open_at m.store.records place) refl)
     by_kind (Outgoing place) is = ends (outgoing_by place is (open_at m.store.records place) refl)
+    by_kind (kinds.Lookup place) is = ends (lookup_left place is (lookup_at m.store.records place) refl)
     by_kind _ is = ends ((apart (λ e. cc) no_children, asks_none (kind_at m.table handle)), (tt, (refl, rw is refl)))
 
   by_children : (kind : Kind) → IsKind kind → (b : Bool) → has_no_child m.table handle ≡ b → Meets DropRow [] (drop_taken m (first_ids line) (if b then (Ok kind, without_handle m.table handle) else (Err (Trap HasChildren), m.table)))
@@ -337,6 +346,7 @@ module _ (contexts : List WasiSocketsCtx) (m : Machine) (line c handle : ℕ) wh
   asks_nothing (Output place) plain es h = absurd plain
   asks_nothing (Incoming place) plain es h = absurd plain
   asks_nothing (Outgoing place) plain es h = absurd plain
+  asks_nothing (kinds.Lookup place) plain es h = absurd plain
   asks_nothing _ plain es h = h
 
   plain_left : (kind : Kind) → GoesAtOnce kind → (es : List Entry) (after : Machine) → Gone m line handle (Some kind) es after → after ≡ without m handle
@@ -345,6 +355,7 @@ module _ (contexts : List WasiSocketsCtx) (m : Machine) (line c handle : ℕ) wh
   plain_left (Output place) plain es after h = absurd plain
   plain_left (Incoming place) plain es after h = absurd plain
   plain_left (Outgoing place) plain es after h = absurd plain
+  plain_left (kinds.Lookup place) plain es after h = absurd plain
   plain_left _ plain es after h = h
 
   no_out : (kind : Kind) → GoesAtOnce kind → IsNoOut kind

@@ -2,6 +2,7 @@ pub mod Words
 pub mod tables
 pub mod operations
 pub mod udp_streams
+pub mod resolving
 pub mod sockets
 pub mod streams
 pub mod Ending

@@ -1,5 +1,8 @@
 -- A subscription, and a look at a pollable.
-use Rattle.wasi_host.specs.Records.{tcp2_at, open_at}
+use Rattle.wasi_host.specs.Records.{tcp2_at, open_at, lookup_at}
+use Rattle.wasi_host.specs.NameLookup.{looks_on}
+use Rattle.wasi_host.specs.NameLookupCalls.{lookup_ready}
+use Rattle.wasi_causes.specs.Lookups.{WatchesLookup}
 use Rattle.wasi_host.specs.DatagramCalls.{begins_receive, outgoing_ready, ready_incoming_at, with_receive}
 use Rattle.wasi_host.specs.Receiving.{look_incoming, receives}
 use Rattle.wasi_host.specs.declared.udp.OpenUdp.{OpenUdp}
@@ -60,6 +63,7 @@ abbrev IsOfTcp : Watched → Type 0
 IsOfTcp (watched.Udp place) = ⊥
 IsOfTcp (watched.Incoming place) = ⊥
 IsOfTcp (watched.Outgoing place) = ⊥
+IsOfTcp (watched.Lookup place) = ⊥
 IsOfTcp _ = ⊤
 
 -- == a look at what is watched, in its record
@@ -164,6 +168,7 @@ module _ (line : ℕ) (r : Tcp2Socket) where
   looks_at (watched.Udp place) tcp = absurd tcp
   looks_at (watched.Incoming place) tcp = absurd tcp
   looks_at (watched.Outgoing place) tcp = absurd tcp
+  looks_at (watched.Lookup place) tcp = absurd tcp
   looks_at (watched.Socket place) tcp = by_progress place (is_connect r.in_progress) refl
   looks_at (watched.Input place) tcp = by_input place r.streams refl
   looks_at (watched.Output place) tcp = by_output place r.streams refl
@@ -181,6 +186,7 @@ module _ (contexts : List WasiSocketsCtx) (m : Machine) (line c pollable : ℕ) 
     none_there (watched.Udp place) of = absurd of
     none_there (watched.Incoming place) of = absurd of
     none_there (watched.Outgoing place) of = absurd of
+    none_there (watched.Lookup place) of = absurd of
     none_there (watched.Socket place) of = refl
     none_there (watched.Input place) of = refl
     none_there (watched.Output place) of = refl
@@ -190,6 +196,7 @@ module _ (contexts : List WasiSocketsCtx) (m : Machine) (line c pollable : ℕ) 
     misses_so (watched.Udp place) of none = absurd of
     misses_so (watched.Incoming place) of none = absurd of
     misses_so (watched.Outgoing place) of none = absurd of
+    misses_so (watched.Lookup place) of none = absurd of
     misses_so (watched.Socket place) of none = none
     misses_so (watched.Input place) of none = none
     misses_so (watched.Output place) of none = none
@@ -202,9 +209,13 @@ module _ (contexts : List WasiSocketsCtx) (m : Machine) (line c pollable : ℕ) 
     no_streams place (inl at) = let same : w ≡ watched.Outgoing place = cc in subst IsOfTcp same tcp
     no_streams place (inr at) = let same : w ≡ watched.Incoming place = cc in subst IsOfTcp same tcp
 
+    -- nor of lookups
+    not_lookup : (place : ℕ) → WatchesLookup m pollable place → ⊥
+    not_lookup place at = let same : w ≡ watched.Lookup place = cc in subst IsOfTcp same tcp
+
     -- so of what isn't a TCP socket's nothing is said
-    said_of_none : (es : List Entry) (r : Reply) (after : Machine) → (WatchesIdle m pollable → ReadyAtOnce m es r after) → Always m line (step.Ready c pollable) es r after
-    said_of_none es r after idle = (idle, λ at. absurd (not_udp at), λ place at. absurd (no_streams place (inl at)), λ place at. absurd (no_streams place (inr at)))
+    said_of_none : (es : List Entry) (r : Reply) (after : Machine) → (WatchesIdle m pollable → ReadyAtOnce m es r after) → Always contexts m line (step.Ready c pollable) es r after
+    said_of_none es r after idle = (idle, λ at. absurd (not_udp at), λ place at. absurd (no_streams place (inl at)), λ place at. absurd (no_streams place (inr at)), λ place at. absurd (not_lookup place at))
 
     the_record : {P : Watched → Tcp2Socket → Type 0} (on : OfWatched m pollable P) → tcp2_at m.store.records (place_in w) ≡ Some on.found
     the_record on = let p = on.watches in let same : on.watch ≡ w = cc in rw (sym same) on.at
@@ -235,7 +246,7 @@ module _ (contexts : List WasiSocketsCtx) (m : Machine) (line c pollable : ℕ) 
 
       said : (es : List Entry) (done : Result Bool Stop × Tcp2Socket) → RecordRow line r w es done → ReadyRow es (with_store m (ready_put m.store (place_in w) done))
       said es (Ok true, now) k = (said_of_none es _ _ (λ idle. let h = k (idle_too idle) in (refl, (h.0, put_again now h.1))), ((tt, tt), tt))
-      said es (Ok false, now) k = (said_of_none es _ _ (λ idle. absurd (k.0 (idle_too idle))), ((tt, tt), λ no connects listens. record { watch = w; found = r; watches = is; at = at; holds = k.1 (holds connects) (listens_so listens) }))
+      said es (Ok false, now) k = (said_of_none es _ _ (λ idle. absurd (k.0 (idle_too idle))), ((tt, tt), λ no connects listens. inl (record { watch = w; found = r; watches = is; at = at; holds = k.1 (holds connects) (listens_so listens) })))
       said es (Err (Trap NoSuchHandle), now) k = (said_of_none es _ _ (λ idle. absurd (never_idle w k.0 (idle_too idle))), (rw is (misses_so w tcp (rw at k.0)), (k.1, put_again now k.2)))
       said es (Err _, now) k = absurd k
 
@@ -256,12 +267,15 @@ module _ (contexts : List WasiSocketsCtx) (m : Machine) (line c pollable : ℕ) 
     no_udp_too : WatchesUdp m pollable → ⊥
     no_udp_too (place, at) = let same : w ≡ watched.Udp place = cc in subst (λ (u : Watched). IsOfDatagrams (Some u)) same of
 
+    no_lookup_too : (place : ℕ) → WatchesLookup m pollable place → ⊥
+    no_lookup_too place at = let same : w ≡ watched.Lookup place = cc in subst (λ (u : Watched). IsOfDatagrams (Some u)) same of
+
     -- of the others nothing is said
     said_of_streams : (es : List Entry) (r : Reply) (after : Machine) → ((place : ℕ) → WatchesOutgoing m pollable place → (r ≡ reply.Ok (truth_fields (outgoing_ready (open_at m.store.records place)))) × Quiet m es after)
-        → ((place : ℕ) → WatchesIncoming m pollable place → r ≡ reply.Ok (truth_fields false) → IsReceiving (open_at after.store.records place)) → Always m line (step.Ready c pollable) es r after
-    said_of_streams es r after outgoing incoming = (λ idle. absurd (not_idle_too idle), λ at. absurd (no_udp_too at), outgoing, incoming)
+        → ((place : ℕ) → WatchesIncoming m pollable place → r ≡ reply.Ok (truth_fields false) → IsReceiving (open_at after.store.records place)) → Always contexts m line (step.Ready c pollable) es r after
+    said_of_streams es r after outgoing incoming = (λ idle. absurd (not_idle_too idle), λ at. absurd (no_udp_too at), outgoing, incoming, λ place at. absurd (no_lookup_too place at))
 
-    looked_datagrams : (es : List Entry) (b : Bool) (after : Machine) → Always m line (step.Ready c pollable) es (reply.Ok (truth_fields b)) after → ReadyRow es (Ok b, after)
+    looked_datagrams : (es : List Entry) (b : Bool) (after : Machine) → Always contexts m line (step.Ready c pollable) es (reply.Ok (truth_fields b)) after → ReadyRow es (Ok b, after)
     looked_datagrams es true after always = (always, ((tt, tt), tt))
     looked_datagrams es false after always = (always, ((tt, tt), λ no. absurd (no (rw is of))))
 
@@ -291,11 +305,37 @@ module _ (contexts : List WasiSocketsCtx) (m : Machine) (line c pollable : ℕ) 
     by_incoming (Some o) at = onto _ (widen (λ es now k. looked_datagrams (watched.Incoming place) is tt es (not (receives now.incoming)) (record m { store = with_receive m.store place o now })
         (said_of_streams (watched.Incoming place) is tt es _ _ (λ p out. absurd (none_outgoing p out)) (λ p inc same. subst (λ (k : ℕ). IsReceiving (open_at (with_receive m.store place o now).records k)) (same_place p inc) (still_receives o now at (receives now.incoming) refl (ap (λ (f : Bool). reply.Ok (truth_fields f)) refl ∙ same))))) (whatever (look_incoming (first_ids line) o o.incoming)))
 
+  -- == a lookup
+  module _ (place : ℕ) (is : watch_of (kind_at m.table pollable) ≡ Some (watched.Lookup place)) where
+    not_idle_lookup : WatchesIdle m pollable → ⊥
+    not_idle_lookup idle = let p = idle.watches in let same : idle.watch ≡ watched.Lookup place = cc in subst (λ (u : Watched). IsIdleSocket u idle.found) same idle.holds
+
+    no_udp_lookup : WatchesUdp m pollable → ⊥
+    no_udp_lookup (p, at) = cc
+
+    its_lookup : (p : ℕ) → WatchesLookup m pollable p → place ≡ p
+    its_lookup p at = let same : watched.Lookup place ≡ watched.Lookup p = cc in cc
+
+    -- it is ready where it isn't in progress
+    said_of_lookup : (b : Bool) → looks_on (lookup_at m.store.records place) ≡ b → Always contexts m line (step.Ready c pollable) [] (truth_reply (Ok (not b))) m
+    said_of_lookup b e = (
+      λ idle. absurd (not_idle_lookup idle),
+      λ at. absurd (no_udp_lookup at),
+      λ p at. absurd (cc),
+      λ p at. absurd (cc),
+      λ p at. (ap (λ (on : Bool). reply.Ok (truth_fields (not on))) (sym e) ∙ ap (λ (k : ℕ). reply.Ok (truth_fields (lookup_ready (lookup_at m.store.records k)))) (its_lookup p at), (refl, refl)),
+    )
+
+    by_progress_of : (b : Bool) → looks_on (lookup_at m.store.records place) ≡ b → ReadyRow [] (Ok (not b), m)
+    by_progress_of true e = (said_of_lookup true e, ((tt, tt), λ no connects listens. inr (record { place = place; watches = is; in_progress = e; quiet = refl })))
+    by_progress_of false e = (said_of_lookup false e, ((tt, tt), tt))
+
   by_watch : (o : Option Watched) → watch_of (kind_at m.table pollable) ≡ o → Meets ReadyRow [] (ready_on m (first_ids line) o)
-  by_watch None is = ends ((λ idle. let some = idle.watches in absurd (cc), λ at. let some = at.1 in absurd (cc), λ place at. absurd (cc), λ place at. absurd (cc)), (rw is tt, (refl, refl)))
-  by_watch (Some (watched.Udp place)) is = ends ((λ idle. (refl, (refl, refl)), λ at. (refl, (refl, refl)), λ place at. absurd (cc), λ place at. absurd (cc)), ((tt, tt), tt))
+  by_watch None is = ends ((λ idle. let some = idle.watches in absurd (cc), λ at. let some = at.1 in absurd (cc), λ place at. absurd (cc), λ place at. absurd (cc), λ place at. absurd (cc)), (rw is tt, (refl, refl)))
+  by_watch (Some (watched.Udp place)) is = ends ((λ idle. (refl, (refl, refl)), λ at. (refl, (refl, refl)), λ place at. absurd (cc), λ place at. absurd (cc), λ place at. absurd (cc)), ((tt, tt), tt))
   by_watch (Some (watched.Incoming place)) is = onto _ (by_incoming place is (open_at m.store.records place) refl)
   by_watch (Some (watched.Outgoing place)) is = ends (by_outgoing place is)
+  by_watch (Some (watched.Lookup place)) is = ends (by_progress_of place is (looks_on (lookup_at m.store.records place)) refl)
   by_watch (Some (watched.Socket place)) is = onto _ (by_record (watched.Socket place) is tt (tcp2_at m.store.records place) refl)
   by_watch (Some (watched.Input place)) is = onto _ (by_record (watched.Input place) is tt (tcp2_at m.store.records place) refl)
   by_watch (Some (watched.Output place)) is = onto _ (by_record (watched.Output place) is tt (tcp2_at m.store.records place) refl)

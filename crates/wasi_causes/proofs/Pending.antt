@@ -113,6 +113,8 @@ module _ (contexts : List WasiSocketsCtx) (line : ℕ) (origin : Step) (plain : 
     udp_creates = λ es h ctx family c may t o m i. (tt, λ told fits. begun_none h (udp_after_create (own_of line) ctx.name family (told_done told)) i);
     udp_marks = λ es h place u g i. whatever (λ made. NoStreams h) (λ made. i) es (make_asks h.machine.table (udp_side u) (Udp2 place) None (Some (udp_side u)));
     stream_marks = λ es h place n handle kind made its of i. whatever (λ made. NoStreams h) (λ made. i) es (make_asks h.machine.table (own_of n) kind (Some handle) _);
+    lookups = λ es h host l i. (tt, λ told fits records same. i);
+    looks = λ es h place op at i. (tt, λ told fits. i);
   }
 
   -- so it holds of what the line leaves

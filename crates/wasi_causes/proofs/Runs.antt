@@ -1,8 +1,14 @@
 -- Of the machines that runs lead to: what a socket connects by is a connect, what a listener accepts by an accept, what is
 -- pending as a bind is a bind, as a listen a listen, and as a create a create; each live handle is of a record that is there, a
 -- connect in progress may be finished, and a socket that does nothing yet doesn't listen.
-use Rattle.wasi_host.specs.Records.{tcp2_at, open_at, open_of}
-use Rattle.wasi_host.specs.declared.kind.Kind.TheVariants.{Udp2}
+use Rattle.wasi_host.specs.Records.{tcp2_at, open_at, open_of, lookup_at}
+use Rattle.wasi_host.specs.declared.kind.Kind.TheVariants.{Udp2, Lookup}
+use Rattle.wasi_host.specs.Kinds.{lookup_of}
+use Rattle.wasi_host.specs.Machine.{lookup_number}
+use Rattle.wasi_host.specs.declared.name_lookup.Lookup.{Lookup as NameLookup}
+use Rattle.wasi_walks.specs.Answered.{lookup_in}
+use Rattle.wasi_causes.proofs.Words.{is_some}
+use Rattle.wasi_causes.specs.Lookups.{found_lookup}
 use Rattle.wasi_host.specs.declared.udp.OpenUdp.{OpenUdp}
 use Rattle.wasi_host.specs.declared.udp.Udp2Socket.{Udp2Socket}
 use Rattle.wasi_host.specs.declared.udp.UdpInProgress.{UdpInProgress}
@@ -45,7 +51,7 @@ use Rattle.wasi_steps.specs.declared.reply.Reply.TheVariants as reply
 use Rattle.wasi_steps.specs.declared.step.Step.TheVariants as step
 use Rattle.wasi_tcp.specs.declared.socket.TcpState.TheVariants as state
 use Rattle.wasi_causes.proofs.Pending.{runs_keep_handles}
-use Rattle.wasi_causes.proofs.Steady.{AsksToConnect, AsksToListen, IsThere, IsUdpThere, Steady, runs_are_steady}
+use Rattle.wasi_causes.proofs.Steady.{AsksToConnect, AsksToListen, IsThere, IsUdpThere, Steady, lookup_record_of, runs_are_steady}
 use Rattle.wasi_causes.specs.Datagrams.{HasItsHandle, LacksRoomForStreams, PendingHandleIsLive}
 use Rattle.wasi_host.specs.declared.kind.Kind.TheVariants.{Incoming, Outgoing}
 use Rattle.wasi_world.specs.declared.outcome.TrapKind.TheVariants.{StreamsAlive}
@@ -130,6 +136,8 @@ module _ (m : Machine) (i : Steady m) where
   of_its_record handle (Pollable (Watched.Incoming place)) e = has_udp place (i.udps handle place (ap udp_record_of e))
   of_its_record handle (Pollable (Watched.Outgoing place)) e = has_udp place (i.udps handle place (ap udp_record_of e))
   of_its_record handle (Pollable (Watched.Udp place)) e = has_udp place (i.udps handle place (ap udp_record_of e))
+  of_its_record handle (Lookup place) e = i.lookups handle place (ap lookup_record_of e)
+  of_its_record handle (Pollable (Watched.Lookup place)) e = i.lookups handle place (ap lookup_record_of e)
   of_its_record handle (Pollable (Watched.Socket place)) e = has_record place (i.handles handle place (ap record_of e))
   of_its_record handle (Pollable (Watched.Input place)) e = has_record place (i.handles handle place (ap record_of e))
   of_its_record handle (Pollable (Watched.Output place)) e = has_record place (i.handles handle place (ap record_of e))
@@ -144,6 +152,18 @@ module _ (m : Machine) (i : Steady m) where
       by_place : (o : Option ℕ) → socket_at m handle ≡ o → record_in m o ≡ None → o ≡ None
       by_place None q k = refl
       by_place (Some place) q k = absurd (not_none place (i.handles handle place (socket_record (kind_at m.table handle) place q)) k)
+
+  -- and a handle of a lookup has it
+  no_lookup_missing : (handle : ℕ) → found_lookup m handle ≡ None → lookup_number m handle ≡ None
+  no_lookup_missing handle e = by_place (lookup_number m handle) refl e
+    where
+      its_record : (k : Option Kind) (place : ℕ) → lookup_of k ≡ Some place → lookup_record_of k ≡ Some place
+      its_record (Some (Lookup p)) place q = q
+      its_record _ place q = absurd (cc)
+
+      by_place : (o : Option ℕ) → lookup_number m handle ≡ o → lookup_in m o ≡ None → o ≡ None
+      by_place None q k = refl
+      by_place (Some place) q k = let there : is_some (lookup_at m.store.records place) ≡ true = i.lookups handle place (its_record (kind_at m.table handle) place q) in let gone : is_some (lookup_at m.store.records place) ≡ false = ap (λ (o : Option NameLookup). is_some o) k in absurd (cc)
 
 -- a pending call is in progress in its record, if it is of one
 module _ (m : Machine) (f : Fit (Over m)) (live : PendingHandleIsLive m) where
@@ -214,6 +234,9 @@ module _ (contexts : List WasiSocketsCtx) (steps : List Step) (es : List Entry) 
 
   pub runs_miss_no_record : (handle : ℕ) → record_at m handle ≡ None → socket_at m handle ≡ None
   runs_miss_no_record = is_no_socket m run_steady
+
+  pub runs_miss_no_lookup : (handle : ℕ) → found_lookup m handle ≡ None → lookup_number m handle ≡ None
+  runs_miss_no_lookup = no_lookup_missing m run_steady
 
   pub runs_stand_on_records : (n : ℕ) → StandsOnNothing m n → ⊥
   runs_stand_on_records = stands_on m fits run_live

@@ -1,7 +1,7 @@
 -- Of the machines that runs lead to: each live handle is of a record that is there, of a connect and of a listen in progress only asks
 -- are left, a connect in progress may be finished, and a socket that does nothing yet doesn't listen.
-use Rattle.wasi_host.specs.Records.{tcp2_at, tcp2_put, tcp2_pushed, udp2_at, udp2_put}
-use Rattle.wasi_host.specs.declared.kind.Kind.TheVariants.{Udp2}
+use Rattle.wasi_host.specs.Records.{tcp2_at, tcp2_put, tcp2_pushed, udp2_at, udp2_put, lookup_at}
+use Rattle.wasi_host.specs.declared.kind.Kind.TheVariants.{Udp2, Lookup}
 use Rattle.wasi_host.specs.declared.udp.Udp2Socket.{Udp2Socket}
 use Rattle.wasi_host.specs.Udp.{udp_side, udp_bind_progress, udp_create_left, with_udp_progress}
 use Rattle.wasi_host.specs.UdpCreates.{with_create}
@@ -51,6 +51,10 @@ use Rattle.wasi_udp.specs.Receive.{wanting}
 use Rattle.wasi_udp.specs.Send.{at_remote}
 use Rattle.wasi_walks.proofs.walks.Moves.{BeginsReceive, BeginsSend, BeginsUdpConnect, ReceivesOn, SendsOn, StandsDropOutgoing, StandsUdpConnect, UdpConnectsOn, udp_place}
 use Rattle.wasi_walks.proofs.walks.States.{udp_record}
+use Rattle.wasi_walks.proofs.walks.Moves.{ALookup, ALookupPollable, Finds, SameSockets, with_records}
+use Rattle.wasi_host.specs.declared.name_lookup.LookupOp.{LookupOp}
+use Rattle.wasi_causes.proofs.Words.{is_some}
+use Rattle.wasi_causes.proofs.resolving.Lists.{lookup_push, lookup_tcp_put, lookup_udp_put}
 
 -- == what holds of a machine
 abbrev pub IsThere : List Record → ℕ → Type 0
@@ -58,6 +62,15 @@ IsThere records place = (r : Tcp2Socket) × (tcp2_at records place ≡ Some r)
 
 abbrev pub IsUdpThere : List Record → ℕ → Type 0
 IsUdpThere records place = (u : Udp2Socket) × (udp2_at records place ≡ Some u)
+
+abbrev pub IsLookupThere : List Record → ℕ → Type 0
+IsLookupThere records place = is_some (lookup_at records place) ≡ true
+
+-- the lookup that a handle is of
+abbrev pub lookup_record_of : Option Kind → Option ℕ
+lookup_record_of (Some (Lookup place)) = Some place
+lookup_record_of (Some (Pollable (Watched.Lookup place))) = Some place
+lookup_record_of _ = None
 
 -- only asks are left of a connect and of a listen
 abbrev pub AsksToConnect : TcpState → Type 0
@@ -79,6 +92,7 @@ pub record Steady (m : Machine) : Type 0 where
   pub records : (place : ℕ) (r : Tcp2Socket) → tcp2_at m.store.records place ≡ Some r → Sound r
   pub handles : (handle place : ℕ) → record_of (kind_at m.table handle) ≡ Some place → IsThere m.store.records place
   pub udps : (handle place : ℕ) → udp_record_of (kind_at m.table handle) ≡ Some place → IsUdpThere m.store.records place
+  pub lookups : (handle place : ℕ) → lookup_record_of (kind_at m.table handle) ≡ Some place → IsLookupThere m.store.records place
 
 -- == one record changes, one joins, a handle is made or taken out
 there_put : (records : List Record) (i : ℕ) (now : Tcp2Socket) (k : ℕ) → IsThere records k → IsThere (tcp2_put records i now) k
@@ -95,6 +109,7 @@ put_steady h place r g now f i = record {
   records = λ k r e. elim (get_set h.machine.store.records place now k r e) [ inl p ↦ subst Sound p.1 f | inr p ↦ i.records k r p ];
   handles = λ handle k e. there_put h.machine.store.records place now k (i.handles handle k e);
   udps = λ handle k e. let t = i.udps handle k e in (t.0, udp_in_put h.machine.store.records place r now k t.0 g t.1);
+  lookups = λ handle k e. rw (lookup_tcp_put h.machine.store.records place r now k g) (i.lookups handle k e);
 }
 
 put_udp_steady : (h : Here) (place : ℕ) (u : Udp2Socket) → FoundUdp h place u → (now : Udp2Socket) → Steady h.machine → Steady (put_udp h place now).machine
@@ -102,6 +117,7 @@ put_udp_steady h place u g now i = record {
   records = λ k r e. i.records k r (tcp_of_put h.machine.store.records place now k r e);
   handles = λ handle k e. let t = i.handles handle k e in (t.0, tcp_in_put h.machine.store.records place u now k t.0 g t.1);
   udps = λ handle k e. udp_there_put h.machine.store.records place now k (i.udps handle k e);
+  lookups = λ handle k e. rw (lookup_udp_put h.machine.store.records place u now k g) (i.lookups handle k e);
 }
 
 push_steady : (m : Machine) (new : Tcp2Socket) → Sound new → Steady m → Steady (record m { store = record m.store { records = tcp2_pushed m.store.records new } })
@@ -109,6 +125,7 @@ push_steady m new f i = record {
   records = λ k r e. elim (get_split m.store.records new k r e) [ inl p ↦ i.records k r p | inr p ↦ subst Sound p f ];
   handles = λ handle k e. there_push m.store.records new k (i.handles handle k e);
   udps = λ handle k e. let t = i.udps handle k e in (t.0, udp_in_push m.store.records new k t.0 t.1);
+  lookups = λ handle k e. lookup_push m.store.records (Record.Tcp2 new) k (i.lookups handle k e);
 }
 
 push_udp_steady : (m : Machine) (create : Create) → Steady m → Steady (with_create m create)
@@ -116,6 +133,16 @@ push_udp_steady m create i = record {
   records = λ k r e. i.records k r (tcp_of_push m.store.records (Udp2Socket.Creating create) k r e);
   handles = λ handle k e. let t = i.handles handle k e in (t.0, tcp_in_push m.store.records (Udp2Socket.Creating create) k t.0 t.1);
   udps = λ handle k e. let t = i.udps handle k e in (t.0, udp_front m.store.records (Udp2Socket.Creating create) k t.0 t.1);
+  lookups = λ handle k e. lookup_push m.store.records (Record.Udp2 (Udp2Socket.Creating create)) k (i.lookups handle k e);
+}
+
+-- other lookups, whichever
+found_steady : {new : LookupOp → Type 0} (h : Here) (records : List Record) → SameSockets new h.machine.store.records records → Steady h.machine → Steady (with_records h records).machine
+found_steady h records same i = record {
+  records = λ k r e. i.records k r (sym (same.tcp k) ∙ e);
+  handles = λ handle k e. let t = i.handles handle k e in (t.0, same.tcp k ∙ t.1);
+  udps = λ handle k e. let t = i.udps handle k e in (t.0, same.udp k ∙ t.1);
+  lookups = λ handle k e. same.stays k (i.lookups handle k e);
 }
 
 begun_steady : (h : Here) (made : Result Create ErrorCode) → Steady h.machine → Steady (udp_begun h made).machine
@@ -123,7 +150,7 @@ begun_steady h (Ok create) i = push_udp_steady h.machine create i
 begun_steady h (Err c) i = i
 
 stand_steady : (m : Machine) (o : Option Standing) → Steady m → Steady (record m { store = record m.store { standing = o } })
-stand_steady m o i = record { records = i.records; handles = i.handles; udps = i.udps }
+stand_steady m o i = record { records = i.records; handles = i.handles; udps = i.udps; lookups = i.lookups }
 
 -- the records that handles are of, by one reading of them
 module _ (of : Option Kind → Option ℕ) (none : of None ≡ None) (There : ℕ → Type 0) (t : Handles) (live : (handle place : ℕ) → of (kind_at t handle) ≡ Some place → There place) where
@@ -144,12 +171,12 @@ module _ (of : Option Kind → Option ℕ) (none : of None ≡ None) (There : �
       by_kind None q e = let never = none in absurd (cc)
       by_kind (Some x) q e = live handle place (ap of (value_without t.live gone handle x q) ∙ e)
 
-made_steady : (es : List Entry) (m : Machine) (op : OpId) (kind : Kind) (parent : Option ℕ) (sock : Option OpId) → ((place : ℕ) → record_of (Some kind) ≡ Some place → IsThere m.store.records place) → ((place : ℕ) → udp_record_of (Some kind) ≡ Some place → IsUdpThere m.store.records place) → Steady m
+made_steady : (es : List Entry) (m : Machine) (op : OpId) (kind : Kind) (parent : Option ℕ) (sock : Option OpId) → ((place : ℕ) → record_of (Some kind) ≡ Some place → IsThere m.store.records place) → ((place : ℕ) → udp_record_of (Some kind) ≡ Some place → IsUdpThere m.store.records place) → ((place : ℕ) → lookup_record_of (Some kind) ≡ Some place → IsLookupThere m.store.records place) → Steady m
     → Allows Anything (λ fs made. Steady (record m { table = made.1 })) es (make_asks m.table op kind parent sock)
 unfolding bind
-made_steady es m op kind parent sock t u i =
+made_steady es m op kind parent sock t u l i =
     allows_if Anything (λ fs made. Steady (record m { table = made.1 })) es (is_full m.table) _ _ (λ full. i)
-    (λ room. (tt, λ told fits. record { records = i.records; handles = where_made record_of refl (IsThere m.store.records) m.table i.handles kind parent t; udps = where_made udp_record_of refl (IsUdpThere m.store.records) m.table i.udps kind parent u }))
+    (λ room. (tt, λ told fits. record { records = i.records; handles = where_made record_of refl (IsThere m.store.records) m.table i.handles kind parent t; udps = where_made udp_record_of refl (IsUdpThere m.store.records) m.table i.udps kind parent u; lookups = where_made lookup_record_of refl (IsLookupThere m.store.records) m.table i.lookups kind parent l }))
 
 -- == moves
 connecting_may : (s : TcpState) → IsConnecting s → MayFinish s
@@ -221,11 +248,13 @@ module _ (contexts : List WasiSocketsCtx) (line : ℕ) (origin : Step) where
   moves_steady _ _ (StandsDropOutgoing h ids place o at g e) i = stand_steady h.machine (Some (standing_as ids (standing.DropOutgoing place))) i
   moves_steady _ _ (BeginsSend h place n o out d bound at g e item known own) i = put_udp_steady h place (Udp2Socket.Open o) g _ i
   moves_steady _ _ (BeginsReceive h place n o inc bound at g e own) i = put_udp_steady h place (Udp2Socket.Open o) g _ i
-  moves_steady _ _ (Lists h jobs) i = record { records = i.records; handles = i.handles; udps = i.udps }
+  moves_steady _ _ (Finds h records same) i = found_steady h records same i
+  moves_steady _ _ (Lists h jobs) i = record { records = i.records; handles = i.handles; udps = i.udps; lookups = i.lookups }
   moves_steady _ _ (Takes h handle) i = record {
     records = i.records;
     handles = where_taken record_of refl (IsThere h.machine.store.records) h.machine.table i.handles handle;
     udps = where_taken udp_record_of refl (IsUdpThere h.machine.store.records) h.machine.table i.udps handle;
+    lookups = where_taken lookup_record_of refl (IsLookupThere h.machine.store.records) h.machine.table i.lookups handle;
   }
   moves_steady _ _ _ i = i
 
@@ -238,6 +267,7 @@ module _ (contexts : List WasiSocketsCtx) (line : ℕ) (origin : Step) where
   never_tcp (Watched.Udp n) place udp e = cc
   never_tcp (Watched.Incoming n) place udp e = cc
   never_tcp (Watched.Outgoing n) place udp e = cc
+  never_tcp (Watched.Lookup n) place udp e = cc
   never_tcp (Watched.Socket n) place udp e = cc
   never_tcp (Watched.Input n) place udp e = cc
   never_tcp (Watched.Output n) place udp e = cc
@@ -258,6 +288,7 @@ module _ (contexts : List WasiSocketsCtx) (line : ℕ) (origin : Step) where
   no_udp_watch (Watched.Udp n) place tcp e = cc
   no_udp_watch (Watched.Incoming n) place tcp e = cc
   no_udp_watch (Watched.Outgoing n) place tcp e = cc
+  no_udp_watch (Watched.Lookup n) place tcp e = cc
   no_udp_watch (Watched.Socket n) place tcp e = cc
   no_udp_watch (Watched.Input n) place tcp e = cc
   no_udp_watch (Watched.Output n) place tcp e = cc
@@ -268,6 +299,25 @@ module _ (contexts : List WasiSocketsCtx) (line : ℕ) (origin : Step) where
   udp_marks_there h _ _ _ (APollable c handle w is tcp of) i place e = absurd (no_udp_watch w place tcp e)
   udp_marks_there h _ _ _ (AUdpPollable c handle w is udp of) i place e = i.udps handle place (of ∙ (sym udp ∙ e))
   udp_marks_there h _ _ _ _ i place e = absurd (cc)
+
+  -- of a stream, or of a pollable of a socket, nothing is said of lookups
+  no_lookup : (kind : Kind) (its place : ℕ) → (kind ≡ Input its) ⊎ (kind ≡ Output its) → lookup_record_of (Some kind) ≡ Some place → ⊥
+  no_lookup kind its place (inl e) p = let q : lookup_record_of (Some kind) ≡ None = ap (λ (x : Kind). lookup_record_of (Some x)) e in cc
+  no_lookup kind its place (inr e) p = let q : lookup_record_of (Some kind) ≡ None = ap (λ (x : Kind). lookup_record_of (Some x)) e in cc
+
+  no_lookup_watch : (w : Watched) (place : ℕ) → (tcp_place w ≡ Some (place_in w)) ⊎ (udp_place w ≡ Some (place_in w)) → lookup_record_of (Some (Pollable w)) ≡ Some place → ⊥
+  no_lookup_watch (Watched.Lookup n) place (inl tcp) e = cc
+  no_lookup_watch (Watched.Lookup n) place (inr udp) e = cc
+  no_lookup_watch _ place of e = cc
+
+  lookup_marks_there : (h : Here) (kind : Kind) (parent : Option ℕ) (sock : Option OpId) → Marks origin h kind parent sock → Steady h.machine → (place : ℕ) → lookup_record_of (Some kind) ≡ Some place → IsLookupThere h.machine.store.records place
+  lookup_marks_there h kind _ _ (AStream c handle its _ is two of) i place e = absurd (no_lookup kind its place two e)
+  lookup_marks_there h kind _ _ (AnAcceptedStream c listener handle its _ r is two made own g) i place e = absurd (no_lookup kind its place two e)
+  lookup_marks_there h _ _ _ (APollable c handle w is tcp of) i place e = absurd (no_lookup_watch w place (inl tcp) e)
+  lookup_marks_there h _ _ _ (AUdpPollable c handle w is udp of) i place e = absurd (no_lookup_watch w place (inr udp) e)
+  lookup_marks_there h _ _ _ (ALookup c network its name is there) i place e = let same : its ≡ place = cc in subst (IsLookupThere h.machine.store.records) same there
+  lookup_marks_there h _ _ _ (ALookupPollable c handle its is of) i place e = i.lookups handle place (ap lookup_record_of of ∙ e)
+  lookup_marks_there h _ _ _ _ i place e = absurd (cc)
 
   -- a socket that is created doesn't connect
   abbrev MadeIdle : Result Socket ErrorCode → Type 0
@@ -286,7 +336,7 @@ module _ (contexts : List WasiSocketsCtx) (line : ℕ) (origin : Step) where
   joins es m op (Ok socket) f i =
       let now : Machine = record m { store = with_record m.store socket } in
       allows_then Anything (λ fs made. Steady (record now { table = made.1 })) (λ fs done. Steady done.1) es (make_asks m.table op (Tcp2 (length m.store.records)) None (side_of socket)) _
-      (made_steady es now op (Tcp2 (length m.store.records)) None (side_of socket) (λ place e. let p : length m.store.records ≡ place = cc in subst (IsThere now.store.records) p (new_record socket, tcp2_seam m.store.records (new_record socket))) (λ place e. absurd (cc)) (push_steady m (new_record socket) (λ c. absurd (cc), λ side d. refl, (f, tt)) i)) (λ fs made k. k)
+      (made_steady es now op (Tcp2 (length m.store.records)) None (side_of socket) (λ place e. let p : length m.store.records ≡ place = cc in subst (IsThere now.store.records) p (new_record socket, tcp2_seam m.store.records (new_record socket))) (λ place e. absurd (cc)) (λ place e. absurd (cc)) (push_steady m (new_record socket) (λ c. absurd (cc), λ side d. refl, (f, tt)) i)) (λ fs made k. k)
   joins es m op (Err c) f i = i
 
   polls_steady : (es : List Entry) (h : Here) (op : Operation) (after : End × List Item → Here) → Held h op after → Steady h.machine → Allows Anything (λ fs ended. Steady (after ended).machine) es (poll_asks op)
@@ -315,6 +365,10 @@ module _ (contexts : List WasiSocketsCtx) (line : ℕ) (origin : Step) where
   no_tcp kind its place (inl is) p = let q : record_of (Some kind) ≡ None = ap (λ (x : Kind). record_of (Some x)) is in cc
   no_tcp kind its place (inr is) p = let q : record_of (Some kind) ≡ None = ap (λ (x : Kind). record_of (Some x)) is in cc
 
+  no_stream_lookup : (kind : Kind) (its place : ℕ) → (kind ≡ Incoming its) ⊎ (kind ≡ Outgoing its) → lookup_record_of (Some kind) ≡ Some place → ⊥
+  no_stream_lookup kind its place (inl is) p = let q : lookup_record_of (Some kind) ≡ None = ap (λ (x : Kind). lookup_record_of (Some x)) is in cc
+  no_stream_lookup kind its place (inr is) p = let q : lookup_record_of (Some kind) ≡ None = ap (λ (x : Kind). lookup_record_of (Some x)) is in cc
+
   unfoldable steady : Law contexts line origin
   steady = record {
     P = Anything;
@@ -324,19 +378,21 @@ module _ (contexts : List WasiSocketsCtx) (line : ℕ) (origin : Step) where
     sets = λ es h place r side b at g s is i. (tt, λ told fits. i);
     learns = λ es h place r side at g e i. (tt, λ told fits. put_steady h place r g _ (λ c. subst MayFinish (sym (told_same r.inner (told_addr told))) ((i.records place r g).0 c), λ s d. (i.records place r g).1 s (sym (told_same r.inner (told_addr told)) ∙ d), (subst AsksToConnect (sym (told_same r.inner (told_addr told))) (i.records place r g).2.0, subst (λ (s : TcpState). AsksToListen s r.listening) (sym (told_same r.inner (told_addr told))) (i.records place r g).2.1)) i);
     closes = λ es h place r side q g e i. (tt, λ told fits. put_steady h place r g (closed_record r) (λ c. absurd (cc), λ s d. refl, (tt, tt)) i);
-    marks = λ es h kind parent sock m i. made_steady es h.machine (own_of line) kind parent sock (marks_there h kind parent sock m i) (udp_marks_there h kind parent sock m i) i;
+    marks = λ es h kind parent sock m i. made_steady es h.machine (own_of line) kind parent sock (marks_there h kind parent sock m i) (udp_marks_there h kind parent sock m i) (lookup_marks_there h kind parent sock m i) i;
     creates = λ es h ctx family c a o m i. allows_then Anything (λ fs made. MadeIdle made) (λ fs done. Steady done.1) es (new_asks (own_of line) ctx family) (created_asks h.machine (own_of line)) (made_idle es (own_of line) ctx family) (λ fs made k. joins fs h.machine (own_of line) made k i);
-    accepted = λ es h c s place r is e o g i. made_steady es h.machine (own_of line) (Tcp2 place) (Some s) (side_at (tcp2_at h.machine.store.records place)) (λ k p. let q : place ≡ k = cc in subst (IsThere h.machine.store.records) q (r, g)) (λ k p. absurd (cc)) i;
+    accepted = λ es h c s place r is e o g i. made_steady es h.machine (own_of line) (Tcp2 place) (Some s) (side_at (tcp2_at h.machine.store.records place)) (λ k p. let q : place ≡ k = cc in subst (IsThere h.machine.store.records) q (r, g)) (λ k p. absurd (cc)) (λ k p. absurd (cc)) i;
     polls = polls_steady;
     turns = λ es h place r s g e i. whatever (λ done. Steady (put h place (with_writer r s done.1)).machine) (λ done. put_steady h place r g _ (i.records place r g) i) es (turn_asks s.writer);
     gives_up = λ es h place r q g i. whatever (λ done. Steady (put h place (with_listening r listening.Not)).machine) (λ done. put_steady h place r g _ ((i.records place r g).0, λ side d. refl, ((i.records place r g).2.0, tt)) i) es (give_up_asks r.listening);
     udp_asks = λ es h place n o c at g q i. (tt, λ told fits. i);
     udp_learns = λ es h place part o at g i. (tt, λ told fits. put_udp_steady h place (Udp2Socket.Open o) g _ i);
     udp_peers = λ es h place o at g i. (tt, λ told fits. put_udp_steady h place (Udp2Socket.Open o) g _ i);
-    stream_marks = λ es h place n handle kind made its of i. made_steady es h.machine (own_of n) kind (Some handle) (udp_side_at (udp2_at h.machine.store.records place)) (λ k p. absurd (no_tcp kind place k its p)) (both_there h.machine kind place its (i.udps handle place (udp_record _ place of))) i;
+    stream_marks = λ es h place n handle kind made its of i. made_steady es h.machine (own_of n) kind (Some handle) (udp_side_at (udp2_at h.machine.store.records place)) (λ k p. absurd (no_tcp kind place k its p)) (both_there h.machine kind place its (i.udps handle place (udp_record _ place of))) (λ k p. absurd (no_stream_lookup kind place k its p)) i;
     udp_closes = λ es h place o q g i. (tt, λ told fits. put_udp_steady h place (Udp2Socket.Open o) g _ i);
     udp_creates = λ es h ctx family c may t o m i. (tt, λ told fits. begun_steady h (udp_after_create (own_of line) ctx.name family (told_done told)) i);
-    udp_marks = λ es h place u g i. made_steady es h.machine (udp_side u) (Udp2 place) None (Some (udp_side u)) (λ k p. absurd (cc)) (λ k p. let q : place ≡ k = cc in subst (IsUdpThere h.machine.store.records) q (u, g)) i;
+    udp_marks = λ es h place u g i. made_steady es h.machine (udp_side u) (Udp2 place) None (Some (udp_side u)) (λ k p. absurd (cc)) (λ k p. let q : place ≡ k = cc in subst (IsUdpThere h.machine.store.records) q (u, g)) (λ k p. absurd (cc)) i;
+    lookups = λ es h host l i. (tt, λ told fits records same. found_steady h records same i);
+    looks = λ es h place op at i. (tt, λ told fits. i);
   }
 
   line_steady : (m : Machine) (es : List Entry) → Steady m → Allows Anything (λ fs done. Steady done.1) es (machine_asks contexts m line origin)
@@ -345,4 +401,4 @@ module _ (contexts : List WasiSocketsCtx) (line : ℕ) (origin : Step) where
 
 pub runs_are_steady : (contexts : List WasiSocketsCtx) (steps : List Step) (es : List Entry) (replies : List Reply) (m : Machine) → Left (run contexts [] first_state 1 steps) es (Give (replies, m)) → Steady m
 runs_are_steady contexts steps es replies m w =
-    (run_ends contexts Anything (λ line fs now. Steady now) (λ line s now fs i. line_steady contexts line s now fs i) (record { records = λ place r e. absurd (cc); handles = λ handle place e. absurd (cc); udps = λ handle place e. absurd (cc) }) steps es replies m w).1
+    (run_ends contexts Anything (λ line fs now. Steady now) (λ line s now fs i. line_steady contexts line s now fs i) (record { records = λ place r e. absurd (cc); handles = λ handle place e. absurd (cc); udps = λ handle place e. absurd (cc); lookups = λ handle place e. absurd (cc) }) steps es replies m w).1

@@ -72,13 +72,14 @@ IsDropped _ = ⊥
 abbrev pub without : Machine → ℕ → Machine
 without m handle = record m { table = without_handle m.table handle }
 
--- all but a socket, an output and a datagram stream: nothing is asked where it is dropped, and nothing else goes
+-- all but a socket, an output, a datagram stream and a lookup: nothing is asked where it is dropped, and nothing else goes
 abbrev pub GoesAtOnce : Kind → Type 0
 GoesAtOnce (kind.Tcp2 place) = ⊥
 GoesAtOnce (kind.Udp2 place) = ⊥
 GoesAtOnce (kind.Output place) = ⊥
 GoesAtOnce (kind.Incoming place) = ⊥
 GoesAtOnce (kind.Outgoing place) = ⊥
+GoesAtOnce (kind.Lookup place) = ⊥
 GoesAtOnce _ = ⊤
 
 -- the open halves of the streams, the receiving one first

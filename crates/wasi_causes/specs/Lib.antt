@@ -3,6 +3,7 @@ pub mod Options
 pub mod Turns
 pub mod Reached
 pub mod Outcomes
+pub mod Lookups
 pub mod Polls
 pub mod Udp
 pub mod Datagrams

@@ -1,6 +1,7 @@
 -- How each step is answered: which replies it may give; and by the kind of its reply, where that comes from, and what is left
 -- afterwards.
-use Rattle.std.specs.Prelude.{◌≡◌, ◌⊎◌, ⊤, ℕ, ◌+◌, ◌<◌, true, List, [], ◌∷◌, ◌↔◌, false, length, Option, Some, None, IsSomeAnd}
+use Rattle.std.specs.Prelude.{◌≡◌, ◌⊎◌, ⊤, ℕ, ◌+◌, ◌<◌, Bool, true, List, [], ◌∷◌, ◌↔◌, false, length, Option, Some, None, IsSomeAnd}
+use Rattle.wasi_addr.specs.declared.address.IpAddress.{IpAddress}
 use Rattle.wasi_addr.specs.declared.address.IpSocketAddress.{IpSocketAddress}
 use Rattle.wasi_addr.specs.declared.code.ErrorCode.{ErrorCode}
 use Rattle.wasi_world.specs.declared.outcome.TrapKind.{TrapKind}
@@ -15,8 +16,8 @@ use Rattle.wasi_steps.specs.declared.step.Step.{Step}
 use Rattle.wasi_steps.specs.declared.step.Step.TheVariants as step
 use Rattle.wasi_walks.specs.Answered.{open_udp_at, outgoing_in, word_of_code, MakesHandle, IsWrite, CheckFails, closing_reader, closing_writer, ConnectsAt, CreateRefusal, EndsPending, FailsWith, FinishRefusal, HasNoBindInProgress, HasNoConnectInProgress, HasOperationInProgress, KnowsBound, IsGivenUp, IsUnpermitted, LocalRefusal, MissesHandle, OfRecord, OfStreams, output_streams, Permits, putting, ReadFails, ReadsEnd, ReadsNone, ReadsTold, record_at, RefusedBind, RefusedConnect, RefusedOf, RemoteRefusal, WasClosedWith, with_error, WriteFails}
 use Rattle.wasi_machine.specs.Machine.{first_ids, is_guest_call, context_at}
-use Rattle.wasi_steps.specs.Replies.{FieldKind, ANumber, SomeBytes, Truth, FieldKinds, Each, AnAddress, ADatagramList, OneOf, kinds_of}
-use Rattle.wasi_steps.specs.Reply.{address_values, datagram_values, family_fields, no_fields, number_fields, triple_fields, truth_fields}
+use Rattle.wasi_steps.specs.Replies.{FieldKind, ANumber, SomeBytes, Truth, Nothing, FieldKinds, Each, AnAddress, AnIpOrNone, ADatagramList, OneOf, kinds_of}
+use Rattle.wasi_steps.specs.Reply.{address_values, datagram_values, family_fields, found_values, no_fields, number_fields, triple_fields, truth_fields}
 use Rattle.wasi_walks.specs.Waiting.{IsPoll, IsUnready, left_missing, MayStand, OfWatched, OutputWaits, pollable_mark, StandingFails, StandingWaits, PendingCallsFit, WatchesAccept, WatchesConnect, WatchesIdle}
 use Rattle.wasi_causes.specs.GivenUp.{IsDrop, HasLiveChildren, HasNoStreams, IsGone, LooksOnce, shut_down, shutdown_entries, socket_given_up, without}
 use Rattle.wasi_world.specs.declared.call.Call.TheVariants as call
@@ -26,7 +27,9 @@ use Rattle.wasi_world.specs.declared.outcome.WasiSocketsCtx.{WasiSocketsCtx}
 use Rattle.wasi_streams.specs.Table.{is_full}
 use Rattle.wasi_tcp.specs.declared.writer.WriteError.TheVariants as error
 use Rattle.wasi_tcp.specs.Socket.{new_socket}
-use Rattle.wasi_host.specs.Records.{tcp2_at, udp2_at, open_at}
+use Rattle.wasi_host.specs.Records.{tcp2_at, udp2_at, open_at, lookup_at}
+use Rattle.wasi_host.specs.declared.name_lookup.Lookup.{Lookup}
+use Rattle.wasi_host.specs.NameLookupCalls.{lookup_ready}
 use Rattle.wasi_host.specs.declared.udp.OpenUdp.{OpenUdp}
 use Rattle.wasi_host.specs.UdpCalls.{with_udp}
 use Rattle.wasi_host.specs.declared.udp.Udp2Socket.{Udp2Socket}
@@ -42,6 +45,7 @@ use Rattle.wasi_host.specs.Store.{with_record}
 use Rattle.wasi_walks.specs.Licence.{entry, Has, marks_in}
 use Rattle.wasi_walks.specs.Listens.{AcceptsAt, closed_by_listen, AcceptTakes, HasNoListenInProgress, RefusedAccept, RefusedListen}
 use Rattle.wasi_steps.specs.Settings.{chosen, udp_opt}
+use Rattle.wasi_causes.specs.Lookups.{found_lookup, HandsOut, LeavesLookup, LookedOn, LookupGone, LookupWaits, OfLookup, RefusesNames, ResolveRefusal, Resolves, TellsNext, WatchesLookup}
 use Rattle.wasi_causes.specs.Options.{GetsOption, RefusedGet, RefusedSet, SetsChosen}
 use Rattle.wasi_causes.specs.Reached.{FinishesAt, ListensLateAt}
 use Rattle.wasi_causes.specs.Turns.{IsOfJob}
@@ -59,6 +63,7 @@ IsLike ANumber (field.Number n) = ⊤
 IsLike SomeBytes (field.Bytes bytes) = ⊤
 IsLike Truth field.True = ⊤
 IsLike Truth field.False = ⊤
+IsLike Nothing field.Absent = ⊤
 IsLike _ _ = ⊥
 
 abbrev pub EachLike : List FieldKind → List Field → Type 0
@@ -70,11 +75,12 @@ abbrev pub LikeOneOf : List (List FieldKind) → List Field → Type 0
 LikeOneOf [] fields = ⊥
 LikeOneOf (kinds ∷ lists) fields = EachLike kinds fields ⊎ LikeOneOf lists fields
 
--- one of each of these kinds, or the numbers of an address, or the fields of datagrams, or those of one of these lists; nothing is
--- said of widths
+-- one of each of these kinds, or the numbers of an address, or those of one with no port, or none, or the fields of datagrams, or those
+-- of one of these lists; nothing is said of widths
 abbrev pub AreLike : FieldKinds → List Field → Type 0
 AreLike (Each kinds) fields = EachLike kinds fields
 AreLike AnAddress fields = (a : IpSocketAddress) × (fields ≡ address_values a)
+AreLike AnIpOrNone fields = (found : Option IpAddress) × (fields ≡ found_values found)
 AreLike ADatagramList fields = (ds : List IncomingDatagram) × (fields ≡ datagram_values ds)
 AreLike (OneOf lists) fields = LikeOneOf lists fields
 
@@ -84,7 +90,7 @@ pub record IsCodeWord (w : CodeWord) : Type 0 where
   pub code : ErrorCode
   pub is : w ≡ word_of_code code
 
--- by which word a step may be refused; beside codes the host has three words of its own
+-- by which word a step may be refused; beside codes the host has three words of its own, and lookups have theirs
 abbrev pub MayRefuse : Step → CodeWord → Type 0
 MayRefuse (step.TcpCreate ctx family) w = IsCodeWord w
 MayRefuse (step.TcpStartBind ctx socket network a) w = (w ≡ word.ConcurrencyConflict) ⊎ IsCodeWord w
@@ -109,6 +115,8 @@ MayRefuse (step.UdpSet ctx socket setting) w = IsCodeWord w
 MayRefuse (step.UdpStream ctx socket remote) w = IsCodeWord w
 MayRefuse (step.UdpReceive ctx incoming most) w = IsCodeWord w
 MayRefuse (step.UdpSend ctx outgoing datagrams) w = IsCodeWord w
+MayRefuse (step.Resolve ctx network name) w = (w ≡ word.PermanentResolverFailure) ⊎ ((w ≡ word.InvalidArgument) ⊎ (w ≡ word.NameUnresolvable))
+MayRefuse (step.ResolveNext ctx lookup) w = (w ≡ word.WouldBlock) ⊎ (w ≡ word.NameUnresolvable)
 MayRefuse (step.Poll n) w = IsCodeWord w
 MayRefuse _ w = ⊥
 
@@ -179,6 +187,10 @@ Conflicts m handle r = (r ≡ reply.Err word.ConcurrencyConflict) ↔ HasOperati
 abbrev pub UdpConflicts : Machine → ℕ → Reply → Type 0
 UdpConflicts m handle r = (r ≡ reply.Err word.ConcurrencyConflict) ↔ HasUdpInProgress (open_udp_at m handle)
 
+-- only where this is allowed anything is asked, or left
+abbrev pub OnlyWhere : Bool → Machine → List Entry → Machine → Type 0
+OnlyWhere allowed m es after = allowed ≡ false → Quiet m es after
+
 -- it is ready, and nothing was asked
 abbrev pub ReadyAtOnce : Machine → List Entry → Reply → Machine → Type 0
 ReadyAtOnce m es r after = (r ≡ reply.Ok (truth_fields true)) × Quiet m es after
@@ -190,40 +202,46 @@ AsksOnce line (Some (kind.Udp2 place)) es = ⊤
 AsksOnce line (Some (kind.Output place)) es = LooksOnce (own_of line) es
 AsksOnce line _ es = es ≡ []
 
--- What a turn leaves: the handles and the pending call as they were; and who asks in it.
+-- What a turn leaves: the handles and the pending call as they were, and each lookup as it was or as it was told; and who asks in it.
 pub record Turns (m : Machine) (es : List Entry) (r : Reply) (after : Machine) : Type 0 where
   pub ok : r ≡ reply.Ok no_fields
   pub asked : (e : Entry) → Has es e → IsOfJob m e.op
   pub handles : after.table ≡ m.table
   pub pending : after.store.standing ≡ m.store.standing
+  pub lookups : (place : ℕ) (l : Lookup) → lookup_at after.store.records place ≡ Some l → LookedOn m place es l
 
 -- one reply comes of this and of nothing else; or some of these things stay
-abbrev pub Always : Machine → ℕ → Step → List Entry → Reply → Machine → Type 0
-Always m line (step.TcpStartBind c s n a) es r after = is_network (kind_at m.table n) ≡ true → Conflicts m s r
-Always m line (step.TcpFinishBind c s) es r after = (es ≡ []) × ((r ≡ reply.Err word.NotInProgress) ↔ HasNoBindInProgress (record_at m s))
-Always m line (step.TcpStartConnect c s n a) es r after = is_network (kind_at m.table n) ≡ true → Conflicts m s r
-Always m line (step.TcpFinishConnect c s) es r after = (r ≡ reply.Err word.NotInProgress) ↔ HasNoConnectInProgress (record_at m s)
-Always m line (step.TcpStartListen c s) es r after = Conflicts m s r
-Always m line (step.TcpFinishListen c s) es r after = (es ≡ []) × ((r ≡ reply.Err word.NotInProgress) ↔ HasNoListenInProgress (record_at m s))
-Always m line (step.TcpIsListening c s) es r after = Quiet m es after
-Always m line (step.TcpAddressFamily c s) es r after = Quiet m es after
-Always m line (step.TcpGet c s option) es r after = after ≡ m
-Always m line (step.Write c output bytes) es r after = (r ≡ reply.Trap NotPermitted) ↔ IsSomeAnd (output_streams m output) (λ s. IsUnpermitted s.writer (length bytes))
-Always m line (step.Ready c p) es r after = (WatchesIdle m p → ReadyAtOnce m es r after) × (WatchesUdp m p → ReadyAtOnce m es r after) × ((place : ℕ) → WatchesOutgoing m p place → (r ≡ reply.Ok (truth_fields (outgoing_ready (open_at m.store.records place)))) × Quiet m es after) × ((place : ℕ) → WatchesIncoming m p place → r ≡ reply.Ok (truth_fields false) → IsReceiving (open_at after.store.records place))
-Always m line (step.Drop c h) es r after = ((r ≡ reply.Trap HasChildren) ↔ HasLiveChildren m h) × AsksOnce line (kind_at m.table h) es
-Always m line (step.TcpShutdown c s how) es r after = (r ≡ reply.Err word.InvalidState) ↔ HasNoStreams (record_at m s)
-Always m line (step.UdpStartBind c s n a) es r after = is_network (kind_at m.table n) ≡ true → UdpConflicts m s r
-Always m line (step.UdpFinishBind c s) es r after = (es ≡ []) × ((r ≡ reply.Err word.NotInProgress) ↔ HasNoUdpBind (open_udp_at m s))
-Always m line (step.UdpRemoteAddress c s) es r after = Quiet m es after × ((r ≡ reply.Err word.InvalidState) ↔ KeepsNoRemote (open_udp_at m s))
-Always m line (step.UdpAddressFamily c s) es r after = Quiet m es after
-Always m line (step.UdpStream c s remote) es r after = ((r ≡ reply.Trap StreamsAlive) ↔ HasUdpStreams (open_udp_at m s)) × (m.store.standing ≡ None → PendingHandleIsLive after)
-Always m line (step.UdpCheckSend c s) es r after = es ≡ []
-Always m line (step.UdpSend c s datagrams) es r after = (r ≡ reply.Trap NotPermitted) ↔ IsSomeAnd (outgoing_in m s) (λ out. out.permit < length datagrams)
-Always m line (step.UdpGet c s option) es r after = after ≡ m
-Always m line (step.UdpSet c s setting) es r after = after ≡ m
-Always m line step.Turn es r after = Turns m es r after
-Always m line (step.Poll n) es r after = ((r ≡ reply.NoSuchCall) ↔ (stands_as m.store.standing n ≡ false)) × (stands_as m.store.standing n ≡ true → (r ≡ reply.Pending n) ⊎ (after.store.standing ≡ None))
-Always m line _ es r after = ⊤
+abbrev pub Always : List WasiSocketsCtx → Machine → ℕ → Step → List Entry → Reply → Machine → Type 0
+Always contexts m line (step.TcpCreate c family) es r after = OnlyWhere (context_at contexts c).tcp m es after
+Always contexts m line (step.TcpStartBind c s n a) es r after = is_network (kind_at m.table n) ≡ true → Conflicts m s r
+Always contexts m line (step.TcpFinishBind c s) es r after = (es ≡ []) × ((r ≡ reply.Err word.NotInProgress) ↔ HasNoBindInProgress (record_at m s))
+Always contexts m line (step.TcpStartConnect c s n a) es r after = is_network (kind_at m.table n) ≡ true → Conflicts m s r
+Always contexts m line (step.TcpFinishConnect c s) es r after = (r ≡ reply.Err word.NotInProgress) ↔ HasNoConnectInProgress (record_at m s)
+Always contexts m line (step.TcpStartListen c s) es r after = Conflicts m s r
+Always contexts m line (step.TcpFinishListen c s) es r after = (es ≡ []) × ((r ≡ reply.Err word.NotInProgress) ↔ HasNoListenInProgress (record_at m s))
+Always contexts m line (step.TcpIsListening c s) es r after = Quiet m es after
+Always contexts m line (step.TcpAddressFamily c s) es r after = Quiet m es after
+Always contexts m line (step.TcpGet c s option) es r after = after ≡ m
+Always contexts m line (step.Write c output bytes) es r after = (r ≡ reply.Trap NotPermitted) ↔ IsSomeAnd (output_streams m output) (λ s. IsUnpermitted s.writer (length bytes))
+Always contexts m line (step.Ready c p) es r after = (WatchesIdle m p → ReadyAtOnce m es r after) × (WatchesUdp m p → ReadyAtOnce m es r after) × ((place : ℕ) → WatchesOutgoing m p place → (r ≡ reply.Ok (truth_fields (outgoing_ready (open_at m.store.records place)))) × Quiet m es after) × ((place : ℕ) → WatchesIncoming m p place → r ≡ reply.Ok (truth_fields false) → IsReceiving (open_at after.store.records place)) × ((place : ℕ) → WatchesLookup m p place → (r ≡ reply.Ok (truth_fields (lookup_ready (lookup_at m.store.records place)))) × Quiet m es after)
+Always contexts m line (step.Drop c h) es r after = ((r ≡ reply.Trap HasChildren) ↔ HasLiveChildren m h) × AsksOnce line (kind_at m.table h) es
+Always contexts m line (step.TcpShutdown c s how) es r after = (r ≡ reply.Err word.InvalidState) ↔ HasNoStreams (record_at m s)
+Always contexts m line (step.UdpCreate c family) es r after = OnlyWhere (context_at contexts c).udp m es after
+Always contexts m line (step.UdpStartBind c s n a) es r after = is_network (kind_at m.table n) ≡ true → UdpConflicts m s r
+Always contexts m line (step.UdpFinishBind c s) es r after = (es ≡ []) × ((r ≡ reply.Err word.NotInProgress) ↔ HasNoUdpBind (open_udp_at m s))
+Always contexts m line (step.UdpRemoteAddress c s) es r after = Quiet m es after × ((r ≡ reply.Err word.InvalidState) ↔ KeepsNoRemote (open_udp_at m s))
+Always contexts m line (step.UdpAddressFamily c s) es r after = Quiet m es after
+Always contexts m line (step.UdpStream c s remote) es r after = ((r ≡ reply.Trap StreamsAlive) ↔ HasUdpStreams (open_udp_at m s)) × (m.store.standing ≡ None → PendingHandleIsLive after)
+Always contexts m line (step.UdpCheckSend c s) es r after = es ≡ []
+Always contexts m line (step.UdpSend c s datagrams) es r after = (r ≡ reply.Trap NotPermitted) ↔ IsSomeAnd (outgoing_in m s) (λ out. out.permit < length datagrams)
+Always contexts m line (step.UdpGet c s option) es r after = after ≡ m
+Always contexts m line (step.UdpSet c s setting) es r after = after ≡ m
+Always contexts m line (step.Resolve c n name) es r after = OnlyWhere (context_at contexts c).ip_name_lookup m es after × (is_network (kind_at m.table n) ≡ true → RefusesNames (context_at contexts c) name r)
+Always contexts m line (step.ResolveNext c h) es r after = TellsNext (found_lookup m h) es r
+Always contexts m line (step.NetworkErrorCode c e) es r after = Quiet m es after
+Always contexts m line step.Turn es r after = Turns m es r after
+Always contexts m line (step.Poll n) es r after = ((r ≡ reply.NoSuchCall) ↔ (stands_as m.store.standing n ≡ false)) × (stands_as m.store.standing n ≡ true → (r ≡ reply.Pending n) ⊎ (after.store.standing ≡ None))
+Always contexts m line _ es r after = ⊤
 
 -- == done
 -- The connection was taken, and its three handles are the next ones.
@@ -251,7 +269,7 @@ pub record Subscribes (m : Machine) (line handle : ℕ) (es : List Entry) (field
 -- it is ready or it isn't
 abbrev pub Looks : Machine → ℕ → ℕ → List Entry → List Field → Type 0
 Looks m line pollable es (field.True ∷ []) = ⊤
-Looks m line pollable es (field.False ∷ []) = (WatchesDatagrams m pollable → ⊥) → WatchesConnect m pollable → WatchesAccept m pollable → OfWatched m pollable (λ w r. IsUnready (own_of line) r es w)
+Looks m line pollable es (field.False ∷ []) = (WatchesDatagrams m pollable → ⊥) → WatchesConnect m pollable → WatchesAccept m pollable → OfWatched m pollable (λ w r. IsUnready (own_of line) r es w) ⊎ LookupWaits m pollable es
 Looks m line pollable es _ = ⊥
 
 -- what is left where the handle that was dropped is of this kind
@@ -261,6 +279,7 @@ Gone m line handle (Some (kind.Udp2 place)) es after = (u : Udp2Socket) → udp2
 Gone m line handle (Some (kind.Output place)) es after = ⊤
 Gone m line handle (Some (kind.Incoming place)) es after = (o : OpenUdp) → open_at m.store.records place ≡ Some o → IncomingGone m handle place o es after
 Gone m line handle (Some (kind.Outgoing place)) es after = (o : OpenUdp) → open_at m.store.records place ≡ Some o → OutgoingGone m handle place o es after
+Gone m line handle (Some (kind.Lookup place)) es after = (l : Lookup) → lookup_at m.store.records place ≡ Some l → LookupGone m handle place es after
 Gone m line handle _ es after = after ≡ without m handle
 
 abbrev pub Done : List WasiSocketsCtx → Machine → ℕ → Step → List Entry → List Field → Machine → Type 0
@@ -286,6 +305,9 @@ Done contexts m line (step.UdpStream c s remote) es fields after = MadeBoth m s 
 Done contexts m line (step.UdpReceive c s most) es fields after = ReceivesSome most fields
 Done contexts m line (step.UdpSend c s datagrams) es fields after = SendsSome datagrams fields × (0 < length datagrams → IsSpent after s)
 Done contexts m line (step.UdpCheckSend c s) es fields after = OfOutgoing m (outgoing_at m s) (λ place o out. PermitsSend m place o out fields after)
+Done contexts m line (step.Resolve c n name) es fields after = Resolves m (own_of line) (context_at contexts c) n name es fields after
+Done contexts m line (step.ResolveNext c h) es fields after = OfLookup m h (λ place l. HandsOut m place l fields after)
+Done contexts m line (step.NetworkErrorCode c e) es fields after = fields ≡ field.Absent ∷ []
 Done contexts m line (step.Poll n) es fields after = IsSomeAnd m.store.standing (λ s. GivesBy m fields after s.call)
 Done contexts m line s es fields after = ⊤
 
@@ -318,6 +340,8 @@ Refused contexts m line (step.UdpSet c s setting) es w after = OfUdp m s (λ pla
 Refused contexts m line (step.UdpReceive c s most) es w after = OfIncoming m (incoming_at m s) (λ place o inc. UdpReceiveRefusal (next_name (first_ids line)) o inc es w)
 Refused contexts m line (step.UdpSend c s datagrams) es w after = OfOutgoing m (outgoing_at m s) (λ place o out. UdpSendRefusal (next_name (first_ids line)) datagrams o out es w) × IsSpent after s
 Refused contexts m line (step.UdpStream c s remote) es w after = RefusedOfUdp m s (λ place o. UdpStreamRefusal m (own_of line) place o remote) es w after
+Refused contexts m line (step.Resolve c n name) es w after = ResolveRefusal (own_of line) (context_at contexts c) name es w × (after ≡ m)
+Refused contexts m line (step.ResolveNext c h) es w after = after ≡ m
 Refused contexts m line (step.Poll n) es w after = (PendingCallsFit m → StandingFails m n es w × IsSomeAnd m.store.standing (λ s. ClosesBy after s.call)) × (after.table ≡ m.table)
 Refused contexts m line s es w after = ⊤
 
@@ -362,6 +386,7 @@ LeftFull contexts m line (step.UdpCreate c family) es after =
     let its = context_at contexts c in
     (is_full m.table ≡ true) × (es ≡ udp_create_entry (own_of line) its family told.Done ∷ writable_entry (own_of line) told.Done ∷ []) × (after ≡ with_udp_record m (new_udp (own_of line) its family))
 LeftFull contexts m line (step.UdpStream c s remote) es after = IsSomeAnd (udp_socket_at m s) (λ place. LacksRoomForBoth m.table place s)
+LeftFull contexts m line (step.Resolve c n name) es after = LeavesLookup m (own_of line) name es after
 LeftFull contexts m line (step.Poll n) es after = ((is_full m.table ≡ true) × IsSomeAnd m.store.standing (λ s. IsPendingCreate s.call)) ⊎ IsSomeAnd m.store.standing (λ s. LacksRoomForStreams m s.call)
 LeftFull contexts m line s es after = ⊤
 
@@ -391,4 +416,4 @@ Replies contexts m line s es reply.NoSuchCall after = IsPoll s × Quiet m es aft
 Replies contexts m line s es _ after = ⊥
 
 abbrev pub Outcome : List WasiSocketsCtx → Machine → ℕ → Step → List Entry → Reply → Machine → Type 0
-Outcome contexts m line s es r after = Always m line s es r after × Replies contexts m line s es r after
+Outcome contexts m line s es r after = Always contexts m line s es r after × Replies contexts m line s es r after

@@ -3,9 +3,9 @@ use Rattle.std.specs.Prelude.{◌≡◌, ⊤, ℕ, true, false, IfSome, IsSome}
 use Rattle.wasi_world.specs.declared.ids.OpId.{OpId}
 use Rattle.wasi_tcp.specs.declared.socket.TcpState.{TcpState}
 use Rattle.wasi_tcp.specs.declared.socket.TcpState.TheVariants as state
-use Rattle.wasi_host.specs.Records.{tcp2_at, udp2_at}
+use Rattle.wasi_host.specs.Records.{tcp2_at, udp2_at, lookup_at}
 use Rattle.wasi_host.specs.declared.kind.Kind.{Kind}
-use Rattle.wasi_host.specs.declared.kind.Kind.TheVariants.{Network, Tcp2, Udp2, Input, Output, Incoming, Outgoing, Pollable, ErrorValue}
+use Rattle.wasi_host.specs.declared.kind.Kind.TheVariants.{Network, Tcp2, Udp2, Input, Output, Incoming, Outgoing, Pollable, Lookup, ErrorValue}
 use Rattle.wasi_host.specs.declared.kind.Watched.TheVariants as watched
 use Rattle.wasi_host.specs.declared.listening.Listening.TheVariants as listening
 use Rattle.wasi_host.specs.declared.machine.Machine.{Machine}
@@ -22,7 +22,11 @@ HasRecord m place = IsSome (tcp2_at m.store.records place)
 abbrev pub HasUdpRecord : Machine → ℕ → Type 0
 HasUdpRecord m place = IsSome (udp2_at m.store.records place)
 
--- a handle of a socket, a stream or a pollable is of a record that is there
+-- and of a lookup
+abbrev pub HasLookupRecord : Machine → ℕ → Type 0
+HasLookupRecord m place = IsSome (lookup_at m.store.records place)
+
+-- a handle of a socket, a stream, a pollable or a lookup is of a record that is there
 abbrev pub OfItsRecord : Machine → Kind → Type 0
 OfItsRecord m Network = ⊤
 OfItsRecord m (Tcp2 place) = HasRecord m place
@@ -34,7 +38,9 @@ OfItsRecord m (Outgoing place) = HasUdpRecord m place
 OfItsRecord m (Pollable (watched.Udp place)) = HasUdpRecord m place
 OfItsRecord m (Pollable (watched.Incoming place)) = HasUdpRecord m place
 OfItsRecord m (Pollable (watched.Outgoing place)) = HasUdpRecord m place
+OfItsRecord m (Pollable (watched.Lookup place)) = HasLookupRecord m place
 OfItsRecord m (Pollable w) = HasRecord m (place_in w)
+OfItsRecord m (Lookup place) = HasLookupRecord m place
 OfItsRecord m ErrorValue = ⊤
 
 -- == a connect in progress

@@ -3,7 +3,7 @@ use Rattle.std.specs.Prelude.{◌≡◌, List, Option, Some, None}
 use Rattle.wasi_world.specs.declared.ids.OpId.{OpId}
 use Rattle.wasi_tcp.specs.declared.writer.WriteState.{WriteState}
 use Rattle.wasi_tcp.specs.declared.writer.WriteState.TheVariants as writing
-use Rattle.wasi_host.specs.Records.{tcp2_at, open_at}
+use Rattle.wasi_host.specs.Records.{tcp2_at, open_at, lookup_at}
 use Rattle.wasi_host.specs.declared.datagrams.Incoming.{Incoming}
 use Rattle.wasi_host.specs.declared.datagrams.Outgoing.{Outgoing}
 use Rattle.wasi_host.specs.declared.datagrams.Receiving.{Receiving}
@@ -11,7 +11,9 @@ use Rattle.wasi_host.specs.declared.datagrams.Receiving.TheVariants as receiving
 use Rattle.wasi_host.specs.declared.datagrams.Sending.{Sending}
 use Rattle.wasi_host.specs.declared.datagrams.Sending.TheVariants as sending
 use Rattle.wasi_host.specs.declared.jobs.HostJob.{HostJob}
-use Rattle.wasi_host.specs.declared.jobs.HostJob.TheVariants.{Write, Datagram, Receive}
+use Rattle.wasi_host.specs.declared.jobs.HostJob.TheVariants.{Write, Datagram, Receive, Lookup as LookupJob}
+use Rattle.wasi_host.specs.declared.name_lookup.Lookup.{Lookup}
+use Rattle.wasi_host.specs.declared.name_lookup.Lookup.TheVariants as lookup
 use Rattle.wasi_host.specs.declared.records.Record.{Record}
 use Rattle.wasi_host.specs.declared.udp.OpenUdp.{OpenUdp}
 use Rattle.wasi_host.specs.declared.machine.Machine.{Machine}
@@ -61,13 +63,23 @@ abbrev pub receive_of : Option OpenUdp → Option OpId
 receive_of None = None
 receive_of (Some o) = incoming_asks_by o.incoming
 
+-- by which operation a lookup asks
+abbrev pub looks_by : Lookup → Option OpId
+looks_by (lookup.InProgress op) = Some op.id
+looks_by _ = None
+
+abbrev pub lookup_of : Option Lookup → Option OpId
+lookup_of None = None
+lookup_of (Some l) = looks_by l
+
 -- by which operation a job asks
 abbrev pub asks_by : List Record → HostJob → Option OpId
 asks_by records (Write place) = job_of (tcp2_at records place)
 asks_by records (Datagram place) = datagram_of (open_at records place)
 asks_by records (Receive place) = receive_of (open_at records place)
+asks_by records (LookupJob place) = lookup_of (lookup_at records place)
 
--- The operation is that of a job: of the write of a record, or of the datagram or the receive of a UDP socket.
+-- The operation is that of a job: of the write of a record, of the datagram or the receive of a UDP socket, or of a lookup.
 pub record IsOfJob (m : Machine) (op : OpId) : Type 0 where
   pub job : HostJob
   pub listed : Has m.store.jobs job

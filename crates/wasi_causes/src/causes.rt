@@ -1,6 +1,6 @@
 //! Laws over the definitions of specs/ that say where each answer of a step comes from, and what is left after a refusal:
 //! each is a function that does nothing, whose contract is the law. A socket is a TCP socket here, where nothing else is said;
-//! the steps of UDP sockets are in `udp`, and those of their datagram streams in `datagrams`.
+//! the steps of UDP sockets are in `udp`, those of their datagram streams in `datagrams`, and those of lookups in `lookups`.
 
 ghost use Rattle.std.specs.Prelude.{◌≡◌, ◌↔◌, ◌⊎◌, ℕ, ◌+◌, true, false, List, [], ◌∷◌, length, IsSome, IsSomeAnd, Some, None, slice_get};
 ghost use Rattle.wasi_addr.specs.declared.address.IpSocketAddress.{IpSocketAddress};
@@ -31,11 +31,13 @@ ghost use Rattle.wasi_walks.specs.Licence.{entry, Has, marks_in};
 ghost use Rattle.wasi_machine.specs.Machine.{context_at, run};
 ghost use Rattle.wasi_steps.specs.Steps.{context_of};
 ghost use Rattle.wasi_host.specs.Machine.{first_state, input_at, outgoing_at, output_at, own_of, socket_at};
-ghost use Rattle.wasi_host.specs.Records.{tcp2_at};
+ghost use Rattle.wasi_host.specs.declared.name_lookup.Lookup.{Lookup};
+ghost use Rattle.wasi_host.specs.Records.{lookup_at, tcp2_at};
 ghost use Rattle.wasi_host.specs.Shutdowns.{with_streams};
 ghost use Rattle.wasi_host.specs.Kinds.{is_network, kind_at, watched_by, with_handle, without_handle};
 ghost use Rattle.wasi_host.specs.Standing.{stands_as};
 ghost use Rattle.wasi_steps.specs.Reply.{bytes_fields, no_fields, number_fields, truth_fields};
+ghost use Rattle.wasi_causes.specs.Lookups.{LookedOn, LookupWaits};
 ghost use Rattle.wasi_causes.specs.Turns.{IsOfJob};
 ghost use Rattle.wasi_walks.specs.Waiting.{IsFailure, IsPoll, IsUnready, left_missing, MayStand, OfWatched, OutputWaits, pollable_mark, StandingFails, StandingWaits, PendingCallsFit, WatchesAccept, WatchesConnect, WatchesIdle};
 ghost use Rattle.wasi_host.specs.InProgress.{is_connect};
@@ -235,7 +237,7 @@ pub fn runs_connect_by_connects()
         → Left (run contexts [] first_state 1 steps) entries (Give (replies, m)) → (pollable : ℕ) → WatchesConnect m pollable }
 {}
 
-/// After the lines of any script: each live handle of a socket, a stream or a pollable is of a record that is there, so a
+/// After the lines of any script: each live handle of a socket, a stream, a lookup or a pollable is of a record that is there, so a
 /// number of which no TCP socket is found isn't live or stands for something else; a pending call is of a socket that is there, and
 /// one that makes datagram streams is of a handle that is live;
 /// and where a connect is in progress, the socket connects, or was closed with a code, or is connected and neither half of it was
@@ -290,6 +292,16 @@ pub fn listening_and_family_are_never_refused()
         → IsQuiet s → Answered contexts m line s entries (Reply.Err word) after → ⊥ }
     ensures quiet { (contexts : List WasiSocketsCtx) (m : Machine) (line : ℕ) (s : Step) (entries : List Entry) (reply : Reply) (after : Machine)
         → IsQuiet s → Answered contexts m line s entries reply after → (entries ≡ []) × (after ≡ m) }
+{}
+
+/// The network's code of an error of a stream is none. It is never refused and asks nothing, and the machine stays as it was.
+pub fn errors_have_no_network_code()
+    ensures none { (contexts : List WasiSocketsCtx) (m : Machine) (line ctx error : ℕ) (fields : List Field) (entries : List Entry) (after : Machine)
+        → Answered contexts m line (Step.NetworkErrorCode ctx error) entries (Reply.Ok fields) after → fields ≡ Field.Absent ∷ [] }
+    ensures never { (contexts : List WasiSocketsCtx) (m : Machine) (line ctx error : ℕ) (entries : List Entry) (word : CodeWord) (after : Machine)
+        → Answered contexts m line (Step.NetworkErrorCode ctx error) entries (Reply.Err word) after → ⊥ }
+    ensures quiet { (contexts : List WasiSocketsCtx) (m : Machine) (line ctx error : ℕ) (entries : List Entry) (reply : Reply) (after : Machine)
+        → Answered contexts m line (Step.NetworkErrorCode ctx error) entries reply after → (entries ≡ []) × (after ≡ m) }
 {}
 
 /// Each read that hands out at least one byte hands out exactly what its one ask, a read of its open half, was answered; and
@@ -417,7 +429,7 @@ pub fn shutdown_refusals()
 
 /// A pollable of another thing than a datagram stream isn't ready where the connect in progress was answered pending, or with
 /// nothing in progress the accept of a listener waits, or the input that is open was answered pending, or the output's write is in progress or its writer was
-/// answered pending: that is said where a socket connects by a connect and accepts by an accept, as all do after any lines. A
+/// answered pending, or the lookup is in progress, of which nothing is asked: that is said where a socket connects by a connect and accepts by an accept, as all do after any lines. A
 /// socket with no connect in progress, and with no listener unless another operation is in progress, is ready, which asks
 /// nothing and leaves the machine as it was. A look never fails.
 pub fn readiness_has_causes()
@@ -425,7 +437,7 @@ pub fn readiness_has_causes()
         → Answered contexts m line (Step.Ready ctx pollable) entries (Reply.Ok fields) after → (fields ≡ truth_fields true) ⊎ (fields ≡ truth_fields false) }
     ensures not_ready { (contexts : List WasiSocketsCtx) (m : Machine) (line ctx pollable : ℕ) (entries : List Entry) (after : Machine)
         → (WatchesDatagrams m pollable → ⊥) → WatchesConnect m pollable → WatchesAccept m pollable → Answered contexts m line (Step.Ready ctx pollable) entries (Reply.Ok (truth_fields false)) after
-        → OfWatched m pollable (λ w r. IsUnready (own_of line) r entries w) }
+        → OfWatched m pollable (λ w r. IsUnready (own_of line) r entries w) ⊎ LookupWaits m pollable entries }
     ensures idle { (contexts : List WasiSocketsCtx) (m : Machine) (line ctx pollable : ℕ) (entries : List Entry) (reply : Reply) (after : Machine)
         → m.store.standing ≡ None → WatchesIdle m pollable → Answered contexts m line (Step.Ready ctx pollable) entries reply after
         → (reply ≡ Reply.Ok (truth_fields true)) × (entries ≡ []) × (after ≡ m) }
@@ -449,7 +461,9 @@ pub fn subscribe_makes_a_pollable()
 {}
 
 /// A turn is always ok, and leaves the handles as they were. Whatever it asks is asked by the operation of a job: of a background
-/// write of a record, or of a datagram that is sent in the background or a receive in progress of a UDP socket.
+/// write of a record, of a datagram that is sent in the background or a receive in progress of a UDP socket, or of a lookup in
+/// progress. Each lookup is as it was afterwards; or it was in progress, and has found the names, or failed with a code, that its
+/// operation was told in the turn.
 pub fn turns_are_ok()
     ensures ok { (contexts : List WasiSocketsCtx) (m : Machine) (line : ℕ) (entries : List Entry) (reply : Reply) (after : Machine)
         → Answered contexts m line Step.Turn entries reply after → reply ≡ Reply.Ok no_fields }
@@ -457,4 +471,6 @@ pub fn turns_are_ok()
         → Answered contexts m line Step.Turn entries reply after → (e : Entry) → Has entries e → IsOfJob m e.op }
     ensures handles { (contexts : List WasiSocketsCtx) (m : Machine) (line : ℕ) (entries : List Entry) (reply : Reply) (after : Machine)
         → Answered contexts m line Step.Turn entries reply after → after.table ≡ m.table }
+    ensures lookups { (contexts : List WasiSocketsCtx) (m : Machine) (line place : ℕ) (l : Lookup) (entries : List Entry) (reply : Reply) (after : Machine)
+        → Answered contexts m line Step.Turn entries reply after → lookup_at after.store.records place ≡ Some l → LookedOn m place entries l }
 {}

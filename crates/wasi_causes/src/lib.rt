@@ -5,5 +5,6 @@
 pub mod causes;
 pub mod datagrams;
 pub mod listens;
+pub mod lookups;
 pub mod options;
 pub mod udp;

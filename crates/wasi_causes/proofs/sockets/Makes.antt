@@ -20,7 +20,8 @@ use Rattle.wasi_causes.proofs.operations.Marks.{poll_marks_none}
 use Rattle.wasi_causes.proofs.operations.Polls.{EndsFor, connect_ends}
 use Rattle.wasi_causes.proofs.tables.Meets.{Rows, Meets, ends, asks, chain, onto, branch, widen, both, granted}
 use Rattle.wasi_causes.proofs.tables.Routes.{Replied, Says, makes, full_so, code_word, makes_streams, Names, its, here, through_record, apart, none_has, not_of_code, put_back}
-use Rattle.wasi_causes.specs.Outcomes.{Outcome}
+use Rattle.wasi_causes.proofs.Words.{CodeWord}
+use Rattle.wasi_causes.specs.Outcomes.{OnlyWhere, Outcome}
 use Rattle.wasi_causes.specs.Reached.{Finishes, FinishesAt, MayFinish}
 use Rattle.wasi_host.specs.Records.{tcp2_at, tcp2_put, tcp2_pushed}
 use Rattle.wasi_host.specs.declared.listening.Listening.TheVariants as listening
@@ -46,11 +47,11 @@ module _ (contexts : List WasiSocketsCtx) (m : Machine) (line c : ℕ) where
     ctx = context_at contexts c
 
     abbrev SocketRow : Rows (Result Socket ErrorCode)
-    SocketRow es (Ok socket) = (socket ≡ new_socket (own_of line) ctx.name family) × (es ≡ entry (own_of line) (call.TcpCreate ctx.name family) told.Done ∷ [])
+    SocketRow es (Ok socket) = (socket ≡ new_socket (own_of line) ctx.name family) × (es ≡ entry (own_of line) (call.TcpCreate ctx.name family) told.Done ∷ []) × (ctx.tcp ≡ true)
     SocketRow es (Err code) = CreateRefusal (own_of line) ctx family es (word_of_code code)
 
     told_create : ctx.tcp ≡ true → (t : Told) → IsDoneOrCode t → SocketRow (entry (own_of line) (call.TcpCreate ctx.name family) t ∷ []) (after_create (own_of line) ctx.name family (told_done t))
-    told_create tcp told.Done fits = (refl, refl)
+    told_create tcp told.Done fits = (refl, refl, tcp)
     told_create tcp (told.Code code) fits = ToldCode code tcp
     told_create tcp _ fits = absurd fits
 
@@ -58,13 +59,22 @@ module _ (contexts : List WasiSocketsCtx) (m : Machine) (line c : ℕ) where
     unfolding bind
     makes_socket = branch ctx.tcp (λ tcp. asks (λ t fits. ends (told_create tcp t fits))) (λ no. ends (NotAllowed no))
 
+    -- nothing is asked where it may not use TCP
+    refused_at_once : {es : List Entry} {w : CodeWord} → ctx.tcp ≡ false → CreateRefusal (own_of line) ctx family es w → es ≡ []
+    refused_at_once denied (NotAllowed other) = refl
+    refused_at_once denied (ToldCode code tcp) = absurd (cc)
+
     created : (es : List Entry) (made : Result Socket ErrorCode) → SocketRow es made → Meets (Replied contexts m line (step.TcpCreate c family) handle_reply) es (created_asks m (own_of line) made)
-    created es (Err code) k = ends (tt, (code_word code, (k, refl)))
+    created es (Err code) k = ends (λ denied. (refused_at_once denied k, refl), (code_word code, (k, refl)))
     created es (Ok socket) k =
         let with_it : Machine = record m { store = with_record m.store socket } in
         onto _ (makes m.table (own_of line) (Tcp2 (length m.store.records)) None (side_of socket)
-        (λ full. (tt, (tt, full_so m with_it es full refl (ap marks_in k.1), (full, k.1, ap (λ (made : Socket). let left : Machine = record m { store = with_record m.store made } in left) k.0))))
-        (tt, ((tt, tt), tt)))
+        (λ full. (only, (tt, full_so m with_it es full refl (ap marks_in k.1), (full, k.1, ap (λ (made : Socket). let left : Machine = record m { store = with_record m.store made } in left) k.0))))
+        (only, ((tt, tt), tt)))
+      where
+        -- it may use TCP
+        only : {fs : List Entry} {after : Machine} → OnlyWhere ctx.tcp m fs after
+        only denied = let may = k.2 in absurd (cc)
 
     pub create : Meets (Says contexts m line (step.TcpCreate c family)) [] (bind (create_asks m (own_of line) ctx family) (λ done. Give (handle_reply done.0, done.1)))
     create = onto _ (chain {Mid = SocketRow} makes_socket created)

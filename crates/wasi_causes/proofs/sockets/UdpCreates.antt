@@ -3,6 +3,7 @@ use Rattle.wasi_causes.proofs.Words.{◌≡◌, ◌∙◌, ℕ, true, List, [], 
 use Rattle.wasi_causes.proofs.operations.Polls.{polled, not_over}
 use Rattle.wasi_causes.proofs.tables.Meets.{Rows, Meets, ends, asks, chain, onto, widen, branch, After, shifted}
 use Rattle.wasi_causes.proofs.tables.Routes.{Replied, Says, makes, full_so, code_word}
+use Rattle.wasi_causes.specs.Outcomes.{OnlyWhere}
 use Rattle.wasi_causes.specs.Polls.{WritableToldDone, WritableToldPending, WritableToldCode, Polled, WasOver, GoesOn, Stays, Stops}
 use Rattle.wasi_causes.specs.Udp.{udp_create_entry, writable_entry, with_udp_record, new_udp, UdpCreateRefusal, UdpNotAllowed, UdpCreateTold, UdpWritableTold}
 use Rattle.wasi_host.specs.Records.{udp2_at, udp2_put, udp2_pushed}
@@ -48,6 +49,10 @@ module _ (contexts : List WasiSocketsCtx) (m : Machine) (line c : ℕ) (family :
   abbrev CreateRow : Rows (Result (Answer ℕ) Stop × Machine)
   CreateRow = Replied contexts m line (step.UdpCreate c family) (answer_reply_of number_fields line)
 
+  -- it may use UDP
+  only : ctx.udp ≡ true → {es : List Entry} {after : Machine} → OnlyWhere ctx.udp m es after
+  only may denied = absurd (cc)
+
   -- == its first poll
   abbrev PollRow : Rows (End × List Item)
   PollRow = Polled its.operation.who its.operation.left
@@ -77,7 +82,7 @@ module _ (contexts : List WasiSocketsCtx) (m : Machine) (line c : ℕ) (family :
   polled_so may es (Waits, items) k =
       let w = waits k.rest items k.row in
       ends (
-        tt,
+        only may,
         (
           (refl, refl),
           record {
@@ -93,10 +98,10 @@ module _ (contexts : List WasiSocketsCtx) (m : Machine) (line c : ℕ) (family :
       let its_machine = put_so (new_udp own ctx family) in
       subst (λ (x : Machine). Meets CreateRow es (mark_udp x place (udp2_at x.store.records place))) (sym its_machine)
       (marks_udp (with_udp_record m (new_udp own ctx family)) place (new_udp own ctx family) (udp_seam m.store.records (new_udp own ctx family))
-      (λ full. (tt, (tt, full_so m (with_udp_record m (new_udp own ctx family)) es full refl (ap marks_in asked), (full, asked, refl))))
-      (tt, ((tt, tt), record { number = refl; asked = ap (λ (xs : List Entry). xs ++ entry own (call.Made m.table.next name.Udp2 None (Some own)) told.Done ∷ []) asked; left = refl })))
+      (λ full. (only may, (tt, full_so m (with_udp_record m (new_udp own ctx family)) es full refl (ap marks_in asked), (full, asked, refl))))
+      (only may, ((tt, tt), record { number = refl; asked = ap (λ (xs : List Entry). xs ++ entry own (call.Made m.table.next name.Udp2 None (Some own)) told.Done ∷ []) asked; left = refl })))
   polled_so may es (Refused code given, items) k =
-      ends (subst (λ (x : Machine). CreateRow es (Err (code_stop code), x)) (sym (put_so (udp.Closed own))) (tt, (code_word code, rw k.cut (refused may k.rest code given items k.row))))
+      ends (subst (λ (x : Machine). CreateRow es (Err (code_stop code), x)) (sym (put_so (udp.Closed own))) (only may, (code_word code, rw k.cut (refused may k.rest code given items k.row))))
 
   polls : ctx.udp ≡ true → Meets CreateRow (begun ∷ []) (create_on now (first_ids line) place)
   polls may =
@@ -108,12 +113,12 @@ module _ (contexts : List WasiSocketsCtx) (m : Machine) (line c : ℕ) (family :
   -- == its start
   told_create : ctx.udp ≡ true → (t : Told) → IsDoneOrCode t → Meets CreateRow (udp_create_entry own ctx family t ∷ []) (create_begun m (first_ids line) (after_create own ctx.name family (told_done t)))
   told_create may told.Done fits = polls may
-  told_create may (told.Code code) fits = ends (tt, (code_word code, UdpCreateTold code may))
+  told_create may (told.Code code) fits = ends (only may, (code_word code, UdpCreateTold code may))
   told_create may _ fits = absurd fits
 
   started : Meets (λ es made. Meets CreateRow es (create_begun m (first_ids line) made)) [] (new_asks own ctx family)
   unfolding bind
-  started = branch ctx.udp (λ may. asks (λ t fits. ends (told_create may t fits))) (λ no. ends (ends (tt, (code_word AccessDenied, UdpNotAllowed no))))
+  started = branch ctx.udp (λ may. asks (λ t fits. ends (told_create may t fits))) (λ no. ends (ends (λ other. (refl, refl), (code_word AccessDenied, UdpNotAllowed no))))
 
   begins : Meets CreateRow [] (create_udp_asks m (first_ids line) ctx family)
   begins = chain {Mid = λ es made. Meets CreateRow es (create_begun m (first_ids line) made)} started (λ es made k. k)

@@ -1,4 +1,4 @@
--- Who asks in a turn: the writes, the datagrams and the receives of the jobs.
+-- Who asks in a turn: the writes, the datagrams, the receives and the lookups of the jobs.
 use Rattle.wasi_causes.proofs.Words.{⊤, ◌≡◌, ℕ, zero, suc, inl, inr, List, [], ◌∷◌, ◌++◌, Option, Some, None, refl, sym, ap, subst, ◌∙◌, OpId, Call, Entry, Told, WasiSocketsCtx, Fits, Give, bind, End, Waits, poll_asks, allows_keep, Allows, allows_then, WriteState, Job, job_in, job_asks, turn_asks, Machine, Streams, Tcp2Socket, turned, turn_record, turn_at, turn_job, turn_jobs, turn_store_asks, turn_machine_asks, Has, no_fields, has_split, allows_ask}
 use Rattle.wasi_causes.proofs.Words.{◌⊎◌, Done, Item, Operation, Records, Refused}
 use Rattle.wasi_world.specs.Operation.{Datagram as Received}
@@ -7,7 +7,10 @@ use Rattle.wasi_udp.specs.Send.{at_remote}
 use Rattle.wasi_host.specs.Datagrams.{turn_outgoing, turn_sending, turned_left}
 use Rattle.wasi_host.specs.Jobs.{turn_datagram_at, turn_receive_at}
 use Rattle.wasi_host.specs.Receiving.{receive_left, turn_incoming, turn_receiving}
-use Rattle.wasi_host.specs.Records.{open_at, open_put, tcp2_at, tcp2_put}
+use Rattle.wasi_host.specs.NameLookup.{lookup_told, turn_lookup, turn_lookup_at}
+use Rattle.wasi_host.specs.Records.{lookup_at, lookup_put, open_at, open_of, open_put, tcp2_at, tcp2_put, udp2_at}
+use Rattle.wasi_host.specs.declared.name_lookup.Lookup.{Lookup}
+use Rattle.wasi_host.specs.declared.name_lookup.LookupOp.{LookupOp}
 use Rattle.wasi_host.specs.declared.datagrams.Incoming.{Incoming}
 use Rattle.wasi_host.specs.declared.datagrams.Outgoing.{Outgoing}
 use Rattle.wasi_host.specs.declared.datagrams.Receiving.{Receiving}
@@ -15,14 +18,24 @@ use Rattle.wasi_host.specs.declared.datagrams.Sending.{Sending}
 use Rattle.wasi_host.specs.declared.records.Record.{Record}
 use Rattle.wasi_host.specs.declared.udp.OpenUdp.{OpenUdp}
 use Rattle.wasi_host.specs.declared.jobs.HostJob.{HostJob}
-use Rattle.wasi_host.specs.declared.jobs.HostJob.TheVariants.{Write, Datagram, Receive}
+use Rattle.wasi_host.specs.declared.jobs.HostJob.TheVariants.{Write, Datagram, Receive, Lookup as LookupJob}
 use Rattle.wasi_tcp.specs.declared.writer.WriteState.TheVariants as writing
 use Rattle.wasi_steps.specs.declared.reply.Reply.TheVariants as reply
 use Rattle.wasi_steps.specs.declared.step.Step.TheVariants as step
-use Rattle.wasi_causes.proofs.tables.Meets.{Meets, onto, widen}
+use Rattle.wasi_causes.proofs.tables.Meets.{Meets, both, onto, widen}
 use Rattle.wasi_causes.proofs.tables.Routes.{Says}
-use Rattle.wasi_causes.specs.Turns.{asks_by, datagram_of, incoming_asks_by, IsOfJob, job_of, outgoing_asks_by, receive_of, receives_by, sends_by, writer_asks_by, writes_by}
+use Rattle.wasi_causes.specs.Turns.{asks_by, datagram_of, incoming_asks_by, IsOfJob, job_of, lookup_of, looks_by, outgoing_asks_by, receive_of, receives_by, sends_by, writer_asks_by, writes_by}
 use Rattle.wasi_causes.proofs.operations.Marks.{AnyEnd, poll_asks_by}
+use Rattle.wasi_addr.specs.declared.address.IpAddress.{IpAddress}
+use Rattle.wasi_world.specs.Typed.{told_names}
+use Rattle.wasi_world.specs.declared.asks.Polled.{Polled}
+use Rattle.wasi_world.specs.declared.asks.Polled.TheVariants as polled
+use Rattle.wasi_host.specs.declared.udp.Udp2Socket.{Udp2Socket}
+use Rattle.wasi_host.specs.declared.udp.Udp2Socket.TheVariants.{Open}
+use Rattle.wasi_walks.proofs.LookupLists.{tcp_lookup_put, udp_lookup_put}
+use Rattle.wasi_walks.proofs.walks.Udp.{open_is}
+use Rattle.wasi_causes.proofs.resolving.Turns.{lookups_turned}
+use Rattle.wasi_causes.proofs.resolving.Lists.{lookup_put_at, lookup_tcp_put, lookup_udp_put}
 
 -- == one write
 -- it asks by its operation, which stays the same
@@ -127,6 +140,24 @@ module _ (o : OpenUdp) where
   receive_by None has es = (inl refl, inl refl)
   receive_by (Some inc) has es = allows_then ReceiveAsks (Taken inc has) KeepsBoth es (turn_receiving inc inc.receiving) _ (receiving_by inc has inc.receiving refl es) (λ fs now k. (inl refl, subst (λ (x : Option Incoming). Keeps (receives_by now.receiving) (incoming_asks_by x)) (sym has) k))
 
+-- == one lookup
+abbrev LookupAsks : Lookup → List Entry → OpId → Call → Type 0
+LookupAsks l es op call = looks_by l ≡ Some op
+
+abbrev KeepsLookup : Lookup → List Entry → Lookup → Type 0
+KeepsLookup l es now = Keeps (looks_by now) (looks_by l)
+
+-- it asks once, and is in progress as it was, or not any more
+told_by : (op : LookupOp) (told : Polled (List IpAddress)) → Keeps (looks_by (lookup_told op told)) (Some op.id)
+told_by op polled.Pending = inl refl
+told_by op (polled.Ready names) = inr refl
+told_by op (polled.Code c) = inr refl
+
+lookup_by : (l : Lookup) (es : List Entry) → Allows (LookupAsks l) (KeepsLookup l) es (turn_lookup l)
+unfolding bind
+lookup_by (Lookup.InProgress op) es = (refl, λ told fits. told_by op (told_names told))
+lookup_by _ es = inl refl
+
 -- == one record changes
 set_job : (xs : List Record) (i : ℕ) (y : Tcp2Socket) (k : ℕ) → job_of (Some y) ≡ job_of (tcp2_at xs i) → job_of (tcp2_at (tcp2_put xs i y) k) ≡ job_of (tcp2_at xs k)
 set_job [] i y k h = refl
@@ -140,6 +171,7 @@ set_open : (xs : List Record) (i : ℕ) (r y : Tcp2Socket) (k : ℕ) → tcp2_at
 set_open [] i r y k h = refl
 set_open (Record.Tcp2 x ∷ xs) zero r y zero h = refl
 set_open (Record.Udp2 x ∷ xs) zero r y zero h = absurd (cc)
+set_open (Record.Lookup x ∷ xs) zero r y zero h = absurd (cc)
 set_open (z ∷ xs) zero r y (suc k) h = refl
 set_open (z ∷ xs) (suc i) r y zero h = refl
 set_open (z ∷ xs) (suc i) r y (suc k) h = set_open xs i r y k h
@@ -149,6 +181,7 @@ set_tcp : (xs : List Record) (i : ℕ) (o now : OpenUdp) (k : ℕ) → open_at x
 set_tcp [] i o now k h = refl
 set_tcp (Record.Tcp2 x ∷ xs) zero o now zero h = absurd (cc)
 set_tcp (Record.Udp2 x ∷ xs) zero o now zero h = refl
+set_tcp (Record.Lookup x ∷ xs) zero o now zero h = absurd (cc)
 set_tcp (z ∷ xs) zero o now (suc k) h = refl
 set_tcp (z ∷ xs) (suc i) o now zero h = refl
 set_tcp (z ∷ xs) (suc i) o now (suc k) h = set_tcp xs i o now k h
@@ -164,6 +197,7 @@ tcp_keeps : (xs : List Record) (i : ℕ) (r y : Tcp2Socket) → tcp2_at xs i ≡
 tcp_keeps xs i r y at same (Write k) = set_job xs i y k (same ∙ sym (ap job_of at))
 tcp_keeps xs i r y at same (Datagram k) = ap datagram_of (set_open xs i r y k at)
 tcp_keeps xs i r y at same (Receive k) = ap receive_of (set_open xs i r y k at)
+tcp_keeps xs i r y at same (LookupJob k) = ap lookup_of (lookup_tcp_put xs i r y k at)
 
 -- what is read of a UDP socket
 by_change : (of : Option OpenUdp → Option OpId) (xs : List Record) (i : ℕ) (o now : OpenUdp) (k : ℕ) → open_at xs i ≡ Some o → Keeps (of (Some now)) (of (Some o)) → Keeps (of (open_at (open_put xs i now) k)) (of (open_at xs k))
@@ -173,6 +207,13 @@ udp_keeps : (xs : List Record) (i : ℕ) (o now : OpenUdp) → open_at xs i ≡ 
 udp_keeps xs i o now at kept (Write k) = inl (ap job_of (set_tcp xs i o now k at))
 udp_keeps xs i o now at kept (Datagram k) = by_change datagram_of xs i o now k at kept.0
 udp_keeps xs i o now at kept (Receive k) = by_change receive_of xs i o now k at kept.1
+udp_keeps xs i o now at kept (LookupJob k) = inl (ap lookup_of (lookup_udp_put xs i (Open o) (Open now) k (open_is (udp2_at xs i) o at)))
+
+look_keeps : (xs : List Record) (i : ℕ) (l now : Lookup) → lookup_at xs i ≡ Some l → Keeps (looks_by now) (looks_by l) → (job : HostJob) → Keeps (asks_by (lookup_put xs i now) job) (asks_by xs job)
+look_keeps xs i l now at kept (Write k) = inl (ap job_of (tcp_lookup_put xs i l now k at))
+look_keeps xs i l now at kept (Datagram k) = inl (ap (λ (u : Option Udp2Socket). datagram_of (open_of u)) (udp_lookup_put xs i l now k at))
+look_keeps xs i l now at kept (Receive k) = inl (ap (λ (u : Option Udp2Socket). receive_of (open_of u)) (udp_lookup_put xs i l now k at))
+look_keeps xs i l now at kept (LookupJob k) = elim (lookup_put_at xs i l now k at) [ inl e ↦ inl (ap lookup_of e) | inr e ↦ rw (e.0, e.1) kept ]
 
 -- == all of them
 kept_then : (now mid old : Option OpId) → Keeps now mid → Keeps mid old → Keeps now old
@@ -216,10 +257,18 @@ module _ (m : Machine) where
       (allows_ask (ReceiveAsks o) TurnAsks (KeepsBoth o) (λ fs op call e. of_job_too records (Receive place) es listed same op (ap receive_of at ∙ e)) es (turn_incoming o o.incoming) (receive_by o o.incoming refl es))
       (λ fs now k job. kept_then _ _ _ (udp_keeps records place o now at k job) (same job))
 
+  look_by : (records : List Record) (place : ℕ) (o : Option Lookup) → lookup_at records place ≡ o → Has m.store.jobs (LookupJob place) → (es : List Entry) → SameJobs es records → Allows TurnAsks SameJobs es (turn_lookup_at records place o)
+  look_by records place None at listed es same = same
+  look_by records place (Some l) at listed es same =
+      allows_then TurnAsks (KeepsLookup l) SameJobs es (turn_lookup l) _
+      (allows_ask (LookupAsks l) TurnAsks (KeepsLookup l) (λ fs op call e. of_job_too records (LookupJob place) es listed same op (ap lookup_of at ∙ e)) es (turn_lookup l) (lookup_by l es))
+      (λ fs now k job. kept_then _ _ _ (look_keeps records place l now at k job) (same job))
+
   host_job_by : (job : HostJob) → Has m.store.jobs job → (records : List Record) (es : List Entry) → SameJobs es records → Allows TurnAsks SameJobs es (turn_job records job)
   host_job_by (Write place) listed records es same = write_by records place (tcp2_at records place) refl listed es same
   host_job_by (Datagram place) listed records es same = send_by records place (open_at records place) refl listed es same
   host_job_by (Receive place) listed records es same = take_by records place (open_at records place) refl listed es same
+  host_job_by (LookupJob place) listed records es same = look_by records place (lookup_at records place) refl listed es same
 
   jobs_by : (jobs : List HostJob) → ((j : HostJob) → Has jobs j → Has m.store.jobs j) → (records : List Record) (es : List Entry) → SameJobs es records → Allows TurnAsks SameJobs es (turn_jobs jobs records)
   jobs_by [] listed records es same = same
@@ -248,5 +297,5 @@ module _ (m : Machine) where
 
   pub turn : (contexts : List WasiSocketsCtx) (line : ℕ) → Meets (Says contexts m line step.Turn) [] (bind (turn_machine_asks m) (λ done. Give (reply.Ok no_fields, done.1)))
   turn contexts line =
-      onto _ (widen (λ es done k. (record { ok = refl; asked = k.0; handles = k.1.0; pending = k.1.1 }, (tt, tt)))
-      (record { along = allows_keep TurnAsks (λ es op call. ⊤) AllByJobs SameTable one_more (λ es op call its. tt) [] (turn_machine_asks m) (λ e has. absurd has) turn_by }))
+      onto _ (widen (λ es done k. (record { ok = refl; asked = k.0.0; handles = k.0.1.0; pending = k.0.1.1; lookups = k.1 }, (tt, tt)))
+      (both (record { along = allows_keep TurnAsks (λ es op call. ⊤) AllByJobs SameTable one_more (λ es op call its. tt) [] (turn_machine_asks m) (λ e has. absurd has) turn_by }) (lookups_turned m)))

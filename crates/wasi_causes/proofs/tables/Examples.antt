@@ -39,3 +39,9 @@ of_no_udp c s n f = (λ h. h, λ h. h, λ h. h, λ h. absurd (let e : 6 ≡ 7 = 
 of_no_stream : (c h most n : ℕ) (ds : List OutgoingDatagram) → Never 7 (step.UdpCheckSend c h) (reply.Err word.InvalidState) × Never 7 (step.UdpCheckSend c h) (reply.Trap Full) × Never 7 (step.UdpSend c h ds) (reply.Pending n) × Never 7 (step.UdpReceive c h most) (reply.Pending n)
     × Never 7 (step.UdpStream c h None) (reply.Pending 6) × Never 7 (step.Drop c h) (reply.Trap StreamsAlive)
 of_no_stream c h most n ds = (λ k. k, λ k. k, λ k. k, λ k. k, λ k. absurd (let e : 6 ≡ 7 = k in cc), λ k. k)
+
+-- a lookup isn't pending, and is refused by its own words; one that hands addresses out is refused by others, and makes no handle; and
+-- an error's code is never refused, and is no number
+of_no_lookup : (c h n : ℕ) (name : List ℕ) → Never 7 (step.Resolve c h name) (reply.Pending 7) × Never 7 (step.Resolve c h name) (reply.Err word.WouldBlock) × Never 7 (step.ResolveNext c h) (reply.Err word.InvalidArgument) × Never 7 (step.ResolveNext c h) (reply.Trap Full)
+    × Never 7 (step.NetworkErrorCode c h) (reply.Err word.NameUnresolvable) × Never 7 (step.NetworkErrorCode c h) (reply.Ok (field.Number n ∷ []))
+of_no_lookup c h n name = (λ k. k, λ k. elim k [ inl e ↦ absurd (cc) | inr f ↦ elim f [ inl e ↦ absurd (cc) | inr e ↦ absurd (cc) ] ], λ k. elim k [ inl e ↦ absurd (cc) | inr e ↦ absurd (cc) ], λ k. k, λ k. k, λ k. k.0)

@@ -12,6 +12,8 @@ use Rattle.wasi_causes.proofs.sockets.UdpCreates.{udp_create}
 use Rattle.wasi_causes.proofs.udp_streams.Sends.{udp_check_send, udp_send}
 use Rattle.wasi_causes.proofs.udp_streams.Receives.{udp_receive}
 use Rattle.wasi_causes.proofs.udp_streams.Streams.{udp_stream}
+use Rattle.wasi_causes.proofs.resolving.Begins.{resolve}
+use Rattle.wasi_causes.proofs.resolving.Hands.{network_error_code, resolve_next}
 use Rattle.wasi_causes.proofs.streams.Halves.{read, check_write, write, flush}
 use Rattle.wasi_causes.proofs.streams.Turns.{turn}
 use Rattle.wasi_causes.proofs.tables.Meets.{Meets, ends, widen, branch, met, chain, shifted}
@@ -55,6 +57,9 @@ module _ (contexts : List WasiSocketsCtx) (m : Machine) (line : ℕ) where
   rows (step.UdpSend c outgoing ds) = udp_send contexts m line c outgoing ds
   rows (step.UdpGet c s option) = udp_get contexts m line c s option
   rows (step.UdpSet c s setting) = udp_set contexts m line c s setting
+  rows (step.Resolve c network name) = resolve contexts m line c network name
+  rows (step.ResolveNext c lookup) = resolve_next contexts m line c lookup
+  rows (step.NetworkErrorCode c e) = network_error_code contexts m line c e
   rows (step.Read c input len) = read contexts m line c input len
   rows (step.CheckWrite c output) = check_write contexts m line c output
   rows (step.Write c output bytes) = write contexts m line c output bytes

@@ -7,4 +7,5 @@ returns c = record {
   ok = λ contexts m line entries reply after w. (unheld contexts m line step.Turn (λ h. let none = h.1 in cc) entries reply after w).0.ok;
   asked = λ contexts m line entries reply after w. (unheld contexts m line step.Turn (λ h. let none = h.1 in cc) entries reply after w).0.asked;
   handles = λ contexts m line entries reply after w. (unheld contexts m line step.Turn (λ h. let none = h.1 in cc) entries reply after w).0.handles;
+  lookups = λ contexts m line place l entries reply after w. (unheld contexts m line step.Turn (λ h. let none = h.1 in cc) entries reply after w).0.lookups place l;
 }

@@ -1,0 +1,112 @@
+//! Why a lookup of a name is refused, and what it leaves; how its addresses are handed out; and that what a context may not use asks
+//! nothing. Laws over the definitions of specs/: each is a function that does nothing, whose contract is the law.
+
+ghost use Rattle.std.specs.Prelude.{◌≡◌, ◌↔◌, ℕ, true, false, List, [], ◌∷◌, Some, None};
+ghost use Rattle.wasi_addr.specs.declared.address.IpAddress.{IpAddress};
+ghost use Rattle.wasi_addr.specs.declared.address.SocketAddressFamily.{SocketAddressFamily};
+ghost use Rattle.wasi_names.specs.Names.{name_is};
+ghost use Rattle.wasi_world.specs.declared.call.Entry.{Entry};
+ghost use Rattle.wasi_world.specs.declared.outcome.TrapKind.{TrapKind};
+ghost use Rattle.wasi_world.specs.declared.outcome.WasiSocketsCtx.{WasiSocketsCtx};
+ghost use Rattle.wasi_world.specs.Asks.{Give, Left};
+ghost use Rattle.wasi_host.specs.declared.kind.Kind.{Kind};
+ghost use Rattle.wasi_host.specs.declared.machine.Machine.{Machine};
+ghost use Rattle.wasi_host.specs.declared.name_lookup.Lookup.{Lookup};
+ghost use Rattle.wasi_host.specs.declared.name_lookup.Lookup.TheVariants as Lookup;
+ghost use Rattle.wasi_host.specs.Kinds.{is_network, kind_at};
+ghost use Rattle.wasi_host.specs.Machine.{first_state, lookup_number, own_of};
+ghost use Rattle.wasi_host.specs.NameLookup.{looks_on};
+ghost use Rattle.wasi_host.specs.NameLookupCalls.{lookup_ready};
+ghost use Rattle.wasi_host.specs.Records.{lookup_at};
+ghost use Rattle.wasi_machine.specs.Machine.{context_at, run};
+ghost use Rattle.wasi_steps.specs.declared.reply.CodeWord.{CodeWord};
+ghost use Rattle.wasi_steps.specs.declared.reply.CodeWord.TheVariants as CodeWord;
+ghost use Rattle.wasi_steps.specs.declared.reply.Field.{Field};
+ghost use Rattle.wasi_steps.specs.declared.reply.Reply.{Reply};
+ghost use Rattle.wasi_steps.specs.declared.reply.Reply.TheVariants as Reply;
+ghost use Rattle.wasi_steps.specs.declared.step.Step.{Step};
+ghost use Rattle.wasi_steps.specs.declared.step.Step.TheVariants as Step;
+ghost use Rattle.wasi_steps.specs.Reply.{found_values, truth_fields};
+ghost use Rattle.wasi_walks.specs.Answered.{Answered};
+ghost use Rattle.wasi_causes.specs.Lookups.{found_lookup, HandsOut, LeavesLookup, LookupGone, OfLookup, ResolveRefusal, Resolves, WatchesLookup};
+
+/// A lookup is refused with `permanent-resolver-failure` exactly where the context of its line may not look names up, and with
+/// `invalid-argument` exactly where it may and the name is none; either way nothing is asked. Else the name is a domain, and the
+/// lookup is refused with `name-unresolvable` where the network, which was asked for it once, returned a code, whichever. There is
+/// no handle, no record and no job then: the machine is as it was.
+pub fn resolve_refusals()
+    ensures forbidden { (contexts : List WasiSocketsCtx) (m : Machine) (line ctx network : ℕ) (name : List ℕ) (entries : List Entry) (reply : Reply) (after : Machine)
+        → m.store.standing ≡ None → is_network (kind_at m.table network) ≡ true → Answered contexts m line (Step.Resolve ctx network name) entries reply after
+        → (reply ≡ Reply.Err CodeWord.PermanentResolverFailure) ↔ ((context_at contexts ctx).ip_name_lookup ≡ false) }
+    ensures unnamed { (contexts : List WasiSocketsCtx) (m : Machine) (line ctx network : ℕ) (name : List ℕ) (entries : List Entry) (reply : Reply) (after : Machine)
+        → m.store.standing ≡ None → is_network (kind_at m.table network) ≡ true → Answered contexts m line (Step.Resolve ctx network name) entries reply after
+        → (reply ≡ Reply.Err CodeWord.InvalidArgument) ↔ (((context_at contexts ctx).ip_name_lookup ≡ true) × (name_is name ≡ None)) }
+    ensures cause { (contexts : List WasiSocketsCtx) (m : Machine) (line ctx network : ℕ) (name : List ℕ) (entries : List Entry) (word : CodeWord) (after : Machine)
+        → Answered contexts m line (Step.Resolve ctx network name) entries (Reply.Err word) after
+        → ResolveRefusal (own_of line) (context_at contexts ctx) name entries word }
+    ensures stays { (contexts : List WasiSocketsCtx) (m : Machine) (line ctx network : ℕ) (name : List ℕ) (entries : List Entry) (word : CodeWord) (after : Machine)
+        → Answered contexts m line (Step.Resolve ctx network name) entries (Reply.Err word) after → after ≡ m }
+{}
+
+/// A lookup that is done answers with the number of the next handle, and its context may look names up. Where the name is an
+/// address, that is what is found, and nothing was asked. Where it is a domain, the line's own operation asked for it once: the
+/// lookup is in progress, and has the last of the jobs, or has found what was told, each address in its canonical form and in
+/// their order. Where there is no room for the handle, it traps with `Full`, and its record is the last.
+pub fn resolves_make_a_handle()
+    ensures done { (contexts : List WasiSocketsCtx) (m : Machine) (line ctx network : ℕ) (name : List ℕ) (fields : List Field) (entries : List Entry) (after : Machine)
+        → Answered contexts m line (Step.Resolve ctx network name) entries (Reply.Ok fields) after
+        → Resolves m (own_of line) (context_at contexts ctx) network name entries fields after }
+    ensures full { (contexts : List WasiSocketsCtx) (m : Machine) (line ctx network : ℕ) (name : List ℕ) (entries : List Entry) (after : Machine)
+        → Answered contexts m line (Step.Resolve ctx network name) entries (Reply.Trap TrapKind.Full) after
+        → LeavesLookup m (own_of line) name entries after }
+{}
+
+/// A `resolve-next` asks nothing. It is refused with `would-block` exactly while the lookup is in progress, and with
+/// `name-unresolvable` exactly where it failed; the machine is as it was then, so a lookup that failed says so each time. Else it
+/// hands out the first of the addresses that are left, and then one less is left; exactly where none is left it answers that.
+/// After the lines of any script each handle of a lookup has its lookup.
+pub fn addresses_are_handed_out_in_order()
+    ensures asks_nothing { (contexts : List WasiSocketsCtx) (m : Machine) (line ctx handle : ℕ) (entries : List Entry) (reply : Reply) (after : Machine)
+        → Answered contexts m line (Step.ResolveNext ctx handle) entries reply after → entries ≡ [] }
+    ensures in_progress { (contexts : List WasiSocketsCtx) (m : Machine) (line ctx handle : ℕ) (entries : List Entry) (reply : Reply) (after : Machine)
+        → m.store.standing ≡ None → Answered contexts m line (Step.ResolveNext ctx handle) entries reply after
+        → (reply ≡ Reply.Err CodeWord.WouldBlock) ↔ (looks_on (found_lookup m handle) ≡ true) }
+    ensures failed { (contexts : List WasiSocketsCtx) (m : Machine) (line ctx handle : ℕ) (entries : List Entry) (reply : Reply) (after : Machine)
+        → m.store.standing ≡ None → Answered contexts m line (Step.ResolveNext ctx handle) entries reply after
+        → (reply ≡ Reply.Err CodeWord.NameUnresolvable) ↔ (found_lookup m handle ≡ Some Lookup.Failed) }
+    ensures stays { (contexts : List WasiSocketsCtx) (m : Machine) (line ctx handle : ℕ) (entries : List Entry) (word : CodeWord) (after : Machine)
+        → Answered contexts m line (Step.ResolveNext ctx handle) entries (Reply.Err word) after → after ≡ m }
+    ensures over { (contexts : List WasiSocketsCtx) (m : Machine) (line ctx handle : ℕ) (entries : List Entry) (reply : Reply) (after : Machine)
+        → m.store.standing ≡ None → Answered contexts m line (Step.ResolveNext ctx handle) entries reply after
+        → (reply ≡ Reply.Ok (found_values None)) ↔ (found_lookup m handle ≡ Some (Lookup.Found [])) }
+    ensures first { (contexts : List WasiSocketsCtx) (m : Machine) (line ctx handle : ℕ) (a : IpAddress) (left : List IpAddress) (entries : List Entry) (reply : Reply) (after : Machine)
+        → m.store.standing ≡ None → found_lookup m handle ≡ Some (Lookup.Found (a ∷ left)) → Answered contexts m line (Step.ResolveNext ctx handle) entries reply after
+        → (reply ≡ Reply.Ok (found_values (Some a))) × (found_lookup after handle ≡ Some (Lookup.Found left)) }
+    ensures handed { (contexts : List WasiSocketsCtx) (m : Machine) (line ctx handle : ℕ) (fields : List Field) (entries : List Entry) (after : Machine)
+        → Answered contexts m line (Step.ResolveNext ctx handle) entries (Reply.Ok fields) after
+        → OfLookup m handle (λ place l. HandsOut m place l fields after) }
+    ensures missing { (contexts : List WasiSocketsCtx) (steps : List Step) (log : List Entry) (replies : List Reply) (m : Machine) (handle : ℕ)
+        → Left (run contexts [] first_state 1 steps) log (Give (replies, m)) → found_lookup m handle ≡ None → lookup_number m handle ≡ None }
+{}
+
+/// A pollable of a lookup is ready exactly where the lookup isn't in progress. That asks nothing, and the machine stays as it was.
+/// A drop of a lookup asks nothing. The lookup keeps no address, and no job is its afterwards, so a turn doesn't ask about it.
+pub fn lookups_are_watched_and_dropped()
+    ensures watched { (contexts : List WasiSocketsCtx) (m : Machine) (line ctx pollable place : ℕ) (entries : List Entry) (reply : Reply) (after : Machine)
+        → m.store.standing ≡ None → WatchesLookup m pollable place → Answered contexts m line (Step.Ready ctx pollable) entries reply after
+        → (reply ≡ Reply.Ok (truth_fields (lookup_ready (lookup_at m.store.records place)))) × (entries ≡ []) × (after ≡ m) }
+    ensures dropped { (contexts : List WasiSocketsCtx) (m : Machine) (line ctx handle place : ℕ) (l : Lookup) (fields : List Field) (entries : List Entry) (after : Machine)
+        → kind_at m.table handle ≡ Some (Kind.Lookup place) → lookup_at m.store.records place ≡ Some l
+        → Answered contexts m line (Step.Drop ctx handle) entries (Reply.Ok fields) after → LookupGone m handle place entries after }
+{}
+
+/// What a context may not use asks nothing, and leaves the machine as it was: a `tcp-create` where it may not use TCP, a
+/// `udp-create` where it may not use UDP, and a `resolve` where it may not look names up.
+pub fn what_is_forbidden_asks_nothing()
+    ensures tcp { (contexts : List WasiSocketsCtx) (m : Machine) (line ctx : ℕ) (family : SocketAddressFamily) (entries : List Entry) (reply : Reply) (after : Machine)
+        → (context_at contexts ctx).tcp ≡ false → Answered contexts m line (Step.TcpCreate ctx family) entries reply after → (entries ≡ []) × (after ≡ m) }
+    ensures udp { (contexts : List WasiSocketsCtx) (m : Machine) (line ctx : ℕ) (family : SocketAddressFamily) (entries : List Entry) (reply : Reply) (after : Machine)
+        → (context_at contexts ctx).udp ≡ false → Answered contexts m line (Step.UdpCreate ctx family) entries reply after → (entries ≡ []) × (after ≡ m) }
+    ensures lookup { (contexts : List WasiSocketsCtx) (m : Machine) (line ctx network : ℕ) (name : List ℕ) (entries : List Entry) (reply : Reply) (after : Machine)
+        → (context_at contexts ctx).ip_name_lookup ≡ false → Answered contexts m line (Step.Resolve ctx network name) entries reply after → (entries ≡ []) × (after ≡ m) }
+{}
