@@ -1,20 +1,24 @@
 -- Each line of a generated script is a step.
 use Rattle.wasi_run.proofs.Words.{◌/◌, ◌%◌, ◌^◌, ◌||◌, ◌==◌, replicate, slice_index_or, ◌≡◌, ℕ, zero, suc, ◌+◌, ◌*◌, ◌<◌, ◌≤◌, true, false, List, [], ◌∷◌, ◌++◌, Some, length, refl, ap, sym, ◌∙◌, append_assoc, append-nil, length-append, add-one, arith, and_parts, nat_tests, is_space, lines_from, lines_of, rest_from, rest_of, Step, Drop, IsStep, line_of, step_of, AllSteps}
-use Rattle.wasi_world.specs.Written.{is_visible, IsVisible, AreBytes}
+use Rattle.std.proofs.Common.{IsTrue}
+use Rattle.std.specs.List.{list_all}
+use Rattle.wasi_world.specs.Written.{AreBytes}
+use Rattle.wasi_steps.specs.Names.{ends_no_line}
+use Rattle.wasi_steps.proofs.NameLaws.{text_unbroken}
 use Rattle.wasi_run.specs.Script.{IsValid}
 use Rattle.wasi_steps.proofs.SettingLaws.{◌and◌}
-use Rattle.wasi_steps.proofs.StepLaws.{step_of_line, step_line_visible}
+use Rattle.wasi_steps.proofs.StepLaws.{step_of_line, step_line_text}
 use Rattle.wasi_run.specs.Generate.{drawn, port_of, count_of, byte_of, block, step_in, generated_step, generated_steps, generated, script_text}
 
--- == lines of visible characters and spaces
-no_newline : (b : ℕ) → (is_visible b || is_space b) ≡ true → (b == 10) ≡ false
+-- == lines with no newline in them
+no_newline : (b : ℕ) → ends_no_line b ≡ true → (b == 10) ≡ false
 no_newline b h = grind (arith, nat_tests)
 
 -- such a line ends where its newline is
-line_ends : (front line rest : List ℕ) → IsVisible line → (lines_from front (line ++ 10 ∷ rest) ≡ (front ++ line) ∷ lines_of rest) × (rest_from front (line ++ 10 ∷ rest) ≡ rest_of rest)
+line_ends : (front line rest : List ℕ) → IsTrue (list_all ends_no_line line) → (lines_from front (line ++ 10 ∷ rest) ≡ (front ++ line) ∷ lines_of rest) × (rest_from front (line ++ 10 ∷ rest) ≡ rest_of rest)
 line_ends front [] rest h = (ap (λ first. first ∷ lines_of rest) (sym (append-nil front)), refl)
 line_ends front (b ∷ line) rest h =
-    let both = and_parts (is_visible b || is_space b) _ h in
+    let both = and_parts (ends_no_line b) _ h in
     let more = line_ends (front ++ b ∷ []) line rest both.1 in
     (rw (no_newline b both.0) (more.0 ∙ ap (λ first. first ∷ lines_of rest) (append_assoc front (b ∷ []) line)), rw (no_newline b both.0) more.1)
 
@@ -35,7 +39,7 @@ text_count : (steps : List Step) → AreSteps steps → length (lines_of (script
 text_count [] h = refl
 text_count (s ∷ steps) h =
     let is : step_of 1 (line_of s) ≡ Some s = step_of_line 1 (line_of s) s (refl, h.0) in
-    let ends = line_ends [] (line_of s) (script_text steps) (step_line_visible 1 (line_of s) s is) in
+    let ends = line_ends [] (line_of s) (script_text steps) (text_unbroken (line_of s) (step_line_text 1 (line_of s) s is)) in
     rw (text_joined s steps, ends.0, text_count steps h.1) refl
 
 text_steps : (steps : List Step) → AreSteps steps → AllSteps 1 (lines_of (script_text steps)) × (rest_of (script_text steps) ≡ [])
@@ -43,7 +47,7 @@ text_steps [] h = (tt, refl)
 text_steps (s ∷ steps) h =
     let is : step_of 1 (line_of s) ≡ Some s = step_of_line 1 (line_of s) s (refl, h.0) in
     let more = text_steps steps h.1 in
-    let ends = line_ends [] (line_of s) (script_text steps) (step_line_visible 1 (line_of s) s is) in
+    let ends = line_ends [] (line_of s) (script_text steps) (text_unbroken (line_of s) (step_line_text 1 (line_of s) s is)) in
     (rw (text_joined s steps, ends.0) ((s, is), more.0), rw (text_joined s steps, ends.1) more.1)
 
 -- == the steps of a block

@@ -1,21 +1,23 @@
 //! The calls that a script's steps make, over a view of the line's context, the table and the store.
 
+ghost use Rattle.std.specs.Result.{result_map_both};
 ghost use Rattle.std.specs.Prelude.{◌≡◌, ◌&&◌, is_some, false};
 ghost use Rattle.wasi_world.specs.Asks.{AsksFor};
 ghost use Rattle.wasi_host.specs.Host.{fault_outcome, host_outcome};
 ghost use Rattle.wasi_host.specs.Machine.{own_of, socket_at, udp_socket_at};
 ghost use Rattle.wasi_host.specs.Sides.{KnowsSides};
 ghost use Rattle.wasi_host.specs.Views.{SameView, state_of};
-ghost use Rattle.wasi_machine.specs.Machine.{first_ids, machine_asks, set_chosen, is_guest_call, call_asks, context_at, context_for};
+ghost use Rattle.wasi_machine.specs.Machine.{without_code, first_ids, machine_asks, set_chosen, is_guest_call, call_asks, context_at, context_for};
 ghost use Rattle.wasi_p2.specs.Udp.{set_udp_option_on};
 ghost use Rattle.wasi_steps.specs.Settings.{chosen, udp_chosen, udp_opt};
 ghost use Rattle.wasi_steps.specs.Steps.{context_of};
 
 use std::alloc::{AllocError, Global};
+use wasi_addr::p2;
 use wasi_host::{Kind, Machine, SocketError, Store, WasiSocketsCtxView};
 use wasi_machine::replies::{answer_reply, reply_of, resumed_reply, stream_reply_of};
-use wasi_p2::{tcp, udp};
-use wasi_steps::{Reply, Step, TcpSetting, UdpOption, UdpSetting};
+use wasi_p2::{ip_name_lookup, tcp, udp};
+use wasi_steps::{NoCode, Reply, Step, TcpSetting, UdpOption, UdpSetting};
 use wasi_streams::{Fault, Table};
 use wasi_world::{Handle, Ids, Opt, WasiSocketsCtx, World};
 
@@ -231,6 +233,18 @@ fn call<W: World>(
             let sent = udp::send(view, world, ids, outgoing, datagrams.into_vec());
             reply_of(alloc, sent)
         }
+        Step::Resolve { network, name, .. } => {
+            let made = ip_name_lookup::resolve_addresses(alloc, view, world, ids, network, name);
+            reply_of(alloc, made)
+        }
+        Step::ResolveNext { lookup, .. } => {
+            let told = ip_name_lookup::resolve_next_address(view, lookup);
+            reply_of(alloc, told)
+        }
+        Step::NetworkErrorCode { error, .. } => {
+            let told = wasi_p2::network_error_code(view, error);
+            reply_of(alloc, without_code(told))
+        }
         Step::Read { input, len, .. } => {
             let read = wasi_host::read(alloc, view, world, ids, input, len);
             stream_reply_of(alloc, read)
@@ -275,6 +289,14 @@ fn socket_result<T: Drop>(done: Result<T, Fault>) -> Result<T, SocketError>
     ensures { host_outcome result ≡ fault_outcome done }
 {
     Ok(done?)
+}
+
+/// What a call that never gives a code tells.
+fn without_code(told: Result<Option<p2::ErrorCode>, SocketError>) -> Result<NoCode, SocketError>
+    ensures { host_outcome result ≡ result_map_both without_code (λ e. e) (host_outcome told) }
+{
+    told?;
+    Ok(NoCode)
 }
 
 /// Sets an option of a socket, or its backlog.

@@ -2,6 +2,7 @@ use Rattle.wasi_run.proofs.LineWords.{address_values, answer_reply, answer_reply
 use Rattle.wasi_run.proofs.LineWords.{no_values, number_fields, pair_values, refl, reply_of, resumed_reply, stream_reply_of, triple_values}
 use Rattle.wasi_run.proofs.LineWords.{truth_fields}
 use Rattle.std.proofs.Common.{sym}
+use Rattle.wasi_steps.specs.Reply.{absent_values, found_values}
 use Rattle.wasi_world.specs.declared.ids.Ids.{Ids}
 use Rattle.wasi_world.proofs.Walks.{asks_at}
 use Rattle.wasi_host.specs.Machine.{drop_asks}
@@ -91,6 +92,15 @@ returns-in-UdpCheckSend-clause-asked g c = rw (c.in-UdpCheckSend.is, c.check_sen
 
 pub returns-in-UdpSend-clause-asked : goal.returns-in-UdpSend-clause-asked
 returns-in-UdpSend-clause-asked g c = rw (c.in-UdpSend.is, ← c.into_vec.ensures) (asks_answered (reply_of number_fields) _ _ (rw c.requires.first at c.send-sent.ensures.asked) c.reply_of-in-UdpSend.ensures)
+
+pub returns-in-Resolve-clause-asked : goal.returns-in-Resolve-clause-asked
+returns-in-Resolve-clause-asked g c = rw c.in-Resolve.is (asks_answered (reply_of number_fields) _ _ c.resolve_addresses-made.ensures.asked c.reply_of-in-Resolve.ensures)
+
+pub returns-in-ResolveNext-clause-asked : goal.returns-in-ResolveNext-clause-asked
+returns-in-ResolveNext-clause-asked g c = rw (c.in-ResolveNext.is, c.resolve_next_address-told.ensures.state) (given_answered (reply_of found_values) _ _ _ c.resolve_next_address-told.ensures.answer c.reply_of-in-ResolveNext.ensures)
+
+pub returns-in-NetworkErrorCode-clause-asked : goal.returns-in-NetworkErrorCode-clause-asked
+returns-in-NetworkErrorCode-clause-asked g c = rw c.in-NetworkErrorCode.is (given_answered (reply_of absent_values) _ _ _ (rw c.network_error_code-told.ensures at c.without_code.ensures) c.reply_of-in-NetworkErrorCode.ensures)
 
 pub returns-in-Read-clause-asked : goal.returns-in-Read-clause-asked
 returns-in-Read-clause-asked g c = rw c.in-Read.is (asks_answered (stream_reply_of bytes_fields) _ _ c.read-read.ensures.asked c.stream_reply_of.ensures)
