@@ -7,6 +7,8 @@ mod calls;
 #[cfg(test)]
 mod guest;
 #[cfg(test)]
+mod named;
+#[cfg(test)]
 mod options;
 #[cfg(test)]
 mod same;
