@@ -1,11 +1,15 @@
 //! Bytes in memory that are read.
 
-ghost use Rattle.std.specs.Prelude.{◌≡◌, ◌↔◌, ◌++◌, [], IsTrue, length, min, take, drop};
+ghost use Rattle.std.specs.Prelude.{◌≡◌, ◌↔◌, ◌++◌, [], IfOk, IsTrue, OnErr, length, min, take, drop};
+ghost use Rattle.wasi_streams.specs.StreamStop.{stream_outcome};
 ghost use Rattle.wasi_memory.specs.Pipes.{HasRead};
+ghost use Rattle.wasi_memory.specs.Plain.{pipe_read};
 
 use bytes::Bytes;
+use std::alloc::{AllocError, Global};
 use std::marker::Model;
-use wasi_streams::StreamError;
+use wasi_streams::{InputStream, Pollable, StreamError};
+use wasi_world::{Octets, OpId, World};
 
 /// Bytes in memory that are read from their front (`MemoryInputPipe` of the crate wasmtime-wasi, for one owner). It is
 /// always ready. Contracts see the bytes that are left.
@@ -51,6 +55,22 @@ impl InputPipeCore {
         Ok(self.bytes.split_to(count)?)
     }
 
+    /// The same as bytes of their own: what is handed out is copied, and what is left is cut off its front.
+    ///
+    /// Takes memory for what is handed out; want of it leaves all in the pipe.
+    pub fn read_octets(&mut self, alloc: Global, size: usize) -> Result<Octets, StreamError>
+        ensures given { IfOk (stream_outcome result) (λ answer. (answer, self.new) ≡ pipe_read size self.old) }
+        ensures memory { OnErr (stream_outcome result) (self.new ≡ self.old) }
+    {
+        if self.bytes.is_empty() {
+            return Err(StreamError::Closed);
+        }
+        let count = size.min(self.bytes.len());
+        let given = Octets::copy_of(alloc, &self.bytes.as_slice()[..count])?;
+        self.bytes.advance(count);
+        Ok(given)
+    }
+
     /// Moves as many bytes as fit to the front of `buf`, and returns how many. Takes no memory.
     pub fn take_into(&mut self, buf: &mut [u8]) -> usize
         ensures count { result ≡ min (length buf.old) (length self.old) }
@@ -61,5 +81,33 @@ impl InputPipeCore {
         buf[..count].copy_from_slice(&self.bytes.as_slice()[..count]);
         self.bytes.advance(count);
         count
+    }
+}
+
+impl InputStream for InputPipeCore {
+    ghost use Rattle.wasi_world.specs.Asks.{Give};
+    ghost use Rattle.wasi_memory.specs.Plain.{pipe_read};
+
+    ghost reading = { λ op pipe size. Give (pipe_read size pipe) };
+
+    fn read<W: World>(
+        &mut self,
+        alloc: Global,
+        _world: &mut W,
+        _op: OpId,
+        size: usize,
+    ) -> Result<Octets, StreamError> {
+        self.read_octets(alloc, size)
+    }
+}
+
+impl Pollable for InputPipeCore {
+    ghost use Rattle.std.specs.Prelude.{true};
+    ghost use Rattle.wasi_world.specs.Asks.{Give};
+
+    ghost looking = { λ op pipe. Give (true, pipe) };
+
+    fn poll_ready<W: World>(&mut self, _world: &mut W, _op: OpId) -> Result<bool, AllocError> {
+        Ok(true)
     }
 }

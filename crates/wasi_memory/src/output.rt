@@ -95,6 +95,16 @@ impl OutputPipeCore {
         Ok(())
     }
 
+    /// Gives back what was written and its memory, and holds nothing from now on. Takes no memory.
+    pub fn discard(&mut self)
+        ensures held { self.new.held ≡ [] }
+        ensures capacity { self.new.capacity ≡ 0 }
+    {
+        let alloc = *self.bytes.allocator();
+        self.bytes = BytesMut::new(alloc);
+        self.capacity = 0;
+    }
+
     /// What was written, with the memory for it. Takes no memory.
     pub fn into_bytes(self) -> BytesMut
         ensures { result.items ≡ self.held }

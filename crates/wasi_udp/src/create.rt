@@ -152,11 +152,11 @@ impl CreateOp {
     }
 
     /// Gives the create up: its network socket is closed by the operation's own name. One that is over asks nothing: a
-    /// refusal has closed the network socket already, and else the network socket is the socket's. The only error is out of
-    /// memory; then nothing was asked, and the network socket isn't closed.
-    pub fn cancel<W: World>(self, world: &mut W) -> Result<(), AllocError>
+    /// refusal has closed the network socket already, and else the network socket is the socket's. It isn't polled any more then.
+    /// The only error is out of memory; then nothing was asked, and the network socket isn't closed.
+    pub fn cancel<W: World>(&self, world: &mut W) -> Result<(), AllocError>
         requires { (W.seen world.old).ended ≡ false }
-        ensures asked { AsksFor (create_cancel_asks self) (W.seen world.old) (W.seen world.new) (λ done. done) result }
+        ensures asked { AsksFor (create_cancel_asks self.now) (W.seen world.old) (W.seen world.new) (λ done. done) result }
         ensures unasked { OnErr result (W.seen world.new ≡ W.seen world.old) }
         ensures open { (W.seen world.new).ended ≡ false }
     {
