@@ -1,5 +1,5 @@
--- Each reply that a step may give is read back from its text, so no two of them have one text.
-use Rattle.std.proofs.Common.{◌≡◌, ℕ, zero, suc, ◌==◌, if◌then◌else◌, List, [], ◌∷◌, ◌++◌, map, flat_map, length, codes, decimal, Option, Some, None, IsTrue, append-nil, ap, sym, ◌∙◌, refl, arith, subst, inl, inr}
+-- Each reply with fields of some kinds is read back from its text, so no two of them have one text.
+use Rattle.std.proofs.Common.{◌≡◌, ℕ, zero, suc, ◌==◌, false, if◌then◌else◌, List, [], ◌∷◌, ◌++◌, map, flat_map, length, codes, decimal, Option, Some, None, Contains, IsTrue, append-nil, ap, sym, ◌∙◌, refl, arith, inl, inr}
 use Rattle.std.specs.List.{list_all, AllByRecursion}
 use Rattle.std.proofs.lemmas.List.{append_cancel_right, map-append}
 use Rattle.wasi_addr.specs.declared.address.IpAddress.{IpAddress}
@@ -21,7 +21,7 @@ use Rattle.wasi_steps.specs.declared.reply.Reply.TheVariants as reply
 use Rattle.wasi_steps.specs.declared.step.Step.{Step}
 use Rattle.wasi_steps.specs.declared.step.Step.TheVariants as step
 use Rattle.wasi_steps.specs.Reply.{ip_values, address_values, received_values, datagram_values}
-use Rattle.wasi_steps.specs.Replies.{code_text, trap_text, field_text, fields_of_reply, text_of, FieldKind, ANumber, SomeBytes, Truth, Nothing, FieldKinds, Each, AnAddress, AnIpOrNone, ADatagramList, OneOf, kinds_of, IsOfKind, EachOfKind, AsOneSays, AreOfKinds, FitsReceived, Gives}
+use Rattle.wasi_steps.specs.Replies.{code_text, trap_text, field_text, fields_of_reply, text_of, FieldKind, ANumber, SomeBytes, Truth, Nothing, FieldKinds, Each, AnAddress, AnIpOrNone, ADatagramList, OneOf, kinds_of, IsOfKind, EachOfKind, AreOfKinds, FitsReceived, GivesAs, Gives, is_poll, polled_kinds}
 use Rattle.wasi_steps.proofs.LineEnds.{both_visible}
 
 code_words : List CodeWord
@@ -71,22 +71,17 @@ times_at : ℕ → Reader (List IncomingDatagram)
 times_at zero = give []
 times_at (suc n) = received_at >>= λ d. times_at n >>= λ ds. give (d ∷ ds)
 
--- the one of these lists that a reply of so many fields has, with its word
-of_length : ℕ → List (List FieldKind) → List FieldKind
-of_length n [] = []
-of_length n (kinds ∷ lists) = if suc (length kinds) == n then kinds else of_length n lists
-
 -- `none` where that is the one field beside the word of a reply, else an address with no port
 ip_or_none : ℕ → Reader (List Field)
 ip_or_none n = if n == 2 then each_of_kind (Nothing ∷ []) else (ip_at >>= λ a. give (ip_values a))
 
--- the fields of a reply that has so many, with its word
+-- the fields of a reply that has so many, with its word; none where it isn't known which of some lists they are as
 abbrev of_kinds : FieldKinds → ℕ → Reader (List Field)
 of_kinds (Each kinds) n = each_of_kind kinds
 of_kinds AnAddress n = address_at >>= λ a. give (address_values a)
 of_kinds AnIpOrNone n = ip_or_none n
 of_kinds ADatagramList n = number_at 18446744073709551615 >>= λ count. times_at count >>= λ ds. give (datagram_values ds)
-of_kinds (OneOf lists) n = each_of_kind (of_length n lists)
+of_kinds (OneOf lists) n = give_some None
 
 rows : FieldKinds → ℕ → List (Row Reply)
 rows kinds n =
@@ -159,38 +154,23 @@ all_times [] fits = all_give
 all_times (d ∷ ds) fits =
     rw (map-append field_text (received_values d) (flat_map received_values ds)) (all_both _ (all_received d fits.0) (all_end _ (all_times ds fits.1) all_give))
 
--- where the fields of a reply may be as one of some lists says, each is found by its length
-abbrev Among : List (List FieldKind) → List (List FieldKind) → Type 0
-Among all lists = AllByRecursion (λ kinds. of_length (suc (length kinds)) all ≡ kinds) lists
+-- it is known which kinds the fields are of
+abbrev AreKnown : FieldKinds → Type 0
+AreKnown (OneOf lists) = ⊥
+AreKnown _ = Unit {0}
 
-abbrev AreTold : FieldKinds → Type 0
-AreTold (OneOf lists) = Among lists lists
-AreTold _ = Unit {0}
+are_known : (s : Step) → is_poll s ≡ false → AreKnown (kinds_of s)
+are_known (step.Poll call) other = absurd (cc)
+are_known _ other = tt
 
-are_told : (s : Step) → AreTold (kinds_of s)
-unfolding of_length
-are_told (step.Poll call) = (refl, (refl, (refl, tt)))
-are_told _ = tt
-
-as_many : (kinds : List FieldKind) (fields : List Field) → EachOfKind kinds fields → length kinds ≡ length (map field_text fields)
-as_many [] [] are = refl
-as_many (kind ∷ kinds) (f ∷ fields) are = ap suc (as_many kinds fields are.1)
-as_many [] (f ∷ fields) are = absurd are
-as_many (kind ∷ kinds) [] are = absurd are
-
-one_says : (all lists : List (List FieldKind)) (fields : List Field) → Among all lists → AsOneSays lists fields → EachOfKind (of_length (suc (length (map field_text fields))) all) fields
-one_says all [] fields told one = absurd one
-one_says all (kinds ∷ lists) fields told (inl are) = subst (λ n. EachOfKind (of_length (suc n) all) fields) (as_many kinds fields are) (rw told.0 are)
-one_says all (kinds ∷ lists) fields told (inr more) = one_says all lists fields told.1 more
-
-all_of_kinds : (kinds : FieldKinds) (fields : List Field) → AreTold kinds → AreOfKinds kinds fields → All (of_kinds kinds (suc (length (map field_text fields)))) fields (map field_text fields)
-all_of_kinds (Each kinds) fields told are = all_each kinds fields are
-all_of_kinds AnAddress fields told are =
+all_of_kinds : (kinds : FieldKinds) (fields : List Field) → AreKnown kinds → AreOfKinds kinds fields → All (of_kinds kinds (suc (length (map field_text fields)))) fields (map field_text fields)
+all_of_kinds (Each kinds) fields known are = all_each kinds fields are
+all_of_kinds AnAddress fields known are =
     rw (are.numbers, number_texts (address_numbers are.address)) (all_last _ address_exactly are.fits all_give)
-all_of_kinds AnIpOrNone fields told are = all_ip_or_none fields are
-all_of_kinds ADatagramList fields told are =
+all_of_kinds AnIpOrNone fields known are = all_ip_or_none fields are
+all_of_kinds ADatagramList fields known are =
     rw are.values (all_then _ (number_exactly 18446744073709551615 (omega arith)) (let count = are.count in omega arith) (all_end _ (all_times are.datagrams are.fits) all_give))
-all_of_kinds (OneOf lists) fields told are = all_each _ fields (one_says lists lists fields told are)
+all_of_kinds (OneOf lists) fields known are = absurd known
 
 code_all : (code : CodeWord) → All code_at code (code_text code ∷ [])
 unfolding code_at
@@ -204,14 +184,14 @@ with_word : (kinds : FieldKinds) (n : ℕ) (word : List ℕ) {r : Reply} {taken 
 unfolding reply_at
 with_word kinds n word visible more = all_then _ word_exactly (visible_utf8 word visible) more
 
-reply_all : (s : Step) (r : Reply) → Gives s r → All (reply_at (kinds_of s) (length (fields_of_reply r))) r (fields_of_reply r)
+reply_all : (kinds : FieldKinds) (r : Reply) → AreKnown kinds → GivesAs kinds r → All (reply_at kinds (length (fields_of_reply r))) r (fields_of_reply r)
 unfolding rows
-reply_all s (reply.Ok fields) gives = with_word (kinds_of s) _ _ refl (all_end _ (all_of_kinds (kinds_of s) fields (are_told s) gives) all_give)
-reply_all s (reply.Err code) gives = with_word (kinds_of s) _ _ refl (all_end _ (code_all code) all_give)
-reply_all s (reply.Failed code handle) gives = with_word (kinds_of s) _ _ refl (all_both _ (code_all code) (all_last _ u32_exactly gives all_give))
-reply_all s (reply.Trap kind) gives = with_word (kinds_of s) _ _ refl (all_end _ (trap_all kind) all_give)
-reply_all s (reply.Pending n) gives = with_word (kinds_of s) _ _ refl (all_last _ u32_exactly gives all_give)
-reply_all s _ gives = with_word (kinds_of s) _ _ refl all_give
+reply_all kinds (reply.Ok fields) known gives = with_word kinds _ _ refl (all_end _ (all_of_kinds kinds fields known gives) all_give)
+reply_all kinds (reply.Err code) known gives = with_word kinds _ _ refl (all_end _ (code_all code) all_give)
+reply_all kinds (reply.Failed code handle) known gives = with_word kinds _ _ refl (all_both _ (code_all code) (all_last _ u32_exactly gives all_give))
+reply_all kinds (reply.Trap kind) known gives = with_word kinds _ _ refl (all_end _ (trap_all kind) all_give)
+reply_all kinds (reply.Pending n) known gives = with_word kinds _ _ refl (all_last _ u32_exactly gives all_give)
+reply_all kinds _ known gives = with_word kinds _ _ refl all_give
 
 -- the fields of replies are visible
 code_visible : (code : CodeWord) → IsTrue (list_all is_visible (code_text code))
@@ -236,11 +216,6 @@ each_visible (kind ∷ kinds) (f ∷ fields) are = (field_visible kind f are.0, 
 each_visible [] (f ∷ fields) are = absurd are
 each_visible (kind ∷ kinds) [] are = absurd are
 
-one_visible : (lists : List (List FieldKind)) (fields : List Field) → AsOneSays lists fields → AreVisible (map field_text fields)
-one_visible [] fields one = absurd one
-one_visible (kinds ∷ lists) fields (inl are) = each_visible kinds fields are
-one_visible (kinds ∷ lists) fields (inr more) = one_visible lists fields more
-
 received_visible : (ds : List IncomingDatagram) → AllByRecursion FitsReceived ds → AreVisible (map field_text (flat_map received_values ds))
 received_visible [] fits = tt
 received_visible (d ∷ ds) fits =
@@ -257,38 +232,44 @@ ip_or_none_visible : (fields : List Field) → AreOfKinds AnIpOrNone fields → 
 ip_or_none_visible fields (inl none) = rw none (refl, tt)
 ip_or_none_visible fields (inr are) = rw (are.numbers, number_texts (ip_numbers are.address)) (ip_visible are.address are.fits)
 
-fields_visible : (kinds : FieldKinds) (fields : List Field) → AreOfKinds kinds fields → AreVisible (map field_text fields)
-fields_visible (Each kinds) fields are = each_visible kinds fields are
-fields_visible AnAddress fields are =
+fields_visible : (kinds : FieldKinds) (fields : List Field) → AreKnown kinds → AreOfKinds kinds fields → AreVisible (map field_text fields)
+fields_visible (Each kinds) fields known are = each_visible kinds fields are
+fields_visible AnAddress fields known are =
     rw (are.numbers, number_texts (address_numbers are.address)) (address_visible are.address are.fits)
-fields_visible AnIpOrNone fields are = ip_or_none_visible fields are
-fields_visible ADatagramList fields are = rw are.values (number_visible (length are.datagrams) are.count, received_visible are.datagrams are.fits)
-fields_visible (OneOf lists) fields are = one_visible lists fields are
+fields_visible AnIpOrNone fields known are = ip_or_none_visible fields are
+fields_visible ADatagramList fields known are = rw are.values (number_visible (length are.datagrams) are.count, received_visible are.datagrams are.fits)
+fields_visible (OneOf lists) fields known are = absurd known
 
-reply_visible : (s : Step) (r : Reply) → Gives s r → AreVisible (fields_of_reply r)
-reply_visible s (reply.Ok fields) gives = (refl, fields_visible (kinds_of s) fields gives)
-reply_visible s (reply.Err code) gives = (refl, (code_visible code, tt))
-reply_visible s (reply.Failed code handle) gives = (refl, (code_visible code, (number_visible handle (omega arith), tt)))
-reply_visible s (reply.Trap kind) gives = (refl, (trap_visible kind, tt))
-reply_visible s (reply.Pending n) gives = (refl, (number_visible n (omega arith), tt))
-reply_visible s _ gives = (refl, tt)
+reply_visible : (kinds : FieldKinds) (r : Reply) → AreKnown kinds → GivesAs kinds r → AreVisible (fields_of_reply r)
+reply_visible kinds (reply.Ok fields) known gives = (refl, fields_visible kinds fields known gives)
+reply_visible kinds (reply.Err code) known gives = (refl, (code_visible code, tt))
+reply_visible kinds (reply.Failed code handle) known gives = (refl, (code_visible code, (number_visible handle (omega arith), tt)))
+reply_visible kinds (reply.Trap kind) known gives = (refl, (trap_visible kind, tt))
+reply_visible kinds (reply.Pending n) known gives = (refl, (number_visible n (omega arith), tt))
+reply_visible kinds _ known gives = (refl, tt)
 
 no_reply : (kinds : FieldKinds) (n : ℕ) → reply_at kinds n [] ≡ None
 unfolding reply_at read_then word_at field_at
 no_reply kinds n = refl
 
 -- a reply's fields are those of its line, and it is read back from them
-line_read : (s : Step) (r : Reply) → Gives s r → reply_in (kinds_of s) (fields_of (line_with (fields_of_reply r))) ≡ Some (r, [])
-line_read s r gives =
-    let read = rw append-nil at ((reply_all s r gives).given []) in
-    let some : fields_of_reply r ≡ [] → ⊥ = λ none. let first = rw none at read in cc (no_reply (kinds_of s) (length (fields_of_reply r))) in
-    rw (fields_of_line (fields_of_reply r) some (reply_visible s r gives)) read
+line_read : (kinds : FieldKinds) (r : Reply) → AreKnown kinds → GivesAs kinds r → reply_in kinds (fields_of (line_with (fields_of_reply r))) ≡ Some (r, [])
+line_read kinds r known gives =
+    let read = rw append-nil at ((reply_all kinds r known gives).given []) in
+    let some : fields_of_reply r ≡ [] → ⊥ = λ none. let first = rw none at read in cc (no_reply kinds (length (fields_of_reply r))) in
+    rw (fields_of_line (fields_of_reply r) some (reply_visible kinds r known gives)) read
 
-pub texts_differ : (s : Step) (r q : Reply) → Gives s r → Gives s q → text_of r ≡ text_of q → r ≡ q
+texts_differ : (kinds : FieldKinds) (r q : Reply) → AreKnown kinds → GivesAs kinds r → GivesAs kinds q → text_of r ≡ text_of q → r ≡ q
 unfolding text_of
-texts_differ s r q hr hq same =
+texts_differ kinds r q known hr hq same =
     let line = append_cancel_right (line_with (fields_of_reply r)) (line_with (fields_of_reply q)) (codes "\n") same in
-    let one = line_read s r hr in
-    let two = line_read s q hq in
-    let read : ◌≡◌ {A = Option (Reply × List (List ℕ))} (Some (r, [])) (Some (q, [])) = sym one ∙ (ap (λ l. reply_in (kinds_of s) (fields_of l)) line ∙ two) in
+    let one = line_read kinds r known hr in
+    let two = line_read kinds q known hq in
+    let read : ◌≡◌ {A = Option (Reply × List (List ℕ))} (Some (r, [])) (Some (q, [])) = sym one ∙ (ap (λ l. reply_in kinds (fields_of l)) line ∙ two) in
     (same_found r q [] [] read).0
+
+pub step_replies_differ : (s : Step) (r q : Reply) → is_poll s ≡ false → Gives s r → Gives s q → text_of r ≡ text_of q → r ≡ q
+step_replies_differ s r q other hr hq same = texts_differ (kinds_of s) r q (are_known s other) hr hq same
+
+pub polled_replies_differ : (kinds : List FieldKind) (r q : Reply) → Contains polled_kinds kinds → GivesAs (Each kinds) r → GivesAs (Each kinds) q → text_of r ≡ text_of q → r ≡ q
+polled_replies_differ kinds r q among hr hq same = texts_differ (Each kinds) r q tt hr hq same

@@ -10,14 +10,15 @@ use Rattle.wasi_world.proofs.FieldsOf.{no_spaces, fields_of_joined}
 use Rattle.wasi_world.proofs.Numbers.{number_in_is, number_in_decimal, begins_otherwise}
 use Rattle.wasi_world.proofs.ReadBack.{u32_exactly, family_exactly, address_exactly, bytes_exactly, word_exactly}
 use Rattle.wasi_world.proofs.Visible.{visible_utf8, visible_no_space, visible_line, number_visible, family_visible, address_visible, bytes_visible, line_of_fields}
-use Rattle.wasi_world.proofs.Exactly.{All, Only, exactly, all_give, only_give, only_some, only_then, all_last}
+use Rattle.wasi_world.proofs.Exactly.{All, Only, exactly, number_exactly, all_give, only_give, only_some, only_then, all_last}
 use Rattle.wasi_world.proofs.Words.{only_word}
 use Rattle.wasi_addr.specs.declared.address.ShutdownType.{ShutdownType}
 use Rattle.wasi_addr.specs.declared.address.ShutdownType.TheVariants.{Receive, Send, Both}
 use Rattle.wasi_steps.specs.declared.step.Step.{Step}
 use Rattle.wasi_steps.specs.declared.step.Step.TheVariants as step
+use Rattle.wasi_steps.specs.Arguments.{Kind, ACount, ACapacity, AFamily, ASocketAddress, AnOption, ASetting, AUdpOption, AUdpSetting, AHalf, AllBytes, ARemote, SomeDatagrams, AName, Value, value_at, value_fields, FitsValue, Values, values_fields, FitsValues, shutdown_fields, shutdown_words, shutdown_at}
 use Rattle.wasi_steps.specs.Names.{IsText}
-use Rattle.wasi_steps.specs.Steps.{Kind, ACount, AFamily, ASocketAddress, AnOption, ASetting, AUdpOption, AUdpSetting, AHalf, AllBytes, ARemote, SomeDatagrams, AName, Value, value_at, value_fields, FitsValue, Values, values_fields, FitsValues, Takes, made, values_at, Written, fields_of_written, signature, context_fields, shutdown_fields, shutdown_words, shutdown_at, context_of, is_of_a_name, takes_a_name, fields_of_step, line_of, IsStep, row_of, rows_of, rows_by, is_read, steps, bare_steps, guest_call_at, after_first, step_reader, step_of}
+use Rattle.wasi_steps.specs.Steps.{Takes, made, values_at, Written, fields_of_written, signature, context_fields, context_of, is_of_a_name, takes_a_name, fields_of_step, line_of, IsStep, row_of, rows_of, rows_by, is_read, steps, bare_steps, guest_call_at, after_first, step_reader, step_of}
 use Rattle.wasi_steps.proofs.LineEnds.{ReadsLast, Last, last_of, lastly, last_give, last_then, last_alone, only_next, both_visible}
 use Rattle.wasi_steps.proofs.DatagramLaws.{remote_last, remote_visible, datagrams_last, datagrams_visible}
 use Rattle.wasi_steps.proofs.NameLaws.{name_last, visible_text, name_text, text_both}
@@ -47,6 +48,7 @@ goes_on _ = true
 kind_exactly : (kind : Kind) → goes_on kind ≡ true → ReadsExactly (value_at kind) (value_fields kind) (FitsValue kind)
 unfolding goes_on
 kind_exactly ACount more = u64_exactly
+kind_exactly ACapacity more = number_exactly 65536 (omega arith)
 kind_exactly AFamily more = family_exactly
 kind_exactly ASocketAddress more = address_exactly
 kind_exactly AnOption more = option_exactly
@@ -66,6 +68,7 @@ kind_last ARemote = remote_last
 kind_last SomeDatagrams = datagrams_last
 kind_last AName = name_last
 kind_last ACount = last_of u64_exactly
+kind_last ACapacity = last_of (number_exactly 65536 (omega arith))
 kind_last kind = last_of (kind_exactly kind refl)
 
 -- of some arguments only the last may end the line
@@ -167,6 +170,7 @@ no_number b word letter = begins_otherwise (b ∷ word) 4294967295 (omega arith)
 bare_word : (s : Step) → context_of s ≡ None → number_in (signature s).written.word 4294967295 ≡ None
 bare_word step.Turn e = no_number _ _ (omega arith)
 bare_word (step.Poll call) e = no_number _ _ (omega arith)
+bare_word (step.Cancel call) e = no_number _ _ (omega arith)
 bare_word _ e = absurd (cc)
 
 -- what follows a context and a word is read after them, and what follows the word of a step that no context makes

@@ -2,7 +2,8 @@
 use Rattle.std.specs.Prelude.{ℕ, Bool, true, false, ◌==◌, List, [], ◌∷◌, ◌++◌, map, codes, Option, Some, None}
 use Rattle.wasi_world.specs.Fields.{line_with}
 use Rattle.wasi_steps.specs.declared.step.Step.{Step}
-use Rattle.wasi_steps.specs.Steps.{Target, ANetwork, ASocket, ADatagramSocket, AnInput, AnOutput, AnIncoming, AnOutgoing, ALookup, AnError, Watchable, APollable, Anything, Kind, HandleOf, ALine, ACount, AFamily, ASocketAddress, AnOption, ASetting, AUdpOption, AUdpSetting, AHalf, AllBytes, ARemote, SomeDatagrams, AName, signature}
+use Rattle.wasi_steps.specs.Arguments.{Target, ANetwork, ASocket, ADatagramSocket, AnInput, AnOutput, AnIncoming, AnOutgoing, ALookup, AnError, Watchable, APollable, Anything, Kind, HandleOf, ALine, ACount, ACapacity, AFamily, ASocketAddress, AnOption, ASetting, AUdpOption, AUdpSetting, AHalf, AllBytes, ARemote, SomeDatagrams, AName}
+use Rattle.wasi_steps.specs.Steps.{signature}
 
 -- the letters for a handle, and for an argument
 abbrev pub handle_letters : Target → List ℕ
@@ -23,6 +24,7 @@ abbrev pub letters : Kind → List ℕ
 letters (HandleOf target) = handle_letters target
 letters ALine = codes "N"
 letters ACount = codes "L"
+letters ACapacity = codes "L"
 letters AFamily = codes "F"
 letters ASocketAddress = codes "4 a b c d port"
 letters AnOption = codes "OPTION"

@@ -1,6 +1,6 @@
 -- The texts of replies, and which replies a step may give.
 use Rattle.std.specs.List.{AllByRecursion}
-use Rattle.std.specs.Prelude.{◌≡◌, ℕ, ◌<◌, ◌≤◌, ◌^◌, length, List, [], ◌∷◌, ◌++◌, map, codes, decimal, ◌⊎◌}
+use Rattle.std.specs.Prelude.{◌≡◌, ℕ, ◌<◌, ◌≤◌, ◌^◌, Bool, true, false, length, List, [], ◌∷◌, ◌++◌, map, codes, decimal, ◌⊎◌}
 use Rattle.wasi_world.specs.declared.outcome.TrapKind.{TrapKind}
 use Rattle.wasi_world.specs.declared.outcome.TrapKind.TheVariants as trap
 use Rattle.wasi_world.specs.Fields.{line_with, bytes_text}
@@ -16,7 +16,8 @@ use Rattle.wasi_steps.specs.declared.reply.Reply.{Reply}
 use Rattle.wasi_steps.specs.declared.reply.Reply.TheVariants as reply
 use Rattle.wasi_steps.specs.Reply.{ip_values, address_values, datagram_values}
 use Rattle.wasi_steps.specs.declared.step.Step.{Step}
-pub use Rattle.wasi_steps.specs.Steps.{FieldKind, ANumber, SomeBytes, Truth, Nothing, FieldKinds, Each, AnAddress, AnIpOrNone, ADatagramList, OneOf, kinds_of}
+use Rattle.wasi_steps.specs.declared.step.Step.TheVariants as step
+pub use Rattle.wasi_steps.specs.Steps.{FieldKind, ANumber, SomeBytes, Truth, Nothing, FieldKinds, Each, AnAddress, AnIpOrNone, ADatagramList, OneOf, polled_kinds, kinds_of}
 
 -- the words of codes
 abbrev pub code_text : CodeWord → List ℕ
@@ -130,9 +131,18 @@ AreOfKinds AnIpOrNone fields = (fields ≡ field.Absent ∷ []) ⊎ AreAnIp fiel
 AreOfKinds ADatagramList fields = AreDatagrams fields
 AreOfKinds (OneOf lists) fields = AsOneSays lists fields
 
--- a reply that the step may give: its numbers are within their widths, and its fields are of the step's kinds
+-- a reply with fields of these kinds where it has any, and with numbers that are within their widths
+abbrev pub GivesAs : FieldKinds → Reply → Type 0
+GivesAs kinds (reply.Ok fields) = AreOfKinds kinds fields
+GivesAs kinds (reply.Failed code handle) = handle ≤ 4294967295
+GivesAs kinds (reply.Pending n) = n ≤ 4294967295
+GivesAs kinds _ = Unit {0}
+
+-- a reply that the step may give
 abbrev pub Gives : Step → Reply → Type 0
-Gives s (reply.Ok fields) = AreOfKinds (kinds_of s) fields
-Gives s (reply.Failed code handle) = handle ≤ 4294967295
-Gives s (reply.Pending n) = n ≤ 4294967295
-Gives s _ = Unit {0}
+Gives s r = GivesAs (kinds_of s) r
+
+-- a poll, which may give what any call that can be pending gives
+abbrev pub is_poll : Step → Bool
+is_poll (step.Poll call) = true
+is_poll _ = false

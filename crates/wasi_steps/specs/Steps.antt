@@ -3,166 +3,21 @@ use Rattle.std.specs.Prelude.{◌≡◌, refl, ℕ, ◌<◌, ◌≤◌, nat_lt, 
 use Rattle.std.specs.List.{list_any}
 use Rattle.wasi_addr.specs.declared.address.IpSocketAddress.{IpSocketAddress}
 use Rattle.wasi_addr.specs.declared.address.IpSocketAddress.TheVariants as socket
-use Rattle.wasi_addr.specs.declared.address.ShutdownType.{ShutdownType}
-use Rattle.wasi_addr.specs.declared.address.ShutdownType.TheVariants.{Receive, Send, Both}
-use Rattle.wasi_addr.specs.declared.address.SocketAddressFamily.{SocketAddressFamily}
+use Rattle.wasi_addr.specs.declared.address.ShutdownType.TheVariants.{Both}
 use Rattle.wasi_addr.specs.declared.address.SocketAddressFamily.TheVariants.{Ipv4}
-use Rattle.wasi_world.specs.declared.call.Opt.{Opt}
 use Rattle.wasi_world.specs.declared.call.Opt.TheVariants.{HopLimit}
-use Rattle.wasi_world.specs.declared.datagram.OutgoingDatagram.{OutgoingDatagram}
-use Rattle.wasi_world.specs.Fields.{Reader, Row, row, after_word, ◌>>=◌, give, give_some, whole, fields_of, line_with, number_in, number_at, word_at, family_at, address_at, bytes_at}
-use Rattle.wasi_world.specs.Written.{number_fields, family_fields, address_fields, bytes_fields, FitsAddress, AreBytes}
-use Rattle.wasi_steps.specs.declared.setting.TcpSetting.{TcpSetting}
-use Rattle.wasi_steps.specs.declared.setting.UdpOption.{UdpOption}
-use Rattle.wasi_steps.specs.declared.setting.UdpSetting.{UdpSetting}
+use Rattle.wasi_world.specs.Fields.{Reader, Row, row, after_word, ◌>>=◌, give, give_some, whole, fields_of, line_with, number_in, word_at}
 use Rattle.wasi_steps.specs.declared.step.Step.{Step}
 use Rattle.wasi_steps.specs.declared.step.Step.TheVariants as step
 use Rattle.wasi_steps.specs.declared.setting.TcpSetting.TheVariants as setting
 use Rattle.wasi_steps.specs.declared.setting.UdpOption.TheVariants as udp
 use Rattle.wasi_steps.specs.declared.setting.UdpSetting.TheVariants as udp_setting
-use Rattle.wasi_steps.specs.Datagrams.{remote_fields, FitsRemote, remote_at, datagrams_fields, FitsDatagrams, datagrams_at}
-use Rattle.wasi_steps.specs.Names.{IsName, name_at}
-use Rattle.wasi_steps.specs.Settings.{option_word, option_at, setting_fields, FitsSetting, setting_at, udp_option_word, udp_option_at, udp_setting_fields, FitsUdpSetting, udp_setting_at}
-
--- == what is shut down
-abbrev pub shutdown_fields : ShutdownType → List (List ℕ)
-shutdown_fields Receive = codes "receive" ∷ []
-shutdown_fields Send = codes "send" ∷ []
-shutdown_fields Both = codes "both" ∷ []
-
-abbrev pub shutdown_words : List (Row ShutdownType)
-shutdown_words = row (codes "receive") (give Receive) ∷ row (codes "send") (give Send) ∷ row (codes "both") (give Both) ∷ []
-
-unfoldable pub shutdown_at : Reader ShutdownType
-shutdown_at = do
-  word ← word_at
-  after_word shutdown_words word
-
--- == arguments
--- what a handle has to be of: a network, a TCP socket, a UDP socket, an input, an output, a stream of datagrams that come in or
--- go out, a lookup, an error, what can be watched, a pollable, or anything
-pub data Target : Type 0 where
-  ANetwork : Target
-  ASocket : Target
-  ADatagramSocket : Target
-  AnInput : Target
-  AnOutput : Target
-  AnIncoming : Target
-  AnOutgoing : Target
-  ALookup : Target
-  AnError : Target
-  Watchable : Target
-  APollable : Target
-  Anything : Target
-
--- what an argument is: a handle, the number of a line, a count, a family, an address, an option and what is set, of a TCP
--- socket or of a UDP socket, what is shut down, bytes, an address or none, datagrams to send, a host name
-pub data Kind : Type 0 where
-  HandleOf : Target → Kind
-  ALine : Kind
-  ACount : Kind
-  AFamily : Kind
-  ASocketAddress : Kind
-  AnOption : Kind
-  ASetting : Kind
-  AUdpOption : Kind
-  AUdpSetting : Kind
-  AHalf : Kind
-  AllBytes : Kind
-  ARemote : Kind
-  SomeDatagrams : Kind
-  AName : Kind
-
-abbrev pub Value : Kind → Type 0
-Value (HandleOf target) = ℕ
-Value ALine = ℕ
-Value ACount = ℕ
-Value AFamily = SocketAddressFamily
-Value ASocketAddress = IpSocketAddress
-Value AnOption = Opt
-Value ASetting = TcpSetting
-Value AUdpOption = UdpOption
-Value AUdpSetting = UdpSetting
-Value AHalf = ShutdownType
-Value AllBytes = List ℕ
-Value ARemote = Option IpSocketAddress
-Value SomeDatagrams = List OutgoingDatagram
-Value AName = List ℕ
-
--- how it is read
-abbrev pub value_at : (kind : Kind) → Reader (Value kind)
-value_at (HandleOf target) = number_at 4294967295
-value_at ALine = number_at 4294967295
-value_at ACount = number_at 18446744073709551615
-value_at AFamily = family_at
-value_at ASocketAddress = address_at
-value_at AnOption = option_at
-value_at ASetting = setting_at
-value_at AUdpOption = udp_option_at
-value_at AUdpSetting = udp_setting_at
-value_at AHalf = shutdown_at
-value_at AllBytes = bytes_at
-value_at ARemote = remote_at
-value_at SomeDatagrams = datagrams_at
-value_at AName = name_at
-
--- how it is written; a name's fields are between its spaces
-abbrev pub value_fields : (kind : Kind) → Value kind → List (List ℕ)
-value_fields (HandleOf target) n = number_fields n
-value_fields ALine n = number_fields n
-value_fields ACount n = number_fields n
-value_fields AFamily family = family_fields family
-value_fields ASocketAddress a = address_fields a
-value_fields AnOption option = option_word option ∷ []
-value_fields ASetting setting = setting_fields setting
-value_fields AUdpOption option = udp_option_word option ∷ []
-value_fields AUdpSetting setting = udp_setting_fields setting
-value_fields AHalf how = shutdown_fields how
-value_fields AllBytes bytes = bytes_fields bytes
-value_fields ARemote remote = remote_fields remote
-value_fields SomeDatagrams datagrams = datagrams_fields datagrams
-value_fields AName name = fields_of name
-
--- its numbers are within their widths, and a name is text
-abbrev pub FitsValue : (kind : Kind) → Value kind → Type 0
-FitsValue (HandleOf target) n = n ≤ 4294967295
-FitsValue ALine n = n ≤ 4294967295
-FitsValue ACount n = n ≤ 18446744073709551615
-FitsValue ASocketAddress a = FitsAddress a
-FitsValue ASetting setting = FitsSetting setting
-FitsValue AUdpSetting setting = FitsUdpSetting setting
-FitsValue AllBytes bytes = AreBytes bytes
-FitsValue ARemote remote = FitsRemote remote
-FitsValue SomeDatagrams datagrams = FitsDatagrams datagrams
-FitsValue AName name = IsName name
-FitsValue _ value = Unit {0}
-
--- the handles that it names
-abbrev pub handles_in : (kind : Kind) → Value kind → List ℕ
-handles_in (HandleOf target) n = n ∷ []
-handles_in _ value = []
+pub use Rattle.wasi_steps.specs.Arguments.{Target, ANetwork, ASocket, ADatagramSocket, AnInput, AnOutput, AnIncoming, AnOutgoing, ALookup, AnError, Watchable, APollable, Anything, Kind, HandleOf, ALine, ACount, ACapacity, AFamily, ASocketAddress, AnOption, ASetting, AUdpOption, AUdpSetting, AHalf, AllBytes, ARemote, SomeDatagrams, AName, Value, value_at, Values, values_fields, FitsValues, handles_among}
 
 -- a context's number before other fields
 abbrev pub context_fields : Option ℕ → List (List ℕ) → List (List ℕ)
 context_fields None fields = fields
 context_fields (Some c) fields = decimal c ∷ fields
-
--- the values of some arguments
-abbrev pub Values : List Kind → Type 0
-Values [] = Unit {0}
-Values (kind ∷ kinds) = Value kind × Values kinds
-
-abbrev pub values_fields : (kinds : List Kind) → Values kinds → List (List ℕ)
-values_fields [] values = []
-values_fields (kind ∷ kinds) values = value_fields kind values.0 ++ values_fields kinds values.1
-
-abbrev pub FitsValues : (kinds : List Kind) → Values kinds → Type 0
-FitsValues [] values = Unit {0}
-FitsValues (kind ∷ kinds) values = FitsValue kind values.0 × FitsValues kinds values.1
-
-abbrev pub handles_among : (kinds : List Kind) → Values kinds → List ℕ
-handles_among [] values = []
-handles_among (kind ∷ kinds) values = handles_in kind values.0 ++ handles_among kinds values.1
 
 -- what takes such values, one after another, and makes a step of them
 abbrev pub Takes : List Kind → Type 0
@@ -186,7 +41,7 @@ pub data FieldKind : Type 0 where
   Nothing : FieldKind
 
 -- what the fields of a reply are: one of each of these kinds, those of an address, those of one with no port or `none`, a count
--- and so many datagrams, or one of each of the kinds in one of these lists, which differ in length
+-- and so many datagrams, or one of each of the kinds in one of these lists
 pub data FieldKinds : Type 0 where
   Each : List FieldKind → FieldKinds
   AnAddress : FieldKinds
@@ -214,8 +69,11 @@ guest_call c word kinds makes values gives = record { written = record { context
 abbrev pub bare : List ℕ → (kinds : List Kind) → Takes kinds → Values kinds → FieldKinds → Signature
 bare word kinds makes values gives = record { written = record { context = None; word = word; kinds = kinds; values = values }; makes = makes; gives = gives }
 
--- a poll has the reply of the call that it polls: one that can be pending gives nothing, or the handle of the socket that it
--- made, or those of the two streams
+-- a poll has the reply of the call that it polls: one that can be pending gives nothing, a number (the handle of the socket that
+-- it made, or how many bytes), the handles of two streams, or bytes; each has the fields of one of these lists alone
+abbrev pub polled_kinds : List (List FieldKind)
+polled_kinds = [] ∷ (ANumber ∷ []) ∷ (ANumber ∷ ANumber ∷ []) ∷ (SomeBytes ∷ []) ∷ []
+
 abbrev pub signature : Step → Signature
 signature (step.Network c) = guest_call c (codes "network") [] (step.Network c) tt (Each (ANumber ∷ []))
 signature (step.TcpCreate c family) = guest_call c (codes "tcp-create") (AFamily ∷ []) (step.TcpCreate c) (family, tt) (Each (ANumber ∷ []))
@@ -247,16 +105,32 @@ signature (step.UdpCheckSend c outgoing) = guest_call c (codes "udp-check-send")
 signature (step.UdpSend c outgoing datagrams) = guest_call c (codes "udp-send") (HandleOf AnOutgoing ∷ SomeDatagrams ∷ []) (step.UdpSend c) (outgoing, (datagrams, tt)) (Each (ANumber ∷ []))
 signature (step.Resolve c network name) = guest_call c (codes "resolve") (HandleOf ANetwork ∷ AName ∷ []) (step.Resolve c) (network, (name, tt)) (Each (ANumber ∷ []))
 signature (step.ResolveNext c lookup) = guest_call c (codes "resolve-next") (HandleOf ALookup ∷ []) (step.ResolveNext c) (lookup, tt) AnIpOrNone
+signature (step.PipeIn c bytes) = guest_call c (codes "pipe-in") (AllBytes ∷ []) (step.PipeIn c) (bytes, tt) (Each (ANumber ∷ []))
+signature (step.PipeOut c capacity) = guest_call c (codes "pipe-out") (ACapacity ∷ []) (step.PipeOut c) (capacity, tt) (Each (ANumber ∷ []))
+signature (step.PipeContents c output) = guest_call c (codes "pipe-contents") (HandleOf AnOutput ∷ []) (step.PipeContents c) (output, tt) (Each (SomeBytes ∷ []))
+signature (step.Sink c) = guest_call c (codes "sink") [] (step.Sink c) tt (Each (ANumber ∷ []))
+signature (step.ClosedIn c) = guest_call c (codes "closed-in") [] (step.ClosedIn c) tt (Each (ANumber ∷ []))
+signature (step.ClosedOut c) = guest_call c (codes "closed-out") [] (step.ClosedOut c) tt (Each (ANumber ∷ []))
 signature (step.Read c input len) = guest_call c (codes "read") (HandleOf AnInput ∷ ACount ∷ []) (step.Read c) (input, (len, tt)) (Each (SomeBytes ∷ []))
+signature (step.Skip c input len) = guest_call c (codes "skip") (HandleOf AnInput ∷ ACount ∷ []) (step.Skip c) (input, (len, tt)) (Each (ANumber ∷ []))
 signature (step.CheckWrite c output) = guest_call c (codes "check-write") (HandleOf AnOutput ∷ []) (step.CheckWrite c) (output, tt) (Each (ANumber ∷ []))
 signature (step.Write c output bytes) = guest_call c (codes "write") (HandleOf AnOutput ∷ AllBytes ∷ []) (step.Write c) (output, (bytes, tt)) (Each [])
+signature (step.WriteZeroes c output len) = guest_call c (codes "write-zeroes") (HandleOf AnOutput ∷ ACount ∷ []) (step.WriteZeroes c) (output, (len, tt)) (Each [])
 signature (step.Flush c output) = guest_call c (codes "flush") (HandleOf AnOutput ∷ []) (step.Flush c) (output, tt) (Each [])
+signature (step.Splice c output input len) = guest_call c (codes "splice") (HandleOf AnOutput ∷ HandleOf AnInput ∷ ACount ∷ []) (step.Splice c) (output, (input, (len, tt))) (Each (ANumber ∷ []))
+signature (step.BlockingRead c input len) = guest_call c (codes "blocking-read") (HandleOf AnInput ∷ ACount ∷ []) (step.BlockingRead c) (input, (len, tt)) (Each (SomeBytes ∷ []))
+signature (step.BlockingSkip c input len) = guest_call c (codes "blocking-skip") (HandleOf AnInput ∷ ACount ∷ []) (step.BlockingSkip c) (input, (len, tt)) (Each (ANumber ∷ []))
+signature (step.BlockingWrite c output bytes) = guest_call c (codes "blocking-write") (HandleOf AnOutput ∷ AllBytes ∷ []) (step.BlockingWrite c) (output, (bytes, tt)) (Each [])
+signature (step.BlockingZeroes c output len) = guest_call c (codes "blocking-zeroes") (HandleOf AnOutput ∷ ACount ∷ []) (step.BlockingZeroes c) (output, (len, tt)) (Each [])
+signature (step.BlockingFlush c output) = guest_call c (codes "blocking-flush") (HandleOf AnOutput ∷ []) (step.BlockingFlush c) (output, tt) (Each [])
+signature (step.BlockingSplice c output input len) = guest_call c (codes "blocking-splice") (HandleOf AnOutput ∷ HandleOf AnInput ∷ ACount ∷ []) (step.BlockingSplice c) (output, (input, (len, tt))) (Each (ANumber ∷ []))
 signature (step.NetworkErrorCode c error) = guest_call c (codes "network-error-code") (HandleOf AnError ∷ []) (step.NetworkErrorCode c) (error, tt) (Each (Nothing ∷ []))
 signature (step.Subscribe c handle) = guest_call c (codes "subscribe") (HandleOf Watchable ∷ []) (step.Subscribe c) (handle, tt) (Each (ANumber ∷ []))
 signature (step.Ready c pollable) = guest_call c (codes "ready") (HandleOf APollable ∷ []) (step.Ready c) (pollable, tt) (Each (Truth ∷ []))
 signature (step.Drop c handle) = guest_call c (codes "drop") (HandleOf Anything ∷ []) (step.Drop c) (handle, tt) (Each [])
 signature step.Turn = bare (codes "turn") [] step.Turn tt (Each [])
-signature (step.Poll call) = bare (codes "poll") (ALine ∷ []) step.Poll (call, tt) (OneOf ([] ∷ (ANumber ∷ []) ∷ (ANumber ∷ ANumber ∷ []) ∷ []))
+signature (step.Poll call) = bare (codes "poll") (ALine ∷ []) step.Poll (call, tt) (OneOf polled_kinds)
+signature (step.Cancel call) = bare (codes "cancel") (ALine ∷ []) step.Cancel (call, tt) (Each [])
 
 -- the context that makes the call, where one makes it
 abbrev pub context_of : Step → Option ℕ
@@ -307,9 +181,15 @@ rows_of steps = map row_of steps
 abbrev pub nowhere : IpSocketAddress
 nowhere = socket.Ipv4 (record { port = 0; address = (0, 0, 0, 0) })
 
--- one step of each form: a write and a send, whose bytes take memory, and a resolve, whose name does
+-- one step of each form: those whose bytes, datagrams or name take memory
+abbrev pub pipe_step : ℕ → Step
+pipe_step c = step.PipeIn c []
+
 abbrev pub write_step : ℕ → Step
 write_step c = step.Write c 0 []
+
+abbrev pub blocking_write_step : ℕ → Step
+blocking_write_step c = step.BlockingWrite c 0 []
 
 abbrev pub send_step : ℕ → Step
 send_step c = step.UdpSend c 0 []
@@ -318,13 +198,14 @@ abbrev pub resolve_step : ℕ → Step
 resolve_step c = step.Resolve c 0 []
 
 abbrev pub memory_steps : ℕ → List Step
-memory_steps c = write_step c ∷ send_step c ∷ resolve_step c ∷ []
+memory_steps c = pipe_step c ∷ write_step c ∷ blocking_write_step c ∷ send_step c ∷ resolve_step c ∷ []
 
--- those that name no handle: they make a network or a socket
+-- those that name no handle: they make a network, a socket or a stream
 abbrev pub create_steps : ℕ → List Step
-create_steps c = step.Network c ∷ step.TcpCreate c Ipv4 ∷ step.UdpCreate c Ipv4 ∷ []
+create_steps c =
+    step.Network c ∷ step.TcpCreate c Ipv4 ∷ step.UdpCreate c Ipv4 ∷ step.PipeOut c 0 ∷ step.Sink c ∷ step.ClosedIn c ∷ step.ClosedOut c ∷ []
 
--- those of a handle and of more than it: of a TCP socket, of a UDP socket and of its streams, of an input
+-- those of a handle and of more than it: of a TCP socket, of a UDP socket and of its streams, of an input, of an output
 abbrev pub tcp_value_steps : ℕ → List Step
 tcp_value_steps c =
     step.TcpStartBind c 0 0 nowhere ∷ step.TcpStartConnect c 0 0 nowhere ∷ step.TcpGet c 0 HopLimit ∷ step.TcpSet c 0 (setting.HopLimit 1)
@@ -335,10 +216,16 @@ udp_value_steps c =
     step.UdpStartBind c 0 0 nowhere ∷ step.UdpGet c 0 udp.HopLimit ∷ step.UdpSet c 0 (udp_setting.HopLimit 1) ∷ step.UdpStream c 0 None
     ∷ step.UdpReceive c 0 0 ∷ []
 
-abbrev pub value_steps : ℕ → List Step
-value_steps c = step.Read c 0 0 ∷ tcp_value_steps c ++ udp_value_steps c
+abbrev pub input_value_steps : ℕ → List Step
+input_value_steps c = step.Read c 0 0 ∷ step.Skip c 0 0 ∷ step.BlockingRead c 0 0 ∷ step.BlockingSkip c 0 0 ∷ []
 
--- those of a handle alone: of a TCP socket, of a UDP socket and of its streams, of anything else
+abbrev pub output_value_steps : ℕ → List Step
+output_value_steps c = step.WriteZeroes c 0 0 ∷ step.Splice c 0 0 0 ∷ step.BlockingZeroes c 0 0 ∷ step.BlockingSplice c 0 0 0 ∷ []
+
+abbrev pub value_steps : ℕ → List Step
+value_steps c = tcp_value_steps c ++ udp_value_steps c ++ input_value_steps c ++ output_value_steps c
+
+-- those of a handle alone: of a TCP socket, of a UDP socket and of its streams, of an output, of anything else
 abbrev pub tcp_handle_steps : ℕ → List Step
 tcp_handle_steps c =
     step.TcpFinishBind c 0 ∷ step.TcpFinishConnect c 0 ∷ step.TcpStartListen c 0 ∷ step.TcpFinishListen c 0 ∷ step.TcpAccept c 0
@@ -348,12 +235,14 @@ abbrev pub udp_handle_steps : ℕ → List Step
 udp_handle_steps c =
     step.UdpFinishBind c 0 ∷ step.UdpLocalAddress c 0 ∷ step.UdpRemoteAddress c 0 ∷ step.UdpAddressFamily c 0 ∷ step.UdpCheckSend c 0 ∷ []
 
+abbrev pub output_handle_steps : ℕ → List Step
+output_handle_steps c = step.PipeContents c 0 ∷ step.CheckWrite c 0 ∷ step.Flush c 0 ∷ step.BlockingFlush c 0 ∷ []
+
 abbrev pub other_handle_steps : ℕ → List Step
-other_handle_steps c =
-    step.ResolveNext c 0 ∷ step.CheckWrite c 0 ∷ step.Flush c 0 ∷ step.NetworkErrorCode c 0 ∷ step.Subscribe c 0 ∷ step.Ready c 0 ∷ step.Drop c 0 ∷ []
+other_handle_steps c = step.ResolveNext c 0 ∷ step.NetworkErrorCode c 0 ∷ step.Subscribe c 0 ∷ step.Ready c 0 ∷ step.Drop c 0 ∷ []
 
 abbrev pub handle_steps : ℕ → List Step
-handle_steps c = tcp_handle_steps c ++ udp_handle_steps c ++ other_handle_steps c
+handle_steps c = tcp_handle_steps c ++ udp_handle_steps c ++ output_handle_steps c ++ other_handle_steps c
 
 -- the steps of a context whose arguments take no memory
 abbrev pub plain_steps : ℕ → List Step
@@ -365,7 +254,7 @@ steps c = memory_steps c ++ plain_steps c
 
 -- the steps that no context makes
 abbrev pub bare_steps : List Step
-bare_steps = step.Turn ∷ step.Poll 0 ∷ []
+bare_steps = step.Turn ∷ step.Poll 0 ∷ step.Cancel 0 ∷ []
 
 -- the rows of the steps that a context makes, or that none does
 abbrev pub rows_by : Option ℕ → List (Row Step)
@@ -407,16 +296,32 @@ is_read (step.UdpCheckSend c outgoing) = (refl, refl)
 is_read (step.UdpSend c outgoing datagrams) = (refl, refl)
 is_read (step.Resolve c network name) = (refl, refl)
 is_read (step.ResolveNext c lookup) = (refl, refl)
+is_read (step.PipeIn c bytes) = (refl, refl)
+is_read (step.PipeOut c capacity) = (refl, refl)
+is_read (step.PipeContents c output) = (refl, refl)
+is_read (step.Sink c) = (refl, refl)
+is_read (step.ClosedIn c) = (refl, refl)
+is_read (step.ClosedOut c) = (refl, refl)
 is_read (step.Read c input len) = (refl, refl)
+is_read (step.Skip c input len) = (refl, refl)
 is_read (step.CheckWrite c output) = (refl, refl)
 is_read (step.Write c output bytes) = (refl, refl)
+is_read (step.WriteZeroes c output len) = (refl, refl)
 is_read (step.Flush c output) = (refl, refl)
+is_read (step.Splice c output input len) = (refl, refl)
+is_read (step.BlockingRead c input len) = (refl, refl)
+is_read (step.BlockingSkip c input len) = (refl, refl)
+is_read (step.BlockingWrite c output bytes) = (refl, refl)
+is_read (step.BlockingZeroes c output len) = (refl, refl)
+is_read (step.BlockingFlush c output) = (refl, refl)
+is_read (step.BlockingSplice c output input len) = (refl, refl)
 is_read (step.NetworkErrorCode c error) = (refl, refl)
 is_read (step.Subscribe c handle) = (refl, refl)
 is_read (step.Ready c pollable) = (refl, refl)
 is_read (step.Drop c handle) = (refl, refl)
 is_read step.Turn = (refl, refl)
 is_read (step.Poll call) = (refl, refl)
+is_read (step.Cancel call) = (refl, refl)
 
 -- a guest call of this context, where it is one of so many
 unfoldable pub guest_call_at : ℕ → ℕ → Reader Step

@@ -3,11 +3,14 @@
 
 mod datagram;
 pub mod fields;
+mod handle;
+mod memory;
 mod name;
 pub mod parse;
 pub mod reply;
 pub mod setting;
 pub mod step;
+mod stream;
 
 pub use fields::{IntoFields, NoCode};
 pub use reply::{CodeWord, Field, Reply, ReplyFields};

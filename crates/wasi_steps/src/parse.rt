@@ -4,21 +4,25 @@ ghost use Rattle.std.specs.Prelude.{◌≡◌, ◌↔◌, ℕ, false, List, Some
 ghost use Rattle.wasi_world.specs.Fields.{Reads, after_word, number_in};
 ghost use Rattle.wasi_world.specs.Written.{IsVisible};
 ghost use Rattle.wasi_steps.specs.declared.step.Step.{Step};
+ghost use Rattle.wasi_steps.specs.Arguments.{shutdown_at};
 ghost use Rattle.wasi_steps.specs.Names.{IsText};
 ghost use Rattle.wasi_steps.specs.Settings.{ReadsNumber, ReadsAfter, option_at, wide_words, setting_words, setting_at, udp_option_at, udp_setting_at};
-ghost use Rattle.wasi_steps.specs.Steps.{line_of, IsStep, steps, plain_steps, value_steps, tcp_value_steps, udp_value_steps, handle_steps, udp_handle_steps, other_handle_steps, bare_steps, write_step, send_step, resolve_step, row_of, rows_of, shutdown_at, guest_call_at, step_reader, step_of, takes_a_name};
+ghost use Rattle.wasi_steps.specs.Steps.{line_of, IsStep, steps, plain_steps, value_steps, tcp_value_steps, udp_value_steps, input_value_steps, output_value_steps, handle_steps, bare_steps, rows_of, guest_call_at, step_reader, step_of, takes_a_name};
 
-use crate::datagram::{datagrams, remote};
-use crate::name::name;
+use crate::datagram::remote;
+use crate::memory::{
+    blocking_write_arguments, pipe_arguments, resolve_arguments, send_arguments, write_arguments,
+};
 use crate::setting::{TcpSetting, UdpOption, UdpSetting};
 use crate::step::Step;
+use crate::stream::stream_arguments;
 use std::alloc::{AllocError, Global};
 use wasi_addr::ShutdownType;
 use wasi_world::fields::number;
 use wasi_world::{Fields, Opt};
 
 /// Takes the word of what is shut down.
-#[tactic(auto, unfolding(crate::specs::Steps::shutdown_at, wasi_world::specs::Fields::read_then, wasi_world::specs::Fields::give))]
+#[tactic(auto, unfolding(crate::specs::Arguments::shutdown_at, wasi_world::specs::Fields::read_then, wasi_world::specs::Fields::give))]
 fn shutdown_type(fields: &mut Fields<'_>) -> Option<ShutdownType>
     ensures { Reads shutdown_at fields.old result fields.new }
 {
@@ -113,84 +117,11 @@ fn udp_setting(fields: &mut Fields<'_>) -> Option<UdpSetting>
     }
 }
 
-/// The step of this word that has no other argument than a handle, among the words of no socket.
-#[tactic(auto, unfolding(wasi_world::specs::Fields::read_then, wasi_world::specs::Fields::give, wasi_world::specs::Fields::give_some))]
-fn other_handle_step(context: u32, word: &str, handle: u32) -> Option<Step>
-    ensures { ReadsNumber 4294967295 (rows_of (other_handle_steps context)) word.now handle result }
-{
-    use Step::*;
-    match word {
-        "resolve-next" => Some(ResolveNext {
-            context,
-            lookup: handle,
-        }),
-        "check-write" => Some(CheckWrite {
-            context,
-            output: handle,
-        }),
-        "flush" => Some(Flush {
-            context,
-            output: handle,
-        }),
-        "network-error-code" => Some(NetworkErrorCode {
-            context,
-            error: handle,
-        }),
-        "subscribe" => Some(Subscribe { context, handle }),
-        "ready" => Some(Ready {
-            context,
-            pollable: handle,
-        }),
-        "drop" => Some(Drop { context, handle }),
-        _ => None,
-    }
-}
-
-/// The step of this word that has no other argument than a handle, among the words of a UDP socket and of no socket.
-#[tactic(auto, unfolding(wasi_world::specs::Fields::read_then, wasi_world::specs::Fields::give, wasi_world::specs::Fields::give_some))]
-fn udp_handle_step(context: u32, word: &str, handle: u32) -> Option<Step>
-    ensures { ReadsNumber 4294967295 (rows_of (udp_handle_steps context ++ other_handle_steps context)) word.now handle result }
-{
-    use Step::*;
-    let socket = handle;
-    match word {
-        "udp-finish-bind" => Some(UdpFinishBind { context, socket }),
-        "udp-local-address" => Some(UdpLocalAddress { context, socket }),
-        "udp-remote-address" => Some(UdpRemoteAddress { context, socket }),
-        "udp-address-family" => Some(UdpAddressFamily { context, socket }),
-        "udp-check-send" => Some(UdpCheckSend {
-            context,
-            outgoing: handle,
-        }),
-        _ => other_handle_step(context, word, handle),
-    }
-}
-
-/// The step of this word that has no other argument than a handle.
-#[tactic(auto, unfolding(wasi_world::specs::Fields::read_then, wasi_world::specs::Fields::give, wasi_world::specs::Fields::give_some))]
-fn handle_step(context: u32, word: &str, handle: u32) -> Option<Step>
-    ensures { ReadsNumber 4294967295 (rows_of (handle_steps context)) word.now handle result }
-{
-    use Step::*;
-    let socket = handle;
-    match word {
-        "tcp-finish-bind" => Some(TcpFinishBind { context, socket }),
-        "tcp-finish-connect" => Some(TcpFinishConnect { context, socket }),
-        "tcp-start-listen" => Some(TcpStartListen { context, socket }),
-        "tcp-finish-listen" => Some(TcpFinishListen { context, socket }),
-        "tcp-accept" => Some(TcpAccept { context, socket }),
-        "tcp-local-address" => Some(TcpLocalAddress { context, socket }),
-        "tcp-remote-address" => Some(TcpRemoteAddress { context, socket }),
-        "tcp-is-listening" => Some(TcpIsListening { context, socket }),
-        "tcp-address-family" => Some(TcpAddressFamily { context, socket }),
-        _ => udp_handle_step(context, word, handle),
-    }
-}
-
-/// Takes what follows the handle of a step word: more arguments where the word is a UDP socket's and has them, else nothing.
+/// Takes what follows the handle of a step word: more arguments where the word is a UDP socket's or a stream's and has them, else
+/// nothing.
 #[tactic(auto, unfolding(wasi_world::specs::Fields::read_then, wasi_world::specs::Fields::give, wasi_world::specs::Fields::give_some))]
 fn udp_arguments(fields: &mut Fields<'_>, context: u32, word: &str, handle: u32) -> Option<Step>
-    ensures { ReadsAfter 4294967295 (rows_of (udp_value_steps context ++ handle_steps context)) word.now handle fields.old result fields.new }
+    ensures { ReadsAfter 4294967295 (rows_of (udp_value_steps context ++ input_value_steps context ++ output_value_steps context ++ handle_steps context)) word.now handle fields.old result fields.new }
 {
     match word {
         "udp-start-bind" => Some(Step::UdpStartBind {
@@ -219,14 +150,15 @@ fn udp_arguments(fields: &mut Fields<'_>, context: u32, word: &str, handle: u32)
             incoming: handle,
             max_results: fields.number(u64::MAX)?,
         }),
-        _ => handle_step(context, word, handle),
+        _ => stream_arguments(fields, context, word, handle),
     }
 }
 
-/// Takes what follows the handle of a step word: more arguments where the word is a socket's and has them, else nothing.
+/// Takes what follows the handle of a step word: more arguments where the word is a socket's or a stream's and has them, else
+/// nothing.
 #[tactic(auto, unfolding(wasi_world::specs::Fields::read_then, wasi_world::specs::Fields::give, wasi_world::specs::Fields::give_some))]
 fn tcp_arguments(fields: &mut Fields<'_>, context: u32, word: &str, handle: u32) -> Option<Step>
-    ensures { ReadsAfter 4294967295 (rows_of (tcp_value_steps context ++ udp_value_steps context ++ handle_steps context)) word.now handle fields.old result fields.new }
+    ensures { ReadsAfter 4294967295 (rows_of (value_steps context ++ handle_steps context)) word.now handle fields.old result fields.new }
 {
     match word {
         "tcp-start-bind" => Some(Step::TcpStartBind {
@@ -266,14 +198,7 @@ fn handle_arguments(fields: &mut Fields<'_>, context: u32, word: &str) -> Option
     ensures { Reads (after_word (rows_of (value_steps context ++ handle_steps context)) word.now) fields.old result fields.new }
 {
     let handle = fields.u32()?;
-    match word {
-        "read" => Some(Step::Read {
-            context,
-            input: handle,
-            len: fields.number(u64::MAX)?,
-        }),
-        _ => tcp_arguments(fields, context, word, handle),
-    }
+    tcp_arguments(fields, context, word, handle)
 }
 
 /// Takes the arguments of a step word, where they take no memory.
@@ -291,74 +216,15 @@ fn plain_arguments(fields: &mut Fields<'_>, context: u32, word: &str) -> Option<
             context,
             family: fields.family()?,
         }),
+        "pipe-out" => Some(Step::PipeOut {
+            context,
+            capacity: fields.number(65536)? as u32,
+        }),
+        "sink" => Some(Step::Sink { context }),
+        "closed-in" => Some(Step::ClosedIn { context }),
+        "closed-out" => Some(Step::ClosedOut { context }),
         _ => handle_arguments(fields, context, word),
     }
-}
-
-/// Takes the arguments of a write, whose bytes take memory.
-#[tactic(auto, unfolding(wasi_world::specs::Fields::read_then, wasi_world::specs::Fields::give, wasi_world::specs::Fields::give_some))]
-fn write_arguments(
-    alloc: Global,
-    fields: &mut Fields<'_>,
-    context: u32,
-) -> Result<Option<Step>, AllocError>
-    ensures { IfOk result (λ step. Reads (row_of (write_step context)).reads fields.old step fields.new) }
-{
-    let Some(output) = fields.u32() else {
-        return Ok(None);
-    };
-    let Some(bytes) = fields.octets(alloc)? else {
-        return Ok(None);
-    };
-    Ok(Some(Step::Write {
-        context,
-        output,
-        bytes,
-    }))
-}
-
-/// Takes the arguments of a send, whose datagrams take memory.
-#[tactic(auto, unfolding(wasi_world::specs::Fields::read_then, wasi_world::specs::Fields::give, wasi_world::specs::Fields::give_some))]
-fn send_arguments(
-    alloc: Global,
-    fields: &mut Fields<'_>,
-    context: u32,
-) -> Result<Option<Step>, AllocError>
-    ensures { IfOk result (λ step. Reads (row_of (send_step context)).reads fields.old step fields.new) }
-{
-    let Some(outgoing) = fields.u32() else {
-        return Ok(None);
-    };
-    let Some(datagrams) = datagrams(alloc, fields)? else {
-        return Ok(None);
-    };
-    Ok(Some(Step::UdpSend {
-        context,
-        outgoing,
-        datagrams,
-    }))
-}
-
-/// Takes the arguments of a resolve, whose name takes memory.
-#[tactic(auto, unfolding(wasi_world::specs::Fields::read_then, wasi_world::specs::Fields::give, wasi_world::specs::Fields::give_some))]
-fn resolve_arguments(
-    alloc: Global,
-    fields: &mut Fields<'_>,
-    context: u32,
-) -> Result<Option<Step>, AllocError>
-    ensures { IfOk result (λ step. Reads (row_of (resolve_step context)).reads fields.old step fields.new) }
-{
-    let Some(network) = fields.u32() else {
-        return Ok(None);
-    };
-    let Some(name) = name(alloc, fields)? else {
-        return Ok(None);
-    };
-    Ok(Some(Step::Resolve {
-        context,
-        network,
-        name,
-    }))
 }
 
 /// Takes the arguments of a step word.
@@ -371,7 +237,9 @@ fn arguments(
     ensures { IfOk result (λ step. Reads (after_word (rows_of (steps context)) word.now) fields.old step fields.new) }
 {
     match word {
+        "pipe-in" => pipe_arguments(alloc, fields, context),
         "write" => write_arguments(alloc, fields, context),
+        "blocking-write" => blocking_write_arguments(alloc, fields, context),
         "udp-send" => send_arguments(alloc, fields, context),
         "resolve" => resolve_arguments(alloc, fields, context),
         _ => Ok(plain_arguments(fields, context, word)),
@@ -407,6 +275,9 @@ fn bare_arguments(fields: &mut Fields<'_>, word: &str) -> Option<Step>
         "poll" => Some(Step::Poll {
             call: fields.u32()?,
         }),
+        "cancel" => Some(Step::Cancel {
+            call: fields.u32()?,
+        }),
         _ => None,
     }
 }
@@ -433,7 +304,7 @@ fn step(alloc: Global, fields: &mut Fields<'_>, contexts: u32) -> Result<Option<
 }
 
 /// The step that a line is, without its newline, where there are so many contexts; none where it is no step of theirs. The
-/// bytes of a write take memory, and so do the datagrams of a send and the name of a resolve.
+/// bytes of a pipe or of a write take memory, and so do the datagrams of a send and the name of a resolve.
 #[tactic(auto, unfolding(crate::specs::Steps::step_of))]
 pub fn parse_step(alloc: Global, line: &[u8], contexts: u32) -> Result<Option<Step>, AllocError>
     ensures { IfOk result (λ step. step ≡ step_of contexts line.now) }

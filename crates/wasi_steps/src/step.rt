@@ -178,8 +178,42 @@ pub enum Step {
         context: u32,
         lookup: Handle,
     },
+    /// Makes an input over the bytes; the host's own, as an embedder's `MemoryInputPipe`.
+    PipeIn {
+        context: u32,
+        bytes: Octets,
+    },
+    /// Makes an output that keeps what is written to it; the host's own, as an embedder's `MemoryOutputPipe`.
+    PipeOut {
+        context: u32,
+        /// How many bytes it holds, at most 65536.
+        capacity: u32,
+    },
+    /// What was written to an output that [`Step::PipeOut`] made (`MemoryOutputPipe::contents`).
+    PipeContents {
+        context: u32,
+        output: Handle,
+    },
+    /// Makes an output that takes all bytes and keeps none; the host's own, as an embedder's `SinkOutputStream`.
+    Sink {
+        context: u32,
+    },
+    /// Makes an input that is closed; the host's own, as an embedder's `ClosedInputStream`.
+    ClosedIn {
+        context: u32,
+    },
+    /// Makes an output that is closed; the host's own, as an embedder's `ClosedOutputStream`.
+    ClosedOut {
+        context: u32,
+    },
     /// Reads at most so many bytes (`input-stream.read`).
     Read {
+        context: u32,
+        input: Handle,
+        len: u64,
+    },
+    /// Reads at most so many bytes and gives only how many they were (`input-stream.skip`).
+    Skip {
         context: u32,
         input: Handle,
         len: u64,
@@ -195,10 +229,62 @@ pub enum Step {
         output: Handle,
         bytes: Octets,
     },
+    /// Writes so many zeroes, of which there are no more than was permitted (`output-stream.write-zeroes`).
+    WriteZeroes {
+        context: u32,
+        output: Handle,
+        len: u64,
+    },
     /// Reports a kept error of an output; asks nothing (`output-stream.flush`).
     Flush {
         context: u32,
         output: Handle,
+    },
+    /// Writes to the output at most so many bytes that are read from the input (`output-stream.splice`).
+    Splice {
+        context: u32,
+        output: Handle,
+        input: Handle,
+        len: u64,
+    },
+    /// Reads as [`Step::Read`], once there are bytes to read (`input-stream.blocking-read`).
+    BlockingRead {
+        context: u32,
+        input: Handle,
+        len: u64,
+    },
+    /// Skips as [`Step::Skip`], once there are bytes to skip (`input-stream.blocking-skip`).
+    BlockingSkip {
+        context: u32,
+        input: Handle,
+        len: u64,
+    },
+    /// Writes all the bytes, of which there are at most 4096, as the output permits them, and flushes it
+    /// (`output-stream.blocking-write-and-flush`).
+    BlockingWrite {
+        context: u32,
+        output: Handle,
+        bytes: Octets,
+    },
+    /// Writes so many zeroes, at most 4096, as the output permits them, and flushes it
+    /// (`output-stream.blocking-write-zeroes-and-flush`).
+    BlockingZeroes {
+        context: u32,
+        output: Handle,
+        len: u64,
+    },
+    /// Flushes the output, until it permits writes again (`output-stream.blocking-flush`).
+    BlockingFlush {
+        context: u32,
+        output: Handle,
+    },
+    /// Splices as [`Step::Splice`], once the output permits it and there are bytes to read
+    /// (`output-stream.blocking-splice`).
+    BlockingSplice {
+        context: u32,
+        output: Handle,
+        input: Handle,
+        len: u64,
     },
     /// Which error of the network an error of a stream is; none of them is one (`network-error-code`).
     NetworkErrorCode {
@@ -227,10 +313,14 @@ pub enum Step {
     Poll {
         call: u32,
     },
+    /// Gives up the pending call under this number, which is that of the line that began it.
+    Cancel {
+        call: u32,
+    },
 }
 
 impl Step {
-    /// The number of the context that makes the call; none for a turn and a poll, which are no calls of a guest.
+    /// The number of the context that makes the call; none for a turn, a poll and a cancel, which are no calls of a guest.
     pub fn context(&self) -> Option<u32>
         ensures { result ≡ context_of self.now }
     {
@@ -265,15 +355,30 @@ impl Step {
             | Step::UdpSend { context, .. }
             | Step::Resolve { context, .. }
             | Step::ResolveNext { context, .. }
+            | Step::PipeIn { context, .. }
+            | Step::PipeOut { context, .. }
+            | Step::PipeContents { context, .. }
+            | Step::Sink { context }
+            | Step::ClosedIn { context }
+            | Step::ClosedOut { context }
             | Step::Read { context, .. }
+            | Step::Skip { context, .. }
             | Step::CheckWrite { context, .. }
             | Step::Write { context, .. }
+            | Step::WriteZeroes { context, .. }
             | Step::Flush { context, .. }
+            | Step::Splice { context, .. }
+            | Step::BlockingRead { context, .. }
+            | Step::BlockingSkip { context, .. }
+            | Step::BlockingWrite { context, .. }
+            | Step::BlockingZeroes { context, .. }
+            | Step::BlockingFlush { context, .. }
+            | Step::BlockingSplice { context, .. }
             | Step::NetworkErrorCode { context, .. }
             | Step::Subscribe { context, .. }
             | Step::Ready { context, .. }
             | Step::Drop { context, .. } => Some(*context),
-            Step::Turn | Step::Poll { .. } => None,
+            Step::Turn | Step::Poll { .. } | Step::Cancel { .. } => None,
         }
     }
 }
@@ -310,16 +415,32 @@ pub const STEP_FORMS: &str = "    0 network                               makes 
     0 udp-send OUT DATAGRAM..               sends datagrams, each `to 4 a b c d port BYTES` or `peer BYTES`: ok M
     0 resolve N NAME                        looks up a host name: ok R
     0 resolve-next R                        the next address found: ok 4 a b c d, or ok none
+    0 pipe-in BYTES                         makes an input over the bytes: ok IN
+    0 pipe-out L                            makes an output that holds L bytes, at most 65536: ok OUT
+    0 pipe-contents OUT                     what was written to that output: ok BYTES
+    0 sink                                  makes an output that keeps nothing: ok OUT
+    0 closed-in                             makes an input that is closed: ok IN
+    0 closed-out                            makes an output that is closed: ok OUT
     0 read IN L                             reads at most L bytes: ok BYTES
+    0 skip IN L                             reads at most L bytes and drops them: ok M
     0 check-write OUT                       how many bytes may be written
     0 write OUT BYTES                       writes bytes, as hexadecimal digits or -
+    0 write-zeroes OUT L                    writes L zeroes
     0 flush OUT                             tells a kept error of the output
+    0 splice OUT IN L                       writes at most L bytes that IN has: ok M
+    0 blocking-read IN L                    reads at most L bytes once there are some: ok BYTES
+    0 blocking-skip IN L                    skips at most L bytes once there are some: ok M
+    0 blocking-write OUT BYTES              writes all the bytes, at most 4096, and flushes
+    0 blocking-zeroes OUT L                 writes L zeroes, at most 4096, and flushes
+    0 blocking-flush OUT                    flushes, until it may be written again
+    0 blocking-splice OUT IN L              splices once there is room and are bytes: ok M
     0 network-error-code E                  of an error of a stream: ok none
     0 subscribe H                           makes a pollable of a socket or of a stream
     0 ready P                               whether what it watches is ready: ok true or ok false
     0 drop H                                drops a handle
     turn                                    polls each write that goes on by itself, once
     poll N                                  polls the call of line N, which answered pending N
+    cancel N                                gives that call up
 ";
 
 /// Each step has its line in [`STEP_FORMS`], with the word and the arguments of its signature, and no other line stands there.

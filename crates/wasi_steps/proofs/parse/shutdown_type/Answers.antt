@@ -1,4 +1,4 @@
-use Rattle.wasi_steps.specs.Steps.{shutdown_words, shutdown_at}
+use Rattle.wasi_steps.specs.Arguments.{shutdown_words, shutdown_at}
 use Rattle.wasi_world.specs.Fields.{read_then}
 use Rattle.wasi_world.proofs.Words.{no_word}
 use Rattle.wasi_steps.proofs.parse.shutdown_type.Goals as goal

@@ -1,0 +1,114 @@
+//! Reads the arguments of the steps whose bytes, datagrams or name take memory.
+
+ghost use Rattle.std.specs.Prelude.{IfOk};
+ghost use Rattle.wasi_world.specs.Fields.{Reads};
+ghost use Rattle.wasi_steps.specs.Steps.{pipe_step, write_step, blocking_write_step, send_step, resolve_step, row_of};
+
+use crate::datagram::datagrams;
+use crate::name::name;
+use crate::step::Step;
+use std::alloc::{AllocError, Global};
+use wasi_world::Fields;
+
+/// Takes the bytes of a pipe-in.
+#[tactic(auto, unfolding(wasi_world::specs::Fields::read_then, wasi_world::specs::Fields::give, wasi_world::specs::Fields::give_some))]
+pub(crate) fn pipe_arguments(
+    alloc: Global,
+    fields: &mut Fields<'_>,
+    context: u32,
+) -> Result<Option<Step>, AllocError>
+    ensures { IfOk result (λ step. Reads (row_of (pipe_step context)).reads fields.old step fields.new) }
+{
+    let Some(bytes) = fields.octets(alloc)? else {
+        return Ok(None);
+    };
+    Ok(Some(Step::PipeIn { context, bytes }))
+}
+
+/// Takes the arguments of a write.
+#[tactic(auto, unfolding(wasi_world::specs::Fields::read_then, wasi_world::specs::Fields::give, wasi_world::specs::Fields::give_some))]
+pub(crate) fn write_arguments(
+    alloc: Global,
+    fields: &mut Fields<'_>,
+    context: u32,
+) -> Result<Option<Step>, AllocError>
+    ensures { IfOk result (λ step. Reads (row_of (write_step context)).reads fields.old step fields.new) }
+{
+    let Some(output) = fields.u32() else {
+        return Ok(None);
+    };
+    let Some(bytes) = fields.octets(alloc)? else {
+        return Ok(None);
+    };
+    Ok(Some(Step::Write {
+        context,
+        output,
+        bytes,
+    }))
+}
+
+/// Takes the arguments of a blocking-write.
+#[tactic(auto, unfolding(wasi_world::specs::Fields::read_then, wasi_world::specs::Fields::give, wasi_world::specs::Fields::give_some))]
+pub(crate) fn blocking_write_arguments(
+    alloc: Global,
+    fields: &mut Fields<'_>,
+    context: u32,
+) -> Result<Option<Step>, AllocError>
+    ensures { IfOk result (λ step. Reads (row_of (blocking_write_step context)).reads fields.old step fields.new) }
+{
+    let Some(output) = fields.u32() else {
+        return Ok(None);
+    };
+    let Some(bytes) = fields.octets(alloc)? else {
+        return Ok(None);
+    };
+    Ok(Some(Step::BlockingWrite {
+        context,
+        output,
+        bytes,
+    }))
+}
+
+/// Takes the arguments of a send.
+#[tactic(auto, unfolding(wasi_world::specs::Fields::read_then, wasi_world::specs::Fields::give, wasi_world::specs::Fields::give_some))]
+pub(crate) fn send_arguments(
+    alloc: Global,
+    fields: &mut Fields<'_>,
+    context: u32,
+) -> Result<Option<Step>, AllocError>
+    ensures { IfOk result (λ step. Reads (row_of (send_step context)).reads fields.old step fields.new) }
+{
+    let Some(outgoing) = fields.u32() else {
+        return Ok(None);
+    };
+    let Some(datagrams) = datagrams(alloc, fields)? else {
+        return Ok(None);
+    };
+    Ok(Some(Step::UdpSend {
+        context,
+        outgoing,
+        datagrams,
+    }))
+}
+
+/// Takes the arguments of a resolve.
+#[tactic(auto, unfolding(wasi_world::specs::Fields::read_then, wasi_world::specs::Fields::give, wasi_world::specs::Fields::give_some))]
+pub(crate) fn resolve_arguments(
+    alloc: Global,
+    fields: &mut Fields<'_>,
+    context: u32,
+) -> Result<Option<Step>, AllocError>
+    ensures { IfOk result (λ step. Reads (row_of (resolve_step context)).reads fields.old step fields.new) }
+{
+    let Some(network) = fields.u32() else {
+        return Ok(None);
+    };
+    let Some(name) = name(alloc, fields)? else {
+        return Ok(None);
+    };
+    Ok(Some(Step::Resolve {
+        context,
+        network,
+        name,
+    }))
+}
