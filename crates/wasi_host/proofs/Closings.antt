@@ -7,7 +7,7 @@ use Rattle.wasi_world.specs.declared.call.Entry.{Entry}
 use Rattle.wasi_world.specs.Seen.{Seen}
 use Rattle.wasi_tcp.specs.Socket.{side_of}
 use Rattle.wasi_host.specs.declared.records.Record.{Record}
-use Rattle.wasi_host.specs.declared.records.Record.TheVariants.{Tcp2, Udp2, Lookup}
+use Rattle.wasi_host.specs.declared.records.Record.TheVariants.{Tcp2, Udp2, Lookup, InputPipe, OutputPipe}
 use Rattle.wasi_host.specs.declared.udp.Udp2Socket.{Udp2Socket}
 use Rattle.wasi_host.specs.declared.udp.Udp2Socket.TheVariants.{Creating, Open, Closed}
 use Rattle.wasi_host.specs.Sides.{made_in, closed_in, held_by, held_in, one_if_some}
@@ -37,6 +37,8 @@ few_by : (x : Record) → held_by x ≤ 2
 few_by (Tcp2 r) = let k = some_or_none (side_of r.inner) in let l = some_or_none (side_in r.listening) in omega arith
 few_by (Udp2 u) = few_udp u
 few_by (Lookup l) = omega arith
+few_by (InputPipe bytes) = omega arith
+few_by (OutputPipe pipe) = omega arith
 
 few_held : (xs : List Record) → held_in xs ≤ length xs + length xs
 few_held [] = omega arith

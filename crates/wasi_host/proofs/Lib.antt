@@ -33,3 +33,6 @@ pub mod ReceiveCalms
 pub mod ReceiveJobs
 pub mod ReceiveLists
 pub mod Receives
+pub mod Pipes
+pub mod Blocks
+pub mod Cancels

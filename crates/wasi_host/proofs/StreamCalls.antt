@@ -18,7 +18,7 @@ use Rattle.wasi_streams.specs.declared.fault.Fault.{Fault}
 use Rattle.wasi_streams.specs.declared.fault.Fault.TheVariants as fault
 use Rattle.wasi_host.specs.declared.machine.Machine.{Machine}
 use Rattle.wasi_host.specs.declared.kind.Kind.{Kind}
-use Rattle.wasi_host.specs.declared.kind.Kind.TheVariants.{Network, Tcp2, Udp2, Input, Output, Incoming, Outgoing, Pollable, ErrorValue, Lookup}
+use Rattle.wasi_host.specs.declared.kind.Kind.TheVariants.{Network, Tcp2, Udp2, Input, Output, PlainInput, PlainOutput, Incoming, Outgoing, Pollable, ErrorValue, Lookup}
 use Rattle.wasi_host.specs.Host.{CallStop, fault_outcome, call_outcome, error_outcome, failed_outcome, IsStreamStop, IfStreamMemory}
 use Rattle.wasi_host.specs.Kinds.{Handles, input_of, output_of, stream_of, make_asks}
 use Rattle.wasi_host.specs.Store.{Records}
@@ -37,6 +37,8 @@ input_stream (Some (Incoming p)) place q = absurd (cc)
 input_stream (Some (Outgoing p)) place q = absurd (cc)
 input_stream (Some (Pollable w)) place q = absurd (cc)
 input_stream (Some (Lookup p)) place q = absurd (cc)
+input_stream (Some (PlainInput i)) place q = absurd (cc)
+input_stream (Some (PlainOutput o)) place q = absurd (cc)
 input_stream (Some ErrorValue) place q = absurd (cc)
 
 pub output_stream : (k : Option Kind) (place : ℕ) → output_of k ≡ Some place → stream_of k ≡ Some place
@@ -50,6 +52,8 @@ output_stream (Some (Incoming p)) place q = absurd (cc)
 output_stream (Some (Outgoing p)) place q = absurd (cc)
 output_stream (Some (Pollable w)) place q = absurd (cc)
 output_stream (Some (Lookup p)) place q = absurd (cc)
+output_stream (Some (PlainInput i)) place q = absurd (cc)
+output_stream (Some (PlainOutput o)) place q = absurd (cc)
 output_stream (Some ErrorValue) place q = absurd (cc)
 
 module _ (m : Machine) (own : OpId) (handle place : ℕ) where

@@ -5,7 +5,7 @@ use Rattle.wasi_addr.specs.declared.code.ErrorCode.{ErrorCode}
 use Rattle.wasi_addr.specs.declared.p2.ErrorCode.{ErrorCode as P2Code}
 use Rattle.wasi_addr.specs.Code.{p2_of_code}
 use Rattle.wasi_world.specs.declared.outcome.TrapKind.{TrapKind}
-use Rattle.wasi_world.specs.declared.outcome.TrapKind.TheVariants.{Full}
+use Rattle.wasi_world.specs.declared.outcome.TrapKind.TheVariants.{Full, NoSuchHandle}
 use Rattle.wasi_streams.specs.declared.error.StreamError.{StreamError}
 use Rattle.wasi_streams.specs.declared.error.StreamError.TheVariants as told
 use Rattle.wasi_streams.specs.StreamStop.{StreamStop}
@@ -85,6 +85,14 @@ IsCallStop (stream.Failed c e) P = P (Failed c e)
 IsCallStop stream.Closed P = P Closed
 IsCallStop (stream.Trap k) P = P (Traps k)
 IsCallStop (stream.Memory e) P = ⊥
+
+-- of a stream that doesn't fail: its end, a trap and out of memory stay what they are
+abbrev pub plain_outcome : {T : Type 0} → Result T StreamError → Result (Result T CallStop) AllocError
+plain_outcome (Ok value) = Ok (Ok value)
+plain_outcome (Err (told.LastOperationFailed c)) = Ok (Err (Traps NoSuchHandle))
+plain_outcome (Err told.Closed) = Ok (Err Closed)
+plain_outcome (Err (told.Trap k)) = Ok (Err (Traps k))
+plain_outcome (Err (told.Memory e)) = Err e
 
 -- the same of what the code answers
 abbrev pub failed_outcome : ErrorCode → Result ℕ Fault → Result CallStop AllocError

@@ -10,7 +10,9 @@ use Rattle.wasi_streams.specs.declared.fault.Fault.{Fault}
 use Rattle.wasi_streams.specs.declared.fault.Fault.TheVariants as fault
 use Rattle.wasi_streams.specs.Table.{Shown, value_at, children_of, is_full, pushed, without}
 use Rattle.wasi_host.specs.declared.kind.Kind.{Kind}
-use Rattle.wasi_host.specs.declared.kind.Kind.TheVariants.{Network, Tcp2, Udp2, Input, Output, Incoming, Outgoing, Pollable, Lookup, ErrorValue}
+use Rattle.wasi_host.specs.declared.kind.Kind.TheVariants.{Network, Tcp2, Udp2, Input, Output, PlainInput, PlainOutput, Incoming, Outgoing, Pollable, Lookup, ErrorValue}
+use Rattle.wasi_host.specs.declared.kind.PlainInput.{PlainInput as InputOf}
+use Rattle.wasi_host.specs.declared.kind.PlainOutput.{PlainOutput as OutputOf}
 use Rattle.wasi_host.specs.declared.kind.Watched.{Watched}
 use Rattle.wasi_host.specs.declared.kind.Watched.TheVariants as watched
 use Rattle.wasi_host.specs.Host.{Stop, Trap}
@@ -25,6 +27,8 @@ name_of (Tcp2 n) = name.Tcp2
 name_of (Udp2 n) = name.Udp2
 name_of (Input n) = name.Input
 name_of (Output n) = name.Output
+name_of (PlainInput i) = name.Input
+name_of (PlainOutput o) = name.Output
 name_of (Incoming n) = name.Incoming
 name_of (Outgoing n) = name.Outgoing
 name_of (Pollable w) = name.Pollable
@@ -84,6 +88,26 @@ stream_of (Some (Input place)) = Some place
 stream_of (Some (Output place)) = Some place
 stream_of _ = None
 
+-- what an input reads from that is no connection's, and what an output writes to
+abbrev pub plain_input_of : Option Kind → Option InputOf
+plain_input_of (Some (PlainInput i)) = Some i
+plain_input_of _ = None
+
+abbrev pub plain_output_of : Option Kind → Option OutputOf
+plain_output_of (Some (PlainOutput o)) = Some o
+plain_output_of _ = None
+
+-- it is an input, or an output, of a connection or not
+abbrev pub is_readable : Option Kind → Bool
+is_readable (Some (Input place)) = true
+is_readable (Some (PlainInput i)) = true
+is_readable _ = false
+
+abbrev pub is_writable : Option Kind → Bool
+is_writable (Some (Output place)) = true
+is_writable (Some (PlainOutput o)) = true
+is_writable _ = false
+
 -- what a pollable of the handle watches
 abbrev pub watched_by : Option Kind → Option Watched
 watched_by (Some (Tcp2 place)) = Some (watched.Socket place)
@@ -93,6 +117,8 @@ watched_by (Some (Output place)) = Some (watched.Output place)
 watched_by (Some (Incoming place)) = Some (watched.Incoming place)
 watched_by (Some (Outgoing place)) = Some (watched.Outgoing place)
 watched_by (Some (Lookup place)) = Some (watched.Lookup place)
+watched_by (Some (PlainInput i)) = Some watched.Plain
+watched_by (Some (PlainOutput o)) = Some watched.Plain
 watched_by _ = None
 
 -- what a pollable watches
@@ -105,7 +131,7 @@ abbrev pub Names : {T : Type 0} → Result T Fault → Option T → Type 0
 Names (Ok named) o = o ≡ Some named
 Names (Err e) o = (e ≡ fault.Trap NoSuchHandle) × (o ≡ None)
 
--- the number of the record that it is watched in
+-- the number of the record that it is watched in, where it is watched in one
 abbrev pub place_in : Watched → ℕ
 place_in (watched.Socket place) = place
 place_in (watched.Input place) = place
@@ -114,6 +140,7 @@ place_in (watched.Udp place) = place
 place_in (watched.Incoming place) = place
 place_in (watched.Outgoing place) = place
 place_in (watched.Lookup place) = place
+place_in watched.Plain = 0
 
 -- == a handle is made
 -- a pollable is a child of what it watches, and the streams of a socket are under it; the parent of an error and of a lookup is named

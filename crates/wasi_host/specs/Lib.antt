@@ -16,7 +16,10 @@ pub mod Shutdowns
 pub mod Sides
 pub mod Closing
 pub mod Machine
+pub mod PlainStreams
 pub mod StreamCalls
+pub mod Blocking
+pub mod Cancel
 pub mod Pending
 pub mod Udp
 pub mod Datagrams

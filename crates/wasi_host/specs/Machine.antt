@@ -14,7 +14,7 @@ use Rattle.wasi_tcp.specs.Socket.{new_asks, side_of}
 use Rattle.wasi_streams.specs.Table.{empty}
 use Rattle.wasi_host.specs.Records.{tcp2_at, udp2_at, open_at, lookup_at}
 use Rattle.wasi_host.specs.declared.kind.Kind.{Kind}
-use Rattle.wasi_host.specs.declared.kind.Kind.TheVariants.{Tcp2, Udp2, Output, Incoming, Outgoing, Pollable, Lookup}
+use Rattle.wasi_host.specs.declared.kind.Kind.TheVariants.{Tcp2, Udp2, Output, PlainInput, PlainOutput, Incoming, Outgoing, Pollable, Lookup}
 use Rattle.wasi_host.specs.declared.kind.Watched.{Watched}
 use Rattle.wasi_host.specs.declared.kind.Watched.TheVariants as watched
 use Rattle.wasi_host.specs.declared.machine.Machine.{Machine}
@@ -28,6 +28,7 @@ use Rattle.wasi_host.specs.Readiness.{ready_at, ready_ids_at}
 use Rattle.wasi_host.specs.Dropping.{release_at, drop_output_at}
 use Rattle.wasi_host.specs.DatagramCalls.{incoming_names, outgoing_ready, ready_incoming_at, drop_incoming_at, drop_outgoing_at}
 use Rattle.wasi_host.specs.NameLookupCalls.{lookup_ready, drop_lookup_at}
+use Rattle.wasi_host.specs.PlainStreams.{drop_plain_input, drop_plain_output}
 use Rattle.wasi_host.specs.UdpCalls.{release_udp_at}
 use Rattle.wasi_host.specs.UdpCreates.{udp_side_at}
 
@@ -90,6 +91,7 @@ watched_side store (watched.Udp place) = udp_side_at (udp2_at store.records plac
 watched_side store (watched.Incoming place) = udp_side_at (udp2_at store.records place)
 watched_side store (watched.Outgoing place) = udp_side_at (udp2_at store.records place)
 watched_side store (watched.Lookup place) = None
+watched_side store watched.Plain = None
 watched_side store w = side_at (tcp2_at store.records (place_in w))
 
 abbrev pub subscribe_on : Machine → OpId → ℕ → Option Watched → Asks (Result ℕ Stop × Machine)
@@ -104,18 +106,20 @@ subscribe_asks m own this = subscribe_on m own this (watched_by (kind_at m.table
 abbrev pub ready_on : Machine → Ids → Option Watched → Asks (Result Bool Stop × Machine)
 ready_on m ids None = no_such_handle m
 ready_on m ids (Some (watched.Udp place)) = Give (Ok true, m)
+ready_on m ids (Some watched.Plain) = Give (Ok true, m)
 ready_on m ids (Some (watched.Incoming place)) = bind (ready_incoming_at m.store ids place (open_at m.store.records place)) (λ done. Give (with_store m done))
 ready_on m ids (Some (watched.Outgoing place)) = Give (Ok (outgoing_ready (open_at m.store.records place)), m)
 ready_on m ids (Some (watched.Lookup place)) = Give (Ok (lookup_ready (lookup_at m.store.records place)), m)
 ready_on m ids (Some w) = bind (ready_at m.store (own_of ids.line) ids w (place_in w) (tcp2_at m.store.records (place_in w))) (λ done. Give (with_store m done))
 
--- one look at what a pollable watches; a UDP socket is ready, an outgoing datagram stream where it sends nothing in the background, and
+-- one look at what a pollable watches; a UDP socket is ready, and a stream of no connection, an outgoing datagram stream where it sends nothing in the background, and
 -- a lookup where it isn't in progress
 abbrev pub ready_asks : Machine → Ids → ℕ → Asks (Result Bool Stop × Machine)
 ready_asks m ids pollable = ready_on m ids (watch_of (kind_at m.table pollable))
 
 abbrev pub ready_ids_on : Machine → Ids → Option Watched → Ids
 ready_ids_on m ids None = ids
+ready_ids_on m ids (Some watched.Plain) = ids
 ready_ids_on m ids (Some (watched.Incoming place)) = incoming_names ids (open_at m.store.records place)
 ready_ids_on m ids (Some w) = ready_ids_at ids w (tcp2_at m.store.records (place_in w))
 
@@ -139,7 +143,7 @@ abbrev pub at_once : Unit {0} × Records → Answer (Unit {0}) × Records
 at_once done = (Ready tt, done.1)
 
 -- a socket releases what it has, an output waits for its writer and an outgoing datagram stream for its datagram, and the rest don't
--- wait; a lookup isn't asked about any more
+-- wait; a lookup isn't asked about any more, and a pipe gives back its bytes
 abbrev pub drop_kind : Machine → Ids → Kind → Asks (Result (Answer (Unit {0})) Stop × Machine)
 drop_kind m ids (Tcp2 place) = bind (release_at m.store (own_of ids.line) place (tcp2_at m.store.records place)) (λ done. Give (answered (with_store m (at_once done))))
 drop_kind m ids (Udp2 place) = bind (release_udp_at m.store (own_of ids.line) place (udp2_at m.store.records place)) (λ done. Give (answered (with_store m (at_once done))))
@@ -147,6 +151,8 @@ drop_kind m ids (Output place) = bind (drop_output_at m.store ids place (tcp2_at
 drop_kind m ids (Incoming place) = Give (answered (with_store m (at_once (drop_incoming_at m.store place (open_at m.store.records place)))))
 drop_kind m ids (Outgoing place) = Give (answered (with_store m (drop_outgoing_at m.store ids place (open_at m.store.records place))))
 drop_kind m ids (Lookup place) = Give (answered (with_store m (at_once (drop_lookup_at m.store place (lookup_at m.store.records place)))))
+drop_kind m ids (PlainInput i) = Give (Ok (Ready tt), record m { store = drop_plain_input m.store i })
+drop_kind m ids (PlainOutput o) = Give (Ok (Ready tt), record m { store = drop_plain_output m.store o })
 drop_kind m ids _ = Give (Ok (Ready tt), m)
 
 abbrev pub drop_taken : Machine → Ids → Result Kind Stop × Handles → Asks (Result (Answer (Unit {0})) Stop × Machine)

@@ -1,9 +1,10 @@
--- The records of a store by number, and the sockets among them.
+-- The records of a store by number, and the sockets, lookups and pipes among them.
 use Rattle.std.specs.Prelude.{ℕ, List, [], ◌∷◌, ◌++◌, Option, Some, None, slice_get, slice_set}
 use Rattle.std.specs.Global.{Vec}
 use Rattle.std.specs.Vec.{with_item}
+use Rattle.wasi_memory.specs.Plain.{Contents}
 use Rattle.wasi_host.specs.declared.records.Record.{Record}
-use Rattle.wasi_host.specs.declared.records.Record.TheVariants.{Tcp2, Udp2, Lookup as LookupRecord}
+use Rattle.wasi_host.specs.declared.records.Record.TheVariants.{Tcp2, Udp2, Lookup as LookupRecord, InputPipe, OutputPipe}
 use Rattle.wasi_host.specs.declared.name_lookup.Lookup.{Lookup}
 use Rattle.wasi_host.specs.declared.socket.Tcp2Socket.{Tcp2Socket}
 use Rattle.wasi_host.specs.declared.udp.Udp2Socket.{Udp2Socket}
@@ -83,3 +84,32 @@ lookup_pushed records l = records ++ LookupRecord l ∷ []
 
 abbrev pub with_lookup_at : Vec Record → ℕ → Lookup → Vec Record
 with_lookup_at v place l = with_item v place (LookupRecord l)
+
+-- == pipes
+-- the bytes that are left in the pipe that a record is, which is read
+abbrev pub input_pipe_of : Option Record → Option (List ℕ)
+input_pipe_of (Some (InputPipe bytes)) = Some bytes
+input_pipe_of _ = None
+
+abbrev pub input_pipe_at : List Record → ℕ → Option (List ℕ)
+input_pipe_at records place = input_pipe_of (slice_get records place)
+
+abbrev pub input_pipe_put : List Record → ℕ → List ℕ → List Record
+input_pipe_put records place bytes = slice_set records place (InputPipe bytes)
+
+abbrev pub with_input_pipe : Vec Record → ℕ → List ℕ → Vec Record
+with_input_pipe v place bytes = with_item v place (InputPipe bytes)
+
+-- what is in the pipe that a record is, which is written
+abbrev pub output_pipe_of : Option Record → Option Contents
+output_pipe_of (Some (OutputPipe pipe)) = Some pipe
+output_pipe_of _ = None
+
+abbrev pub output_pipe_at : List Record → ℕ → Option Contents
+output_pipe_at records place = output_pipe_of (slice_get records place)
+
+abbrev pub output_pipe_put : List Record → ℕ → Contents → List Record
+output_pipe_put records place pipe = slice_set records place (OutputPipe pipe)
+
+abbrev pub with_output_pipe : Vec Record → ℕ → Contents → Vec Record
+with_output_pipe v place pipe = with_item v place (OutputPipe pipe)

@@ -8,6 +8,8 @@ use Rattle.wasi_host.specs.contracts.socket.Tcp2Socket as socket
 use Rattle.wasi_host.specs.contracts.udp.Udp2Socket as datagrams
 use Rattle.wasi_host.specs.contracts.udp.OpenUdp as opened
 use Rattle.wasi_host.specs.contracts.name_lookup.Lookup as lookups
+use Rattle.wasi_memory.specs.contracts.input.InputPipeCore as reads
+use Rattle.wasi_memory.specs.contracts.pipe.OutputPipe as writes
 
 abbrev pub record_row : RattleType
 record_row = rec.the_row
@@ -23,6 +25,12 @@ open_row = opened.the_row
 
 abbrev pub lookup_row : RattleType
 lookup_row = lookups.the_row
+
+abbrev pub input_pipe_row : RattleType
+input_pipe_row = reads.the_row
+
+abbrev pub output_pipe_row : RattleType
+output_pipe_row = writes.the_row
 
 abbrev pub records_row : RattleType
 records_row = vec.the_row rec.the_row global.the_row ghosts

@@ -7,7 +7,7 @@ use Rattle.wasi_world.specs.declared.outcome.Answer.TheVariants.{Ready, Pending}
 use Rattle.wasi_host.specs.declared.socket.Tcp2Socket.{Tcp2Socket}
 use Rattle.wasi_host.specs.declared.store.Standing.{Standing}
 use Rattle.wasi_host.specs.declared.store.StandingCall.{StandingCall}
-use Rattle.wasi_host.specs.declared.store.StandingCall.TheVariants.{Bind, Listen, DropOutput, UdpCreate, UdpBind, UdpConnect, DropOutgoing}
+use Rattle.wasi_host.specs.declared.store.StandingCall.TheVariants.{Bind, Listen, DropOutput, UdpCreate, UdpBind, UdpConnect, DropOutgoing, Blocking}
 use Rattle.wasi_host.specs.Host.{Stop, code_stop}
 use Rattle.wasi_host.specs.Store.{Records, with_socket}
 
@@ -26,7 +26,7 @@ abbrev pub call_of : Option Standing → ℕ → Option Standing
 call_of None line = None
 call_of (Some s) line = if s.ids.line == line then Some s else None
 
--- the number of the record that a call is on
+-- the number of the record that a call is on; a call that blocks is on handles
 abbrev pub call_place : StandingCall → ℕ
 call_place (Bind place) = place
 call_place (Listen place) = place
@@ -35,6 +35,7 @@ call_place (UdpCreate place) = place
 call_place (UdpBind place) = place
 call_place (UdpConnect place handle) = place
 call_place (DropOutgoing place) = place
+call_place (Blocking call) = 0
 
 -- nothing is pending
 abbrev pub unstood : Records → Records

@@ -28,7 +28,7 @@ fn close_record<W: World>(world: &mut W, closed: &Record)
             close_one(world, socket.listening.side());
         }
         Record::Udp2(socket) => close_one(world, socket.held()),
-        Record::Lookup(_) => (),
+        Record::Lookup(_) | Record::InputPipe(_) | Record::OutputPipe(_) => (),
     }
 }
 

@@ -79,7 +79,7 @@ impl Store {
 /// Drops a handle (`drop` of each resource). Something made under it is live: `HasChildren`. The handle goes at once. A TCP socket
 /// releases its open halves and its network socket, and a UDP socket its network socket; an output waits until its writer is ready,
 /// and an outgoing datagram stream until its datagram in the background is sent or failed, and while it isn't the call is pending;
-/// nothing else waits. A lookup isn't asked about any more. No call is pending yet: a drop that is continues by
+/// nothing else waits. A lookup isn't asked about any more, and a pipe gives back its bytes. No call is pending yet: a drop that is continues by
 /// [`resume`](crate::resume).
 pub fn drop_handle<W: World>(
     view: &mut WasiSocketsCtxView<'_>,
@@ -133,6 +133,14 @@ fn release_kind<W: World>(
         Kind::Outgoing(place) => Ok(view.store.drop_outgoing(*ids, place)),
         Kind::Lookup(place) => {
             view.store.drop_lookup(place);
+            Ok(Answer::Ready(()))
+        }
+        Kind::PlainInput(input) => {
+            view.store.drop_plain_input(input);
+            Ok(Answer::Ready(()))
+        }
+        Kind::PlainOutput(output) => {
+            view.store.drop_plain_output(output);
             Ok(Answer::Ready(()))
         }
         Kind::Network | Kind::Input(_) | Kind::Pollable(_) | Kind::ErrorValue => {

@@ -7,9 +7,9 @@ ghost use Rattle.wasi_streams.specs.Table.{is_full, pushed};
 ghost use Rattle.wasi_host.specs.Host.{fault_outcome};
 ghost use Rattle.wasi_host.specs.Store.{Records};
 ghost use Rattle.wasi_host.specs.Sides.{KnowsSides};
-ghost use Rattle.wasi_host.specs.Kinds.{kind_at, place_of, udp_of, input_of, output_of, incoming_of, outgoing_of, stream_of, lookup_of, is_network, is_error, watched_by, watch_of, table_parent, make_asks, taken_out, with_handle, Names};
+ghost use Rattle.wasi_host.specs.Kinds.{kind_at, place_of, udp_of, input_of, output_of, incoming_of, outgoing_of, stream_of, lookup_of, is_network, is_error, is_readable, is_writable, plain_input_of, plain_output_of, watched_by, watch_of, table_parent, make_asks, taken_out, with_handle, Names};
 
-use crate::kind::{Kind, Watched};
+use crate::kind::{Kind, PlainInput, PlainOutput, Watched};
 use std::alloc::AllocError;
 use wasi_streams::{Fault, Table, TableError, TrapKind};
 use wasi_world::{Handle, OpId, Sock, World, asks};
@@ -71,6 +71,48 @@ pub fn output(table: &Table<Kind>, handle: Handle) -> Result<usize, Fault>
 {
     match kind(table, handle) {
         Some(Kind::Output(place)) => Ok(place),
+        _ => Err(Fault::Trap(TrapKind::NoSuchHandle)),
+    }
+}
+
+/// What an input reads from that is no connection's; none where the handle is of no such input.
+pub fn plain_input(table: &Table<Kind>, handle: Handle) -> Option<PlainInput>
+    ensures { result ≡ plain_input_of (kind_at table.now handle) }
+{
+    match kind(table, handle) {
+        Some(Kind::PlainInput(input)) => Some(input),
+        _ => None,
+    }
+}
+
+/// What an output writes to that is no connection's; none where the handle is of no such output.
+pub fn plain_output(table: &Table<Kind>, handle: Handle) -> Option<PlainOutput>
+    ensures { result ≡ plain_output_of (kind_at table.now handle) }
+{
+    match kind(table, handle) {
+        Some(Kind::PlainOutput(output)) => Some(output),
+        _ => None,
+    }
+}
+
+/// That the handle is of an input, of a connection or not.
+pub fn readable(table: &Table<Kind>, handle: Handle) -> Result<(), Fault>
+    ensures ok { OnOk result (is_readable (kind_at table.now handle) ≡ true) }
+    ensures err { IfErr result (λ fault. (fault ≡ Fault.Trap TrapKind.NoSuchHandle) × (is_readable (kind_at table.now handle) ≡ false)) }
+{
+    match kind(table, handle) {
+        Some(Kind::Input(_) | Kind::PlainInput(_)) => Ok(()),
+        _ => Err(Fault::Trap(TrapKind::NoSuchHandle)),
+    }
+}
+
+/// That the handle is of an output, of a connection or not.
+pub fn writable(table: &Table<Kind>, handle: Handle) -> Result<(), Fault>
+    ensures ok { OnOk result (is_writable (kind_at table.now handle) ≡ true) }
+    ensures err { IfErr result (λ fault. (fault ≡ Fault.Trap TrapKind.NoSuchHandle) × (is_writable (kind_at table.now handle) ≡ false)) }
+{
+    match kind(table, handle) {
+        Some(Kind::Output(_) | Kind::PlainOutput(_)) => Ok(()),
         _ => Err(Fault::Trap(TrapKind::NoSuchHandle)),
     }
 }
@@ -138,6 +180,7 @@ pub fn watched(table: &Table<Kind>, handle: Handle) -> Result<Watched, Fault>
         Some(Kind::Incoming(place)) => Ok(Watched::Incoming(place)),
         Some(Kind::Outgoing(place)) => Ok(Watched::Outgoing(place)),
         Some(Kind::Lookup(place)) => Ok(Watched::Lookup(place)),
+        Some(Kind::PlainInput(_) | Kind::PlainOutput(_)) => Ok(Watched::Plain),
         _ => Err(Fault::Trap(TrapKind::NoSuchHandle)),
     }
 }

@@ -1,7 +1,7 @@
 //! What handles stand for.
 
 ghost use Rattle.std.specs.Prelude.{◌≡◌};
-ghost use Rattle.wasi_host.specs.Kinds.{name_of, place_in, table_parent, watched_by, watch_of, place_of, udp_of, input_of, output_of, is_network};
+ghost use Rattle.wasi_host.specs.Kinds.{name_of, table_parent, watched_by, watch_of, place_of, udp_of, input_of, output_of, is_network};
 
 use wasi_world::{Handle, HandleKind};
 
@@ -22,23 +22,28 @@ pub enum Watched {
     Outgoing(usize),
     /// Whether a lookup has ended.
     Lookup(usize),
+    /// An input or an output of no connection, which is always ready.
+    Plain,
 }
 
-impl Watched {
-    /// The number of the record that it is watched in.
-    pub fn place(self) -> usize
-        ensures { result ≡ place_in self }
-    {
-        match self {
-            Watched::Socket(place)
-            | Watched::Input(place)
-            | Watched::Output(place)
-            | Watched::Udp(place)
-            | Watched::Incoming(place)
-            | Watched::Outgoing(place)
-            | Watched::Lookup(place) => place,
-        }
-    }
+/// What an input reads from that is no connection's.
+#[derive(Clone, Copy, Debug, PartialEq, Eq)]
+pub enum PlainInput {
+    /// A pipe, with the number of its record.
+    Pipe(usize),
+    /// Nothing: it is closed.
+    Closed,
+}
+
+/// What an output writes to that is no connection's.
+#[derive(Clone, Copy, Debug, PartialEq, Eq)]
+pub enum PlainOutput {
+    /// A pipe, with the number of its record.
+    Pipe(usize),
+    /// A sink, which takes everything and keeps none of it.
+    Sink,
+    /// Nothing: it is closed.
+    Closed,
 }
 
 /// What a handle stands for, with the number of its record in the store.
@@ -53,6 +58,10 @@ pub enum Kind {
     Input(usize),
     /// The output of a connection, with the number of its socket's record.
     Output(usize),
+    /// An input of no connection.
+    PlainInput(PlainInput),
+    /// An output of no connection.
+    PlainOutput(PlainOutput),
     /// The incoming datagram stream of a UDP socket, with the number of its record.
     Incoming(usize),
     /// The outgoing datagram stream of a UDP socket, with the number of its record.
@@ -74,8 +83,8 @@ impl Kind {
             Kind::Network => HandleKind::Network,
             Kind::Tcp2(_) => HandleKind::Tcp2,
             Kind::Udp2(_) => HandleKind::Udp2,
-            Kind::Input(_) => HandleKind::Input,
-            Kind::Output(_) => HandleKind::Output,
+            Kind::Input(_) | Kind::PlainInput(_) => HandleKind::Input,
+            Kind::Output(_) | Kind::PlainOutput(_) => HandleKind::Output,
             Kind::Incoming(_) => HandleKind::Incoming,
             Kind::Outgoing(_) => HandleKind::Outgoing,
             Kind::Pollable(_) => HandleKind::Pollable,
@@ -85,7 +94,7 @@ impl Kind {
     }
 
     /// The parent in the table of a handle whose mark names this one: a pollable is a child of what it watches, and the
-    /// streams of a socket are under it; the parent of an error and of a lookup is named in its mark alone.
+    /// streams of a socket are under it; the parent of an error and of a lookup is named in its mark alone, and a pipe has none.
     pub fn table_parent(self, parent: Option<Handle>) -> Option<Handle>
         ensures { result ≡ table_parent self parent }
     {
@@ -95,8 +104,13 @@ impl Kind {
             | Kind::Incoming(_)
             | Kind::Outgoing(_)
             | Kind::Pollable(_) => parent,
-            Kind::Network | Kind::Tcp2(_) | Kind::Udp2(_) | Kind::Lookup(_) | Kind::ErrorValue =>
-                None,
+            Kind::Network
+            | Kind::Tcp2(_)
+            | Kind::Udp2(_)
+            | Kind::PlainInput(_)
+            | Kind::PlainOutput(_)
+            | Kind::Lookup(_)
+            | Kind::ErrorValue => None,
         }
     }
 }

@@ -3,6 +3,8 @@
 #![tactic(auto)]
 
 pub mod binding;
+pub mod blocking;
+mod cancelling;
 mod closing;
 mod datagram_calls;
 pub mod datagrams;
@@ -17,6 +19,7 @@ pub mod machine;
 pub mod name_lookup;
 mod options;
 pub mod pending;
+mod plain_streams;
 mod pollables;
 mod readiness;
 mod receiving;
@@ -31,20 +34,31 @@ pub mod udp_connecting;
 pub mod view;
 
 pub use binding::{AsyncOperation, InProgress};
+pub use blocking::{
+    BlockingCall, blocking_flush, blocking_read, blocking_skip, blocking_splice,
+    blocking_write_and_flush, blocking_write_zeroes_and_flush,
+};
+pub use cancelling::cancel;
 pub use datagrams::{Incoming, Outgoing, Receiving, Sending};
 pub use dropping::drop_handle;
 pub use error::{CallError, SocketError};
 pub use jobs::{HostJob, turn};
-pub use kind::{Kind, Watched};
+pub use kind::{Kind, PlainInput, PlainOutput, Watched};
 pub use listening::Listening;
 pub use machine::Machine;
 pub use name_lookup::{Addresses, Lookup, LookupOp};
 pub use pending::{Outcome, resume};
+pub use plain_streams::{
+    make_closed_input, make_closed_output, make_input_pipe, make_output_pipe, make_sink,
+    pipe_contents,
+};
 pub use pollables::{ready, subscribe};
 pub use records::Record;
 pub use socket::{Streams, Tcp2Socket};
 pub use store::{Standing, StandingCall, Store};
-pub use streams::{check_write, convert_stream_error, flush, read, write};
+pub use streams::{
+    check_write, convert_stream_error, flush, read, skip, splice, write, write_zeroes,
+};
 pub use udp::{OpenUdp, Udp2Socket, UdpInProgress};
 pub use view::{
     NamedId, WasiCtxNamedView, WasiSocketsCtxView, WasiSocketsNamedView, WasiSocketsView,

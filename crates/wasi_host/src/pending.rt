@@ -9,14 +9,17 @@ ghost use Rattle.wasi_host.specs.Sides.{KnowsSides};
 ghost use Rattle.wasi_host.specs.Standing.{call_of, unstood};
 ghost use Rattle.wasi_host.specs.Views.{SameView, state_of};
 
+use crate::blocking::unblock;
 use crate::error::SocketError;
 use crate::records::tcp2_mut;
 use crate::store::{Standing, StandingCall, Store};
 use crate::view::WasiSocketsCtxView;
-use wasi_world::{Answer, Handle, Ids, TrapKind, World};
+use std::alloc::Global;
+use wasi_addr::ErrorCode;
+use wasi_world::{Answer, Handle, Ids, Octets, TrapKind, World};
 
-/// What a resumed call answers.
-#[derive(Clone, Copy, Debug, PartialEq, Eq)]
+/// What a resumed call answers: what it gives, and of a call of a stream also why it gives nothing.
+#[derive(Drop)]
 pub enum Outcome {
     /// The call gives nothing.
     Nothing,
@@ -24,6 +27,14 @@ pub enum Outcome {
     One(Handle),
     /// It gives two.
     Two(Handle, Handle),
+    /// It gives a number of bytes.
+    Count(u64),
+    /// It gives bytes.
+    Bytes(Octets),
+    /// The stream's last operation failed, with a handle of the new error.
+    Failed(ErrorCode, Handle),
+    /// The stream is at its end, or closed.
+    Closed,
 }
 
 impl Outcome {
@@ -60,17 +71,15 @@ impl Outcome {
 
 impl Store {
     /// Takes out the pending call under this number, with the names that it continues by; none where none is.
-    fn take(&mut self, line: u32) -> Option<Standing>
+    pub(crate) fn take(&mut self, line: u32) -> Option<Standing>
         ensures taken { result ≡ call_of self.old.standing line }
         ensures some { IsSome result → self.new ≡ unstood self.old }
         ensures none { IfNone result (self.new ≡ self.old) }
     {
-        let standing = self.standing?;
-        if standing.ids.line != line {
+        if !self.stands(line) {
             return None;
         }
-        self.standing = None;
-        Some(standing)
+        self.standing.take()
     }
 
     /// Polls the bind of the socket of this number again. Pending, it stands on.
@@ -115,6 +124,7 @@ impl Store {
 /// Makes a call that was pending go on, by these names: a bind, a listen and a connect are polled again, the drop of a stream looks
 /// again whether that is done, and a create waits on for its network socket. Pending, it stays pending.
 fn go_on<W: World>(
+    alloc: Global,
     view: &mut WasiSocketsCtxView<'_>,
     world: &mut W,
     ids: Ids,
@@ -157,12 +167,15 @@ fn go_on<W: World>(
             let answer = view.store.drop_outgoing(ids, socket);
             Ok(Outcome::of_nothing(answer))
         }
+        StandingCall::Blocking(call) => unblock(alloc, view, world, ids, call),
     }
 }
 
 /// Polls the pending call under this number, by the names that were left to it; none exactly where none is. A call that is
-/// pending stays so. A code is that of a bind, of a listen, of a create or of a connect.
+/// pending stays so. A code is that of a bind, of a listen, of a create or of a connect; the error of a call of a stream is an
+/// outcome.
 pub fn resume<W: World>(
+    alloc: Global,
     view: &mut WasiSocketsCtxView<'_>,
     world: &mut W,
     line: u32,
@@ -176,6 +189,6 @@ pub fn resume<W: World>(
     let Some(standing) = view.store.take(line) else {
         return Ok(None);
     };
-    let answer = go_on(view, world, standing.ids, standing.call)?;
+    let answer = go_on(alloc, view, world, standing.ids, standing.call)?;
     Ok(Some(answer))
 }

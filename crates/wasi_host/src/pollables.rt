@@ -5,7 +5,6 @@ ghost use Rattle.wasi_world.specs.Asks.{AsksFor};
 ghost use Rattle.wasi_host.specs.Records.{tcp2_at};
 ghost use Rattle.wasi_host.specs.Listening.{TakesOne};
 ghost use Rattle.wasi_host.specs.Host.{fault_outcome};
-ghost use Rattle.wasi_host.specs.Kinds.{place_in};
 ghost use Rattle.wasi_host.specs.Machine.{own_of, subscribe_asks, ready_asks, ids_after_ready, watches_incoming, watched_side};
 ghost use Rattle.wasi_host.specs.Readiness.{ready_at, ready_ids_at};
 ghost use Rattle.wasi_host.specs.Sides.{KnowsSides};
@@ -28,35 +27,36 @@ impl Store {
             Watched::Udp(place) | Watched::Incoming(place) | Watched::Outgoing(place) => {
                 self.udp_side(place)
             }
-            Watched::Socket(_) | Watched::Input(_) | Watched::Output(_) => {
-                self.side(watched.place())
+            Watched::Socket(place) | Watched::Input(place) | Watched::Output(place) => {
+                self.side(place)
             }
-            Watched::Lookup(_) => None,
+            Watched::Lookup(_) | Watched::Plain => None,
         }
     }
 
-    /// One look at what is watched.
+    /// One look at what is watched of the TCP socket of this number.
     pub(crate) fn poll_ready<W: World>(
         &mut self,
         world: &mut W,
         ids: &mut Ids,
         watched: Watched,
+        place: usize,
     ) -> Result<bool, Fault>
         requires open { (W.seen world.old).ended ≡ false }
         requires names { ids.old.next_part + 1 < 2 ^ 64 }
-        ensures asked { AsksFor (ready_at self.old (own_of ids.old.line) ids.old watched (place_in watched) (tcp2_at self.old.records (place_in watched))) (W.seen world.old) (W.seen world.new) (λ ready. (ready, self.new)) (fault_outcome result) }
+        ensures asked { AsksFor (ready_at self.old (own_of ids.old.line) ids.old watched place (tcp2_at self.old.records place)) (W.seen world.old) (W.seen world.new) (λ ready. (ready, self.new)) (fault_outcome result) }
         ensures sides { KnowsSides (W.seen world.old) self.old → KnowsSides (W.seen world.new) self.new }
-        ensures ids { ids.new ≡ ready_ids_at ids.old watched (tcp2_at self.old.records (place_in watched)) }
+        ensures ids { ids.new ≡ ready_ids_at ids.old watched (tcp2_at self.old.records place) }
         ensures open { (W.seen world.new).ended ≡ false }
     {
-        let Some(record) = tcp2_mut(&mut self.records, watched.place()) else {
+        let Some(record) = tcp2_mut(&mut self.records, place) else {
             return Err(Fault::Trap(TrapKind::NoSuchHandle));
         };
         record.poll_ready(world, ids, watched)
     }
 }
 
-/// Makes a pollable of a socket, of one of its streams or of a lookup, under it in the table (`subscribe`).
+/// Makes a pollable of a socket, of a stream or of a lookup, under it in the table (`subscribe`).
 pub fn subscribe<W: World>(
     view: &mut WasiSocketsCtxView<'_>,
     world: &mut W,
@@ -78,7 +78,7 @@ pub fn subscribe<W: World>(
 
 /// Whether what a pollable watches is ready (`pollable.ready`), by one look: the connect in progress of a socket is polled, or
 /// the accept of a listener with nothing in progress, whose result is left to [`accept`](Store::accept); and of a stream it is
-/// asked whether it is ready. An error is ready too, and so is a UDP socket, and an outgoing datagram stream unless its last
+/// asked whether it is ready. An error is ready too, and so is a UDP socket, a stream of no connection, and an outgoing datagram stream unless its last
 /// datagram isn't sent yet, and a lookup unless it is in progress; of an incoming one a receive is begun, where none is, and left to
 /// [`receive`](Store::receive_datagrams). An accept or a receive that begins takes the next name of the line.
 pub fn ready<W: World>(
@@ -99,12 +99,12 @@ pub fn ready<W: World>(
 {
     let watched = handles::watch(view.table, pollable)?;
     match watched {
-        Watched::Udp(_) => Ok(true),
+        Watched::Udp(_) | Watched::Plain => Ok(true),
         Watched::Incoming(place) => view.store.incoming_ready(world, ids, place),
         Watched::Outgoing(place) => Ok(view.store.outgoing_ready(place)),
         Watched::Lookup(place) => Ok(view.store.lookup_ready(place)),
-        Watched::Socket(_) | Watched::Input(_) | Watched::Output(_) => {
-            view.store.poll_ready(world, ids, watched)
+        Watched::Socket(place) | Watched::Input(place) | Watched::Output(place) => {
+            view.store.poll_ready(world, ids, watched, place)
         }
     }
 }

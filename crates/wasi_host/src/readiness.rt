@@ -81,9 +81,11 @@ impl Tcp2Socket {
             Watched::Socket(_) => self.socket_ready(world, ids),
             Watched::Input(_) => self.input_ready(world, ids.own()),
             Watched::Output(_) => self.output_ready(world, ids.own()),
-            Watched::Udp(_) | Watched::Incoming(_) | Watched::Outgoing(_) | Watched::Lookup(_) => {
-                Err(Fault::Trap(TrapKind::NoSuchHandle))
-            }
+            Watched::Udp(_)
+            | Watched::Incoming(_)
+            | Watched::Outgoing(_)
+            | Watched::Lookup(_)
+            | Watched::Plain => { Err(Fault::Trap(TrapKind::NoSuchHandle)) }
         }
     }
 
@@ -124,7 +126,7 @@ impl Tcp2Socket {
     }
 
     /// Whether there is something to read.
-    fn input_ready<W: World>(&mut self, world: &mut W, op: OpId) -> Result<bool, Fault>
+    pub(crate) fn input_ready<W: World>(&mut self, world: &mut W, op: OpId) -> Result<bool, Fault>
         requires { (W.seen world.old).ended ≡ false }
         ensures asked { AsksFor (ready_reader op self.old self.old.streams) (W.seen world.old) (W.seen world.new) (λ ready. (ready, self.new)) (fault_outcome result) }
         ensures inner { self.new.inner ≡ self.old.inner }

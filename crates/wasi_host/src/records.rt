@@ -2,13 +2,14 @@
 
 ghost use Rattle.std.specs.Prelude.{◌≡◌, option_map, Some};
 ghost use Rattle.std.specs.Borrow.{LendsIf, sem};
-ghost use Rattle.wasi_host.specs.Records.{tcp2_of, tcp2_at, with_tcp2, udp2_of, udp2_at, with_udp2, open_at, with_open, lookup_of, lookup_at, with_lookup_at};
-ghost use Rattle.wasi_host.specs.Rows.{record_row, records_row, socket_row, udp_row, open_row, lookup_row};
-ghost use Rattle.wasi_host.specs.declared.records.Record.TheVariants.{Tcp2, Udp2, Lookup as LookupRecord};
+ghost use Rattle.wasi_host.specs.Records.{tcp2_of, tcp2_at, with_tcp2, udp2_of, udp2_at, with_udp2, open_at, with_open, lookup_of, lookup_at, with_lookup_at, input_pipe_of, input_pipe_at, with_input_pipe, output_pipe_of, output_pipe_at, with_output_pipe};
+ghost use Rattle.wasi_host.specs.Rows.{record_row, records_row, socket_row, udp_row, open_row, lookup_row, input_pipe_row, output_pipe_row};
+ghost use Rattle.wasi_host.specs.declared.records.Record.TheVariants.{Tcp2, Udp2, Lookup as LookupRecord, InputPipe as ReadPipe, OutputPipe as WrittenPipe};
 
 use crate::name_lookup::Lookup;
 use crate::socket::Tcp2Socket;
 use crate::udp::{OpenUdp, Udp2Socket};
+use wasi_memory::{InputPipeCore, OutputPipe};
 
 /// A record of the store: what the number in a handle names. Each kind of record is a case.
 #[derive(Drop)]
@@ -19,6 +20,10 @@ pub enum Record {
     Udp2(Udp2Socket),
     /// A lookup of a host name.
     Lookup(Lookup),
+    /// A pipe that a guest reads.
+    InputPipe(InputPipeCore),
+    /// A pipe that a guest writes.
+    OutputPipe(OutputPipe),
 }
 
 impl Record {
@@ -28,7 +33,7 @@ impl Record {
     {
         match self {
             Record::Tcp2(socket) => Some(socket),
-            Record::Udp2(_) | Record::Lookup(_) => None,
+            _ => None,
         }
     }
 
@@ -39,7 +44,7 @@ impl Record {
     {
         match self {
             Record::Tcp2(socket) => Some(socket),
-            Record::Udp2(_) | Record::Lookup(_) => None,
+            _ => None,
         }
     }
 
@@ -49,7 +54,7 @@ impl Record {
     {
         match self {
             Record::Udp2(socket) => Some(socket),
-            Record::Tcp2(_) | Record::Lookup(_) => None,
+            _ => None,
         }
     }
 
@@ -60,7 +65,7 @@ impl Record {
     {
         match self {
             Record::Udp2(socket) => Some(socket),
-            Record::Tcp2(_) | Record::Lookup(_) => None,
+            _ => None,
         }
     }
 
@@ -70,7 +75,7 @@ impl Record {
     {
         match self {
             Record::Lookup(lookup) => Some(lookup),
-            Record::Tcp2(_) | Record::Udp2(_) => None,
+            _ => None,
         }
     }
 
@@ -81,7 +86,39 @@ impl Record {
     {
         match self {
             Record::Lookup(lookup) => Some(lookup),
-            Record::Tcp2(_) | Record::Udp2(_) => None,
+            _ => None,
+        }
+    }
+
+    /// The pipe that is read that it is, to be changed.
+    fn as_input_pipe_mut(&mut self) -> Option<&mut InputPipeCore>
+        ensures* writes_back { sem 𝓛 (LendsIf record_row input_pipe_row self.entry result ReadPipe self.old) }
+        ensures value { option_map (λ p. p.now) result ≡ input_pipe_of (Some self.old) }
+    {
+        match self {
+            Record::InputPipe(pipe) => Some(pipe),
+            _ => None,
+        }
+    }
+
+    /// The pipe that is written that it is.
+    fn as_output_pipe(&self) -> Option<&OutputPipe>
+        ensures { option_map (λ p. p.now) result ≡ output_pipe_of (Some self.now) }
+    {
+        match self {
+            Record::OutputPipe(pipe) => Some(pipe),
+            _ => None,
+        }
+    }
+
+    /// The pipe that is written that it is, to be changed.
+    fn as_output_pipe_mut(&mut self) -> Option<&mut OutputPipe>
+        ensures* writes_back { sem 𝓛 (LendsIf record_row output_pipe_row self.entry result WrittenPipe self.old) }
+        ensures value { option_map (λ p. p.now) result ≡ output_pipe_of (Some self.old) }
+    {
+        match self {
+            Record::OutputPipe(pipe) => Some(pipe),
+            _ => None,
         }
     }
 }
@@ -144,4 +181,27 @@ pub(crate) fn lookup_mut(records: &mut Vec<Record>, place: usize) -> Option<&mut
     ensures item { option_map (λ l. l.now) result ≡ lookup_at records.old.items place }
 {
     records.get_mut(place)?.as_lookup_mut()
+}
+
+/// The pipe of this number that a guest reads, to be changed where it is.
+pub(crate) fn input_pipe_mut(records: &mut Vec<Record>, place: usize) -> Option<&mut InputPipeCore>
+    ensures* writes_back { sem 𝓛 (LendsIf records_row input_pipe_row records.entry result (with_input_pipe records.old place) records.old) }
+    ensures item { option_map (λ p. p.now) result ≡ input_pipe_at records.old.items place }
+{
+    records.get_mut(place)?.as_input_pipe_mut()
+}
+
+/// The pipe of this number that a guest writes.
+pub(crate) fn output_pipe(records: &[Record], place: usize) -> Option<&OutputPipe>
+    ensures item { option_map (λ p. p.now) result ≡ output_pipe_at records.now place }
+{
+    records.get(place)?.as_output_pipe()
+}
+
+/// The pipe of this number that a guest writes, to be changed where it is.
+pub(crate) fn output_pipe_mut(records: &mut Vec<Record>, place: usize) -> Option<&mut OutputPipe>
+    ensures* writes_back { sem 𝓛 (LendsIf records_row output_pipe_row records.entry result (with_output_pipe records.old place) records.old) }
+    ensures item { option_map (λ p. p.now) result ≡ output_pipe_at records.old.items place }
+{
+    records.get_mut(place)?.as_output_pipe_mut()
 }

@@ -14,6 +14,7 @@ ghost use Rattle.wasi_tcp.specs.Reader.{read_state_asks};
 ghost use Rattle.wasi_tcp.specs.Writer.{check_write_asks, write_state_asks};
 
 use crate::binding::AsyncOperation;
+use crate::blocking::BlockingCall;
 use crate::closing::close_sides;
 use crate::error::SocketError;
 use crate::handles;
@@ -29,7 +30,7 @@ use wasi_tcp::TcpSocket;
 use wasi_world::{Answer, Handle, Ids, Octets, OpId, Sock, TrapKind, WasiSocketsCtx, World};
 
 /// What a pending call does.
-#[derive(Clone, Copy, Debug, PartialEq, Eq)]
+#[derive(Drop)]
 pub enum StandingCall {
     /// Binds the socket of this number, whose record has the operation.
     Bind { socket: usize },
@@ -45,10 +46,12 @@ pub enum StandingCall {
     UdpConnect { socket: usize, handle: Handle },
     /// Drops the outgoing datagram stream of the UDP socket of this number, and waits until its datagram is sent or failed.
     DropOutgoing { socket: usize },
+    /// A call of a stream that blocks.
+    Blocking(BlockingCall),
 }
 
 /// A pending call: while it does, every other guest call is busy.
-#[derive(Clone, Copy, Debug, PartialEq, Eq)]
+#[derive(Drop)]
 pub struct Standing {
     /// The line that began it, and the next of the names that its operations take: what begins while it is polled again takes
     /// them from here.
@@ -56,7 +59,8 @@ pub struct Standing {
     pub call: StandingCall,
 }
 
-/// The records by number, the jobs in the order of making, and the pending call. Memory follows how many sockets were made.
+/// The records by number, the jobs in the order of making, and the pending call. Memory follows how many sockets, lookups and pipes
+/// were made.
 #[derive(Drop)]
 pub struct Store {
     pub(crate) records: Vec<Record>,

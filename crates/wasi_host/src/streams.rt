@@ -1,20 +1,25 @@
-//! The calls of a connection's streams.
+//! The calls of streams that don't block.
 
-ghost use Rattle.std.specs.Prelude.{◌≡◌, false};
+ghost use Rattle.std.specs.Prelude.{◌≡◌, false, IfOk};
+ghost use Rattle.wasi_streams.specs.Streams.{zeros};
 ghost use Rattle.wasi_world.specs.Asks.{AsksFor};
 ghost use Rattle.wasi_streams.specs.StreamStop.{StreamStop};
 ghost use Rattle.wasi_host.specs.Host.{call_outcome, error_outcome, failed_outcome, IsStreamStop, IfStreamMemory};
 ghost use Rattle.wasi_host.specs.Kinds.{kind_at, stream_of};
-ghost use Rattle.wasi_host.specs.Machine.{own_of};
+ghost use Rattle.wasi_host.specs.Machine.{own_of, input_at, output_at};
 ghost use Rattle.wasi_host.specs.Sides.{KnowsSides};
-ghost use Rattle.wasi_host.specs.StreamCalls.{read_asks, check_asks, write_asks, flushed_asks, convert_on};
+ghost use Rattle.wasi_host.specs.StreamCalls.{read_asks, skip_asks, check_asks, write_asks, write_zeroes_asks, flushed_asks, splice_asks, splice_some, splice_read, stream_on, write_on, convert_on};
+ghost use Rattle.wasi_host.specs.Store.{reader_asks, writer_asks, flush_asks};
+ghost use Rattle.wasi_tcp.specs.Reader.{read_state_asks};
+ghost use Rattle.wasi_tcp.specs.Writer.{check_write_asks, write_state_asks};
 ghost use Rattle.wasi_host.specs.Views.{SameView, state_of};
 
 use crate::error::CallError;
 use crate::handles;
 use crate::kind::Kind;
+use crate::plain_streams::{flush_plain, plain};
 use crate::view::WasiSocketsCtxView;
-use std::alloc::Global;
+use std::alloc::{AllocError, Global};
 use wasi_addr::ErrorCode;
 use wasi_streams::{Fault, StreamError};
 use wasi_world::{Handle, Ids, Octets, World};
@@ -30,6 +35,28 @@ pub fn read<W: World>(
 ) -> Result<Octets, CallError>
     requires { (W.seen world.old).ended ≡ false }
     ensures asked { AsksFor (read_asks (state_of view.old) (own_of ids.old.line) this len) (W.seen world.old) (W.seen world.new) (λ read. (read, state_of view.new)) (call_outcome result) }
+    ensures sides { KnowsSides (W.seen world.old) view.old.store.now → KnowsSides (W.seen world.new) view.new.store.now }
+    ensures view { SameView view.old view.new }
+    ensures ids { ids.new ≡ ids.old }
+    ensures open { (W.seen world.new).ended ≡ false }
+{
+    match handles::plain_input(view.table, this) {
+        Some(stream) => plain(view.store.read_plain(alloc, stream, len as usize)),
+        None => read_connection(alloc, view, world, ids, this, len),
+    }
+}
+
+/// The same of a connection.
+fn read_connection<W: World>(
+    alloc: Global,
+    view: &mut WasiSocketsCtxView<'_>,
+    world: &mut W,
+    ids: &mut Ids,
+    this: Handle,
+    len: u64,
+) -> Result<Octets, CallError>
+    requires { (W.seen world.old).ended ≡ false }
+    ensures asked { AsksFor (stream_on (state_of view.old) (own_of ids.old.line) this (reader_asks (λ r. read_state_asks (own_of ids.old.line) r len)) (input_at (state_of view.old) this)) (W.seen world.old) (W.seen world.new) (λ read. (read, state_of view.new)) (call_outcome result) }
     ensures sides { KnowsSides (W.seen world.old) view.old.store.now → KnowsSides (W.seen world.new) view.new.store.now }
     ensures view { SameView view.old view.new }
     ensures ids { ids.new ≡ ids.old }
@@ -59,6 +86,26 @@ pub fn check_write<W: World>(
     ensures ids { ids.new ≡ ids.old }
     ensures open { (W.seen world.new).ended ≡ false }
 {
+    match handles::plain_output(view.table, this) {
+        Some(stream) => plain(view.store.check_plain(stream)).map(|permit| permit as u64),
+        None => check_write_connection(view, world, ids, this),
+    }
+}
+
+/// The same of a connection.
+fn check_write_connection<W: World>(
+    view: &mut WasiSocketsCtxView<'_>,
+    world: &mut W,
+    ids: &mut Ids,
+    this: Handle,
+) -> Result<u64, CallError>
+    requires { (W.seen world.old).ended ≡ false }
+    ensures asked { AsksFor (stream_on (state_of view.old) (own_of ids.old.line) this (writer_asks (check_write_asks (own_of ids.old.line))) (output_at (state_of view.old) this)) (W.seen world.old) (W.seen world.new) (λ permit. (permit, state_of view.new)) (call_outcome result) }
+    ensures sides { KnowsSides (W.seen world.old) view.old.store.now → KnowsSides (W.seen world.new) view.new.store.now }
+    ensures view { SameView view.old view.new }
+    ensures ids { ids.new ≡ ids.old }
+    ensures open { (W.seen world.new).ended ≡ false }
+{
     let place = handles::output(view.table, this)?;
     match view.store.check_write(world, ids.own(), place) {
         Ok(permit) => Ok(permit as u64),
@@ -76,6 +123,27 @@ pub fn write<W: World>(
 ) -> Result<(), CallError>
     requires { (W.seen world.old).ended ≡ false }
     ensures asked { AsksFor (write_asks (state_of view.old) (own_of ids.old.line) this bytes) (W.seen world.old) (W.seen world.new) (λ written. (written, state_of view.new)) (call_outcome result) }
+    ensures sides { KnowsSides (W.seen world.old) view.old.store.now → KnowsSides (W.seen world.new) view.new.store.now }
+    ensures view { SameView view.old view.new }
+    ensures ids { ids.new ≡ ids.old }
+    ensures open { (W.seen world.new).ended ≡ false }
+{
+    match handles::plain_output(view.table, this) {
+        Some(stream) => plain(view.store.write_plain(stream, bytes.as_slice())),
+        None => write_connection(view, world, ids, this, bytes),
+    }
+}
+
+/// The same of a connection.
+fn write_connection<W: World>(
+    view: &mut WasiSocketsCtxView<'_>,
+    world: &mut W,
+    ids: &mut Ids,
+    this: Handle,
+    bytes: Octets,
+) -> Result<(), CallError>
+    requires { (W.seen world.old).ended ≡ false }
+    ensures asked { AsksFor (write_on (state_of view.old) (own_of ids.old.line) this (writer_asks (λ w. write_state_asks (own_of ids.old.line) w bytes)) (output_at (state_of view.old) this)) (W.seen world.old) (W.seen world.new) (λ written. (written, state_of view.new)) (call_outcome result) }
     ensures sides { KnowsSides (W.seen world.old) view.old.store.now → KnowsSides (W.seen world.new) view.new.store.now }
     ensures view { SameView view.old view.new }
     ensures ids { ids.new ≡ ids.old }
@@ -102,11 +170,137 @@ pub fn flush<W: World>(
     ensures ids { ids.new ≡ ids.old }
     ensures open { (W.seen world.new).ended ≡ false }
 {
+    match handles::plain_output(view.table, this) {
+        Some(stream) => plain(flush_plain(stream)),
+        None => flush_connection(view, world, ids, this),
+    }
+}
+
+/// The same of a connection.
+fn flush_connection<W: World>(
+    view: &mut WasiSocketsCtxView<'_>,
+    world: &mut W,
+    ids: &mut Ids,
+    this: Handle,
+) -> Result<(), CallError>
+    requires { (W.seen world.old).ended ≡ false }
+    ensures asked { AsksFor (stream_on (state_of view.old) (own_of ids.old.line) this (writer_asks flush_asks) (output_at (state_of view.old) this)) (W.seen world.old) (W.seen world.new) (λ flushed. (flushed, state_of view.new)) (call_outcome result) }
+    ensures sides { KnowsSides (W.seen world.old) view.old.store.now → KnowsSides (W.seen world.new) view.new.store.now }
+    ensures view { SameView view.old view.new }
+    ensures ids { ids.new ≡ ids.old }
+    ensures open { (W.seen world.new).ended ≡ false }
+{
     let place = handles::output(view.table, this)?;
     match view.store.flush(world, place) {
         Ok(()) => Ok(()),
         Err(error) => Err(convert_stream_error(view, world, ids, this, error)),
     }
+}
+
+/// More than any permit.
+const MOST_ZEROS: usize = 65537;
+
+/// So many zeros, and at most 65537.
+pub(crate) fn zeros(alloc: Global, len: u64) -> Result<Octets, AllocError>
+    ensures { IfOk result (λ bytes. bytes ≡ zeros len) }
+{
+    let bytes = vec![in alloc; 0; (len as usize).min(MOST_ZEROS)]?;
+    Ok(Octets::from_vec(bytes))
+}
+
+/// Reads at most so many bytes from an input and drops them (`input-stream.skip`), and returns how many there were.
+pub fn skip<W: World>(
+    alloc: Global,
+    view: &mut WasiSocketsCtxView<'_>,
+    world: &mut W,
+    ids: &mut Ids,
+    this: Handle,
+    len: u64,
+) -> Result<u64, CallError>
+    requires { (W.seen world.old).ended ≡ false }
+    ensures asked { AsksFor (skip_asks (state_of view.old) (own_of ids.old.line) this len) (W.seen world.old) (W.seen world.new) (λ done. (done, state_of view.new)) (call_outcome result) }
+    ensures sides { KnowsSides (W.seen world.old) view.old.store.now → KnowsSides (W.seen world.new) view.new.store.now }
+    ensures view { SameView view.old view.new }
+    ensures ids { ids.new ≡ ids.old }
+    ensures open { (W.seen world.new).ended ≡ false }
+{
+    let bytes = read(alloc, view, world, ids, this, len)?;
+    Ok(bytes.len() as u64)
+}
+
+/// Writes so many zeros to an output, of which there are no more than were permitted (`output-stream.write-zeroes`). Takes memory
+/// for them, and for 65537 where there are more: no permit is that high.
+pub fn write_zeroes<W: World>(
+    alloc: Global,
+    view: &mut WasiSocketsCtxView<'_>,
+    world: &mut W,
+    ids: &mut Ids,
+    this: Handle,
+    len: u64,
+) -> Result<(), CallError>
+    requires { (W.seen world.old).ended ≡ false }
+    ensures asked { AsksFor (write_zeroes_asks (state_of view.old) (own_of ids.old.line) this len) (W.seen world.old) (W.seen world.new) (λ done. (done, state_of view.new)) (call_outcome result) }
+    ensures sides { KnowsSides (W.seen world.old) view.old.store.now → KnowsSides (W.seen world.new) view.new.store.now }
+    ensures view { SameView view.old view.new }
+    ensures ids { ids.new ≡ ids.old }
+    ensures open { (W.seen world.new).ended ≡ false }
+{
+    let bytes = zeros(alloc, len)?;
+    write(view, world, ids, this, bytes)
+}
+
+/// Reads from an input what an output permits, and at most so many bytes, and writes them there (`output-stream.splice`); returns
+/// how many they were. None: there is nothing to read yet, or no permit, or the length is 0. An error is that of the stream whose
+/// call failed.
+pub fn splice<W: World>(
+    alloc: Global,
+    view: &mut WasiSocketsCtxView<'_>,
+    world: &mut W,
+    ids: &mut Ids,
+    output: Handle,
+    input: Handle,
+    len: u64,
+) -> Result<u64, CallError>
+    requires { (W.seen world.old).ended ≡ false }
+    ensures asked { AsksFor (splice_asks (state_of view.old) (own_of ids.old.line) output input len) (W.seen world.old) (W.seen world.new) (λ done. (done, state_of view.new)) (call_outcome result) }
+    ensures sides { KnowsSides (W.seen world.old) view.old.store.now → KnowsSides (W.seen world.new) view.new.store.now }
+    ensures view { SameView view.old view.new }
+    ensures ids { ids.new ≡ ids.old }
+    ensures open { (W.seen world.new).ended ≡ false }
+{
+    handles::writable(view.table, output)?;
+    handles::readable(view.table, input)?;
+    let permit = check_write(view, world, ids, output)?;
+    splice_some(alloc, view, world, ids, output, input, permit.min(len))
+}
+
+/// Reads at most so many bytes from the input, which may be written to the output, and writes them there.
+fn splice_some<W: World>(
+    alloc: Global,
+    view: &mut WasiSocketsCtxView<'_>,
+    world: &mut W,
+    ids: &mut Ids,
+    output: Handle,
+    input: Handle,
+    count: u64,
+) -> Result<u64, CallError>
+    requires { (W.seen world.old).ended ≡ false }
+    ensures asked { AsksFor (splice_some (own_of ids.old.line) output input (state_of view.old) count) (W.seen world.old) (W.seen world.new) (λ done. (done, state_of view.new)) (call_outcome result) }
+    ensures sides { KnowsSides (W.seen world.old) view.old.store.now → KnowsSides (W.seen world.new) view.new.store.now }
+    ensures view { SameView view.old view.new }
+    ensures ids { ids.new ≡ ids.old }
+    ensures open { (W.seen world.new).ended ≡ false }
+{
+    if count == 0 {
+        return Ok(0);
+    }
+    let bytes = read(alloc, view, world, ids, input, count)?;
+    if bytes.is_empty() {
+        return Ok(0);
+    }
+    let count = bytes.len() as u64;
+    write(view, world, ids, output, bytes)?;
+    Ok(count)
 }
 
 /// Makes the error of a stream's call (`convert_stream_error`): a failure gets the handle of a new error, whose parent is the

@@ -7,8 +7,8 @@ use Rattle.wasi_host.proofs.pollables.ready.Goals as goal
 pub returns-in-Socket-clause-asked : goal.returns-in-Socket-clause-asked
 returns-in-Socket-clause-asked g c =
     rw c.in_ok-watched.ensures
-    (asks_at (λ asks. asks) (looked_at (state_of c.args.view.now) c.args.ids.now c.in_ok-watched.watched c.in-Socket.is)
-    (asks_gives (with_store (state_of c.args.view.now)) c.poll_ready.ensures.asked))
+    (asks_at (λ asks. asks) (looked_at (state_of c.args.view.now) c.args.ids.now c.in_ok-watched.watched c.in-Socket.place c.in-Socket.is)
+    (asks_gives (with_store (state_of c.args.view.now)) (rw c.in-Socket.watched-is at c.poll_ready.ensures.asked)))
 
 pub returns-in-Incoming-clause-asked : goal.returns-in-Incoming-clause-asked
 returns-in-Incoming-clause-asked g c = rw (c.in_ok-watched.ensures, c.in-Incoming.is) (asks_gives (with_store (state_of c.args.view.now)) c.incoming_ready.ensures.asked)

@@ -7,15 +7,15 @@ use Rattle.wasi_host.proofs.Lookups.{found_at, none_at}
 use Rattle.wasi_host.proofs.store.Store.poll_ready.Goals as goal
 
 pub returns-in_default-clause-asked : goal.returns-in_default-clause-asked
-returns-in_default-clause-asked g c = rw (← c.self.view_is, ← c.place.ensures, none_at c.self.inside.records.items c.place.result c.in_default.ensures.item) (asks_given _ _ refl refl)
+returns-in_default-clause-asked g c = rw (← c.self.view_is, none_at c.self.inside.records.items c.args.place c.in_default.ensures.item) (asks_given _ _ refl refl)
 
 pub returns-clause-asked : goal.returns-clause-asked
 returns-clause-asked g c =
     let store : Records = record { records = c.self.inside.records.items; jobs = c.self.inside.jobs.items; standing = c.self.inside.standing } in
-    rw (← c.self.view_is, ← c.place.ensures, found_at c.self.inside.records.items c.place.result c.in-Some.record c.in-Some.ensures.item)
-    (asks_gives (ready_put store c.place.result) c.poll_ready.ensures.asked)
+    rw (← c.self.view_is, found_at c.self.inside.records.items c.args.place c.in-Some.record c.in-Some.ensures.item)
+    (asks_gives (ready_put store c.args.place) c.poll_ready.ensures.asked)
 
 pub returns-clause-sides : goal.returns-clause-sides
 returns-clause-sides g c = λ k.
     let store : Records = record { records = c.self.inside.records.items; jobs = c.self.inside.jobs.items; standing = c.self.inside.standing } in
-    knows_polled store c.place.result c.in-Some.record.now c.poll_ready.new.self (found_at c.self.inside.records.items c.place.result c.in-Some.record c.in-Some.ensures.item) c.poll_ready.ensures.sides (rw (← c.self.view_is) at k)
+    knows_polled store c.args.place c.in-Some.record.now c.poll_ready.new.self (found_at c.self.inside.records.items c.args.place c.in-Some.record c.in-Some.ensures.item) c.poll_ready.ensures.sides (rw (← c.self.view_is) at k)

@@ -2,7 +2,7 @@ use Rattle.wasi_host.specs.Kinds.{kind_at}
 use Rattle.wasi_host.specs.Machine.{own_of}
 use Rattle.wasi_host.specs.Views.{state_of}
 use Rattle.wasi_host.proofs.StreamCalls.{output_stream, converted_ok, converted_err}
-use Rattle.wasi_host.proofs.streams.flush.Goals as goal
+use Rattle.wasi_host.proofs.streams.flush_connection.Goals as goal
 
 pub returns-in-Ok-clause-asked : goal.returns-in-Ok-clause-asked
 returns-in-Ok-clause-asked g c = rw c.in_ok-place.ensures (converted_ok (state_of c.args.view.now) (own_of c.args.ids.now.line) c.args.this c.in_ok-place.place _ (rw (c.in-Ok.is) at c.flush.ensures.asked))

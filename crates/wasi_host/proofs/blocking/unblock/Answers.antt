@@ -1,0 +1,23 @@
+use Rattle.wasi_host.specs.declared.pending.Outcome.TheVariants.{Bytes, Count}
+use Rattle.wasi_host.specs.Pending.{nothing_given}
+use Rattle.wasi_host.specs.Views.{state_of}
+use Rattle.wasi_host.proofs.Blocks.{call_outcome_of}
+use Rattle.wasi_host.proofs.blocking.unblock.Goals as goal
+
+pub returns-in-Read-clause-asked : goal.returns-in-Read-clause-asked
+returns-in-Read-clause-asked g c = rw c.in-Read.is (call_outcome_of Bytes (state_of c.blocking_read.new.view) c.blocking_read.result c.of_bytes.ensures c.blocking_read.ensures.asked)
+
+pub returns-in-Skip-clause-asked : goal.returns-in-Skip-clause-asked
+returns-in-Skip-clause-asked g c = rw c.in-Skip.is (call_outcome_of Count (state_of c.blocking_skip.new.view) c.blocking_skip.result c.of_count.ensures c.blocking_skip.ensures.asked)
+
+pub returns-in-Write-clause-asked : goal.returns-in-Write-clause-asked
+returns-in-Write-clause-asked g c = rw c.in-Write.is (call_outcome_of nothing_given (state_of c.write_rounds.new.view) c.write_rounds.result c.of_nothing.ensures c.write_rounds.ensures.asked)
+
+pub returns-in-Finish-clause-asked : goal.returns-in-Finish-clause-asked
+returns-in-Finish-clause-asked g c = rw c.in-Finish.is (call_outcome_of nothing_given (state_of c.last_check.new.view) c.last_check.result c.of_nothing-in-Finish.ensures c.last_check.ensures.asked)
+
+pub returns-in-Flush-clause-asked : goal.returns-in-Flush-clause-asked
+returns-in-Flush-clause-asked g c = rw c.in-Flush.is (call_outcome_of nothing_given (state_of c.blocking_flush.new.view) c.blocking_flush.result c.of_nothing-in-Flush.ensures c.blocking_flush.ensures.asked)
+
+pub returns-in-Splice-clause-asked : goal.returns-in-Splice-clause-asked
+returns-in-Splice-clause-asked g c = rw c.in-Splice.is (call_outcome_of Count (state_of c.blocking_splice.new.view) c.blocking_splice.result c.of_count-in-Splice.ensures c.blocking_splice.ensures.asked)

@@ -1,0 +1,10 @@
+use Rattle.std.proofs.Common.{refl}
+use Rattle.wasi_world.proofs.Walks.{asks_then}
+use Rattle.wasi_host.proofs.Blocks.{call_passed}
+use Rattle.wasi_host.proofs.streams.splice.Goals as goal
+
+pub returns-in_err-permit-clause-asked : goal.returns-in_err-permit-clause-asked
+returns-in_err-permit-clause-asked g c = rw (c.in_ok-writable.ensures.ok, c.in_ok-readable.ensures.ok) (call_passed _ _ c.from_residual-in_err-permit.result c.from_residual-in_err-permit.ensures.1 c.in_err-permit.ensures.asked (λ stop. refl))
+
+pub returns-clause-asked : goal.returns-clause-asked
+returns-clause-asked g c = rw (c.in_ok-writable.ensures.ok, c.in_ok-readable.ensures.ok) (asks_then _ c.in_ok-permit.ensures.asked.ok (rw (c.min.ensures, c.in_ok-permit.ensures.ids) at c.splice_some.ensures.asked))

@@ -1,0 +1,500 @@
+//! The calls of streams that block. One that has nothing yet is pending, and continued by [`resume`](crate::resume).
+
+ghost use Rattle.std.specs.Prelude.{◌≡◌, false, take, drop, IfOk, Some};
+ghost use Rattle.wasi_world.specs.declared.outcome.Answer.TheVariants.{Pending};
+ghost use Rattle.wasi_world.specs.Asks.{AsksFor};
+ghost use Rattle.wasi_world.specs.Seen.{Seen};
+ghost use Rattle.wasi_host.specs.Blocking.{look_at, look_on, look_asks, blocking_read_asks, blocking_skip_asks, blocking_flush_asks, last_check_asks, finish_write_asks, write_rounds, blocking_write_asks, blocking_zeroes_asks, blocking_splice_asks};
+ghost use Rattle.wasi_host.specs.Host.{host_outcome, fault_outcome, call_outcome};
+ghost use Rattle.wasi_host.specs.Machine.{own_of, input_at};
+ghost use Rattle.wasi_host.specs.Pending.{blocked_told, stop_told, write_told, nothing_given, unblock_asks};
+ghost use Rattle.wasi_host.specs.Records.{tcp2_at};
+ghost use Rattle.wasi_host.specs.Sides.{KnowsSides};
+ghost use Rattle.wasi_host.specs.Standing.{standing_as};
+ghost use Rattle.wasi_host.specs.Views.{SameView, state_of};
+
+use crate::error::{CallError, SocketError};
+use crate::handles;
+use crate::pending::Outcome;
+use crate::records::tcp2_mut;
+use crate::store::{Standing, StandingCall, Store};
+use crate::streams::{check_write, flush, read, skip, write, zeros};
+use crate::view::WasiSocketsCtxView;
+use std::alloc::{AllocError, Global};
+use wasi_streams::Fault;
+use wasi_world::{Answer, Handle, Ids, Octets, OpId, TrapKind, World};
+
+/// A blocking write has at most so many bytes.
+const MOST_BYTES: u64 = 4096;
+
+/// It writes at most so often each time that it is polled: a byte at least each time.
+const MOST_ROUNDS: u32 = 4096;
+
+/// A call of a stream that blocks, as it continues while it is pending.
+#[derive(Drop)]
+pub enum BlockingCall {
+    /// Reads at most so many bytes.
+    Read {
+        input: Handle,
+        len: u64,
+    },
+    /// Reads and drops at most so many bytes.
+    Skip {
+        input: Handle,
+        len: u64,
+    },
+    /// Writes these bytes, what is left of all, and then flushes.
+    Write {
+        output: Handle,
+        rest: Octets,
+    },
+    /// Waits until what was written is flushed.
+    Finish {
+        output: Handle,
+    },
+    /// Flushes, and waits until that is done.
+    Flush {
+        output: Handle,
+    },
+    /// Reads at most so many bytes from an input, and writes them to an output.
+    Splice {
+        output: Handle,
+        input: Handle,
+        len: u64,
+    },
+}
+
+impl Store {
+    /// Whether there is something to read from the connection of the socket of this number.
+    fn input_ready<W: World>(
+        &mut self,
+        world: &mut W,
+        op: OpId,
+        place: usize,
+    ) -> Result<bool, Fault>
+        requires { (W.seen world.old).ended ≡ false }
+        ensures asked { AsksFor (look_at self.old op place (tcp2_at self.old.records place)) (W.seen world.old) (W.seen world.new) (λ ready. (ready, self.new)) (fault_outcome result) }
+        ensures sides { KnowsSides (W.seen world.old) self.old → KnowsSides (W.seen world.new) self.new }
+        ensures open { (W.seen world.new).ended ≡ false }
+    {
+        let Some(record) = tcp2_mut(&mut self.records, place) else {
+            return Err(Fault::Trap(TrapKind::NoSuchHandle));
+        };
+        record.input_ready(world, op)
+    }
+
+    /// The call is pending under its line's number, and continues so.
+    fn block_as<T>(&mut self, ids: Ids, call: BlockingCall) -> Answer<T>
+        ensures answer { result ≡ Pending }
+        ensures state { self.new ≡ record self.old { standing = Some (standing_as ids (StandingCall.Blocking call)) } }
+        ensures sides { (s : Seen) → KnowsSides s self.old → KnowsSides s self.new }
+    {
+        let call = StandingCall::Blocking(call);
+        self.standing = Some(Standing { ids, call });
+        Answer::Pending
+    }
+}
+
+/// The first so many bytes, or all where they are fewer, and those after them.
+fn cut(alloc: Global, bytes: Octets, count: u64) -> Result<(Octets, Octets), AllocError>
+    ensures { IfOk result (λ parts. (parts.0 ≡ take count bytes) × (parts.1 ≡ drop count bytes)) }
+{
+    let count = count as usize;
+    if count >= bytes.len() {
+        return Ok((bytes, Octets::from_vec(Vec::new(alloc))));
+    }
+    let first = Octets::copy_of(alloc, &bytes.as_slice()[..count])?;
+    let rest = Octets::copy_of(alloc, &bytes.as_slice()[count..])?;
+    Ok((first, rest))
+}
+
+/// Once all is written, a stream that is closed has taken it.
+fn write_end(error: CallError) -> Result<Answer<()>, CallError>
+    ensures { call_outcome result ≡ write_told error }
+{
+    match error {
+        CallError::Closed => Ok(Answer::Ready(())),
+        error => Err(error),
+    }
+}
+
+/// Whether there is something to read from an input, or it is at its end; an input of no connection is always ready.
+fn input_ready<W: World>(
+    view: &mut WasiSocketsCtxView<'_>,
+    world: &mut W,
+    ids: &mut Ids,
+    input: Handle,
+) -> Result<bool, CallError>
+    requires { (W.seen world.old).ended ≡ false }
+    ensures asked { AsksFor (look_asks (state_of view.old) (own_of ids.old.line) input) (W.seen world.old) (W.seen world.new) (λ done. (done, state_of view.new)) (call_outcome result) }
+    ensures sides { KnowsSides (W.seen world.old) view.old.store.now → KnowsSides (W.seen world.new) view.new.store.now }
+    ensures view { SameView view.old view.new }
+    ensures ids { ids.new ≡ ids.old }
+    ensures open { (W.seen world.new).ended ≡ false }
+{
+    match handles::plain_input(view.table, input) {
+        Some(_) => Ok(true),
+        None => connection_ready(view, world, ids, input),
+    }
+}
+
+/// The same of a connection.
+fn connection_ready<W: World>(
+    view: &mut WasiSocketsCtxView<'_>,
+    world: &mut W,
+    ids: &mut Ids,
+    input: Handle,
+) -> Result<bool, CallError>
+    requires { (W.seen world.old).ended ≡ false }
+    ensures asked { AsksFor (look_on (state_of view.old) (own_of ids.old.line) (input_at (state_of view.old) input)) (W.seen world.old) (W.seen world.new) (λ done. (done, state_of view.new)) (call_outcome result) }
+    ensures sides { KnowsSides (W.seen world.old) view.old.store.now → KnowsSides (W.seen world.new) view.new.store.now }
+    ensures view { SameView view.old view.new }
+    ensures ids { ids.new ≡ ids.old }
+    ensures open { (W.seen world.new).ended ≡ false }
+{
+    let place = handles::input(view.table, input)?;
+    let ready = view.store.input_ready(world, ids.own(), place)?;
+    Ok(ready)
+}
+
+/// Reads at most so many bytes from an input (`input-stream.blocking-read`). It is pending while there is nothing; no bytes are an
+/// answer where none were wanted.
+pub fn blocking_read<W: World>(
+    alloc: Global,
+    view: &mut WasiSocketsCtxView<'_>,
+    world: &mut W,
+    ids: &mut Ids,
+    input: Handle,
+    len: u64,
+) -> Result<Answer<Octets>, CallError>
+    requires { (W.seen world.old).ended ≡ false }
+    ensures asked { AsksFor (blocking_read_asks (state_of view.old) ids.old input len) (W.seen world.old) (W.seen world.new) (λ done. (done, state_of view.new)) (call_outcome result) }
+    ensures sides { KnowsSides (W.seen world.old) view.old.store.now → KnowsSides (W.seen world.new) view.new.store.now }
+    ensures view { SameView view.old view.new }
+    ensures ids { ids.new ≡ ids.old }
+    ensures open { (W.seen world.new).ended ≡ false }
+{
+    if !input_ready(view, world, ids, input)? {
+        let call = BlockingCall::Read { input, len };
+        return Ok(view.store.block_as(*ids, call));
+    }
+    let bytes = read(alloc, view, world, ids, input, len)?;
+    if len == 0 {
+        return Ok(Answer::Ready(bytes));
+    }
+    if bytes.is_empty() {
+        let call = BlockingCall::Read { input, len };
+        return Ok(view.store.block_as(*ids, call));
+    }
+    Ok(Answer::Ready(bytes))
+}
+
+/// Reads at most so many bytes from an input and drops them (`input-stream.blocking-skip`), and returns how many they were. It is
+/// pending while there is nothing.
+pub fn blocking_skip<W: World>(
+    alloc: Global,
+    view: &mut WasiSocketsCtxView<'_>,
+    world: &mut W,
+    ids: &mut Ids,
+    input: Handle,
+    len: u64,
+) -> Result<Answer<u64>, CallError>
+    requires { (W.seen world.old).ended ≡ false }
+    ensures asked { AsksFor (blocking_skip_asks (state_of view.old) ids.old input len) (W.seen world.old) (W.seen world.new) (λ done. (done, state_of view.new)) (call_outcome result) }
+    ensures sides { KnowsSides (W.seen world.old) view.old.store.now → KnowsSides (W.seen world.new) view.new.store.now }
+    ensures view { SameView view.old view.new }
+    ensures ids { ids.new ≡ ids.old }
+    ensures open { (W.seen world.new).ended ≡ false }
+{
+    if !input_ready(view, world, ids, input)? {
+        let call = BlockingCall::Skip { input, len };
+        return Ok(view.store.block_as(*ids, call));
+    }
+    let count = skip(alloc, view, world, ids, input, len)?;
+    if len == 0 {
+        return Ok(Answer::Ready(count));
+    }
+    if count == 0 {
+        let call = BlockingCall::Skip { input, len };
+        return Ok(view.store.block_as(*ids, call));
+    }
+    Ok(Answer::Ready(count))
+}
+
+/// Flushes an output (`output-stream.blocking-flush`). It is pending while nothing may be written yet.
+pub fn blocking_flush<W: World>(
+    view: &mut WasiSocketsCtxView<'_>,
+    world: &mut W,
+    ids: &mut Ids,
+    output: Handle,
+) -> Result<Answer<()>, CallError>
+    requires { (W.seen world.old).ended ≡ false }
+    ensures asked { AsksFor (blocking_flush_asks (state_of view.old) ids.old output) (W.seen world.old) (W.seen world.new) (λ done. (done, state_of view.new)) (call_outcome result) }
+    ensures sides { KnowsSides (W.seen world.old) view.old.store.now → KnowsSides (W.seen world.new) view.new.store.now }
+    ensures view { SameView view.old view.new }
+    ensures ids { ids.new ≡ ids.old }
+    ensures open { (W.seen world.new).ended ≡ false }
+{
+    flush(view, world, ids, output)?;
+    let permit = check_write(view, world, ids, output)?;
+    if permit == 0 {
+        let call = BlockingCall::Flush { output };
+        return Ok(view.store.block_as(*ids, call));
+    }
+    Ok(Answer::Ready(()))
+}
+
+/// Waits until what was written is flushed.
+fn last_check<W: World>(
+    view: &mut WasiSocketsCtxView<'_>,
+    world: &mut W,
+    ids: &mut Ids,
+    output: Handle,
+) -> Result<Answer<()>, CallError>
+    requires { (W.seen world.old).ended ≡ false }
+    ensures asked { AsksFor (last_check_asks (state_of view.old) ids.old output) (W.seen world.old) (W.seen world.new) (λ done. (done, state_of view.new)) (call_outcome result) }
+    ensures sides { KnowsSides (W.seen world.old) view.old.store.now → KnowsSides (W.seen world.new) view.new.store.now }
+    ensures view { SameView view.old view.new }
+    ensures ids { ids.new ≡ ids.old }
+    ensures open { (W.seen world.new).ended ≡ false }
+{
+    match check_write(view, world, ids, output) {
+        Ok(0) => {
+            let call = BlockingCall::Finish { output };
+            Ok(view.store.block_as(*ids, call))
+        }
+        Ok(_) => Ok(Answer::Ready(())),
+        Err(error) => write_end(error),
+    }
+}
+
+/// Flushes what was written, and waits for that.
+fn finish_write<W: World>(
+    view: &mut WasiSocketsCtxView<'_>,
+    world: &mut W,
+    ids: &mut Ids,
+    output: Handle,
+) -> Result<Answer<()>, CallError>
+    requires { (W.seen world.old).ended ≡ false }
+    ensures asked { AsksFor (finish_write_asks (state_of view.old) ids.old output) (W.seen world.old) (W.seen world.new) (λ done. (done, state_of view.new)) (call_outcome result) }
+    ensures sides { KnowsSides (W.seen world.old) view.old.store.now → KnowsSides (W.seen world.new) view.new.store.now }
+    ensures view { SameView view.old view.new }
+    ensures ids { ids.new ≡ ids.old }
+    ensures open { (W.seen world.new).ended ≡ false }
+{
+    match flush(view, world, ids, output) {
+        Ok(()) => last_check(view, world, ids, output),
+        Err(error) => write_end(error),
+    }
+}
+
+/// Writes the bytes, as many each time as are permitted and so often at most, and then flushes.
+fn write_rounds<W: World>(
+    alloc: Global,
+    view: &mut WasiSocketsCtxView<'_>,
+    world: &mut W,
+    ids: &mut Ids,
+    output: Handle,
+    rest: Octets,
+    rounds: u32,
+) -> Result<Answer<()>, CallError>
+    requires { (W.seen world.old).ended ≡ false }
+    ensures asked { AsksFor (write_rounds rounds ids.old output (state_of view.old) rest) (W.seen world.old) (W.seen world.new) (λ done. (done, state_of view.new)) (call_outcome result) }
+    ensures sides { KnowsSides (W.seen world.old) view.old.store.now → KnowsSides (W.seen world.new) view.new.store.now }
+    ensures view { SameView view.old view.new }
+    ensures ids { ids.new ≡ ids.old }
+    ensures open { (W.seen world.new).ended ≡ false }
+{
+    if rounds == 0 {
+        let call = BlockingCall::Write { output, rest };
+        return Ok(view.store.block_as(*ids, call));
+    }
+    let permit = check_write(view, world, ids, output)?;
+    if permit == 0 {
+        let call = BlockingCall::Write { output, rest };
+        return Ok(view.store.block_as(*ids, call));
+    }
+    let (now, later) = cut(alloc, rest, permit)?;
+    write(view, world, ids, output, now)?;
+    if later.is_empty() {
+        return finish_write(view, world, ids, output);
+    }
+    write_rounds(alloc, view, world, ids, output, later, rounds - 1)
+}
+
+/// Writes at most 4096 bytes to an output, all of them, and flushes it (`output-stream.blocking-write-and-flush`). More are
+/// `Trap(TooLong)`. It is pending while nothing may be written, and then until that is flushed. An output that is closed after
+/// all was written has taken it.
+pub fn blocking_write_and_flush<W: World>(
+    alloc: Global,
+    view: &mut WasiSocketsCtxView<'_>,
+    world: &mut W,
+    ids: &mut Ids,
+    output: Handle,
+    bytes: Octets,
+) -> Result<Answer<()>, CallError>
+    requires { (W.seen world.old).ended ≡ false }
+    ensures asked { AsksFor (blocking_write_asks (state_of view.old) ids.old output bytes) (W.seen world.old) (W.seen world.new) (λ done. (done, state_of view.new)) (call_outcome result) }
+    ensures sides { KnowsSides (W.seen world.old) view.old.store.now → KnowsSides (W.seen world.new) view.new.store.now }
+    ensures view { SameView view.old view.new }
+    ensures ids { ids.new ≡ ids.old }
+    ensures open { (W.seen world.new).ended ≡ false }
+{
+    handles::writable(view.table, output)?;
+    if bytes.len() as u64 > MOST_BYTES {
+        return Err(CallError::Trap(TrapKind::TooLong));
+    }
+    write_rounds(alloc, view, world, ids, output, bytes, MOST_ROUNDS)
+}
+
+/// The same of so many zeros (`output-stream.blocking-write-zeroes-and-flush`). Takes memory for them.
+pub fn blocking_write_zeroes_and_flush<W: World>(
+    alloc: Global,
+    view: &mut WasiSocketsCtxView<'_>,
+    world: &mut W,
+    ids: &mut Ids,
+    output: Handle,
+    len: u64,
+) -> Result<Answer<()>, CallError>
+    requires { (W.seen world.old).ended ≡ false }
+    ensures asked { AsksFor (blocking_zeroes_asks (state_of view.old) ids.old output len) (W.seen world.old) (W.seen world.new) (λ done. (done, state_of view.new)) (call_outcome result) }
+    ensures sides { KnowsSides (W.seen world.old) view.old.store.now → KnowsSides (W.seen world.new) view.new.store.now }
+    ensures view { SameView view.old view.new }
+    ensures ids { ids.new ≡ ids.old }
+    ensures open { (W.seen world.new).ended ≡ false }
+{
+    handles::writable(view.table, output)?;
+    if len > MOST_BYTES {
+        return Err(CallError::Trap(TrapKind::TooLong));
+    }
+    let bytes = zeros(alloc, len)?;
+    write_rounds(alloc, view, world, ids, output, bytes, MOST_ROUNDS)
+}
+
+/// Reads from an input what an output permits, and at most so many bytes, and writes them there
+/// (`output-stream.blocking-splice`); returns how many they were. It is pending while nothing may be written or nothing is there
+/// to be read.
+pub fn blocking_splice<W: World>(
+    alloc: Global,
+    view: &mut WasiSocketsCtxView<'_>,
+    world: &mut W,
+    ids: &mut Ids,
+    output: Handle,
+    input: Handle,
+    len: u64,
+) -> Result<Answer<u64>, CallError>
+    requires { (W.seen world.old).ended ≡ false }
+    ensures asked { AsksFor (blocking_splice_asks (state_of view.old) ids.old output input len) (W.seen world.old) (W.seen world.new) (λ done. (done, state_of view.new)) (call_outcome result) }
+    ensures sides { KnowsSides (W.seen world.old) view.old.store.now → KnowsSides (W.seen world.new) view.new.store.now }
+    ensures view { SameView view.old view.new }
+    ensures ids { ids.new ≡ ids.old }
+    ensures open { (W.seen world.new).ended ≡ false }
+{
+    handles::writable(view.table, output)?;
+    handles::readable(view.table, input)?;
+    let permit = check_write(view, world, ids, output)?;
+    if permit == 0 {
+        let call = BlockingCall::Splice { output, input, len };
+        return Ok(view.store.block_as(*ids, call));
+    }
+    let most = permit.min(len);
+    if most == 0 {
+        return Ok(Answer::Ready(0));
+    }
+    if !input_ready(view, world, ids, input)? {
+        let call = BlockingCall::Splice { output, input, len };
+        return Ok(view.store.block_as(*ids, call));
+    }
+    let bytes = read(alloc, view, world, ids, input, most)?;
+    if bytes.is_empty() {
+        let call = BlockingCall::Splice { output, input, len };
+        return Ok(view.store.block_as(*ids, call));
+    }
+    let count = bytes.len() as u64;
+    write(view, world, ids, output, bytes)?;
+    Ok(Answer::Ready(count))
+}
+
+/// The error of a call of a stream as an outcome; a trap and out of memory are none.
+fn of_stop(error: CallError) -> Result<Answer<Outcome>, SocketError>
+    ensures { host_outcome result ≡ stop_told error }
+{
+    match error {
+        CallError::Failed(code, handle) => Ok(Answer::Ready(Outcome::Failed(code, handle))),
+        CallError::Closed => Ok(Answer::Ready(Outcome::Closed)),
+        CallError::Trap(kind) => Err(SocketError::Trap(kind)),
+        CallError::Memory(e) => Err(SocketError::Memory(e)),
+    }
+}
+
+/// The outcome of a call that gives bytes.
+fn of_bytes(answer: Result<Answer<Octets>, CallError>) -> Result<Answer<Outcome>, SocketError>
+    ensures { host_outcome result ≡ blocked_told Outcome.Bytes answer }
+{
+    match answer {
+        Ok(Answer::Ready(bytes)) => Ok(Answer::Ready(Outcome::Bytes(bytes))),
+        Ok(Answer::Pending) => Ok(Answer::Pending),
+        Err(error) => of_stop(error),
+    }
+}
+
+/// The outcome of a call that gives how many they were.
+fn of_count(answer: Result<Answer<u64>, CallError>) -> Result<Answer<Outcome>, SocketError>
+    ensures { host_outcome result ≡ blocked_told Outcome.Count answer }
+{
+    match answer {
+        Ok(Answer::Ready(count)) => Ok(Answer::Ready(Outcome::Count(count))),
+        Ok(Answer::Pending) => Ok(Answer::Pending),
+        Err(error) => of_stop(error),
+    }
+}
+
+/// The outcome of a call that gives nothing.
+fn of_nothing(answer: Result<Answer<()>, CallError>) -> Result<Answer<Outcome>, SocketError>
+    ensures { host_outcome result ≡ blocked_told nothing_given answer }
+{
+    match answer {
+        Ok(Answer::Ready(())) => Ok(Answer::Ready(Outcome::Nothing)),
+        Ok(Answer::Pending) => Ok(Answer::Pending),
+        Err(error) => of_stop(error),
+    }
+}
+
+/// Continues a call that was pending, by these names.
+pub(crate) fn unblock<W: World>(
+    alloc: Global,
+    view: &mut WasiSocketsCtxView<'_>,
+    world: &mut W,
+    ids: Ids,
+    call: BlockingCall,
+) -> Result<Answer<Outcome>, SocketError>
+    requires { (W.seen world.old).ended ≡ false }
+    ensures asked { AsksFor (unblock_asks (state_of view.old) ids call) (W.seen world.old) (W.seen world.new) (λ answer. (answer, state_of view.new)) (host_outcome result) }
+    ensures sides { KnowsSides (W.seen world.old) view.old.store.now → KnowsSides (W.seen world.new) view.new.store.now }
+    ensures view { SameView view.old view.new }
+    ensures open { (W.seen world.new).ended ≡ false }
+{
+    let mut ids = ids;
+    match call {
+        BlockingCall::Read { input, len } => {
+            of_bytes(blocking_read(alloc, view, world, &mut ids, input, len))
+        }
+        BlockingCall::Skip { input, len } => {
+            of_count(blocking_skip(alloc, view, world, &mut ids, input, len))
+        }
+        BlockingCall::Write { output, rest } => of_nothing(write_rounds(
+            alloc,
+            view,
+            world,
+            &mut ids,
+            output,
+            rest,
+            MOST_ROUNDS,
+        )),
+        BlockingCall::Finish { output } => of_nothing(last_check(view, world, &mut ids, output)),
+        BlockingCall::Flush { output } => of_nothing(blocking_flush(view, world, &mut ids, output)),
+        BlockingCall::Splice { output, input, len } => of_count(blocking_splice(
+            alloc, view, world, &mut ids, output, input, len,
+        )),
+    }
+}

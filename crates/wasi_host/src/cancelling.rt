@@ -1,0 +1,149 @@
+//! Giving pending calls up.
+
+ghost use Rattle.std.specs.Prelude.{◌≡◌, false};
+ghost use Rattle.wasi_world.specs.Asks.{AsksFor};
+ghost use Rattle.wasi_world.specs.Seen.{Seen};
+ghost use Rattle.wasi_host.specs.Cancel.{is_datagram_on, other_than_datagram, cancel_bind_at, cancel_udp_bind_at, cancel_listen_at, cancel_create, cancel_create_at, cancel_udp_connect_at, cancel_drop_outgoing_at, cancel_on, cancel_asks};
+ghost use Rattle.wasi_host.specs.Records.{tcp2_at, udp2_at, open_at};
+ghost use Rattle.wasi_host.specs.Sides.{KnowsSides};
+ghost use Rattle.wasi_host.specs.Views.{SameView, state_of};
+
+use crate::binding::InProgress;
+use crate::jobs::HostJob;
+use crate::records::{open_udp_mut, tcp2_mut, udp2_mut};
+use crate::store::{StandingCall, Store};
+use crate::udp::UdpInProgress;
+use crate::view::WasiSocketsCtxView;
+use std::alloc::AllocError;
+use wasi_world::World;
+
+/// Whether a job is the datagram in the background of the record of this number.
+fn is_datagram_on(job: HostJob, place: usize) -> bool
+    ensures { result ≡ is_datagram_on place job }
+{
+    match job {
+        HostJob::Datagram { socket } => socket == place,
+        HostJob::Write { .. } | HostJob::Receive { .. } | HostJob::Lookup { .. } => false,
+    }
+}
+
+impl Store {
+    /// The bind of the socket of this number is forgotten: the socket is as it was, and in the middle of nothing.
+    fn cancel_bind(&mut self, place: usize)
+        ensures state { self.new ≡ cancel_bind_at self.old place (tcp2_at self.old.records place) }
+        ensures sides { (s : Seen) → KnowsSides s self.old → KnowsSides s self.new }
+    {
+        let Some(record) = tcp2_mut(&mut self.records, place) else {
+            return;
+        };
+        record.in_progress = InProgress::Nothing;
+    }
+
+    /// The listen of the socket of this number closes its network socket; the socket stays closed.
+    fn cancel_listen<W: World>(&mut self, world: &mut W, place: usize) -> Result<(), AllocError>
+        requires { (W.seen world.old).ended ≡ false }
+        ensures asked { AsksFor (cancel_listen_at self.old place (tcp2_at self.old.records place)) (W.seen world.old) (W.seen world.new) (λ done. self.new) result }
+        ensures sides { KnowsSides (W.seen world.old) self.old → KnowsSides (W.seen world.new) self.new }
+        ensures open { (W.seen world.new).ended ≡ false }
+    {
+        let Some(record) = tcp2_mut(&mut self.records, place) else {
+            return Ok(());
+        };
+        record.give_listening_up(world)
+    }
+
+    /// The create of the UDP socket of this number closes its network socket, and no handle is made.
+    fn cancel_create<W: World>(&mut self, world: &mut W, place: usize) -> Result<(), AllocError>
+        requires { (W.seen world.old).ended ≡ false }
+        ensures asked { AsksFor (cancel_create_at self.old place (udp2_at self.old.records place)) (W.seen world.old) (W.seen world.new) (λ done. self.new) result }
+        ensures sides { KnowsSides (W.seen world.old) self.old → KnowsSides (W.seen world.new) self.new }
+        ensures open { (W.seen world.new).ended ≡ false }
+    {
+        let Some(socket) = udp2_mut(&mut self.records, place) else {
+            return Ok(());
+        };
+        socket.give_create_up(world)
+    }
+
+    /// The bind of the UDP socket of this number is forgotten, as that of a TCP socket is.
+    fn cancel_udp_bind(&mut self, place: usize)
+        ensures state { self.new ≡ cancel_udp_bind_at self.old place (open_at self.old.records place) }
+        ensures sides { (s : Seen) → KnowsSides s self.old → KnowsSides s self.new }
+    {
+        let Some(socket) = open_udp_mut(&mut self.records, place) else {
+            return;
+        };
+        socket.in_progress = UdpInProgress::Nothing;
+    }
+
+    /// The connect of the UDP socket of this number is forgotten: the socket is as it was, and has no streams.
+    fn cancel_udp_connect(&mut self, place: usize)
+        ensures state { self.new ≡ cancel_udp_connect_at self.old place (open_at self.old.records place) }
+        ensures sides { (s : Seen) → KnowsSides s self.old → KnowsSides s self.new }
+    {
+        let Some(socket) = open_udp_mut(&mut self.records, place) else {
+            return;
+        };
+        socket.connecting = None;
+    }
+
+    /// The outgoing stream of the UDP socket of this number goes, and its datagram is lost.
+    fn cancel_drop_outgoing(&mut self, place: usize)
+        ensures state { self.new ≡ cancel_drop_outgoing_at self.old place (open_at self.old.records place) }
+        ensures sides { (s : Seen) → KnowsSides s self.old → KnowsSides s self.new }
+    {
+        let Some(socket) = open_udp_mut(&mut self.records, place) else {
+            return;
+        };
+        socket.outgoing = None;
+        self.forget_datagrams(place);
+    }
+
+    /// No datagram of this record is a job any more.
+    fn forget_datagrams(&mut self, place: usize)
+        ensures { self.new ≡ record self.old { jobs = other_than_datagram place self.old.jobs } }
+    {
+        self.jobs.retain(|job| !is_datagram_on(*job, place));
+    }
+
+    /// What is left of the records when this call is given up. An output whose drop waits is gone already, and what a blocking
+    /// call wrote stands.
+    fn cancel<W: World>(&mut self, world: &mut W, call: StandingCall) -> Result<(), AllocError>
+        requires { (W.seen world.old).ended ≡ false }
+        ensures asked { AsksFor (cancel_on self.old call) (W.seen world.old) (W.seen world.new) (λ done. self.new) result }
+        ensures sides { KnowsSides (W.seen world.old) self.old → KnowsSides (W.seen world.new) self.new }
+        ensures open { (W.seen world.new).ended ≡ false }
+    {
+        match call {
+            StandingCall::Bind { socket } => self.cancel_bind(socket),
+            StandingCall::Listen { socket } => self.cancel_listen(world, socket)?,
+            StandingCall::UdpCreate { socket } => self.cancel_create(world, socket)?,
+            StandingCall::UdpBind { socket } => self.cancel_udp_bind(socket),
+            StandingCall::UdpConnect { socket, .. } => self.cancel_udp_connect(socket),
+            StandingCall::DropOutgoing { socket } => self.cancel_drop_outgoing(socket),
+            StandingCall::DropOutput { .. } | StandingCall::Blocking(_) => (),
+        }
+        Ok(())
+    }
+}
+
+/// Gives the pending call under this number up; false exactly where none is. A bind or a connect leaves its socket as it was; a
+/// listen closes its network socket, and the socket stays closed; a create closes its network socket; the drop of an outgoing
+/// datagram stream loses its datagram; the drop of an output, and a call of a stream, leave all as it is.
+pub fn cancel<W: World>(
+    view: &mut WasiSocketsCtxView<'_>,
+    world: &mut W,
+    line: u32,
+) -> Result<bool, AllocError>
+    requires { (W.seen world.old).ended ≡ false }
+    ensures asked { AsksFor (cancel_asks (state_of view.old) line) (W.seen world.old) (W.seen world.new) (λ cancelled. (cancelled, state_of view.new)) result }
+    ensures sides { KnowsSides (W.seen world.old) view.old.store.now → KnowsSides (W.seen world.new) view.new.store.now }
+    ensures view { SameView view.old view.new }
+    ensures open { (W.seen world.new).ended ≡ false }
+{
+    let Some(standing) = view.store.take(line) else {
+        return Ok(false);
+    };
+    view.store.cancel(world, standing.call)?;
+    Ok(true)
+}

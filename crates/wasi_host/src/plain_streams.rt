@@ -1,0 +1,337 @@
+//! Inputs and outputs of no connection: pipes in memory, sinks, and streams that are closed. They ask nothing of the network.
+
+ghost use Rattle.std.specs.Prelude.{◌≡◌, false, IfOk, OnErr, Ok};
+ghost use Rattle.wasi_world.specs.Asks.{AsksFor};
+ghost use Rattle.wasi_world.specs.Seen.{Seen};
+ghost use Rattle.wasi_streams.specs.StreamStop.{stream_outcome};
+ghost use Rattle.wasi_host.specs.Host.{fault_outcome, plain_outcome, call_outcome};
+ghost use Rattle.wasi_host.specs.Machine.{own_of};
+ghost use Rattle.wasi_host.specs.PlainStreams.{read_plain, check_plain, write_pipe_at, write_plain, flush_plain, pipe_asks, input_pipe_asks, output_pipe_asks, plain_asks, contents_at, contents_asks, drop_plain_input, drop_plain_output};
+ghost use Rattle.wasi_host.specs.Records.{output_pipe_at};
+ghost use Rattle.wasi_host.specs.Sides.{KnowsSides, held_by};
+ghost use Rattle.wasi_host.specs.Views.{SameView, state_of};
+
+use crate::error::CallError;
+use crate::handles;
+use crate::kind::{Kind, PlainInput, PlainOutput};
+use crate::records::{Record, input_pipe_mut, output_pipe, output_pipe_mut};
+use crate::store::Store;
+use crate::view::WasiSocketsCtxView;
+use bytes::Bytes;
+use std::alloc::{AllocError, Global};
+use wasi_memory::{InputPipeCore, OutputPipe};
+use wasi_streams::{Fault, StreamError, Table};
+use wasi_world::{Handle, Ids, Octets, OpId, TrapKind, World};
+
+/// How many bytes a sink permits.
+const SINK_PERMIT: usize = 65536;
+
+/// The answer to the guest of a call of a stream that doesn't fail.
+pub(crate) fn plain<T>(answer: Result<T, StreamError>) -> Result<T, CallError>
+    ensures { call_outcome result ≡ plain_outcome answer }
+{
+    match answer {
+        Ok(value) => Ok(value),
+        Err(StreamError::LastOperationFailed(_)) => Err(CallError::Trap(TrapKind::NoSuchHandle)),
+        Err(StreamError::Closed) => Err(CallError::Closed),
+        Err(StreamError::Trap(kind)) => Err(CallError::Trap(kind)),
+        Err(StreamError::Memory(e)) => Err(CallError::Memory(e)),
+    }
+}
+
+/// The end of a flush of an output of no connection: what was written is in its place already.
+pub(crate) fn flush_plain(output: PlainOutput) -> Result<(), StreamError>
+    ensures { stream_outcome result ≡ Ok (flush_plain output) }
+{
+    match output {
+        PlainOutput::Pipe(_) | PlainOutput::Sink => Ok(()),
+        PlainOutput::Closed => Err(StreamError::Closed),
+    }
+}
+
+impl Store {
+    /// Reads at most so many bytes from an input of no connection. Out of memory nothing changed.
+    pub(crate) fn read_plain(
+        &mut self,
+        alloc: Global,
+        input: PlainInput,
+        len: usize,
+    ) -> Result<Octets, StreamError>
+        ensures given { IfOk (stream_outcome result) (λ answer. (answer, self.new) ≡ read_plain self.old input len) }
+        ensures memory { OnErr (stream_outcome result) (self.new ≡ self.old) }
+        ensures sides { (s : Seen) → KnowsSides s self.old → KnowsSides s self.new }
+    {
+        let PlainInput::Pipe(place) = input else {
+            return Err(StreamError::Closed);
+        };
+        let Some(pipe) = input_pipe_mut(&mut self.records, place) else {
+            return Err(StreamError::Trap(TrapKind::NoSuchHandle));
+        };
+        pipe.read_octets(alloc, len)
+    }
+
+    /// How many bytes may be written to an output of no connection.
+    pub(crate) fn check_plain(&self, output: PlainOutput) -> Result<usize, StreamError>
+        ensures { stream_outcome result ≡ Ok (check_plain self.now output) }
+    {
+        match output {
+            PlainOutput::Pipe(place) => match output_pipe(self.records.as_slice(), place) {
+                Some(pipe) => pipe.check_write(),
+                None => Err(StreamError::Trap(TrapKind::NoSuchHandle)),
+            },
+            PlainOutput::Sink => Ok(SINK_PERMIT),
+            PlainOutput::Closed => Err(StreamError::Closed),
+        }
+    }
+
+    /// Writes to an output of no connection. Out of memory nothing changed.
+    pub(crate) fn write_plain(
+        &mut self,
+        output: PlainOutput,
+        bytes: &[u8],
+    ) -> Result<(), StreamError>
+        ensures given { IfOk (stream_outcome result) (λ answer. (answer, self.new) ≡ write_plain self.old output bytes.now) }
+        ensures memory { OnErr (stream_outcome result) (self.new ≡ self.old) }
+        ensures sides { (s : Seen) → KnowsSides s self.old → KnowsSides s self.new }
+    {
+        match output {
+            PlainOutput::Pipe(place) => self.write_pipe(place, bytes),
+            PlainOutput::Sink => Ok(()),
+            PlainOutput::Closed => Err(StreamError::Closed),
+        }
+    }
+
+    /// Writes to the pipe of this number. Out of memory nothing changed.
+    fn write_pipe(&mut self, place: usize, bytes: &[u8]) -> Result<(), StreamError>
+        ensures given { IfOk (stream_outcome result) (λ answer. (answer, self.new) ≡ write_pipe_at self.old place bytes.now (output_pipe_at self.old.records place)) }
+        ensures memory { OnErr (stream_outcome result) (self.new ≡ self.old) }
+        ensures sides { (s : Seen) → KnowsSides s self.old → KnowsSides s self.new }
+    {
+        let Some(pipe) = output_pipe_mut(&mut self.records, place) else {
+            return Err(StreamError::Trap(TrapKind::NoSuchHandle));
+        };
+        pipe.write(bytes)
+    }
+
+    /// An input of no connection goes: a pipe gives back its bytes.
+    pub(crate) fn drop_plain_input(&mut self, input: PlainInput)
+        ensures state { self.new ≡ drop_plain_input self.old input }
+        ensures sides { (s : Seen) → KnowsSides s self.old → KnowsSides s self.new }
+    {
+        let PlainInput::Pipe(place) = input else {
+            return;
+        };
+        let Some(pipe) = input_pipe_mut(&mut self.records, place) else {
+            return;
+        };
+        *pipe = InputPipeCore::new(Bytes::new());
+    }
+
+    /// An output of no connection goes: a pipe gives back its bytes.
+    pub(crate) fn drop_plain_output(&mut self, output: PlainOutput)
+        ensures state { self.new ≡ drop_plain_output self.old output }
+        ensures sides { (s : Seen) → KnowsSides s self.old → KnowsSides s self.new }
+    {
+        let PlainOutput::Pipe(place) = output else {
+            return;
+        };
+        let Some(pipe) = output_pipe_mut(&mut self.records, place) else {
+            return;
+        };
+        pipe.discard();
+    }
+
+    /// Makes the handle of a pipe, and then its record.
+    fn make_pipe<W: World>(
+        &mut self,
+        table: &mut Table<Kind>,
+        world: &mut W,
+        own: OpId,
+        kind: Kind,
+        pipe: Record,
+    ) -> Result<Handle, Fault>
+        requires open { (W.seen world.old).ended ≡ false }
+        requires holds_none { held_by pipe ≡ 0 }
+        ensures asked { AsksFor (pipe_asks (record { table = table.old; store = self.old }) own kind pipe) (W.seen world.old) (W.seen world.new) (λ made. (made, record { table = table.new; store = self.new })) (fault_outcome result) }
+        ensures sides { KnowsSides (W.seen world.old) self.old → KnowsSides (W.seen world.new) self.new }
+        ensures open { (W.seen world.new).ended ≡ false }
+    {
+        self.records.reserve(1)?;
+        let handle = handles::make(table, world, own, kind, None, None)?;
+        self.records.push_reserved(pipe);
+        Ok(handle)
+    }
+
+    /// Makes a pipe that reads these bytes; its record is the next one.
+    fn make_input_pipe<W: World>(
+        &mut self,
+        table: &mut Table<Kind>,
+        world: &mut W,
+        own: OpId,
+        bytes: Octets,
+    ) -> Result<Handle, Fault>
+        requires { (W.seen world.old).ended ≡ false }
+        ensures asked { AsksFor (input_pipe_asks (record { table = table.old; store = self.old }) own bytes) (W.seen world.old) (W.seen world.new) (λ made. (made, record { table = table.new; store = self.new })) (fault_outcome result) }
+        ensures sides { KnowsSides (W.seen world.old) self.old → KnowsSides (W.seen world.new) self.new }
+        ensures open { (W.seen world.new).ended ≡ false }
+    {
+        let chunk = chunk_of(bytes)?;
+        let kind = Kind::PlainInput(PlainInput::Pipe(self.records.len()));
+        let pipe = Record::InputPipe(InputPipeCore::new(chunk));
+        self.make_pipe(table, world, own, kind, pipe)
+    }
+
+    /// Makes a pipe that keeps so many bytes; its record is the next one.
+    fn make_output_pipe<W: World>(
+        &mut self,
+        alloc: Global,
+        table: &mut Table<Kind>,
+        world: &mut W,
+        own: OpId,
+        capacity: usize,
+    ) -> Result<Handle, Fault>
+        requires { (W.seen world.old).ended ≡ false }
+        ensures asked { AsksFor (output_pipe_asks (record { table = table.old; store = self.old }) own capacity) (W.seen world.old) (W.seen world.new) (λ made. (made, record { table = table.new; store = self.new })) (fault_outcome result) }
+        ensures sides { KnowsSides (W.seen world.old) self.old → KnowsSides (W.seen world.new) self.new }
+        ensures open { (W.seen world.new).ended ≡ false }
+    {
+        let kind = Kind::PlainOutput(PlainOutput::Pipe(self.records.len()));
+        let pipe = Record::OutputPipe(OutputPipe::new(alloc, capacity));
+        self.make_pipe(table, world, own, kind, pipe)
+    }
+
+    /// A copy of what was written to the pipe of this number.
+    fn pipe_contents(&self, alloc: Global, place: usize) -> Result<Octets, Fault>
+        ensures { IfOk (fault_outcome result) (λ answer. answer ≡ contents_at (output_pipe_at self.now.records place)) }
+    {
+        match output_pipe(self.records.as_slice(), place) {
+            Some(pipe) => Ok(Octets::copy_of(alloc, pipe.contents())?),
+            None => Err(Fault::Trap(TrapKind::NoSuchHandle)),
+        }
+    }
+}
+
+/// The bytes as a chunk that is cut with no copy.
+fn chunk_of(bytes: Octets) -> Result<Bytes, AllocError>
+    ensures { IfOk result (λ chunk. chunk ≡ bytes) }
+{
+    Ok(Bytes::from_vec(bytes.into_vec())?)
+}
+
+/// Makes an input that reads these bytes, and then is at its end (`MemoryInputPipe` of the crate, as an `input-stream`). They
+/// aren't copied.
+pub fn make_input_pipe<W: World>(
+    view: &mut WasiSocketsCtxView<'_>,
+    world: &mut W,
+    ids: &mut Ids,
+    bytes: Octets,
+) -> Result<Handle, Fault>
+    requires { (W.seen world.old).ended ≡ false }
+    ensures asked { AsksFor (input_pipe_asks (state_of view.old) (own_of ids.old.line) bytes) (W.seen world.old) (W.seen world.new) (λ made. (made, state_of view.new)) (fault_outcome result) }
+    ensures sides { KnowsSides (W.seen world.old) view.old.store.now → KnowsSides (W.seen world.new) view.new.store.now }
+    ensures view { SameView view.old view.new }
+    ensures ids { ids.new ≡ ids.old }
+    ensures open { (W.seen world.new).ended ≡ false }
+{
+    view.store
+        .make_input_pipe(view.table, world, ids.own(), bytes)
+}
+
+/// Makes an output that keeps what is written to it, and no more than so many bytes (`MemoryOutputPipe` of the crate, as an
+/// `output-stream`). Takes no memory for them yet.
+pub fn make_output_pipe<W: World>(
+    alloc: Global,
+    view: &mut WasiSocketsCtxView<'_>,
+    world: &mut W,
+    ids: &mut Ids,
+    capacity: usize,
+) -> Result<Handle, Fault>
+    requires { (W.seen world.old).ended ≡ false }
+    ensures asked { AsksFor (output_pipe_asks (state_of view.old) (own_of ids.old.line) capacity) (W.seen world.old) (W.seen world.new) (λ made. (made, state_of view.new)) (fault_outcome result) }
+    ensures sides { KnowsSides (W.seen world.old) view.old.store.now → KnowsSides (W.seen world.new) view.new.store.now }
+    ensures view { SameView view.old view.new }
+    ensures ids { ids.new ≡ ids.old }
+    ensures open { (W.seen world.new).ended ≡ false }
+{
+    view.store
+        .make_output_pipe(alloc, view.table, world, ids.own(), capacity)
+}
+
+/// Makes the handle of a stream that has no record.
+fn make_plain<W: World>(
+    view: &mut WasiSocketsCtxView<'_>,
+    world: &mut W,
+    ids: &mut Ids,
+    kind: Kind,
+) -> Result<Handle, Fault>
+    requires { (W.seen world.old).ended ≡ false }
+    ensures asked { AsksFor (plain_asks (state_of view.old) (own_of ids.old.line) kind) (W.seen world.old) (W.seen world.new) (λ made. (made, state_of view.new)) (fault_outcome result) }
+    ensures sides { KnowsSides (W.seen world.old) view.old.store.now → KnowsSides (W.seen world.new) view.new.store.now }
+    ensures view { SameView view.old view.new }
+    ensures ids { ids.new ≡ ids.old }
+    ensures open { (W.seen world.new).ended ≡ false }
+{
+    handles::make(view.table, world, ids.own(), kind, None, None)
+}
+
+/// Makes an output that takes whatever is written to it, and keeps none of it (`SinkOutputStream` of the crate).
+pub fn make_sink<W: World>(
+    view: &mut WasiSocketsCtxView<'_>,
+    world: &mut W,
+    ids: &mut Ids,
+) -> Result<Handle, Fault>
+    requires { (W.seen world.old).ended ≡ false }
+    ensures asked { AsksFor (plain_asks (state_of view.old) (own_of ids.old.line) (Kind.PlainOutput PlainOutput.Sink)) (W.seen world.old) (W.seen world.new) (λ made. (made, state_of view.new)) (fault_outcome result) }
+    ensures sides { KnowsSides (W.seen world.old) view.old.store.now → KnowsSides (W.seen world.new) view.new.store.now }
+    ensures view { SameView view.old view.new }
+    ensures ids { ids.new ≡ ids.old }
+    ensures open { (W.seen world.new).ended ≡ false }
+{
+    make_plain(view, world, ids, Kind::PlainOutput(PlainOutput::Sink))
+}
+
+/// Makes an input that is closed (`ClosedInputStream` of the crate).
+pub fn make_closed_input<W: World>(
+    view: &mut WasiSocketsCtxView<'_>,
+    world: &mut W,
+    ids: &mut Ids,
+) -> Result<Handle, Fault>
+    requires { (W.seen world.old).ended ≡ false }
+    ensures asked { AsksFor (plain_asks (state_of view.old) (own_of ids.old.line) (Kind.PlainInput PlainInput.Closed)) (W.seen world.old) (W.seen world.new) (λ made. (made, state_of view.new)) (fault_outcome result) }
+    ensures sides { KnowsSides (W.seen world.old) view.old.store.now → KnowsSides (W.seen world.new) view.new.store.now }
+    ensures view { SameView view.old view.new }
+    ensures ids { ids.new ≡ ids.old }
+    ensures open { (W.seen world.new).ended ≡ false }
+{
+    make_plain(view, world, ids, Kind::PlainInput(PlainInput::Closed))
+}
+
+/// Makes an output that is closed (`ClosedOutputStream` of the crate).
+pub fn make_closed_output<W: World>(
+    view: &mut WasiSocketsCtxView<'_>,
+    world: &mut W,
+    ids: &mut Ids,
+) -> Result<Handle, Fault>
+    requires { (W.seen world.old).ended ≡ false }
+    ensures asked { AsksFor (plain_asks (state_of view.old) (own_of ids.old.line) (Kind.PlainOutput PlainOutput.Closed)) (W.seen world.old) (W.seen world.new) (λ made. (made, state_of view.new)) (fault_outcome result) }
+    ensures sides { KnowsSides (W.seen world.old) view.old.store.now → KnowsSides (W.seen world.new) view.new.store.now }
+    ensures view { SameView view.old view.new }
+    ensures ids { ids.new ≡ ids.old }
+    ensures open { (W.seen world.new).ended ≡ false }
+{
+    make_plain(view, world, ids, Kind::PlainOutput(PlainOutput::Closed))
+}
+
+/// A copy of what was written to a pipe. Where the handle is of no pipe that is written: `NoSuchHandle`.
+pub fn pipe_contents(
+    alloc: Global,
+    view: &WasiSocketsCtxView<'_>,
+    this: Handle,
+) -> Result<Octets, Fault>
+    ensures { IfOk (fault_outcome result) (λ answer. answer ≡ contents_asks (state_of view.now) this) }
+{
+    let Some(PlainOutput::Pipe(place)) = handles::plain_output(view.table, this) else {
+        return Err(Fault::Trap(TrapKind::NoSuchHandle));
+    };
+    view.store.pipe_contents(alloc, place)
+}
