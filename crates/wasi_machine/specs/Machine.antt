@@ -1,5 +1,5 @@
 -- The machine that does a script's steps: what each asks, returns and leaves, and the run of the steps.
-use Rattle.std.specs.Prelude.{◌≡◌, ℕ, ◌+◌, length, Bool, false, if◌then◌else◌, List, [], ◌∷◌, ◌++◌, Option, Some, None, is_some, Result, Ok, Err, slice_get}
+use Rattle.std.specs.Prelude.{◌≡◌, ℕ, ◌+◌, length, Bool, true, false, if◌then◌else◌, List, [], ◌∷◌, ◌++◌, Option, Some, None, is_some, Result, Ok, Err, slice_get}
 use Rattle.wasi_addr.specs.declared.address.IpSocketAddress.{IpSocketAddress}
 use Rattle.wasi_addr.specs.declared.address.SocketAddressFamily.{SocketAddressFamily}
 use Rattle.wasi_addr.specs.declared.p2.ErrorCode.{ErrorCode as P2Code}
@@ -13,11 +13,18 @@ use Rattle.wasi_world.specs.declared.call.Entry.{Entry}
 use Rattle.wasi_world.specs.Asks.{Asks, Give, bind, Left}
 use Rattle.wasi_host.specs.declared.machine.Machine.{Machine}
 use Rattle.wasi_host.specs.declared.pending.Outcome.{Outcome}
-use Rattle.wasi_host.specs.declared.pending.Outcome.TheVariants.{Nothing, One, Two}
+use Rattle.wasi_host.specs.declared.pending.Outcome.TheVariants.{Nothing, One, Two, Count, Bytes}
+use Rattle.wasi_host.specs.declared.pending.Outcome.TheVariants as outcome
 use Rattle.wasi_host.specs.declared.store.Standing.{Standing}
 use Rattle.wasi_host.specs.Host.{Stop, Code, Trap, CallStop, Failed, Closed, Traps}
 use Rattle.wasi_host.specs.Machine.{first_state, own_of, socket_at, udp_socket_at, incoming_at, outgoing_at, lookup_number, create_asks, subscribe_asks, ready_asks, drop_asks, turn_machine_asks}
-use Rattle.wasi_host.specs.StreamCalls.{read_asks, check_asks, write_asks, flushed_asks}
+use Rattle.wasi_host.specs.declared.kind.Kind.TheVariants.{PlainInput, PlainOutput}
+use Rattle.wasi_host.specs.declared.kind.PlainInput.TheVariants as plain_input
+use Rattle.wasi_host.specs.declared.kind.PlainOutput.TheVariants as plain_output
+use Rattle.wasi_host.specs.PlainStreams.{input_pipe_asks, output_pipe_asks, plain_asks, contents_asks}
+use Rattle.wasi_host.specs.StreamCalls.{read_asks, skip_asks, check_asks, write_asks, write_zeroes_asks, flushed_asks, splice_asks}
+use Rattle.wasi_host.specs.Blocking.{blocking_read_asks, blocking_skip_asks, blocking_write_asks, blocking_zeroes_asks, blocking_flush_asks, blocking_splice_asks}
+use Rattle.wasi_host.specs.Cancel.{cancel_asks}
 use Rattle.wasi_host.specs.InProgress.{is_bind, is_listen}
 use Rattle.wasi_host.specs.Pending.{resume_asks}
 use Rattle.wasi_host.specs.UdpCreates.{create_udp_asks}
@@ -93,6 +100,12 @@ permit_reply = stream_reply_of number_fields
 abbrev pub taken_reply : Result (Unit {0}) CallStop → Reply
 taken_reply = stream_reply_of no_values
 
+-- of one that may be pending under its line's number
+abbrev pub blocked_reply_of : {A : Type 0} → (A → List Field) → ℕ → Result (Answer A) CallStop → Reply
+blocked_reply_of fields line (Ok (Ready value)) = reply.Ok (fields value)
+blocked_reply_of fields line (Ok Pending) = reply.Pending line
+blocked_reply_of fields line (Err stop) = call_stop_reply stop
+
 -- a call that is pending is kept under its line's number
 abbrev pub answer_reply_of : {A : Type 0} → (A → List Field) → ℕ → Result (Answer A) Stop → Reply
 answer_reply_of fields line (Ok (Ready value)) = reply.Ok (fields value)
@@ -107,12 +120,21 @@ abbrev pub outcome_reply : ℕ → Answer Outcome → Reply
 outcome_reply line (Ready Nothing) = reply.Ok no_fields
 outcome_reply line (Ready (One handle)) = reply.Ok (number_fields handle)
 outcome_reply line (Ready (Two first second)) = reply.Ok (pair_fields first second)
+outcome_reply line (Ready (Count n)) = reply.Ok (number_fields n)
+outcome_reply line (Ready (Bytes bytes)) = reply.Ok (bytes_fields bytes)
+outcome_reply line (Ready (outcome.Failed c e)) = call_stop_reply (Failed c e)
+outcome_reply line (Ready outcome.Closed) = reply.Closed
 outcome_reply line Pending = reply.Pending line
 
 abbrev pub resumed_reply : ℕ → Result (Option (Answer Outcome)) Stop → Reply
 resumed_reply line (Ok None) = reply.NoSuchCall
 resumed_reply line (Ok (Some answer)) = outcome_reply line answer
 resumed_reply line (Err stop) = stop_reply stop
+
+-- of a cancel, by whether there was such a call
+abbrev pub cancelled_reply : Bool → Reply
+cancelled_reply true = reply.Ok no_fields
+cancelled_reply false = reply.NoSuchCall
 
 -- == settings
 -- sets the option or the backlog that was chosen
@@ -177,6 +199,22 @@ call_asks ctx m line (step.Subscribe c h) = bind (subscribe_asks m (own_of line)
 call_asks ctx m line (step.Ready c p) = bind (ready_asks m (first_ids line) p) (λ done. Give (reply_of truth_fields done.0, done.1))
 call_asks ctx m line (step.Drop c h) = bind (drop_asks m (first_ids line) h) (λ done. Give (answer_reply_of no_values line done.0, done.1))
 call_asks ctx m line (step.TcpShutdown c s how) = bind (shutdown_on m (own_of line) how (socket_at m s)) (λ done. Give (reply_of no_values done.0, done.1))
+call_asks ctx m line (step.PipeIn c bytes) = bind (input_pipe_asks m (own_of line) bytes) (λ done. Give (reply_of number_fields done.0, done.1))
+call_asks ctx m line (step.PipeOut c capacity) = bind (output_pipe_asks m (own_of line) capacity) (λ done. Give (reply_of number_fields done.0, done.1))
+call_asks ctx m line (step.PipeContents c output) = Give (reply_of bytes_fields (contents_asks m output), m)
+call_asks ctx m line (step.Sink c) = bind (plain_asks m (own_of line) (PlainOutput plain_output.Sink)) (λ done. Give (reply_of number_fields done.0, done.1))
+call_asks ctx m line (step.ClosedIn c) = bind (plain_asks m (own_of line) (PlainInput plain_input.Closed)) (λ done. Give (reply_of number_fields done.0, done.1))
+call_asks ctx m line (step.ClosedOut c) = bind (plain_asks m (own_of line) (PlainOutput plain_output.Closed)) (λ done. Give (reply_of number_fields done.0, done.1))
+call_asks ctx m line (step.Skip c input len) = bind (skip_asks m (own_of line) input len) (λ done. Give (stream_reply_of number_fields done.0, done.1))
+call_asks ctx m line (step.WriteZeroes c output len) = bind (write_zeroes_asks m (own_of line) output len) (λ done. Give (stream_reply_of no_values done.0, done.1))
+call_asks ctx m line (step.Splice c output input len) = bind (splice_asks m (own_of line) output input len) (λ done. Give (stream_reply_of number_fields done.0, done.1))
+call_asks ctx m line (step.BlockingRead c input len) = bind (blocking_read_asks m (first_ids line) input len) (λ done. Give (blocked_reply_of bytes_fields line done.0, done.1))
+call_asks ctx m line (step.BlockingSkip c input len) = bind (blocking_skip_asks m (first_ids line) input len) (λ done. Give (blocked_reply_of number_fields line done.0, done.1))
+call_asks ctx m line (step.BlockingWrite c output bytes) = bind (blocking_write_asks m (first_ids line) output bytes) (λ done. Give (blocked_reply_of no_values line done.0, done.1))
+call_asks ctx m line (step.BlockingZeroes c output len) = bind (blocking_zeroes_asks m (first_ids line) output len) (λ done. Give (blocked_reply_of no_values line done.0, done.1))
+call_asks ctx m line (step.BlockingFlush c output) = bind (blocking_flush_asks m (first_ids line) output) (λ done. Give (blocked_reply_of no_values line done.0, done.1))
+call_asks ctx m line (step.BlockingSplice c output input len) = bind (blocking_splice_asks m (first_ids line) output input len) (λ done. Give (blocked_reply_of number_fields line done.0, done.1))
+call_asks ctx m line (step.Cancel n) = bind (cancel_asks m n) (λ done. Give (cancelled_reply done.0, done.1))
 call_asks ctx m line step.Turn = bind (turn_machine_asks m) (λ done. Give (reply.Ok no_fields, done.1))
 call_asks ctx m line (step.Poll n) = bind (resume_asks m n) (λ done. Give (resumed_reply n done.0, done.1))
 

@@ -1,14 +1,14 @@
 //! The replies of calls.
 
 ghost use Rattle.std.specs.Prelude.{◌≡◌, IfOk, IsOkAnd};
-ghost use Rattle.wasi_host.specs.Host.{host_outcome, call_outcome, IsStop, IsCallStop};
-ghost use Rattle.wasi_machine.specs.Machine.{reply_of, stream_reply_of, answer_reply_of, stop_reply, call_stop_reply, outcome_reply, resumed_reply};
+ghost use Rattle.wasi_host.specs.Host.{Failed, host_outcome, call_outcome, IsStop, IsCallStop};
+ghost use Rattle.wasi_machine.specs.Machine.{reply_of, stream_reply_of, answer_reply_of, blocked_reply_of, cancelled_reply, stop_reply, call_stop_reply, outcome_reply, resumed_reply};
 
 use std::alloc::{AllocError, Global};
-use wasi_addr::p2;
+use wasi_addr::{ErrorCode, p2};
 use wasi_host::{CallError, Outcome, SocketError};
 use wasi_steps::{CodeWord, IntoFields, Reply};
-use wasi_world::Answer;
+use wasi_world::{Answer, Handle};
 
 /// `ok` with the fields that say this.
 fn ok<T: IntoFields>(alloc: Global, value: T) -> Result<Reply, AllocError>
@@ -43,6 +43,21 @@ pub fn stream_reply_of<T: IntoFields>(
     }
 }
 
+/// The reply of a call of a stream that may be pending under this number, its line's.
+pub fn blocked_reply<T: IntoFields>(
+    alloc: Global,
+    call: u32,
+    answer: Result<Answer<T>, CallError>,
+) -> Result<Reply, AllocError>
+    ensures { IfOk result (λ reply. IsOkAnd (call_outcome answer) (λ x. reply ≡ blocked_reply_of T.fields call x)) }
+{
+    match answer {
+        Ok(Answer::Ready(value)) => ok(alloc, value),
+        Ok(Answer::Pending) => Ok(Reply::Pending(call)),
+        Err(error) => call_stop_reply(error),
+    }
+}
+
 /// The reply of a call that may be pending; it then is pending under its line's number.
 pub fn answer_reply<T: IntoFields>(
     alloc: Global,
@@ -69,15 +84,20 @@ fn stop_reply(error: SocketError) -> Result<Reply, AllocError>
     }
 }
 
+/// The reply of a stream's call whose last operation failed, with the handle of the error.
+fn failed(code: ErrorCode, handle: Handle) -> Reply
+    ensures { result ≡ call_stop_reply (Failed code handle) }
+{
+    let code = p2::ErrorCode::from_code(code);
+    Reply::Failed(CodeWord::from_p2(code), handle)
+}
+
 /// The reply of a stream's call that gives no value; running out of memory has none.
 fn call_stop_reply(error: CallError) -> Result<Reply, AllocError>
     ensures { IfOk result (λ reply. IsCallStop error (λ stop. reply ≡ call_stop_reply stop)) }
 {
     match error {
-        CallError::Failed(code, handle) => {
-            let code = p2::ErrorCode::from_code(code);
-            Ok(Reply::Failed(CodeWord::from_p2(code), handle))
-        }
+        CallError::Failed(code, handle) => Ok(failed(code, handle)),
         CallError::Closed => Ok(Reply::Closed),
         CallError::Trap(kind) => Ok(Reply::Trap(kind)),
         CallError::Memory(e) => Err(e),
@@ -92,7 +112,21 @@ fn outcome_reply(alloc: Global, line: u32, answer: Answer<Outcome>) -> Result<Re
         Answer::Ready(Outcome::Nothing) => Ok(Reply::done(alloc)),
         Answer::Ready(Outcome::One(handle)) => ok(alloc, handle),
         Answer::Ready(Outcome::Two(first, second)) => ok(alloc, (first, second)),
+        Answer::Ready(Outcome::Count(count)) => ok(alloc, count),
+        Answer::Ready(Outcome::Bytes(bytes)) => ok(alloc, bytes),
+        Answer::Ready(Outcome::Failed(code, handle)) => Ok(failed(code, handle)),
+        Answer::Ready(Outcome::Closed) => Ok(Reply::Closed),
         Answer::Pending => Ok(Reply::Pending(line)),
+    }
+}
+
+/// The reply of a cancel, by whether there was such a call.
+pub fn cancelled_reply(alloc: Global, cancelled: bool) -> Reply
+    ensures { result ≡ cancelled_reply cancelled }
+{
+    match cancelled {
+        true => Reply::done(alloc),
+        false => Reply::NoSuchCall,
     }
 }
 
